@@ -1,0 +1,4 @@
+//! Registers: their packed forms and the laws that each way to keep them owes.
+#![tactic(auto)]
+
+pub mod estimate_state;

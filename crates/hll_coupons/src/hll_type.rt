@@ -1,0 +1,12 @@
+//! How many bits a register takes.
+
+/// The width of the registers of a sketch.
+#[derive(Clone, Copy, Debug, PartialEq, Eq)]
+pub enum HllType {
+    /// Four bits: the height above the least register, with exceptions aside.
+    Hll4,
+    /// Six bits: the value itself.
+    Hll6,
+    /// Eight bits: the value itself, a byte each.
+    Hll8,
+}

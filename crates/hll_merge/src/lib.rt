@@ -1,0 +1,2 @@
+//! Plans of sketches: text in, the image of one sketch out.
+#![tactic(auto)]

@@ -1,0 +1,2 @@
+//! Sketch values, images, and the laws of adding and merging.
+#![tactic(auto)]
