@@ -1,1 +1,3 @@
+pub mod Coupons
 pub mod Pair
+pub mod Table

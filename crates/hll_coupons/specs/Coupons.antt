@@ -1,0 +1,57 @@
+-- Coupons in the bytes of an image: how places are read, and what is written for a list and a set
+-- (docs/FORMAT.md, "The image"; docs/MODEL.md, "Images").
+use Rattle.std.specs.Prelude.{◌≡◌, ℕ, ◌+◌, ◌*◌, ◌≤◌, ◌==◌, Bool, not, if◌then◌else◌, List, [], ◌∷◌, ◌++◌, length, drop, filter, All}
+use Rattle.std.proofs.Common.{zero, suc}
+use Rattle.std.specs.List.{flat_map}
+use Rattle.std.specs.Int.{w32, to_le_bytes, from_le_bytes}
+use Rattle.std.specs.FinSet.{len}
+use Rattle.hll_coupons.specs.Pair.{Pairs, value_of, set_of}
+use Rattle.hll_coupons.specs.declared.hll_type.HllType.{HllType}
+use Rattle.hll_coupons.specs.declared.hll_type.HllType.TheVariants.{Hll4, Hll6, Hll8}
+
+-- ---- reading
+
+-- so many words of four bytes, the lowest byte first
+abbrev pub words : ℕ → List ℕ → List ℕ
+words zero bytes = []
+words (suc n) bytes = from_le_bytes w32 bytes ∷ words n (drop 4 bytes)
+
+-- the coupons of so many places: all of them where the image is compact, else those that are not empty
+abbrev pub coupons_at : Bool → ℕ → List ℕ → List ℕ
+coupons_at compact n bytes = if compact then words n bytes else filter (λ c. not (c == 0)) (words n bytes)
+
+-- each has a value, and none stands twice
+pub record AreCoupons (coupons : List ℕ) : Type 0 where
+  pub valued : All (λ c. 1 ≤ value_of c) coupons
+  pub distinct : len (set_of coupons) ≡ length coupons
+
+-- ---- writing
+
+-- the list has each member of the set once
+pub record ListsOnce (order : List ℕ) (S : Pairs) : Type 0 where
+  pub members : set_of order ≡ S
+  pub once : length order ≡ len S
+
+-- the number of a width in the mode byte
+abbrev pub bits_of_width : HllType → ℕ
+bits_of_width Hll4 = 0
+bits_of_width Hll6 = 1
+bits_of_width Hll8 = 2
+
+-- the mode byte of a stage (0 LIST, 1 SET, 2 HLL) and a width
+abbrev pub mode_byte : ℕ → HllType → ℕ
+mode_byte stage width = stage + 4 * bits_of_width width
+
+-- coupons as four bytes each, the lowest byte first
+abbrev pub coupon_bytes : List ℕ → List ℕ
+coupon_bytes order = flat_map (to_le_bytes w32) order
+
+-- the compact image of a list: eight bytes, and the coupons in this order
+abbrev pub list_bytes : ℕ → HllType → List ℕ → List ℕ
+list_bytes lg_k width order =
+    2 ∷ 1 ∷ 7 ∷ lg_k ∷ 3 ∷ (if length order == 0 then 12 else 8) ∷ length order ∷ mode_byte 0 width ∷ coupon_bytes order
+
+-- the compact image of a set with a table of 2^size places
+abbrev pub set_bytes : ℕ → HllType → ℕ → List ℕ → List ℕ
+set_bytes lg_k width size order =
+    3 ∷ 1 ∷ 7 ∷ lg_k ∷ size ∷ 8 ∷ 0 ∷ mode_byte 1 width ∷ to_le_bytes w32 (length order) ++ coupon_bytes order
