@@ -1,0 +1,6 @@
+pub mod Folds
+pub mod Greatest
+pub mod Joins
+pub mod Probing
+pub mod Registers
+pub mod Searching

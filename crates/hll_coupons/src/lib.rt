@@ -2,3 +2,4 @@
 #![tactic(auto)]
 
 pub mod hll_type;
+pub mod laws;

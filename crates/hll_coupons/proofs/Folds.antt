@@ -1,0 +1,27 @@
+use Rattle.std.proofs.Common.{◌≡◌, ℕ, ◌^◌, ◌<◌, List, length, get_or, sym, ◌∙◌, arith}
+use Rattle.std.specs.Prelude.{max}
+use Rattle.std.specs.FinSet.{items, union}
+use Rattle.std.proofs.lemmas.List.{ext_get_or}
+use Rattle.std.proofs.lemmas.List.FromFn.{length-map-range_with_len, get_or-map-range_with_len}
+use Rattle.hll_coupons.specs.Pair.{Pairs}
+use Rattle.hll_coupons.specs.Fold.{fold_to, greatest, value_at, join}
+use Rattle.hll_coupons.proofs.Joins.{length-join, get_or-join}
+use Rattle.hll_coupons.proofs.Greatest.{greatest-union}
+
+pub length-fold_to : (P : Pairs) (e : ℕ) → length (fold_to P e) ≡ 2 ^ e
+length-fold_to P e = length-map-range_with_len (λ s. greatest (value_at e s) (items P)) 0 (2 ^ e)
+
+pub get_or-fold_to : (P : Pairs) (e s : ℕ) → s < 2 ^ e → get_or (fold_to P e) s 0 ≡ greatest (value_at e s) (items P)
+get_or-fold_to P e s h = get_or-map-range_with_len (λ s. greatest (value_at e s) (items P)) 0 (2 ^ e) s s 0 h (omega arith)
+
+-- registers are a fold if they are at each slot
+pub is_fold_to : (R : List ℕ) (P : Pairs) (e : ℕ) → length R ≡ 2 ^ e → ((s : ℕ) → s < 2 ^ e → get_or R s 0 ≡ greatest (value_at e s) (items P)) → R ≡ fold_to P e
+is_fold_to R P e len each = ext_get_or 0 R (fold_to P e) (len ∙ sym (length-fold_to P e)) (λ s h.
+    let within : s < 2 ^ e = omega (arith, len) in each s within ∙ sym (get_or-fold_to P e s within))
+
+pub fold_to-union : (P Q : Pairs) (e : ℕ) → fold_to (union P Q) e ≡ join (fold_to P e) (fold_to Q e)
+fold_to-union P Q e = sym (is_fold_to (join (fold_to P e) (fold_to Q e)) (union P Q) e
+    (length-join (fold_to P e) (fold_to Q e) (length-fold_to P e ∙ sym (length-fold_to Q e)) ∙ length-fold_to P e)
+    (λ s h. get_or-join (fold_to P e) (fold_to Q e) s
+    ∙ (λ i. max (get_or-fold_to P e s h i) (get_or-fold_to Q e s h i))
+    ∙ sym (greatest-union (value_at e s) P Q)))

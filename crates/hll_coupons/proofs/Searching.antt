@@ -1,0 +1,84 @@
+use Rattle.std.proofs.Common.{◌≡◌, ℕ, ◌+◌, ◌*◌, ◌/◌, ◌%◌, ◌^◌, ◌<◌, List, length, get_or, set, sym, ap, ◌∙◌, subst, arith, inl, inr}
+use Rattle.std.specs.Prelude.{bit_or}
+use Rattle.std.proofs.lemmas.Bool.{cases_lt, cases_eq, cases_order}
+use Rattle.std.proofs.lemmas.Nat.{pow_pos, mod_below, or_mod}
+use Rattle.std.proofs.lemmas.List.{length-set, get_or-set_same, get_or-set_other}
+use Rattle.hll_coupons.specs.Pair.{slot_of}
+use Rattle.hll_coupons.specs.Probe.{place_of, stride_of, Passes, IsFirstFor}
+use Rattle.hll_coupons.specs.Laws.{FoundAfterInsert, AbsentAtEmpty, AbsentFromFull, KeysAreDistinct}
+use Rattle.hll_coupons.proofs.Probing.{meets}
+
+-- the stride is odd
+odd_cases : (n : ℕ) → bit_or (n % 2) 1 ≡ 1
+odd_cases n = elim (cases_lt (n % 2) 1) [
+  | inl l ↦ let z : n % 2 ≡ 0 = omega arith in ap (λ m. bit_or m 1) z
+  | inr g ↦ let o : n % 2 ≡ 1 = omega arith in ap (λ m. bit_or m 1) o
+]
+
+pub odd-stride_of : (lg key : ℕ) → stride_of lg key % 2 ≡ 1
+odd-stride_of lg key = or_mod (slot_of key / 2 ^ lg) 1 1 ∙ odd_cases (slot_of key / 2 ^ lg)
+
+pub place_of_below : (lg key i : ℕ) → place_of lg key i < 2 ^ lg
+place_of_below lg key i = mod_below (key + i * stride_of lg key) (2 ^ lg) (pow_pos lg)
+
+pub absent_at_empty : AbsentAtEmpty
+absent_at_empty key_of lg places key i t before empty p within full is =
+    let f : IsFirstFor key_of lg places (key_of (get_or places p 0)) p = t.found p within full in
+    let place : place_of lg key f.index ≡ p = ap (λ k. place_of lg k f.index) (sym is) ∙ f.at in
+    elim (cases_order f.index i) [
+      | inl e ↦ full (ap (λ q. get_or places q 0) (sym place ∙ ap (place_of lg key) e) ∙ empty)
+      | inr d ↦ elim d [
+        | inl earlier ↦ (before f.index earlier).1 (ap (λ q. key_of (get_or places q 0)) place ∙ is)
+        | inr later ↦ (f.passes i later).0 (ap (λ k. get_or places (place_of lg k i) 0) is ∙ empty)
+      ]
+    ]
+
+pub absent_from_full : AbsentFromFull
+absent_from_full key_of lg places key size before p within full is =
+    let m = meets key (stride_of lg key) lg p (odd-stride_of lg key) (omega (arith, within, size)) in
+    (before m.0 m.1).1 (ap (λ q. key_of (get_or places q 0)) m.2 ∙ is)
+
+pub keys_are_distinct : KeysAreDistinct
+keys_are_distinct key_of lg places p q t hp hq fp fq same =
+    let f : IsFirstFor key_of lg places (key_of (get_or places p 0)) p = t.found p hp fp in
+    let g : IsFirstFor key_of lg places (key_of (get_or places q 0)) q = t.found q hq fq in
+    let place : place_of lg (key_of (get_or places q 0)) f.index ≡ p = ap (λ k. place_of lg k f.index) (sym same) ∙ f.at in
+    elim (cases_order f.index g.index) [
+      | inl e ↦ sym place ∙ ap (place_of lg (key_of (get_or places q 0))) e ∙ g.at
+      | inr d ↦ elim d [
+        | inl earlier ↦ absurd ((g.passes f.index earlier).1 (ap (λ z. key_of (get_or places z 0)) place ∙ same))
+        | inr later ↦ absurd ((f.passes g.index later).1 (ap (λ k. key_of (get_or places (place_of lg k g.index) 0)) same ∙ ap (λ z. key_of (get_or places z 0)) g.at ∙ sym same))
+      ]
+    ]
+
+pub found_after_insert : FoundAfterInsert
+found_after_insert key_of lg places entry i t filled within before empty = record {
+  size = length-set places spot entry ∙ t.size;
+  found = λ p h full. elim (cases_eq p spot) [
+    | inl e ↦
+        let is : get_or new p 0 ≡ entry = ap (λ q. get_or new q 0) e ∙ get_or-set_same places spot entry 0 spot_within in
+        subst (λ w. IsFirstFor key_of lg new (key_of w) p) (sym is) (record { index = i; within = within; at = sym e; passes = carried (key_of entry) i before })
+    | inr other ↦
+        let same : get_or new p 0 ≡ get_or places p 0 = kept p other in
+        let f : IsFirstFor key_of lg places (key_of (get_or places p 0)) p = t.found p (omega (arith, h, length-set places spot entry)) (λ z. full (same ∙ z)) in
+        subst (λ w. IsFirstFor key_of lg new (key_of w) p) (sym same)
+        (record { index = f.index; within = f.within; at = f.at; passes = carried (key_of (get_or places p 0)) f.index f.passes })
+  ];
+}
+  where
+    spot : ℕ
+    spot = place_of lg (key_of entry) i
+
+    new : List ℕ
+    new = set places spot entry
+
+    spot_within : spot < length places
+    spot_within = omega (arith, place_of_below lg (key_of entry) i, t.size)
+
+    kept : (p : ℕ) → (p ≡ spot → ⊥) → get_or new p 0 ≡ get_or places p 0
+    kept p o = get_or-set_other places spot p entry 0 o
+
+    carried : (key n : ℕ) → Passes key_of lg places key n → Passes key_of lg new key n
+    carried key n passes j l =
+        let there : get_or new (place_of lg key j) 0 ≡ get_or places (place_of lg key j) 0 = kept (place_of lg key j) (λ s. (passes j l).0 (ap (λ q. get_or places q 0) s ∙ empty)) in
+        (λ z. (passes j l).0 (sym there ∙ z), λ z. (passes j l).1 (ap key_of (sym there) ∙ z))

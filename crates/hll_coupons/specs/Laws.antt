@@ -1,0 +1,52 @@
+-- The laws of folding, registers and probing (docs/MODEL.md, "Laws of folding and probing").
+use Rattle.std.specs.Prelude.{◌≡◌, ◌≢◌, ℕ, ◌%◌, ◌^◌, ◌<◌, ◌≤◌, List, length, slice_index, slice_set}
+use Rattle.std.specs.FinSet.{union}
+use Rattle.hll_coupons.specs.Pair.{Pairs}
+use Rattle.hll_coupons.specs.Fold.{fold_to, join, pairs}
+use Rattle.hll_coupons.specs.Probe.{path, place_of, Passes, IsProbed, IsAbsent}
+
+-- to fold twice is to fold once to the smaller
+abbrev pub FoldOfFold : Type 0
+FoldOfFold = (P : Pairs) (k e : ℕ) → e ≤ k → k ≤ 21 → fold_to (pairs (fold_to P k)) e ≡ fold_to P e
+
+-- the fold of a union is the join of both folds
+abbrev pub FoldOfUnion : Type 0
+FoldOfUnion = (P Q : Pairs) (e : ℕ) → fold_to (union P Q) e ≡ join (fold_to P e) (fold_to Q e)
+
+-- a join does not depend on order, grouping or repetition
+pub record JoinLaws : Type 0 where
+  pub commutative : (R Q : List ℕ) → join R Q ≡ join Q R
+  pub idempotent : (R : List ℕ) → join R R ≡ R
+  pub associative : (R Q S : List ℕ) → join (join R Q) S ≡ join R (join Q S)
+
+-- registers are the fold of their pairs
+abbrev pub FoldOfRegisters : Type 0
+FoldOfRegisters = (R : List ℕ) (k : ℕ) → k ≤ 21 → length R ≡ 2 ^ k → fold_to (pairs R) k ≡ R
+
+-- an odd stride meets each place at one index and no other
+abbrev pub MeetsEachPlaceOnce : Type 0
+MeetsEachPlaceOnce = (start stride lg place : ℕ) → stride % 2 ≡ 1 → place < 2 ^ lg →
+    (i : ℕ) × (i < 2 ^ lg) × (slice_index (path start stride lg) i ≡ place)
+    × ((j : ℕ) → j < 2 ^ lg → slice_index (path start stride lg) j ≡ place → j ≡ i)
+
+-- an entry put into the empty place that its search met leaves each entry to be found
+abbrev pub FoundAfterInsert : Type 0
+FoundAfterInsert = (key_of : ℕ → ℕ) (lg : ℕ) (places : List ℕ) (entry i : ℕ) → IsProbed key_of lg places → entry ≢ 0 → i < 2 ^ lg →
+    Passes key_of lg places (key_of entry) i → slice_index places (place_of lg (key_of entry) i) ≡ 0 →
+    IsProbed key_of lg (slice_set places (place_of lg (key_of entry) i) entry)
+
+-- a search that meets an empty place shows that the key is absent
+abbrev pub AbsentAtEmpty : Type 0
+AbsentAtEmpty = (key_of : ℕ → ℕ) (lg : ℕ) (places : List ℕ) (key i : ℕ) → IsProbed key_of lg places →
+    Passes key_of lg places key i → slice_index places (place_of lg key i) ≡ 0 → IsAbsent key_of places key
+
+-- so does a search that went through the whole table
+abbrev pub AbsentFromFull : Type 0
+AbsentFromFull = (key_of : ℕ → ℕ) (lg : ℕ) (places : List ℕ) (key : ℕ) → length places ≡ 2 ^ lg →
+    Passes key_of lg places key (2 ^ lg) → IsAbsent key_of places key
+
+-- no key stands twice
+abbrev pub KeysAreDistinct : Type 0
+KeysAreDistinct = (key_of : ℕ → ℕ) (lg : ℕ) (places : List ℕ) (p q : ℕ) → IsProbed key_of lg places →
+    p < length places → q < length places → slice_index places p ≢ 0 → slice_index places q ≢ 0 →
+    key_of (slice_index places p) ≡ key_of (slice_index places q) → p ≡ q
