@@ -1,0 +1,82 @@
+use Rattle.std.proofs.Common.{◌≡◌, ℕ, ◌+◌, ◌*◌, ◌^◌, ◌<◌, ◌≤◌, zero, suc, Bool, cond, not, eqb, List, [], ◌∷◌, ◌++◌, filter, length, get_or, take, drop, refl, sym, ap, subst, ◌∙◌, arith}
+use Rattle.std.specs.Int.{w32, from_le_bytes}
+use Rattle.std.proofs.lemmas.List.{get_or_append_left, get_or-drop, drop-append-le, take_at, length-append, length-drop}
+use Rattle.hll_base.specs.declared.error.Reason.{Reason}
+use Rattle.hll_coupons.specs.Coupons.{words, coupons_at, AreCoupons}
+use Rattle.hll_coupons.specs.Payload.{ListShape, HasListCount, list_places, list_coupons, IsListPayload, ListFault, SetShape, set_count, set_places, set_coupons, HasSetCount, IsSetPayload, SetFault}
+use Rattle.hll_coupons.specs.Payload as payload
+
+-- words in front of more
+words-append : (n : ℕ) (l t : List ℕ) → 4 * n ≤ length l → words n (l ++ t) ≡ words n l
+words-append zero l t h = refl
+words-append (suc n) [] t h = absurd (omega arith)
+words-append (suc n) (a ∷ []) t h = absurd (omega arith)
+words-append (suc n) (a ∷ b ∷ []) t h = absurd (omega arith)
+words-append (suc n) (a ∷ b ∷ c ∷ []) t h = absurd (omega arith)
+words-append (suc n) (a ∷ b ∷ c ∷ d ∷ l) t h = ap (λ ws. from_le_bytes w32 (a ∷ b ∷ c ∷ d ∷ l) ∷ ws) (words-append n l t (omega arith))
+
+-- ---- a front of bytes
+module _ (a t b : List ℕ) (e : a ++ t ≡ b) where
+  pub front_le : length a ≤ length b
+  front_le = omega (arith, length-append a t, ap length e)
+
+  pub front_byte : (i : ℕ) → i < length a → get_or a i 0 ≡ get_or b i 0
+  front_byte i h = sym (get_or_append_left a t 0 i h) ∙ ap (λ l. get_or l i 0) e
+
+  pub front_rest : (n : ℕ) → n ≤ length a → drop n a ++ t ≡ drop n b
+  front_rest n h = sym (ap (drop n) (sym e) ∙ drop-append-le n a t h)
+
+  pub front_number : (n : ℕ) → n + 4 ≤ length a → from_le_bytes w32 (drop n a) ≡ from_le_bytes w32 (drop n b)
+  front_number n h =
+      let at : (i : ℕ) → i < 4 → get_or (drop n a) i 0 ≡ get_or (drop n b) i 0 = λ i l. get_or-drop n a i 0 ∙ front_byte (n + i) (omega arith) ∙ sym (get_or-drop n b i 0) in
+      omega (arith, at 0 (omega arith), at 1 (omega arith), at 2 (omega arith), at 3 (omega arith))
+
+  pub front_coupons : (compact : Bool) (n k : ℕ) → k + 4 * n ≤ length a → coupons_at compact n (drop k a) ≡ coupons_at compact n (drop k b)
+  front_coupons compact n k h =
+      let ws : words n (drop k a) ≡ words n (drop k b) = sym (ap (words n) (sym (front_rest k (omega arith))) ∙ words-append n (drop k a) t (omega (arith, length-drop k a))) in
+      ap (λ ws. cond compact ws (filter (λ c. not (eqb c 0)) ws)) ws
+
+  pub front_take : (n : ℕ) → n ≡ length a → a ≡ take n b
+  front_take n h = sym (take_at a t n (sym h)) ∙ ap (take n) e
+
+-- two fronts of one length are one
+pub same_fronts : (a b s t : List ℕ) → a ++ s ≡ b ++ t → length a ≡ length b → a ≡ b
+same_fronts a b s t e n = sym (take_at a s (length b) n) ∙ ap (take (length b)) e ∙ take_at b t (length b) refl
+
+-- ---- one payload
+
+pub one_list : (h : ListShape) (a b s t : List ℕ) → IsListPayload h a → IsListPayload h b → a ++ s ≡ b ++ t → a ≡ b
+one_list h a b s t p q e = same_fronts a b s t e (p.size ∙ sym q.size)
+
+pub one_set : (h : SetShape) (a b s t : List ℕ) → IsSetPayload h a → IsSetPayload h b → a ++ s ≡ b ++ t → a ≡ b
+one_set h a b s t p q e =
+    let count : set_count a ≡ set_count b =
+    front_number a s (a ++ s) refl 0 (omega (arith, p.count.whole)) ∙ ap set_count e ∙ sym (front_number b t (b ++ t) refl 0 (omega (arith, q.count.whole))) in
+    same_fronts a b s t e (p.size ∙ ap (λ n. 4 + 4 * cond h.compact n (2 ^ h.lg_size)) count ∙ sym q.size)
+
+-- ---- where a fault stands, no front is a payload
+
+pub list_fault_excludes : (h : ListShape) (a t b : List ℕ) (r : Reason) → a ++ t ≡ b → IsListPayload h a → ListFault h b r → ⊥
+list_fault_excludes h a t b r e p (payload.ListFault.count n) = n p.count
+list_fault_excludes h a t b r e p (payload.ListFault.short c n) = omega (arith, p.size, front_le a t b e)
+list_fault_excludes h a t b r e p (payload.ListFault.coupon c l n) = n (subst AreCoupons (front_coupons a t b e h.compact (list_places h) 0 (omega (arith, p.size))) p.are_coupons)
+list_fault_excludes h a t b r e p (payload.ListFault.number c l n) = n (ap length (sym (front_coupons a t b e h.compact (list_places h) 0 (omega (arith, p.size)))) ∙ p.number)
+
+-- the count of a set is read from the front
+front_set_count : (h : SetShape) (a t b : List ℕ) → a ++ t ≡ b → IsSetPayload h a → set_count a ≡ set_count b
+front_set_count h a t b e p = front_number a t b e 0 (omega (arith, p.count.whole))
+
+front_set_places : (h : SetShape) (a t b : List ℕ) → a ++ t ≡ b → IsSetPayload h a → set_places h a ≡ set_places h b
+front_set_places h a t b e p = ap (λ n. cond h.compact n (2 ^ h.lg_size)) (front_set_count h a t b e p)
+
+front_set_coupons : (h : SetShape) (a t b : List ℕ) → a ++ t ≡ b → IsSetPayload h a → set_coupons h a ≡ set_coupons h b
+front_set_coupons h a t b e p =
+    front_coupons a t b e h.compact (set_places h a) 4 (omega (arith, p.size))
+    ∙ ap (λ n. coupons_at h.compact n (drop 4 b)) (front_set_places h a t b e p)
+
+pub set_fault_excludes : (h : SetShape) (a t b : List ℕ) (r : Reason) → a ++ t ≡ b → IsSetPayload h a → SetFault h b r → ⊥
+set_fault_excludes h a t b r e p (payload.SetFault.no_count n) = omega (arith, p.count.whole, front_le a t b e)
+set_fault_excludes h a t b r e p (payload.SetFault.count w n) = omega (arith, p.count.low, front_set_count h a t b e p)
+set_fault_excludes h a t b r e p (payload.SetFault.short c n) = omega (arith, p.size, front_set_places h a t b e p, front_le a t b e)
+set_fault_excludes h a t b r e p (payload.SetFault.coupon c l n) = n (subst AreCoupons (front_set_coupons h a t b e p) p.are_coupons)
+set_fault_excludes h a t b r e p (payload.SetFault.number c l n) = n (ap length (sym (front_set_coupons h a t b e p)) ∙ p.number ∙ front_set_count h a t b e p)

@@ -1,0 +1,82 @@
+-- What stands behind the header in an image of a list and of a set, and what can be wrong with it
+-- (docs/FORMAT.md, "LIST" and "SET"; docs/MODEL.md, "Images").
+use Rattle.std.specs.Prelude.{◌≡◌, ◌≢◌, ℕ, ◌+◌, ◌*◌, ◌^◌, ◌≤◌, ◌<◌, ◌↔◌, Bool, if◌then◌else◌, IsTrue, List, length, drop}
+use Rattle.std.specs.Int.{w32, from_le_bytes}
+use Rattle.hll_base.specs.declared.error.Reason.{Reason}
+use Rattle.hll_base.specs.declared.error.Reason.TheVariants.{Truncated, Count, Coupon}
+use Rattle.hll_coupons.specs.Coupons.{coupons_at, AreCoupons}
+
+-- ---- a list
+
+-- what the header says of a list: the logarithm of its places, its count, and two flags
+pub record ListShape : Type 0 where
+  pub lg_size : ℕ
+  pub count : ℕ
+  pub empty : Bool
+  pub compact : Bool
+
+-- the count is one that such a list may have, and the empty flag says whether it is 0
+pub record HasListCount (h : ListShape) : Type 0 where
+  pub low : h.count ≤ 2 ^ h.lg_size
+  pub flag : IsTrue h.empty ↔ (h.count ≡ 0)
+
+-- how many places follow
+abbrev pub list_places : ListShape → ℕ
+list_places h = if h.empty then 0 else (if h.compact then h.count else 2 ^ h.lg_size)
+
+-- the coupons, in their order
+abbrev pub list_coupons : ListShape → List ℕ → List ℕ
+list_coupons h bytes = coupons_at h.compact (list_places h) bytes
+
+-- the bytes are the coupons of such a list, and no more
+pub record IsListPayload (h : ListShape) (bytes : List ℕ) : Type 0 where
+  pub count : HasListCount h
+  pub size : length bytes ≡ 4 * list_places h
+  pub are_coupons : AreCoupons (list_coupons h bytes)
+  pub number : length (list_coupons h bytes) ≡ h.count
+
+-- a check of this reason fails, and what it reads is there
+pub data ListFault (h : ListShape) (bytes : List ℕ) : Reason → Type 0 where
+  count : (HasListCount h → ⊥) → ListFault h bytes Count
+  short : HasListCount h → length bytes < 4 * list_places h → ListFault h bytes Truncated
+  coupon : HasListCount h → 4 * list_places h ≤ length bytes → (AreCoupons (list_coupons h bytes) → ⊥) → ListFault h bytes Coupon
+  number : HasListCount h → 4 * list_places h ≤ length bytes → length (list_coupons h bytes) ≢ h.count → ListFault h bytes Count
+
+-- ---- a set
+
+-- what the header says of a set: the logarithm of its places, and a flag
+pub record SetShape : Type 0 where
+  pub lg_size : ℕ
+  pub compact : Bool
+
+-- the count, four bytes
+abbrev pub set_count : List ℕ → ℕ
+set_count bytes = from_le_bytes w32 bytes
+
+-- how many places follow
+abbrev pub set_places : SetShape → List ℕ → ℕ
+set_places h bytes = if h.compact then set_count bytes else 2 ^ h.lg_size
+
+-- the coupons, in their order
+abbrev pub set_coupons : SetShape → List ℕ → List ℕ
+set_coupons h bytes = coupons_at h.compact (set_places h bytes) (drop 4 bytes)
+
+-- the count is there, and leaves a place empty
+pub record HasSetCount (h : SetShape) (bytes : List ℕ) : Type 0 where
+  pub whole : 4 ≤ length bytes
+  pub low : set_count bytes < 2 ^ h.lg_size
+
+-- the bytes are the count and the coupons of such a set, and no more
+pub record IsSetPayload (h : SetShape) (bytes : List ℕ) : Type 0 where
+  pub count : HasSetCount h bytes
+  pub size : length bytes ≡ 4 + 4 * set_places h bytes
+  pub are_coupons : AreCoupons (set_coupons h bytes)
+  pub number : length (set_coupons h bytes) ≡ set_count bytes
+
+-- a check of this reason fails, and what it reads is there
+pub data SetFault (h : SetShape) (bytes : List ℕ) : Reason → Type 0 where
+  no_count : length bytes < 4 → SetFault h bytes Truncated
+  count : 4 ≤ length bytes → 2 ^ h.lg_size ≤ set_count bytes → SetFault h bytes Count
+  short : HasSetCount h bytes → length bytes < 4 + 4 * set_places h bytes → SetFault h bytes Truncated
+  coupon : HasSetCount h bytes → 4 + 4 * set_places h bytes ≤ length bytes → (AreCoupons (set_coupons h bytes) → ⊥) → SetFault h bytes Coupon
+  number : HasSetCount h bytes → 4 + 4 * set_places h bytes ≤ length bytes → length (set_coupons h bytes) ≢ set_count bytes → SetFault h bytes Count
