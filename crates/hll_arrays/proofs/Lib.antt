@@ -1,0 +1,3 @@
+pub mod Exceptions
+pub mod Packing
+pub mod Payloads

@@ -1,0 +1,4 @@
+pub mod Packed
+pub mod Payload
+pub mod State
+pub mod Store

@@ -2,3 +2,4 @@
 #![tactic(auto)]
 
 pub mod estimate_state;
+pub mod laws;

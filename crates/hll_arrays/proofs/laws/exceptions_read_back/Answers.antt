@@ -1,0 +1,5 @@
+use Rattle.hll_arrays.proofs.Packing.{exceptions_read_back}
+use Rattle.hll_arrays.proofs.laws.exceptions_read_back.Goals as goal
+
+pub returns : goal.returns
+returns c = exceptions_read_back

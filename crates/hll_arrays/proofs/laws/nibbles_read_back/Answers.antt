@@ -1,0 +1,5 @@
+use Rattle.hll_arrays.proofs.Packing.{nibbles_read_back}
+use Rattle.hll_arrays.proofs.laws.nibbles_read_back.Goals as goal
+
+pub returns : goal.returns
+returns c = nibbles_read_back
