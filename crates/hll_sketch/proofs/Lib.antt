@@ -1,0 +1,5 @@
+pub mod Adding
+pub mod Faults
+pub mod Images
+pub mod Sets
+pub mod Stages

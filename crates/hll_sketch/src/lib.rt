@@ -1,2 +1,4 @@
 //! Sketch values, images, and the laws of adding and merging.
 #![tactic(auto)]
+
+pub mod laws;

@@ -1,0 +1,75 @@
+-- Sketch values (docs/MODEL.md, "Sketch values").
+use Rattle.std.specs.Prelude.{◌≡◌, ℕ, ◌+◌, ◌^◌, ◌≤◌, ◌<◌, ◌==◌, ◌⊎◌, ◌↔◌, Bool, true, false, not, ◌&&◌, List, All}
+use Rattle.std.specs.FinSet.{empty, len, contains}
+use Rattle.hll_coupons.specs.Pair.{Pairs, IsPair}
+use Rattle.hll_coupons.specs.Fold.{pairs}
+use Rattle.hll_coupons.specs.declared.hll_type.HllType.{HllType}
+use Rattle.hll_arrays.specs.declared.estimate_state.EstimateState.{EstimateState}
+use Rattle.hll_arrays.specs.Store.{AreRegisters}
+
+-- what a sketch keeps: a set of pairs in a table of 2^size places, or registers with an estimate state
+pub data Content : Type 0 where
+  coupons : Pairs → ℕ → Content
+  registers : List ℕ → EstimateState → Content
+
+pub record Sketch : Type 0 where
+  pub lg_k : ℕ
+  pub width : HllType
+  pub content : Content
+
+-- the pairs of a content: those that it holds, or those of its registers
+abbrev pub pairs_in : Content → Pairs
+pairs_in (coupons S size) = S
+pairs_in (registers R state) = pairs R
+
+abbrev pub pairs_of : Sketch → Pairs
+pairs_of x = pairs_in x.content
+
+-- a sketch without pairs, an array of zeros included
+abbrev pub is_empty : Sketch → Bool
+is_empty x = len (pairs_of x) == 0
+
+abbrev pub in_registers : Content → Bool
+in_registers (coupons S size) = false
+in_registers (registers R state) = true
+
+-- in registers that are not all 0
+abbrev pub has_registers : Sketch → Bool
+has_registers x = in_registers x.content && not (is_empty x)
+
+-- the empty list, of eight places
+abbrev pub empty_sketch : ℕ → HllType → Sketch
+empty_sketch k width = record { lg_k = k; width = width; content = coupons empty 3 }
+
+-- ---- legal values
+
+-- each word of the set is a pair
+abbrev pub ArePairs : Pairs → Type 0
+ArePairs P = (c : ℕ) → contains P c ≡ true → IsPair c
+
+-- a list has at most eight pairs; a set has fewer pairs than places, and a size for its lg_k
+abbrev pub IsTableFor : ℕ → ℕ → ℕ → Type 0
+IsTableFor k count size = ((size ≡ 3) × (count ≤ 8)) ⊎ ((5 ≤ size) × (size + 3 ≤ k) × (count < 2 ^ size))
+
+abbrev pub IsLegalContent : ℕ → Content → Type 0
+IsLegalContent k (coupons S size) = ArePairs S × IsTableFor k (len S) size
+IsLegalContent k (registers R state) = AreRegisters k R × All (λ w. w < 2 ^ 64) state.words
+
+pub record IsLegal (x : Sketch) : Type 0 where
+  pub low : 4 ≤ x.lg_k
+  pub high : x.lg_k ≤ 21
+  pub content : IsLegalContent x.lg_k x.content
+
+-- ---- equality
+
+-- the same kind and pairs, or the same registers and state; between sets the size of the table does not count
+abbrev pub IsEqualContent : Content → Content → Type 0
+IsEqualContent (coupons S p) (coupons T q) = (S ≡ T) × ((p ≡ 3) ↔ (q ≡ 3))
+IsEqualContent (registers R s) (registers Q t) = (R ≡ Q) × (s ≡ t)
+IsEqualContent (coupons S p) (registers Q t) = ⊥
+IsEqualContent (registers R s) (coupons T q) = ⊥
+
+pub record IsEqual (x y : Sketch) : Type 0 where
+  pub lg_k : x.lg_k ≡ y.lg_k
+  pub width : x.width ≡ y.width
+  pub content : IsEqualContent x.content y.content

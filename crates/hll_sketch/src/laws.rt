@@ -1,0 +1,35 @@
+//! The laws of adding, merging and images, each the contract of a function that does nothing
+//! (docs/MODEL.md, "Laws of adding and merging" and "Images").
+ghost use Rattle.hll_sketch.specs.Laws.{AddOfAdd, AddEach, EmptyMerged, UnionLgK};
+ghost use Rattle.hll_sketch.specs.Image.{OneImage};
+ghost use Rattle.hll_sketch.specs.Fault.{FaultExcludesImage};
+
+/// To add pairs twice is to add their union.
+pub fn add_of_add()
+    ensures { AddOfAdd }
+{}
+
+/// After a list of updates a sketch depends on the set of their coupons alone: content, table size and state.
+pub fn add_each()
+    ensures { AddEach }
+{}
+
+/// An empty sketch merged changes nothing.
+pub fn empty_merged()
+    ensures { EmptyMerged }
+{}
+
+/// The lg_k of a union is the least of its bound and of the merged sketches in registers that are not all 0.
+pub fn union_lg_k()
+    ensures { UnionLgK }
+{}
+
+/// No image begins another, and the bytes of an image have one meaning.
+pub fn one_image()
+    ensures { OneImage }
+{}
+
+/// Where a fault stands in bytes, no front of them is an image.
+pub fn fault_excludes_image()
+    ensures { FaultExcludesImage }
+{}
