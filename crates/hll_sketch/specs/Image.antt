@@ -6,7 +6,7 @@ use Rattle.hll_coupons.specs.declared.hll_type.HllType.{HllType}
 use Rattle.hll_coupons.specs.declared.hll_type.HllType.TheVariants.{Hll4, Hll6, Hll8}
 use Rattle.hll_arrays.specs.Packed.{fields}
 use Rattle.hll_arrays.specs.Payload.{state_at, IsHll8Payload, IsHll6Payload, Hll4Shape, registers_of, IsHll4Payload}
-use Rattle.hll_sketch.specs.Value.{Sketch, coupons, registers}
+use Rattle.hll_sketch.specs.Value.{Sketch, coupons, registers, IsLgK}
 
 -- ---- the header, eight bytes
 
@@ -45,10 +45,9 @@ width_of_bits n = if n == 0 then Hll4 else (if n == 1 then Hll6 else Hll8)
 abbrev pub preamble_words : ℕ → ℕ
 preamble_words stage = if stage == 0 then 2 else (if stage == 1 then 3 else 10)
 
--- lg_k is 4 to 21
-pub record HasLgK (b : List ℕ) : Type 0 where
-  pub low : 4 ≤ lg_k_byte b
-  pub high : lg_k_byte b ≤ 21
+-- its lg_k is one that a sketch may have
+abbrev pub HasLgK : List ℕ → Type 0
+HasLgK b = IsLgK (lg_k_byte b)
 
 -- a header of this stage that passes the checks of every stage
 pub record HasHeader (b : List ℕ) (stage : ℕ) : Type 0 where

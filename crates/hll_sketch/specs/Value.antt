@@ -43,6 +43,11 @@ empty_sketch k width = record { lg_k = k; width = width; content = coupons empty
 
 -- ---- legal values
 
+-- lg_k is 4 to 21
+pub record IsLgK (k : ℕ) : Type 0 where
+  pub low : 4 ≤ k
+  pub high : k ≤ 21
+
 -- each word of the set is a pair
 abbrev pub ArePairs : Pairs → Type 0
 ArePairs P = (c : ℕ) → contains P c ≡ true → IsPair c
@@ -56,8 +61,7 @@ IsLegalContent k (coupons S size) = ArePairs S × IsTableFor k (len S) size
 IsLegalContent k (registers R state) = AreRegisters k R × All (λ w. w < 2 ^ 64) state.words
 
 pub record IsLegal (x : Sketch) : Type 0 where
-  pub low : 4 ≤ x.lg_k
-  pub high : x.lg_k ≤ 21
+  pub lg_k : IsLgK x.lg_k
   pub content : IsLegalContent x.lg_k x.content
 
 -- ---- equality

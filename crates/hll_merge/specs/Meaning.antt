@@ -1,0 +1,33 @@
+-- What the outcome of a plan means (docs/MODEL.md, "The meaning of a plan").
+use Rattle.std.specs.Prelude.{◌≡◌, ℕ, ◌≤◌, min, true}
+use Rattle.hll_coupons.specs.Pair.{Pairs}
+use Rattle.hll_coupons.specs.Fold.{fold_to}
+use Rattle.hll_sketch.specs.Value.{Sketch, Content, coupons, registers, pairs_of, has_registers}
+use Rattle.hll_merge.specs.Plan.{Plan, inputs, outcome, effective_lg_k, IsLegalPlan, IsImageOf}
+
+-- coupons are all the pairs, registers are their fold
+abbrev pub Means : ℕ → Content → Pairs → Type 0
+Means k (coupons S size) P = S ≡ P
+Means k (registers R state) P = R ≡ fold_to P k
+
+-- what holds of the outcome of a plan
+pub record HasMeaning (t : Plan) : Type 0 where
+  pub lg_k : (outcome t).lg_k ≡ effective_lg_k t
+  -- no register image is spread
+  pub lowest : (x : Sketch) → IsImageOf x t → has_registers x ≡ true → effective_lg_k t ≤ x.lg_k
+  -- in coupons all inputs, whole slots included; in registers the greatest value among the inputs folded to each slot, or 0
+  pub meaning : Means (effective_lg_k t) (outcome t).content (inputs t)
+  -- and so at each smaller lg_k
+  pub folded : (e : ℕ) → e ≤ effective_lg_k t → fold_to (pairs_of (outcome t)) e ≡ fold_to (inputs t) e
+
+-- ---- laws
+
+-- each legal plan has its meaning
+abbrev pub PlansHaveMeaning : Type 0
+PlansHaveMeaning = (t : Plan) → IsLegalPlan t → HasMeaning t
+
+-- two plans over the same inputs agree once both are folded to the smaller effective lg_k
+abbrev pub SameInputsAgree : Type 0
+SameInputsAgree = (t u : Plan) → IsLegalPlan t → IsLegalPlan u → inputs t ≡ inputs u →
+    let e = min (effective_lg_k t) (effective_lg_k u) in
+    fold_to (pairs_of (outcome t)) e ≡ fold_to (pairs_of (outcome u)) e

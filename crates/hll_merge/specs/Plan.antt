@@ -1,0 +1,91 @@
+-- Merge plans as trees, their inputs and their outcome (docs/MODEL.md, "Plans").
+use Rattle.std.specs.Prelude.{◌≡◌, ℕ, min, ◌⊎◌, if◌then◌else◌, List, [], ◌∷◌}
+use Rattle.std.specs.FinSet.{empty, union}
+use Rattle.hll_coupons.specs.Pair.{Pairs, IsPair, set_of}
+use Rattle.hll_coupons.specs.declared.hll_type.HllType.{HllType}
+use Rattle.hll_sketch.specs.Value.{Sketch, pairs_of, has_registers, empty_sketch, IsLgK, IsLegal}
+use Rattle.hll_sketch.specs.Adding.{add}
+use Rattle.hll_sketch.specs.Merging.{empty_union, merge_all}
+
+-- an empty sketch, a sketch that was read, a plan with one coupon more, or a union of plans
+mutual
+  pub data Plan : Type 0 where
+    new : ℕ → HllType → Plan
+    image : Sketch → Plan
+    coupon : Plan → ℕ → Plan
+    union_of : ℕ → HllType → Plans → Plan
+
+  pub data Plans : Type 0 where
+    no_plans : Plans
+    more_plans : Plan → Plans → Plans
+
+-- the plans of a list, as the children of a union
+abbrev pub plans_of : List Plan → Plans
+plans_of [] = no_plans
+plans_of (t ∷ ts) = more_plans t (plans_of ts)
+
+-- all pairs that went in; it knows nothing of stages, sizes or order
+abbrev mutual
+  pub inputs : Plan → Pairs
+  inputs (new k w) = empty
+  inputs (image x) = pairs_of x
+  inputs (coupon t c) = union (inputs t) (set_of (c ∷ []))
+  inputs (union_of m w ts) = inputs_of_each ts
+
+  pub inputs_of_each : Plans → Pairs
+  inputs_of_each no_plans = empty
+  inputs_of_each (more_plans t ts) = union (inputs t) (inputs_of_each ts)
+
+-- the sketch that a plan gives: of a union its children's outcomes merged in turn, at its width
+abbrev mutual
+  pub outcome : Plan → Sketch
+  outcome (new k w) = empty_sketch k w
+  outcome (image x) = x
+  outcome (coupon t c) = add (outcome t) (set_of (c ∷ []))
+  outcome (union_of m w ts) = record (merge_all m (empty_union m) (outcomes ts)) { width = w }
+
+  pub outcomes : Plans → List Sketch
+  outcomes no_plans = []
+  outcomes (more_plans t ts) = outcome t ∷ outcomes ts
+
+-- the effective lg_k: of a union the least of its bound and that of each child in registers that are not all 0
+abbrev mutual
+  pub effective_lg_k : Plan → ℕ
+  effective_lg_k (new k w) = k
+  effective_lg_k (image x) = x.lg_k
+  effective_lg_k (coupon t c) = effective_lg_k t
+  effective_lg_k (union_of m w ts) = least_of_each m ts
+
+  pub least_of_each : ℕ → Plans → ℕ
+  least_of_each k no_plans = k
+  least_of_each k (more_plans t ts) = least_of_each (if has_registers (outcome t) then min k (effective_lg_k t) else k) ts
+
+-- ---- leaves
+
+-- the plan's numbers are in their ranges, and its images are legal and have the property
+abbrev mutual
+  pub Leaves : (Sketch → Type 0) → Plan → Type 0
+  Leaves Q (new k w) = IsLgK k
+  Leaves Q (image x) = IsLegal x × Q x
+  Leaves Q (coupon t c) = Leaves Q t × IsPair c
+  Leaves Q (union_of m w ts) = IsLgK m × LeavesOfEach Q ts
+
+  pub LeavesOfEach : (Sketch → Type 0) → Plans → Type 0
+  LeavesOfEach Q no_plans = Unit {0}
+  LeavesOfEach Q (more_plans t ts) = Leaves Q t × LeavesOfEach Q ts
+
+-- a plan whose leaves are legal
+abbrev pub IsLegalPlan : Plan → Type 0
+IsLegalPlan t = Leaves (λ _. Unit {0}) t
+
+-- the image is a leaf of the plan
+abbrev mutual
+  pub IsImageOf : Sketch → Plan → Type 0
+  IsImageOf x (new k w) = ⊥
+  IsImageOf x (image y) = x ≡ y
+  IsImageOf x (coupon t c) = IsImageOf x t
+  IsImageOf x (union_of m w ts) = IsImageOfEach x ts
+
+  pub IsImageOfEach : Sketch → Plans → Type 0
+  IsImageOfEach x no_plans = ⊥
+  IsImageOfEach x (more_plans t ts) = IsImageOf x t ⊎ IsImageOfEach x ts
