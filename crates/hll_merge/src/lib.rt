@@ -1,4 +1,11 @@
 //! Plans of sketches: text in, the image of one sketch out.
 #![tactic(auto)]
 
+pub mod fault;
 pub mod laws;
+mod lines;
+pub mod reading;
+pub mod step;
+mod streams;
+pub mod watched;
+mod words;

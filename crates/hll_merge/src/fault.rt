@@ -1,0 +1,54 @@
+//! Why a plan is refused, and at which line.
+ghost use Rattle.std.specs.Prelude.{◌≡◌};
+ghost use Rattle.hll_merge.specs.declared.fault.Fault.TheVariants.{Memory};
+
+use hll_base::error::Reason;
+use std::alloc::{AllocError, AllocFailed};
+
+/// Why a plan is refused (docs/PLAN.md, "Refusals"). Each has a number, and words that are printed.
+#[derive(Clone, Copy, Debug, PartialEq, Eq)]
+pub enum Fault {
+    /// 1, `syntax`: the line is none of the forms of a line.
+    Syntax,
+    /// 2, `range`: a number is out of its range.
+    Range,
+    /// 3, `hex`: the word of an `image` line is not an even number of hexadecimal digits.
+    Hex,
+    /// 4, `image` and the reason's word: no front of the bytes is an image.
+    Image(Reason),
+    /// 5, `stack`: a step finds too few sketches, or not exactly one is left at the end.
+    Stack,
+    /// 6, `memory`: memory was refused.
+    Memory,
+    /// 7, `read`: the reader failed.
+    Read,
+    /// 8, `write`: the writer failed.
+    Write,
+    /// 9, `unserved`: the line is right, and its step is not served yet.
+    Unserved,
+}
+
+/// A fault, and the line that it stands in (docs/PLAN.md, "Numbers of lines").
+#[derive(Clone, Copy, Debug, PartialEq, Eq)]
+pub struct MergeError {
+    /// The line's number, from 1; 0 stands for an empty text, or for no line that ended.
+    pub line: u64,
+    /// Why the plan is refused.
+    pub fault: Fault,
+}
+
+impl From<AllocError> for Fault {
+    ghost from_gives = { λ _ e. e ≡ Memory };
+
+    fn from(_error: AllocError) -> Fault {
+        Fault::Memory
+    }
+}
+
+impl<T: Drop> From<AllocFailed<T>> for Fault {
+    ghost from_gives = { λ _ e. e ≡ Memory };
+
+    fn from(_error: AllocFailed<T>) -> Fault {
+        Fault::Memory
+    }
+}

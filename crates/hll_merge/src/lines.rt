@@ -1,0 +1,44 @@
+//! The lines of a text.
+ghost use Rattle.std.specs.Prelude.{◌≡◌, ℕ, ◌<◌, ◌∷◌, [], List, length, position, ◌==◌, MatchOption};
+ghost use Rattle.std.specs.Str.Lines.{lines, strip_carriage_return};
+ghost use Rattle.hll_merge.specs.Text.{ended_lines};
+
+/// Where the first LF is.
+fn line_end(text: &[u8]) -> Option<usize>
+    ensures { result ≡ position (λ b. b == 10) text.now }
+{
+    text.iter().position(|b| *b == b'\n')
+}
+
+/// A line without the one CR at its end, if it has one.
+fn without_return(line: &[u8]) -> &[u8]
+    ensures { result.now ≡ strip_carriage_return line.now }
+{
+    match line.split_last() {
+        Some((b'\r', front)) => front,
+        _ => line,
+    }
+}
+
+/// The first line of a text that is not empty, without its end, and the text after it.
+pub(crate) fn next_line(text: &[u8]) -> (&[u8], &[u8])
+    requires { 0 < length text.now }
+    ensures lines { lines text.now ≡ result.0.now ∷ lines result.1.now }
+    ensures shorter { length result.1.now < length text.now }
+{
+    match line_end(text) {
+        None => (text, &[]),
+        Some(at) => (without_return(&text[..at]), &text[at + 1..]),
+    }
+}
+
+/// The first line of a text that has its LF, without its end, and the text after it.
+pub(crate) fn next_ended(text: &[u8]) -> Option<(&[u8], &[u8])>
+    ensures { MatchOption result (ended_lines text.now ≡ [])
+        (λ r. (ended_lines text.now ≡ r.0.now ∷ ended_lines r.1.now) × (length r.1.now < length text.now)) }
+{
+    match line_end(text) {
+        None => None,
+        Some(at) => Some((without_return(&text[..at]), &text[at + 1..])),
+    }
+}
