@@ -1,24 +1,18 @@
 //! Bytes that are written one field after another.
-ghost use Rattle.std.specs.Prelude.{◌≡◌, ℕ, ◌+◌, ◌^◌, ◌<◌, ◌++◌, ◌∷◌, [], List, IfOk, OnOk, OnErr, IfErr, length, vec_len, if◌then◌else◌, is_ok};
+ghost use Rattle.std.specs.Prelude.{◌≡◌, ℕ, ◌++◌, ◌∷◌, [], List, IfOk, OnOk, OnErr, IfErr};
 ghost use Rattle.std.specs.Int.{to_le_bytes, w32, w64};
+ghost use Rattle.hll_base.specs.declared.error.Reason.TheVariants.{Memory};
 
 use crate::error::Error;
-use std::alloc::Allocator;
+use std::alloc::{Allocator, Global};
 use std::marker::Model;
 
-/// A family of sketches, by its number in an image.
-#[derive(Clone, Copy, Debug, PartialEq, Eq)]
-pub struct Family {
-    pub id: u8,
-}
-
-impl Family {
-    pub const HLL: Family = Family { id: 7 };
-}
-
-/// Bytes that are written one field after another.
-#[derive(Drop)]
-pub struct SketchBytes<A: Allocator> {
+/// Bytes that are written one field after another. Contracts see the list of the bytes so far.
+///
+/// A write appends exactly its bytes. Where it needs more room and is refused the memory, it answers
+/// `Memory` and the bytes stay as they were.
+#[derive(Debug, Drop)]
+pub struct SketchBytes<A: Allocator = Global> {
     bytes: Vec<u8, A>,
 }
 
@@ -29,11 +23,11 @@ impl<A: Allocator> Model for SketchBytes<A> {
 }
 
 impl<A: Allocator> SketchBytes<A> {
-    ghost use Rattle.hll_base.specs.declared.error.Reason.TheVariants.{Memory};
-
-    /// No bytes, and room for some.
-    pub fn with_capacity(alloc: A, capacity: usize) -> Result<Self, Error>
-        ensures ok { IfOk result (λ b. b ≡ []) }
+    /// No bytes, with room for `capacity` of them, taken in one request.
+    ///
+    /// Refused with the reason `Memory`.
+    pub fn with_capacity(alloc: A, capacity: usize) -> Result<SketchBytes<A>, Error>
+        ensures ok { IfOk result (λ bytes. bytes ≡ []) }
         ensures err { IfErr result (λ e. e ≡ Memory) }
     {
         Ok(SketchBytes {
@@ -41,40 +35,118 @@ impl<A: Allocator> SketchBytes<A> {
         })
     }
 
-    pub fn write_u8(&mut self, n: u8) -> Result<(), Error>
-        ensures ok { OnOk result (self.new ≡ self.old ++ n ∷ []) }
-        ensures err { IfErr result (λ e. (e ≡ Memory) × (self.new ≡ self.old)) }
+    /// Appends a byte.
+    pub fn write_u8(&mut self, number: u8) -> Result<(), Error>
+        ensures ok { OnOk result (self.new ≡ self.old ++ number ∷ []) }
+        ensures err { IfErr result (λ e. e ≡ Memory) }
+        ensures unchanged { OnErr result (self.new ≡ self.old) }
     {
-        self.bytes.push(n)?;
+        self.bytes.push(number)?;
         Ok(())
     }
 
+    /// Appends four bytes, the lowest first.
+    pub fn write_u32_le(&mut self, number: u32) -> Result<(), Error>
+        ensures ok { OnOk result (self.new ≡ self.old ++ to_le_bytes w32 number) }
+        ensures err { IfErr result (λ e. e ≡ Memory) }
+        ensures unchanged { OnErr result (self.new ≡ self.old) }
+    {
+        self.write(&u32::to_le_bytes(number))
+    }
+
+    /// Appends eight bytes, the lowest first.
+    pub fn write_u64_le(&mut self, number: u64) -> Result<(), Error>
+        ensures ok { OnOk result (self.new ≡ self.old ++ to_le_bytes w64 number) }
+        ensures err { IfErr result (λ e. e ≡ Memory) }
+        ensures unchanged { OnErr result (self.new ≡ self.old) }
+    {
+        self.write(&u64::to_le_bytes(number))
+    }
+
+    /// Appends these bytes.
     pub fn write(&mut self, bytes: &[u8]) -> Result<(), Error>
         ensures ok { OnOk result (self.new ≡ self.old ++ bytes.now) }
-        ensures err { IfErr result (λ e. (e ≡ Memory) × (self.new ≡ self.old)) }
+        ensures err { IfErr result (λ e. e ≡ Memory) }
+        ensures unchanged { OnErr result (self.new ≡ self.old) }
     {
         self.bytes.extend_from_slice(bytes)?;
         Ok(())
     }
 
-    pub fn write_u32_le(&mut self, n: u32) -> Result<(), Error>
-        ensures ok { OnOk result (self.new ≡ self.old ++ to_le_bytes w32 n) }
-        ensures err { IfErr result (λ e. (e ≡ Memory) × (self.new ≡ self.old)) }
-    {
-        self.write(&n.to_le_bytes())
-    }
-
-    pub fn write_u64_le(&mut self, n: u64) -> Result<(), Error>
-        ensures ok { OnOk result (self.new ≡ self.old ++ to_le_bytes w64 n) }
-        ensures err { IfErr result (λ e. (e ≡ Memory) × (self.new ≡ self.old)) }
-    {
-        self.write(&n.to_le_bytes())
-    }
-
-    /// What was written.
+    /// All that was written. Takes no memory.
     pub fn into_bytes(self) -> Vec<u8, A>
         ensures { result.items ≡ self }
     {
-        self.bytes
+        let SketchBytes { bytes } = self;
+        bytes
+    }
+}
+
+#[cfg(test)]
+mod tests {
+    use super::*;
+    use crate::error::Reason;
+    use linked_list_allocator::LocalHeap;
+    use std::test::Fail;
+
+    /// Seven fields, 40 bytes.
+    fn write_fields<A: Allocator>(bytes: &mut SketchBytes<A>) -> Result<(), Error> {
+        bytes.write_u8(1)?;
+        bytes.write_u32_le(0x0504_0302)?;
+        bytes.write_u64_le(0x0d0c_0b0a_0908_0706)?;
+        bytes.write(&[14, 15, 16])?;
+        bytes.write_u64_le(0x1817_1615_1413_1211)?;
+        bytes.write_u64_le(0x201f_1e1d_1c1b_1a19)?;
+        bytes.write_u64_le(0x2827_2625_2423_2221)
+    }
+
+    #[test]
+    fn fields_follow_one_another(rt: HostRuntime) -> Result<(), Fail> {
+        let mut bytes = SketchBytes::with_capacity(rt.alloc(), 1)?;
+        write_fields(&mut bytes)?;
+        let written = bytes.into_bytes();
+        assert_eq!(rt; written.len(), 40);
+        for (place, byte) in written.iter().enumerate() {
+            assert_eq!(rt; usize::from(*byte), place + 1);
+        }
+        Ok(())
+    }
+
+    /// In a heap of each size, until all fields fit: what was written before a refusal stands.
+    #[test]
+    fn refused_memory(rt: HostRuntime) -> Result<(), Fail> {
+        let (mut without_room, mut cut_short, mut complete) = (0u32, 0u32, 0u32);
+        for units in 1..20usize {
+            let heap = LocalHeap::new(rt.alloc(), units * 16)?;
+            let mut bytes = match SketchBytes::with_capacity(&heap, 32) {
+                Ok(bytes) => bytes,
+                Err(e) => {
+                    assert_eq!(rt; e.reason(), Reason::Memory);
+                    without_room = without_room.saturating_add(1);
+                    continue;
+                }
+            };
+            let result = write_fields(&mut bytes);
+            let written = bytes.into_bytes();
+            match result {
+                Ok(()) => {
+                    assert_eq!(rt; written.len(), 40);
+                    complete = complete.saturating_add(1);
+                }
+                Err(e) => {
+                    assert_eq!(rt; e.reason(), Reason::Memory);
+                    assert!(rt; written.len() == 32);
+                    cut_short = cut_short.saturating_add(1);
+                }
+            }
+            for (place, byte) in written.iter().enumerate() {
+                assert_eq!(rt; usize::from(*byte), place + 1);
+            }
+        }
+        assert!(rt;
+            0 < without_room && 0 < cut_short && 0 < complete,
+            "{without_room} {cut_short} {complete}"
+        );
+        Ok(())
     }
 }

@@ -1,34 +1,50 @@
-//! Errors with numbered reasons, and bytes that are written one field after another.
-ghost use Rattle.std.specs.Prelude.{◌≡◌, ℕ, ◌+◌, ◌^◌, ◌<◌, ◌++◌, ◌∷◌, [], List, IfOk, OnOk, OnErr, IfErr, length, vec_len, if◌then◌else◌, is_ok};
-ghost use Rattle.std.specs.Int.{to_le_bytes, w32, w64};
+//! Errors with numbered reasons (docs/FORMAT.md, "Reasons").
+ghost use Rattle.std.specs.Prelude.{◌≡◌};
 ghost use Rattle.hll_base.specs.Reason.{number_of, word_of, kind_of};
+ghost use Rattle.hll_base.specs.declared.error.Reason.TheVariants.{Memory};
 
-use std::alloc::{AllocError, AllocFailed, Allocator};
+use std::alloc::{AllocError, AllocFailed};
 use std::marker::Model;
 
 /// What kind of refusal an error is.
 #[derive(Clone, Copy, Debug, PartialEq, Eq)]
 pub enum ErrorKind {
+    /// An argument is outside its range.
     InvalidArgument,
+    /// The bytes that are read are no image.
     InvalidData,
+    /// A request for memory was refused.
     OutOfMemory,
 }
 
-/// Why a call is refused.
+/// The fault that stands in the input, numbered from 1 in this order.
 #[derive(Clone, Copy, Debug, PartialEq, Eq)]
 pub enum Reason {
+    /// The bytes end inside what the header asks for.
     Truncated,
+    /// The family byte isn't 7.
     Family,
+    /// The serial version isn't 1.
     Version,
+    /// The `lg_k` byte is outside 4 to 21.
     LgK,
+    /// The width bits are 3.
     Width,
+    /// The stage bits are 3.
     Stage,
+    /// The number of preamble words doesn't fit the stage.
     Preamble,
+    /// The table size is outside its range.
     LgArr,
+    /// A count is above its bound, or isn't the number of filled places.
     Count,
+    /// A coupon of value 0 stands where a coupon has to stand, or a coupon stands twice.
     Coupon,
+    /// A register is above 63, or nibbles and exceptions don't agree.
     Register,
+    /// An argument is outside its range.
     Argument,
+    /// A request for memory was refused.
     Memory,
 }
 
@@ -36,7 +52,7 @@ impl Reason {
     ghost use Rattle.std.specs.Prelude.{◌≡◌};
     ghost use Rattle.hll_base.specs.Reason.{number_of, word_of};
 
-    /// The number of the reason, from 1.
+    /// The number of the reason, from 1 to 13. Takes no memory.
     pub fn number(self) -> u8
         ensures { result ≡ number_of self }
     {
@@ -57,7 +73,7 @@ impl Reason {
         }
     }
 
-    /// The word that stands for the reason in a printed line.
+    /// The word that stands for the reason in a printed line. Takes no memory.
     pub fn word(self) -> &'static str
         ensures { result.now ≡ word_of self }
     {
@@ -79,7 +95,7 @@ impl Reason {
     }
 }
 
-/// A refusal with its reason.
+/// A refusal. Contracts see its reason.
 #[derive(Clone, Copy, Debug, PartialEq, Eq)]
 pub struct Error {
     reason: Reason,
@@ -96,18 +112,22 @@ impl Model for Error {
 }
 
 impl Error {
+    /// The refusal for this reason. Takes no memory.
     pub fn new(reason: Reason) -> Error
         ensures { result ≡ reason }
     {
         Error { reason }
     }
 
+    /// Why the call was refused. Takes no memory.
     pub fn reason(&self) -> Reason
         ensures { result ≡ self.now }
     {
         self.reason
     }
 
+    /// The kind of the reason: `InvalidArgument` for `Argument`, `OutOfMemory` for `Memory`, and
+    /// `InvalidData` for all others. Takes no memory.
     pub fn kind(&self) -> ErrorKind
         ensures { result ≡ kind_of self.now }
     {
@@ -119,25 +139,20 @@ impl Error {
     }
 }
 
+/// Refused memory, by `?`.
 impl From<AllocError> for Error {
-    ghost use Rattle.std.specs.Prelude.{◌≡◌};
-    ghost use Rattle.hll_base.specs.declared.error.Reason.TheVariants.{Memory};
-
     ghost from_gives = { λ _ e. e ≡ Memory };
 
-    fn from(_e: AllocError) -> Error {
+    fn from(_refused: AllocError) -> Error {
         Error::new(Reason::Memory)
     }
 }
 
+/// Refused memory, by `?`. What was to be stored is let go.
 impl<T: Drop> From<AllocFailed<T>> for Error {
-    ghost use Rattle.std.specs.Prelude.{◌≡◌};
-    ghost use Rattle.hll_base.specs.declared.error.Reason.TheVariants.{Memory};
-
     ghost from_gives = { λ _ e. e ≡ Memory };
 
-    fn from(_e: AllocFailed<T>) -> Error {
+    fn from(_refused: AllocFailed<T>) -> Error {
         Error::new(Reason::Memory)
     }
 }
-

@@ -1,7 +1,12 @@
+pub mod CouponRows
 pub mod Folds
 pub mod Greatest
 pub mod Joins
+pub mod Members
 pub mod Payloads
+pub mod Places
 pub mod Probing
 pub mod Registers
 pub mod Searching
+pub mod TableLemmas
+pub mod Yielded

@@ -46,10 +46,13 @@ mode_byte stage width = stage + 4 * bits_of_width width
 abbrev pub coupon_bytes : List ℕ → List ℕ
 coupon_bytes order = flat_map (to_le_bytes w32) order
 
--- the compact image of a list: eight bytes, and the coupons in this order
+-- the eight bytes before so many coupons of a list
+abbrev pub list_header : ℕ → HllType → ℕ → List ℕ
+list_header lg_k width count = 2 ∷ 1 ∷ 7 ∷ lg_k ∷ 3 ∷ (if count == 0 then 12 else 8) ∷ count ∷ mode_byte 0 width ∷ []
+
+-- the compact image of a list: the header, and the coupons in this order
 abbrev pub list_bytes : ℕ → HllType → List ℕ → List ℕ
-list_bytes lg_k width order =
-    2 ∷ 1 ∷ 7 ∷ lg_k ∷ 3 ∷ (if length order == 0 then 12 else 8) ∷ length order ∷ mode_byte 0 width ∷ coupon_bytes order
+list_bytes lg_k width order = list_header lg_k width (length order) ++ coupon_bytes order
 
 -- the compact image of a set with a table of 2^size places
 abbrev pub set_bytes : ℕ → HllType → ℕ → List ℕ → List ℕ

@@ -1,7 +1,9 @@
 pub mod Coupons
 pub mod Fold
+pub mod Hashed
 pub mod Laws
 pub mod Pair
 pub mod Payload
 pub mod Probe
+pub mod Same
 pub mod Table

@@ -31,6 +31,10 @@ empty_table lg_size = record { lg_size = lg_size; places = replicate (2 ^ lg_siz
 abbrev pub IsFilledFromFront : Table → Type 0
 IsFilledFromFront t = t.places ≡ held t.places ++ replicate (2 ^ t.lg_size - length (held t.places)) 0
 
+-- a table whose coupons stand in the first places in this order
+abbrev pub filled_from_front : ℕ → List ℕ → Table
+filled_from_front lg_size order = record { lg_size = lg_size; places = order ++ replicate (2 ^ lg_size - length order) 0 }
+
 -- coupons in order of arrival, after one more that came: one that is held changes nothing
 abbrev pub arrived : List ℕ → ℕ → List ℕ
 arrived order coupon = if set.contains (set_of order) coupon then order else order ++ coupon ∷ []

@@ -1,4 +1,4 @@
-//! How many bits a register takes.
+//! How many bits a register takes (docs/MODEL.md, "Registers").
 
 /// The width of the registers of a sketch.
 #[derive(Clone, Copy, Debug, PartialEq, Eq)]

@@ -1,5 +1,10 @@
-//! Coupons, the containers that hold them, and the laws of folding and probing.
+//! Coupons, the containers that hold them, and their bytes in an image (docs/ARCHITECTURE.md,
+//! "The crates").
 #![tactic(auto)]
 
+pub mod container;
+pub mod coupon;
 pub mod hll_type;
 pub mod laws;
+pub mod list;
+pub mod serialization;

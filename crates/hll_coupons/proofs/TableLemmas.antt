@@ -1,0 +1,105 @@
+-- Tables: empty, with a coupon put, and filled from the front.
+use Rattle.std.proofs.Common.{◌≡◌, ℕ, zero, ◌+◌, ◌-◌, ◌*◌, ◌/◌, ◌<◌, ◌≤◌, ◌^◌, true, false, Bool, cond, List, filter, nat_lt, [], ◌∷◌, ◌++◌, length, replicate, get_or, refl, sym, ◌∙◌, ap, subst, arith, All, length-append}
+use Rattle.std.proofs.Math.ListN.{set}
+use Rattle.std.proofs.Math.Pow.{pow_mono}
+use Rattle.std.specs.List.{AllByRecursion}
+use Rattle.std.specs.Ordering.{nat_cmp}
+use Rattle.std.specs.FinSet.{contains, len, len-empty}
+use Rattle.std.proofs.lemmas.List.{length-set, length-replicate}
+use Rattle.std.proofs.lemmas.List.Elements.{filter-append, All-nil, All-from_recursion, recursion_from_All}
+use Rattle.hll_coupons.specs.Pair.{IsPair, value_of, set_of}
+use Rattle.hll_coupons.specs.Table.{Table, held, coupons_of, IsTable, empty_table, IsFilledFromFront, filled_from_front, arrived}
+use Rattle.hll_coupons.proofs.Places.{held-replicate, length-held, Between, between, set-front, held-front, held-full, held-held}
+use Rattle.hll_coupons.proofs.Members.{len-between}
+
+-- no more is held than a table has places
+pub length-held-table : (t : Table) → IsTable t → length (held t.places) ≤ 2 ^ t.lg_size
+length-held-table t table = omega (arith, length-held t.places, table.size)
+
+-- a table has at most 2^26 places
+pub small_places : (t : Table) → IsTable t → length t.places ≤ 2 ^ 26
+small_places t table = rw table.size (pow_mono table.small)
+
+-- an empty table is a table
+pub IsTable-empty : (lg_size : ℕ) → lg_size ≤ 26 → IsTable (empty_table lg_size)
+IsTable-empty lg_size small = record {
+  small = small;
+  size = length-replicate (2 ^ lg_size) 0;
+  distinct = ap (λ xs. len (set_of xs)) (held-replicate (2 ^ lg_size)) ∙ len-empty nat_cmp ∙ sym (ap length (held-replicate (2 ^ lg_size)));
+  valued = subst (All IsPair) (sym (held-replicate (2 ^ lg_size))) (All-nil IsPair);
+}
+
+All-between : (P : ℕ → Type 0) (xs ys : List ℕ) (c : ℕ) → AllByRecursion P (xs ++ ys) → P c → AllByRecursion P (xs ++ c ∷ ys)
+All-between P [] ys c h p = (p, h)
+All-between P (x ∷ xs) ys c h p = (h.0, All-between P xs ys c h.1 p)
+
+length-between : (xs ys : List ℕ) (c : ℕ) → length (xs ++ c ∷ ys) ≡ length (xs ++ ys) + 1
+length-between xs ys c = omega (arith, length-append xs (c ∷ ys), length-append xs ys)
+
+-- a coupon of a value is no empty place
+pub full_of_valued : (c : ℕ) → 1 ≤ value_of c → 0 < c
+full_of_valued c h = omega arith
+
+-- a new coupon in an empty place: one more is held, and the table stays one
+pub IsTable-put : (t : Table) (i c : ℕ) → IsTable t → i < 2 ^ t.lg_size → get_or t.places i 0 ≡ 0 → IsPair c → contains (coupons_of t) c ≡ false
+    → IsTable (record { lg_size = t.lg_size; places = set t.places i c }) × (length (held (set t.places i c)) ≡ length (held t.places) + 1)
+IsTable-put t i c table inside empty pair fresh =
+    let b : Between t.places i c = between t.places i c (omega (arith, table.size)) empty (full_of_valued c pair.valued) in
+    let more : length (held (set t.places i c)) ≡ length (held t.places) + 1 =
+    ap length b.new ∙ length-between b.before b.after c ∙ ap (λ xs. length xs + 1) (sym b.old) in (
+      record {
+        small = table.small;
+        size = length-set t.places i c ∙ table.size;
+        distinct =
+            ap (λ xs. len (set_of xs)) b.new
+            ∙ len-between b.before b.after c (ap (λ xs. contains (set_of xs) c) (sym b.old) ∙ fresh)
+            ∙ ap (λ xs. len (set_of xs) + 1) (sym b.old)
+            ∙ ap (λ n. n + 1) table.distinct
+            ∙ sym more;
+        valued = subst (All IsPair) (sym b.new)
+            (All-from_recursion IsPair _ (All-between IsPair b.before b.after c (recursion_from_All IsPair _ (subst (All IsPair) b.old table.valued)) pair));
+      },
+      more,
+    )
+
+-- a front holds its coupons in their order
+pub held-filled_from_front : (lg_size : ℕ) (order : List ℕ) → held order ≡ order → held (filled_from_front lg_size order).places ≡ order
+held-filled_from_front lg_size order kept = held-front order (2 ^ lg_size - length order) ∙ kept
+
+-- so it is filled from the front
+pub IsFilledFromFront-front : (lg_size : ℕ) (order : List ℕ) → held order ≡ order → IsFilledFromFront (filled_from_front lg_size order)
+IsFilledFromFront-front lg_size order kept =
+    ap (λ xs. (filled_from_front lg_size xs).places) (sym (held-filled_from_front lg_size order kept))
+
+-- and an empty table is
+pub IsFilledFromFront-empty : (lg_size : ℕ) → IsFilledFromFront (empty_table lg_size)
+IsFilledFromFront-empty lg_size = rw held-replicate (ap (λ n. replicate n 0) (omega arith))
+
+held-push : (xs : List ℕ) (c : ℕ) → held xs ≡ xs → 0 < c → held (xs ++ c ∷ []) ≡ xs ++ c ∷ []
+held-push xs c kept full =
+    filter-append (λ x. nat_lt 0 x) xs (c ∷ []) ∙ ap (λ ys. ys ++ held (c ∷ [])) kept ∙ ap (λ ys. xs ++ ys) (held-full c [] full)
+
+-- a coupon that arrives is held with the others
+pub held-arrived : (places : List ℕ) (c : ℕ) → 0 < c → held (arrived (held places) c) ≡ arrived (held places) c
+held-arrived places c full = decide (contains (set_of (held places)) c)
+  where
+    decide : (b : Bool) → held (cond b (held places) (held places ++ c ∷ [])) ≡ cond b (held places) (held places ++ c ∷ [])
+    decide true = held-held places
+    decide false = held-push (held places) c (held-held places) full
+
+-- what a list's places are after a coupon that is held, and after one that is put
+pub places-held : (t : Table) (c : ℕ) → IsFilledFromFront t → contains (coupons_of t) c ≡ true → t ≡ filled_from_front t.lg_size (arrived (held t.places) c)
+places-held t c front member =
+    ap (λ places. record { lg_size = t.lg_size; places = places }) front
+    ∙ ap (λ b. filled_from_front t.lg_size (cond b (held t.places) (held t.places ++ c ∷ []))) (sym member)
+
+pub places-put : (t : Table) (c : ℕ) → IsFilledFromFront t → contains (coupons_of t) c ≡ false → length (held t.places) < 2 ^ t.lg_size
+    → record { lg_size = t.lg_size; places = set t.places (length (held t.places)) c } ≡ filled_from_front t.lg_size (arrived (held t.places) c)
+places-put t c front fresh room =
+    let order : List ℕ = held t.places in
+    let left : ℕ = 2 ^ t.lg_size - length order in
+    let fewer : left - 1 ≡ 2 ^ t.lg_size - length (order ++ c ∷ []) = omega (arith, length-append order (c ∷ [])) in
+    let new : set t.places (length order) c ≡ (order ++ c ∷ []) ++ replicate (2 ^ t.lg_size - length (order ++ c ∷ [])) 0 =
+    ap (λ places. set places (length order) c) front ∙ set-front order left c (omega arith) ∙ ap (λ n. (order ++ c ∷ []) ++ replicate n 0) fewer in
+    ap (λ places. record { lg_size = t.lg_size; places = places }) new
+    ∙ ap (λ b. filled_from_front t.lg_size (cond b order (order ++ c ∷ []))) (sym fresh)

@@ -1,0 +1,14 @@
+-- The coupon of hashed bytes (docs/MODEL.md, "Coupons of values").
+use Rattle.std.specs.Prelude.{ℕ, ◌+◌, List, min}
+use Rattle.std.specs.Int.{w64, leading_zeros}
+use Rattle.hll_base.specs.Hash.{hash, default_seed}
+use Rattle.hll_coupons.specs.Pair.{slot_of, pair}
+
+-- the raw word of the two words of a hash: the slot is the low 26 bits of the first, the value is
+-- one more than the leading zeros of the second, of which at most 62 count
+abbrev pub coupon_of_words : ℕ → ℕ → ℕ
+coupon_of_words lo hi = pair (slot_of lo) (min (leading_zeros w64 hi) 62 + 1)
+
+-- the raw word of the hash of bytes at the default seed
+abbrev pub coupon_of : List ℕ → ℕ
+coupon_of bytes = let words = hash default_seed bytes in coupon_of_words words.first words.second

@@ -1,0 +1,226 @@
+//! A table of places for coupons (docs/MODEL.md, "Tables").
+ghost use Rattle.std.specs.Prelude.{◌≡◌, ◌+◌, ◌*◌, ◌^◌, ◌<◌, ◌≤◌, ◌↔◌, ◌++◌, [], List, ℕ, length, slice_set, slice_index, true, false, IsTrue, IfOk, IfErr, OnOk};
+ghost use Rattle.std.specs.Bool.{OnFalse};
+ghost use Rattle.std.specs.Iterator.{YieldsFirst, item_count};
+ghost use Rattle.std.specs.FinSet as set;
+ghost use Rattle.hll_base.specs.declared.error.Reason.TheVariants.{Memory};
+ghost use Rattle.hll_coupons.specs.Pair.{value_of};
+ghost use Rattle.hll_coupons.specs.Table.{Table, held, coupons_of, empty_table, IsTable};
+ghost use Rattle.hll_coupons.specs.Coupons.{coupon_bytes};
+
+use crate::coupon::Coupon;
+use hll_base::codec::SketchBytes;
+use hll_base::error::Error;
+use std::alloc::{AllocError, Allocator, Global};
+use std::marker::Model;
+
+/// 2^`lg_size` places, each empty or a coupon of value 1 to 63, the coupons distinct. Contracts see
+/// the size and the list of places; the coupons are a function of it.
+#[derive_where(Debug)]
+#[derive(Drop)]
+pub struct Container<A: Allocator = Global> {
+    lg_size: usize,
+    coupons: Vec<Coupon, A>,
+    len: usize,
+}
+
+impl<A: Allocator> Model for Container<A> {
+    ghost use Rattle.std.specs.Prelude.{◌≡◌, length};
+    ghost use Rattle.hll_coupons.specs.Table.{Table, held, IsTable};
+
+    ghost Value = { Table };
+
+    ghost view = { λ c. record { lg_size = c.lg_size; places = c.coupons.items } };
+
+    ghost invariant = { λ c. IsTable (record { lg_size = c.lg_size; places = c.coupons.items }) × (c.len ≡ length (held c.coupons.items)) };
+}
+
+impl<A: Allocator> Container<A> {
+    /// 2^`lg_size` empty places, of four bytes each.
+    ///
+    /// Refused with the reason `Memory`.
+    pub fn new(alloc: A, lg_size: usize) -> Result<Container<A>, Error>
+        requires { lg_size ≤ 26 }
+        ensures ok { IfOk result (λ c. c ≡ empty_table lg_size) }
+        ensures err { IfErr result (λ e. e ≡ Memory) }
+    {
+        Ok(Container {
+            lg_size,
+            coupons: vec![in alloc; Coupon::EMPTY; 1 << lg_size]?,
+            len: 0,
+        })
+    }
+
+    /// How many coupons there are, at most the number of places. Takes no memory.
+    pub fn len(&self) -> usize
+        ensures count { result ≡ length (held self.now.places) }
+        ensures within { result ≤ 2 ^ self.now.lg_size }
+        ensures table { IsTable self.now }
+    {
+        self.len
+    }
+
+    /// Whether there is no coupon. Takes no memory.
+    pub fn is_empty(&self) -> bool
+        ensures { IsTrue result ↔ (held self.now.places ≡ []) }
+    {
+        self.len == 0
+    }
+
+    /// Whether each place has a coupon. Takes no memory.
+    pub fn is_full(&self) -> bool
+        ensures full { IsTrue result ↔ (length (held self.now.places) ≡ 2 ^ self.now.lg_size) }
+        ensures room { OnFalse result (length (held self.now.places) < 2 ^ self.now.lg_size) }
+    {
+        self.len == self.coupons.len()
+    }
+
+    /// The logarithm of the number of places, at most 26. Takes no memory.
+    pub fn lg_size(&self) -> usize
+        ensures size { result ≡ self.now.lg_size }
+        ensures small { result ≤ 26 }
+    {
+        self.lg_size
+    }
+
+    /// The number of places. Takes no memory.
+    pub fn capacity(&self) -> usize
+        ensures { result ≡ 2 ^ self.now.lg_size }
+    {
+        self.coupons.len()
+    }
+
+    /// The bytes of all places, four each. Takes no memory.
+    pub fn estimated_size(&self) -> usize
+        ensures { result ≡ 4 * 2 ^ self.now.lg_size }
+    {
+        self.coupons.len() * 4
+    }
+
+    /// Whether the coupon is held. Looks at each place; takes no memory.
+    pub fn contains(&self, coupon: Coupon) -> bool
+        ensures { result ≡ set.contains (coupons_of self.now) coupon }
+    {
+        !coupon.is_empty() && self.coupons.contains(&coupon)
+    }
+
+    /// The coupons in the order of their places, each once. Takes no memory.
+    pub fn iter(&self) -> ContainerIter<'_>
+        ensures { result ≡ held self.now.places }
+    {
+        ContainerIter {
+            places: &self.coupons,
+        }
+    }
+
+    /// Puts a new coupon into an empty place.
+    pub(crate) fn put(&mut self, place: usize, coupon: Coupon)
+        requires inside { place < 2 ^ self.old.lg_size }
+        requires empty { slice_index self.old.places place ≡ 0 }
+        requires valued { 1 ≤ value_of coupon }
+        requires fresh { set.contains (coupons_of self.old) coupon ≡ false }
+        ensures { self.new ≡ record self.old { places = slice_set self.old.places place coupon } }
+    {
+        prove!(1 <= coupon.value());
+        self.coupons[place] = coupon;
+        self.len += 1;
+    }
+
+    /// Appends the coupons in the order of their places, four bytes each.
+    pub(crate) fn write_to<B: Allocator>(&self, bytes: &mut SketchBytes<B>) -> Result<(), Error>
+        ensures ok { OnOk result (bytes.new ≡ bytes.old ++ coupon_bytes (held self.now.places)) }
+        ensures err { IfErr result (λ e. e ≡ Memory) }
+    {
+        for coupon in self.iter() {
+            bytes.write_u32_le(coupon.raw())?;
+        }
+        Ok(())
+    }
+
+    /// Whether each coupon of another container is held.
+    fn contains_all(&self, other: &Container<A>) -> bool
+        ensures { result ≡ set.is_subset (coupons_of other.now) (coupons_of self.now) }
+    {
+        for coupon in other.iter() {
+            if !self.contains(coupon) {
+                return false;
+            }
+        }
+        true
+    }
+}
+
+impl<A: Allocator + Clone> Container<A> {
+    /// The same places over again.
+    ///
+    /// Refused with the reason `Memory`.
+    pub fn clone(&self) -> Result<Container<A>, Error>
+        ensures ok { IfOk result (λ c. c ≡ self.now) }
+        ensures err { IfErr result (λ e. e ≡ Memory) }
+    {
+        Ok(Container {
+            lg_size: self.lg_size,
+            coupons: self.coupons.clone()?,
+            len: self.len,
+        })
+    }
+
+    /// The allocator of the places over again.
+    pub(crate) fn cloned_allocator(&self) -> Result<A, AllocError> {
+        self.coupons.allocator().clone()
+    }
+}
+
+/// Containers are equal where they hold the same coupons, whatever their sizes and places. Compares
+/// by search, and takes no memory.
+impl<A: Allocator> PartialEq for Container<A> {
+    ghost use Rattle.hll_coupons.specs.Same.{hold_same_coupons, hold_same_coupons-partial};
+
+    ghost eq = { hold_same_coupons };
+
+    ghost laws = { hold_same_coupons-partial };
+
+    fn eq(&self, other: &Container<A>) -> bool {
+        other.contains_all(self) && self.contains_all(other)
+    }
+}
+
+impl<A: Allocator> Eq for Container<A> {
+    ghost use Rattle.hll_coupons.specs.Same.{hold_same_coupons-equivalence};
+
+    ghost laws = { hold_same_coupons-equivalence };
+}
+
+/// The coupons of a container that are left to give, in the order of their places. Contracts see the
+/// list of them.
+#[derive(Debug, Drop)]
+pub struct ContainerIter<'a> {
+    places: &'a [Coupon],
+}
+
+impl<'a> Model for ContainerIter<'a> {
+    ghost use Rattle.std.specs.Prelude.{List, ℕ};
+    ghost use Rattle.hll_coupons.specs.Table.{held};
+
+    ghost Value = { List ℕ };
+
+    ghost view = { λ c. held c.places.now };
+}
+
+impl<'a> Iterator for ContainerIter<'a> {
+    type Item = Coupon;
+
+    ghost next_gives = { YieldsFirst (λ s. s) };
+
+    ghost remaining = { item_count (λ s. s) };
+
+    fn next(&mut self) -> Option<Coupon> {
+        while let Some((first, others)) = self.places.split_first() {
+            self.places = others;
+            if !first.is_empty() {
+                return Some(*first);
+            }
+        }
+        None
+    }
+}

@@ -1,0 +1,77 @@
+//! Coupons (docs/MODEL.md, "Pairs").
+ghost use Rattle.std.specs.Prelude.{◌≡◌, ◌↔◌, ◌≤◌, ◌<◌, ◌^◌, ℕ, IsTrue};
+ghost use Rattle.hll_coupons.specs.Pair.{slot_of, value_of, pair};
+
+use std::marker::Model;
+
+/// The bits of a raw word below the value.
+const SLOT_BITS: u32 = 26;
+
+/// The slot in a raw word.
+const SLOT_MASK: u32 = 0x03ff_ffff;
+
+/// A slot below 2^26 and a value up to 63, in one raw word: `value * 2^26 + slot`. Contracts see the
+/// raw word.
+///
+/// A coupon of value 0 is no pair; raw word 0 stands for an empty place.
+#[derive(Clone, Copy, Debug, PartialEq, Eq, PartialOrd, Ord, Hash)]
+pub struct Coupon {
+    raw: u32,
+}
+
+impl Model for Coupon {
+    ghost use Rattle.std.specs.Prelude.{ℕ};
+
+    ghost Value = { ℕ };
+
+    ghost view = { λ c. c.raw };
+
+    ghost inverse = { λ n. record { raw = n } };
+}
+
+impl Coupon {
+    /// What stands in an empty place.
+    pub const EMPTY: Coupon = Coupon { raw: 0 };
+
+    /// The coupon of a value at the slot modulo 2^26. Takes no memory.
+    ///
+    /// The value is at most 63.
+    pub fn pack(slot: u32, value: u8) -> Coupon
+        requires { value ≤ 63 }
+        ensures { result ≡ pair (slot_of slot) value }
+    {
+        Coupon {
+            raw: u32::from(value) << SLOT_BITS | slot & SLOT_MASK,
+        }
+    }
+
+    /// Whether the raw word is 0. Takes no memory.
+    pub fn is_empty(self) -> bool
+        ensures { IsTrue result ↔ (self ≡ 0) }
+    {
+        self.raw == 0
+    }
+
+    /// The raw word. Takes no memory.
+    pub fn raw(self) -> u32
+        ensures { result ≡ self }
+    {
+        self.raw
+    }
+
+    /// The slot, below 2^26. Takes no memory.
+    pub fn slot(self) -> u32
+        ensures slot { result ≡ slot_of self }
+        ensures small { result < 2 ^ 26 }
+    {
+        self.raw & SLOT_MASK
+    }
+
+    /// The value, from 0 to 63. Takes no memory.
+    pub fn value(self) -> u8
+        ensures value { result ≡ value_of self }
+        ensures small { result ≤ 63 }
+    {
+        (self.raw >> SLOT_BITS) as u8
+    }
+}

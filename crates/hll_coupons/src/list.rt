@@ -1,0 +1,173 @@
+//! A list of coupons in order of arrival (docs/MODEL.md, "Tables").
+ghost use Rattle.std.specs.Prelude.{◌≡◌, ◌^◌, ◌<◌, ◌≤◌, ℕ, length, false, IfOk, IfErr};
+ghost use Rattle.std.specs.FinSet as set;
+ghost use Rattle.hll_base.specs.declared.error.Reason.TheVariants.{Memory};
+ghost use Rattle.hll_coupons.specs.Pair.{value_of};
+ghost use Rattle.hll_coupons.specs.Table.{Table, held, coupons_of, empty_table, filled_from_front, arrived, IsFilledFromFront};
+ghost use Rattle.hll_coupons.specs.Coupons.{list_bytes};
+ghost use Rattle.hll_coupons.specs.Coupons as header;
+
+use crate::container::Container;
+use crate::coupon::Coupon;
+use crate::hll_type::HllType;
+use crate::serialization::{
+    COMPACT_FLAG_MASK, COUPON_SIZE_BYTES, CUR_MODE_LIST, EMPTY_FLAG_MASK, LIST_PREAMBLE_SIZE,
+    LIST_PREINTS, SERIAL_VERSION, encode_mode_byte,
+};
+use hll_base::codec::SketchBytes;
+use hll_base::error::Error;
+use hll_base::family::Family;
+use std::alloc::{Allocator, Global};
+use std::marker::Model;
+
+/// The logarithm of the number of places where none is given, and in an image.
+const LG_DEFAULT_SIZE: usize = 3;
+
+/// A container whose places are filled from the front, in order of arrival. Contracts see what they
+/// see of the container.
+#[derive_where(Debug)]
+#[derive(Drop)]
+pub struct List<A: Allocator = Global> {
+    container: Container<A>,
+}
+
+impl<A: Allocator> Model for List<A> {
+    ghost use Rattle.hll_coupons.specs.Table.{Table, IsFilledFromFront};
+
+    ghost Value = { Table };
+
+    ghost view = { λ l. l.container };
+
+    ghost invariant = { λ l. IsFilledFromFront l.container };
+}
+
+impl<A: Allocator> List<A> {
+    /// No coupons, and 2^`lg_size` places of four bytes each.
+    ///
+    /// Refused with the reason `Memory`.
+    pub fn new(alloc: A, lg_size: usize) -> Result<List<A>, Error>
+        requires { lg_size ≤ 26 }
+        ensures ok { IfOk result (λ l. l ≡ empty_table lg_size) }
+        ensures err { IfErr result (λ e. e ≡ Memory) }
+    {
+        Ok(List {
+            container: Container::new(alloc, lg_size)?,
+        })
+    }
+
+    /// No coupons, and eight places.
+    ///
+    /// Refused with the reason `Memory`.
+    pub fn default_in(alloc: A) -> Result<List<A>, Error>
+        ensures ok { IfOk result (λ l. l ≡ empty_table 3) }
+        ensures err { IfErr result (λ e. e ≡ Memory) }
+    {
+        List::new(alloc, LG_DEFAULT_SIZE)
+    }
+
+    /// Puts a coupon into the first empty place, unless it is held. Takes no memory.
+    ///
+    /// Its value is at least 1, and where it isn't held a place is free.
+    pub fn update(&mut self, coupon: Coupon)
+        requires valued { 1 ≤ value_of coupon }
+        requires room { set.contains (coupons_of self.old) coupon ≡ false → length (held self.old.places) < 2 ^ self.old.lg_size }
+        ensures places { self.new ≡ filled_from_front self.old.lg_size (arrived (held self.old.places) coupon) }
+        ensures order { held self.new.places ≡ arrived (held self.old.places) coupon }
+        ensures members { coupons_of self.new ≡ set.insert (coupons_of self.old) coupon }
+    {
+        if !self.container.contains(coupon) {
+            let place = self.container.len();
+            self.container.put(place, coupon);
+        }
+    }
+
+    /// Whether the coupon is held. Looks at each place; takes no memory.
+    pub fn contains(&self, coupon: Coupon) -> bool
+        ensures { result ≡ set.contains (coupons_of self.now) coupon }
+    {
+        self.container.contains(coupon)
+    }
+
+    /// The places. Takes no memory.
+    pub fn container(&self) -> &Container<A>
+        ensures same { result.now ≡ self.now }
+        ensures front { IsFilledFromFront self.now }
+    {
+        &self.container
+    }
+}
+
+impl<A: Allocator + Clone> List<A> {
+    /// The same places over again.
+    ///
+    /// Refused with the reason `Memory`.
+    pub fn clone(&self) -> Result<List<A>, Error>
+        ensures ok { IfOk result (λ l. l ≡ self.now) }
+        ensures err { IfErr result (λ e. e ≡ Memory) }
+    {
+        Ok(List {
+            container: self.container.clone()?,
+        })
+    }
+
+    /// The compact image of a list of eight places (docs/FORMAT.md, "What is written"), eight bytes
+    /// and four for each coupon, taken in one request.
+    ///
+    /// `lg_config_k` is 4 to 21, and the list has size 3. Refused with the reason `Memory`.
+    pub fn serialize(&self, lg_config_k: u8, hll_type: HllType) -> Result<Vec<u8, A>, Error>
+        requires least { 4 ≤ lg_config_k }
+        requires most { lg_config_k ≤ 21 }
+        requires size { self.now.lg_size ≡ 3 }
+        ensures ok { IfOk result (λ image. image.items ≡ list_bytes lg_config_k hll_type (held self.now.places)) }
+        ensures err { IfErr result (λ e. e ≡ Memory) }
+    {
+        let count = self.container.len();
+        let needed = LIST_PREAMBLE_SIZE + count * COUPON_SIZE_BYTES;
+        let mut bytes = SketchBytes::with_capacity(self.container.cloned_allocator()?, needed)?;
+        bytes.write(&list_header(lg_config_k, hll_type, count))?;
+        self.container.write_to(&mut bytes)?;
+        Ok(bytes.into_bytes())
+    }
+}
+
+/// Lists are equal where they hold the same coupons, whatever their sizes and order. Compares by
+/// search, and takes no memory.
+impl<A: Allocator> PartialEq for List<A> {
+    ghost use Rattle.hll_coupons.specs.Same.{hold_same_coupons, hold_same_coupons-partial};
+
+    ghost eq = { hold_same_coupons };
+
+    ghost laws = { hold_same_coupons-partial };
+
+    fn eq(&self, other: &List<A>) -> bool {
+        self.container == other.container
+    }
+}
+
+impl<A: Allocator> Eq for List<A> {
+    ghost use Rattle.hll_coupons.specs.Same.{hold_same_coupons-equivalence};
+
+    ghost laws = { hold_same_coupons-equivalence };
+}
+
+/// The eight bytes before the coupons of a list.
+fn list_header(lg_config_k: u8, hll_type: HllType, count: usize) -> [u8; LIST_PREAMBLE_SIZE]
+    requires { count ≤ 8 }
+    ensures { result ≡ header.list_header lg_config_k hll_type count }
+{
+    let flags = if count == 0 {
+        COMPACT_FLAG_MASK | EMPTY_FLAG_MASK
+    } else {
+        COMPACT_FLAG_MASK
+    };
+    [
+        LIST_PREINTS,
+        SERIAL_VERSION,
+        Family::HLL.id,
+        lg_config_k,
+        LG_DEFAULT_SIZE as u8,
+        flags,
+        count as u8,
+        encode_mode_byte(CUR_MODE_LIST, hll_type as u8),
+    ]
+}

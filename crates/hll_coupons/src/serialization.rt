@@ -1,0 +1,75 @@
+//! The constants of an image, and its mode byte (docs/FORMAT.md, "The image"). Names that end in
+//! `PREINTS` count words of four bytes, those that end in `SIZE` or `BYTES` count bytes.
+ghost use Rattle.std.specs.Prelude.{◌≡◌, ◌+◌, ◌*◌, ◌/◌, ◌%◌};
+
+/// The version of the format, the second byte of an image.
+pub const SERIAL_VERSION: u8 = 1;
+
+/// The flag of an image with no coupon.
+pub const EMPTY_FLAG_MASK: u8 = 4;
+
+/// The flag of an image that has coupons, or exceptions, with no empty places between them.
+pub const COMPACT_FLAG_MASK: u8 = 8;
+
+/// The flag of an estimate state that doesn't follow the order of arrival.
+pub const OUT_OF_ORDER_FLAG_MASK: u8 = 16;
+
+/// The words before the coupons of a list.
+pub const LIST_PREINTS: u8 = 2;
+
+/// The words before the coupons of a set.
+pub const HASH_SET_PREINTS: u8 = 3;
+
+/// The words before the registers.
+pub const HLL_PREINTS: u8 = 10;
+
+/// The bytes before the coupons of a list.
+pub const LIST_PREAMBLE_SIZE: usize = 8;
+
+/// The bytes before the coupons of a set.
+pub const SET_PREAMBLE_SIZE: usize = 12;
+
+/// The bytes before the registers.
+pub const HLL_PREAMBLE_SIZE: usize = 40;
+
+/// The stage of a list in the mode byte.
+pub const CUR_MODE_LIST: u8 = 0;
+
+/// The stage of a set in the mode byte.
+pub const CUR_MODE_SET: u8 = 1;
+
+/// The stage of registers in the mode byte.
+pub const CUR_MODE_HLL: u8 = 2;
+
+/// The width of four bits in the mode byte.
+pub const TGT_HLL4: u8 = 0;
+
+/// The width of six bits in the mode byte.
+pub const TGT_HLL6: u8 = 1;
+
+/// The width of eight bits in the mode byte.
+pub const TGT_HLL8: u8 = 2;
+
+/// The bytes of a coupon.
+pub const COUPON_SIZE_BYTES: usize = 4;
+
+/// The stage in a mode byte, from 0 to 3. Takes no memory.
+pub fn extract_cur_mode(mode_byte: u8) -> u8
+    ensures { result ≡ mode_byte % 4 }
+{
+    mode_byte & 3
+}
+
+/// The width in a mode byte, from 0 to 3. Takes no memory.
+pub fn extract_tgt_hll_type(mode_byte: u8) -> u8
+    ensures { result ≡ mode_byte / 4 % 4 }
+{
+    mode_byte >> 2 & 3
+}
+
+/// The mode byte of a stage and a width, each modulo 4. Takes no memory.
+pub fn encode_mode_byte(cur_mode: u8, tgt_hll_type: u8) -> u8
+    ensures { result ≡ cur_mode % 4 + 4 * (tgt_hll_type % 4) }
+{
+    (tgt_hll_type & 3) << 2 | cur_mode & 3
+}
