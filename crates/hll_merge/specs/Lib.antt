@@ -1,6 +1,10 @@
+pub mod Accepting
 pub mod Grown
+pub mod Kept
 pub mod Meaning
 pub mod Plan
+pub mod Run
+pub mod Served
 pub mod Step
 pub mod Text
 pub mod Watching

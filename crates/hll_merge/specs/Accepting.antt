@@ -1,0 +1,88 @@
+-- Carrying out the lines of a text on a stack of plans: texts that are accepted, and first faults
+-- (docs/PLAN.md, "Steps" and "Refusals"; docs/MODEL.md, "Plan texts").
+use Rattle.std.specs.Prelude.{◌≡◌, ◌≢◌, ℕ, ◌+◌, ◌<◌, ◌⊎◌, Bool, true, false, List, [], ◌∷◌, ◌++◌, length, take, Option, Some, None, Ok, Err}
+use Rattle.std.specs.Str.Lines.{lines}
+use Rattle.hll_base.specs.declared.error.Reason.{Reason}
+use Rattle.hll_coupons.specs.Pair.{pair}
+use Rattle.hll_sketch.specs.Value.{Sketch}
+use Rattle.hll_sketch.specs.Image.{Image}
+use Rattle.hll_sketch.specs.Fault as images
+use Rattle.hll_merge.specs.declared.fault.Fault.{Fault}
+use Rattle.hll_merge.specs.declared.fault.Fault.TheVariants as faults
+use Rattle.hll_merge.specs.declared.fault.MergeError.{MergeError}
+use Rattle.hll_merge.specs.Plan as plan
+use Rattle.hll_merge.specs.Plan.{Plan, plans_of}
+use Rattle.hll_merge.specs.Text.{PlanStep, Reading, reading, line_number, new, image, coupon, union}
+
+-- what is served: how a line is read, and whether a step is refused on a stack though it is right
+pub record Service : Type 0 where
+  pub reads : List ℕ → Reading
+  pub refuses : List Plan → PlanStep → Bool
+
+-- every step is served
+abbrev pub full : Service
+full = record { reads = reading; refuses = λ _ _. false }
+
+-- ---- steps
+
+-- the stack after a step, the last plan last
+abbrev pub Carries : List Plan → PlanStep → List Plan → Type 0
+Carries ts (new k w) us = us ≡ ts ++ plan.new k w ∷ []
+Carries ts (image bytes) us = (n : ℕ) × (x : Sketch) × Image (take n bytes) x × (us ≡ ts ++ plan.image x ∷ [])
+Carries ts (coupon s v) us = (front : List Plan) × (t : Plan) × (ts ≡ front ++ t ∷ []) × (us ≡ front ++ plan.coupon t (pair s v) ∷ [])
+Carries ts (union n m w) us = (front xs : List Plan) × (ts ≡ front ++ xs) × (length xs ≡ n) × (us ≡ front ++ plan.union_of m w (plans_of xs) ∷ [])
+
+-- the fault of a step: bytes of which no front is an image, or too few plans
+abbrev pub IsFaultOfStep : List Plan → PlanStep → Fault → Type 0
+IsFaultOfStep ts (new k w) e = ⊥
+IsFaultOfStep ts (image bytes) e = (r : Reason) × images.Fault bytes r × (e ≡ faults.Image r)
+IsFaultOfStep ts (coupon s v) e = (ts ≡ []) × (e ≡ faults.Stack)
+IsFaultOfStep ts (union n m w) e = (length ts < n) × (e ≡ faults.Stack)
+
+module _ (service : Service) where
+  -- ---- lines
+
+  -- the stack after a line
+  pub data Gives (ts : List Plan) (line : List ℕ) (us : List Plan) : Type 0 where
+    skipped : service.reads line ≡ Ok None → us ≡ ts → Gives ts line us
+    carried : (step : PlanStep) → service.reads line ≡ Ok (Some step) → service.refuses ts step ≡ false → Carries ts step us → Gives ts line us
+
+  -- the fault of a line
+  pub data IsFaultOfLine (ts : List Plan) (line : List ℕ) (e : Fault) : Type 0 where
+    unread : service.reads line ≡ Err e → IsFaultOfLine ts line e
+    unserved : (step : PlanStep) → service.reads line ≡ Ok (Some step) → service.refuses ts step ≡ true → e ≡ faults.Unserved → IsFaultOfLine ts line e
+    uncarried : (step : PlanStep) → service.reads line ≡ Ok (Some step) → service.refuses ts step ≡ false → IsFaultOfStep ts step e → IsFaultOfLine ts line e
+
+  -- the stack after lines in turn
+  abbrev pub Runs : List Plan → List (List ℕ) → List Plan → Type 0
+  Runs ts [] vs = vs ≡ ts
+  Runs ts (line ∷ more) vs = (us : List Plan) × Gives ts line us × Runs us more vs
+
+  -- ---- texts
+
+  -- every line is carried out, and one plan is left: the plan of the text
+  abbrev pub Accepts : List ℕ → Plan → Type 0
+  Accepts text t = Runs [] (lines text) (t ∷ [])
+
+  -- a line is at fault, and none before it
+  pub record FaultsAtLine (all : List (List ℕ)) (e : MergeError) : Type 0 where
+    pub front : List (List ℕ)
+    pub line : List ℕ
+    pub rest : List (List ℕ)
+    pub is : all ≡ front ++ line ∷ rest
+    pub stack : List Plan
+    pub runs : Runs [] front stack
+    pub fault : IsFaultOfLine stack line e.fault
+    pub at : e.line ≡ line_number (length front + 1)
+
+  -- no line is at fault, and not exactly one plan is left
+  pub record FaultsAtEnd (all : List (List ℕ)) (e : MergeError) : Type 0 where
+    pub stack : List Plan
+    pub runs : Runs [] all stack
+    pub left : length stack ≢ 1
+    pub fault : e.fault ≡ faults.Stack
+    pub at : e.line ≡ line_number (length all)
+
+  -- the first fault of a text
+  abbrev pub IsFirstFault : List ℕ → MergeError → Type 0
+  IsFirstFault text e = FaultsAtLine (lines text) e ⊎ FaultsAtEnd (lines text) e
