@@ -1,7 +1,10 @@
 mod TextRows
 pub mod FaultLemmas
 pub mod Growing
+pub mod KeptLemmas
 pub mod NumberLemmas
 pub mod Outcomes
 pub mod PartLemmas
+pub mod RunLemmas
+pub mod StackLemmas
 pub mod StreamLemmas

@@ -40,18 +40,27 @@ IsFaultOfStep ts (coupon s v) e = (ts ≡ []) × (e ≡ faults.Stack)
 IsFaultOfStep ts (union n m w) e = (length ts < n) × (e ≡ faults.Stack)
 
 module _ (service : Service) where
+  -- the stack after a step that is served
+  pub record Takes (ts : List Plan) (step : PlanStep) (us : List Plan) : Type 0 where
+    pub served : service.refuses ts step ≡ false
+    pub carries : Carries ts step us
+
+  -- why a step is refused: it is not served, or it is at fault itself
+  pub data IsRefusal (ts : List Plan) (step : PlanStep) (e : Fault) : Type 0 where
+    unserved : service.refuses ts step ≡ true → e ≡ faults.Unserved → IsRefusal ts step e
+    faulty : service.refuses ts step ≡ false → IsFaultOfStep ts step e → IsRefusal ts step e
+
   -- ---- lines
 
   -- the stack after a line
   pub data Gives (ts : List Plan) (line : List ℕ) (us : List Plan) : Type 0 where
     skipped : service.reads line ≡ Ok None → us ≡ ts → Gives ts line us
-    carried : (step : PlanStep) → service.reads line ≡ Ok (Some step) → service.refuses ts step ≡ false → Carries ts step us → Gives ts line us
+    taken : (step : PlanStep) → service.reads line ≡ Ok (Some step) → Takes ts step us → Gives ts line us
 
   -- the fault of a line
   pub data IsFaultOfLine (ts : List Plan) (line : List ℕ) (e : Fault) : Type 0 where
     unread : service.reads line ≡ Err e → IsFaultOfLine ts line e
-    unserved : (step : PlanStep) → service.reads line ≡ Ok (Some step) → service.refuses ts step ≡ true → e ≡ faults.Unserved → IsFaultOfLine ts line e
-    uncarried : (step : PlanStep) → service.reads line ≡ Ok (Some step) → service.refuses ts step ≡ false → IsFaultOfStep ts step e → IsFaultOfLine ts line e
+    refused : (step : PlanStep) → service.reads line ≡ Ok (Some step) → IsRefusal ts step e → IsFaultOfLine ts line e
 
   -- the stack after lines in turn
   abbrev pub Runs : List Plan → List (List ℕ) → List Plan → Type 0

@@ -6,7 +6,7 @@ use Rattle.hll_coupons.specs.declared.hll_type.HllType.{HllType}
 use Rattle.hll_sketch.specs.Value.{Sketch, coupons, IsLgK}
 use Rattle.hll_merge.specs.declared.fault.Fault.{Fault}
 use Rattle.hll_merge.specs.declared.fault.Fault.TheVariants.{Stack, Unserved}
-use Rattle.hll_merge.specs.Plan.{Plan, outcome}
+use Rattle.hll_merge.specs.Plan.{Plan, inputs, outcome}
 use Rattle.hll_merge.specs.Served.{ArrivesAs}
 
 -- a list: its lg_k, its width and its places
@@ -57,7 +57,8 @@ pub data RefusesLast (old : List Kept) (c : ℕ) : Fault → Type 0 where
 
 -- the list is the plan's outcome, with the coupons in their order of arrival
 pub record StandsFor (x : Kept) (t : Plan) : Type 0 where
-  pub served : IsServedList x
+  pub size : x.table.lg_size ≡ 3
+  pub pairs : coupons_of x.table ≡ inputs t
   pub value : value_of_kept x ≡ outcome t
   pub order : ArrivesAs t (held x.table.places)
 

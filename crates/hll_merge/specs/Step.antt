@@ -1,6 +1,9 @@
 -- What contracts see of a step: the plan's step, without its allocator (docs/PLAN.md, "The text").
 use Rattle.std.specs.Prelude.{ℕ, ◌≡◌, ◌<◌, ◌≤◌, ◌^◌, Option, Some, None, Result, Ok, Err}
+use Rattle.hll_base.specs.declared.error.Reason.{Reason}
+use Rattle.hll_base.specs.declared.error.Reason.TheVariants as reasons
 use Rattle.hll_merge.specs.declared.fault.Fault.{Fault}
+use Rattle.hll_merge.specs.declared.fault.Fault.TheVariants as faults
 use Rattle.hll_merge.specs.declared.step.Step.{Step}
 use Rattle.hll_merge.specs.declared.step.Step.TheVariants as steps
 use Rattle.hll_merge.specs.Text.{PlanStep, Reading, new, image, coupon, union}
@@ -24,3 +27,8 @@ IsInRange (new k w) = (4 ≤ k) × (k ≤ 21)
 IsInRange (image bytes) = Unit {0}
 IsInRange (coupon s v) = (s < 2 ^ 26) × (1 ≤ v) × (v ≤ 63)
 IsInRange (union n m w) = (n < 10 ^ 8) × (4 ≤ m) × (m ≤ 21)
+
+-- the fault of a refusal by the layers below
+abbrev pub fault_of : Reason → Fault
+fault_of reasons.Memory = faults.Memory
+fault_of reason = faults.Image reason

@@ -2,7 +2,7 @@
 ghost use Rattle.std.specs.Prelude.{◌≡◌};
 ghost use Rattle.hll_merge.specs.declared.fault.Fault.TheVariants.{Memory};
 
-use hll_base::error::Reason;
+use hll_base::error::{Error, Reason};
 use std::alloc::{AllocError, AllocFailed};
 
 /// Why a plan is refused (docs/PLAN.md, "Refusals"). Each has a number, and words that are printed.
@@ -35,6 +35,21 @@ pub struct MergeError {
     pub line: u64,
     /// Why the plan is refused.
     pub fault: Fault,
+}
+
+/// A refusal by the layers below: of memory, or else of an image for its reason.
+impl From<Error> for Fault {
+    ghost use Rattle.std.specs.Prelude.{◌≡◌};
+    ghost use Rattle.hll_merge.specs.Step.{fault_of};
+
+    ghost from_gives = { λ reason fault. fault ≡ fault_of reason };
+
+    fn from(error: Error) -> Fault {
+        match error.reason() {
+            Reason::Memory => Fault::Memory,
+            reason => Fault::Image(reason),
+        }
+    }
 }
 
 impl From<AllocError> for Fault {

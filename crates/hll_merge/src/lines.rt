@@ -2,6 +2,7 @@
 ghost use Rattle.std.specs.Prelude.{◌≡◌, ℕ, ◌<◌, ◌∷◌, [], List, length, position, ◌==◌, MatchOption};
 ghost use Rattle.std.specs.Str.Lines.{lines, strip_carriage_return};
 ghost use Rattle.hll_merge.specs.Text.{ended_lines};
+ghost use Rattle.hll_merge.specs.Extent.{lines_of};
 
 /// Where the first LF is.
 fn line_end(text: &[u8]) -> Option<usize>
@@ -40,5 +41,24 @@ pub(crate) fn next_ended(text: &[u8]) -> Option<(&[u8], &[u8])>
     match line_end(text) {
         None => None,
         Some(at) => Some((without_return(&text[..at]), &text[at + 1..])),
+    }
+}
+
+/// Which lines of a text are meant: all of them, or those that have their LF.
+#[derive(Clone, Copy, Debug, PartialEq, Eq)]
+pub(crate) enum Extent {
+    All,
+    Ended,
+}
+
+/// The first of these lines, and the text after it.
+pub(crate) fn next_of(extent: Extent, text: &[u8]) -> Option<(&[u8], &[u8])>
+    ensures { MatchOption result (lines_of extent text.now ≡ [])
+        (λ r. (lines_of extent text.now ≡ r.0.now ∷ lines_of extent r.1.now) × (length r.1.now < length text.now)) }
+{
+    match extent {
+        Extent::All if text.is_empty() => None,
+        Extent::All => Some(next_line(text)),
+        Extent::Ended => next_ended(text),
     }
 }

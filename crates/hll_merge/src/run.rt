@@ -1,0 +1,114 @@
+//! Running a plan: its text is read, and the image of its sketch is written.
+ghost use Rattle.std.specs.Prelude.{◌≡◌, ◌⊎◌, length, false, MatchResult, IfOk, IfErr, OnOk, string_bytes};
+ghost use Rattle.std.specs.Io.KnownBytes.{Consumes, IsAtEnd};
+ghost use Rattle.std.specs.Str.Lines.{lines};
+ghost use Rattle.hll_merge.specs.Text.{line_number, ended_lines};
+ghost use Rattle.hll_merge.specs.Accepting.{IsFirstFault, FaultsAtLine};
+ghost use Rattle.hll_merge.specs.Served.{today};
+ghost use Rattle.hll_merge.specs.Run.{IsAnswer, AllEndedRun, Streams, Succeeds, IsRefused};
+ghost use Rattle.hll_merge.specs.declared.fault.Fault.TheVariants.{Memory};
+
+use crate::fault::{Fault, MergeError};
+use crate::lines::Extent;
+use crate::stack::carry_lines;
+use crate::streams::{read_all, write_all};
+use crate::watched::Watched;
+use std::alloc::Allocator;
+use std::io;
+
+/// Reads a plan to its end, and writes the image of its sketch as lower-case hexadecimal and LF (docs/PLAN.md, "A run").
+///
+/// Today the lines `new` and `coupon` are served, while no sketch gets its eighth coupon. Neither stream may have failed
+/// before. Every claim on bytes presupposes streams that tell them: of one that does not, it says nothing.
+///
+/// Takes memory for the text, the stack of sketches and the answer. A refusal is `Memory` where memory was refused (its
+/// line is free), the first fault of the text with its line, `Read` where the reader failed, or `Write` where the writer
+/// failed. Nothing is written on a refusal, but for a front of the answer with `Write`.
+pub fn run<A: Allocator + Clone, R: io::Read, W: io::Write>(
+    alloc: A,
+    reader: &mut Watched<R>,
+    writer: &mut Watched<W>,
+) -> Result<(), MergeError>
+    requires reader_works { reader.old.failed ≡ false }
+    requires writer_works { writer.old.failed ≡ false }
+    ensures { let streams : Streams = record {
+      before = R.remaining reader.old.inner;
+      after = R.remaining reader.new.inner;
+      reader_failed = reader.new.failed;
+      writer_failed = writer.new.failed;
+      old = W.contents writer.old.inner;
+      new = W.contents writer.new.inner;
+    }
+        in MatchResult result (λ _. Succeeds today streams) (λ e. IsRefused today streams e) }
+{
+    let text = match read_text(&alloc, reader) {
+        Ok(text) => text,
+        Err(fault) => return Err(MergeError { line: 0, fault }),
+    };
+    if reader.failed() {
+        return Err(fault_of_ended(alloc, &text));
+    }
+    let (answer, line) = match answer_of(&alloc, &text) {
+        Ok(found) => found,
+        Err(e) => return Err(e),
+    };
+    match write_all(writer, answer.as_bytes()) {
+        Ok(()) => Ok(()),
+        Err(fault) => Err(MergeError { line, fault }),
+    }
+}
+
+/// What the reader tells until it ends or fails. `Memory` where the text is refused.
+fn read_text<A: Allocator + Clone, R: io::Read>(
+    alloc: &A,
+    reader: &mut Watched<R>,
+) -> Result<Vec<u8, A>, Fault>
+    requires { reader.old.failed ≡ false }
+    ensures bytes { IfOk result (λ text. Consumes (R.remaining reader.old.inner) (R.remaining reader.new.inner) text.items) }
+    ensures end { OnOk result (reader.new.failed ≡ false → IsAtEnd (R.remaining reader.new.inner)) }
+    ensures err { IfErr result (λ e. (e ≡ Memory) × (reader.new.failed ≡ false)) }
+{
+    read_all(alloc.clone()?, reader)
+}
+
+/// What is printed for the plan of a text, and the number of its lines.
+fn answer_of<A: Allocator + Clone>(alloc: &A, text: &[u8]) -> Result<(String<A>, u64), MergeError>
+    ensures { MatchResult result
+        (λ r. IsAnswer today text.now (string_bytes r.0) × (r.1 ≡ line_number (length (lines text.now))))
+        (λ e. (e.fault ≡ Memory) ⊎ IsFirstFault today text.now e) }
+{
+    let for_stack = match alloc.clone() {
+        Ok(for_stack) => for_stack,
+        Err(e) => return Err(MergeError {
+            line: 0,
+            fault: Fault::from(e),
+        }),
+    };
+    let (stack, line) = match carry_lines(for_stack, Extent::All, text) {
+        Ok(found) => found,
+        Err(e) => return Err(e),
+    };
+    let Some(sketch) = stack.only() else {
+        return Err(MergeError {
+            line,
+            fault: Fault::Stack,
+        });
+    };
+    match sketch.printed() {
+        Ok(answer) => Ok((answer, line)),
+        Err(fault) => Err(MergeError { line, fault }),
+    }
+}
+
+/// The first fault of the lines of a text that ended before a read failed, or else that.
+fn fault_of_ended<A: Allocator + Clone>(alloc: A, text: &[u8]) -> MergeError
+    ensures { (result.fault ≡ Memory) ⊎ (FaultsAtLine today (ended_lines text.now) result ⊎ AllEndedRun today text.now result) }
+{
+    match carry_lines(alloc, Extent::Ended, text) {
+        Ok((_, line)) => MergeError {
+            line,
+            fault: Fault::Read,
+        },
+        Err(e) => e,
+    }
+}

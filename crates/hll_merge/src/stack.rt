@@ -1,0 +1,169 @@
+//! The sketches of a plan while its lines are carried out, the last one on top.
+ghost use Rattle.std.specs.Prelude.{◌≡◌, ◌≤◌, ◌⊎◌, ◌++◌, ◌∷◌, [], List, length, false, MatchResult, OnOk, OnErr, IfErr, IfSome, IfNone};
+ghost use Rattle.hll_coupons.specs.Pair.{value_of};
+ghost use Rattle.hll_sketch.specs.Value.{IsLgK};
+ghost use Rattle.hll_merge.specs.Plan.{Plan};
+ghost use Rattle.hll_merge.specs.Step.{step_of, IsInRange};
+ghost use Rattle.hll_merge.specs.Text.{line_number};
+ghost use Rattle.hll_merge.specs.Extent.{lines_of};
+ghost use Rattle.hll_merge.specs.Accepting.{Takes, IsRefusal, Gives, IsFaultOfLine, Runs, FaultsAtLine};
+ghost use Rattle.hll_merge.specs.Served.{today};
+ghost use Rattle.hll_merge.specs.Kept.{Kept, fresh, UpdatesLast, RefusesLast, StandFor};
+ghost use Rattle.hll_merge.specs.declared.fault.Fault.TheVariants.{Memory, Unserved};
+
+use crate::fault::{Fault, MergeError};
+use crate::lines::{Extent, next_of};
+use crate::reading::read_step;
+use crate::sketch::ListSketch;
+use crate::step::Step;
+use hll_coupons::coupon::Coupon;
+use hll_coupons::hll_type::HllType;
+use std::alloc::{AllocError, Allocator};
+use std::marker::Model;
+
+/// The sketches of a plan, the last one on top. Contracts see the list of them.
+#[derive(Drop)]
+pub(crate) struct Stack<A: Allocator> {
+    sketches: Vec<ListSketch<A>, A>,
+}
+
+impl<A: Allocator> Model for Stack<A> {
+    ghost use Rattle.std.specs.Prelude.{List};
+    ghost use Rattle.hll_merge.specs.Kept.{Kept};
+
+    ghost Value = { List Kept };
+
+    ghost view = { λ s. s.sketches.items };
+}
+
+impl<A: Allocator> Stack<A> {
+    /// No sketches.
+    pub(crate) fn new(alloc: A) -> Self
+        ensures { result ≡ [] }
+    {
+        Stack {
+            sketches: Vec::new(alloc),
+        }
+    }
+
+    /// The one sketch, where there is just one.
+    pub(crate) fn only(&self) -> Option<&ListSketch<A>>
+        ensures one { IfSome result (λ s. self.now ≡ s.now ∷ []) }
+        ensures other { IfNone result (length self.now ≡ 1 → ⊥) }
+    {
+        match self.sketches.as_slice() {
+            [only] => Some(only),
+            _ => None,
+        }
+    }
+}
+
+/// Adds a coupon to the last of some sketches. Takes no memory.
+///
+/// `Stack` where there is none, `Unserved` where the coupon would be its eighth.
+fn update_last<A: Allocator>(sketches: &mut [ListSketch<A>], coupon: Coupon) -> Result<(), Fault>
+    requires { 1 ≤ value_of coupon }
+    ensures ok { OnOk result (UpdatesLast sketches.old coupon sketches.new) }
+    ensures err { IfErr result (λ e. RefusesLast sketches.old coupon e × (sketches.new ≡ sketches.old)) }
+{
+    let count = sketches.len();
+    if count == 0 {
+        return Err(Fault::Stack);
+    }
+    let last = &mut sketches[count - 1];
+    last.update(coupon)
+}
+
+impl<A: Allocator + Clone> Stack<A> {
+    /// A second owner of the allocator. Refused where the allocator's own clone is.
+    fn cloned_allocator(&self) -> Result<A, AllocError> {
+        self.sketches.allocator().clone()
+    }
+
+    /// Pushes an empty list. `Memory` where its places, or a larger stack, are refused.
+    fn push_new(&mut self, lg_k: u8, hll_type: HllType) -> Result<(), Fault>
+        requires { IsLgK lg_k }
+        ensures ok { OnOk result (self.new ≡ self.old ++ fresh lg_k hll_type ∷ []) }
+        ensures err { IfErr result (λ e. (e ≡ Memory) × (self.new ≡ self.old)) }
+    {
+        let sketch = ListSketch::new(self.cloned_allocator()?, lg_k, hll_type)?;
+        self.sketches.push(sketch)?;
+        Ok(())
+    }
+
+    /// Adds a coupon to the last sketch, as `update_last`.
+    fn push_coupon(&mut self, coupon: Coupon) -> Result<(), Fault>
+        requires { 1 ≤ value_of coupon }
+        ensures ok { OnOk result (UpdatesLast self.old coupon self.new) }
+        ensures err { IfErr result (λ e. RefusesLast self.old coupon e × (self.new ≡ self.old)) }
+    {
+        update_last(&mut self.sketches, coupon)
+    }
+
+    /// Carries out a step.
+    ///
+    /// `Memory` where an empty list, or a larger stack, are refused; `Stack` and `Unserved` as the plan says. A refusal
+    /// leaves the stack as it was.
+    fn carry_out(&mut self, step: Step<A>) -> Result<(), Fault>
+        requires { IsInRange (step_of step) }
+        ensures carried { (ts : List Plan) → StandFor self.old ts →
+            MatchResult result (λ _. (us : List Plan) × Takes today ts (step_of step) us × StandFor self.new us)
+            (λ e. (e ≡ Memory) ⊎ IsRefusal today ts (step_of step) e) }
+        ensures err { OnErr result (self.new ≡ self.old) }
+    {
+        match step {
+            Step::New(lg_k, hll_type) => self.push_new(lg_k, hll_type),
+            Step::Coupon(slot, value) => self.push_coupon(Coupon::pack(slot, value)),
+            Step::Image(_) => Err(Fault::Unserved),
+            Step::Union(_, _, _) => Err(Fault::Unserved),
+        }
+    }
+
+    /// Reads a line and carries it out. A refusal leaves the stack as it was.
+    fn carry_line(&mut self, line: &[u8]) -> Result<(), Fault>
+        ensures carried { (ts : List Plan) → StandFor self.old ts →
+            MatchResult result (λ _. (us : List Plan) × Gives today ts line.now us × StandFor self.new us)
+            (λ e. (e ≡ Memory) ⊎ IsFaultOfLine today ts line.now e) }
+        ensures err { OnErr result (self.new ≡ self.old) }
+    {
+        let alloc = self.cloned_allocator()?;
+        match read_step(alloc, line) {
+            Ok(Some(step)) => self.carry_out(step),
+            Ok(None) => Ok(()),
+            Err(fault) => Err(fault),
+        }
+    }
+}
+
+/// Carries out lines of a text in turn, and counts them.
+///
+/// The first refusal, with its line: `Memory`, or the first fault of these lines.
+pub(crate) fn carry_lines<A: Allocator + Clone>(
+    alloc: A,
+    extent: Extent,
+    text: &[u8],
+) -> Result<(Stack<A>, u64), MergeError>
+    ensures { MatchResult result
+        (λ r. (r.1 ≡ line_number (length (lines_of extent text.now)))
+        × ((ts : List Plan) × Runs today [] (lines_of extent text.now) ts × StandFor r.0 ts))
+        (λ e. (e.fault ≡ Memory) ⊎ FaultsAtLine today (lines_of extent text.now) e) }
+{
+    let mut stack = Stack::new(alloc);
+    let mut number = 0u64;
+    let mut rest = text;
+    'lines: loop {
+        match next_of(extent, rest) {
+            None => return Ok((stack, number)),
+            Some((line, more)) => {
+                number = number.saturating_add(1);
+                if let Err(fault) = stack.carry_line(line) {
+                    return Err(MergeError {
+                        line: number,
+                        fault,
+                    });
+                }
+                rest = more;
+            }
+        }
+    }
+}
