@@ -1,6 +1,6 @@
 -- The hash of two known texts at seed 0.
 use Rattle.std.specs.Prelude.{◌≡◌, [], refl, codes}
-use Rattle.hll_base.specs.Hash.{Halves, hash}
+use Rattle.hll_base.specs.Hash.{hash}
 
 -- no bytes
 pub hash-empty : hash 0 [] ≡ record { first = 0; second = 0 }

@@ -77,8 +77,7 @@ impl<A: Allocator> SketchBytes<A> {
     pub fn into_bytes(self) -> Vec<u8, A>
         ensures { result.items ≡ self }
     {
-        let SketchBytes { bytes } = self;
-        bytes
+        self.bytes
     }
 }
 

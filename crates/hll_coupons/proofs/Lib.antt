@@ -1,6 +1,7 @@
 pub mod CouponRows
 pub mod Folds
 pub mod Greatest
+pub mod ImageRows
 pub mod Joins
 pub mod Members
 pub mod Payloads

@@ -2,11 +2,11 @@
 use Rattle.std.proofs.Common.{◌≡◌, ℕ, ◌+◌, ◌<◌, Bool, true, false, cond, ◌||◌, ◌&&◌, List, [], ◌∷◌, ◌++◌, nat_lt, nat_eq, refl, sym, ◌∙◌, ap, arith, rules}
 use Rattle.std.specs.List.{list_any, list_all}
 use Rattle.std.specs.Ordering.{nat_cmp, eq_by_cmp}
-use Rattle.std.specs.Cmp.{nat_cmp_total, unsigned_tied, both_ways}
+use Rattle.std.specs.Cmp.{nat_cmp_total, unsigned_tied}
 use Rattle.std.specs.FinSet.{members, same_set, nat_cmp-IsAntisymmetric, contains, insert, len, is_subset, contains-from_list_nat, contains-insert, len-insert, from_list_push, is_subset-contains, contains-is_subset}
-use Rattle.std.proofs.lemmas.Grind.{common_steps}
 use Rattle.std.proofs.lemmas.Bool.{eqb-true, eq-eqb}
 use Rattle.std.proofs.lemmas.Bool.Decides.{nat_tests}
+use Rattle.std.proofs.lemmas.List.{append-nil}
 use Rattle.std.proofs.lemmas.List.Folds.{list_any-append}
 use Rattle.std.proofs.lemmas.Map.Views.{any-filter_same}
 use Rattle.hll_coupons.specs.Pair.{Pairs, set_of}
@@ -79,11 +79,11 @@ found s (x ∷ xs) q all any =
     either _ _ (contains s q ≡ true) any (λ e. ap (contains s) (sym (eqb-true x q e)) ∙ h.0) (found s xs q h.1)
 
 -- a list of members is a part of the set
-pub is_subset-all : (s : Pairs) (xs : List ℕ) → list_all (contains s) xs ≡ true → is_subset (set_of xs) s ≡ true
+is_subset-all : (s : Pairs) (xs : List ℕ) → list_all (contains s) xs ≡ true → is_subset (set_of xs) s ≡ true
 is_subset-all s xs all = contains-is_subset nat_cmp_total (set_of xs) s (λ q h. found s xs q all (sym (contains-from_list_nat xs q) ∙ h))
 
 -- and a list with another coupon is none
-pub is_subset-missing : (s : Pairs) (xs ys : List ℕ) (c : ℕ) → contains s c ≡ false → is_subset (set_of (xs ++ c ∷ ys)) s ≡ false
+is_subset-missing : (s : Pairs) (xs ys : List ℕ) (c : ℕ) → contains s c ≡ false → is_subset (set_of (xs ++ c ∷ ys)) s ≡ false
 is_subset-missing s xs ys c missing = decide (is_subset (set_of (xs ++ c ∷ ys)) s) refl
   where
     decide : (b : Bool) → is_subset (set_of (xs ++ c ∷ ys)) s ≡ b → is_subset (set_of (xs ++ c ∷ ys)) s ≡ false
@@ -93,3 +93,10 @@ is_subset-missing s xs ys c missing = decide (is_subset (set_of (xs ++ c ∷ ys)
         contains-from_list_nat (xs ++ c ∷ ys) c ∙ list_any-append (λ y. nat_eq y c) xs (c ∷ ys)
         ∙ ap (λ b. list_any (λ y. nat_eq y c) xs || (b || list_any (λ y. nat_eq y c) ys)) (eq-eqb c c refl) ∙ or-true (list_any (λ y. nat_eq y c) xs) in
         absurd (cc (is_subset-contains nat_cmp_total (set_of (xs ++ c ∷ ys)) s e c here))
+
+-- the same, of a list that is known in two parts
+pub is_subset-of_all : (s : Pairs) (all xs : List ℕ) → all ≡ xs ++ [] → list_all (contains s) xs ≡ true → true ≡ is_subset (set_of all) s
+is_subset-of_all s all xs e h = sym (ap (λ ys. is_subset (set_of ys) s) (e ∙ append-nil xs) ∙ is_subset-all s xs h)
+
+pub is_subset-of_missing : (s : Pairs) (all xs ys : List ℕ) (c : ℕ) → all ≡ xs ++ c ∷ ys → contains s c ≡ false → false ≡ is_subset (set_of all) s
+is_subset-of_missing s all xs ys c e h = sym (ap (λ zs. is_subset (set_of zs) s) e ∙ is_subset-missing s xs ys c h)

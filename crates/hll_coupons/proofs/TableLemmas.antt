@@ -1,5 +1,5 @@
 -- Tables: empty, with a coupon put, and filled from the front.
-use Rattle.std.proofs.Common.{◌≡◌, ℕ, zero, ◌+◌, ◌-◌, ◌*◌, ◌/◌, ◌<◌, ◌≤◌, ◌^◌, true, false, Bool, cond, List, filter, nat_lt, [], ◌∷◌, ◌++◌, length, replicate, get_or, refl, sym, ◌∙◌, ap, subst, arith, All, length-append}
+use Rattle.std.proofs.Common.{◌≡◌, ℕ, ◌+◌, ◌-◌, ◌<◌, ◌≤◌, ◌^◌, true, false, Bool, cond, List, nat_lt, [], ◌∷◌, ◌++◌, length, replicate, get_or, sym, ◌∙◌, ap, subst, arith, All, length-append}
 use Rattle.std.proofs.Math.ListN.{set}
 use Rattle.std.proofs.Math.Pow.{pow_mono}
 use Rattle.std.specs.List.{AllByRecursion}
@@ -87,19 +87,16 @@ held-arrived places c full = decide (contains (set_of (held places)) c)
     decide true = held-held places
     decide false = held-push (held places) c (held-held places) full
 
--- what a list's places are after a coupon that is held, and after one that is put
-pub places-held : (t : Table) (c : ℕ) → IsFilledFromFront t → contains (coupons_of t) c ≡ true → t ≡ filled_from_front t.lg_size (arrived (held t.places) c)
-places-held t c front member =
-    ap (λ places. record { lg_size = t.lg_size; places = places }) front
-    ∙ ap (λ b. filled_from_front t.lg_size (cond b (held t.places) (held t.places ++ c ∷ []))) (sym member)
+-- a coupon that is put behind a front
+set-order : (order places : List ℕ) (n c : ℕ) → places ≡ order ++ replicate (n - length order) 0 → length order < n
+    → set places (length order) c ≡ (order ++ c ∷ []) ++ replicate (n - length (order ++ c ∷ [])) 0
+set-order order places n c front room =
+    let fewer : n - length order - 1 ≡ n - length (order ++ c ∷ []) = omega (arith, length-append order (c ∷ [])) in
+    ap (λ ps. set ps (length order) c) front ∙ set-front order (n - length order) c (omega arith) ∙ ap (λ m. (order ++ c ∷ []) ++ replicate m 0) fewer
 
+-- so what a list's table is after a new coupon
 pub places-put : (t : Table) (c : ℕ) → IsFilledFromFront t → contains (coupons_of t) c ≡ false → length (held t.places) < 2 ^ t.lg_size
     → record { lg_size = t.lg_size; places = set t.places (length (held t.places)) c } ≡ filled_from_front t.lg_size (arrived (held t.places) c)
 places-put t c front fresh room =
-    let order : List ℕ = held t.places in
-    let left : ℕ = 2 ^ t.lg_size - length order in
-    let fewer : left - 1 ≡ 2 ^ t.lg_size - length (order ++ c ∷ []) = omega (arith, length-append order (c ∷ [])) in
-    let new : set t.places (length order) c ≡ (order ++ c ∷ []) ++ replicate (2 ^ t.lg_size - length (order ++ c ∷ [])) 0 =
-    ap (λ places. set places (length order) c) front ∙ set-front order left c (omega arith) ∙ ap (λ n. (order ++ c ∷ []) ++ replicate n 0) fewer in
-    ap (λ places. record { lg_size = t.lg_size; places = places }) new
-    ∙ ap (λ b. filled_from_front t.lg_size (cond b order (order ++ c ∷ []))) (sym fresh)
+    ap (λ places. record { lg_size = t.lg_size; places = places }) (set-order (held t.places) t.places (2 ^ t.lg_size) c front room)
+    ∙ ap (λ b. filled_from_front t.lg_size (cond b (held t.places) (held t.places ++ c ∷ []))) (sym fresh)

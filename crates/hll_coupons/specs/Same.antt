@@ -1,5 +1,5 @@
 -- When two tables hold the same coupons (docs/MODEL.md, "Tables").
-use Rattle.std.specs.Prelude.{ℕ, Bool, true, false, ◌≡◌, ◌&&◌, refl}
+use Rattle.std.specs.Prelude.{Bool, true, false, ◌≡◌, ◌&&◌, refl}
 use Rattle.std.proofs.Common.{sym, ◌∙◌, ap, subst}
 use Rattle.std.specs.Cmp.{IsPartialEquivalence, IsEquivalence, nat_cmp_total, both_ways, equiv}
 use Rattle.std.specs.FinSet.{same_set, nat_cmp-IsAntisymmetric, is_subset, is_subset-contains, contains-is_subset}

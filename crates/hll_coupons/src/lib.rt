@@ -8,3 +8,5 @@ pub mod hll_type;
 pub mod laws;
 pub mod list;
 pub mod serialization;
+#[cfg(test)]
+mod tests;

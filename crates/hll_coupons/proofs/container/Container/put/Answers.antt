@@ -1,7 +1,7 @@
-use Rattle.std.proofs.Common.{arith, ◌≡◌, ◌≤◌, ◌<◌, ◌^◌, ◌+◌, ◌∙◌, sym, ap, subst, ℕ, length, get_or, slice_index, false}
+use Rattle.std.proofs.Common.{arith, ◌≡◌, ◌<◌, ◌^◌, ◌+◌, ◌∙◌, sym, ap, subst, get_or, slice_index, false}
 use Rattle.std.specs.FinSet.{contains}
-use Rattle.hll_coupons.specs.Pair.{IsPair, value_of}
-use Rattle.hll_coupons.specs.Table.{Table, coupons_of, held, IsTable}
+use Rattle.hll_coupons.specs.Pair.{IsPair}
+use Rattle.hll_coupons.specs.Table.{Table, coupons_of}
 use Rattle.hll_coupons.proofs.TableLemmas.{IsTable-put, length-held-table, small_places}
 use Rattle.hll_coupons.proofs.container.Container.put.Goals as goal
 

@@ -1,5 +1,5 @@
-use Rattle.std.proofs.Common.{arith, ◌≡◌, ◌<◌, ◌^◌, ◌∙◌, sym, ap, subst, ℕ, length, slice_set, false, true}
-use Rattle.std.specs.FinSet.{contains, insert}
+use Rattle.std.proofs.Common.{◌≡◌, ◌<◌, ◌^◌, ◌∙◌, sym, ap, subst, length, slice_set, false, true}
+use Rattle.std.specs.FinSet.{contains}
 use Rattle.hll_coupons.specs.Pair.{set_of}
 use Rattle.hll_coupons.specs.Table.{Table, coupons_of, held, arrived, filled_from_front, IsFilledFromFront}
 use Rattle.hll_coupons.proofs.Members.{set_of-arrived, insert-member}
