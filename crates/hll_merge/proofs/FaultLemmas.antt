@@ -1,12 +1,12 @@
 -- Which faults a line can have.
-use Rattle.std.proofs.Common.{ℕ, ◌≡◌, ◌⊎◌, Bool, true, false, cond, List, [], ◌∷◌, Option, Some, None, Result, Ok, Err, refl, inl, inr, codes, nat_lt, nat_le, ◌&&◌, ◌==◌, ◌^◌}
+use Rattle.std.proofs.Common.{ℕ, Bool, true, false, cond, List, [], ◌∷◌, Option, Some, None, Result, Ok, Err, refl, inl, inr, codes, nat_lt, nat_le, ◌&&◌, ◌==◌, ◌^◌}
 use Rattle.std.specs.Prelude.{IfErr}
 use Rattle.std.specs.Str.{bytes_eq}
 use Rattle.hex.specs.Hex.{decode_of}
 use Rattle.hex.specs.declared.error.FromHexError.{FromHexError}
 use Rattle.hll_coupons.specs.declared.hll_type.HllType.{HllType}
 use Rattle.hll_merge.specs.declared.fault.Fault.{Fault}
-use Rattle.hll_merge.specs.Text.{PlanStep, Reading, IsFaultOfLine, IsServedFault, sized_step, is_lg_k, width, new, coupon, union, read_new, read_coupon, read_union, read_bytes, read_image, read_words, reading, words, two_numbers, three_numbers, one_word, names_unserved, served_words, served_reading}
+use Rattle.hll_merge.specs.Text.{PlanStep, Reading, IsFaultOfLine, IsServedFault, sized_step, is_lg_k, width, new, union, read_new, read_coupon, read_union, read_bytes, read_image, read_words, reading, words, two_numbers, three_numbers, one_word, names_unserved, served_reading}
 
 module _ (P : Fault → Type 0) where
   IfErr-cond : (b : Bool) (x y : Reading) → IfErr x P → IfErr y P → IfErr (cond b x y) P

@@ -1,5 +1,5 @@
 -- What some lines say, by computing.
-use Rattle.std.specs.Prelude.{◌≡◌, refl, List, [], ◌∷◌, ◌++◌, Some, None, Ok, Err, codes}
+use Rattle.std.specs.Prelude.{◌≡◌, refl, [], ◌∷◌, ◌++◌, Some, None, Ok, Err, codes}
 use Rattle.std.specs.Str.Lines.{lines}
 use Rattle.hex.proofs.OnLiterals.{hex_on_literals}
 use Rattle.hll_coupons.specs.declared.hll_type.HllType.TheVariants.{Hll4, Hll8}

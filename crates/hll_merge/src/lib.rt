@@ -10,5 +10,7 @@ mod sketch;
 mod stack;
 pub mod step;
 mod streams;
+#[cfg(test)]
+mod tests;
 pub mod watched;
 mod words;

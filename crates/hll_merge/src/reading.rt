@@ -92,5 +92,4 @@ fn width_of(bits: u32) -> Option<HllType>
 pub fn faults_of_lines()
     ensures all_steps { FaultsOfLines }
     ensures served { FaultsOfServedLines }
-{
-}
+{}

@@ -1,4 +1,4 @@
-use Rattle.std.proofs.Common.{arith, ◌≡◌, ◌+◌, ◌-◌, ◌<◌, ◌∙◌, ap, sym, ◌∷◌, List, ℕ, drop, length, length-drop}
+use Rattle.std.proofs.Common.{arith, ◌+◌, ◌∙◌, ap, sym, ◌∷◌, List, ℕ, drop, length, length-drop}
 use Rattle.hll_merge.specs.Text.{ended_lines}
 use Rattle.hll_merge.proofs.PartLemmas.{ended-some, ended-none, take-rest, position-lt}
 use Rattle.hll_merge.proofs.lines.next_ended.Goals as goal

@@ -1,6 +1,6 @@
-use Rattle.std.proofs.Common.{arith, ℕ, List, ◌≤◌, length-drop, ◌≡◌, ◌+◌, ◌++◌, ◌-◌, length, take, drop, subst, sym, ◌∙◌, ap}
+use Rattle.std.proofs.Common.{arith, ℕ, List, ◌≤◌, length-drop, length, take, drop, subst, sym, ◌∙◌, ap}
 use Rattle.std.specs.Io.KnownBytes.{Appends}
-use Rattle.hll_merge.proofs.StreamLemmas.{Appends-more, Appends-nil}
+use Rattle.hll_merge.proofs.StreamLemmas.{Appends-more}
 use Rattle.hll_merge.proofs.PartLemmas.{take-rest, take-add}
 use Rattle.hll_merge.proofs.streams.write_all.Goals as goal
 

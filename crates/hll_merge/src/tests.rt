@@ -1,0 +1,206 @@
+//! Lines of plans, watched streams that work and that fail, and refused memory.
+use crate::fault::Fault;
+use crate::reading::read_step;
+use crate::step::{ImageBytes, Step};
+use crate::streams::{read_all, write_all};
+use crate::watched::Watched;
+use hll_coupons::hll_type::HllType;
+use linked_list_allocator::LocalHeap;
+use std::io;
+use std::io::{Read, Write};
+use std::process::Abort;
+use std::test::Fail;
+
+const REFUSED: [(&[u8], Fault); 8] = [
+    (b"new  10 8", Fault::Syntax),
+    (b"new 123456789 8", Fault::Syntax),
+    (b"new 10 8\r", Fault::Syntax),
+    (b"new 3 8", Fault::Range),
+    (b"new 10 5", Fault::Range),
+    (b"coupon 67108864 1", Fault::Range),
+    (b"image", Fault::Unserved),
+    (b"union 0 12 4", Fault::Unserved),
+];
+
+#[test]
+fn lines(rt: HostRuntime) -> Result<(), Fail> {
+    assert_eq!(rt;
+        read_step(rt.alloc(), b"new 10 8")?,
+        Some(Step::New(10, HllType::Hll8))
+    );
+    assert_eq!(rt;
+        read_step(rt.alloc(), b"coupon 5 03")?,
+        Some(Step::Coupon(5, 3))
+    );
+    assert_eq!(rt; read_step(rt.alloc(), b"# new 10 8")?, None);
+    assert_eq!(rt; read_step(rt.alloc(), b"")?, None);
+    for (line, fault) in REFUSED {
+        assert_eq!(rt; read_step(rt.alloc(), line), Err(fault));
+    }
+    Ok(())
+}
+
+#[test]
+fn image_bytes(rt: HostRuntime) -> Result<(), Fail> {
+    let bytes = ImageBytes::new(Vec::from_slice(rt.alloc(), &[2, 10])?);
+    let same = ImageBytes::new(Vec::from_slice(rt.alloc(), &[2, 10])?);
+    let other = ImageBytes::new(Vec::from_slice(rt.alloc(), &[2, 11])?);
+    assert_eq!(rt; bytes.as_slice(), [2, 10].as_slice());
+    assert!(rt; bytes == same && bytes != other);
+    assert!(rt; Step::Image(bytes) == Step::Image(same));
+    Ok(())
+}
+
+/// A reader that gives a byte at a time, and fails at one of its calls.
+#[derive(Drop)]
+struct Failing<'a> {
+    text: &'a [u8],
+    calls: u32,
+}
+
+impl<'a> Read for Failing<'a> {
+    fn read(&mut self, buf: &mut [u8]) -> io::Result<usize> {
+        if self.calls == 0 {
+            return Err(io::Error::from(io::ErrorKind::Other));
+        }
+        self.calls -= 1;
+        match (self.text.split_first(), buf.first_mut()) {
+            (Some((first, others)), Some(place)) => {
+                *place = *first;
+                self.text = others;
+                Ok(1)
+            }
+            _ => Ok(0),
+        }
+    }
+}
+
+/// Each read asks the stream once, and fails only where that fails.
+#[test]
+fn watched_reads(rt: HostRuntime) -> Result<(), Fail> {
+    let mut reader = Watched::new(Failing {
+        text: b"ab",
+        calls: 3,
+    });
+    let mut buffer = [0u8; 4];
+    assert_eq!(rt; reader.read(&mut buffer), Ok(1));
+    assert_eq!(rt; reader.read(&mut buffer), Ok(1));
+    assert_eq!(rt; buffer[0], b'b');
+    assert_eq!(rt; reader.read(&mut buffer), Ok(0));
+    assert!(rt; !reader.failed());
+    assert_eq!(rt; reader.read(&mut buffer), Err(Fault::Read));
+    assert!(rt; reader.failed());
+    let mut inner = reader.into_inner();
+    assert_eq!(rt; inner.calls, 0);
+    inner.calls = 1;
+    let mut again = Watched::new(inner);
+    assert_eq!(rt; again.read(&mut buffer), Ok(0));
+    assert!(rt; !again.failed());
+    Ok(())
+}
+
+/// All is read where the stream works, and what came before where it fails.
+#[test]
+fn whole_texts(rt: HostRuntime) -> Result<(), Fail> {
+    let mut reader = Watched::new(b"new 10 8\n".as_slice());
+    assert_eq!(rt;
+        read_all(rt.alloc(), &mut reader)?.as_slice(),
+        b"new 10 8\n".as_slice()
+    );
+    assert!(rt; !reader.failed());
+    let text: &[u8] = b"new 10 8";
+    for calls in 0..12u32 {
+        let mut reader = Watched::new(Failing { text, calls });
+        let read = read_all(rt.alloc(), &mut reader)?;
+        assert_eq!(rt; reader.failed(), calls < 9);
+        assert_eq!(rt; read.len(), 8.min(calls as usize));
+        assert!(rt; text.starts_with(read.as_slice()));
+    }
+    Ok(())
+}
+
+/// A text read with a heap of each size: memory is refused until one is large enough.
+#[test]
+fn refused_memory(rt: HostRuntime) -> Result<(), Fail> {
+    let text = [b'#'; 300];
+    let mut refused = 0u32;
+    for size in 1..60usize {
+        let heap = LocalHeap::new(rt.alloc(), size * 32)?;
+        let mut reader = Watched::new(text.as_slice());
+        match read_all(&heap, &mut reader) {
+            Ok(read) => assert_eq!(rt; read.as_slice(), text.as_slice()),
+            Err(fault) => {
+                assert_eq!(rt; fault, Fault::Memory);
+                assert!(rt; !reader.failed());
+                refused = refused.saturating_add(1);
+            }
+        }
+    }
+    assert!(rt; 0 < refused && refused < 59, "{refused}");
+    Ok(())
+}
+
+/// A writer that takes a byte at a time, and fails or takes nothing once it has taken some.
+#[derive(Drop)]
+struct Narrow<'a> {
+    taken: &'a mut Vec<u8>,
+    room: usize,
+    fails: bool,
+}
+
+impl<'a> Write for Narrow<'a> {
+    fn write(&mut self, buf: &[u8]) -> io::Result<usize> {
+        match buf.first() {
+            Some(first) if self.taken.len() < self.room => {
+                self.taken.push(*first)?;
+                Ok(1)
+            }
+            _ if self.fails => Err(io::Error::from(io::ErrorKind::Other)),
+            _ => Ok(0),
+        }
+    }
+
+    fn flush(&mut self) -> io::Result<()> {
+        Ok(())
+    }
+}
+
+#[test]
+fn writers_that_fail(rt: HostRuntime) -> Result<(), Fail> {
+    let line: &[u8] = b"0201\n";
+    for room in 0..7usize {
+        for fails in [false, true] {
+            let mut taken = Vec::new(rt.alloc());
+            let mut writer = Watched::new(Narrow {
+                taken: &mut taken,
+                room,
+                fails,
+            });
+            let result = write_all(&mut writer, line);
+            let failed = writer.failed();
+            drop(writer);
+            assert_eq!(rt; failed, room < 5);
+            assert_eq!(rt; result.is_err(), failed);
+            assert!(rt; line.starts_with(taken.as_slice()));
+            assert_eq!(rt; taken.len(), room.min(5));
+        }
+    }
+    Ok(())
+}
+
+/// An empty piece is passed on, and is no failure where nothing of it is taken.
+#[test]
+fn empty_pieces(rt: HostRuntime) -> Result<(), Fail> {
+    let mut taken = Vec::new(rt.alloc());
+    let mut writer = Watched::new(Narrow {
+        taken: &mut taken,
+        room: 1,
+        fails: false,
+    });
+    assert_eq!(rt; writer.write(b""), Ok(0));
+    assert!(rt; !writer.failed());
+    assert_eq!(rt; writer.write(b"a"), Ok(1));
+    assert_eq!(rt; writer.write(b"b"), Err(Fault::Write));
+    assert!(rt; writer.failed());
+    Ok(())
+}

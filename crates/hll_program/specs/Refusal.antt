@@ -1,0 +1,34 @@
+-- The line that is printed for a refusal (docs/PLAN.md, "Refusals").
+use Rattle.std.specs.Prelude.{◌≡◌, ℕ, List, [], ◌∷◌, ◌++◌, Option, Result, MatchResult, codes, decimal}
+use Rattle.std.specs.Io.KnownBytes.{Appends}
+use Rattle.hll_base.specs.Reason.{word_of}
+use Rattle.hll_merge.specs.declared.fault.Fault.{Fault}
+use Rattle.hll_merge.specs.declared.fault.Fault.TheVariants as faults
+use Rattle.hll_merge.specs.declared.fault.MergeError.{MergeError}
+
+-- the words of a fault
+abbrev pub words_of : Fault → List ℕ
+words_of faults.Syntax = codes "syntax"
+words_of faults.Range = codes "range"
+words_of faults.Hex = codes "hex"
+words_of (faults.Image reason) = codes "image " ++ word_of reason
+words_of faults.Stack = codes "stack"
+words_of faults.Memory = codes "memory"
+words_of faults.Read = codes "read"
+words_of faults.Write = codes "write"
+words_of faults.Unserved = codes "unserved"
+
+-- `line L: `, the words, and LF
+abbrev pub refusal_line : MergeError → List ℕ
+refusal_line refusal = (codes "line " ++ (decimal refusal.line ++ codes ": ")) ++ (words_of refusal.fault ++ 10 ∷ [])
+
+-- a front of the bytes went out
+pub record AppendsFront (old new : Option (List ℕ)) (bytes : List ℕ) : Type 0 where
+  pub sent : List ℕ
+  pub rest : List ℕ
+  pub parts : bytes ≡ sent ++ rest
+  pub appended : Appends old new sent
+
+-- the bytes went out at Ok, and a front of them at Err, which is Write
+abbrev pub Sends : {T : Type 0} → Option (List ℕ) → Option (List ℕ) → Result T Fault → List ℕ → Type 0
+Sends old new result bytes = MatchResult result (λ _. Appends old new bytes) (λ e. (e ≡ faults.Write) × AppendsFront old new bytes)
