@@ -1,11 +1,7 @@
 -- What contracts see of a step: the plan's step, without its allocator (docs/PLAN.md, "The text").
-<<<<<<< HEAD
-use Rattle.std.specs.Prelude.{ℕ, ◌≡◌, ◌<◌, ◌≤◌, ◌^◌, Option, Some, None, Result, Ok, Err}
+use Rattle.std.specs.Prelude.{◌<◌, ◌≤◌, ◌^◌, Option, Some, None, Result, Ok, Err}
 use Rattle.hll_base.specs.declared.error.Reason.{Reason}
 use Rattle.hll_base.specs.declared.error.Reason.TheVariants as reasons
-=======
-use Rattle.std.specs.Prelude.{◌<◌, ◌≤◌, ◌^◌, Option, Some, None, Result, Ok, Err}
->>>>>>> b2fd8773090019ea23f17e011fb8b1de47977ffb
 use Rattle.hll_merge.specs.declared.fault.Fault.{Fault}
 use Rattle.hll_merge.specs.declared.fault.Fault.TheVariants as faults
 use Rattle.hll_merge.specs.declared.step.Step.{Step}

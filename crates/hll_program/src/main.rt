@@ -5,15 +5,19 @@ mod refusal;
 #[cfg(test)]
 mod tests;
 
-use hll_merge::fault::{Fault, MergeError};
+use hll_merge::run::run;
+use hll_merge::watched::Watched;
 use refusal::write_refusal;
 use std::process::ExitCode;
 
 fn main(rt: HostRuntime) -> ExitCode {
-    let refusal = MergeError {
-        line: 0,
-        fault: Fault::Unserved,
-    };
-    let _ = write_refusal(&mut rt.stderr(), &refusal);
-    ExitCode::FAILURE
+    let mut reader = Watched::new(rt.stdin());
+    let mut writer = Watched::new(rt.stdout());
+    match run(rt.alloc(), &mut reader, &mut writer) {
+        Ok(()) => ExitCode::SUCCESS,
+        Err(refusal) => {
+            let _ = write_refusal(&mut rt.stderr(), &refusal);
+            ExitCode::FAILURE
+        }
+    }
 }
