@@ -1,4 +1,5 @@
 mod TextRows
+pub mod Accepted
 pub mod FaultLemmas
 pub mod Growing
 pub mod KeptLemmas

@@ -1,7 +1,8 @@
 //! The laws of merge plans, each the contract of a function that does nothing
-//! (docs/MODEL.md, "The meaning of a plan" and "Convergence").
+//! (docs/MODEL.md, "The meaning of a plan", "Convergence" and "Plan texts").
 ghost use Rattle.hll_merge.specs.Meaning.{PlansHaveMeaning, SameInputsAgree};
 ghost use Rattle.hll_merge.specs.Grown.{GrownPlansConverge, JoinedOfSame, JoinedOfJoined};
+ghost use Rattle.hll_merge.specs.Served.{ServedIsAccepted, ServedFaultIsFirst, OnePlan, AcceptedIsFaultless, FirstFaultsAreOwn};
 
 /// The outcome of a legal plan has the effective `lg_k`, which no register image is below, and the greatest
 /// value among the inputs at each slot.
@@ -28,3 +29,33 @@ pub fn joined_of_same()
 pub fn joined_of_joined()
     ensures { JoinedOfJoined }
 {}
+
+/// A text that is accepted today has the same plan where every step is served.
+pub fn served_is_accepted()
+    ensures { ServedIsAccepted }
+{
+}
+
+/// A first fault of today that is not `Unserved` is one where every step is served.
+pub fn served_fault_is_first()
+    ensures { ServedFaultIsFirst }
+{
+}
+
+/// A text has one plan at most.
+pub fn one_plan()
+    ensures { OnePlan }
+{
+}
+
+/// An accepted text has no first fault.
+pub fn accepted_is_faultless()
+    ensures { AcceptedIsFaultless }
+{
+}
+
+/// A first fault of a text is never `Memory`, `Read` or `Write`.
+pub fn first_faults_are_own()
+    ensures { FirstFaultsAreOwn }
+{
+}

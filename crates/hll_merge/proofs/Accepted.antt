@@ -1,0 +1,185 @@
+-- Lemmas on texts: what is served is accepted, a text has one plan, and no first fault where it has one.
+use Rattle.std.proofs.Common.{◌≡◌, ◌≢◌, ℕ, zero, suc, ◌+◌, ◌-◌, ◌<◌, ◌≤◌, ◌⊎◌, inl, inr, Bool, true, false, cond, List, [], ◌∷◌, ◌++◌, length, take, drop, refl, sym, ◌∙◌, ap, subst, arith, Option, Some, None, Result, Ok, Err, IfErr}
+use Rattle.std.proofs.lemmas.Bool.{cases_Bool, cond-true, cond-false, true≢false}
+use Rattle.std.proofs.lemmas.List.{length-append, take_at, take-append-drop}
+use Rattle.std.proofs.lemmas.Result.{IfErr-at_err}
+use Rattle.std.specs.Str.Lines.{lines}
+use Rattle.hll_sketch.specs.Value.{Sketch}
+use Rattle.hll_sketch.proofs.Images.{one_image}
+use Rattle.hll_sketch.proofs.Faults.{fault_excludes_image}
+use Rattle.hll_merge.specs.declared.fault.Fault.{Fault}
+use Rattle.hll_merge.specs.declared.fault.Fault.TheVariants as faults
+use Rattle.hll_merge.specs.declared.fault.MergeError.{MergeError}
+use Rattle.hll_merge.specs.Plan as plan
+use Rattle.hll_merge.specs.Plan.{Plan, plans_of}
+use Rattle.hll_merge.specs.Text.{PlanStep, Reading, reading, served_reading, served_words, read_words, words, names_unserved, new, image, coupon, union, IsFaultOfLine as IsTextFault, IsServedFault}
+use Rattle.hll_merge.specs.Accepting.{Service, full, Carries, IsFaultOfStep, Takes, IsRefusal, Gives, IsFaultOfLine, Runs, Accepts, FaultsAtLine, FaultsAtEnd, IsFirstFault, unserved, faulty, skipped, taken, unread, refused}
+use Rattle.hll_merge.specs.Served.{today, ServedIsAccepted, ServedFaultIsFirst, OnePlan, AcceptedIsFaultless, IsOwnFault, FirstFaultsAreOwn}
+use Rattle.hll_merge.proofs.FaultLemmas.{IfErr-reading, IfErr-served_reading}
+
+-- ---- what is served
+
+-- a line that is read today is read so where every step is served
+served_as : (l : List ℕ) → (served_reading l ≡ Err faults.Unserved) ⊎ (served_reading l ≡ reading l)
+served_as [] = inr refl
+served_as (b ∷ more) = of (Rattle.std.specs.Prelude.eqb b 35)
+  where
+    ws : List (List ℕ)
+    ws = words (b ∷ more)
+    words_as : (d : Bool) → (cond d (Err faults.Unserved) (read_words ws) ≡ Err faults.Unserved) ⊎ (cond d (Err faults.Unserved) (read_words ws) ≡ read_words ws)
+    words_as true = inl refl
+    words_as false = inr refl
+    of : (s : Bool) → (cond s (Ok None) (served_words ws) ≡ Err faults.Unserved) ⊎ (cond s (Ok None) (served_words ws) ≡ cond s (Ok None) (read_words ws))
+    of true = inr refl
+    of false = words_as (names_unserved ws)
+
+served_ok : (l : List ℕ) (o : Option PlanStep) → served_reading l ≡ Ok o → reading l ≡ Ok o
+served_ok l o e = elim (served_as l) [ | inl n ↦ cc | inr s ↦ sym s ∙ e ]
+
+served_err : (l : List ℕ) (e : Fault) → served_reading l ≡ Err e → e ≢ faults.Unserved → reading l ≡ Err e
+served_err l e h ne = elim (served_as l) [ | inl n ↦ let same : e ≡ faults.Unserved = cc in absurd (ne same) | inr s ↦ sym s ∙ h ]
+
+Gives-full : (ts : List Plan) (l : List ℕ) (us : List Plan) → Gives today ts l us → Gives full ts l us
+Gives-full ts l us (skipped r e) = skipped (served_ok l None r) e
+Gives-full ts l us (taken step r t) = taken step (served_ok l (Some step) r) (record { served = refl; carries = t.carries })
+
+Runs-full : (ts : List Plan) (ls : List (List ℕ)) (vs : List Plan) → Runs today ts ls vs → Runs full ts ls vs
+Runs-full ts [] vs h = h
+Runs-full ts (l ∷ ls) vs h = (h.0, Gives-full ts l h.0 h.1, Runs-full h.0 ls vs h.2)
+
+pub served_is_accepted : ServedIsAccepted
+served_is_accepted text t h = Runs-full [] (lines text) (t ∷ []) h
+
+IsFaultOfLine-full : (ts : List Plan) (l : List ℕ) (e : Fault) → e ≢ faults.Unserved → IsFaultOfLine today ts l e → IsFaultOfLine full ts l e
+IsFaultOfLine-full ts l e ne (unread r) = unread (served_err l e r ne)
+IsFaultOfLine-full ts l e ne (refused step r (unserved s is)) = absurd (ne is)
+IsFaultOfLine-full ts l e ne (refused step r (faulty s f)) = refused step (served_ok l (Some step) r) (faulty refl f)
+
+pub served_fault_is_first : ServedFaultIsFirst
+served_fault_is_first text e (inl f) ne = inl (record {
+  front = f.front;
+  line = f.line;
+  rest = f.rest;
+  is = f.is;
+  stack = f.stack;
+  runs = Runs-full [] f.front f.stack f.runs;
+  fault = IsFaultOfLine-full f.stack f.line e.fault ne f.fault;
+  at = f.at;
+})
+served_fault_is_first text e (inr f) ne = inr (record { stack = f.stack; runs = Runs-full [] (lines text) f.stack f.runs; left = f.left; fault = f.fault; at = f.at })
+
+-- ---- one outcome of a step
+
+append_parts : (f g x y : List Plan) → length x ≡ length y → f ++ x ≡ g ++ y → (f ≡ g) × (x ≡ y)
+append_parts [] [] x y n e = (refl, e)
+append_parts [] (b ∷ g) x y n e = absurd (omega (arith, ap length e, length-append g y))
+append_parts (a ∷ f) [] x y n e = absurd (omega (arith, ap length e, length-append f x))
+append_parts (a ∷ f) (b ∷ g) x y n e =
+    let head : a ≡ b = cc in
+    let tail : f ++ x ≡ g ++ y = cc in
+    let rest = append_parts f g x y n tail in
+    ((λ i. head i ∷ rest.0 i), rest.1)
+
+one_carry : (ts : List Plan) (step : PlanStep) (us vs : List Plan) → Carries ts step us → Carries ts step vs → us ≡ vs
+one_carry ts (new k w) us vs h g = h ∙ sym g
+one_carry ts (image bytes) us vs h g =
+    let same : h.1 ≡ g.1 = (one_image (take h.0 bytes) (take g.0 bytes) (drop h.0 bytes) (drop g.0 bytes) h.1 g.1 h.2 g.2 (take-append-drop h.0 bytes ∙ sym (take-append-drop g.0 bytes))).1 in
+    h.3 ∙ ap (λ x. ts ++ plan.image x ∷ []) same ∙ sym g.3
+one_carry ts (coupon s v) us vs h g =
+    let parts = append_parts h.0 g.0 (h.1 ∷ []) (g.1 ∷ []) refl (sym h.2 ∙ g.2) in
+    let top : h.1 ≡ g.1 = let e : (h.1 ∷ []) ≡ (g.1 ∷ []) = parts.1 in cc in
+    h.3 ∙ (λ i. parts.0 i ++ plan.coupon (top i) (Rattle.hll_coupons.specs.Pair.pair s v) ∷ []) ∙ sym g.3
+one_carry ts (union n m w) us vs h g =
+    let parts = append_parts h.0 g.0 h.1 g.1 (h.3 ∙ sym g.3) (sym h.2 ∙ g.2) in
+    h.4 ∙ (λ i. parts.0 i ++ plan.union_of m w (plans_of (parts.1 i)) ∷ []) ∙ sym g.4
+
+carry_or_fault : (ts : List Plan) (step : PlanStep) (us : List Plan) (e : Fault) → Carries ts step us → IsFaultOfStep ts step e → ⊥
+carry_or_fault ts (new k w) us e h f = f
+carry_or_fault ts (image bytes) us e h f = fault_excludes_image bytes f.0 f.1 h.0 h.1 h.2
+carry_or_fault ts (coupon s v) us e h f = omega (arith, ap length f.0, ap length h.2, length-append h.0 (h.1 ∷ []))
+carry_or_fault ts (union n m w) us e h f = omega (arith, f.0, ap length h.2, length-append h.0 h.1, h.3)
+
+-- ---- one outcome of lines
+
+module _ (service : Service) where
+  same_step : (l : List ℕ) (p q : PlanStep) → service.reads l ≡ Ok (Some p) → service.reads l ≡ Ok (Some q) → p ≡ q
+  same_step l p q h g = cc
+
+  one_line : (ts : List Plan) (l : List ℕ) (us vs : List Plan) → Gives service ts l us → Gives service ts l vs → us ≡ vs
+  one_line ts l us vs (skipped r e) (skipped s f) = e ∙ sym f
+  one_line ts l us vs (skipped r e) (taken step s t) = cc
+  one_line ts l us vs (taken step r t) (skipped s f) = cc
+  one_line ts l us vs (taken p r t) (taken q s u) = one_carry ts p us vs t.carries (subst (λ z. Carries ts z vs) (sym (same_step l p q r s)) u.carries)
+
+  line_or_fault : (ts : List Plan) (l : List ℕ) (us : List Plan) (e : Fault) → Gives service ts l us → IsFaultOfLine service ts l e → ⊥
+  line_or_fault ts l us e (skipped r s) (unread f) = cc
+  line_or_fault ts l us e (skipped r s) (refused step f g) = cc
+  line_or_fault ts l us e (taken p r t) (unread f) = cc
+  line_or_fault ts l us e (taken p r t) (refused q f (unserved s is)) =
+      true≢false (sym s ∙ ap (service.refuses ts) (sym (same_step l p q r f)) ∙ t.served)
+  line_or_fault ts l us e (taken p r t) (refused q f (faulty s g)) = carry_or_fault ts p us e t.carries (subst (λ z. IsFaultOfStep ts z e) (sym (same_step l p q r f)) g)
+
+  one_run : (ts : List Plan) (ls : List (List ℕ)) (us vs : List Plan) → Runs service ts ls us → Runs service ts ls vs → us ≡ vs
+  one_run ts [] us vs h g = h ∙ sym g
+  one_run ts (l ∷ ls) us vs h g =
+      one_run h.0 ls us vs h.2 (subst (λ zs. Runs service zs ls vs) (sym (one_line ts l h.0 g.0 h.1 g.1)) g.2)
+
+  -- lines in turn are those of a front, one, and the rest
+  record Split (ts : List Plan) (front : List (List ℕ)) (l : List ℕ) : Type 0 where
+    before : List Plan
+    runs : Runs service ts front before
+    after : List Plan
+    gives : Gives service before l after
+
+  split : (ts : List Plan) (front : List (List ℕ)) (l : List ℕ) (rest : List (List ℕ)) (vs : List Plan) → Runs service ts (front ++ l ∷ rest) vs → Split ts front l
+  split ts [] l rest vs h = record { before = ts; runs = refl; after = h.0; gives = h.1 }
+  split ts (k ∷ front) l rest vs h =
+      let s : Split h.0 front l = split h.0 front l rest vs h.2 in
+      record { before = s.before; runs = (h.0, h.1, s.runs); after = s.after; gives = s.gives }
+
+  accepted_or_faulty : (text : List ℕ) (t : Plan) (e : MergeError) → Accepts service text t → IsFirstFault service text e → ⊥
+  accepted_or_faulty text t e h (inl f) =
+      let s : Split [] f.front f.line = split [] f.front f.line f.rest (t ∷ []) (subst (λ ls. Runs service [] ls (t ∷ [])) f.is h) in
+      let same : s.before ≡ f.stack = one_run [] f.front s.before f.stack s.runs f.runs in
+      line_or_fault s.before f.line s.after e.fault s.gives (subst (λ zs. IsFaultOfLine service zs f.line e.fault) (sym same) f.fault)
+  accepted_or_faulty text t e h (inr f) =
+      let same : f.stack ≡ t ∷ [] = one_run [] (lines text) f.stack (t ∷ []) f.runs h in
+      f.left (ap length same)
+
+pub one_plan : OnePlan
+one_plan text t u h g = let same : (t ∷ []) ≡ (u ∷ []) = one_run full [] (lines text) (t ∷ []) (u ∷ []) h g in cc
+
+pub accepted_is_faultless : AcceptedIsFaultless
+accepted_is_faultless text t e = (accepted_or_faulty full text t e, accepted_or_faulty today text t e)
+
+-- ---- whose faults they are
+
+own-text : (e : Fault) → IsTextFault e → IsOwnFault e
+own-text e (inl h) = record { not_memory = λ z. cc; not_read = λ z. cc; not_write = λ z. cc }
+own-text e (inr (inl h)) = record { not_memory = λ z. cc; not_read = λ z. cc; not_write = λ z. cc }
+own-text e (inr (inr h)) = record { not_memory = λ z. cc; not_read = λ z. cc; not_write = λ z. cc }
+
+own-served : (e : Fault) → IsServedFault e → IsOwnFault e
+own-served e (inl h) = record { not_memory = λ z. cc; not_read = λ z. cc; not_write = λ z. cc }
+own-served e (inr h) = own-text e h
+
+own-step : (ts : List Plan) (step : PlanStep) (e : Fault) → IsFaultOfStep ts step e → IsOwnFault e
+own-step ts (new k w) e f = absurd f
+own-step ts (image bytes) e f = let is : e ≡ faults.Image f.0 = f.2 in record { not_memory = λ z. cc; not_read = λ z. cc; not_write = λ z. cc }
+own-step ts (coupon s v) e f = let is : e ≡ faults.Stack = f.1 in record { not_memory = λ z. cc; not_read = λ z. cc; not_write = λ z. cc }
+own-step ts (union n m w) e f = let is : e ≡ faults.Stack = f.1 in record { not_memory = λ z. cc; not_read = λ z. cc; not_write = λ z. cc }
+
+own-line : (service : Service) → ((l : List ℕ) (e : Fault) → service.reads l ≡ Err e → IsOwnFault e) → (ts : List Plan) (l : List ℕ) (e : Fault) → IsFaultOfLine service ts l e → IsOwnFault e
+own-line service read ts l e (unread r) = read l e r
+own-line service read ts l e (refused step r (unserved s is)) = record { not_memory = λ z. cc; not_read = λ z. cc; not_write = λ z. cc }
+own-line service read ts l e (refused step r (faulty s f)) = own-step ts step e f
+
+own-first : (service : Service) → ((l : List ℕ) (e : Fault) → service.reads l ≡ Err e → IsOwnFault e) → (text : List ℕ) (e : MergeError) → IsFirstFault service text e → IsOwnFault e.fault
+own-first service read text e (inl f) = own-line service read f.stack f.line e.fault f.fault
+own-first service read text e (inr f) = let is : e.fault ≡ faults.Stack = f.fault in record { not_memory = λ z. cc; not_read = λ z. cc; not_write = λ z. cc }
+
+pub first_faults_are_own : FirstFaultsAreOwn
+first_faults_are_own text e = (
+    own-first full (λ l e r. own-text e (IfErr-at_err IsTextFault r (IfErr-reading l))) text e,
+    own-first today (λ l e r. own-served e (IfErr-at_err IsServedFault r (IfErr-served_reading l))) text e,
+  )
