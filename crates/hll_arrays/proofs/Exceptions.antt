@@ -15,11 +15,11 @@ use Rattle.hll_coupons.proofs.Registers.{StandsFor, in_words, words_have, slot_o
 use Rattle.hll_arrays.specs.Packed.{nibble, exceptions_above}
 use Rattle.hll_arrays.specs.Payload.{entry_at, Agrees, register_of}
 
-abbrev has : ℕ → List ℕ → Bool
+abbrev pub has : ℕ → List ℕ → Bool
 has q xs = list_any (eq_by_cmp nat_cmp q) xs
 
 -- what a filter has
-kept : (p : ℕ → Bool) (q : ℕ) (xs : List ℕ) → has q (filter p xs) ≡ true → (p q ≡ true) × (has q xs ≡ true)
+pub kept : (p : ℕ → Bool) (q : ℕ) (xs : List ℕ) → has q (filter p xs) ≡ true → (p q ≡ true) × (has q xs ≡ true)
 kept p q [] h = absurd (true≢false (sym h))
 kept p q (x ∷ xs) h = elim (cases_Bool (p x)) [
   | inl t ↦ elim (or_cases (eq_by_cmp nat_cmp q x) (has q (filter p xs)) (sym (ap (has q) (cond-true (p x) (x ∷ filter p xs) (filter p xs) t)) ∙ h)) [

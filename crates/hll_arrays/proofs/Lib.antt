@@ -1,3 +1,5 @@
+pub mod Entries
 pub mod Exceptions
 pub mod Packing
 pub mod Payloads
+pub mod Written

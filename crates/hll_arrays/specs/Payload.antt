@@ -161,7 +161,7 @@ hll6_bytes k R state = 10 ∷ 1 ∷ 7 ∷ k ∷ 0 ∷ flag_of state ∷ 0 ∷ mo
 abbrev pub hll4_bytes : ℕ → List ℕ → EstimateState → List ℕ → List ℕ
 hll4_bytes k R state order =
     10 ∷ 1 ∷ 7 ∷ k ∷ 0 ∷ (8 + flag_of state) ∷ minimum R ∷ mode_byte 2 Hll4
-    ∷ number_bytes state (count_at_minimum R) (length order) ++ nibble_bytes R ++ coupon_bytes order
+    ∷ number_bytes state (count_at_minimum R) (length order) ++ (nibble_bytes R ++ coupon_bytes order)
 
 -- the bytes are written for these registers; the order is that of the exceptions at four bits, and else there is none
 abbrev pub WritesRegisters : List ℕ → ℕ → HllType → List ℕ → EstimateState → List ℕ → Type 0

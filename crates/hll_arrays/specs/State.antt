@@ -1,7 +1,12 @@
 -- The estimate state (docs/MODEL.md, "Estimate state").
-use Rattle.std.specs.Prelude.{ℕ, nat_eq, true, if◌then◌else◌, List, [], ◌∷◌}
+use Rattle.std.specs.Prelude.{◌≡◌, ℕ, ◌^◌, ◌<◌, nat_eq, true, if◌then◌else◌, List, [], ◌∷◌, length, All}
 use Rattle.std.specs.Cmp.Lexicographic.{pointwise}
 use Rattle.hll_arrays.specs.declared.estimate_state.EstimateState.{EstimateState}
+
+-- three words of 64 bits
+pub record IsState (state : EstimateState) : Type 0 where
+  pub three : length state.words ≡ 3
+  pub words : All (λ w. w < 2 ^ 64) state.words
 
 -- three zeros with the flag set
 abbrev pub cleared : EstimateState

@@ -1,8 +1,10 @@
-use Rattle.std.proofs.Common.{◌≡◌, ℕ, ◌+◌, ◌*◌, ◌^◌, ◌<◌, ◌≤◌, zero, suc, Bool, cond, not, eqb, List, [], ◌∷◌, ◌++◌, filter, length, get_or, take, drop, refl, sym, ap, subst, ◌∙◌, arith}
+use Rattle.std.proofs.Common.{◌≡◌, ℕ, ◌+◌, ◌*◌, ◌^◌, ◌<◌, ◌≤◌, zero, suc, Bool, cond, not, eqb, List, [], ◌∷◌, ◌++◌, filter, length, get_or, take, drop, All, refl, sym, ap, subst, ◌∙◌, arith}
 use Rattle.std.specs.Int.{w32, from_le_bytes}
+use Rattle.std.proofs.lemmas.Nat.{from_le_bytes-to_le_bytes_4}
+use Rattle.std.proofs.lemmas.List.Elements.{All-head, All-tail}
 use Rattle.std.proofs.lemmas.List.{get_or_append_left, get_or-drop, drop-append-le, take_at, length-append, length-drop}
 use Rattle.hll_base.specs.declared.error.Reason.{Reason}
-use Rattle.hll_coupons.specs.Coupons.{words, coupons_at, AreCoupons}
+use Rattle.hll_coupons.specs.Coupons.{words, coupons_at, coupon_bytes, AreCoupons}
 use Rattle.hll_coupons.specs.Payload.{ListShape, HasListCount, list_places, list_coupons, IsListPayload, ListFault, SetShape, set_count, set_places, set_coupons, HasSetCount, IsSetPayload, SetFault}
 use Rattle.hll_coupons.specs.Payload as payload
 
@@ -80,3 +82,14 @@ set_fault_excludes h a t b r e p (payload.SetFault.count w n) = omega (arith, p.
 set_fault_excludes h a t b r e p (payload.SetFault.short c n) = omega (arith, p.size, front_set_places h a t b e p, front_le a t b e)
 set_fault_excludes h a t b r e p (payload.SetFault.coupon c l n) = n (subst AreCoupons (front_set_coupons h a t b e p) p.are_coupons)
 set_fault_excludes h a t b r e p (payload.SetFault.number c l n) = n (ap length (sym (front_set_coupons h a t b e p)) ∙ p.number ∙ front_set_count h a t b e p)
+
+-- ---- coupons that were written
+
+pub words-written : (order rest : List ℕ) → All (λ c. c < 2 ^ 32) order → words (length order) (coupon_bytes order ++ rest) ≡ order
+words-written [] rest h = refl
+words-written (c ∷ order) rest h =
+    λ i. from_le_bytes-to_le_bytes_4 c (All-head (λ c. c < 2 ^ 32) c order h) i ∷ words-written order rest (All-tail (λ c. c < 2 ^ 32) c order h) i
+
+pub length-coupon_bytes : (order : List ℕ) → length (coupon_bytes order) ≡ 4 * length order
+length-coupon_bytes [] = refl
+length-coupon_bytes (c ∷ order) = omega (arith, length-coupon_bytes order)

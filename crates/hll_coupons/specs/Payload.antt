@@ -1,10 +1,12 @@
 -- What stands behind the header in an image of a list and of a set, and what can be wrong with it
 -- (docs/FORMAT.md, "LIST" and "SET"; docs/MODEL.md, "Images").
-use Rattle.std.specs.Prelude.{◌≡◌, ◌≢◌, ℕ, ◌+◌, ◌*◌, ◌^◌, ◌≤◌, ◌<◌, ◌↔◌, Bool, if◌then◌else◌, IsTrue, List, length, drop}
+use Rattle.std.specs.Prelude.{◌≡◌, ◌≢◌, ℕ, ◌+◌, ◌*◌, ◌^◌, ◌≤◌, ◌<◌, ◌↔◌, Bool, if◌then◌else◌, IsTrue, List, length, drop, replicate}
 use Rattle.std.specs.Int.{w32, from_le_bytes}
 use Rattle.hll_base.specs.declared.error.Reason.{Reason}
 use Rattle.hll_base.specs.declared.error.Reason.TheVariants.{Truncated, Count, Coupon}
 use Rattle.hll_coupons.specs.Coupons.{coupons_at, AreCoupons}
+use Rattle.hll_coupons.specs.Table.{Table, filled_from_front}
+use Rattle.hll_coupons.specs.Probe.{PutsEach}
 
 -- ---- a list
 
@@ -34,6 +36,10 @@ pub record IsListPayload (h : ListShape) (bytes : List ℕ) : Type 0 where
   pub size : length bytes ≡ 4 * list_places h
   pub are_coupons : AreCoupons (list_coupons h bytes)
   pub number : length (list_coupons h bytes) ≡ h.count
+
+-- the table that is read: the coupons in their order, filled from the front
+abbrev pub list_table : ListShape → List ℕ → Table
+list_table h bytes = filled_from_front h.lg_size (list_coupons h bytes)
 
 -- a check of this reason fails, and what it reads is there
 pub data ListFault (h : ListShape) (bytes : List ℕ) : Reason → Type 0 where
@@ -72,6 +78,11 @@ pub record IsSetPayload (h : SetShape) (bytes : List ℕ) : Type 0 where
   pub size : length bytes ≡ 4 + 4 * set_places h bytes
   pub are_coupons : AreCoupons (set_coupons h bytes)
   pub number : length (set_coupons h bytes) ≡ set_count bytes
+
+-- the table that is read: the coupons placed by probing, in their order
+pub record IsSetTable (h : SetShape) (bytes : List ℕ) (t : Table) : Type 0 where
+  pub size : t.lg_size ≡ h.lg_size
+  pub places : PutsEach (λ c. c) h.lg_size (replicate (2 ^ h.lg_size) 0) (set_coupons h bytes) t.places
 
 -- a check of this reason fails, and what it reads is there
 pub data SetFault (h : SetShape) (bytes : List ℕ) : Reason → Type 0 where

@@ -1,5 +1,5 @@
 -- The path of a search through a table, and what it finds (docs/MODEL.md, "Probing").
-use Rattle.std.specs.Prelude.{◌≡◌, ◌≢◌, ℕ, ◌+◌, ◌*◌, ◌/◌, ◌%◌, ◌^◌, ◌<◌, List, length, map, slice_index, bit_or}
+use Rattle.std.specs.Prelude.{◌≡◌, ◌≢◌, ℕ, ◌+◌, ◌*◌, ◌/◌, ◌%◌, ◌^◌, ◌<◌, List, [], ◌∷◌, length, map, slice_index, slice_set, bit_or}
 use Rattle.std.specs.List.{range_with_len}
 use Rattle.hll_coupons.specs.Pair.{slot_of}
 
@@ -38,3 +38,13 @@ module _ (key_of : ℕ → ℕ) where
   -- no place is filled with the key
   abbrev pub IsAbsent : List ℕ → ℕ → Type 0
   IsAbsent places key = (p : ℕ) → p < length places → slice_index places p ≢ 0 → key_of (slice_index places p) ≢ key
+
+  -- the entry stands in the first place of its path that is not filled with another key: in that place already, or in an empty one
+  pub data Puts (lg : ℕ) (places : List ℕ) (entry : ℕ) (new : List ℕ) : Type 0 where
+    held : (p : ℕ) → p < length places → slice_index places p ≢ 0 → key_of (slice_index places p) ≡ key_of entry → new ≡ places → Puts lg places entry new
+    placed : (p : ℕ) → IsFirstFor lg places (key_of entry) p → slice_index places p ≡ 0 → new ≡ slice_set places p entry → Puts lg places entry new
+
+  -- entries are put in turn
+  abbrev pub PutsEach : ℕ → List ℕ → List ℕ → List ℕ → Type 0
+  PutsEach lg places [] new = new ≡ places
+  PutsEach lg places (entry ∷ more) new = (between : List ℕ) × Puts lg places entry between × PutsEach lg between more new

@@ -13,7 +13,7 @@ use Rattle.hll_merge.specs.declared.fault.MergeError.{MergeError}
 use Rattle.hll_merge.specs.Plan as plan
 use Rattle.hll_merge.specs.Plan.{Plan, plans_of}
 use Rattle.hll_merge.specs.Text.{PlanStep, Reading, reading, served_reading, served_words, read_words, words, names_unserved, new, image, coupon, union, IsFaultOfLine as IsTextFault, IsServedFault}
-use Rattle.hll_merge.specs.Accepting.{Service, full, Carries, IsFaultOfStep, Takes, IsRefusal, Gives, IsFaultOfLine, Runs, Accepts, FaultsAtLine, FaultsAtEnd, IsFirstFault, unserved, faulty, skipped, taken, unread, refused}
+use Rattle.hll_merge.specs.Accepting.{Service, full, Carries, IsFaultOfStep, Takes, IsRefusal, Gives, IsFaultOfLine, Runs, Accepts, FaultsAtLine, FaultsAtEnd, IsFirstFault, AcceptsLines, IsFirstFaultOfLines, unserved, faulty, skipped, taken, unread, refused}
 use Rattle.hll_merge.specs.Served.{today, ServedIsAccepted, ServedFaultIsFirst, OnePlan, AcceptedIsFaultless, IsOwnFault, FirstFaultsAreOwn}
 use Rattle.hll_merge.proofs.FaultLemmas.{IfErr-reading, IfErr-served_reading}
 
@@ -101,17 +101,17 @@ carry_or_fault ts (union n m w) us e h f = omega (arith, f.0, ap length h.2, len
 
 -- ---- one outcome of lines
 
-module _ (service : Service) where
-  same_step : (l : List ℕ) (p q : PlanStep) → service.reads l ≡ Ok (Some p) → service.reads l ≡ Ok (Some q) → p ≡ q
+module _ {L : Type 0} (service : Service L) where
+  same_step : (l : L) (p q : PlanStep) → service.reads l ≡ Ok (Some p) → service.reads l ≡ Ok (Some q) → p ≡ q
   same_step l p q h g = cc
 
-  one_line : (ts : List Plan) (l : List ℕ) (us vs : List Plan) → Gives service ts l us → Gives service ts l vs → us ≡ vs
+  one_line : (ts : List Plan) (l : L) (us vs : List Plan) → Gives service ts l us → Gives service ts l vs → us ≡ vs
   one_line ts l us vs (skipped r e) (skipped s f) = e ∙ sym f
   one_line ts l us vs (skipped r e) (taken step s t) = cc
   one_line ts l us vs (taken step r t) (skipped s f) = cc
   one_line ts l us vs (taken p r t) (taken q s u) = one_carry ts p us vs t.carries (subst (λ z. Carries ts z vs) (sym (same_step l p q r s)) u.carries)
 
-  line_or_fault : (ts : List Plan) (l : List ℕ) (us : List Plan) (e : Fault) → Gives service ts l us → IsFaultOfLine service ts l e → ⊥
+  line_or_fault : (ts : List Plan) (l : L) (us : List Plan) (e : Fault) → Gives service ts l us → IsFaultOfLine service ts l e → ⊥
   line_or_fault ts l us e (skipped r s) (unread f) = cc
   line_or_fault ts l us e (skipped r s) (refused step f g) = cc
   line_or_fault ts l us e (taken p r t) (unread f) = cc
@@ -119,38 +119,38 @@ module _ (service : Service) where
       true≢false (sym s ∙ ap (service.refuses ts) (sym (same_step l p q r f)) ∙ t.served)
   line_or_fault ts l us e (taken p r t) (refused q f (faulty s g)) = carry_or_fault ts p us e t.carries (subst (λ z. IsFaultOfStep ts z e) (sym (same_step l p q r f)) g)
 
-  one_run : (ts : List Plan) (ls : List (List ℕ)) (us vs : List Plan) → Runs service ts ls us → Runs service ts ls vs → us ≡ vs
+  one_run : (ts : List Plan) (ls : List L) (us vs : List Plan) → Runs service ts ls us → Runs service ts ls vs → us ≡ vs
   one_run ts [] us vs h g = h ∙ sym g
   one_run ts (l ∷ ls) us vs h g =
       one_run h.0 ls us vs h.2 (subst (λ zs. Runs service zs ls vs) (sym (one_line ts l h.0 g.0 h.1 g.1)) g.2)
 
   -- lines in turn are those of a front, one, and the rest
-  record Split (ts : List Plan) (front : List (List ℕ)) (l : List ℕ) : Type 0 where
+  record Split (ts : List Plan) (front : List L) (l : L) : Type 0 where
     before : List Plan
     runs : Runs service ts front before
     after : List Plan
     gives : Gives service before l after
 
-  split : (ts : List Plan) (front : List (List ℕ)) (l : List ℕ) (rest : List (List ℕ)) (vs : List Plan) → Runs service ts (front ++ l ∷ rest) vs → Split ts front l
+  split : (ts : List Plan) (front : List L) (l : L) (rest : List L) (vs : List Plan) → Runs service ts (front ++ l ∷ rest) vs → Split ts front l
   split ts [] l rest vs h = record { before = ts; runs = refl; after = h.0; gives = h.1 }
   split ts (k ∷ front) l rest vs h =
       let s : Split h.0 front l = split h.0 front l rest vs h.2 in
       record { before = s.before; runs = (h.0, h.1, s.runs); after = s.after; gives = s.gives }
 
-  accepted_or_faulty : (text : List ℕ) (t : Plan) (e : MergeError) → Accepts service text t → IsFirstFault service text e → ⊥
-  accepted_or_faulty text t e h (inl f) =
+  accepted_or_faulty : (all : List L) (t : Plan) (e : MergeError) → AcceptsLines service all t → IsFirstFaultOfLines service all e → ⊥
+  accepted_or_faulty all t e h (inl f) =
       let s : Split [] f.front f.line = split [] f.front f.line f.rest (t ∷ []) (subst (λ ls. Runs service [] ls (t ∷ [])) f.is h) in
       let same : s.before ≡ f.stack = one_run [] f.front s.before f.stack s.runs f.runs in
       line_or_fault s.before f.line s.after e.fault s.gives (subst (λ zs. IsFaultOfLine service zs f.line e.fault) (sym same) f.fault)
-  accepted_or_faulty text t e h (inr f) =
-      let same : f.stack ≡ t ∷ [] = one_run [] (lines text) f.stack (t ∷ []) f.runs h in
+  accepted_or_faulty all t e h (inr f) =
+      let same : f.stack ≡ t ∷ [] = one_run [] all f.stack (t ∷ []) f.runs h in
       f.left (ap length same)
 
 pub one_plan : OnePlan
 one_plan text t u h g = let same : (t ∷ []) ≡ (u ∷ []) = one_run full [] (lines text) (t ∷ []) (u ∷ []) h g in cc
 
 pub accepted_is_faultless : AcceptedIsFaultless
-accepted_is_faultless text t e = (accepted_or_faulty full text t e, accepted_or_faulty today text t e)
+accepted_is_faultless text t e = (accepted_or_faulty full (lines text) t e, accepted_or_faulty today (lines text) t e)
 
 -- ---- whose faults they are
 
@@ -169,12 +169,12 @@ own-step ts (image bytes) e f = let is : e ≡ faults.Image f.0 = f.2 in record 
 own-step ts (coupon s v) e f = let is : e ≡ faults.Stack = f.1 in record { not_memory = λ z. cc; not_read = λ z. cc; not_write = λ z. cc }
 own-step ts (union n m w) e f = let is : e ≡ faults.Stack = f.1 in record { not_memory = λ z. cc; not_read = λ z. cc; not_write = λ z. cc }
 
-own-line : (service : Service) → ((l : List ℕ) (e : Fault) → service.reads l ≡ Err e → IsOwnFault e) → (ts : List Plan) (l : List ℕ) (e : Fault) → IsFaultOfLine service ts l e → IsOwnFault e
+own-line : (service : Service (List ℕ)) → ((l : List ℕ) (e : Fault) → service.reads l ≡ Err e → IsOwnFault e) → (ts : List Plan) (l : List ℕ) (e : Fault) → IsFaultOfLine service ts l e → IsOwnFault e
 own-line service read ts l e (unread r) = read l e r
 own-line service read ts l e (refused step r (unserved s is)) = record { not_memory = λ z. cc; not_read = λ z. cc; not_write = λ z. cc }
 own-line service read ts l e (refused step r (faulty s f)) = own-step ts step e f
 
-own-first : (service : Service) → ((l : List ℕ) (e : Fault) → service.reads l ≡ Err e → IsOwnFault e) → (text : List ℕ) (e : MergeError) → IsFirstFault service text e → IsOwnFault e.fault
+own-first : (service : Service (List ℕ)) → ((l : List ℕ) (e : Fault) → service.reads l ≡ Err e → IsOwnFault e) → (text : List ℕ) (e : MergeError) → IsFirstFault service text e → IsOwnFault e.fault
 own-first service read text e (inl f) = own-line service read f.stack f.line e.fault f.fault
 own-first service read text e (inr f) = let is : e.fault ≡ faults.Stack = f.fault in record { not_memory = λ z. cc; not_read = λ z. cc; not_write = λ z. cc }
 

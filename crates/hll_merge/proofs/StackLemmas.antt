@@ -147,7 +147,7 @@ refuses-coupon xs ts s v e h (eighth front last is at) =
 
 -- ---- lines
 
-pub Runs-more : (service : Service) (ts us vs : List Plan) (front : List (List ℕ)) (line : List ℕ) → Runs service ts front us → Gives service us line vs → Runs service ts (front ++ line ∷ []) vs
+pub Runs-more : (service : Service (List ℕ)) (ts us vs : List Plan) (front : List (List ℕ)) (line : List ℕ) → Runs service ts front us → Gives service us line vs → Runs service ts (front ++ line ∷ []) vs
 Runs-more service ts us vs [] line h g = (vs, subst (λ zs. Gives service zs line vs) h g, refl)
 Runs-more service ts us vs (l ∷ front) line h g = (h.0, h.1, Runs-more service h.0 us vs front line h.2 g)
 

@@ -14,13 +14,14 @@ use Rattle.hll_merge.specs.Plan as plan
 use Rattle.hll_merge.specs.Plan.{Plan, plans_of}
 use Rattle.hll_merge.specs.Text.{PlanStep, Reading, reading, line_number, new, image, coupon, union}
 
--- what is served: how a line is read, and whether a step is refused on a stack though it is right
-pub record Service : Type 0 where
-  pub reads : List ℕ → Reading
+-- what is served: how a line is read, and whether a step is refused on a stack though it is right;
+-- a line is a list of bytes in a text, and a step in a list of steps
+pub record Service (L : Type 0) : Type 0 where
+  pub reads : L → Reading
   pub refuses : List Plan → PlanStep → Bool
 
 -- every step is served
-abbrev pub full : Service
+abbrev pub full : Service (List ℕ)
 full = record { reads = reading; refuses = λ _ _. false }
 
 -- ---- steps
@@ -39,7 +40,7 @@ IsFaultOfStep ts (image bytes) e = (r : Reason) × images.Fault bytes r × (e �
 IsFaultOfStep ts (coupon s v) e = (ts ≡ []) × (e ≡ faults.Stack)
 IsFaultOfStep ts (union n m w) e = (length ts < n) × (e ≡ faults.Stack)
 
-module _ (service : Service) where
+module _ {L : Type 0} (service : Service L) where
   -- the stack after a step that is served
   pub record Takes (ts : List Plan) (step : PlanStep) (us : List Plan) : Type 0 where
     pub served : service.refuses ts step ≡ false
@@ -53,31 +54,27 @@ module _ (service : Service) where
   -- ---- lines
 
   -- the stack after a line
-  pub data Gives (ts : List Plan) (line : List ℕ) (us : List Plan) : Type 0 where
+  pub data Gives (ts : List Plan) (line : L) (us : List Plan) : Type 0 where
     skipped : service.reads line ≡ Ok None → us ≡ ts → Gives ts line us
     taken : (step : PlanStep) → service.reads line ≡ Ok (Some step) → Takes ts step us → Gives ts line us
 
   -- the fault of a line
-  pub data IsFaultOfLine (ts : List Plan) (line : List ℕ) (e : Fault) : Type 0 where
+  pub data IsFaultOfLine (ts : List Plan) (line : L) (e : Fault) : Type 0 where
     unread : service.reads line ≡ Err e → IsFaultOfLine ts line e
     refused : (step : PlanStep) → service.reads line ≡ Ok (Some step) → IsRefusal ts step e → IsFaultOfLine ts line e
 
   -- the stack after lines in turn
-  abbrev pub Runs : List Plan → List (List ℕ) → List Plan → Type 0
+  abbrev pub Runs : List Plan → List L → List Plan → Type 0
   Runs ts [] vs = vs ≡ ts
   Runs ts (line ∷ more) vs = (us : List Plan) × Gives ts line us × Runs us more vs
 
-  -- ---- texts
-
-  -- every line is carried out, and one plan is left: the plan of the text
-  abbrev pub Accepts : List ℕ → Plan → Type 0
-  Accepts text t = Runs [] (lines text) (t ∷ [])
+  -- ---- the first fault
 
   -- a line is at fault, and none before it
-  pub record FaultsAtLine (all : List (List ℕ)) (e : MergeError) : Type 0 where
-    pub front : List (List ℕ)
-    pub line : List ℕ
-    pub rest : List (List ℕ)
+  pub record FaultsAtLine (all : List L) (e : MergeError) : Type 0 where
+    pub front : List L
+    pub line : L
+    pub rest : List L
     pub is : all ≡ front ++ line ∷ rest
     pub stack : List Plan
     pub runs : Runs [] front stack
@@ -85,13 +82,26 @@ module _ (service : Service) where
     pub at : e.line ≡ line_number (length front + 1)
 
   -- no line is at fault, and not exactly one plan is left
-  pub record FaultsAtEnd (all : List (List ℕ)) (e : MergeError) : Type 0 where
+  pub record FaultsAtEnd (all : List L) (e : MergeError) : Type 0 where
     pub stack : List Plan
     pub runs : Runs [] all stack
     pub left : length stack ≢ 1
     pub fault : e.fault ≡ faults.Stack
     pub at : e.line ≡ line_number (length all)
 
-  -- the first fault of a text
-  abbrev pub IsFirstFault : List ℕ → MergeError → Type 0
-  IsFirstFault text e = FaultsAtLine (lines text) e ⊎ FaultsAtEnd (lines text) e
+  -- every line is carried out, and one plan is left
+  abbrev pub AcceptsLines : List L → Plan → Type 0
+  AcceptsLines all t = Runs [] all (t ∷ [])
+
+  abbrev pub IsFirstFaultOfLines : List L → MergeError → Type 0
+  IsFirstFaultOfLines all e = FaultsAtLine all e ⊎ FaultsAtEnd all e
+
+-- ---- texts
+
+-- the plan of a text
+abbrev pub Accepts : Service (List ℕ) → List ℕ → Plan → Type 0
+Accepts service text t = AcceptsLines service (lines text) t
+
+-- the first fault of a text
+abbrev pub IsFirstFault : Service (List ℕ) → List ℕ → MergeError → Type 0
+IsFirstFault service text e = IsFirstFaultOfLines service (lines text) e

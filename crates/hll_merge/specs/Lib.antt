@@ -1,4 +1,5 @@
 pub mod Accepting
+pub mod Evaluate
 pub mod Extent
 pub mod Grown
 pub mod Kept

@@ -29,7 +29,7 @@ abbrev pub IsAllOf : Option (List ℕ) → List ℕ → Type 0
 IsAllOf None text = Unit {0}
 IsAllOf (Some bytes) text = text ≡ bytes
 
-module _ (service : Service) where
+module _ (service : Service (List ℕ)) where
   -- the line is what is printed for the outcome of the text's plan, with its coupons in order of arrival
   pub record IsAnswer (text line : List ℕ) : Type 0 where
     pub tree : Plan

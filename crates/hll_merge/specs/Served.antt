@@ -24,7 +24,7 @@ is_refused ts (coupon s v) = gets_eighth ts (pair s v)
 is_refused ts (image bytes) = true
 is_refused ts (union n m w) = true
 
-abbrev pub today : Service
+abbrev pub today : Service (List ℕ)
 today = record { reads = served_reading; refuses = is_refused }
 
 -- the coupons of such a plan in the order in which each came first: this is the order in which they are written

@@ -3,3 +3,4 @@ pub mod Faults
 pub mod Images
 pub mod Sets
 pub mod Stages
+pub mod Written

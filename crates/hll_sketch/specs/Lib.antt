@@ -1,4 +1,5 @@
 pub mod Adding
+pub mod Agree
 pub mod Fault
 pub mod Image
 pub mod Laws

@@ -1,10 +1,11 @@
 -- Sketch values (docs/MODEL.md, "Sketch values").
-use Rattle.std.specs.Prelude.{◌≡◌, ℕ, ◌+◌, ◌^◌, ◌≤◌, ◌<◌, ◌==◌, ◌⊎◌, ◌↔◌, Bool, true, false, not, ◌&&◌, List, All}
+use Rattle.std.specs.Prelude.{◌≡◌, ℕ, ◌+◌, ◌^◌, ◌≤◌, ◌<◌, ◌==◌, ◌⊎◌, ◌↔◌, Bool, true, false, not, ◌&&◌, List}
 use Rattle.std.specs.FinSet.{empty, len, contains}
 use Rattle.hll_coupons.specs.Pair.{Pairs, IsPair}
 use Rattle.hll_coupons.specs.Fold.{pairs}
 use Rattle.hll_coupons.specs.declared.hll_type.HllType.{HllType}
 use Rattle.hll_arrays.specs.declared.estimate_state.EstimateState.{EstimateState}
+use Rattle.hll_arrays.specs.State.{IsState}
 use Rattle.hll_arrays.specs.Store.{AreRegisters}
 
 -- what a sketch keeps: a set of pairs in a table of 2^size places, or registers with an estimate state
@@ -58,7 +59,7 @@ IsTableFor k count size = ((size ≡ 3) × (count ≤ 8)) ⊎ ((5 ≤ size) × (
 
 abbrev pub IsLegalContent : ℕ → Content → Type 0
 IsLegalContent k (coupons S size) = ArePairs S × IsTableFor k (len S) size
-IsLegalContent k (registers R state) = AreRegisters k R × All (λ w. w < 2 ^ 64) state.words
+IsLegalContent k (registers R state) = AreRegisters k R × IsState state
 
 pub record IsLegal (x : Sketch) : Type 0 where
   pub lg_k : IsLgK x.lg_k

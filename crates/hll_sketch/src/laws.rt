@@ -3,6 +3,7 @@
 ghost use Rattle.hll_sketch.specs.Laws.{AddOfAdd, AddEach, EmptyMerged, UnionLgK};
 ghost use Rattle.hll_sketch.specs.Image.{OneImage};
 ghost use Rattle.hll_sketch.specs.Fault.{FaultExcludesImage};
+ghost use Rattle.hll_sketch.specs.Written.{WrittenIsImage};
 
 /// To add pairs twice is to add their union.
 pub fn add_of_add()
@@ -32,4 +33,9 @@ pub fn one_image()
 /// Where a fault stands in bytes, no front of them is an image.
 pub fn fault_excludes_image()
     ensures { FaultExcludesImage }
+{}
+
+/// What is written for a legal sketch is an image of it.
+pub fn written_is_image()
+    ensures { WrittenIsImage }
 {}

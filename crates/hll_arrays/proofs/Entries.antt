@@ -1,0 +1,141 @@
+-- The exceptions of registers as entries: no slot stands twice, whatever their order.
+use Rattle.std.proofs.Common.{◌≡◌, ℕ, zero, suc, ◌+◌, ◌%◌, ◌^◌, ◌<◌, ◌≤◌, Bool, true, false, cond, eqb, List, [], ◌∷◌, length, get_or, map, All, refl, sym, ap, ◌∙◌, arith, inl, inr}
+use Rattle.std.specs.Prelude.{nat_le}
+use Rattle.std.specs.Ordering.{nat_cmp, eq_by_cmp}
+use Rattle.std.specs.Cmp.{nat_cmp_total}
+use Rattle.std.specs.FinSet.{len, len-empty, len-insert, contains, contains-from_list}
+use Rattle.std.proofs.lemmas.Nat.{pow_below}
+use Rattle.std.proofs.lemmas.Bool.{true≢false, or_cases, or_left, or_right}
+use Rattle.std.proofs.lemmas.List.Sums.{count_by-le-length, length-filter}
+use Rattle.std.proofs.lemmas.List.Elements.{All-from_get_or}
+use Rattle.std.proofs.Math.Nat.{mod-eq_of_lt, zero-add}
+use Rattle.hll_coupons.specs.Pair.{pair, slot_of, value_of, set_of}
+use Rattle.hll_coupons.specs.Fold.{words_from}
+use Rattle.hll_coupons.specs.Coupons.{ListsOnce}
+use Rattle.hll_coupons.proofs.Greatest.{same_word, itself}
+use Rattle.hll_coupons.proofs.Registers.{StandsFor, in_words, slot_of-pair, value_of-pair}
+use Rattle.hll_arrays.specs.Packed.{minimum, exceptions}
+use Rattle.hll_arrays.specs.Payload.{AreEntries}
+use Rattle.hll_arrays.proofs.Exceptions.{has, kept}
+
+-- ---- the count of a set of images
+
+has-map : (f : ℕ → ℕ) (xs : List ℕ) (c : ℕ) → has c xs ≡ true → has (f c) (map f xs) ≡ true
+has-map f [] c h = h
+has-map f (x ∷ xs) c h = elim (or_cases (eq_by_cmp nat_cmp c x) (has c xs) h) [
+  | inl e ↦ or_left (eq_by_cmp nat_cmp (f c) (f x)) (has (f c) (map f xs)) (itself (f c) (f x) (ap f (same_word c x e)))
+  | inr l ↦ or_right (eq_by_cmp nat_cmp (f c) (f x)) (has (f c) (map f xs)) (has-map f xs c l)
+]
+
+-- a member whose image is this
+record From (f : ℕ → ℕ) (xs : List ℕ) (q : ℕ) : Type 0 where
+  member : ℕ
+  there : has member xs ≡ true
+  is : q ≡ f member
+
+has-from_map : (f : ℕ → ℕ) (xs : List ℕ) (q : ℕ) → has q (map f xs) ≡ true → From f xs q
+has-from_map f [] q h = absurd (true≢false (sym h))
+has-from_map f (x ∷ xs) q h = elim (or_cases (eq_by_cmp nat_cmp q (f x)) (has q (map f xs)) h) [
+  | inl e ↦ record { member = x; there = or_left (eq_by_cmp nat_cmp x x) (has x xs) (itself x x refl); is = same_word q (f x) e }
+  | inr l ↦ let r : From f xs q = has-from_map f xs q l in record { member = r.member; there = or_right (eq_by_cmp nat_cmp r.member x) (has r.member xs) r.there; is = r.is }
+]
+
+-- no two members have one image
+abbrev Apart : (ℕ → ℕ) → List ℕ → Type 0
+Apart f xs = (c d : ℕ) → has c xs ≡ true → has d xs ≡ true → f c ≡ f d → c ≡ d
+
+len-map : (f : ℕ → ℕ) (xs : List ℕ) → Apart f xs → len (set_of (map f xs)) ≡ len (set_of xs)
+len-map f [] apart = refl
+len-map f (x ∷ xs) apart =
+    let rest : Apart f xs = λ c d hc hd e. apart c d (or_right (eq_by_cmp nat_cmp c x) (has c xs) hc) (or_right (eq_by_cmp nat_cmp d x) (has d xs) hd) e in
+    let same : has (f x) (map f xs) ≡ has x xs = both (has (f x) (map f xs)) (has x xs)
+    (λ h. let r : From f xs (f x) = has-from_map f xs (f x) h in
+    let e : r.member ≡ x = apart r.member x (or_right (eq_by_cmp nat_cmp r.member x) (has r.member xs) r.there) (or_left (eq_by_cmp nat_cmp x x) (has x xs) (itself x x refl)) (sym r.is) in
+    ap (λ z. has z xs) (sym e) ∙ r.there)
+    (has-map f xs x) in
+    let known : contains (set_of (map f xs)) (f x) ≡ contains (set_of xs) x =
+    contains-from_list nat_cmp_total (map f xs) (f x) ∙ same ∙ sym (contains-from_list nat_cmp_total xs x) in
+    len-insert nat_cmp_total (set_of (map f xs)) (f x)
+    ∙ (λ i. cond (known i) (len-map f xs rest i) (len-map f xs rest i + 1))
+    ∙ sym (len-insert nat_cmp_total (set_of xs) x)
+  where
+    both : (a b : Bool) → (a ≡ true → b ≡ true) → (b ≡ true → a ≡ true) → a ≡ b
+    both true b f g = sym (f refl)
+    both false true f g = g refl
+    both false false f g = refl
+
+len-set_of-le : (xs : List ℕ) → len (set_of xs) ≤ length xs
+len-set_of-le [] = omega (arith, len-empty nat_cmp)
+len-set_of-le (x ∷ xs) =
+    let e : len (set_of (x ∷ xs)) ≡ cond (contains (set_of xs) x) (len (set_of xs)) (len (set_of xs) + 1) = len-insert nat_cmp_total (set_of xs) x in
+    let le : cond (contains (set_of xs) x) (len (set_of xs)) (len (set_of xs) + 1) ≤ len (set_of xs) + 1 =
+    elim (contains (set_of xs) x) as (λ b. cond b (len (set_of xs)) (len (set_of xs) + 1) ≤ len (set_of xs) + 1) [ true ↦ omega arith | false ↦ omega arith ] in
+    omega (arith, len-set_of-le xs)
+
+length-words_from : (s : ℕ) (R : List ℕ) → length (words_from s R) ≤ length R
+length-words_from s [] = omega arith
+length-words_from s (r ∷ R) = elim (eqb r 0) as (λ b. length (cond b (words_from (s + 1) R) (pair s r ∷ words_from (s + 1) R)) ≤ length (r ∷ R)) [
+  | true ↦ omega (arith, length-words_from (s + 1) R)
+  | false ↦ omega (arith, length-words_from (s + 1) R)
+]
+
+-- ---- the exceptions in any order
+
+module _ (k : ℕ) (R order : List ℕ) (small : k ≤ 21) (size : length R ≡ 2 ^ k) (top : All (λ v. v ≤ 63) R) (lists : ListsOnce order (set_of (exceptions R))) where
+  -- an entry is the pair of a slot and its register
+  record IsEntry (c : ℕ) : Type 0 where
+    slot : ℕ
+    within : slot < 2 ^ k
+    is : c ≡ pair slot (get_or R slot 0)
+    some : 0 < get_or R slot 0
+
+  entry : (c : ℕ) → has c order ≡ true → IsEntry c
+  entry c h =
+      let there : has c (exceptions R) ≡ true = sym (contains-from_list nat_cmp_total (exceptions R) c) ∙ ap (λ S. contains S c) (sym lists.members) ∙ contains-from_list nat_cmp_total order c ∙ h in
+      let found : (i : ℕ) × StandsFor R 0 c i = in_words R 0 c (kept _ c (words_from 0 R) there).1 in
+      record {
+        slot = found.0;
+        within = omega (arith, found.1.within);
+        is = found.1.is ∙ ap (λ t. pair t (get_or R found.0 0)) (zero-add found.0);
+        some = found.1.positive;
+      }
+
+  slot_small : (s : ℕ) → s < 2 ^ k → s < 2 ^ 26
+  slot_small s h = omega (arith, pow_below k 26 (omega arith))
+
+  slot-entry : (c : ℕ) (e : IsEntry c) → slot_of c % 2 ^ k ≡ e.slot
+  slot-entry c e = ap (λ z. slot_of z % 2 ^ k) e.is ∙ ap (λ n. n % 2 ^ k) (slot_of-pair e.slot (get_or R e.slot 0) (slot_small e.slot e.within)) ∙ mod-eq_of_lt e.within
+
+  apart : Apart (λ c. slot_of c % 2 ^ k) order
+  apart c d hc hd same =
+      let one : IsEntry c = entry c hc in
+      let two : IsEntry d = entry d hd in
+      let slots : one.slot ≡ two.slot = sym (slot-entry c one) ∙ same ∙ slot-entry d two in
+      one.is ∙ (λ i. pair (slots i) (get_or R (slots i) 0)) ∙ sym two.is
+
+  -- a member at each index
+  has-at : (xs : List ℕ) (i : ℕ) → i < length xs → has (get_or xs i 0) xs ≡ true
+  has-at [] i h = absurd (omega arith)
+  has-at (x ∷ xs) zero h = or_left (eq_by_cmp nat_cmp x x) (has x xs) (itself x x refl)
+  has-at (x ∷ xs) (suc i) h = or_right (eq_by_cmp nat_cmp (get_or xs i 0) x) (has (get_or xs i 0) xs) (has-at xs i (omega arith))
+
+  value-entry : (c : ℕ) → has c order ≡ true → (1 ≤ value_of c) × (c < 2 ^ 32)
+  value-entry c h =
+      let e : IsEntry c = entry c h in
+      let v : ℕ = get_or R e.slot 0 in
+      let most : v ≤ 63 = top e.slot 0 (omega (arith, e.within, size)) in
+      let low : e.slot < 2 ^ 26 = slot_small e.slot e.within in
+      let value : value_of c ≡ v = ap value_of e.is ∙ value_of-pair e.slot v low in
+      (omega (arith, e.some), omega (arith, e.is))
+
+  pub entries_valued : All (λ c. 1 ≤ value_of c) order
+  entries_valued = All-from_get_or (λ c. 1 ≤ value_of c) order 0 (λ i h. (value-entry (get_or order i 0) (has-at order i h)).0)
+
+  pub entries_fit : All (λ c. c < 2 ^ 32) order
+  entries_fit = All-from_get_or (λ c. c < 2 ^ 32) order 0 (λ i h. (value-entry (get_or order i 0) (has-at order i h)).1)
+
+  pub are_entries : AreEntries k order
+  are_entries = record { valued = entries_valued; distinct = len-map (λ c. slot_of c % 2 ^ k) order apart ∙ ap len lists.members ∙ sym lists.once }
+
+  pub entries_few : length order ≤ 2 ^ k
+  entries_few = omega (arith, lists.once, len-set_of-le (exceptions R), length-filter (λ c. nat_le (minimum R + 15) (value_of c)) (words_from 0 R), count_by-le-length (λ c. nat_le (minimum R + 15) (value_of c)) (words_from 0 R), length-words_from 0 R)

@@ -1,0 +1,201 @@
+-- What is written for a legal sketch is an image of it.
+use Rattle.std.proofs.Common.{◌≡◌, ℕ, ◌+◌, ◌*◌, ◌/◌, ◌%◌, ◌^◌, ◌<◌, ◌≤◌, zero, suc, Bool, true, false, cond, eqb, List, [], ◌∷◌, length, get_or, drop, All, refl, sym, ap, subst, ◌∙◌, arith, inl, inr}
+use Rattle.std.specs.FinSet.{len, contains, contains-from_list}
+use Rattle.std.specs.Cmp.{nat_cmp_total}
+use Rattle.std.specs.Ordering.{nat_cmp, eq_by_cmp}
+use Rattle.std.specs.List.{list_any}
+use Rattle.std.proofs.lemmas.Nat.{from_le_bytes-to_le_bytes_4, pow_below}
+use Rattle.std.proofs.lemmas.Bool.{eqb-true, eq-eqb, ne_eqb, cond-false, cond-true, or_left, or_right}
+use Rattle.std.proofs.lemmas.List.{append-nil}
+use Rattle.std.proofs.lemmas.List.Elements.{All-from_get_or}
+use Rattle.hll_coupons.specs.Pair.{Pairs, IsPair, set_of, value_of}
+use Rattle.hll_coupons.specs.Coupons.{words, coupons_at, coupon_bytes, AreCoupons, ListsOnce, mode_byte, list_bytes, set_bytes}
+use Rattle.hll_coupons.specs.Payload.{list_places, list_coupons, set_count, set_coupons}
+use Rattle.hll_coupons.specs.declared.hll_type.HllType.{HllType}
+use Rattle.hll_coupons.specs.declared.hll_type.HllType.TheVariants.{Hll4, Hll6, Hll8}
+use Rattle.hll_coupons.proofs.Greatest.{itself}
+use Rattle.hll_coupons.proofs.Payloads.{words-written, length-coupon_bytes}
+use Rattle.hll_arrays.specs.declared.estimate_state.EstimateState.{EstimateState}
+use Rattle.hll_arrays.specs.State.{IsState}
+use Rattle.hll_arrays.specs.Store.{AreRegisters}
+use Rattle.hll_arrays.specs.Packed.{minimum}
+use Rattle.hll_arrays.specs.Payload.{flag_of, hll4_bytes, WritesRegisters, IsHll4Payload, Hll4Shape, registers_of}
+use Rattle.hll_arrays.proofs.Written.{written_hll8, state_hll8, registers_hll8, written_hll6, state_hll6, registers_hll6, written_hll4, state_hll4, registers_hll4}
+use Rattle.hll_sketch.specs.Value.{Sketch, Content, coupons, registers, ArePairs, IsLgK, IsLegalContent}
+use Rattle.hll_sketch.specs.Image.{width_of_bits, list_shape, set_shape, Image, list, set, hll8, hll6, hll4}
+use Rattle.hll_sketch.specs.Written.{WritesContent, WrittenIsImage}
+
+-- ---- the mode byte
+
+width_back : (stage : ℕ) (w : HllType) → stage < 3 → width_of_bits (mode_byte stage w / 4 % 4) ≡ w
+width_back zero Hll4 h = refl
+width_back zero Hll6 h = refl
+width_back zero Hll8 h = refl
+width_back (suc zero) Hll4 h = refl
+width_back (suc zero) Hll6 h = refl
+width_back (suc zero) Hll8 h = refl
+width_back (suc (suc n)) w h = two n w (omega arith)
+  where
+    two : (n : ℕ) (w : HllType) → n < 1 → width_of_bits (mode_byte (suc (suc n)) w / 4 % 4) ≡ w
+    two zero Hll4 h = refl
+    two zero Hll6 h = refl
+    two zero Hll8 h = refl
+    two (suc n) w h = absurd (omega arith)
+
+width_low : (stage : ℕ) (w : HllType) → stage < 3 → mode_byte stage w / 4 % 4 < 3
+width_low stage Hll4 h = omega arith
+width_low stage Hll6 h = omega arith
+width_low stage Hll8 h = omega arith
+
+stage_low : (stage : ℕ) (w : HllType) → stage < 3 → mode_byte stage w % 4 ≡ stage
+stage_low stage Hll4 h = omega arith
+stage_low stage Hll6 h = omega arith
+stage_low stage Hll8 h = omega arith
+
+-- ---- coupons that were written
+
+has-at : (xs : List ℕ) (i : ℕ) → i < length xs → list_any (eq_by_cmp nat_cmp (get_or xs i 0)) xs ≡ true
+has-at [] i h = absurd (omega arith)
+has-at (x ∷ xs) zero h = or_left (eq_by_cmp nat_cmp x x) (list_any (eq_by_cmp nat_cmp x) xs) (itself x x refl)
+has-at (x ∷ xs) (suc i) h = or_right (eq_by_cmp nat_cmp (get_or xs i 0) x) (list_any (eq_by_cmp nat_cmp (get_or xs i 0)) xs) (has-at xs i (omega arith))
+
+module _ (k : ℕ) (w : HllType) (S : Pairs) (order : List ℕ) (lg_k : IsLgK k) (are : ArePairs S) (lists : ListsOnce order S) where
+  pair_at : (i : ℕ) → i < length order → IsPair (get_or order i 0)
+  pair_at i h = are (get_or order i 0) (ap (λ T. contains T (get_or order i 0)) (sym lists.members) ∙ contains-from_list nat_cmp_total order (get_or order i 0) ∙ has-at order i h)
+
+  valued : All (λ c. 1 ≤ value_of c) order
+  valued = All-from_get_or (λ c. 1 ≤ value_of c) order 0 (λ i h. (pair_at i h).valued)
+
+  fit : All (λ c. c < 2 ^ 32) order
+  fit = All-from_get_or (λ c. c < 2 ^ 32) order 0 (λ i h. let p : IsPair (get_or order i 0) = pair_at i h in omega (arith, p.small))
+
+  are_coupons : AreCoupons order
+  are_coupons = record { valued = valued; distinct = ap len lists.members ∙ sym lists.once }
+
+  back : words (length order) (coupon_bytes order) ≡ order
+  back = ap (words (length order)) (sym (append-nil (coupon_bytes order))) ∙ words-written order [] fit
+
+  -- ---- a list
+
+  abbrev L : List ℕ
+  L = list_bytes k w order
+
+  is_compact : (e : Bool) → eqb (cond e 12 8 / 8 % 2) 1 ≡ true
+  is_compact true = refl
+  is_compact false = refl
+
+  is_empty_flag : (e : Bool) → eqb (cond e 12 8 / 4 % 2) 1 ≡ e
+  is_empty_flag true = refl
+  is_empty_flag false = refl
+
+  no_places : (n : ℕ) → cond (eqb n 0) 0 n ≡ n
+  no_places zero = refl
+  no_places (suc n) = cond-false (eqb (suc n) 0) 0 (suc n) (ne_eqb (suc n) 0 (λ e. omega arith))
+
+  pub list_image : len S ≤ 8 → Image L (record { lg_k = k; width = w; content = coupons S 3 })
+  list_image few = list (record {
+    header = record { whole = omega arith; family = refl; version = refl; lg_k = lg_k; width = width_low 0 w (omega arith); stage_is = stage_low 0 w (omega arith); preamble = refl };
+    table = refl;
+    payload = record {
+      count = record {
+        low = omega (arith, lists.once);
+        flag = (λ t. eqb-true (length order) 0 (sym (is_empty_flag (eqb (length order) 0)) ∙ t), λ z. is_empty_flag (eqb (length order) 0) ∙ eq-eqb (length order) 0 z);
+      };
+      size = length-coupon_bytes order ∙ ap (λ n. 4 * n) (sym places);
+      are_coupons = subst AreCoupons (sym coupons_are) are_coupons;
+      number = ap length coupons_are;
+    };
+  }) (sym (λ i. let y : Sketch = record { lg_k = k; width = width_back 0 w (omega arith) i; content = coupons ((ap set_of coupons_are ∙ lists.members) i) 3 } in y))
+    where
+      places : list_places (list_shape L) ≡ length order
+      places = (λ i. cond (is_empty_flag (eqb (length order) 0) i) 0 (cond (is_compact (eqb (length order) 0) i) (length order) 8)) ∙ no_places (length order)
+
+      coupons_are : list_coupons (list_shape L) (drop 8 L) ≡ order
+      coupons_are = (λ i. coupons_at (is_compact (eqb (length order) 0) i) (places i) (coupon_bytes order)) ∙ back
+
+  -- ---- a set
+
+  pub set_image : (p : ℕ) → 5 ≤ p → p + 3 ≤ k → len S < 2 ^ p → Image (set_bytes k w p order) (record { lg_k = k; width = w; content = coupons S p })
+  set_image p low high few = set (record {
+    header = record { whole = omega arith; family = refl; version = refl; lg_k = lg_k; width = width_low 1 w (omega arith); stage_is = stage_low 1 w (omega arith); preamble = refl };
+    table = record { low = low; high = high };
+    payload = record {
+      count = record { whole = omega arith; low = omega (arith, count, lists.once) };
+      size = let e : length (coupon_bytes order) ≡ 4 * length order = length-coupon_bytes order in omega (arith, count);
+      are_coupons = subst AreCoupons (sym coupons_are) are_coupons;
+      number = ap length coupons_are ∙ sym count;
+    };
+  }) (sym (λ i. let y : Sketch = record { lg_k = k; width = width_back 1 w (omega arith) i; content = coupons ((ap set_of coupons_are ∙ lists.members) i) p } in y))
+    where
+      small : length order < 2 ^ 32
+      small = omega (arith, lists.once, lg_k.high, pow_below p 32 (omega (arith, lg_k.high)))
+
+      count : set_count (drop 8 (set_bytes k w p order)) ≡ length order
+      count = from_le_bytes-to_le_bytes_4 (length order) small
+
+      coupons_are : set_coupons (set_shape (set_bytes k w p order)) (drop 8 (set_bytes k w p order)) ≡ order
+      coupons_are = ap (λ n. words n (coupon_bytes order)) count ∙ back
+
+-- ---- registers
+
+flag_back : (s : EstimateState) → eqb (flag_of s / 16 % 2) 1 ≡ s.out_of_order
+flag_back s = of s.out_of_order
+  where
+    of : (b : Bool) → eqb (cond b 16 0 / 16 % 2) 1 ≡ b
+    of true = refl
+    of false = refl
+
+flag_back4 : (s : EstimateState) → eqb ((8 + flag_of s) / 16 % 2) 1 ≡ s.out_of_order
+flag_back4 s = of s.out_of_order
+  where
+    of : (b : Bool) → eqb ((8 + cond b 16 0) / 16 % 2) 1 ≡ b
+    of true = refl
+    of false = refl
+
+compact_back4 : (s : EstimateState) → eqb ((8 + flag_of s) / 8 % 2) 1 ≡ true
+compact_back4 s = of s.out_of_order
+  where
+    of : (b : Bool) → eqb ((8 + cond b 16 0) / 8 % 2) 1 ≡ true
+    of true = refl
+    of false = refl
+
+module _ (k : ℕ) (R : List ℕ) (state : EstimateState) (lg_k : IsLgK k) (are : AreRegisters k R) (is : IsState state) where
+  registers_image : (w : HllType) (bytes order : List ℕ) → WritesRegisters bytes k w R state order → Image bytes (record { lg_k = k; width = w; content = registers R state })
+  registers_image Hll8 bytes order h = rw h.1 (hll8 (record {
+    header = record { whole = omega arith; family = refl; version = refl; lg_k = lg_k; width = omega arith; stage_is = refl; preamble = refl };
+    width = refl;
+    payload = written_hll8 k R state lg_k.low lg_k.high are is;
+  }) (sym (λ i. let y : Sketch = record { lg_k = k; width = Hll8; content = registers (registers_hll8 k R state lg_k.low lg_k.high are is i) (state_hll8 k R state lg_k.low lg_k.high are is (eqb (flag_of state / 16 % 2) 1) (flag_back state) i) } in y)))
+  registers_image Hll6 bytes order h = rw h.1 (hll6 (record {
+    header = record { whole = omega arith; family = refl; version = refl; lg_k = lg_k; width = omega arith; stage_is = refl; preamble = refl };
+    width = refl;
+    payload = written_hll6 k R state lg_k.low lg_k.high are is;
+  }) (sym (λ i. let y : Sketch = record { lg_k = k; width = Hll6; content = registers (registers_hll6 k R state lg_k.low lg_k.high are is i) (state_hll6 k R state lg_k.low lg_k.high are is (eqb (flag_of state / 16 % 2) 1) (flag_back state) i) } in y)))
+  registers_image Hll4 bytes order h = rw h.1 (hll4 (record {
+    header = record { whole = omega arith; family = refl; version = refl; lg_k = lg_k; width = omega arith; stage_is = refl; preamble = refl };
+    width = refl;
+    payload = subst (λ c. IsHll4Payload (shape c) payload) (sym (compact_back4 state)) (written_hll4 k R state lg_k.low lg_k.high are is order true h.0);
+  }) (sym (λ i. let y : Sketch = record { lg_k = k; width = Hll4; content = registers ((ap (λ c. registers_of (shape c) payload) (compact_back4 state) ∙ registers_hll4 k R state lg_k.low lg_k.high are is order true h.0) i) (state_hll4 k R state lg_k.low lg_k.high are is order true h.0 (eqb ((8 + flag_of state) / 16 % 2) 1) (flag_back4 state) i) } in y)))
+    where
+      payload : List ℕ
+      payload = drop 8 (hll4_bytes k R state order)
+
+      shape : Bool → Hll4Shape
+      shape c = record { lg_k = k; minimum = minimum R; compact = c; lg_table = 0 }
+
+-- ---- every legal sketch
+
+content_image : (bytes : List ℕ) (k : ℕ) (w : HllType) (c : Content) (order : List ℕ) → IsLgK k → IsLegalContent k c → WritesContent bytes k w c order → Image bytes (record { lg_k = k; width = w; content = c })
+content_image bytes k w (registers R state) order lg h written = registers_image k R state lg h.0 h.1 w bytes order written
+content_image bytes k w (coupons S p) order lg h written = elim h.1 [
+  | inl l ↦
+      let is : bytes ≡ list_bytes k w order = written.1 ∙ cond-true (eqb p 3) (list_bytes k w order) (set_bytes k w p order) (eq-eqb p 3 l.0) in
+      let y : ℕ → Sketch = λ n. record { lg_k = k; width = w; content = coupons S n } in
+      subst (λ n. Image bytes (y n)) (sym l.0) (rw is (list_image k w S order lg h.0 written.0 l.1))
+  | inr s ↦
+      let is : bytes ≡ set_bytes k w p order = written.1 ∙ cond-false (eqb p 3) (list_bytes k w order) (set_bytes k w p order) (ne_eqb p 3 (λ e. omega (arith, s.0))) in
+      rw is (set_image k w S order lg h.0 written.0 p s.0 s.1 s.2)
+]
+
+pub written_is_image : WrittenIsImage
+written_is_image bytes x order legal written = content_image bytes x.lg_k x.width x.content order legal.lg_k legal.content written
