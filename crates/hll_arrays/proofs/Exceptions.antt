@@ -39,7 +39,7 @@ keeps p q (x ∷ xs) t h = elim (or_cases (eq_by_cmp nat_cmp q x) (has q xs) h) 
 ]
 
 -- the first that passes is one that passes, and there is one if any passes
-finds : (f : ℕ → Bool) (xs : List ℕ) (c : ℕ) → find f xs ≡ Some c → (has c xs ≡ true) × (f c ≡ true)
+pub finds : (f : ℕ → Bool) (xs : List ℕ) (c : ℕ) → find f xs ≡ Some c → (has c xs ≡ true) × (f c ≡ true)
 finds f [] c e = cc
 finds f (x ∷ xs) c e = elim (cases_Bool (f x)) [
   | inl t ↦

@@ -76,25 +76,25 @@ after_rest halves rest = record {
   second = if nat_lt 8 (length rest) then bit_xor halves.second (second_scrambled (second_word rest)) else halves.second;
 }
 
--- a word with its upper 31 bits laid over the lower ones
-abbrev pub folded_over : ℕ → ℕ
-folded_over x = bit_xor x (x / 2 ^ 33)
+-- a word, exclusive or itself shifted right by 33 bits
+abbrev pub shifted_xor : ℕ → ℕ
+shifted_xor x = bit_xor x (x / 2 ^ 33)
 
 -- a word with its bits mixed
 abbrev pub mixed : ℕ → ℕ
-mixed x = folded_over (times (folded_over (times (folded_over x) 0xff51afd7ed558ccd)) 0xc4ceb9fe1a85ec53)
+mixed x = shifted_xor (times (shifted_xor (times (shifted_xor x) 0xff51afd7ed558ccd)) 0xc4ceb9fe1a85ec53)
 
 -- the first half takes up the second, and then the second the first
 abbrev pub summed : ℕ → ℕ → Halves
 summed first second = record { first = plus first second; second = plus second (plus first second) }
 
--- both halves mixed and summed again
-abbrev pub stirred : Halves → Halves
-stirred halves = summed (mixed halves.first) (mixed halves.second)
+-- both halves mixed, and summed again
+abbrev pub mixed_halves : Halves → Halves
+mixed_halves halves = summed (mixed halves.first) (mixed halves.second)
 
 -- both halves at the end, with the number of all bytes modulo 2^64
 abbrev pub ended : ℕ → Halves → Halves
-ended count halves = stirred (summed (bit_xor halves.first count) (bit_xor halves.second count))
+ended count halves = mixed_halves (summed (bit_xor halves.first count) (bit_xor halves.second count))
 
 -- the hash of all bytes at a seed: the full blocks, the rest, the end
 abbrev pub hash : ℕ → List ℕ → Halves

@@ -1,7 +1,7 @@
 -- Images of known coupons, written and read.
-use Rattle.std.specs.Prelude.{◌≡◌, ◌+◌, ◌*◌, ◌^◌, true, false, [], ◌∷◌, ◌++◌, map, drop, replicate, refl}
+use Rattle.std.specs.Prelude.{◌≡◌, true, false, [], ◌∷◌, refl}
 use Rattle.hll_coupons.specs.Pair.{pair}
-use Rattle.hll_coupons.specs.Coupons.{list_bytes, set_bytes, mode_byte, coupon_bytes, coupons_at}
+use Rattle.hll_coupons.specs.Coupons.{list_bytes, set_bytes, mode_byte, coupons_at}
 use Rattle.hll_coupons.specs.declared.hll_type.HllType.TheVariants.{Hll4, Hll6, Hll8}
 
 -- a list with no coupon, and with one

@@ -74,11 +74,6 @@ set-front [] zero c h = absurd (omega arith)
 set-front [] (suc n) c h = ap (λ m. c ∷ replicate m 0) (omega arith)
 set-front (x ∷ xs) n c h = ap (λ ys. x ∷ ys) (set-front xs n c h)
 
-pub get_or-front : (xs : List ℕ) (n : ℕ) → get_or (xs ++ replicate n 0) (length xs) 0 ≡ 0
-get_or-front [] zero = refl
-get_or-front [] (suc n) = refl
-get_or-front (x ∷ xs) n = get_or-front xs n
-
 -- empty places behind a front hold nothing more
 pub held-front : (xs : List ℕ) (n : ℕ) → held (xs ++ replicate n 0) ≡ held xs
 held-front xs n = filter-append (λ c. nat_lt 0 c) xs (replicate n 0) ∙ ap (λ ys. held xs ++ ys) (held-replicate n) ∙ append-nil (held xs)

@@ -1,11 +1,11 @@
 //! A table of places for coupons (docs/MODEL.md, "Tables").
-ghost use Rattle.std.specs.Prelude.{◌≡◌, ◌+◌, ◌*◌, ◌^◌, ◌<◌, ◌≤◌, ◌↔◌, ◌++◌, [], List, ℕ, length, slice_set, slice_index, true, false, IsTrue, IfOk, IfErr, OnOk};
+ghost use Rattle.std.specs.Prelude.{◌≡◌, ◌*◌, ◌^◌, ◌<◌, ◌≤◌, ◌↔◌, ◌++◌, [], length, slice_set, slice_index, false, IsTrue, IfOk, IfErr, OnOk};
 ghost use Rattle.std.specs.Bool.{OnFalse};
 ghost use Rattle.std.specs.Iterator.{YieldsFirst, item_count};
 ghost use Rattle.std.specs.FinSet as set;
 ghost use Rattle.hll_base.specs.declared.error.Reason.TheVariants.{Memory};
 ghost use Rattle.hll_coupons.specs.Pair.{value_of};
-ghost use Rattle.hll_coupons.specs.Table.{Table, held, coupons_of, empty_table, IsTable};
+ghost use Rattle.hll_coupons.specs.Table.{held, coupons_of, empty_table, IsTable};
 ghost use Rattle.hll_coupons.specs.Coupons.{coupon_bytes};
 
 use crate::coupon::Coupon;

@@ -1,5 +1,5 @@
 //! Coupons (docs/MODEL.md, "Pairs").
-ghost use Rattle.std.specs.Prelude.{◌≡◌, ◌↔◌, ◌≤◌, ◌<◌, ◌^◌, ℕ, IsTrue};
+ghost use Rattle.std.specs.Prelude.{◌≡◌, ◌↔◌, ◌≤◌, ◌<◌, ◌^◌, IsTrue};
 ghost use Rattle.hll_coupons.specs.Pair.{slot_of, value_of, pair};
 
 use std::marker::Model;

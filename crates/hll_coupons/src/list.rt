@@ -1,9 +1,9 @@
 //! A list of coupons in order of arrival (docs/MODEL.md, "Tables").
-ghost use Rattle.std.specs.Prelude.{◌≡◌, ◌^◌, ◌<◌, ◌≤◌, ℕ, length, false, IfOk, IfErr};
+ghost use Rattle.std.specs.Prelude.{◌≡◌, ◌^◌, ◌<◌, ◌≤◌, length, false, IfOk, IfErr};
 ghost use Rattle.std.specs.FinSet as set;
 ghost use Rattle.hll_base.specs.declared.error.Reason.TheVariants.{Memory};
 ghost use Rattle.hll_coupons.specs.Pair.{value_of};
-ghost use Rattle.hll_coupons.specs.Table.{Table, held, coupons_of, empty_table, filled_from_front, arrived, IsFilledFromFront};
+ghost use Rattle.hll_coupons.specs.Table.{held, coupons_of, empty_table, filled_from_front, arrived, IsFilledFromFront};
 ghost use Rattle.hll_coupons.specs.Coupons.{list_bytes};
 ghost use Rattle.hll_coupons.specs.Coupons as header;
 

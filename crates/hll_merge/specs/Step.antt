@@ -26,7 +26,7 @@ abbrev pub IsInRange : PlanStep → Type 0
 IsInRange (new k w) = (4 ≤ k) × (k ≤ 21)
 IsInRange (image bytes) = Unit {0}
 IsInRange (coupon s v) = (s < 2 ^ 26) × (1 ≤ v) × (v ≤ 63)
-IsInRange (union n m w) = (n < 10 ^ 8) × (4 ≤ m) × (m ≤ 21)
+IsInRange (union n m w) = (4 ≤ m) × (m ≤ 21)
 
 -- the fault of a refusal by the layers below
 abbrev pub fault_of : Reason → Fault

@@ -62,7 +62,7 @@ pub enum Step<A: Allocator = Global> {
     Image(ImageBytes<A>),
     /// Updates the last sketch with a coupon: its slot, below 2^26, and its value, 1 to 63.
     Coupon(u32, u8),
-    /// Takes the last sketches, of a number below 10^8, in their order, joins them within a bound of
+    /// Takes the last sketches, so many of them, in their order, joins them within a bound of
     /// `lg_k`, 4 to 21, and pushes the result at a width.
     Union(u32, u8, HllType),
 }

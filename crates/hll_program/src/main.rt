@@ -1,4 +1,4 @@
-//! Reads a plan on standard input, and prints the image of its sketch.
+//! Reads a plan on standard input, and prints the image of its sketch (docs/PLAN.md, "The program").
 #![tactic(auto)]
 
 mod refusal;
@@ -16,6 +16,7 @@ fn main(rt: HostRuntime) -> ExitCode {
     match run(rt.alloc(), &mut reader, &mut writer) {
         Ok(()) => ExitCode::SUCCESS,
         Err(refusal) => {
+            // Where standard error fails too, the exit status alone tells.
             let _ = write_refusal(&mut rt.stderr(), &refusal);
             ExitCode::FAILURE
         }

@@ -6,7 +6,7 @@ use Rattle.hll_coupons.specs.declared.hll_type.HllType.{HllType}
 use Rattle.hll_coupons.specs.declared.hll_type.HllType.TheVariants.{Hll4, Hll6, Hll8}
 use Rattle.hll_arrays.specs.Packed.{fields}
 use Rattle.hll_arrays.specs.Payload.{state_at, IsHll8Payload, IsHll6Payload, Hll4Shape, registers_of, IsHll4Payload}
-use Rattle.hll_sketch.specs.Value.{Sketch, coupons, registers, IsLgK}
+use Rattle.hll_sketch.specs.Value.{Sketch, coupons, registers, IsLgK, IsLegal}
 
 -- ---- the header, eight bytes
 
@@ -131,3 +131,11 @@ pub data Image (b : List ℕ) (x : Sketch) : Type 0 where
 -- no image begins another, and the bytes of an image have one meaning
 abbrev pub OneImage : Type 0
 OneImage = (a b s t : List ℕ) (x y : Sketch) → Image a x → Image b y → a ++ s ≡ b ++ t → (a ≡ b) × (x ≡ y)
+
+-- the numbers are bytes
+abbrev pub AreBytes : List ℕ → Type 0
+AreBytes b = All (λ c. c < 256) b
+
+-- an image means a legal sketch
+abbrev pub ImageIsLegal : Type 0
+ImageIsLegal = (b : List ℕ) (x : Sketch) → AreBytes b → Image b x → IsLegal x

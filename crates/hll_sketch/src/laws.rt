@@ -1,7 +1,7 @@
 //! The laws of adding, merging and images, each the contract of a function that does nothing
 //! (docs/MODEL.md, "Laws of adding and merging" and "Images").
 ghost use Rattle.hll_sketch.specs.Laws.{AddOfAdd, AddEach, EmptyMerged, UnionLgK};
-ghost use Rattle.hll_sketch.specs.Image.{OneImage};
+ghost use Rattle.hll_sketch.specs.Image.{OneImage, ImageIsLegal};
 ghost use Rattle.hll_sketch.specs.Fault.{FaultExcludesImage};
 ghost use Rattle.hll_sketch.specs.Written.{WrittenIsImage};
 
@@ -39,3 +39,9 @@ pub fn fault_excludes_image()
 pub fn written_is_image()
     ensures { WrittenIsImage }
 {}
+
+/// An image means a legal sketch.
+pub fn image_is_legal()
+    ensures { ImageIsLegal }
+{
+}
