@@ -1,10 +1,9 @@
 -- Lemmas on texts: what is served is accepted, a text has one plan, and no first fault where it has one.
-use Rattle.std.proofs.Common.{◌≡◌, ◌≢◌, ℕ, zero, suc, ◌+◌, ◌-◌, ◌<◌, ◌≤◌, ◌⊎◌, inl, inr, Bool, true, false, cond, List, [], ◌∷◌, ◌++◌, length, take, drop, refl, sym, ◌∙◌, ap, subst, arith, Option, Some, None, Result, Ok, Err, IfErr}
-use Rattle.std.proofs.lemmas.Bool.{cases_Bool, cond-true, cond-false, true≢false}
-use Rattle.std.proofs.lemmas.List.{length-append, take_at, take-append-drop}
+use Rattle.std.proofs.Common.{◌≡◌, ◌≢◌, ℕ, ◌⊎◌, inl, inr, Bool, true, false, cond, List, [], ◌∷◌, ◌++◌, length, take, drop, refl, sym, ◌∙◌, ap, subst, arith, Option, Some, None, Ok, Err}
+use Rattle.std.proofs.lemmas.Bool.{true≢false}
+use Rattle.std.proofs.lemmas.List.{length-append, take-append-drop}
 use Rattle.std.proofs.lemmas.Result.{IfErr-at_err}
 use Rattle.std.specs.Str.Lines.{lines}
-use Rattle.hll_sketch.specs.Value.{Sketch}
 use Rattle.hll_sketch.proofs.Images.{one_image}
 use Rattle.hll_sketch.proofs.Faults.{fault_excludes_image}
 use Rattle.hll_merge.specs.declared.fault.Fault.{Fault}
@@ -12,8 +11,8 @@ use Rattle.hll_merge.specs.declared.fault.Fault.TheVariants as faults
 use Rattle.hll_merge.specs.declared.fault.MergeError.{MergeError}
 use Rattle.hll_merge.specs.Plan as plan
 use Rattle.hll_merge.specs.Plan.{Plan, plans_of}
-use Rattle.hll_merge.specs.Text.{PlanStep, Reading, reading, served_reading, served_words, read_words, words, names_unserved, new, image, coupon, union, IsFaultOfLine as IsTextFault, IsServedFault}
-use Rattle.hll_merge.specs.Accepting.{Service, full, Carries, IsFaultOfStep, Takes, IsRefusal, Gives, IsFaultOfLine, Runs, Accepts, FaultsAtLine, FaultsAtEnd, IsFirstFault, AcceptsLines, IsFirstFaultOfLines, unserved, faulty, skipped, taken, unread, refused}
+use Rattle.hll_merge.specs.Text.{PlanStep, reading, served_reading, served_words, read_words, words, names_unserved, new, image, coupon, union, IsLineFault, IsServedFault}
+use Rattle.hll_merge.specs.Accepting.{Service, full, Carries, IsFaultOfStep, Gives, IsFaultOfLine, Runs, IsFirstFault, AcceptsLines, IsFirstFaultOfLines, unserved, faulty, skipped, taken, unread, refused}
 use Rattle.hll_merge.specs.Served.{today, ServedIsAccepted, ServedFaultIsFirst, OnePlan, AcceptedIsFaultless, IsOwnFault, FirstFaultsAreOwn}
 use Rattle.hll_merge.proofs.FaultLemmas.{IfErr-reading, IfErr-served_reading}
 
@@ -26,18 +25,20 @@ served_as (b ∷ more) = of (Rattle.std.specs.Prelude.eqb b 35)
   where
     ws : List (List ℕ)
     ws = words (b ∷ more)
+
     words_as : (d : Bool) → (cond d (Err faults.Unserved) (read_words ws) ≡ Err faults.Unserved) ⊎ (cond d (Err faults.Unserved) (read_words ws) ≡ read_words ws)
     words_as true = inl refl
     words_as false = inr refl
+
     of : (s : Bool) → (cond s (Ok None) (served_words ws) ≡ Err faults.Unserved) ⊎ (cond s (Ok None) (served_words ws) ≡ cond s (Ok None) (read_words ws))
     of true = inr refl
     of false = words_as (names_unserved ws)
 
 served_ok : (l : List ℕ) (o : Option PlanStep) → served_reading l ≡ Ok o → reading l ≡ Ok o
-served_ok l o e = elim (served_as l) [ | inl n ↦ cc | inr s ↦ sym s ∙ e ]
+served_ok l o e = elim (served_as l) [ inl n ↦ cc | inr s ↦ sym s ∙ e ]
 
 served_err : (l : List ℕ) (e : Fault) → served_reading l ≡ Err e → e ≢ faults.Unserved → reading l ≡ Err e
-served_err l e h ne = elim (served_as l) [ | inl n ↦ let same : e ≡ faults.Unserved = cc in absurd (ne same) | inr s ↦ sym s ∙ h ]
+served_err l e h ne = elim (served_as l) [ inl n ↦ let same : e ≡ faults.Unserved = cc in absurd (ne same) | inr s ↦ sym s ∙ h ]
 
 Gives-full : (ts : List Plan) (l : List ℕ) (us : List Plan) → Gives today ts l us → Gives full ts l us
 Gives-full ts l us (skipped r e) = skipped (served_ok l None r) e
@@ -154,7 +155,7 @@ accepted_is_faultless text t e = (accepted_or_faulty full (lines text) t e, acce
 
 -- ---- whose faults they are
 
-own-text : (e : Fault) → IsTextFault e → IsOwnFault e
+own-text : (e : Fault) → IsLineFault e → IsOwnFault e
 own-text e (inl h) = record { not_memory = λ z. cc; not_read = λ z. cc; not_write = λ z. cc }
 own-text e (inr (inl h)) = record { not_memory = λ z. cc; not_read = λ z. cc; not_write = λ z. cc }
 own-text e (inr (inr h)) = record { not_memory = λ z. cc; not_read = λ z. cc; not_write = λ z. cc }
@@ -180,6 +181,6 @@ own-first service read text e (inr f) = let is : e.fault ≡ faults.Stack = f.fa
 
 pub first_faults_are_own : FirstFaultsAreOwn
 first_faults_are_own text e = (
-    own-first full (λ l e r. own-text e (IfErr-at_err IsTextFault r (IfErr-reading l))) text e,
-    own-first today (λ l e r. own-served e (IfErr-at_err IsServedFault r (IfErr-served_reading l))) text e,
-  )
+  own-first full (λ l e r. own-text e (IfErr-at_err IsLineFault r (IfErr-reading l))) text e,
+  own-first today (λ l e r. own-served e (IfErr-at_err IsServedFault r (IfErr-served_reading l))) text e,
+)

@@ -6,51 +6,51 @@ use Rattle.hex.specs.Hex.{decode_of}
 use Rattle.hex.specs.declared.error.FromHexError.{FromHexError}
 use Rattle.hll_coupons.specs.declared.hll_type.HllType.{HllType}
 use Rattle.hll_merge.specs.declared.fault.Fault.{Fault}
-use Rattle.hll_merge.specs.Text.{PlanStep, Reading, IsFaultOfLine, IsServedFault, sized_step, is_lg_k, width, new, union, read_new, read_coupon, read_union, read_bytes, read_image, read_words, reading, words, two_numbers, three_numbers, one_word, names_unserved, served_reading}
+use Rattle.hll_merge.specs.Text.{PlanStep, Reading, IsLineFault, IsServedFault, sized_step, is_lg_k, width, new, union, read_new, read_coupon, read_union, read_bytes, read_image, read_words, reading, words, two_numbers, three_numbers, one_word, names_unserved, served_reading}
 
 module _ (P : Fault → Type 0) where
   IfErr-cond : (b : Bool) (x y : Reading) → IfErr x P → IfErr y P → IfErr (cond b x y) P
   IfErr-cond true x y h k = h
   IfErr-cond false x y h k = k
 
-IfErr-sized_step : (step : HllType → PlanStep) (right : Bool) (w : Option HllType) → IfErr (sized_step step right w) IsFaultOfLine
+IfErr-sized_step : (step : HllType → PlanStep) (right : Bool) (w : Option HllType) → IfErr (sized_step step right w) IsLineFault
 IfErr-sized_step step right None = inr (inl refl)
-IfErr-sized_step step right (Some w) = IfErr-cond IsFaultOfLine right _ _ tt (inr (inl refl))
+IfErr-sized_step step right (Some w) = IfErr-cond IsLineFault right _ _ tt (inr (inl refl))
 
-IfErr-read_new : (numbers : Option (ℕ × ℕ)) → IfErr (read_new numbers) IsFaultOfLine
+IfErr-read_new : (numbers : Option (ℕ × ℕ)) → IfErr (read_new numbers) IsLineFault
 IfErr-read_new None = inl refl
 IfErr-read_new (Some p) = IfErr-sized_step (new p.0) (is_lg_k p.0) (width p.1)
 
-IfErr-read_coupon : (numbers : Option (ℕ × ℕ)) → IfErr (read_coupon numbers) IsFaultOfLine
+IfErr-read_coupon : (numbers : Option (ℕ × ℕ)) → IfErr (read_coupon numbers) IsLineFault
 IfErr-read_coupon None = inl refl
-IfErr-read_coupon (Some p) = IfErr-cond IsFaultOfLine (nat_lt p.0 (2 ^ 26) && (nat_le 1 p.1 && nat_le p.1 63)) _ _ tt (inr (inl refl))
+IfErr-read_coupon (Some p) = IfErr-cond IsLineFault (nat_lt p.0 (2 ^ 26) && (nat_le 1 p.1 && nat_le p.1 63)) _ _ tt (inr (inl refl))
 
-IfErr-read_union : (numbers : Option (ℕ × ℕ × ℕ)) → IfErr (read_union numbers) IsFaultOfLine
+IfErr-read_union : (numbers : Option (ℕ × ℕ × ℕ)) → IfErr (read_union numbers) IsLineFault
 IfErr-read_union None = inl refl
 IfErr-read_union (Some p) = IfErr-sized_step (union p.0 p.1) (is_lg_k p.1) (width p.2)
 
-IfErr-read_bytes : (bytes : Result (List ℕ) FromHexError) → IfErr (read_bytes bytes) IsFaultOfLine
+IfErr-read_bytes : (bytes : Result (List ℕ) FromHexError) → IfErr (read_bytes bytes) IsLineFault
 IfErr-read_bytes (Err e) = inr (inr refl)
 IfErr-read_bytes (Ok bytes) = tt
 
-IfErr-read_image : (word : Option (List ℕ)) → IfErr (read_image word) IsFaultOfLine
+IfErr-read_image : (word : Option (List ℕ)) → IfErr (read_image word) IsLineFault
 IfErr-read_image None = inl refl
 IfErr-read_image (Some digits) = IfErr-read_bytes (decode_of digits)
 
-IfErr-read_words : (ws : List (List ℕ)) → IfErr (read_words ws) IsFaultOfLine
+IfErr-read_words : (ws : List (List ℕ)) → IfErr (read_words ws) IsLineFault
 IfErr-read_words [] = inl refl
 IfErr-read_words (first ∷ more) =
-    IfErr-cond IsFaultOfLine (bytes_eq first (codes "new")) _ _ (IfErr-read_new (two_numbers more))
-    (IfErr-cond IsFaultOfLine (bytes_eq first (codes "image")) _ _ (IfErr-read_image (one_word more))
-    (IfErr-cond IsFaultOfLine (bytes_eq first (codes "coupon")) _ _ (IfErr-read_coupon (two_numbers more))
-    (IfErr-cond IsFaultOfLine (bytes_eq first (codes "union")) _ _ (IfErr-read_union (three_numbers more)) (inl refl))))
+    IfErr-cond IsLineFault (bytes_eq first (codes "new")) _ _ (IfErr-read_new (two_numbers more))
+    (IfErr-cond IsLineFault (bytes_eq first (codes "image")) _ _ (IfErr-read_image (one_word more))
+    (IfErr-cond IsLineFault (bytes_eq first (codes "coupon")) _ _ (IfErr-read_coupon (two_numbers more))
+    (IfErr-cond IsLineFault (bytes_eq first (codes "union")) _ _ (IfErr-read_union (three_numbers more)) (inl refl))))
 
 -- a fault of a line
-pub IfErr-reading : (line : List ℕ) → IfErr (reading line) IsFaultOfLine
+pub IfErr-reading : (line : List ℕ) → IfErr (reading line) IsLineFault
 IfErr-reading [] = tt
-IfErr-reading (b ∷ more) = IfErr-cond IsFaultOfLine (b == 35) _ _ tt (IfErr-read_words (words (b ∷ more)))
+IfErr-reading (b ∷ more) = IfErr-cond IsLineFault (b == 35) _ _ tt (IfErr-read_words (words (b ∷ more)))
 
-IfErr-more : (r : Reading) → IfErr r IsFaultOfLine → IfErr r IsServedFault
+IfErr-more : (r : Reading) → IfErr r IsLineFault → IfErr r IsServedFault
 IfErr-more (Ok found) h = tt
 IfErr-more (Err e) h = inr h
 

@@ -1,15 +1,15 @@
 -- Lemmas on the lists that a run keeps.
-use Rattle.std.proofs.Common.{◌≡◌, ◌≢◌, ℕ, zero, suc, ◌+◌, ◌-◌, ◌*◌, ◌^◌, ◌<◌, ◌≤◌, ◌⊎◌, inl, inr, Bool, true, false, cond, not, List, [], ◌∷◌, ◌++◌, length, take, get_or, refl, sym, ◌∙◌, ap, subst, arith}
+use Rattle.std.proofs.Common.{◌≡◌, ℕ, zero, suc, ◌+◌, ◌<◌, ◌≤◌, Bool, true, false, cond, List, [], ◌∷◌, ◌++◌, length, take, get_or, refl, sym, ◌∙◌, ap, arith}
 use Rattle.std.proofs.Math.ListN.{set}
 use Rattle.std.proofs.Math.Seq.{take-suc}
 use Rattle.std.proofs.lemmas.Bool.{le-leb, lt-leb}
 use Rattle.std.proofs.lemmas.List.{set_split, length-append}
-use Rattle.std.specs.Prelude.{nat_le, drop}
+use Rattle.std.specs.Prelude.{drop}
 use Rattle.std.specs.Cmp.{nat_cmp_total}
 use Rattle.std.specs.FinSet.{len, contains, insert, len-insert}
 use Rattle.hll_coupons.specs.Pair.{Pairs}
 use Rattle.hll_coupons.specs.Table.{Table, held, coupons_of, IsTable, arrived}
-use Rattle.hll_merge.specs.Kept.{Kept, is_eighth, updated, UpdatesLast, RefusesLast, eighth}
+use Rattle.hll_merge.specs.Kept.{Kept, is_eighth, updated, UpdatesLast}
 
 -- ---- the eighth coupon
 

@@ -1,5 +1,5 @@
 -- Lemmas on the answer of a run.
-use Rattle.std.proofs.Common.{◌≡◌, ◌≢◌, ℕ, Option, None, Some, List, [], ◌∷◌, ◌++◌, length, refl, sym, ◌∙◌, ap, subst, arith, inl, inr}
+use Rattle.std.proofs.Common.{◌≡◌, ℕ, Option, None, Some, List, [], ◌∷◌, ◌++◌, refl, sym, ◌∙◌, ap, subst}
 use Rattle.std.proofs.lemmas.List.{append-nil}
 use Rattle.std.specs.Io.KnownBytes.{Consumes, IsAtEnd}
 use Rattle.std.specs.Str.Lines.{lines}
@@ -7,12 +7,12 @@ use Rattle.hll_coupons.specs.Table.{held, coupons_of}
 use Rattle.hll_coupons.specs.Coupons.{list_bytes}
 use Rattle.hll_sketch.specs.Value.{Sketch, coupons}
 use Rattle.hll_sketch.specs.Written.{Written}
-use Rattle.hll_merge.specs.Plan.{Plan, outcome}
-use Rattle.hll_merge.specs.Accepting.{Runs, FaultsAtEnd}
-use Rattle.hll_merge.specs.Served.{today, ArrivesAs}
-use Rattle.hll_merge.specs.Kept.{Kept, value_of_kept, IsServedList, StandsFor, StandFor}
+use Rattle.hll_merge.specs.Plan.{Plan}
+use Rattle.hll_merge.specs.Accepting.{Runs}
+use Rattle.hll_merge.specs.Served.{today}
+use Rattle.hll_merge.specs.Kept.{Kept, value_of_kept, IsServedList, StandFor}
 use Rattle.hll_merge.specs.Run.{printed, IsAnswer, IsAllOf}
-use Rattle.hll_merge.proofs.StackLemmas.{StandFor-one, length-StandFor}
+use Rattle.hll_merge.proofs.StackLemmas.{StandFor-one}
 
 -- a list is written with its coupons in the order of its places
 kept-written : (x : Kept) → IsServedList x → Written (list_bytes x.lg_k x.width (held x.table.places)) (value_of_kept x) (held x.table.places)

@@ -1,29 +1,26 @@
 -- Lemmas on carrying out lines: the lists that are kept stand for the plans of a stack.
-use Rattle.std.proofs.Common.{◌≡◌, ◌≢◌, ℕ, zero, suc, ◌+◌, ◌-◌, ◌*◌, ◌%◌, ◌/◌, ◌^◌, ◌<◌, ◌≤◌, ◌⊎◌, inl, inr, min, Bool, true, false, ◌||◌, cond, List, [], ◌∷◌, ◌++◌, length, refl, sym, ◌∙◌, ap, subst, arith, Option, Some, None, Ok, Err, append_assoc}
+use Rattle.std.proofs.Common.{◌≡◌, ℕ, suc, ◌<◌, inl, inr, Bool, true, false, ◌||◌, List, [], ◌∷◌, ◌++◌, length, refl, sym, ◌∙◌, ap, subst, arith, Some}
 use Rattle.std.specs.Prelude.{nat_le}
-use Rattle.std.proofs.lemmas.Bool.{eqb-true, lt-leb, leb-true, cond-true, cond-false, true≢false, cases_Bool, le-leb, cases_lt}
-use Rattle.std.proofs.lemmas.List.{length-append}
+use Rattle.std.proofs.lemmas.Bool.{cond-true, true≢false, le-leb, cases_lt}
 use Rattle.std.specs.Ordering.{nat_cmp, eq_by_cmp}
 use Rattle.std.specs.Cmp.{nat_cmp_total}
 use Rattle.std.specs.FinSet.{len, contains, insert, union, empty, contains-empty, contains-insert, contains-from_list}
 use Rattle.hll_coupons.specs.Pair.{Pairs, pair, set_of}
-use Rattle.hll_coupons.specs.Table.{Table, held, coupons_of, arrived, filled_from_front, empty_table}
+use Rattle.hll_coupons.specs.Table.{held, coupons_of, arrived}
 use Rattle.hll_coupons.specs.declared.hll_type.HllType.{HllType}
 use Rattle.hll_coupons.proofs.Members.{set_of-arrived}
 use Rattle.hll_coupons.proofs.TableLemmas.{held-filled_from_front, held-arrived}
-use Rattle.hll_sketch.specs.Value.{Sketch, Content, coupons, empty_sketch}
+use Rattle.hll_sketch.specs.Value.{Sketch, Content, coupons}
 use Rattle.hll_sketch.specs.Stage.{stage}
 use Rattle.hll_sketch.specs.Adding.{add, settled}
 use Rattle.hll_sketch.proofs.Sets.{same_members, contains_union}
 use Rattle.hll_merge.specs.declared.fault.Fault.{Fault}
-use Rattle.hll_merge.specs.declared.fault.Fault.TheVariants as faults
-use Rattle.hll_merge.specs.declared.fault.MergeError.{MergeError}
 use Rattle.hll_merge.specs.Plan as plan
 use Rattle.hll_merge.specs.Plan.{Plan, outcome, inputs}
-use Rattle.hll_merge.specs.Text.{PlanStep, new, image, coupon, line_number}
-use Rattle.hll_merge.specs.Accepting.{Service, Carries, IsFaultOfStep, Takes, IsRefusal, Gives, IsFaultOfLine, Runs, FaultsAtLine, unserved, faulty, skipped, taken, unread, refused}
-use Rattle.hll_merge.specs.Served.{today, is_refused, gets_eighth, ArrivesAs}
-use Rattle.hll_merge.specs.Kept.{Kept, value_of_kept, fresh, is_eighth, updated, UpdatesLast, RefusesLast, none, eighth, StandsFor, StandFor}
+use Rattle.hll_merge.specs.Text.{new, coupon}
+use Rattle.hll_merge.specs.Accepting.{Service, Takes, IsRefusal, Gives, Runs, unserved, faulty}
+use Rattle.hll_merge.specs.Served.{today, gets_eighth}
+use Rattle.hll_merge.specs.Kept.{Kept, fresh, is_eighth, updated, UpdatesLast, RefusesLast, none, eighth, StandsFor, StandFor}
 
 -- ---- one list
 
@@ -59,16 +56,16 @@ coupons_of-updated x c some =
 -- a list that has not got its eighth coupon keeps its size
 stage-three : (k n : ℕ) → nat_le 8 n ≡ false → stage k 3 n ≡ Some 3
 stage-three k n few = elim (cases_lt n 8) [
-    | inl below ↦ cond-true (nat_le n 7) (Some 3) _ (le-leb n 7 (omega arith))
-    | inr above ↦ absurd (true≢false (sym (le-leb 8 n above) ∙ few))
-  ]
+  | inl below ↦ cond-true (nat_le n 7) (Some 3) _ (le-leb n 7 (omega arith))
+  | inr above ↦ absurd (true≢false (sym (le-leb 8 n above) ∙ few))
+]
 
 pub updated-stands : (x : Kept) (t : Plan) (c : ℕ) → 0 < c → StandsFor x t → is_eighth x c ≡ false → StandsFor (updated x c) (plan.coupon t c)
 updated-stands x t c some h room =
     let S : Pairs = coupons_of x.table in
     let more : coupons_of (updated x c).table ≡ union S (set_of (c ∷ [])) = coupons_of-updated x c some ∙ insert-union S c in
     let kept : stage x.lg_k x.table.lg_size (len (union S (set_of (c ∷ [])))) ≡ Some 3 =
-          ap (λ n. stage x.lg_k n (len (union S (set_of (c ∷ []))))) h.size ∙ stage-three x.lg_k (len (union S (set_of (c ∷ [])))) (ap (λ T. nat_le 8 (len T)) (sym (insert-union S c)) ∙ room) in
+    ap (λ n. stage x.lg_k n (len (union S (set_of (c ∷ []))))) h.size ∙ stage-three x.lg_k (len (union S (set_of (c ∷ [])))) (ap (λ T. nat_le 8 (len T)) (sym (insert-union S c)) ∙ room) in
     let made : Content → Sketch = λ y. record { lg_k = x.lg_k; width = x.width; content = y } in
     record {
       size = refl;
@@ -126,15 +123,14 @@ pub takes-coupon : (xs ys : List Kept) (ts : List Plan) (s v : ℕ) → 0 < pair
     → (us : List Plan) × Takes today ts (coupon s v) us × StandFor ys us
 takes-coupon xs ys ts s v some h u =
     let l : Last u.front u.last ts = StandFor-last u.front u.last ts (subst (λ zs. StandFor zs ts) u.is h) in
-    let c : ℕ = pair s v in
-    (
+    let c : ℕ = pair s v in (
       l.below ++ plan.coupon l.top c ∷ [],
       record {
         served = ap (λ us. gets_eighth us c) l.is ∙ gets_eighth-last l.below l.top c ∙ sym (same_question u.last l.top c l.stands) ∙ u.room;
         carries = (l.below, l.top, l.is, refl);
       },
       subst (λ zs. StandFor zs (l.below ++ plan.coupon l.top c ∷ [])) (sym u.gives)
-        (StandFor-push u.front l.below (updated u.last c) (plan.coupon l.top c) l.stand (updated-stands u.last l.top c some l.stands u.room))
+          (StandFor-push u.front l.below (updated u.last c) (plan.coupon l.top c) l.stand (updated-stands u.last l.top c some l.stands u.room)),
     )
 
 pub refuses-coupon : (xs : List Kept) (ts : List Plan) (s v : ℕ) (e : Fault) → StandFor xs ts → RefusesLast xs (pair s v) e → IsRefusal today ts (coupon s v) e

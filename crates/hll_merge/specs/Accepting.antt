@@ -1,6 +1,6 @@
 -- Carrying out the lines of a text on a stack of plans: texts that are accepted, and first faults
 -- (docs/PLAN.md, "Steps" and "Refusals"; docs/MODEL.md, "Plan texts").
-use Rattle.std.specs.Prelude.{◌≡◌, ◌≢◌, ℕ, ◌+◌, ◌<◌, ◌⊎◌, Bool, true, false, List, [], ◌∷◌, ◌++◌, length, take, Option, Some, None, Ok, Err}
+use Rattle.std.specs.Prelude.{◌≡◌, ◌≢◌, ℕ, ◌+◌, ◌<◌, ◌⊎◌, Bool, true, false, List, [], ◌∷◌, ◌++◌, length, take, Some, None, Ok, Err}
 use Rattle.std.specs.Str.Lines.{lines}
 use Rattle.hll_base.specs.declared.error.Reason.{Reason}
 use Rattle.hll_coupons.specs.Pair.{pair}

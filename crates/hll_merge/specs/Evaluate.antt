@@ -1,5 +1,5 @@
 -- Carrying out a list of steps, and comparing two (docs/MODEL.md, "Plan texts").
-use Rattle.std.specs.Prelude.{◌≡◌, Bool, true, false, ◌↔◌, List, Some, Ok, Result, Err}
+use Rattle.std.specs.Prelude.{◌≡◌, Bool, true, false, ◌↔◌, List, Some, Ok}
 use Rattle.hll_sketch.specs.Agree.{Agree}
 use Rattle.hll_merge.specs.declared.fault.MergeError.{MergeError}
 use Rattle.hll_merge.specs.Plan.{Plan, outcome}

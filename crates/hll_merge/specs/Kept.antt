@@ -1,5 +1,5 @@
 -- A sketch as the stack of a run keeps it, and what it stands for (docs/ARCHITECTURE.md, "A run").
-use Rattle.std.specs.Prelude.{◌≡◌, ℕ, ◌+◌, ◌≤◌, nat_le, Bool, true, false, List, [], ◌∷◌, ◌++◌, length}
+use Rattle.std.specs.Prelude.{◌≡◌, ℕ, ◌≤◌, nat_le, Bool, true, false, List, [], ◌∷◌, ◌++◌, length}
 use Rattle.std.specs.FinSet.{len, insert}
 use Rattle.hll_coupons.specs.Table.{Table, held, coupons_of, empty_table, filled_from_front, arrived, IsTable}
 use Rattle.hll_coupons.specs.declared.hll_type.HllType.{HllType}

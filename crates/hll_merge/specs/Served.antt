@@ -1,5 +1,5 @@
 -- What is served today: the lines `new` and `coupon`, while no sketch gets its eighth coupon (docs/PLAN.md, "What is served").
-use Rattle.std.specs.Prelude.{◌≡◌, ◌≢◌, ℕ, ◌⊎◌, nat_le, Bool, true, false, List, [], ◌∷◌}
+use Rattle.std.specs.Prelude.{◌≡◌, ◌≢◌, ℕ, nat_le, Bool, true, false, List, [], ◌∷◌}
 use Rattle.std.specs.FinSet.{len}
 use Rattle.hll_coupons.specs.Pair.{pair}
 use Rattle.hll_coupons.specs.Table.{arrived}

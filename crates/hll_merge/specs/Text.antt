@@ -149,12 +149,12 @@ reading [] = Ok None
 reading (b ∷ more) = if b == 35 then Ok None else read_words (words (b ∷ more))
 
 -- a fault of a line by itself
-abbrev pub IsFaultOfLine : Fault → Type 0
-IsFaultOfLine e = (e ≡ Syntax) ⊎ ((e ≡ Range) ⊎ (e ≡ Hex))
+abbrev pub IsLineFault : Fault → Type 0
+IsLineFault e = (e ≡ Syntax) ⊎ ((e ≡ Range) ⊎ (e ≡ Hex))
 
 -- the law of faults: a line has one of three, and so none of memory, of a stream, of an image or of the stack
 abbrev pub FaultsOfLines : Type 0
-FaultsOfLines = (line : List ℕ) → IfErr (reading line) IsFaultOfLine
+FaultsOfLines = (line : List ℕ) → IfErr (reading line) IsLineFault
 
 -- ---- what is served today
 
@@ -173,7 +173,7 @@ served_reading [] = Ok None
 served_reading (b ∷ more) = if b == 35 then Ok None else served_words (words (b ∷ more))
 
 abbrev pub IsServedFault : Fault → Type 0
-IsServedFault e = (e ≡ Unserved) ⊎ IsFaultOfLine e
+IsServedFault e = (e ≡ Unserved) ⊎ IsLineFault e
 
 abbrev pub FaultsOfServedLines : Type 0
 FaultsOfServedLines = (line : List ℕ) → IfErr (served_reading line) IsServedFault

@@ -33,29 +33,24 @@ pub fn joined_of_joined()
 /// A text that is accepted today has the same plan where every step is served.
 pub fn served_is_accepted()
     ensures { ServedIsAccepted }
-{
-}
+{}
 
 /// A first fault of today that is not `Unserved` is one where every step is served.
 pub fn served_fault_is_first()
     ensures { ServedFaultIsFirst }
-{
-}
+{}
 
 /// A text has one plan at most.
 pub fn one_plan()
     ensures { OnePlan }
-{
-}
+{}
 
 /// An accepted text has no first fault.
 pub fn accepted_is_faultless()
     ensures { AcceptedIsFaultless }
-{
-}
+{}
 
 /// A first fault of a text is never `Memory`, `Read` or `Write`.
 pub fn first_faults_are_own()
     ensures { FirstFaultsAreOwn }
-{
-}
+{}

@@ -1,28 +1,26 @@
 -- An image means a legal sketch.
-use Rattle.std.proofs.Common.{◌≡◌, ◌≢◌, ℕ, ◌+◌, ◌-◌, ◌*◌, ◌/◌, ◌%◌, ◌^◌, ◌<◌, ◌≤◌, zero, suc, Bool, true, false, cond, not, eqb, List, [], ◌∷◌, length, get_or, drop, take, map, filter, All, Option, Some, None, refl, sym, ap, subst, ◌∙◌, arith, inl, inr}
+use Rattle.std.proofs.Common.{◌≡◌, ℕ, ◌+◌, ◌-◌, ◌*◌, ◌%◌, ◌^◌, ◌<◌, ◌≤◌, zero, suc, Bool, true, false, not, eqb, List, [], ◌∷◌, length, get_or, drop, All, Option, Some, None, refl, sym, ap, subst, ◌∙◌, arith, inl, inr}
 use Rattle.std.specs.Int.{w32, w64, from_le_bytes}
-use Rattle.std.specs.List.{list_any, range_with_len}
 use Rattle.std.specs.Option.{option_map}
 use Rattle.std.specs.Prelude.{find}
 use Rattle.std.specs.Ordering.{nat_cmp, eq_by_cmp}
 use Rattle.std.specs.Cmp.{nat_cmp_total}
-use Rattle.std.specs.FinSet.{len, contains, contains-from_list}
-use Rattle.std.proofs.lemmas.Bool.{true≢false, or_cases, cases_Bool, cond-true, cond-false}
+use Rattle.std.specs.FinSet.{contains-from_list}
+use Rattle.std.proofs.lemmas.Bool.{true≢false, or_cases}
 use Rattle.std.proofs.lemmas.List.{length-drop, drop-drop}
 use Rattle.std.proofs.lemmas.List.Elements.{All-from_get_or, All-tail, All-filter}
 use Rattle.std.proofs.lemmas.List.FromFn.{length-map-range_with_len, get_or-map-range_with_len}
-use Rattle.std.proofs.lemmas.Nat.{pow_below}
 use Rattle.std.proofs.Math.Nat.{pow-suc}
-use Rattle.hll_coupons.specs.Pair.{Pairs, IsPair, set_of, slot_of, value_of}
-use Rattle.hll_coupons.specs.Coupons.{words, coupons_at, AreCoupons}
+use Rattle.hll_coupons.specs.Pair.{set_of, slot_of, value_of}
+use Rattle.hll_coupons.specs.Coupons.{words, coupons_at}
 use Rattle.hll_coupons.proofs.Greatest.{same_word}
 use Rattle.hll_arrays.specs.State.{IsState}
 use Rattle.hll_arrays.specs.Store.{AreRegisters}
 use Rattle.hll_arrays.specs.Packed.{fields, nibble_at}
-use Rattle.hll_arrays.specs.Payload.{state_at, field_size, Hll4Shape, IsHll4Payload, AllAgree, Agrees, register_of, entry_at, entries_of, nibbles_of, exception_places, registers_of}
+use Rattle.hll_arrays.specs.Payload.{state_at, Hll4Shape, IsHll4Payload, Agrees, register_of, entry_at, entries_of, nibbles_of, exception_places, registers_of}
 use Rattle.hll_arrays.proofs.Exceptions.{has, finds}
-use Rattle.hll_sketch.specs.Value.{Sketch, ArePairs, IsTableFor, IsLegal}
-use Rattle.hll_sketch.specs.Image.{AreBytes, Image, list, set, hll8, hll6, hll4, list_shape, set_shape, hll4_shape, ImageIsLegal}
+use Rattle.hll_sketch.specs.Value.{ArePairs}
+use Rattle.hll_sketch.specs.Image.{AreBytes, list, set, hll8, hll6, hll4, list_shape, set_shape, hll4_shape, ImageIsLegal}
 
 -- a byte of the list, or 0 past its end
 byte_at : (b : List ℕ) (i : ℕ) → AreBytes b → get_or b i 0 < 256
@@ -62,9 +60,9 @@ coupons_fit false n b h = All-filter (λ c. not (eqb c 0)) Fits (words n b) (wor
 member : (P : ℕ → Type 0) (xs : List ℕ) (c : ℕ) → All P xs → has c xs ≡ true → P c
 member P [] c h m = absurd (true≢false (sym m))
 member P (x ∷ xs) c h m = elim (or_cases (eq_by_cmp nat_cmp c x) (has c xs) m) [
-    | inl e ↦ subst P (sym (same_word c x e)) (h 0 0 (omega arith))
-    | inr l ↦ member P xs c (All-tail P x xs h) l
-  ]
+  | inl e ↦ subst P (sym (same_word c x e)) (h 0 0 (omega arith))
+  | inr l ↦ member P xs c (All-tail P x xs h) l
+]
 
 are_pairs : (cs : List ℕ) → All (λ c. 1 ≤ value_of c) cs → All Fits cs → ArePairs (set_of cs)
 are_pairs cs valued fit c m =
@@ -138,29 +136,29 @@ module _ (h : Hll4Shape) (b : List ℕ) (bytes : AreBytes b) (p : IsHll4Payload 
   are_registers4 = record {
     size = length-map-range_with_len at_slot 0 (2 ^ h.lg_k);
     small = All-from_get_or (λ v. v ≤ 63) (registers_of h b) 0 (λ s l.
-      let within : s < 2 ^ h.lg_k = omega (arith, length-map-range_with_len at_slot 0 (2 ^ h.lg_k)) in
-      let is : get_or (registers_of h b) s 0 ≡ at_slot s = get_or-map-range_with_len at_slot 0 (2 ^ h.lg_k) s s 0 within (omega arith) in
-      let low : at_slot s ≤ 63 = register_small h.minimum (nibble_at (nibbles_of h b) s) (entry_at h.lg_k (entries_of h b) s) (λ v e. entry_small h.lg_k (entries_of h b) s v entries_fit e) (p.agree s within) in
-      omega arith);
+        let within : s < 2 ^ h.lg_k = omega (arith, length-map-range_with_len at_slot 0 (2 ^ h.lg_k)) in
+        let is : get_or (registers_of h b) s 0 ≡ at_slot s = get_or-map-range_with_len at_slot 0 (2 ^ h.lg_k) s s 0 within (omega arith) in
+        let low : at_slot s ≤ 63 = register_small h.minimum (nibble_at (nibbles_of h b) s) (entry_at h.lg_k (entries_of h b) s) (λ v e. entry_small h.lg_k (entries_of h b) s v entries_fit e) (p.agree s within) in
+        omega arith);
   }
 
 -- ---- every case
 
 pub image_is_legal : ImageIsLegal
 image_is_legal b x bytes (list h v) = rw v (record {
-    lg_k = h.header.lg_k;
-    content = (
-      are_pairs _ h.payload.are_coupons.valued (coupons_fit (list_shape b).compact _ (drop 8 b) (AreBytes-drop 8 b bytes)),
-      inl (refl, omega (arith, h.payload.are_coupons.distinct, h.payload.number, h.payload.count.low)),
-    );
-  })
+  lg_k = h.header.lg_k;
+  content = (
+    are_pairs _ h.payload.are_coupons.valued (coupons_fit (list_shape b).compact _ (drop 8 b) (AreBytes-drop 8 b bytes)),
+    inl (refl, omega (arith, h.payload.are_coupons.distinct, h.payload.number, h.payload.count.low)),
+  );
+})
 image_is_legal b x bytes (set h v) = rw v (record {
-    lg_k = h.header.lg_k;
-    content = (
-      are_pairs _ h.payload.are_coupons.valued (coupons_fit (set_shape b).compact _ (drop 4 (drop 8 b)) (AreBytes-drop 4 (drop 8 b) (AreBytes-drop 8 b bytes))),
-      inr (h.table.low, h.table.high, omega (arith, h.payload.are_coupons.distinct, h.payload.number, h.payload.count.low)),
-    );
-  })
+  lg_k = h.header.lg_k;
+  content = (
+    are_pairs _ h.payload.are_coupons.valued (coupons_fit (set_shape b).compact _ (drop 4 (drop 8 b)) (AreBytes-drop 4 (drop 8 b) (AreBytes-drop 8 b bytes))),
+    inr (h.table.low, h.table.high, omega (arith, h.payload.are_coupons.distinct, h.payload.number, h.payload.count.low)),
+  );
+})
 image_is_legal b x bytes (hll8 h v) =
     let rest : drop 32 (drop 8 b) ≡ drop 40 b = drop-drop 32 8 b in
     rw v (record {
@@ -188,6 +186,6 @@ image_is_legal b x bytes (hll6 h v) =
       );
     })
 image_is_legal b x bytes (hll4 h v) = rw v (record {
-    lg_k = h.header.lg_k;
-    content = (are_registers4 (hll4_shape b) (drop 8 b) (AreBytes-drop 8 b bytes) h.payload, is_state _ (drop 8 b) (AreBytes-drop 8 b bytes));
-  })
+  lg_k = h.header.lg_k;
+  content = (are_registers4 (hll4_shape b) (drop 8 b) (AreBytes-drop 8 b bytes) h.payload, is_state _ (drop 8 b) (AreBytes-drop 8 b bytes));
+})

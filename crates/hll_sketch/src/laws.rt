@@ -43,5 +43,4 @@ pub fn written_is_image()
 /// An image means a legal sketch.
 pub fn image_is_legal()
     ensures { ImageIsLegal }
-{
-}
+{}

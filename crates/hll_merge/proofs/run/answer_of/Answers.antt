@@ -1,4 +1,4 @@
-use Rattle.std.proofs.Common.{◌≡◌, ◌∙◌, ℕ, List, inl, inr, refl, length, ap, arith}
+use Rattle.std.proofs.Common.{◌∙◌, List, inr, refl}
 use Rattle.hll_merge.proofs.StackLemmas.{length-StandFor}
 use Rattle.hll_merge.specs.Plan.{Plan}
 use Rattle.hll_merge.proofs.run.answer_of.Goals as goal

@@ -1,6 +1,5 @@
-use Rattle.std.proofs.Common.{◌≡◌, ◌∙◌, inl, inr, refl, sym, subst, ap}
+use Rattle.std.proofs.Common.{◌≡◌, ◌∙◌, inl, inr, sym, subst}
 use Rattle.std.proofs.KnownBytes.{Keeps-refl}
-use Rattle.std.specs.Io.KnownBytes.{Consumes, IsAtEnd}
 use Rattle.hll_merge.specs.Accepting.{IsFirstFault}
 use Rattle.hll_merge.specs.Served.{today}
 use Rattle.hll_merge.proofs.RunLemmas.{all_of}
@@ -12,13 +11,13 @@ returns-in-Err-answer_of g c =
     elim c.in-Err-answer_of.ensures [
       | inl m ↦ inl (record { fault = m; writer = c.requires.writer_works; unwritten = Keeps-refl _ })
       | inr f ↦ inr (inl (record {
-          reader = reader;
-          writer = c.requires.writer_works;
-          unwritten = Keeps-refl _;
-          text = c.in-Ok.text.items;
-          all = all_of _ _ c.in-Ok.text.items c.in-Ok.ensures.bytes (c.in-Ok.ensures.end reader);
-          taken = c.in-Ok.text.items;
-          read = c.in-Ok.ensures.bytes;
-          first = subst (λ text. IsFirstFault today text c.in-Err-answer_of.e) c.deref-2.ensures.value f;
-        }))
+        reader = reader;
+        writer = c.requires.writer_works;
+        unwritten = Keeps-refl _;
+        text = c.in-Ok.text.items;
+        all = all_of _ _ c.in-Ok.text.items c.in-Ok.ensures.bytes (c.in-Ok.ensures.end reader);
+        taken = c.in-Ok.text.items;
+        read = c.in-Ok.ensures.bytes;
+        first = subst (λ text. IsFirstFault today text c.in-Err-answer_of.e) c.deref-2.ensures.value f;
+      }))
     ]

@@ -1,4 +1,4 @@
-use Rattle.std.proofs.Common.{◌≡◌, ◌⊎◌, ℕ, ◌+◌, ◌-◌, ◌≤◌, ◌^◌, min, inl, inr, List, [], ◌∷◌, ◌++◌, length, ap, sym, refl, ◌∙◌, append_assoc, arith}
+use Rattle.std.proofs.Common.{◌≡◌, ℕ, ◌+◌, inl, inr, List, [], ◌∷◌, ◌++◌, length, ap, sym, ◌∙◌, append_assoc, arith}
 use Rattle.std.proofs.lemmas.List.{length-append}
 use Rattle.hll_merge.specs.Plan.{Plan}
 use Rattle.hll_merge.specs.Text.{line_number}
@@ -15,15 +15,15 @@ returns-in-Err g c =
     elim (c.in-Err.ensures.carried ts inv.4) [
       | inl m ↦ inl m
       | inr f ↦ inr (record {
-          front = front;
-          line = c.in-Some.line.now;
-          rest = lines_of c.args.extent c.in-Some.more.now;
-          is = inv.2 ∙ ap (λ ls. front ++ ls) c.in-Some.ensures.0;
-          stack = ts;
-          runs = inv.3;
-          fault = f;
-          at = let n : c.saturating_add-number.result ≡ line_number (length front + 1) = omega (arith, inv.5, c.saturating_add-number.ensures) in n;
-        })
+        front = front;
+        line = c.in-Some.line.now;
+        rest = lines_of c.args.extent c.in-Some.more.now;
+        is = inv.2 ∙ ap (λ ls. front ++ ls) c.in-Some.ensures.0;
+        stack = ts;
+        runs = inv.3;
+        fault = f;
+        at = let n : c.saturating_add-number.result ≡ line_number (length front + 1) = omega (arith, inv.5, c.saturating_add-number.ensures) in n;
+      })
     ]
 
 pub lines-preserved : goal.lines-preserved
@@ -31,8 +31,7 @@ lines-preserved g c =
     let inv = c.lines.invariant in
     let front : List (List ℕ) = inv.0 in
     let ts : List Plan = inv.1 in
-    let next = c.in_default.ensures.carried ts inv.4 in
-    (
+    let next = c.in_default.ensures.carried ts inv.4 in (
       front ++ c.in-Some.line.now ∷ [],
       next.0,
       inv.2 ∙ ap (λ ls. front ++ ls) c.in-Some.ensures.0 ∙ sym (append_assoc front (c.in-Some.line.now ∷ []) (lines_of c.args.extent c.in-Some.more.now)),

@@ -1,4 +1,4 @@
-use Rattle.std.proofs.Common.{◌≡◌, ◌+◌, ◌++◌, ◌≤◌, ◌^◌, ◌-◌, ℕ, List, [], length}
+use Rattle.std.proofs.Common.{◌≡◌, ◌++◌, ℕ, List, [], length}
 use Rattle.hll_merge.specs.Plan.{Plan}
 use Rattle.hll_merge.specs.Text.{line_number}
 use Rattle.hll_merge.specs.Extent.{lines_of}

@@ -1,8 +1,8 @@
-use Rattle.std.proofs.Common.{◌≡◌, ℕ, suc, ◌-◌, ◌++◌, ◌∷◌, [], List, ap, sym, subst, refl, ◌∙◌, arith, length, take, get_or, true, false}
+use Rattle.std.proofs.Common.{◌≡◌, ℕ, suc, ◌-◌, List, ap, sym, subst, refl, ◌∙◌, arith, length, take, get_or}
 use Rattle.std.proofs.Math.ListN.{set}
 use Rattle.std.proofs.lemmas.List.{set-get_or, nil_from_length}
 use Rattle.std.proofs.lemmas.Result.{IfErr-weaker, on_ok_weaker}
-use Rattle.hll_merge.specs.Kept.{Kept, is_eighth, updated, RefusesLast, none, eighth}
+use Rattle.hll_merge.specs.Kept.{Kept, RefusesLast, none, eighth}
 use Rattle.hll_merge.proofs.KeptLemmas.{updates_last, split_last}
 use Rattle.hll_merge.proofs.stack.update_last.Goals as goal
 
@@ -16,8 +16,8 @@ returns-clause-ok g c =
     let last : Kept = c.index-sketches-count.result in
     let len : length xs ≡ suc j = omega arith in
     on_ok_weaker c.update.result
-      (λ h. updates_last xs c.args.coupon j last c.update.new.self len h.0 h.1)
-      c.update.ensures.ok
+    (λ h. updates_last xs c.args.coupon j last c.update.new.self len h.0 h.1)
+    c.update.ensures.ok
 
 pub returns-clause-err : goal.returns-clause-err
 returns-clause-err g c =
@@ -26,8 +26,8 @@ returns-clause-err g c =
     let last : Kept = c.index-sketches-count.result in
     let len : length xs ≡ suc j = omega arith in
     IfErr-weaker c.update.result _ _
-      (λ e h. (
-        subst (RefusesLast xs c.args.coupon) (sym h.0) (eighth (take j xs) (get_or xs j last) (split_last xs j last len) h.1),
-        ap (set xs j) h.2 ∙ set-get_or xs j last
-      ))
-      c.update.ensures.err
+    (λ e h. (
+      subst (RefusesLast xs c.args.coupon) (sym h.0) (eighth (take j xs) (get_or xs j last) (split_last xs j last len) h.1),
+      ap (set xs j) h.2 ∙ set-get_or xs j last,
+    ))
+    c.update.ensures.err

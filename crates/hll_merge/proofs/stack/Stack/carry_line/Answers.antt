@@ -1,4 +1,4 @@
-use Rattle.std.proofs.Common.{◌≡◌, ◌⊎◌, inl, inr, List, ap, sym, subst, refl, ◌∙◌, Ok, Some, None, MatchResult}
+use Rattle.std.proofs.Common.{◌≡◌, inl, inr, ap, sym, ◌∙◌, Ok, Some}
 use Rattle.std.proofs.lemmas.Result.{MatchResult-weaker}
 use Rattle.hll_merge.specs.Step.{step_of, seen}
 use Rattle.hll_merge.specs.Text.{served_reading}
@@ -9,5 +9,5 @@ pub returns-in-Ok-Some-clause-carried : goal.returns-in-Ok-Some-clause-carried
 returns-in-Ok-Some-clause-carried g c ts h =
     let read : served_reading c.args.line.now ≡ Ok (Some (step_of c.in-Ok-Some.step)) = sym c.in-Ok-Some.ensures.reading ∙ ap (λ o. seen {A = g.row.A.Denot} (Ok o)) c.in-Ok-Some.field-0-is in
     MatchResult-weaker c.carry_out.result (c.carry_out.ensures.carried ts h)
-      (λ _ r. (r.0, taken (step_of c.in-Ok-Some.step) read r.1, r.2))
-      (λ e r. elim r [ | inl m ↦ inl m | inr f ↦ inr (refused (step_of c.in-Ok-Some.step) read f) ])
+    (λ _ r. (r.0, taken (step_of c.in-Ok-Some.step) read r.1, r.2))
+    (λ e r. elim r [ inl m ↦ inl m | inr f ↦ inr (refused (step_of c.in-Ok-Some.step) read f) ])
