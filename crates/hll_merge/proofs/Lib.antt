@@ -6,6 +6,7 @@ pub mod KeptLemmas
 pub mod NumberLemmas
 pub mod Outcomes
 pub mod PartLemmas
+pub mod Rearranging
 pub mod RunLemmas
 pub mod StackLemmas
 pub mod StreamLemmas

@@ -5,6 +5,7 @@ pub mod Grown
 pub mod Kept
 pub mod Meaning
 pub mod Plan
+pub mod Rearranged
 pub mod Run
 pub mod Served
 pub mod Step

@@ -2,6 +2,7 @@
 //! (docs/MODEL.md, "The meaning of a plan", "Convergence" and "Plan texts").
 ghost use Rattle.hll_merge.specs.Meaning.{PlansHaveMeaning, SameInputsAgree};
 ghost use Rattle.hll_merge.specs.Grown.{GrownPlansConverge, JoinedOfSame, JoinedOfJoined};
+ghost use Rattle.hll_merge.specs.Rearranged.{RearrangedPlansAgree};
 ghost use Rattle.hll_merge.specs.Served.{ServedIsAccepted, ServedFaultIsFirst, OnePlan, AcceptedIsFaultless, FirstFaultsAreOwn};
 
 /// The outcome of a legal plan has the effective `lg_k`, which no register image is below, and the greatest
@@ -29,6 +30,12 @@ pub fn joined_of_same()
 pub fn joined_of_joined()
     ensures { JoinedOfJoined }
 {}
+
+/// Over grown images children may be reordered, repeated and grouped under the same bound, anywhere in a plan.
+pub fn rearranged_plans_agree()
+    ensures { RearrangedPlansAgree }
+{
+}
 
 /// A text that is accepted today has the same plan where every step is served.
 pub fn served_is_accepted()

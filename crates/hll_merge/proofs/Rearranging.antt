@@ -1,0 +1,69 @@
+-- Plans that differ in the order, repetition and grouping of children give equal sketches.
+use Rattle.std.proofs.Common.{◌≡◌, ℕ, zero, suc, ◌+◌, ◌<◌, ◌≤◌, List, [], ◌∷◌, ◌++◌, length, refl, sym, ap, ◌∙◌, arith, inl, inr}
+use Rattle.std.specs.List.{slice_index_or, Contains}
+use Rattle.hll_coupons.specs.Pair.{set_of}
+use Rattle.hll_coupons.specs.declared.hll_type.HllType.{HllType}
+use Rattle.hll_sketch.specs.Value.{Sketch}
+use Rattle.hll_sketch.specs.Adding.{add}
+use Rattle.hll_sketch.specs.Merging.{merge_all, empty_union}
+use Rattle.hll_merge.specs.Plan.{Plan, Plans, coupon, union_of, no_plans, more_plans, outcome, outcomes, Leaves, LeavesOfEach}
+use Rattle.hll_merge.specs.Grown.{IsGrown, joined, SameMembers}
+use Rattle.hll_merge.specs.Rearranged.{IsChild, SameChildren, both_plans, Rearranged, RearrangedEach, reordered, grouped, same, flipped, chained, below_coupon, below_union, none, more, RearrangedPlansAgree}
+use Rattle.hll_merge.proofs.Growing.{merged-is_joined, fits, joined_same, joined_joined}
+
+-- ---- children and their outcomes
+
+-- a child with this outcome
+record ChildOf (x : Sketch) (ts : Plans) : Type 0 where
+  child : Plan
+  there : IsChild child ts
+  is : outcome child ≡ x
+
+child_of : (ts : Plans) (x : Sketch) (i : ℕ) → i < length (outcomes ts) → slice_index_or (outcomes ts) i x ≡ x → ChildOf x ts
+child_of no_plans x i h e = absurd (omega arith)
+child_of (more_plans t ts) x zero h e = record { child = t; there = inl refl; is = e }
+child_of (more_plans t ts) x (suc i) h e = let c : ChildOf x ts = child_of ts x i (omega arith) e in record { child = c.child; there = inr c.there; is = c.is }
+
+has_outcome : (ts : Plans) (t : Plan) (x : Sketch) → IsChild t ts → outcome t ≡ x → Contains (outcomes ts) x
+has_outcome no_plans t x h e = absurd h
+has_outcome (more_plans u ts) t x (inl h) e = (0, omega arith, ap outcome (sym h) ∙ e)
+has_outcome (more_plans u ts) t x (inr h) e = let c = has_outcome ts t x h e in (suc c.0, omega (arith, c.1), c.2)
+
+members : (ts us : Plans) → ((t : Plan) → IsChild t ts → IsChild t us) → (x : Sketch) → Contains (outcomes ts) x → Contains (outcomes us) x
+members ts us to x c = let h : ChildOf x ts = child_of ts x c.0 c.1 c.2 in has_outcome us h.child x (to h.child h.there) h.is
+
+outcomes-both : (ts us : Plans) → outcomes (both_plans ts us) ≡ outcomes ts ++ outcomes us
+outcomes-both no_plans us = refl
+outcomes-both (more_plans t ts) us = ap (λ xs. outcome t ∷ xs) (outcomes-both ts us)
+
+-- the join of the children
+union_is : (m : ℕ) (w : HllType) (ts : Plans) → Leaves IsGrown (union_of m w ts) → outcome (union_of m w ts) ≡ joined m w (outcomes ts)
+union_is m w ts h = merged-is_joined m w (outcomes ts) h.0.high (fits ts h.1)
+
+merged_as : (m : ℕ) (w : HllType) (xs ys : List Sketch) → xs ≡ ys → record (merge_all m (empty_union m) xs) { width = w } ≡ record (merge_all m (empty_union m) ys) { width = w }
+merged_as m w xs ys e = ap (λ zs. let y : Sketch = record (merge_all m (empty_union m) zs) { width = w } in y) e
+
+-- ---- the law
+
+mutual
+  agree : {t u : Plan} → Rearranged t u → Leaves IsGrown t → Leaves IsGrown u → outcome t ≡ outcome u
+  agree (reordered {m} {w} {ts} {us} s) h k =
+      union_is m w ts h ∙ joined_same m w (outcomes ts) (outcomes us) (members ts us s.there, members us ts s.back) ∙ sym (union_is m w us k)
+  agree (grouped {m} {v} {w} {ts} {us}) h k =
+      union_is m w (more_plans (union_of m v ts) us) h
+      ∙ ap (λ x. joined m w (x ∷ outcomes us)) (union_is m v ts h.1.0)
+      ∙ joined_joined m v w (outcomes us) (outcomes ts) h.0.high (fits ts h.1.0.1)
+      ∙ ap (joined m w) (sym (outcomes-both ts us))
+      ∙ sym (union_is m w (both_plans ts us) k)
+  agree same h k = refl
+  agree (flipped r) h k = sym (agree r k h)
+  agree (chained u l r s) h k = agree r h l ∙ agree s l k
+  agree (below_coupon {t} {u} {c} r) h k = ap (λ x. add x (set_of (c ∷ []))) (agree r h.0 k.0)
+  agree (below_union {m} {w} {ts} {us} r) h k = merged_as m w (outcomes ts) (outcomes us) (agree_each r h.1 k.1)
+
+  agree_each : {ts us : Plans} → RearrangedEach ts us → LeavesOfEach IsGrown ts → LeavesOfEach IsGrown us → outcomes ts ≡ outcomes us
+  agree_each none h k = refl
+  agree_each (more r rs) h k = λ i. agree r h.0 k.0 i ∷ agree_each rs h.1 k.1 i
+
+pub rearranged_plans_agree : RearrangedPlansAgree
+rearranged_plans_agree t u h k r = agree r h k
