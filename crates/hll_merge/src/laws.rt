@@ -34,8 +34,7 @@ pub fn joined_of_joined()
 /// Over grown images children may be reordered, repeated and grouped under the same bound, anywhere in a plan.
 pub fn rearranged_plans_agree()
     ensures { RearrangedPlansAgree }
-{
-}
+{}
 
 /// A text that is accepted today has the same plan where every step is served.
 pub fn served_is_accepted()

@@ -1,11 +1,15 @@
 //! Plans of sketches: text in, the image of one sketch out.
 #![tactic(auto)]
 
+#[cfg(test)]
+mod fakes;
 pub mod fault;
 pub mod laws;
 mod lines;
 pub mod reading;
 pub mod run;
+#[cfg(test)]
+mod run_tests;
 mod sketch;
 mod stack;
 pub mod step;

@@ -1,4 +1,5 @@
 //! Lines of plans, watched streams that work and that fail, and refused memory.
+use crate::fakes::{Failing, Narrow};
 use crate::fault::Fault;
 use crate::reading::read_step;
 use crate::step::{ImageBytes, Step};
@@ -6,8 +7,6 @@ use crate::streams::{read_all, write_all};
 use crate::watched::Watched;
 use hll_coupons::hll_type::HllType;
 use linked_list_allocator::LocalHeap;
-use std::io;
-use std::io::{Read, Write};
 use std::process::Abort;
 use std::test::Fail;
 
@@ -49,30 +48,6 @@ fn image_bytes(rt: HostRuntime) -> Result<(), Fail> {
     assert!(rt; bytes == same && bytes != other);
     assert!(rt; Step::Image(bytes) == Step::Image(same));
     Ok(())
-}
-
-/// A reader that gives a byte at a time, and fails at one of its calls.
-#[derive(Drop)]
-struct Failing<'a> {
-    text: &'a [u8],
-    calls: u32,
-}
-
-impl<'a> Read for Failing<'a> {
-    fn read(&mut self, buf: &mut [u8]) -> io::Result<usize> {
-        if self.calls == 0 {
-            return Err(io::Error::from(io::ErrorKind::Other));
-        }
-        self.calls -= 1;
-        match (self.text.split_first(), buf.first_mut()) {
-            (Some((first, others)), Some(place)) => {
-                *place = *first;
-                self.text = others;
-                Ok(1)
-            }
-            _ => Ok(0),
-        }
-    }
 }
 
 /// Each read asks the stream once, and fails only where that fails.
@@ -138,31 +113,6 @@ fn refused_memory(rt: HostRuntime) -> Result<(), Fail> {
     }
     assert!(rt; 0 < refused && refused < 59, "{refused}");
     Ok(())
-}
-
-/// A writer that takes a byte at a time, and fails or takes nothing once it has taken some.
-#[derive(Drop)]
-struct Narrow<'a> {
-    taken: &'a mut Vec<u8>,
-    room: usize,
-    fails: bool,
-}
-
-impl<'a> Write for Narrow<'a> {
-    fn write(&mut self, buf: &[u8]) -> io::Result<usize> {
-        match buf.first() {
-            Some(first) if self.taken.len() < self.room => {
-                self.taken.push(*first)?;
-                Ok(1)
-            }
-            _ if self.fails => Err(io::Error::from(io::ErrorKind::Other)),
-            _ => Ok(0),
-        }
-    }
-
-    fn flush(&mut self) -> io::Result<()> {
-        Ok(())
-    }
 }
 
 #[test]
