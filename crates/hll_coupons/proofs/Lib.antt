@@ -1,3 +1,4 @@
+mod FoldRows
 pub mod CouponRows
 pub mod Folds
 pub mod Greatest

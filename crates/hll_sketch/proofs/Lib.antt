@@ -1,3 +1,4 @@
+mod StageRows
 pub mod Adding
 pub mod Faults
 pub mod Images
