@@ -1,3 +1,4 @@
+mod ConstantRows
 mod FoldRows
 pub mod CouponRows
 pub mod Folds

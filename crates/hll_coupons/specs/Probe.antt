@@ -23,7 +23,7 @@ module _ (key_of : ℕ → ℕ) where
   Passes lg places key i = (j : ℕ) → j < i →
       (slice_index places (place_of lg key j) ≢ 0) × (key_of (slice_index places (place_of lg key j)) ≢ key)
 
-  -- the place is the first of the key's path that is not filled with another key
+  -- a search for the key comes to the place: those before it on the path are filled, and with other keys
   pub record IsFirstFor (lg : ℕ) (places : List ℕ) (key place : ℕ) : Type 0 where
     pub index : ℕ
     pub within : index < 2 ^ lg
@@ -39,9 +39,9 @@ module _ (key_of : ℕ → ℕ) where
   abbrev pub IsAbsent : List ℕ → ℕ → Type 0
   IsAbsent places key = (p : ℕ) → p < length places → slice_index places p ≢ 0 → key_of (slice_index places p) ≢ key
 
-  -- the entry stands in the first place of its path that is not filled with another key: in that place already, or in an empty one
+  -- the search for an entry's key comes to a place that is filled with the key, and nothing changes; or to an empty one, and the entry goes there
   pub data Puts (lg : ℕ) (places : List ℕ) (entry : ℕ) (new : List ℕ) : Type 0 where
-    held : (p : ℕ) → p < length places → slice_index places p ≢ 0 → key_of (slice_index places p) ≡ key_of entry → new ≡ places → Puts lg places entry new
+    held : (p : ℕ) → IsFirstFor lg places (key_of entry) p → slice_index places p ≢ 0 → key_of (slice_index places p) ≡ key_of entry → new ≡ places → Puts lg places entry new
     placed : (p : ℕ) → IsFirstFor lg places (key_of entry) p → slice_index places p ≡ 0 → new ≡ slice_set places p entry → Puts lg places entry new
 
   -- entries are put in turn

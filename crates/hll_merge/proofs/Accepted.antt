@@ -13,6 +13,7 @@ use Rattle.hll_merge.specs.Plan as plan
 use Rattle.hll_merge.specs.Plan.{Plan, plans_of}
 use Rattle.hll_merge.specs.Text.{PlanStep, reading, served_reading, served_words, read_words, words, names_unserved, new, image, coupon, union, IsLineFault, IsServedFault}
 use Rattle.hll_merge.specs.Accepting.{Service, full, Carries, IsFaultOfStep, Gives, IsFaultOfLine, Runs, IsFirstFault, AcceptsLines, IsFirstFaultOfLines, unserved, faulty, skipped, taken, unread, refused}
+use Rattle.hll_merge.specs.Evaluate.{steps}
 use Rattle.hll_merge.specs.Served.{today, ServedIsAccepted, ServedFaultIsFirst, OnePlan, AcceptedIsFaultless, IsOwnFault, FirstFaultsAreOwn}
 use Rattle.hll_merge.proofs.FaultLemmas.{IfErr-reading, IfErr-served_reading}
 
@@ -170,17 +171,19 @@ own-step ts (image bytes) e f = let is : e ≡ faults.Image f.0 = f.2 in record 
 own-step ts (coupon s v) e f = let is : e ≡ faults.Stack = f.1 in record { not_memory = λ z. cc; not_read = λ z. cc; not_write = λ z. cc }
 own-step ts (union n m w) e f = let is : e ≡ faults.Stack = f.1 in record { not_memory = λ z. cc; not_read = λ z. cc; not_write = λ z. cc }
 
-own-line : (service : Service (List ℕ)) → ((l : List ℕ) (e : Fault) → service.reads l ≡ Err e → IsOwnFault e) → (ts : List Plan) (l : List ℕ) (e : Fault) → IsFaultOfLine service ts l e → IsOwnFault e
-own-line service read ts l e (unread r) = read l e r
-own-line service read ts l e (refused step r (unserved s is)) = record { not_memory = λ z. cc; not_read = λ z. cc; not_write = λ z. cc }
-own-line service read ts l e (refused step r (faulty s f)) = own-step ts step e f
+module _ {L : Type 0} (service : Service L) (read : (l : L) (e : Fault) → service.reads l ≡ Err e → IsOwnFault e) where
+  own-line : (ts : List Plan) (l : L) (e : Fault) → IsFaultOfLine service ts l e → IsOwnFault e
+  own-line ts l e (unread r) = read l e r
+  own-line ts l e (refused step r (unserved s is)) = record { not_memory = λ z. cc; not_read = λ z. cc; not_write = λ z. cc }
+  own-line ts l e (refused step r (faulty s f)) = own-step ts step e f
 
-own-first : (service : Service (List ℕ)) → ((l : List ℕ) (e : Fault) → service.reads l ≡ Err e → IsOwnFault e) → (text : List ℕ) (e : MergeError) → IsFirstFault service text e → IsOwnFault e.fault
-own-first service read text e (inl f) = own-line service read f.stack f.line e.fault f.fault
-own-first service read text e (inr f) = let is : e.fault ≡ faults.Stack = f.fault in record { not_memory = λ z. cc; not_read = λ z. cc; not_write = λ z. cc }
+  own-first : (all : List L) (e : MergeError) → IsFirstFaultOfLines service all e → IsOwnFault e.fault
+  own-first all e (inl f) = own-line f.stack f.line e.fault f.fault
+  own-first all e (inr f) = let is : e.fault ≡ faults.Stack = f.fault in record { not_memory = λ z. cc; not_read = λ z. cc; not_write = λ z. cc }
 
 pub first_faults_are_own : FirstFaultsAreOwn
-first_faults_are_own text e = (
-  own-first full (λ l e r. own-text e (IfErr-at_err IsLineFault r (IfErr-reading l))) text e,
-  own-first today (λ l e r. own-served e (IfErr-at_err IsServedFault r (IfErr-served_reading l))) text e,
-)
+first_faults_are_own = record {
+  of_lines = own-first full (λ l e r. own-text e (IfErr-at_err IsLineFault r (IfErr-reading l)));
+  of_served_lines = own-first today (λ l e r. own-served e (IfErr-at_err IsServedFault r (IfErr-served_reading l)));
+  of_steps = own-first steps (λ l e r. absurd (cc));
+}

@@ -20,7 +20,7 @@ kept-written x h = subst (λ n. let y : Sketch = record { lg_k = x.lg_k; width =
     (sym h.size) (record { members = refl; once = sym h.table.distinct }, refl)
 
 pub answer : (text line : List ℕ) (xs : List Kept) (x : Kept) (ts : List Plan) → Runs today [] (lines text) ts → StandFor xs ts → xs ≡ x ∷ [] → IsServedList x
-    → line ≡ printed (list_bytes x.lg_k x.width (held x.table.places)) → IsAnswer today text line
+    → line ≡ printed (list_bytes x.lg_k x.width (held x.table.places)) → IsAnswer text line
 answer text line xs x ts runs stand one served shown =
     let t = StandFor-one x xs ts one stand in
     record {

@@ -8,8 +8,8 @@ use Rattle.hll_merge.specs.declared.fault.Fault.TheVariants.{Memory, Read, Write
 use Rattle.hll_merge.specs.declared.fault.MergeError.{MergeError}
 use Rattle.hll_merge.specs.Plan.{Plan, outcome}
 use Rattle.hll_merge.specs.Text.{ended_lines, line_number}
-use Rattle.hll_merge.specs.Accepting.{Service, Runs, Accepts, FaultsAtLine, IsFirstFault}
-use Rattle.hll_merge.specs.Served.{ArrivesAs}
+use Rattle.hll_merge.specs.Accepting.{Runs, Accepts, FaultsAtLine, IsFirstFault}
+use Rattle.hll_merge.specs.Served.{today, ArrivesAs}
 
 -- what is printed for the bytes of an image: lower-case hexadecimal and LF
 abbrev pub printed : List ℕ → List ℕ
@@ -29,74 +29,73 @@ abbrev pub IsAllOf : Option (List ℕ) → List ℕ → Type 0
 IsAllOf None text = Unit {0}
 IsAllOf (Some bytes) text = text ≡ bytes
 
-module _ (service : Service (List ℕ)) where
-  -- the line is what is printed for the outcome of the text's plan, with its coupons in order of arrival
-  pub record IsAnswer (text line : List ℕ) : Type 0 where
-    pub tree : Plan
-    pub accepted : Accepts service text tree
-    pub bytes : List ℕ
-    pub order : List ℕ
-    pub arrived : ArrivesAs tree order
-    pub written : Written bytes (outcome tree) order
-    pub shown : line ≡ printed bytes
+-- the line is what is printed for the outcome of the text's plan, with its coupons in order of arrival
+pub record IsAnswer (text line : List ℕ) : Type 0 where
+  pub tree : Plan
+  pub accepted : Accepts today text tree
+  pub bytes : List ℕ
+  pub order : List ℕ
+  pub arrived : ArrivesAs tree order
+  pub written : Written bytes (outcome tree) order
+  pub shown : line ≡ printed bytes
 
-  -- all was read, and the answer and nothing else was written
-  pub record Succeeds (s : Streams) : Type 0 where
-    pub reader : s.reader_failed ≡ false
-    pub writer : s.writer_failed ≡ false
-    pub text : List ℕ
-    pub read : Consumes s.before s.after text
-    pub whole : IsAtEnd s.after
-    pub line : List ℕ
-    pub answer : IsAnswer text line
-    pub written : Appends s.old s.new line
+-- all was read, and the answer and nothing else was written
+pub record Succeeds (s : Streams) : Type 0 where
+  pub reader : s.reader_failed ≡ false
+  pub writer : s.writer_failed ≡ false
+  pub text : List ℕ
+  pub read : Consumes s.before s.after text
+  pub whole : IsAtEnd s.after
+  pub line : List ℕ
+  pub answer : IsAnswer text line
+  pub written : Appends s.old s.new line
 
-  -- memory was refused, and nothing was written
-  pub record LacksMemory (s : Streams) (e : MergeError) : Type 0 where
-    pub fault : e.fault ≡ Memory
-    pub writer : s.writer_failed ≡ false
-    pub unwritten : Keeps s.old s.new
+-- memory was refused, and nothing was written
+pub record LacksMemory (s : Streams) (e : MergeError) : Type 0 where
+  pub fault : e.fault ≡ Memory
+  pub writer : s.writer_failed ≡ false
+  pub unwritten : Keeps s.old s.new
 
-  -- the text is no plan, by its first fault, and nothing was written; some of it may be left unread
-  pub record IsNoPlan (s : Streams) (e : MergeError) : Type 0 where
-    pub reader : s.reader_failed ≡ false
-    pub writer : s.writer_failed ≡ false
-    pub unwritten : Keeps s.old s.new
-    pub text : List ℕ
-    pub all : IsAllOf s.before text
-    pub taken : List ℕ
-    pub read : Consumes s.before s.after taken
-    pub first : IsFirstFault service text e
+-- the text is no plan, by its first fault, and nothing was written; some of it may be left unread
+pub record IsNoPlan (s : Streams) (e : MergeError) : Type 0 where
+  pub reader : s.reader_failed ≡ false
+  pub writer : s.writer_failed ≡ false
+  pub unwritten : Keeps s.old s.new
+  pub text : List ℕ
+  pub all : IsAllOf s.before text
+  pub taken : List ℕ
+  pub read : Consumes s.before s.after taken
+  pub first : IsFirstFault today text e
 
-  -- no line that ended is at fault, and so many did
-  pub record AllEndedRun (text : List ℕ) (e : MergeError) : Type 0 where
-    pub fault : e.fault ≡ Read
-    pub at : e.line ≡ line_number (length (ended_lines text))
-    pub stack : List Plan
-    pub runs : Runs service [] (ended_lines text) stack
+-- no line that ended is at fault, and so many did
+pub record AllEndedRun (text : List ℕ) (e : MergeError) : Type 0 where
+  pub fault : e.fault ≡ Read
+  pub at : e.line ≡ line_number (length (ended_lines text))
+  pub stack : List Plan
+  pub runs : Runs today [] (ended_lines text) stack
 
-  -- the reader failed behind this text: the answer is the first fault of its lines that ended, or else Read; nothing was written
-  pub record ReaderFails (s : Streams) (e : MergeError) : Type 0 where
-    pub reader : s.reader_failed ≡ true
-    pub writer : s.writer_failed ≡ false
-    pub unwritten : Keeps s.old s.new
-    pub text : List ℕ
-    pub read : Consumes s.before s.after text
-    pub first : FaultsAtLine service (ended_lines text) e ⊎ AllEndedRun text e
+-- the reader failed behind this text: the answer is the first fault of its lines that ended, or else Read; nothing was written
+pub record ReaderFails (s : Streams) (e : MergeError) : Type 0 where
+  pub reader : s.reader_failed ≡ true
+  pub writer : s.writer_failed ≡ false
+  pub unwritten : Keeps s.old s.new
+  pub text : List ℕ
+  pub read : Consumes s.before s.after text
+  pub first : FaultsAtLine today (ended_lines text) e ⊎ AllEndedRun text e
 
-  -- the writer failed after a front of the answer
-  pub record WriterFails (s : Streams) (e : MergeError) : Type 0 where
-    pub fault : e.fault ≡ Write
-    pub reader : s.reader_failed ≡ false
-    pub writer : s.writer_failed ≡ true
-    pub text : List ℕ
-    pub read : Consumes s.before s.after text
-    pub whole : IsAtEnd s.after
-    pub at : e.line ≡ line_number (length (lines text))
-    pub line : List ℕ
-    pub answer : IsAnswer text line
-    pub sent : ℕ
-    pub written : Appends s.old s.new (take sent line)
+-- the writer failed after a front of the answer
+pub record WriterFails (s : Streams) (e : MergeError) : Type 0 where
+  pub fault : e.fault ≡ Write
+  pub reader : s.reader_failed ≡ false
+  pub writer : s.writer_failed ≡ true
+  pub text : List ℕ
+  pub read : Consumes s.before s.after text
+  pub whole : IsAtEnd s.after
+  pub at : e.line ≡ line_number (length (lines text))
+  pub line : List ℕ
+  pub answer : IsAnswer text line
+  pub sent : ℕ
+  pub written : Appends s.old s.new (take sent line)
 
-  abbrev pub IsRefused : Streams → MergeError → Type 0
-  IsRefused s e = LacksMemory s e ⊎ (IsNoPlan s e ⊎ (ReaderFails s e ⊎ WriterFails s e))
+abbrev pub IsRefused : Streams → MergeError → Type 0
+IsRefused s e = LacksMemory s e ⊎ (IsNoPlan s e ⊎ (ReaderFails s e ⊎ WriterFails s e))

@@ -9,7 +9,8 @@ use Rattle.hll_merge.specs.declared.fault.MergeError.{MergeError}
 use Rattle.hll_merge.specs.Plan as plan
 use Rattle.hll_merge.specs.Plan.{Plan, inputs}
 use Rattle.hll_merge.specs.Text.{PlanStep, served_reading, new, image, coupon, union}
-use Rattle.hll_merge.specs.Accepting.{Service, full, Accepts, IsFirstFault}
+use Rattle.hll_merge.specs.Accepting.{Service, full, Accepts, IsFirstFault, IsFirstFaultOfLines}
+use Rattle.hll_merge.specs.Evaluate.{IsFirstFaultOfSteps}
 
 -- whether the last plan has eight coupons or more once it has this one
 abbrev pub gets_eighth : List Plan → ℕ → Bool
@@ -59,5 +60,8 @@ pub record IsOwnFault (e : Fault) : Type 0 where
   pub not_read : e ≢ faults.Read
   pub not_write : e ≢ faults.Write
 
-abbrev pub FirstFaultsAreOwn : Type 0
-FirstFaultsAreOwn = (text : List ℕ) (e : MergeError) → (IsFirstFault full text e → IsOwnFault e.fault) × (IsFirstFault today text e → IsOwnFault e.fault)
+-- whether every step is served or what is served today, for any lines, and for a list of steps
+pub record FirstFaultsAreOwn : Type 0 where
+  pub of_lines : (all : List (List ℕ)) (e : MergeError) → IsFirstFaultOfLines full all e → IsOwnFault e.fault
+  pub of_served_lines : (all : List (List ℕ)) (e : MergeError) → IsFirstFaultOfLines today all e → IsOwnFault e.fault
+  pub of_steps : (all : List PlanStep) (e : MergeError) → IsFirstFaultOfSteps all e → IsOwnFault e.fault

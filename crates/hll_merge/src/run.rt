@@ -39,7 +39,7 @@ pub fn run<A: Allocator + Clone, R: io::Read, W: io::Write>(
       old = W.contents writer.old.inner;
       new = W.contents writer.new.inner;
     }
-        in MatchResult result (λ _. Succeeds today streams) (λ e. IsRefused today streams e) }
+        in MatchResult result (λ _. Succeeds streams) (λ e. IsRefused streams e) }
 {
     let text = match read_text(&alloc, reader) {
         Ok(text) => text,
@@ -74,7 +74,7 @@ fn read_text<A: Allocator + Clone, R: io::Read>(
 /// What is printed for the plan of a text, and the number of its lines.
 fn answer_of<A: Allocator + Clone>(alloc: &A, text: &[u8]) -> Result<(String<A>, u64), MergeError>
     ensures { MatchResult result
-        (λ r. IsAnswer today text.now (string_bytes r.0) × (r.1 ≡ line_number (length (lines text.now))))
+        (λ r. IsAnswer text.now (string_bytes r.0) × (r.1 ≡ line_number (length (lines text.now))))
         (λ e. (e.fault ≡ Memory) ⊎ IsFirstFault today text.now e) }
 {
     let for_stack = match alloc.clone() {
@@ -102,7 +102,7 @@ fn answer_of<A: Allocator + Clone>(alloc: &A, text: &[u8]) -> Result<(String<A>,
 
 /// The first fault of the lines of a text that ended before a read failed, or else that.
 fn fault_of_ended<A: Allocator + Clone>(alloc: A, text: &[u8]) -> MergeError
-    ensures { (result.fault ≡ Memory) ⊎ (FaultsAtLine today (ended_lines text.now) result ⊎ AllEndedRun today text.now result) }
+    ensures { (result.fault ≡ Memory) ⊎ (FaultsAtLine today (ended_lines text.now) result ⊎ AllEndedRun text.now result) }
 {
     match carry_lines(alloc, Extent::Ended, text) {
         Ok((_, line)) => MergeError {

@@ -54,7 +54,6 @@ module _ (a t b : List ℕ) (e : a ++ t ≡ b) where
       of r (fault.Fault.set_short l s n) = omega (arith, header.stage_is)
       of r (fault.Fault.set_payload l s k c n) = omega (arith, header.stage_is)
       of r (fault.Fault.hll_short l s w n) = omega (arith, header.stage_is)
-      of r (fault.Fault.hll_exceptions l s w n) = omega (arith, header.stage_is)
       of r (fault.Fault.hll8_payload l s w k n) = omega (arith, header.stage_is)
       of r (fault.Fault.hll6_payload l s w k n) = omega (arith, header.stage_is)
       of r (fault.Fault.hll4_payload l s w k n) = omega (arith, header.stage_is)
@@ -79,7 +78,6 @@ module _ (a t b : List ℕ) (e : a ++ t ≡ b) where
       of r (fault.Fault.set_short l s n) = omega (arith, h.payload.count.whole, length-drop 8 a, front_le a t b e)
       of r (fault.Fault.set_payload l s k c n) = set_fault_excludes (set_shape b) (drop 8 a) t (drop 8 b) r (rest a t b e h.header.whole) (subst (λ z. IsSetPayload z (drop 8 a)) (same_set_shape a t b e h.header.whole) h.payload) n
       of r (fault.Fault.hll_short l s w n) = omega (arith, header.stage_is)
-      of r (fault.Fault.hll_exceptions l s w n) = omega (arith, header.stage_is)
       of r (fault.Fault.hll8_payload l s w k n) = omega (arith, header.stage_is)
       of r (fault.Fault.hll6_payload l s w k n) = omega (arith, header.stage_is)
       of r (fault.Fault.hll4_payload l s w k n) = omega (arith, header.stage_is)
@@ -104,7 +102,6 @@ module _ (a t b : List ℕ) (e : a ++ t ≡ b) where
       of r (fault.Fault.set_short l s n) = omega (arith, header.stage_is)
       of r (fault.Fault.set_payload l s k c n) = omega (arith, header.stage_is)
       of r (fault.Fault.hll_short l s w n) = omega (arith, h.payload.size, length-drop 8 a, front_le a t b e)
-      of r (fault.Fault.hll_exceptions l s w n) = n (sym (front_number (drop 8 a) t (drop 8 b) (rest a t b e h.header.whole) 28 (omega (arith, h.payload.size))) ∙ h.payload.no_exceptions)
       of r (fault.Fault.hll8_payload l s w k n) = hll8_fault_excludes (byte b 3) (drop 8 a) t (drop 8 b) r (rest a t b e h.header.whole) (subst (λ z. IsHll8Payload z (drop 8 a)) (at a t b e h.header.whole 3 (omega arith)) h.payload) n
       of r (fault.Fault.hll6_payload l s w k n) = omega (arith, same_width a t b e h.header.whole, h.width)
       of r (fault.Fault.hll4_payload l s w k n) = omega (arith, same_width a t b e h.header.whole, h.width)
@@ -129,7 +126,6 @@ module _ (a t b : List ℕ) (e : a ++ t ≡ b) where
       of r (fault.Fault.set_short l s n) = omega (arith, header.stage_is)
       of r (fault.Fault.set_payload l s k c n) = omega (arith, header.stage_is)
       of r (fault.Fault.hll_short l s w n) = omega (arith, h.payload.size, length-drop 8 a, front_le a t b e)
-      of r (fault.Fault.hll_exceptions l s w n) = n (sym (front_number (drop 8 a) t (drop 8 b) (rest a t b e h.header.whole) 28 (omega (arith, h.payload.size))) ∙ h.payload.no_exceptions)
       of r (fault.Fault.hll8_payload l s w k n) = omega (arith, same_width a t b e h.header.whole, h.width)
       of r (fault.Fault.hll6_payload l s w k n) = hll6_fault_excludes (byte b 3) (drop 8 a) t (drop 8 b) r (rest a t b e h.header.whole) (subst (λ z. IsHll6Payload z (drop 8 a)) (at a t b e h.header.whole 3 (omega arith)) h.payload) n
       of r (fault.Fault.hll4_payload l s w k n) = omega (arith, same_width a t b e h.header.whole, h.width)
@@ -154,7 +150,6 @@ module _ (a t b : List ℕ) (e : a ++ t ≡ b) where
       of r (fault.Fault.set_short l s n) = omega (arith, header.stage_is)
       of r (fault.Fault.set_payload l s k c n) = omega (arith, header.stage_is)
       of r (fault.Fault.hll_short l s w n) = omega (arith, h.payload.has_entries.whole, length-drop 8 a, front_le a t b e)
-      of r (fault.Fault.hll_exceptions l s w n) = elim w [ inl six ↦ omega (arith, same_width a t b e h.header.whole, h.width) | inr eight ↦ omega (arith, same_width a t b e h.header.whole, h.width) ]
       of r (fault.Fault.hll8_payload l s w k n) = omega (arith, same_width a t b e h.header.whole, h.width)
       of r (fault.Fault.hll6_payload l s w k n) = omega (arith, same_width a t b e h.header.whole, h.width)
       of r (fault.Fault.hll4_payload l s w k n) = hll4_fault_excludes (hll4_shape b) (drop 8 a) t (drop 8 b) (rest a t b e h.header.whole) (subst (λ z. IsHll4Payload z (drop 8 a)) (same_hll4_shape a t b e h.header.whole) h.payload) r n

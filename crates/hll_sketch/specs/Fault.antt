@@ -1,9 +1,9 @@
 -- What can be wrong with an image (docs/FORMAT.md, "Order of checks"; docs/MODEL.md, "Faults of images").
-use Rattle.std.specs.Prelude.{◌≡◌, ◌≢◌, ℕ, ◌≤◌, ◌<◌, ◌⊎◌, List, length, take, drop}
+use Rattle.std.specs.Prelude.{◌≡◌, ◌≢◌, ℕ, ◌≤◌, ◌<◌, List, length, take, drop}
 use Rattle.hll_base.specs.declared.error.Reason.{Reason}
-use Rattle.hll_base.specs.declared.error.Reason.TheVariants.{Truncated, Family, Version, LgK, Width, Stage, Preamble, LgArr, Count}
+use Rattle.hll_base.specs.declared.error.Reason.TheVariants.{Truncated, Family, Version, LgK, Width, Stage, Preamble, LgArr}
 use Rattle.hll_coupons.specs.Payload.{ListFault, SetFault}
-use Rattle.hll_arrays.specs.Payload.{exception_count, Hll8Fault, Hll6Fault, Hll4Fault}
+use Rattle.hll_arrays.specs.Payload.{Hll8Fault, Hll6Fault, Hll4Fault}
 use Rattle.hll_sketch.specs.Value.{Sketch}
 use Rattle.hll_sketch.specs.Image.{byte, preamble_byte, lg_k_byte, table_byte, stage_bits, width_bits, preamble_words, HasLgK, HasSetTable, list_shape, set_shape, hll4_shape, Image}
 
@@ -26,7 +26,6 @@ pub data Fault (b : List ℕ) : Reason → Type 0 where
   set_payload : {r : Reason} → 8 ≤ length b → stage_bits b ≡ 1 → HasLgK b → HasSetTable b → SetFault (set_shape b) (drop 8 b) r → Fault b r
   -- registers
   hll_short : 8 ≤ length b → stage_bits b ≡ 2 → width_bits b < 3 → length b < 40 → Fault b Truncated
-  hll_exceptions : 40 ≤ length b → stage_bits b ≡ 2 → (width_bits b ≡ 1) ⊎ (width_bits b ≡ 2) → exception_count (drop 8 b) ≢ 0 → Fault b Count
   hll8_payload : {r : Reason} → 8 ≤ length b → stage_bits b ≡ 2 → width_bits b ≡ 2 → HasLgK b → Hll8Fault (lg_k_byte b) (drop 8 b) r → Fault b r
   hll6_payload : {r : Reason} → 8 ≤ length b → stage_bits b ≡ 2 → width_bits b ≡ 1 → HasLgK b → Hll6Fault (lg_k_byte b) (drop 8 b) r → Fault b r
   hll4_payload : {r : Reason} → 8 ≤ length b → stage_bits b ≡ 2 → width_bits b ≡ 0 → HasLgK b → Hll4Fault (hll4_shape b) (drop 8 b) r → Fault b r

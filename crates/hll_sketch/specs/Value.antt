@@ -1,10 +1,11 @@
 -- Sketch values (docs/MODEL.md, "Sketch values").
-use Rattle.std.specs.Prelude.{◌≡◌, ℕ, ◌+◌, ◌^◌, ◌≤◌, ◌<◌, ◌==◌, ◌⊎◌, ◌↔◌, Bool, true, false, not, ◌&&◌, List}
+use Rattle.std.specs.Prelude.{◌≡◌, ℕ, ◌+◌, ◌*◌, ◌^◌, ◌≤◌, ◌<◌, ◌==◌, ◌⊎◌, ◌↔◌, Bool, true, false, not, ◌&&◌, List}
 use Rattle.std.specs.FinSet.{empty, len, contains}
 use Rattle.hll_coupons.specs.Pair.{Pairs, IsPair}
 use Rattle.hll_coupons.specs.Fold.{pairs}
 use Rattle.hll_coupons.specs.declared.hll_type.HllType.{HllType}
 use Rattle.hll_arrays.specs.declared.estimate_state.EstimateState.{EstimateState}
+use Rattle.hll_arrays.specs.Packed.{size_in_registers}
 use Rattle.hll_arrays.specs.State.{IsState}
 use Rattle.hll_arrays.specs.Store.{AreRegisters}
 
@@ -41,6 +42,14 @@ has_registers x = in_registers x.content && not (is_empty x)
 -- the empty list, of eight places
 abbrev pub empty_sketch : ℕ → HllType → Sketch
 empty_sketch k width = record { lg_k = k; width = width; content = coupons empty 3 }
+
+-- the bytes that a content takes at an lg_k and a width: its table of coupons, or its registers
+abbrev pub size_in : ℕ → HllType → Content → ℕ
+size_in k width (coupons S size) = 4 * 2 ^ size
+size_in k width (registers R state) = size_in_registers k width R
+
+abbrev pub size_of : Sketch → ℕ
+size_of x = size_in x.lg_k x.width x.content
 
 -- ---- legal values
 
