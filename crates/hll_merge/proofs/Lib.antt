@@ -2,6 +2,7 @@ mod TextRows
 pub mod Accepted
 pub mod FaultLemmas
 pub mod Growing
+pub mod Headline
 pub mod KeptLemmas
 pub mod NumberLemmas
 pub mod Outcomes

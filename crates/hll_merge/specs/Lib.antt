@@ -2,6 +2,7 @@ pub mod Accepting
 pub mod Evaluate
 pub mod Extent
 pub mod Grown
+pub mod Headline
 pub mod Kept
 pub mod Meaning
 pub mod Plan

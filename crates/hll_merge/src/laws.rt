@@ -1,6 +1,7 @@
 //! The laws of merge plans, each the contract of a function that does nothing
 //! (docs/MODEL.md, "The meaning of a plan", "Convergence" and "Plan texts").
 ghost use Rattle.hll_merge.specs.Meaning.{PlansHaveMeaning, SameInputsAgree};
+ghost use Rattle.hll_merge.specs.Headline.{OutcomeIsLegal, AcceptedPlansHold};
 ghost use Rattle.hll_merge.specs.Grown.{GrownPlansConverge, JoinedOfSame, JoinedOfJoined};
 ghost use Rattle.hll_merge.specs.Rearranged.{RearrangedPlansAgree};
 ghost use Rattle.hll_merge.specs.Served.{ServedIsAccepted, ServedFaultIsFirst, OnePlan, AcceptedIsFaultless, FirstFaultsAreOwn};
@@ -60,3 +61,15 @@ pub fn accepted_is_faultless()
 pub fn first_faults_are_own()
     ensures { FirstFaultsAreOwn }
 {}
+
+/// The outcome of a legal plan is a legal sketch.
+pub fn outcome_is_legal()
+    ensures { OutcomeIsLegal }
+{
+}
+
+/// The plan of an accepted text is legal and has its meaning, and what is written for its outcome is an image of it.
+pub fn accepted_plans_hold()
+    ensures { AcceptedPlansHold }
+{
+}

@@ -3,6 +3,7 @@ pub mod Adding
 pub mod Faults
 pub mod Images
 pub mod Legal
+pub mod Legality
 pub mod Sets
 pub mod Stages
 pub mod Written

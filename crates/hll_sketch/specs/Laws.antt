@@ -2,7 +2,7 @@
 use Rattle.std.specs.Prelude.{◌≡◌, ℕ, true, min, List, [], ◌∷◌, if◌then◌else◌}
 use Rattle.std.specs.FinSet.{union}
 use Rattle.hll_coupons.specs.Pair.{Pairs, set_of}
-use Rattle.hll_sketch.specs.Value.{Sketch, is_empty, has_registers}
+use Rattle.hll_sketch.specs.Value.{Sketch, is_empty, has_registers, ArePairs, IsLegal}
 use Rattle.hll_sketch.specs.Adding.{add}
 use Rattle.hll_sketch.specs.Merging.{merged, empty_union}
 
@@ -47,3 +47,11 @@ least_lg_k k (update T ∷ es) = least_lg_k k es
 -- the lg_k of a union is the least of its bound and of those sketches
 abbrev pub UnionLgK : Type 0
 UnionLgK = (bound : ℕ) (es : List Event) → (after_all bound (empty_union bound) es).lg_k ≡ least_lg_k bound es
+
+-- ---- legal values stay legal
+
+abbrev pub AddIsLegal : Type 0
+AddIsLegal = (x : Sketch) (T : Pairs) → IsLegal x → ArePairs T → IsLegal (add x T)
+
+abbrev pub MergedIsLegal : Type 0
+MergedIsLegal = (bound : ℕ) (g x : Sketch) → IsLegal g → IsLegal x → IsLegal (merged bound g x)

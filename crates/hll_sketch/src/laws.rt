@@ -1,6 +1,6 @@
 //! The laws of adding, merging and images, each the contract of a function that does nothing
 //! (docs/MODEL.md, "Laws of adding and merging" and "Images").
-ghost use Rattle.hll_sketch.specs.Laws.{AddOfAdd, AddEach, EmptyMerged, UnionLgK};
+ghost use Rattle.hll_sketch.specs.Laws.{AddOfAdd, AddEach, EmptyMerged, UnionLgK, AddIsLegal, MergedIsLegal};
 ghost use Rattle.hll_sketch.specs.Image.{OneImage, ImageIsLegal};
 ghost use Rattle.hll_sketch.specs.Fault.{FaultExcludesImage};
 ghost use Rattle.hll_sketch.specs.Written.{WrittenIsImage};
@@ -44,3 +44,15 @@ pub fn written_is_image()
 pub fn image_is_legal()
     ensures { ImageIsLegal }
 {}
+
+/// A legal sketch stays legal when pairs are added.
+pub fn add_is_legal()
+    ensures { AddIsLegal }
+{
+}
+
+/// A legal gadget stays legal when a legal sketch is merged.
+pub fn merged_is_legal()
+    ensures { MergedIsLegal }
+{
+}

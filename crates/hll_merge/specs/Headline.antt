@@ -1,0 +1,24 @@
+-- What an accepted text promises of its image (docs/MODEL.md, "The meaning of a plan").
+use Rattle.std.specs.Prelude.{ℕ, List}
+use Rattle.hll_sketch.specs.Value.{Sketch, IsLegal}
+use Rattle.hll_sketch.specs.Image.{Image}
+use Rattle.hll_sketch.specs.Written.{Written}
+use Rattle.hll_merge.specs.Plan.{Plan, outcome, IsLegalPlan}
+use Rattle.hll_merge.specs.Meaning.{HasMeaning}
+use Rattle.hll_merge.specs.Accepting.{full, Accepts}
+
+-- the outcome of a legal plan is a legal sketch
+abbrev pub OutcomeIsLegal : Type 0
+OutcomeIsLegal = (t : Plan) → IsLegalPlan t → IsLegal (outcome t)
+
+-- what holds of the plan of an accepted text
+pub record Holds (t : Plan) : Type 0 where
+  pub legal_plan : IsLegalPlan t
+  pub legal : IsLegal (outcome t)
+  -- at each slot the greatest value among the inputs folded to the effective lg_k, or 0
+  pub meaning : HasMeaning t
+  -- what is written for the outcome is an image of it
+  pub image : (bytes order : List ℕ) → Written bytes (outcome t) order → Image bytes (outcome t)
+
+abbrev pub AcceptedPlansHold : Type 0
+AcceptedPlansHold = (text : List ℕ) (t : Plan) → Accepts full text t → Holds t
