@@ -8,6 +8,7 @@ pub mod Joins
 pub mod Members
 pub mod Payloads
 pub mod Places
+pub mod PlainSteps
 pub mod Probing
 pub mod Registers
 pub mod Searching

@@ -7,6 +7,7 @@ pub mod coupon;
 pub mod hll_type;
 pub mod laws;
 pub mod list;
+pub mod plain;
 pub mod serialization;
 #[cfg(test)]
 mod tests;

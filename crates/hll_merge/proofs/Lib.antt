@@ -7,6 +7,7 @@ pub mod KeptLemmas
 pub mod NumberLemmas
 pub mod Outcomes
 pub mod PartLemmas
+pub mod PlainSteps
 pub mod Rearranging
 pub mod RunLemmas
 pub mod StackLemmas

@@ -6,6 +6,8 @@ mod fakes;
 pub mod fault;
 pub mod laws;
 mod lines;
+#[cfg(test)]
+mod plain;
 pub mod reading;
 pub mod run;
 #[cfg(test)]

@@ -4,6 +4,7 @@ pub mod Faults
 pub mod Images
 pub mod Legal
 pub mod Legality
+pub mod PlainSteps
 pub mod Sets
 pub mod Stages
 pub mod Written

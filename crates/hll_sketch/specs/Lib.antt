@@ -4,6 +4,7 @@ pub mod Fault
 pub mod Image
 pub mod Laws
 pub mod Merging
+pub mod Plain
 pub mod Stage
 pub mod Value
 pub mod Written

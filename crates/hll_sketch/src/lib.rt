@@ -2,3 +2,6 @@
 #![tactic(auto)]
 
 pub mod laws;
+pub mod plain;
+#[cfg(test)]
+mod tests;
