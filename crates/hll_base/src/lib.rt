@@ -3,5 +3,6 @@
 #![tactic(auto)]
 
 pub mod codec;
+pub mod cursor;
 pub mod error;
 pub mod family;

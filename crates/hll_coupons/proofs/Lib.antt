@@ -10,6 +10,7 @@ pub mod Payloads
 pub mod Places
 pub mod PlainSteps
 pub mod Probing
+pub mod Reading
 pub mod Registers
 pub mod Searching
 pub mod TableLemmas

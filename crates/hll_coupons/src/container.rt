@@ -51,6 +51,22 @@ impl<A: Allocator> Container<A> {
         })
     }
 
+    /// These places, of which `len` are filled. Takes no memory.
+    ///
+    /// `lg_size` is at most 26, there are 2^`lg_size` places, and the filled ones are distinct and of
+    /// value 1 to 63.
+    pub fn from_coupons(lg_size: usize, coupons: Vec<Coupon, A>, len: usize) -> Container<A>
+        requires table { IsTable (record { lg_size = lg_size; places = coupons.items }) }
+        requires count { len ≡ length (held coupons.items) }
+        ensures { result ≡ record { lg_size = lg_size; places = coupons.items } }
+    {
+        Container {
+            lg_size,
+            coupons,
+            len,
+        }
+    }
+
     /// How many coupons there are, at most the number of places. Takes no memory.
     pub fn len(&self) -> usize
         ensures count { result ≡ length (held self.now.places) }

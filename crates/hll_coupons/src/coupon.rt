@@ -45,6 +45,13 @@ impl Coupon {
         }
     }
 
+    /// The coupon of a raw word.
+    pub(crate) fn from_raw(raw: u32) -> Coupon
+        ensures { result ≡ raw }
+    {
+        Coupon { raw }
+    }
+
     /// Whether the raw word is 0. Takes no memory.
     pub fn is_empty(self) -> bool
         ensures { IsTrue result ↔ (self ≡ 0) }

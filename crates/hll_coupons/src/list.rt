@@ -1,10 +1,12 @@
 //! A list of coupons in order of arrival (docs/MODEL.md, "Tables").
-ghost use Rattle.std.specs.Prelude.{◌≡◌, ◌^◌, ◌<◌, ◌≤◌, length, false, IfOk, IfErr};
+ghost use Rattle.std.specs.Prelude.{◌≡◌, ◌^◌, ◌<◌, ◌≤◌, length, false, IfOk, IfErr, ◌*◌, ◌⊎◌, take, OnOk, true, Bool, IsTrue, ◌↔◌};
 ghost use Rattle.std.specs.FinSet as set;
 ghost use Rattle.hll_base.specs.declared.error.Reason.TheVariants.{Memory};
+ghost use Rattle.hll_base.specs.declared.error.Reason.TheVariants as reasons;
 ghost use Rattle.hll_coupons.specs.Pair.{value_of};
 ghost use Rattle.hll_coupons.specs.Table.{held, coupons_of, empty_table, filled_from_front, arrived, IsFilledFromFront};
-ghost use Rattle.hll_coupons.specs.Coupons.{list_bytes};
+ghost use Rattle.hll_coupons.specs.Coupons.{list_bytes, coupons_at, AreCoupons};
+ghost use Rattle.hll_coupons.specs.Payload.{ListShape, HasListCount, list_places, list_table, IsListPayload, ListFault};
 ghost use Rattle.hll_coupons.specs.Coupons as header;
 
 use crate::container::Container;
@@ -15,7 +17,8 @@ use crate::serialization::{
     LIST_PREINTS, SERIAL_VERSION, encode_mode_byte,
 };
 use hll_base::codec::SketchBytes;
-use hll_base::error::Error;
+use hll_base::cursor::SketchSlice;
+use hll_base::error::{Error, Reason};
 use hll_base::family::Family;
 use std::alloc::{Allocator, Global};
 use std::marker::Model;
@@ -63,6 +66,41 @@ impl<A: Allocator> List<A> {
         ensures err { IfErr result (λ e. e ≡ Memory) }
     {
         List::new(alloc, LG_DEFAULT_SIZE)
+    }
+
+    /// Reads what stands behind the header of a list's image (docs/FORMAT.md, "LIST"): 2^`lg_arr` places of
+    /// which `coupon_count` are filled, all of them, or where `compact` the filled ones alone. Gaps between
+    /// filled places are closed, and the order is kept.
+    ///
+    /// `lg_arr` is at most 26. Refused with `Count`, `Truncated` or `Coupon` where that fault stands, in the
+    /// order of checks, or else with `Memory`. Memory is asked for once the bytes are known to be there.
+    pub fn deserialize(
+        alloc: A,
+        cursor: SketchSlice<'_>,
+        lg_arr: usize,
+        coupon_count: usize,
+        empty: bool,
+        compact: bool,
+    ) -> Result<List<A>, Error>
+        requires { lg_arr ≤ 26 }
+        ensures ok { let h : ListShape = record { lg_size = lg_arr; count = coupon_count; empty = empty; compact = compact } in
+            IfOk result (λ l. IsListPayload h (take (4 * list_places h) cursor.entry) × (l ≡ list_table h cursor.entry)) }
+        ensures err { let h : ListShape = record { lg_size = lg_arr; count = coupon_count; empty = empty; compact = compact } in
+            IfErr result (λ e. (e ≡ Memory) ⊎ ListFault h cursor.entry e) }
+    {
+        if !is_list_count(lg_arr, coupon_count, empty) {
+            return Err(Error::new(Reason::Count));
+        }
+        let places = places_to_read(lg_arr, coupon_count, empty, compact);
+        if cursor.remaining().len() < places * COUPON_SIZE_BYTES {
+            return Err(Error::new(Reason::Truncated));
+        }
+        let mut list = List::new(alloc, lg_arr)?;
+        match read_places(&mut list, cursor, places, compact) {
+            Ok(()) if list.container.len() == coupon_count => Ok(list),
+            Ok(()) => Err(Error::new(Reason::Count)),
+            Err(e) => Err(e),
+        }
     }
 
     /// Puts a coupon into the first empty place, unless it is held. Takes no memory.
@@ -148,6 +186,64 @@ impl<A: Allocator> Eq for List<A> {
     ghost use Rattle.hll_coupons.specs.Same.{hold_same_coupons-equivalence};
 
     ghost laws = { hold_same_coupons-equivalence };
+}
+
+/// How many places a size stands for.
+fn places_of(lg_size: usize) -> usize
+    requires { lg_size ≤ 26 }
+    ensures { result ≡ 2 ^ lg_size }
+{
+    1 << lg_size
+}
+
+/// Whether a list of this size may have this count, and the empty flag says whether it is 0.
+fn is_list_count(lg_arr: usize, coupon_count: usize, empty: bool) -> bool
+    requires { lg_arr ≤ 26 }
+    ensures { (compact : Bool) → let h : ListShape = record { lg_size = lg_arr; count = coupon_count; empty = empty; compact = compact } in
+        IsTrue result ↔ HasListCount h }
+{
+    coupon_count <= places_of(lg_arr) && empty == (coupon_count == 0)
+}
+
+/// How many places follow the header.
+fn places_to_read(lg_arr: usize, coupon_count: usize, empty: bool, compact: bool) -> usize
+    requires { lg_arr ≤ 26 }
+    ensures { let h : ListShape = record { lg_size = lg_arr; count = coupon_count; empty = empty; compact = compact } in
+        result ≡ list_places h }
+{
+    if empty {
+        0
+    } else if compact {
+        coupon_count
+    } else {
+        places_of(lg_arr)
+    }
+}
+
+/// Reads places into an empty list. `Coupon` where one that has to be a coupon has no value, or stands twice.
+fn read_places<A: Allocator>(
+    list: &mut List<A>,
+    mut cursor: SketchSlice<'_>,
+    places: usize,
+    compact: bool,
+) -> Result<(), Error>
+    requires none { list.old ≡ empty_table list.old.lg_size }
+    requires room { places ≤ 2 ^ list.old.lg_size }
+    requires there { 4 * places ≤ length cursor }
+    ensures ok { OnOk result ((list.new ≡ filled_from_front list.old.lg_size (coupons_at compact places cursor.entry)) × AreCoupons (coupons_at compact places cursor.entry)) }
+    ensures err { IfErr result (λ e. (e ≡ reasons.Coupon) × (AreCoupons (coupons_at compact places cursor.entry) → ⊥)) }
+{
+    for _ in 0..places {
+        let coupon = Coupon::from_raw(cursor.read_u32_le()?);
+        if coupon.is_empty() && !compact {
+            continue;
+        }
+        if coupon.value() == 0 || list.contains(coupon) {
+            return Err(Error::new(Reason::Coupon));
+        }
+        list.update(coupon);
+    }
+    Ok(())
 }
 
 /// The eight bytes before the coupons of a list.

@@ -6,6 +6,7 @@ use crate::coupon::Coupon;
 use crate::hll_type::HllType;
 use crate::list::List;
 use crate::plain::{count_distinct, folded, joined, pairs_of};
+use hll_base::cursor::SketchSlice;
 use hll_base::error::{Error, Reason};
 use linked_list_allocator::LocalHeap;
 use std::alloc::Allocator;
@@ -62,14 +63,74 @@ fn sizes_do_not_count(rt: HostRuntime) -> Result<(), Fail> {
     Ok(())
 }
 
+/// Two coupons, then an empty place and the second coupon's bytes once more.
+const PLACES: [u8; 16] = [5, 0, 0, 12, 6, 0, 0, 12, 0, 0, 0, 0, 6, 0, 0, 12];
+
+/// What is wrong with these places of a list with four places, or the number of its coupons.
+fn read_in<A: Allocator>(
+    alloc: A,
+    bytes: &[u8],
+    count: usize,
+    empty: bool,
+    compact: bool,
+) -> Result<usize, Reason> {
+    match List::deserialize(alloc, SketchSlice::new(bytes), 2, count, empty, compact) {
+        Ok(list) => Ok(list.container().len()),
+        Err(e) => Err(e.reason()),
+    }
+}
+
+#[test]
+fn lists_are_read(rt: HostRuntime) -> Result<(), Fail> {
+    let cursor = SketchSlice::new(&PLACES);
+    let list = List::deserialize(rt.alloc(), cursor, 3, 2, false, true)?;
+    let mut coupons = list.container().iter();
+    assert_eq!(rt; coupons.next(), Some(Coupon::pack(5, 3)));
+    assert_eq!(rt; coupons.next(), Some(Coupon::pack(6, 3)));
+    assert_eq!(rt; coupons.next(), None);
+    assert_eq!(rt; read_in(rt.alloc(), &[], 0, true, false), Ok(0));
+    assert_eq!(rt;
+        read_in(rt.alloc(), &[0; 16], 0, false, false),
+        Err(Reason::Count)
+    );
+    assert_eq!(rt;
+        read_in(rt.alloc(), &PLACES, 5, false, true),
+        Err(Reason::Count)
+    );
+    assert_eq!(rt;
+        read_in(rt.alloc(), &PLACES, 3, true, true),
+        Err(Reason::Count)
+    );
+    assert_eq!(rt; read_in(rt.alloc(), &PLACES, 2, false, true), Ok(2));
+    assert_eq!(rt;
+        read_in(rt.alloc(), &PLACES, 3, false, true),
+        Err(Reason::Coupon)
+    );
+    assert_eq!(rt;
+        read_in(rt.alloc(), &PLACES, 3, false, false),
+        Err(Reason::Coupon)
+    );
+    assert_eq!(rt;
+        read_in(rt.alloc(), &[5; 15], 4, false, true),
+        Err(Reason::Truncated)
+    );
+    assert_eq!(rt;
+        read_in(rt.alloc(), &[0; 16], 1, false, false),
+        Err(Reason::Count)
+    );
+    assert_eq!(rt; read_in(rt.alloc(), &[255; 4], 1, false, true), Ok(1));
+    Ok(())
+}
+
 /// Makes a list, copies of it and its image.
 fn make_all<A: Allocator + Clone>(list: &List<A>, alloc: A) -> Result<(), Error>
     requires { list.now.lg_size ≡ 3 }
 {
-    let _container = Container::new(alloc, 3)?;
+    let _container = Container::new(alloc.clone()?, 3)?;
     let _copy = list.clone()?;
     let _copy_of_container = list.container().clone()?;
     let _image = list.serialize(10, HllType::Hll8)?;
+    let _read = List::deserialize(alloc, SketchSlice::new(&PLACES), 3, 2, false, true)?;
     Ok(())
 }
 

@@ -65,11 +65,9 @@ pub fn first_faults_are_own()
 /// The outcome of a legal plan is a legal sketch.
 pub fn outcome_is_legal()
     ensures { OutcomeIsLegal }
-{
-}
+{}
 
 /// The plan of an accepted text is legal and has its meaning, and what is written for its outcome is an image of it.
 pub fn accepted_plans_hold()
     ensures { AcceptedPlansHold }
-{
-}
+{}

@@ -29,39 +29,39 @@ use Rattle.hll_sketch.proofs.Sets.{contains_union}
 found_in_range : (f : ℕ → Bool) (a n q : ℕ) → find f (range_with_len a n) ≡ Some q → (a ≤ q) × (q < a + n) × (f q ≡ true)
 found_in_range f a zero q e = absurd (cc)
 found_in_range f a (suc n) q e = elim (cases_Bool (f a)) [
-    | inl t ↦
-        let at : Some a ≡ Some q = sym (cond-true (f a) (Some a) (find f (range_with_len (a + 1) n)) t) ∙ e in
-        let same : a ≡ q = cc in
-        (omega arith, omega arith, ap f (sym same) ∙ t)
-    | inr z ↦ let r = found_in_range f (a + 1) n q (sym (cond-false (f a) (Some a) (find f (range_with_len (a + 1) n)) z) ∙ e) in (omega (arith, r.0), omega (arith, r.1), r.2)
-  ]
+  | inl t ↦
+      let at : Some a ≡ Some q = sym (cond-true (f a) (Some a) (find f (range_with_len (a + 1) n)) t) ∙ e in
+      let same : a ≡ q = cc in
+      (omega arith, omega arith, ap f (sym same) ∙ t)
+  | inr z ↦ let r = found_in_range f (a + 1) n q (sym (cond-false (f a) (Some a) (find f (range_with_len (a + 1) n)) z) ∙ e) in (omega (arith, r.0), omega (arith, r.1), r.2)
+]
 
 legal_size : (k from n q : ℕ) → stage k from n ≡ Some q → IsTableFor k n q
 legal_size k from n q e = elim (cases_Bool (leb from 3 && holds 3 n)) [
-    | inl t ↦
-        let at : Some 3 ≡ Some q = sym (cond-true (leb from 3 && holds 3 n) (Some 3) _ t) ∙ e in
-        let same : q ≡ 3 = cc in
-        inl (same, omega (arith, leb-true n 7 (and_parts (leb from 3) (holds 3 n) t).1))
-    | inr z ↦
-        let r = found_in_range (λ size. leb from size && holds size n) 5 (k - 7) q (sym (cond-false (leb from 3 && holds 3 n) (Some 3) _ z) ∙ e) in
-        let fits : holds q n ≡ true = (and_parts (leb from q) (holds q n) r.2).1 in
-        let other : eqb q 3 ≡ false = ne_eqb q 3 (λ s. omega (arith, r.0)) in
-        let most : 4 * n ≤ 3 * 2 ^ q = leb-true (4 * n) (3 * 2 ^ q) (sym (cond-false (eqb q 3) (leb n 7) (leb (4 * n) (3 * 2 ^ q)) other) ∙ fits) in
-        inr (r.0, omega (arith, r.1), omega (arith, pow_pos q))
-  ]
+  | inl t ↦
+      let at : Some 3 ≡ Some q = sym (cond-true (leb from 3 && holds 3 n) (Some 3) _ t) ∙ e in
+      let same : q ≡ 3 = cc in
+      inl (same, omega (arith, leb-true n 7 (and_parts (leb from 3) (holds 3 n) t).1))
+  | inr z ↦
+      let r = found_in_range (λ size. leb from size && holds size n) 5 (k - 7) q (sym (cond-false (leb from 3 && holds 3 n) (Some 3) _ z) ∙ e) in
+      let fits : holds q n ≡ true = (and_parts (leb from q) (holds q n) r.2).1 in
+      let other : eqb q 3 ≡ false = ne_eqb q 3 (λ s. omega (arith, r.0)) in
+      let most : 4 * n ≤ 3 * 2 ^ q = leb-true (4 * n) (3 * 2 ^ q) (sym (cond-false (eqb q 3) (leb n 7) (leb (4 * n) (3 * 2 ^ q)) other) ∙ fits) in
+      inr (r.0, omega (arith, r.1), omega (arith, pow_pos q))
+]
 
 -- ---- registers
 
 ArePairs-union : (P Q : Pairs) → ArePairs P → ArePairs Q → ArePairs (union P Q)
-ArePairs-union P Q p q c h = elim (or_cases (contains P c) (contains Q c) (sym (contains_union P Q c) ∙ h)) [ | inl l ↦ p c l | inr r ↦ q c r ]
+ArePairs-union P Q p q c h = elim (or_cases (contains P c) (contains Q c) (sym (contains_union P Q c) ∙ h)) [ inl l ↦ p c l | inr r ↦ q c r ]
 
 fold_are_registers : (P : Pairs) (k : ℕ) → ArePairs P → AreRegisters k (fold_to P k)
 fold_are_registers P k are = record {
   size = length-fold_to P k;
   small = All-from_get_or (λ v. v ≤ 63) (fold_to P k) 0 (λ i h.
-    let within : i < 2 ^ k = omega (arith, length-fold_to P k) in
-    let most : greatest (value_at k i) (items P) ≤ 63 = bounded (value_at k i) 63 P (λ c e. elim (value_at_cases k i c) [ | inl z ↦ omega arith | inr y ↦ omega (arith, y.1, (are c e).small) ]) in
-    omega (arith, get_or-fold_to P k i within));
+      let within : i < 2 ^ k = omega (arith, length-fold_to P k) in
+      let most : greatest (value_at k i) (items P) ≤ 63 = bounded (value_at k i) 63 P (λ c e. elim (value_at_cases k i c) [ inl z ↦ omega arith | inr y ↦ omega (arith, y.1, (are c e).small) ]) in
+      omega (arith, get_or-fold_to P k i within));
 }
 
 join_are_registers : (k : ℕ) (R Q : List ℕ) → AreRegisters k R → AreRegisters k Q → AreRegisters k (join R Q)
@@ -70,9 +70,9 @@ join_are_registers k R Q r q =
     record {
       size = size ∙ r.size;
       small = All-from_get_or (λ v. v ≤ 63) (join R Q) 0 (λ i h.
-        let one : get_or R i 0 ≤ 63 = r.small i 0 (omega (arith, size)) in
-        let two : get_or Q i 0 ≤ 63 = q.small i 0 (omega (arith, size, r.size, q.size)) in
-        omega (arith, get_or-join R Q i));
+          let one : get_or R i 0 ≤ 63 = r.small i 0 (omega (arith, size)) in
+          let two : get_or Q i 0 ≤ 63 = q.small i 0 (omega (arith, size, r.size, q.size)) in
+          omega (arith, get_or-join R Q i));
     }
 
 ArePairs-pairs : (k : ℕ) (R : List ℕ) → k ≤ 21 → AreRegisters k R → ArePairs (pairs R)
@@ -126,14 +126,14 @@ IsLgK-min j k a b = record { low = omega (arith, a.low, b.low); high = omega (ar
 
 merged_coupons_legal : (g x : Sketch) → IsLegal g → IsLegal x → IsLegal (merged_coupons g x)
 merged_coupons_legal g x a b = elim (cases_Bool (is_empty g && nat_eq g.lg_k x.lg_k)) [
-    | inl whole ↦
-        let same : g.lg_k ≡ x.lg_k = eqb-true g.lg_k x.lg_k (and_parts (is_empty g) (nat_eq g.lg_k x.lg_k) whole).1 in
-        rw (cond-true (is_empty g && nat_eq g.lg_k x.lg_k) (record g { content = x.content }) (add g (pairs_of x)) whole)
-          (record { lg_k = a.lg_k; content = subst (λ k. IsLegalContent k x.content) (sym same) b.content })
-    | inr each ↦
-        rw (cond-false (is_empty g && nat_eq g.lg_k x.lg_k) (record g { content = x.content }) (add g (pairs_of x)) each)
-          (add_is_legal g (pairs_of x) a (pairs_are x.lg_k x.content b.lg_k.high b.content))
-  ]
+  | inl whole ↦
+      let same : g.lg_k ≡ x.lg_k = eqb-true g.lg_k x.lg_k (and_parts (is_empty g) (nat_eq g.lg_k x.lg_k) whole).1 in
+      rw (cond-true (is_empty g && nat_eq g.lg_k x.lg_k) (record g { content = x.content }) (add g (pairs_of x)) whole)
+      (record { lg_k = a.lg_k; content = subst (λ k. IsLegalContent k x.content) (sym same) b.content })
+  | inr each ↦
+      rw (cond-false (is_empty g && nat_eq g.lg_k x.lg_k) (record g { content = x.content }) (add g (pairs_of x)) each)
+      (add_is_legal g (pairs_of x) a (pairs_are x.lg_k x.content b.lg_k.high b.content))
+]
 
 merged_content_legal : (bound : ℕ) (g x : Sketch) (c : Content) → x.content ≡ c → IsLegal g → IsLegal x → IsLegal (merged_content bound g x c)
 merged_content_legal bound g x (coupons S p) e a b = merged_coupons_legal g x a b
@@ -143,13 +143,13 @@ merged_content_legal bound g x (registers R s) e a b =
       lg_k = IsLgK-min g.lg_k x.lg_k a.lg_k b.lg_k;
       content = (
         fold_are_registers (union (pairs_of g) (pairs R)) (min g.lg_k x.lg_k)
-          (ArePairs-union (pairs_of g) (pairs R) (pairs_are g.lg_k g.content a.lg_k.high a.content) (ArePairs-pairs x.lg_k R b.lg_k.high h.0)),
+            (ArePairs-union (pairs_of g) (pairs R) (pairs_are g.lg_k g.content a.lg_k.high a.content) (ArePairs-pairs x.lg_k R b.lg_k.high h.0)),
         IsState-merged bound g x.lg_k s h.1,
       );
     }
 
 pub merged_is_legal : MergedIsLegal
 merged_is_legal bound g x a b = elim (cases_Bool (is_empty x)) [
-    | inl e ↦ rw (cond-true (is_empty x) g (merged_content bound g x x.content) e) a
-    | inr e ↦ rw (cond-false (is_empty x) g (merged_content bound g x x.content) e) (merged_content_legal bound g x x.content refl a b)
-  ]
+  | inl e ↦ rw (cond-true (is_empty x) g (merged_content bound g x x.content) e) a
+  | inr e ↦ rw (cond-false (is_empty x) g (merged_content bound g x x.content) e) (merged_content_legal bound g x x.content refl a b)
+]

@@ -48,11 +48,9 @@ pub fn image_is_legal()
 /// A legal sketch stays legal when pairs are added.
 pub fn add_is_legal()
     ensures { AddIsLegal }
-{
-}
+{}
 
 /// A legal gadget stays legal when a legal sketch is merged.
 pub fn merged_is_legal()
     ensures { MergedIsLegal }
-{
-}
+{}

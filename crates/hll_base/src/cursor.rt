@@ -1,0 +1,95 @@
+//! Bytes that are read one field after another.
+ghost use Rattle.std.specs.Prelude.{◌≡◌, ℕ, ◌≤◌, ◌<◌, ◌++◌, ◌∷◌, [], List, length, drop, IfOk, OnOk, IfErr};
+ghost use Rattle.std.specs.Int.{from_le_bytes, w32, w64};
+ghost use Rattle.hll_base.specs.declared.error.Reason.TheVariants.{Truncated};
+
+use crate::error::{Error, Reason};
+use std::marker::Model;
+
+/// Bytes that are read one field after another. Contracts see the list of the bytes that are left.
+///
+/// A read takes exactly the next bytes, or answers `Truncated` where there are too few, and takes nothing.
+/// No call takes memory.
+#[derive(Debug, Drop)]
+pub struct SketchSlice<'a> {
+    bytes: &'a [u8],
+}
+
+impl<'a> Model for SketchSlice<'a> {
+    ghost Value = { List ℕ };
+
+    ghost view = { λ s. s.bytes.now };
+}
+
+impl<'a> SketchSlice<'a> {
+    /// All of these bytes are left.
+    pub fn new(bytes: &'a [u8]) -> Self
+        ensures { result ≡ bytes.now }
+    {
+        SketchSlice { bytes }
+    }
+
+    /// The bytes that are left.
+    pub fn remaining(&self) -> &'a [u8]
+        ensures { result.now ≡ self.now }
+    {
+        self.bytes
+    }
+
+    /// Takes a byte.
+    pub fn read_u8(&mut self) -> Result<u8, Error>
+        ensures ok { IfOk result (λ number. self.old ≡ number ∷ self.new) }
+        ensures err { IfErr result (λ e. (e ≡ Truncated) × (self.old ≡ []) × (self.new ≡ self.old)) }
+    {
+        match self.bytes.split_first() {
+            Some((first, rest)) => {
+                self.bytes = rest;
+                Ok(*first)
+            }
+            None => Err(Error::new(Reason::Truncated)),
+        }
+    }
+
+    /// Takes a number of four bytes, the lowest first.
+    pub fn read_u32_le(&mut self) -> Result<u32, Error>
+        ensures ok { IfOk result (λ number. (4 ≤ length self.old) × (number ≡ from_le_bytes w32 self.old) × (self.new ≡ drop 4 self.old)) }
+        ensures err { IfErr result (λ e. (e ≡ Truncated) × (length self.old < 4) × (self.new ≡ self.old)) }
+    {
+        match self.bytes.split_first_chunk::<4>() {
+            Some((first, rest)) => {
+                self.bytes = rest;
+                Ok(u32::from_le_bytes(*first))
+            }
+            None => Err(Error::new(Reason::Truncated)),
+        }
+    }
+
+    /// Takes a number of eight bytes, the lowest first.
+    pub fn read_u64_le(&mut self) -> Result<u64, Error>
+        ensures ok { IfOk result (λ number. (8 ≤ length self.old) × (number ≡ from_le_bytes w64 self.old) × (self.new ≡ drop 8 self.old)) }
+        ensures err { IfErr result (λ e. (e ≡ Truncated) × (length self.old < 8) × (self.new ≡ self.old)) }
+    {
+        match self.bytes.split_first_chunk::<8>() {
+            Some((first, rest)) => {
+                self.bytes = rest;
+                Ok(u64::from_le_bytes(*first))
+            }
+            None => Err(Error::new(Reason::Truncated)),
+        }
+    }
+
+    /// Fills the buffer with the next bytes. Where there are too few the buffer stays as it was.
+    pub fn read_exact(&mut self, buffer: &mut [u8]) -> Result<(), Error>
+        ensures ok { OnOk result (self.old ≡ buffer.new ++ self.new) }
+        ensures err { IfErr result (λ e. (e ≡ Truncated) × (length self.old < length buffer.old) × (self.new ≡ self.old) × (buffer.new ≡ buffer.old)) }
+    {
+        match self.bytes.split_at_checked(buffer.len()) {
+            Some((first, rest)) => {
+                buffer.copy_from_slice(first);
+                self.bytes = rest;
+                Ok(())
+            }
+            None => Err(Error::new(Reason::Truncated)),
+        }
+    }
+}
