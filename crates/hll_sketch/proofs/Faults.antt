@@ -1,53 +1,42 @@
-use Rattle.std.proofs.Common.{◌≡◌, ℕ, ◌<◌, ◌≤◌, List, ◌++◌, length, take, drop, sym, ap, subst, ◌∙◌, arith, inl, inr}
+use Rattle.std.proofs.Common.{◌≡◌, ℕ, List, ◌++◌, take, drop, sym, ap, subst, ◌∙◌, arith}
 use Rattle.std.proofs.lemmas.List.{take-append-drop, length-drop}
 use Rattle.hll_base.specs.declared.error.Reason.{Reason}
 use Rattle.hll_coupons.specs.Payload.{IsListPayload, IsSetPayload}
-use Rattle.hll_coupons.proofs.Payloads.{front_le, front_number, list_fault_excludes, set_fault_excludes}
+use Rattle.hll_coupons.proofs.Payloads.{front_le, list_fault_excludes, set_fault_excludes}
 use Rattle.hll_arrays.specs.Payload.{IsHll8Payload, IsHll6Payload, IsHll4Payload}
 use Rattle.hll_arrays.proofs.Payloads.{hll8_fault_excludes, hll6_fault_excludes, hll4_fault_excludes}
-use Rattle.hll_sketch.specs.Image.{byte, stage_bits, width_bits, preamble_words, HasLgK, HasHeader, list_shape, set_shape, hll4_shape, IsListImage, IsSetImage, IsHll8Image, IsHll6Image, IsHll4Image, list, set, hll8, hll6, hll4}
-use Rattle.hll_sketch.specs.Fault.{Fault, FaultExcludesImage}
+use Rattle.hll_sketch.specs.Image.{byte, preamble_words, HasHeader, list_shape, set_shape, hll4_shape, IsListImage, IsSetImage, IsHll8Image, IsHll6Image, IsHll4Image, list, set, hll8, hll6, hll4}
+use Rattle.hll_sketch.specs.Fault.{Fault, HeaderFault, FaultExcludesHeader, FaultExcludesImage}
 use Rattle.hll_sketch.specs.Fault as fault
-use Rattle.hll_sketch.proofs.Images.{at, rest, same_stage, same_width, same_list_shape, same_set_shape, same_hll4_shape}
+use Rattle.hll_sketch.proofs.Headers.{HasHeader-same}
+use Rattle.hll_sketch.proofs.Images.{at, rest, same_width, same_list_shape, same_set_shape, same_hll4_shape}
+
+-- ---- where a fault of the header stands, it is of no stage
+
+pub fault_excludes_header : FaultExcludesHeader
+fault_excludes_header b r s three (fault.HeaderFault.short l) h = omega (arith, h.whole)
+fault_excludes_header b r s three (fault.HeaderFault.family l n) h = n h.family
+fault_excludes_header b r s three (fault.HeaderFault.version l n) h = n h.version
+fault_excludes_header b r s three (fault.HeaderFault.lg_k l n) h = n h.lg_k
+fault_excludes_header b r s three (fault.HeaderFault.width l n) h = omega (arith, h.width)
+fault_excludes_header b r s three (fault.HeaderFault.stage l n) h = omega (arith, h.stage_is)
+fault_excludes_header b r s three (fault.HeaderFault.preamble l below n) h = n (h.preamble ∙ ap preamble_words (sym h.stage_is))
 
 -- ---- where a fault stands, no front is an image
 
 module _ (a t b : List ℕ) (e : a ++ t ≡ b) where
   -- the checks of every stage, carried to the whole
-  record Headed (stage : ℕ) : Type 0 where
-    whole : 8 ≤ length b
-    family : byte b 2 ≡ 7
-    version : byte b 1 ≡ 1
-    lg_k : HasLgK b
-    width : width_bits b < 3
-    stage_is : stage_bits b ≡ stage
-    preamble : byte b 0 ≡ preamble_words stage
-
-  headed : {s : ℕ} → HasHeader a s → Headed s
-  headed {s} h = record {
-    whole = omega (arith, h.whole, front_le a t b e);
-    family = sym (at a t b e h.whole 2 (omega arith)) ∙ h.family;
-    version = sym (at a t b e h.whole 1 (omega arith)) ∙ h.version;
-    lg_k = record { low = omega (arith, at a t b e h.whole 3 (omega arith), h.lg_k.low); high = omega (arith, at a t b e h.whole 3 (omega arith), h.lg_k.high) };
-    width = subst (λ n. n < 3) (same_width a t b e h.whole) h.width;
-    stage_is = sym (same_stage a t b e h.whole) ∙ h.stage_is;
-    preamble = sym (at a t b e h.whole 0 (omega arith)) ∙ h.preamble;
-  }
+  headed : {s : ℕ} → HasHeader a s → HasHeader b s
+  headed h = HasHeader-same a b (at a t b e h.whole) (omega (arith, h.whole, front_le a t b e)) h
 
   not_list : IsListImage a → (r : Reason) → Fault b r → ⊥
   not_list h r f = of r f
     where
-      header : Headed 0
+      header : HasHeader b 0
       header = headed h.header
 
       of : (r : Reason) → Fault b r → ⊥
-      of r (fault.Fault.short_header l) = omega (arith, header.whole)
-      of r (fault.Fault.family l n) = n header.family
-      of r (fault.Fault.version l n) = n header.version
-      of r (fault.Fault.lg_k l n) = n header.lg_k
-      of r (fault.Fault.width l n) = omega (arith, header.width)
-      of r (fault.Fault.stage l n) = omega (arith, header.stage_is)
-      of r (fault.Fault.preamble l s n) = n (header.preamble ∙ ap preamble_words (sym header.stage_is))
+      of r (fault.Fault.header f) = fault_excludes_header b r 0 (omega arith) f header
       of r (fault.Fault.list_table l s n) = n (sym (at a t b e h.header.whole 4 (omega arith)) ∙ h.table)
       of r (fault.Fault.list_payload l s n) = list_fault_excludes (list_shape b) (drop 8 a) t (drop 8 b) r (rest a t b e h.header.whole) (subst (λ z. IsListPayload z (drop 8 a)) (same_list_shape a t b e h.header.whole) h.payload) n
       of r (fault.Fault.set_table l s k n) = omega (arith, header.stage_is)
@@ -61,17 +50,11 @@ module _ (a t b : List ℕ) (e : a ++ t ≡ b) where
   not_set : IsSetImage a → (r : Reason) → Fault b r → ⊥
   not_set h r f = of r f
     where
-      header : Headed 1
+      header : HasHeader b 1
       header = headed h.header
 
       of : (r : Reason) → Fault b r → ⊥
-      of r (fault.Fault.short_header l) = omega (arith, header.whole)
-      of r (fault.Fault.family l n) = n header.family
-      of r (fault.Fault.version l n) = n header.version
-      of r (fault.Fault.lg_k l n) = n header.lg_k
-      of r (fault.Fault.width l n) = omega (arith, header.width)
-      of r (fault.Fault.stage l n) = omega (arith, header.stage_is)
-      of r (fault.Fault.preamble l s n) = n (header.preamble ∙ ap preamble_words (sym header.stage_is))
+      of r (fault.Fault.header f) = fault_excludes_header b r 1 (omega arith) f header
       of r (fault.Fault.list_table l s n) = omega (arith, header.stage_is)
       of r (fault.Fault.list_payload l s n) = omega (arith, header.stage_is)
       of r (fault.Fault.set_table l s k n) = n (record { low = omega (arith, at a t b e h.header.whole 4 (omega arith), h.table.low); high = omega (arith, at a t b e h.header.whole 4 (omega arith), at a t b e h.header.whole 3 (omega arith), h.table.high) })
@@ -85,17 +68,11 @@ module _ (a t b : List ℕ) (e : a ++ t ≡ b) where
   not_hll8 : IsHll8Image a → (r : Reason) → Fault b r → ⊥
   not_hll8 h r f = of r f
     where
-      header : Headed 2
+      header : HasHeader b 2
       header = headed h.header
 
       of : (r : Reason) → Fault b r → ⊥
-      of r (fault.Fault.short_header l) = omega (arith, header.whole)
-      of r (fault.Fault.family l n) = n header.family
-      of r (fault.Fault.version l n) = n header.version
-      of r (fault.Fault.lg_k l n) = n header.lg_k
-      of r (fault.Fault.width l n) = omega (arith, header.width)
-      of r (fault.Fault.stage l n) = omega (arith, header.stage_is)
-      of r (fault.Fault.preamble l s n) = n (header.preamble ∙ ap preamble_words (sym header.stage_is))
+      of r (fault.Fault.header f) = fault_excludes_header b r 2 (omega arith) f header
       of r (fault.Fault.list_table l s n) = omega (arith, header.stage_is)
       of r (fault.Fault.list_payload l s n) = omega (arith, header.stage_is)
       of r (fault.Fault.set_table l s k n) = omega (arith, header.stage_is)
@@ -109,17 +86,11 @@ module _ (a t b : List ℕ) (e : a ++ t ≡ b) where
   not_hll6 : IsHll6Image a → (r : Reason) → Fault b r → ⊥
   not_hll6 h r f = of r f
     where
-      header : Headed 2
+      header : HasHeader b 2
       header = headed h.header
 
       of : (r : Reason) → Fault b r → ⊥
-      of r (fault.Fault.short_header l) = omega (arith, header.whole)
-      of r (fault.Fault.family l n) = n header.family
-      of r (fault.Fault.version l n) = n header.version
-      of r (fault.Fault.lg_k l n) = n header.lg_k
-      of r (fault.Fault.width l n) = omega (arith, header.width)
-      of r (fault.Fault.stage l n) = omega (arith, header.stage_is)
-      of r (fault.Fault.preamble l s n) = n (header.preamble ∙ ap preamble_words (sym header.stage_is))
+      of r (fault.Fault.header f) = fault_excludes_header b r 2 (omega arith) f header
       of r (fault.Fault.list_table l s n) = omega (arith, header.stage_is)
       of r (fault.Fault.list_payload l s n) = omega (arith, header.stage_is)
       of r (fault.Fault.set_table l s k n) = omega (arith, header.stage_is)
@@ -133,17 +104,11 @@ module _ (a t b : List ℕ) (e : a ++ t ≡ b) where
   not_hll4 : IsHll4Image a → (r : Reason) → Fault b r → ⊥
   not_hll4 h r f = of r f
     where
-      header : Headed 2
+      header : HasHeader b 2
       header = headed h.header
 
       of : (r : Reason) → Fault b r → ⊥
-      of r (fault.Fault.short_header l) = omega (arith, header.whole)
-      of r (fault.Fault.family l n) = n header.family
-      of r (fault.Fault.version l n) = n header.version
-      of r (fault.Fault.lg_k l n) = n header.lg_k
-      of r (fault.Fault.width l n) = omega (arith, header.width)
-      of r (fault.Fault.stage l n) = omega (arith, header.stage_is)
-      of r (fault.Fault.preamble l s n) = n (header.preamble ∙ ap preamble_words (sym header.stage_is))
+      of r (fault.Fault.header f) = fault_excludes_header b r 2 (omega arith) f header
       of r (fault.Fault.list_table l s n) = omega (arith, header.stage_is)
       of r (fault.Fault.list_payload l s n) = omega (arith, header.stage_is)
       of r (fault.Fault.set_table l s k n) = omega (arith, header.stage_is)

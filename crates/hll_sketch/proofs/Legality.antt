@@ -1,13 +1,13 @@
 -- Legal sketches stay legal when pairs are added, or a sketch is merged.
-use Rattle.std.proofs.Common.{◌≡◌, ℕ, ◌+◌, ◌-◌, ◌*◌, ◌^◌, ◌<◌, ◌≤◌, ◌⊎◌, inl, inr, zero, suc, Bool, true, false, cond, ◌&&◌, ◌||◌, nat_eq, eqb, leb, List, [], ◌∷◌, Option, Some, None, length, get_or, All, refl, sym, ap, subst, ◌∙◌, arith}
-use Rattle.std.specs.Prelude.{min, max, find}
+use Rattle.std.proofs.Common.{◌≡◌, ℕ, ◌+◌, ◌-◌, ◌*◌, ◌^◌, ◌<◌, ◌≤◌, inl, inr, zero, suc, Bool, true, false, cond, ◌&&◌, nat_eq, eqb, leb, List, [], ◌∷◌, Option, Some, None, length, get_or, All, refl, sym, ap, subst, ◌∙◌, arith}
+use Rattle.std.specs.Prelude.{min, find}
 use Rattle.std.specs.Cmp.Lexicographic.{pointwise}
 use Rattle.std.specs.List.{range_with_len}
 use Rattle.std.specs.FinSet.{items, union, len, contains}
 use Rattle.std.proofs.lemmas.Bool.{cases_Bool, cond-true, cond-false, and_parts, or_cases, eqb-true, leb-true, ne_eqb}
 use Rattle.std.proofs.lemmas.List.Elements.{All-from_get_or}
 use Rattle.std.proofs.lemmas.Nat.{pow_pos, pow_below}
-use Rattle.hll_coupons.specs.Pair.{Pairs, IsPair, slot_of, value_of, pair}
+use Rattle.hll_coupons.specs.Pair.{Pairs, value_of}
 use Rattle.hll_coupons.specs.Fold.{fold_to, join, pairs, greatest, value_at}
 use Rattle.hll_coupons.proofs.Greatest.{bounded}
 use Rattle.hll_coupons.proofs.Folds.{length-fold_to, get_or-fold_to}
@@ -16,10 +16,10 @@ use Rattle.hll_coupons.proofs.Registers.{value_at_cases, StandsFor, pairs_only, 
 use Rattle.hll_arrays.specs.declared.estimate_state.EstimateState.{EstimateState}
 use Rattle.hll_arrays.specs.State.{IsState, cleared, state_after}
 use Rattle.hll_arrays.specs.Store.{AreRegisters}
-use Rattle.hll_sketch.specs.Stage.{stage, holds, sizes}
+use Rattle.hll_sketch.specs.Stage.{stage, holds}
 use Rattle.hll_sketch.specs.Value.{Sketch, Content, coupons, registers, pairs_in, pairs_of, is_empty, ArePairs, IsLgK, IsTableFor, IsLegalContent, IsLegal}
 use Rattle.hll_sketch.specs.Adding.{settled, added, add}
-use Rattle.hll_sketch.specs.Merging.{merged, merged_coupons, merged_registers, merged_content, merged_state}
+use Rattle.hll_sketch.specs.Merging.{merged_coupons, merged_content, merged_state}
 use Rattle.hll_sketch.specs.Laws.{AddIsLegal, MergedIsLegal}
 use Rattle.hll_sketch.proofs.Sets.{contains_union}
 

@@ -1,9 +1,11 @@
 mod StageRows
 pub mod Adding
 pub mod Faults
+pub mod Headers
 pub mod Images
 pub mod Legal
 pub mod Legality
+pub mod ListImages
 pub mod PlainSteps
 pub mod Sets
 pub mod Stages

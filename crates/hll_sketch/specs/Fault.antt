@@ -5,18 +5,21 @@ use Rattle.hll_base.specs.declared.error.Reason.TheVariants.{Truncated, Family, 
 use Rattle.hll_coupons.specs.Payload.{ListFault, SetFault}
 use Rattle.hll_arrays.specs.Payload.{Hll8Fault, Hll6Fault, Hll4Fault}
 use Rattle.hll_sketch.specs.Value.{Sketch}
-use Rattle.hll_sketch.specs.Image.{byte, preamble_byte, lg_k_byte, table_byte, stage_bits, width_bits, preamble_words, HasLgK, HasSetTable, list_shape, set_shape, hll4_shape, Image}
+use Rattle.hll_sketch.specs.Image.{byte, preamble_byte, lg_k_byte, table_byte, stage_bits, width_bits, preamble_words, HasLgK, HasHeader, HasSetTable, list_shape, set_shape, hll4_shape, Image}
+
+-- a check of the header fails: its eight bytes are not there, or a byte of them is wrong
+pub data HeaderFault (b : List ℕ) : Reason → Type 0 where
+  short : length b < 8 → HeaderFault b Truncated
+  family : 8 ≤ length b → byte b 2 ≢ 7 → HeaderFault b Family
+  version : 8 ≤ length b → byte b 1 ≢ 1 → HeaderFault b Version
+  lg_k : 8 ≤ length b → (HasLgK b → ⊥) → HeaderFault b LgK
+  width : 8 ≤ length b → width_bits b ≡ 3 → HeaderFault b Width
+  stage : 8 ≤ length b → stage_bits b ≡ 3 → HeaderFault b Stage
+  preamble : 8 ≤ length b → stage_bits b < 3 → preamble_byte b ≢ preamble_words (stage_bits b) → HeaderFault b Preamble
 
 -- A check of this reason fails, all that it reads is there, and what chooses or measures it passes its own check.
 pub data Fault (b : List ℕ) : Reason → Type 0 where
-  -- the header
-  short_header : length b < 8 → Fault b Truncated
-  family : 8 ≤ length b → byte b 2 ≢ 7 → Fault b Family
-  version : 8 ≤ length b → byte b 1 ≢ 1 → Fault b Version
-  lg_k : 8 ≤ length b → (HasLgK b → ⊥) → Fault b LgK
-  width : 8 ≤ length b → width_bits b ≡ 3 → Fault b Width
-  stage : 8 ≤ length b → stage_bits b ≡ 3 → Fault b Stage
-  preamble : 8 ≤ length b → stage_bits b < 3 → preamble_byte b ≢ preamble_words (stage_bits b) → Fault b Preamble
+  header : {r : Reason} → HeaderFault b r → Fault b r
   -- a list
   list_table : 8 ≤ length b → stage_bits b ≡ 0 → table_byte b ≢ 3 → Fault b LgArr
   list_payload : {r : Reason} → 8 ≤ length b → stage_bits b ≡ 0 → ListFault (list_shape b) (drop 8 b) r → Fault b r
@@ -29,6 +32,10 @@ pub data Fault (b : List ℕ) : Reason → Type 0 where
   hll8_payload : {r : Reason} → 8 ≤ length b → stage_bits b ≡ 2 → width_bits b ≡ 2 → HasLgK b → Hll8Fault (lg_k_byte b) (drop 8 b) r → Fault b r
   hll6_payload : {r : Reason} → 8 ≤ length b → stage_bits b ≡ 2 → width_bits b ≡ 1 → HasLgK b → Hll6Fault (lg_k_byte b) (drop 8 b) r → Fault b r
   hll4_payload : {r : Reason} → 8 ≤ length b → stage_bits b ≡ 2 → width_bits b ≡ 0 → HasLgK b → Hll4Fault (hll4_shape b) (drop 8 b) r → Fault b r
+
+-- where a fault of the header stands, it is the header of no stage
+abbrev pub FaultExcludesHeader : Type 0
+FaultExcludesHeader = (b : List ℕ) (r : Reason) (stage : ℕ) → stage < 3 → HeaderFault b r → HasHeader b stage → ⊥
 
 -- where a fault stands, no front of the bytes is an image
 abbrev pub FaultExcludesImage : Type 0

@@ -1,6 +1,7 @@
 pub mod Adding
 pub mod Agree
 pub mod Fault
+pub mod Header
 pub mod Image
 pub mod Laws
 pub mod Merging

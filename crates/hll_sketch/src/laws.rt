@@ -2,7 +2,7 @@
 //! (docs/MODEL.md, "Laws of adding and merging" and "Images").
 ghost use Rattle.hll_sketch.specs.Laws.{AddOfAdd, AddEach, EmptyMerged, UnionLgK, AddIsLegal, MergedIsLegal};
 ghost use Rattle.hll_sketch.specs.Image.{OneImage, ImageIsLegal};
-ghost use Rattle.hll_sketch.specs.Fault.{FaultExcludesImage};
+ghost use Rattle.hll_sketch.specs.Fault.{FaultExcludesHeader, FaultExcludesImage};
 ghost use Rattle.hll_sketch.specs.Written.{WrittenIsImage};
 
 /// To add pairs twice is to add their union.
@@ -28,6 +28,11 @@ pub fn union_lg_k()
 /// No image begins another, and the bytes of an image have one meaning.
 pub fn one_image()
     ensures { OneImage }
+{}
+
+/// Where a fault of the header stands, the bytes have the header of no stage.
+pub fn fault_excludes_header()
+    ensures { FaultExcludesHeader }
 {}
 
 /// Where a fault stands in bytes, no front of them is an image.

@@ -1,7 +1,9 @@
 //! Sketch values, images, and the laws of adding and merging.
 #![tactic(auto)]
 
+pub mod header;
 pub mod laws;
+pub mod list_image;
 pub mod plain;
 #[cfg(test)]
 mod tests;

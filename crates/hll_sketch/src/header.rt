@@ -1,0 +1,165 @@
+//! The first eight bytes of an image (docs/FORMAT.md, "Header").
+ghost use Rattle.std.specs.Prelude.{◌≡◌, ◌<◌, ◌≤◌, ◌/◌, ◌%◌, ◌==◌, ◌↔◌, IsOk, IfOk, IfErr, drop, take, ◌+◌, ◌*◌, ◌⊎◌};
+ghost use Rattle.hll_base.specs.declared.error.Reason.TheVariants as reasons;
+ghost use Rattle.hll_sketch.specs.Value.{IsLgK};
+ghost use Rattle.hll_sketch.specs.Image.{HasHeader, stage_bits, width_of_bits, preamble_words};
+ghost use Rattle.hll_sketch.specs.Header.{stage_of_bits, number_of_stage, header_of};
+ghost use Rattle.hll_sketch.specs.Fault.{HeaderFault};
+
+use hll_base::error::{Error, Reason};
+use hll_base::family::Family;
+use hll_coupons::hll_type::HllType;
+use hll_coupons::serialization::{
+    COMPACT_FLAG_MASK, CUR_MODE_HLL, CUR_MODE_LIST, CUR_MODE_SET, EMPTY_FLAG_MASK,
+    HASH_SET_PREINTS, HLL_PREINTS, LIST_PREINTS, OUT_OF_ORDER_FLAG_MASK, SERIAL_VERSION, TGT_HLL4,
+    TGT_HLL6, TGT_HLL8, extract_cur_mode, extract_tgt_hll_type,
+};
+
+/// The stage that an image is of.
+#[derive(Clone, Copy, Debug, PartialEq, Eq)]
+pub enum Stage {
+    /// A list of coupons.
+    List,
+    /// A set of coupons.
+    Set,
+    /// Registers.
+    Hll,
+}
+
+/// What the header of an image says, its checks passed.
+#[derive(Clone, Copy, Debug, PartialEq, Eq)]
+pub struct Header {
+    /// The logarithm of the number of registers, 4 to 21.
+    pub lg_k: u8,
+    /// The width of registers.
+    pub hll_type: HllType,
+    /// The stage, which says what follows.
+    pub stage: Stage,
+    /// The logarithm of the number of places of a table, as it stands: it has no check here.
+    pub lg_arr: u8,
+    /// Whether the empty flag is set.
+    pub empty: bool,
+    /// Whether the compact flag is set.
+    pub compact: bool,
+    /// Whether the out-of-order flag is set.
+    pub out_of_order: bool,
+    /// The byte whose meaning goes by the stage: the count of a list, the minimum of registers of four bits.
+    pub state: u8,
+}
+
+impl Header {
+    /// Reads the header of an image. Takes no memory.
+    ///
+    /// Refused, in this order, with `Truncated` where there are fewer than eight bytes, `Family`, `Version`, `LgK`,
+    /// `Width`, `Stage`, or `Preamble` where the preamble words are not those of the stage.
+    pub fn read(bytes: &[u8]) -> Result<Header, Error>
+        ensures ok { IfOk result (λ h. HasHeader bytes.now (stage_bits bytes.now) × (stage_bits bytes.now < 3) × (h ≡ header_of bytes.now)) }
+        ensures err { IfErr result (λ e. HeaderFault bytes.now e) }
+    {
+        let [
+            preamble,
+            version,
+            family,
+            lg_k,
+            lg_arr,
+            flags,
+            state,
+            mode,
+            ..
+        ] = bytes
+        else {
+            return Err(Error::new(Reason::Truncated));
+        };
+        Family::HLL.validate_id(*family)?;
+        check_version(*version)?;
+        check_lg_k(*lg_k)?;
+        let hll_type = width_of(*mode)?;
+        let stage = stage_of(*mode)?;
+        check_preamble(stage, *preamble)?;
+        Ok(Header {
+            lg_k: *lg_k,
+            hll_type,
+            stage,
+            lg_arr: *lg_arr,
+            empty: is_flagged(*flags, EMPTY_FLAG_MASK),
+            compact: is_flagged(*flags, COMPACT_FLAG_MASK),
+            out_of_order: is_flagged(*flags, OUT_OF_ORDER_FLAG_MASK),
+            state: *state,
+        })
+    }
+}
+
+/// Tests the serial version.
+fn check_version(version: u8) -> Result<(), Error>
+    ensures ok { IsOk result ↔ (version ≡ 1) }
+    ensures err { IfErr result (λ e. e ≡ reasons.Version) }
+{
+    if version == SERIAL_VERSION {
+        Ok(())
+    } else {
+        Err(Error::new(Reason::Version))
+    }
+}
+
+/// Tests the `lg_k`.
+fn check_lg_k(lg_k: u8) -> Result<(), Error>
+    ensures ok { IsOk result ↔ IsLgK lg_k }
+    ensures err { IfErr result (λ e. e ≡ reasons.LgK) }
+{
+    if 4 <= lg_k && lg_k <= 21 {
+        Ok(())
+    } else {
+        Err(Error::new(Reason::LgK))
+    }
+}
+
+/// The width in the mode byte.
+fn width_of(mode: u8) -> Result<HllType, Error>
+    ensures ok { IfOk result (λ w. (mode / 4 % 4 < 3) × (w ≡ width_of_bits (mode / 4 % 4))) }
+    ensures err { IfErr result (λ e. (mode / 4 % 4 ≡ 3) × (e ≡ reasons.Width)) }
+{
+    match extract_tgt_hll_type(mode) {
+        TGT_HLL4 => Ok(HllType::Hll4),
+        TGT_HLL6 => Ok(HllType::Hll6),
+        TGT_HLL8 => Ok(HllType::Hll8),
+        _ => Err(Error::new(Reason::Width)),
+    }
+}
+
+/// The stage in the mode byte.
+fn stage_of(mode: u8) -> Result<Stage, Error>
+    ensures ok { IfOk result (λ s. (mode % 4 < 3) × (s ≡ stage_of_bits (mode % 4))) }
+    ensures err { IfErr result (λ e. (mode % 4 ≡ 3) × (e ≡ reasons.Stage)) }
+{
+    match extract_cur_mode(mode) {
+        CUR_MODE_LIST => Ok(Stage::List),
+        CUR_MODE_SET => Ok(Stage::Set),
+        CUR_MODE_HLL => Ok(Stage::Hll),
+        _ => Err(Error::new(Reason::Stage)),
+    }
+}
+
+/// Tests the number of preamble words, by the stage.
+fn check_preamble(stage: Stage, preamble: u8) -> Result<(), Error>
+    ensures ok { IsOk result ↔ (preamble ≡ preamble_words (number_of_stage stage)) }
+    ensures err { IfErr result (λ e. e ≡ reasons.Preamble) }
+{
+    let wanted = match stage {
+        Stage::List => LIST_PREINTS,
+        Stage::Set => HASH_SET_PREINTS,
+        Stage::Hll => HLL_PREINTS,
+    };
+    if preamble == wanted {
+        Ok(())
+    } else {
+        Err(Error::new(Reason::Preamble))
+    }
+}
+
+/// Whether the flag of a mask, which is a power of two, is set.
+fn is_flagged(flags: u8, mask: u8) -> bool
+    requires { 1 ≤ mask }
+    ensures { result ≡ (flags / mask % 2 == 1) }
+{
+    flags / mask % 2 == 1
+}
