@@ -1,6 +1,5 @@
 -- Lemmas on texts: what is served is accepted, a text has one plan, and no first fault where it has one.
-use Rattle.std.proofs.Common.{◌≡◌, ◌≢◌, ℕ, ◌⊎◌, inl, inr, Bool, true, false, cond, List, [], ◌∷◌, ◌++◌, length, take, drop, refl, sym, ◌∙◌, ap, subst, arith, Option, Some, None, Ok, Err}
-use Rattle.std.proofs.lemmas.Bool.{true≢false}
+use Rattle.std.proofs.Common.{◌≡◌, ◌≢◌, ℕ, inl, inr, List, [], ◌∷◌, ◌++◌, length, take, drop, refl, sym, ◌∙◌, ap, subst, arith, Some, Ok, Err}
 use Rattle.std.proofs.lemmas.List.{length-append, take-append-drop}
 use Rattle.std.proofs.lemmas.Result.{IfErr-at_err}
 use Rattle.std.specs.Str.Lines.{lines}
@@ -11,39 +10,17 @@ use Rattle.hll_merge.specs.declared.fault.Fault.TheVariants as faults
 use Rattle.hll_merge.specs.declared.fault.MergeError.{MergeError}
 use Rattle.hll_merge.specs.Plan as plan
 use Rattle.hll_merge.specs.Plan.{Plan, plans_of}
-use Rattle.hll_merge.specs.Text.{PlanStep, reading, served_reading, served_words, read_words, words, names_unserved, new, image, coupon, union, IsLineFault, IsServedFault}
-use Rattle.hll_merge.specs.Accepting.{Service, full, Carries, IsFaultOfStep, Gives, IsFaultOfLine, Runs, IsFirstFault, AcceptsLines, IsFirstFaultOfLines, unserved, faulty, skipped, taken, unread, refused}
+use Rattle.hll_merge.specs.Text.{PlanStep, new, image, coupon, union, IsLineFault}
+use Rattle.hll_merge.specs.Accepting.{Service, full, Carries, IsFaultOfStep, Gives, IsFaultOfLine, Runs, AcceptsLines, IsFirstFaultOfLines, unserved, faulty, skipped, taken, unread, refused}
 use Rattle.hll_merge.specs.Evaluate.{steps}
 use Rattle.hll_merge.specs.Served.{today, ServedIsAccepted, ServedFaultIsFirst, OnePlan, AcceptedIsFaultless, IsOwnFault, FirstFaultsAreOwn}
-use Rattle.hll_merge.proofs.FaultLemmas.{IfErr-reading, IfErr-served_reading}
+use Rattle.hll_merge.proofs.FaultLemmas.{IfErr-reading}
 
 -- ---- what is served
 
--- a line that is read today is read so where every step is served
-served_as : (l : List ℕ) → (served_reading l ≡ Err faults.Unserved) ⊎ (served_reading l ≡ reading l)
-served_as [] = inr refl
-served_as (b ∷ more) = of (Rattle.std.specs.Prelude.eqb b 35)
-  where
-    ws : List (List ℕ)
-    ws = words (b ∷ more)
-
-    words_as : (d : Bool) → (cond d (Err faults.Unserved) (read_words ws) ≡ Err faults.Unserved) ⊎ (cond d (Err faults.Unserved) (read_words ws) ≡ read_words ws)
-    words_as true = inl refl
-    words_as false = inr refl
-
-    of : (s : Bool) → (cond s (Ok None) (served_words ws) ≡ Err faults.Unserved) ⊎ (cond s (Ok None) (served_words ws) ≡ cond s (Ok None) (read_words ws))
-    of true = inr refl
-    of false = words_as (names_unserved ws)
-
-served_ok : (l : List ℕ) (o : Option PlanStep) → served_reading l ≡ Ok o → reading l ≡ Ok o
-served_ok l o e = elim (served_as l) [ inl n ↦ cc | inr s ↦ sym s ∙ e ]
-
-served_err : (l : List ℕ) (e : Fault) → served_reading l ≡ Err e → e ≢ faults.Unserved → reading l ≡ Err e
-served_err l e h ne = elim (served_as l) [ inl n ↦ let same : e ≡ faults.Unserved = cc in absurd (ne same) | inr s ↦ sym s ∙ h ]
-
 Gives-full : (ts : List Plan) (l : List ℕ) (us : List Plan) → Gives today ts l us → Gives full ts l us
-Gives-full ts l us (skipped r e) = skipped (served_ok l None r) e
-Gives-full ts l us (taken step r t) = taken step (served_ok l (Some step) r) (record { served = refl; carries = t.carries })
+Gives-full ts l us (skipped r e) = skipped r e
+Gives-full ts l us (taken step r t) = taken step r (record { served = λ z. z; carries = t.carries })
 
 Runs-full : (ts : List Plan) (ls : List (List ℕ)) (vs : List Plan) → Runs today ts ls vs → Runs full ts ls vs
 Runs-full ts [] vs h = h
@@ -53,9 +30,9 @@ pub served_is_accepted : ServedIsAccepted
 served_is_accepted text t h = Runs-full [] (lines text) (t ∷ []) h
 
 IsFaultOfLine-full : (ts : List Plan) (l : List ℕ) (e : Fault) → e ≢ faults.Unserved → IsFaultOfLine today ts l e → IsFaultOfLine full ts l e
-IsFaultOfLine-full ts l e ne (unread r) = unread (served_err l e r ne)
+IsFaultOfLine-full ts l e ne (unread r) = unread r
 IsFaultOfLine-full ts l e ne (refused step r (unserved s is)) = absurd (ne is)
-IsFaultOfLine-full ts l e ne (refused step r (faulty s f)) = refused step (served_ok l (Some step) r) (faulty refl f)
+IsFaultOfLine-full ts l e ne (refused step r (faulty s f)) = refused step r (faulty (λ z. z) f)
 
 pub served_fault_is_first : ServedFaultIsFirst
 served_fault_is_first text e (inl f) ne = inl (record {
@@ -85,8 +62,8 @@ append_parts (a ∷ f) (b ∷ g) x y n e =
 one_carry : (ts : List Plan) (step : PlanStep) (us vs : List Plan) → Carries ts step us → Carries ts step vs → us ≡ vs
 one_carry ts (new k w) us vs h g = h ∙ sym g
 one_carry ts (image bytes) us vs h g =
-    let same : h.1 ≡ g.1 = (one_image (take h.0 bytes) (take g.0 bytes) (drop h.0 bytes) (drop g.0 bytes) h.1 g.1 h.2 g.2 (take-append-drop h.0 bytes ∙ sym (take-append-drop g.0 bytes))).1 in
-    h.3 ∙ ap (λ x. ts ++ plan.image x ∷ []) same ∙ sym g.3
+    let same = one_image (take h.0 bytes) (take g.0 bytes) (drop h.0 bytes) (drop g.0 bytes) h.1 g.1 h.2 g.2 (take-append-drop h.0 bytes ∙ sym (take-append-drop g.0 bytes)) in
+    h.3 ∙ (λ i. ts ++ plan.image (same.0 i) (same.1 i) ∷ []) ∙ sym g.3
 one_carry ts (coupon s v) us vs h g =
     let parts = append_parts h.0 g.0 (h.1 ∷ []) (g.1 ∷ []) refl (sym h.2 ∙ g.2) in
     let top : h.1 ≡ g.1 = let e : (h.1 ∷ []) ≡ (g.1 ∷ []) = parts.1 in cc in
@@ -118,7 +95,7 @@ module _ {L : Type 0} (service : Service L) where
   line_or_fault ts l us e (skipped r s) (refused step f g) = cc
   line_or_fault ts l us e (taken p r t) (unread f) = cc
   line_or_fault ts l us e (taken p r t) (refused q f (unserved s is)) =
-      true≢false (sym s ∙ ap (service.refuses ts) (sym (same_step l p q r f)) ∙ t.served)
+      t.served (subst (service.Refuses ts) (sym (same_step l p q r f)) s)
   line_or_fault ts l us e (taken p r t) (refused q f (faulty s g)) = carry_or_fault ts p us e t.carries (subst (λ z. IsFaultOfStep ts z e) (sym (same_step l p q r f)) g)
 
   one_run : (ts : List Plan) (ls : List L) (us vs : List Plan) → Runs service ts ls us → Runs service ts ls vs → us ≡ vs
@@ -161,10 +138,6 @@ own-text e (inl h) = record { not_memory = λ z. cc; not_read = λ z. cc; not_wr
 own-text e (inr (inl h)) = record { not_memory = λ z. cc; not_read = λ z. cc; not_write = λ z. cc }
 own-text e (inr (inr h)) = record { not_memory = λ z. cc; not_read = λ z. cc; not_write = λ z. cc }
 
-own-served : (e : Fault) → IsServedFault e → IsOwnFault e
-own-served e (inl h) = record { not_memory = λ z. cc; not_read = λ z. cc; not_write = λ z. cc }
-own-served e (inr h) = own-text e h
-
 own-step : (ts : List Plan) (step : PlanStep) (e : Fault) → IsFaultOfStep ts step e → IsOwnFault e
 own-step ts (new k w) e f = absurd f
 own-step ts (image bytes) e f = let is : e ≡ faults.Image f.0 = f.2 in record { not_memory = λ z. cc; not_read = λ z. cc; not_write = λ z. cc }
@@ -184,6 +157,6 @@ module _ {L : Type 0} (service : Service L) (read : (l : L) (e : Fault) → serv
 pub first_faults_are_own : FirstFaultsAreOwn
 first_faults_are_own = record {
   of_lines = own-first full (λ l e r. own-text e (IfErr-at_err IsLineFault r (IfErr-reading l)));
-  of_served_lines = own-first today (λ l e r. own-served e (IfErr-at_err IsServedFault r (IfErr-served_reading l)));
+  of_served_lines = own-first today (λ l e r. own-text e (IfErr-at_err IsLineFault r (IfErr-reading l)));
   of_steps = own-first steps (λ l e r. absurd (cc));
 }

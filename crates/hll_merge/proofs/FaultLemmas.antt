@@ -6,7 +6,7 @@ use Rattle.hex.specs.Hex.{decode_of}
 use Rattle.hex.specs.declared.error.FromHexError.{FromHexError}
 use Rattle.hll_coupons.specs.declared.hll_type.HllType.{HllType}
 use Rattle.hll_merge.specs.declared.fault.Fault.{Fault}
-use Rattle.hll_merge.specs.Text.{PlanStep, Reading, IsLineFault, IsServedFault, sized_step, is_lg_k, width, new, union, read_new, read_coupon, read_union, read_bytes, read_image, read_words, reading, words, two_numbers, three_numbers, one_word, names_unserved, served_reading}
+use Rattle.hll_merge.specs.Text.{PlanStep, Reading, IsLineFault, sized_step, is_lg_k, width, new, union, read_new, read_coupon, read_union, read_bytes, read_image, read_words, reading, words, two_numbers, three_numbers, one_word}
 
 module _ (P : Fault → Type 0) where
   IfErr-cond : (b : Bool) (x y : Reading) → IfErr x P → IfErr y P → IfErr (cond b x y) P
@@ -49,15 +49,3 @@ IfErr-read_words (first ∷ more) =
 pub IfErr-reading : (line : List ℕ) → IfErr (reading line) IsLineFault
 IfErr-reading [] = tt
 IfErr-reading (b ∷ more) = IfErr-cond IsLineFault (b == 35) _ _ tt (IfErr-read_words (words (b ∷ more)))
-
-IfErr-more : (r : Reading) → IfErr r IsLineFault → IfErr r IsServedFault
-IfErr-more (Ok found) h = tt
-IfErr-more (Err e) h = inr h
-
--- the same of what is served
-pub IfErr-served_reading : (line : List ℕ) → IfErr (served_reading line) IsServedFault
-IfErr-served_reading [] = tt
-IfErr-served_reading (b ∷ more) =
-    let ws = words (b ∷ more) in
-    IfErr-cond IsServedFault (b == 35) _ _ tt
-    (IfErr-cond IsServedFault (names_unserved ws) _ _ (inl refl) (IfErr-more (read_words ws) (IfErr-read_words ws)))

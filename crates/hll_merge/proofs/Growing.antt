@@ -226,7 +226,7 @@ IsGrownOfPairs-from x P g h = record { small = g.small; are = of x.lg_k x.conten
 mutual
   pub grown : (t : Plan) → Leaves IsGrown t → IsGrown (outcome t)
   grown (new k w) h = ap (stage k 3) (len-empty nat_cmp)
-  grown (image x) h = h.1
+  grown (image b x) h = h.1
   grown (coupon t c) h = IsGrown-added (outcome t).lg_k (outcome t).content (set_of (c ∷ [])) (grown t h.0)
   grown (union_of m w ts) h = subst IsGrown (sym (merged-is_joined m w (outcomes ts) h.0.high (fits ts h.1))) (IsGrown-joint m w (least_lg_k m (outcomes ts)) (all_pairs (outcomes ts)) (list_any has_registers (outcomes ts)))
 
@@ -239,7 +239,7 @@ converges t h = record { grown = grown t h; joined_children = of t h }
   where
     of : (t : Plan) → Leaves IsGrown t → JoinsChildren t
     of (new k w) h = tt
-    of (image x) h = tt
+    of (image b x) h = tt
     of (coupon t c) h = tt
     of (union_of m w ts) h = merged-is_joined m w (outcomes ts) h.0.high (fits ts h.1)
 

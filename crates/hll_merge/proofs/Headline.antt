@@ -1,14 +1,14 @@
 -- The plan of an accepted text is legal, and so its outcome is.
-use Rattle.std.proofs.Common.{◌≡◌, ℕ, zero, suc, ◌+◌, ◌*◌, ◌/◌, ◌%◌, ◌^◌, ◌<◌, ◌≤◌, ◌⊎◌, inl, inr, Bool, true, false, cond, ◌&&◌, leb, ltb, nat_lt, eqb, List, [], ◌∷◌, ◌++◌, length, get_or, take, All, Option, Some, None, Result, Ok, Err, refl, sym, ap, subst, ◌∙◌, arith}
+use Rattle.std.proofs.Common.{◌≡◌, ℕ, zero, suc, ◌%◌, ◌^◌, ◌<◌, inl, Bool, true, false, cond, ◌&&◌, leb, nat_lt, eqb, List, [], ◌∷◌, ◌++◌, length, get_or, take, Option, Some, None, Result, Ok, Err, refl, sym, subst, arith}
 use Rattle.std.specs.Prelude.{codes}
 use Rattle.std.specs.Str.{bytes_eq}
 use Rattle.std.specs.Str.Lines.{lines}
 use Rattle.std.specs.FinSet.{empty, from_list, len, len-empty}
-use Rattle.std.proofs.lemmas.Bool.{cases_Bool, cond-true, cond-false, and_parts, leb-true, true≢false}
+use Rattle.std.proofs.lemmas.Bool.{and_parts, leb-true}
 use Rattle.std.proofs.lemmas.Bool.Decides.{nat_tests}
 use Rattle.std.proofs.lemmas.List.Elements.{All-from_get_or, All-tail}
-use Rattle.std.proofs.lemmas.Nat.{mod-mul-add, div-mul-add}
-use Rattle.hex.specs.Hex.{decode_of, decode_pairs, IsBytes}
+use Rattle.std.proofs.lemmas.Nat.{div-mul-add}
+use Rattle.hex.specs.Hex.{decode_pairs, IsBytes}
 use Rattle.hex.specs.declared.error.FromHexError.{FromHexError}
 use Rattle.hex.specs.declared.error.FromHexError.TheVariants.{OddLength}
 use Rattle.hex.proofs.HexLemmas.{decode_pairs-ok}
@@ -17,16 +17,15 @@ use Rattle.hll_coupons.specs.declared.hll_type.HllType.{HllType}
 use Rattle.hll_coupons.specs.declared.hll_type.HllType.TheVariants.{Hll8}
 use Rattle.hll_sketch.specs.Value.{Sketch, IsLgK, IsLegal, empty_sketch}
 use Rattle.hll_sketch.specs.Merging.{merged, merge_all, empty_union}
-use Rattle.hll_sketch.specs.Image.{AreBytes, Image}
+use Rattle.hll_sketch.specs.Image.{AreBytes}
 use Rattle.hll_sketch.proofs.Legal.{image_is_legal}
 use Rattle.hll_sketch.proofs.Legality.{add_is_legal, merged_is_legal}
 use Rattle.hll_sketch.proofs.Written.{written_is_image}
 use Rattle.hll_merge.specs.Plan as plan
 use Rattle.hll_merge.specs.Plan.{Plan, Plans, no_plans, more_plans, plans_of, outcome, outcomes, IsLegalPlan, LeavesOfEach}
 use Rattle.hll_merge.specs.Text.{PlanStep, Reading, reading, read_words, words, read_new, read_coupon, read_union, read_image, read_bytes, sized_step, is_lg_k, width, two_numbers, three_numbers, one_word, new, image, coupon, union}
-use Rattle.hll_merge.specs.Step.{IsInRange}
-use Rattle.hll_merge.specs.Accepting.{full, Carries, Gives, Runs, Accepts, skipped, taken}
-use Rattle.hll_merge.specs.Headline.{OutcomeIsLegal, Holds, AcceptedPlansHold}
+use Rattle.hll_merge.specs.Accepting.{full, Carries, Gives, Runs, skipped, taken}
+use Rattle.hll_merge.specs.Headline.{OutcomeIsLegal, AcceptedPlansHold}
 use Rattle.hll_merge.proofs.Outcomes.{plans_have_meaning, ArePairs-empty, ArePairs-one}
 
 -- ---- outcomes
@@ -40,7 +39,7 @@ legal_width x w h = record { lg_k = h.lg_k; content = h.content }
 mutual
   pub outcome_is_legal : OutcomeIsLegal
   outcome_is_legal (plan.new k w) h = empty_legal k w h
-  outcome_is_legal (plan.image x) h = h.0
+  outcome_is_legal (plan.image b x) h = h.0
   outcome_is_legal (plan.coupon t c) h = add_is_legal (outcome t) (set_of (c ∷ [])) (outcome_is_legal t h.0) (ArePairs-one c h.1)
   outcome_is_legal (plan.union_of m w ts) h = legal_width (merge_all m (empty_union m) (outcomes ts)) w (merged_each m (empty_union m) ts (empty_legal m Hll8 h.0) h.1)
 

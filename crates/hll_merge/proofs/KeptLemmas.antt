@@ -2,14 +2,13 @@
 use Rattle.std.proofs.Common.{◌≡◌, ℕ, zero, suc, ◌+◌, ◌<◌, ◌≤◌, Bool, true, false, cond, List, [], ◌∷◌, ◌++◌, length, take, get_or, refl, sym, ◌∙◌, ap, arith}
 use Rattle.std.proofs.Math.ListN.{set}
 use Rattle.std.proofs.Math.Seq.{take-suc}
-use Rattle.std.proofs.lemmas.Bool.{le-leb, lt-leb}
 use Rattle.std.proofs.lemmas.List.{set_split, length-append}
 use Rattle.std.specs.Prelude.{drop}
 use Rattle.std.specs.Cmp.{nat_cmp_total}
 use Rattle.std.specs.FinSet.{len, contains, insert, len-insert}
 use Rattle.hll_coupons.specs.Pair.{Pairs}
 use Rattle.hll_coupons.specs.Table.{Table, held, coupons_of, IsTable, arrived}
-use Rattle.hll_merge.specs.Kept.{Kept, is_eighth, updated, UpdatesLast}
+use Rattle.hll_merge.specs.Kept.{Kept, BringsEighth, updated, UpdatesLast}
 
 -- ---- the eighth coupon
 
@@ -17,24 +16,25 @@ use Rattle.hll_merge.specs.Kept.{Kept, is_eighth, updated, UpdatesLast}
 len_more : (S : Pairs) (c : ℕ) (b : Bool) → contains S c ≡ b → len (insert S c) ≡ cond b (len S) (len S + 1)
 len_more S c b e = len-insert nat_cmp_total S c ∙ ap (λ b. cond b (len S) (len S + 1)) e
 
-pub is_eighth-new : (x : Kept) (c : ℕ) → IsTable x.table → length (held x.table.places) ≡ 7 → contains (coupons_of x.table) c ≡ false → is_eighth x c ≡ true
-is_eighth-new x c table seven new =
-    let more : len (insert (coupons_of x.table) c) ≡ len (coupons_of x.table) + 1 = len_more (coupons_of x.table) c false new in
-    le-leb 8 (len (insert (coupons_of x.table) c)) (omega (arith, table.distinct))
+pub BringsEighth-new : (x : Kept) (c : ℕ) → IsTable x.table → 7 ≤ length (held x.table.places) → contains (coupons_of x.table) c ≡ false → BringsEighth x c
+BringsEighth-new x c table seven new = omega (arith, table.distinct, len_more (coupons_of x.table) c false new)
 
-pub is_eighth-held : (x : Kept) (c : ℕ) → IsTable x.table → length (held x.table.places) ≤ 7 → contains (coupons_of x.table) c ≡ true → is_eighth x c ≡ false
-is_eighth-held x c table few there =
-    let same : len (insert (coupons_of x.table) c) ≡ len (coupons_of x.table) = len_more (coupons_of x.table) c true there in
-    lt-leb 8 (len (insert (coupons_of x.table) c)) (omega (arith, table.distinct))
-
-pub is_eighth-few : (x : Kept) (c : ℕ) → IsTable x.table → length (held x.table.places) < 7 → is_eighth x c ≡ false
-is_eighth-few x c table few = of (contains (coupons_of x.table) c) refl
+pub BringsEighth-many : (x : Kept) (c : ℕ) → IsTable x.table → 8 ≤ length (held x.table.places) → BringsEighth x c
+BringsEighth-many x c table many = of (contains (coupons_of x.table) c) refl
   where
-    of : (b : Bool) → contains (coupons_of x.table) c ≡ b → is_eighth x c ≡ false
-    of true e = is_eighth-held x c table (omega arith) e
-    of false e =
-        let more : len (insert (coupons_of x.table) c) ≡ len (coupons_of x.table) + 1 = len_more (coupons_of x.table) c false e in
-        lt-leb 8 (len (insert (coupons_of x.table) c)) (omega (arith, table.distinct))
+    of : (b : Bool) → contains (coupons_of x.table) c ≡ b → BringsEighth x c
+    of true e = omega (arith, table.distinct, len_more (coupons_of x.table) c true e)
+    of false e = omega (arith, table.distinct, len_more (coupons_of x.table) c false e)
+
+pub not_eighth-held : (x : Kept) (c : ℕ) → IsTable x.table → length (held x.table.places) ≤ 7 → contains (coupons_of x.table) c ≡ true → BringsEighth x c → ⊥
+not_eighth-held x c table few there eighth = omega (arith, table.distinct, len_more (coupons_of x.table) c true there, eighth)
+
+pub not_eighth-few : (x : Kept) (c : ℕ) → IsTable x.table → length (held x.table.places) < 7 → BringsEighth x c → ⊥
+not_eighth-few x c table few eighth = of (contains (coupons_of x.table) c) refl
+  where
+    of : (b : Bool) → contains (coupons_of x.table) c ≡ b → ⊥
+    of true e = omega (arith, table.distinct, len_more (coupons_of x.table) c true e, eighth)
+    of false e = omega (arith, table.distinct, len_more (coupons_of x.table) c false e, eighth)
 
 -- how many there are after one that came
 pub length-arrived : (t : Table) (c : ℕ) → IsTable t → length (arrived (held t.places) c) ≡ len (insert (coupons_of t) c)
@@ -64,7 +64,7 @@ set_last xs n y e = set_split xs n y (omega arith) ∙ ap (λ ys. take n xs ++ y
     none (x ∷ xs) zero e = absurd (omega arith)
     none (x ∷ xs) (suc n) e = none xs n (omega arith)
 
-pub updates_last : (xs : List Kept) (c n : ℕ) (d y : Kept) → length xs ≡ suc n → is_eighth (get_or xs n d) c ≡ false → y ≡ updated (get_or xs n d) c → UpdatesLast xs c (set xs n y)
+pub updates_last : (xs : List Kept) (c n : ℕ) (d y : Kept) → length xs ≡ suc n → (BringsEighth (get_or xs n d) c → ⊥) → y ≡ updated (get_or xs n d) c → UpdatesLast xs c (set xs n y)
 updates_last xs c n d y e room is = record {
   front = take n xs;
   last = get_or xs n d;

@@ -8,6 +8,7 @@ pub mod NumberLemmas
 pub mod Outcomes
 pub mod PartLemmas
 pub mod PlainSteps
+pub mod ReadLemmas
 pub mod Rearranging
 pub mod RunLemmas
 pub mod StackLemmas

@@ -2,7 +2,7 @@
 use Rattle.std.proofs.Common.{◌≡◌, ℕ, ◌+◌, ◌*◌, ◌<◌, ◌≤◌, ◌^◌, add-one, true, List, [], ◌∷◌, length, None, arith, refl}
 use Rattle.std.proofs.lemmas.Bool.Decides.{nat_tests}
 use Rattle.std.proofs.Math.Nat.{pow-le-pow_right}
-use Rattle.hll_merge.specs.Text.{is_number, two_numbers}
+use Rattle.hll_merge.specs.Text.{is_number, two_numbers, one_word}
 
 -- one more digit
 pub below_next : (v d k : ℕ) → v < 10 ^ k → d ≤ 9 → 10 * v + d < 10 ^ (k + 1)
@@ -24,3 +24,8 @@ length-number word h = grind (arith, nat_tests)
 pub two_numbers-more : (a b : List ℕ) (ws : List (List ℕ)) → 0 < length ws → None ≡ two_numbers (a ∷ b ∷ ws)
 two_numbers-more a b [] h = absurd (omega arith)
 two_numbers-more a b (c ∷ ws) h = refl
+
+-- two words and more are not one
+pub one_word-more : (a : List ℕ) (ws : List (List ℕ)) → 0 < length ws → one_word (a ∷ ws) ≡ None
+one_word-more a [] h = absurd (omega arith)
+one_word-more a (b ∷ more) h = refl

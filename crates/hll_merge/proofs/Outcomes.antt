@@ -151,7 +151,7 @@ Good-image x l w (registers R s) h = record {
 mutual
   pub good : (Q : Sketch → Type 0) (t : Plan) → Leaves Q t → Good (outcome t) (inputs t)
   good Q (new k w) h = Good-empty k w h.high
-  good Q (image x) h = Good-image x x.lg_k x.width x.content h.0
+  good Q (image b x) h = Good-image x x.lg_k x.width x.content h.0
   good Q (coupon t c) h = Good-add (outcome t) (inputs t) (from_list (c ∷ [])) (good Q t h.0) (ArePairs-one c h.1)
   good Q (union_of m w ts) h = Good-width (merge_all m (empty_union m) (outcomes ts)) w (inputs_of_each ts) (rw (← union-empty (inputs_of_each ts)) (good_each Q ts m (empty_union m) empty (Good-empty m _ h.0.high) h.1))
 
@@ -165,7 +165,7 @@ least_same ts k l e = ap (λ n. least_of_each n ts) e
 mutual
   pub lg_k-outcome : (t : Plan) → (outcome t).lg_k ≡ effective_lg_k t
   lg_k-outcome (new k w) = refl
-  lg_k-outcome (image x) = refl
+  lg_k-outcome (image b x) = refl
   lg_k-outcome (coupon t c) = lg_k-outcome t
   lg_k-outcome (union_of m w ts) = lg_k-merge_all ts m (empty_union m)
 
@@ -264,7 +264,7 @@ record Lowest (x : Sketch) (t : Plan) : Type 0 where
 mutual
   lowest : (x : Sketch) (t : Plan) → IsLegalPlan t → has_registers x ≡ true → IsImageOf x t → Lowest x t
   lowest x (new k w) h r i = absurd i
-  lowest x (image y) h r i = record { some = has_some y (ap has_registers (sym i) ∙ r); low = omega (arith, ap (λ (s : Sketch). s.lg_k) i) }
+  lowest x (image b y) h r i = record { some = has_some y (ap has_registers (sym i) ∙ r); low = omega (arith, ap (λ (s : Sketch). s.lg_k) i) }
   lowest x (coupon t c) h r i =
       let before : Lowest x t = lowest x t h.0 r i in
       record { some = HasSome-add (outcome t) (inputs t) (from_list (c ∷ [])) (good _ t h.0) (ArePairs-one c h.1) before.some; low = before.low }

@@ -26,12 +26,12 @@ pub merged_from-end : {A : Type 0} (m : ℕ) (g : Sketch) (xs : List (PlainSketc
 merged_from-end m g xs i h = ap (λ ys. merge_all m g (map sketch_value ys)) (drop_of_length-le xs h)
 
 -- images are their own outcomes
-outcomes-images : {A : Type 0} (xs : List (PlainSketch A)) → outcomes (plans_of (map (λ x. image (sketch_value x)) xs)) ≡ map sketch_value xs
+outcomes-images : {A : Type 0} (xs : List (PlainSketch A)) → outcomes (plans_of (map (λ x. image [] (sketch_value x)) xs)) ≡ map sketch_value xs
 outcomes-images [] = refl
 outcomes-images (x ∷ xs) = ap (λ ys. sketch_value x ∷ ys) (outcomes-images xs)
 
 -- so a union of them is what merging in turn gives, at its width
 pub union_of_images : {A : Type 0} (m : ℕ) (w : HllType) (xs : List (PlainSketch A)) (g : Sketch) → g ≡ merged_from m (empty_union m) xs 0 →
-    (let x : Sketch = record g { width = w } in x) ≡ outcome (union_of m w (plans_of (map (λ x. image (sketch_value x)) xs)))
+    (let x : Sketch = record g { width = w } in x) ≡ outcome (union_of m w (plans_of (map (λ x. image [] (sketch_value x)) xs)))
 union_of_images m w xs g is =
     ap (λ (y : Sketch). let x : Sketch = record y { width = w } in x) (is ∙ ap (merge_all m (empty_union m)) (sym (outcomes-images xs)))

@@ -1,14 +1,14 @@
 -- Plans that differ in the order, repetition and grouping of children give equal sketches.
-use Rattle.std.proofs.Common.{◌≡◌, ℕ, zero, suc, ◌+◌, ◌<◌, ◌≤◌, List, [], ◌∷◌, ◌++◌, length, refl, sym, ap, ◌∙◌, arith, inl, inr}
+use Rattle.std.proofs.Common.{◌≡◌, ℕ, zero, suc, ◌<◌, List, [], ◌∷◌, ◌++◌, length, refl, sym, ap, ◌∙◌, arith, inl, inr}
 use Rattle.std.specs.List.{slice_index_or, Contains}
 use Rattle.hll_coupons.specs.Pair.{set_of}
 use Rattle.hll_coupons.specs.declared.hll_type.HllType.{HllType}
 use Rattle.hll_sketch.specs.Value.{Sketch}
 use Rattle.hll_sketch.specs.Adding.{add}
 use Rattle.hll_sketch.specs.Merging.{merge_all, empty_union}
-use Rattle.hll_merge.specs.Plan.{Plan, Plans, coupon, union_of, no_plans, more_plans, outcome, outcomes, Leaves, LeavesOfEach}
-use Rattle.hll_merge.specs.Grown.{IsGrown, joined, SameMembers}
-use Rattle.hll_merge.specs.Rearranged.{IsChild, SameChildren, both_plans, Rearranged, RearrangedEach, reordered, grouped, same, flipped, chained, below_coupon, below_union, none, more, RearrangedPlansAgree}
+use Rattle.hll_merge.specs.Plan.{Plan, Plans, union_of, no_plans, more_plans, outcome, outcomes, Leaves, LeavesOfEach}
+use Rattle.hll_merge.specs.Grown.{IsGrown, joined}
+use Rattle.hll_merge.specs.Rearranged.{IsChild, both_plans, Rearranged, RearrangedEach, reordered, grouped, same, written_otherwise, flipped, chained, below_coupon, below_union, none, more, RearrangedPlansAgree}
 use Rattle.hll_merge.proofs.Growing.{merged-is_joined, fits, joined_same, joined_joined}
 
 -- ---- children and their outcomes
@@ -56,6 +56,7 @@ mutual
       ∙ ap (joined m w) (sym (outcomes-both ts us))
       ∙ sym (union_is m w (both_plans ts us) k)
   agree same h k = refl
+  agree (written_otherwise {a} {b} {x}) h k = refl
   agree (flipped r) h k = sym (agree r k h)
   agree (chained u l r s) h k = agree r h l ∙ agree s l k
   agree (below_coupon {t} {u} {c} r) h k = ap (λ x. add x (set_of (c ∷ []))) (agree r h.0 k.0)

@@ -1,7 +1,8 @@
 -- Lemmas on carrying out lines: the lists that are kept stand for the plans of a stack.
-use Rattle.std.proofs.Common.{◌≡◌, ℕ, suc, ◌<◌, inl, inr, Bool, true, false, ◌||◌, List, [], ◌∷◌, ◌++◌, length, refl, sym, ◌∙◌, ap, subst, arith, Some}
+use Rattle.std.proofs.Common.{◌≡◌, ℕ, suc, ◌<◌, ◌≤◌, inl, inr, Bool, true, false, ◌||◌, List, [], ◌∷◌, ◌++◌, length, take, drop, refl, sym, ◌∙◌, ap, subst, arith, Some}
 use Rattle.std.specs.Prelude.{nat_le}
-use Rattle.std.proofs.lemmas.Bool.{cond-true, true≢false, le-leb, cases_lt}
+use Rattle.std.proofs.lemmas.Bool.{cond-true, le-leb, cases_lt}
+use Rattle.std.proofs.lemmas.List.{take-append-drop}
 use Rattle.std.specs.Ordering.{nat_cmp, eq_by_cmp}
 use Rattle.std.specs.Cmp.{nat_cmp_total}
 use Rattle.std.specs.FinSet.{len, contains, insert, union, empty, contains-empty, contains-insert, contains-from_list}
@@ -13,14 +14,17 @@ use Rattle.hll_coupons.proofs.TableLemmas.{held-filled_from_front, held-arrived}
 use Rattle.hll_sketch.specs.Value.{Sketch, Content, coupons}
 use Rattle.hll_sketch.specs.Stage.{stage}
 use Rattle.hll_sketch.specs.Adding.{add, settled}
+use Rattle.hll_sketch.specs.Image.{stage_bits, IsListImage, list}
+use Rattle.hll_sketch.proofs.Images.{same_stage}
 use Rattle.hll_sketch.proofs.Sets.{same_members, contains_union}
 use Rattle.hll_merge.specs.declared.fault.Fault.{Fault}
 use Rattle.hll_merge.specs.Plan as plan
 use Rattle.hll_merge.specs.Plan.{Plan, outcome, inputs}
-use Rattle.hll_merge.specs.Text.{new, coupon}
+use Rattle.hll_merge.specs.Text.{new, image, coupon}
+use Rattle.hll_merge.specs.Text as text
 use Rattle.hll_merge.specs.Accepting.{Service, Takes, IsRefusal, Gives, Runs, unserved, faulty}
-use Rattle.hll_merge.specs.Served.{today, gets_eighth}
-use Rattle.hll_merge.specs.Kept.{Kept, fresh, is_eighth, updated, UpdatesLast, RefusesLast, none, eighth, StandsFor, StandFor}
+use Rattle.hll_merge.specs.Served.{today, GetsEighth, IsBeyondLists}
+use Rattle.hll_merge.specs.Kept.{Kept, value_of_kept, fresh, BringsEighth, updated, IsReadFrom, RefusesBytes, no_list, no_image, UpdatesLast, RefusesLast, none, eighth, RefusesUnion, fewer, enough, StandsFor, StandFor}
 
 -- ---- one list
 
@@ -54,18 +58,18 @@ coupons_of-updated x c some =
     ap set_of (held-filled_from_front 3 (arrived (held x.table.places) c) (held-arrived x.table.places c some)) ∙ set_of-arrived (held x.table.places) c
 
 -- a list that has not got its eighth coupon keeps its size
-stage-three : (k n : ℕ) → nat_le 8 n ≡ false → stage k 3 n ≡ Some 3
+stage-three : (k n : ℕ) → (8 ≤ n → ⊥) → stage k 3 n ≡ Some 3
 stage-three k n few = elim (cases_lt n 8) [
   | inl below ↦ cond-true (nat_le n 7) (Some 3) _ (le-leb n 7 (omega arith))
-  | inr above ↦ absurd (true≢false (sym (le-leb 8 n above) ∙ few))
+  | inr above ↦ absurd (few above)
 ]
 
-pub updated-stands : (x : Kept) (t : Plan) (c : ℕ) → 0 < c → StandsFor x t → is_eighth x c ≡ false → StandsFor (updated x c) (plan.coupon t c)
+pub updated-stands : (x : Kept) (t : Plan) (c : ℕ) → 0 < c → StandsFor x t → (BringsEighth x c → ⊥) → StandsFor (updated x c) (plan.coupon t c)
 updated-stands x t c some h room =
     let S : Pairs = coupons_of x.table in
     let more : coupons_of (updated x c).table ≡ union S (set_of (c ∷ [])) = coupons_of-updated x c some ∙ insert-union S c in
     let kept : stage x.lg_k x.table.lg_size (len (union S (set_of (c ∷ [])))) ≡ Some 3 =
-    ap (λ n. stage x.lg_k n (len (union S (set_of (c ∷ []))))) h.size ∙ stage-three x.lg_k (len (union S (set_of (c ∷ [])))) (ap (λ T. nat_le 8 (len T)) (sym (insert-union S c)) ∙ room) in
+    ap (λ n. stage x.lg_k n (len (union S (set_of (c ∷ []))))) h.size ∙ stage-three x.lg_k (len (union S (set_of (c ∷ [])))) (λ many. room (subst (λ T. 8 ≤ len T) (sym (insert-union S c)) many)) in
     let made : Content → Sketch = λ y. record { lg_k = x.lg_k; width = x.width; content = y } in
     record {
       size = refl;
@@ -104,20 +108,26 @@ StandFor-nil [] [] e h = refl
 StandFor-nil [] (t ∷ ts) e h = absurd h
 StandFor-nil (x ∷ xs) ts e h = absurd (cc)
 
-gets_eighth-last : (below : List Plan) (t : Plan) (c : ℕ) → gets_eighth (below ++ t ∷ []) c ≡ nat_le 8 (len (inputs (plan.coupon t c)))
-gets_eighth-last [] t c = refl
-gets_eighth-last (u ∷ []) t c = refl
-gets_eighth-last (u ∷ v ∷ below) t c = gets_eighth-last (v ∷ below) t c
+GetsEighth-last : (below : List Plan) (t : Plan) (c : ℕ) → GetsEighth (below ++ t ∷ []) c ≡ (8 ≤ len (inputs (plan.coupon t c)))
+GetsEighth-last [] t c = refl
+GetsEighth-last (u ∷ []) t c = refl
+GetsEighth-last (u ∷ v ∷ below) t c = GetsEighth-last (v ∷ below) t c
 
 -- the plan's question is the list's
-same_question : (x : Kept) (t : Plan) (c : ℕ) → StandsFor x t → is_eighth x c ≡ nat_le 8 (len (inputs (plan.coupon t c)))
-same_question x t c h = ap (λ S. nat_le 8 (len S)) (insert-union (coupons_of x.table) c ∙ ap (λ T. union T (set_of (c ∷ []))) h.pairs)
+same_question : (x : Kept) (t : Plan) (c : ℕ) → StandsFor x t → len (insert (coupons_of x.table) c) ≡ len (inputs (plan.coupon t c))
+same_question x t c h = ap len (insert-union (coupons_of x.table) c ∙ ap (λ T. union T (set_of (c ∷ []))) h.pairs)
+
+-- both ways
+asks : (x : Kept) (below ts : List Plan) (t : Plan) (c : ℕ) → StandsFor x t → ts ≡ below ++ t ∷ [] → (BringsEighth x c → GetsEighth ts c) × (GetsEighth ts c → BringsEighth x c)
+asks x below ts t c h is =
+    let question : GetsEighth ts c ≡ BringsEighth x c = ap (λ us. GetsEighth us c) is ∙ GetsEighth-last below t c ∙ ap (λ n. 8 ≤ n) (sym (same_question x t c h)) in
+    (λ z. subst (λ T. T) (sym question) z, λ z. subst (λ T. T) question z)
 
 -- ---- steps
 
 pub takes-new : (xs : List Kept) (ts : List Plan) (k : ℕ) (w : HllType) → StandFor xs ts
     → (us : List Plan) × Takes today ts (new k w) us × StandFor (xs ++ fresh k w ∷ []) us
-takes-new xs ts k w h = (ts ++ plan.new k w ∷ [], record { served = refl; carries = refl }, StandFor-push xs ts (fresh k w) (plan.new k w) h (fresh-stands k w))
+takes-new xs ts k w h = (ts ++ plan.new k w ∷ [], record { served = λ z. z; carries = refl }, StandFor-push xs ts (fresh k w) (plan.new k w) h (fresh-stands k w))
 
 pub takes-coupon : (xs ys : List Kept) (ts : List Plan) (s v : ℕ) → 0 < pair s v → StandFor xs ts → UpdatesLast xs (pair s v) ys
     → (us : List Plan) × Takes today ts (coupon s v) us × StandFor ys us
@@ -126,7 +136,7 @@ takes-coupon xs ys ts s v some h u =
     let c : ℕ = pair s v in (
       l.below ++ plan.coupon l.top c ∷ [],
       record {
-        served = ap (λ us. gets_eighth us c) l.is ∙ gets_eighth-last l.below l.top c ∙ sym (same_question u.last l.top c l.stands) ∙ u.room;
+        served = λ z. u.room ((asks u.last l.below ts l.top c l.stands l.is).1 z);
         carries = (l.below, l.top, l.is, refl);
       },
       subst (λ zs. StandFor zs (l.below ++ plan.coupon l.top c ∷ [])) (sym u.gives)
@@ -136,10 +146,45 @@ takes-coupon xs ys ts s v some h u =
 pub refuses-coupon : (xs : List Kept) (ts : List Plan) (s v : ℕ) (e : Fault) → StandFor xs ts → RefusesLast xs (pair s v) e → IsRefusal today ts (coupon s v) e
 refuses-coupon xs ts s v e h (none is) =
     let bare : ts ≡ [] = StandFor-nil xs ts is h in
-    faulty (ap (λ us. gets_eighth us (pair s v)) bare) (bare, refl)
+    faulty (λ z. subst (λ us. GetsEighth us (pair s v)) bare z) (bare, refl)
 refuses-coupon xs ts s v e h (eighth front last is at) =
     let l : Last front last ts = StandFor-last front last ts (subst (λ zs. StandFor zs ts) is h) in
-    unserved (ap (λ us. gets_eighth us (pair s v)) l.is ∙ gets_eighth-last l.below l.top (pair s v) ∙ sym (same_question last l.top (pair s v) l.stands) ∙ at) refl
+    unserved ((asks last l.below ts l.top (pair s v) l.stands l.is).0 at) refl
+
+-- the list of an image is that of its plan
+-- and it is of no other stage
+not_beyond : (bytes : List ℕ) (n : ℕ) → IsListImage (take n bytes) → IsBeyondLists bytes → ⊥
+not_beyond bytes n h beyond =
+    let zeroth : stage_bits bytes ≡ 0 = sym (same_stage (take n bytes) (drop n bytes) bytes (take-append-drop n bytes) h.header.whole) ∙ h.header.stage_is in
+    elim beyond [
+      | inl set ↦ omega (arith, zeroth, set.stage_is)
+      | inr hll ↦ omega (arith, zeroth, hll.stage_is)
+    ]
+
+read-stands : (bytes : List ℕ) (x : Kept) → (r : IsReadFrom bytes x) → StandsFor x (plan.image (take r.count bytes) (value_of_kept x))
+read-stands bytes x r = record { size = r.size; pairs = refl; value = refl; order = r.order }
+
+pub takes-image : (xs : List Kept) (ts : List Plan) (bytes : List ℕ) (x : Kept) → StandFor xs ts → IsReadFrom bytes x
+    → (us : List Plan) × Takes today ts (image bytes) us × StandFor (xs ++ x ∷ []) us
+takes-image xs ts bytes x h r = (
+  ts ++ plan.image (take r.count bytes) (value_of_kept x) ∷ [],
+  record { served = not_beyond bytes r.count r.image; carries = (r.count, value_of_kept x, list r.image r.value, refl) },
+  StandFor-push xs ts x (plan.image (take r.count bytes) (value_of_kept x)) h (read-stands bytes x r),
+)
+
+pub refuses-image : (ts : List Plan) (bytes : List ℕ) (e : Fault) → RefusesBytes bytes e → IsRefusal today ts (image bytes) e
+refuses-image ts bytes e (no_list h) = unserved h refl
+refuses-image ts bytes e (no_image r h f) = faulty h (r, f, refl)
+
+pub length-StandFor : (xs : List Kept) (ts : List Plan) → StandFor xs ts → length xs ≡ length ts
+length-StandFor [] [] h = refl
+length-StandFor [] (t ∷ ts) h = absurd h
+length-StandFor (x ∷ xs) [] h = absurd h
+length-StandFor (x ∷ xs) (t ∷ ts) h = ap suc (length-StandFor xs ts h.1)
+
+pub refuses-union : (xs : List Kept) (ts : List Plan) (n m : ℕ) (w : HllType) (e : Fault) → StandFor xs ts → RefusesUnion xs n e → IsRefusal today ts (text.union n m w) e
+refuses-union xs ts n m w e h (fewer l) = let few : length ts < n = omega (arith, l, length-StandFor xs ts h) in faulty (λ z. omega (arith, z, few)) (few, refl)
+refuses-union xs ts n m w e h (enough l) = unserved (omega (arith, l, length-StandFor xs ts h)) refl
 
 -- ---- lines
 
@@ -155,9 +200,3 @@ StandFor-one x xs ts e h = of ts (subst (λ zs. StandFor zs ts) e h)
     of [] h = absurd h
     of (t ∷ []) h = (t, refl, h.0)
     of (t ∷ u ∷ ts) h = absurd h.1
-
-pub length-StandFor : (xs : List Kept) (ts : List Plan) → StandFor xs ts → length xs ≡ length ts
-length-StandFor [] [] h = refl
-length-StandFor [] (t ∷ ts) h = absurd h
-length-StandFor (x ∷ xs) [] h = absurd h
-length-StandFor (x ∷ xs) (t ∷ ts) h = ap suc (length-StandFor xs ts h.1)

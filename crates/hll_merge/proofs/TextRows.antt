@@ -3,8 +3,8 @@ use Rattle.std.specs.Prelude.{◌≡◌, refl, [], ◌∷◌, ◌++◌, Some, No
 use Rattle.std.specs.Str.Lines.{lines}
 use Rattle.hex.proofs.OnLiterals.{hex_on_literals}
 use Rattle.hll_coupons.specs.declared.hll_type.HllType.TheVariants.{Hll4, Hll8}
-use Rattle.hll_merge.specs.declared.fault.Fault.TheVariants.{Syntax, Range, Hex, Unserved}
-use Rattle.hll_merge.specs.Text.{reading, served_reading, ended_lines, new, image, coupon, union}
+use Rattle.hll_merge.specs.declared.fault.Fault.TheVariants.{Syntax, Range, Hex}
+use Rattle.hll_merge.specs.Text.{reading, ended_lines, new, image, coupon, union}
 
 row-new : reading (codes "new 10 8") ≡ Ok (Some (new 10 Hll8))
 row-new = refl
@@ -92,13 +92,6 @@ row-odd = refl
 row-tab : reading (codes "image 0" ++ 9 ∷ []) ≡ Err Hex
 unfolding hex_on_literals
 row-tab = refl
-
--- what is not served is not read further
-row-unserved : served_reading (codes "union x") ≡ Err Unserved
-row-unserved = refl
-
-row-served : served_reading (codes "new 10 8") ≡ Ok (Some (new 10 Hll8))
-row-served = refl
 
 -- ---- lines
 

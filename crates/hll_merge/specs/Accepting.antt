@@ -1,6 +1,6 @@
 -- Carrying out the lines of a text on a stack of plans: texts that are accepted, and first faults
 -- (docs/PLAN.md, "Steps" and "Refusals"; docs/MODEL.md, "Plan texts").
-use Rattle.std.specs.Prelude.{◌≡◌, ◌≢◌, ℕ, ◌+◌, ◌<◌, ◌⊎◌, Bool, true, false, List, [], ◌∷◌, ◌++◌, length, take, Some, None, Ok, Err}
+use Rattle.std.specs.Prelude.{◌≡◌, ◌≢◌, ℕ, ◌+◌, ◌<◌, ◌⊎◌, List, [], ◌∷◌, ◌++◌, length, take, Some, None, Ok, Err}
 use Rattle.std.specs.Str.Lines.{lines}
 use Rattle.hll_base.specs.declared.error.Reason.{Reason}
 use Rattle.hll_coupons.specs.Pair.{pair}
@@ -14,22 +14,22 @@ use Rattle.hll_merge.specs.Plan as plan
 use Rattle.hll_merge.specs.Plan.{Plan, plans_of}
 use Rattle.hll_merge.specs.Text.{PlanStep, Reading, reading, line_number, new, image, coupon, union}
 
--- what is served: how a line is read, and whether a step is refused on a stack though it is right;
+-- what is served: how a line is read, and which steps are refused on a stack though they are right;
 -- a line is a list of bytes in a text, and a step in a list of steps
-pub record Service (L : Type 0) : Type 0 where
+pub record Service (L : Type 0) : Type 1 where
   pub reads : L → Reading
-  pub refuses : List Plan → PlanStep → Bool
+  pub Refuses : List Plan → PlanStep → Type 0
 
 -- every step is served
 abbrev pub full : Service (List ℕ)
-full = record { reads = reading; refuses = λ _ _. false }
+full = record { reads = reading; Refuses = λ _ _. ⊥ }
 
 -- ---- steps
 
 -- the stack after a step, the last plan last
 abbrev pub Carries : List Plan → PlanStep → List Plan → Type 0
 Carries ts (new k w) us = us ≡ ts ++ plan.new k w ∷ []
-Carries ts (image bytes) us = (n : ℕ) × (x : Sketch) × Image (take n bytes) x × (us ≡ ts ++ plan.image x ∷ [])
+Carries ts (image bytes) us = (n : ℕ) × (x : Sketch) × Image (take n bytes) x × (us ≡ ts ++ plan.image (take n bytes) x ∷ [])
 Carries ts (coupon s v) us = (front : List Plan) × (t : Plan) × (ts ≡ front ++ t ∷ []) × (us ≡ front ++ plan.coupon t (pair s v) ∷ [])
 Carries ts (union n m w) us = (front xs : List Plan) × (ts ≡ front ++ xs) × (length xs ≡ n) × (us ≡ front ++ plan.union_of m w (plans_of xs) ∷ [])
 
@@ -43,13 +43,13 @@ IsFaultOfStep ts (union n m w) e = (length ts < n) × (e ≡ faults.Stack)
 module _ {L : Type 0} (service : Service L) where
   -- the stack after a step that is served
   pub record Takes (ts : List Plan) (step : PlanStep) (us : List Plan) : Type 0 where
-    pub served : service.refuses ts step ≡ false
+    pub served : service.Refuses ts step → ⊥
     pub carries : Carries ts step us
 
   -- why a step is refused: it is not served, or it is at fault itself
   pub data IsRefusal (ts : List Plan) (step : PlanStep) (e : Fault) : Type 0 where
-    unserved : service.refuses ts step ≡ true → e ≡ faults.Unserved → IsRefusal ts step e
-    faulty : service.refuses ts step ≡ false → IsFaultOfStep ts step e → IsRefusal ts step e
+    unserved : service.Refuses ts step → e ≡ faults.Unserved → IsRefusal ts step e
+    faulty : (service.Refuses ts step → ⊥) → IsFaultOfStep ts step e → IsRefusal ts step e
 
   -- ---- lines
 

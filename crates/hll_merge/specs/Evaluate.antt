@@ -1,5 +1,5 @@
 -- Carrying out a list of steps, and comparing two (docs/MODEL.md, "Plan texts").
-use Rattle.std.specs.Prelude.{◌≡◌, Bool, true, false, ◌↔◌, List, Some, Ok}
+use Rattle.std.specs.Prelude.{◌≡◌, Bool, true, ◌↔◌, List, Some, Ok}
 use Rattle.hll_sketch.specs.Agree.{Agree}
 use Rattle.hll_merge.specs.declared.fault.MergeError.{MergeError}
 use Rattle.hll_merge.specs.Plan.{Plan, outcome}
@@ -8,7 +8,7 @@ use Rattle.hll_merge.specs.Accepting.{Service, AcceptsLines, IsFirstFaultOfLines
 
 -- every step is served, and is its own line
 abbrev pub steps : Service PlanStep
-steps = record { reads = λ step. Ok (Some step); refuses = λ _ _. false }
+steps = record { reads = λ step. Ok (Some step); Refuses = λ _ _. ⊥ }
 
 -- the plan of a list of steps
 abbrev pub AcceptsSteps : List PlanStep → Plan → Type 0

@@ -43,7 +43,7 @@ joined m w xs = joint m w (least_lg_k m xs) (all_pairs xs) (list_any has_registe
 -- a union gives the join of its children
 abbrev pub JoinsChildren : Plan → Type 0
 JoinsChildren (new k w) = Unit {0}
-JoinsChildren (image x) = Unit {0}
+JoinsChildren (image b x) = Unit {0}
 JoinsChildren (coupon t c) = Unit {0}
 JoinsChildren (union_of m w ts) = outcome (union_of m w ts) ≡ joined m w (outcomes ts)
 

@@ -1,6 +1,6 @@
 -- What an accepted text promises of its image (docs/MODEL.md, "The meaning of a plan").
 use Rattle.std.specs.Prelude.{ℕ, List}
-use Rattle.hll_sketch.specs.Value.{Sketch, IsLegal}
+use Rattle.hll_sketch.specs.Value.{IsLegal}
 use Rattle.hll_sketch.specs.Image.{Image}
 use Rattle.hll_sketch.specs.Written.{Written}
 use Rattle.hll_merge.specs.Plan.{Plan, outcome, IsLegalPlan}

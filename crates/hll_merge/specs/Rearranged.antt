@@ -1,7 +1,8 @@
 -- Plans that differ in the order, repetition and grouping of children (docs/MODEL.md, "Convergence").
-use Rattle.std.specs.Prelude.{◌≡◌, ℕ, ◌⊎◌}
+use Rattle.std.specs.Prelude.{◌≡◌, ℕ, ◌⊎◌, List}
 use Rattle.hll_coupons.specs.declared.hll_type.HllType.{HllType}
-use Rattle.hll_merge.specs.Plan.{Plan, Plans, coupon, union_of, no_plans, more_plans, outcome, Leaves}
+use Rattle.hll_sketch.specs.Value.{Sketch}
+use Rattle.hll_merge.specs.Plan.{Plan, Plans, image, coupon, union_of, no_plans, more_plans, outcome, Leaves}
 use Rattle.hll_merge.specs.Grown.{IsGrown}
 
 -- the plan is one of the children
@@ -19,12 +20,13 @@ abbrev pub both_plans : Plans → Plans → Plans
 both_plans no_plans us = us
 both_plans (more_plans t ts) us = more_plans t (both_plans ts us)
 
--- Children reordered or repeated, and some of them replaced by one union of the same bound at any width, anywhere in a plan.
+-- An image in other bytes, children reordered or repeated, and some of them replaced by one union of the same bound at any width, anywhere in a plan.
 mutual
   pub data Rearranged : Plan → Plan → Type 0 where
     reordered : {m : ℕ} {w : HllType} {ts us : Plans} → SameChildren ts us → Rearranged (union_of m w ts) (union_of m w us)
     grouped : {m : ℕ} {v w : HllType} {ts us : Plans} → Rearranged (union_of m w (more_plans (union_of m v ts) us)) (union_of m w (both_plans ts us))
     same : {t : Plan} → Rearranged t t
+    written_otherwise : {a b : List ℕ} {x : Sketch} → Rearranged (image a x) (image b x)
     flipped : {t u : Plan} → Rearranged u t → Rearranged t u
     chained : {t v : Plan} → (u : Plan) → Leaves IsGrown u → Rearranged t u → Rearranged u v → Rearranged t v
     below_coupon : {t u : Plan} {c : ℕ} → Rearranged t u → Rearranged (coupon t c) (coupon u c)

@@ -1,38 +1,45 @@
--- What is served today: the lines `new` and `coupon`, while no sketch gets its eighth coupon (docs/PLAN.md, "What is served").
-use Rattle.std.specs.Prelude.{◌≡◌, ◌≢◌, ℕ, nat_le, Bool, true, false, List, [], ◌∷◌}
+-- What is served today: `new`, `image` of a list, and `coupon` while it leaves a list (docs/PLAN.md, "What is served").
+use Rattle.std.specs.Prelude.{◌≡◌, ◌≢◌, ℕ, ◌≤◌, ◌⊎◌, List, [], ◌∷◌, length, drop}
 use Rattle.std.specs.FinSet.{len}
 use Rattle.hll_coupons.specs.Pair.{pair}
 use Rattle.hll_coupons.specs.Table.{arrived}
+use Rattle.hll_coupons.specs.Payload.{list_coupons}
+use Rattle.hll_sketch.specs.Image.{HasHeader, list_shape}
 use Rattle.hll_merge.specs.declared.fault.Fault.{Fault}
 use Rattle.hll_merge.specs.declared.fault.Fault.TheVariants as faults
 use Rattle.hll_merge.specs.declared.fault.MergeError.{MergeError}
 use Rattle.hll_merge.specs.Plan as plan
 use Rattle.hll_merge.specs.Plan.{Plan, inputs}
-use Rattle.hll_merge.specs.Text.{PlanStep, served_reading, new, image, coupon, union}
+use Rattle.hll_merge.specs.Text.{PlanStep, reading, new, image, coupon, union}
 use Rattle.hll_merge.specs.Accepting.{Service, full, Accepts, IsFirstFault, IsFirstFaultOfLines}
 use Rattle.hll_merge.specs.Evaluate.{IsFirstFaultOfSteps}
 
--- whether the last plan has eight coupons or more once it has this one
-abbrev pub gets_eighth : List Plan → ℕ → Bool
-gets_eighth [] c = false
-gets_eighth (t ∷ []) c = nat_le 8 (len (inputs (plan.coupon t c)))
-gets_eighth (t ∷ u ∷ ts) c = gets_eighth (u ∷ ts) c
+-- the last plan has eight coupons or more once it has this one
+abbrev pub GetsEighth : List Plan → ℕ → Type 0
+GetsEighth [] c = ⊥
+GetsEighth (t ∷ []) c = 8 ≤ len (inputs (plan.coupon t c))
+GetsEighth (t ∷ u ∷ ts) c = GetsEighth (u ∷ ts) c
 
--- a list of eight coupons is not served, nor are images and unions
-abbrev pub is_refused : List Plan → PlanStep → Bool
-is_refused ts (new k w) = false
-is_refused ts (coupon s v) = gets_eighth ts (pair s v)
-is_refused ts (image bytes) = true
-is_refused ts (union n m w) = true
+-- the header of an image is right, and it is of a set or of registers
+abbrev pub IsBeyondLists : List ℕ → Type 0
+IsBeyondLists bytes = HasHeader bytes 1 ⊎ HasHeader bytes 2
+
+-- a coupon that takes a list out of its stage is not served, nor an image that is of no list, nor a union of as many plans as there are
+abbrev pub IsUnserved : List Plan → PlanStep → Type 0
+IsUnserved ts (new k w) = ⊥
+IsUnserved ts (image bytes) = IsBeyondLists bytes
+IsUnserved ts (coupon s v) = GetsEighth ts (pair s v)
+IsUnserved ts (union n m w) = n ≤ length ts
 
 abbrev pub today : Service (List ℕ)
-today = record { reads = served_reading; refuses = is_refused }
+today = record { reads = reading; Refuses = IsUnserved }
 
--- the coupons of such a plan in the order in which each came first: this is the order in which they are written
+-- the coupons of such a plan in the order in which they are written: those of an image in its order, and
+-- each other one behind them when it first came
 abbrev pub ArrivesAs : Plan → List ℕ → Type 0
 ArrivesAs (plan.new k w) order = order ≡ []
+ArrivesAs (plan.image b x) order = order ≡ list_coupons (list_shape b) (drop 8 b)
 ArrivesAs (plan.coupon t c) order = (before : List ℕ) × ArrivesAs t before × (order ≡ arrived before c)
-ArrivesAs (plan.image x) order = ⊥
 ArrivesAs (plan.union_of m w ts) order = ⊥
 
 -- ---- laws

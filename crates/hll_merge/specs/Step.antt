@@ -1,12 +1,12 @@
 -- What contracts see of a step: the plan's step, without its allocator (docs/PLAN.md, "The text").
-use Rattle.std.specs.Prelude.{◌<◌, ◌≤◌, ◌^◌, Option, Some, None, Result, Ok, Err}
+use Rattle.std.specs.Prelude.{◌≡◌, ◌⊎◌, ℕ, true, List, ◌<◌, ◌≤◌, ◌^◌, Option, Some, None, Result, Ok, Err}
 use Rattle.hll_base.specs.declared.error.Reason.{Reason}
 use Rattle.hll_base.specs.declared.error.Reason.TheVariants as reasons
 use Rattle.hll_merge.specs.declared.fault.Fault.{Fault}
 use Rattle.hll_merge.specs.declared.fault.Fault.TheVariants as faults
 use Rattle.hll_merge.specs.declared.step.Step.{Step}
 use Rattle.hll_merge.specs.declared.step.Step.TheVariants as steps
-use Rattle.hll_merge.specs.Text.{PlanStep, Reading, new, image, coupon, union}
+use Rattle.hll_merge.specs.Text.{PlanStep, Reading, names_image, new, image, coupon, union}
 
 -- the step of the plan
 abbrev pub step_of : {A : Type 0} → Step A → PlanStep
@@ -20,6 +20,10 @@ abbrev pub seen : {A : Type 0} → Result (Option (Step A)) Fault → Reading
 seen (Err e) = Err e
 seen (Ok None) = Ok None
 seen (Ok (Some step)) = Ok (Some (step_of step))
+
+-- what a reader of a line answers: what its words say, or that memory was refused for the bytes of an image
+abbrev pub ReadsAs : {A : Type 0} → List (List ℕ) → Reading → Result (Option (Step A)) Fault → Type 0
+ReadsAs words reading r = (seen r ≡ reading) ⊎ ((names_image words ≡ true) × (r ≡ Err faults.Memory))
 
 -- a step whose numbers are in their ranges
 abbrev pub IsInRange : PlanStep → Type 0

@@ -1,5 +1,5 @@
 -- The text of a plan: its lines, its words, and what a line says (docs/PLAN.md, "The text").
-use Rattle.std.specs.Prelude.{ℕ, ◌≡◌, ◌⊎◌, IfErr, ◌+◌, ◌-◌, ◌*◌, ◌^◌, min, fold, Bool, false, ◌&&◌, ◌||◌, ◌==◌, nat_lt, nat_le, nat_eq, if◌then◌else◌, List, [], ◌∷◌, length, Option, Some, None, Result, Ok, Err, codes}
+use Rattle.std.specs.Prelude.{ℕ, ◌≡◌, ◌⊎◌, IfErr, ◌+◌, ◌-◌, ◌*◌, ◌^◌, min, fold, Bool, false, ◌&&◌, ◌==◌, nat_lt, nat_le, nat_eq, if◌then◌else◌, List, [], ◌∷◌, length, Option, Some, None, Result, Ok, Err, codes}
 use Rattle.std.specs.List.{slice_split, list_all}
 use Rattle.std.specs.Str.{bytes_eq}
 use Rattle.std.specs.Str.Lines.{strip_carriage_return}
@@ -9,7 +9,7 @@ use Rattle.hex.specs.declared.error.FromHexError.{FromHexError}
 use Rattle.hll_coupons.specs.declared.hll_type.HllType.{HllType}
 use Rattle.hll_coupons.specs.declared.hll_type.HllType.TheVariants.{Hll4, Hll6, Hll8}
 use Rattle.hll_merge.specs.declared.fault.Fault.{Fault}
-use Rattle.hll_merge.specs.declared.fault.Fault.TheVariants.{Syntax, Range, Hex, Unserved}
+use Rattle.hll_merge.specs.declared.fault.Fault.TheVariants.{Syntax, Range, Hex}
 
 -- ---- lines
 
@@ -156,24 +156,9 @@ IsLineFault e = (e ≡ Syntax) ⊎ ((e ≡ Range) ⊎ (e ≡ Hex))
 abbrev pub FaultsOfLines : Type 0
 FaultsOfLines = (line : List ℕ) → IfErr (reading line) IsLineFault
 
--- ---- what is served today
+-- ---- what a reading may take
 
--- whether the first word names a step that is not served
-abbrev pub names_unserved : List (List ℕ) → Bool
-names_unserved [] = false
-names_unserved (first ∷ more) = bytes_eq first (codes "image") || bytes_eq first (codes "union")
-
--- what a line that is not skipped says, where one of such a step is not read further
-abbrev pub served_words : List (List ℕ) → Reading
-served_words ws = if names_unserved ws then Err Unserved else read_words ws
-
--- what a line says, where only such steps as are served are read
-abbrev pub served_reading : List ℕ → Reading
-served_reading [] = Ok None
-served_reading (b ∷ more) = if b == 35 then Ok None else served_words (words (b ∷ more))
-
-abbrev pub IsServedFault : Fault → Type 0
-IsServedFault e = (e ≡ Unserved) ⊎ IsLineFault e
-
-abbrev pub FaultsOfServedLines : Type 0
-FaultsOfServedLines = (line : List ℕ) → IfErr (served_reading line) IsServedFault
+-- whether the first of the words is `image`: the reading of no other line takes memory
+abbrev pub names_image : List (List ℕ) → Bool
+names_image [] = false
+names_image (first ∷ more) = bytes_eq first (codes "image")

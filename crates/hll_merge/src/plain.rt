@@ -1,6 +1,6 @@
 //! Outcomes of plans as slow programs, one case of the definition each (docs/MODEL.md, "Plans"). A plan that was
-//! carried out stands as the image of its outcome.
-ghost use Rattle.std.specs.Prelude.{◌≡◌, ◌≤◌, All, map, IfOk, IfErr};
+//! carried out stands as an image of its outcome, whose bytes no outcome looks at.
+ghost use Rattle.std.specs.Prelude.{◌≡◌, ◌≤◌, [], All, map, IfOk, IfErr};
 ghost use Rattle.hll_base.specs.declared.error.Reason.TheVariants.{Memory};
 ghost use Rattle.hll_sketch.specs.Plain.{sketch_value, Fits};
 ghost use Rattle.hll_merge.specs.Plan as plans;
@@ -41,7 +41,7 @@ pub(crate) fn outcome_of_coupon<A: Allocator + Clone>(
     coupon: Coupon,
 ) -> Result<PlainSketch<A>, Error>
     requires { Fits (sketch_value sketch.now) }
-    ensures ok { IfOk result (λ new. sketch_value new ≡ plans.outcome (plans.coupon (plans.image (sketch_value sketch.now)) coupon)) }
+    ensures ok { IfOk result (λ new. sketch_value new ≡ plans.outcome (plans.coupon (plans.image [] (sketch_value sketch.now)) coupon)) }
     ensures fits { IfOk result (λ new. Fits (sketch_value new)) }
     ensures err { IfErr result (λ e. e ≡ Memory) }
 {
@@ -57,7 +57,7 @@ pub(crate) fn outcome_of_union<A: Allocator + Clone>(
 ) -> Result<PlainSketch<A>, Error>
     requires small { bound ≤ 21 }
     requires fits { All (λ x. Fits (sketch_value x)) children.now }
-    ensures ok { IfOk result (λ new. sketch_value new ≡ plans.outcome (plans.union_of bound width (plans.plans_of (map (λ x. plans.image (sketch_value x)) children.now)))) }
+    ensures ok { IfOk result (λ new. sketch_value new ≡ plans.outcome (plans.union_of bound width (plans.plans_of (map (λ x. plans.image [] (sketch_value x)) children.now)))) }
     ensures fits { IfOk result (λ new. Fits (sketch_value new)) }
     ensures err { IfErr result (λ e. e ≡ Memory) }
 {

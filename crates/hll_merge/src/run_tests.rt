@@ -54,7 +54,7 @@ const FAULTS: [(&[u8], u64, Fault); 25] = [
     (b"new 10 8\ncoupon 5 0", 2, Fault::Range),
     (b"new 10 8\ncoupon 5 64", 2, Fault::Range),
     (b"union 0 12 4", 1, Fault::Unserved),
-    (b"image", 1, Fault::Unserved),
+    (b"image", 1, Fault::Syntax),
 ];
 
 /// A sketch gets its eighth coupon.

@@ -8,7 +8,7 @@ ghost use Rattle.hll_merge.specs.Text.{line_number};
 ghost use Rattle.hll_merge.specs.Extent.{lines_of};
 ghost use Rattle.hll_merge.specs.Accepting.{Takes, IsRefusal, Gives, IsFaultOfLine, Runs, FaultsAtLine};
 ghost use Rattle.hll_merge.specs.Served.{today};
-ghost use Rattle.hll_merge.specs.Kept.{Kept, fresh, UpdatesLast, RefusesLast, StandFor};
+ghost use Rattle.hll_merge.specs.Kept.{Kept, fresh, IsReadFrom, RefusesBytes, UpdatesLast, RefusesLast, RefusesUnion, StandFor};
 ghost use Rattle.hll_merge.specs.declared.fault.Fault.TheVariants.{Memory, Unserved};
 
 use crate::fault::{Fault, MergeError};
@@ -60,7 +60,7 @@ impl<A: Allocator> Stack<A> {
 
 /// Adds a coupon to the last of some sketches. Takes no memory.
 ///
-/// `Stack` where there is none, `Unserved` where the coupon would be its eighth.
+/// `Stack` where there is none, `Unserved` where it would have eight coupons then, or more.
 fn update_last<A: Allocator>(sketches: &mut [ListSketch<A>], coupon: Coupon) -> Result<(), Fault>
     requires { 1 ≤ value_of coupon }
     ensures ok { OnOk result (UpdatesLast sketches.old coupon sketches.new) }
@@ -91,6 +91,27 @@ impl<A: Allocator + Clone> Stack<A> {
         Ok(())
     }
 
+    /// Pushes the list of an image, as `ListSketch::read`. `Memory` also where a larger stack is refused.
+    fn push_image(&mut self, bytes: &[u8]) -> Result<(), Fault>
+        ensures ok { OnOk result ((x : Kept) × IsReadFrom bytes.now x × (self.new ≡ self.old ++ x ∷ [])) }
+        ensures err { IfErr result (λ e. ((e ≡ Memory) ⊎ RefusesBytes bytes.now e) × (self.new ≡ self.old)) }
+    {
+        let sketch = ListSketch::read(self.cloned_allocator()?, bytes)?;
+        self.sketches.push(sketch)?;
+        Ok(())
+    }
+
+    /// Why the last sketches, so many of them, are not joined: `Stack` where there are fewer, else `Unserved`.
+    fn union_fault(&self, count: u32) -> Fault
+        ensures { RefusesUnion self.now count result }
+    {
+        if self.sketches.len() < count as usize {
+            Fault::Stack
+        } else {
+            Fault::Unserved
+        }
+    }
+
     /// Adds a coupon to the last sketch, as `update_last`.
     fn push_coupon(&mut self, coupon: Coupon) -> Result<(), Fault>
         requires { 1 ≤ value_of coupon }
@@ -102,7 +123,7 @@ impl<A: Allocator + Clone> Stack<A> {
 
     /// Carries out a step.
     ///
-    /// `Memory` where an empty list, or a larger stack, are refused; `Stack` and `Unserved` as the plan says. A refusal
+    /// `Memory` where a list, or a larger stack, are refused; `Image`, `Stack` and `Unserved` as the plan says. A refusal
     /// leaves the stack as it was.
     fn carry_out(&mut self, step: Step<A>) -> Result<(), Fault>
         requires { IsInRange (step_of step) }
@@ -114,8 +135,8 @@ impl<A: Allocator + Clone> Stack<A> {
         match step {
             Step::New(lg_k, hll_type) => self.push_new(lg_k, hll_type),
             Step::Coupon(slot, value) => self.push_coupon(Coupon::pack(slot, value)),
-            Step::Image(_) => Err(Fault::Unserved),
-            Step::Union(_, _, _) => Err(Fault::Unserved),
+            Step::Image(bytes) => self.push_image(bytes.as_slice()),
+            Step::Union(count, _, _) => Err(self.union_fault(count)),
         }
     }
 

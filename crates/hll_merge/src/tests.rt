@@ -17,8 +17,8 @@ const REFUSED: [(&[u8], Fault); 8] = [
     (b"new 3 8", Fault::Range),
     (b"new 10 5", Fault::Range),
     (b"coupon 67108864 1", Fault::Range),
-    (b"image", Fault::Unserved),
-    (b"union 0 12 4", Fault::Unserved),
+    (b"image", Fault::Syntax),
+    (b"union 0 12", Fault::Syntax),
 ];
 
 #[test]

@@ -35,6 +35,27 @@ pub(crate) fn two_numbers(rest: Option<&[u8]>) -> Option<(u32, u32)>
     }
 }
 
+/// The three numbers after a space, where just three words stand there and all are numbers.
+pub(crate) fn three_numbers(rest: Option<&[u8]>) -> Option<(u32, u32, u32)>
+    ensures { result ≡ plan.three_numbers (words_after (option_copied rest.entry)) }
+{
+    let (first, more) = split_word(rest?);
+    let (second, third) = two_numbers(more)?;
+    Some((read_number(first)?, second, third))
+}
+
+/// The word after a space, where just one stands there and is not empty.
+pub(crate) fn one_word(rest: Option<&[u8]>) -> Option<&[u8]>
+    ensures { option_copied result ≡ plan.one_word (words_after (option_copied rest.entry)) }
+{
+    let (word, more) = split_word(rest?);
+    match more {
+        None if word.is_empty() => None,
+        None => Some(word),
+        Some(_) => None,
+    }
+}
+
 /// The number that a word stands for, where it is 1 to 8 decimal digits.
 fn read_number(word: &[u8]) -> Option<u32>
     ensures { result ≡ number word.now }

@@ -1,5 +1,6 @@
 mod StageRows
 pub mod Adding
+pub mod FaultKinds
 pub mod Faults
 pub mod Headers
 pub mod Images

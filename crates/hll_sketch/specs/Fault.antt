@@ -1,6 +1,8 @@
 -- What can be wrong with an image (docs/FORMAT.md, "Order of checks"; docs/MODEL.md, "Faults of images").
 use Rattle.std.specs.Prelude.{◌≡◌, ◌≢◌, ℕ, ◌≤◌, ◌<◌, List, length, take, drop}
 use Rattle.hll_base.specs.declared.error.Reason.{Reason}
+use Rattle.hll_base.specs.declared.error.ErrorKind.TheVariants.{InvalidData}
+use Rattle.hll_base.specs.Reason.{kind_of}
 use Rattle.hll_base.specs.declared.error.Reason.TheVariants.{Truncated, Family, Version, LgK, Width, Stage, Preamble, LgArr}
 use Rattle.hll_coupons.specs.Payload.{ListFault, SetFault}
 use Rattle.hll_arrays.specs.Payload.{Hll8Fault, Hll6Fault, Hll4Fault}
@@ -40,3 +42,7 @@ FaultExcludesHeader = (b : List ℕ) (r : Reason) (stage : ℕ) → stage < 3 �
 -- where a fault stands, no front of the bytes is an image
 abbrev pub FaultExcludesImage : Type 0
 FaultExcludesImage = (b : List ℕ) (r : Reason) → Fault b r → (n : ℕ) (x : Sketch) → Image (take n b) x → ⊥
+
+-- a fault of an image is one of data: never of an argument, nor of memory
+abbrev pub FaultsAreOfData : Type 0
+FaultsAreOfData = (b : List ℕ) (r : Reason) → Fault b r → kind_of r ≡ InvalidData

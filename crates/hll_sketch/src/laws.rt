@@ -2,7 +2,7 @@
 //! (docs/MODEL.md, "Laws of adding and merging" and "Images").
 ghost use Rattle.hll_sketch.specs.Laws.{AddOfAdd, AddEach, EmptyMerged, UnionLgK, AddIsLegal, MergedIsLegal};
 ghost use Rattle.hll_sketch.specs.Image.{OneImage, ImageIsLegal};
-ghost use Rattle.hll_sketch.specs.Fault.{FaultExcludesHeader, FaultExcludesImage};
+ghost use Rattle.hll_sketch.specs.Fault.{FaultExcludesHeader, FaultExcludesImage, FaultsAreOfData};
 ghost use Rattle.hll_sketch.specs.Written.{WrittenIsImage};
 
 /// To add pairs twice is to add their union.
@@ -38,6 +38,11 @@ pub fn fault_excludes_header()
 /// Where a fault stands in bytes, no front of them is an image.
 pub fn fault_excludes_image()
     ensures { FaultExcludesImage }
+{}
+
+/// A fault of an image is one of data, never of an argument or of memory.
+pub fn faults_are_of_data()
+    ensures { FaultsAreOfData }
 {}
 
 /// What is written for a legal sketch is an image of it.

@@ -1,33 +1,46 @@
-use Rattle.std.proofs.Common.{◌≡◌, ℕ, ◌<◌, inl, inr, List, ap, sym, subst, refl, ◌∙◌, arith}
+use Rattle.std.proofs.Common.{◌≡◌, ℕ, ◌<◌, inl, inr, List, ap, sym, subst, ◌∙◌, arith}
 use Rattle.std.proofs.Math.Nat.{mod-eq_of_lt}
 use Rattle.std.proofs.lemmas.Result.{MatchResult-from_both, IfOk-weaker, IfErr-weaker}
 use Rattle.hll_coupons.specs.Pair.{pair}
 use Rattle.hll_merge.specs.Plan.{Plan}
 use Rattle.hll_merge.specs.Step.{step_of, IsInRange}
-use Rattle.hll_merge.specs.Text.{new}
-use Rattle.hll_merge.specs.Accepting.{Takes, unserved}
+use Rattle.hll_merge.specs.Text.{new, image}
+use Rattle.hll_merge.specs.Accepting.{Takes}
 use Rattle.hll_merge.specs.Served.{today}
-use Rattle.hll_merge.specs.Kept.{StandFor, UpdatesLast, RefusesLast}
-use Rattle.hll_merge.proofs.StackLemmas.{takes-new, takes-coupon, refuses-coupon}
+use Rattle.hll_merge.specs.Kept.{IsReadFrom, RefusesBytes, StandFor, UpdatesLast, RefusesLast}
+use Rattle.hll_merge.proofs.StackLemmas.{takes-new, takes-image, refuses-image, takes-coupon, refuses-coupon, refuses-union}
 use Rattle.hll_merge.proofs.stack.Stack.carry_out.Goals as goal
-use Rattle.hll_merge.proofs.stack.Stack.carry_out.Goals.{in-New, in-Coupon, in-Image, in-Union}
 
-pub returns-clause-carried : goal.returns-clause-carried
-returns-clause-carried g c ts h = elim c.match-step.branch [
-  | in-New w ↦ rw (w.result-is, w.self-is, w.in-New.is)
-      (MatchResult-from_both w.push_new.result _ _
-      (IfOk-weaker w.push_new.result _ _ (λ _ e. subst (λ xs. (us : List Plan) × Takes today ts (new w.in-New.lg_k w.in-New.hll_type) us × StandFor xs us) (sym e) (takes-new c.args.self.now ts w.in-New.lg_k w.in-New.hll_type h)) w.push_new.ensures.ok)
-      (IfErr-weaker w.push_new.result _ _ (λ e r. inl r.0) w.push_new.ensures.err))
-  | in-Coupon w ↦
-      let slot : ℕ = w.in-Coupon.slot in
-      let value : ℕ = w.in-Coupon.value in
-      let legal = subst (λ s. IsInRange (step_of s)) w.in-Coupon.is c.requires in
-      let packed : w.pack.result ≡ pair slot value = w.pack.ensures ∙ ap (λ s. pair s value) (mod-eq_of_lt legal.0) in
-      let some : 0 < pair slot value = omega (arith, legal.1) in
-      rw (w.result-is, w.self-is, w.in-Coupon.is)
-      (MatchResult-from_both w.push_coupon.result _ _
-      (IfOk-weaker w.push_coupon.result _ _ (λ _ u. takes-coupon c.args.self.now w.push_coupon.new.self ts slot value some h (subst (λ q. UpdatesLast c.args.self.now q w.push_coupon.new.self) packed u)) w.push_coupon.ensures.ok)
-      (IfErr-weaker w.push_coupon.result _ _ (λ e r. inr (refuses-coupon c.args.self.now ts slot value e h (subst (λ q. RefusesLast c.args.self.now q e) packed r.0))) w.push_coupon.ensures.err))
-  | in-Image w ↦ rw (w.result-is, w.in-Image.is) (inr (unserved refl refl))
-  | in-Union w ↦ rw (w.result-is, w.in-Union.is) (inr (unserved refl refl))
-]
+pub returns-in-New-clause-carried : goal.returns-in-New-clause-carried
+returns-in-New-clause-carried g c ts h = rw c.in-New.is
+    (MatchResult-from_both c.push_new.result _ _
+    (IfOk-weaker c.push_new.result _ _ (λ _ e. subst (λ xs. (us : List Plan) × Takes today ts (new c.in-New.lg_k c.in-New.hll_type) us × StandFor xs us) (sym e) (takes-new c.args.self.now ts c.in-New.lg_k c.in-New.hll_type h)) c.push_new.ensures.ok)
+    (IfErr-weaker c.push_new.result _ _ (λ e r. inl r.0) c.push_new.ensures.err))
+
+pub returns-in-Coupon-clause-carried : goal.returns-in-Coupon-clause-carried
+returns-in-Coupon-clause-carried g c ts h =
+    let slot : ℕ = c.in-Coupon.slot in
+    let value : ℕ = c.in-Coupon.value in
+    let legal = subst (λ s. IsInRange (step_of s)) c.in-Coupon.is c.requires in
+    let packed : c.pack.result ≡ pair slot value = c.pack.ensures ∙ ap (λ s. pair s value) (mod-eq_of_lt legal.0) in
+    let some : 0 < pair slot value = omega (arith, legal.1) in
+    rw c.in-Coupon.is
+    (MatchResult-from_both c.push_coupon.result _ _
+    (IfOk-weaker c.push_coupon.result _ _ (λ _ u. takes-coupon c.args.self.now c.push_coupon.new.self ts slot value some h (subst (λ q. UpdatesLast c.args.self.now q c.push_coupon.new.self) packed u)) c.push_coupon.ensures.ok)
+    (IfErr-weaker c.push_coupon.result _ _ (λ e r. inr (refuses-coupon c.args.self.now ts slot value e h (subst (λ q. RefusesLast c.args.self.now q e) packed r.0))) c.push_coupon.ensures.err))
+
+pub returns-in-Image-clause-carried : goal.returns-in-Image-clause-carried
+returns-in-Image-clause-carried g c ts h =
+    let bytes : List ℕ = c.in-Image.bytes in
+    rw c.in-Image.is
+    (MatchResult-from_both c.push_image.result _ _
+    (IfOk-weaker c.push_image.result _ _ (λ _ r. subst (λ xs. (us : List Plan) × Takes today ts (image bytes) us × StandFor xs us) (sym r.2)
+    (takes-image c.args.self.now ts bytes r.0 h (subst (λ b. IsReadFrom b r.0) c.as_slice.ensures r.1))) c.push_image.ensures.ok)
+    (IfErr-weaker c.push_image.result _ _ (λ e r. elim r.0 [
+      | inl m ↦ inl m
+      | inr f ↦ inr (refuses-image ts bytes e (subst (λ b. RefusesBytes b e) c.as_slice.ensures f))
+    ]) c.push_image.ensures.err))
+
+pub returns-in-Union-clause-carried : goal.returns-in-Union-clause-carried
+returns-in-Union-clause-carried g c ts h = rw c.in-Union.is
+    (inr (refuses-union c.args.self.now ts c.in-Union.count c.in-Union.field-1 c.in-Union.field-2 c.union_fault.result h c.union_fault.ensures))

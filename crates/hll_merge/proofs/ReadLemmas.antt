@@ -1,0 +1,120 @@
+-- Lemmas on reading the list of an image.
+use Rattle.std.proofs.Common.{◌≡◌, ◌≢◌, ℕ, ◌+◌, ◌*◌, ◌<◌, ◌≤◌, inl, inr, zero, suc, List, take, drop, length, Result, Ok, Err, refl, sym, ◌∙◌, ap, subst, arith}
+use Rattle.std.specs.Prelude.{◌⊎◌}
+use Rattle.std.specs.Result.{IfErr, IsErrAnd}
+use Rattle.std.proofs.lemmas.List.{take-append-drop, drop-take, length-take}
+use Rattle.hll_base.specs.declared.error.Reason.{Reason}
+use Rattle.hll_base.specs.declared.error.Reason.TheVariants as reasons
+use Rattle.hll_base.specs.declared.error.ErrorKind.TheVariants.{InvalidData}
+use Rattle.hll_base.specs.Reason.{kind_of}
+use Rattle.hll_coupons.specs.Table.{Table, held}
+use Rattle.hll_coupons.specs.Pair.{set_of}
+use Rattle.hll_coupons.specs.Coupons.{AreCoupons}
+use Rattle.hll_coupons.specs.Payload.{list_places, list_coupons, list_table}
+use Rattle.hll_coupons.proofs.Reading.{held-list_table, list_coupons-front}
+use Rattle.hll_sketch.specs.Value.{coupons}
+use Rattle.hll_sketch.specs.Image.{stage_bits, lg_k_byte, width_bits, width_of_bits, HasHeader, list_shape, IsListImage}
+use Rattle.hll_sketch.specs.Header.{stage_of_bits, header_of}
+use Rattle.hll_sketch.specs.declared.header.Header.{Header}
+use Rattle.hll_sketch.specs.declared.header.Stage.{Stage}
+use Rattle.hll_sketch.specs.declared.header.Stage.TheVariants as stages
+use Rattle.hll_sketch.specs.Fault.{Fault, HeaderFault}
+use Rattle.hll_sketch.specs.Fault as images
+use Rattle.hll_sketch.proofs.Faults.{fault_excludes_header}
+use Rattle.hll_sketch.proofs.FaultKinds.{faults_are_of_data}
+use Rattle.hll_sketch.proofs.Images.{at, same_width, same_list_shape}
+use Rattle.hll_merge.specs.declared.fault.Fault.TheVariants as faults
+use Rattle.hll_merge.specs.Step.{fault_of}
+use Rattle.hll_merge.specs.Served.{IsBeyondLists}
+use Rattle.hll_merge.specs.Kept.{Kept, IsReadFrom, RefusesBytes, no_image}
+
+-- a fault of data is told as one of the image
+fault_of-data : (r : Reason) → kind_of r ≡ InvalidData → fault_of r ≡ faults.Image r
+fault_of-data reasons.Truncated h = refl
+fault_of-data reasons.Family h = refl
+fault_of-data reasons.Version h = refl
+fault_of-data reasons.LgK h = refl
+fault_of-data reasons.Width h = refl
+fault_of-data reasons.Stage h = refl
+fault_of-data reasons.Preamble h = refl
+fault_of-data reasons.LgArr h = refl
+fault_of-data reasons.Count h = refl
+fault_of-data reasons.Coupon h = refl
+fault_of-data reasons.Register h = refl
+fault_of-data reasons.Argument h = refl
+fault_of-data reasons.Memory h = absurd (cc)
+
+-- bytes with a fault, whose header is not of another stage, are refused for it
+refused_for : (b : List ℕ) (r : Reason) → (IsBeyondLists b → ⊥) → Fault b r → RefusesBytes b (fault_of r)
+refused_for b r lists f = subst (RefusesBytes b) (sym (fault_of-data r (faults_are_of_data b r f))) (no_image r lists f)
+
+pub refused-header : (b : List ℕ) (r : Reason) → HeaderFault b r → RefusesBytes b (fault_of r)
+refused-header b r f = refused_for b r of (images.Fault.header f)
+  where
+    of : IsBeyondLists b → ⊥
+    of (inl set) = fault_excludes_header b r 1 (omega arith) f set
+    of (inr hll) = fault_excludes_header b r 2 (omega arith) f hll
+
+-- a list is of no other stage
+not_beyond : (b : List ℕ) → HasHeader b 0 → IsBeyondLists b → ⊥
+not_beyond b h (inl set) = omega (arith, h.stage_is, set.stage_is)
+not_beyond b h (inr hll) = omega (arith, h.stage_is, hll.stage_is)
+
+pub refused-list : (b : List ℕ) (r : Reason) → HasHeader b 0 → (r ≡ reasons.Memory) ⊎ Fault b r → (fault_of r ≡ faults.Memory) ⊎ RefusesBytes b (fault_of r)
+refused-list b r h (inl m) = inl (ap fault_of m)
+refused-list b r h (inr f) = inr (refused_for b r (not_beyond b h) f)
+
+-- an error that is passed on
+pub IfErr-passed : {T E : Type 0} (P : E → Type 0) (r : Result T E) (e : E) → IsErrAnd r (λ f. f ≡ e) → P e → IfErr r P
+IfErr-passed P (Ok x) e h f = tt
+IfErr-passed P (Err g) e h f = subst P (sym h) f
+
+-- ---- the list of an image
+
+-- a stage that is told as a list is one
+pub stage-list : (b : List ℕ) (h : Header) → stage_bits b < 3 → h ≡ header_of b → h.stage ≡ stages.List → stage_bits b ≡ 0
+stage-list b h below is list = of (stage_bits b) below (sym (ap (λ (x : Header). x.stage) is) ∙ list)
+  where
+    of : (n : ℕ) → n < 3 → stage_of_bits n ≡ stages.List → n ≡ 0
+    of zero l e = refl
+    of (suc zero) l e = let no : stages.Set ≡ stages.List = e in cc
+    of (suc (suc zero)) l e = let no : stages.Hll ≡ stages.List = e in cc
+    of (suc (suc (suc n))) l e = absurd (omega arith)
+
+pub not_list : (s : Stage) → (s ≡ stages.Set) ⊎ (s ≡ stages.Hll) → s ≢ stages.List
+not_list s (inl e) l = let no : stages.Set ≡ stages.List = sym e ∙ l in cc
+not_list s (inr e) l = let no : stages.Hll ≡ stages.List = sym e ∙ l in cc
+
+-- and one that is told as none is none
+pub stage-other : (b : List ℕ) (h : Header) → HasHeader b (stage_bits b) → stage_bits b < 3 → h ≡ header_of b → h.stage ≢ stages.List → IsBeyondLists b
+stage-other b h header below is other = of (stage_bits b) below header (λ e. other (ap (λ (x : Header). x.stage) is ∙ e))
+  where
+    of : (n : ℕ) → n < 3 → HasHeader b n → stage_of_bits n ≢ stages.List → IsBeyondLists b
+    of zero l k o = absurd (o refl)
+    of (suc zero) l k o = inl k
+    of (suc (suc zero)) l k o = inr k
+    of (suc (suc (suc n))) l k o = absurd (omega arith)
+
+-- the list that is read is that of a front of the bytes
+pub is_read : (b : List ℕ) (h : Header) (t : Table) → h ≡ header_of b → IsListImage (take (8 + 4 * list_places (list_shape b)) b) → t ≡ list_table (list_shape b) (drop 8 b)
+    → (let x : Kept = record { lg_k = h.lg_k; width = h.hll_type; table = t } in IsReadFrom b x)
+is_read b h t is image table =
+    let m : ℕ = 4 * list_places (list_shape b) in
+    let a : List ℕ = take (8 + m) b in
+    let e = take-append-drop (8 + m) b in
+    let shape : list_shape a ≡ list_shape b = same_list_shape a (drop (8 + m) b) b e image.header.whole in
+    let there : m ≤ length (drop 8 b) = omega (arith, image.payload.size, ap (λ z. list_places z) shape, ap length (drop-take 8 m b), length-take m (drop 8 b)) in
+    let same : list_coupons (list_shape a) (drop 8 a) ≡ list_coupons (list_shape b) (drop 8 b) =
+    ap (λ z. list_coupons z (drop 8 a)) shape ∙ ap (list_coupons (list_shape b)) (drop-take 8 m b) ∙ list_coupons-front (list_shape b) (drop 8 b) there in
+    let order : held t.places ≡ list_coupons (list_shape a) (drop 8 a) =
+    ap (λ (u : Table). held u.places) table ∙ held-list_table (list_shape b) (drop 8 b) (subst AreCoupons same image.payload.are_coupons) ∙ sym same in
+    let k : h.lg_k ≡ lg_k_byte a = ap (λ (x : Header). x.lg_k) is ∙ sym (at a (drop (8 + m) b) b e image.header.whole 3 (omega arith)) in
+    let width : h.hll_type ≡ width_of_bits (width_bits a) = ap (λ (x : Header). x.hll_type) is ∙ ap width_of_bits (sym (same_width a (drop (8 + m) b) b e image.header.whole)) in
+    let size : t.lg_size ≡ 3 = ap (λ (u : Table). u.lg_size) table in
+    record {
+      size = size;
+      count = 8 + m;
+      image = image;
+      value = λ i. record { lg_k = k i; width = width i; content = coupons (set_of (order i)) (size i) };
+      order = order;
+    }

@@ -1,0 +1,68 @@
+-- A fault of an image is one of data.
+use Rattle.std.proofs.Common.{◌≡◌, ℕ, List, refl}
+use Rattle.hll_base.specs.declared.error.Reason.{Reason}
+use Rattle.hll_base.specs.declared.error.ErrorKind.TheVariants.{InvalidData}
+use Rattle.hll_base.specs.Reason.{kind_of}
+use Rattle.hll_coupons.specs.Payload.{ListShape, ListFault, SetShape, SetFault}
+use Rattle.hll_coupons.specs.Payload as coupons
+use Rattle.hll_arrays.specs.Payload.{Hll8Fault, Hll6Fault, Hll4Shape, Hll4Fault}
+use Rattle.hll_arrays.specs.Payload as arrays
+use Rattle.hll_sketch.specs.Fault.{HeaderFault, FaultsAreOfData}
+use Rattle.hll_sketch.specs.Fault as fault
+
+header_data : (b : List ℕ) (r : Reason) → HeaderFault b r → kind_of r ≡ InvalidData
+header_data b r (fault.HeaderFault.short l) = refl
+header_data b r (fault.HeaderFault.family l n) = refl
+header_data b r (fault.HeaderFault.version l n) = refl
+header_data b r (fault.HeaderFault.lg_k l n) = refl
+header_data b r (fault.HeaderFault.width l n) = refl
+header_data b r (fault.HeaderFault.stage l n) = refl
+header_data b r (fault.HeaderFault.preamble l s n) = refl
+
+list_data : (h : ListShape) (b : List ℕ) (r : Reason) → ListFault h b r → kind_of r ≡ InvalidData
+list_data h b r (coupons.ListFault.count n) = refl
+list_data h b r (coupons.ListFault.short n l) = refl
+list_data h b r (coupons.ListFault.coupon n l a) = refl
+list_data h b r (coupons.ListFault.number n l a) = refl
+
+set_data : (h : SetShape) (b : List ℕ) (r : Reason) → SetFault h b r → kind_of r ≡ InvalidData
+set_data h b r (coupons.SetFault.no_count l) = refl
+set_data h b r (coupons.SetFault.count l n) = refl
+set_data h b r (coupons.SetFault.short n l) = refl
+set_data h b r (coupons.SetFault.coupon n l a) = refl
+set_data h b r (coupons.SetFault.number n l a) = refl
+
+hll8_data : (k : ℕ) (b : List ℕ) (r : Reason) → Hll8Fault k b r → kind_of r ≡ InvalidData
+hll8_data k b r (arrays.Hll8Fault.no_counts l) = refl
+hll8_data k b r (arrays.Hll8Fault.zero_count l n) = refl
+hll8_data k b r (arrays.Hll8Fault.exceptions_counted l n) = refl
+hll8_data k b r (arrays.Hll8Fault.short l) = refl
+hll8_data k b r (arrays.Hll8Fault.register l n) = refl
+
+hll6_data : (k : ℕ) (b : List ℕ) (r : Reason) → Hll6Fault k b r → kind_of r ≡ InvalidData
+hll6_data k b r (arrays.Hll6Fault.no_counts l) = refl
+hll6_data k b r (arrays.Hll6Fault.zero_count l n) = refl
+hll6_data k b r (arrays.Hll6Fault.exceptions_counted l n) = refl
+hll6_data k b r (arrays.Hll6Fault.short l) = refl
+
+hll4_data : (h : Hll4Shape) (b : List ℕ) (r : Reason) → Hll4Fault h b r → kind_of r ≡ InvalidData
+hll4_data h b r (arrays.Hll4Fault.no_counts l) = refl
+hll4_data h b r (arrays.Hll4Fault.low_count_above l n) = refl
+hll4_data h b r (arrays.Hll4Fault.exceptions_above l n) = refl
+hll4_data h b r (arrays.Hll4Fault.table l n c e t) = refl
+hll4_data h b r (arrays.Hll4Fault.short n l) = refl
+hll4_data h b r (arrays.Hll4Fault.coupon n l a) = refl
+hll4_data h b r (arrays.Hll4Fault.number n l a) = refl
+hll4_data h b r (arrays.Hll4Fault.register n l a d) = refl
+
+pub faults_are_of_data : FaultsAreOfData
+faults_are_of_data b r (fault.Fault.header f) = header_data b r f
+faults_are_of_data b r (fault.Fault.list_table l s n) = refl
+faults_are_of_data b r (fault.Fault.list_payload l s f) = list_data _ _ r f
+faults_are_of_data b r (fault.Fault.set_table l s k n) = refl
+faults_are_of_data b r (fault.Fault.set_short l s n) = refl
+faults_are_of_data b r (fault.Fault.set_payload l s k c f) = set_data _ _ r f
+faults_are_of_data b r (fault.Fault.hll_short l s w n) = refl
+faults_are_of_data b r (fault.Fault.hll8_payload l s w k f) = hll8_data _ _ r f
+faults_are_of_data b r (fault.Fault.hll6_payload l s w k f) = hll6_data _ _ r f
+faults_are_of_data b r (fault.Fault.hll4_payload l s w k f) = hll4_data _ _ r f
