@@ -4,7 +4,9 @@ use Rattle.std.proofs.lemmas.List.{length-append, take-append-drop}
 use Rattle.std.proofs.lemmas.Result.{IfErr-at_err}
 use Rattle.std.specs.Str.Lines.{lines}
 use Rattle.hll_sketch.proofs.Images.{one_image}
+use Rattle.hll_base.specs.Reason.{kind_of}
 use Rattle.hll_sketch.proofs.Faults.{fault_excludes_image}
+use Rattle.hll_sketch.proofs.FaultKinds.{faults_are_of_data}
 use Rattle.hll_merge.specs.declared.fault.Fault.{Fault}
 use Rattle.hll_merge.specs.declared.fault.Fault.TheVariants as faults
 use Rattle.hll_merge.specs.declared.fault.MergeError.{MergeError}
@@ -134,25 +136,30 @@ accepted_is_faultless text t e = (accepted_or_faulty full (lines text) t e, acce
 -- ---- whose faults they are
 
 own-text : (e : Fault) → IsLineFault e → IsOwnFault e
-own-text e (inl h) = record { not_memory = λ z. cc; not_read = λ z. cc; not_write = λ z. cc }
-own-text e (inr (inl h)) = record { not_memory = λ z. cc; not_read = λ z. cc; not_write = λ z. cc }
-own-text e (inr (inr h)) = record { not_memory = λ z. cc; not_read = λ z. cc; not_write = λ z. cc }
+own-text e (inl h) = record { not_memory = λ z. cc; not_read = λ z. cc; not_write = λ z. cc; of_data = λ r z. cc }
+own-text e (inr (inl h)) = record { not_memory = λ z. cc; not_read = λ z. cc; not_write = λ z. cc; of_data = λ r z. cc }
+own-text e (inr (inr h)) = record { not_memory = λ z. cc; not_read = λ z. cc; not_write = λ z. cc; of_data = λ r z. cc }
 
 own-step : (ts : List Plan) (step : PlanStep) (e : Fault) → IsFaultOfStep ts step e → IsOwnFault e
 own-step ts (new k w) e f = absurd f
-own-step ts (image bytes) e f = let is : e ≡ faults.Image f.0 = f.2 in record { not_memory = λ z. cc; not_read = λ z. cc; not_write = λ z. cc }
-own-step ts (coupon s v) e f = let is : e ≡ faults.Stack = f.1 in record { not_memory = λ z. cc; not_read = λ z. cc; not_write = λ z. cc }
-own-step ts (union n m w) e f = let is : e ≡ faults.Stack = f.1 in record { not_memory = λ z. cc; not_read = λ z. cc; not_write = λ z. cc }
+own-step ts (image bytes) e f = let is : e ≡ faults.Image f.0 = f.2 in record {
+  not_memory = λ z. cc;
+  not_read = λ z. cc;
+  not_write = λ z. cc;
+  of_data = λ r z. let same : f.0 ≡ r = cc in ap kind_of (sym same) ∙ faults_are_of_data bytes f.0 f.1;
+}
+own-step ts (coupon s v) e f = let is : e ≡ faults.Stack = f.1 in record { not_memory = λ z. cc; not_read = λ z. cc; not_write = λ z. cc; of_data = λ r z. cc }
+own-step ts (union n m w) e f = let is : e ≡ faults.Stack = f.1 in record { not_memory = λ z. cc; not_read = λ z. cc; not_write = λ z. cc; of_data = λ r z. cc }
 
 module _ {L : Type 0} (service : Service L) (read : (l : L) (e : Fault) → service.reads l ≡ Err e → IsOwnFault e) where
   own-line : (ts : List Plan) (l : L) (e : Fault) → IsFaultOfLine service ts l e → IsOwnFault e
   own-line ts l e (unread r) = read l e r
-  own-line ts l e (refused step r (unserved s is)) = record { not_memory = λ z. cc; not_read = λ z. cc; not_write = λ z. cc }
+  own-line ts l e (refused step r (unserved s is)) = record { not_memory = λ z. cc; not_read = λ z. cc; not_write = λ z. cc; of_data = λ r z. cc }
   own-line ts l e (refused step r (faulty s f)) = own-step ts step e f
 
   own-first : (all : List L) (e : MergeError) → IsFirstFaultOfLines service all e → IsOwnFault e.fault
   own-first all e (inl f) = own-line f.stack f.line e.fault f.fault
-  own-first all e (inr f) = let is : e.fault ≡ faults.Stack = f.fault in record { not_memory = λ z. cc; not_read = λ z. cc; not_write = λ z. cc }
+  own-first all e (inr f) = let is : e.fault ≡ faults.Stack = f.fault in record { not_memory = λ z. cc; not_read = λ z. cc; not_write = λ z. cc; of_data = λ r z. cc }
 
 pub first_faults_are_own : FirstFaultsAreOwn
 first_faults_are_own = record {

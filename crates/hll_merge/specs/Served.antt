@@ -1,6 +1,9 @@
 -- What is served today: `new`, `image` of a list, and `coupon` while it leaves a list (docs/PLAN.md, "What is served").
 use Rattle.std.specs.Prelude.{◌≡◌, ◌≢◌, ℕ, ◌≤◌, ◌⊎◌, List, [], ◌∷◌, length, drop}
 use Rattle.std.specs.FinSet.{len}
+use Rattle.hll_base.specs.declared.error.Reason.{Reason}
+use Rattle.hll_base.specs.declared.error.ErrorKind.TheVariants.{InvalidData}
+use Rattle.hll_base.specs.Reason.{kind_of}
 use Rattle.hll_coupons.specs.Pair.{pair}
 use Rattle.hll_coupons.specs.Table.{arrived}
 use Rattle.hll_coupons.specs.Payload.{list_coupons}
@@ -61,11 +64,12 @@ abbrev pub AcceptedIsFaultless : Type 0
 AcceptedIsFaultless = (text : List ℕ) (t : Plan) (e : MergeError) →
     (Accepts full text t → IsFirstFault full text e → ⊥) × (Accepts today text t → IsFirstFault today text e → ⊥)
 
--- a fault of a text itself is none of memory or a stream
+-- a fault of a text itself is none of memory or a stream, and that of an image is one of data
 pub record IsOwnFault (e : Fault) : Type 0 where
   pub not_memory : e ≢ faults.Memory
   pub not_read : e ≢ faults.Read
   pub not_write : e ≢ faults.Write
+  pub of_data : (r : Reason) → e ≡ faults.Image r → kind_of r ≡ InvalidData
 
 -- whether every step is served or what is served today, for any lines, and for a list of steps
 pub record FirstFaultsAreOwn : Type 0 where

@@ -57,7 +57,7 @@ pub fn accepted_is_faultless()
     ensures { AcceptedIsFaultless }
 {}
 
-/// A first fault of a text is never `Memory`, `Read` or `Write`.
+/// A first fault of a text is never `Memory`, `Read` or `Write`, and an image is refused for its data alone.
 pub fn first_faults_are_own()
     ensures { FirstFaultsAreOwn }
 {}

@@ -11,7 +11,7 @@ use Rattle.std.proofs.lemmas.List.{length-drop, drop-drop}
 use Rattle.std.proofs.lemmas.List.Elements.{All-from_get_or, All-tail, All-filter}
 use Rattle.std.proofs.lemmas.List.FromFn.{length-map-range_with_len, get_or-map-range_with_len}
 use Rattle.std.proofs.Math.Nat.{pow-suc}
-use Rattle.hll_coupons.specs.Pair.{set_of, slot_of, value_of}
+use Rattle.hll_coupons.specs.Pair.{IsPair, set_of, slot_of, value_of}
 use Rattle.hll_coupons.specs.Coupons.{words, coupons_at}
 use Rattle.hll_coupons.proofs.Greatest.{same_word}
 use Rattle.hll_arrays.specs.State.{IsState}
@@ -63,6 +63,9 @@ member P (x ∷ xs) c h m = elim (or_cases (eq_by_cmp nat_cmp c x) (has c xs) m)
   | inl e ↦ subst P (sym (same_word c x e)) (h 0 0 (omega arith))
   | inr l ↦ member P xs c (All-tail P x xs h) l
 ]
+
+pub all_pairs : (cs : List ℕ) → All IsPair cs → ArePairs (set_of cs)
+all_pairs cs h c m = member IsPair cs c h (sym (contains-from_list nat_cmp_total cs c) ∙ m)
 
 are_pairs : (cs : List ℕ) → All (λ c. 1 ≤ value_of c) cs → All Fits cs → ArePairs (set_of cs)
 are_pairs cs valued fit c m =

@@ -1,5 +1,5 @@
 -- What is written for a legal sketch is an image of it.
-use Rattle.std.proofs.Common.{◌≡◌, ℕ, ◌+◌, ◌*◌, ◌/◌, ◌%◌, ◌^◌, ◌<◌, ◌≤◌, zero, suc, Bool, true, false, cond, eqb, List, [], ◌∷◌, length, get_or, drop, All, refl, sym, ap, subst, ◌∙◌, arith, inl, inr}
+use Rattle.std.proofs.Common.{◌≡◌, ℕ, ◌+◌, ◌*◌, ◌/◌, ◌%◌, ◌^◌, ◌<◌, ◌≤◌, zero, suc, Bool, true, false, cond, eqb, List, [], ◌∷◌, ◌++◌, length, get_or, drop, All, refl, sym, ap, subst, ◌∙◌, arith, inl, inr}
 use Rattle.std.specs.FinSet.{len, contains, contains-from_list}
 use Rattle.std.specs.Cmp.{nat_cmp_total}
 use Rattle.std.specs.Ordering.{nat_cmp, eq_by_cmp}
@@ -10,11 +10,12 @@ use Rattle.std.proofs.lemmas.List.{append-nil}
 use Rattle.std.proofs.lemmas.List.Elements.{All-from_get_or}
 use Rattle.hll_coupons.specs.Pair.{Pairs, IsPair, set_of, value_of}
 use Rattle.hll_coupons.specs.Coupons.{words, coupons_at, coupon_bytes, AreCoupons, ListsOnce, mode_byte, list_bytes, set_bytes}
+use Rattle.hll_coupons.specs.Table.{filled_from_front}
 use Rattle.hll_coupons.specs.Payload.{list_places, list_coupons, set_count, set_coupons}
 use Rattle.hll_coupons.specs.declared.hll_type.HllType.{HllType}
 use Rattle.hll_coupons.specs.declared.hll_type.HllType.TheVariants.{Hll4, Hll6, Hll8}
 use Rattle.hll_coupons.proofs.Greatest.{itself}
-use Rattle.hll_coupons.proofs.Payloads.{words-written, length-coupon_bytes}
+use Rattle.hll_coupons.proofs.Payloads.{words-written, length-coupon_bytes, front_coupons}
 use Rattle.hll_arrays.specs.declared.estimate_state.EstimateState.{EstimateState}
 use Rattle.hll_arrays.specs.State.{IsState}
 use Rattle.hll_arrays.specs.Store.{AreRegisters}
@@ -22,8 +23,9 @@ use Rattle.hll_arrays.specs.Packed.{minimum}
 use Rattle.hll_arrays.specs.Payload.{flag_of, hll4_bytes, WritesRegisters, IsHll4Payload, Hll4Shape, registers_of}
 use Rattle.hll_arrays.proofs.Written.{written_hll8, state_hll8, registers_hll8, written_hll6, state_hll6, registers_hll6, written_hll4, state_hll4, registers_hll4}
 use Rattle.hll_sketch.specs.Value.{Sketch, Content, coupons, registers, ArePairs, IsLgK, IsLegalContent}
-use Rattle.hll_sketch.specs.Image.{width_of_bits, list_shape, set_shape, Image, list, set, hll8, hll6, hll4}
-use Rattle.hll_sketch.specs.Written.{WritesContent, WrittenIsImage}
+use Rattle.hll_sketch.specs.Image.{width_of_bits, list_shape, set_shape, IsListImage, Image, list, set, hll8, hll6, hll4}
+use Rattle.hll_sketch.proofs.Legal.{all_pairs}
+use Rattle.hll_sketch.specs.Written.{WritesContent, WrittenIsImage, IsReadBack, ListIsReadBack}
 
 -- ---- the mode byte
 
@@ -92,8 +94,14 @@ module _ (k : ℕ) (w : HllType) (S : Pairs) (order : List ℕ) (lg_k : IsLgK k)
   no_places zero = refl
   no_places (suc n) = cond-false (eqb (suc n) 0) 0 (suc n) (ne_eqb (suc n) 0 (λ e. omega arith))
 
-  pub list_image : len S ≤ 8 → Image L (record { lg_k = k; width = w; content = coupons S 3 })
-  list_image few = list (record {
+  places : list_places (list_shape L) ≡ length order
+  places = (λ i. cond (is_empty_flag (eqb (length order) 0) i) 0 (cond (is_compact (eqb (length order) 0) i) (length order) 8)) ∙ no_places (length order)
+
+  coupons_are : list_coupons (list_shape L) (drop 8 L) ≡ order
+  coupons_are = (λ i. coupons_at (is_compact (eqb (length order) 0) i) (places i) (coupon_bytes order)) ∙ back
+
+  pub is_list_image : len S ≤ 8 → IsListImage L
+  is_list_image few = record {
     header = record { whole = omega arith; family = refl; version = refl; lg_k = lg_k; width = width_low 0 w (omega arith); stage_is = stage_low 0 w (omega arith); preamble = refl };
     table = refl;
     payload = record {
@@ -105,13 +113,19 @@ module _ (k : ℕ) (w : HllType) (S : Pairs) (order : List ℕ) (lg_k : IsLgK k)
       are_coupons = subst AreCoupons (sym coupons_are) are_coupons;
       number = ap length coupons_are;
     };
-  }) (sym (λ i. let y : Sketch = record { lg_k = k; width = width_back 0 w (omega arith) i; content = coupons ((ap set_of coupons_are ∙ lists.members) i) 3 } in y))
-    where
-      places : list_places (list_shape L) ≡ length order
-      places = (λ i. cond (is_empty_flag (eqb (length order) 0) i) 0 (cond (is_compact (eqb (length order) 0) i) (length order) 8)) ∙ no_places (length order)
+  }
 
-      coupons_are : list_coupons (list_shape L) (drop 8 L) ≡ order
-      coupons_are = (λ i. coupons_at (is_compact (eqb (length order) 0) i) (places i) (coupon_bytes order)) ∙ back
+  pub list_image : len S ≤ 8 → Image L (record { lg_k = k; width = w; content = coupons S 3 })
+  list_image few = list (is_list_image few) (sym (λ i. let y : Sketch = record { lg_k = k; width = width_back 0 w (omega arith) i; content = coupons ((ap set_of coupons_are ∙ lists.members) i) 3 } in y))
+
+  -- bytes behind it are not looked at
+  pub read_back : (more : List ℕ) → len S ≤ 8 → IsReadBack L order more
+  read_back more few = record {
+    image = is_list_image few;
+    size = let n : length (coupon_bytes order) ≡ 4 * length order = length-coupon_bytes order in omega (arith, n, places);
+    table = ap (filled_from_front 3) (sym (front_coupons (coupon_bytes order) more (coupon_bytes order ++ more) refl (list_shape L).compact (list_places (list_shape L)) 0
+        (omega (arith, length-coupon_bytes order, places))) ∙ coupons_are);
+  }
 
   -- ---- a set
 
@@ -199,3 +213,7 @@ content_image bytes k w (coupons S p) order lg h written = elim h.1 [
 
 pub written_is_image : WrittenIsImage
 written_is_image bytes x order legal written = content_image bytes x.lg_k x.width x.content order legal.lg_k legal.content written
+
+pub list_is_read_back : ListIsReadBack
+list_is_read_back k w order more lg_k few valued distinct =
+    read_back k w (set_of order) order lg_k (all_pairs order valued) (record { members = refl; once = sym distinct }) more (omega (arith, distinct))

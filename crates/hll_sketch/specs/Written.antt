@@ -1,11 +1,14 @@
 -- What is written for a sketch (docs/FORMAT.md, "What is written"; docs/MODEL.md, "Written images").
-use Rattle.std.specs.Prelude.{◌≡◌, ℕ, ◌==◌, if◌then◌else◌, List}
-use Rattle.hll_coupons.specs.Pair.{Pairs}
+use Rattle.std.specs.Prelude.{◌≡◌, ℕ, ◌+◌, ◌*◌, ◌≤◌, ◌==◌, if◌then◌else◌, List, ◌++◌, length, drop, All}
+use Rattle.std.specs.FinSet.{len}
+use Rattle.hll_coupons.specs.Pair.{Pairs, IsPair, set_of}
 use Rattle.hll_coupons.specs.Coupons.{ListsOnce, list_bytes, set_bytes}
+use Rattle.hll_coupons.specs.Payload.{list_places, list_table}
+use Rattle.hll_coupons.specs.Table.{filled_from_front}
 use Rattle.hll_coupons.specs.declared.hll_type.HllType.{HllType}
 use Rattle.hll_arrays.specs.Payload.{WritesRegisters}
-use Rattle.hll_sketch.specs.Value.{Sketch, Content, coupons, registers, IsLegal}
-use Rattle.hll_sketch.specs.Image.{Image}
+use Rattle.hll_sketch.specs.Value.{Sketch, Content, coupons, registers, IsLgK, IsLegal}
+use Rattle.hll_sketch.specs.Image.{list_shape, IsListImage, Image}
 
 -- a list or a set is written by its size, with its coupons in an order
 abbrev pub WritesCoupons : List ℕ → ℕ → HllType → Pairs → ℕ → List ℕ → Type 0
@@ -25,3 +28,13 @@ Written bytes x order = WritesContent bytes x.lg_k x.width x.content order
 -- what is written for a legal sketch is an image of it
 abbrev pub WrittenIsImage : Type 0
 WrittenIsImage = (bytes : List ℕ) (x : Sketch) (order : List ℕ) → IsLegal x → Written bytes x order → Image bytes x
+
+-- what was written for a list of these coupons, in this order, and then any bytes is read as the same list
+pub record IsReadBack (written order more : List ℕ) : Type 0 where
+  pub image : IsListImage written
+  pub size : 8 + 4 * list_places (list_shape (written ++ more)) ≡ length written
+  pub table : list_table (list_shape (written ++ more)) (drop 8 (written ++ more)) ≡ filled_from_front 3 order
+
+abbrev pub ListIsReadBack : Type 0
+ListIsReadBack = (k : ℕ) (width : HllType) (order more : List ℕ) → IsLgK k → length order ≤ 8 → All IsPair order → len (set_of order) ≡ length order →
+    IsReadBack (list_bytes k width order) order more

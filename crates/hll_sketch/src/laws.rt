@@ -3,7 +3,7 @@
 ghost use Rattle.hll_sketch.specs.Laws.{AddOfAdd, AddEach, EmptyMerged, UnionLgK, AddIsLegal, MergedIsLegal};
 ghost use Rattle.hll_sketch.specs.Image.{OneImage, ImageIsLegal};
 ghost use Rattle.hll_sketch.specs.Fault.{FaultExcludesHeader, FaultExcludesImage, FaultsAreOfData};
-ghost use Rattle.hll_sketch.specs.Written.{WrittenIsImage};
+ghost use Rattle.hll_sketch.specs.Written.{WrittenIsImage, ListIsReadBack};
 
 /// To add pairs twice is to add their union.
 pub fn add_of_add()
@@ -48,6 +48,11 @@ pub fn faults_are_of_data()
 /// What is written for a legal sketch is an image of it.
 pub fn written_is_image()
     ensures { WrittenIsImage }
+{}
+
+/// What is written for a list, and then any bytes, is read as the same list, its places included.
+pub fn list_is_read_back()
+    ensures { ListIsReadBack }
 {}
 
 /// An image means a legal sketch.
