@@ -1,4 +1,5 @@
 pub mod Packed
 pub mod Payload
+pub mod Same
 pub mod State
 pub mod Store

@@ -8,3 +8,11 @@ pub struct EstimateState {
     /// Whether the words no longer follow from a run of updates.
     pub out_of_order: bool,
 }
+
+impl EstimateState {
+    /// The state of new registers, and of registers that changed: three zeros with the flag set.
+    pub const CLEARED: EstimateState = EstimateState {
+        words: [0; 3],
+        out_of_order: true,
+    };
+}

@@ -1,0 +1,239 @@
+//! Registers of eight bits: a byte for each.
+ghost use Rattle.std.specs.Prelude.{◌≡◌, ℕ, ◌+◌, ◌^◌, ◌<◌, ◌≤◌, ◌==◌, ◌⊎◌, nat_le, length, take, drop, slice_index, IfOk, IfErr};
+ghost use Rattle.std.specs.List.{list_all};
+ghost use Rattle.hll_base.specs.declared.error.Reason.TheVariants.{Memory};
+ghost use Rattle.hll_arrays.specs.Packed.{zeros};
+ghost use Rattle.hll_arrays.specs.Payload.{state_at, IsHll8Payload, Hll8Fault, hll8_bytes};
+ghost use Rattle.hll_arrays.specs.Store.{zeroed, raised_by_coupon, AreRegisters};
+
+use crate::estimate_state::EstimateState;
+use crate::numbers::Numbers;
+use hll_base::codec::SketchBytes;
+use hll_base::cursor::SketchSlice;
+use hll_base::error::{Error, Reason};
+use hll_coupons::coupon::Coupon;
+use hll_coupons::hll_type::HllType;
+use hll_coupons::serialization::HLL_PREAMBLE_SIZE;
+use std::alloc::{Allocator, Global};
+use std::marker::Model;
+
+/// The greatest value of a register.
+const MAX_VALUE: u8 = 63;
+
+/// 2^`lg_k` registers of 0 to 63, a byte for each, and their estimate state. Contracts see these: the
+/// registers as a list, by slot.
+#[derive_where(Debug)]
+#[derive(Drop)]
+pub struct Array8<A: Allocator = Global> {
+    lg_config_k: u8,
+    registers: Vec<u8, A>,
+    state: EstimateState,
+}
+
+impl<A: Allocator> Model for Array8<A> {
+    ghost use Rattle.std.specs.Prelude.{◌≤◌};
+    ghost use Rattle.hll_arrays.specs.Store.{Stored, AreRegisters};
+
+    ghost Value = { Stored };
+
+    ghost view = { λ a. record { lg_k = a.lg_config_k; registers = a.registers.items; state = a.state } };
+
+    ghost invariant = { λ a. (4 ≤ a.lg_config_k) × (a.lg_config_k ≤ 21) × AreRegisters a.lg_config_k a.registers.items };
+}
+
+impl<A: Allocator> Array8<A> {
+    /// 2^`lg_config_k` registers of 0, with the cleared state.
+    ///
+    /// `lg_config_k` is 4 to 21. Refused with the reason `Memory`.
+    pub fn new(alloc: A, lg_config_k: u8) -> Result<Array8<A>, Error>
+        requires least { 4 ≤ lg_config_k }
+        requires most { lg_config_k ≤ 21 }
+        ensures ok { IfOk result (λ a. a ≡ zeroed lg_config_k) }
+        ensures err { IfErr result (λ e. e ≡ Memory) }
+    {
+        Ok(Array8 {
+            lg_config_k,
+            registers: vec![in alloc; 0; registers_of(lg_config_k)]?,
+            state: EstimateState::CLEARED,
+        })
+    }
+
+    /// Reads what stands behind the header of an image of registers of eight bits (docs/FORMAT.md, "HLL").
+    /// The zero count is bounded, and otherwise not trusted.
+    ///
+    /// `lg_config_k` is 4 to 21. Refused with `Truncated`, `Count` or `Register` where that fault stands, or else
+    /// with `Memory`. Takes memory for the registers, once the bytes are known to be there, and copies them once.
+    pub fn deserialize_registers(
+        alloc: A,
+        cursor: SketchSlice<'_>,
+        lg_config_k: u8,
+        ooo: bool,
+    ) -> Result<Array8<A>, Error>
+        requires least { 4 ≤ lg_config_k }
+        requires most { lg_config_k ≤ 21 }
+        ensures ok { IfOk result (λ a. IsHll8Payload lg_config_k (take (32 + 2 ^ lg_config_k) cursor.entry)
+            × (a ≡ record { lg_k = lg_config_k; registers = take (2 ^ lg_config_k) (drop 32 cursor.entry); state = state_at ooo cursor.entry })) }
+        ensures err { IfErr result (λ e. (e ≡ Memory) ⊎ Hll8Fault lg_config_k cursor.entry e) }
+    {
+        let size = registers_of(lg_config_k);
+        let (numbers, rest) = Numbers::read(cursor, ooo)?;
+        if numbers.low_count as usize > size || numbers.exception_count != 0 {
+            return Err(Error::new(Reason::Count));
+        }
+        let Some(registers) = rest.remaining().get(..size) else {
+            return Err(Error::new(Reason::Truncated));
+        };
+        if !are_registers(registers) {
+            return Err(Error::new(Reason::Register));
+        }
+        Ok(Array8 {
+            lg_config_k,
+            registers: Vec::from_slice(alloc, registers)?,
+            state: numbers.state,
+        })
+    }
+
+    /// How many registers there are: 2^`lg_k`. Takes no memory.
+    pub fn num_registers(&self) -> usize
+        ensures { result ≡ 2 ^ self.now.lg_k }
+    {
+        registers_of(self.lg_config_k)
+    }
+
+    /// The register of a slot below 2^`lg_k`. Takes no memory.
+    pub fn get(&self, slot: u32) -> u8
+        requires { slot < 2 ^ self.now.lg_k }
+        ensures { result ≡ slice_index self.now.registers slot }
+    {
+        self.registers[slot as usize]
+    }
+
+    /// The registers. Takes no memory.
+    pub fn values(&self) -> &[u8]
+        ensures values { result.now ≡ self.now.registers }
+        ensures registers { AreRegisters self.now.lg_k self.now.registers }
+    {
+        &self.registers
+    }
+
+    /// Raises the register at the coupon's slot modulo 2^`lg_k` to the coupon's value, if that is greater:
+    /// then the state is cleared. Takes no memory.
+    pub fn update(&mut self, coupon: Coupon)
+        ensures { self.new ≡ raised_by_coupon self.old coupon }
+    {
+        let slot = coupon.slot() as usize % registers_of(self.lg_config_k);
+        if self.registers[slot] < coupon.value() {
+            self.registers[slot] = coupon.value();
+            self.state = EstimateState::CLEARED;
+        }
+    }
+
+    /// Whether all registers are 0. Looks at each until one is not; takes no memory.
+    pub fn is_empty(&self) -> bool
+        ensures { result ≡ list_all (λ v. v == 0) self.now.registers }
+    {
+        self.registers.iter().all(|v| *v == 0)
+    }
+
+    /// How many registers are 0. Looks at each; takes no memory.
+    pub fn num_zeros(&self) -> u32
+        ensures { result ≡ zeros self.now.registers }
+    {
+        count_zeros(&self.registers) as u32
+    }
+
+    /// The estimate state. Takes no memory.
+    pub fn estimate_state(&self) -> EstimateState
+        ensures { result ≡ self.now.state }
+    {
+        self.state
+    }
+
+    /// Sets the estimate state. The registers stay. Takes no memory.
+    pub fn restore_estimate_state(&mut self, state: EstimateState)
+        ensures { self.new ≡ record self.old { state = state } }
+    {
+        self.state = state;
+    }
+}
+
+impl<A: Allocator + Clone> Array8<A> {
+    /// The same registers and state over again.
+    ///
+    /// Refused with the reason `Memory`.
+    pub fn clone(&self) -> Result<Array8<A>, Error>
+        ensures ok { IfOk result (λ a. a ≡ self.now) }
+        ensures err { IfErr result (λ e. e ≡ Memory) }
+    {
+        Ok(Array8 {
+            lg_config_k: self.lg_config_k,
+            registers: Vec::from_slice(self.registers.allocator().clone()?, &self.registers)?,
+            state: self.state,
+        })
+    }
+
+    /// The image (docs/FORMAT.md, "What is written"): 40 bytes and one for each register, taken in one request.
+    ///
+    /// `lg_config_k` is that of the registers. Refused with the reason `Memory`.
+    pub fn serialize(&self, lg_config_k: u8) -> Result<Vec<u8, A>, Error>
+        requires { lg_config_k ≡ self.now.lg_k }
+        ensures ok { IfOk result (λ image. image.items ≡ hll8_bytes lg_config_k self.now.registers self.now.state) }
+        ensures err { IfErr result (λ e. e ≡ Memory) }
+    {
+        let numbers = Numbers {
+            state: self.state,
+            low_count: self.num_zeros(),
+            exception_count: 0,
+        };
+        let needed = HLL_PREAMBLE_SIZE + self.registers.len();
+        let mut bytes = SketchBytes::with_capacity(self.registers.allocator().clone()?, needed)?;
+        numbers.write_header(&mut bytes, lg_config_k, HllType::Hll8)?;
+        numbers.write(&mut bytes)?;
+        bytes.write(&self.registers)?;
+        Ok(bytes.into_bytes())
+    }
+}
+
+/// Equal where `lg_k`, registers and state are. Takes no memory.
+impl<A: Allocator> PartialEq for Array8<A> {
+    ghost use Rattle.hll_arrays.specs.Same.{same_stored, same_stored-partial};
+
+    ghost eq = { same_stored };
+
+    ghost laws = { same_stored-partial };
+
+    fn eq(&self, other: &Array8<A>) -> bool {
+        self.lg_config_k == other.lg_config_k
+            && self.registers.as_slice() == other.registers.as_slice()
+            && self.state == other.state
+    }
+}
+
+impl<A: Allocator> Eq for Array8<A> {
+    ghost use Rattle.hll_arrays.specs.Same.{same_stored-equivalence};
+
+    ghost laws = { same_stored-equivalence };
+}
+
+/// How many registers an `lg_k` stands for.
+fn registers_of(lg_k: u8) -> usize
+    requires { lg_k ≤ 21 }
+    ensures { result ≡ 2 ^ lg_k }
+{
+    1 << lg_k
+}
+
+/// Whether no byte is above the greatest value of a register.
+fn are_registers(bytes: &[u8]) -> bool
+    ensures { result ≡ list_all (λ v. nat_le v 63) bytes.now }
+{
+    bytes.iter().all(|v| *v <= MAX_VALUE)
+}
+
+/// How many bytes are 0.
+fn count_zeros(bytes: &[u8]) -> usize
+    ensures count { result ≡ zeros bytes.now }
+    ensures bound { result ≤ length bytes.now }
+{
+    bytes.iter().filter(|v| **v == 0).count()
+}
