@@ -4,6 +4,8 @@
 #[cfg(test)]
 mod fakes;
 pub mod fault;
+#[cfg(test)]
+mod image_tests;
 pub mod laws;
 mod lines;
 #[cfg(test)]

@@ -29,7 +29,7 @@ const ANSWERS: [(&[u8], &[u8]); 8] = [
 ];
 
 /// Texts that are no plan, and their first fault.
-const FAULTS: [(&[u8], u64, Fault); 25] = [
+const FAULTS: [(&[u8], u64, Fault); 23] = [
     (b"", 0, Fault::Stack),
     (b"\n", 1, Fault::Stack),
     (b"# nothing", 1, Fault::Stack),
@@ -53,8 +53,6 @@ const FAULTS: [(&[u8], u64, Fault); 25] = [
     (b"new 10 8\ncoupon 67108864 1", 2, Fault::Range),
     (b"new 10 8\ncoupon 5 0", 2, Fault::Range),
     (b"new 10 8\ncoupon 5 64", 2, Fault::Range),
-    (b"union 0 12 4", 1, Fault::Unserved),
-    (b"image", 1, Fault::Syntax),
 ];
 
 /// A sketch gets its eighth coupon.
@@ -62,7 +60,7 @@ const EIGHTH: &[u8] =
     b"new 4 8\ncoupon 0 1\ncoupon 1 2\ncoupon 2 3\ncoupon 3 4\ncoupon 4 5\ncoupon 5 6\ncoupon 6 7\ncoupon 7 8\n";
 
 /// Runs a plan over memory: what it answers, and what it wrote.
-fn run_over(rt: &HostRuntime, text: &[u8]) -> (Result<(), MergeError>, Vec<u8>) {
+pub(crate) fn run_over(rt: &HostRuntime, text: &[u8]) -> (Result<(), MergeError>, Vec<u8>) {
     let mut reader = Watched::new(text);
     let mut writer = Watched::new(Vec::new(rt.alloc()));
     let result = run(rt.alloc(), &mut reader, &mut writer);
