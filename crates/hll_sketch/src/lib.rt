@@ -2,6 +2,8 @@
 #![tactic(auto)]
 
 pub mod header;
+#[cfg(test)]
+mod image_tests;
 pub mod laws;
 pub mod list_image;
 pub mod plain;
