@@ -6,21 +6,14 @@ program on each, and compares its time with that of `wc -l`. The program's path 
 is what the script hll_merge keeps, which is built if need be.
 """
 import pathlib
-import subprocess
 import sys
 import tempfile
-import time
 
-ROOT = pathlib.Path(__file__).resolve().parent.parent
+sys.dont_write_bytecode = True
+from common import best_time, chosen_program
+
 COUPONS = [(5, 3), (0, 1), (67108863, 63), (12345, 42), (7, 7), (1000, 10), (99999, 21)]
 IMAGE_SIZE = 8 + 4 * len(COUPONS)
-RUNS = 3
-
-
-def built_program():
-    """The program that the script keeps, up to date."""
-    subprocess.run([ROOT / "hll_merge"], input=b"new 10 8\n", stdout=subprocess.DEVNULL, check=True)
-    return ROOT / ".hll_merge" / "hll_merge"
 
 
 def write_plan(path, count):
@@ -32,31 +25,19 @@ def write_plan(path, count):
         plan.write("".join(lines) * whole + "".join(lines[:rest]))
 
 
-def best_time(command, path):
-    """The least seconds of some runs with the plan as standard input, and the last output."""
-    best = None
-    for _ in range(RUNS):
-        with open(path, "rb") as plan:
-            start = time.perf_counter()
-            done = subprocess.run(command, stdin=plan, stdout=subprocess.PIPE, check=True)
-            took = time.perf_counter() - start
-        best = took if best is None else min(best, took)
-    return best, done.stdout
-
-
 def measure(program, count):
     with tempfile.TemporaryDirectory() as folder:
         path = pathlib.Path(folder) / "plan"
         write_plan(path, count)
-        took, printed = best_time([program], path)
-        if len(printed) != 2 * IMAGE_SIZE + 1:
-            sys.exit("the program printed %r" % printed)
+        took, done = best_time([program], path)
+        if done.returncode != 0 or len(done.stdout) != 2 * IMAGE_SIZE + 1:
+            sys.exit("status %d, printed %r and %r" % (done.returncode, done.stdout, done.stderr))
         counted, _ = best_time(["wc", "-l"], path)
     print("%9d coupon lines: %.3f s, %.0f lines a second, %.1f times wc -l" % (count, took, count / took, took / counted))
 
 
 def main():
-    program = pathlib.Path(sys.argv[1]).resolve() if len(sys.argv) > 1 else built_program()
+    program = chosen_program()
     for count in (100_000, 1_000_000):
         measure(program, count)
 
