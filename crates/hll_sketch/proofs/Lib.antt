@@ -8,6 +8,7 @@ pub mod Legal
 pub mod Legality
 pub mod ListImages
 pub mod PlainSteps
+pub mod RegisterImages
 pub mod Sets
 pub mod Stages
 pub mod Written

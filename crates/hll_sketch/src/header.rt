@@ -15,6 +15,9 @@ use hll_coupons::serialization::{
     TGT_HLL6, TGT_HLL8, extract_cur_mode, extract_tgt_hll_type,
 };
 
+/// The bytes of the header.
+pub const HEADER_SIZE: usize = 8;
+
 /// The stage that an image is of.
 #[derive(Clone, Copy, Debug, PartialEq, Eq)]
 pub enum Stage {

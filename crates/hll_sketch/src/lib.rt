@@ -2,6 +2,7 @@
 #![tactic(auto)]
 
 pub mod header;
+pub mod hll8_image;
 #[cfg(test)]
 mod image_tests;
 pub mod laws;

@@ -6,11 +6,10 @@ ghost use Rattle.hll_sketch.specs.Image.{HasHeader, list_shape, IsListImage};
 ghost use Rattle.hll_sketch.specs.Header.{header_of};
 ghost use Rattle.hll_sketch.specs.Fault.{Fault};
 
-use crate::header::Header;
+use crate::header::{HEADER_SIZE, Header};
 use hll_base::cursor::SketchSlice;
 use hll_base::error::{Error, Reason};
 use hll_coupons::list::List;
-use hll_coupons::serialization::LIST_PREAMBLE_SIZE;
 use std::alloc::Allocator;
 
 /// The logarithm of the number of places of a list, in an image.
@@ -33,7 +32,7 @@ pub fn read_list<A: Allocator>(alloc: A, bytes: &[u8], header: Header) -> Result
     }
     List::deserialize(
         alloc,
-        SketchSlice::new(&bytes[LIST_PREAMBLE_SIZE..]),
+        SketchSlice::new(&bytes[HEADER_SIZE..]),
         usize::from(LG_LIST_SIZE),
         usize::from(header.state),
         header.empty,
