@@ -1,11 +1,26 @@
-use Rattle.std.proofs.Common.{◌≡◌, ℕ, ◌+◌, ◌-◌, ◌*◌, ◌^◌, ◌≤◌, cond, eqb, List, ◌++◌, length, take, drop, All, refl, sym, ap, subst, ◌∙◌, arith}
-use Rattle.std.proofs.lemmas.List.{length-drop, take-append-le}
+use Rattle.std.proofs.Common.{◌≡◌, ℕ, ◌+◌, ◌-◌, ◌*◌, ◌^◌, ◌<◌, ◌≤◌, Bool, cond, eqb, List, [], ◌∷◌, ◌++◌, length, get_or, take, drop, All, refl, sym, ap, subst, ◌∙◌, arith}
+use Rattle.std.proofs.lemmas.List.{length-drop, take-append-le, get_or-drop}
+use Rattle.std.specs.Int.{w64, from_le_bytes}
 use Rattle.hll_base.specs.declared.error.Reason.{Reason}
 use Rattle.hll_coupons.specs.Coupons.{coupons_at}
-use Rattle.hll_coupons.proofs.Payloads.{front_le, front_rest, front_number, front_coupons, front_take, same_fronts}
+use Rattle.hll_coupons.proofs.Payloads.{front_le, front_byte, front_rest, front_number, front_coupons, front_take, same_fronts}
 use Rattle.hll_arrays.specs.Packed.{nibble_at}
-use Rattle.hll_arrays.specs.Payload.{low_count, exception_count, IsHll8Payload, Hll8Fault, field_size, IsHll6Payload, Hll6Fault, Hll4Shape, exception_places, nibbles_of, entries_of, hll4_size, AreEntries, AllAgree, Agrees, entry_at, HasEntries, IsHll4Payload, Hll4Fault}
+use Rattle.hll_arrays.specs.Payload.{state_at, low_count, exception_count, IsHll8Payload, Hll8Fault, field_size, IsHll6Payload, Hll6Fault, Hll4Shape, exception_places, nibbles_of, entries_of, hll4_size, AreEntries, AllAgree, Agrees, entry_at, HasEntries, IsHll4Payload, Hll4Fault}
 use Rattle.hll_arrays.specs.Payload as payload
+
+-- ---- the state
+
+-- the words stand in the front
+pub state_at-front : (flag : Bool) (a t b : List ℕ) → a ++ t ≡ b → 24 ≤ length a → state_at flag a ≡ state_at flag b
+state_at-front flag a t b e long = λ i. record {
+  words = word 0 (omega arith) i ∷ word 8 (omega arith) i ∷ word 16 (omega arith) i ∷ [];
+  out_of_order = flag;
+}
+  where
+    word : (n : ℕ) → n + 8 ≤ 24 → from_le_bytes w64 (drop n a) ≡ from_le_bytes w64 (drop n b)
+    word n h =
+        let at : (i : ℕ) → i < 8 → get_or (drop n a) i 0 ≡ get_or (drop n b) i 0 = λ i l. get_or-drop n a i 0 ∙ front_byte a t b e (n + i) (omega (arith, long)) ∙ sym (get_or-drop n b i 0) in
+        omega (arith, at 0 (omega arith), at 1 (omega arith), at 2 (omega arith), at 3 (omega arith), at 4 (omega arith), at 5 (omega arith), at 6 (omega arith), at 7 (omega arith))
 
 -- ---- one payload
 

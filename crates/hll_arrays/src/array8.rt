@@ -93,6 +93,13 @@ impl<A: Allocator> Array8<A> {
         })
     }
 
+    /// The `lg_k`, 4 to 21. Takes no memory.
+    pub fn lg_k(&self) -> u8
+        ensures { result ≡ self.now.lg_k }
+    {
+        self.lg_config_k
+    }
+
     /// How many registers there are: 2^`lg_k`. Takes no memory.
     pub fn num_registers(&self) -> usize
         ensures { result ≡ 2 ^ self.now.lg_k }

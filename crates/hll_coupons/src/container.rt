@@ -181,8 +181,8 @@ impl<A: Allocator + Clone> Container<A> {
         })
     }
 
-    /// The allocator of the places over again.
-    pub(crate) fn cloned_allocator(&self) -> Result<A, AllocError> {
+    /// A second owner of the allocator of the places. Refused where the allocator's own clone is.
+    pub fn cloned_allocator(&self) -> Result<A, AllocError> {
         self.coupons.allocator().clone()
     }
 }

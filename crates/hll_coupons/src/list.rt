@@ -87,6 +87,10 @@ impl<A: Allocator> List<A> {
             IfOk result (λ l. IsListPayload h (take (4 * list_places h) cursor.entry) × (l ≡ list_table h cursor.entry)) }
         ensures err { let h : ListShape = record { lg_size = lg_arr; count = coupon_count; empty = empty; compact = compact } in
             IfErr result (λ e. (e ≡ Memory) ⊎ ListFault h cursor.entry e) }
+        ensures asked { let h : ListShape = record { lg_size = lg_arr; count = coupon_count; empty = empty; compact = compact } in
+            IfErr result (λ e. e ≡ Memory → HasListCount h × (4 * list_places h ≤ length cursor.entry)) }
+        ensures order { let h : ListShape = record { lg_size = lg_arr; count = coupon_count; empty = empty; compact = compact } in
+            IfErr result (λ e. e ≡ reasons.Count → HasListCount h → AreCoupons (coupons_at compact (list_places h) cursor.entry)) }
     {
         if !is_list_count(lg_arr, coupon_count, empty) {
             return Err(Error::new(Reason::Count));

@@ -8,7 +8,8 @@ use Rattle.std.specs.Cmp.{nat_cmp_total}
 use Rattle.std.specs.FinSet.{len, contains, insert, len-insert}
 use Rattle.hll_coupons.specs.Pair.{Pairs}
 use Rattle.hll_coupons.specs.Table.{Table, held, coupons_of, IsTable, arrived}
-use Rattle.hll_merge.specs.Kept.{Kept, BringsEighth, updated, UpdatesLast}
+use Rattle.hll_merge.specs.Listed.{Listed, BringsEighth}
+use Rattle.hll_merge.specs.Kept.{Kept, Adds, UpdatesLast}
 
 -- ---- the eighth coupon
 
@@ -16,20 +17,20 @@ use Rattle.hll_merge.specs.Kept.{Kept, BringsEighth, updated, UpdatesLast}
 len_more : (S : Pairs) (c : ℕ) (b : Bool) → contains S c ≡ b → len (insert S c) ≡ cond b (len S) (len S + 1)
 len_more S c b e = len-insert nat_cmp_total S c ∙ ap (λ b. cond b (len S) (len S + 1)) e
 
-pub BringsEighth-new : (x : Kept) (c : ℕ) → IsTable x.table → 7 ≤ length (held x.table.places) → contains (coupons_of x.table) c ≡ false → BringsEighth x c
+pub BringsEighth-new : (x : Listed) (c : ℕ) → IsTable x.table → 7 ≤ length (held x.table.places) → contains (coupons_of x.table) c ≡ false → BringsEighth x c
 BringsEighth-new x c table seven new = omega (arith, table.distinct, len_more (coupons_of x.table) c false new)
 
-pub BringsEighth-many : (x : Kept) (c : ℕ) → IsTable x.table → 8 ≤ length (held x.table.places) → BringsEighth x c
+pub BringsEighth-many : (x : Listed) (c : ℕ) → IsTable x.table → 8 ≤ length (held x.table.places) → BringsEighth x c
 BringsEighth-many x c table many = of (contains (coupons_of x.table) c) refl
   where
     of : (b : Bool) → contains (coupons_of x.table) c ≡ b → BringsEighth x c
     of true e = omega (arith, table.distinct, len_more (coupons_of x.table) c true e)
     of false e = omega (arith, table.distinct, len_more (coupons_of x.table) c false e)
 
-pub not_eighth-held : (x : Kept) (c : ℕ) → IsTable x.table → length (held x.table.places) ≤ 7 → contains (coupons_of x.table) c ≡ true → BringsEighth x c → ⊥
+pub not_eighth-held : (x : Listed) (c : ℕ) → IsTable x.table → length (held x.table.places) ≤ 7 → contains (coupons_of x.table) c ≡ true → BringsEighth x c → ⊥
 not_eighth-held x c table few there eighth = omega (arith, table.distinct, len_more (coupons_of x.table) c true there, eighth)
 
-pub not_eighth-few : (x : Kept) (c : ℕ) → IsTable x.table → length (held x.table.places) < 7 → BringsEighth x c → ⊥
+pub not_eighth-few : (x : Listed) (c : ℕ) → IsTable x.table → length (held x.table.places) < 7 → BringsEighth x c → ⊥
 not_eighth-few x c table few eighth = of (contains (coupons_of x.table) c) refl
   where
     of : (b : Bool) → contains (coupons_of x.table) c ≡ b → ⊥
@@ -64,11 +65,12 @@ set_last xs n y e = set_split xs n y (omega arith) ∙ ap (λ ys. take n xs ++ y
     none (x ∷ xs) zero e = absurd (omega arith)
     none (x ∷ xs) (suc n) e = none xs n (omega arith)
 
-pub updates_last : (xs : List Kept) (c n : ℕ) (d y : Kept) → length xs ≡ suc n → (BringsEighth (get_or xs n d) c → ⊥) → y ≡ updated (get_or xs n d) c → UpdatesLast xs c (set xs n y)
-updates_last xs c n d y e room is = record {
+pub updates_last : (xs : List Kept) (c n : ℕ) (d y : Kept) → length xs ≡ suc n → Adds (get_or xs n d) c y → UpdatesLast xs c (set xs n y)
+updates_last xs c n d y e adds = record {
   front = take n xs;
   last = get_or xs n d;
+  raised = y;
   is = split_last xs n d e;
-  room = room;
-  gives = set_last xs n y e ∙ ap (λ z. take n xs ++ z ∷ []) is;
+  adds = adds;
+  gives = set_last xs n y e;
 }

@@ -8,8 +8,10 @@ pub mod NumberLemmas
 pub mod Outcomes
 pub mod PartLemmas
 pub mod PlainSteps
+pub mod Promoting
 pub mod ReadLemmas
 pub mod Rearranging
 pub mod RunLemmas
 pub mod StackLemmas
 pub mod StreamLemmas
+pub mod Updating

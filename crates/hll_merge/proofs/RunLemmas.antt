@@ -1,35 +1,27 @@
 -- Lemmas on the answer of a run.
-use Rattle.std.proofs.Common.{◌≡◌, ℕ, Option, None, Some, List, [], ◌∷◌, ◌++◌, refl, sym, ◌∙◌, ap, subst}
+use Rattle.std.proofs.Common.{◌≡◌, ℕ, Option, None, Some, List, [], ◌∷◌, ◌++◌, sym, ◌∙◌, ap, subst}
 use Rattle.std.proofs.lemmas.List.{append-nil}
 use Rattle.std.specs.Io.KnownBytes.{Consumes, IsAtEnd}
 use Rattle.std.specs.Str.Lines.{lines}
-use Rattle.hll_coupons.specs.Table.{held, coupons_of}
-use Rattle.hll_coupons.specs.Coupons.{list_bytes}
-use Rattle.hll_sketch.specs.Value.{Sketch, coupons}
 use Rattle.hll_sketch.specs.Written.{Written}
 use Rattle.hll_merge.specs.Plan.{Plan}
 use Rattle.hll_merge.specs.Accepting.{Runs}
 use Rattle.hll_merge.specs.Served.{today}
-use Rattle.hll_merge.specs.Kept.{Kept, value_of_kept, IsServedList, StandFor}
+use Rattle.hll_merge.specs.Kept.{Kept, value_of_kept, order_of, StandFor}
 use Rattle.hll_merge.specs.Run.{printed, IsAnswer, IsAllOf}
 use Rattle.hll_merge.proofs.StackLemmas.{StandFor-one}
 
--- a list is written with its coupons in the order of its places
-kept-written : (x : Kept) → IsServedList x → Written (list_bytes x.lg_k x.width (held x.table.places)) (value_of_kept x) (held x.table.places)
-kept-written x h = subst (λ n. let y : Sketch = record { lg_k = x.lg_k; width = x.width; content = coupons (coupons_of x.table) n } in Written (list_bytes x.lg_k x.width (held x.table.places)) y (held x.table.places))
-    (sym h.size) (record { members = refl; once = sym h.table.distinct }, refl)
-
-pub answer : (text line : List ℕ) (xs : List Kept) (x : Kept) (ts : List Plan) → Runs today [] (lines text) ts → StandFor xs ts → xs ≡ x ∷ [] → IsServedList x
-    → line ≡ printed (list_bytes x.lg_k x.width (held x.table.places)) → IsAnswer text line
-answer text line xs x ts runs stand one served shown =
+pub answer : (text line bytes : List ℕ) (xs : List Kept) (x : Kept) (ts : List Plan) → Runs today [] (lines text) ts → StandFor xs ts → xs ≡ x ∷ []
+    → Written bytes (value_of_kept x) (order_of x) → line ≡ printed bytes → IsAnswer text line
+answer text line bytes xs x ts runs stand one written shown =
     let t = StandFor-one x xs ts one stand in
     record {
       tree = t.0;
       accepted = subst (Runs today [] (lines text)) t.1 runs;
-      bytes = list_bytes x.lg_k x.width (held x.table.places);
-      order = held x.table.places;
+      bytes = bytes;
+      order = order_of x;
       arrived = t.2.order;
-      written = subst (λ y. Written (list_bytes x.lg_k x.width (held x.table.places)) y (held x.table.places)) t.2.value (kept-written x served);
+      written = subst (λ y. Written bytes y (order_of x)) t.2.value written;
       shown = shown;
     }
 

@@ -1,81 +1,46 @@
--- Lemmas on carrying out lines: the lists that are kept stand for the plans of a stack.
-use Rattle.std.proofs.Common.{◌≡◌, ℕ, suc, ◌<◌, ◌≤◌, inl, inr, Bool, true, false, ◌||◌, List, [], ◌∷◌, ◌++◌, length, take, drop, refl, sym, ◌∙◌, ap, subst, arith, Some}
-use Rattle.std.specs.Prelude.{nat_le}
-use Rattle.std.proofs.lemmas.Bool.{cond-true, le-leb, cases_lt}
+-- Lemmas on carrying out lines: the sketches that are kept stand for the plans of a stack.
+use Rattle.std.proofs.Common.{◌≡◌, ℕ, suc, ◌<◌, inl, inr, List, [], ◌∷◌, ◌++◌, length, take, drop, refl, sym, ◌∙◌, ap, subst, arith}
 use Rattle.std.proofs.lemmas.List.{take-append-drop}
-use Rattle.std.specs.Ordering.{nat_cmp, eq_by_cmp}
-use Rattle.std.specs.Cmp.{nat_cmp_total}
-use Rattle.std.specs.FinSet.{len, contains, insert, union, empty, contains-empty, contains-insert, contains-from_list}
-use Rattle.hll_coupons.specs.Pair.{Pairs, pair, set_of}
-use Rattle.hll_coupons.specs.Table.{held, coupons_of, arrived}
+use Rattle.hll_coupons.specs.Pair.{pair, set_of}
+use Rattle.hll_coupons.specs.Table.{arrived}
 use Rattle.hll_coupons.specs.declared.hll_type.HllType.{HllType}
-use Rattle.hll_coupons.proofs.Members.{set_of-arrived}
-use Rattle.hll_coupons.proofs.TableLemmas.{held-filled_from_front, held-arrived}
-use Rattle.hll_sketch.specs.Value.{Sketch, Content, coupons}
-use Rattle.hll_sketch.specs.Stage.{stage}
-use Rattle.hll_sketch.specs.Adding.{add, settled}
-use Rattle.hll_sketch.specs.Image.{stage_bits, IsListImage, list}
-use Rattle.hll_sketch.proofs.Images.{same_stage}
-use Rattle.hll_sketch.proofs.Sets.{same_members, contains_union}
+use Rattle.hll_sketch.specs.Value.{Sketch, Content, coupons, registers}
+use Rattle.hll_sketch.specs.Adding.{add}
+use Rattle.hll_sketch.specs.Image as images
+use Rattle.hll_sketch.specs.Image.{stage_bits, width_bits, IsListImage, IsHll8Image}
+use Rattle.hll_sketch.proofs.Images.{same_stage, same_width}
+use Rattle.hll_merge.proofs.Updating.{set_of-nil}
 use Rattle.hll_merge.specs.declared.fault.Fault.{Fault}
 use Rattle.hll_merge.specs.Plan as plan
 use Rattle.hll_merge.specs.Plan.{Plan, outcome, inputs}
 use Rattle.hll_merge.specs.Text.{new, image, coupon}
 use Rattle.hll_merge.specs.Text as text
 use Rattle.hll_merge.specs.Accepting.{Service, Takes, IsRefusal, Gives, Runs, unserved, faulty}
-use Rattle.hll_merge.specs.Served.{today, GetsEighth, IsBeyondLists}
-use Rattle.hll_merge.specs.Kept.{Kept, value_of_kept, fresh, BringsEighth, updated, IsReadFrom, RefusesBytes, no_list, no_image, UpdatesLast, RefusesLast, none, eighth, RefusesUnion, fewer, enough, StandsFor, StandFor}
+use Rattle.hll_merge.specs.Served.{today, IsServed, LeavesServed, IsBeyond, OrderIn, ArrivesAs}
+use Rattle.hll_merge.specs.Listed.{fresh}
+use Rattle.hll_merge.specs.Kept as kept
+use Rattle.hll_merge.specs.Kept.{Kept, value_of_kept, order_of, Adds, GoesBeyond, IsReadFrom, of_list, of_array, RefusesBytes, other_image, no_image, UpdatesLast, RefusesLast, none, beyond, RefusesUnion, fewer, enough, StandsFor, StandFor}
 
--- ---- one list
+-- ---- one sketch
 
--- no coupons are the empty set
-set_of-nil : set_of [] ≡ empty
-set_of-nil = same_members (set_of []) empty (λ q. contains-from_list nat_cmp_total [] q ∙ sym (contains-empty nat_cmp q))
-
-or-false-last : (a b : Bool) → (b || a) ≡ (a || (b || false))
-or-false-last true true = refl
-or-false-last true false = refl
-or-false-last false true = refl
-or-false-last false false = refl
-
--- one coupon more is a union with it
-insert-union : (S : Pairs) (c : ℕ) → insert S c ≡ union S (set_of (c ∷ []))
-insert-union S c = same_members (insert S c) (union S (set_of (c ∷ []))) (λ q.
-    contains-insert nat_cmp_total S c q ∙ or-false-last (contains S q) (eq_by_cmp nat_cmp q c)
-    ∙ sym (contains_union S (set_of (c ∷ [])) q ∙ ap (λ b. contains S q || b) (contains-from_list nat_cmp_total (c ∷ []) q)))
-
-pub fresh-stands : (k : ℕ) (w : HllType) → StandsFor (fresh k w) (plan.new k w)
+pub fresh-stands : (k : ℕ) (w : HllType) → StandsFor (kept.list (fresh k w)) (plan.new k w)
 fresh-stands k w = record {
-  size = refl;
-  pairs = set_of-nil;
   value = ap (λ S. let x : Sketch = record { lg_k = k; width = w; content = coupons S 3 } in x) set_of-nil;
   order = refl;
 }
 
--- the coupons of a list with one more
-coupons_of-updated : (x : Kept) (c : ℕ) → 0 < c → coupons_of (updated x c).table ≡ insert (coupons_of x.table) c
-coupons_of-updated x c some =
-    ap set_of (held-filled_from_front 3 (arrived (held x.table.places) c) (held-arrived x.table.places c some)) ∙ set_of-arrived (held x.table.places) c
+-- an order of a plan's outcome, in its content
+OrderIn-map : {P Q : Type 0} (C : Content) (order : List ℕ) → (P → Q) → OrderIn C order P → OrderIn C order Q
+OrderIn-map (coupons S size) order f h = f h
+OrderIn-map (registers R state) order f h = h
 
--- a list that has not got its eighth coupon keeps its size
-stage-three : (k n : ℕ) → (8 ≤ n → ⊥) → stage k 3 n ≡ Some 3
-stage-three k n few = elim (cases_lt n 8) [
-  | inl below ↦ cond-true (nat_le n 7) (Some 3) _ (le-leb n 7 (omega arith))
-  | inr above ↦ absurd (few above)
-]
-
-pub updated-stands : (x : Kept) (t : Plan) (c : ℕ) → 0 < c → StandsFor x t → (BringsEighth x c → ⊥) → StandsFor (updated x c) (plan.coupon t c)
-updated-stands x t c some h room =
-    let S : Pairs = coupons_of x.table in
-    let more : coupons_of (updated x c).table ≡ union S (set_of (c ∷ [])) = coupons_of-updated x c some ∙ insert-union S c in
-    let kept : stage x.lg_k x.table.lg_size (len (union S (set_of (c ∷ [])))) ≡ Some 3 =
-    ap (λ n. stage x.lg_k n (len (union S (set_of (c ∷ []))))) h.size ∙ stage-three x.lg_k (len (union S (set_of (c ∷ [])))) (λ many. room (subst (λ T. 8 ≤ len T) (sym (insert-union S c)) many)) in
-    let made : Content → Sketch = λ y. record { lg_k = x.lg_k; width = x.width; content = y } in
+pub adds-stands : (x y : Kept) (t : Plan) (c : ℕ) → StandsFor x t → Adds x c y → StandsFor y (plan.coupon t c)
+adds-stands x y t c h a =
+    let value : value_of_kept y ≡ outcome (plan.coupon t c) = a.value ∙ ap (λ z. add z (set_of (c ∷ []))) h.value in
     record {
-      size = refl;
-      pairs = more ∙ ap (λ T. union T (set_of (c ∷ []))) h.pairs;
-      value = ap (λ T. made (coupons T 3)) more ∙ sym (ap (λ o. made (settled x.lg_k (union S (set_of (c ∷ []))) o)) kept) ∙ ap (λ y. add y (set_of (c ∷ []))) h.value;
-      order = (held x.table.places, h.order, held-filled_from_front 3 (arrived (held x.table.places) c) (held-arrived x.table.places c some));
+      value = value;
+      order = subst (λ (z : Sketch). OrderIn z.content (order_of y) ((before : List ℕ) × ArrivesAs t before × (order_of y ≡ arrived before c))) value
+          (OrderIn-map (value_of_kept y).content (order_of y) (λ e. (order_of x, h.order, e)) a.order);
     }
 
 -- ---- a stack
@@ -108,72 +73,78 @@ StandFor-nil [] [] e h = refl
 StandFor-nil [] (t ∷ ts) e h = absurd h
 StandFor-nil (x ∷ xs) ts e h = absurd (cc)
 
-GetsEighth-last : (below : List Plan) (t : Plan) (c : ℕ) → GetsEighth (below ++ t ∷ []) c ≡ (8 ≤ len (inputs (plan.coupon t c)))
-GetsEighth-last [] t c = refl
-GetsEighth-last (u ∷ []) t c = refl
-GetsEighth-last (u ∷ v ∷ below) t c = GetsEighth-last (v ∷ below) t c
+LeavesServed-last : (below : List Plan) (t : Plan) (c : ℕ) → LeavesServed (below ++ t ∷ []) c ≡ (IsServed (outcome (plan.coupon t c)) → ⊥)
+LeavesServed-last [] t c = refl
+LeavesServed-last (u ∷ []) t c = refl
+LeavesServed-last (u ∷ v ∷ below) t c = LeavesServed-last (v ∷ below) t c
 
--- the plan's question is the list's
-same_question : (x : Kept) (t : Plan) (c : ℕ) → StandsFor x t → len (insert (coupons_of x.table) c) ≡ len (inputs (plan.coupon t c))
-same_question x t c h = ap len (insert-union (coupons_of x.table) c ∙ ap (λ T. union T (set_of (c ∷ []))) h.pairs)
-
--- both ways
-asks : (x : Kept) (below ts : List Plan) (t : Plan) (c : ℕ) → StandsFor x t → ts ≡ below ++ t ∷ [] → (BringsEighth x c → GetsEighth ts c) × (GetsEighth ts c → BringsEighth x c)
+-- the plan's question is the sketch's
+asks : (x : Kept) (below ts : List Plan) (t : Plan) (c : ℕ) → StandsFor x t → ts ≡ below ++ t ∷ [] → LeavesServed ts c ≡ GoesBeyond x c
 asks x below ts t c h is =
-    let question : GetsEighth ts c ≡ BringsEighth x c = ap (λ us. GetsEighth us c) is ∙ GetsEighth-last below t c ∙ ap (λ n. 8 ≤ n) (sym (same_question x t c h)) in
-    (λ z. subst (λ T. T) (sym question) z, λ z. subst (λ T. T) question z)
+    ap (λ us. LeavesServed us c) is ∙ LeavesServed-last below t c ∙ ap (λ z. IsServed (add z (set_of (c ∷ []))) → ⊥) (sym h.value)
 
 -- ---- steps
 
 pub takes-new : (xs : List Kept) (ts : List Plan) (k : ℕ) (w : HllType) → StandFor xs ts
-    → (us : List Plan) × Takes today ts (new k w) us × StandFor (xs ++ fresh k w ∷ []) us
-takes-new xs ts k w h = (ts ++ plan.new k w ∷ [], record { served = λ z. z; carries = refl }, StandFor-push xs ts (fresh k w) (plan.new k w) h (fresh-stands k w))
+    → (us : List Plan) × Takes today ts (new k w) us × StandFor (xs ++ kept.list (fresh k w) ∷ []) us
+takes-new xs ts k w h = (ts ++ plan.new k w ∷ [], record { served = λ z. z; carries = refl }, StandFor-push xs ts (kept.list (fresh k w)) (plan.new k w) h (fresh-stands k w))
 
-pub takes-coupon : (xs ys : List Kept) (ts : List Plan) (s v : ℕ) → 0 < pair s v → StandFor xs ts → UpdatesLast xs (pair s v) ys
+pub takes-coupon : (xs ys : List Kept) (ts : List Plan) (s v : ℕ) → StandFor xs ts → UpdatesLast xs (pair s v) ys
     → (us : List Plan) × Takes today ts (coupon s v) us × StandFor ys us
-takes-coupon xs ys ts s v some h u =
+takes-coupon xs ys ts s v h u =
     let l : Last u.front u.last ts = StandFor-last u.front u.last ts (subst (λ zs. StandFor zs ts) u.is h) in
     let c : ℕ = pair s v in (
       l.below ++ plan.coupon l.top c ∷ [],
       record {
-        served = λ z. u.room ((asks u.last l.below ts l.top c l.stands l.is).1 z);
+        served = λ z. subst (λ T. T) (asks u.last l.below ts l.top c l.stands l.is) z (subst IsServed u.adds.value u.adds.served);
         carries = (l.below, l.top, l.is, refl);
       },
       subst (λ zs. StandFor zs (l.below ++ plan.coupon l.top c ∷ [])) (sym u.gives)
-          (StandFor-push u.front l.below (updated u.last c) (plan.coupon l.top c) l.stand (updated-stands u.last l.top c some l.stands u.room)),
+          (StandFor-push u.front l.below u.raised (plan.coupon l.top c) l.stand (adds-stands u.last u.raised l.top c l.stands u.adds)),
     )
 
 pub refuses-coupon : (xs : List Kept) (ts : List Plan) (s v : ℕ) (e : Fault) → StandFor xs ts → RefusesLast xs (pair s v) e → IsRefusal today ts (coupon s v) e
 refuses-coupon xs ts s v e h (none is) =
     let bare : ts ≡ [] = StandFor-nil xs ts is h in
-    faulty (λ z. subst (λ us. GetsEighth us (pair s v)) bare z) (bare, refl)
-refuses-coupon xs ts s v e h (eighth front last is at) =
+    faulty (λ z. subst (λ us. LeavesServed us (pair s v)) bare z) (bare, refl)
+refuses-coupon xs ts s v e h (beyond front last is at) =
     let l : Last front last ts = StandFor-last front last ts (subst (λ zs. StandFor zs ts) is h) in
-    unserved ((asks last l.below ts l.top (pair s v) l.stands l.is).0 at) refl
+    unserved (subst (λ T. T) (sym (asks last l.below ts l.top (pair s v) l.stands l.is)) at) refl
 
--- the list of an image is that of its plan
--- and it is of no other stage
-not_beyond : (bytes : List ℕ) (n : ℕ) → IsListImage (take n bytes) → IsBeyondLists bytes → ⊥
-not_beyond bytes n h beyond =
+-- an image of a list is no other, nor is one of registers of eight bits
+not_beyond-list : (bytes : List ℕ) (n : ℕ) → IsListImage (take n bytes) → IsBeyond bytes → ⊥
+not_beyond-list bytes n h other =
     let zeroth : stage_bits bytes ≡ 0 = sym (same_stage (take n bytes) (drop n bytes) bytes (take-append-drop n bytes) h.header.whole) ∙ h.header.stage_is in
-    elim beyond [
+    elim other [
       | inl set ↦ omega (arith, zeroth, set.stage_is)
-      | inr hll ↦ omega (arith, zeroth, hll.stage_is)
+      | inr hll ↦ omega (arith, zeroth, hll.0.stage_is)
     ]
 
-read-stands : (bytes : List ℕ) (x : Kept) → (r : IsReadFrom bytes x) → StandsFor x (plan.image (take r.count bytes) (value_of_kept x))
-read-stands bytes x r = record { size = r.size; pairs = refl; value = refl; order = r.order }
+not_beyond-hll8 : (bytes : List ℕ) (n : ℕ) → IsHll8Image (take n bytes) → IsBeyond bytes → ⊥
+not_beyond-hll8 bytes n h other =
+    let e = take-append-drop n bytes in
+    let second : stage_bits bytes ≡ 2 = sym (same_stage (take n bytes) (drop n bytes) bytes e h.header.whole) ∙ h.header.stage_is in
+    let width : width_bits bytes ≡ 2 = sym (same_width (take n bytes) (drop n bytes) bytes e h.header.whole) ∙ h.width in
+    elim other [
+      | inl set ↦ omega (arith, second, set.stage_is)
+      | inr hll ↦ hll.1 width
+    ]
 
 pub takes-image : (xs : List Kept) (ts : List Plan) (bytes : List ℕ) (x : Kept) → StandFor xs ts → IsReadFrom bytes x
     → (us : List Plan) × Takes today ts (image bytes) us × StandFor (xs ++ x ∷ []) us
-takes-image xs ts bytes x h r = (
-  ts ++ plan.image (take r.count bytes) (value_of_kept x) ∷ [],
-  record { served = not_beyond bytes r.count r.image; carries = (r.count, value_of_kept x, list r.image r.value, refl) },
-  StandFor-push xs ts x (plan.image (take r.count bytes) (value_of_kept x)) h (read-stands bytes x r),
+takes-image xs ts bytes x h (of_list n l right is order) = (
+  ts ++ plan.image (take n bytes) (value_of_kept (kept.list l)) ∷ [],
+  record { served = not_beyond-list bytes n right; carries = (n, value_of_kept (kept.list l), images.list right is, refl) },
+  StandFor-push xs ts (kept.list l) (plan.image (take n bytes) (value_of_kept (kept.list l))) h (record { value = refl; order = order }),
+)
+takes-image xs ts bytes x h (of_array n a right is) = (
+  ts ++ plan.image (take n bytes) (value_of_kept (kept.array a)) ∷ [],
+  record { served = not_beyond-hll8 bytes n right; carries = (n, value_of_kept (kept.array a), images.hll8 right is, refl) },
+  StandFor-push xs ts (kept.array a) (plan.image (take n bytes) (value_of_kept (kept.array a))) h (record { value = refl; order = refl }),
 )
 
 pub refuses-image : (ts : List Plan) (bytes : List ℕ) (e : Fault) → RefusesBytes bytes e → IsRefusal today ts (image bytes) e
-refuses-image ts bytes e (no_list h) = unserved h refl
+refuses-image ts bytes e (other_image h) = unserved h refl
 refuses-image ts bytes e (no_image r h f) = faulty h (r, f, refl)
 
 pub length-StandFor : (xs : List Kept) (ts : List Plan) → StandFor xs ts → length xs ≡ length ts

@@ -1,90 +1,101 @@
 -- A sketch as the stack of a run keeps it, and what it stands for (docs/ARCHITECTURE.md, "A run").
-use Rattle.std.specs.Prelude.{◌≡◌, ℕ, ◌<◌, ◌≤◌, List, [], ◌∷◌, ◌++◌, length, take, drop}
-use Rattle.std.specs.FinSet.{len, insert}
+use Rattle.std.specs.Prelude.{◌≡◌, ℕ, ◌<◌, ◌≤◌, true, false, List, [], ◌∷◌, ◌++◌, length, take, drop}
 use Rattle.hll_base.specs.declared.error.Reason.{Reason}
-use Rattle.hll_coupons.specs.Table.{Table, held, coupons_of, empty_table, filled_from_front, arrived, IsTable}
+use Rattle.hll_coupons.specs.Pair.{set_of}
+use Rattle.hll_coupons.specs.Table.{held, coupons_of, arrived}
 use Rattle.hll_coupons.specs.Payload.{list_coupons}
-use Rattle.hll_coupons.specs.declared.hll_type.HllType.{HllType}
-use Rattle.hll_sketch.specs.Value.{Sketch, coupons, IsLgK}
-use Rattle.hll_sketch.specs.Image.{list_shape, list_value, IsListImage}
+use Rattle.hll_coupons.specs.declared.hll_type.HllType.TheVariants.{Hll8}
+use Rattle.hll_arrays.specs.Store.{Stored}
+use Rattle.hll_sketch.specs.Value.{Sketch, coupons, registers, in_registers}
+use Rattle.hll_sketch.specs.Adding.{add}
+use Rattle.hll_sketch.specs.Image.{list_shape, list_value, hll8_value, IsListImage, IsHll8Image}
 use Rattle.hll_sketch.specs.Fault as images
 use Rattle.hll_merge.specs.declared.fault.Fault.{Fault}
 use Rattle.hll_merge.specs.declared.fault.Fault.TheVariants as faults
 use Rattle.hll_merge.specs.declared.fault.Fault.TheVariants.{Stack, Unserved}
-use Rattle.hll_merge.specs.Plan.{Plan, inputs, outcome}
-use Rattle.hll_merge.specs.Served.{IsBeyondLists, ArrivesAs}
+use Rattle.hll_merge.specs.declared.sketch.Mode.{Mode}
+use Rattle.hll_merge.specs.declared.sketch.Mode.TheVariants as modes
+use Rattle.hll_merge.specs.Plan.{Plan, outcome}
+use Rattle.hll_merge.specs.Listed.{Listed}
+use Rattle.hll_merge.specs.Served.{IsServed, IsBeyond, OrderIn, ArrivesAs}
 
--- a list: its lg_k, its width and its places
-pub record Kept : Type 0 where
-  pub lg_k : ℕ
-  pub width : HllType
-  pub table : Table
+-- a list, or registers of eight bits
+pub data Kept : Type 0 where
+  list : Listed → Kept
+  array : Stored → Kept
+
+-- what contracts see of it in the code
+abbrev pub kept_of : {A : Type 0} → Mode A → Kept
+kept_of (modes.List x) = list x
+kept_of (modes.Array x) = array x
 
 -- the sketch value of it
 abbrev pub value_of_kept : Kept → Sketch
-value_of_kept x = record { lg_k = x.lg_k; width = x.width; content = coupons (coupons_of x.table) x.table.lg_size }
+value_of_kept (list x) = record { lg_k = x.lg_k; width = x.width; content = coupons (coupons_of x.table) x.table.lg_size }
+value_of_kept (array x) = record { lg_k = x.lg_k; width = Hll8; content = registers x.registers x.state }
 
--- a list of eight places
-pub record IsServedList (x : Kept) : Type 0 where
-  pub lg_k : IsLgK x.lg_k
-  pub size : x.table.lg_size ≡ 3
-  pub table : IsTable x.table
+-- the coupons in the order of their places, and none of registers
+abbrev pub order_of : Kept → List ℕ
+order_of (list x) = held x.table.places
+order_of (array x) = []
 
--- a list without coupons
-abbrev pub fresh : ℕ → HllType → Kept
-fresh k w = record { lg_k = k; width = w; table = empty_table 3 }
+-- ---- updates
 
--- it has eight coupons or more once it has this one
-abbrev pub BringsEighth : Kept → ℕ → Type 0
-BringsEighth x c = 8 ≤ len (insert (coupons_of x.table) c)
+-- it took a coupon: the value is that of adding it, and is served; a new coupon of a list stands behind the others
+pub record Adds (old : Kept) (c : ℕ) (new : Kept) : Type 0 where
+  pub value : value_of_kept new ≡ add (value_of_kept old) (set_of (c ∷ []))
+  pub served : IsServed (value_of_kept new)
+  pub order : OrderIn (value_of_kept new).content (order_of new) (order_of new ≡ arrived (order_of old) c)
 
--- the list with a coupon in its first empty place, unless it is held
-abbrev pub updated : Kept → ℕ → Kept
-updated x c = record x { table = filled_from_front 3 (arrived (held x.table.places) c) }
+-- with the coupon it would be of a stage or width that is not served
+abbrev pub GoesBeyond : Kept → ℕ → Type 0
+GoesBeyond x c = IsServed (add (value_of_kept x) (set_of (c ∷ []))) → ⊥
 
--- ---- lists from images
+-- the coupon takes a list to registers
+pub record Promotes (x : Kept) (c : ℕ) : Type 0 where
+  pub before : in_registers (value_of_kept x).content ≡ false
+  pub after : in_registers (add (value_of_kept x) (set_of (c ∷ []))).content ≡ true
 
--- a front of the bytes is the image of the list, with the coupons in this order
-pub record IsReadFrom (bytes : List ℕ) (x : Kept) : Type 0 where
-  pub size : x.table.lg_size ≡ 3
-  pub count : ℕ
-  pub image : IsListImage (take count bytes)
-  pub value : value_of_kept x ≡ list_value (take count bytes)
-  pub order : held x.table.places ≡ list_coupons (list_shape (take count bytes)) (drop 8 (take count bytes))
+-- ---- images
 
--- why no list was read: the image is of no list, or no front of the bytes is an image
+-- a front of the bytes is the image of it; the coupons of a list stand in the order of the image
+pub data IsReadFrom (bytes : List ℕ) : Kept → Type 0 where
+  of_list : (n : ℕ) (x : Listed) → IsListImage (take n bytes) → value_of_kept (list x) ≡ list_value (take n bytes)
+      → held x.table.places ≡ list_coupons (list_shape (take n bytes)) (drop 8 (take n bytes)) → IsReadFrom bytes (list x)
+  of_array : (n : ℕ) (x : Stored) → IsHll8Image (take n bytes) → value_of_kept (array x) ≡ hll8_value (take n bytes) → IsReadFrom bytes (array x)
+
+-- why none was read: the image is of another stage or width, or no front of the bytes is an image
 pub data RefusesBytes (bytes : List ℕ) : Fault → Type 0 where
-  no_list : IsBeyondLists bytes → RefusesBytes bytes Unserved
-  no_image : (r : Reason) → (IsBeyondLists bytes → ⊥) → images.Fault bytes r → RefusesBytes bytes (faults.Image r)
+  other_image : IsBeyond bytes → RefusesBytes bytes Unserved
+  no_image : (r : Reason) → (IsBeyond bytes → ⊥) → images.Fault bytes r → RefusesBytes bytes (faults.Image r)
 
 -- ---- the last of a stack
 
--- the last list took the coupon, and the others stayed
+-- the last sketch took the coupon, and the others stayed
 pub record UpdatesLast (old : List Kept) (c : ℕ) (new : List Kept) : Type 0 where
   pub front : List Kept
   pub last : Kept
+  pub raised : Kept
   pub is : old ≡ front ++ last ∷ []
-  pub room : BringsEighth last c → ⊥
-  pub gives : new ≡ front ++ updated last c ∷ []
+  pub adds : Adds last c raised
+  pub gives : new ≡ front ++ raised ∷ []
 
--- why the coupon was not taken: there is no list, or the last one would have eight
+-- why the coupon was not taken: there is no sketch, or the last one would be of a stage or width that is not served
 pub data RefusesLast (old : List Kept) (c : ℕ) : Fault → Type 0 where
   none : old ≡ [] → RefusesLast old c Stack
-  eighth : (front : List Kept) (last : Kept) → old ≡ front ++ last ∷ [] → BringsEighth last c → RefusesLast old c Unserved
+  beyond : (front : List Kept) (last : Kept) → old ≡ front ++ last ∷ [] → GoesBeyond last c → RefusesLast old c Unserved
 
--- why the last lists, so many of them, were not joined: there are fewer, or no union is served
+-- why the last sketches, so many of them, were not joined: there are fewer, or no union is served
 pub data RefusesUnion (old : List Kept) (n : ℕ) : Fault → Type 0 where
   fewer : length old < n → RefusesUnion old n Stack
   enough : n ≤ length old → RefusesUnion old n Unserved
 
--- ---- a list and its plan
+-- ---- a sketch and its plan
 
--- the list is the plan's outcome, with the coupons in their order
+-- the sketch is the plan's outcome, with the coupons in their order
 pub record StandsFor (x : Kept) (t : Plan) : Type 0 where
-  pub size : x.table.lg_size ≡ 3
-  pub pairs : coupons_of x.table ≡ inputs t
   pub value : value_of_kept x ≡ outcome t
-  pub order : ArrivesAs t (held x.table.places)
+  pub order : ArrivesAs t (order_of x)
 
 -- each of a stack stands for its plan
 abbrev pub StandFor : List Kept → List Plan → Type 0

@@ -4,6 +4,7 @@ pub mod Extent
 pub mod Grown
 pub mod Headline
 pub mod Kept
+pub mod Listed
 pub mod Meaning
 pub mod Plan
 pub mod Rearranged

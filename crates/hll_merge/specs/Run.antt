@@ -1,5 +1,5 @@
 -- What a run leaves (docs/PLAN.md, "A run").
-use Rattle.std.specs.Prelude.{ℕ, Bool, true, false, ◌≡◌, ◌⊎◌, List, [], ◌∷◌, ◌++◌, length, take, Option, Some, None}
+use Rattle.std.specs.Prelude.{ℕ, ◌<◌, Bool, true, false, ◌≡◌, ◌⊎◌, List, [], ◌∷◌, ◌++◌, length, take, Option, Some, None}
 use Rattle.std.specs.Str.Lines.{lines}
 use Rattle.std.specs.Io.KnownBytes.{Appends, Consumes, IsAtEnd, Keeps}
 use Rattle.hex.specs.Hex.{encode_lower}
@@ -83,7 +83,7 @@ pub record ReaderFails (s : Streams) (e : MergeError) : Type 0 where
   pub read : Consumes s.before s.after text
   pub first : FaultsAtLine today (ended_lines text) e ⊎ AllEndedRun text e
 
--- the writer failed after a front of the answer
+-- the writer failed after a front of the answer that lacks something of it
 pub record WriterFails (s : Streams) (e : MergeError) : Type 0 where
   pub fault : e.fault ≡ Write
   pub reader : s.reader_failed ≡ false
@@ -95,6 +95,7 @@ pub record WriterFails (s : Streams) (e : MergeError) : Type 0 where
   pub line : List ℕ
   pub answer : IsAnswer text line
   pub sent : ℕ
+  pub short : sent < length line
   pub written : Appends s.old s.new (take sent line)
 
 abbrev pub IsRefused : Streams → MergeError → Type 0

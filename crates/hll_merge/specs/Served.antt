@@ -1,48 +1,66 @@
--- What is served today: `new`, `image` of a list, and `coupon` while it leaves a list (docs/PLAN.md, "What is served").
+-- What is served today: `new`, `image` of lists and of registers of eight bits, and `coupon` while it leaves these
+-- (docs/PLAN.md, "What is served").
 use Rattle.std.specs.Prelude.{◌≡◌, ◌≢◌, ℕ, ◌≤◌, ◌⊎◌, List, [], ◌∷◌, length, drop}
-use Rattle.std.specs.FinSet.{len}
 use Rattle.hll_base.specs.declared.error.Reason.{Reason}
 use Rattle.hll_base.specs.declared.error.ErrorKind.TheVariants.{InvalidData}
 use Rattle.hll_base.specs.Reason.{kind_of}
 use Rattle.hll_coupons.specs.Pair.{pair}
 use Rattle.hll_coupons.specs.Table.{arrived}
 use Rattle.hll_coupons.specs.Payload.{list_coupons}
-use Rattle.hll_sketch.specs.Image.{HasHeader, list_shape}
+use Rattle.hll_coupons.specs.declared.hll_type.HllType.{HllType}
+use Rattle.hll_coupons.specs.declared.hll_type.HllType.TheVariants.{Hll8}
+use Rattle.hll_sketch.specs.Value.{Sketch, Content, coupons, registers}
+use Rattle.hll_sketch.specs.Image.{HasHeader, width_bits, list_shape}
 use Rattle.hll_merge.specs.declared.fault.Fault.{Fault}
 use Rattle.hll_merge.specs.declared.fault.Fault.TheVariants as faults
 use Rattle.hll_merge.specs.declared.fault.MergeError.{MergeError}
 use Rattle.hll_merge.specs.Plan as plan
-use Rattle.hll_merge.specs.Plan.{Plan, inputs}
+use Rattle.hll_merge.specs.Plan.{Plan, outcome}
 use Rattle.hll_merge.specs.Text.{PlanStep, reading, new, image, coupon, union}
 use Rattle.hll_merge.specs.Accepting.{Service, full, Accepts, IsFirstFault, IsFirstFaultOfLines}
 use Rattle.hll_merge.specs.Evaluate.{IsFirstFaultOfSteps}
 
--- the last plan has eight coupons or more once it has this one
-abbrev pub GetsEighth : List Plan → ℕ → Type 0
-GetsEighth [] c = ⊥
-GetsEighth (t ∷ []) c = 8 ≤ len (inputs (plan.coupon t c))
-GetsEighth (t ∷ u ∷ ts) c = GetsEighth (u ∷ ts) c
+-- a list, or registers of eight bits
+abbrev pub IsServedContent : HllType → Content → Type 0
+IsServedContent w (coupons S size) = size ≡ 3
+IsServedContent w (registers R state) = w ≡ Hll8
 
--- the header of an image is right, and it is of a set or of registers
-abbrev pub IsBeyondLists : List ℕ → Type 0
-IsBeyondLists bytes = HasHeader bytes 1 ⊎ HasHeader bytes 2
+abbrev pub IsServed : Sketch → Type 0
+IsServed x = IsServedContent x.width x.content
 
--- a coupon that takes a list out of its stage is not served, nor an image that is of no list, nor a union of as many plans as there are
+-- the last plan is none of these once it has this coupon
+abbrev pub LeavesServed : List Plan → ℕ → Type 0
+LeavesServed [] c = ⊥
+LeavesServed (t ∷ []) c = IsServed (outcome (plan.coupon t c)) → ⊥
+LeavesServed (t ∷ u ∷ ts) c = LeavesServed (u ∷ ts) c
+
+-- the header of an image is right, and it is of a set, or of registers of four or six bits
+abbrev pub IsBeyond : List ℕ → Type 0
+IsBeyond bytes = HasHeader bytes 1 ⊎ (HasHeader bytes 2 × (width_bits bytes ≢ 2))
+
+-- not served: an image of another stage or width, a coupon after which the sketch is of one, a union of as many plans as there are
 abbrev pub IsUnserved : List Plan → PlanStep → Type 0
 IsUnserved ts (new k w) = ⊥
-IsUnserved ts (image bytes) = IsBeyondLists bytes
-IsUnserved ts (coupon s v) = GetsEighth ts (pair s v)
+IsUnserved ts (image bytes) = IsBeyond bytes
+IsUnserved ts (coupon s v) = LeavesServed ts (pair s v)
 IsUnserved ts (union n m w) = n ≤ length ts
 
 abbrev pub today : Service (List ℕ)
 today = record { reads = reading; Refuses = IsUnserved }
 
+-- ---- the order in which coupons are written
+
+-- an order of coupons has a property, and registers have no order
+abbrev pub OrderIn : Content → List ℕ → Type 0 → Type 0
+OrderIn (coupons S size) order P = P
+OrderIn (registers R state) order P = order ≡ []
+
 -- the coupons of such a plan in the order in which they are written: those of an image in its order, and
 -- each other one behind them when it first came
 abbrev pub ArrivesAs : Plan → List ℕ → Type 0
 ArrivesAs (plan.new k w) order = order ≡ []
-ArrivesAs (plan.image b x) order = order ≡ list_coupons (list_shape b) (drop 8 b)
-ArrivesAs (plan.coupon t c) order = (before : List ℕ) × ArrivesAs t before × (order ≡ arrived before c)
+ArrivesAs (plan.image b x) order = OrderIn x.content order (order ≡ list_coupons (list_shape b) (drop 8 b))
+ArrivesAs (plan.coupon t c) order = OrderIn (outcome (plan.coupon t c)).content order ((before : List ℕ) × ArrivesAs t before × (order ≡ arrived before c))
 ArrivesAs (plan.union_of m w ts) order = ⊥
 
 -- ---- laws

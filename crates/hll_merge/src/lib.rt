@@ -8,6 +8,7 @@ pub mod fault;
 mod image_tests;
 pub mod laws;
 mod lines;
+mod list_sketch;
 #[cfg(test)]
 mod plain;
 pub mod reading;

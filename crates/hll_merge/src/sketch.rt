@@ -1,114 +1,132 @@
-//! A sketch of a plan while it is a list.
-ghost use Rattle.std.specs.Prelude.{◌≡◌, ◌≤◌, ◌⊎◌, ◌↔◌, IsTrue, OnOk, IfOk, IfErr, string_bytes};
+//! A sketch of a plan: a list, or registers of eight bits.
+ghost use Rattle.std.specs.Prelude.{◌≡◌, ◌≤◌, ◌⊎◌, List, ℕ, OnOk, IfOk, IfErr, string_bytes};
 ghost use Rattle.hll_coupons.specs.Pair.{value_of};
-ghost use Rattle.hll_coupons.specs.Table.{held, IsTable};
-ghost use Rattle.hll_coupons.specs.Coupons.{list_bytes};
 ghost use Rattle.hll_sketch.specs.Value.{IsLgK};
-ghost use Rattle.hll_merge.specs.Kept.{fresh, updated, BringsEighth, IsReadFrom, RefusesBytes, IsServedList};
+ghost use Rattle.hll_sketch.specs.Written.{Written};
+ghost use Rattle.hll_merge.specs.Listed.{fresh};
+ghost use Rattle.hll_merge.specs.Kept as kept;
+ghost use Rattle.hll_merge.specs.Kept.{kept_of, value_of_kept, order_of, Adds, GoesBeyond, Promotes, IsReadFrom, RefusesBytes};
 ghost use Rattle.hll_merge.specs.Run.{printed};
 ghost use Rattle.hll_merge.specs.declared.fault.Fault.TheVariants.{Memory, Unserved};
 
 use crate::fault::Fault;
+use crate::list_sketch::ListSketch;
+use hll_arrays::array8::Array8;
 use hll_coupons::coupon::Coupon;
 use hll_coupons::hll_type::HllType;
-use hll_coupons::list::List;
 use hll_sketch::header::{Header, Stage};
+use hll_sketch::hll8_image::read_hll8;
 use hll_sketch::list_image::read_list;
 use std::alloc::Allocator;
 use std::marker::Model;
 
-/// How many coupons a list keeps after an update: with one more it leaves its stage.
-const LIST_LIMIT: usize = 7;
-
-/// A list with its `lg_k` and width. Contracts see these and its places.
+/// The stage of a sketch, and what it keeps.
 #[derive(Drop)]
-pub(crate) struct ListSketch<A: Allocator> {
-    lg_k: u8,
-    hll_type: HllType,
-    list: List<A>,
+pub(crate) enum Mode<A: Allocator> {
+    List(ListSketch<A>),
+    Array(Array8<A>),
 }
 
-impl<A: Allocator> Model for ListSketch<A> {
-    ghost use Rattle.std.specs.Prelude.{◌≡◌};
-    ghost use Rattle.hll_sketch.specs.Value.{IsLgK};
-    ghost use Rattle.hll_merge.specs.Kept.{Kept};
+/// A sketch of a plan. Contracts see its list or its registers.
+#[derive(Drop)]
+pub(crate) struct Sketch<A: Allocator> {
+    mode: Mode<A>,
+}
+
+impl<A: Allocator> Model for Sketch<A> {
+    ghost use Rattle.hll_merge.specs.Kept.{Kept, kept_of};
 
     ghost Value = { Kept };
 
-    ghost view = { λ s. record { lg_k = s.lg_k; width = s.hll_type; table = s.list } };
-
-    ghost invariant = { λ s. IsLgK s.lg_k × (s.list.lg_size ≡ 3) };
+    ghost view = { λ s. kept_of s.mode };
 }
 
-impl<A: Allocator> ListSketch<A> {
+impl<A: Allocator> Sketch<A> {
     /// An empty list. `Memory` where its places are refused.
     pub(crate) fn new(alloc: A, lg_k: u8, hll_type: HllType) -> Result<Self, Fault>
         requires { IsLgK lg_k }
-        ensures ok { IfOk result (λ s. s ≡ fresh lg_k hll_type) }
+        ensures ok { IfOk result (λ s. s ≡ kept.list (fresh lg_k hll_type)) }
         ensures err { IfErr result (λ e. e ≡ Memory) }
     {
-        Ok(ListSketch {
-            lg_k,
-            hll_type,
-            list: List::default_in(alloc)?,
+        Ok(Sketch {
+            mode: Mode::List(ListSketch::new(alloc, lg_k, hll_type)?),
         })
     }
 
-    /// Reads the list of an image: its coupons in their order. What follows the image is not looked at.
+    /// Reads the sketch of an image. What follows the image is not looked at.
     ///
-    /// `Unserved` where the header is right and is of a set or of registers, `Image` where no front of the bytes is an
-    /// image, for a reason that stands, or `Memory` where the places of the list are refused.
+    /// `Unserved` where the header is right and is of a set, or of registers of four or six bits, `Image` where no
+    /// front of the bytes is an image, for a reason that stands, or `Memory` where the list or the registers are refused.
     pub(crate) fn read(alloc: A, bytes: &[u8]) -> Result<Self, Fault>
         ensures ok { IfOk result (λ s. IsReadFrom bytes.now s) }
         ensures err { IfErr result (λ e. (e ≡ Memory) ⊎ RefusesBytes bytes.now e) }
     {
         let header = Header::read(bytes)?;
         match header.stage {
-            Stage::List => Ok(ListSketch {
-                lg_k: header.lg_k,
-                hll_type: header.hll_type,
-                list: read_list(alloc, bytes, header)?,
-            }),
-            Stage::Set | Stage::Hll => Err(Fault::Unserved),
+            Stage::List => {
+                let list = read_list(alloc, bytes, header)?;
+                Ok(Sketch {
+                    mode: Mode::List(ListSketch::of(header.lg_k, header.hll_type, list)),
+                })
+            }
+            Stage::Hll => match header.hll_type {
+                HllType::Hll8 => Ok(Sketch {
+                    mode: Mode::Array(read_hll8(alloc, bytes, header)?),
+                }),
+                HllType::Hll4 | HllType::Hll6 => Err(Fault::Unserved),
+            },
+            Stage::Set => Err(Fault::Unserved),
         }
-    }
-
-    /// Takes a coupon. Takes no memory.
-    ///
-    /// `Unserved` where it would have eight coupons then, or more.
-    pub(crate) fn update(&mut self, coupon: Coupon) -> Result<(), Fault>
-        requires { 1 ≤ value_of coupon }
-        ensures ok { OnOk result ((BringsEighth self.old coupon → ⊥) × (self.new ≡ updated self.old coupon)) }
-        ensures err { IfErr result (λ e. (e ≡ Unserved) × BringsEighth self.old coupon × (self.new ≡ self.old)) }
-    {
-        if self.brings_eighth(coupon) {
-            return Err(Fault::Unserved);
-        }
-        self.list.update(coupon);
-        Ok(())
-    }
-
-    /// Whether it has eight coupons or more once it has this one.
-    fn brings_eighth(&self, coupon: Coupon) -> bool
-        ensures answer { IsTrue result ↔ BringsEighth self.now coupon }
-        ensures table { IsTable self.now.table }
-    {
-        let count = self.list.container().len();
-        count > LIST_LIMIT || count == LIST_LIMIT && !self.list.contains(coupon)
     }
 }
 
-impl<A: Allocator + Clone> ListSketch<A> {
+impl<A: Allocator + Clone> Sketch<A> {
+    /// Takes a coupon.
+    ///
+    /// `Unserved` where it would be a set then, or registers of four or six bits; `Memory` where it would be registers
+    /// of eight bits and was a list, and they are refused. A refusal leaves it as it was.
+    pub(crate) fn update(&mut self, coupon: Coupon) -> Result<(), Fault>
+        requires { 1 ≤ value_of coupon }
+        ensures ok { OnOk result (Adds self.old coupon self.new) }
+        ensures err { IfErr result (λ e. (((e ≡ Memory) × Promotes self.old coupon) ⊎ ((e ≡ Unserved) × GoesBeyond self.old coupon)) × (self.new ≡ self.old)) }
+    {
+        update_mode(&mut self.mode, coupon)
+    }
+
     /// The image in lower-case hexadecimal, and LF. `Memory` where the image or the text is refused.
     pub(crate) fn printed(&self) -> Result<String<A>, Fault>
-        ensures ok { IfOk result (λ text. string_bytes text ≡ printed (list_bytes self.now.lg_k self.now.width (held self.now.table.places))) }
-        ensures served { IsServedList self.now }
+        ensures ok { IfOk result (λ text. (bytes : List ℕ) × Written bytes (value_of_kept self.now) (order_of self.now) × (string_bytes text ≡ printed bytes)) }
         ensures err { IfErr result (λ e. e ≡ Memory) }
     {
-        let _count = self.list.container().len();
-        let image = self.list.serialize(self.lg_k, self.hll_type)?;
+        let image = serialize(&self.mode)?;
         let mut text = hex::encode(image.allocator().clone()?, image)?;
         text.push('\n')?;
         Ok(text)
+    }
+}
+
+/// Takes a coupon, as `Sketch::update`.
+fn update_mode<A: Allocator + Clone>(mode: &mut Mode<A>, coupon: Coupon) -> Result<(), Fault>
+    requires { 1 ≤ value_of coupon }
+    ensures ok { OnOk result (Adds (kept_of mode.old) coupon (kept_of mode.new)) }
+    ensures err { IfErr result (λ e. (((e ≡ Memory) × Promotes (kept_of mode.old) coupon) ⊎ ((e ≡ Unserved) × GoesBeyond (kept_of mode.old) coupon)) × (kept_of mode.new ≡ kept_of mode.old)) }
+{
+    match mode {
+        Mode::Array(array) => array.update(coupon),
+        Mode::List(list) if !list.brings_eighth(coupon) => list.update(coupon),
+        Mode::List(list) if list.promotes() => *mode = Mode::Array(list.promoted(coupon)?),
+        Mode::List(_) => return Err(Fault::Unserved),
+    }
+    Ok(())
+}
+
+/// The image. `Memory` where it is refused.
+fn serialize<A: Allocator + Clone>(mode: &Mode<A>) -> Result<Vec<u8, A>, Fault>
+    ensures ok { IfOk result (λ image. Written image.items (value_of_kept (kept_of mode.now)) (order_of (kept_of mode.now))) }
+    ensures err { IfErr result (λ e. e ≡ Memory) }
+{
+    match mode {
+        Mode::List(list) => list.serialize(),
+        Mode::Array(array) => Ok(array.serialize(array.lg_k())?),
     }
 }

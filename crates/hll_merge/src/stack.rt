@@ -8,13 +8,15 @@ ghost use Rattle.hll_merge.specs.Text.{line_number};
 ghost use Rattle.hll_merge.specs.Extent.{lines_of};
 ghost use Rattle.hll_merge.specs.Accepting.{Takes, IsRefusal, Gives, IsFaultOfLine, Runs, FaultsAtLine};
 ghost use Rattle.hll_merge.specs.Served.{today};
-ghost use Rattle.hll_merge.specs.Kept.{Kept, fresh, IsReadFrom, RefusesBytes, UpdatesLast, RefusesLast, RefusesUnion, StandFor};
+ghost use Rattle.hll_merge.specs.Listed.{fresh};
+ghost use Rattle.hll_merge.specs.Kept as kept;
+ghost use Rattle.hll_merge.specs.Kept.{Kept, IsReadFrom, RefusesBytes, UpdatesLast, RefusesLast, RefusesUnion, StandFor};
 ghost use Rattle.hll_merge.specs.declared.fault.Fault.TheVariants.{Memory, Unserved};
 
 use crate::fault::{Fault, MergeError};
 use crate::lines::{Extent, next_of};
 use crate::reading::read_step;
-use crate::sketch::ListSketch;
+use crate::sketch::Sketch;
 use crate::step::Step;
 use hll_coupons::coupon::Coupon;
 use hll_coupons::hll_type::HllType;
@@ -24,7 +26,7 @@ use std::marker::Model;
 /// The sketches of a plan, the last one on top. Contracts see the list of them.
 #[derive(Drop)]
 pub(crate) struct Stack<A: Allocator> {
-    sketches: Vec<ListSketch<A>, A>,
+    sketches: Vec<Sketch<A>, A>,
 }
 
 impl<A: Allocator> Model for Stack<A> {
@@ -47,7 +49,7 @@ impl<A: Allocator> Stack<A> {
     }
 
     /// The one sketch, where there is just one.
-    pub(crate) fn only(&self) -> Option<&ListSketch<A>>
+    pub(crate) fn only(&self) -> Option<&Sketch<A>>
         ensures one { IfSome result (λ s. self.now ≡ s.now ∷ []) }
         ensures other { IfNone result (length self.now ≡ 1 → ⊥) }
     {
@@ -58,13 +60,14 @@ impl<A: Allocator> Stack<A> {
     }
 }
 
-/// Adds a coupon to the last of some sketches. Takes no memory.
-///
-/// `Stack` where there is none, `Unserved` where it would have eight coupons then, or more.
-fn update_last<A: Allocator>(sketches: &mut [ListSketch<A>], coupon: Coupon) -> Result<(), Fault>
+/// Adds a coupon to the last of some sketches, as `Sketch::update`. `Stack` where there is none.
+fn update_last<A: Allocator + Clone>(
+    sketches: &mut [Sketch<A>],
+    coupon: Coupon,
+) -> Result<(), Fault>
     requires { 1 ≤ value_of coupon }
     ensures ok { OnOk result (UpdatesLast sketches.old coupon sketches.new) }
-    ensures err { IfErr result (λ e. RefusesLast sketches.old coupon e × (sketches.new ≡ sketches.old)) }
+    ensures err { IfErr result (λ e. ((e ≡ Memory) ⊎ RefusesLast sketches.old coupon e) × (sketches.new ≡ sketches.old)) }
 {
     let count = sketches.len();
     if count == 0 {
@@ -83,20 +86,20 @@ impl<A: Allocator + Clone> Stack<A> {
     /// Pushes an empty list. `Memory` where its places, or a larger stack, are refused.
     fn push_new(&mut self, lg_k: u8, hll_type: HllType) -> Result<(), Fault>
         requires { IsLgK lg_k }
-        ensures ok { OnOk result (self.new ≡ self.old ++ fresh lg_k hll_type ∷ []) }
+        ensures ok { OnOk result (self.new ≡ self.old ++ kept.list (fresh lg_k hll_type) ∷ []) }
         ensures err { IfErr result (λ e. (e ≡ Memory) × (self.new ≡ self.old)) }
     {
-        let sketch = ListSketch::new(self.cloned_allocator()?, lg_k, hll_type)?;
+        let sketch = Sketch::new(self.cloned_allocator()?, lg_k, hll_type)?;
         self.sketches.push(sketch)?;
         Ok(())
     }
 
-    /// Pushes the list of an image, as `ListSketch::read`. `Memory` also where a larger stack is refused.
+    /// Pushes the sketch of an image, as `Sketch::read`. `Memory` also where a larger stack is refused.
     fn push_image(&mut self, bytes: &[u8]) -> Result<(), Fault>
         ensures ok { OnOk result ((x : Kept) × IsReadFrom bytes.now x × (self.new ≡ self.old ++ x ∷ [])) }
         ensures err { IfErr result (λ e. ((e ≡ Memory) ⊎ RefusesBytes bytes.now e) × (self.new ≡ self.old)) }
     {
-        let sketch = ListSketch::read(self.cloned_allocator()?, bytes)?;
+        let sketch = Sketch::read(self.cloned_allocator()?, bytes)?;
         self.sketches.push(sketch)?;
         Ok(())
     }
@@ -116,14 +119,14 @@ impl<A: Allocator + Clone> Stack<A> {
     fn push_coupon(&mut self, coupon: Coupon) -> Result<(), Fault>
         requires { 1 ≤ value_of coupon }
         ensures ok { OnOk result (UpdatesLast self.old coupon self.new) }
-        ensures err { IfErr result (λ e. RefusesLast self.old coupon e × (self.new ≡ self.old)) }
+        ensures err { IfErr result (λ e. ((e ≡ Memory) ⊎ RefusesLast self.old coupon e) × (self.new ≡ self.old)) }
     {
         update_last(&mut self.sketches, coupon)
     }
 
     /// Carries out a step.
     ///
-    /// `Memory` where a list, or a larger stack, are refused; `Image`, `Stack` and `Unserved` as the plan says. A refusal
+    /// `Memory` where a sketch, or a larger stack, are refused; `Image`, `Stack` and `Unserved` as the plan says. A refusal
     /// leaves the stack as it was.
     fn carry_out(&mut self, step: Step<A>) -> Result<(), Fault>
         requires { IsInRange (step_of step) }

@@ -1,5 +1,5 @@
 //! Reading all of a stream, and writing all of some bytes.
-ghost use Rattle.std.specs.Prelude.{◌≡◌, ℕ, false, true, take, OnOk, IfOk, IfErr};
+ghost use Rattle.std.specs.Prelude.{◌≡◌, ◌<◌, ℕ, length, false, true, take, OnOk, IfOk, IfErr};
 ghost use Rattle.std.specs.Io.KnownBytes.{Consumes, Appends, IsAtEnd};
 ghost use Rattle.hll_merge.specs.declared.fault.Fault.TheVariants.{Memory, Write};
 
@@ -37,7 +37,7 @@ pub(crate) fn read_all<A: Allocator, R: io::Read>(
 pub(crate) fn write_all<W: io::Write>(writer: &mut Watched<W>, bytes: &[u8]) -> Result<(), Fault>
     ensures ok { OnOk result (Appends (W.contents writer.old.inner) (W.contents writer.new.inner) bytes.now × (writer.new.failed ≡ writer.old.failed)) }
     ensures err { IfErr result (λ e. (e ≡ Write) × (writer.new.failed ≡ true)
-        × (n : ℕ) × Appends (W.contents writer.old.inner) (W.contents writer.new.inner) (take n bytes.now)) }
+        × (n : ℕ) × (n < length bytes.now) × Appends (W.contents writer.old.inner) (W.contents writer.new.inner) (take n bytes.now)) }
 {
     let mut sent = 0;
     while sent < bytes.len() {

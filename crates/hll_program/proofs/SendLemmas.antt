@@ -1,10 +1,10 @@
 -- Lemmas on bytes that go out piece by piece.
-use Rattle.std.proofs.Common.{arith, ◌≡◌, ℕ, ◌≤◌, List, [], ◌++◌, length, take, drop, sym, ◌∙◌, ap, append_assoc, take-append-drop, Option, Some, None, Result, Ok, Err}
+use Rattle.std.proofs.Common.{arith, ◌≡◌, ℕ, ◌≤◌, ◌<◌, List, [], ◌++◌, length, take, drop, sym, ◌∙◌, ap, append_assoc, take-append-drop, Option, Some, None, Result, Ok, Err}
 use Rattle.std.specs.Prelude.{IsErrAnd}
 use Rattle.std.specs.Result.{result_unwrap_or}
 use Rattle.std.specs.Io.{WritesAtMost}
 use Rattle.std.specs.Io.KnownBytes.{Appends, WriteAppends}
-use Rattle.std.proofs.lemmas.List.{append-nil}
+use Rattle.std.proofs.lemmas.List.{append-nil, length-append, length-drop}
 use Rattle.hll_merge.specs.declared.fault.Fault.{Fault}
 use Rattle.hll_merge.specs.declared.fault.Fault.TheVariants.{Write}
 use Rattle.hll_merge.proofs.StreamLemmas.{Appends-more}
@@ -16,6 +16,7 @@ front-first old new xs ys h = record {
   sent = h.sent;
   rest = h.rest ++ ys;
   parts = ap (λ zs. zs ++ ys) h.parts ∙ append_assoc h.sent h.rest ys;
+  lacks = omega (arith, h.lacks, length-append h.rest ys);
   appended = h.appended;
 }
 
@@ -25,6 +26,7 @@ front-second old mid new xs ys h k = record {
   sent = xs ++ k.sent;
   rest = k.rest;
   parts = ap (λ zs. xs ++ zs) k.parts ∙ sym (append_assoc xs k.sent k.rest);
+  lacks = k.lacks;
   appended = Appends-more old mid new xs k.sent h k.appended;
 }
 
@@ -49,11 +51,12 @@ Appends-taken (Some us) None (Err e) bytes h = elim h [ ]
 Appends-taken (Some us) (Some vs) (Err e) bytes h = h ∙ sym (append-nil us)
 
 -- nothing more goes out after a front
-pub front-at : (old mid new : Option (List ℕ)) (n : ℕ) (bytes : List ℕ) → Appends old mid (take n bytes) → Appends mid new [] → AppendsFront old new bytes
-front-at old mid new n bytes h k = record {
+pub front-at : (old mid new : Option (List ℕ)) (n : ℕ) (bytes : List ℕ) → n < length bytes → Appends old mid (take n bytes) → Appends mid new [] → AppendsFront old new bytes
+front-at old mid new n bytes few h k = record {
   sent = take n bytes ++ [];
   rest = drop n bytes;
   parts = sym (ap (λ xs. xs ++ drop n bytes) (append-nil (take n bytes)) ∙ take-append-drop n bytes);
+  lacks = omega (arith, few, length-drop n bytes);
   appended = Appends-more old mid new (take n bytes) [] h k;
 }
 

@@ -1,5 +1,5 @@
 -- The line that is printed for a refusal (docs/PLAN.md, "Refusals").
-use Rattle.std.specs.Prelude.{◌≡◌, ℕ, List, [], ◌∷◌, ◌++◌, Option, Result, MatchResult, codes, decimal}
+use Rattle.std.specs.Prelude.{◌≡◌, ◌<◌, ℕ, length, List, [], ◌∷◌, ◌++◌, Option, Result, MatchResult, codes, decimal}
 use Rattle.std.specs.Io.KnownBytes.{Appends}
 use Rattle.hll_base.specs.Reason.{word_of}
 use Rattle.hll_merge.specs.declared.fault.Fault.{Fault}
@@ -22,11 +22,12 @@ words_of faults.Unserved = codes "unserved"
 abbrev pub refusal_line : MergeError → List ℕ
 refusal_line refusal = (codes "line " ++ (decimal refusal.line ++ codes ": ")) ++ (words_of refusal.fault ++ 10 ∷ [])
 
--- a front of the bytes went out
+-- a front of the bytes went out, and something of them did not
 pub record AppendsFront (old new : Option (List ℕ)) (bytes : List ℕ) : Type 0 where
   pub sent : List ℕ
   pub rest : List ℕ
   pub parts : bytes ≡ sent ++ rest
+  pub lacks : 0 < length rest
   pub appended : Appends old new sent
 
 -- the bytes went out at Ok, and a front of them at Err, which is Write

@@ -74,3 +74,33 @@ stage_again k p q n m le e = again 0 p q n m (sizes k) (Rising-sizes k) le e
 
 pub stage_none : (k p n m : ℕ) → n ≤ m → stage k p n ≡ None → stage k p m ≡ None
 stage_none k p n m le e = none_more p n m (sizes k) le e
+
+-- ---- from a list on
+
+-- a list holds up to seven pairs
+pub stage_list : (k n : ℕ) → n ≤ 7 → stage k 3 n ≡ Some 3
+stage_list k n few = cond-true (leb n 7) (Some 3) _ (le-leb n 7 few)
+
+pub stage_three : (k n : ℕ) → stage k 3 n ≡ Some 3 → n ≤ 7
+stage_three k n e = elim (cases_Bool (leb n 7)) [
+  | inl few ↦ leb-true n 7 few
+  | inr many ↦
+      let more : find (fits 3 n) (range_with_len 5 (k - 7)) ≡ Some 3 = sym (cond-false (leb n 7) (Some 3) (find (fits 3 n) (range_with_len 5 (k - 7))) many) ∙ e in
+      absurd (omega (arith, find_from (fits 3 n) 5 (range_with_len 5 (k - 7)) 3 (Rising-range 5 5 (k - 7) (omega arith)) more))
+]
+
+-- below 8 there is no set
+pub stage_low : (k n : ℕ) → k ≤ 7 → 8 ≤ n → stage k 3 n ≡ None
+stage_low k n low many =
+    cond-false (leb n 7) (Some 3) (find (fits 3 n) (range_with_len 5 (k - 7))) (lt-leb n 7 (omega arith))
+    ∙ ap (λ m. find (fits 3 n) (range_with_len 5 m)) (let none : k - 7 ≡ 0 = omega arith in none)
+
+-- from 8 on there is one for few pairs
+pub stage_high : (k n : ℕ) → 8 ≤ k → n ≤ 24 → stage k 3 n ≡ None → ⊥
+stage_high k n high few e = elim (leb n 7) as (λ b. cond b (Some 3) (find (fits 3 n) (range_with_len 5 (k - 7))) ≡ None → ⊥) [
+  | true ↦ λ f. cc
+  | false ↦ λ f. of (sym (ap (λ m. find (fits 3 n) (range_with_len 5 m)) (let some : k - 7 ≡ suc (k - 8) = omega arith in some)) ∙ f)
+] e
+  where
+    of : find (fits 3 n) (range_with_len 5 (suc (k - 8))) ≡ None → ⊥
+    of f = let five : find (fits 3 n) (range_with_len 5 (suc (k - 8))) ≡ Some 5 = cond-true (leb (4 * n) 96) (Some 5) _ (le-leb (4 * n) 96 (omega arith)) in cc

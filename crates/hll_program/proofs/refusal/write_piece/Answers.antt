@@ -32,4 +32,4 @@ returns-then-count-eq0 g c =
     let rest : List ℕ = take (length c.args.piece.now - c.loop-sent.sent) (drop c.loop-sent.sent c.args.piece.now) in
     let none = subst (λ (n : ℕ). Appends mid now (take n rest)) (sym c.unwrap_or-count.ensures ∙ c.if-count-eq0.true)
     (Appends-taken mid now c.write.result _ c.write.ensures.bytes) in
-    (refl, front-at old mid now c.loop-sent.sent c.args.piece.now c.loop-sent.invariant.sent_so_far none)
+    (refl, front-at old mid now c.loop-sent.sent c.args.piece.now c.loop-sent-test.true c.loop-sent.invariant.sent_so_far none)

@@ -1,4 +1,5 @@
-use Rattle.std.proofs.Common.{◌≡◌, ◌≢◌, ◌*◌, ◌^◌, ◌<◌, ◌≤◌, inr, length, ap, sym, subst, ◌∙◌, arith}
+use Rattle.std.proofs.Common.{◌≡◌, ◌≢◌, ◌*◌, ◌^◌, ◌<◌, ◌≤◌, inr, length, ap, sym, subst, ◌∙◌, arith, IfErr, Result, Ok, Err}
+use Rattle.hll_base.specs.declared.error.Reason.{Reason}
 use Rattle.std.proofs.lemmas.Bool.{true≢false}
 use Rattle.std.proofs.Math.Pow.{pow_mono}
 use Rattle.hll_coupons.specs.Table.{Table, held, filled_from_front}
@@ -7,6 +8,11 @@ use Rattle.hll_coupons.specs.Payload.{ListShape, HasListCount, list_places, list
 use Rattle.hll_coupons.specs.Payload as payload
 use Rattle.hll_coupons.proofs.Reading.{list_places-le, is_list_payload, held-list_table}
 use Rattle.hll_coupons.proofs.list.List.deserialize.Goals as goal
+
+-- what holds holds whatever the error is
+whatever : {T : Type 0} (r : Result T Reason) (P : Type 0) (Q : Reason → Type 0) → P → IfErr r (λ e. Q e → P)
+whatever (Ok x) P Q p = tt
+whatever (Err e) P Q p = λ _. p
 
 pub returns-then-not-is_list_count-clause-err : goal.returns-then-not-is_list_count-clause-err
 returns-then-not-is_list_count-clause-err g c =
@@ -69,3 +75,13 @@ returns-in-Err-clause-err g c =
     let fault = c.in-Err.ensures.err in
     let none : AreCoupons (list_coupons h c.args.cursor) → ⊥ = λ are. fault.1 (subst (λ k. AreCoupons (coupons_at c.args.compact k c.args.cursor)) (sym n) are) in
     inr (subst (ListFault h c.args.cursor) (sym fault.0) (payload.ListFault.coupon few there none))
+
+pub returns-then-not-is_list_count-clause-order : goal.returns-then-not-is_list_count-clause-order
+returns-then-not-is_list_count-clause-order g c = λ _ n. absurd (true≢false (sym ((c.is_list_count.ensures c.args.compact).1 n) ∙ c.if-not-is_list_count.true))
+
+pub returns-in_err-list-clause-asked : goal.returns-in_err-list-clause-asked
+returns-in_err-list-clause-asked g c =
+    let h : ListShape = record { lg_size = c.args.lg_arr; count = c.args.coupon_count; empty = c.args.empty; compact = c.args.compact } in
+    let few : HasListCount h = (c.is_list_count.ensures c.args.compact).0 c.if-not-is_list_count.false in
+    let there : 4 * list_places h ≤ length c.args.cursor = omega (arith, c.if-remaining-places.false, c.places_to_read-places.ensures, ap length c.remaining.ensures) in
+    whatever c.from_residual.result _ _ (few, there)

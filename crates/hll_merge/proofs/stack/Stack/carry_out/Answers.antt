@@ -1,4 +1,4 @@
-use Rattle.std.proofs.Common.{◌≡◌, ℕ, ◌<◌, inl, inr, List, ap, sym, subst, ◌∙◌, arith}
+use Rattle.std.proofs.Common.{◌≡◌, ℕ, inl, inr, List, ap, sym, subst, ◌∙◌}
 use Rattle.std.proofs.Math.Nat.{mod-eq_of_lt}
 use Rattle.std.proofs.lemmas.Result.{MatchResult-from_both, IfOk-weaker, IfErr-weaker}
 use Rattle.hll_coupons.specs.Pair.{pair}
@@ -23,11 +23,13 @@ returns-in-Coupon-clause-carried g c ts h =
     let value : ℕ = c.in-Coupon.value in
     let legal = subst (λ s. IsInRange (step_of s)) c.in-Coupon.is c.requires in
     let packed : c.pack.result ≡ pair slot value = c.pack.ensures ∙ ap (λ s. pair s value) (mod-eq_of_lt legal.0) in
-    let some : 0 < pair slot value = omega (arith, legal.1) in
     rw c.in-Coupon.is
     (MatchResult-from_both c.push_coupon.result _ _
-    (IfOk-weaker c.push_coupon.result _ _ (λ _ u. takes-coupon c.args.self.now c.push_coupon.new.self ts slot value some h (subst (λ q. UpdatesLast c.args.self.now q c.push_coupon.new.self) packed u)) c.push_coupon.ensures.ok)
-    (IfErr-weaker c.push_coupon.result _ _ (λ e r. inr (refuses-coupon c.args.self.now ts slot value e h (subst (λ q. RefusesLast c.args.self.now q e) packed r.0))) c.push_coupon.ensures.err))
+    (IfOk-weaker c.push_coupon.result _ _ (λ _ u. takes-coupon c.args.self.now c.push_coupon.new.self ts slot value h (subst (λ q. UpdatesLast c.args.self.now q c.push_coupon.new.self) packed u)) c.push_coupon.ensures.ok)
+    (IfErr-weaker c.push_coupon.result _ _ (λ e r. elim r.0 [
+      | inl m ↦ inl m
+      | inr f ↦ inr (refuses-coupon c.args.self.now ts slot value e h (subst (λ q. RefusesLast c.args.self.now q e) packed f))
+    ]) c.push_coupon.ensures.err))
 
 pub returns-in-Image-clause-carried : goal.returns-in-Image-clause-carried
 returns-in-Image-clause-carried g c ts h =

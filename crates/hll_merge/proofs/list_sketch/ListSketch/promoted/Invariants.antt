@@ -1,0 +1,8 @@
+use Rattle.std.proofs.Common.{◌≡◌}
+use Rattle.hll_coupons.specs.Pair.{set_of}
+use Rattle.hll_merge.proofs.Promoting.{folded}
+use Rattle.hll_merge.proofs.list_sketch.ListSketch.promoted.Given as goal
+
+-- the registers of the coupons so far
+abbrev pub invariant-loop-held : goal.invariant-loop-held
+invariant-loop-held g l = l.array ≡ folded l.self.lg_k (set_of l.yielded)
