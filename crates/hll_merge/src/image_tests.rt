@@ -254,11 +254,11 @@ const UNSERVED: [(&str, u64); 16] = [
     ("image 0301071507000009", 1),
     ("image 0a01070400080002", 1),
     ("image 0a01070a00000006", 1),
-    ("image 0a0107150000000a", 1),
+    ("image 0a01071500000002", 1),
     ("image 03010708050800090100000000000000", 1),
     ("image 0301070403080001ffffffff", 1),
     (
-        "image 0a0107040000000a000000000000000000000000000000000000000000000000ffffffffffffffff40404040404040404040404040404040",
+        "image 0a01070400000006000000000000000000000000000000000000000000000000ffffffffffffffff40404040404040404040404040404040",
         1,
     ),
     // a coupon after which there are eight or more
@@ -355,19 +355,19 @@ const CHECKS: [(usize, u8, Reason); 9] = [
 ];
 
 /// The line of an image.
-fn line_of(rt: &HostRuntime, image: &[u8]) -> Result<String, Fail> {
+pub(crate) fn line_of(rt: &HostRuntime, image: &[u8]) -> Result<String, Fail> {
     let digits = hex::encode(rt.alloc(), image)?;
     Ok(format!(in rt.alloc(); "image {digits}")?)
 }
 
 /// Whether a text prints this.
-fn prints(rt: &HostRuntime, text: &str, printed: &str) -> bool {
+pub(crate) fn prints(rt: &HostRuntime, text: &str, printed: &str) -> bool {
     let (result, written) = run_over(rt, text.as_bytes());
     result == Ok(()) && written.as_slice() == printed.as_bytes()
 }
 
 /// Whether a text is refused with this fault at this line, and nothing is written.
-fn refuses(rt: &HostRuntime, text: &str, line: u64, fault: Fault) -> bool {
+pub(crate) fn refuses(rt: &HostRuntime, text: &str, line: u64, fault: Fault) -> bool {
     let (result, written) = run_over(rt, text.as_bytes());
     result == Err(MergeError { line, fault }) && written.is_empty()
 }

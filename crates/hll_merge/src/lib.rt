@@ -12,6 +12,8 @@ mod list_sketch;
 #[cfg(test)]
 mod plain;
 pub mod reading;
+#[cfg(test)]
+mod register_tests;
 pub mod run;
 #[cfg(test)]
 mod run_tests;

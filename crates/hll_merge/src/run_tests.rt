@@ -57,7 +57,7 @@ const FAULTS: [(&[u8], u64, Fault); 23] = [
 
 /// A sketch gets its eighth coupon.
 const EIGHTH: &[u8] =
-    b"new 4 8\ncoupon 0 1\ncoupon 1 2\ncoupon 2 3\ncoupon 3 4\ncoupon 4 5\ncoupon 5 6\ncoupon 6 7\ncoupon 7 8\n";
+    b"new 8 8\ncoupon 0 1\ncoupon 1 2\ncoupon 2 3\ncoupon 3 4\ncoupon 4 5\ncoupon 5 6\ncoupon 6 7\ncoupon 7 8\n";
 
 /// Runs a plan over memory: what it answers, and what it wrote.
 pub(crate) fn run_over(rt: &HostRuntime, text: &[u8]) -> (Result<(), MergeError>, Vec<u8>) {

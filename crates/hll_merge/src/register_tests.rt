@@ -1,0 +1,238 @@
+//! Plans with registers of eight bits over memory: what they print, faults of their images, what is not served, and
+//! refused memory.
+use crate::fault::Fault;
+use crate::image_tests::{line_of, prints, refuses};
+use crate::run::run;
+use crate::run_tests::run_over;
+use crate::watched::Watched;
+use hll_base::error::Reason;
+use linked_list_allocator::LocalHeap;
+use std::process::Abort;
+use std::test::Fail;
+
+/// Plans and what they print.
+const ANSWERS: [(&str, &str); 21] = [
+    // the eighth coupon makes registers: the greatest value at each slot modulo 16
+    (
+        "new 4 8\ncoupon 0 1\ncoupon 1 2\ncoupon 2 3\ncoupon 3 4\ncoupon 4 5\ncoupon 5 6\ncoupon 6 7\ncoupon 7 8",
+        "0a0107040010000a000000000000000000000000000000000000000000000000080000000000000001020304050607080000000000000000\n",
+    ),
+    (
+        "new 4 8\ncoupon 16 1\ncoupon 17 2\ncoupon 18 3\ncoupon 19 4\ncoupon 20 5\ncoupon 21 6\ncoupon 22 7\ncoupon 23 8",
+        "0a0107040010000a000000000000000000000000000000000000000000000000080000000000000001020304050607080000000000000000\n",
+    ),
+    (
+        "new 4 8\ncoupon 0 3\ncoupon 16 1\ncoupon 32 9\ncoupon 48 2\ncoupon 64 4\ncoupon 1 1\ncoupon 2 1\ncoupon 67108863 63",
+        "0a0107040010000a0000000000000000000000000000000000000000000000000c000000000000000901010000000000000000000000003f\n",
+    ),
+    // a coupon that is held does not count
+    (
+        "new 4 8\ncoupon 0 1\ncoupon 1 2\ncoupon 0 1\ncoupon 2 3\ncoupon 3 4\ncoupon 1 2\ncoupon 4 5\ncoupon 5 6\ncoupon 6 7\ncoupon 7 8",
+        "0a0107040010000a000000000000000000000000000000000000000000000000080000000000000001020304050607080000000000000000\n",
+    ),
+    // a list of eight, and a held or a new coupon
+    (
+        "image 02010704030808080000000401000004020000040300000404000004050000040600000407000004\ncoupon 0 1",
+        "0a0107040010000a000000000000000000000000000000000000000000000000080000000000000001010101010101010000000000000000\n",
+    ),
+    (
+        "image 02010704030808080000000401000004020000040300000404000004050000040600000407000004\ncoupon 8 1",
+        "0a0107040010000a000000000000000000000000000000000000000000000000070000000000000001010101010101010100000000000000\n",
+    ),
+    (
+        "image 02010704030808080000000401000004020000040300000404000004050000040600000407000004\ncoupon 15 63",
+        "0a0107040010000a00000000000000000000000000000000000000000000000007000000000000000101010101010101000000000000003f\n",
+    ),
+    // updates of registers: the greater value stays
+    (
+        "new 4 8\ncoupon 0 1\ncoupon 1 2\ncoupon 2 3\ncoupon 3 4\ncoupon 4 5\ncoupon 5 6\ncoupon 6 7\ncoupon 7 8\ncoupon 0 5\ncoupon 1 1\ncoupon 7 8\ncoupon 8 9",
+        "0a0107040010000a000000000000000000000000000000000000000000000000070000000000000005020304050607080900000000000000\n",
+    ),
+    // images of registers, with their state
+    (
+        "image 0a0107040000000a0100000000000000020000000000000003000000000000000f0000000000000005000000000000000000000000000000",
+        "0a0107040000000a0100000000000000020000000000000003000000000000000f0000000000000005000000000000000000000000000000\n",
+    ),
+    (
+        "image 0a0107040010000a0100000000000000020000000000000003000000000000000f0000000000000005000000000000000000000000000000",
+        "0a0107040010000a0100000000000000020000000000000003000000000000000f0000000000000005000000000000000000000000000000\n",
+    ),
+    (
+        "image 0a0107040000000affffffffffffffff00000000000000000000000000000080100000000000000000000000000000000000000000000000",
+        "0a0107040000000affffffffffffffff00000000000000000000000000000080100000000000000000000000000000000000000000000000\n",
+    ),
+    (
+        "image 0a0107040000000a00000000000000000000000000000000000000000000000000000000000000003f3f3f3f3f3f3f3f3f3f3f3f3f3f3f3f",
+        "0a0107040000000a00000000000000000000000000000000000000000000000000000000000000003f3f3f3f3f3f3f3f3f3f3f3f3f3f3f3f\n",
+    ),
+    // the zero count is counted anew, and other flags, bytes and bits are ignored
+    (
+        "image 0a0107040000000a010000000000000002000000000000000300000000000000000000000000000005000000000000000000000000000000",
+        "0a0107040000000a0100000000000000020000000000000003000000000000000f0000000000000005000000000000000000000000000000\n",
+    ),
+    (
+        "image 0a0107040000000a010000000000000002000000000000000300000000000000100000000000000005000000000000000000000000000000",
+        "0a0107040000000a0100000000000000020000000000000003000000000000000f0000000000000005000000000000000000000000000000\n",
+    ),
+    (
+        "image 0a01070415effffa0100000000000000020000000000000003000000000000000f0000000000000005000000000000000000000000000000",
+        "0a0107040000000a0100000000000000020000000000000003000000000000000f0000000000000005000000000000000000000000000000\n",
+    ),
+    (
+        "image 0a0107040000000a0100000000000000020000000000000003000000000000000f0000000000000005000000000000000000000000000000ffff",
+        "0a0107040000000a0100000000000000020000000000000003000000000000000f0000000000000005000000000000000000000000000000\n",
+    ),
+    (
+        "image 0A0107040000000A0100000000000000020000000000000003000000000000000F0000000000000005000000000000000000000000000000",
+        "0a0107040000000a0100000000000000020000000000000003000000000000000f0000000000000005000000000000000000000000000000\n",
+    ),
+    // where no register changes the state stays, else it is cleared
+    (
+        "image 0a0107040000000a0100000000000000020000000000000003000000000000000f0000000000000005000000000000000000000000000000\ncoupon 0 5",
+        "0a0107040000000a0100000000000000020000000000000003000000000000000f0000000000000005000000000000000000000000000000\n",
+    ),
+    (
+        "image 0a0107040000000a0100000000000000020000000000000003000000000000000f0000000000000005000000000000000000000000000000\ncoupon 16 4\ncoupon 67108848 5",
+        "0a0107040000000a0100000000000000020000000000000003000000000000000f0000000000000005000000000000000000000000000000\n",
+    ),
+    (
+        "image 0a0107040000000a0100000000000000020000000000000003000000000000000f0000000000000005000000000000000000000000000000\ncoupon 0 6",
+        "0a0107040010000a0000000000000000000000000000000000000000000000000f0000000000000006000000000000000000000000000000\n",
+    ),
+    (
+        "image 0a0107040000000a0100000000000000020000000000000003000000000000000f0000000000000005000000000000000000000000000000\ncoupon 1 1",
+        "0a0107040010000a0000000000000000000000000000000000000000000000000e0000000000000005010000000000000000000000000000\n",
+    ),
+];
+
+/// Images of registers with faults, the first in the order of checks.
+const REFUSED: [(&str, Reason); 10] = [
+    (
+        "image 0a0107040010000a000000000000000000000000000000000000000000000000110000000000000005000000000000000000000000000000",
+        Reason::Count,
+    ),
+    (
+        "image 0a0107040010000a000000000000000000000000000000000000000000000000ffffffff0000000005000000000000000000000000000000",
+        Reason::Count,
+    ),
+    (
+        "image 0a0107040010000a0000000000000000000000000000000000000000000000000f0000000100000005000000000000000000000000000000",
+        Reason::Count,
+    ),
+    (
+        "image 0a0107040010000a0000000000000000000000000000000000000000000000000f0000000000000040000000000000000000000000000000",
+        Reason::Register,
+    ),
+    (
+        "image 0a0107040010000a0000000000000000000000000000000000000000000000000f00000000000000000000000000000000000000000000ff",
+        Reason::Register,
+    ),
+    (
+        "image 0a0107040010000a00000000000000000000000000000000000000000000000000000000000000003f3f3f3f3f3f3f403f3f3f3f3f3f3f3f",
+        Reason::Register,
+    ),
+    (
+        "image 0a0107040010000a0000000000000000000000000000000000000000000000000f00000000000000050000000000000000000000000000",
+        Reason::Truncated,
+    ),
+    ("image 0a0107150000000a", Reason::Truncated),
+    (
+        "image 0a0107040010000a0000000000000000000000000000000000000000000000001100000000000000400000000000000000000000000000",
+        Reason::Count,
+    ),
+    (
+        "image 0a0107040010000a0000000000000000000000000000000000000000000000000f00000000000000400000000000000000000000000000",
+        Reason::Truncated,
+    ),
+];
+
+/// Texts whose last line takes a list to a set, or to registers of another width.
+const UNSERVED: [(&str, u64); 4] = [
+    (
+        "new 4 4\ncoupon 0 1\ncoupon 1 2\ncoupon 2 3\ncoupon 3 4\ncoupon 4 5\ncoupon 5 6\ncoupon 6 7\ncoupon 7 8",
+        9,
+    ),
+    (
+        "new 4 6\ncoupon 0 1\ncoupon 1 2\ncoupon 2 3\ncoupon 3 4\ncoupon 4 5\ncoupon 5 6\ncoupon 6 7\ncoupon 7 8",
+        9,
+    ),
+    (
+        "new 8 8\ncoupon 0 1\ncoupon 1 2\ncoupon 2 3\ncoupon 3 4\ncoupon 4 5\ncoupon 5 6\ncoupon 6 7\ncoupon 7 8",
+        9,
+    ),
+    (
+        "new 21 8\ncoupon 0 1\ncoupon 1 2\ncoupon 2 3\ncoupon 3 4\ncoupon 4 5\ncoupon 5 6\ncoupon 6 7\ncoupon 7 8",
+        9,
+    ),
+];
+
+/// Registers at `lg_k` 4 with 5 in the first slot.
+const FIVE: [u8; 56] = [
+    10, 1, 7, 4, 0, 0, 0, 10, 1, 0, 0, 0, 0, 0, 0, 0, 2, 0, 0, 0, 0, 0, 0, 0, 3, 0, 0, 0, 0, 0, 0,
+    0, 15, 0, 0, 0, 0, 0, 0, 0, 5, 0, 0, 0, 0, 0, 0, 0, 0, 0, 0, 0, 0, 0, 0, 0,
+];
+
+#[test]
+fn answers(rt: HostRuntime) {
+    for (text, printed) in ANSWERS {
+        assert!(rt; prints(&rt, text, printed), "{text}");
+    }
+}
+
+#[test]
+fn faults(rt: HostRuntime) {
+    for (text, reason) in REFUSED {
+        assert!(rt; refuses(&rt, text, 1, Fault::Image(reason)), "{text}");
+    }
+    for (text, line) in UNSERVED {
+        assert!(rt; refuses(&rt, text, line, Fault::Unserved), "{text}");
+    }
+}
+
+/// Each front of an image that lacks some of it.
+#[test]
+fn fronts(rt: HostRuntime) -> Result<(), Fail> {
+    for end in 1..FIVE.len() {
+        let text = line_of(&rt, &FIVE[..end])?;
+        assert!(rt;
+            refuses(&rt, &text, 1, Fault::Image(Reason::Truncated)),
+            "{text}"
+        );
+    }
+    Ok(())
+}
+
+/// The greatest `lg_k`, two million registers: the image prints itself.
+#[test]
+fn many_registers(rt: HostRuntime) -> Result<(), Fail> {
+    let mut image = vec![in rt.alloc(); 7; 40 + 2_097_152]?;
+    image[..8].copy_from_slice(&[10, 1, 7, 21, 0, 16, 0, 10]);
+    image[8..40].copy_from_slice(&[0; 32]);
+    let text = line_of(&rt, &image)?;
+    let (result, written) = run_over(&rt, text.as_bytes());
+    assert_eq!(rt; result, Ok(()));
+    assert!(rt; written.as_slice().strip_suffix(b"\n") == text.as_bytes().strip_prefix(b"image "));
+    Ok(())
+}
+
+/// A promotion with a heap of each size: a request for memory is refused until one is large enough.
+#[test]
+fn refused_memory(rt: HostRuntime) -> Result<(), Fail> {
+    let (text, printed) = ANSWERS[0];
+    let mut promotions = 0u32;
+    for size in 1..400usize {
+        let heap = LocalHeap::new(rt.alloc(), size * 16)?;
+        let mut reader = Watched::new(text.as_bytes());
+        let mut writer = Watched::new(Vec::new(rt.alloc()));
+        match run(&heap, &mut reader, &mut writer) {
+            Ok(()) => assert_eq!(rt; writer.into_inner().as_slice(), printed.as_bytes()),
+            Err(e) => {
+                assert_eq!(rt; e.fault, Fault::Memory);
+                assert!(rt; writer.into_inner().is_empty());
+                promotions = promotions.saturating_add(u32::from(e.line == 9));
+            }
+        }
+    }
+    assert!(rt; 0 < promotions && promotions < 399, "{promotions}");
+    Ok(())
+}
