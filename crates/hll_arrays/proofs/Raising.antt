@@ -1,18 +1,20 @@
 -- Lemmas on registers after one coupon.
-use Rattle.std.proofs.Common.{◌≡◌, ℕ, ◌%◌, ◌^◌, ◌<◌, ◌≤◌, List, [], ◌∷◌, length, get_or, refl, sym, ap, ◌∙◌, arith, inl, inr}
+use Rattle.std.proofs.Common.{◌≡◌, ℕ, ◌%◌, ◌^◌, ◌<◌, ◌≤◌, List, [], ◌∷◌, length, get_or, refl, sym, ap, ◌∙◌, arith, All, inl, inr}
 use Rattle.std.specs.Prelude.{max}
 use Rattle.std.proofs.Math.ListN.{set}
 use Rattle.std.proofs.lemmas.Bool.{cases_eq}
+use Rattle.std.proofs.lemmas.List.Elements.{All-from_get_or}
 use Rattle.std.proofs.lemmas.List.{length-set, get_or-set_same, get_or-set_other}
 use Rattle.hll_coupons.specs.Pair.{slot_of, value_of, set_of}
 use Rattle.hll_coupons.specs.Fold.{fold_to, join, value_at}
 use Rattle.hll_coupons.proofs.Folds.{length-fold_to, get_or-fold_to}
 use Rattle.hll_coupons.proofs.Greatest.{greatest-set_of}
+use Rattle.hll_coupons.proofs.Joins.{length-join, get_or-join}
 use Rattle.hll_coupons.proofs.PlainSteps.{is_join}
 use Rattle.hll_coupons.proofs.Registers.{value_at_cases, value_at_same}
 use Rattle.hll_arrays.specs.declared.estimate_state.EstimateState.{EstimateState}
 use Rattle.hll_arrays.specs.State.{cleared}
-use Rattle.hll_arrays.specs.Store.{Stored, raised_by_coupon}
+use Rattle.hll_arrays.specs.Store.{Stored, AreRegisters, raised_by_coupon}
 use Rattle.hll_arrays.proofs.States.{state_after-same, state_after-other}
 
 module _ (k : ℕ) (R : List ℕ) (c : ℕ) (size : length R ≡ 2 ^ k) where
@@ -68,3 +70,17 @@ module _ (k : ℕ) (R : List ℕ) (c : ℕ) (size : length R ≡ 2 ^ k) where
       let new : set R t (value_of c) ≡ join R F = join-high within (omega arith) in
       let other : R ≡ join R F → ⊥ = λ e. omega (arith, ap (λ (Q : List ℕ). get_or Q t 0) (e ∙ sym new), get_or-set_same R t (value_of c) 0 within) in
       λ i. record { lg_k = k; registers = new i; state = sym (state_after-other R (join R F) state other) i }
+
+-- ---- joins
+
+-- and so is a join with it
+pub AreRegisters-join : (k : ℕ) (R Q J : List ℕ) → AreRegisters k R → length R ≡ length Q → All (λ v. v ≤ 63) Q → J ≡ join R Q → AreRegisters k J
+AreRegisters-join k R Q J are same small is = record {
+  size = ap length is ∙ length-join R Q same ∙ are.size;
+  small = All-from_get_or (λ v. v ≤ 63) J 0 (λ i h.
+      let in_join : i < length R = omega (arith, ap length is, length-join R Q same) in
+      let left : get_or R i 0 ≤ 63 = are.small i 0 in_join in
+      let right : get_or Q i 0 ≤ 63 = small i 0 (omega arith) in
+      let here : get_or J i 0 ≡ max (get_or R i 0) (get_or Q i 0) = ap (λ J. get_or J i 0) is ∙ get_or-join R Q i in
+      omega arith);
+}

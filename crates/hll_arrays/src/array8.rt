@@ -2,8 +2,10 @@
 ghost use Rattle.std.specs.Prelude.{◌≡◌, ℕ, ◌+◌, ◌^◌, ◌<◌, ◌≤◌, ◌==◌, ◌⊎◌, nat_le, length, take, drop, slice_index, IfOk, IfErr};
 ghost use Rattle.std.specs.List.{list_all};
 ghost use Rattle.hll_base.specs.declared.error.Reason.TheVariants.{Memory};
+ghost use Rattle.hll_coupons.specs.Fold.{join};
 ghost use Rattle.hll_arrays.specs.Packed.{zeros};
 ghost use Rattle.hll_arrays.specs.Payload.{state_at, IsHll8Payload, Hll8Fault, hll8_bytes};
+ghost use Rattle.hll_arrays.specs.State.{cleared};
 ghost use Rattle.hll_arrays.specs.Store.{zeroed, raised_by_coupon, AreRegisters};
 
 use crate::estimate_state::EstimateState;
@@ -135,6 +137,17 @@ impl<A: Allocator> Array8<A> {
         }
     }
 
+    /// Raises each register to the greater of both, and clears the state. One pass; takes no memory.
+    ///
+    /// There are as many values as registers, each at most 63.
+    pub fn merge_array_same_lgk(&mut self, src: &[u8])
+        requires { AreRegisters self.old.lg_k src.now }
+        ensures { self.new ≡ record { lg_k = self.old.lg_k; registers = join self.old.registers src.now; state = cleared } }
+    {
+        raise_each(&mut self.registers, src);
+        self.state = EstimateState::CLEARED;
+    }
+
     /// Whether all registers are 0. Looks at each until one is not; takes no memory.
     pub fn is_empty(&self) -> bool
         ensures { result ≡ list_all (λ v. v == 0) self.now.registers }
@@ -228,6 +241,16 @@ fn registers_of(lg_k: u8) -> usize
     ensures { result ≡ 2 ^ lg_k }
 {
     1 << lg_k
+}
+
+/// Raises each byte to the greater of both.
+fn raise_each(bytes: &mut [u8], others: &[u8])
+    requires { length bytes.old ≡ length others.now }
+    ensures { bytes.new ≡ join bytes.old others.now }
+{
+    for place in 0..bytes.len() {
+        bytes[place] = bytes[place].max(others[place]);
+    }
 }
 
 /// Whether no byte is above the greatest value of a register.

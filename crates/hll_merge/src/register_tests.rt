@@ -205,9 +205,10 @@ fn fronts(rt: HostRuntime) -> Result<(), Fail> {
 /// The greatest `lg_k`, two million registers: the image prints itself.
 #[test]
 fn many_registers(rt: HostRuntime) -> Result<(), Fail> {
-    let mut image = vec![in rt.alloc(); 7; 40 + 2_097_152]?;
-    image[..8].copy_from_slice(&[10, 1, 7, 21, 0, 16, 0, 10]);
-    image[8..40].copy_from_slice(&[0; 32]);
+    let sevens = vec![in rt.alloc(); 7; 2_097_152]?;
+    let mut image = Vec::from_slice(rt.alloc(), &[10, 1, 7, 21, 0, 16, 0, 10])?;
+    image.extend_from_slice(&[0; 32])?;
+    image.extend_from_slice(&sevens)?;
     let text = line_of(&rt, &image)?;
     let (result, written) = run_over(&rt, text.as_bytes());
     assert_eq!(rt; result, Ok(()));

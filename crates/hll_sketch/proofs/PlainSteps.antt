@@ -1,18 +1,16 @@
 -- Steps of the plain programs: a size that is passed over, coupons of both, and registers.
-use Rattle.std.proofs.Common.{◌≡◌, ℕ, ◌+◌, ◌^◌, ◌<◌, ◌≤◌, suc, Bool, false, ◌||◌, List, ◌++◌, length, get_or, All, sym, ap, ◌∙◌, arith}
-use Rattle.std.specs.Prelude.{find, Some, max, Result, Ok, Err, IfOk}
+use Rattle.std.proofs.Common.{◌≡◌, ℕ, ◌+◌, ◌^◌, ◌≤◌, suc, Bool, false, ◌||◌, List, ◌++◌, length, All, sym, ap, ◌∙◌, arith}
+use Rattle.std.specs.Prelude.{find, Some, Result, Ok, Err, IfOk}
 use Rattle.std.specs.List.{range_with_len}
 use Rattle.std.specs.Ordering.{nat_cmp, eq_by_cmp}
 use Rattle.std.specs.Cmp.{nat_cmp_total}
 use Rattle.std.specs.FinSet.{union, contains-from_list}
 use Rattle.std.proofs.lemmas.Bool.{cond-false}
 use Rattle.std.proofs.lemmas.List.Folds.{list_any-append}
-use Rattle.std.proofs.lemmas.List.Elements.{All-from_get_or}
 use Rattle.std.proofs.Math.Pow.{pow_mono}
 use Rattle.hll_coupons.specs.Pair.{Pairs, set_of}
-use Rattle.hll_coupons.specs.Fold.{fold_to, join}
+use Rattle.hll_coupons.specs.Fold.{fold_to}
 use Rattle.hll_coupons.proofs.Folds.{length-fold_to}
-use Rattle.hll_coupons.proofs.Joins.{length-join, get_or-join}
 use Rattle.hll_arrays.specs.Store.{AreRegisters}
 use Rattle.hll_sketch.proofs.Sets.{same_members, contains_union}
 
@@ -35,18 +33,6 @@ AreRegisters-fold_to k P F is small = record { size = ap length is ∙ length-fo
 pub IfOk-fold_to : {X E : Type 0} (items : X → List ℕ) (k : ℕ) (P : Pairs) (r : Result X E) → IfOk r (λ x. items x ≡ fold_to P k) → IfOk r (λ x. All (λ v. v ≤ 63) (items x)) → IfOk r (λ x. AreRegisters k (items x))
 IfOk-fold_to items k P (Ok x) is small = AreRegisters-fold_to k P (items x) is small
 IfOk-fold_to items k P (Err e) is small = tt
-
--- and so is a join with it
-pub AreRegisters-join : (k : ℕ) (R Q J : List ℕ) → AreRegisters k R → length R ≡ length Q → All (λ v. v ≤ 63) Q → J ≡ join R Q → AreRegisters k J
-AreRegisters-join k R Q J are same small is = record {
-  size = ap length is ∙ length-join R Q same ∙ are.size;
-  small = All-from_get_or (λ v. v ≤ 63) J 0 (λ i h.
-      let in_join : i < length R = omega (arith, ap length is, length-join R Q same) in
-      let left : get_or R i 0 ≤ 63 = are.small i 0 in_join in
-      let right : get_or Q i 0 ≤ 63 = small i 0 (omega arith) in
-      let here : get_or J i 0 ≡ max (get_or R i 0) (get_or Q i 0) = ap (λ J. get_or J i 0) is ∙ get_or-join R Q i in
-      omega arith);
-}
 
 -- there are at most 2^26 of them
 pub few_registers : (k : ℕ) (R : List ℕ) → k ≤ 21 → AreRegisters k R → length R ≤ 2 ^ 26
