@@ -5,3 +5,5 @@ pub mod array8;
 pub mod estimate_state;
 pub mod laws;
 mod numbers;
+#[cfg(test)]
+mod tests;
