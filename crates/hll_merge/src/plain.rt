@@ -14,12 +14,6 @@ use hll_sketch::plain::{PlainContent, PlainSketch, add, array_of, empty, merged,
 use std::alloc::{Allocator, Global};
 use std::test::Fail;
 
-/// The cleared state.
-const CLEARED: EstimateState = EstimateState {
-    words: [0; 3],
-    out_of_order: true,
-};
-
 /// Registers at `lg_k` 4 with 25 and 30 in the first slots, and with the values 1 to 8.
 const TWO: [u8; 16] = [25, 30, 0, 0, 0, 0, 0, 0, 0, 0, 0, 0, 0, 0, 0, 0];
 
@@ -75,7 +69,7 @@ pub(crate) fn outcome_of_union<A: Allocator + Clone>(
 /// The registers of a sketch, none where it has coupons or another state than the cleared one.
 fn cleared_registers<A: Allocator>(sketch: &PlainSketch<A>) -> &[u8] {
     match &sketch.content {
-        PlainContent::Registers(registers, state) if *state == CLEARED => registers,
+        PlainContent::Registers(registers, state) if *state == EstimateState::CLEARED => registers,
         _ => &[],
     }
 }
@@ -111,8 +105,8 @@ fn arrays_of_two_sizes(rt: HostRuntime) -> Result<(), Fail> {
         Coupon::pack(1, 18),
         Coupon::pack(17, 30),
     ];
-    let small = array_of(rt.alloc(), 4, HllType::Hll8, &at_4, CLEARED)?;
-    let large = array_of(rt.alloc(), 5, HllType::Hll8, &at_5, CLEARED)?;
+    let small = array_of(rt.alloc(), 4, HllType::Hll8, &at_4, EstimateState::CLEARED)?;
+    let large = array_of(rt.alloc(), 5, HllType::Hll8, &at_5, EstimateState::CLEARED)?;
     let pair = [small, large];
     let joined = outcome_of_union(rt.alloc(), 12, HllType::Hll8, &pair)?;
     assert_eq!(rt; joined.lg_k, 4);

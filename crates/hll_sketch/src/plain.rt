@@ -19,12 +19,6 @@ use hll_coupons::hll_type::HllType;
 use hll_coupons::plain::{count_distinct, folded, joined, pairs_of as pairs_of_registers};
 use std::alloc::{Allocator, Global};
 
-/// The state of registers that an update changed.
-const CLEARED: EstimateState = EstimateState {
-    words: [0; 3],
-    out_of_order: true,
-};
-
 /// What a plain sketch keeps.
 #[derive_where(Debug)]
 #[derive(Drop)]
@@ -197,7 +191,7 @@ fn raised<A: Allocator + Clone>(
     let new = folded(alloc.clone()?, coupons, lg_k)?;
     let both = joined(alloc, registers, &new)?;
     let same = registers == both.as_slice();
-    Ok(PlainContent::Registers(both, if same { state } else { CLEARED }))
+    Ok(PlainContent::Registers(both, if same { state } else { EstimateState::CLEARED }))
 }
 
 /// Coupons at the size from `from` up that holds them, or folded to registers with the cleared state.
@@ -214,7 +208,7 @@ fn settled<A: Allocator>(
 {
     match stage(lg_k, from, count_distinct(&coupons)) {
         Some(size) => Ok(PlainContent::Coupons(coupons, size)),
-        None => Ok(PlainContent::Registers(folded(alloc, &coupons, lg_k)?, CLEARED)),
+        None => Ok(PlainContent::Registers(folded(alloc, &coupons, lg_k)?, EstimateState::CLEARED)),
     }
 }
 
@@ -290,7 +284,7 @@ fn merged_state<A: Allocator>(
     ensures err { IfErr result (λ e. e ≡ Memory) }
 {
     let kept = is_empty(alloc, gadget)? && lg_k <= bound;
-    Ok(if kept { state } else { CLEARED })
+    Ok(if kept { state } else { EstimateState::CLEARED })
 }
 
 /// The pairs of both sketches folded to `e`.

@@ -8,12 +8,6 @@ use hll_coupons::hll_type::HllType;
 use std::alloc::Allocator;
 use std::test::Fail;
 
-/// The cleared state.
-const CLEARED: EstimateState = EstimateState {
-    words: [0; 3],
-    out_of_order: true,
-};
-
 /// A state that was read.
 const READ: EstimateState = EstimateState {
     words: [1, 2, 3],
@@ -78,7 +72,7 @@ fn eight_coupons(rt: HostRuntime) -> Result<(), Fail> {
     assert_eq!(rt; pairs_of(rt.alloc(), &list)?.as_slice(), seven.as_slice());
     let array = add(rt.alloc(), &list, &[Coupon::pack(7, 8)])?;
     assert_eq!(rt; registers_in(&array), EIGHT.as_slice());
-    assert_eq!(rt; state_in(&array), Some(CLEARED));
+    assert_eq!(rt; state_in(&array), Some(EstimateState::CLEARED));
     assert_eq!(rt; array.lg_k, 4);
     Ok(())
 }
@@ -95,7 +89,7 @@ fn states(rt: HostRuntime) -> Result<(), Fail> {
     assert_eq!(rt; state_in(&once), Some(READ));
     let twice = merged(rt.alloc(), 4, &once, &array)?;
     assert_eq!(rt; registers_in(&twice), ONE.as_slice());
-    assert_eq!(rt; state_in(&twice), Some(CLEARED));
+    assert_eq!(rt; state_in(&twice), Some(EstimateState::CLEARED));
     Ok(())
 }
 
@@ -107,11 +101,17 @@ fn effective_lg_k(rt: HostRuntime) -> Result<(), Fail> {
     let with_list = merged(rt.alloc(), 12, &empty(rt.alloc(), 12, HllType::Hll8), &list)?;
     assert_eq!(rt; with_list.lg_k, 12);
     assert!(rt; !is_empty(rt.alloc(), &with_list)?);
-    let zeros = array_of(rt.alloc(), 4, HllType::Hll8, &[], CLEARED)?;
+    let zeros = array_of(rt.alloc(), 4, HllType::Hll8, &[], EstimateState::CLEARED)?;
     assert!(rt; is_empty(rt.alloc(), &zeros)?);
     let with_zeros = merged(rt.alloc(), 12, &with_list, &zeros)?;
     assert_eq!(rt; with_zeros.lg_k, 12);
-    let array = array_of(rt.alloc(), 6, HllType::Hll8, &[coupon], CLEARED)?;
+    let array = array_of(
+        rt.alloc(),
+        6,
+        HllType::Hll8,
+        &[coupon],
+        EstimateState::CLEARED,
+    )?;
     let with_array = merged(rt.alloc(), 12, &with_zeros, &array)?;
     assert_eq!(rt; with_array.lg_k, 6);
     Ok(())
