@@ -162,6 +162,28 @@ fn updates_are_folds(rt: HostRuntime) -> Result<(), Fail> {
     Ok(())
 }
 
+/// The registers 10, 20, 30 in the first slots joined with 15, 35, 40 in those from the second on.
+const JOINED: [u8; 16] = [10, 20, 35, 40, 0, 0, 0, 0, 0, 0, 0, 0, 0, 0, 0, 0];
+
+/// The greater register stays at each slot, and the state is cleared, also where no register changes.
+#[test]
+fn joins(rt: HostRuntime) -> Result<(), Fail> {
+    let mut array = Array8::new(rt.alloc(), 4)?;
+    array.update(Coupon::pack(0, 10));
+    array.update(Coupon::pack(1, 20));
+    array.update(Coupon::pack(2, 30));
+    array.restore_estimate_state(READ);
+    array.merge_array_same_lgk(&[0, 15, 35, 40, 0, 0, 0, 0, 0, 0, 0, 0, 0, 0, 0, 0]);
+    assert_eq!(rt; array.values(), JOINED.as_slice());
+    assert_eq!(rt; array.num_zeros(), 12);
+    assert_eq!(rt; array.estimate_state(), EstimateState::CLEARED);
+    array.restore_estimate_state(READ);
+    array.merge_array_same_lgk(&[0; 16]);
+    assert_eq!(rt; array.values(), JOINED.as_slice());
+    assert_eq!(rt; array.estimate_state(), EstimateState::CLEARED);
+    Ok(())
+}
+
 #[test]
 fn images(rt: HostRuntime) -> Result<(), Fail> {
     let mut array = eight_in(rt.alloc())?;
