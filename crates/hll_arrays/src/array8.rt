@@ -150,7 +150,8 @@ impl<A: Allocator> Array8<A> {
 
     /// Whether all registers are 0. Looks at each until one is not; takes no memory.
     pub fn is_empty(&self) -> bool
-        ensures { result ≡ list_all (λ v. v == 0) self.now.registers }
+        ensures empty { result ≡ list_all (λ v. v == 0) self.now.registers }
+        ensures registers { AreRegisters self.now.lg_k self.now.registers }
     {
         self.registers.iter().all(|v| *v == 0)
     }

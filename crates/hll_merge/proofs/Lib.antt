@@ -1,9 +1,12 @@
 mod TextRows
 pub mod Accepted
+pub mod Emptiness
 pub mod FaultLemmas
 pub mod Growing
 pub mod Headline
+pub mod Joining
 pub mod KeptLemmas
+pub mod MergeLemmas
 pub mod NumberLemmas
 pub mod Outcomes
 pub mod PartLemmas

@@ -5,19 +5,23 @@ use Rattle.std.specs.Io.KnownBytes.{Consumes, IsAtEnd}
 use Rattle.std.specs.Str.Lines.{lines}
 use Rattle.hll_sketch.specs.Written.{Written}
 use Rattle.hll_merge.specs.Plan.{Plan}
-use Rattle.hll_merge.specs.Accepting.{Runs}
+use Rattle.hll_merge.specs.Accepting.{Runs, Accepts}
 use Rattle.hll_merge.specs.Served.{today}
 use Rattle.hll_merge.specs.Kept.{Kept, value_of_kept, order_of, StandFor}
 use Rattle.hll_merge.specs.Run.{printed, IsAnswer, IsAllOf}
+use Rattle.hll_merge.proofs.Accepted.{served_is_accepted}
+use Rattle.hll_merge.proofs.Headline.{accepted_plans_hold}
 use Rattle.hll_merge.proofs.StackLemmas.{StandFor-one}
 
 pub answer : (text line bytes : List ℕ) (xs : List Kept) (x : Kept) (ts : List Plan) → Runs today [] (lines text) ts → StandFor xs ts → xs ≡ x ∷ []
     → Written bytes (value_of_kept x) (order_of x) → line ≡ printed bytes → IsAnswer text line
 answer text line bytes xs x ts runs stand one written shown =
     let t = StandFor-one x xs ts one stand in
+    let accepted : Accepts today text t.0 = subst (Runs today [] (lines text)) t.1 runs in
     record {
       tree = t.0;
-      accepted = subst (Runs today [] (lines text)) t.1 runs;
+      accepted = accepted;
+      holds = accepted_plans_hold text t.0 (served_is_accepted text t.0 accepted);
       bytes = bytes;
       order = order_of x;
       arrived = t.2.order;

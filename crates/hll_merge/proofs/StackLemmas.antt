@@ -1,25 +1,29 @@
 -- Lemmas on carrying out lines: the sketches that are kept stand for the plans of a stack.
-use Rattle.std.proofs.Common.{◌≡◌, ℕ, suc, ◌<◌, inl, inr, List, [], ◌∷◌, ◌++◌, length, take, drop, refl, sym, ◌∙◌, ap, subst, arith}
-use Rattle.std.proofs.lemmas.List.{take-append-drop}
+use Rattle.std.proofs.Common.{◌≡◌, ℕ, zero, suc, ◌-◌, ◌<◌, ◌≤◌, inl, inr, List, [], ◌∷◌, ◌++◌, length, take, drop, refl, sym, ◌∙◌, ap, subst, arith}
+use Rattle.std.specs.Prelude.{◌↔◌}
+use Rattle.std.specs.List.{AllByRecursion}
+use Rattle.std.proofs.lemmas.List.{take-append-drop, take_at, drop_at, length-append}
 use Rattle.hll_coupons.specs.Pair.{pair, set_of}
 use Rattle.hll_coupons.specs.Table.{arrived}
 use Rattle.hll_coupons.specs.declared.hll_type.HllType.{HllType}
+use Rattle.hll_coupons.specs.declared.hll_type.HllType.TheVariants.{Hll8}
 use Rattle.hll_sketch.specs.Value.{Sketch, Content, coupons, registers}
 use Rattle.hll_sketch.specs.Adding.{add}
+use Rattle.hll_sketch.specs.Merging.{merged, merge_all, empty_union}
 use Rattle.hll_sketch.specs.Image as images
 use Rattle.hll_sketch.specs.Image.{stage_bits, width_bits, IsListImage, IsHll8Image}
 use Rattle.hll_sketch.proofs.Images.{same_stage, same_width}
 use Rattle.hll_merge.proofs.Updating.{set_of-nil}
 use Rattle.hll_merge.specs.declared.fault.Fault.{Fault}
 use Rattle.hll_merge.specs.Plan as plan
-use Rattle.hll_merge.specs.Plan.{Plan, outcome, inputs}
+use Rattle.hll_merge.specs.Plan.{Plan, outcome, outcomes, plans_of, inputs}
 use Rattle.hll_merge.specs.Text.{new, image, coupon}
 use Rattle.hll_merge.specs.Text as text
 use Rattle.hll_merge.specs.Accepting.{Service, Takes, IsRefusal, Gives, Runs, unserved, faulty}
-use Rattle.hll_merge.specs.Served.{today, IsServed, LeavesServed, IsBeyond, OrderIn, ArrivesAs}
+use Rattle.hll_merge.specs.Served.{today, IsServed, LeavesServed, IsBeyond, IsOfSize, IsJoinable, last_of, OrderIn, arrived_each, ArrivesAs, ArriveInTurn}
 use Rattle.hll_merge.specs.Listed.{fresh}
 use Rattle.hll_merge.specs.Kept as kept
-use Rattle.hll_merge.specs.Kept.{Kept, value_of_kept, order_of, Adds, GoesBeyond, IsReadFrom, of_list, of_array, RefusesBytes, other_image, no_image, UpdatesLast, RefusesLast, none, beyond, RefusesUnion, fewer, enough, StandsFor, StandFor}
+use Rattle.hll_merge.specs.Kept.{Kept, value_of_kept, order_of, Adds, GoesBeyond, IsReadFrom, of_list, of_array, RefusesBytes, other_image, no_image, UpdatesLast, RefusesLast, none, beyond, MergesEach, CanJoin, JoinsLast, RefusesUnion, fewer, unjoined, StandsFor, StandFor}
 
 -- ---- one sketch
 
@@ -153,9 +157,102 @@ length-StandFor [] (t ∷ ts) h = absurd h
 length-StandFor (x ∷ xs) [] h = absurd h
 length-StandFor (x ∷ xs) (t ∷ ts) h = ap suc (length-StandFor xs ts h.1)
 
-pub refuses-union : (xs : List Kept) (ts : List Plan) (n m : ℕ) (w : HllType) (e : Fault) → StandFor xs ts → RefusesUnion xs n e → IsRefusal today ts (text.union n m w) e
-refuses-union xs ts n m w e h (fewer l) = let few : length ts < n = omega (arith, l, length-StandFor xs ts h) in faulty (λ z. omega (arith, z, few)) (few, refl)
-refuses-union xs ts n m w e h (enough l) = unserved (omega (arith, l, length-StandFor xs ts h)) refl
+-- ---- unions
+
+StandFor-drop : (k : ℕ) (xs : List Kept) (ts : List Plan) → StandFor xs ts → StandFor (drop k xs) (drop k ts)
+StandFor-drop zero xs ts h = h
+StandFor-drop (suc k) [] [] h = tt
+StandFor-drop (suc k) [] (t ∷ ts) h = absurd h
+StandFor-drop (suc k) (x ∷ xs) [] h = absurd h
+StandFor-drop (suc k) (x ∷ xs) (t ∷ ts) h = StandFor-drop k xs ts h.1
+
+StandFor-take : (k : ℕ) (xs : List Kept) (ts : List Plan) → StandFor xs ts → StandFor (take k xs) (take k ts)
+StandFor-take zero xs ts h = tt
+StandFor-take (suc k) [] [] h = tt
+StandFor-take (suc k) [] (t ∷ ts) h = absurd h
+StandFor-take (suc k) (x ∷ xs) [] h = absurd h
+StandFor-take (suc k) (x ∷ xs) (t ∷ ts) h = (h.0, StandFor-take k xs ts h.1)
+
+-- the plans are of a size where the sketches are
+sizes : (m : ℕ) (xs : List Kept) (ts : List Plan) → StandFor xs ts
+    → AllByRecursion (λ x. IsOfSize m (value_of_kept x)) xs ↔ AllByRecursion (λ t. IsOfSize m (outcome t)) ts
+sizes m [] [] h = (λ z. z, λ z. z)
+sizes m [] (t ∷ ts) h = absurd h
+sizes m (x ∷ xs) [] h = absurd h
+sizes m (x ∷ xs) (t ∷ ts) h =
+    let more = sizes m xs ts h.1 in
+    (λ z. (subst (IsOfSize m) h.0.value z.0, more.0 z.1), λ z. (subst (IsOfSize m) (sym h.0.value) z.0, more.1 z.1))
+
+-- sketches merged in turn stand for their plans' outcomes merged in turn
+pub record MergedInTurn (m : ℕ) (g y : Kept) (ts : List Plan) : Type 0 where
+  pub value : value_of_kept y ≡ merge_all m (value_of_kept g) (outcomes (plans_of ts))
+  pub order : ArriveInTurn m (value_of_kept g) (plans_of ts) (order_of g) (order_of y)
+
+merged-in_turn : (m : ℕ) (g y : Kept) (xs : List Kept) (ts : List Plan) → StandFor xs ts → MergesEach m g xs y → MergedInTurn m g y ts
+merged-in_turn m g y [] [] h e = record { value = ap value_of_kept e; order = ap order_of e }
+merged-in_turn m g y [] (t ∷ ts) h e = absurd h
+merged-in_turn m g y (x ∷ xs) [] h e = absurd h
+merged-in_turn m g y (x ∷ xs) (t ∷ ts) h e =
+    let next : Kept = e.0 in
+    let more : MergedInTurn m next y ts = merged-in_turn m next y xs ts h.1 e.2 in
+    let is : value_of_kept next ≡ merged m (value_of_kept g) (outcome t) = e.1.value ∙ ap (merged m (value_of_kept g)) h.0.value in
+    record {
+      value = more.value ∙ ap (λ z. merge_all m z (outcomes (plans_of ts))) is;
+      order = (
+        order_of x,
+        order_of next,
+        h.0.order,
+        subst (λ (z : Sketch). OrderIn z.content (order_of next) (order_of next ≡ arrived_each (order_of g) (order_of x))) is e.1.order,
+        subst (λ z. ArriveInTurn m z (plans_of ts) (order_of next) (order_of y)) is more.order,
+      );
+    }
+
+-- the result is of eight bits
+width-in_turn : (m : ℕ) (g y : Kept) (xs : List Kept) → MergesEach m g xs y → (value_of_kept g).width ≡ Hll8 → (value_of_kept y).width ≡ Hll8
+width-in_turn m g y [] e w = ap (λ x. (value_of_kept x).width) e ∙ w
+width-in_turn m g y (x ∷ xs) e w = width-in_turn m e.0 y xs e.2 e.1.size.width
+
+union-stands : (m : ℕ) (w : HllType) (y : Kept) (xs : List Kept) (ts : List Plan) → w ≡ Hll8 → StandFor xs ts → MergesEach m (kept.list (fresh m Hll8)) xs y
+    → StandsFor y (plan.union_of m w (plans_of ts))
+union-stands m w y xs ts eight h e =
+    let all : MergedInTurn m (kept.list (fresh m Hll8)) y ts = merged-in_turn m (kept.list (fresh m Hll8)) y xs ts h e in
+    let bare : value_of_kept (kept.list (fresh m Hll8)) ≡ empty_union m = (fresh-stands m Hll8).value in
+    let same : (value_of_kept y).width ≡ w = width-in_turn m (kept.list (fresh m Hll8)) y xs e refl ∙ sym eight in
+    record {
+      value = (λ i. record (value_of_kept y) { width = same i }) ∙ ap (λ (z : Sketch). record z { width = w }) (all.value ∙ ap (λ g. merge_all m g (outcomes (plans_of ts))) bare);
+      order = subst (λ g. ArriveInTurn m g (plans_of ts) [] (order_of y)) bare all.order;
+    }
+
+-- the last sketches may be joined where their plans may be
+joinable : (n m : ℕ) (w : HllType) (xs : List Kept) (ts : List Plan) → StandFor xs ts → CanJoin m w (last_of n xs) ↔ IsJoinable m w (last_of n ts)
+joinable n m w xs ts h =
+    let stand : StandFor (last_of n xs) (last_of n ts) = subst (λ k. StandFor (drop (k - n) xs) (last_of n ts)) (sym (length-StandFor xs ts h)) (StandFor-drop (length ts - n) xs ts h) in
+    let all = sizes m (last_of n xs) (last_of n ts) stand in
+    (λ z. record { small = z.small; width = z.width; each = all.0 z.each }, λ z. record { small = z.small; width = z.width; each = all.1 z.each })
+
+pub takes-union : (xs ys : List Kept) (ts : List Plan) (n m : ℕ) (w : HllType) → StandFor xs ts → JoinsLast xs n m w ys
+    → (us : List Plan) × Takes today ts (text.union n m w) us × StandFor ys us
+takes-union xs ys ts n m w h u =
+    let at : ℕ = length u.front in
+    let whole : StandFor (u.front ++ u.last) ts = subst (λ zs. StandFor zs ts) u.is h in
+    let below : List Plan = take at ts in
+    let top : List Plan = drop at ts in
+    let low : StandFor u.front below = subst (λ zs. StandFor zs below) (take_at u.front u.last at refl) (StandFor-take at (u.front ++ u.last) ts whole) in
+    let high : StandFor u.last top = subst (λ zs. StandFor zs top) (drop_at u.front u.last at refl) (StandFor-drop at (u.front ++ u.last) ts whole) in
+    let last : last_of n xs ≡ u.last = ap (last_of n) u.is ∙ ap (λ k. drop k (u.front ++ u.last)) (let seam : length (u.front ++ u.last) - n ≡ at = omega (arith, length-append u.front u.last, u.number) in seam) ∙ drop_at u.front u.last at refl in (
+      below ++ plan.union_of m w (plans_of top) ∷ [],
+      record {
+        served = λ z. z.1 ((joinable n m w xs ts h).0 (subst (CanJoin m w) (sym last) u.can));
+        carries = (below, top, sym (take-append-drop at ts), sym (length-StandFor u.last top high) ∙ u.number, refl);
+      },
+      subst (λ zs. StandFor zs (below ++ plan.union_of m w (plans_of top) ∷ [])) (sym u.gives)
+          (StandFor-push u.front below u.joined (plan.union_of m w (plans_of top)) low (union-stands m w u.joined u.last top u.can.width high u.joins)),
+    )
+
+pub refuses-union : (xs : List Kept) (ts : List Plan) (n m : ℕ) (w : HllType) (e : Fault) → StandFor xs ts → RefusesUnion xs n m w e → IsRefusal today ts (text.union n m w) e
+refuses-union xs ts n m w e h (fewer l) = let few : length ts < n = omega (arith, l, length-StandFor xs ts h) in faulty (λ z. omega (arith, z.0, few)) (few, refl)
+refuses-union xs ts n m w e h (unjoined l cannot) =
+    unserved (let enough : n ≤ length ts = omega (arith, l, length-StandFor xs ts h) in enough, λ z. cannot ((joinable n m w xs ts h).1 z)) refl
 
 -- ---- lines
 

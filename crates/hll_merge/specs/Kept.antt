@@ -1,13 +1,19 @@
 -- A sketch as the stack of a run keeps it, and what it stands for (docs/ARCHITECTURE.md, "A run").
 use Rattle.std.specs.Prelude.{◌≡◌, ℕ, ◌<◌, ◌≤◌, true, false, List, [], ◌∷◌, ◌++◌, length, take, drop}
+use Rattle.std.specs.List.{AllByRecursion}
 use Rattle.hll_base.specs.declared.error.Reason.{Reason}
 use Rattle.hll_coupons.specs.Pair.{set_of}
-use Rattle.hll_coupons.specs.Table.{held, coupons_of, arrived}
+use Rattle.hll_coupons.specs.Table.{held, coupons_of, arrived, IsTable}
+use Rattle.hll_coupons.specs.Fold.{join}
 use Rattle.hll_coupons.specs.Payload.{list_coupons}
+use Rattle.hll_coupons.specs.declared.hll_type.HllType.{HllType}
 use Rattle.hll_coupons.specs.declared.hll_type.HllType.TheVariants.{Hll8}
-use Rattle.hll_arrays.specs.Store.{Stored}
+use Rattle.hll_arrays.specs.State.{cleared}
+use Rattle.hll_arrays.specs.Store.{Stored, AreRegisters}
 use Rattle.hll_sketch.specs.Value.{Sketch, coupons, registers, in_registers}
 use Rattle.hll_sketch.specs.Adding.{add}
+use Rattle.hll_sketch.specs.Laws.{added_each}
+use Rattle.hll_sketch.specs.Merging.{merged}
 use Rattle.hll_sketch.specs.Image.{list_shape, list_value, hll8_value, IsListImage, IsHll8Image}
 use Rattle.hll_sketch.specs.Fault as images
 use Rattle.hll_merge.specs.declared.fault.Fault.{Fault}
@@ -16,8 +22,8 @@ use Rattle.hll_merge.specs.declared.fault.Fault.TheVariants.{Stack, Unserved}
 use Rattle.hll_merge.specs.declared.sketch.Mode.{Mode}
 use Rattle.hll_merge.specs.declared.sketch.Mode.TheVariants as modes
 use Rattle.hll_merge.specs.Plan.{Plan, outcome}
-use Rattle.hll_merge.specs.Listed.{Listed}
-use Rattle.hll_merge.specs.Served.{IsServed, IsBeyond, OrderIn, ArrivesAs}
+use Rattle.hll_merge.specs.Listed.{Listed, fresh, joined}
+use Rattle.hll_merge.specs.Served.{IsServed, IsBeyond, IsOfSize, last_of, OrderIn, arrived_each, ArrivesAs}
 
 -- a list, or registers of eight bits
 pub data Kept : Type 0 where
@@ -39,6 +45,11 @@ abbrev pub order_of : Kept → List ℕ
 order_of (list x) = held x.table.places
 order_of (array x) = []
 
+-- what a sketch of the stack keeps: eight places of coupons, or registers
+abbrev pub IsKept : Kept → Type 0
+IsKept (list x) = IsTable x.table × (x.table.lg_size ≡ 3)
+IsKept (array x) = AreRegisters x.lg_k x.registers
+
 -- ---- updates
 
 -- it took a coupon: the value is that of adding it, and is served; a new coupon of a list stands behind the others
@@ -46,6 +57,12 @@ pub record Adds (old : Kept) (c : ℕ) (new : Kept) : Type 0 where
   pub value : value_of_kept new ≡ add (value_of_kept old) (set_of (c ∷ []))
   pub served : IsServed (value_of_kept new)
   pub order : OrderIn (value_of_kept new).content (order_of new) (order_of new ≡ arrived (order_of old) c)
+
+-- it took coupons in turn
+pub record AddsEach (old : Kept) (cs : List ℕ) (new : Kept) : Type 0 where
+  pub value : value_of_kept new ≡ added_each (value_of_kept old) cs
+  pub served : IsServed (value_of_kept new)
+  pub order : OrderIn (value_of_kept new).content (order_of new) (order_of new ≡ arrived_each (order_of old) cs)
 
 -- with the coupon it would be of a stage or width that is not served
 abbrev pub GoesBeyond : Kept → ℕ → Type 0
@@ -55,6 +72,31 @@ GoesBeyond x c = IsServed (add (value_of_kept x) (set_of (c ∷ []))) → ⊥
 pub record Promotes (x : Kept) (c : ℕ) : Type 0 where
   pub before : in_registers (value_of_kept x).content ≡ false
   pub after : in_registers (add (value_of_kept x) (set_of (c ∷ []))).content ≡ true
+
+-- ---- joins
+
+-- a gadget after a sketch: the value is that of merging it, and is served; coupons stand as they did, and new ones behind them
+pub record Merges (m : ℕ) (old x new : Kept) : Type 0 where
+  pub value : value_of_kept new ≡ merged m (value_of_kept old) (value_of_kept x)
+  pub size : IsOfSize m (value_of_kept new)
+  pub served : IsServed (value_of_kept new)
+  pub order : OrderIn (value_of_kept new).content (order_of new) (order_of new ≡ arrived_each (order_of old) (order_of x))
+
+-- registers joined into a gadget that is not empty
+abbrev pub joined_into : Kept → Stored → Stored
+joined_into (list x) a = joined x a
+joined_into (array x) a = record { lg_k = x.lg_k; registers = join x.registers a.registers; state = cleared }
+
+-- a gadget after sketches in turn
+abbrev pub MergesEach : ℕ → Kept → List Kept → Kept → Type 0
+MergesEach m old [] new = new ≡ old
+MergesEach m old (x ∷ xs) new = (between : Kept) × Merges m old x between × MergesEach m between xs new
+
+-- what may be joined: each is of the lg_k, which is at most 7, and of eight bits
+pub record CanJoin (m : ℕ) (w : HllType) (xs : List Kept) : Type 0 where
+  pub small : m ≤ 7
+  pub width : w ≡ Hll8
+  pub each : AllByRecursion (λ x. IsOfSize m (value_of_kept x)) xs
 
 -- ---- images
 
@@ -85,10 +127,21 @@ pub data RefusesLast (old : List Kept) (c : ℕ) : Fault → Type 0 where
   none : old ≡ [] → RefusesLast old c Stack
   beyond : (front : List Kept) (last : Kept) → old ≡ front ++ last ∷ [] → GoesBeyond last c → RefusesLast old c Unserved
 
--- why the last sketches, so many of them, were not joined: there are fewer, or no union is served
-pub data RefusesUnion (old : List Kept) (n : ℕ) : Fault → Type 0 where
-  fewer : length old < n → RefusesUnion old n Stack
-  enough : n ≤ length old → RefusesUnion old n Unserved
+-- the last sketches, so many of them, were joined, and the others stayed
+pub record JoinsLast (old : List Kept) (n m : ℕ) (w : HllType) (new : List Kept) : Type 0 where
+  pub front : List Kept
+  pub last : List Kept
+  pub joined : Kept
+  pub is : old ≡ front ++ last
+  pub number : length last ≡ n
+  pub can : CanJoin m w last
+  pub joins : MergesEach m (list (fresh m Hll8)) last joined
+  pub gives : new ≡ front ++ joined ∷ []
+
+-- why the last sketches, so many of them, were not joined: there are fewer, or such a union is not served
+pub data RefusesUnion (old : List Kept) (n m : ℕ) (w : HllType) : Fault → Type 0 where
+  fewer : length old < n → RefusesUnion old n m w Stack
+  unjoined : n ≤ length old → (CanJoin m w (last_of n old) → ⊥) → RefusesUnion old n m w Unserved
 
 -- ---- a sketch and its plan
 

@@ -1,7 +1,7 @@
 -- A list with its lg_k and width (docs/ARCHITECTURE.md, "A run").
 use Rattle.std.specs.Prelude.{ℕ, ◌≤◌}
 use Rattle.std.specs.FinSet.{len, insert}
-use Rattle.hll_coupons.specs.Fold.{fold_to}
+use Rattle.hll_coupons.specs.Fold.{fold_to, join}
 use Rattle.hll_coupons.specs.Table.{Table, held, coupons_of, empty_table, filled_from_front, arrived}
 use Rattle.hll_coupons.specs.declared.hll_type.HllType.{HllType}
 use Rattle.hll_arrays.specs.State.{cleared}
@@ -28,3 +28,7 @@ updated x c = record x { table = filled_from_front 3 (arrived (held x.table.plac
 -- the registers of its coupons and one more
 abbrev pub promoted : Listed → ℕ → Stored
 promoted x c = record { lg_k = x.lg_k; registers = fold_to (insert (coupons_of x.table) c) x.lg_k; state = cleared }
+
+-- registers joined with its coupons
+abbrev pub joined : Listed → Stored → Stored
+joined x a = record { lg_k = a.lg_k; registers = join a.registers (fold_to (coupons_of x.table) a.lg_k); state = cleared }

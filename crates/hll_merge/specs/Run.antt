@@ -9,6 +9,7 @@ use Rattle.hll_merge.specs.declared.fault.MergeError.{MergeError}
 use Rattle.hll_merge.specs.Plan.{Plan, outcome}
 use Rattle.hll_merge.specs.Text.{ended_lines, line_number}
 use Rattle.hll_merge.specs.Accepting.{Runs, Accepts, FaultsAtLine, IsFirstFault}
+use Rattle.hll_merge.specs.Headline.{Holds}
 use Rattle.hll_merge.specs.Served.{today, ArrivesAs}
 
 -- what is printed for the bytes of an image: lower-case hexadecimal and LF
@@ -29,10 +30,12 @@ abbrev pub IsAllOf : Option (List ℕ) → List ℕ → Type 0
 IsAllOf None text = Unit {0}
 IsAllOf (Some bytes) text = text ≡ bytes
 
--- the line is what is printed for the outcome of the text's plan, with its coupons in order of arrival
+-- the line is what is printed for the outcome of the text's plan, with its coupons in order of arrival; the outcome is
+-- legal, what is written is an image of it, and it means the plan's inputs
 pub record IsAnswer (text line : List ℕ) : Type 0 where
   pub tree : Plan
   pub accepted : Accepts today text tree
+  pub holds : Holds tree
   pub bytes : List ℕ
   pub order : List ℕ
   pub arrived : ArrivesAs tree order

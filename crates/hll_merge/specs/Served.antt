@@ -1,6 +1,8 @@
--- What is served today: `new`, `image` of lists and of registers of eight bits, and `coupon` while it leaves these
+-- What is served today: `new`, `image` of lists and of registers of eight bits, `coupon` while it leaves these, and
+-- `union` of them at one lg_k of at most 7
 -- (docs/PLAN.md, "What is served").
-use Rattle.std.specs.Prelude.{◌≡◌, ◌≢◌, ℕ, ◌≤◌, ◌⊎◌, List, [], ◌∷◌, length, drop}
+use Rattle.std.specs.Prelude.{◌≡◌, ◌≢◌, ℕ, ◌-◌, ◌≤◌, ◌⊎◌, List, [], ◌∷◌, length, drop}
+use Rattle.std.specs.List.{AllByRecursion}
 use Rattle.hll_base.specs.declared.error.Reason.{Reason}
 use Rattle.hll_base.specs.declared.error.ErrorKind.TheVariants.{InvalidData}
 use Rattle.hll_base.specs.Reason.{kind_of}
@@ -10,12 +12,13 @@ use Rattle.hll_coupons.specs.Payload.{list_coupons}
 use Rattle.hll_coupons.specs.declared.hll_type.HllType.{HllType}
 use Rattle.hll_coupons.specs.declared.hll_type.HllType.TheVariants.{Hll8}
 use Rattle.hll_sketch.specs.Value.{Sketch, Content, coupons, registers}
+use Rattle.hll_sketch.specs.Merging.{merged, empty_union}
 use Rattle.hll_sketch.specs.Image.{HasHeader, width_bits, list_shape}
 use Rattle.hll_merge.specs.declared.fault.Fault.{Fault}
 use Rattle.hll_merge.specs.declared.fault.Fault.TheVariants as faults
 use Rattle.hll_merge.specs.declared.fault.MergeError.{MergeError}
 use Rattle.hll_merge.specs.Plan as plan
-use Rattle.hll_merge.specs.Plan.{Plan, outcome}
+use Rattle.hll_merge.specs.Plan.{Plan, Plans, outcome}
 use Rattle.hll_merge.specs.Text.{PlanStep, reading, new, image, coupon, union}
 use Rattle.hll_merge.specs.Accepting.{Service, full, Accepts, IsFirstFault, IsFirstFaultOfLines}
 use Rattle.hll_merge.specs.Evaluate.{IsFirstFaultOfSteps}
@@ -38,12 +41,28 @@ LeavesServed (t ∷ u ∷ ts) c = LeavesServed (u ∷ ts) c
 abbrev pub IsBeyond : List ℕ → Type 0
 IsBeyond bytes = HasHeader bytes 1 ⊎ (HasHeader bytes 2 × (width_bits bytes ≢ 2))
 
--- not served: an image of another stage or width, a coupon after which the sketch is of one, a union of as many plans as there are
+-- a sketch of this lg_k, and of eight bits
+pub record IsOfSize (m : ℕ) (x : Sketch) : Type 0 where
+  pub lg_k : x.lg_k ≡ m
+  pub width : x.width ≡ Hll8
+
+-- plans that are all of one lg_k, of at most 7, and of eight bits, are joined at these
+pub record IsJoinable (m : ℕ) (w : HllType) (ts : List Plan) : Type 0 where
+  pub small : m ≤ 7
+  pub width : w ≡ Hll8
+  pub each : AllByRecursion (λ t. IsOfSize m (outcome t)) ts
+
+-- the last of a stack, so many of them
+abbrev pub last_of : {X : Type 0} → ℕ → List X → List X
+last_of n xs = drop (length xs - n) xs
+
+-- not served: an image of another stage or width, a coupon after which the sketch is of one, and other unions of as
+-- many plans as there are
 abbrev pub IsUnserved : List Plan → PlanStep → Type 0
 IsUnserved ts (new k w) = ⊥
 IsUnserved ts (image bytes) = IsBeyond bytes
 IsUnserved ts (coupon s v) = LeavesServed ts (pair s v)
-IsUnserved ts (union n m w) = n ≤ length ts
+IsUnserved ts (union n m w) = (n ≤ length ts) × (IsJoinable m w (last_of n ts) → ⊥)
 
 abbrev pub today : Service (List ℕ)
 today = record { reads = reading; Refuses = IsUnserved }
@@ -55,13 +74,26 @@ abbrev pub OrderIn : Content → List ℕ → Type 0 → Type 0
 OrderIn (coupons S size) order P = P
 OrderIn (registers R state) order P = order ≡ []
 
--- the coupons of such a plan in the order in which they are written: those of an image in its order, and
--- each other one behind them when it first came
-abbrev pub ArrivesAs : Plan → List ℕ → Type 0
-ArrivesAs (plan.new k w) order = order ≡ []
-ArrivesAs (plan.image b x) order = OrderIn x.content order (order ≡ list_coupons (list_shape b) (drop 8 b))
-ArrivesAs (plan.coupon t c) order = OrderIn (outcome (plan.coupon t c)).content order ((before : List ℕ) × ArrivesAs t before × (order ≡ arrived before c))
-ArrivesAs (plan.union_of m w ts) order = ⊥
+-- coupons in order of arrival, after more that came in turn
+abbrev pub arrived_each : List ℕ → List ℕ → List ℕ
+arrived_each order [] = order
+arrived_each order (c ∷ cs) = arrived_each (arrived order c) cs
+
+-- the coupons of such a plan in the order in which they are written: those of an image in its order, each other
+-- one behind them when it first came, and in a union child by child while it is in coupons
+abbrev mutual
+  pub ArrivesAs : Plan → List ℕ → Type 0
+  ArrivesAs (plan.new k w) order = order ≡ []
+  ArrivesAs (plan.image b x) order = OrderIn x.content order (order ≡ list_coupons (list_shape b) (drop 8 b))
+  ArrivesAs (plan.coupon t c) order = OrderIn (outcome (plan.coupon t c)).content order ((before : List ℕ) × ArrivesAs t before × (order ≡ arrived before c))
+  ArrivesAs (plan.union_of m w ts) order = ArriveInTurn m (empty_union m) ts [] order
+
+  -- a gadget whose coupons stand in this order, after children in turn
+  pub ArriveInTurn : ℕ → Sketch → Plans → List ℕ → List ℕ → Type 0
+  ArriveInTurn m g plan.no_plans before order = order ≡ before
+  ArriveInTurn m g (plan.more_plans t ts) before order = (own : List ℕ) × (between : List ℕ) × ArrivesAs t own
+      × OrderIn (merged m g (outcome t)).content between (between ≡ arrived_each before own)
+      × ArriveInTurn m (merged m g (outcome t)) ts between order
 
 -- ---- laws
 

@@ -23,5 +23,7 @@ pub mod step;
 mod streams;
 #[cfg(test)]
 mod tests;
+#[cfg(test)]
+mod union_tests;
 pub mod watched;
 mod words;

@@ -5,11 +5,13 @@ ghost use Rattle.hll_coupons.specs.Table.{Table, held, IsTable};
 ghost use Rattle.hll_coupons.specs.Coupons.{list_bytes};
 ghost use Rattle.hll_coupons.specs.declared.hll_type.HllType.TheVariants.{Hll8};
 ghost use Rattle.hll_sketch.specs.Value.{IsLgK};
-ghost use Rattle.hll_merge.specs.Listed.{fresh, BringsEighth, updated, promoted};
+ghost use Rattle.hll_merge.specs.Listed.{fresh, BringsEighth, updated, promoted, joined};
 ghost use Rattle.hll_merge.specs.declared.fault.Fault.TheVariants.{Memory};
 
 use crate::fault::Fault;
 use hll_arrays::array8::Array8;
+use hll_arrays::estimate_state::EstimateState;
+use hll_coupons::container::Container;
 use hll_coupons::coupon::Coupon;
 use hll_coupons::hll_type::HllType;
 use hll_coupons::list::List;
@@ -84,6 +86,31 @@ impl<A: Allocator> ListSketch<A> {
         self.lg_k <= 7 && self.hll_type == HllType::Hll8
     }
 
+    /// The `lg_k`. Takes no memory.
+    pub(crate) fn lg_k(&self) -> u8
+        ensures { result ≡ self.now.lg_k }
+    {
+        self.lg_k
+    }
+
+    /// The width. Takes no memory.
+    pub(crate) fn hll_type(&self) -> HllType
+        ensures { result ≡ self.now.width }
+    {
+        self.hll_type
+    }
+
+    /// The places. Takes no memory.
+    pub(crate) fn container(&self) -> &Container<A>
+        ensures same { result.now ≡ self.now.table }
+        ensures size { self.now.table.lg_size ≡ 3 }
+        ensures table { IsTable self.now.table }
+    {
+        let container = self.list.container();
+        let _count = container.len();
+        container
+    }
+
     /// Takes a coupon. Takes no memory.
     pub(crate) fn update(&mut self, coupon: Coupon)
         requires valued { 1 ≤ value_of coupon }
@@ -108,6 +135,32 @@ impl<A: Allocator + Clone> ListSketch<A> {
         }
         array.update(coupon);
         Ok(array)
+    }
+
+    /// Registers joined with its coupons, the state cleared. `Memory` where they are refused.
+    pub(crate) fn joined(&self, source: &Array8<A>) -> Result<Array8<A>, Fault>
+        ensures ok { IfOk result (λ a. a ≡ joined self.now source.now) }
+        ensures err { IfErr result (λ e. e ≡ Memory) }
+    {
+        let _empty = source.is_empty();
+        let mut registers = source.clone()?;
+        for held in self.list.container().iter() {
+            registers.update(held);
+        }
+        registers.restore_estimate_state(EstimateState::CLEARED);
+        Ok(registers)
+    }
+
+    /// The same list over again. `Memory` where its places are refused.
+    pub(crate) fn clone(&self) -> Result<Self, Fault>
+        ensures ok { IfOk result (λ s. s ≡ self.now) }
+        ensures err { IfErr result (λ e. e ≡ Memory) }
+    {
+        Ok(ListSketch {
+            lg_k: self.lg_k,
+            hll_type: self.hll_type,
+            list: self.list.clone()?,
+        })
     }
 
     /// The image. `Memory` where it is refused.

@@ -18,9 +18,10 @@ use std::io;
 
 /// Reads a plan to its end, and writes the image of its sketch as lower-case hexadecimal and LF (docs/PLAN.md, "A run").
 ///
-/// Today the lines `new`, `image` of a list or of registers of eight bits, and `coupon` while it leaves a sketch one of
-/// these, are served. Neither stream may have failed before. Every claim on bytes presupposes streams that tell them: of
-/// one that does not, it says nothing.
+/// Today the lines `new`, `image` of a list or of registers of eight bits, `coupon` while it leaves a sketch one of
+/// these, and `union` of such sketches that are all of eight bits and of its `lg_k`, of at most 7, are served. Neither
+/// stream may have failed before. Every claim on bytes presupposes streams that tell them: of one that does not, it says
+/// nothing.
 ///
 /// Takes memory for the text, the stack of sketches and the answer. A refusal is `Memory` where memory was refused (its
 /// line is free), the first fault of the text with its line, `Read` where the reader failed, or `Write` where the writer

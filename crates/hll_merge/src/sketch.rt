@@ -1,11 +1,14 @@
 //! A sketch of a plan: a list, or registers of eight bits.
-ghost use Rattle.std.specs.Prelude.{◌≡◌, ◌≤◌, ◌⊎◌, List, ℕ, OnOk, IfOk, IfErr, string_bytes};
+ghost use Rattle.std.specs.Prelude.{◌≡◌, ◌≤◌, ◌⊎◌, ◌↔◌, IsTrue, List, ℕ, OnOk, IfOk, IfErr, string_bytes};
 ghost use Rattle.hll_coupons.specs.Pair.{value_of};
-ghost use Rattle.hll_sketch.specs.Value.{IsLgK};
+ghost use Rattle.hll_coupons.specs.Table.{held};
+ghost use Rattle.hll_coupons.specs.declared.hll_type.HllType.TheVariants.{Hll8};
+ghost use Rattle.hll_sketch.specs.Value.{IsLgK, is_empty};
 ghost use Rattle.hll_sketch.specs.Written.{Written};
 ghost use Rattle.hll_merge.specs.Listed.{fresh};
 ghost use Rattle.hll_merge.specs.Kept as kept;
-ghost use Rattle.hll_merge.specs.Kept.{kept_of, value_of_kept, order_of, Adds, GoesBeyond, Promotes, IsReadFrom, RefusesBytes};
+ghost use Rattle.hll_merge.specs.Kept.{kept_of, value_of_kept, order_of, IsKept, Adds, AddsEach, GoesBeyond, Promotes, Merges, joined_into, IsReadFrom, RefusesBytes};
+ghost use Rattle.hll_merge.specs.Served.{IsServed, IsOfSize};
 ghost use Rattle.hll_merge.specs.Run.{printed};
 ghost use Rattle.hll_merge.specs.declared.fault.Fault.TheVariants.{Memory, Unserved};
 
@@ -80,6 +83,29 @@ impl<A: Allocator> Sketch<A> {
     }
 }
 
+impl<A: Allocator> Sketch<A> {
+    /// Whether it has no coupon, or registers that are all 0. Takes no memory.
+    fn is_empty(&self) -> bool
+        ensures answer { result ≡ is_empty (value_of_kept self.now) }
+        ensures kept { IsKept self.now }
+    {
+        match &self.mode {
+            Mode::List(list) => list.container().len() == 0,
+            Mode::Array(array) => array.is_empty(),
+        }
+    }
+
+    /// Whether it is of this `lg_k`, and of eight bits. Takes no memory.
+    pub(crate) fn is_of_size(&self, lg_k: u8) -> bool
+        ensures { IsTrue result ↔ IsOfSize lg_k (value_of_kept self.now) }
+    {
+        match &self.mode {
+            Mode::List(list) => list.lg_k() == lg_k && list.hll_type() == HllType::Hll8,
+            Mode::Array(array) => array.lg_k() == lg_k,
+        }
+    }
+}
+
 impl<A: Allocator + Clone> Sketch<A> {
     /// Takes a coupon.
     ///
@@ -91,6 +117,56 @@ impl<A: Allocator + Clone> Sketch<A> {
         ensures err { IfErr result (λ e. (((e ≡ Memory) × Promotes self.old coupon) ⊎ ((e ≡ Unserved) × GoesBeyond self.old coupon)) × (self.new ≡ self.old)) }
     {
         update_mode(&mut self.mode, coupon)
+    }
+
+    /// Joins a sketch into this gadget; both are of one `lg_k` of at most 7, and of eight bits. An empty sketch, one of
+    /// zeros included, changes nothing, and an empty gadget takes the sketch as it is.
+    ///
+    /// `Memory` where a list or registers are refused; then it may hold a part of the sketch.
+    pub(crate) fn merge(&mut self, other: &Sketch<A>) -> Result<(), Fault>
+        requires small { (value_of_kept self.old).lg_k ≤ 7 }
+        requires own { IsOfSize (value_of_kept self.old).lg_k (value_of_kept self.old) }
+        requires served { IsServed (value_of_kept self.old) }
+        requires other { IsOfSize (value_of_kept self.old).lg_k (value_of_kept other.now) }
+        ensures ok { OnOk result (Merges (value_of_kept self.old).lg_k self.old other.now self.new) }
+        ensures err { IfErr result (λ e. e ≡ Memory) }
+    {
+        if other.is_empty() {
+            return Ok(());
+        }
+        if self.is_empty() {
+            self.mode = other.cloned_mode()?;
+            return Ok(());
+        }
+        match &other.mode {
+            Mode::List(list) => self.add_each(list),
+            Mode::Array(array) => join_array(&mut self.mode, array),
+        }
+    }
+
+    /// Takes the coupons of a list in turn.
+    fn add_each(&mut self, list: &ListSketch<A>) -> Result<(), Fault>
+        requires small { (value_of_kept self.old).lg_k ≤ 7 }
+        requires own { (value_of_kept self.old).width ≡ Hll8 }
+        requires served { IsServed (value_of_kept self.old) }
+        ensures ok { OnOk result (AddsEach self.old (held list.now.table.places) self.new) }
+        ensures err { IfErr result (λ e. e ≡ Memory) }
+    {
+        for coupon in list.container().iter() {
+            self.update(coupon)?;
+        }
+        Ok(())
+    }
+
+    /// What it keeps, over again. `Memory` where that is refused.
+    fn cloned_mode(&self) -> Result<Mode<A>, Fault>
+        ensures ok { IfOk result (λ m. kept_of m ≡ self.now) }
+        ensures err { IfErr result (λ e. e ≡ Memory) }
+    {
+        match &self.mode {
+            Mode::List(list) => Ok(Mode::List(list.clone()?)),
+            Mode::Array(array) => Ok(Mode::Array(array.clone()?)),
+        }
     }
 
     /// The image in lower-case hexadecimal, and LF. `Memory` where the image or the text is refused.
@@ -129,4 +205,17 @@ fn serialize<A: Allocator + Clone>(mode: &Mode<A>) -> Result<Vec<u8, A>, Fault>
         Mode::List(list) => list.serialize(),
         Mode::Array(array) => Ok(array.serialize(array.lg_k())?),
     }
+}
+
+/// Joins registers into a gadget that is not empty.
+fn join_array<A: Allocator + Clone>(mode: &mut Mode<A>, source: &Array8<A>) -> Result<(), Fault>
+    requires size { (value_of_kept (kept_of mode.old)).lg_k ≡ source.now.lg_k }
+    ensures ok { OnOk result (kept_of mode.new ≡ kept.array (joined_into (kept_of mode.old) source.now)) }
+    ensures err { IfErr result (λ e. e ≡ Memory) }
+{
+    match mode {
+        Mode::Array(array) => array.merge_array_same_lgk(source.values()),
+        Mode::List(list) => *mode = Mode::Array(list.joined(source)?),
+    }
+    Ok(())
 }

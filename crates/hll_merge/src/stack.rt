@@ -1,5 +1,7 @@
 //! The sketches of a plan while its lines are carried out, the last one on top.
-ghost use Rattle.std.specs.Prelude.{◌≡◌, ◌≤◌, ◌⊎◌, ◌++◌, ◌∷◌, [], List, length, false, MatchResult, OnOk, OnErr, IfErr, IfSome, IfNone};
+ghost use Rattle.std.specs.Prelude.{◌≡◌, ◌≤◌, ◌⊎◌, ◌↔◌, ◌++◌, ◌∷◌, [], List, length, take, false, IsTrue, MatchResult, OnOk, OnErr, IfOk, IfErr, IfSome, IfNone};
+ghost use Rattle.std.specs.List.{AllByRecursion};
+ghost use Rattle.hll_coupons.specs.declared.hll_type.HllType.TheVariants.{Hll8};
 ghost use Rattle.hll_coupons.specs.Pair.{value_of};
 ghost use Rattle.hll_sketch.specs.Value.{IsLgK};
 ghost use Rattle.hll_merge.specs.Plan.{Plan};
@@ -7,10 +9,10 @@ ghost use Rattle.hll_merge.specs.Step.{step_of, IsInRange};
 ghost use Rattle.hll_merge.specs.Text.{line_number};
 ghost use Rattle.hll_merge.specs.Extent.{lines_of};
 ghost use Rattle.hll_merge.specs.Accepting.{Takes, IsRefusal, Gives, IsFaultOfLine, Runs, FaultsAtLine};
-ghost use Rattle.hll_merge.specs.Served.{today};
+ghost use Rattle.hll_merge.specs.Served.{today, IsOfSize};
 ghost use Rattle.hll_merge.specs.Listed.{fresh};
 ghost use Rattle.hll_merge.specs.Kept as kept;
-ghost use Rattle.hll_merge.specs.Kept.{Kept, IsReadFrom, RefusesBytes, UpdatesLast, RefusesLast, RefusesUnion, StandFor};
+ghost use Rattle.hll_merge.specs.Kept.{Kept, value_of_kept, IsReadFrom, RefusesBytes, UpdatesLast, RefusesLast, CanJoin, JoinsLast, RefusesUnion, MergesEach, StandFor};
 ghost use Rattle.hll_merge.specs.declared.fault.Fault.TheVariants.{Memory, Unserved};
 
 use crate::fault::{Fault, MergeError};
@@ -60,6 +62,46 @@ impl<A: Allocator> Stack<A> {
     }
 }
 
+/// Whether some sketches may be joined: all are of this `lg_k`, of at most 7, and of eight bits, as the result.
+/// Takes no memory.
+fn can_join<A: Allocator>(sketches: &[Sketch<A>], lg_k: u8, hll_type: HllType) -> bool
+    ensures { IsTrue result ↔ CanJoin lg_k hll_type sketches.now }
+{
+    lg_k <= 7 && hll_type == HllType::Hll8 && are_of_size(sketches, lg_k)
+}
+
+/// Whether all of some sketches are of this `lg_k`, and of eight bits. Takes no memory.
+fn are_of_size<A: Allocator>(sketches: &[Sketch<A>], lg_k: u8) -> bool
+    ensures { IsTrue result ↔ AllByRecursion (λ x. IsOfSize lg_k (value_of_kept x)) sketches.now }
+{
+    for sketch in sketches {
+        if !sketch.is_of_size(lg_k) {
+            return false;
+        }
+    }
+    true
+}
+
+/// The join of some sketches in their order, into an empty one; all are of one `lg_k`, of at most 7, and of eight bits.
+/// `Memory` where it is refused.
+fn join<A: Allocator + Clone>(
+    alloc: A,
+    sketches: &[Sketch<A>],
+    lg_max_k: u8,
+) -> Result<Sketch<A>, Fault>
+    requires lg_k { IsLgK lg_max_k }
+    requires small { lg_max_k ≤ 7 }
+    requires each { AllByRecursion (λ x. IsOfSize lg_max_k (value_of_kept x)) sketches.now }
+    ensures ok { IfOk result (λ joined. MergesEach lg_max_k (kept.list (fresh lg_max_k Hll8)) sketches.now joined) }
+    ensures err { IfErr result (λ e. e ≡ Memory) }
+{
+    let mut gadget = Sketch::new(alloc, lg_max_k, HllType::Hll8)?;
+    for sketch in sketches {
+        gadget.merge(sketch)?;
+    }
+    Ok(gadget)
+}
+
 /// Adds a coupon to the last of some sketches, as `Sketch::update`. `Stack` where there is none.
 fn update_last<A: Allocator + Clone>(
     sketches: &mut [Sketch<A>],
@@ -104,15 +146,37 @@ impl<A: Allocator + Clone> Stack<A> {
         Ok(())
     }
 
-    /// Why the last sketches, so many of them, are not joined: `Stack` where there are fewer, else `Unserved`.
-    fn union_fault(&self, count: u32) -> Fault
-        ensures { RefusesUnion self.now count result }
+    /// Joins the last sketches, so many of them, in their order, and puts the result in their place.
+    ///
+    /// `Stack` where there are fewer, `Unserved` where they are not all of this `lg_k`, of at most 7, and of eight bits,
+    /// as the result, or `Memory` where that, or a larger stack, are refused.
+    fn push_union(&mut self, count: u32, lg_max_k: u8, hll_type: HllType) -> Result<(), Fault>
+        requires { IsLgK lg_max_k }
+        ensures ok { OnOk result (JoinsLast self.old count lg_max_k hll_type self.new) }
+        ensures err { IfErr result (λ e. ((e ≡ Memory) ⊎ RefusesUnion self.old count lg_max_k hll_type e) × (self.new ≡ self.old)) }
     {
-        if self.sketches.len() < count as usize {
-            Fault::Stack
-        } else {
-            Fault::Unserved
+        let Some(at) = self.sketches.len().checked_sub(count as usize) else {
+            return Err(Fault::Stack);
+        };
+        let last = &self.sketches[at..];
+        if !can_join(last, lg_max_k, hll_type) {
+            return Err(Fault::Unserved);
         }
+        let joined = join(self.cloned_allocator()?, last, lg_max_k)?;
+        self.replace_from(at, joined)
+    }
+
+    /// Puts a sketch in the place of those from an index on. `Memory` where a larger stack is refused.
+    fn replace_from(&mut self, at: usize, sketch: Sketch<A>) -> Result<(), Fault>
+        requires { at ≤ length self.old }
+        ensures ok { OnOk result (self.new ≡ take at self.old ++ sketch ∷ []) }
+        ensures err { IfErr result (λ e. (e ≡ Memory) × (self.new ≡ self.old)) }
+    {
+        let last = self.sketches.len();
+        self.sketches.push(sketch)?;
+        self.sketches.swap(at, last);
+        self.sketches.truncate(at + 1);
+        Ok(())
     }
 
     /// Adds a coupon to the last sketch, as `update_last`.
@@ -139,7 +203,7 @@ impl<A: Allocator + Clone> Stack<A> {
             Step::New(lg_k, hll_type) => self.push_new(lg_k, hll_type),
             Step::Coupon(slot, value) => self.push_coupon(Coupon::pack(slot, value)),
             Step::Image(bytes) => self.push_image(bytes.as_slice()),
-            Step::Union(count, _, _) => Err(self.union_fault(count)),
+            Step::Union(count, lg_max_k, hll_type) => self.push_union(count, lg_max_k, hll_type),
         }
     }
 

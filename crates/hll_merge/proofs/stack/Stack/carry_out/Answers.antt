@@ -8,7 +8,7 @@ use Rattle.hll_merge.specs.Text.{new, image}
 use Rattle.hll_merge.specs.Accepting.{Takes}
 use Rattle.hll_merge.specs.Served.{today}
 use Rattle.hll_merge.specs.Kept.{IsReadFrom, RefusesBytes, StandFor, UpdatesLast, RefusesLast}
-use Rattle.hll_merge.proofs.StackLemmas.{takes-new, takes-image, refuses-image, takes-coupon, refuses-coupon, refuses-union}
+use Rattle.hll_merge.proofs.StackLemmas.{takes-new, takes-image, refuses-image, takes-coupon, refuses-coupon, takes-union, refuses-union}
 use Rattle.hll_merge.proofs.stack.Stack.carry_out.Goals as goal
 
 pub returns-in-New-clause-carried : goal.returns-in-New-clause-carried
@@ -44,5 +44,11 @@ returns-in-Image-clause-carried g c ts h =
     ]) c.push_image.ensures.err))
 
 pub returns-in-Union-clause-carried : goal.returns-in-Union-clause-carried
-returns-in-Union-clause-carried g c ts h = rw c.in-Union.is
-    (inr (refuses-union c.args.self.now ts c.in-Union.count c.in-Union.field-1 c.in-Union.field-2 c.union_fault.result h c.union_fault.ensures))
+returns-in-Union-clause-carried g c ts h =
+    let count : ℕ = c.in-Union.count in
+    let lg_k : ℕ = c.in-Union.lg_max_k in
+    let width = c.in-Union.hll_type in
+    rw c.in-Union.is
+    (MatchResult-from_both c.push_union.result _ _
+    (IfOk-weaker c.push_union.result _ _ (λ _ u. takes-union c.args.self.now c.push_union.new.self ts count lg_k width h u) c.push_union.ensures.ok)
+    (IfErr-weaker c.push_union.result _ _ (λ e r. elim r.0 [ inl m ↦ inl m | inr f ↦ inr (refuses-union c.args.self.now ts count lg_k width e h f) ]) c.push_union.ensures.err))
