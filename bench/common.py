@@ -1,11 +1,19 @@
-"""What the measurements share: the program that is measured, and the time that a command takes."""
+"""What the measurements share: the program that is measured, the time that a command takes, and images of registers."""
 import pathlib
+import struct
 import subprocess
 import sys
 import time
 
 ROOT = pathlib.Path(__file__).resolve().parent.parent
 RUNS = 3
+OUT_OF_ORDER = 16
+
+
+def image_of(lg_k, flags, registers):
+    """An image of registers of eight bits, whose words are 0."""
+    header = bytes([10, 1, 7, lg_k, 0, flags, 0, 10])
+    return header + bytes(24) + struct.pack("<II", registers.count(0), 0) + registers
 
 
 def built_program():

@@ -10,21 +10,13 @@ if need be.
 """
 import pathlib
 import random
-import struct
 import sys
 import tempfile
 
 sys.dont_write_bytecode = True
-from common import best_time, chosen_program
+from common import OUT_OF_ORDER, best_time, chosen_program, image_of
 
 SEED = 9001
-OUT_OF_ORDER = 16
-
-
-def image_of(lg_k, flags, registers):
-    """An image of registers of eight bits, whose words are 0."""
-    header = bytes([10, 1, 7, lg_k, 0, flags, 0, 10])
-    return header + bytes(24) + struct.pack("<II", registers.count(0), 0) + registers
 
 
 def random_coupon(numbers):
