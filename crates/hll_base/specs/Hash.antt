@@ -1,6 +1,6 @@
 -- The hash of a whole list of bytes: MurmurHash3 x64 128 (docs/FORMAT.md, "The hash").
-use Rattle.std.specs.Prelude.{ℕ, ◌+◌, ◌*◌, ◌/◌, ◌%◌, ◌^◌, List, [], ◌∷◌, length, take, drop, fold, bit_xor, nat_lt, if◌then◌else◌}
-use Rattle.std.proofs.Common.{zero, suc}
+use Rattle.std.specs.Prelude.{◌≡◌, ℕ, ◌+◌, ◌*◌, ◌/◌, ◌%◌, ◌^◌, ◌<◌, List, [], ◌++◌, length, take, drop, fold, bit_xor, nat_lt, if◌then◌else◌}
+use Rattle.std.specs.Simd.{first_chunks}
 use Rattle.std.specs.Int.{w64, rotate_left, from_le_bytes}
 
 -- the two words of 64 bits that a hash keeps, and that it ends with
@@ -64,8 +64,7 @@ after_block halves block = with_second (first_after halves.first halves.second (
 
 -- so many blocks of sixteen bytes, from the front
 abbrev pub blocks : ℕ → List ℕ → List (List ℕ)
-blocks zero bytes = []
-blocks (suc n) bytes = take 16 bytes ∷ blocks n (drop 16 bytes)
+blocks n bytes = first_chunks 16 n bytes
 
 -- ---- the rest and the end
 
@@ -101,8 +100,48 @@ abbrev pub hash : ℕ → List ℕ → Halves
 hash seed bytes =
     let full = length bytes / 16 in
     let halves = fold after_block (record { first = seed; second = seed }) (blocks full bytes) in
-    ended (length bytes % 2 ^ 64) (after_rest halves (drop (16 * full) bytes))
+    ended (length bytes % 2 ^ 64) (after_rest halves (drop (full * 16) bytes))
 
 -- the seed where none is given
 abbrev pub default_seed : ℕ
 default_seed = 9001
+
+-- ---- a hash of pieces
+
+-- what is kept between pieces: both halves after the full blocks, the bytes of the block that is begun, and the number of all bytes modulo 2^64
+pub record Hashing : Type 0 where
+  pub halves : Halves
+  pub begun : List ℕ
+  pub count : ℕ
+
+-- before any byte, at a seed
+abbrev pub started : ℕ → Hashing
+started seed = record { halves = record { first = seed; second = seed }; begun = []; count = 0 }
+
+-- both halves and the rest of bytes that follow full blocks
+abbrev pub absorbed : Halves → List ℕ → ℕ → Hashing
+absorbed halves bytes count = let full = length bytes / 16 in
+    record { halves = fold after_block halves (blocks full bytes); begun = drop (full * 16) bytes; count = count }
+
+-- after one piece more
+abbrev pub taken : Hashing → List ℕ → Hashing
+taken s piece = absorbed s.halves (s.begun ++ piece) ((s.count + length piece) % 2 ^ 64)
+
+-- the hash of all pieces
+abbrev pub hash_of : Hashing → Halves
+hash_of s = ended s.count (after_rest s.halves s.begun)
+
+-- a block is begun with less than sixteen bytes, and the count is below 2^64
+pub record IsHashing (s : Hashing) : Type 0 where
+  pub begun : length s.begun < 16
+  pub count : s.count < 2 ^ 64
+
+-- ---- laws
+
+-- two pieces are one
+abbrev pub PiecesAreOne : Type 0
+PiecesAreOne = (s : Hashing) (a b : List ℕ) → IsHashing s → taken (taken s a) b ≡ taken s (a ++ b)
+
+-- the hash of one piece is that of its bytes
+abbrev pub HashOfPiece : Type 0
+HashOfPiece = (seed : ℕ) (bytes : List ℕ) → hash_of (taken (started seed) bytes) ≡ hash seed bytes

@@ -1,7 +1,7 @@
 -- The coupon of hashed bytes (docs/MODEL.md, "Coupons of values").
 use Rattle.std.specs.Prelude.{ℕ, ◌+◌, List, min}
 use Rattle.std.specs.Int.{w64, leading_zeros}
-use Rattle.hll_base.specs.Hash.{hash, default_seed}
+use Rattle.hll_base.specs.Hash.{Halves, hash, default_seed}
 use Rattle.hll_coupons.specs.Pair.{slot_of, pair}
 
 -- the raw word of the two words of a hash: the slot is the low 26 bits of the first, the value is
@@ -9,6 +9,10 @@ use Rattle.hll_coupons.specs.Pair.{slot_of, pair}
 abbrev pub coupon_of_words : ℕ → ℕ → ℕ
 coupon_of_words lo hi = pair (slot_of lo) (min (leading_zeros w64 hi) 62 + 1)
 
+-- the raw word of a hash
+abbrev pub coupon_of_halves : Halves → ℕ
+coupon_of_halves words = coupon_of_words words.first words.second
+
 -- the raw word of the hash of bytes at the default seed
 abbrev pub coupon_of : List ℕ → ℕ
-coupon_of bytes = let words = hash default_seed bytes in coupon_of_words words.first words.second
+coupon_of bytes = coupon_of_halves (hash default_seed bytes)

@@ -1,7 +1,12 @@
 //! Coupons (docs/MODEL.md, "Pairs").
 ghost use Rattle.std.specs.Prelude.{◌≡◌, ◌↔◌, ◌≤◌, ◌<◌, ◌^◌, IsTrue};
-ghost use Rattle.hll_coupons.specs.Pair.{slot_of, value_of, pair};
+ghost use Rattle.std.specs.Prelude.{fold};
+ghost use Rattle.hll_base.specs.Hash.{hash_of, started, taken, default_seed};
+ghost use Rattle.hll_coupons.specs.Pair.{slot_of, value_of, pair, IsPair};
+ghost use Rattle.hll_coupons.specs.Hashed.{coupon_of_words, coupon_of_halves, coupon_of};
 
+use hll_base::hash::MurmurHash3X64128;
+use std::hash::Hash;
 use std::marker::Model;
 
 /// The bits of a raw word below the value.
@@ -9,6 +14,9 @@ const SLOT_BITS: u32 = 26;
 
 /// The slot in a raw word.
 const SLOT_MASK: u32 = 0x03ff_ffff;
+
+/// More leading zeros than this in the second word of a hash give no greater value.
+const MOST_ZEROS: u32 = 62;
 
 /// A slot below 2^26 and a value up to 63, in one raw word: `value * 2^26 + slot`. Contracts see the
 /// raw word.
@@ -43,6 +51,47 @@ impl Coupon {
         Coupon {
             raw: u32::from(value) << SLOT_BITS | slot & SLOT_MASK,
         }
+    }
+
+    /// The coupon of the two words of a hash (docs/MODEL.md, "Coupons of values"). Takes no memory.
+    pub fn from_words(lo: u64, hi: u64) -> Coupon
+        ensures words { result ≡ coupon_of_words lo hi }
+        ensures pair { IsPair result }
+    {
+        let slot = (lo & u64::from(SLOT_MASK)) as u32;
+        let value = hi.leading_zeros().min(MOST_ZEROS) as u8 + 1;
+        Coupon::pack(slot, value)
+    }
+
+    /// The coupon of the hash of bytes at the default seed. Takes no memory.
+    pub fn from_bytes(bytes: &[u8]) -> Coupon
+        ensures bytes { result ≡ coupon_of bytes.now }
+        ensures pair { IsPair result }
+    {
+        let mut hash = MurmurHash3X64128::default();
+        hash.write(bytes);
+        Coupon::from_hash(&hash)
+    }
+
+    /// The coupon of a value: that of the pieces of bytes that its own `hash` writes. Takes no memory.
+    ///
+    /// A type of one piece gives the coupon of these bytes, as `from_bytes` does.
+    pub fn from_value<T: Hash + Drop>(value: T) -> Coupon
+        ensures pieces { result ≡ coupon_of_halves (hash_of (fold taken (started default_seed) (T.hash_input value))) }
+        ensures pair { IsPair result }
+    {
+        let mut hash = MurmurHash3X64128::default();
+        value.hash(&mut hash);
+        Coupon::from_hash(&hash)
+    }
+
+    /// The coupon of a hash.
+    fn from_hash(hash: &MurmurHash3X64128) -> Coupon
+        ensures hash { result ≡ coupon_of_halves (hash_of hash.now) }
+        ensures pair { IsPair result }
+    {
+        let (lo, hi) = hash.finish128();
+        Coupon::from_words(lo, hi)
     }
 
     /// The coupon of a raw word.

@@ -4,6 +4,8 @@
 
 pub mod container;
 pub mod coupon;
+#[cfg(test)]
+mod coupon_tests;
 pub mod hll_type;
 pub mod laws;
 pub mod list;

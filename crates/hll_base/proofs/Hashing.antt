@@ -1,0 +1,98 @@
+-- Lemmas on a hash of pieces.
+use Rattle.std.proofs.Common.{inl, inr, ◌≡◌, ℕ, zero, suc, ◌+◌, ◌*◌, ◌/◌, ◌%◌, ◌-◌, ◌<◌, ◌≤◌, ◌^◌, List, [], ◌∷◌, ◌++◌, length, take, drop, get_or, fold, replicate, append_assoc, true, false, nat_lt, if◌then◌else◌, refl, sym, ap, ◌∙◌, arith}
+use Rattle.std.specs.Int.{w64, from_le_bytes, byte_worth, sum_through}
+use Rattle.std.specs.Simd.{first_chunks}
+use Rattle.std.proofs.lemmas.List.{length-append, length-drop, length-take-le, take_at, drop_at, take-append-drop, drop-drop}
+use Rattle.std.specs.Prelude.{bit_xor}
+use Rattle.std.proofs.lemmas.Bool.{cases_lt, lt-ltb, le-ltb, cond-true, cond-false}
+use Rattle.hll_base.specs.Hash.{Halves, first_scrambled, second_scrambled, first_word, second_word, after_block, after_rest, ended, blocks, Hashing, started, absorbed, taken, PiecesAreOne, HashOfPiece}
+
+-- ---- a rest that is filled up
+
+module _ where
+  abbrev none : ℕ
+  none = 0
+
+  zeros : (k d n i : ℕ) → get_or (take k (drop d (replicate n 0))) i 0 ≡ none
+  zeros zero d n i = refl
+  zeros (suc k) zero zero i = refl
+  zeros (suc k) zero (suc n) zero = refl
+  zeros (suc k) zero (suc n) (suc i) = zeros k zero n i
+  zeros (suc k) (suc d) zero i = refl
+  zeros (suc k) (suc d) (suc n) i = zeros (suc k) d n i
+
+  filled_up : (k d n : ℕ) (xs : List ℕ) (i : ℕ) → get_or (take k (drop d (xs ++ replicate n 0))) i 0 ≡ get_or (take k (drop d xs)) i 0
+  filled_up zero d n xs i = refl
+  filled_up (suc k) zero n [] i = zeros (suc k) zero n i
+  filled_up (suc k) zero n (x ∷ xs) zero = refl
+  filled_up (suc k) zero n (x ∷ xs) (suc i) = filled_up k zero n xs i
+  filled_up (suc k) (suc d) n [] i = zeros (suc k) (suc d) n i
+  filled_up (suc k) (suc d) n (x ∷ xs) i = filled_up (suc k) d n xs i
+
+  same_word : (xs ys : List ℕ) → ((i : ℕ) → get_or xs i 0 ≡ get_or ys i 0) → from_le_bytes w64 xs ≡ from_le_bytes w64 ys
+  same_word xs ys h = λ j. sum_through (λ i. byte_worth i (h i j)) 7
+
+  pub first_word-filled : (xs : List ℕ) (n : ℕ) → first_word (xs ++ replicate n 0) ≡ first_word xs
+  first_word-filled xs n = same_word (take 8 (xs ++ replicate n 0)) (take 8 xs) (filled_up 8 0 n xs)
+
+  pub second_word-filled : (xs : List ℕ) (n : ℕ) → second_word (xs ++ replicate n 0) ≡ second_word xs
+  second_word-filled xs n = same_word (take 8 (drop 8 (xs ++ replicate n 0))) (take 8 (drop 8 xs)) (filled_up 8 8 n xs)
+
+pub rest_first : (h : Halves) (block rest : List ℕ) (count : ℕ) → length rest ≡ count → block ≡ rest ++ replicate (16 - count) 0 → 0 < count → count ≤ 8
+    → record { first = bit_xor h.first (first_scrambled (first_word block)); second = h.second } ≡ after_rest h rest
+rest_first h block rest count e is some few =
+    let word : first_word block ≡ first_word rest = ap first_word is ∙ first_word-filled rest (16 - count) in
+    let a : nat_lt 0 (length rest) ≡ true = lt-ltb 0 (length rest) (omega (arith, e, some)) in
+    let b : nat_lt 8 (length rest) ≡ false = le-ltb 8 (length rest) (omega (arith, e, few)) in
+    let scrambled : ℕ = bit_xor h.first (first_scrambled (first_word rest)) in
+    let first : bit_xor h.first (first_scrambled (first_word block)) ≡ (if nat_lt 0 (length rest) then scrambled else h.first) =
+    ap (λ w. bit_xor h.first (first_scrambled w)) word ∙ sym (cond-true (nat_lt 0 (length rest)) scrambled h.first a) in
+    let second : h.second ≡ (if nat_lt 8 (length rest) then bit_xor h.second (second_scrambled (second_word rest)) else h.second) =
+    sym (cond-false (nat_lt 8 (length rest)) (bit_xor h.second (second_scrambled (second_word rest))) h.second b) in
+    λ i. let x : Halves = record { first = first i; second = second i } in x
+
+-- ---- blocks
+
+-- one block more in front
+pub absorbed-block : (h : Halves) (block more : List ℕ) (count : ℕ) → length block ≡ 16 → absorbed h (block ++ more) count ≡ absorbed (after_block h block) more count
+absorbed-block h block more count e =
+    let one_more : length (block ++ more) / 16 ≡ suc (length more / 16) = omega (arith, e, length-append block more) in
+    let front : take 16 (block ++ more) ≡ block = take_at block more 16 e in
+    let behind : drop 16 (block ++ more) ≡ more = drop_at block more 16 e in
+    let skip : drop (suc (length more / 16) * 16) (block ++ more) ≡ drop (length more / 16 * 16) more =
+    ap (λ n. drop n (block ++ more)) (let n : suc (length more / 16) * 16 ≡ 16 + length more / 16 * 16 = omega arith in n)
+    ∙ sym (drop-drop (length more / 16 * 16) 16 (block ++ more)) ∙ ap (drop (length more / 16 * 16)) behind in
+    ap (λ n. let s : Hashing = record { halves = fold after_block h (blocks n (block ++ more)); begun = drop (n * 16) (block ++ more); count = count } in s) one_more
+    ∙ (λ i. let s : Hashing = record { halves = fold after_block (after_block h (front i)) (first_chunks 16 (length more / 16) (behind i)); begun = skip i; count = count } in s)
+
+-- bytes behind others
+absorbed-behind : (n : ℕ) (h : Halves) (xs b : List ℕ) (c : ℕ) → length xs < n → absorbed (absorbed h xs c).halves ((absorbed h xs c).begun ++ b) c ≡ absorbed h (xs ++ b) c
+absorbed-behind zero h xs b c l = absurd (omega (arith, l))
+absorbed-behind (suc n) h xs b c l = elim (cases_lt (length xs) 16) [
+  | inl few ↦
+      let none : length xs / 16 ≡ 0 = omega (arith, few) in
+      ap (λ full. absorbed (fold after_block h (blocks full xs)) (drop (full * 16) xs ++ b) c) none
+  | inr many ↦
+      let front : List ℕ = take 16 xs in
+      let more : List ℕ = drop 16 xs in
+      let size : length front ≡ 16 = length-take-le 16 xs many in
+      let split : xs ≡ front ++ more = sym (take-append-drop 16 xs) in
+      let first : absorbed h xs c ≡ absorbed (after_block h front) more c = ap (λ ys. absorbed h ys c) split ∙ absorbed-block h front more c size in
+      ap (λ (s : Hashing). absorbed s.halves (s.begun ++ b) c) first
+      ∙ absorbed-behind n (after_block h front) more b c (omega (arith, length-drop 16 xs, l, many))
+      ∙ sym (absorbed-block h front (more ++ b) c size)
+      ∙ ap (λ ys. absorbed h ys c) (sym (append_assoc front more b) ∙ ap (λ ys. ys ++ b) (sym split))
+]
+
+pub pieces_are_one : PiecesAreOne
+pieces_are_one s a b is =
+    let c : ℕ = ((s.count + length a) % 2 ^ 64 + length b) % 2 ^ 64 in
+    let sum : c ≡ (s.count + length (a ++ b)) % 2 ^ 64 = omega (arith, length-append a b) in
+    absorbed-behind (suc (length (s.begun ++ a))) s.halves (s.begun ++ a) b c (omega arith)
+    ∙ (λ i. absorbed s.halves (append_assoc s.begun a b i) (sum i))
+
+pub hash_of_piece : HashOfPiece
+hash_of_piece seed bytes =
+    let s : Hashing = taken (started seed) bytes in
+    let sum : 0 + length bytes ≡ length bytes = omega arith in
+    ap (λ n. ended (n % 2 ^ 64) (after_rest s.halves s.begun)) sum
