@@ -2,7 +2,7 @@
 use Rattle.std.proofs.Common.{inl, inr, ◌≡◌, ℕ, zero, suc, ◌+◌, ◌*◌, ◌/◌, ◌%◌, ◌-◌, ◌<◌, ◌≤◌, ◌^◌, List, [], ◌∷◌, ◌++◌, length, take, drop, get_or, fold, replicate, append_assoc, true, false, nat_lt, if◌then◌else◌, refl, sym, ap, ◌∙◌, arith}
 use Rattle.std.specs.Int.{w64, from_le_bytes, byte_worth, sum_through}
 use Rattle.std.specs.Simd.{first_chunks}
-use Rattle.std.proofs.lemmas.List.{length-append, length-drop, length-take-le, take_at, drop_at, take-append-drop, drop-drop}
+use Rattle.std.proofs.lemmas.List.{length-append, length-drop, length-take-le, take_at, drop_at, take-append-drop, drop-drop, drop-replicate}
 use Rattle.std.specs.Prelude.{bit_xor}
 use Rattle.std.proofs.lemmas.Bool.{cases_lt, lt-ltb, le-ltb, cond-true, cond-false}
 use Rattle.hll_base.specs.Hash.{Halves, first_scrambled, second_scrambled, first_word, second_word, after_block, after_rest, ended, blocks, Hashing, started, absorbed, taken, PiecesAreOne, HashOfPiece}
@@ -96,3 +96,16 @@ hash_of_piece seed bytes =
     let s : Hashing = taken (started seed) bytes in
     let sum : 0 + length bytes ≡ length bytes = omega arith in
     ap (λ n. ended (n % 2 ^ 64) (after_rest s.halves s.begun)) sum
+
+-- ---- a block that is begun
+
+-- zeros stay behind others that are put behind n bytes
+pub zeros_behind : (n m : ℕ) (block others new : List ℕ) → m ≡ n + length others → new ≡ take n block ++ others ++ drop (n + length others) block
+    → n ≤ length block → drop n block ≡ replicate (16 - n) 0 → drop m new ≡ replicate (16 - m) 0
+zeros_behind n m block others new end put within zeros =
+    let front : List ℕ = take n block ++ others in
+    let size : length front ≡ m = omega (arith, length-append (take n block) others, length-take-le n block within, end) in
+    let left : replicate (16 - n - length others) 0 ≡ replicate (16 - m) 0 = ap (λ k. replicate k 0) (omega (arith, end)) in
+    ap (drop m) put ∙ drop_at front (drop (n + length others) block) m size
+    ∙ sym (drop-drop (length others) n block) ∙ ap (drop (length others)) zeros
+    ∙ drop-replicate (length others) (16 - n) 0 ∙ left

@@ -1,7 +1,7 @@
 //! MurmurHash3 x64 128 (docs/FORMAT.md, "The hash").
 ghost use Rattle.std.specs.Prelude.{◌≡◌, ℕ, ◌+◌, ◌≤◌, ◌<◌, ◌++◌, ◌-◌, [], List, length, take, drop, replicate, fold};
 ghost use Rattle.hll_base.specs.Hash as spec;
-ghost use Rattle.hll_base.specs.Hash.{Halves, mixed, first_scrambled, second_scrambled, first_word, second_word, after_block, after_rest, ended, started, absorbed, taken, hash_of, default_seed};
+ghost use Rattle.hll_base.specs.Hash.{Halves, turned, mixed, first_scrambled, second_scrambled, first_word, second_word, after_block, after_rest, ended, started, absorbed, taken, hash_of, default_seed};
 
 use std::hash::Hasher;
 use std::marker::Model;
@@ -41,20 +41,21 @@ impl Model for Halves {
 #[derive(Debug, Drop)]
 pub struct MurmurHash3X64128 {
     halves: Halves,
+    /// Zeros stand behind the bytes that are begun.
     block: [u8; 16],
     begun: usize,
     count: u64,
 }
 
 impl Model for MurmurHash3X64128 {
-    ghost use Rattle.std.specs.Prelude.{◌<◌, take};
+    ghost use Rattle.std.specs.Prelude.{◌≡◌, ◌<◌, ◌-◌, take, drop, replicate};
     ghost use Rattle.hll_base.specs.Hash.{Hashing};
 
     ghost Value = { Hashing };
 
     ghost view = { λ h. record { halves = h.halves; begun = take h.begun h.block; count = h.count } };
 
-    ghost invariant = { λ h. h.begun < 16 };
+    ghost invariant = { λ h. (h.begun < 16) × (drop h.begun h.block ≡ replicate (16 - h.begun) 0) };
 }
 
 impl Default for MurmurHash3X64128 {
@@ -75,22 +76,26 @@ fn mix(word: u64) -> u64
     word ^ word >> 33
 }
 
+/// A word turned left by so many bits. It is a function of its own so that the compiler turns a product, and does not
+/// multiply twice instead.
+fn turn<const COUNT: u32>(word: u64) -> u64
+    ensures { result ≡ turned word COUNT }
+{
+    word.rotate_left(COUNT)
+}
+
 /// The first word of a block as it goes into the first half.
 fn scramble_first(word: u64) -> u64
     ensures { result ≡ first_scrambled word }
 {
-    word.wrapping_mul(FIRST_FACTOR)
-        .rotate_left(31)
-        .wrapping_mul(SECOND_FACTOR)
+    turn::<31>(word.wrapping_mul(FIRST_FACTOR)).wrapping_mul(SECOND_FACTOR)
 }
 
 /// The second word of a block as it goes into the second half.
 fn scramble_second(word: u64) -> u64
     ensures { result ≡ second_scrambled word }
 {
-    word.wrapping_mul(SECOND_FACTOR)
-        .rotate_left(33)
-        .wrapping_mul(FIRST_FACTOR)
+    turn::<33>(word.wrapping_mul(SECOND_FACTOR)).wrapping_mul(FIRST_FACTOR)
 }
 
 /// Both words of a block.
@@ -105,14 +110,12 @@ fn words(block: &[u8; 16]) -> (u64, u64)
     )
 }
 
-/// A block that is begun with so many bytes, with the others at its end.
-fn completed(begun: &[u8; 16], count: usize, others: &[u8]) -> [u8; 16]
-    requires { count + length others.now ≡ 16 }
-    ensures { result ≡ take count begun.now ++ others.now }
+/// Puts others behind the bytes of a block that is begun with so many.
+fn extend(block: &mut [u8; 16], count: usize, others: &[u8])
+    requires { count + length others.now ≤ 16 }
+    ensures { block.new ≡ take count block.old ++ others.now ++ drop (count + length others.now) block.old }
 {
-    let mut block = *begun;
-    block[count..].copy_from_slice(others);
-    block
+    block[count..count + others.len()].copy_from_slice(others);
 }
 
 impl Halves {
@@ -215,34 +218,25 @@ impl MurmurHash3X64128 {
         }
         let (front, rest) = bytes.split_at((BLOCK - self.begun).min(bytes.len()));
         let end = self.begun + front.len();
+        extend(&mut self.block, self.begun, front);
         if end == BLOCK {
-            let block = completed(&self.block, self.begun, front);
-            self.halves.absorb(&block);
+            self.halves.absorb(&self.block);
+            self.block = [0; BLOCK];
             self.begun = 0;
         } else {
-            self.block[self.begun..end].copy_from_slice(front);
             self.begun = end;
         }
         rest
     }
 
-    /// Begins a block with less than sixteen bytes.
+    /// Begins a block with less than sixteen bytes, where none is begun.
     fn begin(&mut self, bytes: &[u8])
-        requires { length bytes.now < 16 }
+        requires none { self.old.begun ≡ [] }
+        requires few { length bytes.now < 16 }
         ensures { self.new ≡ record self.old { begun = bytes.now } }
     {
-        self.block[..bytes.len()].copy_from_slice(bytes);
+        extend(&mut self.block, 0, bytes);
         self.begun = bytes.len();
-    }
-
-    /// The block that is begun, filled up with zeros, and the number of its bytes.
-    fn padded(&self) -> ([u8; 16], usize)
-        ensures block { result.0 ≡ self.now.begun ++ replicate (16 - length self.now.begun) 0 }
-        ensures count { result.1 ≡ length self.now.begun }
-    {
-        let mut block = [0; BLOCK];
-        block[..self.begun].copy_from_slice(&self.block[..self.begun]);
-        (block, self.begun)
     }
 
     /// Both words of the hash of all pieces.
@@ -250,9 +244,8 @@ impl MurmurHash3X64128 {
         ensures first { result.0 ≡ (hash_of self.now).first }
         ensures second { result.1 ≡ (hash_of self.now).second }
     {
-        let (block, count) = self.padded();
         let mut halves = self.halves;
-        halves.absorb_rest(&block, count);
+        halves.absorb_rest(&self.block, self.begun);
         halves.end(self.count)
     }
 }
