@@ -1,5 +1,7 @@
 pub mod Entries
 pub mod Exceptions
+pub mod Filling
+pub mod Folding
 pub mod Packing
 pub mod Payloads
 pub mod Raising

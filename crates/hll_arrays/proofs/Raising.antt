@@ -4,7 +4,8 @@ use Rattle.std.specs.Prelude.{max}
 use Rattle.std.proofs.Math.ListN.{set}
 use Rattle.std.proofs.lemmas.Bool.{cases_eq}
 use Rattle.std.proofs.lemmas.List.Elements.{All-from_get_or}
-use Rattle.std.proofs.lemmas.List.{length-set, get_or-set_same, get_or-set_other}
+use Rattle.std.proofs.lemmas.Nat.{mod_below, pow_pos}
+use Rattle.std.proofs.lemmas.List.{length-set, get_or-set_same, get_or-set_other, get_or_default}
 use Rattle.hll_coupons.specs.Pair.{slot_of, value_of, set_of}
 use Rattle.hll_coupons.specs.Fold.{fold_to, join, value_at}
 use Rattle.hll_coupons.proofs.Folds.{length-fold_to, get_or-fold_to}
@@ -70,6 +71,26 @@ module _ (k : ℕ) (R : List ℕ) (c : ℕ) (size : length R ≡ 2 ^ k) where
       let new : set R t (value_of c) ≡ join R F = join-high within (omega arith) in
       let other : R ≡ join R F → ⊥ = λ e. omega (arith, ap (λ (Q : List ℕ). get_or Q t 0) (e ∙ sym new), get_or-set_same R t (value_of c) 0 within) in
       λ i. record { lg_k = k; registers = new i; state = sym (state_after-other R (join R F) state other) i }
+
+-- ---- one coupon, by the register that was read
+
+module _ (k : ℕ) (R : List ℕ) (c : ℕ) (state : EstimateState) (size : length R ≡ 2 ^ k) (t old : ℕ) (at : t ≡ slot_of c % 2 ^ k) (is : old ≡ get_or R t old) where
+  inside : slot_of c % 2 ^ k < length R
+  inside = omega (arith, size, mod_below (slot_of c) (2 ^ k) (pow_pos k))
+
+  read : old ≡ get_or R (slot_of c % 2 ^ k) 0
+  read = is ∙ ap (λ i. get_or R i old) at ∙ get_or_default R (slot_of c % 2 ^ k) old 0 inside
+
+  -- one that is no less is kept
+  pub raised-kept : value_of c ≤ old → let x : Stored = record { lg_k = k; registers = R; state = state } in x ≡ raised_by_coupon x c
+  raised-kept low = raised-low k R c size state (omega (arith, low, read))
+
+  -- a smaller one is written over
+  pub raised-written : (v : ℕ) → v ≡ value_of c → old < value_of c →
+      let x : Stored = record { lg_k = k; registers = R; state = state } in
+      let y : Stored = record { lg_k = k; registers = set R t v; state = cleared } in y ≡ raised_by_coupon x c
+  raised-written v same high =
+      (λ i. record { lg_k = k; registers = set R (at i) (same i); state = cleared }) ∙ raised-high k R c size state inside (omega (arith, high, read))
 
 -- ---- joins
 

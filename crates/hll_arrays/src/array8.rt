@@ -1,15 +1,20 @@
 //! Registers of eight bits: a byte for each.
-ghost use Rattle.std.specs.Prelude.{◌≡◌, ℕ, ◌+◌, ◌^◌, ◌<◌, ◌≤◌, ◌==◌, ◌⊎◌, nat_le, length, take, drop, slice_index, IfOk, IfErr};
+ghost use Rattle.std.specs.Prelude.{◌≡◌, ℕ, ◌+◌, ◌^◌, ◌<◌, ◌≤◌, ◌==◌, ◌⊎◌, nat_le, length, take, drop, slice_index, slice_set, IfOk, IfErr};
 ghost use Rattle.std.specs.List.{list_all};
 ghost use Rattle.hll_base.specs.declared.error.Reason.TheVariants.{Memory};
 ghost use Rattle.hll_coupons.specs.Fold.{join};
-ghost use Rattle.hll_arrays.specs.Packed.{zeros};
+ghost use Rattle.hll_arrays.specs.Packed.{zeros, size_in_registers};
 ghost use Rattle.hll_arrays.specs.Payload.{state_at, IsHll8Payload, Hll8Fault, hll8_bytes};
 ghost use Rattle.hll_arrays.specs.State.{cleared};
-ghost use Rattle.hll_arrays.specs.Store.{zeroed, raised_by_coupon, AreRegisters};
+ghost use Rattle.hll_coupons.specs.declared.hll_type.HllType.TheVariants.{Hll8};
+ghost use Rattle.hll_arrays.specs.Store.{zeroed, raised_by_coupon, merged, AreRegisters, IsStored};
 
 use crate::estimate_state::EstimateState;
+use crate::lent::{Lent, raise_each, raise_from};
+use crate::merge::join_folds;
 use crate::numbers::Numbers;
+use crate::register_store::RegisterStore;
+use crate::registers::Registers;
 use hll_base::codec::SketchBytes;
 use hll_base::cursor::SketchSlice;
 use hll_base::error::{Error, Reason};
@@ -97,7 +102,8 @@ impl<A: Allocator> Array8<A> {
 
     /// The `lg_k`, 4 to 21. Takes no memory.
     pub fn lg_k(&self) -> u8
-        ensures { result ≡ self.now.lg_k }
+        ensures lg_k { result ≡ self.now.lg_k }
+        ensures legal { IsStored self.now }
     {
         self.lg_config_k
     }
@@ -145,7 +151,59 @@ impl<A: Allocator> Array8<A> {
         ensures { self.new ≡ record { lg_k = self.old.lg_k; registers = join self.old.registers src.now; state = cleared } }
     {
         raise_each(&mut self.registers, src);
+        self.rebuild_estimator_from_registers();
+    }
+
+    /// Raises each register to the greatest of itself and the values that fold to it, and clears the state. One pass over
+    /// the values; takes no memory.
+    ///
+    /// There are 2^`src_lg_k` values, each at most 63, and `src_lg_k` is at most 21 and greater than that of the registers.
+    pub fn merge_array_with_downsample(&mut self, src: &[u8], src_lg_k: u8)
+        requires larger { self.old.lg_k < src_lg_k }
+        requires most { src_lg_k ≤ 21 }
+        requires registers { AreRegisters src_lg_k src.now }
+        ensures { self.new ≡ merged self.old src.now }
+    {
+        join_folds(
+            &mut self.registers,
+            self.lg_config_k,
+            &Lent::new(src_lg_k, src),
+        );
+        self.rebuild_estimator_from_registers();
+    }
+
+    /// The same with the registers of any source whose `lg_k` is at least that of these.
+    pub(crate) fn merge_folds<R: Registers>(&mut self, src: &R)
+        requires { self.old.lg_k ≤ (R.stored src.now).lg_k }
+        ensures { self.new ≡ merged self.old (R.stored src.now).registers }
+    {
+        join_folds(&mut self.registers, self.lg_config_k, src);
+        self.rebuild_estimator_from_registers();
+    }
+
+    /// Sets one register. The state stays. Takes no memory.
+    ///
+    /// `slot` is below 2^`lg_k`, and `value` at most 63.
+    pub fn set_register(&mut self, slot: usize, value: u8)
+        requires slot { slot < 2 ^ self.old.lg_k }
+        requires value { value ≤ 63 }
+        ensures { self.new ≡ record self.old { registers = slice_set self.old.registers slot value } }
+    {
+        self.registers[slot] = value;
+    }
+
+    /// Clears the state. The registers stay. Takes no memory.
+    pub fn rebuild_estimator_from_registers(&mut self)
+        ensures { self.new ≡ record self.old { state = cleared } }
+    {
         self.state = EstimateState::CLEARED;
+    }
+
+    /// How many bytes the registers take: 2^`lg_k`. Takes no memory.
+    pub fn estimated_size(&self) -> usize
+        ensures { result ≡ size_in_registers self.now.lg_k Hll8 self.now.registers }
+    {
+        self.registers.len()
     }
 
     /// Whether all registers are 0. Looks at each until one is not; takes no memory.
@@ -179,6 +237,13 @@ impl<A: Allocator> Array8<A> {
 }
 
 impl<A: Allocator + Clone> Array8<A> {
+    /// A second owner of the memory's source.
+    pub(crate) fn allocator(&self) -> Result<A, Error>
+        ensures err { IfErr result (λ e. e ≡ Memory) }
+    {
+        Ok(self.registers.allocator().clone()?)
+    }
+
     /// The same registers and state over again.
     ///
     /// Refused with the reason `Memory`.
@@ -215,6 +280,75 @@ impl<A: Allocator + Clone> Array8<A> {
     }
 }
 
+impl<A: Allocator> Registers for Array8<A> {
+    ghost stored = { λ a. a };
+
+    fn lg_k(&self) -> u8 {
+        Array8::lg_k(self)
+    }
+
+    fn num_registers(&self) -> usize {
+        Array8::num_registers(self)
+    }
+
+    fn get(&self, slot: u32) -> u8 {
+        Array8::get(self, slot)
+    }
+
+    fn estimate_state(&self) -> EstimateState {
+        Array8::estimate_state(self)
+    }
+
+    /// One pass over both.
+    fn join_into(&self, first: u32, values: &mut [u8]) {
+        raise_from(values, &self.registers, first as usize);
+    }
+}
+
+impl<A: Allocator + Clone> RegisterStore<A> for Array8<A> {
+    ghost use Rattle.std.specs.Prelude.{true, []};
+    ghost use Rattle.hll_coupons.specs.declared.hll_type.HllType.TheVariants.{Hll8};
+    ghost use Rattle.hll_arrays.specs.Same.{same_stored-from, same_stored-to};
+
+    const WIDTH: HllType = HllType::Hll8;
+
+    ghost WIDTH = { Hll8 };
+
+    const NEVER_REFUSES: bool = true;
+
+    ghost NEVER_REFUSES = { true };
+
+    ghost order = { λ _. [] };
+
+    fn make(alloc: A, lg_k: u8) -> Result<Array8<A>, Error> {
+        Array8::new(alloc, lg_k)
+    }
+
+    fn put_coupon(&mut self, coupon: Coupon) -> Result<(), Error> {
+        self.update(coupon);
+        Ok(())
+    }
+
+    fn restore(&mut self, state: EstimateState) {
+        self.restore_estimate_state(state);
+    }
+
+    fn write_image(&self) -> Result<Vec<u8, A>, Error> {
+        self.serialize(self.lg_config_k)
+    }
+
+    /// One copy.
+    fn from_values(alloc: A, lg_k: u8, values: &[u8]) -> Result<Array8<A>, Error> {
+        Ok(Array8 {
+            lg_config_k: lg_k,
+            registers: Vec::from_slice(alloc, values)?,
+            state: EstimateState::CLEARED,
+        })
+    }
+
+    ghost equal = { λ x y. (same_stored-from x y, same_stored-to x y) };
+}
+
 /// Equal where `lg_k`, registers and state are. Takes no memory.
 impl<A: Allocator> PartialEq for Array8<A> {
     ghost use Rattle.hll_arrays.specs.Same.{same_stored, same_stored-partial};
@@ -236,22 +370,12 @@ impl<A: Allocator> Eq for Array8<A> {
     ghost laws = { same_stored-equivalence };
 }
 
-/// How many registers an `lg_k` stands for.
-fn registers_of(lg_k: u8) -> usize
+/// 2^`lg_k`: how many registers an `lg_k` stands for, or how many blocks the difference of two.
+pub(crate) fn registers_of(lg_k: u8) -> usize
     requires { lg_k ≤ 21 }
     ensures { result ≡ 2 ^ lg_k }
 {
     1 << lg_k
-}
-
-/// Raises each byte to the greater of both.
-fn raise_each(bytes: &mut [u8], others: &[u8])
-    requires { length bytes.old ≡ length others.now }
-    ensures { bytes.new ≡ join bytes.old others.now }
-{
-    for place in 0..bytes.len() {
-        bytes[place] = bytes[place].max(others[place]);
-    }
 }
 
 /// Whether no byte is above the greatest value of a register.

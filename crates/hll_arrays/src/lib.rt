@@ -1,9 +1,18 @@
-//! Registers: their packed forms and the laws that each way to keep them owes.
+//! Registers: the ways to keep them behind traits with laws, their merges and conversions, and their packed forms.
 #![tactic(auto)]
 
 pub mod array8;
+pub mod convert;
 pub mod estimate_state;
 pub mod laws;
+mod lent;
+pub mod merge;
 mod numbers;
+pub mod register_store;
+pub mod registers;
+#[cfg(test)]
+mod store_tests;
 #[cfg(test)]
 mod tests;
+#[cfg(test)]
+mod wide;

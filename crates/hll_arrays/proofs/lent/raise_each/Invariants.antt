@@ -1,6 +1,6 @@
 use Rattle.std.proofs.Common.{◌≡◌, ℕ, ◌<◌, ◌≤◌, length, get_or}
 use Rattle.std.specs.Prelude.{max}
-use Rattle.hll_arrays.proofs.array8.raise_each.Given as goal
+use Rattle.hll_arrays.proofs.lent.raise_each.Given as goal
 
 -- the bytes before the place are raised, and the others are as they were
 abbrev pub invariant-loop-place : goal.invariant-loop-place

@@ -1,0 +1,20 @@
+//! Conversions of registers to another width (docs/MODEL.md, "Merges and conversions").
+ghost use Rattle.std.specs.Prelude.{◌≡◌, IfOk, IfErr};
+ghost use Rattle.hll_base.specs.declared.error.Reason.TheVariants.{Memory};
+
+use crate::array8::Array8;
+use crate::register_store::RegisterStore;
+use hll_base::error::Error;
+use std::alloc::Allocator;
+
+/// The same registers and state, kept another way.
+///
+/// Takes what memory the target takes, from the source's allocator. Refused with the reason `Memory`.
+pub fn convert<S: RegisterStore<A>, A: Allocator + Clone>(src: &Array8<A>) -> Result<S, Error>
+    ensures ok { IfOk result (λ s. S.stored s ≡ src.now) }
+    ensures err { IfErr result (λ e. e ≡ Memory) }
+{
+    let mut made = S::from_values(src.allocator()?, src.lg_k(), src.values())?;
+    made.restore(src.estimate_state());
+    Ok(made)
+}
