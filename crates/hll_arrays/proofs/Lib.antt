@@ -7,4 +7,5 @@ pub mod Payloads
 pub mod Raising
 pub mod ReadingRegisters
 pub mod States
+pub mod Tail
 pub mod Written

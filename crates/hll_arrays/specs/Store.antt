@@ -1,12 +1,14 @@
 -- What each way to keep registers owes (docs/MODEL.md, "Laws of a store").
-use Rattle.std.specs.Prelude.{◌≡◌, ℕ, ◌^◌, ◌≤◌, List, [], ◌∷◌, length, All, replicate}
+use Rattle.std.specs.Prelude.{◌≡◌, ℕ, ◌^◌, ◌≤◌, List, [], ◌∷◌, ◌++◌, length, All, replicate}
 use Rattle.hll_coupons.specs.Pair.{Pairs, set_of}
+use Rattle.hll_coupons.specs.Coupons.{coupon_bytes}
 use Rattle.hll_coupons.specs.Fold.{fold_to, join, pairs}
 use Rattle.hll_coupons.specs.declared.hll_type.HllType.{HllType}
 use Rattle.hll_coupons.specs.declared.hll_type.HllType.TheVariants.{Hll4, Hll6, Hll8}
 use Rattle.hll_arrays.specs.declared.estimate_state.EstimateState.{EstimateState}
 use Rattle.hll_arrays.specs.State.{cleared, state_after}
 use Rattle.hll_arrays.specs.Packed.{nibble_bytes, field_bytes}
+use Rattle.hll_arrays.specs.Payload.{WritesRegisters}
 
 -- registers with their estimate state
 pub record Stored : Type 0 where
@@ -48,3 +50,10 @@ abbrev pub packed_bytes : HllType → List ℕ → List ℕ
 packed_bytes Hll4 R = nibble_bytes R
 packed_bytes Hll6 R = field_bytes R
 packed_bytes Hll8 R = R
+
+-- ---- laws
+
+-- what is written ends in the packed bytes, a function of width and registers alone, and the exceptions in their order
+abbrev pub PackedIsWritten : Type 0
+PackedIsWritten = (bytes : List ℕ) (k : ℕ) (w : HllType) (R : List ℕ) (state : EstimateState) (order : List ℕ) →
+    WritesRegisters bytes k w R state order → (front : List ℕ) × (bytes ≡ front ++ (packed_bytes w R ++ coupon_bytes order))

@@ -2,6 +2,7 @@
 //! (docs/MODEL.md, "Packed forms").
 ghost use Rattle.hll_arrays.specs.Packed.{NibblesReadBack, FieldsReadBack};
 ghost use Rattle.hll_arrays.specs.Payload.{ExceptionsReadBack};
+ghost use Rattle.hll_arrays.specs.Store.{PackedIsWritten};
 
 /// Each nibble is read back from its byte.
 pub fn nibbles_read_back()
@@ -16,4 +17,9 @@ pub fn fields_read_back()
 /// Nibbles and exceptions give each register back, whatever the order of the exceptions.
 pub fn exceptions_read_back()
     ensures { ExceptionsReadBack }
+{}
+
+/// What is written ends in the packed bytes, a function of width and registers alone, and the exceptions in their order.
+pub fn packed_is_written()
+    ensures { PackedIsWritten }
 {}

@@ -2,6 +2,7 @@
 #![tactic(auto)]
 
 pub mod array8;
+pub mod aux_format;
 pub mod convert;
 pub mod estimate_state;
 pub mod laws;

@@ -1,10 +1,17 @@
 //! What the measurements of bench/rust call: exports over the public calls of the crates below (docs/ARCHITECTURE.md,
 //! "Measurements").
 #![tactic(auto)]
-ghost use Rattle.std.specs.Prelude.{◌≡◌};
+ghost use Rattle.std.specs.Prelude.{◌≡◌, ◌≤◌};
 ghost use Rattle.hll_base.specs.Hash.{hash, default_seed};
 
+mod registers;
+
+use hll_base::error::Error;
 use hll_base::hash::MurmurHash3X64128;
+use std::alloc::Global;
+
+/// What an export gives where memory was refused.
+const REFUSED: u64 = u64::MAX;
 
 /// The first word of the hash of bytes at the default seed.
 #[unsafe(no_mangle)]
@@ -14,4 +21,52 @@ pub extern "C" fn hll_bench_hash(bytes: &[u8]) -> u64
     let mut hash = MurmurHash3X64128::default();
     hash.write(bytes);
     hash.finish128().0
+}
+
+/// So many merges of registers of eight bits.
+#[unsafe(no_mangle)]
+pub extern "C" fn hll_bench_merge_8(alloc: Global, lg_k: u8, rounds: u32) -> u64
+    requires { (4 ≤ lg_k) × (lg_k ≤ 21) }
+{
+    registers::merge_8(alloc, lg_k, rounds).unwrap_or(REFUSED)
+}
+
+/// So many merges of registers of six bits into registers of eight.
+#[unsafe(no_mangle)]
+pub extern "C" fn hll_bench_merge_6(alloc: Global, lg_k: u8, rounds: u32) -> u64
+    requires { (4 ≤ lg_k) × (lg_k ≤ 21) }
+{
+    registers::merge_6(alloc, lg_k, rounds).unwrap_or(REFUSED)
+}
+
+/// So many merges of registers of eight bits into half as many.
+#[unsafe(no_mangle)]
+pub extern "C" fn hll_bench_downsample(alloc: Global, lg_k: u8, rounds: u32) -> u64
+    requires { (4 ≤ lg_k) × (lg_k ≤ 20) }
+{
+    registers::downsample(alloc, lg_k, rounds).unwrap_or(REFUSED)
+}
+
+/// So many conversions of registers of eight bits to six.
+#[unsafe(no_mangle)]
+pub extern "C" fn hll_bench_convert_6(alloc: Global, lg_k: u8, rounds: u32) -> u64
+    requires { (4 ≤ lg_k) × (lg_k ≤ 21) }
+{
+    registers::convert_6(alloc, lg_k, rounds).unwrap_or(REFUSED)
+}
+
+/// So many updates of registers of eight bits.
+#[unsafe(no_mangle)]
+pub extern "C" fn hll_bench_update_8(alloc: Global, lg_k: u8, rounds: u32) -> u64
+    requires { (4 ≤ lg_k) × (lg_k ≤ 21) }
+{
+    registers::update_8(alloc, lg_k, rounds).unwrap_or(REFUSED)
+}
+
+/// So many updates of registers of six bits.
+#[unsafe(no_mangle)]
+pub extern "C" fn hll_bench_update_6(alloc: Global, lg_k: u8, rounds: u32) -> u64
+    requires { (4 ≤ lg_k) × (lg_k ≤ 21) }
+{
+    registers::update_6(alloc, lg_k, rounds).unwrap_or(REFUSED)
 }

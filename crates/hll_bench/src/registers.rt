@@ -1,0 +1,109 @@
+//! Work on registers: each function makes its own, does the work so many times, and gives the sum of weights, cut to 64
+//! bits, of what comes out.
+ghost use Rattle.std.specs.Prelude.{◌≡◌, ◌≤◌, IfOk};
+
+use hll_arrays::array6::Array6;
+use hll_arrays::array8::Array8;
+use hll_arrays::convert::convert;
+use hll_arrays::merge::merge_from;
+use hll_base::error::Error;
+use hll_coupons::coupon::Coupon;
+use std::alloc::Global;
+
+/// The coupon behind a word, and the next word.
+fn next(word: u64) -> (Coupon, u64) {
+    let word = word.wrapping_mul(0xd134_2543_de82_ef95);
+    let coupon = Coupon::from_words(word >> 32, word);
+    (coupon, word)
+}
+
+/// Registers of four coupons for each.
+fn filled(alloc: Global, lg_k: u8) -> Result<Array8, Error>
+    requires { (4 ≤ lg_k) × (lg_k ≤ 21) }
+    ensures { IfOk result (λ a. a.lg_k ≡ lg_k) }
+{
+    let mut array = Array8::new(alloc, lg_k)?;
+    let mut word = 1;
+    for _ in 0..4 * array.num_registers() {
+        let (coupon, after) = next(word);
+        array.update(coupon);
+        word = after;
+    }
+    Ok(array)
+}
+
+/// The last 64 bits of the sum of weights.
+fn check(array: &Array8) -> u64 {
+    array.kxq_units() as u64
+}
+
+pub(crate) fn merge_8(alloc: Global, lg_k: u8, rounds: u32) -> Result<u64, Error>
+    requires { (4 ≤ lg_k) × (lg_k ≤ 21) }
+{
+    let source = filled(alloc, lg_k)?;
+    let mut array = Array8::new(alloc, lg_k)?;
+    for _ in 0..rounds {
+        merge_from(&mut array, &source);
+    }
+    Ok(check(&array))
+}
+
+pub(crate) fn merge_6(alloc: Global, lg_k: u8, rounds: u32) -> Result<u64, Error>
+    requires { (4 ≤ lg_k) × (lg_k ≤ 21) }
+{
+    let source: Array6 = convert(&filled(alloc, lg_k)?)?;
+    let mut array = Array8::new(alloc, lg_k)?;
+    for _ in 0..rounds {
+        merge_from(&mut array, &source);
+    }
+    Ok(check(&array))
+}
+
+pub(crate) fn downsample(alloc: Global, lg_k: u8, rounds: u32) -> Result<u64, Error>
+    requires { (4 ≤ lg_k) × (lg_k ≤ 20) }
+{
+    let source = filled(alloc, lg_k + 1)?;
+    let mut array = Array8::new(alloc, lg_k)?;
+    for _ in 0..rounds {
+        array.merge_array_with_downsample(source.values(), lg_k + 1);
+    }
+    Ok(check(&array))
+}
+
+pub(crate) fn convert_6(alloc: Global, lg_k: u8, rounds: u32) -> Result<u64, Error>
+    requires { (4 ≤ lg_k) × (lg_k ≤ 21) }
+{
+    let source = filled(alloc, lg_k)?;
+    let mut sum = 0;
+    for _ in 0..rounds {
+        let made: Array6 = convert(&source)?;
+        sum += u64::from(made.get(rounds % 16));
+    }
+    Ok(sum)
+}
+
+pub(crate) fn update_8(alloc: Global, lg_k: u8, rounds: u32) -> Result<u64, Error>
+    requires { (4 ≤ lg_k) × (lg_k ≤ 21) }
+{
+    let mut array = Array8::new(alloc, lg_k)?;
+    let mut word = 1;
+    for _ in 0..rounds {
+        let (coupon, after) = next(word);
+        array.update(coupon);
+        word = after;
+    }
+    Ok(check(&array))
+}
+
+pub(crate) fn update_6(alloc: Global, lg_k: u8, rounds: u32) -> Result<u64, Error>
+    requires { (4 ≤ lg_k) × (lg_k ≤ 21) }
+{
+    let mut array = Array6::new(alloc, lg_k)?;
+    let mut word = 1;
+    for _ in 0..rounds {
+        let (coupon, after) = next(word);
+        array.update(coupon);
+        word = after;
+    }
+    Ok(array.kxq_units() as u64)
+}
