@@ -2,6 +2,7 @@ pub mod Entries
 pub mod Exceptions
 pub mod Filling
 pub mod Folding
+pub mod Grouping
 pub mod Packing
 pub mod Payloads
 pub mod Raising

@@ -1,3 +1,4 @@
+pub mod Groups
 pub mod Packed
 pub mod Payload
 pub mod Same

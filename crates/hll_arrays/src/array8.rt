@@ -3,7 +3,7 @@ ghost use Rattle.std.specs.Prelude.{◌≡◌, ℕ, ◌+◌, ◌^◌, ◌<◌, �
 ghost use Rattle.std.specs.List.{list_all};
 ghost use Rattle.hll_base.specs.declared.error.Reason.TheVariants.{Memory};
 ghost use Rattle.hll_coupons.specs.Fold.{join};
-ghost use Rattle.hll_arrays.specs.Packed.{zeros, size_in_registers};
+ghost use Rattle.hll_arrays.specs.Packed.{zeros, units, size_in_registers};
 ghost use Rattle.hll_arrays.specs.Payload.{state_at, IsHll8Payload, Hll8Fault, hll8_bytes};
 ghost use Rattle.hll_arrays.specs.State.{cleared};
 ghost use Rattle.hll_coupons.specs.declared.hll_type.HllType.TheVariants.{Hll8};
@@ -15,6 +15,7 @@ use crate::merge::join_folds;
 use crate::numbers::Numbers;
 use crate::register_store::RegisterStore;
 use crate::registers::Registers;
+use crate::weights::{units_of, zeros_of};
 use hll_base::codec::SketchBytes;
 use hll_base::cursor::SketchSlice;
 use hll_base::error::{Error, Reason};
@@ -218,7 +219,15 @@ impl<A: Allocator> Array8<A> {
     pub fn num_zeros(&self) -> u32
         ensures { result ≡ zeros self.now.registers }
     {
-        count_zeros(&self.registers) as u32
+        zeros_of(&self.registers) as u32
+    }
+
+    /// The sum of 2^-v over the registers v, in units of 2^-63. Looks at each; takes no memory.
+    pub fn kxq_units(&self) -> u128
+        ensures units { result ≡ units self.now.registers }
+        ensures bound { result ≤ 2 ^ 84 }
+    {
+        units_of(&self.registers)
     }
 
     /// The estimate state. Takes no memory.
@@ -383,12 +392,4 @@ fn are_registers(bytes: &[u8]) -> bool
     ensures { result ≡ list_all (λ v. nat_le v 63) bytes.now }
 {
     bytes.iter().all(|v| *v <= MAX_VALUE)
-}
-
-/// How many bytes are 0.
-fn count_zeros(bytes: &[u8]) -> usize
-    ensures count { result ≡ zeros bytes.now }
-    ensures bound { result ≤ length bytes.now }
-{
-    bytes.iter().filter(|v| **v == 0).count()
 }

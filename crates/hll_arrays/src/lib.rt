@@ -1,10 +1,14 @@
 //! Registers: the ways to keep them behind traits with laws, their merges and conversions, and their packed forms.
 #![tactic(auto)]
 
+pub mod array6;
+#[cfg(test)]
+mod array6_tests;
 pub mod array8;
 pub mod aux_format;
 pub mod convert;
 pub mod estimate_state;
+mod groups;
 pub mod laws;
 mod lent;
 pub mod merge;
@@ -15,5 +19,6 @@ pub mod registers;
 mod store_tests;
 #[cfg(test)]
 mod tests;
+mod weights;
 #[cfg(test)]
 mod wide;

@@ -2,6 +2,7 @@
 //! beside the plain definitions.
 ghost use Rattle.std.specs.Prelude.{◌≡◌, ◌≤◌, IfOk};
 
+use crate::array6::Array6;
 use crate::array8::Array8;
 use crate::convert::convert;
 use crate::estimate_state::EstimateState;
@@ -84,7 +85,7 @@ fn a_fold(rt: HostRuntime) -> Result<(), Fail> {
     Ok(())
 }
 
-/// A merge from each size, in bytes and in a way that the crate does not know, is the fold of all coupons.
+/// A merge from each size, in bytes, in six bits and in a way that the crate does not know, is the fold of all coupons.
 #[test]
 fn folds(rt: HostRuntime) -> Result<(), Fail> {
     for (lg_k, src_lg_k) in [
@@ -105,6 +106,11 @@ fn folds(rt: HostRuntime) -> Result<(), Fail> {
         let mut array = array_of(rt.alloc(), lg_k, left)?;
         assert!(rt; array.lg_k() <= source.lg_k());
         merge_from(&mut array, &source);
+        assert_eq!(rt; array.values(), fold.as_slice());
+        let six: Array6<_> = convert(&source)?;
+        let mut array = array_of(rt.alloc(), lg_k, left)?;
+        assert!(rt; array.lg_k() <= six.lg_k());
+        merge_from(&mut array, &six);
         assert_eq!(rt; array.values(), fold.as_slice());
         let wide: Wide<_> = convert(&source)?;
         let mut array = array_of(rt.alloc(), lg_k, left)?;
@@ -186,6 +192,30 @@ fn conversions(rt: HostRuntime) -> Result<(), Fail> {
     Ok(())
 }
 
+/// The registers 63, 42, 51 at the slots 1, 2, 3, converted to six bits and back, are those that updates give.
+#[test]
+fn six_bits(rt: HostRuntime) -> Result<(), Fail> {
+    let mut array = Array8::new(rt.alloc(), 4)?;
+    let mut updated = Array6::new(rt.alloc(), 4)?;
+    for (slot, value) in [(1u32, 63u8), (2, 42), (3, 51)] {
+        assert!(rt; value < 64);
+        array.update(Coupon::pack(slot, value));
+        updated.update(Coupon::pack(slot, value));
+    }
+    array.restore_estimate_state(READ);
+    let six: Array6<_> = convert(&array)?;
+    assert!(rt; six != updated);
+    updated.restore_estimate_state(READ);
+    assert!(rt; six == updated);
+    assert_eq!(rt; six.kxq_units(), array.kxq_units());
+    let mut back = Array8::new(rt.alloc(), 4)?;
+    assert!(rt; back.lg_k() <= six.lg_k());
+    merge_from(&mut back, &six);
+    back.restore_estimate_state(six.estimate_state());
+    assert!(rt; back == array);
+    Ok(())
+}
+
 /// The calls of a store, whatever it is.
 fn by_laws<S: RegisterStore<A>, A: Allocator>(alloc: A) -> Result<(S, u8, bool), Error> {
     let mut store = S::make(alloc, 4)?;
@@ -210,6 +240,10 @@ fn stores(rt: HostRuntime) -> Result<(), Fail> {
     let (wide, register, states) = by_laws::<Wide<_>, _>(rt.alloc())?;
     assert_eq!(rt; register, 9);
     assert!(rt; states);
+    let (six, register, states) = by_laws::<Array6<_>, _>(rt.alloc())?;
+    assert_eq!(rt; register, 9);
+    assert!(rt; states);
+    assert_eq!(rt; six.estimated_size(), 13);
     let (ours, theirs) = (array.write_image()?, wide.write_image()?);
     assert_eq!(rt; ours.as_slice(), theirs.as_slice());
     assert_eq!(rt; array.estimated_size(), 16);

@@ -88,6 +88,15 @@ fn new_registers(rt: HostRuntime) -> Result<(), Fail> {
     Ok(())
 }
 
+/// The sum of weights of zeros at `lg_k` 4 and 21, and of the values 1 to 8 beside eight zeros.
+#[test]
+fn weights(rt: HostRuntime) -> Result<(), Fail> {
+    assert_eq!(rt; Array8::new(rt.alloc(), 4)?.kxq_units(), 1u128 << 67);
+    assert_eq!(rt; Array8::new(rt.alloc(), 21)?.kxq_units(), 1u128 << 84);
+    assert_eq!(rt; eight_in(rt.alloc())?.kxq_units(), 82974319534674018304);
+    Ok(())
+}
+
 /// Coupons that come in turn at `lg_k` 4, each with the slot of its register, what stands there afterwards and
 /// whether that is new. The state goes where a register changed, and no other register does.
 #[test]

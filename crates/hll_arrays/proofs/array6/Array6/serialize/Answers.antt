@@ -1,0 +1,26 @@
+use Rattle.std.proofs.Common.{◌≡◌, ℕ, List, [], ◌∷◌, ◌++◌, sym, ap, subst, ◌∙◌, append_assoc}
+use Rattle.std.specs.List.{flat_map}
+use Rattle.hll_arrays.specs.Groups.{registers_in}
+use Rattle.hll_arrays.specs.Packed.{zeros}
+use Rattle.hll_arrays.specs.Payload.{number_bytes, hll6_bytes, flag_of}
+use Rattle.hll_arrays.specs.Store.{Stored}
+use Rattle.hll_arrays.specs.declared.estimate_state.EstimateState.{EstimateState}
+use Rattle.hll_arrays.proofs.Grouping.{field_bytes-registers_in}
+use Rattle.hll_arrays.proofs.array6.Array6.serialize.Goals as goal
+
+pub returns-clause-ok : goal.returns-clause-ok
+returns-clause-ok g c =
+    let k : ℕ = c.args.lg_config_k in
+    let G : List (List ℕ) = c.self.inside.groups.items in
+    let state : EstimateState = c.self.inside.state in
+    let header : List ℕ = 10 ∷ 1 ∷ 7 ∷ k ∷ 0 ∷ flag_of state ∷ 0 ∷ 6 ∷ [] in
+    let count : c.num_zeros.result ≡ zeros (registers_in G) = c.num_zeros.ensures ∙ ap (λ (x : Stored). zeros x.registers) (sym c.self.view_is) in
+    let N : List ℕ = number_bytes state (zeros (registers_in G)) 0 in
+    let B : List ℕ = flat_map (λ x. x) G in
+    let first : c.write_header.new.bytes ≡ header = c.in_ok-write_header.ensures.ok ∙ ap (λ b. b ++ header) c.in_ok-bytes.ensures.ok in
+    let second : c.write.new.bytes ≡ header ++ N = c.in_ok-write.ensures.ok ∙ (λ i. first i ++ number_bytes state (count i) 0) in
+    let third : c.write-2.new.self ≡ (header ++ N) ++ B = c.in_ok-write-2.ensures.ok ∙ (λ i. second i ++ (c.as_flattened.ensures.value ∙ ap (flat_map (λ x. x)) c.deref.ensures.value) i) in
+    let all : c.into_bytes.result.items ≡ ((header ++ N) ++ B) ++ 0 ∷ [] = c.into_bytes.ensures ∙ c.in_ok-write-3.ensures.ok ∙ ap (λ b. b ++ 0 ∷ []) third in
+    let parts : ((header ++ N) ++ B) ++ 0 ∷ [] ≡ header ++ (N ++ (B ++ 0 ∷ [])) = append_assoc (header ++ N) B (0 ∷ []) ∙ append_assoc header N (B ++ 0 ∷ []) in
+    subst (λ (x : Stored). c.into_bytes.result.items ≡ hll6_bytes k x.registers x.state) c.self.view_is
+    (all ∙ parts ∙ ap (λ r. header ++ (N ++ r)) (field_bytes-registers_in G c.self.invariant.2.bytes))

@@ -1,0 +1,9 @@
+use Rattle.std.proofs.Common.{◌%◌, [], ap, ◌∙◌}
+use Rattle.std.proofs.Math.ListN.{set}
+use Rattle.hll_arrays.proofs.Grouping.{registers_in-set}
+use Rattle.hll_arrays.proofs.groups.put_register.Goals as goal
+
+pub returns-clause-registers : goal.returns-clause-registers
+returns-clause-registers c =
+    registers_in-set c.args.groups.now c.args.slot c.args.value c.pack_group.result [] c.requires.within
+    (c.pack_group.ensures.fields ∙ ap (λ R. set R (c.args.slot % 4) c.args.value) c.unpack_group-registers.ensures.fields)

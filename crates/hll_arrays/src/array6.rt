@@ -1,0 +1,282 @@
+//! Registers of six bits: four of them in three bytes.
+ghost use Rattle.std.specs.Prelude.{◌≡◌, ℕ, ◌^◌, ◌-◌, ◌<◌, ◌≤◌, ◌==◌, length, slice_index, IfOk, IfErr};
+ghost use Rattle.std.specs.List.{list_all};
+ghost use Rattle.hll_base.specs.declared.error.Reason.TheVariants.{Memory};
+ghost use Rattle.hll_coupons.specs.declared.hll_type.HllType.TheVariants.{Hll6};
+ghost use Rattle.hll_arrays.specs.Packed.{zeros, units, size_in_registers};
+ghost use Rattle.hll_arrays.specs.Payload.{hll6_bytes};
+ghost use Rattle.hll_arrays.specs.Store.{zeroed, raised_by_coupon, AreRegisters, IsStored};
+
+use crate::estimate_state::EstimateState;
+use crate::groups::{
+    are_zeros, count_zeros, groups_in, put_register, raise_each, register_at, units_in,
+};
+use crate::numbers::Numbers;
+use crate::register_store::RegisterStore;
+use crate::registers::Registers;
+use hll_base::codec::SketchBytes;
+use hll_base::error::Error;
+use hll_coupons::coupon::Coupon;
+use hll_coupons::hll_type::HllType;
+use hll_coupons::serialization::HLL_PREAMBLE_SIZE;
+use std::alloc::{Allocator, Global};
+use std::marker::Model;
+
+/// 2^`lg_k` registers of 0 to 63, four of them in three bytes, and their estimate state. Contracts see these: the
+/// registers as a list, by slot.
+#[derive_where(Debug)]
+#[derive(Drop)]
+pub struct Array6<A: Allocator = Global> {
+    lg_config_k: u8,
+    groups: Vec<[u8; 3], A>,
+    state: EstimateState,
+}
+
+impl<A: Allocator> Model for Array6<A> {
+    ghost use Rattle.std.specs.Prelude.{◌≤◌};
+    ghost use Rattle.hll_arrays.specs.Groups.{registers_in, AreGroups};
+    ghost use Rattle.hll_arrays.specs.Store.{Stored};
+
+    ghost Value = { Stored };
+
+    ghost view = { λ a. record { lg_k = a.lg_config_k; registers = registers_in a.groups.items; state = a.state } };
+
+    ghost invariant = { λ a. (4 ≤ a.lg_config_k) × (a.lg_config_k ≤ 21) × AreGroups a.lg_config_k a.groups.items };
+}
+
+impl<A: Allocator> Array6<A> {
+    /// 2^`lg_config_k` registers of 0, with the cleared state.
+    ///
+    /// `lg_config_k` is 4 to 21. Refused with the reason `Memory`.
+    pub fn new(alloc: A, lg_config_k: u8) -> Result<Array6<A>, Error>
+        requires least { 4 ≤ lg_config_k }
+        requires most { lg_config_k ≤ 21 }
+        ensures ok { IfOk result (λ a. a ≡ zeroed lg_config_k) }
+        ensures err { IfErr result (λ e. e ≡ Memory) }
+    {
+        Ok(Array6 {
+            lg_config_k,
+            groups: vec![in alloc; [0; 3]; 1 << (lg_config_k - 2)]?,
+            state: EstimateState::CLEARED,
+        })
+    }
+
+    /// The `lg_k`, 4 to 21. Takes no memory.
+    pub fn lg_k(&self) -> u8
+        ensures lg_k { result ≡ self.now.lg_k }
+        ensures legal { IsStored self.now }
+    {
+        self.lg_config_k
+    }
+
+    /// How many registers there are: 2^`lg_k`. Takes no memory.
+    pub fn num_registers(&self) -> usize
+        ensures { result ≡ 2 ^ self.now.lg_k }
+    {
+        registers_of(self.lg_config_k)
+    }
+
+    /// The register of a slot below 2^`lg_k`. Takes no memory.
+    pub fn get(&self, slot: u32) -> u8
+        requires { slot < 2 ^ self.now.lg_k }
+        ensures { result ≡ slice_index self.now.registers slot }
+    {
+        register_at(&self.groups, slot as usize)
+    }
+
+    /// Raises the register at the coupon's slot modulo 2^`lg_k` to the coupon's value, if that is greater:
+    /// then the state is cleared. Takes no memory.
+    pub fn update(&mut self, coupon: Coupon)
+        ensures { self.new ≡ raised_by_coupon self.old coupon }
+    {
+        let slot = coupon.slot() as usize % registers_of(self.lg_config_k);
+        if register_at(&self.groups, slot) < coupon.value() {
+            put_register(&mut self.groups, slot, coupon.value());
+            self.state = EstimateState::CLEARED;
+        }
+    }
+
+    /// Whether all registers are 0. Looks at each until one is not; takes no memory.
+    pub fn is_empty(&self) -> bool
+        ensures empty { result ≡ list_all (λ v. v == 0) self.now.registers }
+        ensures registers { AreRegisters self.now.lg_k self.now.registers }
+    {
+        are_zeros(&self.groups)
+    }
+
+    /// How many registers are 0. Looks at each; takes no memory.
+    pub fn num_zeros(&self) -> u32
+        ensures { result ≡ zeros self.now.registers }
+    {
+        count_zeros(&self.groups) as u32
+    }
+
+    /// The sum of 2^-v over the registers v, in units of 2^-63. Looks at each; takes no memory.
+    pub fn kxq_units(&self) -> u128
+        ensures units { result ≡ units self.now.registers }
+        ensures bound { result ≤ 2 ^ 84 }
+    {
+        units_in(&self.groups)
+    }
+
+    /// The estimate state. Takes no memory.
+    pub fn estimate_state(&self) -> EstimateState
+        ensures { result ≡ self.now.state }
+    {
+        self.state
+    }
+
+    /// Sets the estimate state. The registers stay. Takes no memory.
+    pub fn restore_estimate_state(&mut self, state: EstimateState)
+        ensures { self.new ≡ record self.old { state = state } }
+    {
+        self.state = state;
+    }
+
+    /// How many bytes the registers take in an image. Takes no memory.
+    pub fn estimated_size(&self) -> usize
+        ensures { result ≡ size_in_registers self.now.lg_k Hll6 self.now.registers }
+    {
+        3 * registers_of(self.lg_config_k) / 4 + 1
+    }
+}
+
+impl<A: Allocator + Clone> Array6<A> {
+    /// The same registers and state over again.
+    ///
+    /// Refused with the reason `Memory`.
+    pub fn clone(&self) -> Result<Array6<A>, Error>
+        ensures ok { IfOk result (λ a. a ≡ self.now) }
+        ensures err { IfErr result (λ e. e ≡ Memory) }
+    {
+        Ok(Array6 {
+            lg_config_k: self.lg_config_k,
+            groups: Vec::from_slice(self.groups.allocator().clone()?, &self.groups)?,
+            state: self.state,
+        })
+    }
+
+    /// The image (docs/FORMAT.md, "What is written"): 40 bytes, three for each four registers and a zero byte,
+    /// taken in one request.
+    ///
+    /// `lg_config_k` is that of the registers. Refused with the reason `Memory`.
+    pub fn serialize(&self, lg_config_k: u8) -> Result<Vec<u8, A>, Error>
+        requires { lg_config_k ≡ self.now.lg_k }
+        ensures ok { IfOk result (λ image. image.items ≡ hll6_bytes lg_config_k self.now.registers self.now.state) }
+        ensures err { IfErr result (λ e. e ≡ Memory) }
+    {
+        let numbers = Numbers {
+            state: self.state,
+            low_count: self.num_zeros(),
+            exception_count: 0,
+        };
+        let needed = HLL_PREAMBLE_SIZE + self.estimated_size();
+        let mut bytes = SketchBytes::with_capacity(self.groups.allocator().clone()?, needed)?;
+        numbers.write_header(&mut bytes, lg_config_k, HllType::Hll6)?;
+        numbers.write(&mut bytes)?;
+        bytes.write(self.groups.as_flattened())?;
+        bytes.write(&[0])?;
+        Ok(bytes.into_bytes())
+    }
+}
+
+impl<A: Allocator> Registers for Array6<A> {
+    ghost stored = { λ a. a };
+
+    fn lg_k(&self) -> u8 {
+        Array6::lg_k(self)
+    }
+
+    fn num_registers(&self) -> usize {
+        Array6::num_registers(self)
+    }
+
+    fn get(&self, slot: u32) -> u8 {
+        Array6::get(self, slot)
+    }
+
+    fn estimate_state(&self) -> EstimateState {
+        Array6::estimate_state(self)
+    }
+
+    /// One pass over both, by groups.
+    fn join_into(&self, first: u32, values: &mut [u8]) {
+        let first = first as usize / 4;
+        let end = first + values.len() / 4;
+        let groups = &self.groups[first..end];
+        raise_each(values, groups);
+    }
+}
+
+impl<A: Allocator + Clone> RegisterStore<A> for Array6<A> {
+    ghost use Rattle.std.specs.Prelude.{true, []};
+    ghost use Rattle.hll_coupons.specs.declared.hll_type.HllType.TheVariants.{Hll6};
+    ghost use Rattle.hll_arrays.specs.Same.{same_stored-from, same_stored-to};
+
+    const WIDTH: HllType = HllType::Hll6;
+
+    ghost WIDTH = { Hll6 };
+
+    const NEVER_REFUSES: bool = true;
+
+    ghost NEVER_REFUSES = { true };
+
+    ghost order = { λ _. [] };
+
+    fn make(alloc: A, lg_k: u8) -> Result<Array6<A>, Error> {
+        Array6::new(alloc, lg_k)
+    }
+
+    fn put_coupon(&mut self, coupon: Coupon) -> Result<(), Error> {
+        self.update(coupon);
+        Ok(())
+    }
+
+    fn restore(&mut self, state: EstimateState) {
+        self.restore_estimate_state(state);
+    }
+
+    fn write_image(&self) -> Result<Vec<u8, A>, Error> {
+        self.serialize(self.lg_config_k)
+    }
+
+    /// One pass, by groups.
+    fn from_values(alloc: A, lg_k: u8, values: &[u8]) -> Result<Array6<A>, Error> {
+        Ok(Array6 {
+            lg_config_k: lg_k,
+            groups: groups_in(alloc, values)?,
+            state: EstimateState::CLEARED,
+        })
+    }
+
+    ghost equal = { λ x y. (same_stored-from x y, same_stored-to x y) };
+}
+
+/// Equal where `lg_k`, registers and state are. Takes no memory.
+impl<A: Allocator> PartialEq for Array6<A> {
+    ghost use Rattle.hll_arrays.specs.Same.{same_stored, same_stored-partial};
+
+    ghost eq = { same_stored };
+
+    ghost laws = { same_stored-partial };
+
+    fn eq(&self, other: &Array6<A>) -> bool {
+        self.lg_config_k == other.lg_config_k
+            && self.groups.as_slice() == other.groups.as_slice()
+            && self.state == other.state
+    }
+}
+
+impl<A: Allocator> Eq for Array6<A> {
+    ghost use Rattle.hll_arrays.specs.Same.{same_stored-equivalence};
+
+    ghost laws = { same_stored-equivalence };
+}
+
+/// How many registers an `lg_k` stands for.
+fn registers_of(lg_k: u8) -> usize
+    requires { lg_k ≤ 21 }
+    ensures { result ≡ 2 ^ lg_k }
+{
+    1 << lg_k
+}
