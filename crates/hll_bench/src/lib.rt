@@ -1,6 +1,7 @@
 //! What the measurements of bench/rust call: exports over the public calls of the crates below (docs/ARCHITECTURE.md,
 //! "Measurements").
 #![tactic(auto)]
+
 ghost use Rattle.std.specs.Prelude.{◌≡◌, ◌≤◌};
 ghost use Rattle.hll_base.specs.Hash.{hash, default_seed};
 

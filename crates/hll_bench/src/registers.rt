@@ -1,5 +1,5 @@
-//! Work on registers: each function makes its own, does the work so many times, and gives the sum of weights, cut to 64
-//! bits, of what comes out.
+//! Work on registers: each function makes its own, does the work so many times, and gives how many of those that come out
+//! are 0.
 ghost use Rattle.std.specs.Prelude.{◌≡◌, ◌≤◌, IfOk};
 
 use hll_arrays::array6::Array6;
@@ -32,11 +32,6 @@ fn filled(alloc: Global, lg_k: u8) -> Result<Array8, Error>
     Ok(array)
 }
 
-/// The last 64 bits of the sum of weights.
-fn check(array: &Array8) -> u64 {
-    array.kxq_units() as u64
-}
-
 pub(crate) fn merge_8(alloc: Global, lg_k: u8, rounds: u32) -> Result<u64, Error>
     requires { (4 ≤ lg_k) × (lg_k ≤ 21) }
 {
@@ -45,7 +40,7 @@ pub(crate) fn merge_8(alloc: Global, lg_k: u8, rounds: u32) -> Result<u64, Error
     for _ in 0..rounds {
         merge_from(&mut array, &source);
     }
-    Ok(check(&array))
+    Ok(u64::from(array.num_zeros()))
 }
 
 pub(crate) fn merge_6(alloc: Global, lg_k: u8, rounds: u32) -> Result<u64, Error>
@@ -56,7 +51,7 @@ pub(crate) fn merge_6(alloc: Global, lg_k: u8, rounds: u32) -> Result<u64, Error
     for _ in 0..rounds {
         merge_from(&mut array, &source);
     }
-    Ok(check(&array))
+    Ok(u64::from(array.num_zeros()))
 }
 
 pub(crate) fn downsample(alloc: Global, lg_k: u8, rounds: u32) -> Result<u64, Error>
@@ -67,19 +62,18 @@ pub(crate) fn downsample(alloc: Global, lg_k: u8, rounds: u32) -> Result<u64, Er
     for _ in 0..rounds {
         array.merge_array_with_downsample(source.values(), lg_k + 1);
     }
-    Ok(check(&array))
+    Ok(u64::from(array.num_zeros()))
 }
 
 pub(crate) fn convert_6(alloc: Global, lg_k: u8, rounds: u32) -> Result<u64, Error>
     requires { (4 ≤ lg_k) × (lg_k ≤ 21) }
 {
     let source = filled(alloc, lg_k)?;
-    let mut sum = 0;
+    let mut made: Array6 = Array6::new(alloc, lg_k)?;
     for _ in 0..rounds {
-        let made: Array6 = convert(&source)?;
-        sum += u64::from(made.get(rounds % 16));
+        made = convert(&source)?;
     }
-    Ok(sum)
+    Ok(u64::from(made.num_zeros()))
 }
 
 pub(crate) fn update_8(alloc: Global, lg_k: u8, rounds: u32) -> Result<u64, Error>
@@ -92,7 +86,7 @@ pub(crate) fn update_8(alloc: Global, lg_k: u8, rounds: u32) -> Result<u64, Erro
         array.update(coupon);
         word = after;
     }
-    Ok(check(&array))
+    Ok(u64::from(array.num_zeros()))
 }
 
 pub(crate) fn update_6(alloc: Global, lg_k: u8, rounds: u32) -> Result<u64, Error>
@@ -105,5 +99,5 @@ pub(crate) fn update_6(alloc: Global, lg_k: u8, rounds: u32) -> Result<u64, Erro
         array.update(coupon);
         word = after;
     }
-    Ok(array.kxq_units() as u64)
+    Ok(u64::from(array.num_zeros()))
 }
