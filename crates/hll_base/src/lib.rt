@@ -6,6 +6,7 @@ pub mod codec;
 pub mod cursor;
 pub mod error;
 pub mod family;
+mod halves;
 pub mod hash;
 #[cfg(test)]
 mod hash_tests;

@@ -1,6 +1,6 @@
 use Rattle.std.proofs.Common.{◌≡◌, take, fold}
 use Rattle.hll_base.specs.Hash.{after_block}
-use Rattle.hll_base.proofs.hash.Halves.absorb_each.Given as goal
+use Rattle.hll_base.proofs.halves.Halves.absorb_each.Given as goal
 
 -- the blocks so far are taken
 abbrev pub invariant-loop-block : goal.invariant-loop-block

@@ -2,7 +2,7 @@ use Rattle.std.proofs.Common.{◌≡◌, ap, ◌∙◌, arith}
 use Rattle.std.specs.Prelude.{bit_xor}
 use Rattle.hll_base.specs.Hash.{Halves, first_scrambled, first_word}
 use Rattle.hll_base.proofs.Hashing.{rest_first}
-use Rattle.hll_base.proofs.hash.Halves.absorb_rest.Goals as goal
+use Rattle.hll_base.proofs.halves.Halves.absorb_rest.Goals as goal
 
 pub returns-else-count-gt8 : goal.returns-else-count-gt8
 returns-else-count-gt8 c rest e is =
