@@ -9,7 +9,7 @@ use Rattle.std.proofs.Math.ListN.{set}
 use Rattle.std.proofs.Math.Nat.{pow-suc}
 use Rattle.std.proofs.Math.Pow.{pow_mono}
 use Rattle.std.proofs.lemmas.Bool.{cases_eq, eqb-true, false_from_ne_true}
-use Rattle.std.proofs.lemmas.List.{append-nil, append_assoc, length-drop, take-append-drop, take_more, take_all, drop_all}
+use Rattle.std.proofs.lemmas.List.{get_or_default, append-nil, append_assoc, length-drop, take-append-drop, take_more, take_all, drop_all}
 use Rattle.std.proofs.lemmas.List.Concat.{flat_map-append}
 use Rattle.std.proofs.lemmas.List.Elements.{All-tail, All-append, All-take, All-drop}
 use Rattle.std.proofs.lemmas.List.Folds.{list_all-append}
@@ -68,6 +68,16 @@ group_bytes-group_fields g is =
     let two : n / 256 % 256 ≡ b = omega arith in
     let last : n / 65536 ≡ c = omega arith in
     (λ i. (ap (λ v. v % 256) back ∙ one) i ∷ (ap (λ v. v / 256 % 256) back ∙ two) i ∷ (ap (λ v. v / 65536) back ∙ last) i ∷ []) ∙ sym (three g is.three)
+
+-- a list of three bytes is a group
+pub is_group : (g : List ℕ) → length g ≡ 3 → get_or g 0 0 < 256 → get_or g 1 0 < 256 → get_or g 2 0 < 256 → IsGroup g
+is_group g size a b c = record { three = size; bytes = each }
+  where
+    each : (k d : ℕ) → k < length g → get_or g k d < 256
+    each zero d h = omega (arith, a, get_or_default g 0 d 0 h)
+    each (suc zero) d h = omega (arith, b, get_or_default g 1 d 0 h)
+    each (suc (suc zero)) d h = omega (arith, c, get_or_default g 2 d 0 h)
+    each (suc (suc (suc k))) d h = absurd (omega (arith, size))
 
 small-group_fields : (g : List ℕ) → IsGroup g → All (λ v. v ≤ 63) (group_fields g)
 small-group_fields g is zero d h = omega arith

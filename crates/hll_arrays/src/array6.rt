@@ -13,7 +13,7 @@ use crate::groups::{
 };
 use crate::numbers::Numbers;
 use crate::register_store::RegisterStore;
-use crate::registers::Registers;
+use crate::registers::{Registers, registers_of};
 use hll_base::codec::SketchBytes;
 use hll_base::error::Error;
 use hll_coupons::coupon::Coupon;
@@ -271,12 +271,4 @@ impl<A: Allocator> Eq for Array6<A> {
     ghost use Rattle.hll_arrays.specs.Same.{same_stored-equivalence};
 
     ghost laws = { same_stored-equivalence };
-}
-
-/// How many registers an `lg_k` stands for.
-fn registers_of(lg_k: u8) -> usize
-    requires { lg_k ≤ 21 }
-    ensures { result ≡ 2 ^ lg_k }
-{
-    1 << lg_k
 }

@@ -14,7 +14,7 @@ use crate::lent::{Lent, raise_each, raise_from};
 use crate::merge::join_folds;
 use crate::numbers::Numbers;
 use crate::register_store::RegisterStore;
-use crate::registers::Registers;
+use crate::registers::{Registers, registers_of};
 use crate::weights::{units_of, zeros_of};
 use hll_base::codec::SketchBytes;
 use hll_base::cursor::SketchSlice;
@@ -377,14 +377,6 @@ impl<A: Allocator> Eq for Array8<A> {
     ghost use Rattle.hll_arrays.specs.Same.{same_stored-equivalence};
 
     ghost laws = { same_stored-equivalence };
-}
-
-/// 2^`lg_k`: how many registers an `lg_k` stands for, or how many blocks the difference of two.
-pub(crate) fn registers_of(lg_k: u8) -> usize
-    requires { lg_k ≤ 21 }
-    ensures { result ≡ 2 ^ lg_k }
-{
-    1 << lg_k
 }
 
 /// Whether no byte is above the greatest value of a register.

@@ -8,12 +8,13 @@ ghost use Rattle.hll_arrays.specs.Packed.{group_bytes, zeros, units};
 use crate::weights::{units_of, zeros_of};
 use std::alloc::{AllocError, Allocator};
 
-/// The greatest value of a register, and the bits of one.
+/// The bits of one register.
 const FIELD: u32 = 0x3f;
 
 /// The four registers of a group.
 pub(crate) fn unpack_group(group: [u8; 3]) -> [u8; 4]
     ensures fields { result ≡ group_fields group }
+    ensures bytes { group_bytes (slice_index result 0) (slice_index result 1) (slice_index result 2) (slice_index result 3) ≡ group }
     ensures small { All (λ v. v ≤ 63) result }
 {
     let [low, middle, high] = group;

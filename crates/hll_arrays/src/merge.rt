@@ -3,8 +3,8 @@ ghost use Rattle.std.specs.Prelude.{◌≡◌, ℕ, ◌^◌, ◌≤◌, length};
 ghost use Rattle.hll_coupons.specs.Fold.{fold_to, join, pairs};
 ghost use Rattle.hll_arrays.specs.Store.{merged, AreRegisters};
 
-use crate::array8::{Array8, registers_of};
-use crate::registers::Registers;
+use crate::array8::Array8;
+use crate::registers::{Registers, registers_of};
 use std::alloc::Allocator;
 
 /// Raises each register to the greatest of itself and the source's registers that fold to it, and clears the state.

@@ -45,3 +45,11 @@ pub trait Registers {
         }
     }
 }
+
+/// 2^`lg_k`: how many registers an `lg_k` stands for, or how many blocks the difference of two.
+pub(crate) fn registers_of(lg_k: u8) -> usize
+    requires { lg_k ≤ 21 }
+    ensures { result ≡ 2 ^ lg_k }
+{
+    1 << lg_k
+}

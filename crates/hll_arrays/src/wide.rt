@@ -3,11 +3,11 @@ ghost use Rattle.std.specs.Prelude.{◌≡◌, ◌≤◌, IfOk, IfErr};
 ghost use Rattle.hll_base.specs.declared.error.Reason.TheVariants.{Memory};
 ghost use Rattle.hll_arrays.specs.Payload.{hll8_bytes};
 
-use crate::array8::{Array8, registers_of};
+use crate::array8::Array8;
 use crate::estimate_state::EstimateState;
 use crate::merge::merge_from;
 use crate::register_store::RegisterStore;
-use crate::registers::Registers;
+use crate::registers::{Registers, registers_of};
 use hll_base::error::Error;
 use hll_coupons::coupon::Coupon;
 use hll_coupons::hll_type::HllType;
