@@ -45,11 +45,11 @@ group_fields-group_bytes a b c d ha hb hc hd =
     let g : ℕ = a + 64 * b + 4096 * c + 262144 * d in
     let n : ℕ = g % 256 + 256 * (g / 256 % 256) + 65536 * (g / 65536) in
     let back : n ≡ g = omega arith in
-    let one : g % 64 ≡ a = omega arith in
-    let two : g / 64 % 64 ≡ b = omega arith in
-    let three_ : g / 4096 % 64 ≡ c = omega arith in
-    let four_ : g / 262144 ≡ d = omega arith in
-    λ i. (ap (λ v. v % 64) back ∙ one) i ∷ (ap (λ v. v / 64 % 64) back ∙ two) i ∷ (ap (λ v. v / 4096 % 64) back ∙ three_) i ∷ (ap (λ v. v / 262144) back ∙ four_) i ∷ []
+    let first : g % 64 ≡ a = omega arith in
+    let second : g / 64 % 64 ≡ b = omega arith in
+    let third : g / 4096 % 64 ≡ c = omega arith in
+    let fourth : g / 262144 ≡ d = omega arith in
+    λ i. (ap (λ v. v % 64) back ∙ first) i ∷ (ap (λ v. v / 64 % 64) back ∙ second) i ∷ (ap (λ v. v / 4096 % 64) back ∙ third) i ∷ (ap (λ v. v / 262144) back ∙ fourth) i ∷ []
 
 -- the bytes of the fields of a group
 pub group_bytes-group_fields : (g : List ℕ) → IsGroup g →

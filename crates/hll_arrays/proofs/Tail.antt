@@ -2,12 +2,10 @@
 use Rattle.std.proofs.Common.{◌≡◌, ℕ, ◌+◌, List, [], ◌∷◌, ◌++◌, length, sym, ap, ◌∙◌}
 use Rattle.std.proofs.lemmas.List.{append-nil}
 use Rattle.hll_coupons.specs.Coupons.{coupon_bytes, mode_byte}
-use Rattle.hll_coupons.specs.declared.hll_type.HllType.{HllType}
 use Rattle.hll_coupons.specs.declared.hll_type.HllType.TheVariants.{Hll4, Hll6, Hll8}
-use Rattle.hll_arrays.specs.declared.estimate_state.EstimateState.{EstimateState}
 use Rattle.hll_arrays.specs.Packed.{zeros, minimum, count_at_minimum, field_bytes}
 use Rattle.hll_arrays.specs.Payload.{flag_of, number_bytes}
-use Rattle.hll_arrays.specs.Store.{packed_bytes, PackedIsWritten}
+use Rattle.hll_arrays.specs.Store.{PackedIsWritten}
 
 -- no exceptions, no bytes of them
 none_behind : (xs order : List ℕ) → order ≡ [] → xs ≡ xs ++ coupon_bytes order

@@ -4,6 +4,7 @@ ghost use Rattle.std.specs.Prelude.{◌≡◌, ◌≤◌, IfOk};
 
 use crate::array6::Array6;
 use crate::estimate_state::EstimateState;
+use crate::inputs::{READ, coupons_in, refusal_of};
 use crate::register_store::RegisterStore;
 use crate::registers::Registers;
 use hll_base::error::{Error, Reason};
@@ -13,12 +14,6 @@ use hll_coupons::plain::folded;
 use linked_list_allocator::LocalHeap;
 use std::alloc::{Allocator, Global};
 use std::test::Fail;
-
-/// A state that was read.
-const READ: EstimateState = EstimateState {
-    words: [1, 2, 3],
-    out_of_order: false,
-};
 
 /// Registers at `lg_k` 4.
 const THREE: [u8; 16] = [0, 63, 42, 51, 0, 0, 0, 0, 0, 0, 0, 0, 0, 0, 0, 0];
@@ -65,18 +60,6 @@ fn first_of<A: Allocator>(array: &Array6<A>) -> [u8; 16] {
         }
     }
     registers
-}
-
-/// Coupons of a multiplicative sequence, with all values from 0 to 63.
-fn coupons_in<A: Allocator>(alloc: A, count: usize) -> Result<Vec<Coupon, A>, Error> {
-    let mut coupons = Vec::new(alloc);
-    let mut word = 1u64;
-    for _ in 0..count {
-        word = word.wrapping_mul(0xd1342543de82ef95);
-        let coupon = Coupon::pack((word >> 32) as u32, (word >> 58) as u8);
-        coupons.push(coupon)?;
-    }
-    Ok(coupons)
 }
 
 #[test]
@@ -285,14 +268,6 @@ fn states_count(rt: HostRuntime) -> Result<(), Fail> {
         assert_eq!(rt; array == other, same, "{words:?} {out_of_order}");
     }
     Ok(())
-}
-
-/// Why a call was refused.
-fn refusal_of<T: Drop>(answer: Result<T, Error>) -> Option<Reason> {
-    match answer {
-        Ok(_) => None,
-        Err(e) => Some(e.reason()),
-    }
 }
 
 /// Why each call that takes memory is refused.

@@ -9,6 +9,8 @@ pub mod aux_format;
 pub mod convert;
 pub mod estimate_state;
 mod groups;
+#[cfg(test)]
+mod inputs;
 pub mod laws;
 mod lent;
 pub mod merge;

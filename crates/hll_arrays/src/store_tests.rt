@@ -6,6 +6,7 @@ use crate::array6::Array6;
 use crate::array8::Array8;
 use crate::convert::convert;
 use crate::estimate_state::EstimateState;
+use crate::inputs::{READ, coupons_in};
 use crate::merge::merge_from;
 use crate::register_store::RegisterStore;
 use crate::registers::Registers;
@@ -16,24 +17,6 @@ use hll_coupons::plain::folded;
 use linked_list_allocator::LocalHeap;
 use std::alloc::Allocator;
 use std::test::Fail;
-
-/// A state that was read.
-const READ: EstimateState = EstimateState {
-    words: [1, 2, 3],
-    out_of_order: false,
-};
-
-/// Coupons of a multiplicative sequence, with all values from 0 to 63.
-fn coupons_in<A: Allocator>(alloc: A, count: usize) -> Result<Vec<Coupon, A>, Error> {
-    let mut coupons = Vec::new(alloc);
-    let mut word = 1u64;
-    for _ in 0..count {
-        word = word.wrapping_mul(0xd1342543de82ef95);
-        let coupon = Coupon::pack((word >> 32) as u32, (word >> 58) as u8);
-        coupons.push(coupon)?;
-    }
-    Ok(coupons)
-}
 
 /// The registers of coupons, by updates, with a state that was read.
 fn array_of<A: Allocator>(alloc: A, lg_k: u8, coupons: &[Coupon]) -> Result<Array8<A>, Error>

@@ -4,6 +4,7 @@ ghost use Rattle.std.specs.Prelude.{◌≡◌, ◌≤◌, IfOk};
 
 use crate::array8::Array8;
 use crate::estimate_state::EstimateState;
+use crate::inputs::{READ, coupons_in, refusal_of};
 use hll_base::cursor::SketchSlice;
 use hll_base::error::{Error, Reason};
 use hll_coupons::coupon::Coupon;
@@ -11,12 +12,6 @@ use hll_coupons::plain::{folded, joined};
 use linked_list_allocator::LocalHeap;
 use std::alloc::Allocator;
 use std::test::Fail;
-
-/// A state that was read.
-const READ: EstimateState = EstimateState {
-    words: [1, 2, 3],
-    out_of_order: false,
-};
 
 /// Registers at `lg_k` 4 with the values 1 to 8 in the first slots.
 const EIGHT: [u8; 16] = [1, 2, 3, 4, 5, 6, 7, 8, 0, 0, 0, 0, 0, 0, 0, 0];
@@ -41,18 +36,6 @@ fn eight_in<A: Allocator>(alloc: A) -> Result<Array8<A>, Error>
     array.update(Coupon::pack(6, 7));
     array.update(Coupon::pack(7, 8));
     Ok(array)
-}
-
-/// Coupons of a multiplicative sequence, with all values from 0 to 63.
-fn coupons_in<A: Allocator>(alloc: A, count: usize) -> Result<Vec<Coupon, A>, Error> {
-    let mut coupons = Vec::new(alloc);
-    let mut word = 1u64;
-    for _ in 0..count {
-        word = word.wrapping_mul(0xd1342543de82ef95);
-        let coupon = Coupon::pack((word >> 32) as u32, (word >> 58) as u8);
-        coupons.push(coupon)?;
-    }
-    Ok(coupons)
 }
 
 /// The registers of coupons, by updates.
@@ -307,14 +290,6 @@ fn states_count(rt: HostRuntime) -> Result<(), Fail> {
         assert_eq!(rt; array == other, same, "{words:?} {out_of_order}");
     }
     Ok(())
-}
-
-/// Why a call was refused.
-fn refusal_of<T: Drop>(answer: Result<T, Error>) -> Option<Reason> {
-    match answer {
-        Ok(_) => None,
-        Err(e) => Some(e.reason()),
-    }
 }
 
 /// Why each call that takes memory is refused.

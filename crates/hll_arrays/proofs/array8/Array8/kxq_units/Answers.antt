@@ -1,4 +1,4 @@
-use Rattle.std.proofs.Common.{ℕ, ◌≤◌, ◌^◌, length, ap, arith}
+use Rattle.std.proofs.Common.{◌≤◌, ◌^◌, length, ap, arith}
 use Rattle.std.proofs.Math.Nat.{pow-le-pow_right}
 use Rattle.hll_arrays.proofs.array8.Array8.kxq_units.Goals as goal
 
