@@ -5,8 +5,9 @@ use std::hint::black_box;
 use std::time::Instant;
 
 const LG_K: [u8; 2] = [12, 21];
-const REGISTERS_A_RUN: usize = 1 << 26;
-const RUNS: usize = 7;
+const MERGED_A_RUN: usize = 1 << 29;
+const UPDATES_A_RUN: u32 = 1 << 24;
+const RUNS: usize = 5;
 
 // The exports of crates/hll_bench; a `Global` takes no argument.
 unsafe extern "C" {
@@ -125,8 +126,7 @@ fn nanoseconds(work: Work, lg_k: u8, rounds: u32) -> (f64, u64) {
     ((least(rounds) - least(0)) / f64::from(rounds), timed(rounds).1)
 }
 
-fn measure(name: &str, lg_k: u8, registers: usize, ours: Work, theirs: Work) {
-    let rounds = (REGISTERS_A_RUN / registers) as u32;
+fn measure(name: &str, lg_k: u8, rounds: u32, ours: Work, theirs: Work) {
     let (ours, out) = nanoseconds(ours, lg_k, rounds);
     let (theirs, expected) = nanoseconds(theirs, lg_k, rounds);
     assert_eq!(out, expected, "{name} at lg_k {lg_k}");
@@ -136,12 +136,12 @@ fn measure(name: &str, lg_k: u8, registers: usize, ours: Work, theirs: Work) {
 fn main() {
     // SAFETY, of each call: the declarations above are those of crates/hll_bench, and `lg_k` is 4 to 21, or to 20.
     for lg_k in LG_K {
-        let size = 1 << lg_k;
-        measure("merge of eight into eight", lg_k, size, |k, n| unsafe { hll_bench_merge_8(k, n) }, merge_8);
-        measure("merge of six into eight", lg_k, size, |k, n| unsafe { hll_bench_merge_6(k, n) }, merge_6);
-        measure("fold from one more", lg_k - 1, size, |k, n| unsafe { hll_bench_downsample(k, n) }, downsample);
-        measure("conversion to six", lg_k, size, |k, n| unsafe { hll_bench_convert_6(k, n) }, convert_6);
-        measure("update of eight", lg_k, 1, |k, n| unsafe { hll_bench_update_8(k, n) }, update_8);
-        measure("update of six, beside eight", lg_k, 1, |k, n| unsafe { hll_bench_update_6(k, n) }, update_8);
+        let rounds = (MERGED_A_RUN >> lg_k) as u32;
+        measure("merge of eight into eight", lg_k, rounds, |k, n| unsafe { hll_bench_merge_8(k, n) }, merge_8);
+        measure("merge of six into eight", lg_k, rounds, |k, n| unsafe { hll_bench_merge_6(k, n) }, merge_6);
+        measure("fold from one more", lg_k - 1, rounds, |k, n| unsafe { hll_bench_downsample(k, n) }, downsample);
+        measure("conversion to six", lg_k, rounds, |k, n| unsafe { hll_bench_convert_6(k, n) }, convert_6);
+        measure("update of eight", lg_k, UPDATES_A_RUN, |k, n| unsafe { hll_bench_update_8(k, n) }, update_8);
+        measure("update of six, beside eight", lg_k, UPDATES_A_RUN, |k, n| unsafe { hll_bench_update_6(k, n) }, update_8);
     }
 }

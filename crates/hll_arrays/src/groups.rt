@@ -1,6 +1,6 @@
 //! Registers of six bits: four of them in three bytes (docs/FORMAT.md, "Packed registers").
 ghost use Rattle.std.specs.Prelude.{◌≡◌, ℕ, ◌+◌, ◌*◌, ◌%◌, ◌^◌, ◌<◌, ◌≤◌, ◌==◌, ◌⊎◌, max, length, slice_index, slice_set, All, IfOk};
-ghost use Rattle.std.specs.List.{list_all};
+ghost use Rattle.std.specs.List.{list_all, flat_map};
 ghost use Rattle.hll_coupons.specs.Fold.{join};
 ghost use Rattle.hll_arrays.specs.Groups.{IsGroup, group_fields, registers_in};
 ghost use Rattle.hll_arrays.specs.Packed.{group_bytes, zeros, units};
@@ -54,11 +54,22 @@ pub(crate) fn groups_in<A: Allocator>(
     ensures groups { IfOk result (λ groups. All IsGroup groups.items) }
 {
     let (fours, _) = registers.as_chunks::<4>();
-    let mut groups = Vec::with_capacity(alloc, fours.len())?;
-    for four in fours {
-        groups.push(pack_group(*four))?;
-    }
+    let mut groups = vec![in alloc; [0; 3]; fours.len()]?;
+    pack_each(&mut groups, fours);
     Ok(groups)
+}
+
+/// Writes the group of each four registers. One pass over both.
+fn pack_each(groups: &mut [[u8; 3]], fours: &[[u8; 4]])
+    requires size { length groups.old ≡ length fours.now }
+    requires small { All (All (λ v. v ≤ 63)) fours.now }
+    ensures registers { registers_in groups.new ≡ flat_map (λ four. four) fours.now }
+    ensures groups { All IsGroup groups.new }
+    ensures len { length groups.new ≡ length groups.old }
+{
+    for place in 0..fours.len() {
+        groups[place] = pack_group(fours[place]);
+    }
 }
 
 /// The register of a slot.

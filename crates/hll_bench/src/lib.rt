@@ -7,7 +7,6 @@ ghost use Rattle.hll_base.specs.Hash.{hash, default_seed};
 
 mod registers;
 
-use hll_base::error::Error;
 use hll_base::hash::MurmurHash3X64128;
 use std::alloc::Global;
 
