@@ -1,5 +1,5 @@
 //! Merges of registers, whatever keeps the source (docs/MODEL.md, "Merges and conversions").
-ghost use Rattle.std.specs.Prelude.{◌≡◌, ℕ, ◌^◌, ◌≤◌, length};
+ghost use Rattle.std.specs.Prelude.{◌≡◌, ◌^◌, ◌≤◌, length};
 ghost use Rattle.hll_coupons.specs.Fold.{fold_to, join, pairs};
 ghost use Rattle.hll_arrays.specs.Store.{merged, AreRegisters};
 

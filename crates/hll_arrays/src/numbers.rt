@@ -1,5 +1,5 @@
 //! What stands before the registers in an image (docs/FORMAT.md, "HLL").
-ghost use Rattle.std.specs.Prelude.{◌≡◌, ◌≤◌, ◌<◌, ◌∷◌, [], ◌++◌, length, drop, OnOk, OnErr, IfOk, IfErr};
+ghost use Rattle.std.specs.Prelude.{◌≡◌, ◌≤◌, ◌<◌, ◌∷◌, [], ◌++◌, length, drop, OnOk, IfOk, IfErr};
 ghost use Rattle.hll_base.specs.declared.error.Reason.TheVariants.{Truncated, Memory};
 ghost use Rattle.hll_coupons.specs.Coupons.{mode_byte};
 ghost use Rattle.hll_arrays.specs.Payload.{state_at, low_count, exception_count, number_bytes, flag_of};

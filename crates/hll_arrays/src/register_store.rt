@@ -1,10 +1,10 @@
 //! Registers that can be made, changed and written (docs/MODEL.md, "Laws of a store").
-ghost use Rattle.std.specs.Prelude.{◌≡◌, ◌↔◌, ℕ, ◌+◌, ◌^◌, ◌<◌, ◌≤◌, Bool, true, IsTrue, IsOk, IfOk, IfErr, OnOk, OnErr, List, length, take, drop};
+ghost use Rattle.std.specs.Prelude.{◌≡◌, ◌↔◌, ℕ, ◌+◌, ◌^◌, ◌<◌, ◌≤◌, Bool, true, IsTrue, IsOk, IfOk, IfErr, OnOk, OnErr, List};
 ghost use Rattle.hll_base.specs.declared.error.Reason.TheVariants.{Memory};
 ghost use Rattle.hll_coupons.specs.declared.hll_type.HllType.{HllType};
 ghost use Rattle.hll_arrays.specs.Payload.{WritesRegisters};
 ghost use Rattle.hll_arrays.specs.State.{cleared};
-ghost use Rattle.hll_arrays.specs.Store.{Stored, AreRegisters, zeroed, raised_by_coupon, packed_bytes};
+ghost use Rattle.hll_arrays.specs.Store.{AreRegisters, zeroed, raised_by_coupon};
 
 use crate::estimate_state::EstimateState;
 use crate::registers::Registers;

@@ -1,5 +1,5 @@
 //! Registers by their meaning, whatever keeps them (docs/MODEL.md, "Laws of a store").
-ghost use Rattle.std.specs.Prelude.{◌≡◌, ℕ, ◌+◌, ◌%◌, ◌^◌, ◌<◌, ◌≤◌, length, take, drop, slice_index};
+ghost use Rattle.std.specs.Prelude.{◌≡◌, ◌+◌, ◌%◌, ◌^◌, ◌<◌, ◌≤◌, length, take, drop, slice_index};
 ghost use Rattle.hll_coupons.specs.Fold.{join};
 ghost use Rattle.hll_arrays.specs.Store.{Stored, IsStored};
 

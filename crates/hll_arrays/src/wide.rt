@@ -1,7 +1,6 @@
 //! A third way to keep registers, for the tests of the traits alone: two bytes for each.
 ghost use Rattle.std.specs.Prelude.{◌≡◌, ◌≤◌, IfOk, IfErr};
 ghost use Rattle.hll_base.specs.declared.error.Reason.TheVariants.{Memory};
-ghost use Rattle.hll_arrays.specs.Payload.{hll8_bytes};
 
 use crate::array8::Array8;
 use crate::estimate_state::EstimateState;

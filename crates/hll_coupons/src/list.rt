@@ -1,5 +1,5 @@
 //! A list of coupons in order of arrival (docs/MODEL.md, "Tables").
-ghost use Rattle.std.specs.Prelude.{◌≡◌, ◌^◌, ◌<◌, ◌≤◌, length, false, IfOk, IfErr, ◌*◌, ◌⊎◌, take, OnOk, true, Bool, IsTrue, ◌↔◌};
+ghost use Rattle.std.specs.Prelude.{◌≡◌, ◌^◌, ◌<◌, ◌≤◌, length, false, IfOk, IfErr, ◌*◌, ◌⊎◌, take, OnOk, Bool, IsTrue, ◌↔◌};
 ghost use Rattle.std.specs.FinSet as set;
 ghost use Rattle.hll_base.specs.declared.error.Reason.TheVariants.{Memory};
 ghost use Rattle.hll_base.specs.declared.error.Reason.TheVariants as reasons;

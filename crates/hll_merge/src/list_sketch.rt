@@ -1,7 +1,7 @@
 //! A sketch of a plan while it is a list.
 ghost use Rattle.std.specs.Prelude.{◌≡◌, ◌≤◌, ◌↔◌, IsTrue, IfOk, IfErr};
 ghost use Rattle.hll_coupons.specs.Pair.{value_of};
-ghost use Rattle.hll_coupons.specs.Table.{Table, held, IsTable};
+ghost use Rattle.hll_coupons.specs.Table.{held, IsTable};
 ghost use Rattle.hll_coupons.specs.Coupons.{list_bytes};
 ghost use Rattle.hll_coupons.specs.declared.hll_type.HllType.TheVariants.{Hll8};
 ghost use Rattle.hll_sketch.specs.Value.{IsLgK};

@@ -1,5 +1,5 @@
 //! The first eight bytes of an image (docs/FORMAT.md, "Header").
-ghost use Rattle.std.specs.Prelude.{◌≡◌, ◌<◌, ◌≤◌, ◌/◌, ◌%◌, ◌==◌, ◌↔◌, IsOk, IfOk, IfErr, drop, take, ◌+◌, ◌*◌, ◌⊎◌};
+ghost use Rattle.std.specs.Prelude.{◌≡◌, ◌<◌, ◌≤◌, ◌/◌, ◌%◌, ◌==◌, ◌↔◌, IsOk, IfOk, IfErr, ◌*◌};
 ghost use Rattle.hll_base.specs.declared.error.Reason.TheVariants as reasons;
 ghost use Rattle.hll_sketch.specs.Value.{IsLgK};
 ghost use Rattle.hll_sketch.specs.Image.{HasHeader, stage_bits, width_of_bits, preamble_words};
