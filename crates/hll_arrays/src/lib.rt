@@ -5,6 +5,8 @@ pub mod array6;
 #[cfg(test)]
 mod array6_tests;
 pub mod array8;
+#[cfg(test)]
+mod array8_tests;
 pub mod aux_format;
 pub mod convert;
 pub mod estimate_state;
@@ -19,8 +21,6 @@ pub mod register_store;
 pub mod registers;
 #[cfg(test)]
 mod store_tests;
-#[cfg(test)]
-mod tests;
 mod weights;
 #[cfg(test)]
 mod wide;
