@@ -11,7 +11,7 @@ use Rattle.hll_coupons.specs.Fold.{fold_to, join}
 use Rattle.hll_coupons.proofs.PlainSteps.{is_join}
 use Rattle.hll_coupons.proofs.Registers.{slot_of-pair, value_of-pair, fold_to-pairs}
 use Rattle.hll_arrays.specs.State.{cleared}
-use Rattle.hll_arrays.specs.Store.{Stored, zeroed, raised_by_coupon, merged}
+use Rattle.hll_arrays.specs.Store.{Stored, zeroed, raised_by_coupon, merged_with}
 use Rattle.hll_arrays.proofs.Raising.{join-high}
 use Rattle.hll_arrays.proofs.States.{state_after-cleared}
 
@@ -48,8 +48,8 @@ filled-next k s c V small size within is =
     λ i. record { lg_k = k; registers = joined i; state = state_after-cleared R J i }
 
 -- registers that are merged into zeros are the registers
-pub merged-zeroed : (k : ℕ) (R : List ℕ) → k ≤ 21 → length R ≡ 2 ^ k → merged (zeroed k) R ≡ record { lg_k = k; registers = R; state = cleared }
-merged-zeroed k R small size =
+pub merged_with-zeroed : (k : ℕ) (R : List ℕ) → k ≤ 21 → length R ≡ 2 ^ k → merged_with (zeroed k) R ≡ record { lg_k = k; registers = R; state = cleared }
+merged_with-zeroed k R small size =
     let Z : List ℕ = replicate (2 ^ k) 0 in
     let long : length R ≡ length Z = size ∙ sym (length-replicate {A = ℕ} (2 ^ k) 0) in
     let joined : R ≡ join Z R = is_join Z R R (sym long) long (λ s h. omega (arith, get_or-replicate {A = ℕ} (2 ^ k) s 0 0 (omega (arith, h, size)))) in

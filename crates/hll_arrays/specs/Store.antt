@@ -42,8 +42,8 @@ abbrev pub raised_by_coupon : Stored → ℕ → Stored
 raised_by_coupon x c = raised x (set_of (c ∷ []))
 
 -- registers after a merge with others, folded to their size: the greater at each slot, and the cleared state
-abbrev pub merged : Stored → List ℕ → Stored
-merged x R = record { lg_k = x.lg_k; registers = join x.registers (fold_to (pairs R) x.lg_k); state = cleared }
+abbrev pub merged_with : Stored → List ℕ → Stored
+merged_with x R = record { lg_k = x.lg_k; registers = join x.registers (fold_to (pairs R) x.lg_k); state = cleared }
 
 -- the bytes of the registers, without state and exceptions
 abbrev pub packed_bytes : HllType → List ℕ → List ℕ

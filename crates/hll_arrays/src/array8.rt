@@ -7,7 +7,7 @@ ghost use Rattle.hll_arrays.specs.Packed.{zeros, units, size_in_registers};
 ghost use Rattle.hll_arrays.specs.Payload.{state_at, IsHll8Payload, Hll8Fault, hll8_bytes};
 ghost use Rattle.hll_arrays.specs.State.{cleared};
 ghost use Rattle.hll_coupons.specs.declared.hll_type.HllType.TheVariants.{Hll8};
-ghost use Rattle.hll_arrays.specs.Store.{zeroed, raised_by_coupon, merged, AreRegisters, IsStored};
+ghost use Rattle.hll_arrays.specs.Store.{zeroed, raised_by_coupon, merged_with, AreRegisters, IsStored};
 
 use crate::estimate_state::EstimateState;
 use crate::lent::{Lent, raise_each, raise_from};
@@ -163,7 +163,7 @@ impl<A: Allocator> Array8<A> {
         requires larger { self.old.lg_k < src_lg_k }
         requires most { src_lg_k ≤ 21 }
         requires registers { AreRegisters src_lg_k src.now }
-        ensures { self.new ≡ merged self.old src.now }
+        ensures { self.new ≡ merged_with self.old src.now }
     {
         join_folds(
             &mut self.registers,
@@ -176,7 +176,7 @@ impl<A: Allocator> Array8<A> {
     /// The same with the registers of any source whose `lg_k` is at least that of these.
     pub(crate) fn merge_folds<R: Registers>(&mut self, src: &R)
         requires { self.old.lg_k ≤ (R.stored src.now).lg_k }
-        ensures { self.new ≡ merged self.old (R.stored src.now).registers }
+        ensures { self.new ≡ merged_with self.old (R.stored src.now).registers }
     {
         join_folds(&mut self.registers, self.lg_config_k, src);
         self.rebuild_estimator_from_registers();

@@ -1,7 +1,7 @@
 //! Merges of registers, whatever keeps the source (docs/MODEL.md, "Merges and conversions").
 ghost use Rattle.std.specs.Prelude.{◌≡◌, ◌^◌, ◌≤◌, length};
 ghost use Rattle.hll_coupons.specs.Fold.{fold_to, join, pairs};
-ghost use Rattle.hll_arrays.specs.Store.{merged, AreRegisters};
+ghost use Rattle.hll_arrays.specs.Store.{merged_with, AreRegisters};
 
 use crate::array8::Array8;
 use crate::registers::{Registers, registers_of};
@@ -13,7 +13,7 @@ use std::alloc::Allocator;
 /// The source's `lg_k` is at least that of the destination.
 pub fn merge_from<R: Registers, A: Allocator>(dst: &mut Array8<A>, src: &R)
     requires { dst.old.lg_k ≤ (R.stored src.now).lg_k }
-    ensures { dst.new ≡ merged dst.old (R.stored src.now).registers }
+    ensures { dst.new ≡ merged_with dst.old (R.stored src.now).registers }
 {
     dst.merge_folds(src);
 }

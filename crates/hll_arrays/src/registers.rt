@@ -30,8 +30,8 @@ pub trait Registers {
 
     /// Raises each value to the greater of itself and the register that stands as far behind slot `first`.
     ///
-    /// So many registers stand there, and both numbers are multiples of four. A body of one's own may
-    /// take the registers by groups; this one asks for each.
+    /// So many registers stand there, and both numbers are multiples of four. That the registers are legal is what
+    /// `lg_k` says. A body of one's own may take the registers by groups; this one asks for each.
     fn join_into(&self, first: u32, values: &mut [u8])
         requires within { first + length values.old ≤ 2 ^ (stored self.now).lg_k }
         requires legal { IsStored (stored self.now) }

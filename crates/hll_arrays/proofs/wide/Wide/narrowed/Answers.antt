@@ -1,7 +1,7 @@
 use Rattle.std.proofs.Common.{◌≡◌, ℕ, List, sym, ap, ◌∙◌}
 use Rattle.hll_arrays.specs.State.{cleared}
-use Rattle.hll_arrays.specs.Store.{Stored, merged, zeroed}
-use Rattle.hll_arrays.proofs.Filling.{merged-zeroed}
+use Rattle.hll_arrays.specs.Store.{Stored, merged_with, zeroed}
+use Rattle.hll_arrays.proofs.Filling.{merged_with-zeroed}
 use Rattle.hll_arrays.proofs.wide.Wide.narrowed.Goals as goal
 
 pub returns-clause-ok : goal.returns-clause-ok
@@ -9,7 +9,7 @@ returns-clause-ok g c =
     let k : ℕ = c.self.inside.lg_k in
     let R : List ℕ = c.self.inside.registers.items in
     let filled : Stored = record { lg_k = k; registers = R; state = cleared } in
-    let there : c.merge_from.new.dst ≡ merged (zeroed k) R =
-    c.merge_from.ensures ∙ (λ i. merged (c.in_ok-narrow.ensures.ok i) (sym c.self.view_is i).registers) in
-    let is : c.merge_from.new.dst ≡ filled = there ∙ merged-zeroed k R c.self.invariant.1 c.self.invariant.2.size in
+    let there : c.merge_from.new.dst ≡ merged_with (zeroed k) R =
+    c.merge_from.ensures ∙ (λ i. merged_with (c.in_ok-narrow.ensures.ok i) (sym c.self.view_is i).registers) in
+    let is : c.merge_from.new.dst ≡ filled = there ∙ merged_with-zeroed k R c.self.invariant.1 c.self.invariant.2.size in
     c.restore_estimate_state.ensures ∙ ap (λ (x : Stored). let y : Stored = record { lg_k = x.lg_k; registers = x.registers; state = c.self.inside.state } in y) is ∙ c.self.view_is
