@@ -85,7 +85,7 @@ absorbed-behind (suc n) h xs b c l = elim (cases_lt (length xs) 16) [
 ]
 
 pub pieces_are_one : PiecesAreOne
-pieces_are_one s a b is =
+pieces_are_one s a b =
     let c : ℕ = ((s.count + length a) % 2 ^ 64 + length b) % 2 ^ 64 in
     let sum : c ≡ (s.count + length (a ++ b)) % 2 ^ 64 = omega (arith, length-append a b) in
     absorbed-behind (suc (length (s.begun ++ a))) s.halves (s.begun ++ a) b c (omega arith)

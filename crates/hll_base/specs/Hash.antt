@@ -1,5 +1,5 @@
 -- The hash of a whole list of bytes: MurmurHash3 x64 128 (docs/FORMAT.md, "The hash").
-use Rattle.std.specs.Prelude.{◌≡◌, ℕ, ◌+◌, ◌*◌, ◌/◌, ◌%◌, ◌^◌, ◌<◌, List, [], ◌++◌, length, take, drop, fold, bit_xor, nat_lt, if◌then◌else◌}
+use Rattle.std.specs.Prelude.{◌≡◌, ℕ, ◌+◌, ◌*◌, ◌/◌, ◌%◌, ◌^◌, List, [], ◌++◌, length, take, drop, fold, bit_xor, nat_lt, if◌then◌else◌}
 use Rattle.std.specs.Simd.{first_chunks}
 use Rattle.std.specs.Int.{w64, rotate_left, from_le_bytes}
 
@@ -131,16 +131,11 @@ taken s piece = absorbed s.halves (s.begun ++ piece) ((s.count + length piece) %
 abbrev pub hash_of : Hashing → Halves
 hash_of s = ended s.count (after_rest s.halves s.begun)
 
--- a block is begun with less than sixteen bytes, and the count is below 2^64
-pub record IsHashing (s : Hashing) : Type 0 where
-  pub begun : length s.begun < 16
-  pub count : s.count < 2 ^ 64
-
 -- ---- laws
 
 -- two pieces are one
 abbrev pub PiecesAreOne : Type 0
-PiecesAreOne = (s : Hashing) (a b : List ℕ) → IsHashing s → taken (taken s a) b ≡ taken s (a ++ b)
+PiecesAreOne = (s : Hashing) (a b : List ℕ) → taken (taken s a) b ≡ taken s (a ++ b)
 
 -- the hash of one piece is that of its bytes
 abbrev pub HashOfPiece : Type 0
