@@ -1,22 +1,23 @@
--- The exceptions of registers as entries: no slot stands twice, whatever their order.
+-- The exceptions of registers as entries of an image: each slot occurs once.
 use Rattle.std.proofs.Common.{◌≡◌, ℕ, zero, suc, ◌+◌, ◌%◌, ◌^◌, ◌<◌, ◌≤◌, Bool, true, false, cond, eqb, List, [], ◌∷◌, length, get_or, map, All, refl, sym, ap, ◌∙◌, arith, inl, inr}
 use Rattle.std.specs.Prelude.{nat_le}
 use Rattle.std.specs.Ordering.{nat_cmp, eq_by_cmp}
 use Rattle.std.specs.Cmp.{nat_cmp_total}
-use Rattle.std.specs.FinSet.{len, len-empty, len-insert, contains, contains-from_list}
-use Rattle.std.proofs.lemmas.Nat.{pow_below}
+use Rattle.std.specs.FinSet.{len, len-insert, contains, contains-from_list}
 use Rattle.std.proofs.lemmas.Bool.{true≢false, or_cases, or_left, or_right}
 use Rattle.std.proofs.lemmas.List.Sums.{count_by-le-length, length-filter}
 use Rattle.std.proofs.lemmas.List.Elements.{All-from_get_or}
 use Rattle.std.proofs.Math.Nat.{mod-eq_of_lt, zero-add}
 use Rattle.hll_coupons.specs.Pair.{pair, slot_of, value_of, set_of}
 use Rattle.hll_coupons.specs.Fold.{words_from}
-use Rattle.hll_coupons.specs.Coupons.{ListsOnce}
+use Rattle.hll_coupons.specs.Coupons.{IsAscending}
+use Rattle.hll_coupons.proofs.Ascending.{len-ascending}
 use Rattle.hll_coupons.proofs.Greatest.{same_word, itself}
+use Rattle.hll_coupons.proofs.Reading.{len-set_of-le}
 use Rattle.hll_coupons.proofs.Registers.{StandsFor, in_words, slot_of-pair, value_of-pair}
 use Rattle.hll_arrays.specs.Packed.{minimum, exceptions}
 use Rattle.hll_arrays.specs.Payload.{AreEntries}
-use Rattle.hll_arrays.proofs.Exceptions.{has, kept}
+use Rattle.hll_arrays.proofs.Exceptions.{has, kept, slot_small}
 
 -- ---- the count of a set of images
 
@@ -64,14 +65,6 @@ len-map f (x ∷ xs) apart =
     both false true f g = g refl
     both false false f g = refl
 
-len-set_of-le : (xs : List ℕ) → len (set_of xs) ≤ length xs
-len-set_of-le [] = omega (arith, len-empty nat_cmp)
-len-set_of-le (x ∷ xs) =
-    let e : len (set_of (x ∷ xs)) ≡ cond (contains (set_of xs) x) (len (set_of xs)) (len (set_of xs) + 1) = len-insert nat_cmp_total (set_of xs) x in
-    let le : cond (contains (set_of xs) x) (len (set_of xs)) (len (set_of xs) + 1) ≤ len (set_of xs) + 1 =
-    elim (contains (set_of xs) x) as (λ b. cond b (len (set_of xs)) (len (set_of xs) + 1) ≤ len (set_of xs) + 1) [ true ↦ omega arith | false ↦ omega arith ] in
-    omega (arith, len-set_of-le xs)
-
 length-words_from : (s : ℕ) (R : List ℕ) → length (words_from s R) ≤ length R
 length-words_from s [] = omega arith
 length-words_from s (r ∷ R) = elim (eqb r 0) as (λ b. length (cond b (words_from (s + 1) R) (pair s r ∷ words_from (s + 1) R)) ≤ length (r ∷ R)) [
@@ -79,9 +72,9 @@ length-words_from s (r ∷ R) = elim (eqb r 0) as (λ b. length (cond b (words_f
   | false ↦ omega (arith, length-words_from (s + 1) R)
 ]
 
--- ---- the exceptions in any order
+-- ---- the exceptions in the order that is written
 
-module _ (k : ℕ) (R order : List ℕ) (small : k ≤ 21) (size : length R ≡ 2 ^ k) (top : All (λ v. v ≤ 63) R) (lists : ListsOnce order (set_of (exceptions R))) where
+module _ (k : ℕ) (R order : List ℕ) (small : k ≤ 21) (size : length R ≡ 2 ^ k) (top : All (λ v. v ≤ 63) R) (lists : IsAscending order (set_of (exceptions R))) where
   -- an entry is the pair of a slot and its register
   record IsEntry (c : ℕ) : Type 0 where
     slot : ℕ
@@ -100,11 +93,8 @@ module _ (k : ℕ) (R order : List ℕ) (small : k ≤ 21) (size : length R ≡ 
         some = found.1.positive;
       }
 
-  slot_small : (s : ℕ) → s < 2 ^ k → s < 2 ^ 26
-  slot_small s h = omega (arith, pow_below k 26 (omega arith))
-
   slot-entry : (c : ℕ) (e : IsEntry c) → slot_of c % 2 ^ k ≡ e.slot
-  slot-entry c e = ap (λ z. slot_of z % 2 ^ k) e.is ∙ ap (λ n. n % 2 ^ k) (slot_of-pair e.slot (get_or R e.slot 0) (slot_small e.slot e.within)) ∙ mod-eq_of_lt e.within
+  slot-entry c e = ap (λ z. slot_of z % 2 ^ k) e.is ∙ ap (λ n. n % 2 ^ k) (slot_of-pair e.slot (get_or R e.slot 0) (slot_small k e.slot small e.within)) ∙ mod-eq_of_lt e.within
 
   apart : Apart (λ c. slot_of c % 2 ^ k) order
   apart c d hc hd same =
@@ -124,7 +114,7 @@ module _ (k : ℕ) (R order : List ℕ) (small : k ≤ 21) (size : length R ≡ 
       let e : IsEntry c = entry c h in
       let v : ℕ = get_or R e.slot 0 in
       let most : v ≤ 63 = top e.slot 0 (omega (arith, e.within, size)) in
-      let low : e.slot < 2 ^ 26 = slot_small e.slot e.within in
+      let low : e.slot < 2 ^ 26 = slot_small k e.slot small e.within in
       let value : value_of c ≡ v = ap value_of e.is ∙ value_of-pair e.slot v low in
       (omega (arith, e.some), omega (arith, e.is))
 
@@ -135,7 +125,7 @@ module _ (k : ℕ) (R order : List ℕ) (small : k ≤ 21) (size : length R ≡ 
   entries_fit = All-from_get_or (λ c. c < 2 ^ 32) order 0 (λ i h. (value-entry (get_or order i 0) (has-at order i h)).1)
 
   pub are_entries : AreEntries k order
-  are_entries = record { valued = entries_valued; distinct = len-map (λ c. slot_of c % 2 ^ k) order apart ∙ ap len lists.members ∙ sym lists.once }
+  are_entries = record { valued = entries_valued; distinct = len-map (λ c. slot_of c % 2 ^ k) order apart ∙ ap len lists.members ∙ sym (len-ascending order (set_of (exceptions R)) lists) }
 
   pub entries_few : length order ≤ 2 ^ k
-  entries_few = omega (arith, lists.once, len-set_of-le (exceptions R), length-filter (λ c. nat_le (minimum R + 15) (value_of c)) (words_from 0 R), count_by-le-length (λ c. nat_le (minimum R + 15) (value_of c)) (words_from 0 R), length-words_from 0 R)
+  entries_few = omega (arith, len-ascending order (set_of (exceptions R)) lists, len-set_of-le (exceptions R), length-filter (λ c. nat_le (minimum R + 15) (value_of c)) (words_from 0 R), count_by-le-length (λ c. nat_le (minimum R + 15) (value_of c)) (words_from 0 R), length-words_from 0 R)

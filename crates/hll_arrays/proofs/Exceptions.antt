@@ -1,3 +1,4 @@
+-- A nibble and the exceptions give a register back.
 use Rattle.std.proofs.Common.{◌≡◌, ℕ, ◌+◌, ◌%◌, ◌^◌, ◌<◌, ◌≤◌, Bool, true, false, cond, eqb, leb, List, [], ◌∷◌, All, Option, Some, None, length, get_or, filter, refl, sym, ap, ◌∙◌, arith, inl, inr}
 use Rattle.std.specs.Prelude.{find}
 use Rattle.std.specs.List.{list_any}
@@ -59,12 +60,13 @@ finds_none f (x ∷ xs) c e h t = elim (cases_Bool (f x)) [
   ]
 ]
 
+-- a slot of registers fits a coupon
+pub slot_small : (k i : ℕ) → k ≤ 21 → i < 2 ^ k → i < 2 ^ 26
+slot_small k i small h = omega (arith, pow_below k 26 (omega (arith, small)))
+
 module _ (k m : ℕ) (R o : List ℕ) (small : k ≤ 21) (len : length R ≡ 2 ^ k) (top : All (λ v. v ≤ 63) R) (lists : set_of o ≡ set_of (exceptions_above m R)) where
   same_has : (q : ℕ) → has q o ≡ has q (exceptions_above m R)
   same_has q = sym (contains-from_list nat_cmp_total o q) ∙ ap (λ T. contains T q) lists ∙ contains-from_list nat_cmp_total (exceptions_above m R) q
-
-  slot_small : (i : ℕ) → i < 2 ^ k → i < 2 ^ 26
-  slot_small i h = omega (arith, pow_below k 26 (omega arith))
 
   -- an entry with this slot is the register's
   entry : (s c : ℕ) → has c o ≡ true → eqb (slot_of c % 2 ^ k) s ≡ true → (value_of c ≡ get_or R s 0) × (m + 15 ≤ get_or R s 0)
@@ -74,8 +76,8 @@ module _ (k m : ℕ) (R o : List ℕ) (small : k ≤ 21) (len : length R ≡ 2 ^
       let i : ℕ = found.0 in
       let within : i < 2 ^ k = omega (arith, found.1.within) in
       let is : c ≡ pair i (get_or R i 0) = found.1.is ∙ ap (λ t. pair t (get_or R i 0)) (zero-add i) in
-      let slot : slot_of c ≡ i = ap slot_of is ∙ slot_of-pair i (get_or R i 0) (slot_small i within) in
-      let value : value_of c ≡ get_or R i 0 = ap value_of is ∙ value_of-pair i (get_or R i 0) (slot_small i within) in
+      let slot : slot_of c ≡ i = ap slot_of is ∙ slot_of-pair i (get_or R i 0) (slot_small k i small within) in
+      let value : value_of c ≡ get_or R i 0 = ap value_of is ∙ value_of-pair i (get_or R i 0) (slot_small k i small within) in
       let same : i ≡ s = sym (ap (λ n. n % 2 ^ k) slot ∙ mod-eq_of_lt within) ∙ eqb-true (slot_of c % 2 ^ k) s at in
       let there : value_of c ≡ get_or R s 0 = value ∙ ap (λ j. get_or R j 0) same in
       (there, omega (arith, leb-true (m + 15) (value_of c) parts.0))
@@ -83,10 +85,10 @@ module _ (k m : ℕ) (R o : List ℕ) (small : k ≤ 21) (len : length R ≡ 2 ^
   has_entry : (s : ℕ) → s < 2 ^ k → m + 15 ≤ get_or R s 0 → (has (pair s (get_or R s 0)) o ≡ true) × (eqb (slot_of (pair s (get_or R s 0)) % 2 ^ k) s ≡ true)
   has_entry s h high =
       let v : ℕ = get_or R s 0 in
-      let value : value_of (pair s v) ≡ v = value_of-pair s v (slot_small s h) in (
+      let value : value_of (pair s v) ≡ v = value_of-pair s v (slot_small k s small h) in (
         same_has (pair s v) ∙ keeps (λ c. leb (m + 15) (value_of c)) (pair s v) (words_from 0 R) (le-leb (m + 15) (value_of (pair s v)) (omega arith))
             (words_have R 0 (pair s v) s (record { within = omega arith; positive = omega arith; is = ap (λ n. pair n v) (sym (zero-add s)) })),
-        eq-eqb (slot_of (pair s v) % 2 ^ k) s (ap (λ n. n % 2 ^ k) (slot_of-pair s v (slot_small s h)) ∙ mod-eq_of_lt h),
+        eq-eqb (slot_of (pair s v) % 2 ^ k) s (ap (λ n. n % 2 ^ k) (slot_of-pair s v (slot_small k s small h)) ∙ mod-eq_of_lt h),
       )
 
   -- nibble and entry give the register back

@@ -1,4 +1,4 @@
--- Lemmas on registers that are put in ascending slots.
+-- Lemmas on registers that are set in ascending slots.
 use Rattle.std.proofs.Common.{◌≡◌, ℕ, ◌+◌, ◌-◌, ◌%◌, ◌^◌, ◌<◌, ◌≤◌, suc, List, [], ◌∷◌, ◌++◌, length, take, get_or, replicate, sym, ap, ◌∙◌, arith, append_assoc}
 use Rattle.std.proofs.Math.ListN.{set}
 use Rattle.std.proofs.Math.Seq.{set-append_seam, get_or-append_seam, take-suc}
@@ -8,20 +8,20 @@ use Rattle.std.proofs.lemmas.Simd.{length-replicate}
 use Rattle.std.proofs.lemmas.List.{length-append, length-take-le, get_or-replicate}
 use Rattle.hll_coupons.specs.Pair.{slot_of, value_of, pair, set_of}
 use Rattle.hll_coupons.specs.Fold.{fold_to, join}
-use Rattle.hll_coupons.proofs.PlainSteps.{is_join}
+use Rattle.hll_coupons.proofs.ReferenceSteps.{is_join}
 use Rattle.hll_coupons.proofs.Registers.{slot_of-pair, value_of-pair, fold_to-pairs}
-use Rattle.hll_arrays.specs.State.{cleared}
-use Rattle.hll_arrays.specs.Store.{Stored, zeroed, raised_by_coupon, merged_with}
+use Rattle.hll_arrays.specs.State.{cleared_state}
+use Rattle.hll_arrays.specs.Store.{Stored, zero_registers, update_with_coupon, merge_with}
 use Rattle.hll_arrays.proofs.Raising.{join-high}
-use Rattle.hll_arrays.proofs.States.{state_after-cleared}
+use Rattle.hll_arrays.proofs.States.{state_after-cleared_state}
 
--- the first so many of some registers, and 0 for the others
+-- the first s of some registers, and 0 for the others
 abbrev pub filled : ℕ → ℕ → List ℕ → Stored
-filled k s V = record { lg_k = k; registers = take s V ++ replicate (length V - s) 0; state = cleared }
+filled k s V = record { lg_k = k; registers = take s V ++ replicate (length V - s) 0; state = cleared_state }
 
 -- the pair of the next register puts it
 pub filled-next : (k s c : ℕ) (V : List ℕ) → k ≤ 21 → length V ≡ 2 ^ k → s < length V → c ≡ pair (slot_of s) (get_or V s 0) →
-    raised_by_coupon (filled k s V) c ≡ filled k (s + 1) V
+    update_with_coupon (filled k s V) c ≡ filled k (s + 1) V
 filled-next k s c V small size within is =
     let v : ℕ = get_or V s 0 in
     let m : ℕ = length V - (s + 1) in
@@ -45,12 +45,12 @@ filled-next k s c V small size within is =
     let more : P ++ v ∷ Z ≡ take (s + 1) V ++ Z = sym (append_assoc P (v ∷ []) Z) ∙ ap (λ xs. xs ++ Z) (sym (take-suc V s 0 within) ∙ ap (λ n. take n V) next) in
     let joined : J ≡ take (s + 1) V ++ Z =
     sym (join-high k R c (whole ∙ size) (omega (arith, at, whole, within)) (omega (arith, zero_there))) ∙ written ∙ more in
-    λ i. record { lg_k = k; registers = joined i; state = state_after-cleared R J i }
+    λ i. record { lg_k = k; registers = joined i; state = state_after-cleared_state R J i }
 
 -- registers that are merged into zeros are the registers
-pub merged_with-zeroed : (k : ℕ) (R : List ℕ) → k ≤ 21 → length R ≡ 2 ^ k → merged_with (zeroed k) R ≡ record { lg_k = k; registers = R; state = cleared }
-merged_with-zeroed k R small size =
+pub merge_with-zero_registers : (k : ℕ) (R : List ℕ) → k ≤ 21 → length R ≡ 2 ^ k → merge_with (zero_registers k) R ≡ record { lg_k = k; registers = R; state = cleared_state }
+merge_with-zero_registers k R small size =
     let Z : List ℕ = replicate (2 ^ k) 0 in
     let long : length R ≡ length Z = size ∙ sym (length-replicate {A = ℕ} (2 ^ k) 0) in
     let joined : R ≡ join Z R = is_join Z R R (sym long) long (λ s h. omega (arith, get_or-replicate {A = ℕ} (2 ^ k) s 0 0 (omega (arith, h, size)))) in
-    λ i. record { lg_k = k; registers = (ap (join Z) (fold_to-pairs R k small size) ∙ sym joined) i; state = cleared }
+    λ i. record { lg_k = k; registers = (ap (join Z) (fold_to-pairs R k small size) ∙ sym joined) i; state = cleared_state }

@@ -14,7 +14,8 @@ use Rattle.hll_coupons.proofs.Joins.{join_assoc}
 use Rattle.hll_coupons.proofs.Folds.{length-fold_to, get_or-fold_to}
 use Rattle.hll_coupons.proofs.Greatest.{bounded, reached}
 use Rattle.hll_arrays.specs.Store.{AreRegisters}
-use Rattle.hll_coupons.proofs.PlainSteps.{is_join, fold_to-empty}
+use Rattle.hll_arrays.proofs.Grouping.{groups-pow}
+use Rattle.hll_coupons.proofs.ReferenceSteps.{is_join, fold_to-empty}
 use Rattle.hll_coupons.proofs.Registers.{StandsFor, pairs_only, pairs_have, slot_of-pair, value_of-pair, value_at_cases, value_at_same}
 
 -- the fold of the first m registers
@@ -43,7 +44,7 @@ module _ (R : List ℕ) (e i : ℕ) (small : length R ≤ 2 ^ 22) (enough : (i +
   at_block : (s : ℕ) → s < 2 ^ e → get_or block s 0 ≡ get_or R (start + s) 0
   at_block s h = get_or-take (2 ^ e) (drop start R) s 0 h ∙ get_or-drop start R s 0
 
-  -- a register among the first so many
+  -- a register before the end of the block
   register : (q j : ℕ) → StandsFor (take stop R) 0 q j → (j < stop) × (slot_of q ≡ j) × (value_of q ≡ get_or R j 0)
   register q j h =
       let below : j < stop = omega (arith, h.within, size-stop) in
@@ -66,12 +67,12 @@ module _ (R : List ℕ) (e i : ℕ) (small : length R ≤ 2 ^ 22) (enough : (i +
         | inr at ↦ elim (cases_lt j start) [
           | inl earlier ↦
               let same : get_or (take stop R) j 0 ≡ get_or (take start R) j 0 = get_or-take stop R j 0 is.0 ∙ sym (get_or-take start R j 0 earlier) in
-              let held : contains (pairs (take start R)) q ≡ true = pairs_have (take start R) q j (record {
+              let coupons_in : contains (pairs (take start R)) q ≡ true = pairs_have (take start R) q j (record {
                 within = omega (arith, earlier, size-start);
                 positive = omega (arith, found.1.positive, same);
                 is = found.1.is ∙ ap (λ v. pair (0 + j) v) same;
               }) in
-              omega (arith, before, reached (value_at e s) q (pairs (take start R)) held)
+              omega (arith, before, reached (value_at e s) q (pairs (take start R)) coupons_in)
           | inr later ↦
               let folds : j % 2 ^ e ≡ s = ap (λ t. t % 2 ^ e) (sym is.1) ∙ at.0 in
               let back : j ≡ i * 2 ^ e + (j - start) = omega (arith, later) in
@@ -109,14 +110,14 @@ module _ (R : List ℕ) (e i : ℕ) (small : length R ≤ 2 ^ 22) (enough : (i +
         | inr none ↦ omega (arith, at_block s h)
         | inl some ↦
             let same : get_or (take stop R) (start + s) 0 ≡ v = get_or-take stop R (start + s) 0 below in
-            let held : contains (pairs (take stop R)) (pair (start + s) v) ≡ true = pairs_have (take stop R) (pair (start + s) v) (start + s) (record {
+            let coupons_in : contains (pairs (take stop R)) (pair (start + s) v) ≡ true = pairs_have (take stop R) (pair (start + s) v) (start + s) (record {
               within = omega (arith, below, size-stop);
               positive = omega (arith, some, same);
               is = λ t. pair (sym (zero-add (start + s)) t) (sym same t);
             }) in
             let slot : slot_of (pair (start + s) v) % 2 ^ e ≡ s = ap (λ t. t % 2 ^ e) (slot_of-pair (start + s) v far) ∙ mod-mul-add i (2 ^ e) s h in
             let value : value_at e s (pair (start + s) v) ≡ v = value_at_same e s (pair (start + s) v) slot ∙ value_of-pair (start + s) v far in
-            omega (arith, at_block s h, value, reached (value_at e s) (pair (start + s) v) (pairs (take stop R)) held)
+            omega (arith, at_block s h, value, reached (value_at e s) (pair (start + s) v) (pairs (take stop R)) coupons_in)
       ]
 
   -- a block more is a join with it
@@ -143,9 +144,7 @@ module _ (k e i : ℕ) (small : k ≤ 21) (le : e ≤ k) where
 -- and is of groups of four, as those before it
 module _ (e : ℕ) (four : 4 ≤ e) where
   pub power-groups : 2 ^ e % 4 ≡ 0
-  power-groups =
-      let split : 2 ^ e ≡ 4 * 2 ^ (e - 2) = ap (λ n. 2 ^ n) (let sum : e ≡ 2 + (e - 2) = omega (arith, four) in sum) ∙ pow-add 2 2 (e - 2) in
-      omega (arith, split)
+  power-groups = omega (arith, groups-pow e (omega (arith, four)))
 
   pub block-aligned : (i : ℕ) → i * 2 ^ e % 4 ≡ 0
   block-aligned i =

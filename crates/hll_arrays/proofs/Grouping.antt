@@ -9,7 +9,7 @@ use Rattle.std.proofs.Math.ListN.{set}
 use Rattle.std.proofs.Math.Nat.{pow-suc}
 use Rattle.std.proofs.Math.Pow.{pow_mono}
 use Rattle.std.proofs.lemmas.Bool.{cases_eq, eqb-true, false_from_ne_true}
-use Rattle.std.proofs.lemmas.List.{get_or_default, append-nil, append_assoc, length-drop, take-append-drop, take_more, take_all, drop_all}
+use Rattle.std.proofs.lemmas.List.{append-nil, append_assoc, length-drop, take-append-drop, take_more, take_all, drop_all}
 use Rattle.std.proofs.lemmas.List.Concat.{flat_map-append}
 use Rattle.std.proofs.lemmas.List.Elements.{All-tail, All-append, All-take, All-drop}
 use Rattle.std.proofs.lemmas.List.Folds.{list_all-append}
@@ -69,16 +69,7 @@ group_bytes-group_fields g is =
     let last : n / 65536 ≡ c = omega arith in
     (λ i. (ap (λ v. v % 256) back ∙ one) i ∷ (ap (λ v. v / 256 % 256) back ∙ two) i ∷ (ap (λ v. v / 65536) back ∙ last) i ∷ []) ∙ sym (three g is.three)
 
--- a list of three bytes is a group
-pub is_group : (g : List ℕ) → length g ≡ 3 → get_or g 0 0 < 256 → get_or g 1 0 < 256 → get_or g 2 0 < 256 → IsGroup g
-is_group g size a b c = record { three = size; bytes = each }
-  where
-    each : (k d : ℕ) → k < length g → get_or g k d < 256
-    each zero d h = omega (arith, a, get_or_default g 0 d 0 h)
-    each (suc zero) d h = omega (arith, b, get_or_default g 1 d 0 h)
-    each (suc (suc zero)) d h = omega (arith, c, get_or_default g 2 d 0 h)
-    each (suc (suc (suc k))) d h = absurd (omega (arith, size))
-
+-- a field has six bits
 small-group_fields : (g : List ℕ) → IsGroup g → All (λ v. v ≤ 63) (group_fields g)
 small-group_fields g is zero d h = omega arith
 small-group_fields g is (suc zero) d h = omega arith
@@ -125,7 +116,7 @@ size-AreGroups k G h are = ap (λ n. 4 * n) are.size ∙ groups-pow k h
 pub few-AreGroups : (k : ℕ) (G : List (List ℕ)) → k ≤ 21 → AreGroups k G → length G ≤ 2 ^ 19
 few-AreGroups k G h are = omega (arith, are.size, pow_mono (let less : k - 2 ≤ 19 = omega arith in less))
 
--- the register of a slot stands in the group that is a quarter as far
+-- the register of a slot is in group s / 4
 pub get_or-registers_in : (G : List (List ℕ)) (s : ℕ) (d : List ℕ) → s < 4 * length G → get_or (registers_in G) s 0 ≡ get_or (group_fields (get_or G (s / 4) d)) (s % 4) 0
 get_or-registers_in [] s d h = absurd (omega arith)
 get_or-registers_in (g ∷ G) zero d h = refl
@@ -178,7 +169,7 @@ registers_in-replicate zero = refl
 registers_in-replicate (suc n) =
     (λ i. 0 ∷ 0 ∷ 0 ∷ 0 ∷ registers_in-replicate n i) ∙ ap (λ m. replicate m 0) (let more : suc (suc (suc (suc (4 * n)))) ≡ 4 * suc n = omega arith in more)
 
--- so many groups are four times so many registers
+-- the first n groups are the first 4 n registers
 pub take-registers_in : (n : ℕ) (G : List (List ℕ)) → take (4 * n) (registers_in G) ≡ registers_in (take n G)
 take-registers_in zero G = refl
 take-registers_in (suc n) [] = take_all (4 * suc n) [] (omega arith)
@@ -210,7 +201,7 @@ All-first_chunks P (suc n) R (suc i) h l = All-first_chunks P n (drop 4 R) i (Al
 
 -- ---- sums
 
--- the weights of so many registers
+-- the weights of registers are at most 2^63 each
 pub units-le : (R : List ℕ) → units R ≤ length R * 2 ^ 63
 units-le R = sum_by-le (λ v. 2 ^ (63 - v)) (2 ^ 63) R (λ k d h. pow_mono (let less : 63 - get_or R k d ≤ 63 = omega arith in less))
 

@@ -1,9 +1,11 @@
-use Rattle.std.proofs.Common.{◌≡◌, ℕ, ◌+◌, ◌*◌, ◌/◌, ◌%◌, ◌^◌, ◌<◌, ◌≤◌, zero, suc, List, [], ◌∷◌, length, get_or, All, refl, sym, ap, ◌∙◌, subst, arith}
+-- The packed forms of registers are read back.
+use Rattle.std.proofs.Common.{◌≡◌, ℕ, ◌/◌, ◌%◌, ◌^◌, ◌<◌, ◌≤◌, zero, suc, List, [], ◌∷◌, ◌++◌, length, get_or, All, refl, sym, ◌∙◌, subst, arith}
 use Rattle.std.specs.Prelude.{min, fold}
 use Rattle.std.proofs.lemmas.List.Elements.{All-tail}
 use Rattle.hll_arrays.specs.Packed.{nibble, nibble_bytes_above, nibble_at, minimum, NibblesReadBack, FieldsReadBack}
 use Rattle.hll_arrays.specs.Payload.{ExceptionsReadBack, Agrees, register_of, entry_at}
 use Rattle.hll_arrays.proofs.Exceptions.{register_back}
+use Rattle.hll_arrays.proofs.Grouping.{group_fields-group_bytes}
 
 pub nibbles_read_back : NibblesReadBack
 nibbles_read_back m [] s h = absurd (omega arith)
@@ -15,14 +17,6 @@ nibbles_read_back m (r ∷ q ∷ R) (suc (suc s)) h =
     let half : suc (suc s) / 2 ≡ suc (s / 2) = omega arith in
     let odd : suc (suc s) % 2 ≡ s % 2 = omega arith in
     (λ i. get_or (nibble_bytes_above m (r ∷ q ∷ R)) (half i) 0 / 16 ^ odd i % 16) ∙ nibbles_read_back m R s (omega arith)
-
--- one group of four
-module _ (a b c d : ℕ) (ha : a ≤ 63) (hb : b ≤ 63) (hc : c ≤ 63) (hd : d ≤ 63) where
-  abbrev whole : ℕ
-  whole = a + 64 * b + 4096 * c + 262144 * d
-
-  back : (whole % 256) + 256 * (whole / 256 % 256) + 65536 * (whole / 65536) ≡ whole
-  back = omega arith
 
 pub fields_read_back : FieldsReadBack
 fields_read_back zero [] e h = refl
@@ -38,13 +32,7 @@ fields_read_back (suc n) (a ∷ b ∷ c ∷ d ∷ R) e h =
     let hc : c ≤ 63 = h 2 0 (omega arith) in
     let hd : d ≤ 63 = h 3 0 (omega arith) in
     let rest : All P R = All-tail P d R (All-tail P c (d ∷ R) (All-tail P b (c ∷ d ∷ R) (All-tail P a (b ∷ c ∷ d ∷ R) h))) in
-    let g : (whole a b c d ha hb hc hd % 256) + 256 * (whole a b c d ha hb hc hd / 256 % 256) + 65536 * (whole a b c d ha hb hc hd / 65536) ≡ whole a b c d ha hb hc hd = back a b c d ha hb hc hd in
-    let one : whole a b c d ha hb hc hd % 64 ≡ a = omega arith in
-    let two : whole a b c d ha hb hc hd / 64 % 64 ≡ b = omega arith in
-    let three : whole a b c d ha hb hc hd / 4096 % 64 ≡ c = omega arith in
-    let four : whole a b c d ha hb hc hd / 262144 ≡ d = omega arith in
-    λ i. (ap (λ v. v % 64) g ∙ one) i ∷ (ap (λ v. v / 64 % 64) g ∙ two) i ∷ (ap (λ v. v / 4096 % 64) g ∙ three) i ∷ (ap (λ v. v / 262144) g ∙ four) i
-    ∷ fields_read_back n R (omega arith) rest i
+    λ i. group_fields-group_bytes a b c d ha hb hc hd i ++ fields_read_back n R (omega arith) rest i
 
 -- the minimum is at most each register
 minimum_from_le : (m : ℕ) (R : List ℕ) → fold min m R ≤ m

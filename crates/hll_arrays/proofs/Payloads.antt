@@ -1,3 +1,4 @@
+-- A payload is known by its front, and a fault excludes it.
 use Rattle.std.proofs.Common.{◌≡◌, ℕ, ◌+◌, ◌-◌, ◌*◌, ◌^◌, ◌<◌, ◌≤◌, Bool, cond, eqb, List, [], ◌∷◌, ◌++◌, length, get_or, take, drop, All, refl, sym, ap, subst, ◌∙◌, arith}
 use Rattle.std.proofs.lemmas.List.{length-drop, take-append-le, get_or-drop}
 use Rattle.std.specs.Int.{w64, from_le_bytes}
@@ -5,12 +6,12 @@ use Rattle.hll_base.specs.declared.error.Reason.{Reason}
 use Rattle.hll_coupons.specs.Coupons.{coupons_at}
 use Rattle.hll_coupons.proofs.Payloads.{front_le, front_byte, front_rest, front_number, front_coupons, front_take, same_fronts}
 use Rattle.hll_arrays.specs.Packed.{nibble_at}
-use Rattle.hll_arrays.specs.Payload.{state_at, low_count, exception_count, IsHll8Payload, Hll8Fault, field_size, IsHll6Payload, Hll6Fault, Hll4Shape, exception_places, nibbles_of, entries_of, hll4_size, AreEntries, AllAgree, Agrees, entry_at, HasEntries, IsHll4Payload, Hll4Fault}
+use Rattle.hll_arrays.specs.Payload.{state_at, num_at_cur_min, exception_count, IsHll8Payload, Hll8Fault, field_size, IsHll6Payload, Hll6Fault, Hll4Shape, exception_places, nibbles_of, entries_of, hll4_size, AreEntries, AllAgree, Agrees, entry_at, HasEntries, IsHll4Payload, Hll4Fault}
 use Rattle.hll_arrays.specs.Payload as payload
 
 -- ---- the state
 
--- the words stand in the front
+-- the words are in the front
 pub state_at-front : (flag : Bool) (a t b : List ℕ) → a ++ t ≡ b → 24 ≤ length a → state_at flag a ≡ state_at flag b
 state_at-front flag a t b e long = λ i. record {
   words = word 0 (omega arith) i ∷ word 8 (omega arith) i ∷ word 16 (omega arith) i ∷ [];
@@ -30,7 +31,7 @@ one_hll8 k a b s t p q e = same_fronts a b s t e (p.size ∙ sym q.size)
 pub one_hll6 : (k : ℕ) (a b s t : List ℕ) → IsHll6Payload k a → IsHll6Payload k b → a ++ s ≡ b ++ t → a ≡ b
 one_hll6 k a b s t p q e = same_fronts a b s t e (p.size ∙ sym q.size)
 
--- a count stands in the front
+-- a count is in the front
 front_exceptions : (a t b : List ℕ) → a ++ t ≡ b → 32 ≤ length a → exception_count a ≡ exception_count b
 front_exceptions a t b e h = front_number a t b e 28 (omega arith)
 
@@ -43,7 +44,7 @@ one_hll4 h a b s t p q e =
     front_places h a s (b ++ t) e p.has_entries.whole ∙ sym (front_places h b t (b ++ t) refl q.has_entries.whole) in
     same_fronts a b s t e (p.size ∙ ap (λ n. 32 + (2 ^ (h.lg_k - 1) + 4 * n)) places ∙ sym q.size)
 
--- ---- where a fault stands, no front is a payload
+-- ---- with a fault, no front is a payload
 
 pub hll8_fault_excludes : (k : ℕ) (a t b : List ℕ) (r : Reason) → a ++ t ≡ b → IsHll8Payload k a → Hll8Fault k b r → ⊥
 hll8_fault_excludes k a t b r e p (payload.Hll8Fault.no_counts n) = omega (arith, p.size, front_le a t b e)

@@ -11,11 +11,11 @@ use Rattle.hll_coupons.specs.Fold.{fold_to, join, value_at}
 use Rattle.hll_coupons.proofs.Folds.{length-fold_to, get_or-fold_to}
 use Rattle.hll_coupons.proofs.Greatest.{greatest-set_of}
 use Rattle.hll_coupons.proofs.Joins.{length-join, get_or-join}
-use Rattle.hll_coupons.proofs.PlainSteps.{is_join}
+use Rattle.hll_coupons.proofs.ReferenceSteps.{is_join}
 use Rattle.hll_coupons.proofs.Registers.{value_at_cases, value_at_same}
 use Rattle.hll_arrays.specs.declared.estimate_state.EstimateState.{EstimateState}
-use Rattle.hll_arrays.specs.State.{cleared}
-use Rattle.hll_arrays.specs.Store.{Stored, AreRegisters, raised_by_coupon}
+use Rattle.hll_arrays.specs.State.{cleared_state}
+use Rattle.hll_arrays.specs.Store.{Stored, AreRegisters, update_with_coupon}
 use Rattle.hll_arrays.proofs.States.{state_after-same, state_after-other}
 
 module _ (k : ℕ) (R : List ℕ) (c : ℕ) (size : length R ≡ 2 ^ k) where
@@ -57,17 +57,17 @@ module _ (k : ℕ) (R : List ℕ) (c : ℕ) (size : length R ≡ 2 ^ k) where
       ])
 
   -- a coupon that is no greater changes nothing
-  pub raised-low : (state : EstimateState) → value_of c ≤ get_or R t 0 →
-      let x : Stored = record { lg_k = k; registers = R; state = state } in x ≡ raised_by_coupon x c
-  raised-low state low =
+  pub update_with_pairs-low : (state : EstimateState) → value_of c ≤ get_or R t 0 →
+      let x : Stored = record { lg_k = k; registers = R; state = state } in x ≡ update_with_coupon x c
+  update_with_pairs-low state low =
       let new : R ≡ join R F = join-low low in
       λ i. record { lg_k = k; registers = new i; state = sym (state_after-same R (join R F) state new) i }
 
   -- a greater one is written, and clears the state
-  pub raised-high : (state : EstimateState) → t < length R → get_or R t 0 < value_of c →
+  pub update_with_pairs-high : (state : EstimateState) → t < length R → get_or R t 0 < value_of c →
       let x : Stored = record { lg_k = k; registers = R; state = state } in
-      let y : Stored = record { lg_k = k; registers = set R t (value_of c); state = cleared } in y ≡ raised_by_coupon x c
-  raised-high state within high =
+      let y : Stored = record { lg_k = k; registers = set R t (value_of c); state = cleared_state } in y ≡ update_with_coupon x c
+  update_with_pairs-high state within high =
       let new : set R t (value_of c) ≡ join R F = join-high within (omega arith) in
       let other : R ≡ join R F → ⊥ = λ e. omega (arith, ap (λ (Q : List ℕ). get_or Q t 0) (e ∙ sym new), get_or-set_same R t (value_of c) 0 within) in
       λ i. record { lg_k = k; registers = new i; state = sym (state_after-other R (join R F) state other) i }
@@ -82,15 +82,15 @@ module _ (k : ℕ) (R : List ℕ) (c : ℕ) (state : EstimateState) (size : leng
   read = is ∙ ap (λ i. get_or R i old) at ∙ get_or_default R (slot_of c % 2 ^ k) old 0 inside
 
   -- one that is no less is kept
-  pub raised-kept : value_of c ≤ old → let x : Stored = record { lg_k = k; registers = R; state = state } in x ≡ raised_by_coupon x c
-  raised-kept low = raised-low k R c size state (omega (arith, low, read))
+  pub update_with_pairs-kept : value_of c ≤ old → let x : Stored = record { lg_k = k; registers = R; state = state } in x ≡ update_with_coupon x c
+  update_with_pairs-kept low = update_with_pairs-low k R c size state (omega (arith, low, read))
 
   -- a smaller one is written over
-  pub raised-written : (v : ℕ) → v ≡ value_of c → old < value_of c →
+  pub update_with_pairs-written : (v : ℕ) → v ≡ value_of c → old < value_of c →
       let x : Stored = record { lg_k = k; registers = R; state = state } in
-      let y : Stored = record { lg_k = k; registers = set R t v; state = cleared } in y ≡ raised_by_coupon x c
-  raised-written v same high =
-      (λ i. record { lg_k = k; registers = set R (at i) (same i); state = cleared }) ∙ raised-high k R c size state inside (omega (arith, high, read))
+      let y : Stored = record { lg_k = k; registers = set R t v; state = cleared_state } in y ≡ update_with_coupon x c
+  update_with_pairs-written v same high =
+      (λ i. record { lg_k = k; registers = set R (at i) (same i); state = cleared_state }) ∙ update_with_pairs-high k R c size state inside (omega (arith, high, read))
 
 -- ---- joins
 

@@ -1,19 +1,13 @@
 -- Lemmas on reading the registers of an image.
-use Rattle.std.proofs.Common.{◌≡◌, ℕ, ◌+◌, ◌-◌, ◌^◌, ◌≤◌, List, length, take, drop, true, All, Result, Ok, Err, sym, subst, ◌∙◌, arith}
+use Rattle.std.proofs.Common.{◌≡◌, ℕ, ◌+◌, ◌-◌, ◌^◌, ◌≤◌, List, length, take, drop, true, All, sym, subst, ◌∙◌, arith}
 use Rattle.std.specs.Prelude.{nat_le}
 use Rattle.std.specs.List.{list_all}
-use Rattle.std.specs.Result.{IfErr, IsErrAnd}
 use Rattle.std.proofs.lemmas.Bool.{leb-true, le-leb}
 use Rattle.std.proofs.lemmas.List.{length-take, drop-take, take-append-drop}
 use Rattle.std.proofs.lemmas.List.Elements.{All-weaker}
 use Rattle.std.proofs.lemmas.List.Sums.{AllPass-from_list_all, list_all-from_AllPass}
 use Rattle.hll_coupons.proofs.Payloads.{front_number}
-use Rattle.hll_arrays.specs.Payload.{low_count, exception_count, IsHll8Payload}
-
--- an error that is passed on
-pub IfErr-passed : {T E : Type 0} (P : E → Type 0) (r : Result T E) (e : E) → IsErrAnd r (λ f. f ≡ e) → P e → IfErr r P
-IfErr-passed P (Ok x) e h f = tt
-IfErr-passed P (Err g) e h f = subst P (sym h) f
+use Rattle.hll_arrays.specs.Payload.{num_at_cur_min, exception_count, IsHll8Payload}
 
 -- what the test of bytes says
 pub small-from : (xs : List ℕ) → list_all (λ v. nat_le v 63) xs ≡ true → All (λ v. v ≤ 63) xs
@@ -23,7 +17,7 @@ pub small-to : (xs : List ℕ) → All (λ v. v ≤ 63) xs → list_all (λ v. n
 small-to xs h = list_all-from_AllPass (λ v. nat_le v 63) xs (All-weaker (λ v. v ≤ 63) (λ v. nat_le v 63 ≡ true) (λ v l. le-leb v 63 l) xs h)
 
 -- numbers and registers that are right are a payload
-pub is_hll8_payload : (k : ℕ) (b : List ℕ) → 32 + 2 ^ k ≤ length b → low_count b ≤ 2 ^ k → exception_count b ≡ 0 → All (λ v. v ≤ 63) (take (2 ^ k) (drop 32 b))
+pub is_hll8_payload : (k : ℕ) (b : List ℕ) → 32 + 2 ^ k ≤ length b → num_at_cur_min b ≤ 2 ^ k → exception_count b ≡ 0 → All (λ v. v ≤ 63) (take (2 ^ k) (drop 32 b))
     → IsHll8Payload k (take (32 + 2 ^ k) b)
 is_hll8_payload k b there low none small =
     let n : ℕ = 32 + 2 ^ k in

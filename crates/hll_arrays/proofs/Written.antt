@@ -9,33 +9,34 @@ use Rattle.std.proofs.Math.Nat.{pow-suc}
 use Rattle.std.proofs.Math.Pow.{pow_mono}
 use Rattle.std.proofs.Math.Seq.{drop-append_seam}
 use Rattle.hll_coupons.specs.Pair.{set_of}
-use Rattle.hll_coupons.specs.Coupons.{words, coupon_bytes, ListsOnce}
+use Rattle.hll_coupons.specs.Coupons.{words, coupon_bytes, IsAscending}
 use Rattle.hll_coupons.proofs.Payloads.{words-written, length-coupon_bytes}
 use Rattle.hll_arrays.specs.declared.estimate_state.EstimateState.{EstimateState}
 use Rattle.hll_arrays.specs.State.{IsState}
 use Rattle.hll_arrays.specs.Store.{AreRegisters}
 use Rattle.hll_arrays.specs.Packed.{zeros, fields, field_bytes, minimum, count_at_minimum, nibble_bytes, nibble_bytes_above, exceptions, nibble_at}
-use Rattle.hll_arrays.specs.Payload.{low_count, exception_count, state_at, number_bytes, IsHll8Payload, IsHll6Payload, Hll4Shape, IsHll4Payload, AreEntries, entries_of, nibbles_of, registers_of, Agrees, register_of, entry_at}
+use Rattle.hll_arrays.specs.Payload.{num_at_cur_min, exception_count, state_at, number_bytes, IsHll8Payload, IsHll6Payload, Hll4Shape, IsHll4Payload, AreEntries, entries_of, nibbles_of, registers_of, Agrees, register_of, entry_at}
 use Rattle.hll_arrays.proofs.Packing.{fields_read_back, exceptions_read_back}
+use Rattle.hll_arrays.proofs.Grouping.{groups-pow}
 use Rattle.hll_arrays.proofs.Entries.{entries_fit, entries_few, are_entries}
 
 -- ---- the numbers before the registers
 
 -- three words, and two counts
-record Numbers (state : EstimateState) (low excepted : ℕ) (rest : List ℕ) : Type 0 where
+record Preamble (state : EstimateState) (low excepted : ℕ) (rest : List ℕ) : Type 0 where
   state_is : (flag : Bool) → flag ≡ state.out_of_order → state_at flag (number_bytes state low excepted ++ rest) ≡ state
-  low_is : low_count (number_bytes state low excepted ++ rest) ≡ low
+  low_is : num_at_cur_min (number_bytes state low excepted ++ rest) ≡ low
   excepted_is : exception_count (number_bytes state low excepted ++ rest) ≡ excepted
   size : length (number_bytes state low excepted) ≡ 32
   behind : drop 32 (number_bytes state low excepted ++ rest) ≡ rest
 
-numbers : (ws : List ℕ) (flag : Bool) (low excepted : ℕ) (rest : List ℕ) → length ws ≡ 3 → All (λ w. w < 2 ^ 64) ws → low < 2 ^ 32 → excepted < 2 ^ 32
-    → Numbers (record { words = ws; out_of_order = flag }) low excepted rest
-numbers [] flag low excepted rest n h l e = absurd (omega arith)
-numbers (a ∷ []) flag low excepted rest n h l e = absurd (omega arith)
-numbers (a ∷ b ∷ []) flag low excepted rest n h l e = absurd (omega arith)
-numbers (a ∷ b ∷ c ∷ d ∷ ws) flag low excepted rest n h l e = absurd (omega arith)
-numbers (a ∷ b ∷ c ∷ []) flag low excepted rest n h l e = record {
+preamble : (ws : List ℕ) (flag : Bool) (low excepted : ℕ) (rest : List ℕ) → length ws ≡ 3 → All (λ w. w < 2 ^ 64) ws → low < 2 ^ 32 → excepted < 2 ^ 32
+    → Preamble (record { words = ws; out_of_order = flag }) low excepted rest
+preamble [] flag low excepted rest n h l e = absurd (omega arith)
+preamble (a ∷ []) flag low excepted rest n h l e = absurd (omega arith)
+preamble (a ∷ b ∷ []) flag low excepted rest n h l e = absurd (omega arith)
+preamble (a ∷ b ∷ c ∷ d ∷ ws) flag low excepted rest n h l e = absurd (omega arith)
+preamble (a ∷ b ∷ c ∷ []) flag low excepted rest n h l e = record {
   state_is = λ f is i. record {
     words = from_le_bytes-to_le_bytes_8 a (h 0 0 (omega arith)) i ∷ from_le_bytes-to_le_bytes_8 b (h 1 0 (omega arith)) i ∷ from_le_bytes-to_le_bytes_8 c (h 2 0 (omega arith)) i ∷ [];
     out_of_order = is i;
@@ -46,8 +47,8 @@ numbers (a ∷ b ∷ c ∷ []) flag low excepted rest n h l e = record {
   behind = refl;
 }
 
-numbers_of : (state : EstimateState) (low excepted : ℕ) (rest : List ℕ) → IsState state → low < 2 ^ 32 → excepted < 2 ^ 32 → Numbers state low excepted rest
-numbers_of state low excepted rest h l e = numbers state.words state.out_of_order low excepted rest h.three h.words l e
+numbers_of : (state : EstimateState) (low excepted : ℕ) (rest : List ℕ) → IsState state → low < 2 ^ 32 → excepted < 2 ^ 32 → Preamble state low excepted rest
+numbers_of state low excepted rest h l e = preamble state.words state.out_of_order low excepted rest h.three h.words l e
 
 module _ (k : ℕ) (R : List ℕ) (state : EstimateState) (low_k : 4 ≤ k) (small : k ≤ 21) (are : AreRegisters k R) (is : IsState state) where
   few : 2 ^ k ≤ 2 ^ 21
@@ -61,7 +62,7 @@ module _ (k : ℕ) (R : List ℕ) (state : EstimateState) (low_k : 4 ≤ k) (sma
   pub hll8 : List ℕ
   hll8 = number_bytes state (zeros R) 0 ++ R
 
-  numbers8 : Numbers state (zeros R) 0 R
+  numbers8 : Preamble state (zeros R) 0 R
   numbers8 = numbers_of state (zeros R) 0 R is (omega (arith, zeros_le, few)) (omega arith)
 
   pub written_hll8 : IsHll8Payload k (number_bytes state (zeros R) 0 ++ R)
@@ -81,7 +82,7 @@ module _ (k : ℕ) (R : List ℕ) (state : EstimateState) (low_k : 4 ≤ k) (sma
   -- ---- six bits
 
   groups : 2 ^ k ≡ 4 * 2 ^ (k - 2)
-  groups = ap (λ n. 2 ^ n) (let e : k ≡ suc (suc (k - 2)) = omega arith in e) ∙ omega (arith, pow-suc 2 (suc (k - 2)), pow-suc 2 (k - 2))
+  groups = sym (groups-pow k (omega arith))
 
   length-field_bytes : (n : ℕ) (S : List ℕ) → length S ≡ 4 * n → length (field_bytes S) ≡ 3 * n + 1
   length-field_bytes zero [] e = refl
@@ -92,7 +93,7 @@ module _ (k : ℕ) (R : List ℕ) (state : EstimateState) (low_k : 4 ≤ k) (sma
   length-field_bytes zero (a ∷ b ∷ c ∷ d ∷ S) e = absurd (omega arith)
   length-field_bytes (suc n) (a ∷ b ∷ c ∷ d ∷ S) e = omega (arith, length-field_bytes n S (omega arith))
 
-  numbers6 : Numbers state (zeros R) 0 (field_bytes R)
+  numbers6 : Preamble state (zeros R) 0 (field_bytes R)
   numbers6 = numbers_of state (zeros R) 0 (field_bytes R) is (omega (arith, zeros_le, few)) (omega arith)
 
   pub written_hll6 : IsHll6Payload k (number_bytes state (zeros R) 0 ++ field_bytes R)
@@ -110,7 +111,7 @@ module _ (k : ℕ) (R : List ℕ) (state : EstimateState) (low_k : 4 ≤ k) (sma
 
   -- ---- four bits
 
-  module _ (order : List ℕ) (flag : Bool) (lists : ListsOnce order (set_of (exceptions R))) where
+  module _ (order : List ℕ) (flag : Bool) (lists : IsAscending order (set_of (exceptions R))) where
     abbrev pub shape : Hll4Shape
     shape = record { lg_k = k; minimum = minimum R; compact = true; lg_table = 0 }
 
@@ -126,7 +127,7 @@ module _ (k : ℕ) (R : List ℕ) (state : EstimateState) (low_k : 4 ≤ k) (sma
     few_entries : length order ≤ 2 ^ k
     few_entries = entries_few k R order small are.size are.small lists
 
-    numbers4 : Numbers state (count_at_minimum R) (length order) rest
+    numbers4 : Preamble state (count_at_minimum R) (length order) rest
     numbers4 = numbers_of state (count_at_minimum R) (length order) rest is (omega (arith, at_minimum_le, few)) (omega (arith, few_entries, few))
 
     halves : 2 ^ k ≡ 2 * 2 ^ (k - 1)

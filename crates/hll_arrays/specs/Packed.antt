@@ -1,8 +1,9 @@
 -- The packed forms of registers, and their numbers (docs/FORMAT.md, "Packed registers"; docs/MODEL.md, "Packed forms").
-use Rattle.std.specs.Prelude.{◌≡◌, ℕ, ◌+◌, ◌-◌, ◌*◌, ◌/◌, ◌%◌, ◌^◌, ◌<◌, ◌≤◌, ◌==◌, nat_le, min, if◌then◌else◌, List, [], ◌∷◌, ◌++◌, length, count_by, sum_by, slice_index, fold, unwrap_or, find, filter, All}
-use Rattle.std.specs.List.{range_with_len}
+use Rattle.std.specs.Prelude.{◌≡◌, ℕ, ◌+◌, ◌-◌, ◌*◌, ◌/◌, ◌%◌, ◌^◌, ◌<◌, ◌≤◌, ◌==◌, nat_le, min, List, [], ◌∷◌, ◌++◌, length, count_by, sum_by, slice_index, fold, filter, All}
 use Rattle.hll_coupons.specs.Pair.{value_of}
 use Rattle.hll_coupons.specs.Fold.{words_from}
+use Rattle.hll_coupons.specs.AuxMap.{table_bytes}
+use Rattle.hll_arrays.specs.Groups.{group_fields}
 use Rattle.hll_coupons.specs.declared.hll_type.HllType.{HllType}
 use Rattle.hll_coupons.specs.declared.hll_type.HllType.TheVariants.{Hll4, Hll6, Hll8}
 
@@ -16,7 +17,7 @@ minimum R = fold min 63 R
 abbrev pub count_at_minimum : List ℕ → ℕ
 count_at_minimum R = count_by (λ r. r == minimum R) R
 
--- how far a register is above the minimum, in four bits: 15 stands for an exception
+-- how far a register is above the minimum, in four bits; 15 marks an exception
 abbrev pub nibble : ℕ → ℕ → ℕ
 nibble m r = min (r - m) 15
 
@@ -55,7 +56,7 @@ field_bytes _ = 0 ∷ []
 
 -- the registers of groups of three bytes; a last byte holds none
 abbrev pub fields : List ℕ → List ℕ
-fields (a ∷ b ∷ c ∷ rest) = let g = a + 256 * b + 65536 * c in (g % 64) ∷ (g / 64 % 64) ∷ (g / 4096 % 64) ∷ (g / 262144) ∷ fields rest
+fields (a ∷ b ∷ c ∷ rest) = group_fields (a ∷ b ∷ c ∷ []) ++ fields rest
 fields _ = []
 
 -- ---- numbers
@@ -67,18 +68,6 @@ zeros R = count_by (λ v. v == 0) R
 -- the sum of 2^(63 - v) over the registers
 abbrev pub units : List ℕ → ℕ
 units R = sum_by (λ v. 2 ^ (63 - v)) R
-
--- the logarithm of the start size of a table of exceptions, by lg_k
-abbrev pub start_size : ℕ → ℕ
-start_size k = if nat_le k 6 then 2 else (if nat_le k 9 then 3 else (if nat_le k 11 then 4 else (if nat_le k 13 then 5 else k - 8)))
-
--- the least size from the start size up of which so many entries fill at most three quarters
-abbrev pub table_size : ℕ → ℕ → ℕ
-table_size k n = unwrap_or (find (λ q. nat_le (4 * n) (3 * 2 ^ q)) (range_with_len (start_size k) 24)) 0
-
--- the bytes of a table of exceptions, none where there is no entry
-abbrev pub table_bytes : ℕ → ℕ → ℕ
-table_bytes k n = if n == 0 then 0 else 4 * 2 ^ table_size k n
 
 -- the bytes that registers take at each width
 abbrev pub size_in_registers : ℕ → HllType → List ℕ → ℕ

@@ -1,4 +1,4 @@
--- What stands behind the header in an image of registers, what can be wrong with it, and what is written
+-- What follows the header in an image of registers, what can be wrong with it, and what is written
 -- (docs/FORMAT.md, "HLL" and "What is written"; docs/MODEL.md, "Images").
 use Rattle.std.specs.Prelude.{◌≡◌, ◌≢◌, ℕ, ◌+◌, ◌-◌, ◌*◌, ◌/◌, ◌%◌, ◌^◌, ◌≤◌, ◌<◌, ◌==◌, Bool, false, if◌then◌else◌, List, [], ◌∷◌, ◌++◌, length, drop, take, map, find, slice_index, All, Option, Some, None}
 use Rattle.std.specs.List.{range_with_len, flat_map}
@@ -8,7 +8,7 @@ use Rattle.std.specs.FinSet.{len}
 use Rattle.hll_base.specs.declared.error.Reason.{Reason}
 use Rattle.hll_base.specs.declared.error.Reason.TheVariants.{Truncated, LgArr, Count, Coupon, Register}
 use Rattle.hll_coupons.specs.Pair.{slot_of, value_of, set_of}
-use Rattle.hll_coupons.specs.Coupons.{coupons_at, coupon_bytes, mode_byte, ListsOnce}
+use Rattle.hll_coupons.specs.Coupons.{coupons_at, coupon_bytes, mode_byte, WritesAscending}
 use Rattle.hll_coupons.specs.declared.hll_type.HllType.{HllType}
 use Rattle.hll_coupons.specs.declared.hll_type.HllType.TheVariants.{Hll4, Hll6, Hll8}
 use Rattle.hll_arrays.specs.declared.estimate_state.EstimateState.{EstimateState}
@@ -24,8 +24,8 @@ state_at out_of_order bytes = record {
 }
 
 -- the count of zeros, at four bits of registers at the minimum
-abbrev pub low_count : List ℕ → ℕ
-low_count bytes = from_le_bytes w32 (drop 24 bytes)
+abbrev pub num_at_cur_min : List ℕ → ℕ
+num_at_cur_min bytes = from_le_bytes w32 (drop 24 bytes)
 
 abbrev pub exception_count : List ℕ → ℕ
 exception_count bytes = from_le_bytes w32 (drop 28 bytes)
@@ -33,7 +33,7 @@ exception_count bytes = from_le_bytes w32 (drop 28 bytes)
 -- ---- eight bits
 
 pub record IsHll8Payload (k : ℕ) (bytes : List ℕ) : Type 0 where
-  pub zero_count : low_count bytes ≤ 2 ^ k
+  pub zero_count : num_at_cur_min bytes ≤ 2 ^ k
   pub no_exceptions : exception_count bytes ≡ 0
   pub size : length bytes ≡ 32 + 2 ^ k
   pub small : All (λ v. v ≤ 63) (drop 32 bytes)
@@ -41,7 +41,7 @@ pub record IsHll8Payload (k : ℕ) (bytes : List ℕ) : Type 0 where
 -- a check of this reason fails, and what it reads is there
 pub data Hll8Fault (k : ℕ) (bytes : List ℕ) : Reason → Type 0 where
   no_counts : length bytes < 32 → Hll8Fault k bytes Truncated
-  zero_count : 32 ≤ length bytes → 2 ^ k < low_count bytes → Hll8Fault k bytes Count
+  zero_count : 32 ≤ length bytes → 2 ^ k < num_at_cur_min bytes → Hll8Fault k bytes Count
   exceptions_counted : 32 ≤ length bytes → exception_count bytes ≢ 0 → Hll8Fault k bytes Count
   short : length bytes < 32 + 2 ^ k → Hll8Fault k bytes Truncated
   register : 32 + 2 ^ k ≤ length bytes → (All (λ v. v ≤ 63) (take (2 ^ k) (drop 32 bytes)) → ⊥) → Hll8Fault k bytes Register
@@ -53,14 +53,14 @@ abbrev pub field_size : ℕ → ℕ
 field_size k = 3 * 2 ^ k / 4 + 1
 
 pub record IsHll6Payload (k : ℕ) (bytes : List ℕ) : Type 0 where
-  pub zero_count : low_count bytes ≤ 2 ^ k
+  pub zero_count : num_at_cur_min bytes ≤ 2 ^ k
   pub no_exceptions : exception_count bytes ≡ 0
   pub size : length bytes ≡ 32 + field_size k
 
 -- a check of this reason fails, and what it reads is there
 pub data Hll6Fault (k : ℕ) (bytes : List ℕ) : Reason → Type 0 where
   no_counts : length bytes < 32 → Hll6Fault k bytes Truncated
-  zero_count : 32 ≤ length bytes → 2 ^ k < low_count bytes → Hll6Fault k bytes Count
+  zero_count : 32 ≤ length bytes → 2 ^ k < num_at_cur_min bytes → Hll6Fault k bytes Count
   exceptions_counted : 32 ≤ length bytes → exception_count bytes ≢ 0 → Hll6Fault k bytes Count
   short : length bytes < 32 + field_size k → Hll6Fault k bytes Truncated
 
@@ -114,7 +114,7 @@ pub record HasEntries (h : Hll4Shape) (bytes : List ℕ) : Type 0 where
   pub few : exception_count bytes ≤ 2 ^ h.lg_k
   pub table : h.compact ≡ false → exception_count bytes ≢ 0 → h.lg_table ≤ 26
 
--- each entry has a value, and no slot stands twice
+-- each entry has a value, and no slot occurs twice
 pub record AreEntries (k : ℕ) (entries : List ℕ) : Type 0 where
   pub valued : All (λ c. 1 ≤ value_of c) entries
   pub distinct : len (set_of (map (λ c. slot_of c % 2 ^ k) entries)) ≡ length entries
@@ -124,7 +124,7 @@ abbrev pub AllAgree : Hll4Shape → List ℕ → Type 0
 AllAgree h bytes = (s : ℕ) → s < 2 ^ h.lg_k → Agrees h.minimum (nibble_at (nibbles_of h bytes) s) (entry_at h.lg_k (entries_of h bytes) s)
 
 pub record IsHll4Payload (h : Hll4Shape) (bytes : List ℕ) : Type 0 where
-  pub low : low_count bytes ≤ 2 ^ h.lg_k
+  pub low : num_at_cur_min bytes ≤ 2 ^ h.lg_k
   pub has_entries : HasEntries h bytes
   pub size : length bytes ≡ hll4_size h bytes
   pub are_entries : AreEntries h.lg_k (entries_of h bytes)
@@ -134,7 +134,7 @@ pub record IsHll4Payload (h : Hll4Shape) (bytes : List ℕ) : Type 0 where
 -- a check of this reason fails, and what it reads is there
 pub data Hll4Fault (h : Hll4Shape) (bytes : List ℕ) : Reason → Type 0 where
   no_counts : length bytes < 32 → Hll4Fault h bytes Truncated
-  low_count_above : 32 ≤ length bytes → 2 ^ h.lg_k < low_count bytes → Hll4Fault h bytes Count
+  low_count_above : 32 ≤ length bytes → 2 ^ h.lg_k < num_at_cur_min bytes → Hll4Fault h bytes Count
   exceptions_above : 32 ≤ length bytes → 2 ^ h.lg_k < exception_count bytes → Hll4Fault h bytes Count
   table : 32 ≤ length bytes → exception_count bytes ≤ 2 ^ h.lg_k → h.compact ≡ false → exception_count bytes ≢ 0 → 26 < h.lg_table → Hll4Fault h bytes LgArr
   short : HasEntries h bytes → length bytes < hll4_size h bytes → Hll4Fault h bytes Truncated
@@ -163,15 +163,15 @@ hll4_bytes k R state order =
     10 ∷ 1 ∷ 7 ∷ k ∷ 0 ∷ (8 + flag_of state) ∷ minimum R ∷ mode_byte 2 Hll4
     ∷ number_bytes state (count_at_minimum R) (length order) ++ (nibble_bytes R ++ coupon_bytes order)
 
--- the bytes are written for these registers; the order is that of the exceptions at four bits, and else there is none
-abbrev pub WritesRegisters : List ℕ → ℕ → HllType → List ℕ → EstimateState → List ℕ → Type 0
-WritesRegisters bytes k Hll4 R state order = ListsOnce order (set_of (exceptions R)) × (bytes ≡ hll4_bytes k R state order)
-WritesRegisters bytes k Hll6 R state order = (order ≡ []) × (bytes ≡ hll6_bytes k R state)
-WritesRegisters bytes k Hll8 R state order = (order ≡ []) × (bytes ≡ hll8_bytes k R state)
+-- the bytes are written for these registers, at four bits with the exceptions in ascending raw words
+abbrev pub WritesRegisters : List ℕ → ℕ → HllType → List ℕ → EstimateState → Type 0
+WritesRegisters bytes k Hll4 R state = WritesAscending (hll4_bytes k R state) (set_of (exceptions R)) bytes
+WritesRegisters bytes k Hll6 R state = bytes ≡ hll6_bytes k R state
+WritesRegisters bytes k Hll8 R state = bytes ≡ hll8_bytes k R state
 
 -- ---- laws
 
--- what is written at four bits gives each register back, whatever the order of the exceptions
+-- nibbles and exceptions give each register back, whatever the order of the exceptions
 abbrev pub ExceptionsReadBack : Type 0
 ExceptionsReadBack = (k : ℕ) (R order : List ℕ) (s : ℕ) → k ≤ 21 → length R ≡ 2 ^ k → All (λ v. v ≤ 63) R →
     set_of order ≡ set_of (exceptions R) → s < 2 ^ k →

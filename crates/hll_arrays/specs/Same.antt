@@ -1,6 +1,7 @@
 -- When two stores are the same (docs/MODEL.md, "Laws of a store").
 use Rattle.std.specs.Prelude.{◌≡◌, ◌&&◌, nat_eq, Bool, true, false, refl}
 use Rattle.std.proofs.Common.{sym, ◌∙◌, subst, eqb-true, eq-eqb}
+use Rattle.std.proofs.lemmas.Bool.{true≢false}
 use Rattle.std.specs.Bool.{beq}
 use Rattle.std.specs.Cmp.{IsPartialEquivalence, IsEquivalence, both_ways, equiv}
 use Rattle.std.specs.Cmp.Lexicographic.{pointwise}
@@ -18,7 +19,7 @@ left false t h = h
 
 right : (s t : Bool) → (s && t) ≡ true → t ≡ true
 right true t h = h
-right false t h = cc
+right false t h = absurd (true≢false (sym h))
 
 both : (s t : Bool) → s ≡ true → t ≡ true → (s && t) ≡ true
 both true t h k = k
@@ -26,8 +27,8 @@ both false t h k = h
 
 beq_same : (s t : Bool) → beq s t ≡ true → s ≡ t
 beq_same true true h = refl
-beq_same true false h = cc
-beq_same false true h = cc
+beq_same true false h = absurd (true≢false (sym h))
+beq_same false true h = absurd (true≢false (sym h))
 beq_same false false h = refl
 
 beq_itself : (s : Bool) → beq s s ≡ true

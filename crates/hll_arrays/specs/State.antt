@@ -9,9 +9,9 @@ pub record IsState (state : EstimateState) : Type 0 where
   pub words : All (λ w. w < 2 ^ 64) state.words
 
 -- three zeros with the flag set
-abbrev pub cleared : EstimateState
-cleared = record { words = 0 ∷ 0 ∷ 0 ∷ []; out_of_order = true }
+abbrev pub cleared_state : EstimateState
+cleared_state = record { words = 0 ∷ 0 ∷ 0 ∷ []; out_of_order = true }
 
 -- the state after an update of registers: kept where none changed, else cleared
 abbrev pub state_after : List ℕ → List ℕ → EstimateState → EstimateState
-state_after old new state = if pointwise nat_eq old new then state else cleared
+state_after old new state = if pointwise nat_eq old new then state else cleared_state

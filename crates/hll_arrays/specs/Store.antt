@@ -1,13 +1,14 @@
--- What each way to keep registers owes (docs/MODEL.md, "Laws of a store").
+-- What a representation of registers owes (docs/MODEL.md, "Laws of a store").
 use Rattle.std.specs.Prelude.{◌≡◌, ℕ, ◌^◌, ◌≤◌, List, [], ◌∷◌, ◌++◌, length, All, replicate}
+use Rattle.std.specs.FinSet.{empty}
 use Rattle.hll_coupons.specs.Pair.{Pairs, set_of}
-use Rattle.hll_coupons.specs.Coupons.{coupon_bytes}
+use Rattle.hll_coupons.specs.Coupons.{coupon_bytes, IsAscending}
 use Rattle.hll_coupons.specs.Fold.{fold_to, join, pairs}
 use Rattle.hll_coupons.specs.declared.hll_type.HllType.{HllType}
 use Rattle.hll_coupons.specs.declared.hll_type.HllType.TheVariants.{Hll4, Hll6, Hll8}
 use Rattle.hll_arrays.specs.declared.estimate_state.EstimateState.{EstimateState}
-use Rattle.hll_arrays.specs.State.{cleared, state_after}
-use Rattle.hll_arrays.specs.Packed.{nibble_bytes, field_bytes}
+use Rattle.hll_arrays.specs.State.{IsState, cleared_state, state_after}
+use Rattle.hll_arrays.specs.Packed.{nibble_bytes, field_bytes, exceptions}
 use Rattle.hll_arrays.specs.Payload.{WritesRegisters}
 
 -- registers with their estimate state
@@ -21,29 +22,30 @@ pub record AreRegisters (k : ℕ) (R : List ℕ) : Type 0 where
   pub size : length R ≡ 2 ^ k
   pub small : All (λ v. v ≤ 63) R
 
--- lg_k is 4 to 21, and the registers are registers; a state is three words of 64 bits by its type
+-- lg_k is 4 to 21, and registers and state are those of a sketch
 pub record IsStored (x : Stored) : Type 0 where
   pub low : 4 ≤ x.lg_k
   pub high : x.lg_k ≤ 21
   pub registers : AreRegisters x.lg_k x.registers
+  pub state : IsState x.state
 
 -- registers that are all 0
-abbrev pub zeroed : ℕ → Stored
-zeroed k = record { lg_k = k; registers = replicate (2 ^ k) 0; state = cleared }
+abbrev pub zero_registers : ℕ → Stored
+zero_registers k = record { lg_k = k; registers = replicate (2 ^ k) 0; state = cleared_state }
 
--- registers after a set of pairs: the greater of each register and the fold
-abbrev pub raised : Stored → Pairs → Stored
-raised x T =
+-- an update by a set of pairs: at each slot the greater of the register and the fold
+abbrev pub update_with_pairs : Stored → Pairs → Stored
+update_with_pairs x T =
     let R = join x.registers (fold_to T x.lg_k) in
     record { lg_k = x.lg_k; registers = R; state = state_after x.registers R x.state }
 
--- registers after one coupon, which changes nothing where its value is 0
-abbrev pub raised_by_coupon : Stored → ℕ → Stored
-raised_by_coupon x c = raised x (set_of (c ∷ []))
+-- an update by one coupon; a coupon of value 0 changes nothing
+abbrev pub update_with_coupon : Stored → ℕ → Stored
+update_with_coupon x c = update_with_pairs x (set_of (c ∷ []))
 
--- registers after a merge with others, folded to their size: the greater at each slot, and the cleared state
-abbrev pub merged_with : Stored → List ℕ → Stored
-merged_with x R = record { lg_k = x.lg_k; registers = join x.registers (fold_to (pairs R) x.lg_k); state = cleared }
+-- a merge with other registers: at each slot the greater of the register and their fold, with the cleared state
+abbrev pub merge_with : Stored → List ℕ → Stored
+merge_with x R = record { lg_k = x.lg_k; registers = join x.registers (fold_to (pairs R) x.lg_k); state = cleared_state }
 
 -- the bytes of the registers, without state and exceptions
 abbrev pub packed_bytes : HllType → List ℕ → List ℕ
@@ -51,9 +53,15 @@ packed_bytes Hll4 R = nibble_bytes R
 packed_bytes Hll6 R = field_bytes R
 packed_bytes Hll8 R = R
 
+-- the exceptions that are written after them, none unless there are four bits
+abbrev pub written_exceptions : HllType → List ℕ → Pairs
+written_exceptions Hll4 R = set_of (exceptions R)
+written_exceptions Hll6 R = empty
+written_exceptions Hll8 R = empty
+
 -- ---- laws
 
--- what is written ends in the packed bytes, a function of width and registers alone, and the exceptions in their order
+-- what is written ends in the packed bytes and the exceptions in ascending raw words: by width and registers alone
 abbrev pub PackedIsWritten : Type 0
-PackedIsWritten = (bytes : List ℕ) (k : ℕ) (w : HllType) (R : List ℕ) (state : EstimateState) (order : List ℕ) →
-    WritesRegisters bytes k w R state order → (front : List ℕ) × (bytes ≡ front ++ (packed_bytes w R ++ coupon_bytes order))
+PackedIsWritten = (bytes : List ℕ) (k : ℕ) (w : HllType) (R : List ℕ) (state : EstimateState) → WritesRegisters bytes k w R state →
+    (front order : List ℕ) × IsAscending order (written_exceptions w R) × (bytes ≡ front ++ (packed_bytes w R ++ coupon_bytes order))

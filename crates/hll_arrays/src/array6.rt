@@ -5,15 +5,15 @@ ghost use Rattle.hll_base.specs.declared.error.Reason.TheVariants.{Memory};
 ghost use Rattle.hll_coupons.specs.declared.hll_type.HllType.TheVariants.{Hll6};
 ghost use Rattle.hll_arrays.specs.Packed.{zeros, units, size_in_registers};
 ghost use Rattle.hll_arrays.specs.Payload.{hll6_bytes};
-ghost use Rattle.hll_arrays.specs.Store.{zeroed, raised_by_coupon, AreRegisters, IsStored};
+ghost use Rattle.hll_arrays.specs.Store.{zero_registers, update_with_coupon, IsStored};
 
 use crate::estimate_state::EstimateState;
 use crate::groups::{
-    are_zeros, count_zeros, groups_in, put_register, raise_each, register_at, units_in,
+    all_zero_in, count_zeros_in, max_groups_into, pack_groups, put_register, register_at, units_in,
 };
-use crate::numbers::Numbers;
+use crate::preamble::Preamble;
 use crate::register_store::RegisterStore;
-use crate::registers::{Registers, registers_of};
+use crate::registers::{Registers, two_to};
 use hll_base::codec::SketchBytes;
 use hll_base::error::Error;
 use hll_coupons::coupon::Coupon;
@@ -22,8 +22,8 @@ use hll_coupons::serialization::HLL_PREAMBLE_SIZE;
 use std::alloc::{Allocator, Global};
 use std::marker::Model;
 
-/// 2^`lg_k` registers of 0 to 63, four of them in three bytes, and their estimate state. Contracts see these: the
-/// registers as a list, by slot.
+/// 2^`lg_k` registers of 0 to 63, four of them in three bytes, and their estimate state. Contracts see the `lg_k`, the
+/// list of registers and the state.
 #[derive_where(Debug)]
 #[derive(Drop)]
 pub struct Array6<A: Allocator = Global> {
@@ -35,23 +35,24 @@ pub struct Array6<A: Allocator = Global> {
 impl<A: Allocator> Model for Array6<A> {
     ghost use Rattle.std.specs.Prelude.{◌≤◌};
     ghost use Rattle.hll_arrays.specs.Groups.{registers_in, AreGroups};
+    ghost use Rattle.hll_arrays.specs.State.{IsState};
     ghost use Rattle.hll_arrays.specs.Store.{Stored};
 
     ghost Value = { Stored };
 
     ghost view = { λ a. record { lg_k = a.lg_config_k; registers = registers_in a.groups.items; state = a.state } };
 
-    ghost invariant = { λ a. (4 ≤ a.lg_config_k) × (a.lg_config_k ≤ 21) × AreGroups a.lg_config_k a.groups.items };
+    ghost invariant = { λ a. (4 ≤ a.lg_config_k) × (a.lg_config_k ≤ 21) × AreGroups a.lg_config_k a.groups.items × IsState a.state };
 }
 
 impl<A: Allocator> Array6<A> {
     /// 2^`lg_config_k` registers of 0, with the cleared state.
     ///
-    /// `lg_config_k` is 4 to 21. Refused with the reason `Memory`.
+    /// `lg_config_k` is 4 to 21. Fails with `Memory`.
     pub fn new(alloc: A, lg_config_k: u8) -> Result<Array6<A>, Error>
         requires least { 4 ≤ lg_config_k }
         requires most { lg_config_k ≤ 21 }
-        ensures ok { IfOk result (λ a. a ≡ zeroed lg_config_k) }
+        ensures ok { IfOk result (λ a. a ≡ zero_registers lg_config_k) }
         ensures err { IfErr result (λ e. e ≡ Memory) }
     {
         Ok(Array6 {
@@ -73,7 +74,7 @@ impl<A: Allocator> Array6<A> {
     pub fn num_registers(&self) -> usize
         ensures { result ≡ 2 ^ self.now.lg_k }
     {
-        registers_of(self.lg_config_k)
+        two_to(self.lg_config_k)
     }
 
     /// The register of a slot below 2^`lg_k`. Takes no memory.
@@ -84,34 +85,33 @@ impl<A: Allocator> Array6<A> {
         register_at(&self.groups, slot as usize)
     }
 
-    /// Raises the register at the coupon's slot modulo 2^`lg_k` to the coupon's value, if that is greater:
-    /// then the state is cleared. Takes no memory.
+    /// Raises the register at the coupon's slot modulo 2^`lg_k` to the coupon's value. If it changes, the state is
+    /// cleared. Takes no memory.
     pub fn update(&mut self, coupon: Coupon)
-        ensures { self.new ≡ raised_by_coupon self.old coupon }
+        ensures { self.new ≡ update_with_coupon self.old coupon }
     {
-        let slot = coupon.slot() as usize % registers_of(self.lg_config_k);
+        let slot = coupon.slot() as usize % two_to(self.lg_config_k);
         if register_at(&self.groups, slot) < coupon.value() {
             put_register(&mut self.groups, slot, coupon.value());
             self.state = EstimateState::CLEARED;
         }
     }
 
-    /// Whether all registers are 0. Looks at each until one is not; takes no memory.
+    /// Whether all registers are 0. Stops at the first group that is not; takes no memory.
     pub fn is_empty(&self) -> bool
         ensures empty { result ≡ list_all (λ v. v == 0) self.now.registers }
-        ensures registers { AreRegisters self.now.lg_k self.now.registers }
     {
-        are_zeros(&self.groups)
+        all_zero_in(&self.groups)
     }
 
-    /// How many registers are 0. Looks at each; takes no memory.
+    /// How many registers are 0. One pass; takes no memory.
     pub fn num_zeros(&self) -> u32
         ensures { result ≡ zeros self.now.registers }
     {
-        count_zeros(&self.groups) as u32
+        count_zeros_in(&self.groups) as u32
     }
 
-    /// The sum of 2^-v over the registers v, in units of 2^-63. Looks at each; takes no memory.
+    /// The sum of 2^-v over the registers v, in units of 2^-63. One pass; takes no memory.
     pub fn kxq_units(&self) -> u128
         ensures units { result ≡ units self.now.registers }
         ensures bound { result ≤ 2 ^ 84 }
@@ -126,7 +126,7 @@ impl<A: Allocator> Array6<A> {
         self.state
     }
 
-    /// Sets the estimate state. The registers stay. Takes no memory.
+    /// Sets the estimate state, and keeps the registers. Takes no memory.
     pub fn restore_estimate_state(&mut self, state: EstimateState)
         ensures { self.new ≡ record self.old { state = state } }
     {
@@ -137,14 +137,14 @@ impl<A: Allocator> Array6<A> {
     pub fn estimated_size(&self) -> usize
         ensures { result ≡ size_in_registers self.now.lg_k Hll6 self.now.registers }
     {
-        3 * registers_of(self.lg_config_k) / 4 + 1
+        3 * two_to(self.lg_config_k) / 4 + 1
     }
 }
 
 impl<A: Allocator + Clone> Array6<A> {
-    /// The same registers and state over again.
+    /// A copy.
     ///
-    /// Refused with the reason `Memory`.
+    /// Fails with `Memory`.
     pub fn clone(&self) -> Result<Array6<A>, Error>
         ensures ok { IfOk result (λ a. a ≡ self.now) }
         ensures err { IfErr result (λ e. e ≡ Memory) }
@@ -157,23 +157,23 @@ impl<A: Allocator + Clone> Array6<A> {
     }
 
     /// The image (docs/FORMAT.md, "What is written"): 40 bytes, three for each four registers and a zero byte,
-    /// taken in one request.
+    /// allocated in one request.
     ///
-    /// `lg_config_k` is that of the registers. Refused with the reason `Memory`.
+    /// `lg_config_k` is that of the registers. Fails with `Memory`.
     pub fn serialize(&self, lg_config_k: u8) -> Result<Vec<u8, A>, Error>
         requires { lg_config_k ≡ self.now.lg_k }
         ensures ok { IfOk result (λ image. image.items ≡ hll6_bytes lg_config_k self.now.registers self.now.state) }
         ensures err { IfErr result (λ e. e ≡ Memory) }
     {
-        let numbers = Numbers {
+        let preamble = Preamble {
             state: self.state,
-            low_count: self.num_zeros(),
+            num_at_cur_min: self.num_zeros(),
             exception_count: 0,
         };
         let needed = HLL_PREAMBLE_SIZE + self.estimated_size();
         let mut bytes = SketchBytes::with_capacity(self.groups.allocator().clone()?, needed)?;
-        numbers.write_header(&mut bytes, lg_config_k, HllType::Hll6)?;
-        numbers.write(&mut bytes)?;
+        preamble.write_header(&mut bytes, lg_config_k, HllType::Hll6)?;
+        preamble.write(&mut bytes)?;
         bytes.write(self.groups.as_flattened())?;
         bytes.write(&[0])?;
         Ok(bytes.into_bytes())
@@ -199,17 +199,17 @@ impl<A: Allocator> Registers for Array6<A> {
         Array6::estimate_state(self)
     }
 
-    /// One pass over both, by groups.
+    /// One pass, by groups.
     fn join_into(&self, first: u32, values: &mut [u8]) {
         let first = first as usize / 4;
         let end = first + values.len() / 4;
         let groups = &self.groups[first..end];
-        raise_each(values, groups);
+        max_groups_into(values, groups);
     }
 }
 
 impl<A: Allocator + Clone> RegisterStore<A> for Array6<A> {
-    ghost use Rattle.std.specs.Prelude.{true, []};
+    ghost use Rattle.std.specs.Prelude.{true};
     ghost use Rattle.hll_coupons.specs.declared.hll_type.HllType.TheVariants.{Hll6};
     ghost use Rattle.hll_arrays.specs.Same.{same_stored-from, same_stored-to};
 
@@ -220,8 +220,6 @@ impl<A: Allocator + Clone> RegisterStore<A> for Array6<A> {
     const NEVER_REFUSES: bool = true;
 
     ghost NEVER_REFUSES = { true };
-
-    ghost order = { λ _. [] };
 
     fn make(alloc: A, lg_k: u8) -> Result<Array6<A>, Error> {
         Array6::new(alloc, lg_k)
@@ -244,7 +242,7 @@ impl<A: Allocator + Clone> RegisterStore<A> for Array6<A> {
     fn from_values(alloc: A, lg_k: u8, values: &[u8]) -> Result<Array6<A>, Error> {
         Ok(Array6 {
             lg_config_k: lg_k,
-            groups: groups_in(alloc, values)?,
+            groups: pack_groups(alloc, values)?,
             state: EstimateState::CLEARED,
         })
     }
@@ -252,7 +250,7 @@ impl<A: Allocator + Clone> RegisterStore<A> for Array6<A> {
     ghost equal = { λ x y. (same_stored-from x y, same_stored-to x y) };
 }
 
-/// Equal where `lg_k`, registers and state are. Takes no memory.
+/// Two arrays are equal if their `lg_k`, registers and states are. Takes no memory.
 impl<A: Allocator> PartialEq for Array6<A> {
     ghost use Rattle.hll_arrays.specs.Same.{same_stored, same_stored-partial};
 

@@ -1,21 +1,21 @@
-//! Registers of eight bits: a byte for each.
+//! Registers of eight bits: one byte each.
 ghost use Rattle.std.specs.Prelude.{◌≡◌, ◌+◌, ◌^◌, ◌<◌, ◌≤◌, ◌==◌, ◌⊎◌, nat_le, take, drop, slice_index, slice_set, IfOk, IfErr};
 ghost use Rattle.std.specs.List.{list_all};
 ghost use Rattle.hll_base.specs.declared.error.Reason.TheVariants.{Memory};
 ghost use Rattle.hll_coupons.specs.Fold.{join};
-ghost use Rattle.hll_arrays.specs.Packed.{zeros, units, size_in_registers};
+ghost use Rattle.hll_arrays.specs.Packed as packed;
+ghost use Rattle.hll_arrays.specs.Packed.{zeros, size_in_registers};
 ghost use Rattle.hll_arrays.specs.Payload.{state_at, IsHll8Payload, Hll8Fault, hll8_bytes};
-ghost use Rattle.hll_arrays.specs.State.{cleared};
+ghost use Rattle.hll_arrays.specs.State.{cleared_state};
 ghost use Rattle.hll_coupons.specs.declared.hll_type.HllType.TheVariants.{Hll8};
-ghost use Rattle.hll_arrays.specs.Store.{zeroed, raised_by_coupon, merged_with, AreRegisters, IsStored};
+ghost use Rattle.hll_arrays.specs.Store.{zero_registers, update_with_coupon, merge_with, AreRegisters, IsStored};
 
 use crate::estimate_state::EstimateState;
-use crate::lent::{Lent, raise_each, raise_from};
-use crate::merge::join_folds;
-use crate::numbers::Numbers;
+use crate::kernels::{all_zero, count_zeros, max_into, units};
+use crate::preamble::Preamble;
+use crate::register_slice::RegisterSlice;
 use crate::register_store::RegisterStore;
-use crate::registers::{Registers, registers_of};
-use crate::weights::{units_of, zeros_of};
+use crate::registers::{Registers, join_folds, two_to};
 use hll_base::codec::SketchBytes;
 use hll_base::cursor::SketchSlice;
 use hll_base::error::{Error, Reason};
@@ -28,8 +28,8 @@ use std::marker::Model;
 /// The greatest value of a register.
 const MAX_VALUE: u8 = 63;
 
-/// 2^`lg_k` registers of 0 to 63, a byte for each, and their estimate state. Contracts see these: the
-/// registers as a list, by slot.
+/// 2^`lg_k` registers of 0 to 63, one byte each, and their estimate state. Contracts see the `lg_k`, the list of
+/// registers and the state.
 #[derive_where(Debug)]
 #[derive(Drop)]
 pub struct Array8<A: Allocator = Global> {
@@ -40,37 +40,38 @@ pub struct Array8<A: Allocator = Global> {
 
 impl<A: Allocator> Model for Array8<A> {
     ghost use Rattle.std.specs.Prelude.{◌≤◌};
+    ghost use Rattle.hll_arrays.specs.State.{IsState};
     ghost use Rattle.hll_arrays.specs.Store.{Stored, AreRegisters};
 
     ghost Value = { Stored };
 
     ghost view = { λ a. record { lg_k = a.lg_config_k; registers = a.registers.items; state = a.state } };
 
-    ghost invariant = { λ a. (4 ≤ a.lg_config_k) × (a.lg_config_k ≤ 21) × AreRegisters a.lg_config_k a.registers.items };
+    ghost invariant = { λ a. (4 ≤ a.lg_config_k) × (a.lg_config_k ≤ 21) × AreRegisters a.lg_config_k a.registers.items × IsState a.state };
 }
 
 impl<A: Allocator> Array8<A> {
     /// 2^`lg_config_k` registers of 0, with the cleared state.
     ///
-    /// `lg_config_k` is 4 to 21. Refused with the reason `Memory`.
+    /// `lg_config_k` is 4 to 21. Fails with `Memory`.
     pub fn new(alloc: A, lg_config_k: u8) -> Result<Array8<A>, Error>
         requires least { 4 ≤ lg_config_k }
         requires most { lg_config_k ≤ 21 }
-        ensures ok { IfOk result (λ a. a ≡ zeroed lg_config_k) }
+        ensures ok { IfOk result (λ a. a ≡ zero_registers lg_config_k) }
         ensures err { IfErr result (λ e. e ≡ Memory) }
     {
         Ok(Array8 {
             lg_config_k,
-            registers: vec![in alloc; 0; registers_of(lg_config_k)]?,
+            registers: vec![in alloc; 0; two_to(lg_config_k)]?,
             state: EstimateState::CLEARED,
         })
     }
 
-    /// Reads what stands behind the header of an image of registers of eight bits (docs/FORMAT.md, "HLL").
-    /// The zero count is bounded, and otherwise not trusted.
+    /// Reads the part of an image of eight-bit registers that follows the header (docs/FORMAT.md, "HLL").
+    /// The zero count is checked against its bound, and not used.
     ///
-    /// `lg_config_k` is 4 to 21. Refused with `Truncated`, `Count` or `Register` where that fault stands, or else
-    /// with `Memory`. Takes memory for the registers, once the bytes are known to be there, and copies them once.
+    /// `lg_config_k` is 4 to 21. Fails with `Truncated`, `Count`, `Register` or `Memory`. Allocates the registers
+    /// only after the bytes are known to be there, and copies them once.
     pub fn deserialize_registers(
         alloc: A,
         cursor: SketchSlice<'_>,
@@ -83,9 +84,9 @@ impl<A: Allocator> Array8<A> {
             × (a ≡ record { lg_k = lg_config_k; registers = take (2 ^ lg_config_k) (drop 32 cursor.entry); state = state_at ooo cursor.entry })) }
         ensures err { IfErr result (λ e. (e ≡ Memory) ⊎ Hll8Fault lg_config_k cursor.entry e) }
     {
-        let size = registers_of(lg_config_k);
-        let (numbers, rest) = Numbers::read(cursor, ooo)?;
-        if numbers.low_count as usize > size || numbers.exception_count != 0 {
+        let size = two_to(lg_config_k);
+        let (preamble, rest) = Preamble::read(cursor, ooo)?;
+        if preamble.num_at_cur_min as usize > size || preamble.exception_count != 0 {
             return Err(Error::new(Reason::Count));
         }
         let Some(registers) = rest.remaining().get(..size) else {
@@ -97,7 +98,7 @@ impl<A: Allocator> Array8<A> {
         Ok(Array8 {
             lg_config_k,
             registers: Vec::from_slice(alloc, registers)?,
-            state: numbers.state,
+            state: preamble.state,
         })
     }
 
@@ -113,7 +114,7 @@ impl<A: Allocator> Array8<A> {
     pub fn num_registers(&self) -> usize
         ensures { result ≡ 2 ^ self.now.lg_k }
     {
-        registers_of(self.lg_config_k)
+        two_to(self.lg_config_k)
     }
 
     /// The register of a slot below 2^`lg_k`. Takes no memory.
@@ -132,57 +133,59 @@ impl<A: Allocator> Array8<A> {
         &self.registers
     }
 
-    /// Raises the register at the coupon's slot modulo 2^`lg_k` to the coupon's value, if that is greater:
-    /// then the state is cleared. Takes no memory.
+    /// Raises the register at the coupon's slot modulo 2^`lg_k` to the coupon's value. If it changes, the state is
+    /// cleared. Takes no memory.
     pub fn update(&mut self, coupon: Coupon)
-        ensures { self.new ≡ raised_by_coupon self.old coupon }
+        ensures { self.new ≡ update_with_coupon self.old coupon }
     {
-        let slot = coupon.slot() as usize % registers_of(self.lg_config_k);
+        let slot = coupon.slot() as usize % two_to(self.lg_config_k);
         if self.registers[slot] < coupon.value() {
             self.registers[slot] = coupon.value();
             self.state = EstimateState::CLEARED;
         }
     }
 
-    /// Raises each register to the greater of both, and clears the state. One pass; takes no memory.
+    /// Raises each register to the greater of itself and the value at the same slot, and clears the state.
     ///
-    /// There are as many values as registers, each at most 63.
+    /// There are as many values as registers, each at most 63. One pass; takes no memory.
     pub fn merge_array_same_lgk(&mut self, src: &[u8])
         requires { AreRegisters self.old.lg_k src.now }
-        ensures { self.new ≡ record { lg_k = self.old.lg_k; registers = join self.old.registers src.now; state = cleared } }
+        ensures { self.new ≡ record { lg_k = self.old.lg_k; registers = join self.old.registers src.now; state = cleared_state } }
     {
-        raise_each(&mut self.registers, src);
+        max_into(&mut self.registers, src);
         self.rebuild_estimator_from_registers();
     }
 
-    /// Raises each register to the greatest of itself and the values that fold to it, and clears the state. One pass over
-    /// the values; takes no memory.
+    /// Raises each register to the greatest of itself and the values that fold to it, and clears the state.
     ///
-    /// There are 2^`src_lg_k` values, each at most 63, and `src_lg_k` is at most 21 and greater than that of the registers.
+    /// There are 2^`src_lg_k` values, each at most 63, and `src_lg_k` is at most 21 and greater than the `lg_k` of the
+    /// registers. One pass over the values; takes no memory.
     pub fn merge_array_with_downsample(&mut self, src: &[u8], src_lg_k: u8)
         requires larger { self.old.lg_k < src_lg_k }
         requires most { src_lg_k ≤ 21 }
         requires registers { AreRegisters src_lg_k src.now }
-        ensures { self.new ≡ merged_with self.old src.now }
+        ensures { self.new ≡ merge_with self.old src.now }
     {
         join_folds(
             &mut self.registers,
             self.lg_config_k,
-            &Lent::new(src_lg_k, src),
+            &RegisterSlice::new(src_lg_k, src),
         );
         self.rebuild_estimator_from_registers();
     }
 
-    /// The same with the registers of any source whose `lg_k` is at least that of these.
+    /// Raises each register to the greatest of itself and the source's registers that fold to it, and clears the state.
+    ///
+    /// The source's `lg_k` is at least that of the registers. One pass over the source; takes no memory.
     pub(crate) fn merge_folds<R: Registers>(&mut self, src: &R)
         requires { self.old.lg_k ≤ (R.stored src.now).lg_k }
-        ensures { self.new ≡ merged_with self.old (R.stored src.now).registers }
+        ensures { self.new ≡ merge_with self.old (R.stored src.now).registers }
     {
         join_folds(&mut self.registers, self.lg_config_k, src);
         self.rebuild_estimator_from_registers();
     }
 
-    /// Sets one register. The state stays. Takes no memory.
+    /// Sets one register, and keeps the state. Takes no memory.
     ///
     /// `slot` is below 2^`lg_k`, and `value` at most 63.
     pub fn set_register(&mut self, slot: usize, value: u8)
@@ -193,9 +196,9 @@ impl<A: Allocator> Array8<A> {
         self.registers[slot] = value;
     }
 
-    /// Clears the state. The registers stay. Takes no memory.
+    /// Clears the state, and keeps the registers. Takes no memory.
     pub fn rebuild_estimator_from_registers(&mut self)
-        ensures { self.new ≡ record self.old { state = cleared } }
+        ensures { self.new ≡ record self.old { state = cleared_state } }
     {
         self.state = EstimateState::CLEARED;
     }
@@ -207,27 +210,26 @@ impl<A: Allocator> Array8<A> {
         self.registers.len()
     }
 
-    /// Whether all registers are 0. Looks at each until one is not; takes no memory.
+    /// Whether all registers are 0. Stops at the first that is not; takes no memory.
     pub fn is_empty(&self) -> bool
         ensures empty { result ≡ list_all (λ v. v == 0) self.now.registers }
-        ensures registers { AreRegisters self.now.lg_k self.now.registers }
     {
-        self.registers.iter().all(|v| *v == 0)
+        all_zero(&self.registers)
     }
 
-    /// How many registers are 0. Looks at each; takes no memory.
+    /// How many registers are 0. One pass; takes no memory.
     pub fn num_zeros(&self) -> u32
         ensures { result ≡ zeros self.now.registers }
     {
-        zeros_of(&self.registers) as u32
+        count_zeros(&self.registers) as u32
     }
 
-    /// The sum of 2^-v over the registers v, in units of 2^-63. Looks at each; takes no memory.
+    /// The sum of 2^-v over the registers v, in units of 2^-63. One pass; takes no memory.
     pub fn kxq_units(&self) -> u128
-        ensures units { result ≡ units self.now.registers }
+        ensures units { result ≡ packed.units self.now.registers }
         ensures bound { result ≤ 2 ^ 84 }
     {
-        units_of(&self.registers)
+        units(&self.registers)
     }
 
     /// The estimate state. Takes no memory.
@@ -237,7 +239,7 @@ impl<A: Allocator> Array8<A> {
         self.state
     }
 
-    /// Sets the estimate state. The registers stay. Takes no memory.
+    /// Sets the estimate state, and keeps the registers. Takes no memory.
     pub fn restore_estimate_state(&mut self, state: EstimateState)
         ensures { self.new ≡ record self.old { state = state } }
     {
@@ -246,16 +248,16 @@ impl<A: Allocator> Array8<A> {
 }
 
 impl<A: Allocator + Clone> Array8<A> {
-    /// A second owner of the memory's source.
+    /// A clone of the allocator.
     pub(crate) fn allocator(&self) -> Result<A, Error>
         ensures err { IfErr result (λ e. e ≡ Memory) }
     {
         Ok(self.registers.allocator().clone()?)
     }
 
-    /// The same registers and state over again.
+    /// A copy.
     ///
-    /// Refused with the reason `Memory`.
+    /// Fails with `Memory`.
     pub fn clone(&self) -> Result<Array8<A>, Error>
         ensures ok { IfOk result (λ a. a ≡ self.now) }
         ensures err { IfErr result (λ e. e ≡ Memory) }
@@ -267,23 +269,23 @@ impl<A: Allocator + Clone> Array8<A> {
         })
     }
 
-    /// The image (docs/FORMAT.md, "What is written"): 40 bytes and one for each register, taken in one request.
+    /// The image (docs/FORMAT.md, "What is written"): 40 bytes and one for each register, allocated in one request.
     ///
-    /// `lg_config_k` is that of the registers. Refused with the reason `Memory`.
+    /// `lg_config_k` is that of the registers. Fails with `Memory`.
     pub fn serialize(&self, lg_config_k: u8) -> Result<Vec<u8, A>, Error>
         requires { lg_config_k ≡ self.now.lg_k }
         ensures ok { IfOk result (λ image. image.items ≡ hll8_bytes lg_config_k self.now.registers self.now.state) }
         ensures err { IfErr result (λ e. e ≡ Memory) }
     {
-        let numbers = Numbers {
+        let preamble = Preamble {
             state: self.state,
-            low_count: self.num_zeros(),
+            num_at_cur_min: self.num_zeros(),
             exception_count: 0,
         };
         let needed = HLL_PREAMBLE_SIZE + self.registers.len();
         let mut bytes = SketchBytes::with_capacity(self.registers.allocator().clone()?, needed)?;
-        numbers.write_header(&mut bytes, lg_config_k, HllType::Hll8)?;
-        numbers.write(&mut bytes)?;
+        preamble.write_header(&mut bytes, lg_config_k, HllType::Hll8)?;
+        preamble.write(&mut bytes)?;
         bytes.write(&self.registers)?;
         Ok(bytes.into_bytes())
     }
@@ -308,14 +310,15 @@ impl<A: Allocator> Registers for Array8<A> {
         Array8::estimate_state(self)
     }
 
-    /// One pass over both.
+    /// One pass.
     fn join_into(&self, first: u32, values: &mut [u8]) {
-        raise_from(values, &self.registers, first as usize);
+        let first = first as usize;
+        max_into(values, &self.registers[first..first + values.len()]);
     }
 }
 
 impl<A: Allocator + Clone> RegisterStore<A> for Array8<A> {
-    ghost use Rattle.std.specs.Prelude.{true, []};
+    ghost use Rattle.std.specs.Prelude.{true};
     ghost use Rattle.hll_coupons.specs.declared.hll_type.HllType.TheVariants.{Hll8};
     ghost use Rattle.hll_arrays.specs.Same.{same_stored-from, same_stored-to};
 
@@ -326,8 +329,6 @@ impl<A: Allocator + Clone> RegisterStore<A> for Array8<A> {
     const NEVER_REFUSES: bool = true;
 
     ghost NEVER_REFUSES = { true };
-
-    ghost order = { λ _. [] };
 
     fn make(alloc: A, lg_k: u8) -> Result<Array8<A>, Error> {
         Array8::new(alloc, lg_k)
@@ -346,7 +347,7 @@ impl<A: Allocator + Clone> RegisterStore<A> for Array8<A> {
         self.serialize(self.lg_config_k)
     }
 
-    /// One copy.
+    /// Copies the values.
     fn from_values(alloc: A, lg_k: u8, values: &[u8]) -> Result<Array8<A>, Error> {
         Ok(Array8 {
             lg_config_k: lg_k,
@@ -358,7 +359,7 @@ impl<A: Allocator + Clone> RegisterStore<A> for Array8<A> {
     ghost equal = { λ x y. (same_stored-from x y, same_stored-to x y) };
 }
 
-/// Equal where `lg_k`, registers and state are. Takes no memory.
+/// Two arrays are equal if their `lg_k`, registers and states are. Takes no memory.
 impl<A: Allocator> PartialEq for Array8<A> {
     ghost use Rattle.hll_arrays.specs.Same.{same_stored, same_stored-partial};
 
@@ -379,7 +380,7 @@ impl<A: Allocator> Eq for Array8<A> {
     ghost laws = { same_stored-equivalence };
 }
 
-/// Whether no byte is above the greatest value of a register.
+/// Whether each byte is at most 63.
 fn are_registers(bytes: &[u8]) -> bool
     ensures { result ≡ list_all (λ v. nat_le v 63) bytes.now }
 {

@@ -1,13 +1,13 @@
-//! How the exceptions of registers of four bits stand in an image (docs/FORMAT.md, "HLL").
+//! How an image stores the exceptions of registers of four bits (docs/FORMAT.md, "HLL").
 ghost use Rattle.std.specs.Prelude.{◌≡◌, if◌then◌else◌};
 ghost use Rattle.hll_arrays.specs.declared.aux_format.AuxFormat.TheVariants.{Compact, Updatable};
 
-/// How exceptions stand in an image of four bits.
+/// How an image stores the exceptions of registers of four bits.
 #[derive(Clone, Copy)]
 pub enum AuxFormat {
-    /// Each once, one behind the other.
+    /// The exceptions, one after another.
     Compact,
-    /// In the places of a table.
+    /// The places of a table, some of them empty.
     Updatable {
         /// The table has 2^`lg_arr` places.
         lg_arr: u8,
@@ -15,7 +15,7 @@ pub enum AuxFormat {
 }
 
 impl AuxFormat {
-    /// What a header says: its compact flag, and its table size where that is not set. Takes no memory.
+    /// The format that a header names by its compact flag and its table size. Takes no memory.
     pub fn from_header(compact: bool, lg_arr: u8) -> AuxFormat
         ensures { result ≡ (if compact then Compact else Updatable lg_arr) }
     {

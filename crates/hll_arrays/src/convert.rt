@@ -7,9 +7,9 @@ use crate::register_store::RegisterStore;
 use hll_base::error::Error;
 use std::alloc::Allocator;
 
-/// The same registers and state, kept another way.
+/// A copy of the registers and state in another representation.
 ///
-/// Takes what memory the target takes, from the source's allocator. Refused with the reason `Memory`.
+/// Allocates from the source's allocator what the target needs. Fails with `Memory`.
 pub fn convert<S: RegisterStore<A>, A: Allocator + Clone>(src: &Array8<A>) -> Result<S, Error>
     ensures ok { IfOk result (λ s. S.stored s ≡ src.now) }
     ensures err { IfErr result (λ e. e ≡ Memory) }

@@ -1,25 +1,25 @@
-//! Laws of packed registers, each the contract of a function that does nothing
-//! (docs/MODEL.md, "Packed forms").
+//! Laws of packed registers. Each is the contract of a function with an empty body (docs/MODEL.md, "Packed forms").
 ghost use Rattle.hll_arrays.specs.Packed.{NibblesReadBack, FieldsReadBack};
 ghost use Rattle.hll_arrays.specs.Payload.{ExceptionsReadBack};
 ghost use Rattle.hll_arrays.specs.Store.{PackedIsWritten};
 
-/// Each nibble is read back from its byte.
+/// Each nibble is read back.
 pub fn nibbles_read_back()
     ensures { NibblesReadBack }
 {}
 
-/// Registers of six bits are read back from their fields.
+/// Registers of six bits are read back.
 pub fn fields_read_back()
     ensures { FieldsReadBack }
 {}
 
-/// Nibbles and exceptions give each register back, whatever the order of the exceptions.
+/// Nibbles and exceptions give each register back, in whatever order the exceptions come.
 pub fn exceptions_read_back()
     ensures { ExceptionsReadBack }
 {}
 
-/// What is written ends in the packed bytes, a function of width and registers alone, and the exceptions in their order.
+/// What is written ends in the packed bytes and the exceptions in ascending raw words, functions of width and registers
+/// alone.
 pub fn packed_is_written()
     ensures { PackedIsWritten }
 {}

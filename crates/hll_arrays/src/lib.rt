@@ -1,26 +1,24 @@
-//! Registers: the ways to keep them behind traits with laws, their merges and conversions, and their packed forms.
+//! Registers: their representations behind traits with laws, merges and conversions, and packed forms
+//! (docs/ARCHITECTURE.md, "Registers").
 #![tactic(auto)]
 
 pub mod array6;
-#[cfg(test)]
-mod array6_tests;
 pub mod array8;
-#[cfg(test)]
-mod array8_tests;
 pub mod aux_format;
 pub mod convert;
 pub mod estimate_state;
 mod groups;
-#[cfg(test)]
-mod inputs;
+pub mod kernels;
 pub mod laws;
-mod lent;
 pub mod merge;
-mod numbers;
+mod preamble;
+mod register_slice;
 pub mod register_store;
 pub mod registers;
-#[cfg(test)]
-mod store_tests;
-mod weights;
-#[cfg(test)]
-mod wide;
+
+pub use array6::Array6;
+pub use array8::Array8;
+pub use aux_format::AuxFormat;
+pub use estimate_state::EstimateState;
+pub use register_store::RegisterStore;
+pub use registers::Registers;

@@ -1,13 +1,13 @@
-//! Registers by their meaning, whatever keeps them (docs/MODEL.md, "Laws of a store").
+//! Registers that can be read, however they are stored (docs/MODEL.md, "Laws of a store").
 ghost use Rattle.std.specs.Prelude.{◌≡◌, ◌+◌, ◌%◌, ◌^◌, ◌<◌, ◌≤◌, length, take, drop, slice_index};
-ghost use Rattle.hll_coupons.specs.Fold.{join};
-ghost use Rattle.hll_arrays.specs.Store.{Stored, IsStored};
+ghost use Rattle.hll_coupons.specs.Fold.{fold_to, join, pairs};
+ghost use Rattle.hll_arrays.specs.Store.{Stored, IsStored, AreRegisters};
 
 use crate::estimate_state::EstimateState;
 
-/// 2^`lg_k` registers of 0 to 63 that can be read, and their estimate state. No call takes memory.
+/// 2^`lg_k` registers of 0 to 63, and their estimate state. No call takes memory.
 pub trait Registers {
-    /// What contracts see: the `lg_k`, the registers by slot, and the estimate state.
+    /// What contracts see: the `lg_k`, the list of registers, and the estimate state.
     ghost stored: { Self → Stored };
 
     /// The `lg_k`, 4 to 21.
@@ -28,10 +28,10 @@ pub trait Registers {
     fn estimate_state(&self) -> EstimateState
         ensures { result ≡ (stored self.now).state };
 
-    /// Raises each value to the greater of itself and the register that stands as far behind slot `first`.
+    /// Raises each value to the greater of itself and register `first + i`, for value i.
     ///
-    /// So many registers stand there, and both numbers are multiples of four. That the registers are legal is what
-    /// `lg_k` says. A body of one's own may take the registers by groups; this one asks for each.
+    /// These registers exist, and `first` and the number of values are multiples of four. That the registers are legal
+    /// is a clause of `lg_k`. An implementation may read them in groups of four; this body calls `get` for each.
     fn join_into(&self, first: u32, values: &mut [u8])
         requires within { first + length values.old ≤ 2 ^ (stored self.now).lg_k }
         requires legal { IsStored (stored self.now) }
@@ -46,10 +46,25 @@ pub trait Registers {
     }
 }
 
-/// 2^`lg_k`: how many registers an `lg_k` stands for, or how many blocks the difference of two.
-pub(crate) fn registers_of(lg_k: u8) -> usize
+/// 2^`lg_k`.
+pub(crate) fn two_to(lg_k: u8) -> usize
     requires { lg_k ≤ 21 }
     ensures { result ≡ 2 ^ lg_k }
 {
     1 << lg_k
+}
+
+/// Raises each of 2^`lg_k` values to the greatest of itself and the source's registers that fold to it: each block of
+/// 2^`lg_k` consecutive registers folds to all of the values.
+pub(crate) fn join_folds<R: Registers>(values: &mut [u8], lg_k: u8, src: &R)
+    requires least { 4 ≤ lg_k }
+    requires most { lg_k ≤ (R.stored src.now).lg_k }
+    requires size { length values.old ≡ 2 ^ lg_k }
+    ensures joined { values.new ≡ join values.old (fold_to (pairs (R.stored src.now).registers) lg_k) }
+    ensures registers { AreRegisters lg_k values.old → AreRegisters lg_k values.new }
+{
+    let size = values.len();
+    for block in 0..two_to(src.lg_k() - lg_k) {
+        src.join_into((block * size) as u32, values);
+    }
 }

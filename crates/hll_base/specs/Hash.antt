@@ -3,7 +3,7 @@ use Rattle.std.specs.Prelude.{◌≡◌, ℕ, ◌+◌, ◌*◌, ◌/◌, ◌%◌
 use Rattle.std.specs.Simd.{first_chunks}
 use Rattle.std.specs.Int.{w64, rotate_left, from_le_bytes}
 
--- the two words of 64 bits that a hash keeps, and that it ends with
+-- the two 64-bit halves of the hash state, and of the hash
 pub record Halves : Type 0 where
   pub first : ℕ
   pub second : ℕ
@@ -16,29 +16,29 @@ plus x y = (x + y) % 2 ^ 64
 abbrev pub times : ℕ → ℕ → ℕ
 times x y = x * y % 2 ^ 64
 
--- a word turned left by so many bits
-abbrev pub turned : ℕ → ℕ → ℕ
-turned x count = rotate_left w64 x count
+-- a word rotated left
+abbrev pub rotation : ℕ → ℕ → ℕ
+rotation x count = rotate_left w64 x count
 
 -- ---- blocks
 
--- the constant that the first word of a block is multiplied by, and then the second
+-- the reference's c1
 abbrev pub first_factor : ℕ
 first_factor = 0x87c37b91114253d5
 
--- the constant that the second word of a block is multiplied by, and then the first
+-- the reference's c2
 abbrev pub second_factor : ℕ
 second_factor = 0x4cf5ad432745937f
 
--- the first word of a block as it goes into the first half
-abbrev pub first_scrambled : ℕ → ℕ
-first_scrambled word = times (turned (times word first_factor) 31) second_factor
+-- the first word of a block, scrambled for the first half
+abbrev pub first_scramble : ℕ → ℕ
+first_scramble word = times (rotation (times word first_factor) 31) second_factor
 
--- the second word of a block as it goes into the second half
-abbrev pub second_scrambled : ℕ → ℕ
-second_scrambled word = times (turned (times word second_factor) 33) first_factor
+-- the second word of a block, scrambled for the second half
+abbrev pub second_scramble : ℕ → ℕ
+second_scramble word = times (rotation (times word second_factor) 33) first_factor
 
--- the first word of a block: eight bytes, the lowest first; a byte that is missing counts as 0
+-- the first word of a block, little-endian; a missing byte counts as 0
 abbrev pub first_word : List ℕ → ℕ
 first_word block = from_le_bytes w64 (take 8 block)
 
@@ -46,15 +46,15 @@ first_word block = from_le_bytes w64 (take 8 block)
 abbrev pub second_word : List ℕ → ℕ
 second_word block = from_le_bytes w64 (take 8 (drop 8 block))
 
--- the first half after the first word of a block, with the second half as it was before
+-- the first half after the first word of a block, with the old second half
 abbrev pub first_after : ℕ → ℕ → ℕ → ℕ
-first_after first second word = plus (times (plus (turned (bit_xor first (first_scrambled word)) 27) second) 5) 0x52dce729
+first_after first second word = plus (times (plus (rotation (bit_xor first (first_scramble word)) 27) second) 5) 0x52dce729
 
--- the second half after the second word of a block, with the first half as it is by then
+-- the second half after the second word of a block, with the new first half
 abbrev pub second_after : ℕ → ℕ → ℕ → ℕ
-second_after first second word = plus (times (plus (turned (bit_xor second (second_scrambled word)) 31) first) 5) 0x38495ab5
+second_after first second word = plus (times (plus (rotation (bit_xor second (second_scramble word)) 31) first) 5) 0x38495ab5
 
--- the second half follows, once the first half is known
+-- both halves after a block, given the new first half
 abbrev pub with_second : ℕ → ℕ → List ℕ → Halves
 with_second first second block = record { first = first; second = second_after first second (second_word block) }
 
@@ -62,81 +62,81 @@ with_second first second block = record { first = first; second = second_after f
 abbrev pub after_block : Halves → List ℕ → Halves
 after_block halves block = with_second (first_after halves.first halves.second (first_word block)) halves.second block
 
--- so many blocks of sixteen bytes, from the front
+-- the first n blocks of sixteen bytes
 abbrev pub blocks : ℕ → List ℕ → List (List ℕ)
 blocks n bytes = first_chunks 16 n bytes
 
--- ---- the rest and the end
+-- ---- the tail and the final mix
 
--- both halves after a rest of 0 to 15 bytes
+-- both halves after a tail of 0 to 15 bytes
 abbrev pub after_rest : Halves → List ℕ → Halves
 after_rest halves rest = record {
-  first = if nat_lt 0 (length rest) then bit_xor halves.first (first_scrambled (first_word rest)) else halves.first;
-  second = if nat_lt 8 (length rest) then bit_xor halves.second (second_scrambled (second_word rest)) else halves.second;
+  first = if nat_lt 0 (length rest) then bit_xor halves.first (first_scramble (first_word rest)) else halves.first;
+  second = if nat_lt 8 (length rest) then bit_xor halves.second (second_scramble (second_word rest)) else halves.second;
 }
 
 -- a word, exclusive or itself shifted right by 33 bits
 abbrev pub shifted_xor : ℕ → ℕ
 shifted_xor x = bit_xor x (x / 2 ^ 33)
 
--- a word with its bits mixed
-abbrev pub mixed : ℕ → ℕ
-mixed x = shifted_xor (times (shifted_xor (times (shifted_xor x) 0xff51afd7ed558ccd)) 0xc4ceb9fe1a85ec53)
+-- the final mix of a half
+abbrev pub mix_of : ℕ → ℕ
+mix_of x = shifted_xor (times (shifted_xor (times (shifted_xor x) 0xff51afd7ed558ccd)) 0xc4ceb9fe1a85ec53)
 
--- the first half takes up the second, and then the second the first
-abbrev pub summed : ℕ → ℕ → Halves
-summed first second = record { first = plus first second; second = plus second (plus first second) }
+-- the second half is added to the first, and then the new first half to the second
+abbrev pub cross_sum : ℕ → ℕ → Halves
+cross_sum first second = record { first = plus first second; second = plus second (plus first second) }
 
 -- both halves mixed, and summed again
-abbrev pub mixed_halves : Halves → Halves
-mixed_halves halves = summed (mixed halves.first) (mixed halves.second)
+abbrev pub mix_of_halves : Halves → Halves
+mix_of_halves halves = cross_sum (mix_of halves.first) (mix_of halves.second)
 
--- both halves at the end, with the number of all bytes modulo 2^64
-abbrev pub ended : ℕ → Halves → Halves
-ended count halves = mixed_halves (summed (bit_xor halves.first count) (bit_xor halves.second count))
+-- the hash, given the number of bytes modulo 2^64
+abbrev pub final_halves : ℕ → Halves → Halves
+final_halves count halves = mix_of_halves (cross_sum (bit_xor halves.first count) (bit_xor halves.second count))
 
--- the hash of all bytes at a seed: the full blocks, the rest, the end
+-- the hash of bytes with a seed: the full blocks, the tail, the final mix
 abbrev pub hash : ℕ → List ℕ → Halves
 hash seed bytes =
     let full = length bytes / 16 in
     let halves = fold after_block (record { first = seed; second = seed }) (blocks full bytes) in
-    ended (length bytes % 2 ^ 64) (after_rest halves (drop (full * 16) bytes))
+    final_halves (length bytes % 2 ^ 64) (after_rest halves (drop (full * 16) bytes))
 
--- the seed where none is given
+-- the default seed
 abbrev pub default_seed : ℕ
 default_seed = 9001
 
--- ---- a hash of pieces
+-- ---- streaming
 
--- what is kept between pieces: both halves after the full blocks, the bytes of the block that is begun, and the number of all bytes modulo 2^64
-pub record Hashing : Type 0 where
+-- the state between writes: both halves after the full blocks, the bytes of the partial block, and the number of bytes modulo 2^64
+pub record HashState : Type 0 where
   pub halves : Halves
-  pub begun : List ℕ
+  pub partial : List ℕ
   pub count : ℕ
 
--- before any byte, at a seed
-abbrev pub started : ℕ → Hashing
-started seed = record { halves = record { first = seed; second = seed }; begun = []; count = 0 }
+-- the state before any byte, with a seed
+abbrev pub initial_state : ℕ → HashState
+initial_state seed = record { halves = record { first = seed; second = seed }; partial = []; count = 0 }
 
--- both halves and the rest of bytes that follow full blocks
-abbrev pub absorbed : Halves → List ℕ → ℕ → Hashing
-absorbed halves bytes count = let full = length bytes / 16 in
-    record { halves = fold after_block halves (blocks full bytes); begun = drop (full * 16) bytes; count = count }
+-- the state after bytes that follow full blocks
+abbrev pub after_bytes : Halves → List ℕ → ℕ → HashState
+after_bytes halves bytes count = let full = length bytes / 16 in
+    record { halves = fold after_block halves (blocks full bytes); partial = drop (full * 16) bytes; count = count }
 
--- after one piece more
-abbrev pub taken : Hashing → List ℕ → Hashing
-taken s piece = absorbed s.halves (s.begun ++ piece) ((s.count + length piece) % 2 ^ 64)
+-- the state after a write
+abbrev pub after_piece : HashState → List ℕ → HashState
+after_piece s piece = after_bytes s.halves (s.partial ++ piece) ((s.count + length piece) % 2 ^ 64)
 
--- the hash of all pieces
-abbrev pub hash_of : Hashing → Halves
-hash_of s = ended s.count (after_rest s.halves s.begun)
+-- the hash of the bytes written
+abbrev pub hash_of : HashState → Halves
+hash_of s = final_halves s.count (after_rest s.halves s.partial)
 
 -- ---- laws
 
--- two pieces are one
+-- two writes are one of both pieces together
 abbrev pub PiecesAreOne : Type 0
-PiecesAreOne = (s : Hashing) (a b : List ℕ) → taken (taken s a) b ≡ taken s (a ++ b)
+PiecesAreOne = (s : HashState) (a b : List ℕ) → after_piece (after_piece s a) b ≡ after_piece s (a ++ b)
 
--- the hash of one piece is that of its bytes
+-- one write of all bytes gives their hash
 abbrev pub HashOfPiece : Type 0
-HashOfPiece = (seed : ℕ) (bytes : List ℕ) → hash_of (taken (started seed) bytes) ≡ hash seed bytes
+HashOfPiece = (seed : ℕ) (bytes : List ℕ) → hash_of (after_piece (initial_state seed) bytes) ≡ hash seed bytes

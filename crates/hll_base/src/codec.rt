@@ -1,4 +1,4 @@
-//! Bytes that are written one field after another.
+//! A growing buffer that image fields are appended to.
 ghost use Rattle.std.specs.Prelude.{◌≡◌, ℕ, ◌++◌, ◌∷◌, [], List, IfOk, OnOk, OnErr, IfErr};
 ghost use Rattle.std.specs.Int.{to_le_bytes, w32, w64};
 ghost use Rattle.hll_base.specs.declared.error.Reason.TheVariants.{Memory};
@@ -7,10 +7,9 @@ use crate::error::Error;
 use std::alloc::{Allocator, Global};
 use std::marker::Model;
 
-/// Bytes that are written one field after another. Contracts see the list of the bytes so far.
+/// A growing buffer that image fields are appended to. Contracts see the list of the bytes written so far.
 ///
-/// A write appends exactly its bytes. Where it needs more room and is refused the memory, it answers
-/// `Memory` and the bytes stay as they were.
+/// If a write needs more memory and is refused, it returns `Memory` and leaves the buffer unchanged.
 #[derive(Debug, Drop)]
 pub struct SketchBytes<A: Allocator = Global> {
     bytes: Vec<u8, A>,
@@ -23,9 +22,9 @@ impl<A: Allocator> Model for SketchBytes<A> {
 }
 
 impl<A: Allocator> SketchBytes<A> {
-    /// No bytes, with room for `capacity` of them, taken in one request.
+    /// An empty buffer with room for `capacity` bytes, allocated in one request.
     ///
-    /// Refused with the reason `Memory`.
+    /// Fails with `Memory`.
     pub fn with_capacity(alloc: A, capacity: usize) -> Result<SketchBytes<A>, Error>
         ensures ok { IfOk result (λ bytes. bytes ≡ []) }
         ensures err { IfErr result (λ e. e ≡ Memory) }
@@ -45,7 +44,7 @@ impl<A: Allocator> SketchBytes<A> {
         Ok(())
     }
 
-    /// Appends four bytes, the lowest first.
+    /// Appends a 32-bit number in little-endian order.
     pub fn write_u32_le(&mut self, number: u32) -> Result<(), Error>
         ensures ok { OnOk result (self.new ≡ self.old ++ to_le_bytes w32 number) }
         ensures err { IfErr result (λ e. e ≡ Memory) }
@@ -54,7 +53,7 @@ impl<A: Allocator> SketchBytes<A> {
         self.write(&u32::to_le_bytes(number))
     }
 
-    /// Appends eight bytes, the lowest first.
+    /// Appends a 64-bit number in little-endian order.
     pub fn write_u64_le(&mut self, number: u64) -> Result<(), Error>
         ensures ok { OnOk result (self.new ≡ self.old ++ to_le_bytes w64 number) }
         ensures err { IfErr result (λ e. e ≡ Memory) }
@@ -63,7 +62,7 @@ impl<A: Allocator> SketchBytes<A> {
         self.write(&u64::to_le_bytes(number))
     }
 
-    /// Appends these bytes.
+    /// Appends a slice of bytes.
     pub fn write(&mut self, bytes: &[u8]) -> Result<(), Error>
         ensures ok { OnOk result (self.new ≡ self.old ++ bytes.now) }
         ensures err { IfErr result (λ e. e ≡ Memory) }
@@ -73,7 +72,7 @@ impl<A: Allocator> SketchBytes<A> {
         Ok(())
     }
 
-    /// All that was written. Takes no memory.
+    /// The bytes written. Takes no memory.
     pub fn into_bytes(self) -> Vec<u8, A>
         ensures { result.items ≡ self }
     {
@@ -111,7 +110,7 @@ mod tests {
         Ok(())
     }
 
-    /// In a heap of each size, until all fields fit: what was written before a refusal stands.
+    /// In heaps of growing size, until all fields fit: a refused write keeps what was written before it.
     #[test]
     fn refused_memory(rt: HostRuntime) -> Result<(), Fail> {
         let (mut without_room, mut cut_short, mut complete) = (0u32, 0u32, 0u32);

@@ -1,4 +1,4 @@
-//! Bytes that are read one field after another.
+//! A cursor over the bytes of an image.
 ghost use Rattle.std.specs.Prelude.{◌≡◌, ℕ, ◌≤◌, ◌<◌, ◌++◌, ◌∷◌, [], List, length, drop, IfOk, OnOk, IfErr};
 ghost use Rattle.std.specs.Int.{from_le_bytes, w32, w64};
 ghost use Rattle.hll_base.specs.declared.error.Reason.TheVariants.{Truncated};
@@ -6,10 +6,9 @@ ghost use Rattle.hll_base.specs.declared.error.Reason.TheVariants.{Truncated};
 use crate::error::{Error, Reason};
 use std::marker::Model;
 
-/// Bytes that are read one field after another. Contracts see the list of the bytes that are left.
+/// A cursor over the bytes of an image. Contracts see the list of the bytes not yet read.
 ///
-/// A read takes exactly the next bytes, or answers `Truncated` where there are too few, and takes nothing.
-/// No call takes memory.
+/// A read that needs more bytes than are left returns `Truncated` and does not advance. No call takes memory.
 #[derive(Debug, Drop)]
 pub struct SketchSlice<'a> {
     bytes: &'a [u8],
@@ -22,21 +21,21 @@ impl<'a> Model for SketchSlice<'a> {
 }
 
 impl<'a> SketchSlice<'a> {
-    /// All of these bytes are left.
+    /// A cursor at the first of these bytes.
     pub fn new(bytes: &'a [u8]) -> Self
         ensures { result ≡ bytes.now }
     {
         SketchSlice { bytes }
     }
 
-    /// The bytes that are left.
+    /// The bytes not yet read.
     pub fn remaining(&self) -> &'a [u8]
         ensures { result.now ≡ self.now }
     {
         self.bytes
     }
 
-    /// Takes a byte.
+    /// Reads a byte.
     pub fn read_u8(&mut self) -> Result<u8, Error>
         ensures ok { IfOk result (λ number. self.old ≡ number ∷ self.new) }
         ensures err { IfErr result (λ e. (e ≡ Truncated) × (self.old ≡ []) × (self.new ≡ self.old)) }
@@ -50,7 +49,7 @@ impl<'a> SketchSlice<'a> {
         }
     }
 
-    /// Takes a number of four bytes, the lowest first.
+    /// Reads a 32-bit number in little-endian order.
     pub fn read_u32_le(&mut self) -> Result<u32, Error>
         ensures ok { IfOk result (λ number. (4 ≤ length self.old) × (number ≡ from_le_bytes w32 self.old) × (self.new ≡ drop 4 self.old)) }
         ensures err { IfErr result (λ e. (e ≡ Truncated) × (length self.old < 4) × (self.new ≡ self.old)) }
@@ -64,7 +63,7 @@ impl<'a> SketchSlice<'a> {
         }
     }
 
-    /// Takes a number of eight bytes, the lowest first.
+    /// Reads a 64-bit number in little-endian order.
     pub fn read_u64_le(&mut self) -> Result<u64, Error>
         ensures ok { IfOk result (λ number. (8 ≤ length self.old) × (number ≡ from_le_bytes w64 self.old) × (self.new ≡ drop 8 self.old)) }
         ensures err { IfErr result (λ e. (e ≡ Truncated) × (length self.old < 8) × (self.new ≡ self.old)) }
@@ -78,7 +77,7 @@ impl<'a> SketchSlice<'a> {
         }
     }
 
-    /// Fills the buffer with the next bytes. Where there are too few the buffer stays as it was.
+    /// Fills the buffer with the next bytes. On `Truncated` the buffer is unchanged.
     pub fn read_exact(&mut self, buffer: &mut [u8]) -> Result<(), Error>
         ensures ok { OnOk result (self.old ≡ buffer.new ++ self.new) }
         ensures err { IfErr result (λ e. (e ≡ Truncated) × (length self.old < length buffer.old) × (self.new ≡ self.old) × (buffer.new ≡ buffer.old)) }
@@ -91,5 +90,25 @@ impl<'a> SketchSlice<'a> {
             }
             None => Err(Error::new(Reason::Truncated)),
         }
+    }
+}
+
+#[cfg(test)]
+mod tests {
+    use super::*;
+    use std::test::Fail;
+
+    /// A byte and three more; then too few are left for three.
+    #[test]
+    fn reads(rt: HostRuntime) -> Result<(), Fail> {
+        let mut cursor = SketchSlice::new(&[1, 2, 3, 4, 5, 6]);
+        assert_eq!(rt; cursor.read_u8()?, 1);
+        let mut buffer = [0; 3];
+        cursor.read_exact(&mut buffer)?;
+        assert_eq!(rt; buffer, [2, 3, 4]);
+        assert!(rt; cursor.read_exact(&mut buffer).is_err());
+        assert_eq!(rt; buffer, [2, 3, 4]);
+        assert_eq!(rt; cursor.remaining(), [5, 6].as_slice());
+        Ok(())
     }
 }

@@ -1,4 +1,4 @@
-//! Errors with numbered reasons (docs/FORMAT.md, "Reasons").
+//! Errors and their numbered reasons (docs/FORMAT.md, "Reasons").
 ghost use Rattle.std.specs.Prelude.{◌≡◌};
 ghost use Rattle.hll_base.specs.Reason.{number_of, word_of, kind_of};
 ghost use Rattle.hll_base.specs.declared.error.Reason.TheVariants.{Memory};
@@ -6,45 +6,45 @@ ghost use Rattle.hll_base.specs.declared.error.Reason.TheVariants.{Memory};
 use std::alloc::{AllocError, AllocFailed};
 use std::marker::Model;
 
-/// What kind of refusal an error is.
+/// The kind of an error.
 #[derive(Clone, Copy, Debug, PartialEq, Eq)]
 pub enum ErrorKind {
-    /// An argument is outside its range.
+    /// An argument is out of range.
     InvalidArgument,
-    /// The bytes that are read are no image.
+    /// The bytes are not a valid image.
     InvalidData,
-    /// A request for memory was refused.
+    /// An allocation failed.
     OutOfMemory,
 }
 
-/// The fault that stands in the input, numbered from 1 in this order.
+/// Why a call failed. The reasons are numbered from 1 in this order.
 #[derive(Clone, Copy, Debug, PartialEq, Eq)]
 pub enum Reason {
-    /// The bytes end inside what the header asks for.
+    /// The bytes end before the image that the header announces.
     Truncated,
-    /// The family byte isn't 7.
+    /// The family byte is not 7.
     Family,
-    /// The serial version isn't 1.
+    /// The serial version is not 1.
     Version,
-    /// The `lg_k` byte is outside 4 to 21.
+    /// The `lg_k` byte is not in 4 to 21.
     LgK,
     /// The width bits are 3.
     Width,
     /// The stage bits are 3.
     Stage,
-    /// The number of preamble words doesn't fit the stage.
+    /// The number of preamble words is wrong for the stage.
     Preamble,
-    /// The table size is outside its range.
+    /// The table size is out of range.
     LgArr,
-    /// A count is above its bound, or isn't the number of filled places.
+    /// A count is above its bound, or is not the number of filled places.
     Count,
-    /// A coupon of value 0 stands where a coupon has to stand, or a coupon stands twice.
+    /// A coupon has value 0, or occurs twice.
     Coupon,
-    /// A register is above 63, or nibbles and exceptions don't agree.
+    /// A register is above 63, or nibbles and exceptions disagree.
     Register,
-    /// An argument is outside its range.
+    /// An argument is out of range.
     Argument,
-    /// A request for memory was refused.
+    /// An allocation failed.
     Memory,
 }
 
@@ -73,7 +73,7 @@ impl Reason {
         }
     }
 
-    /// The word that stands for the reason in a printed line. Takes no memory.
+    /// The word that is printed for the reason. Takes no memory.
     pub fn word(self) -> &'static str
         ensures { result.now ≡ word_of self }
     {
@@ -95,7 +95,7 @@ impl Reason {
     }
 }
 
-/// A refusal. Contracts see its reason.
+/// An error. Contracts see its reason.
 #[derive(Clone, Copy, Debug, PartialEq, Eq)]
 pub struct Error {
     reason: Reason,
@@ -112,14 +112,14 @@ impl Model for Error {
 }
 
 impl Error {
-    /// The refusal for this reason. Takes no memory.
+    /// The error with this reason. Takes no memory.
     pub fn new(reason: Reason) -> Error
         ensures { result ≡ reason }
     {
         Error { reason }
     }
 
-    /// Why the call was refused. Takes no memory.
+    /// The reason. Takes no memory.
     pub fn reason(&self) -> Reason
         ensures { result ≡ self.now }
     {
@@ -139,7 +139,7 @@ impl Error {
     }
 }
 
-/// Refused memory, by `?`.
+/// Lets `?` turn a failed allocation into `Memory`.
 impl From<AllocError> for Error {
     ghost from_gives = { λ _ e. e ≡ Memory };
 
@@ -148,11 +148,30 @@ impl From<AllocError> for Error {
     }
 }
 
-/// Refused memory, by `?`. What was to be stored is let go.
+/// Lets `?` turn a failed allocation into `Memory`. The value that was to be stored is dropped.
 impl<T: Drop> From<AllocFailed<T>> for Error {
     ghost from_gives = { λ _ e. e ≡ Memory };
 
     fn from(_refused: AllocFailed<T>) -> Error {
         Error::new(Reason::Memory)
+    }
+}
+
+#[cfg(test)]
+mod tests {
+    use super::*;
+
+    /// A reason of each kind, and its number.
+    #[test]
+    fn kinds(rt: HostRuntime) {
+        for (reason, number, kind) in [
+            (Reason::Truncated, 1, ErrorKind::InvalidData),
+            (Reason::Register, 11, ErrorKind::InvalidData),
+            (Reason::Argument, 12, ErrorKind::InvalidArgument),
+            (Reason::Memory, 13, ErrorKind::OutOfMemory),
+        ] {
+            assert_eq!(rt; reason.number(), number);
+            assert_eq!(rt; Error::new(reason).kind(), kind);
+        }
     }
 }

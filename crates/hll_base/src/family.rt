@@ -1,23 +1,23 @@
-//! The family that an image names (docs/FORMAT.md, "The image").
+//! The family byte of an image (docs/FORMAT.md, "The image").
 ghost use Rattle.std.specs.Prelude.{◌≡◌, ◌↔◌, IsOk, IfErr};
 ghost use Rattle.hll_base.specs.declared.error.Reason.TheVariants as reasons;
 
 use crate::error::{Error, Reason};
 
-/// A family of sketches, by its number in an image.
+/// A family of sketches, identified by a number in its images.
 #[derive(Clone, Copy, Debug, PartialEq, Eq)]
 pub struct Family {
-    /// The number, the third byte of an image.
+    /// The family's number, the third byte of an image.
     pub id: u8,
 }
 
 impl Family {
-    /// The sketches of this project.
+    /// HyperLogLog sketches.
     pub const HLL: Family = Family { id: 7 };
 
-    /// Tests the number that an image gives.
+    /// Checks that an image's number is that of this family.
     ///
-    /// Refused with the reason `Family` where it is another number. Takes no memory.
+    /// Fails with `Family` if it is another. Takes no memory.
     pub fn validate_id(self, id: u8) -> Result<(), Error>
         ensures ok { IsOk result ↔ (id ≡ self.id) }
         ensures err { IfErr result (λ e. e ≡ reasons.Family) }
@@ -29,3 +29,5 @@ impl Family {
         }
     }
 }
+
+const _: () = prove!(Family::HLL.id == 7);

@@ -1,17 +1,17 @@
-//! The two words of MurmurHash3 x64 128, and what blocks of sixteen bytes do to them (docs/FORMAT.md, "The hash").
+//! The state of MurmurHash3 x64 128 and its mixing steps (docs/FORMAT.md, "The hash").
 ghost use Rattle.std.specs.Prelude.{◌≡◌, ℕ, ◌++◌, ◌-◌, List, length, replicate, fold};
 ghost use Rattle.hll_base.specs.Hash as spec;
-ghost use Rattle.hll_base.specs.Hash.{turned, mixed, first_scrambled, second_scrambled, first_word, second_word, after_block, after_rest, ended};
+ghost use Rattle.hll_base.specs.Hash.{rotation, mix_of, first_scramble, second_scramble, first_word, second_word, after_block, after_rest, final_halves};
 
 use std::marker::Model;
 
-/// The first word of a block is multiplied by it, and then the second.
+/// The reference's c1: multiplies the first word of a block before the rotation, and the second after it.
 const FIRST_FACTOR: u64 = 0x87c3_7b91_1142_53d5;
 
-/// The second word of a block is multiplied by it, and then the first.
+/// The reference's c2: multiplies the second word of a block before the rotation, and the first after it.
 const SECOND_FACTOR: u64 = 0x4cf5_ad43_2745_937f;
 
-/// The two words that a hash keeps, and ends with.
+/// The two 64-bit halves of the hash state.
 #[derive(Clone, Copy, Debug)]
 pub(crate) struct Halves {
     first: u64,
@@ -28,38 +28,38 @@ impl Model for Halves {
     ghost inverse = { λ h. record { first = h.first; second = h.second } };
 }
 
-/// A word with its bits mixed.
+/// The final mix of a half.
 fn mix(word: u64) -> u64
-    ensures { result ≡ mixed word }
+    ensures { result ≡ mix_of word }
 {
     let word = (word ^ word >> 33).wrapping_mul(0xff51_afd7_ed55_8ccd);
     let word = (word ^ word >> 33).wrapping_mul(0xc4ce_b9fe_1a85_ec53);
     word ^ word >> 33
 }
 
-/// A word turned left by so many bits. It is a function of its own so that the compiler turns a product, and does not
-/// multiply twice instead.
+/// A word rotated left by `COUNT` bits. Kept apart from the multiplication so that the compiler rotates the product
+/// and does not multiply twice instead.
 fn turn<const COUNT: u32>(word: u64) -> u64
-    ensures { result ≡ turned word COUNT }
+    ensures { result ≡ rotation word COUNT }
 {
     word.rotate_left(COUNT)
 }
 
-/// The first word of a block as it goes into the first half.
+/// Scrambles the first word of a block for the first half.
 fn scramble_first(word: u64) -> u64
-    ensures { result ≡ first_scrambled word }
+    ensures { result ≡ first_scramble word }
 {
     turn::<31>(word.wrapping_mul(FIRST_FACTOR)).wrapping_mul(SECOND_FACTOR)
 }
 
-/// The second word of a block as it goes into the second half.
+/// Scrambles the second word of a block for the second half.
 fn scramble_second(word: u64) -> u64
-    ensures { result ≡ second_scrambled word }
+    ensures { result ≡ second_scramble word }
 {
     turn::<33>(word.wrapping_mul(SECOND_FACTOR)).wrapping_mul(FIRST_FACTOR)
 }
 
-/// Both words of a block.
+/// The two little-endian words of a block.
 fn words(block: &[u8; 16]) -> (u64, u64)
     ensures first { result.0 ≡ first_word block.now }
     ensures second { result.1 ≡ second_word block.now }
@@ -72,7 +72,7 @@ fn words(block: &[u8; 16]) -> (u64, u64)
 }
 
 impl Halves {
-    /// Before any block, at a seed.
+    /// The state before any block.
     pub(crate) fn at_seed(seed: u64) -> Halves
         ensures { result ≡ record { first = seed; second = seed } }
     {
@@ -82,7 +82,7 @@ impl Halves {
         }
     }
 
-    /// Takes a full block.
+    /// Absorbs a full block.
     pub(crate) fn absorb(&mut self, block: &[u8; 16])
         ensures { self.new ≡ after_block self.old block.now }
     {
@@ -95,7 +95,7 @@ impl Halves {
         self.second = self.second.wrapping_mul(5).wrapping_add(0x3849_5ab5);
     }
 
-    /// Takes full blocks in turn.
+    /// Absorbs full blocks, in order.
     pub(crate) fn absorb_each(&mut self, blocks: &[[u8; 16]])
         ensures { self.new ≡ fold after_block self.old blocks.now }
     {
@@ -104,7 +104,7 @@ impl Halves {
         }
     }
 
-    /// Takes a rest of so many bytes, which stands in a block that is filled up with zeros.
+    /// Absorbs the last `count` bytes, which are the front of a block padded with zeros.
     pub(crate) fn absorb_rest(&mut self, block: &[u8; 16], count: usize)
         ensures { (rest : List ℕ) → length rest ≡ count → block.now ≡ rest ++ replicate (16 - count) 0 → self.new ≡ after_rest self.old rest }
     {
@@ -118,18 +118,18 @@ impl Halves {
         }
     }
 
-    /// The first takes up the second, and then the second the first.
+    /// Adds the second half to the first, and then the new first half to the second.
     fn sum(&mut self)
-        ensures { self.new ≡ spec.summed self.old.first self.old.second }
+        ensures { self.new ≡ spec.cross_sum self.old.first self.old.second }
     {
         self.first = self.first.wrapping_add(self.second);
         self.second = self.second.wrapping_add(self.first);
     }
 
-    /// The end, with the count of all bytes.
+    /// The hash, given the total number of bytes.
     pub(crate) fn end(mut self, count: u64) -> (u64, u64)
-        ensures first { result.0 ≡ (ended count self).first }
-        ensures second { result.1 ≡ (ended count self).second }
+        ensures first { result.0 ≡ (final_halves count self).first }
+        ensures second { result.1 ≡ (final_halves count self).second }
     {
         self.first ^= count;
         self.second ^= count;

@@ -1,50 +1,53 @@
 //! MurmurHash3 x64 128 (docs/FORMAT.md, "The hash").
 ghost use Rattle.std.specs.Prelude.{◌≡◌, ◌+◌, ◌≤◌, ◌<◌, ◌++◌, [], length, take, drop};
-ghost use Rattle.hll_base.specs.Hash.{started, absorbed, taken, hash_of, default_seed};
+ghost use Rattle.hll_base.specs.Hash.{initial_state, after_bytes, after_piece, hash_of, default_seed};
 
 use crate::halves::Halves;
 use std::hash::Hasher;
 use std::marker::Model;
 
-/// The seed where none is given.
+/// The default seed.
 const DEFAULT_SEED: u64 = 9001;
 
+/// The bytes in a block.
 const BLOCK: usize = 16;
 
-/// The hash of bytes that come in pieces: MurmurHash3 x64 128. How they are cut makes no difference. Contracts see both
-/// halves, the bytes of the block that is begun, and the count of all bytes modulo 2^64.
+/// A streaming MurmurHash3 x64 128: the hash depends on the bytes written, and not on how they are divided between
+/// calls. Contracts see both halves, the bytes of the partial block, and the number of bytes modulo 2^64.
 ///
 /// No call takes memory.
 #[derive(Debug, Drop)]
 pub struct MurmurHash3X64128 {
     halves: Halves,
-    /// Zeros stand behind the bytes that are begun.
+    /// The partial block, padded with zeros.
     block: [u8; 16],
-    begun: usize,
+    /// The number of bytes in the partial block, less than 16.
+    partial: usize,
+    /// The number of bytes written, modulo 2^64.
     count: u64,
 }
 
 impl Model for MurmurHash3X64128 {
     ghost use Rattle.std.specs.Prelude.{◌≡◌, ◌<◌, ◌-◌, take, drop, replicate};
-    ghost use Rattle.hll_base.specs.Hash.{Hashing};
+    ghost use Rattle.hll_base.specs.Hash.{HashState};
 
-    ghost Value = { Hashing };
+    ghost Value = { HashState };
 
-    ghost view = { λ h. record { halves = h.halves; begun = take h.begun h.block; count = h.count } };
+    ghost view = { λ h. record { halves = h.halves; partial = take h.partial h.block; count = h.count } };
 
-    ghost invariant = { λ h. (h.begun < 16) × (drop h.begun h.block ≡ replicate (16 - h.begun) 0) };
+    ghost invariant = { λ h. (h.partial < 16) × (drop h.partial h.block ≡ replicate (16 - h.partial) 0) };
 }
 
 impl Default for MurmurHash3X64128 {
-    /// No bytes yet, at seed 9001.
+    /// The hash of no bytes, with seed 9001.
     fn default() -> Self
-        ensures { result ≡ started default_seed }
+        ensures { result ≡ initial_state default_seed }
     {
         Self::with_seed(DEFAULT_SEED)
     }
 }
 
-/// Puts others behind the bytes of a block that is begun with so many.
+/// Appends bytes to the first `count` bytes of a block.
 fn extend(block: &mut [u8; 16], count: usize, others: &[u8])
     requires { count + length others.now ≤ 16 }
     ensures { block.new ≡ take count block.old ++ others.now ++ drop (count + length others.now) block.old }
@@ -53,80 +56,81 @@ fn extend(block: &mut [u8; 16], count: usize, others: &[u8])
 }
 
 impl MurmurHash3X64128 {
-    /// No bytes yet, at a seed.
+    /// The hash of no bytes, with this seed.
     pub fn with_seed(seed: u64) -> Self
-        ensures { result ≡ started seed }
+        ensures { result ≡ initial_state seed }
     {
         MurmurHash3X64128 {
             halves: Halves::at_seed(seed),
             block: [0; 16],
-            begun: 0,
+            partial: 0,
             count: 0,
         }
     }
 
-    /// Takes a piece of the bytes.
+    /// Appends bytes to the hashed input.
     pub fn write(&mut self, bytes: &[u8])
-        ensures { self.new ≡ taken self.old bytes.now }
+        ensures { self.new ≡ after_piece self.old bytes.now }
     {
         self.count = self.count.wrapping_add(bytes.len() as u64);
         let rest = self.fill(bytes);
-        if self.begun == 0 {
+        if self.partial == 0 {
             let (blocks, rest) = rest.as_chunks::<BLOCK>();
             self.halves.absorb_each(blocks);
             self.begin(rest);
         }
     }
 
-    /// Fills up the block that is begun, if one is. Gives the bytes behind it: none where it is still begun.
+    /// Completes the partial block, if there is one, and returns the bytes that follow it. There are none if the block
+    /// is still partial.
     fn fill<'a>(&mut self, bytes: &'a [u8]) -> &'a [u8]
-        ensures same { absorbed self.new.halves (self.new.begun ++ result.now) self.old.count ≡ absorbed self.old.halves (self.old.begun ++ bytes.now) self.old.count }
-        ensures behind { 0 < length self.new.begun → result.now ≡ [] }
+        ensures same { after_bytes self.new.halves (self.new.partial ++ result.now) self.old.count ≡ after_bytes self.old.halves (self.old.partial ++ bytes.now) self.old.count }
+        ensures behind { 0 < length self.new.partial → result.now ≡ [] }
         ensures count { self.new.count ≡ self.old.count }
     {
-        if self.begun == 0 {
+        if self.partial == 0 {
             return bytes;
         }
-        let (front, rest) = bytes.split_at((BLOCK - self.begun).min(bytes.len()));
-        let end = self.begun + front.len();
-        extend(&mut self.block, self.begun, front);
+        let (front, rest) = bytes.split_at((BLOCK - self.partial).min(bytes.len()));
+        let end = self.partial + front.len();
+        extend(&mut self.block, self.partial, front);
         if end == BLOCK {
             self.halves.absorb(&self.block);
             self.block = [0; BLOCK];
-            self.begun = 0;
+            self.partial = 0;
         } else {
-            self.begun = end;
+            self.partial = end;
         }
         rest
     }
 
-    /// Begins a block with less than sixteen bytes, where none is begun.
+    /// Starts a partial block with fewer than sixteen bytes.
     fn begin(&mut self, bytes: &[u8])
-        requires none { self.old.begun ≡ [] }
+        requires none { self.old.partial ≡ [] }
         requires few { length bytes.now < 16 }
-        ensures { self.new ≡ record self.old { begun = bytes.now } }
+        ensures { self.new ≡ record self.old { partial = bytes.now } }
     {
         extend(&mut self.block, 0, bytes);
-        self.begun = bytes.len();
+        self.partial = bytes.len();
     }
 
-    /// Both words of the hash of all pieces.
+    /// The 128-bit hash of the bytes written, as two 64-bit words.
     pub fn finish128(&self) -> (u64, u64)
         ensures first { result.0 ≡ (hash_of self.now).first }
         ensures second { result.1 ≡ (hash_of self.now).second }
     {
         let mut halves = self.halves;
-        halves.absorb_rest(&self.block, self.begun);
+        halves.absorb_rest(&self.block, self.partial);
         halves.end(self.count)
     }
 }
 
 impl Hasher for MurmurHash3X64128 {
-    ghost write = { taken };
+    ghost write = { after_piece };
 
     ghost finish = { λ s. (hash_of s).first };
 
-    /// The first word of the hash.
+    /// The first word of the 128-bit hash.
     fn finish(&self) -> u64 {
         self.finish128().0
     }
@@ -135,3 +139,6 @@ impl Hasher for MurmurHash3X64128 {
         self.write(bytes);
     }
 }
+
+#[cfg(test)]
+mod tests;

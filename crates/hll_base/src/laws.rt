@@ -1,13 +1,13 @@
-//! The laws of the hash, each the contract of a function that does nothing: a caller that needs one calls it
+//! Laws of the hash. Each is the contract of a function with an empty body, which a caller that needs it calls
 //! (docs/MODEL.md, "The hash").
 ghost use Rattle.hll_base.specs.Hash.{PiecesAreOne, HashOfPiece};
 
-/// Two pieces are one: how bytes are cut makes no difference.
+/// Writing two pieces is the same as writing their concatenation.
 pub fn pieces_are_one()
     ensures { PiecesAreOne }
 {}
 
-/// The hash of one piece is that of its bytes.
+/// Writing all bytes at once gives their hash.
 pub fn hash_of_piece()
     ensures { HashOfPiece }
 {}

@@ -1,5 +1,5 @@
-//! The layer below the sketches: errors with numbered reasons, the family of the sketches, a hash,
-//! and bytes that are written and read one field after another (docs/ARCHITECTURE.md, "The crates").
+//! What the sketches are built on: errors, the hash, and readers and writers of image bytes
+//! (docs/ARCHITECTURE.md, "The crates").
 #![tactic(auto)]
 
 pub mod codec;
@@ -8,6 +8,10 @@ pub mod error;
 pub mod family;
 mod halves;
 pub mod hash;
-#[cfg(test)]
-mod hash_tests;
 pub mod laws;
+
+pub use codec::SketchBytes;
+pub use cursor::SketchSlice;
+pub use error::{Error, ErrorKind, Reason};
+pub use family::Family;
+pub use hash::MurmurHash3X64128;

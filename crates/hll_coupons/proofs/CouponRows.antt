@@ -42,3 +42,7 @@ slot_of-pair = refl
 
 pub value_of-pair : value_of (pair 12345 42) ≡ 42
 value_of-pair = refl
+
+-- slot 5 with value 3
+pub pair-five_three : pair 5 3 ≡ 201326597
+pair-five_three = refl

@@ -1,3 +1,4 @@
+-- The fold of a union, at each slot and as registers.
 use Rattle.std.proofs.Common.{◌≡◌, ℕ, ◌^◌, ◌<◌, List, length, get_or, sym, ◌∙◌, arith}
 use Rattle.std.specs.Prelude.{max}
 use Rattle.std.specs.FinSet.{items, union}

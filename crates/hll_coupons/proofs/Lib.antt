@@ -1,5 +1,6 @@
 mod ConstantRows
 mod FoldRows
+pub mod Ascending
 pub mod CouponRows
 pub mod Folds
 pub mod Greatest
@@ -8,7 +9,8 @@ pub mod Joins
 pub mod Members
 pub mod Payloads
 pub mod Places
-pub mod PlainSteps
+pub mod ReferenceSteps
+mod ProbeRows
 pub mod Probing
 pub mod Reading
 pub mod Registers

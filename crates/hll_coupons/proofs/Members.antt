@@ -10,7 +10,7 @@ use Rattle.std.proofs.lemmas.List.{append-nil}
 use Rattle.std.proofs.lemmas.List.Folds.{list_any-append}
 use Rattle.std.proofs.lemmas.Map.Views.{any-filter_same}
 use Rattle.hll_coupons.specs.Pair.{Pairs, set_of}
-use Rattle.hll_coupons.specs.Table.{held, arrived}
+use Rattle.hll_coupons.specs.Table.{coupons_in, coupons_with}
 
 -- the set doesn't tell in which order its members came
 pub set_of-between : (xs ys : List ℕ) (c : ℕ) → set_of (xs ++ c ∷ ys) ≡ insert (set_of (xs ++ ys)) c
@@ -27,17 +27,17 @@ len-between xs ys c fresh =
     ∙ ap (λ b. cond b (len (set_of (xs ++ ys))) (len (set_of (xs ++ ys)) + 1)) fresh
 
 -- a search among the places finds a coupon just where it is held
-pub contains-held : (places : List ℕ) (q : ℕ) → 0 < q → list_any (λ y. nat_eq y q) places ≡ contains (set_of (held places)) q
-contains-held places q h =
-    sym (any-filter_same (λ y. nat_eq y q) (λ c. nat_lt 0 c) true (λ k e. full k e) places) ∙ sym (contains-from_list_nat (held places) q)
+pub contains-coupons_in : (places : List ℕ) (q : ℕ) → 0 < q → list_any (λ y. nat_eq y q) places ≡ contains (set_of (coupons_in places)) q
+contains-coupons_in places q h =
+    sym (any-filter_same (λ y. nat_eq y q) (λ c. nat_lt 0 c) true (λ k e. full k e) places) ∙ sym (contains-from_list_nat (coupons_in places) q)
   where
     full : (k : ℕ) → nat_eq k q ≡ true → nat_lt 0 k ≡ true
     full k e = grind (arith, nat_tests)
 
 -- what stands for an empty place is never held
-pub contains-zero : (places : List ℕ) → contains (set_of (held places)) 0 ≡ false
+pub contains-zero : (places : List ℕ) → contains (set_of (coupons_in places)) 0 ≡ false
 contains-zero places =
-    contains-from_list_nat (held places) 0 ∙ any-filter_same (λ y. nat_eq y 0) (λ c. nat_lt 0 c) false (λ k e. none k e) places
+    contains-from_list_nat (coupons_in places) 0 ∙ any-filter_same (λ y. nat_eq y 0) (λ c. nat_lt 0 c) false (λ k e. none k e) places
   where
     none : (k : ℕ) → nat_eq k 0 ≡ true → nat_lt 0 k ≡ false
     none k e = grind (arith, nat_tests)
@@ -52,13 +52,13 @@ insert-member s c h = same_set nat_cmp_total nat_cmp-IsAntisymmetric _ _ (λ q. 
   where
     kept : (q : ℕ) (b : Bool) → nat_eq q c ≡ b → contains (insert s c) q ≡ contains s q
     kept q true e =
-        let held : contains s q ≡ true = ap (contains s) (eqb-true q c e) ∙ h in
-        contains-insert nat_cmp_total s c q ∙ ap (λ b. eq_by_cmp nat_cmp q c || b) held ∙ or-true (eq_by_cmp nat_cmp q c) ∙ sym held
+        let is_member : contains s q ≡ true = ap (contains s) (eqb-true q c e) ∙ h in
+        contains-insert nat_cmp_total s c q ∙ ap (λ b. eq_by_cmp nat_cmp q c || b) is_member ∙ or-true (eq_by_cmp nat_cmp q c) ∙ sym is_member
     kept q false e = contains-insert nat_cmp_total s c q ∙ ap (λ b. b || contains s q) (unsigned_tied q c ∙ e)
 
 -- a coupon that arrives is a member of the set
-pub set_of-arrived : (order : List ℕ) (c : ℕ) → set_of (arrived order c) ≡ insert (set_of order) c
-set_of-arrived order c = decide (contains (set_of order) c) refl
+pub set_of-coupons_with : (order : List ℕ) (c : ℕ) → set_of (coupons_with order c) ≡ insert (set_of order) c
+set_of-coupons_with order c = decide (contains (set_of order) c) refl
   where
     decide : (b : Bool) → contains (set_of order) c ≡ b → set_of (cond b order (order ++ c ∷ [])) ≡ insert (set_of order) c
     decide true e = sym (insert-member (set_of order) c e)

@@ -1,10 +1,12 @@
-use Rattle.std.proofs.Common.{◌≡◌, ℕ, ◌+◌, ◌*◌, ◌^◌, ◌<◌, ◌≤◌, zero, suc, Bool, cond, not, eqb, List, [], ◌∷◌, ◌++◌, filter, length, get_or, take, drop, All, refl, sym, ap, subst, ◌∙◌, arith}
+-- Payloads of lists and sets on a front of bytes, and their faults.
+use Rattle.std.proofs.Common.{◌≡◌, ℕ, ◌+◌, ◌*◌, ◌^◌, ◌<◌, ◌≤◌, zero, suc, Bool, cond, List, [], ◌∷◌, ◌++◌, length, get_or, take, drop, All, refl, sym, ap, subst, ◌∙◌, arith}
 use Rattle.std.specs.Int.{w32, from_le_bytes}
 use Rattle.std.proofs.lemmas.Nat.{from_le_bytes-to_le_bytes_4}
 use Rattle.std.proofs.lemmas.List.Elements.{All-head, All-tail}
 use Rattle.std.proofs.lemmas.List.{get_or_append_left, get_or-drop, drop-append-le, take_at, length-append, length-drop}
 use Rattle.hll_base.specs.declared.error.Reason.{Reason}
 use Rattle.hll_coupons.specs.Coupons.{words, coupons_at, coupon_bytes, AreCoupons}
+use Rattle.hll_coupons.specs.Table.{coupons_in}
 use Rattle.hll_coupons.specs.Payload.{ListShape, HasListCount, list_places, list_coupons, IsListPayload, ListFault, SetShape, set_count, set_places, set_coupons, HasSetCount, IsSetPayload, SetFault}
 use Rattle.hll_coupons.specs.Payload as payload
 
@@ -36,7 +38,7 @@ module _ (a t b : List ℕ) (e : a ++ t ≡ b) where
   pub front_coupons : (compact : Bool) (n k : ℕ) → k + 4 * n ≤ length a → coupons_at compact n (drop k a) ≡ coupons_at compact n (drop k b)
   front_coupons compact n k h =
       let ws : words n (drop k a) ≡ words n (drop k b) = sym (ap (words n) (sym (front_rest k (omega arith))) ∙ words-append n (drop k a) t (omega (arith, length-drop k a))) in
-      ap (λ ws. cond compact ws (filter (λ c. not (eqb c 0)) ws)) ws
+      ap (λ ws. cond compact ws (coupons_in ws)) ws
 
   pub front_take : (n : ℕ) → n ≡ length a → a ≡ take n b
   front_take n h = sym (take_at a t n (sym h)) ∙ ap (take n) e

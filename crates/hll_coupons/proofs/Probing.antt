@@ -1,3 +1,4 @@
+-- A path with an odd stride meets each place of its table once.
 use Rattle.std.proofs.Common.{◌≡◌, ℕ, ◌+◌, ◌-◌, ◌*◌, ◌/◌, ◌%◌, ◌^◌, ◌<◌, ◌≤◌, ◌⊎◌, zero, suc, get_or, sym, ap, ◌∙◌, arith, inl, inr}
 use Rattle.std.proofs.lemmas.Bool.{cases_lt}
 use Rattle.std.proofs.lemmas.Nat.{pow_pos}
@@ -101,7 +102,8 @@ only start d (suc n) i j odd hi hj e =
       ]
     ]
 
-path_at : (start d n i : ℕ) → i < 2 ^ n → get_or (path start d n) i 0 ≡ (start + i * d) % 2 ^ n
+-- the i-th place of a path
+pub path_at : (start d n i : ℕ) → i < 2 ^ n → get_or (path start d n) i 0 ≡ (start + i * d) % 2 ^ n
 path_at start d n i h = get_or-map-range_with_len (λ i. (start + i * d) % 2 ^ n) 0 (2 ^ n) i i 0 h (omega arith)
 
 pub meets_each_place_once : MeetsEachPlaceOnce

@@ -1,21 +1,21 @@
 -- Lemmas on reading the places of a list.
-use Rattle.std.proofs.Common.{◌≡◌, ◌≢◌, ℕ, zero, suc, ◌+◌, ◌-◌, ◌*◌, ◌^◌, ◌<◌, ◌≤◌, Bool, true, false, ◌||◌, cond, not, nat_eq, eqb, List, [], ◌∷◌, ◌++◌, length, drop, take, get_or, All, refl, sym, ◌∙◌, ap, subst, arith}
+use Rattle.std.proofs.Common.{◌≡◌, ◌≢◌, ℕ, zero, suc, ◌+◌, ◌-◌, ◌*◌, ◌^◌, ◌<◌, ◌≤◌, Bool, true, false, ◌||◌, cond, nat_eq, List, [], ◌∷◌, ◌++◌, length, drop, take, get_or, All, refl, sym, ◌∙◌, ap, subst, arith}
 use Rattle.std.specs.Int.{w32, from_le_bytes}
 use Rattle.std.specs.Cmp.{nat_cmp_total}
 use Rattle.std.specs.FinSet.{len, contains, len-empty, len-insert, contains-from_list_nat}
-use Rattle.std.proofs.lemmas.Bool.{cond-true, cond-false, eq-eqb, ne_eqb, true≢false}
+use Rattle.std.proofs.lemmas.Bool.{true≢false}
 use Rattle.std.proofs.lemmas.List.{length-append, length-take, append-nil, take-append-drop}
 use Rattle.std.proofs.lemmas.List.Folds.{list_any-append}
 use Rattle.std.specs.List.{list_any}
 use Rattle.std.specs.Ordering.{nat_cmp}
 use Rattle.std.proofs.lemmas.List.Elements.{All-append}
 use Rattle.hll_coupons.specs.Pair.{set_of, value_of}
-use Rattle.hll_coupons.specs.Coupons.{coupons_at, AreCoupons}
+use Rattle.hll_coupons.specs.Coupons.{words, coupons_at, AreCoupons}
 use Rattle.hll_coupons.specs.Payload.{ListShape, HasListCount, list_places, list_coupons, IsListPayload}
-use Rattle.hll_coupons.specs.Table.{held}
+use Rattle.hll_coupons.specs.Table.{coupons_in}
 use Rattle.hll_coupons.specs.Payload.{list_table}
 use Rattle.hll_coupons.proofs.Payloads.{front_coupons}
-use Rattle.hll_coupons.proofs.Places.{held-front, held-full}
+use Rattle.hll_coupons.proofs.Places.{coupons_in-front, coupons_in-full, coupons_in-empty}
 use Rattle.hll_coupons.proofs.Members.{set_of-between, insert-member, len-between}
 
 -- ---- one place more
@@ -24,10 +24,14 @@ pub next-compact : (m : ℕ) (b : List ℕ) → coupons_at true (suc m) b ≡ fr
 next-compact m b = refl
 
 pub next-full : (m : ℕ) (b : List ℕ) → from_le_bytes w32 b ≢ 0 → coupons_at false (suc m) b ≡ from_le_bytes w32 b ∷ coupons_at false m (drop 4 b)
-next-full m b h = cond-true (not (eqb (from_le_bytes w32 b) 0)) _ _ (ap not (ne_eqb (from_le_bytes w32 b) 0 h))
+next-full m b h = coupons_in-full (from_le_bytes w32 b) (words m (drop 4 b)) (positive (from_le_bytes w32 b) h)
+  where
+    positive : (w : ℕ) → w ≢ 0 → 0 < w
+    positive zero h = absurd (h refl)
+    positive (suc n) h = omega arith
 
 pub next-empty : (m : ℕ) (b : List ℕ) → from_le_bytes w32 b ≡ 0 → coupons_at false (suc m) b ≡ coupons_at false m (drop 4 b)
-next-empty m b h = cond-false (not (eqb (from_le_bytes w32 b) 0)) _ _ (ap not (eq-eqb (from_le_bytes w32 b) 0 h))
+next-empty m b h = coupons_in-empty (from_le_bytes w32 b) (words m (drop 4 b)) h
 
 pub next : (compact : Bool) (m : ℕ) (b : List ℕ) → (from_le_bytes w32 b ≡ 0 → compact ≡ true) → coupons_at compact (suc m) b ≡ from_le_bytes w32 b ∷ coupons_at compact m (drop 4 b)
 next true m b h = refl
@@ -35,7 +39,8 @@ next false m b h = next-full m b (λ z. true≢false (sym (h z)))
 
 -- ---- coupons
 
-len-set_of-le : (xs : List ℕ) → len (set_of xs) ≤ length xs
+-- a list has no fewer elements than members
+pub len-set_of-le : (xs : List ℕ) → len (set_of xs) ≤ length xs
 len-set_of-le [] = omega (arith, len-empty nat_cmp)
 len-set_of-le (x ∷ xs) =
     let e : len (set_of (x ∷ xs)) ≡ cond (contains (set_of xs) x) (len (set_of xs)) (len (set_of xs) + 1) = len-insert nat_cmp_total (set_of xs) x in
@@ -128,14 +133,14 @@ is_list_payload h b few there are number = record {
 }
 
 -- coupons are not empty
-held-coupons : (xs : List ℕ) → All (λ c. 1 ≤ value_of c) xs → held xs ≡ xs
-held-coupons [] v = refl
-held-coupons (x ∷ xs) v = held-full x xs (positive x (v 0 0 (omega arith))) ∙ ap (λ ys. x ∷ ys) (held-coupons xs (λ i d l. v (suc i) d (omega (arith, l))))
+coupons_in-coupons : (xs : List ℕ) → All (λ c. 1 ≤ value_of c) xs → coupons_in xs ≡ xs
+coupons_in-coupons [] v = refl
+coupons_in-coupons (x ∷ xs) v = coupons_in-full x xs (positive x (v 0 0 (omega arith))) ∙ ap (λ ys. x ∷ ys) (coupons_in-coupons xs (λ i d l. v (suc i) d (omega (arith, l))))
   where
     positive : (x : ℕ) → 1 ≤ value_of x → 0 < x
     positive zero h = absurd (omega (arith, h))
     positive (suc n) h = omega arith
 
 -- the table that is read holds the coupons in their order
-pub held-list_table : (h : ListShape) (b : List ℕ) → AreCoupons (list_coupons h b) → held (list_table h b).places ≡ list_coupons h b
-held-list_table h b are = held-front (list_coupons h b) (2 ^ h.lg_size - length (list_coupons h b)) ∙ held-coupons (list_coupons h b) are.valued
+pub coupons_in-list_table : (h : ListShape) (b : List ℕ) → AreCoupons (list_coupons h b) → coupons_in (list_table h b).places ≡ list_coupons h b
+coupons_in-list_table h b are = coupons_in-front (list_coupons h b) (2 ^ h.lg_size - length (list_coupons h b)) ∙ coupons_in-coupons (list_coupons h b) are.valued

@@ -1,3 +1,4 @@
+-- Registers and their pairs: each is the fold of the other.
 use Rattle.std.proofs.Common.{◌≡◌, ℕ, ◌+◌, ◌-◌, ◌%◌, ◌^◌, ◌<◌, ◌≤◌, zero, suc, true, false, cond, ◌⊎◌, eqb, List, [], ◌∷◌, map, length, get_or, set, refl, sym, ap, ◌∙◌, arith, inl, inr}
 use Rattle.std.specs.Prelude.{max}
 use Rattle.std.specs.List.{list_any, range_with_len}
@@ -124,10 +125,10 @@ greatest-pairs-fold_to P k e s le small =
           elim (cases_lt 0 v) [
             | inr none ↦ omega (arith, h.1)
             | inl some ↦
-                let held : contains (pairs (fold_to P k)) (pair t v) ≡ true = pairs_have (fold_to P k) (pair t v) t (record { within = omega (arith, length-fold_to P k); positive = some; is = ap (λ n. pair n v) (sym (zero-add t)) }) in
+                let is_pair : contains (pairs (fold_to P k)) (pair t v) ≡ true = pairs_have (fold_to P k) (pair t v) t (record { within = omega (arith, length-fold_to P k); positive = some; is = ap (λ n. pair n v) (sym (zero-add t)) }) in
                 let slot : slot_of (pair t v) % 2 ^ e ≡ s = ap (λ n. n % 2 ^ e) (slot_of-pair t v small_t) ∙ folds_again (slot_of c) k e le ∙ h.0 in
                 let value : value_at e s (pair t v) ≡ v = value_at_same e s (pair t v) slot ∙ value_of-pair t v small_t in
-                let last : value_at e s (pair t v) ≤ again = reached (value_at e s) (pair t v) (pairs (fold_to P k)) held in
+                let last : value_at e s (pair t v) ≤ again = reached (value_at e s) (pair t v) (pairs (fold_to P k)) is_pair in
                 omega (arith, h.1)
           ]
     ]) in
@@ -158,10 +159,10 @@ fold_to-pairs R k small len = sym (is_fold_to R (pairs R) k len (λ s h.
     let above : v ≤ greatest (value_at k s) (items (pairs R)) = elim (cases_lt 0 v) [
       | inr none ↦ omega arith
       | inl some ↦
-          let held : contains (pairs R) (pair s v) ≡ true = pairs_have R (pair s v) s (record { within = omega arith; positive = some; is = ap (λ n. pair n v) (sym (zero-add s)) }) in
+          let is_pair : contains (pairs R) (pair s v) ≡ true = pairs_have R (pair s v) s (record { within = omega arith; positive = some; is = ap (λ n. pair n v) (sym (zero-add s)) }) in
           let slot : slot_of (pair s v) % 2 ^ k ≡ s = ap (λ n. n % 2 ^ k) (slot_of-pair s v small_s) ∙ mod-eq_of_lt h in
           let value : value_at k s (pair s v) ≡ v = value_at_same k s (pair s v) slot ∙ value_of-pair s v small_s in
-          omega (arith, reached (value_at k s) (pair s v) (pairs R) held)
+          omega (arith, reached (value_at k s) (pair s v) (pairs R) is_pair)
     ] in
     omega arith))
 

@@ -1,3 +1,4 @@
+-- Searches by a key along their paths: what they find, and what an entry more leaves to be found.
 use Rattle.std.proofs.Common.{◌≡◌, ℕ, ◌+◌, ◌*◌, ◌/◌, ◌%◌, ◌^◌, ◌<◌, List, length, get_or, set, sym, ap, ◌∙◌, subst, arith, inl, inr}
 use Rattle.std.specs.Prelude.{bit_or}
 use Rattle.std.proofs.lemmas.Bool.{cases_lt, cases_eq, cases_order}
@@ -6,7 +7,7 @@ use Rattle.std.proofs.lemmas.List.{length-set, get_or-set_same, get_or-set_other
 use Rattle.hll_coupons.specs.Pair.{slot_of}
 use Rattle.hll_coupons.specs.Probe.{place_of, stride_of, Passes, IsFirstFor}
 use Rattle.hll_coupons.specs.Laws.{FoundAfterInsert, AbsentAtEmpty, AbsentFromFull, KeysAreDistinct}
-use Rattle.hll_coupons.proofs.Probing.{meets}
+use Rattle.hll_coupons.proofs.Probing.{meets, path_at}
 
 -- the stride is odd
 odd_cases : (n : ℕ) → bit_or (n % 2) 1 ≡ 1
@@ -18,8 +19,12 @@ odd_cases n = elim (cases_lt (n % 2) 1) [
 pub odd-stride_of : (lg key : ℕ) → stride_of lg key % 2 ≡ 1
 odd-stride_of lg key = or_mod (slot_of key / 2 ^ lg) 1 1 ∙ odd_cases (slot_of key / 2 ^ lg)
 
-pub place_of_below : (lg key i : ℕ) → place_of lg key i < 2 ^ lg
-place_of_below lg key i = mod_below (key + i * stride_of lg key) (2 ^ lg) (pow_pos lg)
+-- the place of a path in numbers
+pub place_of-path : (lg key i : ℕ) → i < 2 ^ lg → place_of lg key i ≡ (key + i * stride_of lg key) % 2 ^ lg
+place_of-path lg key i h = path_at key (stride_of lg key) lg i h
+
+pub place_of_below : (lg key i : ℕ) → i < 2 ^ lg → place_of lg key i < 2 ^ lg
+place_of_below lg key i h = omega (arith, place_of-path lg key i h, mod_below (key + i * stride_of lg key) (2 ^ lg) (pow_pos lg))
 
 pub absent_at_empty : AbsentAtEmpty
 absent_at_empty key_of lg places key i t before empty p within full is =
@@ -36,7 +41,7 @@ absent_at_empty key_of lg places key i t before empty p within full is =
 pub absent_from_full : AbsentFromFull
 absent_from_full key_of lg places key size before p within full is =
     let m = meets key (stride_of lg key) lg p (odd-stride_of lg key) (omega (arith, within, size)) in
-    (before m.0 m.1).1 (ap (λ q. key_of (get_or places q 0)) m.2 ∙ is)
+    (before m.0 m.1).1 (ap (λ q. key_of (get_or places q 0)) (place_of-path lg key m.0 m.1 ∙ m.2) ∙ is)
 
 pub keys_are_distinct : KeysAreDistinct
 keys_are_distinct key_of lg places p q t hp hq fp fq same =
@@ -73,7 +78,7 @@ found_after_insert key_of lg places entry i t filled within before empty = recor
     new = set places spot entry
 
     spot_within : spot < length places
-    spot_within = omega (arith, place_of_below lg (key_of entry) i, t.size)
+    spot_within = omega (arith, place_of_below lg (key_of entry) i within, t.size)
 
     kept : (p : ℕ) → (p ≡ spot → ⊥) → get_or new p 0 ≡ get_or places p 0
     kept p o = get_or-set_other places spot p entry 0 o

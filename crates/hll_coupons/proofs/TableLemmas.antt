@@ -8,13 +8,13 @@ use Rattle.std.specs.FinSet.{contains, len, len-empty}
 use Rattle.std.proofs.lemmas.List.{length-set, length-replicate}
 use Rattle.std.proofs.lemmas.List.Elements.{filter-append, All-nil, All-from_recursion, recursion_from_All}
 use Rattle.hll_coupons.specs.Pair.{IsPair, value_of, set_of}
-use Rattle.hll_coupons.specs.Table.{Table, held, coupons_of, IsTable, empty_table, IsFilledFromFront, filled_from_front, arrived}
-use Rattle.hll_coupons.proofs.Places.{held-replicate, length-held, Between, between, set-front, held-front, held-full, held-held}
+use Rattle.hll_coupons.specs.Table.{Table, coupons_in, coupons_of, IsTable, empty_table, IsFilledFromFront, filled_from_front, coupons_with}
+use Rattle.hll_coupons.proofs.Places.{coupons_in-replicate, length-coupons_in, Between, between, set-front, coupons_in-front, coupons_in-full, coupons_in-coupons_in}
 use Rattle.hll_coupons.proofs.Members.{len-between}
 
 -- no more is held than a table has places
-pub length-held-table : (t : Table) → IsTable t → length (held t.places) ≤ 2 ^ t.lg_size
-length-held-table t table = omega (arith, length-held t.places, table.size)
+pub length-coupons_in-table : (t : Table) → IsTable t → length (coupons_in t.places) ≤ 2 ^ t.lg_size
+length-coupons_in-table t table = omega (arith, length-coupons_in t.places, table.size)
 
 -- a table has at most 2^26 places
 pub small_places : (t : Table) → IsTable t → length t.places ≤ 2 ^ 26
@@ -25,8 +25,8 @@ pub IsTable-empty : (lg_size : ℕ) → lg_size ≤ 26 → IsTable (empty_table 
 IsTable-empty lg_size small = record {
   small = small;
   size = length-replicate (2 ^ lg_size) 0;
-  distinct = ap (λ xs. len (set_of xs)) (held-replicate (2 ^ lg_size)) ∙ len-empty nat_cmp ∙ sym (ap length (held-replicate (2 ^ lg_size)));
-  valued = subst (All IsPair) (sym (held-replicate (2 ^ lg_size))) (All-nil IsPair);
+  distinct = ap (λ xs. len (set_of xs)) (coupons_in-replicate (2 ^ lg_size)) ∙ len-empty nat_cmp ∙ sym (ap length (coupons_in-replicate (2 ^ lg_size)));
+  valued = subst (All IsPair) (sym (coupons_in-replicate (2 ^ lg_size))) (All-nil IsPair);
 }
 
 All-between : (P : ℕ → Type 0) (xs ys : List ℕ) (c : ℕ) → AllByRecursion P (xs ++ ys) → P c → AllByRecursion P (xs ++ c ∷ ys)
@@ -42,10 +42,10 @@ full_of_valued c h = omega arith
 
 -- a new coupon in an empty place: one more is held, and the table stays one
 pub IsTable-put : (t : Table) (i c : ℕ) → IsTable t → i < 2 ^ t.lg_size → get_or t.places i 0 ≡ 0 → IsPair c → contains (coupons_of t) c ≡ false
-    → IsTable (record { lg_size = t.lg_size; places = set t.places i c }) × (length (held (set t.places i c)) ≡ length (held t.places) + 1)
+    → IsTable (record { lg_size = t.lg_size; places = set t.places i c }) × (length (coupons_in (set t.places i c)) ≡ length (coupons_in t.places) + 1)
 IsTable-put t i c table inside empty pair fresh =
     let b : Between t.places i c = between t.places i c (omega (arith, table.size)) empty (full_of_valued c pair.valued) in
-    let more : length (held (set t.places i c)) ≡ length (held t.places) + 1 =
+    let more : length (coupons_in (set t.places i c)) ≡ length (coupons_in t.places) + 1 =
     ap length b.new ∙ length-between b.before b.after c ∙ ap (λ xs. length xs + 1) (sym b.old) in (
       record {
         small = table.small;
@@ -63,29 +63,29 @@ IsTable-put t i c table inside empty pair fresh =
     )
 
 -- a front holds its coupons in their order
-pub held-filled_from_front : (lg_size : ℕ) (order : List ℕ) → held order ≡ order → held (filled_from_front lg_size order).places ≡ order
-held-filled_from_front lg_size order kept = held-front order (2 ^ lg_size - length order) ∙ kept
+pub coupons_in-filled_from_front : (lg_size : ℕ) (order : List ℕ) → coupons_in order ≡ order → coupons_in (filled_from_front lg_size order).places ≡ order
+coupons_in-filled_from_front lg_size order kept = coupons_in-front order (2 ^ lg_size - length order) ∙ kept
 
 -- so it is filled from the front
-pub IsFilledFromFront-front : (lg_size : ℕ) (order : List ℕ) → held order ≡ order → IsFilledFromFront (filled_from_front lg_size order)
+pub IsFilledFromFront-front : (lg_size : ℕ) (order : List ℕ) → coupons_in order ≡ order → IsFilledFromFront (filled_from_front lg_size order)
 IsFilledFromFront-front lg_size order kept =
-    ap (λ xs. (filled_from_front lg_size xs).places) (sym (held-filled_from_front lg_size order kept))
+    ap (λ xs. (filled_from_front lg_size xs).places) (sym (coupons_in-filled_from_front lg_size order kept))
 
 -- and an empty table is
 pub IsFilledFromFront-empty : (lg_size : ℕ) → IsFilledFromFront (empty_table lg_size)
-IsFilledFromFront-empty lg_size = rw held-replicate (ap (λ n. replicate n 0) (omega arith))
+IsFilledFromFront-empty lg_size = rw coupons_in-replicate (ap (λ n. replicate n 0) (omega arith))
 
-held-push : (xs : List ℕ) (c : ℕ) → held xs ≡ xs → 0 < c → held (xs ++ c ∷ []) ≡ xs ++ c ∷ []
-held-push xs c kept full =
-    filter-append (λ x. nat_lt 0 x) xs (c ∷ []) ∙ ap (λ ys. ys ++ held (c ∷ [])) kept ∙ ap (λ ys. xs ++ ys) (held-full c [] full)
+coupons_in-push : (xs : List ℕ) (c : ℕ) → coupons_in xs ≡ xs → 0 < c → coupons_in (xs ++ c ∷ []) ≡ xs ++ c ∷ []
+coupons_in-push xs c kept full =
+    filter-append (λ x. nat_lt 0 x) xs (c ∷ []) ∙ ap (λ ys. ys ++ coupons_in (c ∷ [])) kept ∙ ap (λ ys. xs ++ ys) (coupons_in-full c [] full)
 
 -- a coupon that arrives is held with the others
-pub held-arrived : (places : List ℕ) (c : ℕ) → 0 < c → held (arrived (held places) c) ≡ arrived (held places) c
-held-arrived places c full = decide (contains (set_of (held places)) c)
+pub coupons_in-coupons_with : (places : List ℕ) (c : ℕ) → 0 < c → coupons_in (coupons_with (coupons_in places) c) ≡ coupons_with (coupons_in places) c
+coupons_in-coupons_with places c full = decide (contains (set_of (coupons_in places)) c)
   where
-    decide : (b : Bool) → held (cond b (held places) (held places ++ c ∷ [])) ≡ cond b (held places) (held places ++ c ∷ [])
-    decide true = held-held places
-    decide false = held-push (held places) c (held-held places) full
+    decide : (b : Bool) → coupons_in (cond b (coupons_in places) (coupons_in places ++ c ∷ [])) ≡ cond b (coupons_in places) (coupons_in places ++ c ∷ [])
+    decide true = coupons_in-coupons_in places
+    decide false = coupons_in-push (coupons_in places) c (coupons_in-coupons_in places) full
 
 -- a coupon that is put behind a front
 set-order : (order places : List ℕ) (n c : ℕ) → places ≡ order ++ replicate (n - length order) 0 → length order < n
@@ -95,8 +95,8 @@ set-order order places n c front room =
     ap (λ ps. set ps (length order) c) front ∙ set-front order (n - length order) c (omega arith) ∙ ap (λ m. (order ++ c ∷ []) ++ replicate m 0) fewer
 
 -- so what a list's table is after a new coupon
-pub places-put : (t : Table) (c : ℕ) → IsFilledFromFront t → contains (coupons_of t) c ≡ false → length (held t.places) < 2 ^ t.lg_size
-    → record { lg_size = t.lg_size; places = set t.places (length (held t.places)) c } ≡ filled_from_front t.lg_size (arrived (held t.places) c)
+pub places-put : (t : Table) (c : ℕ) → IsFilledFromFront t → contains (coupons_of t) c ≡ false → length (coupons_in t.places) < 2 ^ t.lg_size
+    → record { lg_size = t.lg_size; places = set t.places (length (coupons_in t.places)) c } ≡ filled_from_front t.lg_size (coupons_with (coupons_in t.places) c)
 places-put t c front fresh room =
-    ap (λ places. record { lg_size = t.lg_size; places = places }) (set-order (held t.places) t.places (2 ^ t.lg_size) c front room)
-    ∙ ap (λ b. filled_from_front t.lg_size (cond b (held t.places) (held t.places ++ c ∷ []))) (sym fresh)
+    ap (λ places. record { lg_size = t.lg_size; places = places }) (set-order (coupons_in t.places) t.places (2 ^ t.lg_size) c front room)
+    ∙ ap (λ b. filled_from_front t.lg_size (cond b (coupons_in t.places) (coupons_in t.places ++ c ∷ []))) (sym fresh)

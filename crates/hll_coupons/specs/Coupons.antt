@@ -1,24 +1,26 @@
 -- Coupons in the bytes of an image: how places are read, and what is written for a list and a set
 -- (docs/FORMAT.md, "The image"; docs/MODEL.md, "Images").
-use Rattle.std.specs.Prelude.{◌≡◌, ℕ, ◌+◌, ◌*◌, ◌≤◌, ◌==◌, Bool, not, if◌then◌else◌, List, [], ◌∷◌, ◌++◌, length, drop, filter, All}
+use Rattle.std.specs.Prelude.{◌≡◌, ℕ, ◌+◌, ◌*◌, ◌≤◌, ◌==◌, Bool, if◌then◌else◌, List, [], ◌∷◌, ◌++◌, length, drop, All}
 use Rattle.std.proofs.Common.{zero, suc}
 use Rattle.std.specs.List.{flat_map}
+use Rattle.std.specs.List.Sorted.{IsStrictlyIncreasing}
 use Rattle.std.specs.Int.{w32, to_le_bytes, from_le_bytes}
 use Rattle.std.specs.FinSet.{len}
 use Rattle.hll_coupons.specs.Pair.{Pairs, value_of, set_of}
+use Rattle.hll_coupons.specs.Table.{coupons_in}
 use Rattle.hll_coupons.specs.declared.hll_type.HllType.{HllType}
 use Rattle.hll_coupons.specs.declared.hll_type.HllType.TheVariants.{Hll4, Hll6, Hll8}
 
 -- ---- reading
 
--- so many words of four bytes, the lowest byte first
+-- the first n words of four bytes, the lowest byte first
 abbrev pub words : ℕ → List ℕ → List ℕ
 words zero bytes = []
 words (suc n) bytes = from_le_bytes w32 bytes ∷ words n (drop 4 bytes)
 
--- the coupons of so many places: all of them where the image is compact, else those that are not empty
+-- the coupons of the first n places: all of them where the image is compact, else those that are not empty
 abbrev pub coupons_at : Bool → ℕ → List ℕ → List ℕ
-coupons_at compact n bytes = if compact then words n bytes else filter (λ c. not (c == 0)) (words n bytes)
+coupons_at compact n bytes = if compact then words n bytes else coupons_in (words n bytes)
 
 -- each has a value, and none stands twice
 pub record AreCoupons (coupons : List ℕ) : Type 0 where
@@ -27,10 +29,16 @@ pub record AreCoupons (coupons : List ℕ) : Type 0 where
 
 -- ---- writing
 
--- the list has each member of the set once
-pub record ListsOnce (order : List ℕ) (S : Pairs) : Type 0 where
+-- the members of a set in ascending raw words, each once
+pub record IsAscending (order : List ℕ) (S : Pairs) : Type 0 where
+  pub increasing : IsStrictlyIncreasing order
   pub members : set_of order ≡ S
-  pub once : length order ≡ len S
+
+-- the bytes that are made of a set's members in ascending raw words
+pub record WritesAscending (bytes_of : List ℕ → List ℕ) (S : Pairs) (bytes : List ℕ) : Type 0 where
+  pub order : List ℕ
+  pub ascending : IsAscending order S
+  pub is : bytes ≡ bytes_of order
 
 -- the number of a width in the mode byte
 abbrev pub bits_of_width : HllType → ℕ
@@ -46,7 +54,7 @@ mode_byte stage width = stage + 4 * bits_of_width width
 abbrev pub coupon_bytes : List ℕ → List ℕ
 coupon_bytes order = flat_map (to_le_bytes w32) order
 
--- the eight bytes before so many coupons of a list
+-- the eight bytes before the coupons of a list, of this count
 abbrev pub list_header : ℕ → HllType → ℕ → List ℕ
 list_header lg_k width count = 2 ∷ 1 ∷ 7 ∷ lg_k ∷ 3 ∷ (if count == 0 then 12 else 8) ∷ count ∷ mode_byte 0 width ∷ []
 

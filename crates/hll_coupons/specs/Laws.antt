@@ -2,8 +2,13 @@
 use Rattle.std.specs.Prelude.{◌≡◌, ◌≢◌, ℕ, ◌%◌, ◌^◌, ◌<◌, ◌≤◌, List, length, slice_index, slice_set}
 use Rattle.std.specs.FinSet.{union}
 use Rattle.hll_coupons.specs.Pair.{Pairs}
+use Rattle.hll_coupons.specs.Coupons.{IsAscending}
 use Rattle.hll_coupons.specs.Fold.{fold_to, join, pairs}
 use Rattle.hll_coupons.specs.Probe.{path, place_of, Passes, IsProbed, IsAbsent}
+
+-- a set has one ascending order
+abbrev pub OneAscendingOrder : Type 0
+OneAscendingOrder = (S : Pairs) (a b : List ℕ) → IsAscending a S → IsAscending b S → a ≡ b
 
 -- to fold twice is to fold once to the smaller
 abbrev pub FoldOfFold : Type 0

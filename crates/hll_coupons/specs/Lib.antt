@@ -1,3 +1,4 @@
+pub mod AuxMap
 pub mod Coupons
 pub mod Fold
 pub mod Hashed

@@ -1,8 +1,7 @@
 -- A pair of a slot and a value, and finite sets of pairs (docs/MODEL.md, "Pairs").
 use Rattle.std.specs.Prelude.{ℕ, ◌+◌, ◌*◌, ◌/◌, ◌%◌, ◌^◌, ◌≤◌, List}
 use Rattle.std.specs.Ordering.{nat_cmp}
-use Rattle.std.specs.FinSet.{FinSet, code, from_list}
-use Rattle.std.specs.Coded.{Coded, coded_ℕ}
+use Rattle.std.specs.FinSet.{FinSet, from_list}
 
 -- the slot of a raw word, its low 26 bits
 abbrev pub slot_of : ℕ → ℕ
@@ -24,10 +23,6 @@ pub record IsPair (raw : ℕ) : Type 0 where
 -- a finite set of pairs, each as its raw word
 abbrev pub Pairs : Type 0
 Pairs = FinSet nat_cmp
-
--- sets of pairs as data that a model's value may hold
-abbrev pub pairs_code : Coded Pairs
-pairs_code = code coded_ℕ
 
 -- the set of the raw words of a list
 abbrev pub set_of : List ℕ → Pairs

@@ -17,6 +17,10 @@ pub record ListShape : Type 0 where
   pub empty : Bool
   pub compact : Bool
 
+-- the same from its parts, in the order of a reader's arguments
+abbrev pub shape_of_list : ℕ → ℕ → Bool → Bool → ListShape
+shape_of_list lg_size count empty compact = record { lg_size = lg_size; count = count; empty = empty; compact = compact }
+
 -- the count is one that such a list may have, and the empty flag says whether it is 0
 pub record HasListCount (h : ListShape) : Type 0 where
   pub low : h.count ≤ 2 ^ h.lg_size

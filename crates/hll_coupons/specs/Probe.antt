@@ -13,9 +13,9 @@ path start stride lg = map (λ i. (start + i * stride) % 2 ^ lg) (range_with_len
 abbrev pub stride_of : ℕ → ℕ → ℕ
 stride_of lg key = bit_or (slot_of key / 2 ^ lg) 1
 
--- the place that a search for a key comes to after so many others
+-- the i-th place of the path of a search for a key
 abbrev pub place_of : ℕ → ℕ → ℕ → ℕ
-place_of lg key i = (key + i * stride_of lg key) % 2 ^ lg
+place_of lg key i = slice_index (path key (stride_of lg key) lg) i
 
 module _ (key_of : ℕ → ℕ) where
   -- the places of the path before this index are filled, and with other keys
@@ -41,7 +41,7 @@ module _ (key_of : ℕ → ℕ) where
 
   -- the search for an entry's key comes to a place that is filled with the key, and nothing changes; or to an empty one, and the entry goes there
   pub data Puts (lg : ℕ) (places : List ℕ) (entry : ℕ) (new : List ℕ) : Type 0 where
-    held : (p : ℕ) → IsFirstFor lg places (key_of entry) p → slice_index places p ≢ 0 → key_of (slice_index places p) ≡ key_of entry → new ≡ places → Puts lg places entry new
+    present : (p : ℕ) → IsFirstFor lg places (key_of entry) p → slice_index places p ≢ 0 → key_of (slice_index places p) ≡ key_of entry → new ≡ places → Puts lg places entry new
     placed : (p : ℕ) → IsFirstFor lg places (key_of entry) p → slice_index places p ≡ 0 → new ≡ slice_set places p entry → Puts lg places entry new
 
   -- entries are put in turn

@@ -9,19 +9,19 @@ pub record Table : Type 0 where
   pub places : List ℕ
 
 -- the coupons of places, in their order
-abbrev pub held : List ℕ → List ℕ
-held places = filter (λ c. nat_lt 0 c) places
+abbrev pub coupons_in : List ℕ → List ℕ
+coupons_in places = filter (λ c. nat_lt 0 c) places
 
 -- the coupons of a table as a set
 abbrev pub coupons_of : Table → Pairs
-coupons_of t = set_of (held t.places)
+coupons_of t = set_of (coupons_in t.places)
 
 -- a table has a power of two of places, and its coupons are distinct and have values
 pub record IsTable (t : Table) : Type 0 where
   pub small : t.lg_size ≤ 26
   pub size : length t.places ≡ 2 ^ t.lg_size
-  pub distinct : set.len (coupons_of t) ≡ length (held t.places)
-  pub valued : All IsPair (held t.places)
+  pub distinct : set.len (coupons_of t) ≡ length (coupons_in t.places)
+  pub valued : All IsPair (coupons_in t.places)
 
 -- a table with no coupon
 abbrev pub empty_table : ℕ → Table
@@ -29,12 +29,12 @@ empty_table lg_size = record { lg_size = lg_size; places = replicate (2 ^ lg_siz
 
 -- the coupons stand in the first places, with no gap between them
 abbrev pub IsFilledFromFront : Table → Type 0
-IsFilledFromFront t = t.places ≡ held t.places ++ replicate (2 ^ t.lg_size - length (held t.places)) 0
+IsFilledFromFront t = t.places ≡ coupons_in t.places ++ replicate (2 ^ t.lg_size - length (coupons_in t.places)) 0
 
 -- a table whose coupons stand in the first places in this order
 abbrev pub filled_from_front : ℕ → List ℕ → Table
 filled_from_front lg_size order = record { lg_size = lg_size; places = order ++ replicate (2 ^ lg_size - length order) 0 }
 
--- coupons in order of arrival, after one more that came: one that is held changes nothing
-abbrev pub arrived : List ℕ → ℕ → List ℕ
-arrived order coupon = if set.contains (set_of order) coupon then order else order ++ coupon ∷ []
+-- a list of coupons with one more at its end, unless it is there already
+abbrev pub coupons_with : List ℕ → ℕ → List ℕ
+coupons_with order coupon = if set.contains (set_of order) coupon then order else order ++ coupon ∷ []

@@ -3,10 +3,11 @@ ghost use Rattle.std.specs.Prelude.{◌≡◌, ◌*◌, ◌^◌, ◌<◌, ◌≤
 ghost use Rattle.std.specs.Bool.{OnFalse};
 ghost use Rattle.std.specs.Iterator.{YieldsFirst, item_count};
 ghost use Rattle.std.specs.FinSet as set;
+ghost use Rattle.std.specs.FinSet.{len};
 ghost use Rattle.hll_base.specs.declared.error.Reason.TheVariants.{Memory};
 ghost use Rattle.hll_coupons.specs.Pair.{value_of};
-ghost use Rattle.hll_coupons.specs.Table.{held, coupons_of, empty_table, IsTable};
-ghost use Rattle.hll_coupons.specs.Coupons.{coupon_bytes};
+ghost use Rattle.hll_coupons.specs.Table.{coupons_in, coupons_of, empty_table, IsTable};
+ghost use Rattle.hll_coupons.specs.Coupons.{coupon_bytes, IsAscending};
 
 use crate::coupon::Coupon;
 use hll_base::codec::SketchBytes;
@@ -26,13 +27,13 @@ pub struct Container<A: Allocator = Global> {
 
 impl<A: Allocator> Model for Container<A> {
     ghost use Rattle.std.specs.Prelude.{◌≡◌, length};
-    ghost use Rattle.hll_coupons.specs.Table.{Table, held, IsTable};
+    ghost use Rattle.hll_coupons.specs.Table.{Table, coupons_in, IsTable};
 
     ghost Value = { Table };
 
     ghost view = { λ c. record { lg_size = c.lg_size; places = c.coupons.items } };
 
-    ghost invariant = { λ c. IsTable (record { lg_size = c.lg_size; places = c.coupons.items }) × (c.len ≡ length (held c.coupons.items)) };
+    ghost invariant = { λ c. IsTable (record { lg_size = c.lg_size; places = c.coupons.items }) × (c.len ≡ length (coupons_in c.coupons.items)) };
 }
 
 impl<A: Allocator> Container<A> {
@@ -57,7 +58,7 @@ impl<A: Allocator> Container<A> {
     /// value 1 to 63.
     pub fn from_coupons(lg_size: usize, coupons: Vec<Coupon, A>, len: usize) -> Container<A>
         requires table { IsTable (record { lg_size = lg_size; places = coupons.items }) }
-        requires count { len ≡ length (held coupons.items) }
+        requires count { len ≡ length (coupons_in coupons.items) }
         ensures { result ≡ record { lg_size = lg_size; places = coupons.items } }
     {
         Container {
@@ -69,7 +70,7 @@ impl<A: Allocator> Container<A> {
 
     /// How many coupons there are, at most the number of places. Takes no memory.
     pub fn len(&self) -> usize
-        ensures count { result ≡ length (held self.now.places) }
+        ensures count { result ≡ length (coupons_in self.now.places) }
         ensures within { result ≤ 2 ^ self.now.lg_size }
         ensures table { IsTable self.now }
     {
@@ -78,15 +79,15 @@ impl<A: Allocator> Container<A> {
 
     /// Whether there is no coupon. Takes no memory.
     pub fn is_empty(&self) -> bool
-        ensures { IsTrue result ↔ (held self.now.places ≡ []) }
+        ensures { IsTrue result ↔ (coupons_in self.now.places ≡ []) }
     {
         self.len == 0
     }
 
     /// Whether each place has a coupon. Takes no memory.
     pub fn is_full(&self) -> bool
-        ensures full { IsTrue result ↔ (length (held self.now.places) ≡ 2 ^ self.now.lg_size) }
-        ensures room { OnFalse result (length (held self.now.places) < 2 ^ self.now.lg_size) }
+        ensures full { IsTrue result ↔ (length (coupons_in self.now.places) ≡ 2 ^ self.now.lg_size) }
+        ensures room { OnFalse result (length (coupons_in self.now.places) < 2 ^ self.now.lg_size) }
     {
         self.len == self.coupons.len()
     }
@@ -113,7 +114,7 @@ impl<A: Allocator> Container<A> {
         self.coupons.len() * 4
     }
 
-    /// Whether the coupon is held. Looks at each place; takes no memory.
+    /// Whether the coupon is in one of the places. Looks at each until it is found; takes no memory.
     pub fn contains(&self, coupon: Coupon) -> bool
         ensures { result ≡ set.contains (coupons_of self.now) coupon }
     {
@@ -122,7 +123,7 @@ impl<A: Allocator> Container<A> {
 
     /// The coupons in the order of their places, each once. Takes no memory.
     pub fn iter(&self) -> ContainerIter<'_>
-        ensures { result ≡ held self.now.places }
+        ensures { result ≡ coupons_in self.now.places }
     {
         ContainerIter {
             places: &self.coupons,
@@ -142,18 +143,33 @@ impl<A: Allocator> Container<A> {
         self.len += 1;
     }
 
-    /// Appends the coupons in the order of their places, four bytes each.
-    pub(crate) fn write_to<B: Allocator>(&self, bytes: &mut SketchBytes<B>) -> Result<(), Error>
-        ensures ok { OnOk result (bytes.new ≡ bytes.old ++ coupon_bytes (held self.now.places)) }
+    /// A copy of the coupons in the order of their places, in one request for memory.
+    pub(crate) fn copied<B: Allocator>(&self, alloc: B) -> Result<Vec<Coupon, B>, Error>
+        ensures ok { IfOk result (λ coupons. coupons.items ≡ coupons_in self.now.places) }
+        ensures distinct { len (coupons_of self.now) ≡ length (coupons_in self.now.places) }
         ensures err { IfErr result (λ e. e ≡ Memory) }
     {
+        let mut coupons = Vec::with_capacity(alloc, self.len)?;
         for coupon in self.iter() {
-            bytes.write_u32_le(coupon.raw())?;
+            coupons.push(coupon)?;
         }
-        Ok(())
+        Ok(coupons)
     }
 
-    /// Whether each coupon of another container is held.
+    /// A copy of the coupons in ascending raw words.
+    ///
+    /// Takes four bytes a coupon, in one request. Refused with the reason `Memory`.
+    pub(crate) fn ascending<B: Allocator>(&self, alloc: B) -> Result<Vec<Coupon, B>, Error>
+        ensures ok { IfOk result (λ coupons. IsAscending coupons.items (coupons_of self.now)) }
+        ensures count { IfOk result (λ coupons. length coupons.items ≡ length (coupons_in self.now.places)) }
+        ensures err { IfErr result (λ e. e ≡ Memory) }
+    {
+        let mut coupons = self.copied(alloc)?;
+        coupons.sort_unstable();
+        Ok(coupons)
+    }
+
+    /// Whether each coupon of another container is in this one.
     fn contains_all(&self, other: &Container<A>) -> bool
         ensures { result ≡ set.is_subset (coupons_of other.now) (coupons_of self.now) }
     {
@@ -167,7 +183,7 @@ impl<A: Allocator> Container<A> {
 }
 
 impl<A: Allocator + Clone> Container<A> {
-    /// The same places over again.
+    /// A copy, with the same places.
     ///
     /// Refused with the reason `Memory`.
     pub fn clone(&self) -> Result<Container<A>, Error>
@@ -181,7 +197,7 @@ impl<A: Allocator + Clone> Container<A> {
         })
     }
 
-    /// A second owner of the allocator of the places. Refused where the allocator's own clone is.
+    /// A clone of the allocator. Refused where the allocator's own `clone` is.
     pub fn cloned_allocator(&self) -> Result<A, AllocError> {
         self.coupons.allocator().clone()
     }
@@ -190,11 +206,11 @@ impl<A: Allocator + Clone> Container<A> {
 /// Containers are equal where they hold the same coupons, whatever their sizes and places. Compares
 /// by search, and takes no memory.
 impl<A: Allocator> PartialEq for Container<A> {
-    ghost use Rattle.hll_coupons.specs.Same.{hold_same_coupons, hold_same_coupons-partial};
+    ghost use Rattle.hll_coupons.specs.Same.{have_same_coupons, have_same_coupons-partial};
 
-    ghost eq = { hold_same_coupons };
+    ghost eq = { have_same_coupons };
 
-    ghost laws = { hold_same_coupons-partial };
+    ghost laws = { have_same_coupons-partial };
 
     fn eq(&self, other: &Container<A>) -> bool {
         other.contains_all(self) && self.contains_all(other)
@@ -202,9 +218,23 @@ impl<A: Allocator> PartialEq for Container<A> {
 }
 
 impl<A: Allocator> Eq for Container<A> {
-    ghost use Rattle.hll_coupons.specs.Same.{hold_same_coupons-equivalence};
+    ghost use Rattle.hll_coupons.specs.Same.{have_same_coupons-equivalence};
 
-    ghost laws = { hold_same_coupons-equivalence };
+    ghost laws = { have_same_coupons-equivalence };
+}
+
+/// Appends coupons, four bytes each.
+pub(crate) fn write_coupons<A: Allocator>(
+    bytes: &mut SketchBytes<A>,
+    coupons: &[Coupon],
+) -> Result<(), Error>
+    ensures ok { OnOk result (bytes.new ≡ bytes.old ++ coupon_bytes coupons.now) }
+    ensures err { IfErr result (λ e. e ≡ Memory) }
+{
+    for coupon in coupons {
+        bytes.write_u32_le(coupon.raw())?;
+    }
+    Ok(())
 }
 
 /// The coupons of a container that are left to give, in the order of their places. Contracts see the
@@ -216,11 +246,11 @@ pub struct ContainerIter<'a> {
 
 impl<'a> Model for ContainerIter<'a> {
     ghost use Rattle.std.specs.Prelude.{List, ℕ};
-    ghost use Rattle.hll_coupons.specs.Table.{held};
+    ghost use Rattle.hll_coupons.specs.Table.{coupons_in};
 
     ghost Value = { List ℕ };
 
-    ghost view = { λ c. held c.places.now };
+    ghost view = { λ c. coupons_in c.places.now };
 }
 
 impl<'a> Iterator for ContainerIter<'a> {

@@ -1,7 +1,7 @@
 //! Coupons (docs/MODEL.md, "Pairs").
 ghost use Rattle.std.specs.Prelude.{◌≡◌, ◌↔◌, ◌≤◌, ◌<◌, ◌^◌, IsTrue};
 ghost use Rattle.std.specs.Prelude.{fold};
-ghost use Rattle.hll_base.specs.Hash.{hash_of, started, taken, default_seed};
+ghost use Rattle.hll_base.specs.Hash.{hash_of, initial_state, after_piece, default_seed};
 ghost use Rattle.hll_coupons.specs.Pair.{slot_of, value_of, pair, IsPair};
 ghost use Rattle.hll_coupons.specs.Hashed.{coupon_of_words, coupon_of_halves, coupon_of};
 
@@ -21,7 +21,7 @@ const MOST_ZEROS: u32 = 62;
 /// A slot below 2^26 and a value up to 63, in one raw word: `value * 2^26 + slot`. Contracts see the
 /// raw word.
 ///
-/// A coupon of value 0 is no pair; raw word 0 stands for an empty place.
+/// A coupon of value 0 is no pair; raw word 0 marks an empty place.
 #[derive(Clone, Copy, Debug, PartialEq, Eq, PartialOrd, Ord, Hash)]
 pub struct Coupon {
     raw: u32,
@@ -38,7 +38,7 @@ impl Model for Coupon {
 }
 
 impl Coupon {
-    /// What stands in an empty place.
+    /// The content of an empty place.
     pub const EMPTY: Coupon = Coupon { raw: 0 };
 
     /// The coupon of a value at the slot modulo 2^26. Takes no memory.
@@ -77,7 +77,7 @@ impl Coupon {
     ///
     /// A type of one piece gives the coupon of these bytes, as `from_bytes` does.
     pub fn from_value<T: Hash + Drop>(value: T) -> Coupon
-        ensures pieces { result ≡ coupon_of_halves (hash_of (fold taken (started default_seed) (T.hash_input value))) }
+        ensures pieces { result ≡ coupon_of_halves (hash_of (fold after_piece (initial_state default_seed) (T.hash_input value))) }
         ensures pair { IsPair result }
     {
         let mut hash = MurmurHash3X64128::default();

@@ -1,6 +1,11 @@
 //! The laws of folding, registers and probing, each the contract of a function that does nothing:
 //! a caller that needs one calls it (docs/MODEL.md, "Laws of folding and probing").
-ghost use Rattle.hll_coupons.specs.Laws.{FoldOfFold, FoldOfUnion, JoinLaws, FoldOfRegisters, MeetsEachPlaceOnce, FoundAfterInsert, AbsentAtEmpty, AbsentFromFull, KeysAreDistinct};
+ghost use Rattle.hll_coupons.specs.Laws.{OneAscendingOrder, FoldOfFold, FoldOfUnion, JoinLaws, FoldOfRegisters, MeetsEachPlaceOnce, FoundAfterInsert, AbsentAtEmpty, AbsentFromFull, KeysAreDistinct};
+
+/// A set has one ascending order: so what is written in it is a function of the set.
+pub fn one_ascending_order()
+    ensures { OneAscendingOrder }
+{}
 
 /// Folding to k and then to a smaller e is folding to e.
 pub fn fold_of_fold()
@@ -42,7 +47,7 @@ pub fn absent_from_full()
     ensures { AbsentFromFull }
 {}
 
-/// In a table whose entries are found no key stands twice.
+/// In a table whose entries are found no key comes twice.
 pub fn keys_are_distinct()
     ensures { KeysAreDistinct }
 {}

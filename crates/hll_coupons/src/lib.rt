@@ -4,12 +4,13 @@
 
 pub mod container;
 pub mod coupon;
-#[cfg(test)]
-mod coupon_tests;
 pub mod hll_type;
 pub mod laws;
 pub mod list;
-pub mod plain;
+pub mod reference;
 pub mod serialization;
-#[cfg(test)]
-mod tests;
+
+pub use container::{Container, ContainerIter};
+pub use coupon::Coupon;
+pub use hll_type::HllType;
+pub use list::List;

@@ -4,12 +4,12 @@ ghost use Rattle.std.specs.FinSet as set;
 ghost use Rattle.hll_base.specs.declared.error.Reason.TheVariants.{Memory};
 ghost use Rattle.hll_base.specs.declared.error.Reason.TheVariants as reasons;
 ghost use Rattle.hll_coupons.specs.Pair.{value_of};
-ghost use Rattle.hll_coupons.specs.Table.{held, coupons_of, empty_table, filled_from_front, arrived, IsFilledFromFront};
-ghost use Rattle.hll_coupons.specs.Coupons.{list_bytes, coupons_at, AreCoupons};
-ghost use Rattle.hll_coupons.specs.Payload.{ListShape, HasListCount, list_places, list_table, IsListPayload, ListFault};
+ghost use Rattle.hll_coupons.specs.Table.{coupons_in, coupons_of, empty_table, filled_from_front, coupons_with, IsFilledFromFront};
+ghost use Rattle.hll_coupons.specs.Coupons.{WritesAscending, list_bytes, coupons_at, AreCoupons};
+ghost use Rattle.hll_coupons.specs.Payload.{shape_of_list, HasListCount, list_places, list_table, IsListPayload, ListFault};
 ghost use Rattle.hll_coupons.specs.Coupons as header;
 
-use crate::container::Container;
+use crate::container::{Container, write_coupons};
 use crate::coupon::Coupon;
 use crate::hll_type::HllType;
 use crate::serialization::{
@@ -68,12 +68,12 @@ impl<A: Allocator> List<A> {
         List::new(alloc, LG_DEFAULT_SIZE)
     }
 
-    /// Reads what stands behind the header of a list's image (docs/FORMAT.md, "LIST"): 2^`lg_arr` places of
+    /// Reads what follows the header of a list's image (docs/FORMAT.md, "LIST"): 2^`lg_arr` places of
     /// which `coupon_count` are filled, all of them, or where `compact` the filled ones alone. Gaps between
     /// filled places are closed, and the order is kept.
     ///
     /// `lg_arr` is at most 26. Refused with `Count`, `Truncated` or `Coupon` where that fault stands, in the
-    /// order of checks, or else with `Memory`. Memory is asked for once the bytes are known to be there.
+    /// order of checks, or else with `Memory`. Takes memory only once the bytes are known to be there.
     pub fn deserialize(
         alloc: A,
         cursor: SketchSlice<'_>,
@@ -83,13 +83,13 @@ impl<A: Allocator> List<A> {
         compact: bool,
     ) -> Result<List<A>, Error>
         requires { lg_arr ≤ 26 }
-        ensures ok { let h : ListShape = record { lg_size = lg_arr; count = coupon_count; empty = empty; compact = compact } in
+        ensures ok { let h = shape_of_list lg_arr coupon_count empty compact in
             IfOk result (λ l. IsListPayload h (take (4 * list_places h) cursor.entry) × (l ≡ list_table h cursor.entry)) }
-        ensures err { let h : ListShape = record { lg_size = lg_arr; count = coupon_count; empty = empty; compact = compact } in
+        ensures err { let h = shape_of_list lg_arr coupon_count empty compact in
             IfErr result (λ e. (e ≡ Memory) ⊎ ListFault h cursor.entry e) }
-        ensures asked { let h : ListShape = record { lg_size = lg_arr; count = coupon_count; empty = empty; compact = compact } in
+        ensures asked { let h = shape_of_list lg_arr coupon_count empty compact in
             IfErr result (λ e. e ≡ Memory → HasListCount h × (4 * list_places h ≤ length cursor.entry)) }
-        ensures order { let h : ListShape = record { lg_size = lg_arr; count = coupon_count; empty = empty; compact = compact } in
+        ensures order { let h = shape_of_list lg_arr coupon_count empty compact in
             IfErr result (λ e. e ≡ reasons.Count → HasListCount h → AreCoupons (coupons_at compact (list_places h) cursor.entry)) }
     {
         if !is_list_count(lg_arr, coupon_count, empty) {
@@ -107,14 +107,14 @@ impl<A: Allocator> List<A> {
         }
     }
 
-    /// Puts a coupon into the first empty place, unless it is held. Takes no memory.
+    /// Puts a coupon into the first empty place, unless the list has it. Takes no memory.
     ///
-    /// Its value is at least 1, and where it isn't held a place is free.
+    /// Its value is at least 1, and a place is free if the list doesn't have it.
     pub fn update(&mut self, coupon: Coupon)
         requires valued { 1 ≤ value_of coupon }
-        requires room { set.contains (coupons_of self.old) coupon ≡ false → length (held self.old.places) < 2 ^ self.old.lg_size }
-        ensures places { self.new ≡ filled_from_front self.old.lg_size (arrived (held self.old.places) coupon) }
-        ensures order { held self.new.places ≡ arrived (held self.old.places) coupon }
+        requires room { set.contains (coupons_of self.old) coupon ≡ false → length (coupons_in self.old.places) < 2 ^ self.old.lg_size }
+        ensures places { self.new ≡ filled_from_front self.old.lg_size (coupons_with (coupons_in self.old.places) coupon) }
+        ensures order { coupons_in self.new.places ≡ coupons_with (coupons_in self.old.places) coupon }
         ensures members { coupons_of self.new ≡ set.insert (coupons_of self.old) coupon }
     {
         if !self.container.contains(coupon) {
@@ -123,7 +123,7 @@ impl<A: Allocator> List<A> {
         }
     }
 
-    /// Whether the coupon is held. Looks at each place; takes no memory.
+    /// Whether the list has the coupon. Looks at each place until it is found; takes no memory.
     pub fn contains(&self, coupon: Coupon) -> bool
         ensures { result ≡ set.contains (coupons_of self.now) coupon }
     {
@@ -140,7 +140,7 @@ impl<A: Allocator> List<A> {
 }
 
 impl<A: Allocator + Clone> List<A> {
-    /// The same places over again.
+    /// A copy, with the same places.
     ///
     /// Refused with the reason `Memory`.
     pub fn clone(&self) -> Result<List<A>, Error>
@@ -152,22 +152,26 @@ impl<A: Allocator + Clone> List<A> {
         })
     }
 
-    /// The compact image of a list of eight places (docs/FORMAT.md, "What is written"), eight bytes
-    /// and four for each coupon, taken in one request.
+    /// The compact image of a list of eight places (docs/FORMAT.md, "What is written"): eight bytes, and four for
+    /// each coupon, in ascending raw words.
     ///
-    /// `lg_config_k` is 4 to 21, and the list has size 3. Refused with the reason `Memory`.
+    /// `lg_config_k` is 4 to 21, and the list has size 3. Takes memory for a sorted copy of the coupons, and in one
+    /// request for the image. Refused with the reason `Memory`.
     pub fn serialize(&self, lg_config_k: u8, hll_type: HllType) -> Result<Vec<u8, A>, Error>
         requires least { 4 ≤ lg_config_k }
         requires most { lg_config_k ≤ 21 }
         requires size { self.now.lg_size ≡ 3 }
-        ensures ok { IfOk result (λ image. image.items ≡ list_bytes lg_config_k hll_type (held self.now.places)) }
+        ensures ok { IfOk result (λ image. WritesAscending (list_bytes lg_config_k hll_type) (coupons_of self.now) image.items) }
         ensures err { IfErr result (λ e. e ≡ Memory) }
     {
+        let coupons = self
+            .container
+            .ascending(self.container.cloned_allocator()?)?;
         let count = self.container.len();
         let needed = LIST_PREAMBLE_SIZE + count * COUPON_SIZE_BYTES;
         let mut bytes = SketchBytes::with_capacity(self.container.cloned_allocator()?, needed)?;
         bytes.write(&list_header(lg_config_k, hll_type, count))?;
-        self.container.write_to(&mut bytes)?;
+        write_coupons(&mut bytes, &coupons)?;
         Ok(bytes.into_bytes())
     }
 }
@@ -175,11 +179,11 @@ impl<A: Allocator + Clone> List<A> {
 /// Lists are equal where they hold the same coupons, whatever their sizes and order. Compares by
 /// search, and takes no memory.
 impl<A: Allocator> PartialEq for List<A> {
-    ghost use Rattle.hll_coupons.specs.Same.{hold_same_coupons, hold_same_coupons-partial};
+    ghost use Rattle.hll_coupons.specs.Same.{have_same_coupons, have_same_coupons-partial};
 
-    ghost eq = { hold_same_coupons };
+    ghost eq = { have_same_coupons };
 
-    ghost laws = { hold_same_coupons-partial };
+    ghost laws = { have_same_coupons-partial };
 
     fn eq(&self, other: &List<A>) -> bool {
         self.container == other.container
@@ -187,12 +191,12 @@ impl<A: Allocator> PartialEq for List<A> {
 }
 
 impl<A: Allocator> Eq for List<A> {
-    ghost use Rattle.hll_coupons.specs.Same.{hold_same_coupons-equivalence};
+    ghost use Rattle.hll_coupons.specs.Same.{have_same_coupons-equivalence};
 
-    ghost laws = { hold_same_coupons-equivalence };
+    ghost laws = { have_same_coupons-equivalence };
 }
 
-/// How many places a size stands for.
+/// The number of places of a size.
 fn places_of(lg_size: usize) -> usize
     requires { lg_size ≤ 26 }
     ensures { result ≡ 2 ^ lg_size }
@@ -203,7 +207,7 @@ fn places_of(lg_size: usize) -> usize
 /// Whether a list of this size may have this count, and the empty flag says whether it is 0.
 fn is_list_count(lg_arr: usize, coupon_count: usize, empty: bool) -> bool
     requires { lg_arr ≤ 26 }
-    ensures { (compact : Bool) → let h : ListShape = record { lg_size = lg_arr; count = coupon_count; empty = empty; compact = compact } in
+    ensures { (compact : Bool) → let h = shape_of_list lg_arr coupon_count empty compact in
         IsTrue result ↔ HasListCount h }
 {
     coupon_count <= places_of(lg_arr) && empty == (coupon_count == 0)
@@ -212,7 +216,7 @@ fn is_list_count(lg_arr: usize, coupon_count: usize, empty: bool) -> bool
 /// How many places follow the header.
 fn places_to_read(lg_arr: usize, coupon_count: usize, empty: bool, compact: bool) -> usize
     requires { lg_arr ≤ 26 }
-    ensures { let h : ListShape = record { lg_size = lg_arr; count = coupon_count; empty = empty; compact = compact } in
+    ensures { let h = shape_of_list lg_arr coupon_count empty compact in
         result ≡ list_places h }
 {
     if empty {
@@ -224,7 +228,7 @@ fn places_to_read(lg_arr: usize, coupon_count: usize, empty: bool, compact: bool
     }
 }
 
-/// Reads places into an empty list. `Coupon` where one that has to be a coupon has no value, or stands twice.
+/// Reads places into an empty list. `Coupon` where one that has to be a coupon has no value, or comes twice.
 fn read_places<A: Allocator>(
     list: &mut List<A>,
     mut cursor: SketchSlice<'_>,

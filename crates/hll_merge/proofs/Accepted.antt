@@ -7,16 +7,16 @@ use Rattle.hll_sketch.proofs.Images.{one_image}
 use Rattle.hll_base.specs.Reason.{kind_of}
 use Rattle.hll_sketch.proofs.Faults.{fault_excludes_image}
 use Rattle.hll_sketch.proofs.FaultKinds.{faults_are_of_data}
-use Rattle.hll_merge.specs.declared.fault.Fault.{Fault}
-use Rattle.hll_merge.specs.declared.fault.Fault.TheVariants as faults
-use Rattle.hll_merge.specs.declared.fault.MergeError.{MergeError}
+use Rattle.hll_text.specs.declared.fault.Fault.{Fault}
+use Rattle.hll_text.specs.declared.fault.Fault.TheVariants as faults
+use Rattle.hll_text.specs.declared.fault.MergeError.{MergeError}
 use Rattle.hll_merge.specs.Plan as plan
 use Rattle.hll_merge.specs.Plan.{Plan, plans_of}
-use Rattle.hll_merge.specs.Text.{PlanStep, new, image, coupon, union, IsLineFault}
+use Rattle.hll_text.specs.Text.{PlanStep, new, image, coupon, union, IsLineFault}
 use Rattle.hll_merge.specs.Accepting.{Service, full, Carries, IsFaultOfStep, Gives, IsFaultOfLine, Runs, AcceptsLines, IsFirstFaultOfLines, unserved, faulty, skipped, taken, unread, refused}
 use Rattle.hll_merge.specs.Evaluate.{steps}
 use Rattle.hll_merge.specs.Served.{today, ServedIsAccepted, ServedFaultIsFirst, OnePlan, AcceptedIsFaultless, IsOwnFault, FirstFaultsAreOwn}
-use Rattle.hll_merge.proofs.FaultLemmas.{IfErr-reading}
+use Rattle.hll_text.proofs.FaultLemmas.{IfErr-reading}
 
 -- ---- what is served
 
@@ -65,7 +65,7 @@ one_carry : (ts : List Plan) (step : PlanStep) (us vs : List Plan) → Carries t
 one_carry ts (new k w) us vs h g = h ∙ sym g
 one_carry ts (image bytes) us vs h g =
     let same = one_image (take h.0 bytes) (take g.0 bytes) (drop h.0 bytes) (drop g.0 bytes) h.1 g.1 h.2 g.2 (take-append-drop h.0 bytes ∙ sym (take-append-drop g.0 bytes)) in
-    h.3 ∙ (λ i. ts ++ plan.image (same.0 i) (same.1 i) ∷ []) ∙ sym g.3
+    h.3 ∙ (λ i. ts ++ plan.image (same.1 i) ∷ []) ∙ sym g.3
 one_carry ts (coupon s v) us vs h g =
     let parts = append_parts h.0 g.0 (h.1 ∷ []) (g.1 ∷ []) refl (sym h.2 ∙ g.2) in
     let top : h.1 ≡ g.1 = let e : (h.1 ∷ []) ≡ (g.1 ∷ []) = parts.1 in cc in

@@ -8,10 +8,10 @@ use Rattle.std.specs.List.{AllByRecursion}
 use Rattle.std.specs.Cmp.{nat_cmp_total}
 use Rattle.std.specs.FinSet.{len, contains, insert, len-insert}
 use Rattle.hll_coupons.specs.Pair.{Pairs}
-use Rattle.hll_coupons.specs.Table.{Table, held, coupons_of, IsTable, arrived}
+use Rattle.hll_coupons.specs.Table.{Table, coupons_in, coupons_of, IsTable, coupons_with}
 use Rattle.hll_coupons.specs.declared.hll_type.HllType.{HllType}
 use Rattle.hll_coupons.specs.declared.hll_type.HllType.TheVariants.{Hll8}
-use Rattle.hll_merge.specs.declared.fault.Fault.TheVariants.{Unserved}
+use Rattle.hll_text.specs.declared.fault.Fault.TheVariants.{Unserved}
 use Rattle.hll_merge.specs.Listed.{Listed, fresh, BringsEighth}
 use Rattle.hll_merge.specs.Served.{IsServed, IsOfSize}
 use Rattle.hll_merge.specs.Kept.{Kept, list, value_of_kept, Adds, UpdatesLast, Merges, MergesEach, CanJoin, JoinsLast, RefusesUnion, unjoined}
@@ -22,20 +22,20 @@ use Rattle.hll_merge.specs.Kept.{Kept, list, value_of_kept, Adds, UpdatesLast, M
 len_more : (S : Pairs) (c : ℕ) (b : Bool) → contains S c ≡ b → len (insert S c) ≡ cond b (len S) (len S + 1)
 len_more S c b e = len-insert nat_cmp_total S c ∙ ap (λ b. cond b (len S) (len S + 1)) e
 
-pub BringsEighth-new : (x : Listed) (c : ℕ) → IsTable x.table → 7 ≤ length (held x.table.places) → contains (coupons_of x.table) c ≡ false → BringsEighth x c
+pub BringsEighth-new : (x : Listed) (c : ℕ) → IsTable x.table → 7 ≤ length (coupons_in x.table.places) → contains (coupons_of x.table) c ≡ false → BringsEighth x c
 BringsEighth-new x c table seven new = omega (arith, table.distinct, len_more (coupons_of x.table) c false new)
 
-pub BringsEighth-many : (x : Listed) (c : ℕ) → IsTable x.table → 8 ≤ length (held x.table.places) → BringsEighth x c
+pub BringsEighth-many : (x : Listed) (c : ℕ) → IsTable x.table → 8 ≤ length (coupons_in x.table.places) → BringsEighth x c
 BringsEighth-many x c table many = of (contains (coupons_of x.table) c) refl
   where
     of : (b : Bool) → contains (coupons_of x.table) c ≡ b → BringsEighth x c
     of true e = omega (arith, table.distinct, len_more (coupons_of x.table) c true e)
     of false e = omega (arith, table.distinct, len_more (coupons_of x.table) c false e)
 
-pub not_eighth-held : (x : Listed) (c : ℕ) → IsTable x.table → length (held x.table.places) ≤ 7 → contains (coupons_of x.table) c ≡ true → BringsEighth x c → ⊥
-not_eighth-held x c table few there eighth = omega (arith, table.distinct, len_more (coupons_of x.table) c true there, eighth)
+pub not_eighth-coupons_in : (x : Listed) (c : ℕ) → IsTable x.table → length (coupons_in x.table.places) ≤ 7 → contains (coupons_of x.table) c ≡ true → BringsEighth x c → ⊥
+not_eighth-coupons_in x c table few there eighth = omega (arith, table.distinct, len_more (coupons_of x.table) c true there, eighth)
 
-pub not_eighth-few : (x : Listed) (c : ℕ) → IsTable x.table → length (held x.table.places) < 7 → BringsEighth x c → ⊥
+pub not_eighth-few : (x : Listed) (c : ℕ) → IsTable x.table → length (coupons_in x.table.places) < 7 → BringsEighth x c → ⊥
 not_eighth-few x c table few eighth = of (contains (coupons_of x.table) c) refl
   where
     of : (b : Bool) → contains (coupons_of x.table) c ≡ b → ⊥
@@ -43,12 +43,12 @@ not_eighth-few x c table few eighth = of (contains (coupons_of x.table) c) refl
     of false e = omega (arith, table.distinct, len_more (coupons_of x.table) c false e, eighth)
 
 -- how many there are after one that came
-pub length-arrived : (t : Table) (c : ℕ) → IsTable t → length (arrived (held t.places) c) ≡ len (insert (coupons_of t) c)
-length-arrived t c table = at (contains (coupons_of t) c) ∙ sym (len-insert nat_cmp_total (coupons_of t) c)
+pub length-coupons_with : (t : Table) (c : ℕ) → IsTable t → length (coupons_with (coupons_in t.places) c) ≡ len (insert (coupons_of t) c)
+length-coupons_with t c table = at (contains (coupons_of t) c) ∙ sym (len-insert nat_cmp_total (coupons_of t) c)
   where
-    at : (b : Bool) → length (cond b (held t.places) (held t.places ++ c ∷ [])) ≡ cond b (len (coupons_of t)) (len (coupons_of t) + 1)
+    at : (b : Bool) → length (cond b (coupons_in t.places) (coupons_in t.places ++ c ∷ [])) ≡ cond b (len (coupons_of t)) (len (coupons_of t) + 1)
     at true = sym table.distinct
-    at false = omega (arith, length-append (held t.places) (c ∷ []), table.distinct)
+    at false = omega (arith, length-append (coupons_in t.places) (c ∷ []), table.distinct)
 
 -- ---- the last of a list
 

@@ -1,20 +1,16 @@
-mod TextRows
 pub mod Accepted
 pub mod Emptiness
-pub mod FaultLemmas
 pub mod Growing
 pub mod Headline
 pub mod Joining
 pub mod KeptLemmas
 pub mod MergeLemmas
-pub mod NumberLemmas
 pub mod Outcomes
-pub mod PartLemmas
-pub mod PlainSteps
+pub mod ReferenceSteps
 pub mod Promoting
 pub mod ReadLemmas
 pub mod Rearranging
+pub mod Regrouping
 pub mod RunLemmas
 pub mod StackLemmas
-pub mod StreamLemmas
 pub mod Updating

@@ -1,62 +1,29 @@
 -- Lemmas on a gadget after a sketch of its size.
-use Rattle.std.proofs.Common.{◌≡◌, ℕ, ◌^◌, ◌≤◌, Bool, true, false, nat_eq, ◌&&◌, if◌then◌else◌, List, [], ◌∷◌, ◌++◌, length, append_assoc, refl, sym, ◌∙◌, ap, subst, arith}
+use Rattle.std.proofs.Common.{◌≡◌, ℕ, ◌^◌, ◌≤◌, true, false, nat_eq, ◌&&◌, if◌then◌else◌, List, [], ◌∷◌, length, refl, sym, ◌∙◌, ap, arith}
 use Rattle.std.specs.Prelude.{min, nat_le}
-use Rattle.std.specs.FinSet.{len, union, contains, empty_of_len, len-empty}
+use Rattle.std.specs.FinSet.{len, union, empty_of_len, len-empty}
 use Rattle.std.specs.Ordering.{nat_cmp}
 use Rattle.std.proofs.lemmas.Bool.{cond-true, cond-false, true≢false, eq-eqb, eqb-true, le-leb}
-use Rattle.std.proofs.lemmas.List.{append-nil}
 use Rattle.hll_coupons.specs.Pair.{Pairs, set_of}
-use Rattle.hll_coupons.specs.Table.{held, coupons_of, arrived}
-use Rattle.hll_coupons.specs.Coupons.{AreCoupons}
+use Rattle.hll_coupons.specs.Table.{coupons_in, coupons_of}
 use Rattle.hll_coupons.specs.Fold.{fold_to, join, pairs}
 use Rattle.hll_coupons.specs.declared.hll_type.HllType.TheVariants.{Hll8}
-use Rattle.hll_coupons.proofs.Reading.{twice}
 use Rattle.hll_coupons.proofs.Folds.{fold_to-union}
 use Rattle.hll_coupons.proofs.Joins.{join_comm}
 use Rattle.hll_coupons.proofs.Registers.{fold_to-pairs}
-use Rattle.hll_arrays.specs.State.{cleared}
+use Rattle.hll_arrays.specs.State.{cleared_state}
 use Rattle.hll_arrays.specs.Store.{Stored}
-use Rattle.hll_sketch.specs.Value.{Sketch, Content, coupons, registers, pairs_of, is_empty}
+use Rattle.hll_sketch.specs.Value.{Sketch, registers, pairs_of, is_empty}
 use Rattle.hll_sketch.specs.Adding.{add}
-use Rattle.hll_sketch.specs.Laws.{added_each}
-use Rattle.hll_sketch.specs.Merging.{merged, merged_coupons, merged_state, merged_registers}
+use Rattle.hll_sketch.specs.Laws.{add_in_turn}
+use Rattle.hll_sketch.specs.Merging.{merge, merge_coupons, state_after_merge, merge_registers}
 use Rattle.hll_sketch.proofs.Adding.{add_each}
 use Rattle.hll_merge.specs.Listed.{Listed}
-use Rattle.hll_merge.specs.Served.{IsServed, IsOfSize, OrderIn, arrived_each}
-use Rattle.hll_merge.specs.Kept.{Kept, list, array, value_of_kept, order_of, IsKept, AddsEach, Merges, joined_into}
+use Rattle.hll_merge.specs.Served.{IsServed, IsOfSize}
+use Rattle.hll_merge.specs.Kept.{Kept, list, array, value_of_kept, IsKept, AddsEach, Merges, joined_into}
 use Rattle.hll_merge.proofs.Outcomes.{merged_none, merged_some, union-empty}
-use Rattle.hll_merge.proofs.Emptiness.{listed-none}
 use Rattle.hll_merge.proofs.Updating.{set_of-nil}
-use Rattle.hll_merge.proofs.Joining.{OrderIn-itself, lg_k-added_each, width-added_each}
-
--- ---- the order of coupons
-
--- distinct ones stand one behind the other
-arrived_each-behind : (order cs : List ℕ) → AreCoupons (order ++ cs) → arrived_each order cs ≡ order ++ cs
-arrived_each-behind order [] are = sym (append-nil order)
-arrived_each-behind order (c ∷ cs) are =
-    ap (λ o. arrived_each o cs) (new (contains (set_of order) c) refl)
-    ∙ arrived_each-behind (order ++ c ∷ []) cs (subst AreCoupons (sym (append_assoc order (c ∷ []) cs)) are)
-    ∙ append_assoc order (c ∷ []) cs
-  where
-    new : (b : Bool) → contains (set_of order) c ≡ b → arrived order c ≡ order ++ c ∷ []
-    new true t = absurd (twice order cs c t are)
-    new false f = cond-false (contains (set_of order) c) order (order ++ c ∷ []) f
-
--- those of a sketch, into an empty order
-arrived_each-first : (x : Kept) → IsKept x → arrived_each [] (order_of x) ≡ order_of x
-arrived_each-first (list x) kept = arrived_each-behind [] (held x.table.places) (record { valued = λ i d l. (kept.0.valued i d l).valued; distinct = kept.0.distinct })
-arrived_each-first (array x) kept = refl
-
--- an empty sketch has none
-order-none : (x : Kept) → is_empty (value_of_kept x) ≡ true → order_of x ≡ []
-order-none (list x) e = listed-none (held x.table.places) (eqb-true (len (coupons_of x.table)) 0 e)
-order-none (array x) e = refl
-
--- an order in a content, from one that is the same
-OrderIn-same : (C : Content) (order other : List ℕ) → (order ≡ other) → (OrderIn C order (order ≡ order)) → OrderIn C order (order ≡ other)
-OrderIn-same (coupons S p) order other e h = e
-OrderIn-same (registers R s) order other e h = h
+use Rattle.hll_merge.proofs.Joining.{lg_k-add_in_turn, width-add_in_turn}
 
 -- ---- merges
 
@@ -70,11 +37,10 @@ merges-empty old x m size served none = record {
   value = sym (merged_none m (value_of_kept old) (value_of_kept x) none);
   size = size;
   served = served;
-  order = OrderIn-same (value_of_kept old).content (order_of old) (arrived_each (order_of old) (order_of x)) (ap (arrived_each (order_of old)) (sym (order-none x none))) (OrderIn-itself old);
 }
 
 -- an empty gadget takes coupons whole
-takes-list : (g : Sketch) (x : Listed) → is_empty g ≡ true → g.lg_k ≡ x.lg_k → g.width ≡ x.width → value_of_kept (list x) ≡ merged_coupons g (value_of_kept (list x))
+takes-list : (g : Sketch) (x : Listed) → is_empty g ≡ true → g.lg_k ≡ x.lg_k → g.width ≡ x.width → value_of_kept (list x) ≡ merge_coupons g (value_of_kept (list x))
 takes-list g x none k w =
     (λ i. let y : Sketch = record { lg_k = sym k i; width = sym w i; content = (value_of_kept (list x)).content } in y)
     ∙ sym (cond-true (is_empty g && nat_eq g.lg_k x.lg_k) (record g { content = (value_of_kept (list x)).content }) (add g (pairs_of (value_of_kept (list x))))
@@ -85,10 +51,10 @@ min-same k l e = omega (arith, e)
 
 -- and registers with their state
 takes-array : (g : Sketch) (x : Stored) → is_empty g ≡ true → g.lg_k ≡ x.lg_k → g.width ≡ Hll8 → x.lg_k ≤ 21 → length x.registers ≡ 2 ^ x.lg_k
-    → value_of_kept (array x) ≡ merged_registers g.lg_k g x.lg_k x.registers x.state
+    → value_of_kept (array x) ≡ merge_registers g.lg_k g x.lg_k x.registers x.state
 takes-array g x none k w low size =
     let bare : union (pairs_of g) (pairs x.registers) ≡ pairs x.registers = ap (λ (P : Pairs). union P (pairs x.registers)) (empty_of_len (pairs_of g) (eqb-true (len (pairs_of g)) 0 none)) ∙ union-empty (pairs x.registers) in
-    let kept : merged_state g.lg_k g x.lg_k x.state ≡ x.state = ap (λ b. if b && nat_le x.lg_k g.lg_k then x.state else cleared) none ∙ cond-true (nat_le x.lg_k g.lg_k) x.state cleared (le-leb x.lg_k g.lg_k (omega (arith, k))) in
+    let kept : state_after_merge g.lg_k g x.lg_k x.state ≡ x.state = ap (λ b. if b && nat_le x.lg_k g.lg_k then x.state else cleared_state) none ∙ cond-true (nat_le x.lg_k g.lg_k) x.state cleared_state (le-leb x.lg_k g.lg_k (omega (arith, k))) in
     sym (λ i. let y : Sketch = record {
       lg_k = min-same g.lg_k x.lg_k k i;
       width = w i;
@@ -97,9 +63,9 @@ takes-array g x none k w low size =
 
 -- registers into a gadget with pairs
 joins-array : (g : Sketch) (x : Stored) → is_empty g ≡ false → g.lg_k ≡ x.lg_k → g.width ≡ Hll8 → x.lg_k ≤ 21 → length x.registers ≡ 2 ^ x.lg_k
-    → merged_registers g.lg_k g x.lg_k x.registers x.state ≡ record { lg_k = x.lg_k; width = Hll8; content = registers (join x.registers (fold_to (pairs_of g) x.lg_k)) cleared }
+    → merge_registers g.lg_k g x.lg_k x.registers x.state ≡ record { lg_k = x.lg_k; width = Hll8; content = registers (join x.registers (fold_to (pairs_of g) x.lg_k)) cleared_state }
 joins-array g x some k w low size =
-    let gone : merged_state g.lg_k g x.lg_k x.state ≡ cleared = ap (λ b. if b && nat_le x.lg_k g.lg_k then x.state else cleared) some in
+    let gone : state_after_merge g.lg_k g x.lg_k x.state ≡ cleared_state = ap (λ b. if b && nat_le x.lg_k g.lg_k then x.state else cleared_state) some in
     let greater : fold_to (union (pairs_of g) (pairs x.registers)) x.lg_k ≡ join x.registers (fold_to (pairs_of g) x.lg_k) =
     fold_to-union (pairs_of g) (pairs x.registers) x.lg_k ∙ ap (join (fold_to (pairs_of g) x.lg_k)) (fold_to-pairs x.registers x.lg_k low size) ∙ join_comm (fold_to (pairs_of g) x.lg_k) x.registers in
     λ i. let y : Sketch = record {
@@ -115,12 +81,10 @@ merges-first old x low own other kept none some = record {
   value = value x other kept some;
   size = other;
   served = served-kept x kept;
-  order = OrderIn-same (value_of_kept x).content (order_of x) (arrived_each (order_of old) (order_of x))
-      (sym (arrived_each-first x kept) ∙ ap (λ o. arrived_each o (order_of x)) (sym (order-none old none))) (OrderIn-itself x);
 }
   where
     value : (x : Kept) → IsOfSize (value_of_kept old).lg_k (value_of_kept x) → IsKept x → is_empty (value_of_kept x) ≡ false
-        → value_of_kept x ≡ merged (value_of_kept old).lg_k (value_of_kept old) (value_of_kept x)
+        → value_of_kept x ≡ merge (value_of_kept old).lg_k (value_of_kept old) (value_of_kept x)
     value (list x) other kept some =
         takes-list (value_of_kept old) x none (sym other.lg_k) (own.width ∙ sym other.width)
         ∙ sym (merged_some (value_of_kept old).lg_k (value_of_kept old) (value_of_kept (list x)) some)
@@ -130,21 +94,20 @@ merges-first old x low own other kept none some = record {
 
 -- coupons are added in turn where there are some already
 pub merges-list : (old new : Kept) (x : Listed) → IsOfSize (value_of_kept old).lg_k (value_of_kept old) → is_empty (value_of_kept old) ≡ false → is_empty (value_of_kept (list x)) ≡ false
-    → AddsEach old (held x.table.places) new → Merges (value_of_kept old).lg_k old (list x) new
+    → AddsEach old (coupons_in x.table.places) new → Merges (value_of_kept old).lg_k old (list x) new
 merges-list old new x own filled some adds = record {
-  value = adds.value ∙ at_once (held x.table.places) refl
+  value = adds.value ∙ at_once (coupons_in x.table.places) refl
       ∙ sym (merged_some (value_of_kept old).lg_k (value_of_kept old) (value_of_kept (list x)) some
       ∙ cond-false (is_empty (value_of_kept old) && nat_eq (value_of_kept old).lg_k x.lg_k) (record (value_of_kept old) { content = (value_of_kept (list x)).content }) (add (value_of_kept old) (coupons_of x.table))
       (ap (λ b. b && nat_eq (value_of_kept old).lg_k x.lg_k) filled));
   size = record {
-    lg_k = ap (λ (y : Sketch). y.lg_k) adds.value ∙ lg_k-added_each (value_of_kept old) (held x.table.places);
-    width = ap (λ (y : Sketch). y.width) adds.value ∙ width-added_each (value_of_kept old) (held x.table.places) ∙ own.width;
+    lg_k = ap (λ (y : Sketch). y.lg_k) adds.value ∙ lg_k-add_in_turn (value_of_kept old) (coupons_in x.table.places);
+    width = ap (λ (y : Sketch). y.width) adds.value ∙ width-add_in_turn (value_of_kept old) (coupons_in x.table.places) ∙ own.width;
   };
   served = adds.served;
-  order = adds.order;
 }
   where
-    at_once : (cs : List ℕ) → held x.table.places ≡ cs → added_each (value_of_kept old) cs ≡ add (value_of_kept old) (set_of cs)
+    at_once : (cs : List ℕ) → coupons_in x.table.places ≡ cs → add_in_turn (value_of_kept old) cs ≡ add (value_of_kept old) (set_of cs)
     at_once [] e = absurd (true≢false (sym (eq-eqb (len (coupons_of x.table)) 0 (ap (λ (o : List ℕ). len (set_of o)) e ∙ none)) ∙ some))
       where
         none : len (set_of []) ≡ 0
@@ -160,7 +123,6 @@ merges-array old x low own other before kept filled some = record {
       ∙ joins-array (value_of_kept old) x filled (sym other.lg_k) own.width (omega (arith, low, other.lg_k)) kept.size);
   size = record { lg_k = size old other; width = refl };
   served = refl;
-  order = refl;
 }
   where
     size : (old : Kept) → IsOfSize (value_of_kept old).lg_k (value_of_kept (array x)) → (joined_into old x).lg_k ≡ (value_of_kept old).lg_k
@@ -168,9 +130,9 @@ merges-array old x low own other before kept filled some = record {
     size (array b) other = refl
 
     same : (old : Kept) → (value_of_kept old).lg_k ≤ 7 → IsOfSize (value_of_kept old).lg_k (value_of_kept (array x)) → IsKept old
-        → value_of_kept (array (joined_into old x)) ≡ record { lg_k = x.lg_k; width = Hll8; content = registers (join x.registers (fold_to (pairs_of (value_of_kept old)) x.lg_k)) cleared }
+        → value_of_kept (array (joined_into old x)) ≡ record { lg_k = x.lg_k; width = Hll8; content = registers (join x.registers (fold_to (pairs_of (value_of_kept old)) x.lg_k)) cleared_state }
     same (list l) low other before = refl
     same (array b) low other before =
         let own : b.registers ≡ fold_to (pairs b.registers) x.lg_k = sym (fold_to-pairs b.registers b.lg_k (omega (arith, low)) before.size) ∙ ap (fold_to (pairs b.registers)) (sym other.lg_k) in
         let both : join b.registers x.registers ≡ join x.registers (fold_to (pairs b.registers) x.lg_k) = join_comm b.registers x.registers ∙ ap (join x.registers) own in
-        λ i. let y : Sketch = record { lg_k = sym other.lg_k i; width = Hll8; content = registers (both i) cleared } in y
+        λ i. let y : Sketch = record { lg_k = sym other.lg_k i; width = Hll8; content = registers (both i) cleared_state } in y

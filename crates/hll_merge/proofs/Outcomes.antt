@@ -1,9 +1,10 @@
+-- The outcome of a plan has the effective lg_k, and means its inputs.
 use Rattle.std.proofs.Common.{◌≡◌, ℕ, ◌+◌, ◌%◌, ◌^◌, ◌<◌, ◌≤◌, true, false, cond, not, ◌&&◌, ◌||◌, nat_eq, eqb, List, [], ◌∷◌, Option, Some, None, All, length, get_or, refl, sym, ap, subst, ◌∙◌, arith, inl, inr}
 use Rattle.std.specs.Prelude.{min, if◌then◌else◌}
 use Rattle.std.specs.Ordering.{nat_cmp, eq_by_cmp}
 use Rattle.std.specs.Cmp.{nat_cmp_total}
 use Rattle.std.specs.FinSet.{items, empty, union, len, from_list, contains, contains-empty, contains-from_list, empty_of_len, len-empty}
-use Rattle.std.proofs.lemmas.Bool.{cases_Bool, cond-true, cond-false, eqb-true, eq-eqb, or_cases, or_left, and_parts, and_from, and_left, or_right, true≢false}
+use Rattle.std.proofs.lemmas.Bool.{cases_Bool, cond-true, cond-false, eqb-true, eq-eqb, or_cases, and_parts, and_from, and_left, true≢false}
 use Rattle.std.proofs.lemmas.Nat.{mod_below, pow_below, pow_pos}
 use Rattle.std.proofs.Math.Nat.{zero-add}
 use Rattle.hll_coupons.specs.Pair.{Pairs, slot_of, value_of, pair, IsPair}
@@ -15,27 +16,25 @@ use Rattle.hll_coupons.specs.declared.hll_type.HllType.{HllType}
 use Rattle.hll_arrays.specs.declared.estimate_state.EstimateState.{EstimateState}
 use Rattle.hll_sketch.specs.Stage.{stage}
 use Rattle.hll_sketch.specs.Value.{Content, coupons, registers, Sketch, pairs_in, pairs_of, is_empty, in_registers, has_registers, empty_sketch, ArePairs, IsLegal}
-use Rattle.hll_sketch.specs.Adding.{settled, added, add}
-use Rattle.hll_sketch.specs.Merging.{merged, merged_coupons, merged_content, merged_registers, merge_all, empty_union}
+use Rattle.hll_sketch.specs.Adding.{content_for, content_with, add}
+use Rattle.hll_sketch.specs.Merging.{merge, merge_coupons, merge_content, merge_registers, merge_all, empty_union}
 use Rattle.hll_merge.specs.Plan.{Plan, Plans, new, image, coupon, union_of, no_plans, more_plans, inputs, inputs_of_each, outcome, outcomes, effective_lg_k, least_of_each, Leaves, LeavesOfEach, IsImageOf, IsImageOfEach, IsLegalPlan}
 use Rattle.hll_merge.specs.Meaning.{Means, PlansHaveMeaning, SameInputsAgree}
-use Rattle.hll_sketch.proofs.Adding.{lg_k-merged}
-use Rattle.hll_sketch.proofs.Sets.{same_members, contains_union, union_assoc, union_none}
+use Rattle.hll_sketch.proofs.Adding.{lg_k-merge}
+use Rattle.hll_sketch.proofs.Sets.{same_members, contains_union, union_assoc, union_none, no_members, union_left, union_right}
+use Rattle.hll_sketch.proofs.LegalSketches.{ArePairs-union}
 
 pub folds_as : (k e : ℕ) (c : Content) (P : Pairs) → k ≤ 21 → e ≤ k → Means k c P → fold_to (pairs_in c) e ≡ fold_to P e
 folds_as k e (coupons S p) P small le m = ap (λ S. fold_to S e) m
 folds_as k e (registers R s) P small le m = ap (λ R. fold_to (pairs R) e) m ∙ fold_to-pairs-fold_to P k e le small
 
-pub Means-settled : (k : ℕ) (S P : Pairs) (o : Option ℕ) → S ≡ P → Means k (settled k S o) P
-Means-settled k S P (Some q) e = e
-Means-settled k S P None e = ap (λ S. fold_to S k) e
+pub Means-content_for : (k : ℕ) (S P : Pairs) (o : Option ℕ) → S ≡ P → Means k (content_for k S o) P
+Means-content_for k S P (Some q) e = e
+Means-content_for k S P None e = ap (λ S. fold_to S k) e
 
-pub Means-added : (k : ℕ) (c : Content) (P T : Pairs) → Means k c P → Means k (added k c T) (union P T)
-Means-added k (coupons S p) P T m = Means-settled k (union S T) (union P T) (stage k p (len (union S T))) (ap (λ S. union S T) m)
-Means-added k (registers R s) P T m = ap (λ R. join R (fold_to T k)) m ∙ sym (fold_to-union P T k)
-
-pub ArePairs-union : (P Q : Pairs) → ArePairs P → ArePairs Q → ArePairs (union P Q)
-ArePairs-union P Q p q c h = elim (or_cases (contains P c) (contains Q c) (sym (contains_union P Q c) ∙ h)) [ inl l ↦ p c l | inr r ↦ q c r ]
+pub Means-content_with : (k : ℕ) (c : Content) (P T : Pairs) → Means k c P → Means k (content_with k c T) (union P T)
+Means-content_with k (coupons S p) P T m = Means-content_for k (union S T) (union P T) (stage k p (len (union S T))) (ap (λ S. union S T) m)
+Means-content_with k (registers R s) P T m = ap (λ R. join R (fold_to T k)) m ∙ sym (fold_to-union P T k)
 
 pub ArePairs-empty : ArePairs empty
 ArePairs-empty c h = absurd (true≢false (sym h ∙ contains-empty nat_cmp c))
@@ -45,9 +44,6 @@ ArePairs-one c p d h = elim (or_cases (eq_by_cmp nat_cmp d c) false (sym (contai
   | inl l ↦ let e : d ≡ c = same_word d c l in rw e p
   | inr r ↦ absurd (true≢false (sym r))
 ]
-
-pub no_members : (P : Pairs) → ((c : ℕ) → contains P c ≡ true → ⊥) → P ≡ empty
-no_members P h = same_members P empty (λ q. elim (cases_Bool (contains P q)) [ inl t ↦ absurd (h q t) | inr f ↦ f ∙ sym (contains-empty nat_cmp q) ])
 
 -- an empty sketch means no pairs
 pub nothing : (k : ℕ) (c : Content) (P : Pairs) → k ≤ 21 → ArePairs P → Means k c P → eqb (len (pairs_in c)) 0 ≡ true → P ≡ empty
@@ -60,15 +56,15 @@ nothing k (registers R s) P small are m e = no_members P (λ c h.
     let is : v ≡ greatest (value_at k t) (items P) = ap (λ R. get_or R t 0) m ∙ get_or-fold_to P k t within in
     let most : value_at k t c ≤ greatest (value_at k t) (items P) = reached (value_at k t) c P h in
     let some : 0 < v = omega (arith, value_at_same k t c refl, (are c h).valued) in
-    let held : contains (pairs R) (pair t v) ≡ true = pairs_have R (pair t v) t (record { within = omega (arith, ap length m, length-fold_to P k); positive = some; is = ap (λ n. pair n v) (sym (zero-add t)) }) in
-    true≢false (sym held ∙ ap (λ S. contains S (pair t v)) none ∙ contains-empty nat_cmp (pair t v)))
+    let coupons_in : contains (pairs R) (pair t v) ≡ true = pairs_have R (pair t v) t (record { within = omega (arith, ap length m, length-fold_to P k); positive = some; is = ap (λ n. pair n v) (sym (zero-add t)) }) in
+    true≢false (sym coupons_in ∙ ap (λ S. contains S (pair t v)) none ∙ contains-empty nat_cmp (pair t v)))
 
 -- ---- merging
 
-pub merged_none : (m : ℕ) (g x : Sketch) → is_empty x ≡ true → merged m g x ≡ g
+pub merged_none : (m : ℕ) (g x : Sketch) → is_empty x ≡ true → merge m g x ≡ g
 merged_none m g x e = cond-true (is_empty x) g _ e
 
-pub merged_some : (m : ℕ) (g x : Sketch) → is_empty x ≡ false → merged m g x ≡ merged_content m g x x.content
+pub merged_some : (m : ℕ) (g x : Sketch) → is_empty x ≡ false → merge m g x ≡ merge_content m g x x.content
 merged_some m g x e = cond-false (is_empty x) g _ e
 
 -- a sketch that means these pairs
@@ -78,7 +74,7 @@ pub record Good (x : Sketch) (P : Pairs) : Type 0 where
   pub meaning : Means x.lg_k x.content P
 
 pub Good-add : (x : Sketch) (P T : Pairs) → Good x P → ArePairs T → Good (add x T) (union P T)
-Good-add x P T g t = record { small = g.small; are = ArePairs-union P T g.are t; meaning = Means-added x.lg_k x.content P T g.meaning }
+Good-add x P T g t = record { small = g.small; are = ArePairs-union P T g.are t; meaning = Means-content_with x.lg_k x.content P T g.meaning }
 
 pub union-empty : (P : Pairs) → union empty P ≡ P
 union-empty P = same_members (union empty P) P (λ q. contains_union empty P q ∙ ap (λ b. b || contains P q) (contains-empty nat_cmp q))
@@ -86,7 +82,7 @@ union-empty P = same_members (union empty P) P (λ q. contains_union empty P q �
 pub empty-union : (P : Pairs) → union P empty ≡ P
 empty-union P = union_none P
 
-Good-coupons : (g x : Sketch) (S : Pairs) (p : ℕ) (P Q : Pairs) → x.content ≡ coupons S p → S ≡ Q → Good g P → ArePairs Q → Good (merged_coupons g x) (union P Q)
+Good-coupons : (g x : Sketch) (S : Pairs) (p : ℕ) (P Q : Pairs) → x.content ≡ coupons S p → S ≡ Q → Good g P → ArePairs Q → Good (merge_coupons g x) (union P Q)
 Good-coupons g x S p P Q is m good are = elim (cases_Bool (is_empty g && nat_eq g.lg_k x.lg_k)) [
   | inl whole ↦
       let none : P ≡ empty = nothing g.lg_k g.content P good.small good.are good.meaning (and_parts (is_empty g) _ whole).0 in
@@ -99,7 +95,7 @@ Good-coupons g x S p P Q is m good are = elim (cases_Bool (is_empty g && nat_eq 
       (rw there (Good-add g P Q good are))
 ]
 
-Good-registers : (m : ℕ) (g : Sketch) (l : ℕ) (R : List ℕ) (s : EstimateState) (P Q : Pairs) → l ≤ 21 → R ≡ fold_to Q l → Good g P → ArePairs Q → Good (merged_registers m g l R s) (union P Q)
+Good-registers : (m : ℕ) (g : Sketch) (l : ℕ) (R : List ℕ) (s : EstimateState) (P Q : Pairs) → l ≤ 21 → R ≡ fold_to Q l → Good g P → ArePairs Q → Good (merge_registers m g l R s) (union P Q)
 Good-registers m g l R s P Q small is good are =
     let e : ℕ = min g.lg_k l in
     record {
@@ -110,8 +106,8 @@ Good-registers m g l R s P Q small is good are =
           ∙ sym (fold_to-union P Q e);
     }
 
-pub Good-merged : (m : ℕ) (g x : Sketch) (P Q : Pairs) → Good g P → Good x Q → Good (merged m g x) (union P Q)
-Good-merged m g x P Q good other = elim (cases_Bool (is_empty x)) [
+pub Good-merge : (m : ℕ) (g x : Sketch) (P Q : Pairs) → Good g P → Good x Q → Good (merge m g x) (union P Q)
+Good-merge m g x P Q good other = elim (cases_Bool (is_empty x)) [
   | inl e ↦
       let none : Q ≡ empty = nothing x.lg_k x.content Q other.small other.are other.meaning e in
       let same : union P Q ≡ P = ap (union P) none ∙ empty-union P in
@@ -119,7 +115,7 @@ Good-merged m g x P Q good other = elim (cases_Bool (is_empty x)) [
   | inr e ↦ rw (merged_some m g x e) (of x.lg_k x.width x.content other)
 ]
   where
-    of : (l : ℕ) (w : HllType) (c : Content) → let x : Sketch = record { lg_k = l; width = w; content = c } in Good x Q → Good (merged_content m g x c) (union P Q)
+    of : (l : ℕ) (w : HllType) (c : Content) → let x : Sketch = record { lg_k = l; width = w; content = c } in Good x Q → Good (merge_content m g x c) (union P Q)
     of l w (coupons S p) o = Good-coupons g (record { lg_k = l; width = w; content = coupons S p }) S p P Q refl o.meaning good o.are
     of l w (registers R s) o = Good-registers m g l R s P Q o.small o.meaning good o.are
 
@@ -151,13 +147,13 @@ Good-image x l w (registers R s) h = record {
 mutual
   pub good : (Q : Sketch → Type 0) (t : Plan) → Leaves Q t → Good (outcome t) (inputs t)
   good Q (new k w) h = Good-empty k w h.high
-  good Q (image b x) h = Good-image x x.lg_k x.width x.content h.0
+  good Q (image x) h = Good-image x x.lg_k x.width x.content h.0
   good Q (coupon t c) h = Good-add (outcome t) (inputs t) (from_list (c ∷ [])) (good Q t h.0) (ArePairs-one c h.1)
   good Q (union_of m w ts) h = Good-width (merge_all m (empty_union m) (outcomes ts)) w (inputs_of_each ts) (rw (← union-empty (inputs_of_each ts)) (good_each Q ts m (empty_union m) empty (Good-empty m _ h.0.high) h.1))
 
   pub good_each : (Q : Sketch → Type 0) (ts : Plans) (m : ℕ) (g : Sketch) (P : Pairs) → Good g P → LeavesOfEach Q ts → Good (merge_all m g (outcomes ts)) (union P (inputs_of_each ts))
   good_each Q no_plans m g P h leaves = rw (empty-union P) h
-  good_each Q (more_plans t ts) m g P h leaves = rw (← union_assoc P (inputs t) (inputs_of_each ts)) (good_each Q ts m (merged m g (outcome t)) (union P (inputs t)) (Good-merged m g (outcome t) P (inputs t) h (good Q t leaves.0)) leaves.1)
+  good_each Q (more_plans t ts) m g P h leaves = rw (← union_assoc P (inputs t) (inputs_of_each ts)) (good_each Q ts m (merge m g (outcome t)) (union P (inputs t)) (Good-merge m g (outcome t) P (inputs t) h (good Q t leaves.0)) leaves.1)
 
 least_same : (ts : Plans) (k l : ℕ) → k ≡ l → least_of_each k ts ≡ least_of_each l ts
 least_same ts k l e = ap (λ n. least_of_each n ts) e
@@ -165,14 +161,14 @@ least_same ts k l e = ap (λ n. least_of_each n ts) e
 mutual
   pub lg_k-outcome : (t : Plan) → (outcome t).lg_k ≡ effective_lg_k t
   lg_k-outcome (new k w) = refl
-  lg_k-outcome (image b x) = refl
+  lg_k-outcome (image x) = refl
   lg_k-outcome (coupon t c) = lg_k-outcome t
   lg_k-outcome (union_of m w ts) = lg_k-merge_all ts m (empty_union m)
 
   lg_k-merge_all : (ts : Plans) (m : ℕ) (g : Sketch) → (merge_all m g (outcomes ts)).lg_k ≡ least_of_each g.lg_k ts
   lg_k-merge_all no_plans m g = refl
-  lg_k-merge_all (more_plans t ts) m g = lg_k-merge_all ts m (merged m g (outcome t))
-      ∙ least_same ts _ _ (lg_k-merged m g (outcome t) ∙ ap (λ l. if has_registers (outcome t) then min g.lg_k l else g.lg_k) (lg_k-outcome t))
+  lg_k-merge_all (more_plans t ts) m g = lg_k-merge_all ts m (merge m g (outcome t))
+      ∙ least_same ts _ _ (lg_k-merge m g (outcome t) ∙ ap (λ l. if has_registers (outcome t) then min g.lg_k l else g.lg_k) (lg_k-outcome t))
 
 -- ---- register images keep the lg_k low
 
@@ -199,12 +195,6 @@ none_empty k (registers R s) P m e = eq-eqb (len (pairs R)) 0 (ap len (no_member
     let zero' : greatest (value_at k i) (items P) ≤ 0 = bounded (value_at k i) 0 P (λ c t. absurd (true≢false (sym t ∙ ap (λ S. contains S c) e ∙ contains-empty nat_cmp c))) in
     omega (arith, found.1.positive))) ∙ len-empty nat_cmp)
 
-union_left : (P Q : Pairs) → union P Q ≡ empty → P ≡ empty
-union_left P Q e = no_members P (λ c h. true≢false (sym (contains_union P Q c ∙ or_left (contains P c) (contains Q c) h) ∙ ap (λ S. contains S c) e ∙ contains-empty nat_cmp c))
-
-union_right : (P Q : Pairs) → union P Q ≡ empty → Q ≡ empty
-union_right P Q e = no_members Q (λ c h. true≢false (sym (contains_union P Q c ∙ or_right (contains P c) (contains Q c) h) ∙ ap (λ S. contains S c) e ∙ contains-empty nat_cmp c))
-
 -- what has pairs and gets more has pairs
 still_some : (x y : Sketch) (P Q : Pairs) → Good x P → Good y Q → (Q ≡ empty → P ≡ empty) → is_empty x ≡ false → is_empty y ≡ false
 still_some x y P Q g h up some = elim (cases_Bool (is_empty y)) [
@@ -212,40 +202,40 @@ still_some x y P Q g h up some = elim (cases_Bool (is_empty y)) [
   | inr f ↦ f
 ]
 
-inside-added : (k : ℕ) (c : Content) (T : Pairs) → in_registers c ≡ true → in_registers (added k c T) ≡ true
-inside-added k (coupons S p) T h = absurd (true≢false (sym h))
-inside-added k (registers R s) T h = refl
+inside-content_with : (k : ℕ) (c : Content) (T : Pairs) → in_registers c ≡ true → in_registers (content_with k c T) ≡ true
+inside-content_with k (coupons S p) T h = absurd (true≢false (sym h))
+inside-content_with k (registers R s) T h = refl
 
 HasSome-add : (x : Sketch) (P T : Pairs) → Good x P → ArePairs T → HasSome x → HasSome (add x T)
 HasSome-add x P T g t h = record {
-  inside = inside-added x.lg_k x.content T h.inside;
+  inside = inside-content_with x.lg_k x.content T h.inside;
   some = still_some x (add x T) P (union P T) g (Good-add x P T g t) (union_left P T) h.some;
 }
 
 -- a gadget with registers keeps them
-HasSome-merged : (m : ℕ) (g x : Sketch) (P Q : Pairs) → Good g P → Good x Q → HasSome g → HasSome (merged m g x)
-HasSome-merged m g x P Q good other h = record {
+HasSome-merge : (m : ℕ) (g x : Sketch) (P Q : Pairs) → Good g P → Good x Q → HasSome g → HasSome (merge m g x)
+HasSome-merge m g x P Q good other h = record {
   inside = elim (cases_Bool (is_empty x)) [
     | inl e ↦ rw (merged_none m g x e) h.inside
     | inr e ↦ rw (merged_some m g x e) (of x.lg_k x.width x.content)
   ];
-  some = still_some g (merged m g x) P (union P Q) good (Good-merged m g x P Q good other) (union_left P Q) h.some;
+  some = still_some g (merge m g x) P (union P Q) good (Good-merge m g x P Q good other) (union_left P Q) h.some;
 }
   where
-    of : (l : ℕ) (w : HllType) (c : Content) → let x : Sketch = record { lg_k = l; width = w; content = c } in in_registers (merged_content m g x c).content ≡ true
+    of : (l : ℕ) (w : HllType) (c : Content) → let x : Sketch = record { lg_k = l; width = w; content = c } in in_registers (merge_content m g x c).content ≡ true
     of l w (registers R s) = refl
     of l w (coupons S p) =
         let x : Sketch = record { lg_k = l; width = w; content = coupons S p } in
-        rw (cond-false (is_empty g && nat_eq g.lg_k l) (record g { content = x.content }) (add g S) (and_left (is_empty g) (nat_eq g.lg_k l) h.some)) (inside-added g.lg_k g.content S h.inside)
+        rw (cond-false (is_empty g && nat_eq g.lg_k l) (record g { content = x.content }) (add g S) (and_left (is_empty g) (nat_eq g.lg_k l) h.some)) (inside-content_with g.lg_k g.content S h.inside)
 
 -- a sketch with registers gives them to the gadget
-HasSome-from : (m : ℕ) (g x : Sketch) (P Q : Pairs) → Good g P → Good x Q → HasSome x → HasSome (merged m g x)
+HasSome-from : (m : ℕ) (g x : Sketch) (P Q : Pairs) → Good g P → Good x Q → HasSome x → HasSome (merge m g x)
 HasSome-from m g x P Q good other h = record {
   inside = rw (merged_some m g x h.some) (of x.lg_k x.width x.content h.inside);
-  some = still_some x (merged m g x) Q (union P Q) other (Good-merged m g x P Q good other) (union_right P Q) h.some;
+  some = still_some x (merge m g x) Q (union P Q) other (Good-merge m g x P Q good other) (union_right P Q) h.some;
 }
   where
-    of : (l : ℕ) (w : HllType) (c : Content) → in_registers c ≡ true → let x : Sketch = record { lg_k = l; width = w; content = c } in in_registers (merged_content m g x c).content ≡ true
+    of : (l : ℕ) (w : HllType) (c : Content) → in_registers c ≡ true → let x : Sketch = record { lg_k = l; width = w; content = c } in in_registers (merge_content m g x c).content ≡ true
     of l w (registers R s) i = refl
     of l w (coupons S p) i = absurd (true≢false (sym i))
 
@@ -264,7 +254,7 @@ record Lowest (x : Sketch) (t : Plan) : Type 0 where
 mutual
   lowest : (x : Sketch) (t : Plan) → IsLegalPlan t → has_registers x ≡ true → IsImageOf x t → Lowest x t
   lowest x (new k w) h r i = absurd i
-  lowest x (image b y) h r i = record { some = has_some y (ap has_registers (sym i) ∙ r); low = omega (arith, ap (λ (s : Sketch). s.lg_k) i) }
+  lowest x (image y) h r i = record { some = has_some y (ap has_registers (sym i) ∙ r); low = omega (arith, ap (λ (s : Sketch). s.lg_k) i) }
   lowest x (coupon t c) h r i =
       let before : Lowest x t = lowest x t h.0 r i in
       record { some = HasSome-add (outcome t) (inputs t) (from_list (c ∷ [])) (good _ t h.0) (ArePairs-one c h.1) before.some; low = before.low }
@@ -277,23 +267,23 @@ mutual
   lowest_of_each x no_plans m g P k good' h r i = absurd i
   lowest_of_each x (more_plans t ts) m g P k good' h r i =
       let one : Good (outcome t) (inputs t) = good _ t h.0 in
-      let next : Good (merged m g (outcome t)) (union P (inputs t)) = Good-merged m g (outcome t) P (inputs t) good' one in
+      let next : Good (merge m g (outcome t)) (union P (inputs t)) = Good-merge m g (outcome t) P (inputs t) good' one in
       elim i [
         | inl here ↦
             let found : Lowest x t = lowest x t h.0 r here in
             let has : has_registers (outcome t) ≡ true = some_has (outcome t) found.some in (
-              kept ts m (merged m g (outcome t)) (union P (inputs t)) next h.1 (HasSome-from m g (outcome t) P (inputs t) good' one found.some),
+              kept ts m (merge m g (outcome t)) (union P (inputs t)) next h.1 (HasSome-from m g (outcome t) P (inputs t) good' one found.some),
               let at : cond (has_registers (outcome t)) (min k (effective_lg_k t)) k ≡ min k (effective_lg_k t) = cond-true (has_registers (outcome t)) (min k (effective_lg_k t)) k has in
                   omega (arith, least_of_each_le ts (cond (has_registers (outcome t)) (min k (effective_lg_k t)) k), found.low),
             )
-        | inr later ↦ lowest_of_each x ts m (merged m g (outcome t)) (union P (inputs t)) (cond (has_registers (outcome t)) (min k (effective_lg_k t)) k) next h.1 r later
+        | inr later ↦ lowest_of_each x ts m (merge m g (outcome t)) (union P (inputs t)) (cond (has_registers (outcome t)) (min k (effective_lg_k t)) k) next h.1 r later
       ]
 
   kept : (ts : Plans) (m : ℕ) (g : Sketch) (P : Pairs) → Good g P → LeavesOfEach (λ _. Unit {0}) ts → HasSome g → HasSome (merge_all m g (outcomes ts))
   kept no_plans m g P good' h s = s
   kept (more_plans t ts) m g P good' h s =
       let one : Good (outcome t) (inputs t) = good _ t h.0 in
-      kept ts m (merged m g (outcome t)) (union P (inputs t)) (Good-merged m g (outcome t) P (inputs t) good' one) h.1 (HasSome-merged m g (outcome t) P (inputs t) good' one s)
+      kept ts m (merge m g (outcome t)) (union P (inputs t)) (Good-merge m g (outcome t) P (inputs t) good' one) h.1 (HasSome-merge m g (outcome t) P (inputs t) good' one s)
 
 -- ---- the laws
 

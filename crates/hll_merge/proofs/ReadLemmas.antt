@@ -1,13 +1,12 @@
 -- Lemmas on reading the sketch of an image.
-use Rattle.std.proofs.Common.{◌≡◌, ◌≢◌, ℕ, ◌+◌, ◌*◌, ◌^◌, ◌<◌, ◌≤◌, inl, inr, zero, suc, List, take, drop, length, Result, Ok, Err, refl, sym, ◌∙◌, ap, subst, arith}
+use Rattle.std.proofs.Common.{◌≡◌, ◌≢◌, ℕ, ◌+◌, ◌*◌, ◌^◌, ◌<◌, ◌≤◌, inl, inr, zero, suc, List, take, drop, length, refl, sym, ◌∙◌, ap, subst, arith}
 use Rattle.std.specs.Prelude.{◌⊎◌}
-use Rattle.std.specs.Result.{IfErr, IsErrAnd}
 use Rattle.std.proofs.lemmas.List.{take-append-drop, drop-take, length-take}
 use Rattle.hll_base.specs.declared.error.Reason.{Reason}
 use Rattle.hll_base.specs.declared.error.Reason.TheVariants as reasons
 use Rattle.hll_base.specs.declared.error.ErrorKind.TheVariants.{InvalidData}
 use Rattle.hll_base.specs.Reason.{kind_of}
-use Rattle.hll_coupons.specs.Table.{Table, held}
+use Rattle.hll_coupons.specs.Table.{Table, coupons_in}
 use Rattle.hll_coupons.specs.Pair.{set_of}
 use Rattle.hll_coupons.specs.Coupons.{AreCoupons}
 use Rattle.hll_coupons.specs.declared.hll_type.HllType.{HllType}
@@ -15,7 +14,7 @@ use Rattle.hll_coupons.specs.declared.hll_type.HllType.TheVariants.{Hll4, Hll6, 
 use Rattle.hll_arrays.specs.Payload.{state_at}
 use Rattle.hll_arrays.specs.Store.{Stored}
 use Rattle.hll_coupons.specs.Payload.{list_places, list_coupons, list_table}
-use Rattle.hll_coupons.proofs.Reading.{held-list_table, list_coupons-front}
+use Rattle.hll_coupons.proofs.Reading.{coupons_in-list_table, list_coupons-front}
 use Rattle.hll_sketch.specs.Value.{coupons}
 use Rattle.hll_sketch.specs.Image.{stage_bits, lg_k_byte, width_bits, width_of_bits, is_flagged, HasHeader, list_shape, IsListImage, IsHll8Image}
 use Rattle.hll_sketch.specs.Header.{stage_of_bits, header_of}
@@ -28,8 +27,8 @@ use Rattle.hll_sketch.proofs.Faults.{fault_excludes_header}
 use Rattle.hll_sketch.proofs.FaultKinds.{faults_are_of_data}
 use Rattle.hll_sketch.proofs.RegisterImages.{hll8_value-front}
 use Rattle.hll_sketch.proofs.Images.{at, same_width, same_list_shape}
-use Rattle.hll_merge.specs.declared.fault.Fault.TheVariants as faults
-use Rattle.hll_merge.specs.Step.{fault_of}
+use Rattle.hll_text.specs.declared.fault.Fault.TheVariants as faults
+use Rattle.hll_text.specs.Step.{fault_of}
 use Rattle.hll_merge.specs.Served.{IsBeyond}
 use Rattle.hll_merge.specs.Listed.{Listed}
 use Rattle.hll_merge.specs.Kept.{list, array, value_of_kept, IsReadFrom, of_list, of_array, RefusesBytes, no_image}
@@ -77,11 +76,6 @@ refused-list b r h (inr f) = inr (refused_for b r (not_beyond-list b h) f)
 pub refused-hll8 : (b : List ℕ) (r : Reason) → HasHeader b 2 → width_bits b ≡ 2 → (r ≡ reasons.Memory) ⊎ Fault b r → (fault_of r ≡ faults.Memory) ⊎ RefusesBytes b (fault_of r)
 refused-hll8 b r h w (inl m) = inl (ap fault_of m)
 refused-hll8 b r h w (inr f) = inr (refused_for b r (not_beyond-hll8 b h w) f)
-
--- an error that is passed on
-pub IfErr-passed : {T E : Type 0} (P : E → Type 0) (r : Result T E) (e : E) → IsErrAnd r (λ f. f ≡ e) → P e → IfErr r P
-IfErr-passed P (Ok x) e h f = tt
-IfErr-passed P (Err g) e h f = subst P (sym h) f
 
 -- ---- stages and widths
 
@@ -153,13 +147,13 @@ read_as-list b h t is image table =
     let there : m ≤ length (drop 8 b) = omega (arith, image.payload.size, ap (λ z. list_places z) shape, ap length (drop-take 8 m b), length-take m (drop 8 b)) in
     let same : list_coupons (list_shape a) (drop 8 a) ≡ list_coupons (list_shape b) (drop 8 b) =
     ap (λ z. list_coupons z (drop 8 a)) shape ∙ ap (list_coupons (list_shape b)) (drop-take 8 m b) ∙ list_coupons-front (list_shape b) (drop 8 b) there in
-    let order : held t.places ≡ list_coupons (list_shape a) (drop 8 a) =
-    ap (λ (u : Table). held u.places) table ∙ held-list_table (list_shape b) (drop 8 b) (subst AreCoupons same image.payload.are_coupons) ∙ sym same in
+    let order : coupons_in t.places ≡ list_coupons (list_shape a) (drop 8 a) =
+    ap (λ (u : Table). coupons_in u.places) table ∙ coupons_in-list_table (list_shape b) (drop 8 b) (subst AreCoupons same image.payload.are_coupons) ∙ sym same in
     let k : h.lg_k ≡ lg_k_byte a = ap (λ (x : Header). x.lg_k) is ∙ sym (at a (drop (8 + m) b) b e image.header.whole 3 (omega arith)) in
     let width : h.hll_type ≡ width_of_bits (width_bits a) = ap (λ (x : Header). x.hll_type) is ∙ ap width_of_bits (sym (same_width a (drop (8 + m) b) b e image.header.whole)) in
     let size : t.lg_size ≡ 3 = ap (λ (u : Table). u.lg_size) table in
     of_list (8 + m) (record { lg_k = h.lg_k; width = h.hll_type; table = t }) image
-    (λ i. record { lg_k = k i; width = width i; content = coupons (set_of (order i)) (size i) }) order
+    (λ i. record { lg_k = k i; width = width i; content = coupons (set_of (order i)) (size i) })
 
 -- and so are registers
 pub read_as-array : (b : List ℕ) (a : Stored) → IsHll8Image (take (40 + 2 ^ lg_k_byte b) b)

@@ -7,9 +7,10 @@ use Rattle.hll_sketch.specs.Value.{Sketch}
 use Rattle.hll_sketch.specs.Adding.{add}
 use Rattle.hll_sketch.specs.Merging.{merge_all, empty_union}
 use Rattle.hll_merge.specs.Plan.{Plan, Plans, union_of, no_plans, more_plans, outcome, outcomes, Leaves, LeavesOfEach}
-use Rattle.hll_merge.specs.Grown.{IsGrown, joined}
-use Rattle.hll_merge.specs.Rearranged.{IsChild, both_plans, Rearranged, RearrangedEach, reordered, grouped, same, written_otherwise, flipped, chained, below_coupon, below_union, none, more, RearrangedPlansAgree}
-use Rattle.hll_merge.proofs.Growing.{merged-is_joined, fits, joined_same, joined_joined}
+use Rattle.hll_merge.specs.Grown.{IsGrown, union_value}
+use Rattle.hll_merge.specs.Rearrangement.{IsChild, both_plans, IsRearrangement, AreRearrangements, reordered, grouped, same, stored, flipped, chained, below_coupon, below_union, none, more, RearrangedPlansAgree}
+use Rattle.hll_merge.proofs.Growing.{merge-is_joined, fits}
+use Rattle.hll_merge.proofs.Regrouping.{joined_same, joined_joined}
 
 -- ---- children and their outcomes
 
@@ -37,8 +38,8 @@ outcomes-both no_plans us = refl
 outcomes-both (more_plans t ts) us = ap (λ xs. outcome t ∷ xs) (outcomes-both ts us)
 
 -- the join of the children
-union_is : (m : ℕ) (w : HllType) (ts : Plans) → Leaves IsGrown (union_of m w ts) → outcome (union_of m w ts) ≡ joined m w (outcomes ts)
-union_is m w ts h = merged-is_joined m w (outcomes ts) h.0.high (fits ts h.1)
+union_is : (m : ℕ) (w : HllType) (ts : Plans) → Leaves IsGrown (union_of m w ts) → outcome (union_of m w ts) ≡ union_value m w (outcomes ts)
+union_is m w ts h = merge-is_joined m w (outcomes ts) h.0.high (fits ts h.1)
 
 merged_as : (m : ℕ) (w : HllType) (xs ys : List Sketch) → xs ≡ ys → record (merge_all m (empty_union m) xs) { width = w } ≡ record (merge_all m (empty_union m) ys) { width = w }
 merged_as m w xs ys e = ap (λ zs. let y : Sketch = record (merge_all m (empty_union m) zs) { width = w } in y) e
@@ -46,23 +47,23 @@ merged_as m w xs ys e = ap (λ zs. let y : Sketch = record (merge_all m (empty_u
 -- ---- the law
 
 mutual
-  agree : {t u : Plan} → Rearranged t u → Leaves IsGrown t → Leaves IsGrown u → outcome t ≡ outcome u
+  agree : {t u : Plan} → IsRearrangement t u → Leaves IsGrown t → Leaves IsGrown u → outcome t ≡ outcome u
   agree (reordered {m} {w} {ts} {us} s) h k =
       union_is m w ts h ∙ joined_same m w (outcomes ts) (outcomes us) (members ts us s.there, members us ts s.back) ∙ sym (union_is m w us k)
   agree (grouped {m} {v} {w} {ts} {us}) h k =
       union_is m w (more_plans (union_of m v ts) us) h
-      ∙ ap (λ x. joined m w (x ∷ outcomes us)) (union_is m v ts h.1.0)
+      ∙ ap (λ x. union_value m w (x ∷ outcomes us)) (union_is m v ts h.1.0)
       ∙ joined_joined m v w (outcomes us) (outcomes ts) h.0.high (fits ts h.1.0.1)
-      ∙ ap (joined m w) (sym (outcomes-both ts us))
+      ∙ ap (union_value m w) (sym (outcomes-both ts us))
       ∙ sym (union_is m w (both_plans ts us) k)
   agree same h k = refl
-  agree (written_otherwise {a} {b} {x}) h k = refl
+  agree (stored {t}) h k = refl
   agree (flipped r) h k = sym (agree r k h)
   agree (chained u l r s) h k = agree r h l ∙ agree s l k
   agree (below_coupon {t} {u} {c} r) h k = ap (λ x. add x (set_of (c ∷ []))) (agree r h.0 k.0)
   agree (below_union {m} {w} {ts} {us} r) h k = merged_as m w (outcomes ts) (outcomes us) (agree_each r h.1 k.1)
 
-  agree_each : {ts us : Plans} → RearrangedEach ts us → LeavesOfEach IsGrown ts → LeavesOfEach IsGrown us → outcomes ts ≡ outcomes us
+  agree_each : {ts us : Plans} → AreRearrangements ts us → LeavesOfEach IsGrown ts → LeavesOfEach IsGrown us → outcomes ts ≡ outcomes us
   agree_each none h k = refl
   agree_each (more r rs) h k = λ i. agree r h.0 k.0 i ∷ agree_each rs h.1 k.1 i
 

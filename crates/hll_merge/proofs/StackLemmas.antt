@@ -4,78 +4,63 @@ use Rattle.std.specs.Prelude.{◌↔◌}
 use Rattle.std.specs.List.{AllByRecursion}
 use Rattle.std.proofs.lemmas.List.{take-append-drop, take_at, drop_at, length-append}
 use Rattle.hll_coupons.specs.Pair.{pair, set_of}
-use Rattle.hll_coupons.specs.Table.{arrived}
 use Rattle.hll_coupons.specs.declared.hll_type.HllType.{HllType}
 use Rattle.hll_coupons.specs.declared.hll_type.HllType.TheVariants.{Hll8}
-use Rattle.hll_sketch.specs.Value.{Sketch, Content, coupons, registers}
+use Rattle.hll_sketch.specs.Value.{Sketch, coupons}
 use Rattle.hll_sketch.specs.Adding.{add}
-use Rattle.hll_sketch.specs.Merging.{merged, merge_all, empty_union}
+use Rattle.hll_sketch.specs.Merging.{merge, merge_all, empty_union}
 use Rattle.hll_sketch.specs.Image as images
 use Rattle.hll_sketch.specs.Image.{stage_bits, width_bits, IsListImage, IsHll8Image}
 use Rattle.hll_sketch.proofs.Images.{same_stage, same_width}
 use Rattle.hll_merge.proofs.Updating.{set_of-nil}
-use Rattle.hll_merge.specs.declared.fault.Fault.{Fault}
+use Rattle.hll_text.specs.declared.fault.Fault.{Fault}
 use Rattle.hll_merge.specs.Plan as plan
 use Rattle.hll_merge.specs.Plan.{Plan, outcome, outcomes, plans_of, inputs}
-use Rattle.hll_merge.specs.Text.{new, image, coupon}
-use Rattle.hll_merge.specs.Text as text
+use Rattle.hll_text.specs.Text.{new, image, coupon}
+use Rattle.hll_text.specs.Text as text
 use Rattle.hll_merge.specs.Accepting.{Service, Takes, IsRefusal, Gives, Runs, unserved, faulty}
-use Rattle.hll_merge.specs.Served.{today, IsServed, LeavesServed, IsBeyond, IsOfSize, IsJoinable, last_of, OrderIn, arrived_each, ArrivesAs, ArriveInTurn}
+use Rattle.hll_merge.specs.Served.{today, IsServed, LeavesServed, IsBeyond, IsOfSize, IsJoinable, last_of}
 use Rattle.hll_merge.specs.Listed.{fresh}
 use Rattle.hll_merge.specs.Kept as kept
-use Rattle.hll_merge.specs.Kept.{Kept, value_of_kept, order_of, Adds, GoesBeyond, IsReadFrom, of_list, of_array, RefusesBytes, other_image, no_image, UpdatesLast, RefusesLast, none, beyond, MergesEach, CanJoin, JoinsLast, RefusesUnion, fewer, unjoined, StandsFor, StandFor}
+use Rattle.hll_merge.specs.Kept.{Kept, value_of_kept, Adds, GoesBeyond, IsReadFrom, of_list, of_array, RefusesBytes, other_image, no_image, UpdatesLast, RefusesLast, none, beyond, MergesEach, CanJoin, JoinsLast, RefusesUnion, fewer, unjoined, Represents, AllRepresent}
 
 -- ---- one sketch
 
-pub fresh-stands : (k : ℕ) (w : HllType) → StandsFor (kept.list (fresh k w)) (plan.new k w)
-fresh-stands k w = record {
-  value = ap (λ S. let x : Sketch = record { lg_k = k; width = w; content = coupons S 3 } in x) set_of-nil;
-  order = refl;
-}
+pub fresh-stands : (k : ℕ) (w : HllType) → Represents (kept.list (fresh k w)) (plan.new k w)
+fresh-stands k w = ap (λ S. let x : Sketch = record { lg_k = k; width = w; content = coupons S 3 } in x) set_of-nil
 
--- an order of a plan's outcome, in its content
-OrderIn-map : {P Q : Type 0} (C : Content) (order : List ℕ) → (P → Q) → OrderIn C order P → OrderIn C order Q
-OrderIn-map (coupons S size) order f h = f h
-OrderIn-map (registers R state) order f h = h
-
-pub adds-stands : (x y : Kept) (t : Plan) (c : ℕ) → StandsFor x t → Adds x c y → StandsFor y (plan.coupon t c)
-adds-stands x y t c h a =
-    let value : value_of_kept y ≡ outcome (plan.coupon t c) = a.value ∙ ap (λ z. add z (set_of (c ∷ []))) h.value in
-    record {
-      value = value;
-      order = subst (λ (z : Sketch). OrderIn z.content (order_of y) ((before : List ℕ) × ArrivesAs t before × (order_of y ≡ arrived before c))) value
-          (OrderIn-map (value_of_kept y).content (order_of y) (λ e. (order_of x, h.order, e)) a.order);
-    }
+pub adds-stands : (x y : Kept) (t : Plan) (c : ℕ) → Represents x t → Adds x c y → Represents y (plan.coupon t c)
+adds-stands x y t c h a = a.value ∙ ap (λ z. add z (set_of (c ∷ []))) h
 
 -- ---- a stack
 
-pub StandFor-push : (xs : List Kept) (ts : List Plan) (x : Kept) (t : Plan) → StandFor xs ts → StandsFor x t → StandFor (xs ++ x ∷ []) (ts ++ t ∷ [])
-StandFor-push [] [] x t h s = (s, tt)
-StandFor-push [] (u ∷ ts) x t h s = absurd h
-StandFor-push (y ∷ xs) [] x t h s = absurd h
-StandFor-push (y ∷ xs) (u ∷ ts) x t h s = (h.0, StandFor-push xs ts x t h.1 s)
+pub AllRepresent-push : (xs : List Kept) (ts : List Plan) (x : Kept) (t : Plan) → AllRepresent xs ts → Represents x t → AllRepresent (xs ++ x ∷ []) (ts ++ t ∷ [])
+AllRepresent-push [] [] x t h s = (s, tt)
+AllRepresent-push [] (u ∷ ts) x t h s = absurd h
+AllRepresent-push (y ∷ xs) [] x t h s = absurd h
+AllRepresent-push (y ∷ xs) (u ∷ ts) x t h s = (h.0, AllRepresent-push xs ts x t h.1 s)
 
 -- what the last of a stack stands for
 pub record Last (front : List Kept) (last : Kept) (ts : List Plan) : Type 0 where
   pub below : List Plan
   pub top : Plan
   pub is : ts ≡ below ++ top ∷ []
-  pub stand : StandFor front below
-  pub stands : StandsFor last top
+  pub stand : AllRepresent front below
+  pub stands : Represents last top
 
-pub StandFor-last : (front : List Kept) (last : Kept) (ts : List Plan) → StandFor (front ++ last ∷ []) ts → Last front last ts
-StandFor-last [] last [] h = absurd h
-StandFor-last [] last (t ∷ []) h = record { below = []; top = t; is = refl; stand = tt; stands = h.0 }
-StandFor-last [] last (t ∷ u ∷ ts) h = absurd h.1
-StandFor-last (x ∷ front) last [] h = absurd h
-StandFor-last (x ∷ front) last (t ∷ ts) h =
-    let l : Last front last ts = StandFor-last front last ts h.1 in
+pub AllRepresent-last : (front : List Kept) (last : Kept) (ts : List Plan) → AllRepresent (front ++ last ∷ []) ts → Last front last ts
+AllRepresent-last [] last [] h = absurd h
+AllRepresent-last [] last (t ∷ []) h = record { below = []; top = t; is = refl; stand = tt; stands = h.0 }
+AllRepresent-last [] last (t ∷ u ∷ ts) h = absurd h.1
+AllRepresent-last (x ∷ front) last [] h = absurd h
+AllRepresent-last (x ∷ front) last (t ∷ ts) h =
+    let l : Last front last ts = AllRepresent-last front last ts h.1 in
     record { below = t ∷ l.below; top = l.top; is = ap (λ us. t ∷ us) l.is; stand = (h.0, l.stand); stands = l.stands }
 
-StandFor-nil : (xs : List Kept) (ts : List Plan) → xs ≡ [] → StandFor xs ts → ts ≡ []
-StandFor-nil [] [] e h = refl
-StandFor-nil [] (t ∷ ts) e h = absurd h
-StandFor-nil (x ∷ xs) ts e h = absurd (cc)
+AllRepresent-nil : (xs : List Kept) (ts : List Plan) → xs ≡ [] → AllRepresent xs ts → ts ≡ []
+AllRepresent-nil [] [] e h = refl
+AllRepresent-nil [] (t ∷ ts) e h = absurd h
+AllRepresent-nil (x ∷ xs) ts e h = absurd (cc)
 
 LeavesServed-last : (below : List Plan) (t : Plan) (c : ℕ) → LeavesServed (below ++ t ∷ []) c ≡ (IsServed (outcome (plan.coupon t c)) → ⊥)
 LeavesServed-last [] t c = refl
@@ -83,36 +68,36 @@ LeavesServed-last (u ∷ []) t c = refl
 LeavesServed-last (u ∷ v ∷ below) t c = LeavesServed-last (v ∷ below) t c
 
 -- the plan's question is the sketch's
-asks : (x : Kept) (below ts : List Plan) (t : Plan) (c : ℕ) → StandsFor x t → ts ≡ below ++ t ∷ [] → LeavesServed ts c ≡ GoesBeyond x c
+asks : (x : Kept) (below ts : List Plan) (t : Plan) (c : ℕ) → Represents x t → ts ≡ below ++ t ∷ [] → LeavesServed ts c ≡ GoesBeyond x c
 asks x below ts t c h is =
-    ap (λ us. LeavesServed us c) is ∙ LeavesServed-last below t c ∙ ap (λ z. IsServed (add z (set_of (c ∷ []))) → ⊥) (sym h.value)
+    ap (λ us. LeavesServed us c) is ∙ LeavesServed-last below t c ∙ ap (λ z. IsServed (add z (set_of (c ∷ []))) → ⊥) (sym h)
 
 -- ---- steps
 
-pub takes-new : (xs : List Kept) (ts : List Plan) (k : ℕ) (w : HllType) → StandFor xs ts
-    → (us : List Plan) × Takes today ts (new k w) us × StandFor (xs ++ kept.list (fresh k w) ∷ []) us
-takes-new xs ts k w h = (ts ++ plan.new k w ∷ [], record { served = λ z. z; carries = refl }, StandFor-push xs ts (kept.list (fresh k w)) (plan.new k w) h (fresh-stands k w))
+pub takes-new : (xs : List Kept) (ts : List Plan) (k : ℕ) (w : HllType) → AllRepresent xs ts
+    → (us : List Plan) × Takes today ts (new k w) us × AllRepresent (xs ++ kept.list (fresh k w) ∷ []) us
+takes-new xs ts k w h = (ts ++ plan.new k w ∷ [], record { served = λ z. z; carries = refl }, AllRepresent-push xs ts (kept.list (fresh k w)) (plan.new k w) h (fresh-stands k w))
 
-pub takes-coupon : (xs ys : List Kept) (ts : List Plan) (s v : ℕ) → StandFor xs ts → UpdatesLast xs (pair s v) ys
-    → (us : List Plan) × Takes today ts (coupon s v) us × StandFor ys us
+pub takes-coupon : (xs ys : List Kept) (ts : List Plan) (s v : ℕ) → AllRepresent xs ts → UpdatesLast xs (pair s v) ys
+    → (us : List Plan) × Takes today ts (coupon s v) us × AllRepresent ys us
 takes-coupon xs ys ts s v h u =
-    let l : Last u.front u.last ts = StandFor-last u.front u.last ts (subst (λ zs. StandFor zs ts) u.is h) in
+    let l : Last u.front u.last ts = AllRepresent-last u.front u.last ts (subst (λ zs. AllRepresent zs ts) u.is h) in
     let c : ℕ = pair s v in (
       l.below ++ plan.coupon l.top c ∷ [],
       record {
         served = λ z. subst (λ T. T) (asks u.last l.below ts l.top c l.stands l.is) z (subst IsServed u.adds.value u.adds.served);
         carries = (l.below, l.top, l.is, refl);
       },
-      subst (λ zs. StandFor zs (l.below ++ plan.coupon l.top c ∷ [])) (sym u.gives)
-          (StandFor-push u.front l.below u.raised (plan.coupon l.top c) l.stand (adds-stands u.last u.raised l.top c l.stands u.adds)),
+      subst (λ zs. AllRepresent zs (l.below ++ plan.coupon l.top c ∷ [])) (sym u.gives)
+          (AllRepresent-push u.front l.below u.raised (plan.coupon l.top c) l.stand (adds-stands u.last u.raised l.top c l.stands u.adds)),
     )
 
-pub refuses-coupon : (xs : List Kept) (ts : List Plan) (s v : ℕ) (e : Fault) → StandFor xs ts → RefusesLast xs (pair s v) e → IsRefusal today ts (coupon s v) e
+pub refuses-coupon : (xs : List Kept) (ts : List Plan) (s v : ℕ) (e : Fault) → AllRepresent xs ts → RefusesLast xs (pair s v) e → IsRefusal today ts (coupon s v) e
 refuses-coupon xs ts s v e h (none is) =
-    let bare : ts ≡ [] = StandFor-nil xs ts is h in
+    let bare : ts ≡ [] = AllRepresent-nil xs ts is h in
     faulty (λ z. subst (λ us. LeavesServed us (pair s v)) bare z) (bare, refl)
 refuses-coupon xs ts s v e h (beyond front last is at) =
-    let l : Last front last ts = StandFor-last front last ts (subst (λ zs. StandFor zs ts) is h) in
+    let l : Last front last ts = AllRepresent-last front last ts (subst (λ zs. AllRepresent zs ts) is h) in
     unserved (subst (λ T. T) (sym (asks last l.below ts l.top (pair s v) l.stands l.is)) at) refl
 
 -- an image of a list is no other, nor is one of registers of eight bits
@@ -134,125 +119,108 @@ not_beyond-hll8 bytes n h other =
       | inr hll ↦ hll.1 width
     ]
 
-pub takes-image : (xs : List Kept) (ts : List Plan) (bytes : List ℕ) (x : Kept) → StandFor xs ts → IsReadFrom bytes x
-    → (us : List Plan) × Takes today ts (image bytes) us × StandFor (xs ++ x ∷ []) us
-takes-image xs ts bytes x h (of_list n l right is order) = (
-  ts ++ plan.image (take n bytes) (value_of_kept (kept.list l)) ∷ [],
+pub takes-image : (xs : List Kept) (ts : List Plan) (bytes : List ℕ) (x : Kept) → AllRepresent xs ts → IsReadFrom bytes x
+    → (us : List Plan) × Takes today ts (image bytes) us × AllRepresent (xs ++ x ∷ []) us
+takes-image xs ts bytes x h (of_list n l right is) = (
+  ts ++ plan.image (value_of_kept (kept.list l)) ∷ [],
   record { served = not_beyond-list bytes n right; carries = (n, value_of_kept (kept.list l), images.list right is, refl) },
-  StandFor-push xs ts (kept.list l) (plan.image (take n bytes) (value_of_kept (kept.list l))) h (record { value = refl; order = order }),
+  AllRepresent-push xs ts (kept.list l) (plan.image (value_of_kept (kept.list l))) h refl,
 )
 takes-image xs ts bytes x h (of_array n a right is) = (
-  ts ++ plan.image (take n bytes) (value_of_kept (kept.array a)) ∷ [],
+  ts ++ plan.image (value_of_kept (kept.array a)) ∷ [],
   record { served = not_beyond-hll8 bytes n right; carries = (n, value_of_kept (kept.array a), images.hll8 right is, refl) },
-  StandFor-push xs ts (kept.array a) (plan.image (take n bytes) (value_of_kept (kept.array a))) h (record { value = refl; order = refl }),
+  AllRepresent-push xs ts (kept.array a) (plan.image (value_of_kept (kept.array a))) h refl,
 )
 
 pub refuses-image : (ts : List Plan) (bytes : List ℕ) (e : Fault) → RefusesBytes bytes e → IsRefusal today ts (image bytes) e
 refuses-image ts bytes e (other_image h) = unserved h refl
 refuses-image ts bytes e (no_image r h f) = faulty h (r, f, refl)
 
-pub length-StandFor : (xs : List Kept) (ts : List Plan) → StandFor xs ts → length xs ≡ length ts
-length-StandFor [] [] h = refl
-length-StandFor [] (t ∷ ts) h = absurd h
-length-StandFor (x ∷ xs) [] h = absurd h
-length-StandFor (x ∷ xs) (t ∷ ts) h = ap suc (length-StandFor xs ts h.1)
+pub length-AllRepresent : (xs : List Kept) (ts : List Plan) → AllRepresent xs ts → length xs ≡ length ts
+length-AllRepresent [] [] h = refl
+length-AllRepresent [] (t ∷ ts) h = absurd h
+length-AllRepresent (x ∷ xs) [] h = absurd h
+length-AllRepresent (x ∷ xs) (t ∷ ts) h = ap suc (length-AllRepresent xs ts h.1)
 
 -- ---- unions
 
-StandFor-drop : (k : ℕ) (xs : List Kept) (ts : List Plan) → StandFor xs ts → StandFor (drop k xs) (drop k ts)
-StandFor-drop zero xs ts h = h
-StandFor-drop (suc k) [] [] h = tt
-StandFor-drop (suc k) [] (t ∷ ts) h = absurd h
-StandFor-drop (suc k) (x ∷ xs) [] h = absurd h
-StandFor-drop (suc k) (x ∷ xs) (t ∷ ts) h = StandFor-drop k xs ts h.1
+AllRepresent-drop : (k : ℕ) (xs : List Kept) (ts : List Plan) → AllRepresent xs ts → AllRepresent (drop k xs) (drop k ts)
+AllRepresent-drop zero xs ts h = h
+AllRepresent-drop (suc k) [] [] h = tt
+AllRepresent-drop (suc k) [] (t ∷ ts) h = absurd h
+AllRepresent-drop (suc k) (x ∷ xs) [] h = absurd h
+AllRepresent-drop (suc k) (x ∷ xs) (t ∷ ts) h = AllRepresent-drop k xs ts h.1
 
-StandFor-take : (k : ℕ) (xs : List Kept) (ts : List Plan) → StandFor xs ts → StandFor (take k xs) (take k ts)
-StandFor-take zero xs ts h = tt
-StandFor-take (suc k) [] [] h = tt
-StandFor-take (suc k) [] (t ∷ ts) h = absurd h
-StandFor-take (suc k) (x ∷ xs) [] h = absurd h
-StandFor-take (suc k) (x ∷ xs) (t ∷ ts) h = (h.0, StandFor-take k xs ts h.1)
+AllRepresent-take : (k : ℕ) (xs : List Kept) (ts : List Plan) → AllRepresent xs ts → AllRepresent (take k xs) (take k ts)
+AllRepresent-take zero xs ts h = tt
+AllRepresent-take (suc k) [] [] h = tt
+AllRepresent-take (suc k) [] (t ∷ ts) h = absurd h
+AllRepresent-take (suc k) (x ∷ xs) [] h = absurd h
+AllRepresent-take (suc k) (x ∷ xs) (t ∷ ts) h = (h.0, AllRepresent-take k xs ts h.1)
 
 -- the plans are of a size where the sketches are
-sizes : (m : ℕ) (xs : List Kept) (ts : List Plan) → StandFor xs ts
+sizes : (m : ℕ) (xs : List Kept) (ts : List Plan) → AllRepresent xs ts
     → AllByRecursion (λ x. IsOfSize m (value_of_kept x)) xs ↔ AllByRecursion (λ t. IsOfSize m (outcome t)) ts
 sizes m [] [] h = (λ z. z, λ z. z)
 sizes m [] (t ∷ ts) h = absurd h
 sizes m (x ∷ xs) [] h = absurd h
 sizes m (x ∷ xs) (t ∷ ts) h =
     let more = sizes m xs ts h.1 in
-    (λ z. (subst (IsOfSize m) h.0.value z.0, more.0 z.1), λ z. (subst (IsOfSize m) (sym h.0.value) z.0, more.1 z.1))
+    (λ z. (subst (IsOfSize m) h.0 z.0, more.0 z.1), λ z. (subst (IsOfSize m) (sym h.0) z.0, more.1 z.1))
 
--- sketches merged in turn stand for their plans' outcomes merged in turn
-pub record MergedInTurn (m : ℕ) (g y : Kept) (ts : List Plan) : Type 0 where
-  pub value : value_of_kept y ≡ merge_all m (value_of_kept g) (outcomes (plans_of ts))
-  pub order : ArriveInTurn m (value_of_kept g) (plans_of ts) (order_of g) (order_of y)
-
-merged-in_turn : (m : ℕ) (g y : Kept) (xs : List Kept) (ts : List Plan) → StandFor xs ts → MergesEach m g xs y → MergedInTurn m g y ts
-merged-in_turn m g y [] [] h e = record { value = ap value_of_kept e; order = ap order_of e }
-merged-in_turn m g y [] (t ∷ ts) h e = absurd h
-merged-in_turn m g y (x ∷ xs) [] h e = absurd h
-merged-in_turn m g y (x ∷ xs) (t ∷ ts) h e =
-    let next : Kept = e.0 in
-    let more : MergedInTurn m next y ts = merged-in_turn m next y xs ts h.1 e.2 in
-    let is : value_of_kept next ≡ merged m (value_of_kept g) (outcome t) = e.1.value ∙ ap (merged m (value_of_kept g)) h.0.value in
-    record {
-      value = more.value ∙ ap (λ z. merge_all m z (outcomes (plans_of ts))) is;
-      order = (
-        order_of x,
-        order_of next,
-        h.0.order,
-        subst (λ (z : Sketch). OrderIn z.content (order_of next) (order_of next ≡ arrived_each (order_of g) (order_of x))) is e.1.order,
-        subst (λ z. ArriveInTurn m z (plans_of ts) (order_of next) (order_of y)) is more.order,
-      );
-    }
+-- sketches merged in turn give their plans' outcomes merged in turn
+merge-in_turn : (m : ℕ) (g y : Kept) (xs : List Kept) (ts : List Plan) → AllRepresent xs ts → MergesEach m g xs y
+    → value_of_kept y ≡ merge_all m (value_of_kept g) (outcomes (plans_of ts))
+merge-in_turn m g y [] [] h e = ap value_of_kept e
+merge-in_turn m g y [] (t ∷ ts) h e = absurd h
+merge-in_turn m g y (x ∷ xs) [] h e = absurd h
+merge-in_turn m g y (x ∷ xs) (t ∷ ts) h e =
+    let is : value_of_kept e.0 ≡ merge m (value_of_kept g) (outcome t) = e.1.value ∙ ap (merge m (value_of_kept g)) h.0 in
+    merge-in_turn m e.0 y xs ts h.1 e.2 ∙ ap (λ z. merge_all m z (outcomes (plans_of ts))) is
 
 -- the result is of eight bits
 width-in_turn : (m : ℕ) (g y : Kept) (xs : List Kept) → MergesEach m g xs y → (value_of_kept g).width ≡ Hll8 → (value_of_kept y).width ≡ Hll8
 width-in_turn m g y [] e w = ap (λ x. (value_of_kept x).width) e ∙ w
 width-in_turn m g y (x ∷ xs) e w = width-in_turn m e.0 y xs e.2 e.1.size.width
 
-union-stands : (m : ℕ) (w : HllType) (y : Kept) (xs : List Kept) (ts : List Plan) → w ≡ Hll8 → StandFor xs ts → MergesEach m (kept.list (fresh m Hll8)) xs y
-    → StandsFor y (plan.union_of m w (plans_of ts))
+union-stands : (m : ℕ) (w : HllType) (y : Kept) (xs : List Kept) (ts : List Plan) → w ≡ Hll8 → AllRepresent xs ts → MergesEach m (kept.list (fresh m Hll8)) xs y
+    → Represents y (plan.union_of m w (plans_of ts))
 union-stands m w y xs ts eight h e =
-    let all : MergedInTurn m (kept.list (fresh m Hll8)) y ts = merged-in_turn m (kept.list (fresh m Hll8)) y xs ts h e in
-    let bare : value_of_kept (kept.list (fresh m Hll8)) ≡ empty_union m = (fresh-stands m Hll8).value in
+    let all : value_of_kept y ≡ merge_all m (value_of_kept (kept.list (fresh m Hll8))) (outcomes (plans_of ts)) = merge-in_turn m (kept.list (fresh m Hll8)) y xs ts h e in
+    let bare : value_of_kept (kept.list (fresh m Hll8)) ≡ empty_union m = fresh-stands m Hll8 in
     let same : (value_of_kept y).width ≡ w = width-in_turn m (kept.list (fresh m Hll8)) y xs e refl ∙ sym eight in
-    record {
-      value = (λ i. record (value_of_kept y) { width = same i }) ∙ ap (λ (z : Sketch). record z { width = w }) (all.value ∙ ap (λ g. merge_all m g (outcomes (plans_of ts))) bare);
-      order = subst (λ g. ArriveInTurn m g (plans_of ts) [] (order_of y)) bare all.order;
-    }
+    (λ i. record (value_of_kept y) { width = same i }) ∙ ap (λ (z : Sketch). record z { width = w }) (all ∙ ap (λ g. merge_all m g (outcomes (plans_of ts))) bare)
 
 -- the last sketches may be joined where their plans may be
-joinable : (n m : ℕ) (w : HllType) (xs : List Kept) (ts : List Plan) → StandFor xs ts → CanJoin m w (last_of n xs) ↔ IsJoinable m w (last_of n ts)
+joinable : (n m : ℕ) (w : HllType) (xs : List Kept) (ts : List Plan) → AllRepresent xs ts → CanJoin m w (last_of n xs) ↔ IsJoinable m w (last_of n ts)
 joinable n m w xs ts h =
-    let stand : StandFor (last_of n xs) (last_of n ts) = subst (λ k. StandFor (drop (k - n) xs) (last_of n ts)) (sym (length-StandFor xs ts h)) (StandFor-drop (length ts - n) xs ts h) in
+    let stand : AllRepresent (last_of n xs) (last_of n ts) = subst (λ k. AllRepresent (drop (k - n) xs) (last_of n ts)) (sym (length-AllRepresent xs ts h)) (AllRepresent-drop (length ts - n) xs ts h) in
     let all = sizes m (last_of n xs) (last_of n ts) stand in
     (λ z. record { small = z.small; width = z.width; each = all.0 z.each }, λ z. record { small = z.small; width = z.width; each = all.1 z.each })
 
-pub takes-union : (xs ys : List Kept) (ts : List Plan) (n m : ℕ) (w : HllType) → StandFor xs ts → JoinsLast xs n m w ys
-    → (us : List Plan) × Takes today ts (text.union n m w) us × StandFor ys us
+pub takes-union : (xs ys : List Kept) (ts : List Plan) (n m : ℕ) (w : HllType) → AllRepresent xs ts → JoinsLast xs n m w ys
+    → (us : List Plan) × Takes today ts (text.union n m w) us × AllRepresent ys us
 takes-union xs ys ts n m w h u =
     let at : ℕ = length u.front in
-    let whole : StandFor (u.front ++ u.last) ts = subst (λ zs. StandFor zs ts) u.is h in
+    let whole : AllRepresent (u.front ++ u.last) ts = subst (λ zs. AllRepresent zs ts) u.is h in
     let below : List Plan = take at ts in
     let top : List Plan = drop at ts in
-    let low : StandFor u.front below = subst (λ zs. StandFor zs below) (take_at u.front u.last at refl) (StandFor-take at (u.front ++ u.last) ts whole) in
-    let high : StandFor u.last top = subst (λ zs. StandFor zs top) (drop_at u.front u.last at refl) (StandFor-drop at (u.front ++ u.last) ts whole) in
+    let low : AllRepresent u.front below = subst (λ zs. AllRepresent zs below) (take_at u.front u.last at refl) (AllRepresent-take at (u.front ++ u.last) ts whole) in
+    let high : AllRepresent u.last top = subst (λ zs. AllRepresent zs top) (drop_at u.front u.last at refl) (AllRepresent-drop at (u.front ++ u.last) ts whole) in
     let last : last_of n xs ≡ u.last = ap (last_of n) u.is ∙ ap (λ k. drop k (u.front ++ u.last)) (let seam : length (u.front ++ u.last) - n ≡ at = omega (arith, length-append u.front u.last, u.number) in seam) ∙ drop_at u.front u.last at refl in (
       below ++ plan.union_of m w (plans_of top) ∷ [],
       record {
         served = λ z. z.1 ((joinable n m w xs ts h).0 (subst (CanJoin m w) (sym last) u.can));
-        carries = (below, top, sym (take-append-drop at ts), sym (length-StandFor u.last top high) ∙ u.number, refl);
+        carries = (below, top, sym (take-append-drop at ts), sym (length-AllRepresent u.last top high) ∙ u.number, refl);
       },
-      subst (λ zs. StandFor zs (below ++ plan.union_of m w (plans_of top) ∷ [])) (sym u.gives)
-          (StandFor-push u.front below u.joined (plan.union_of m w (plans_of top)) low (union-stands m w u.joined u.last top u.can.width high u.joins)),
+      subst (λ zs. AllRepresent zs (below ++ plan.union_of m w (plans_of top) ∷ [])) (sym u.gives)
+          (AllRepresent-push u.front below u.joined (plan.union_of m w (plans_of top)) low (union-stands m w u.joined u.last top u.can.width high u.joins)),
     )
 
-pub refuses-union : (xs : List Kept) (ts : List Plan) (n m : ℕ) (w : HllType) (e : Fault) → StandFor xs ts → RefusesUnion xs n m w e → IsRefusal today ts (text.union n m w) e
-refuses-union xs ts n m w e h (fewer l) = let few : length ts < n = omega (arith, l, length-StandFor xs ts h) in faulty (λ z. omega (arith, z.0, few)) (few, refl)
+pub refuses-union : (xs : List Kept) (ts : List Plan) (n m : ℕ) (w : HllType) (e : Fault) → AllRepresent xs ts → RefusesUnion xs n m w e → IsRefusal today ts (text.union n m w) e
+refuses-union xs ts n m w e h (fewer l) = let few : length ts < n = omega (arith, l, length-AllRepresent xs ts h) in faulty (λ z. omega (arith, z.0, few)) (few, refl)
 refuses-union xs ts n m w e h (unjoined l cannot) =
-    unserved (let enough : n ≤ length ts = omega (arith, l, length-StandFor xs ts h) in enough, λ z. cannot ((joinable n m w xs ts h).1 z)) refl
+    unserved (let enough : n ≤ length ts = omega (arith, l, length-AllRepresent xs ts h) in enough, λ z. cannot ((joinable n m w xs ts h).1 z)) refl
 
 -- ---- lines
 
@@ -261,10 +229,10 @@ Runs-more service ts us vs [] line h g = (vs, subst (λ zs. Gives service zs lin
 Runs-more service ts us vs (l ∷ front) line h g = (h.0, h.1, Runs-more service h.0 us vs front line h.2 g)
 
 -- a stack of one stands for one plan
-pub StandFor-one : (x : Kept) (xs : List Kept) (ts : List Plan) → xs ≡ x ∷ [] → StandFor xs ts → (t : Plan) × (ts ≡ t ∷ []) × StandsFor x t
-StandFor-one x xs ts e h = of ts (subst (λ zs. StandFor zs ts) e h)
+pub AllRepresent-one : (x : Kept) (xs : List Kept) (ts : List Plan) → xs ≡ x ∷ [] → AllRepresent xs ts → (t : Plan) × (ts ≡ t ∷ []) × Represents x t
+AllRepresent-one x xs ts e h = of ts (subst (λ zs. AllRepresent zs ts) e h)
   where
-    of : (ts : List Plan) → StandFor (x ∷ []) ts → (t : Plan) × (ts ≡ t ∷ []) × StandsFor x t
+    of : (ts : List Plan) → AllRepresent (x ∷ []) ts → (t : Plan) × (ts ≡ t ∷ []) × Represents x t
     of [] h = absurd h
     of (t ∷ []) h = (t, refl, h.0)
     of (t ∷ u ∷ ts) h = absurd h.1

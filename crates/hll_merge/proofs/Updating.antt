@@ -6,14 +6,14 @@ use Rattle.std.specs.Ordering.{nat_cmp, eq_by_cmp}
 use Rattle.std.specs.Cmp.{nat_cmp_total}
 use Rattle.std.specs.FinSet.{len, contains, insert, union, empty, contains-empty, contains-insert, contains-from_list, len-insert}
 use Rattle.hll_coupons.specs.Pair.{Pairs, value_of, set_of}
-use Rattle.hll_coupons.specs.Table.{held, coupons_of, arrived, IsTable}
+use Rattle.hll_coupons.specs.Table.{coupons_in, coupons_of, coupons_with, IsTable}
 use Rattle.hll_coupons.specs.declared.hll_type.HllType.TheVariants.{Hll8}
-use Rattle.hll_coupons.proofs.Members.{set_of-arrived}
-use Rattle.hll_coupons.proofs.TableLemmas.{held-filled_from_front, held-arrived}
-use Rattle.hll_arrays.specs.Store.{Stored, raised_by_coupon}
+use Rattle.hll_coupons.proofs.Members.{set_of-coupons_with}
+use Rattle.hll_coupons.proofs.TableLemmas.{coupons_in-filled_from_front, coupons_in-coupons_with}
+use Rattle.hll_arrays.specs.Store.{Stored, update_with_coupon}
 use Rattle.hll_sketch.specs.Value.{Sketch, coupons, in_registers}
 use Rattle.hll_sketch.specs.Stage.{stage}
-use Rattle.hll_sketch.specs.Adding.{add, settled}
+use Rattle.hll_sketch.specs.Adding.{add, content_for}
 use Rattle.hll_sketch.proofs.Sets.{same_members, contains_union}
 use Rattle.hll_sketch.proofs.Stages.{stage_list, stage_three, stage_low, stage_high}
 use Rattle.hll_merge.specs.Listed.{Listed, BringsEighth, updated, promoted}
@@ -54,8 +54,8 @@ module _ (x : Listed) (c : ℕ) (size : x.table.lg_size ≡ 3) where
   stage_is e = ap (λ n. stage x.lg_k n (len T)) size ∙ e
 
   -- what is added to it
-  added_is : {o : Option ℕ} → stage x.lg_k 3 (len T) ≡ o → (let y : Sketch = record { lg_k = x.lg_k; width = x.width; content = settled x.lg_k T o } in y) ≡ add (value_of_kept (list x)) (set_of (c ∷ []))
-  added_is e = sym (λ i. let y : Sketch = record { lg_k = x.lg_k; width = x.width; content = settled x.lg_k T (stage_is e i) } in y)
+  added_is : {o : Option ℕ} → stage x.lg_k 3 (len T) ≡ o → (let y : Sketch = record { lg_k = x.lg_k; width = x.width; content = content_for x.lg_k T o } in y) ≡ add (value_of_kept (list x)) (set_of (c ∷ []))
+  added_is e = sym (λ i. let y : Sketch = record { lg_k = x.lg_k; width = x.width; content = content_for x.lg_k T (stage_is e i) } in y)
 
   -- how many there are
   eighth : BringsEighth x c → 8 ≤ len T
@@ -73,26 +73,24 @@ module _ (x : Listed) (c : ℕ) (size : x.table.lg_size ≡ 3) where
       of true e = omega (arith, e)
       of false e = omega (arith, e)
 
-      length_held : length (held x.table.places) ≤ 8
+      length_held : length (coupons_in x.table.places) ≤ 8
       length_held = omega (arith, length-filter_both (λ n. nat_lt 0 n) (λ n. not (nat_lt 0 n)) (λ n. refl) x.table.places, table.size, ap (λ n. 2 ^ n) size)
 
   -- one that stays a list
   pub stays : 0 < c → (BringsEighth x c → ⊥) → Adds (list x) c (list (updated x c))
   stays some room =
-      let order : held (updated x c).table.places ≡ arrived (held x.table.places) c = held-filled_from_front 3 (arrived (held x.table.places) c) (held-arrived x.table.places c some) in
-      let more : coupons_of (updated x c).table ≡ T = ap set_of order ∙ set_of-arrived (held x.table.places) c ∙ insert-union S c in
+      let order : coupons_in (updated x c).table.places ≡ coupons_with (coupons_in x.table.places) c = coupons_in-filled_from_front 3 (coupons_with (coupons_in x.table.places) c) (coupons_in-coupons_with x.table.places c some) in
+      let more : coupons_of (updated x c).table ≡ T = ap set_of order ∙ set_of-coupons_with (coupons_in x.table.places) c ∙ insert-union S c in
       record {
         value = (λ i. let y : Sketch = record { lg_k = x.lg_k; width = x.width; content = coupons (more i) 3 } in y) ∙ added_is (stage_list x.lg_k (len T) (no_eighth room));
         served = refl;
-        order = order;
       }
 
   -- one that goes to registers of eight bits
   pub goes : BringsEighth x c → x.lg_k ≤ 7 → x.width ≡ Hll8 → Adds (list x) c (array (promoted x c))
   goes many low width = record {
-    value = (λ i. let y : Sketch = record { lg_k = x.lg_k; width = sym width i; content = settled x.lg_k (insert-union S c i) None } in y) ∙ added_is (stage_low x.lg_k (len T) low (eighth many));
+    value = (λ i. let y : Sketch = record { lg_k = x.lg_k; width = sym width i; content = content_for x.lg_k (insert-union S c i) None } in y) ∙ added_is (stage_low x.lg_k (len T) low (eighth many));
     served = refl;
-    order = refl;
   }
 
   pub goes_there : BringsEighth x c → x.lg_k ≤ 7 → Promotes (list x) c
@@ -115,5 +113,5 @@ module _ (x : Listed) (c : ℕ) (size : x.table.lg_size ≡ 3) where
 
 -- ---- registers
 
-pub rises : (x : Stored) (c : ℕ) → Adds (array x) c (array (raised_by_coupon x c))
-rises x c = record { value = refl; served = refl; order = refl }
+pub rises : (x : Stored) (c : ℕ) → Adds (array x) c (array (update_with_coupon x c))
+rises x c = record { value = refl; served = refl }

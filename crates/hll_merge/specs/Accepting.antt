@@ -7,12 +7,12 @@ use Rattle.hll_coupons.specs.Pair.{pair}
 use Rattle.hll_sketch.specs.Value.{Sketch}
 use Rattle.hll_sketch.specs.Image.{Image}
 use Rattle.hll_sketch.specs.Fault as images
-use Rattle.hll_merge.specs.declared.fault.Fault.{Fault}
-use Rattle.hll_merge.specs.declared.fault.Fault.TheVariants as faults
-use Rattle.hll_merge.specs.declared.fault.MergeError.{MergeError}
+use Rattle.hll_text.specs.declared.fault.Fault.{Fault}
+use Rattle.hll_text.specs.declared.fault.Fault.TheVariants as faults
+use Rattle.hll_text.specs.declared.fault.MergeError.{MergeError}
 use Rattle.hll_merge.specs.Plan as plan
 use Rattle.hll_merge.specs.Plan.{Plan, plans_of}
-use Rattle.hll_merge.specs.Text.{PlanStep, Reading, reading, line_number, new, image, coupon, union}
+use Rattle.hll_text.specs.Text.{PlanStep, Reading, reading, line_number, new, image, coupon, union}
 
 -- what is served: how a line is read, and which steps are refused on a stack though they are right;
 -- a line is a list of bytes in a text, and a step in a list of steps
@@ -29,7 +29,7 @@ full = record { reads = reading; Refuses = λ _ _. ⊥ }
 -- the stack after a step, the last plan last
 abbrev pub Carries : List Plan → PlanStep → List Plan → Type 0
 Carries ts (new k w) us = us ≡ ts ++ plan.new k w ∷ []
-Carries ts (image bytes) us = (n : ℕ) × (x : Sketch) × Image (take n bytes) x × (us ≡ ts ++ plan.image (take n bytes) x ∷ [])
+Carries ts (image bytes) us = (n : ℕ) × (x : Sketch) × Image (take n bytes) x × (us ≡ ts ++ plan.image x ∷ [])
 Carries ts (coupon s v) us = (front : List Plan) × (t : Plan) × (ts ≡ front ++ t ∷ []) × (us ≡ front ++ plan.coupon t (pair s v) ∷ [])
 Carries ts (union n m w) us = (front xs : List Plan) × (ts ≡ front ++ xs) × (length xs ≡ n) × (us ≡ front ++ plan.union_of m w (plans_of xs) ∷ [])
 

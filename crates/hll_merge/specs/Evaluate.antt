@@ -1,9 +1,9 @@
 -- Carrying out a list of steps, and comparing two (docs/MODEL.md, "Plan texts").
 use Rattle.std.specs.Prelude.{◌≡◌, Bool, true, ◌↔◌, List, Some, Ok}
 use Rattle.hll_sketch.specs.Agree.{Agree}
-use Rattle.hll_merge.specs.declared.fault.MergeError.{MergeError}
+use Rattle.hll_text.specs.declared.fault.MergeError.{MergeError}
 use Rattle.hll_merge.specs.Plan.{Plan, outcome}
-use Rattle.hll_merge.specs.Text.{PlanStep}
+use Rattle.hll_text.specs.Text.{PlanStep}
 use Rattle.hll_merge.specs.Accepting.{Service, AcceptsLines, IsFirstFaultOfLines}
 
 -- every step is served, and is its own line

@@ -5,16 +5,16 @@ use Rattle.std.specs.FinSet.{empty, union, len}
 use Rattle.hll_coupons.specs.Pair.{Pairs}
 use Rattle.hll_coupons.specs.Fold.{fold_to}
 use Rattle.hll_coupons.specs.declared.hll_type.HllType.{HllType}
-use Rattle.hll_arrays.specs.State.{cleared}
+use Rattle.hll_arrays.specs.State.{cleared_state}
 use Rattle.hll_sketch.specs.Stage.{stage}
 use Rattle.hll_sketch.specs.Value.{Sketch, Content, coupons, registers, pairs_of, has_registers, ArePairs}
-use Rattle.hll_sketch.specs.Adding.{settled}
+use Rattle.hll_sketch.specs.Adding.{content_for}
 use Rattle.hll_merge.specs.Plan.{Plan, new, image, coupon, union_of, outcome, outcomes, Leaves}
 
 -- the size that its pairs need from the start, or registers with the cleared state
 abbrev pub IsGrownContent : ℕ → Content → Type 0
 IsGrownContent k (coupons S size) = stage k 3 (len S) ≡ Some size
-IsGrownContent k (registers R state) = state ≡ cleared
+IsGrownContent k (registers R state) = state ≡ cleared_state
 
 abbrev pub IsGrown : Sketch → Type 0
 IsGrown x = IsGrownContent x.lg_k x.content
@@ -30,22 +30,22 @@ least_lg_k m [] = m
 least_lg_k m (x ∷ xs) = if has_registers x then min x.lg_k (least_lg_k m xs) else least_lg_k m xs
 
 -- pairs at m in the size that they need from the start, or as registers at e
-abbrev pub joint : ℕ → HllType → ℕ → Pairs → Bool → Sketch
-joint m w e P true = record { lg_k = e; width = w; content = registers (fold_to P e) cleared }
-joint m w e P false = record { lg_k = m; width = w; content = settled m P (stage m 3 (len P)) }
+abbrev pub union_value_of_pairs : ℕ → HllType → ℕ → Pairs → Bool → Sketch
+union_value_of_pairs m w e P true = record { lg_k = e; width = w; content = registers (fold_to P e) cleared_state }
+union_value_of_pairs m w e P false = record { lg_k = m; width = w; content = content_for m P (stage m 3 (len P)) }
 
 -- the join of sketches under a bound, by one count over all their pairs
-abbrev pub joined : ℕ → HllType → List Sketch → Sketch
-joined m w xs = joint m w (least_lg_k m xs) (all_pairs xs) (list_any has_registers xs)
+abbrev pub union_value : ℕ → HllType → List Sketch → Sketch
+union_value m w xs = union_value_of_pairs m w (least_lg_k m xs) (all_pairs xs) (list_any has_registers xs)
 
 -- ---- laws
 
 -- a union gives the join of its children
 abbrev pub JoinsChildren : Plan → Type 0
 JoinsChildren (new k w) = Unit {0}
-JoinsChildren (image b x) = Unit {0}
+JoinsChildren (image x) = Unit {0}
 JoinsChildren (coupon t c) = Unit {0}
-JoinsChildren (union_of m w ts) = outcome (union_of m w ts) ≡ joined m w (outcomes ts)
+JoinsChildren (union_of m w ts) = outcome (union_of m w ts) ≡ union_value m w (outcomes ts)
 
 -- what holds of a plan whose images are grown
 pub record Converges (t : Plan) : Type 0 where
@@ -60,8 +60,8 @@ abbrev pub SameMembers : List Sketch → List Sketch → Type 0
 SameMembers xs ys = ((x : Sketch) → Contains xs x → Contains ys x) × ((x : Sketch) → Contains ys x → Contains xs x)
 
 -- a join does not depend on order or repetition
-abbrev pub JoinedOfSame : Type 0
-JoinedOfSame = (m : ℕ) (w : HllType) (xs ys : List Sketch) → SameMembers xs ys → joined m w xs ≡ joined m w ys
+abbrev pub UnionOfSame : Type 0
+UnionOfSame = (m : ℕ) (w : HllType) (xs ys : List Sketch) → SameMembers xs ys → union_value m w xs ≡ union_value m w ys
 
 -- a grown sketch of pairs
 pub record IsGrownOfPairs (x : Sketch) : Type 0 where
@@ -70,6 +70,6 @@ pub record IsGrownOfPairs (x : Sketch) : Type 0 where
   pub grown : IsGrown x
 
 -- some may be joined first, under the same bound and at any width
-abbrev pub JoinedOfJoined : Type 0
-JoinedOfJoined = (m : ℕ) (v w : HllType) (xs ys : List Sketch) → m ≤ 21 → AllByRecursion IsGrownOfPairs ys →
-    joined m w (joined m v ys ∷ xs) ≡ joined m w (ys ++ xs)
+abbrev pub UnionOfUnion : Type 0
+UnionOfUnion = (m : ℕ) (v w : HllType) (xs ys : List Sketch) → m ≤ 21 → AllByRecursion IsGrownOfPairs ys →
+    union_value m w (union_value m v ys ∷ xs) ≡ union_value m w (ys ++ xs)

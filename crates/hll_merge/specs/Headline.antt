@@ -1,10 +1,10 @@
 -- What an accepted text promises of its image (docs/MODEL.md, "The meaning of a plan").
-use Rattle.std.specs.Prelude.{ℕ, List}
+use Rattle.std.specs.Prelude.{◌≡◌, ℕ, List}
 use Rattle.hll_sketch.specs.Value.{IsLegal}
 use Rattle.hll_sketch.specs.Image.{Image}
 use Rattle.hll_sketch.specs.Written.{Written}
-use Rattle.hll_merge.specs.Plan.{Plan, outcome, IsLegalPlan}
-use Rattle.hll_merge.specs.Meaning.{HasMeaning}
+use Rattle.hll_merge.specs.Plan.{Plan, inputs, outcome, IsLegalPlan}
+use Rattle.hll_merge.specs.Meaning.{HasMeaning, AgreeFolded}
 use Rattle.hll_merge.specs.Accepting.{full, Accepts}
 
 -- the outcome of a legal plan is a legal sketch
@@ -18,7 +18,9 @@ pub record Holds (t : Plan) : Type 0 where
   -- at each slot the greatest value among the inputs folded to the effective lg_k, or 0
   pub meaning : HasMeaning t
   -- what is written for the outcome is an image of it
-  pub image : (bytes order : List ℕ) → Written bytes (outcome t) order → Image bytes (outcome t)
+  pub image : (bytes : List ℕ) → Written bytes (outcome t) → Image bytes (outcome t)
+  -- every plan over the same inputs agrees with it, once both are folded to the smaller effective lg_k
+  pub agrees : (u : Plan) → IsLegalPlan u → inputs u ≡ inputs t → AgreeFolded t u
 
 abbrev pub AcceptedPlansHold : Type 0
 AcceptedPlansHold = (text : List ℕ) (t : Plan) → Accepts full text t → Holds t

@@ -1,29 +1,28 @@
 -- A sketch as the stack of a run keeps it, and what it stands for (docs/ARCHITECTURE.md, "A run").
-use Rattle.std.specs.Prelude.{◌≡◌, ℕ, ◌<◌, ◌≤◌, true, false, List, [], ◌∷◌, ◌++◌, length, take, drop}
+use Rattle.std.specs.Prelude.{◌≡◌, ℕ, ◌<◌, ◌≤◌, true, false, List, [], ◌∷◌, ◌++◌, length, take}
 use Rattle.std.specs.List.{AllByRecursion}
 use Rattle.hll_base.specs.declared.error.Reason.{Reason}
 use Rattle.hll_coupons.specs.Pair.{set_of}
-use Rattle.hll_coupons.specs.Table.{held, coupons_of, arrived, IsTable}
+use Rattle.hll_coupons.specs.Table.{coupons_of, IsTable}
 use Rattle.hll_coupons.specs.Fold.{join}
-use Rattle.hll_coupons.specs.Payload.{list_coupons}
 use Rattle.hll_coupons.specs.declared.hll_type.HllType.{HllType}
 use Rattle.hll_coupons.specs.declared.hll_type.HllType.TheVariants.{Hll8}
-use Rattle.hll_arrays.specs.State.{cleared}
+use Rattle.hll_arrays.specs.State.{cleared_state}
 use Rattle.hll_arrays.specs.Store.{Stored, AreRegisters}
 use Rattle.hll_sketch.specs.Value.{Sketch, coupons, registers, in_registers}
 use Rattle.hll_sketch.specs.Adding.{add}
-use Rattle.hll_sketch.specs.Laws.{added_each}
-use Rattle.hll_sketch.specs.Merging.{merged}
-use Rattle.hll_sketch.specs.Image.{list_shape, list_value, hll8_value, IsListImage, IsHll8Image}
+use Rattle.hll_sketch.specs.Laws.{add_in_turn}
+use Rattle.hll_sketch.specs.Merging.{merge}
+use Rattle.hll_sketch.specs.Image.{list_value, hll8_value, IsListImage, IsHll8Image}
 use Rattle.hll_sketch.specs.Fault as images
-use Rattle.hll_merge.specs.declared.fault.Fault.{Fault}
-use Rattle.hll_merge.specs.declared.fault.Fault.TheVariants as faults
-use Rattle.hll_merge.specs.declared.fault.Fault.TheVariants.{Stack, Unserved}
+use Rattle.hll_text.specs.declared.fault.Fault.{Fault}
+use Rattle.hll_text.specs.declared.fault.Fault.TheVariants as faults
+use Rattle.hll_text.specs.declared.fault.Fault.TheVariants.{Stack, Unserved}
 use Rattle.hll_merge.specs.declared.sketch.Mode.{Mode}
 use Rattle.hll_merge.specs.declared.sketch.Mode.TheVariants as modes
 use Rattle.hll_merge.specs.Plan.{Plan, outcome}
 use Rattle.hll_merge.specs.Listed.{Listed, fresh, joined}
-use Rattle.hll_merge.specs.Served.{IsServed, IsBeyond, IsOfSize, last_of, OrderIn, arrived_each, ArrivesAs}
+use Rattle.hll_merge.specs.Served.{IsServed, IsBeyond, IsOfSize, last_of}
 
 -- a list, or registers of eight bits
 pub data Kept : Type 0 where
@@ -40,11 +39,6 @@ abbrev pub value_of_kept : Kept → Sketch
 value_of_kept (list x) = record { lg_k = x.lg_k; width = x.width; content = coupons (coupons_of x.table) x.table.lg_size }
 value_of_kept (array x) = record { lg_k = x.lg_k; width = Hll8; content = registers x.registers x.state }
 
--- the coupons in the order of their places, and none of registers
-abbrev pub order_of : Kept → List ℕ
-order_of (list x) = held x.table.places
-order_of (array x) = []
-
 -- what a sketch of the stack keeps: eight places of coupons, or registers
 abbrev pub IsKept : Kept → Type 0
 IsKept (list x) = IsTable x.table × (x.table.lg_size ≡ 3)
@@ -52,17 +46,15 @@ IsKept (array x) = AreRegisters x.lg_k x.registers
 
 -- ---- updates
 
--- it took a coupon: the value is that of adding it, and is served; a new coupon of a list stands behind the others
+-- it took a coupon: the value is that of adding it, and is served
 pub record Adds (old : Kept) (c : ℕ) (new : Kept) : Type 0 where
   pub value : value_of_kept new ≡ add (value_of_kept old) (set_of (c ∷ []))
   pub served : IsServed (value_of_kept new)
-  pub order : OrderIn (value_of_kept new).content (order_of new) (order_of new ≡ arrived (order_of old) c)
 
 -- it took coupons in turn
 pub record AddsEach (old : Kept) (cs : List ℕ) (new : Kept) : Type 0 where
-  pub value : value_of_kept new ≡ added_each (value_of_kept old) cs
+  pub value : value_of_kept new ≡ add_in_turn (value_of_kept old) cs
   pub served : IsServed (value_of_kept new)
-  pub order : OrderIn (value_of_kept new).content (order_of new) (order_of new ≡ arrived_each (order_of old) cs)
 
 -- with the coupon it would be of a stage or width that is not served
 abbrev pub GoesBeyond : Kept → ℕ → Type 0
@@ -75,17 +67,16 @@ pub record Promotes (x : Kept) (c : ℕ) : Type 0 where
 
 -- ---- joins
 
--- a gadget after a sketch: the value is that of merging it, and is served; coupons stand as they did, and new ones behind them
+-- a gadget after a sketch: the value is that of merging it, and is served
 pub record Merges (m : ℕ) (old x new : Kept) : Type 0 where
-  pub value : value_of_kept new ≡ merged m (value_of_kept old) (value_of_kept x)
+  pub value : value_of_kept new ≡ merge m (value_of_kept old) (value_of_kept x)
   pub size : IsOfSize m (value_of_kept new)
   pub served : IsServed (value_of_kept new)
-  pub order : OrderIn (value_of_kept new).content (order_of new) (order_of new ≡ arrived_each (order_of old) (order_of x))
 
 -- registers joined into a gadget that is not empty
 abbrev pub joined_into : Kept → Stored → Stored
 joined_into (list x) a = joined x a
-joined_into (array x) a = record { lg_k = x.lg_k; registers = join x.registers a.registers; state = cleared }
+joined_into (array x) a = record { lg_k = x.lg_k; registers = join x.registers a.registers; state = cleared_state }
 
 -- a gadget after sketches in turn
 abbrev pub MergesEach : ℕ → Kept → List Kept → Kept → Type 0
@@ -100,10 +91,9 @@ pub record CanJoin (m : ℕ) (w : HllType) (xs : List Kept) : Type 0 where
 
 -- ---- images
 
--- a front of the bytes is the image of it; the coupons of a list stand in the order of the image
+-- a front of the bytes is the image of it
 pub data IsReadFrom (bytes : List ℕ) : Kept → Type 0 where
-  of_list : (n : ℕ) (x : Listed) → IsListImage (take n bytes) → value_of_kept (list x) ≡ list_value (take n bytes)
-      → held x.table.places ≡ list_coupons (list_shape (take n bytes)) (drop 8 (take n bytes)) → IsReadFrom bytes (list x)
+  of_list : (n : ℕ) (x : Listed) → IsListImage (take n bytes) → value_of_kept (list x) ≡ list_value (take n bytes) → IsReadFrom bytes (list x)
   of_array : (n : ℕ) (x : Stored) → IsHll8Image (take n bytes) → value_of_kept (array x) ≡ hll8_value (take n bytes) → IsReadFrom bytes (array x)
 
 -- why none was read: the image is of another stage or width, or no front of the bytes is an image
@@ -145,14 +135,13 @@ pub data RefusesUnion (old : List Kept) (n m : ℕ) (w : HllType) : Fault → Ty
 
 -- ---- a sketch and its plan
 
--- the sketch is the plan's outcome, with the coupons in their order
-pub record StandsFor (x : Kept) (t : Plan) : Type 0 where
-  pub value : value_of_kept x ≡ outcome t
-  pub order : ArrivesAs t (order_of x)
+-- the sketch is the plan's outcome
+abbrev pub Represents : Kept → Plan → Type 0
+Represents x t = value_of_kept x ≡ outcome t
 
--- each of a stack stands for its plan
-abbrev pub StandFor : List Kept → List Plan → Type 0
-StandFor [] [] = Unit {0}
-StandFor [] (t ∷ ts) = ⊥
-StandFor (x ∷ xs) [] = ⊥
-StandFor (x ∷ xs) (t ∷ ts) = StandsFor x t × StandFor xs ts
+-- each sketch of a stack is its plan's outcome
+abbrev pub AllRepresent : List Kept → List Plan → Type 0
+AllRepresent [] [] = Unit {0}
+AllRepresent [] (t ∷ ts) = ⊥
+AllRepresent (x ∷ xs) [] = ⊥
+AllRepresent (x ∷ xs) (t ∷ ts) = Represents x t × AllRepresent xs ts

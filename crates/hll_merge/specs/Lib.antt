@@ -1,15 +1,11 @@
 pub mod Accepting
 pub mod Evaluate
-pub mod Extent
 pub mod Grown
 pub mod Headline
 pub mod Kept
 pub mod Listed
 pub mod Meaning
 pub mod Plan
-pub mod Rearranged
+pub mod Rearrangement
 pub mod Run
 pub mod Served
-pub mod Step
-pub mod Text
-pub mod Watching

@@ -26,8 +26,10 @@ pub record HasMeaning (t : Plan) : Type 0 where
 abbrev pub PlansHaveMeaning : Type 0
 PlansHaveMeaning = (t : Plan) → IsLegalPlan t → HasMeaning t
 
+-- the outcomes of two plans fold to the same registers at the smaller effective lg_k
+abbrev pub AgreeFolded : Plan → Plan → Type 0
+AgreeFolded t u = let e = min (effective_lg_k t) (effective_lg_k u) in fold_to (pairs_of (outcome t)) e ≡ fold_to (pairs_of (outcome u)) e
+
 -- two plans over the same inputs agree once both are folded to the smaller effective lg_k
 abbrev pub SameInputsAgree : Type 0
-SameInputsAgree = (t u : Plan) → IsLegalPlan t → IsLegalPlan u → inputs t ≡ inputs u →
-    let e = min (effective_lg_k t) (effective_lg_k u) in
-    fold_to (pairs_of (outcome t)) e ≡ fold_to (pairs_of (outcome u)) e
+SameInputsAgree = (t u : Plan) → IsLegalPlan t → IsLegalPlan u → inputs t ≡ inputs u → AgreeFolded t u

@@ -7,11 +7,11 @@ use Rattle.hll_sketch.specs.Value.{Sketch, pairs_of, has_registers, empty_sketch
 use Rattle.hll_sketch.specs.Adding.{add}
 use Rattle.hll_sketch.specs.Merging.{empty_union, merge_all}
 
--- an empty sketch, the bytes of an image with the sketch that they mean, a plan with one coupon more, or a union of plans
+-- an empty sketch, the sketch of an image, a plan with one coupon more, or a union of plans
 mutual
   pub data Plan : Type 0 where
     new : ℕ → HllType → Plan
-    image : List ℕ → Sketch → Plan
+    image : Sketch → Plan
     coupon : Plan → ℕ → Plan
     union_of : ℕ → HllType → Plans → Plan
 
@@ -28,7 +28,7 @@ plans_of (t ∷ ts) = more_plans t (plans_of ts)
 abbrev mutual
   pub inputs : Plan → Pairs
   inputs (new k w) = empty
-  inputs (image b x) = pairs_of x
+  inputs (image x) = pairs_of x
   inputs (coupon t c) = union (inputs t) (set_of (c ∷ []))
   inputs (union_of m w ts) = inputs_of_each ts
 
@@ -40,7 +40,7 @@ abbrev mutual
 abbrev mutual
   pub outcome : Plan → Sketch
   outcome (new k w) = empty_sketch k w
-  outcome (image b x) = x
+  outcome (image x) = x
   outcome (coupon t c) = add (outcome t) (set_of (c ∷ []))
   outcome (union_of m w ts) = record (merge_all m (empty_union m) (outcomes ts)) { width = w }
 
@@ -52,7 +52,7 @@ abbrev mutual
 abbrev mutual
   pub effective_lg_k : Plan → ℕ
   effective_lg_k (new k w) = k
-  effective_lg_k (image b x) = x.lg_k
+  effective_lg_k (image x) = x.lg_k
   effective_lg_k (coupon t c) = effective_lg_k t
   effective_lg_k (union_of m w ts) = least_of_each m ts
 
@@ -66,7 +66,7 @@ abbrev mutual
 abbrev mutual
   pub Leaves : (Sketch → Type 0) → Plan → Type 0
   Leaves Q (new k w) = IsLgK k
-  Leaves Q (image b x) = IsLegal x × Q x
+  Leaves Q (image x) = IsLegal x × Q x
   Leaves Q (coupon t c) = Leaves Q t × IsPair c
   Leaves Q (union_of m w ts) = IsLgK m × LeavesOfEach Q ts
 
@@ -82,7 +82,7 @@ IsLegalPlan t = Leaves (λ _. Unit {0}) t
 abbrev mutual
   pub IsImageOf : Sketch → Plan → Type 0
   IsImageOf x (new k w) = ⊥
-  IsImageOf x (image b y) = x ≡ y
+  IsImageOf x (image y) = x ≡ y
   IsImageOf x (coupon t c) = IsImageOf x t
   IsImageOf x (union_of m w ts) = IsImageOfEach x ts
 

@@ -4,19 +4,19 @@ use Rattle.std.specs.Str.Lines.{lines}
 use Rattle.std.specs.Io.KnownBytes.{Appends, Consumes, IsAtEnd, Keeps}
 use Rattle.hex.specs.Hex.{encode_lower}
 use Rattle.hll_sketch.specs.Written.{Written}
-use Rattle.hll_merge.specs.declared.fault.Fault.TheVariants.{Memory, Read, Write}
-use Rattle.hll_merge.specs.declared.fault.MergeError.{MergeError}
+use Rattle.hll_text.specs.declared.fault.Fault.TheVariants.{Memory, Read, Write}
+use Rattle.hll_text.specs.declared.fault.MergeError.{MergeError}
 use Rattle.hll_merge.specs.Plan.{Plan, outcome}
-use Rattle.hll_merge.specs.Text.{ended_lines, line_number}
+use Rattle.hll_text.specs.Text.{ended_lines, line_number}
 use Rattle.hll_merge.specs.Accepting.{Runs, Accepts, FaultsAtLine, IsFirstFault}
 use Rattle.hll_merge.specs.Headline.{Holds}
-use Rattle.hll_merge.specs.Served.{today, ArrivesAs}
+use Rattle.hll_merge.specs.Served.{today}
 
 -- what is printed for the bytes of an image: lower-case hexadecimal and LF
-abbrev pub printed : List ℕ → List ℕ
-printed bytes = encode_lower bytes ++ 10 ∷ []
+abbrev pub printed_line : List ℕ → List ℕ
+printed_line bytes = encode_lower bytes ++ 10 ∷ []
 
--- what a run leaves: what the reader told before and after, whether it failed, whether the writer did, and what that held before and after
+-- the streams of a run: what the reader had left before and after, whether it failed, whether the writer did, and what that contained before and after
 pub record Streams : Type 0 where
   pub before : Option (List ℕ)
   pub after : Option (List ℕ)
@@ -25,22 +25,20 @@ pub record Streams : Type 0 where
   pub old : Option (List ℕ)
   pub new : Option (List ℕ)
 
--- the text is all that the reader had to tell
+-- the text is all that the reader had left
 abbrev pub IsAllOf : Option (List ℕ) → List ℕ → Type 0
 IsAllOf None text = Unit {0}
 IsAllOf (Some bytes) text = text ≡ bytes
 
--- the line is what is printed for the outcome of the text's plan, with its coupons in order of arrival; the outcome is
--- legal, what is written is an image of it, and it means the plan's inputs
+-- the line is what is printed for the outcome of the text's plan; the outcome is legal, what is written is an image of it,
+-- it means the plan's inputs, and it agrees with that of every plan over the same inputs
 pub record IsAnswer (text line : List ℕ) : Type 0 where
   pub tree : Plan
   pub accepted : Accepts today text tree
   pub holds : Holds tree
   pub bytes : List ℕ
-  pub order : List ℕ
-  pub arrived : ArrivesAs tree order
-  pub written : Written bytes (outcome tree) order
-  pub shown : line ≡ printed bytes
+  pub written : Written bytes (outcome tree)
+  pub shown : line ≡ printed_line bytes
 
 -- all was read, and the answer and nothing else was written
 pub record Succeeds (s : Streams) : Type 0 where
@@ -70,7 +68,7 @@ pub record IsNoPlan (s : Streams) (e : MergeError) : Type 0 where
   pub read : Consumes s.before s.after taken
   pub first : IsFirstFault today text e
 
--- no line that ended is at fault, and so many did
+-- no line that ended is at fault, and this is their number
 pub record AllEndedRun (text : List ℕ) (e : MergeError) : Type 0 where
   pub fault : e.fault ≡ Read
   pub at : e.line ≡ line_number (length (ended_lines text))

@@ -7,19 +7,16 @@ use Rattle.hll_base.specs.declared.error.Reason.{Reason}
 use Rattle.hll_base.specs.declared.error.ErrorKind.TheVariants.{InvalidData}
 use Rattle.hll_base.specs.Reason.{kind_of}
 use Rattle.hll_coupons.specs.Pair.{pair}
-use Rattle.hll_coupons.specs.Table.{arrived}
-use Rattle.hll_coupons.specs.Payload.{list_coupons}
 use Rattle.hll_coupons.specs.declared.hll_type.HllType.{HllType}
 use Rattle.hll_coupons.specs.declared.hll_type.HllType.TheVariants.{Hll8}
 use Rattle.hll_sketch.specs.Value.{Sketch, Content, coupons, registers}
-use Rattle.hll_sketch.specs.Merging.{merged, empty_union}
-use Rattle.hll_sketch.specs.Image.{HasHeader, width_bits, list_shape}
-use Rattle.hll_merge.specs.declared.fault.Fault.{Fault}
-use Rattle.hll_merge.specs.declared.fault.Fault.TheVariants as faults
-use Rattle.hll_merge.specs.declared.fault.MergeError.{MergeError}
+use Rattle.hll_sketch.specs.Image.{HasHeader, width_bits}
+use Rattle.hll_text.specs.declared.fault.Fault.{Fault}
+use Rattle.hll_text.specs.declared.fault.Fault.TheVariants as faults
+use Rattle.hll_text.specs.declared.fault.MergeError.{MergeError}
 use Rattle.hll_merge.specs.Plan as plan
 use Rattle.hll_merge.specs.Plan.{Plan, Plans, outcome}
-use Rattle.hll_merge.specs.Text.{PlanStep, reading, new, image, coupon, union}
+use Rattle.hll_text.specs.Text.{PlanStep, reading, new, image, coupon, union}
 use Rattle.hll_merge.specs.Accepting.{Service, full, Accepts, IsFirstFault, IsFirstFaultOfLines}
 use Rattle.hll_merge.specs.Evaluate.{IsFirstFaultOfSteps}
 
@@ -66,34 +63,6 @@ IsUnserved ts (union n m w) = (n ≤ length ts) × (IsJoinable m w (last_of n ts
 
 abbrev pub today : Service (List ℕ)
 today = record { reads = reading; Refuses = IsUnserved }
-
--- ---- the order in which coupons are written
-
--- an order of coupons has a property, and registers have no order
-abbrev pub OrderIn : Content → List ℕ → Type 0 → Type 0
-OrderIn (coupons S size) order P = P
-OrderIn (registers R state) order P = order ≡ []
-
--- coupons in order of arrival, after more that came in turn
-abbrev pub arrived_each : List ℕ → List ℕ → List ℕ
-arrived_each order [] = order
-arrived_each order (c ∷ cs) = arrived_each (arrived order c) cs
-
--- the coupons of such a plan in the order in which they are written: those of an image in its order, each other
--- one behind them when it first came, and in a union child by child while it is in coupons
-abbrev mutual
-  pub ArrivesAs : Plan → List ℕ → Type 0
-  ArrivesAs (plan.new k w) order = order ≡ []
-  ArrivesAs (plan.image b x) order = OrderIn x.content order (order ≡ list_coupons (list_shape b) (drop 8 b))
-  ArrivesAs (plan.coupon t c) order = OrderIn (outcome (plan.coupon t c)).content order ((before : List ℕ) × ArrivesAs t before × (order ≡ arrived before c))
-  ArrivesAs (plan.union_of m w ts) order = ArriveInTurn m (empty_union m) ts [] order
-
-  -- a gadget whose coupons stand in this order, after children in turn
-  pub ArriveInTurn : ℕ → Sketch → Plans → List ℕ → List ℕ → Type 0
-  ArriveInTurn m g plan.no_plans before order = order ≡ before
-  ArriveInTurn m g (plan.more_plans t ts) before order = (own : List ℕ) × (between : List ℕ) × ArrivesAs t own
-      × OrderIn (merged m g (outcome t)).content between (between ≡ arrived_each before own)
-      × ArriveInTurn m (merged m g (outcome t)) ts between order
 
 -- ---- laws
 

@@ -2,8 +2,8 @@
 //! (docs/MODEL.md, "The meaning of a plan", "Convergence" and "Plan texts").
 ghost use Rattle.hll_merge.specs.Meaning.{PlansHaveMeaning, SameInputsAgree};
 ghost use Rattle.hll_merge.specs.Headline.{OutcomeIsLegal, AcceptedPlansHold};
-ghost use Rattle.hll_merge.specs.Grown.{GrownPlansConverge, JoinedOfSame, JoinedOfJoined};
-ghost use Rattle.hll_merge.specs.Rearranged.{RearrangedPlansAgree};
+ghost use Rattle.hll_merge.specs.Grown.{GrownPlansConverge, UnionOfSame, UnionOfUnion};
+ghost use Rattle.hll_merge.specs.Rearrangement.{RearrangedPlansAgree};
 ghost use Rattle.hll_merge.specs.Served.{ServedIsAccepted, ServedFaultIsFirst, OnePlan, AcceptedIsFaultless, FirstFaultsAreOwn};
 
 /// The outcome of a legal plan has the effective `lg_k`, which no register image is below, and the greatest
@@ -23,13 +23,13 @@ pub fn grown_plans_converge()
 {}
 
 /// A join does not depend on order or repetition.
-pub fn joined_of_same()
-    ensures { JoinedOfSame }
+pub fn union_of_same()
+    ensures { UnionOfSame }
 {}
 
 /// Some sketches may be joined first, under the same bound and at any width.
-pub fn joined_of_joined()
-    ensures { JoinedOfJoined }
+pub fn union_of_union()
+    ensures { UnionOfUnion }
 {}
 
 /// Over grown images children may be reordered, repeated and grouped under the same bound, anywhere in a plan.

@@ -1,20 +1,20 @@
 //! A sketch of a plan while it is a list.
 ghost use Rattle.std.specs.Prelude.{◌≡◌, ◌≤◌, ◌↔◌, IsTrue, IfOk, IfErr};
 ghost use Rattle.hll_coupons.specs.Pair.{value_of};
-ghost use Rattle.hll_coupons.specs.Table.{held, IsTable};
-ghost use Rattle.hll_coupons.specs.Coupons.{list_bytes};
+ghost use Rattle.hll_coupons.specs.Table.{coupons_of, IsTable};
+ghost use Rattle.hll_coupons.specs.Coupons.{WritesAscending, list_bytes};
 ghost use Rattle.hll_coupons.specs.declared.hll_type.HllType.TheVariants.{Hll8};
 ghost use Rattle.hll_sketch.specs.Value.{IsLgK};
 ghost use Rattle.hll_merge.specs.Listed.{fresh, BringsEighth, updated, promoted, joined};
-ghost use Rattle.hll_merge.specs.declared.fault.Fault.TheVariants.{Memory};
+ghost use Rattle.hll_text.specs.declared.fault.Fault.TheVariants.{Memory};
 
-use crate::fault::Fault;
 use hll_arrays::array8::Array8;
 use hll_arrays::estimate_state::EstimateState;
 use hll_coupons::container::Container;
 use hll_coupons::coupon::Coupon;
 use hll_coupons::hll_type::HllType;
 use hll_coupons::list::List;
+use hll_text::fault::Fault;
 use std::alloc::Allocator;
 use std::marker::Model;
 
@@ -130,8 +130,8 @@ impl<A: Allocator + Clone> ListSketch<A> {
     {
         let alloc = self.list.container().cloned_allocator()?;
         let mut array = Array8::new(alloc, self.lg_k)?;
-        for held in self.list.container().iter() {
-            array.update(held);
+        for kept in self.list.container().iter() {
+            array.update(kept);
         }
         array.update(coupon);
         Ok(array)
@@ -142,16 +142,16 @@ impl<A: Allocator + Clone> ListSketch<A> {
         ensures ok { IfOk result (λ a. a ≡ joined self.now source.now) }
         ensures err { IfErr result (λ e. e ≡ Memory) }
     {
-        let _empty = source.is_empty();
+        let _legal = source.lg_k();
         let mut registers = source.clone()?;
-        for held in self.list.container().iter() {
-            registers.update(held);
+        for kept in self.list.container().iter() {
+            registers.update(kept);
         }
         registers.restore_estimate_state(EstimateState::CLEARED);
         Ok(registers)
     }
 
-    /// The same list over again. `Memory` where its places are refused.
+    /// A copy of the list. `Memory` where its places are refused.
     pub(crate) fn clone(&self) -> Result<Self, Fault>
         ensures ok { IfOk result (λ s. s ≡ self.now) }
         ensures err { IfErr result (λ e. e ≡ Memory) }
@@ -165,7 +165,7 @@ impl<A: Allocator + Clone> ListSketch<A> {
 
     /// The image. `Memory` where it is refused.
     pub(crate) fn serialize(&self) -> Result<Vec<u8, A>, Fault>
-        ensures ok { IfOk result (λ image. image.items ≡ list_bytes self.now.lg_k self.now.width (held self.now.table.places)) }
+        ensures ok { IfOk result (λ image. WritesAscending (list_bytes self.now.lg_k self.now.width) (coupons_of self.now.table) image.items) }
         ensures size { self.now.table.lg_size ≡ 3 }
         ensures table { IsTable self.now.table }
         ensures err { IfErr result (λ e. e ≡ Memory) }

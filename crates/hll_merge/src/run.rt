@@ -2,17 +2,17 @@
 ghost use Rattle.std.specs.Prelude.{◌≡◌, ◌⊎◌, length, false, MatchResult, IfOk, IfErr, OnOk, string_bytes};
 ghost use Rattle.std.specs.Io.KnownBytes.{Consumes, IsAtEnd};
 ghost use Rattle.std.specs.Str.Lines.{lines};
-ghost use Rattle.hll_merge.specs.Text.{line_number, ended_lines};
+ghost use Rattle.hll_text.specs.Text.{line_number, ended_lines};
 ghost use Rattle.hll_merge.specs.Accepting.{IsFirstFault, FaultsAtLine};
 ghost use Rattle.hll_merge.specs.Served.{today};
 ghost use Rattle.hll_merge.specs.Run.{IsAnswer, AllEndedRun, Streams, Succeeds, IsRefused};
-ghost use Rattle.hll_merge.specs.declared.fault.Fault.TheVariants.{Memory};
+ghost use Rattle.hll_text.specs.declared.fault.Fault.TheVariants.{Memory};
 
-use crate::fault::{Fault, MergeError};
-use crate::lines::Extent;
 use crate::stack::carry_lines;
-use crate::streams::{read_all, write_all};
-use crate::watched::Watched;
+use hll_text::fault::{Fault, MergeError};
+use hll_text::lines::Extent;
+use hll_text::streams::{read_all, write_all};
+use hll_text::watched::Watched;
 use std::alloc::Allocator;
 use std::io;
 
@@ -20,8 +20,7 @@ use std::io;
 ///
 /// Today the lines `new`, `image` of a list or of registers of eight bits, `coupon` while it leaves a sketch one of
 /// these, and `union` of such sketches that are all of eight bits and of its `lg_k`, of at most 7, are served. Neither
-/// stream may have failed before. Every claim on bytes presupposes streams that tell them: of one that does not, it says
-/// nothing.
+/// stream may have failed before. What is said of bytes presupposes streams whose bytes are known.
 ///
 /// Takes memory for the text, the stack of sketches and the answer. A refusal is `Memory` where memory was refused (its
 /// line is free), the first fault of the text with its line, `Read` where the reader failed, or `Write` where the writer
@@ -45,22 +44,19 @@ pub fn run<A: Allocator + Clone, R: io::Read, W: io::Write>(
 {
     let text = match read_text(&alloc, reader) {
         Ok(text) => text,
-        Err(fault) => return Err(MergeError { line: 0, fault }),
+        Err(fault) => return Err(fault.at(0)),
     };
     if reader.failed() {
         return Err(fault_of_ended(alloc, &text));
     }
-    let (answer, line) = match answer_of(&alloc, &text) {
-        Ok(found) => found,
-        Err(e) => return Err(e),
-    };
+    let (answer, line) = answer_of(&alloc, &text)?;
     match write_all(writer, answer.as_bytes()) {
         Ok(()) => Ok(()),
-        Err(fault) => Err(MergeError { line, fault }),
+        Err(fault) => Err(fault.at(line)),
     }
 }
 
-/// What the reader tells until it ends or fails. `Memory` where the text is refused.
+/// What the reader gives until it ends or fails. `Memory` where memory for the text is refused.
 fn read_text<A: Allocator + Clone, R: io::Read>(
     alloc: &A,
     reader: &mut Watched<R>,
@@ -81,24 +77,15 @@ fn answer_of<A: Allocator + Clone>(alloc: &A, text: &[u8]) -> Result<(String<A>,
 {
     let for_stack = match alloc.clone() {
         Ok(for_stack) => for_stack,
-        Err(e) => return Err(MergeError {
-            line: 0,
-            fault: Fault::from(e),
-        }),
+        Err(e) => return Err(Fault::from(e).at(0)),
     };
-    let (stack, line) = match carry_lines(for_stack, Extent::All, text) {
-        Ok(found) => found,
-        Err(e) => return Err(e),
-    };
+    let (stack, line) = carry_lines(for_stack, Extent::All, text)?;
     let Some(sketch) = stack.only() else {
-        return Err(MergeError {
-            line,
-            fault: Fault::Stack,
-        });
+        return Err(Fault::Stack.at(line));
     };
-    match sketch.printed() {
+    match sketch.printed_line() {
         Ok(answer) => Ok((answer, line)),
-        Err(fault) => Err(MergeError { line, fault }),
+        Err(fault) => Err(fault.at(line)),
     }
 }
 
@@ -107,10 +94,7 @@ fn fault_of_ended<A: Allocator + Clone>(alloc: A, text: &[u8]) -> MergeError
     ensures { (result.fault ≡ Memory) ⊎ (FaultsAtLine today (ended_lines text.now) result ⊎ AllEndedRun text.now result) }
 {
     match carry_lines(alloc, Extent::Ended, text) {
-        Ok((_, line)) => MergeError {
-            line,
-            fault: Fault::Read,
-        },
+        Ok((_, line)) => Fault::Read.at(line),
         Err(e) => e,
     }
 }

@@ -1,18 +1,17 @@
 //! A sketch of a plan: a list, or registers of eight bits.
 ghost use Rattle.std.specs.Prelude.{◌≡◌, ◌≤◌, ◌⊎◌, ◌↔◌, IsTrue, List, ℕ, OnOk, IfOk, IfErr, string_bytes};
 ghost use Rattle.hll_coupons.specs.Pair.{value_of};
-ghost use Rattle.hll_coupons.specs.Table.{held};
+ghost use Rattle.hll_coupons.specs.Table.{coupons_in};
 ghost use Rattle.hll_coupons.specs.declared.hll_type.HllType.TheVariants.{Hll8};
 ghost use Rattle.hll_sketch.specs.Value.{IsLgK, is_empty};
 ghost use Rattle.hll_sketch.specs.Written.{Written};
 ghost use Rattle.hll_merge.specs.Listed.{fresh};
 ghost use Rattle.hll_merge.specs.Kept as kept;
-ghost use Rattle.hll_merge.specs.Kept.{kept_of, value_of_kept, order_of, IsKept, Adds, AddsEach, GoesBeyond, Promotes, Merges, joined_into, IsReadFrom, RefusesBytes};
+ghost use Rattle.hll_merge.specs.Kept.{kept_of, value_of_kept, IsKept, Adds, AddsEach, GoesBeyond, Promotes, Merges, joined_into, IsReadFrom, RefusesBytes};
 ghost use Rattle.hll_merge.specs.Served.{IsServed, IsOfSize};
-ghost use Rattle.hll_merge.specs.Run.{printed};
-ghost use Rattle.hll_merge.specs.declared.fault.Fault.TheVariants.{Memory, Unserved};
+ghost use Rattle.hll_merge.specs.Run.{printed_line};
+ghost use Rattle.hll_text.specs.declared.fault.Fault.TheVariants.{Memory, Unserved};
 
-use crate::fault::Fault;
 use crate::list_sketch::ListSketch;
 use hll_arrays::array8::Array8;
 use hll_coupons::coupon::Coupon;
@@ -20,6 +19,7 @@ use hll_coupons::hll_type::HllType;
 use hll_sketch::header::{Header, Stage};
 use hll_sketch::hll8_image::read_hll8;
 use hll_sketch::list_image::read_list;
+use hll_text::fault::Fault;
 use std::alloc::Allocator;
 use std::marker::Model;
 
@@ -91,7 +91,10 @@ impl<A: Allocator> Sketch<A> {
     {
         match &self.mode {
             Mode::List(list) => list.container().len() == 0,
-            Mode::Array(array) => array.is_empty(),
+            Mode::Array(array) => {
+                let _legal = array.lg_k();
+                array.is_empty()
+            }
         }
     }
 
@@ -149,7 +152,7 @@ impl<A: Allocator + Clone> Sketch<A> {
         requires small { (value_of_kept self.old).lg_k ≤ 7 }
         requires own { (value_of_kept self.old).width ≡ Hll8 }
         requires served { IsServed (value_of_kept self.old) }
-        ensures ok { OnOk result (AddsEach self.old (held list.now.table.places) self.new) }
+        ensures ok { OnOk result (AddsEach self.old (coupons_in list.now.table.places) self.new) }
         ensures err { IfErr result (λ e. e ≡ Memory) }
     {
         for coupon in list.container().iter() {
@@ -158,7 +161,7 @@ impl<A: Allocator + Clone> Sketch<A> {
         Ok(())
     }
 
-    /// What it keeps, over again. `Memory` where that is refused.
+    /// A copy of its mode. `Memory` where that is refused.
     fn cloned_mode(&self) -> Result<Mode<A>, Fault>
         ensures ok { IfOk result (λ m. kept_of m ≡ self.now) }
         ensures err { IfErr result (λ e. e ≡ Memory) }
@@ -170,8 +173,8 @@ impl<A: Allocator + Clone> Sketch<A> {
     }
 
     /// The image in lower-case hexadecimal, and LF. `Memory` where the image or the text is refused.
-    pub(crate) fn printed(&self) -> Result<String<A>, Fault>
-        ensures ok { IfOk result (λ text. (bytes : List ℕ) × Written bytes (value_of_kept self.now) (order_of self.now) × (string_bytes text ≡ printed bytes)) }
+    pub(crate) fn printed_line(&self) -> Result<String<A>, Fault>
+        ensures ok { IfOk result (λ text. (bytes : List ℕ) × Written bytes (value_of_kept self.now) × (string_bytes text ≡ printed_line bytes)) }
         ensures err { IfErr result (λ e. e ≡ Memory) }
     {
         let image = serialize(&self.mode)?;
@@ -198,7 +201,7 @@ fn update_mode<A: Allocator + Clone>(mode: &mut Mode<A>, coupon: Coupon) -> Resu
 
 /// The image. `Memory` where it is refused.
 fn serialize<A: Allocator + Clone>(mode: &Mode<A>) -> Result<Vec<u8, A>, Fault>
-    ensures ok { IfOk result (λ image. Written image.items (value_of_kept (kept_of mode.now)) (order_of (kept_of mode.now))) }
+    ensures ok { IfOk result (λ image. Written image.items (value_of_kept (kept_of mode.now))) }
     ensures err { IfErr result (λ e. e ≡ Memory) }
 {
     match mode {

@@ -5,23 +5,23 @@ ghost use Rattle.hll_coupons.specs.declared.hll_type.HllType.TheVariants.{Hll8};
 ghost use Rattle.hll_coupons.specs.Pair.{value_of};
 ghost use Rattle.hll_sketch.specs.Value.{IsLgK};
 ghost use Rattle.hll_merge.specs.Plan.{Plan};
-ghost use Rattle.hll_merge.specs.Step.{step_of, IsInRange};
-ghost use Rattle.hll_merge.specs.Text.{line_number};
-ghost use Rattle.hll_merge.specs.Extent.{lines_of};
+ghost use Rattle.hll_text.specs.Step.{step_of, IsInRange};
+ghost use Rattle.hll_text.specs.Text.{line_number};
+ghost use Rattle.hll_text.specs.Extent.{lines_of};
 ghost use Rattle.hll_merge.specs.Accepting.{Takes, IsRefusal, Gives, IsFaultOfLine, Runs, FaultsAtLine};
 ghost use Rattle.hll_merge.specs.Served.{today, IsOfSize};
 ghost use Rattle.hll_merge.specs.Listed.{fresh};
 ghost use Rattle.hll_merge.specs.Kept as kept;
-ghost use Rattle.hll_merge.specs.Kept.{Kept, value_of_kept, IsReadFrom, RefusesBytes, UpdatesLast, RefusesLast, CanJoin, JoinsLast, RefusesUnion, MergesEach, StandFor};
-ghost use Rattle.hll_merge.specs.declared.fault.Fault.TheVariants.{Memory, Unserved};
+ghost use Rattle.hll_merge.specs.Kept.{Kept, value_of_kept, IsReadFrom, RefusesBytes, UpdatesLast, RefusesLast, CanJoin, JoinsLast, RefusesUnion, MergesEach, AllRepresent};
+ghost use Rattle.hll_text.specs.declared.fault.Fault.TheVariants.{Memory, Unserved};
 
-use crate::fault::{Fault, MergeError};
-use crate::lines::{Extent, next_of};
-use crate::reading::read_step;
 use crate::sketch::Sketch;
-use crate::step::Step;
 use hll_coupons::coupon::Coupon;
 use hll_coupons::hll_type::HllType;
+use hll_text::fault::{Fault, MergeError};
+use hll_text::lines::{Extent, next_of};
+use hll_text::reading::read_step;
+use hll_text::step::Step;
 use std::alloc::{AllocError, Allocator};
 use std::marker::Model;
 
@@ -120,7 +120,7 @@ fn update_last<A: Allocator + Clone>(
 }
 
 impl<A: Allocator + Clone> Stack<A> {
-    /// A second owner of the allocator. Refused where the allocator's own clone is.
+    /// A clone of the allocator. Refused where the allocator's own clone is.
     fn cloned_allocator(&self) -> Result<A, AllocError> {
         self.sketches.allocator().clone()
     }
@@ -146,7 +146,7 @@ impl<A: Allocator + Clone> Stack<A> {
         Ok(())
     }
 
-    /// Joins the last sketches, so many of them, in their order, and puts the result in their place.
+    /// Joins the last `count` sketches in their order, and puts the result in their place.
     ///
     /// `Stack` where there are fewer, `Unserved` where they are not all of this `lg_k`, of at most 7, and of eight bits,
     /// as the result, or `Memory` where that, or a larger stack, are refused.
@@ -194,8 +194,8 @@ impl<A: Allocator + Clone> Stack<A> {
     /// leaves the stack as it was.
     fn carry_out(&mut self, step: Step<A>) -> Result<(), Fault>
         requires { IsInRange (step_of step) }
-        ensures carried { (ts : List Plan) → StandFor self.old ts →
-            MatchResult result (λ _. (us : List Plan) × Takes today ts (step_of step) us × StandFor self.new us)
+        ensures carried { (ts : List Plan) → AllRepresent self.old ts →
+            MatchResult result (λ _. (us : List Plan) × Takes today ts (step_of step) us × AllRepresent self.new us)
             (λ e. (e ≡ Memory) ⊎ IsRefusal today ts (step_of step) e) }
         ensures err { OnErr result (self.new ≡ self.old) }
     {
@@ -209,8 +209,8 @@ impl<A: Allocator + Clone> Stack<A> {
 
     /// Reads a line and carries it out. A refusal leaves the stack as it was.
     fn carry_line(&mut self, line: &[u8]) -> Result<(), Fault>
-        ensures carried { (ts : List Plan) → StandFor self.old ts →
-            MatchResult result (λ _. (us : List Plan) × Gives today ts line.now us × StandFor self.new us)
+        ensures carried { (ts : List Plan) → AllRepresent self.old ts →
+            MatchResult result (λ _. (us : List Plan) × Gives today ts line.now us × AllRepresent self.new us)
             (λ e. (e ≡ Memory) ⊎ IsFaultOfLine today ts line.now e) }
         ensures err { OnErr result (self.new ≡ self.old) }
     {
@@ -233,7 +233,7 @@ pub(crate) fn carry_lines<A: Allocator + Clone>(
 ) -> Result<(Stack<A>, u64), MergeError>
     ensures { MatchResult result
         (λ r. (r.1 ≡ line_number (length (lines_of extent text.now)))
-        × ((ts : List Plan) × Runs today [] (lines_of extent text.now) ts × StandFor r.0 ts))
+        × ((ts : List Plan) × Runs today [] (lines_of extent text.now) ts × AllRepresent r.0 ts))
         (λ e. (e.fault ≡ Memory) ⊎ FaultsAtLine today (lines_of extent text.now) e) }
 {
     let mut stack = Stack::new(alloc);
@@ -245,10 +245,7 @@ pub(crate) fn carry_lines<A: Allocator + Clone>(
             Some((line, more)) => {
                 number = number.saturating_add(1);
                 if let Err(fault) = stack.carry_line(line) {
-                    return Err(MergeError {
-                        line: number,
-                        fault,
-                    });
+                    return Err(fault.at(number));
                 }
                 rest = more;
             }

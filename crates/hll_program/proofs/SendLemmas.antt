@@ -5,9 +5,9 @@ use Rattle.std.specs.Result.{result_unwrap_or}
 use Rattle.std.specs.Io.{WritesAtMost}
 use Rattle.std.specs.Io.KnownBytes.{Appends, WriteAppends}
 use Rattle.std.proofs.lemmas.List.{append-nil, length-append, length-drop}
-use Rattle.hll_merge.specs.declared.fault.Fault.{Fault}
-use Rattle.hll_merge.specs.declared.fault.Fault.TheVariants.{Write}
-use Rattle.hll_merge.proofs.StreamLemmas.{Appends-more}
+use Rattle.hll_text.specs.declared.fault.Fault.{Fault}
+use Rattle.hll_text.specs.declared.fault.Fault.TheVariants.{Write}
+use Rattle.hll_text.proofs.StreamLemmas.{Appends-more}
 use Rattle.hll_program.specs.Refusal.{AppendsFront, Sends}
 
 -- a front of the first piece

@@ -16,7 +16,7 @@ fn main(rt: HostRuntime) -> ExitCode {
     match run(rt.alloc(), &mut reader, &mut writer) {
         Ok(()) => ExitCode::SUCCESS,
         Err(refusal) => {
-            // Where standard error fails too, the exit status alone tells.
+            // If standard error fails too, only the exit status is left.
             let _ = write_refusal(&mut rt.stderr(), &refusal);
             ExitCode::FAILURE
         }

@@ -1,3 +1,4 @@
+-- Adding pairs once, twice and in turn, and the lg_k of a union.
 use Rattle.std.proofs.Common.{◌≡◌, ℕ, ◌≤◌, Bool, true, false, cond, nat_eq, eqb, not, ◌&&◌, if◌then◌else◌, List, [], ◌∷◌, Option, Some, None, refl, sym, ap, ◌∙◌, inl, inr}
 use Rattle.std.specs.Prelude.{min}
 use Rattle.std.specs.Cmp.Lexicographic.{pointwise}
@@ -12,26 +13,15 @@ use Rattle.hll_coupons.specs.declared.hll_type.HllType.{HllType}
 use Rattle.hll_coupons.proofs.Joins.{join_comm, join_itself, join_assoc}
 use Rattle.hll_coupons.proofs.Folds.{fold_to-union}
 use Rattle.hll_arrays.specs.declared.estimate_state.EstimateState.{EstimateState}
-use Rattle.hll_arrays.specs.State.{cleared, state_after}
+use Rattle.hll_arrays.specs.State.{cleared_state, state_after}
+use Rattle.hll_arrays.proofs.States.{same_decides, state_after-same, state_after-other, state_after-cleared_state}
 use Rattle.hll_sketch.specs.Stage.{stage}
 use Rattle.hll_sketch.specs.Value.{Content, coupons, registers, Sketch, is_empty, has_registers}
-use Rattle.hll_sketch.specs.Adding.{settled, added, add}
-use Rattle.hll_sketch.specs.Merging.{merged, merged_registers, empty_union}
-use Rattle.hll_sketch.specs.Laws.{AddOfAdd, AddEach, added_each, UnionLgK, Event, merge, update, after_all, least_lg_k}
+use Rattle.hll_sketch.specs.Adding.{content_for, content_with, add}
+use Rattle.hll_sketch.specs.Merging.{merge, merge_registers, empty_union}
+use Rattle.hll_sketch.specs.Laws.{AddOfAdd, AddEach, add_in_turn, UnionLgK, Event, of_sketch, of_pairs, gadget_after_all, least_lg_k}
 use Rattle.hll_sketch.proofs.Sets.{union_assoc, len_union_le, from_list_cons, union_none}
 use Rattle.hll_sketch.proofs.Stages.{stage_again, stage_none}
-
-same_decides : (R Q : List ℕ) → Decides (pointwise nat_eq R Q) (R ≡ Q)
-same_decides R Q = slice_eq-Decides Decides-eqb R Q _ refl
-
-state_after-same : (R Q : List ℕ) (s : EstimateState) → R ≡ Q → state_after R Q s ≡ s
-state_after-same R Q s e = cond-true (pointwise nat_eq R Q) s cleared ((same_decides R Q).1 e)
-
-state_after-other : (R Q : List ℕ) (s : EstimateState) → (R ≡ Q → ⊥) → state_after R Q s ≡ cleared
-state_after-other R Q s h = cond-false (pointwise nat_eq R Q) s cleared (false_from_ne_true _ (λ t. h ((same_decides R Q).0 t)))
-
-pub state_after-cleared : (R Q : List ℕ) → state_after R Q cleared ≡ cleared
-state_after-cleared R Q = elim (pointwise nat_eq R Q) as (λ b. cond b cleared cleared ≡ cleared) [ true ↦ refl | false ↦ refl ]
 
 -- what both join leave alone, the first leaves alone
 first_same : (R F G : List ℕ) → R ≡ join (join R F) G → R ≡ join R F
@@ -43,40 +33,40 @@ states : (R F G : List ℕ) (s : EstimateState) → state_after (join R F) (join
 states R F G s = elim (cases_Bool (pointwise nat_eq R (join R F))) [
   | inl t ↦ let same : R ≡ join R F = (same_decides R (join R F)).0 t in
       ap (state_after (join R F) (join (join R F) G)) (state_after-same R (join R F) s same) ∙ ap (λ Q. state_after Q (join (join R F) G) s) (sym same)
-  | inr f ↦ ap (state_after (join R F) (join (join R F) G)) (cond-false (pointwise nat_eq R (join R F)) s cleared f)
-      ∙ state_after-cleared (join R F) (join (join R F) G)
+  | inr f ↦ ap (state_after (join R F) (join (join R F) G)) (cond-false (pointwise nat_eq R (join R F)) s cleared_state f)
+      ∙ state_after-cleared_state (join R F) (join (join R F) G)
       ∙ sym (state_after-other R (join (join R F) G) s (λ e. let t : pointwise nat_eq R (join R F) ≡ true = (same_decides R (join R F)).1 (first_same R F G e) in cc))
 ]
 
 -- registers joined with others, and their state
-abbrev raised : List ℕ → List ℕ → EstimateState → Content
-raised R Q state = registers (join R Q) (state_after R (join R Q) state)
+abbrev update_with_pairs : List ℕ → List ℕ → EstimateState → Content
+update_with_pairs R Q state = registers (join R Q) (state_after R (join R Q) state)
 
-raised_again : (R F G : List ℕ) (s : EstimateState) → raised (join R F) G (state_after R (join R F) s) ≡ raised R (join F G) s
+raised_again : (R F G : List ℕ) (s : EstimateState) → update_with_pairs (join R F) G (state_after R (join R F) s) ≡ update_with_pairs R (join F G) s
 raised_again R F G s = λ i. registers (join_assoc R F G i) ((states R F G s ∙ ap (λ Q. state_after R Q s) (join_assoc R F G)) i)
 
-pub added_again : (k : ℕ) (c : Content) (T U : Pairs) → added k (added k c T) U ≡ added k c (union T U)
-added_again k (registers R s) T U = raised_again R (fold_to T k) (fold_to U k) s ∙ ap (λ F. raised R F s) (sym (fold_to-union T U k))
+pub added_again : (k : ℕ) (c : Content) (T U : Pairs) → content_with k (content_with k c T) U ≡ content_with k c (union T U)
+added_again k (registers R s) T U = raised_again R (fold_to T k) (fold_to U k) s ∙ ap (λ F. update_with_pairs R F s) (sym (fold_to-union T U k))
 added_again k (coupons S p) T U =
     let V : Pairs = union S T in
     let whole : union V U ≡ union S (union T U) = union_assoc S T U in
     let more : len V ≤ len (union V U) = len_union_le V U in
-    let reach : (o : Option ℕ) → stage k p (len V) ≡ o → added k (settled k V o) U ≡ settled k (union V U) (stage k p (len (union V U))) = λ o.
-    elim o as (λ o. stage k p (len V) ≡ o → added k (settled k V o) U ≡ settled k (union V U) (stage k p (len (union V U)))) [
-      | Some q ↦ λ e. ap (settled k (union V U)) (stage_again k p q (len V) (len (union V U)) more e)
+    let reach : (o : Option ℕ) → stage k p (len V) ≡ o → content_with k (content_for k V o) U ≡ content_for k (union V U) (stage k p (len (union V U))) = λ o.
+    elim o as (λ o. stage k p (len V) ≡ o → content_with k (content_for k V o) U ≡ content_for k (union V U) (stage k p (len (union V U)))) [
+      | Some q ↦ λ e. ap (content_for k (union V U)) (stage_again k p q (len V) (len (union V U)) more e)
       | None ↦ λ e.
-          (λ i. registers (sym (fold_to-union V U k) i) (state_after-cleared (fold_to V k) (join (fold_to V k) (fold_to U k)) i))
-          ∙ sym (ap (settled k (union V U)) (stage_none k p (len V) (len (union V U)) more e))
+          (λ i. registers (sym (fold_to-union V U k) i) (state_after-cleared_state (fold_to V k) (join (fold_to V k) (fold_to U k)) i))
+          ∙ sym (ap (content_for k (union V U)) (stage_none k p (len V) (len (union V U)) more e))
     ] in
-    reach (stage k p (len V)) refl ∙ ap (λ W. settled k W (stage k p (len W))) whole
+    reach (stage k p (len V)) refl ∙ ap (λ W. content_for k W (stage k p (len W))) whole
 
 pub add_again : AddOfAdd
 add_again x T U = ap (λ c. record x { content = c }) (added_again x.lg_k x.content T U)
 
-each_from : (x : Sketch) (T : Pairs) (cs : List ℕ) → added_each (add x T) cs ≡ add x (union T (from_list cs))
+each_from : (x : Sketch) (T : Pairs) (cs : List ℕ) → add_in_turn (add x T) cs ≡ add x (union T (from_list cs))
 each_from x T [] = ap (add x) (sym (union_none T))
 each_from x T (c ∷ cs) =
-    ap (λ y. added_each y cs) (add_again x T (from_list (c ∷ [])))
+    ap (λ y. add_in_turn y cs) (add_again x T (from_list (c ∷ [])))
     ∙ each_from x (union T (from_list (c ∷ []))) cs
     ∙ ap (add x) (union_assoc T (from_list (c ∷ [])) (from_list cs) ∙ ap (union T) (sym (from_list_cons c cs)))
 
@@ -85,8 +75,8 @@ add_each x c cs = each_from x (from_list (c ∷ [])) cs ∙ ap (add x) (sym (fro
 
 -- ---- the lg_k of a union
 
-pub lg_k-merged : (m : ℕ) (g x : Sketch) → (merged m g x).lg_k ≡ (if has_registers x then min g.lg_k x.lg_k else g.lg_k)
-lg_k-merged m g x = of x.lg_k x.width x.content
+pub lg_k-merge : (m : ℕ) (g x : Sketch) → (merge m g x).lg_k ≡ (if has_registers x then min g.lg_k x.lg_k else g.lg_k)
+lg_k-merge m g x = of x.lg_k x.width x.content
   where
     choose : (b d : Bool) (x : Sketch) (S : Pairs) → (if b then g else (if d then record g { content = x.content } else add g S)).lg_k ≡ g.lg_k
     choose true d x S = refl
@@ -97,17 +87,17 @@ lg_k-merged m g x = of x.lg_k x.width x.content
     pick true y = refl
     pick false y = refl
 
-    of : (l : ℕ) (w : HllType) (c : Content) → let x : Sketch = record { lg_k = l; width = w; content = c } in (merged m g x).lg_k ≡ (if has_registers x then min g.lg_k l else g.lg_k)
+    of : (l : ℕ) (w : HllType) (c : Content) → let x : Sketch = record { lg_k = l; width = w; content = c } in (merge m g x).lg_k ≡ (if has_registers x then min g.lg_k l else g.lg_k)
     of l w (coupons S p) = choose (eqb (len S) 0) (is_empty g && nat_eq g.lg_k l) (record { lg_k = l; width = w; content = coupons S p }) S
-    of l w (registers R s) = pick (eqb (len (pairs R)) 0) (merged_registers m g l R s)
+    of l w (registers R s) = pick (eqb (len (pairs R)) 0) (merge_registers m g l R s)
 
-lg_k-after_all : (bound : ℕ) (g : Sketch) (es : List Event) → (after_all bound g es).lg_k ≡ least_lg_k g.lg_k es
-lg_k-after_all bound g [] = refl
-lg_k-after_all bound g (merge x ∷ es) = lg_k-after_all bound (merged bound g x) es ∙ ap (λ k. least_lg_k k es) (lg_k-merged bound g x)
-lg_k-after_all bound g (update T ∷ es) = lg_k-after_all bound (add g T) es
+lg_k-gadget_after_all : (bound : ℕ) (g : Sketch) (es : List Event) → (gadget_after_all bound g es).lg_k ≡ least_lg_k g.lg_k es
+lg_k-gadget_after_all bound g [] = refl
+lg_k-gadget_after_all bound g (of_sketch x ∷ es) = lg_k-gadget_after_all bound (merge bound g x) es ∙ ap (λ k. least_lg_k k es) (lg_k-merge bound g x)
+lg_k-gadget_after_all bound g (of_pairs T ∷ es) = lg_k-gadget_after_all bound (add g T) es
 
 pub union_lg_k : UnionLgK
-union_lg_k bound es = lg_k-after_all bound (empty_union bound) es
+union_lg_k bound es = lg_k-gadget_after_all bound (empty_union bound) es
 
-pub empty_merged : (bound : ℕ) (g x : Sketch) → is_empty x ≡ true → merged bound g x ≡ g
-empty_merged bound g x e = cond-true (is_empty x) g _ e
+pub merge_of_empty : (bound : ℕ) (g x : Sketch) → is_empty x ≡ true → merge bound g x ≡ g
+merge_of_empty bound g x e = cond-true (is_empty x) g _ e

@@ -7,11 +7,6 @@ use Rattle.hll_sketch.specs.Image.{byte, HasHeader}
 use Rattle.hll_sketch.specs.Header.{stage_of_bits, number_of_stage}
 use Rattle.hll_sketch.specs.Fault.{HeaderFault}
 
--- an error that is passed on is the fault that it was
-pub IfErr-passed : {T : Type 0} (b : List ℕ) (r : Result T Reason) (e : Reason) → IsErrAnd r (λ f. f ≡ e) → HeaderFault b e → IfErr r (λ f. HeaderFault b f)
-IfErr-passed b (Ok x) e h f = tt
-IfErr-passed b (Err g) e h f = subst (HeaderFault b) (sym h) f
-
 -- a test that failed shows that what it tests does not hold
 pub failed_test : {P : Type 0} → (false ≡ true → P) × (P → false ≡ true) → P → ⊥
 failed_test h p = true≢false (sym (h.1 p))

@@ -3,11 +3,12 @@ pub mod Adding
 pub mod FaultKinds
 pub mod Faults
 pub mod Headers
+mod ImageRows
 pub mod Images
-pub mod Legal
-pub mod Legality
+pub mod LegalImages
+pub mod LegalSketches
 pub mod ListImages
-pub mod PlainSteps
+pub mod ReferenceSteps
 pub mod RegisterImages
 pub mod Sets
 pub mod Stages

@@ -1,11 +1,13 @@
-use Rattle.std.proofs.Common.{◌≡◌, ℕ, ◌+◌, ◌≤◌, Bool, true, false, cond, ◌||◌, List, [], ◌∷◌, refl, sym, ap, ◌∙◌, arith}
+-- Unions of sets of pairs, by their members.
+use Rattle.std.proofs.Common.{◌≡◌, ℕ, ◌+◌, ◌≤◌, Bool, true, false, cond, ◌||◌, List, [], ◌∷◌, refl, sym, ap, ◌∙◌, arith, inl, inr}
 use Rattle.std.specs.List.{list_any}
 use Rattle.std.specs.Ordering.{nat_cmp, eq_by_cmp}
 use Rattle.std.specs.Cmp.{nat_cmp_total}
-use Rattle.std.specs.FinSet.{items, contains, contains-items, insert, contains-insert, len, len-insert, union, contains-union, from_list, contains-from_list, same_set, nat_cmp-IsAntisymmetric}
+use Rattle.std.proofs.lemmas.Bool.{cases_Bool, true≢false, or_left, or_right}
+use Rattle.std.specs.FinSet.{empty, contains-empty, items, contains, contains-items, insert, contains-insert, len, len-insert, union, contains-union, from_list, contains-from_list, same_set, nat_cmp-IsAntisymmetric}
 use Rattle.hll_coupons.specs.Pair.{Pairs}
 
-or_assoc : (a b c : Bool) → ((a || b) || c) ≡ (a || (b || c))
+pub or_assoc : (a b c : Bool) → ((a || b) || c) ≡ (a || (b || c))
 or_assoc true b c = refl
 or_assoc false b c = refl
 
@@ -14,7 +16,7 @@ or_swap true true c = refl
 or_swap true false c = refl
 or_swap false b c = refl
 
-or-false : (a : Bool) → (a || false) ≡ a
+pub or-false : (a : Bool) → (a || false) ≡ a
 or-false true = refl
 or-false false = refl
 
@@ -59,3 +61,16 @@ from_list_cons c cs = same_members _ _ (λ q.
 
 pub union_none : (T : Pairs) → union T (from_list {R = nat_cmp} []) ≡ T
 union_none T = same_members _ _ (λ q. contains_union T _ q ∙ ap (λ b. contains T q || b) (contains-from_list nat_cmp_total [] q) ∙ or-false (contains T q))
+
+-- ---- empty sets
+
+-- a set without members is empty
+pub no_members : (P : Pairs) → ((c : ℕ) → contains P c ≡ true → ⊥) → P ≡ empty
+no_members P none = same_members P empty (λ q. elim (cases_Bool (contains P q)) [ inl t ↦ absurd (none q t) | inr f ↦ f ∙ sym (contains-empty nat_cmp q) ])
+
+-- the parts of an empty union are empty
+pub union_left : (P Q : Pairs) → union P Q ≡ empty → P ≡ empty
+union_left P Q e = no_members P (λ c h. true≢false (sym (contains_union P Q c ∙ or_left (contains P c) (contains Q c) h) ∙ ap (λ S. contains S c) e ∙ contains-empty nat_cmp c))
+
+pub union_right : (P Q : Pairs) → union P Q ≡ empty → Q ≡ empty
+union_right P Q e = no_members Q (λ c h. true≢false (sym (contains_union P Q c ∙ or_right (contains P c) (contains Q c) h) ∙ ap (λ S. contains S c) e ∙ contains-empty nat_cmp c))

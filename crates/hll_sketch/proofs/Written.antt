@@ -9,23 +9,25 @@ use Rattle.std.proofs.lemmas.Bool.{eqb-true, eq-eqb, ne_eqb, cond-false, cond-tr
 use Rattle.std.proofs.lemmas.List.{append-nil}
 use Rattle.std.proofs.lemmas.List.Elements.{All-from_get_or}
 use Rattle.hll_coupons.specs.Pair.{Pairs, IsPair, set_of, value_of}
-use Rattle.hll_coupons.specs.Coupons.{words, coupons_at, coupon_bytes, AreCoupons, ListsOnce, mode_byte, list_bytes, set_bytes}
+use Rattle.hll_coupons.specs.Coupons.{words, coupons_at, coupon_bytes, AreCoupons, IsAscending, mode_byte, list_bytes, set_bytes}
 use Rattle.hll_coupons.specs.Table.{filled_from_front}
 use Rattle.hll_coupons.specs.Payload.{list_places, list_coupons, set_count, set_coupons}
 use Rattle.hll_coupons.specs.declared.hll_type.HllType.{HllType}
 use Rattle.hll_coupons.specs.declared.hll_type.HllType.TheVariants.{Hll4, Hll6, Hll8}
+use Rattle.hll_coupons.proofs.Ascending.{len-ascending, written_once}
 use Rattle.hll_coupons.proofs.Greatest.{itself}
 use Rattle.hll_coupons.proofs.Payloads.{words-written, length-coupon_bytes, front_coupons}
 use Rattle.hll_arrays.specs.declared.estimate_state.EstimateState.{EstimateState}
 use Rattle.hll_arrays.specs.State.{IsState}
 use Rattle.hll_arrays.specs.Store.{AreRegisters}
-use Rattle.hll_arrays.specs.Packed.{minimum}
+use Rattle.hll_arrays.specs.Packed.{minimum, exceptions}
 use Rattle.hll_arrays.specs.Payload.{flag_of, hll4_bytes, WritesRegisters, IsHll4Payload, Hll4Shape, registers_of}
 use Rattle.hll_arrays.proofs.Written.{written_hll8, state_hll8, registers_hll8, written_hll6, state_hll6, registers_hll6, written_hll4, state_hll4, registers_hll4}
-use Rattle.hll_sketch.specs.Value.{Sketch, Content, coupons, registers, ArePairs, IsLgK, IsLegalContent}
+use Rattle.hll_sketch.specs.Value.{Sketch, Content, coupons, registers, ArePairs, IsLgK, IsLegalContent, IsEqual, IsEqualContent}
 use Rattle.hll_sketch.specs.Image.{width_of_bits, list_shape, set_shape, IsListImage, Image, list, set, hll8, hll6, hll4}
-use Rattle.hll_sketch.proofs.Legal.{all_pairs}
-use Rattle.hll_sketch.specs.Written.{WritesContent, WrittenIsImage, IsReadBack, ListIsReadBack}
+use Rattle.hll_sketch.proofs.LegalImages.{all_pairs}
+use Rattle.hll_sketch.specs.Written.{coupon_image, WritesContent, Written, WrittenIsImage, HaveSameSize, SameBytes, IsReadBack, ListIsReadBack}
+use Rattle.hll_sketch.proofs.Images.{one_image}
 
 -- ---- the mode byte
 
@@ -60,6 +62,14 @@ has-at : (xs : List ℕ) (i : ℕ) → i < length xs → list_any (eq_by_cmp nat
 has-at [] i h = absurd (omega arith)
 has-at (x ∷ xs) zero h = or_left (eq_by_cmp nat_cmp x x) (list_any (eq_by_cmp nat_cmp x) xs) (itself x x refl)
 has-at (x ∷ xs) (suc i) h = or_right (eq_by_cmp nat_cmp (get_or xs i 0) x) (list_any (eq_by_cmp nat_cmp (get_or xs i 0)) xs) (has-at xs i (omega arith))
+
+-- the list has each member of the set once
+pub record ListsOnce (order : List ℕ) (S : Pairs) : Type 0 where
+  pub members : set_of order ≡ S
+  pub once : length order ≡ len S
+
+lists_once : (order : List ℕ) (S : Pairs) → IsAscending order S → ListsOnce order S
+lists_once order S h = record { members = h.members; once = len-ascending order S h }
 
 module _ (k : ℕ) (w : HllType) (S : Pairs) (order : List ℕ) (lg_k : IsLgK k) (are : ArePairs S) (lists : ListsOnce order S) where
   pair_at : (i : ℕ) → i < length order → IsPair (get_or order i 0)
@@ -174,46 +184,89 @@ compact_back4 s = of s.out_of_order
     of false = refl
 
 module _ (k : ℕ) (R : List ℕ) (state : EstimateState) (lg_k : IsLgK k) (are : AreRegisters k R) (is : IsState state) where
-  registers_image : (w : HllType) (bytes order : List ℕ) → WritesRegisters bytes k w R state order → Image bytes (record { lg_k = k; width = w; content = registers R state })
-  registers_image Hll8 bytes order h = rw h.1 (hll8 (record {
+  registers_image : (w : HllType) (bytes : List ℕ) → WritesRegisters bytes k w R state → Image bytes (record { lg_k = k; width = w; content = registers R state })
+  registers_image Hll8 bytes h = rw h (hll8 (record {
     header = record { whole = omega arith; family = refl; version = refl; lg_k = lg_k; width = omega arith; stage_is = refl; preamble = refl };
     width = refl;
     payload = written_hll8 k R state lg_k.low lg_k.high are is;
   }) (sym (λ i. let y : Sketch = record { lg_k = k; width = Hll8; content = registers (registers_hll8 k R state lg_k.low lg_k.high are is i) (state_hll8 k R state lg_k.low lg_k.high are is (eqb (flag_of state / 16 % 2) 1) (flag_back state) i) } in y)))
-  registers_image Hll6 bytes order h = rw h.1 (hll6 (record {
+  registers_image Hll6 bytes h = rw h (hll6 (record {
     header = record { whole = omega arith; family = refl; version = refl; lg_k = lg_k; width = omega arith; stage_is = refl; preamble = refl };
     width = refl;
     payload = written_hll6 k R state lg_k.low lg_k.high are is;
   }) (sym (λ i. let y : Sketch = record { lg_k = k; width = Hll6; content = registers (registers_hll6 k R state lg_k.low lg_k.high are is i) (state_hll6 k R state lg_k.low lg_k.high are is (eqb (flag_of state / 16 % 2) 1) (flag_back state) i) } in y)))
-  registers_image Hll4 bytes order h = rw h.1 (hll4 (record {
+  registers_image Hll4 bytes h = rw h.is (hll4 (record {
     header = record { whole = omega arith; family = refl; version = refl; lg_k = lg_k; width = omega arith; stage_is = refl; preamble = refl };
     width = refl;
-    payload = subst (λ c. IsHll4Payload (shape c) payload) (sym (compact_back4 state)) (written_hll4 k R state lg_k.low lg_k.high are is order true h.0);
-  }) (sym (λ i. let y : Sketch = record { lg_k = k; width = Hll4; content = registers ((ap (λ c. registers_of (shape c) payload) (compact_back4 state) ∙ registers_hll4 k R state lg_k.low lg_k.high are is order true h.0) i) (state_hll4 k R state lg_k.low lg_k.high are is order true h.0 (eqb ((8 + flag_of state) / 16 % 2) 1) (flag_back4 state) i) } in y)))
+    payload = subst (λ c. IsHll4Payload (shape c) payload) (sym (compact_back4 state)) (written_hll4 k R state lg_k.low lg_k.high are is h.order true h.ascending);
+  }) (sym (λ i. let y : Sketch = record { lg_k = k; width = Hll4; content = registers ((ap (λ c. registers_of (shape c) payload) (compact_back4 state) ∙ registers_hll4 k R state lg_k.low lg_k.high are is h.order true h.ascending) i) (state_hll4 k R state lg_k.low lg_k.high are is h.order true h.ascending (eqb ((8 + flag_of state) / 16 % 2) 1) (flag_back4 state) i) } in y)))
     where
       payload : List ℕ
-      payload = drop 8 (hll4_bytes k R state order)
+      payload = drop 8 (hll4_bytes k R state h.order)
 
       shape : Bool → Hll4Shape
       shape c = record { lg_k = k; minimum = minimum R; compact = c; lg_table = 0 }
 
 -- ---- every legal sketch
 
-content_image : (bytes : List ℕ) (k : ℕ) (w : HllType) (c : Content) (order : List ℕ) → IsLgK k → IsLegalContent k c → WritesContent bytes k w c order → Image bytes (record { lg_k = k; width = w; content = c })
-content_image bytes k w (registers R state) order lg h written = registers_image k R state lg h.0 h.1 w bytes order written
-content_image bytes k w (coupons S p) order lg h written = elim h.1 [
-  | inl l ↦
-      let is : bytes ≡ list_bytes k w order = written.1 ∙ cond-true (eqb p 3) (list_bytes k w order) (set_bytes k w p order) (eq-eqb p 3 l.0) in
-      let y : ℕ → Sketch = λ n. record { lg_k = k; width = w; content = coupons S n } in
-      subst (λ n. Image bytes (y n)) (sym l.0) (rw is (list_image k w S order lg h.0 written.0 l.1))
-  | inr s ↦
-      let is : bytes ≡ set_bytes k w p order = written.1 ∙ cond-false (eqb p 3) (list_bytes k w order) (set_bytes k w p order) (ne_eqb p 3 (λ e. omega (arith, s.0))) in
-      rw is (set_image k w S order lg h.0 written.0 p s.0 s.1 s.2)
-]
+content_image : (bytes : List ℕ) (k : ℕ) (w : HllType) (c : Content) → IsLgK k → IsLegalContent k c → WritesContent bytes k w c → Image bytes (record { lg_k = k; width = w; content = c })
+content_image bytes k w (registers R state) lg h written = registers_image k R state lg h.0 h.1 w bytes written
+content_image bytes k w (coupons S p) lg h written =
+    let order : List ℕ = written.order in
+    let lists : ListsOnce order S = lists_once order S written.ascending in
+    elim h.1 [
+      | inl l ↦
+          let is : bytes ≡ list_bytes k w order = written.is ∙ cond-true (eqb p 3) (list_bytes k w order) (set_bytes k w p order) (eq-eqb p 3 l.0) in
+          let y : ℕ → Sketch = λ n. record { lg_k = k; width = w; content = coupons S n } in
+          subst (λ n. Image bytes (y n)) (sym l.0) (rw is (list_image k w S order lg h.0 lists l.1))
+      | inr s ↦
+          let is : bytes ≡ set_bytes k w p order = written.is ∙ cond-false (eqb p 3) (list_bytes k w order) (set_bytes k w p order) (ne_eqb p 3 (λ e. omega (arith, s.0))) in
+          rw is (set_image k w S order lg h.0 lists p s.0 s.1 s.2)
+    ]
 
 pub written_is_image : WrittenIsImage
-written_is_image bytes x order legal written = content_image bytes x.lg_k x.width x.content order legal.lg_k legal.content written
+written_is_image bytes x legal written = content_image bytes x.lg_k x.width x.content legal.lg_k legal.content written
 
 pub list_is_read_back : ListIsReadBack
 list_is_read_back k w order more lg_k few valued distinct =
     read_back k w (set_of order) order lg_k (all_pairs order valued) (record { members = refl; once = sym distinct }) more (omega (arith, distinct))
+
+-- ---- same bytes
+
+-- what is written for registers is a function of them
+registers_once : (k : ℕ) (w : HllType) (R : List ℕ) (state : EstimateState) (a b : List ℕ) → WritesRegisters a k w R state → WritesRegisters b k w R state → a ≡ b
+registers_once k Hll4 R state a b u v = written_once (hll4_bytes k R state) (set_of (exceptions R)) a b u v
+registers_once k Hll6 R state a b u v = u ∙ sym v
+registers_once k Hll8 R state a b u v = u ∙ sym v
+
+-- and so it is for a sketch
+pub one_written : (x : Sketch) (a b : List ℕ) → Written a x → Written b x → a ≡ b
+one_written x a b u v = of x.content u v
+  where
+    of : (c : Content) → WritesContent a x.lg_k x.width c → WritesContent b x.lg_k x.width c → a ≡ b
+    of (coupons S p) u v = written_once (coupon_image x.lg_k x.width p) S a b u v
+    of (registers R state) u v = registers_once x.lg_k x.width R state a b u v
+
+equal_itself : (x : Sketch) → IsEqual x x
+equal_itself x = record { lg_k = refl; width = refl; content = of x.content }
+  where
+    of : (c : Content) → IsEqualContent c c
+    of (coupons S p) = (refl, (λ e. e, λ e. e))
+    of (registers R state) = (refl, refl)
+
+same_content : (c d : Content) → HaveSameSize c d → IsEqualContent c d → c ≡ d
+same_content (coupons S p) (coupons T q) size e = λ i. coupons (e.0 i) (size i)
+same_content (registers R s) (registers Q t) size e = λ i. registers (e.0 i) (e.1 i)
+same_content (coupons S p) (registers Q t) size e = absurd e
+same_content (registers R s) (coupons T q) size e = absurd e
+
+same_sketch : (x y : Sketch) → HaveSameSize x.content y.content → IsEqual x y → x ≡ y
+same_sketch x y size e =
+    let content : x.content ≡ y.content = same_content x.content y.content size e.content in
+    λ i. record { lg_k = e.lg_k i; width = e.width i; content = content i }
+
+pub same_bytes : SameBytes
+same_bytes x y a b legal_x legal_y size u v = (
+  λ e. subst (IsEqual x) (one_image a b [] [] x y (written_is_image a x legal_x u) (written_is_image b y legal_y v) (ap (λ c. c ++ []) e)).1 (equal_itself x),
+  λ e. one_written y a b (subst (Written a) (same_sketch x y size e) u) v,
+)

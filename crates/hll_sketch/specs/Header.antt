@@ -23,5 +23,5 @@ header_of b = record {
   empty = is_flagged 4 b;
   compact = is_flagged 8 b;
   out_of_order = is_flagged 16 b;
-  state = state_byte b;
+  state_byte = state_byte b;
 }

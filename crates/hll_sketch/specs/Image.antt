@@ -1,7 +1,7 @@
 -- The grammar of images, by cases (docs/FORMAT.md, "The image"; docs/MODEL.md, "Images").
 use Rattle.std.specs.Prelude.{◌≡◌, ℕ, ◌+◌, ◌/◌, ◌%◌, ◌≤◌, ◌<◌, ◌==◌, Bool, if◌then◌else◌, List, length, drop, slice_index, All, ◌++◌}
 use Rattle.hll_coupons.specs.Pair.{set_of}
-use Rattle.hll_coupons.specs.Payload.{ListShape, list_coupons, IsListPayload, SetShape, set_coupons, IsSetPayload}
+use Rattle.hll_coupons.specs.Payload.{ListShape, shape_of_list, list_coupons, IsListPayload, SetShape, set_coupons, IsSetPayload}
 use Rattle.hll_coupons.specs.declared.hll_type.HllType.{HllType}
 use Rattle.hll_coupons.specs.declared.hll_type.HllType.TheVariants.{Hll4, Hll6, Hll8}
 use Rattle.hll_arrays.specs.Packed.{fields}
@@ -61,7 +61,7 @@ pub record HasHeader (b : List ℕ) (stage : ℕ) : Type 0 where
 
 -- what the header says of each stage
 abbrev pub list_shape : List ℕ → ListShape
-list_shape b = record { lg_size = 3; count = state_byte b; empty = is_flagged 4 b; compact = is_flagged 8 b }
+list_shape b = shape_of_list 3 (state_byte b) (is_flagged 4 b) (is_flagged 8 b)
 
 abbrev pub set_shape : List ℕ → SetShape
 set_shape b = record { lg_size = table_byte b; compact = is_flagged 8 b }

@@ -5,7 +5,7 @@ pub mod Header
 pub mod Image
 pub mod Laws
 pub mod Merging
-pub mod Plain
+pub mod Reference
 pub mod Stage
 pub mod Value
 pub mod Written

@@ -47,7 +47,7 @@ pub struct Header {
     /// Whether the out-of-order flag is set.
     pub out_of_order: bool,
     /// The byte whose meaning goes by the stage: the count of a list, the minimum of registers of four bits.
-    pub state: u8,
+    pub state_byte: u8,
 }
 
 impl Header {
@@ -66,7 +66,7 @@ impl Header {
             lg_k,
             lg_arr,
             flags,
-            state,
+            state_byte,
             mode,
             ..
         ] = bytes
@@ -87,7 +87,7 @@ impl Header {
             empty: is_flagged(*flags, EMPTY_FLAG_MASK),
             compact: is_flagged(*flags, COMPACT_FLAG_MASK),
             out_of_order: is_flagged(*flags, OUT_OF_ORDER_FLAG_MASK),
-            state: *state,
+            state_byte: *state_byte,
         })
     }
 }

@@ -1,9 +1,9 @@
 //! The laws of adding, merging and images, each the contract of a function that does nothing
 //! (docs/MODEL.md, "Laws of adding and merging" and "Images").
-ghost use Rattle.hll_sketch.specs.Laws.{AddOfAdd, AddEach, EmptyMerged, UnionLgK, AddIsLegal, MergedIsLegal};
+ghost use Rattle.hll_sketch.specs.Laws.{AddOfAdd, AddEach, MergeOfEmpty, UnionLgK, AddIsLegal, MergeIsLegal};
 ghost use Rattle.hll_sketch.specs.Image.{OneImage, ImageIsLegal};
 ghost use Rattle.hll_sketch.specs.Fault.{FaultExcludesHeader, FaultExcludesImage, FaultsAreOfData};
-ghost use Rattle.hll_sketch.specs.Written.{WrittenIsImage, ListIsReadBack};
+ghost use Rattle.hll_sketch.specs.Written.{WrittenIsImage, SameBytes, ListIsReadBack};
 
 /// To add pairs twice is to add their union.
 pub fn add_of_add()
@@ -16,8 +16,8 @@ pub fn add_each()
 {}
 
 /// An empty sketch merged changes nothing.
-pub fn empty_merged()
-    ensures { EmptyMerged }
+pub fn merge_of_empty()
+    ensures { MergeOfEmpty }
 {}
 
 /// The lg_k of a union is the least of its bound and of the merged sketches in registers that are not all 0.
@@ -35,7 +35,7 @@ pub fn fault_excludes_header()
     ensures { FaultExcludesHeader }
 {}
 
-/// Where a fault stands in bytes, no front of them is an image.
+/// Where bytes have a fault, no front of them is an image.
 pub fn fault_excludes_image()
     ensures { FaultExcludesImage }
 {}
@@ -50,7 +50,12 @@ pub fn written_is_image()
     ensures { WrittenIsImage }
 {}
 
-/// What is written for a list, and then any bytes, is read as the same list, its places included.
+/// The bytes written for two legal sketches are the same exactly if the sketches are equal, tables of two sizes aside.
+pub fn same_bytes()
+    ensures { SameBytes }
+{}
+
+/// An image of a list, and then any bytes, are read as a list with the coupons in their order.
 pub fn list_is_read_back()
     ensures { ListIsReadBack }
 {}
@@ -66,6 +71,6 @@ pub fn add_is_legal()
 {}
 
 /// A legal gadget stays legal when a legal sketch is merged.
-pub fn merged_is_legal()
-    ensures { MergedIsLegal }
+pub fn merge_is_legal()
+    ensures { MergeIsLegal }
 {}

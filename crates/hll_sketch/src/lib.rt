@@ -3,10 +3,8 @@
 
 pub mod header;
 pub mod hll8_image;
-#[cfg(test)]
-mod image_tests;
 pub mod laws;
 pub mod list_image;
-pub mod plain;
-#[cfg(test)]
-mod tests;
+pub mod reference;
+
+pub use header::{Header, Stage};

@@ -34,7 +34,7 @@ pub fn read_list<A: Allocator>(alloc: A, bytes: &[u8], header: Header) -> Result
         alloc,
         SketchSlice::new(&bytes[HEADER_SIZE..]),
         usize::from(LG_LIST_SIZE),
-        usize::from(header.state),
+        usize::from(header.state_byte),
         header.empty,
         header.compact,
     )

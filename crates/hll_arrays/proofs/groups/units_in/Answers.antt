@@ -9,7 +9,7 @@ pub loop-group-preserved : goal.loop-group-preserved
 loop-group-preserved c =
     let G = c.args.groups.now in
     let i = c.loop-group.group-index in
-    let here : c.units_of-sum.result ≡ units (group_fields (get_or G i [])) = c.units_of-sum.ensures.units ∙ ap units c.unpack_group.ensures.fields in
+    let here : c.units-sum.result ≡ units (group_fields (get_or G i [])) = c.units-sum.ensures.units ∙ ap units c.unpack_group.ensures.fields in
     let most : units (group_fields (get_or G i [])) ≤ 4 * 2 ^ 63 = units-le (group_fields (get_or G i [])) in
     let more : units (registers_in (take (i + 1) G)) ≡ units (registers_in (take i G)) + units (group_fields (get_or G i [])) =
     ap units (registers_in-take_more G i [] c.loop-group-test.true) ∙ sum_by-append (λ v. 2 ^ (63 - v)) (registers_in (take i G)) (group_fields (get_or G i [])) in

@@ -3,9 +3,9 @@ use Rattle.std.specs.FinSet.{contains}
 use Rattle.std.proofs.lemmas.Bool.{cond-false, true≢false}
 use Rattle.std.proofs.lemmas.List.{length-append, length-drop}
 use Rattle.hll_coupons.specs.Pair.{value_of}
-use Rattle.hll_coupons.specs.Table.{Table, held, filled_from_front, empty_table, arrived, coupons_of}
+use Rattle.hll_coupons.specs.Table.{Table, coupons_in, filled_from_front, empty_table, coupons_with, coupons_of}
 use Rattle.hll_coupons.specs.Coupons.{coupons_at, AreCoupons}
-use Rattle.hll_coupons.proofs.Places.{held-replicate}
+use Rattle.hll_coupons.proofs.Places.{coupons_in-replicate}
 use Rattle.hll_coupons.proofs.Reading.{all_places, passed_over, no_value, twice, AreCoupons-push, AreCoupons-nil}
 use Rattle.hll_coupons.proofs.list.read_places.Goals as goal
 use Rattle.hll_coupons.proofs.list.read_places.Goals.{else-is_empty-via-then-is_empty+else-not-compact, else-is_empty-via-else-is_empty, then-value-eq0-via-then-value-eq0, then-value-eq0-via-else-value-eq0+then-contains}
@@ -16,7 +16,7 @@ empty_filled lg = let whole : 2 ^ lg ≡ 2 ^ lg - 0 = omega arith in ap (λ n. l
 
 pub loop-init : goal.loop-init
 loop-init g c =
-    let none : held c.args.list.now.places ≡ [] = ap (λ (t : Table). held t.places) c.requires.none ∙ held-replicate (2 ^ c.args.list.now.lg_size) in
+    let none : coupons_in c.args.list.now.places ≡ [] = ap (λ (t : Table). coupons_in t.places) c.requires.none ∙ coupons_in-replicate (2 ^ c.args.list.now.lg_size) in
     let whole : c.args.places ≡ c.args.places - 0 = omega arith in
     record {
       read = (λ i. sym none i ++ coupons_at c.args.compact (whole i) c.args.cursor);
@@ -32,11 +32,11 @@ loop-preserved-then-not-compact g c =
     let inv = c.loop.invariant in
     let word = c.in_ok-read_u32_le.ensures.ok in
     let zero' : c.in_ok-read_u32_le.field-0 ≡ 0 = sym c.from_raw-coupon.ensures ∙ c.is_empty.ensures.0 c.if-is_empty.true in
-    let P : Bool → Type 0 = λ b. coupons_at b c.args.places c.args.cursor ≡ held c.loop.list.places ++ coupons_at b (c.args.places - (c.loop.counter + 1)) c.read_u32_le.new.self in
-    let places : coupons_at false c.args.places c.args.cursor ≡ held c.loop.list.places ++ coupons_at false (c.args.places - c.loop.counter) c.loop.cursor =
-    subst (λ b. coupons_at b c.args.places c.args.cursor ≡ held c.loop.list.places ++ coupons_at b (c.args.places - c.loop.counter) c.loop.cursor) c.if-not-compact.true inv.read in
+    let P : Bool → Type 0 = λ b. coupons_at b c.args.places c.args.cursor ≡ coupons_in c.loop.list.places ++ coupons_at b (c.args.places - (c.loop.counter + 1)) c.read_u32_le.new.self in
+    let places : coupons_at false c.args.places c.args.cursor ≡ coupons_in c.loop.list.places ++ coupons_at false (c.args.places - c.loop.counter) c.loop.cursor =
+    subst (λ b. coupons_at b c.args.places c.args.cursor ≡ coupons_in c.loop.list.places ++ coupons_at b (c.args.places - c.loop.counter) c.loop.cursor) c.if-not-compact.true inv.read in
     record {
-      read = subst P (sym c.if-not-compact.true) (passed_over c.args.places c.loop.counter c.in_ok-read_u32_le.field-0 c.loop.cursor c.read_u32_le.new.self (coupons_at false c.args.places c.args.cursor) (held c.loop.list.places) c.loop-test.true places word.1 word.2 zero');
+      read = subst P (sym c.if-not-compact.true) (passed_over c.args.places c.loop.counter c.in_ok-read_u32_le.field-0 c.loop.cursor c.read_u32_le.new.self (coupons_at false c.args.places c.args.cursor) (coupons_in c.loop.list.places) c.loop-test.true places word.1 word.2 zero');
       room = omega (arith, inv.room, ap length word.2, length-drop 4 c.loop.cursor, c.loop-test.true);
       size = inv.size;
       few = omega (arith, inv.few);
@@ -54,13 +54,13 @@ returns-then-value-eq0-clause-err g c =
       | else-is_empty-via-else-is_empty v ↦ absurd (true≢false (sym (c.is_empty.ensures.1 (c.from_raw-coupon.ensures ∙ z)) ∙ v.if-is_empty.false))
     ] in
     let rest : List ℕ = coupons_at c.args.compact (c.args.places - (c.loop.counter + 1)) c.read_u32_le.new.self in
-    let all : coupons_at c.args.compact c.args.places c.args.cursor ≡ held c.loop.list.places ++ w ∷ rest =
-    all_places c.args.compact c.args.places c.loop.counter w c.loop.cursor c.read_u32_le.new.self (coupons_at c.args.compact c.args.places c.args.cursor) (held c.loop.list.places) c.loop-test.true inv.read word.1 word.2 filled in
+    let all : coupons_at c.args.compact c.args.places c.args.cursor ≡ coupons_in c.loop.list.places ++ w ∷ rest =
+    all_places c.args.compact c.args.places c.loop.counter w c.loop.cursor c.read_u32_le.new.self (coupons_at c.args.compact c.args.places c.args.cursor) (coupons_in c.loop.list.places) c.loop-test.true inv.read word.1 word.2 filled in
     let same : c.from_raw-coupon.result ≡ w = c.from_raw-coupon.ensures in (
       c.new.ensures,
       λ are. elim c.then-value-eq0.branch [
-        | then-value-eq0-via-then-value-eq0 v ↦ no_value (held c.loop.list.places) rest w (ap value_of (sym same) ∙ sym c.value.ensures.value ∙ v.if-value-eq0.true) (subst AreCoupons all are)
-        | then-value-eq0-via-else-value-eq0+then-contains v ↦ twice (held c.loop.list.places) rest w (ap (contains (coupons_of c.loop.list)) (sym same) ∙ sym v.contains.ensures ∙ v.if-contains.true) (subst AreCoupons all are)
+        | then-value-eq0-via-then-value-eq0 v ↦ no_value (coupons_in c.loop.list.places) rest w (ap value_of (sym same) ∙ sym c.value.ensures.value ∙ v.if-value-eq0.true) (subst AreCoupons all are)
+        | then-value-eq0-via-else-value-eq0+then-contains v ↦ twice (coupons_in c.loop.list.places) rest w (ap (contains (coupons_of c.loop.list)) (sym same) ∙ sym v.contains.ensures ∙ v.if-contains.true) (subst AreCoupons all are)
       ],
     )
 
@@ -73,15 +73,15 @@ loop-preserved g c =
       | else-is_empty-via-then-is_empty+else-not-compact v ↦ v.if-not-compact.false
       | else-is_empty-via-else-is_empty v ↦ absurd (true≢false (sym (c.is_empty.ensures.1 (c.from_raw-coupon.ensures ∙ z)) ∙ v.if-is_empty.false))
     ] in
-    let order : List ℕ = held c.loop.list.places in
+    let order : List ℕ = coupons_in c.loop.list.places in
     let rest : List ℕ = coupons_at c.args.compact (c.args.places - (c.loop.counter + 1)) c.read_u32_le.new.self in
     let all : coupons_at c.args.compact c.args.places c.args.cursor ≡ order ++ w ∷ rest =
     all_places c.args.compact c.args.places c.loop.counter w c.loop.cursor c.read_u32_le.new.self (coupons_at c.args.compact c.args.places c.args.cursor) order c.loop-test.true inv.read word.1 word.2 filled in
     let same : c.from_raw-coupon.result ≡ w = c.from_raw-coupon.ensures in
     let new : contains (coupons_of c.loop.list) c.from_raw-coupon.result ≡ false = sym c.contains.ensures ∙ c.if-contains.false in
-    let came : arrived order c.from_raw-coupon.result ≡ order ++ w ∷ [] =
+    let came : coupons_with order c.from_raw-coupon.result ≡ order ++ w ∷ [] =
     cond-false (contains (coupons_of c.loop.list) c.from_raw-coupon.result) order (order ++ c.from_raw-coupon.result ∷ []) new ∙ ap (λ z. order ++ z ∷ []) same in
-    let held_new : held c.update.new.self.places ≡ order ++ w ∷ [] = c.update.ensures.order ∙ came in
+    let held_new : coupons_in c.update.new.self.places ≡ order ++ w ∷ [] = c.update.ensures.order ∙ came in
     let lg : c.update.new.self.lg_size ≡ c.loop.list.lg_size = ap (λ (t : Table). t.lg_size) c.update.ensures.places in
     record {
       read = all ∙ sym (append_assoc order (w ∷ []) rest) ∙ ap (λ xs. xs ++ rest) (sym held_new);

@@ -1,15 +1,15 @@
 use Rattle.std.proofs.Common.{◌≡◌, ◌-◌, ◌*◌, ◌≤◌, ◌++◌, length}
-use Rattle.hll_coupons.specs.Table.{held, filled_from_front}
+use Rattle.hll_coupons.specs.Table.{coupons_in, filled_from_front}
 use Rattle.hll_coupons.specs.Coupons.{coupons_at, AreCoupons}
 use Rattle.hll_coupons.proofs.list.read_places.Given as goal
 
 -- the coupons of the places so far are held, and the rest is to come
 abbrev pub invariant-loop : goal.invariant-loop
 invariant-loop g l = record {
-  read : coupons_at l.compact l.fn.places l.fn.cursor ≡ held l.list.places ++ coupons_at l.compact (l.places - l.counter) l.cursor;
+  read : coupons_at l.compact l.fn.places l.fn.cursor ≡ coupons_in l.list.places ++ coupons_at l.compact (l.places - l.counter) l.cursor;
   room : 4 * (l.places - l.counter) ≤ length l.cursor;
   size : l.list.lg_size ≡ l.fn.list.lg_size;
-  few : length (held l.list.places) ≤ l.counter;
-  front : l.list ≡ filled_from_front l.list.lg_size (held l.list.places);
-  are : AreCoupons (held l.list.places);
+  few : length (coupons_in l.list.places) ≤ l.counter;
+  front : l.list ≡ filled_from_front l.list.lg_size (coupons_in l.list.places);
+  are : AreCoupons (coupons_in l.list.places);
 }

@@ -6,6 +6,6 @@ pub returns : goal.returns
 returns g c = elim c.match-carry_lines.branch [
   | in-Ok w ↦
       let ran = w.in-Ok.ensures in
-      rw w.result-is (inr (inr (record { fault = refl; at = ran.0; stack = ran.1.0; runs = ran.1.1 })))
+      rw (w.result-is, w.at.ensures) (inr (inr (record { fault = refl; at = ran.0; stack = ran.1.0; runs = ran.1.1 })))
   | in-Err w ↦ rw w.result-is (elim w.in-Err.ensures [ inl m ↦ inl m | inr f ↦ inr (inl f) ])
 ]

@@ -3,7 +3,7 @@ use Rattle.std.proofs.lemmas.Bool.{true≢false}
 use Rattle.hll_merge.specs.Listed.{Listed, BringsEighth}
 use Rattle.hll_merge.specs.Kept as kept
 use Rattle.hll_merge.specs.Kept.{kept_of, Adds, GoesBeyond, Promotes}
-use Rattle.hll_merge.proofs.ReadLemmas.{IfErr-passed}
+use Rattle.hll_base.proofs.Errors.{IfErr-passed}
 use Rattle.hll_merge.proofs.Updating.{stays, goes, goes_there, goes_beyond, some_of_value}
 use Rattle.hll_merge.proofs.sketch.update_mode.Goals as goal
 

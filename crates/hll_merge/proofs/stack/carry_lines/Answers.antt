@@ -1,8 +1,8 @@
 use Rattle.std.proofs.Common.{◌≡◌, ℕ, ◌+◌, inl, inr, List, [], ◌∷◌, ◌++◌, length, ap, sym, ◌∙◌, append_assoc, arith}
 use Rattle.std.proofs.lemmas.List.{length-append}
 use Rattle.hll_merge.specs.Plan.{Plan}
-use Rattle.hll_merge.specs.Text.{line_number}
-use Rattle.hll_merge.specs.Extent.{lines_of}
+use Rattle.hll_text.specs.Text.{line_number}
+use Rattle.hll_text.specs.Extent.{lines_of}
 use Rattle.hll_merge.proofs.StackLemmas.{Runs-more}
 use Rattle.hll_merge.specs.Served.{today}
 use Rattle.hll_merge.proofs.stack.carry_lines.Goals as goal
@@ -12,7 +12,7 @@ returns-in-Err g c =
     let inv = c.lines.invariant in
     let front : List (List ℕ) = inv.0 in
     let ts : List Plan = inv.1 in
-    elim (c.in-Err.ensures.carried ts inv.4) [
+    rw c.at.ensures (elim (c.in-Err.ensures.carried ts inv.4) [
       | inl m ↦ inl m
       | inr f ↦ inr (record {
         front = front;
@@ -24,7 +24,7 @@ returns-in-Err g c =
         fault = f;
         at = let n : c.saturating_add-number.result ≡ line_number (length front + 1) = omega (arith, inv.5, c.saturating_add-number.ensures) in n;
       })
-    ]
+    ])
 
 pub lines-preserved : goal.lines-preserved
 lines-preserved g c =

@@ -1,7 +1,7 @@
 use Rattle.std.proofs.Common.{arith, ℕ, List, ◌≤◌, length-drop, ◌-◌, length, take, drop, refl, subst, sym, ◌∙◌, ap}
 use Rattle.std.specs.Io.KnownBytes.{Appends}
-use Rattle.hll_merge.proofs.StreamLemmas.{Appends-more}
-use Rattle.hll_merge.proofs.PartLemmas.{take-rest, take-add}
+use Rattle.hll_text.proofs.StreamLemmas.{Appends-more}
+use Rattle.hll_text.proofs.PartLemmas.{take-rest, take-add}
 use Rattle.hll_program.proofs.SendLemmas.{front-at, Appends-taken, taken-le}
 use Rattle.hll_program.proofs.refusal.write_piece.Goals as goal
 

@@ -1,4 +1,4 @@
-use Rattle.hll_sketch.proofs.Legality.{add_is_legal}
+use Rattle.hll_sketch.proofs.LegalSketches.{add_is_legal}
 use Rattle.hll_sketch.proofs.laws.add_is_legal.Goals as goal
 
 pub returns : goal.returns

@@ -1,4 +1,4 @@
-use Rattle.hll_sketch.proofs.Legal.{image_is_legal}
+use Rattle.hll_sketch.proofs.LegalImages.{image_is_legal}
 use Rattle.hll_sketch.proofs.laws.image_is_legal.Goals as goal
 
 pub returns : goal.returns

@@ -16,10 +16,10 @@ returns-then-header-ne-LG_LIST_SIZE-clause-err g c =
     c.if-header-ne-LG_LIST_SIZE.true (ap (λ h. h.lg_arr) c.requires.header ∙ three))))
 
 -- what was handed to the reader of lists is the shape of the image
-same_shape : (b : List ℕ) (h : Header) (size count : ℕ) → h ≡ header_of b → size ≡ 3 → count ≡ h.state
+same_shape : (b : List ℕ) (h : Header) (size count : ℕ) → h ≡ header_of b → size ≡ 3 → count ≡ h.state_byte
     → (let s : ListShape = record { lg_size = size; count = count; empty = h.empty; compact = h.compact } in s) ≡ list_shape b
 same_shape b h size count is three state =
-    λ i. record { lg_size = three i; count = (state ∙ ap (λ (x : Header). x.state) is) i; empty = ap (λ (x : Header). x.empty) is i; compact = ap (λ (x : Header). x.compact) is i }
+    λ i. record { lg_size = three i; count = (state ∙ ap (λ (x : Header). x.state_byte) is) i; empty = ap (λ (x : Header). x.empty) is i; compact = ap (λ (x : Header). x.compact) is i }
 
 pub returns-clause-ok : goal.returns-clause-ok
 returns-clause-ok g c =

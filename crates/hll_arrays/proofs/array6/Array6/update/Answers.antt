@@ -6,10 +6,10 @@ use Rattle.std.proofs.lemmas.List.{with_items_is}
 use Rattle.std.specs.Vec.{with_items}
 use Rattle.hll_coupons.specs.Pair.{slot_of, value_of}
 use Rattle.hll_arrays.specs.Groups.{registers_in}
-use Rattle.hll_arrays.specs.State.{cleared}
-use Rattle.hll_arrays.specs.Store.{Stored, raised_by_coupon}
+use Rattle.hll_arrays.specs.State.{cleared_state}
+use Rattle.hll_arrays.specs.Store.{Stored, update_with_coupon}
 use Rattle.hll_arrays.proofs.Grouping.{size-AreGroups, length-registers_in}
-use Rattle.hll_arrays.proofs.Raising.{raised-low, raised-high}
+use Rattle.hll_arrays.proofs.Raising.{update_with_pairs-low, update_with_pairs-high}
 use Rattle.hll_arrays.proofs.array6.Array6.update.Goals as goal
 
 pub register_at-requires : goal.register_at-requires
@@ -17,7 +17,7 @@ register_at-requires g c =
     let k : ℕ = c.self.inside.lg_config_k in
     let G : List (List ℕ) = c.self.inside.groups.items in
     let size : 4 * length G ≡ 2 ^ k = size-AreGroups k G (omega (arith, c.self.invariant.0)) c.self.invariant.2 in
-    let at : c.slot.result % c.registers_of.result ≡ c.slot.result % 2 ^ k = ap (λ n. c.slot.result % n) c.registers_of.ensures in
+    let at : c.slot.result % c.two_to.result ≡ c.slot.result % 2 ^ k = ap (λ n. c.slot.result % n) c.two_to.ensures in
     omega (arith, at, size, ap length c.deref.ensures.value, mod-lt c.slot.result (pow_pos k))
 
 pub put_register-requires-clause-within : goal.put_register-requires-clause-within
@@ -25,7 +25,7 @@ put_register-requires-clause-within g c =
     let k : ℕ = c.self.inside.lg_config_k in
     let G : List (List ℕ) = c.self.inside.groups.items in
     let size : 4 * length G ≡ 2 ^ k = size-AreGroups k G (omega (arith, c.self.invariant.0)) c.self.invariant.2 in
-    let at : c.slot.result % c.registers_of.result ≡ c.slot.result % 2 ^ k = ap (λ n. c.slot.result % n) c.registers_of.ensures in
+    let at : c.slot.result % c.two_to.result ≡ c.slot.result % 2 ^ k = ap (λ n. c.slot.result % n) c.two_to.ensures in
     omega (arith, at, size, ap length c.deref_mut.ensures.value, mod-lt c.slot.result (pow_pos k))
 
 pub returns-then-register_at-value : goal.returns-then-register_at-value
@@ -35,16 +35,16 @@ returns-then-register_at-value g c =
     let R : List ℕ = registers_in G in
     let slot : ℕ = slot_of c.args.coupon % 2 ^ k in
     let size : length R ≡ 2 ^ k = length-registers_in G ∙ size-AreGroups k G (omega (arith, c.self.invariant.0)) c.self.invariant.2 in
-    let at : c.slot.result % c.registers_of.result ≡ slot = λ i. c.slot.ensures.slot i % c.registers_of.ensures i in
+    let at : c.slot.result % c.two_to.result ≡ slot = λ i. c.slot.ensures.slot i % c.two_to.ensures i in
     let within : slot < length R = omega (arith, size, mod-lt (slot_of c.args.coupon) (pow_pos k)) in
     let old : c.register_at.result ≡ get_or R slot 0 = c.register_at.ensures ∙ (λ i. get_or (registers_in (c.deref.ensures.value i)) (at i) 0) in
     let high : get_or R slot 0 < value_of c.args.coupon = omega (arith, old, c.if-register_at-value.true, c.value.ensures.value) in
     let registers : registers_in (with_items c.self.inside.groups c.put_register.new.groups).items ≡ set R slot (value_of c.args.coupon) =
     ap registers_in (with_items_is c.self.inside.groups c.put_register.new.groups (c.put_register.ensures.len ∙ c.deref_mut.ensures.len)) ∙ c.put_register.ensures.registers
     ∙ (λ i. set (registers_in (c.deref_mut.ensures.value i)) (at i) (c.value-then-register_at-value.ensures.value i)) in
-    let written : Stored = record { lg_k = k; registers = registers_in (with_items c.self.inside.groups c.put_register.new.groups).items; state = cleared } in
-    subst (λ z. written ≡ raised_by_coupon z c.args.coupon) c.self.view_is
-    ((λ i. record { lg_k = k; registers = registers i; state = cleared }) ∙ raised-high k R c.args.coupon size c.self.inside.state within high)
+    let written : Stored = record { lg_k = k; registers = registers_in (with_items c.self.inside.groups c.put_register.new.groups).items; state = cleared_state } in
+    subst (λ z. written ≡ update_with_coupon z c.args.coupon) c.self.view_is
+    ((λ i. record { lg_k = k; registers = registers i; state = cleared_state }) ∙ update_with_pairs-high k R c.args.coupon size c.self.inside.state within high)
 
 pub returns-else-register_at-value : goal.returns-else-register_at-value
 returns-else-register_at-value g c =
@@ -53,7 +53,7 @@ returns-else-register_at-value g c =
     let R : List ℕ = registers_in G in
     let slot : ℕ = slot_of c.args.coupon % 2 ^ k in
     let size : length R ≡ 2 ^ k = length-registers_in G ∙ size-AreGroups k G (omega (arith, c.self.invariant.0)) c.self.invariant.2 in
-    let at : c.slot.result % c.registers_of.result ≡ slot = λ i. c.slot.ensures.slot i % c.registers_of.ensures i in
+    let at : c.slot.result % c.two_to.result ≡ slot = λ i. c.slot.ensures.slot i % c.two_to.ensures i in
     let old : c.register_at.result ≡ get_or R slot 0 = c.register_at.ensures ∙ (λ i. get_or (registers_in (c.deref.ensures.value i)) (at i) 0) in
     let low : value_of c.args.coupon ≤ get_or R slot 0 = omega (arith, old, c.if-register_at-value.false, c.value.ensures.value) in
-    subst (λ z. z ≡ raised_by_coupon z c.args.coupon) c.self.view_is (raised-low k R c.args.coupon size c.self.inside.state low)
+    subst (λ z. z ≡ update_with_coupon z c.args.coupon) c.self.view_is (update_with_pairs-low k R c.args.coupon size c.self.inside.state low)

@@ -25,4 +25,4 @@ returns g c =
     let registers : registers_in c.self.inside.groups.items ≡ c.args.self.now.registers = ap (λ (x : Stored). x.registers) c.self.view_is in
     let part : registers_in (take n (drop first c.self.inside.groups.items)) ≡ take (length c.args.values.now) (drop c.args.first c.args.self.now.registers) =
     sym (take-registers_in n (drop first c.self.inside.groups.items)) ∙ ap (take (4 * n)) (sym (drop-registers_in first c.self.inside.groups.items)) ∙ (λ i. take (many i) (drop (from i) (registers i))) in
-    c.raise_each.ensures ∙ ap (join c.args.values.now) (groups ∙ part)
+    c.max_groups_into.ensures ∙ ap (join c.args.values.now) (groups ∙ part)

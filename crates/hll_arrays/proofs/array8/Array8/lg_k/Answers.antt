@@ -3,4 +3,4 @@ use Rattle.hll_arrays.specs.Store.{IsStored}
 use Rattle.hll_arrays.proofs.array8.Array8.lg_k.Goals as goal
 
 pub returns-clause-legal : goal.returns-clause-legal
-returns-clause-legal g c = subst IsStored c.self.view_is (record { low = c.self.invariant.0; high = c.self.invariant.1; registers = c.self.invariant.2 })
+returns-clause-legal g c = subst IsStored c.self.view_is (record { low = c.self.invariant.0; high = c.self.invariant.1; registers = c.self.invariant.2; state = c.self.invariant.3 })

@@ -1,26 +1,26 @@
 use Rattle.std.proofs.Common.{◌≡◌, ℕ, ◌%◌, ◌^◌, List, subst, arith}
 use Rattle.std.proofs.Math.ListN.{set}
 use Rattle.hll_coupons.specs.Pair.{slot_of}
-use Rattle.hll_arrays.specs.State.{cleared}
-use Rattle.hll_arrays.specs.Store.{Stored, raised_by_coupon}
-use Rattle.hll_arrays.proofs.Raising.{raised-kept, raised-written}
+use Rattle.hll_arrays.specs.State.{cleared_state}
+use Rattle.hll_arrays.specs.Store.{Stored, update_with_coupon}
+use Rattle.hll_arrays.proofs.Raising.{update_with_pairs-kept, update_with_pairs-written}
 use Rattle.hll_arrays.proofs.array8.Array8.update.Goals as goal
 
 pub returns-then-index-value : goal.returns-then-index-value
 returns-then-index-value g c =
     let k : ℕ = c.self.inside.lg_config_k in
     let R : List ℕ = c.self.inside.registers.items in
-    let t : ℕ = c.slot.result % c.registers_of.result in
-    let at : t ≡ slot_of c.args.coupon % 2 ^ k = λ i. c.slot.ensures.slot i % c.registers_of.ensures i in
-    let written : Stored = record { lg_k = k; registers = set R t c.value-then-index-value.result; state = cleared } in
-    subst (λ z. written ≡ raised_by_coupon z c.args.coupon) c.self.view_is
-    (raised-written k R c.args.coupon c.self.inside.state c.self.invariant.2.size t c.index.result.now at c.index.ensures c.value-then-index-value.result c.value-then-index-value.ensures.value (omega (arith, c.if-index-value.true, c.value.ensures.value)))
+    let t : ℕ = c.slot.result % c.two_to.result in
+    let at : t ≡ slot_of c.args.coupon % 2 ^ k = λ i. c.slot.ensures.slot i % c.two_to.ensures i in
+    let written : Stored = record { lg_k = k; registers = set R t c.value-then-index-value.result; state = cleared_state } in
+    subst (λ z. written ≡ update_with_coupon z c.args.coupon) c.self.view_is
+    (update_with_pairs-written k R c.args.coupon c.self.inside.state c.self.invariant.2.size t c.index.result.now at c.index.ensures c.value-then-index-value.result c.value-then-index-value.ensures.value (omega (arith, c.if-index-value.true, c.value.ensures.value)))
 
 pub returns-else-index-value : goal.returns-else-index-value
 returns-else-index-value g c =
     let k : ℕ = c.self.inside.lg_config_k in
     let R : List ℕ = c.self.inside.registers.items in
-    let t : ℕ = c.slot.result % c.registers_of.result in
-    let at : t ≡ slot_of c.args.coupon % 2 ^ k = λ i. c.slot.ensures.slot i % c.registers_of.ensures i in
-    subst (λ z. z ≡ raised_by_coupon z c.args.coupon) c.self.view_is
-    (raised-kept k R c.args.coupon c.self.inside.state c.self.invariant.2.size t c.index.result.now at c.index.ensures (omega (arith, c.if-index-value.false, c.value.ensures.value)))
+    let t : ℕ = c.slot.result % c.two_to.result in
+    let at : t ≡ slot_of c.args.coupon % 2 ^ k = λ i. c.slot.ensures.slot i % c.two_to.ensures i in
+    subst (λ z. z ≡ update_with_coupon z c.args.coupon) c.self.view_is
+    (update_with_pairs-kept k R c.args.coupon c.self.inside.state c.self.invariant.2.size t c.index.result.now at c.index.ensures (omega (arith, c.if-index-value.false, c.value.ensures.value)))

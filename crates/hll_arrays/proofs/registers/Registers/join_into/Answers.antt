@@ -1,7 +1,7 @@
 use Rattle.std.proofs.Common.{◌≡◌, ℕ, ◌+◌, ◌<◌, ◌≤◌, length, get_or, take, drop, sym, ◌∙◌, arith, List}
 use Rattle.std.proofs.lemmas.Nat.{pow_below}
 use Rattle.std.proofs.lemmas.List.{length-take-le, length-drop, get_or-take, get_or-drop}
-use Rattle.hll_coupons.proofs.PlainSteps.{is_join}
+use Rattle.hll_coupons.proofs.ReferenceSteps.{is_join}
 use Rattle.hll_arrays.specs.Store.{Stored}
 use Rattle.hll_arrays.proofs.registers.Registers.join_into.Goals as goal
 

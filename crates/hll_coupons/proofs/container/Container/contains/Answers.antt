@@ -2,8 +2,8 @@ use Rattle.std.proofs.Common.{arith, ◌≡◌, ◌<◌, ◌∙◌, sym, ap, not
 use Rattle.std.specs.List.{list_any}
 use Rattle.std.specs.FinSet.{contains}
 use Rattle.hll_coupons.specs.Pair.{set_of}
-use Rattle.hll_coupons.specs.Table.{coupons_of, held}
-use Rattle.hll_coupons.proofs.Members.{contains-held, contains-zero}
+use Rattle.hll_coupons.specs.Table.{coupons_of, coupons_in}
+use Rattle.hll_coupons.proofs.Members.{contains-coupons_in, contains-zero}
 use Rattle.hll_coupons.proofs.container.Container.contains.Goals as goal
 
 pub returns-then-not-is_empty : goal.returns-then-not-is_empty
@@ -12,7 +12,7 @@ returns-then-not-is_empty g c =
     let full : 0 < c.args.coupon = omega arith in
     c.contains.ensures.value
     ∙ ap (λ xs. list_any (λ y. nat_eq y c.args.coupon) xs) c.deref.ensures.value
-    ∙ contains-held c.self.inside.coupons.items c.args.coupon full
+    ∙ contains-coupons_in c.self.inside.coupons.items c.args.coupon full
     ∙ ap (λ t. contains (coupons_of t) c.args.coupon) c.self.view_is
 
 pub returns-else-not-is_empty : goal.returns-else-not-is_empty
@@ -20,5 +20,5 @@ returns-else-not-is_empty g c =
     let zero : c.args.coupon ≡ 0 = c.is_empty.ensures.0 c.if-not-is_empty.false in
     ap not c.if-not-is_empty.false
     ∙ sym (contains-zero c.self.inside.coupons.items)
-    ∙ ap (λ n. contains (set_of (held c.self.inside.coupons.items)) n) (sym zero)
+    ∙ ap (λ n. contains (set_of (coupons_in c.self.inside.coupons.items)) n) (sym zero)
     ∙ ap (λ t. contains (coupons_of t) c.args.coupon) c.self.view_is

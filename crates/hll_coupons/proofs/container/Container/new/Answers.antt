@@ -1,6 +1,6 @@
 use Rattle.std.proofs.Common.{rules, ◌≡◌, ◌∙◌, ap, sym, subst, length, replicate, ◌^◌}
-use Rattle.hll_coupons.specs.Table.{held, IsTable}
-use Rattle.hll_coupons.proofs.Places.{held-replicate}
+use Rattle.hll_coupons.specs.Table.{coupons_in, IsTable}
+use Rattle.hll_coupons.proofs.Places.{coupons_in-replicate}
 use Rattle.hll_coupons.proofs.TableLemmas.{IsTable-empty}
 use Rattle.hll_coupons.proofs.container.Container.new.Goals as goal
 
@@ -8,5 +8,5 @@ pub invariant_of-result : goal.invariant_of-result
 invariant_of-result g c =
     let items : c.in_ok-vec.field-0.items ≡ replicate (2 ^ c.args.lg_size) 0 = search rules in (
       subst (λ places. IsTable (record { lg_size = c.args.lg_size; places = places })) (sym items) (IsTable-empty c.args.lg_size c.requires),
-      sym (ap (λ places. length (held places)) items ∙ ap length (held-replicate (2 ^ c.args.lg_size))),
+      sym (ap (λ places. length (coupons_in places)) items ∙ ap length (coupons_in-replicate (2 ^ c.args.lg_size))),
     )

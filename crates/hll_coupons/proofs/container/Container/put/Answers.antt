@@ -2,12 +2,12 @@ use Rattle.std.proofs.Common.{arith, ◌≡◌, ◌<◌, ◌^◌, ◌+◌, ◌�
 use Rattle.std.specs.FinSet.{contains}
 use Rattle.hll_coupons.specs.Pair.{IsPair}
 use Rattle.hll_coupons.specs.Table.{Table, coupons_of}
-use Rattle.hll_coupons.proofs.TableLemmas.{IsTable-put, length-held-table, small_places}
+use Rattle.hll_coupons.proofs.TableLemmas.{IsTable-put, length-coupons_in-table, small_places}
 use Rattle.hll_coupons.proofs.container.Container.put.Goals as goal
 
 pub overflow_add-self : goal.overflow_add-self
 overflow_add-self g c =
-    omega (arith, c.self.invariant.1, length-held-table _ c.self.invariant.0, c.self.invariant.0.size, small_places _ c.self.invariant.0)
+    omega (arith, c.self.invariant.1, length-coupons_in-table _ c.self.invariant.0, c.self.invariant.0.size, small_places _ c.self.invariant.0)
 
 pub invariant_of-self : goal.invariant_of-self
 invariant_of-self g c =

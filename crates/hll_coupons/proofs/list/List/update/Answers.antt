@@ -1,36 +1,36 @@
 use Rattle.std.proofs.Common.{◌≡◌, ◌<◌, ◌^◌, ◌∙◌, sym, ap, subst, length, slice_set, false, true}
 use Rattle.std.specs.FinSet.{contains}
 use Rattle.hll_coupons.specs.Pair.{set_of}
-use Rattle.hll_coupons.specs.Table.{Table, coupons_of, held, arrived, filled_from_front, IsFilledFromFront}
-use Rattle.hll_coupons.proofs.Members.{set_of-arrived, insert-member}
-use Rattle.hll_coupons.proofs.TableLemmas.{places-put, held-arrived, held-filled_from_front, IsFilledFromFront-front, full_of_valued}
+use Rattle.hll_coupons.specs.Table.{Table, coupons_of, coupons_in, coupons_with, filled_from_front, IsFilledFromFront}
+use Rattle.hll_coupons.proofs.Members.{set_of-coupons_with, insert-member}
+use Rattle.hll_coupons.proofs.TableLemmas.{places-put, coupons_in-coupons_with, coupons_in-filled_from_front, IsFilledFromFront-front, full_of_valued}
 use Rattle.hll_coupons.proofs.list.List.update.Given.{Over}
 use Rattle.hll_coupons.proofs.list.List.update.Goals as goal
 
 -- the table that put leaves
-after : (g : Over) (c : goal.After-put g) → c.put.new.self ≡ filled_from_front c.args.self.now.lg_size (arrived (held c.args.self.now.places) c.args.coupon)
+after : (g : Over) (c : goal.After-put g) → c.put.new.self ≡ filled_from_front c.args.self.now.lg_size (coupons_with (coupons_in c.args.self.now.places) c.args.coupon)
 after g c =
     let t : Table = c.self.inside.container in
     let fresh : contains (coupons_of t) c.args.coupon ≡ false = sym c.contains.ensures ∙ c.if-not-contains.true in
     let fresh_now : contains (coupons_of c.args.self.now) c.args.coupon ≡ false = ap (λ u. contains (coupons_of u) c.args.coupon) (sym c.self.view_is) ∙ fresh in
-    let room : length (held t.places) < 2 ^ t.lg_size = subst (λ (u : Table). length (held u.places) < 2 ^ u.lg_size) (sym c.self.view_is) (c.requires.room fresh_now) in
+    let room : length (coupons_in t.places) < 2 ^ t.lg_size = subst (λ (u : Table). length (coupons_in u.places) < 2 ^ u.lg_size) (sym c.self.view_is) (c.requires.room fresh_now) in
     c.put.ensures
     ∙ ap (λ n. record { lg_size = t.lg_size; places = slice_set t.places n c.args.coupon }) c.len-place.ensures.count
     ∙ places-put t c.args.coupon c.self.invariant fresh room
-    ∙ ap (λ (u : Table). filled_from_front u.lg_size (arrived (held u.places) c.args.coupon)) c.self.view_is
+    ∙ ap (λ (u : Table). filled_from_front u.lg_size (coupons_with (coupons_in u.places) c.args.coupon)) c.self.view_is
 
 -- what it holds
-order : (g : Over) (c : goal.After-put g) → held c.put.new.self.places ≡ arrived (held c.args.self.now.places) c.args.coupon
+order : (g : Over) (c : goal.After-put g) → coupons_in c.put.new.self.places ≡ coupons_with (coupons_in c.args.self.now.places) c.args.coupon
 order g c =
     let t : Table = c.args.self.now in
-    ap (λ (u : Table). held u.places) (after g c)
-    ∙ held-filled_from_front t.lg_size _ (held-arrived t.places c.args.coupon (full_of_valued c.args.coupon c.requires.valued))
+    ap (λ (u : Table). coupons_in u.places) (after g c)
+    ∙ coupons_in-filled_from_front t.lg_size _ (coupons_in-coupons_with t.places c.args.coupon (full_of_valued c.args.coupon c.requires.valued))
 
 pub invariant_of-self : goal.invariant_of-self
 invariant_of-self g c =
     let t : Table = c.args.self.now in
     subst IsFilledFromFront (sym (after g c))
-    (IsFilledFromFront-front t.lg_size _ (held-arrived t.places c.args.coupon (full_of_valued c.args.coupon c.requires.valued)))
+    (IsFilledFromFront-front t.lg_size _ (coupons_in-coupons_with t.places c.args.coupon (full_of_valued c.args.coupon c.requires.valued)))
 
 pub returns-then-not-contains-clause-places : goal.returns-then-not-contains-clause-places
 returns-then-not-contains-clause-places g c = after g c
@@ -39,7 +39,7 @@ pub returns-then-not-contains-clause-order : goal.returns-then-not-contains-clau
 returns-then-not-contains-clause-order g c = order g c
 
 pub returns-then-not-contains-clause-members : goal.returns-then-not-contains-clause-members
-returns-then-not-contains-clause-members g c = ap set_of (order g c) ∙ set_of-arrived (held c.args.self.now.places) c.args.coupon
+returns-then-not-contains-clause-members g c = ap set_of (order g c) ∙ set_of-coupons_with (coupons_in c.args.self.now.places) c.args.coupon
 
 pub returns-else-not-contains-clause-members : goal.returns-else-not-contains-clause-members
 returns-else-not-contains-clause-members g c =

@@ -4,5 +4,5 @@ use Rattle.hll_merge.proofs.Promoting.{folded}
 use Rattle.hll_merge.proofs.list_sketch.ListSketch.promoted.Given as goal
 
 -- the registers of the coupons so far
-abbrev pub invariant-loop-held : goal.invariant-loop-held
-invariant-loop-held g l = l.array ≡ folded l.self.lg_k (set_of l.yielded)
+abbrev pub invariant-loop-kept : goal.invariant-loop-kept
+invariant-loop-kept g l = l.array ≡ folded l.self.lg_k (set_of l.yielded)

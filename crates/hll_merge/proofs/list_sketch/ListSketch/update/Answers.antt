@@ -1,6 +1,6 @@
 use Rattle.std.proofs.Common.{◌<◌, ◌^◌, ap, sym, subst, arith, length, inl, inr}
 use Rattle.std.proofs.lemmas.Bool.{cases_lt}
-use Rattle.hll_coupons.specs.Table.{Table, held, IsTable}
+use Rattle.hll_coupons.specs.Table.{Table, coupons_in, IsTable}
 use Rattle.hll_merge.specs.Listed.{Listed, BringsEighth}
 use Rattle.hll_merge.proofs.KeptLemmas.{BringsEighth-new}
 use Rattle.hll_merge.proofs.list_sketch.ListSketch.update.Goals as goal
@@ -11,5 +11,5 @@ update-requires-clause-room g c = λ new.
     let x : Listed = record { lg_k = c.self.inside.lg_k; width = c.self.inside.hll_type; table = t } in
     let table : IsTable x.table = subst (λ (y : Listed). IsTable y.table) (sym c.self.view_is) c.requires.table in
     let room : BringsEighth x c.args.coupon → ⊥ = λ eighth. c.requires.room (subst (λ (y : Listed). BringsEighth y c.args.coupon) c.self.view_is eighth) in
-    let few : length (held t.places) < 7 = elim (cases_lt (length (held t.places)) 7) [ inl below ↦ below | inr above ↦ absurd (room (BringsEighth-new x c.args.coupon table above new)) ] in
+    let few : length (coupons_in t.places) < 7 = elim (cases_lt (length (coupons_in t.places)) 7) [ inl below ↦ below | inr above ↦ absurd (room (BringsEighth-new x c.args.coupon table above new)) ] in
     omega (arith, few, ap (λ n. 2 ^ n) c.self.invariant.1)

@@ -9,4 +9,4 @@ returns-in-Array-clause-answer g c =
     c.is_empty.ensures.empty ∙ zeros-empty c.in-Array.array.registers ∙ ap (λ m. is_empty (value_of_kept (kept_of m))) (sym c.in-Array.is) ∙ ap (λ x. is_empty (value_of_kept x)) c.self.view_is
 
 pub returns-in-Array-clause-kept : goal.returns-in-Array-clause-kept
-returns-in-Array-clause-kept g c = subst IsKept (ap kept_of (sym c.in-Array.is) ∙ c.self.view_is) c.is_empty.ensures.registers
+returns-in-Array-clause-kept g c = subst IsKept (ap kept_of (sym c.in-Array.is) ∙ c.self.view_is) c.lg_k-legal.ensures.legal.registers

@@ -1,9 +1,10 @@
 use Rattle.std.proofs.Common.{◌≡◌, ◌⊎◌, List, ℕ, inr, sym, subst}
 use Rattle.hll_sketch.specs.Image.{stage_bits, width_bits, HasHeader}
-use Rattle.hll_merge.specs.declared.fault.Fault.TheVariants.{Memory}
+use Rattle.hll_text.specs.declared.fault.Fault.TheVariants.{Memory}
 use Rattle.hll_merge.specs.Kept as kept
 use Rattle.hll_merge.specs.Kept.{IsReadFrom, RefusesBytes, other_image}
-use Rattle.hll_merge.proofs.ReadLemmas.{refused-header, refused-list, refused-hll8, IfErr-passed, stage-list, stage-hll, width-eight, stage-other, set-no_list, set-no_hll, hll-no_list, narrow, read_as-list, read_as-array}
+use Rattle.hll_base.proofs.Errors.{IfErr-passed}
+use Rattle.hll_merge.proofs.ReadLemmas.{refused-header, refused-list, refused-hll8, stage-list, stage-hll, width-eight, stage-other, set-no_list, set-no_hll, hll-no_list, narrow, read_as-list, read_as-array}
 use Rattle.hll_merge.proofs.sketch.Sketch.read.Goals as goal
 
 pub returns-in_err-header-clause-err : goal.returns-in_err-header-clause-err

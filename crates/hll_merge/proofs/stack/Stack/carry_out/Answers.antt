@@ -3,18 +3,18 @@ use Rattle.std.proofs.Math.Nat.{mod-eq_of_lt}
 use Rattle.std.proofs.lemmas.Result.{MatchResult-from_both, IfOk-weaker, IfErr-weaker}
 use Rattle.hll_coupons.specs.Pair.{pair}
 use Rattle.hll_merge.specs.Plan.{Plan}
-use Rattle.hll_merge.specs.Step.{step_of, IsInRange}
-use Rattle.hll_merge.specs.Text.{new, image}
+use Rattle.hll_text.specs.Step.{step_of, IsInRange}
+use Rattle.hll_text.specs.Text.{new, image}
 use Rattle.hll_merge.specs.Accepting.{Takes}
 use Rattle.hll_merge.specs.Served.{today}
-use Rattle.hll_merge.specs.Kept.{IsReadFrom, RefusesBytes, StandFor, UpdatesLast, RefusesLast}
+use Rattle.hll_merge.specs.Kept.{IsReadFrom, RefusesBytes, AllRepresent, UpdatesLast, RefusesLast}
 use Rattle.hll_merge.proofs.StackLemmas.{takes-new, takes-image, refuses-image, takes-coupon, refuses-coupon, takes-union, refuses-union}
 use Rattle.hll_merge.proofs.stack.Stack.carry_out.Goals as goal
 
 pub returns-in-New-clause-carried : goal.returns-in-New-clause-carried
 returns-in-New-clause-carried g c ts h = rw c.in-New.is
     (MatchResult-from_both c.push_new.result _ _
-    (IfOk-weaker c.push_new.result _ _ (λ _ e. subst (λ xs. (us : List Plan) × Takes today ts (new c.in-New.lg_k c.in-New.hll_type) us × StandFor xs us) (sym e) (takes-new c.args.self.now ts c.in-New.lg_k c.in-New.hll_type h)) c.push_new.ensures.ok)
+    (IfOk-weaker c.push_new.result _ _ (λ _ e. subst (λ xs. (us : List Plan) × Takes today ts (new c.in-New.lg_k c.in-New.hll_type) us × AllRepresent xs us) (sym e) (takes-new c.args.self.now ts c.in-New.lg_k c.in-New.hll_type h)) c.push_new.ensures.ok)
     (IfErr-weaker c.push_new.result _ _ (λ e r. inl r.0) c.push_new.ensures.err))
 
 pub returns-in-Coupon-clause-carried : goal.returns-in-Coupon-clause-carried
@@ -36,7 +36,7 @@ returns-in-Image-clause-carried g c ts h =
     let bytes : List ℕ = c.in-Image.bytes in
     rw c.in-Image.is
     (MatchResult-from_both c.push_image.result _ _
-    (IfOk-weaker c.push_image.result _ _ (λ _ r. subst (λ xs. (us : List Plan) × Takes today ts (image bytes) us × StandFor xs us) (sym r.2)
+    (IfOk-weaker c.push_image.result _ _ (λ _ r. subst (λ xs. (us : List Plan) × Takes today ts (image bytes) us × AllRepresent xs us) (sym r.2)
     (takes-image c.args.self.now ts bytes r.0 h (subst (λ b. IsReadFrom b r.0) c.as_slice.ensures r.1))) c.push_image.ensures.ok)
     (IfErr-weaker c.push_image.result _ _ (λ e r. elim r.0 [
       | inl m ↦ inl m

@@ -1,0 +1,15 @@
+//! Tests of `hll_arrays` through its public calls.
+#![tactic(auto)]
+
+#[cfg(test)]
+mod array16;
+#[cfg(test)]
+mod eight_bits;
+#[cfg(test)]
+mod fixtures;
+#[cfg(test)]
+mod kernels;
+#[cfg(test)]
+mod six_bits;
+#[cfg(test)]
+mod stores;

@@ -1,0 +1,75 @@
+//! A proved caller of the library: what CALLING.md shows.
+#![tactic(auto)]
+
+ghost use Rattle.std.specs.Prelude.{◌≡◌, ◌≤◌, IfOk, IfErr};
+ghost use Rattle.std.specs.FinSet.{union};
+ghost use Rattle.hll_base.specs.declared.error.Reason.TheVariants.{Memory};
+ghost use Rattle.hll_coupons.specs.Pair.{set_of};
+ghost use Rattle.hll_coupons.specs.Fold.{fold_to};
+ghost use Rattle.hll_arrays.specs.State.{cleared_state};
+ghost use Rattle.hll_merge.specs.Run.{IsAnswer};
+
+use hll_arrays::array8::Array8;
+use hll_arrays::merge::merge_from;
+use hll_base::error::Error;
+use hll_coupons::coupon::Coupon;
+use hll_merge::fault::{Fault, MergeError};
+use hll_merge::run::run;
+use hll_merge::watched::Watched;
+use std::alloc::Allocator;
+
+/// The registers of some coupons: at each slot the greatest value of those that fold to it.
+///
+/// `lg_k` is 4 to 21. Takes a byte a register. Refused with the reason `Memory`.
+pub fn registers_of<A: Allocator>(
+    alloc: A,
+    lg_k: u8,
+    coupons: &[Coupon],
+) -> Result<Array8<A>, Error>
+    requires least { 4 ≤ lg_k }
+    requires most { lg_k ≤ 21 }
+    ensures ok { IfOk result (λ a. a ≡ record { lg_k = lg_k; registers = fold_to (set_of coupons.now) lg_k; state = cleared_state }) }
+    ensures err { IfErr result (λ e. e ≡ Memory) }
+{
+    let mut array = Array8::new(alloc, lg_k)?;
+    for coupon in coupons {
+        array.update(*coupon);
+    }
+    Ok(array)
+}
+
+/// The registers of the coupons of two shards: those of all of them together, whichever shard has which.
+///
+/// `lg_k` is 4 to 21. Takes two bytes a register. Refused with the reason `Memory`.
+pub fn join_shards<A: Allocator + Clone>(
+    alloc: A,
+    lg_k: u8,
+    here: &[Coupon],
+    there: &[Coupon],
+) -> Result<Array8<A>, Error>
+    requires least { 4 ≤ lg_k }
+    requires most { lg_k ≤ 21 }
+    ensures ok { IfOk result (λ a. a.registers ≡ fold_to (union (set_of here.now) (set_of there.now)) lg_k) }
+    ensures err { IfErr result (λ e. e ≡ Memory) }
+{
+    let mut joined = registers_of(alloc.clone()?, lg_k, here)?;
+    let other = registers_of(alloc, lg_k, there)?;
+    merge_from(&mut joined, &other);
+    Ok(joined)
+}
+
+/// Runs a plan in memory: the line that the program would print for it.
+///
+/// Refused as `run` says. Takes memory for the text, the sketches and the line.
+pub fn merged<A: Allocator + Clone>(alloc: A, plan: &[u8]) -> Result<Vec<u8, A>, MergeError>
+    ensures ok { IfOk result (λ line. IsAnswer plan.now line.items) }
+{
+    let for_line = match alloc.clone() {
+        Ok(for_line) => for_line,
+        Err(e) => return Err(Fault::from(e).at(0)),
+    };
+    let mut reader = Watched::new(plan);
+    let mut writer = Watched::new(Vec::new(for_line));
+    run(alloc, &mut reader, &mut writer)?;
+    Ok(writer.into_inner())
+}

@@ -1,0 +1,7 @@
+use Rattle.std.proofs.Common.{◌≡◌, ◌++◌, take}
+use Rattle.hll_coupons.specs.Coupons.{coupon_bytes}
+use Rattle.hll_coupons.proofs.container.write_coupons.Given as goal
+
+-- the bytes of the coupons so far are appended
+abbrev pub invariant-loop-coupon : goal.invariant-loop-coupon
+invariant-loop-coupon g l = l.bytes ≡ l.initial.bytes ++ coupon_bytes (take l.coupon-index l.coupons)

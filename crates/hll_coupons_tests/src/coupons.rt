@@ -1,0 +1,87 @@
+//! Coupons of words, of bytes and of values.
+use hll_base::hash::MurmurHash3X64128;
+use hll_coupons::coupon::Coupon;
+use std::hash::{Hash, Hasher};
+
+const TEXT: [u8; 43] = *b"The quick brown fox jumps over the lazy dog";
+
+/// The two words of a hash, and the slot and value of their coupon.
+const WORDS: [(u64, u64, u32, u8); 8] = [
+    (0, 0, 0, 63),
+    (0, 1 << 63, 0, 1),
+    (0, 4, 0, 62),
+    (0, 2, 0, 63),
+    (0, 1, 0, 63),
+    (67_108_869, 1 << 63, 5, 1),
+    (u64::MAX, u64::MAX, 67_108_863, 1),
+    (1 << 26, 1 << 40, 0, 24),
+];
+
+/// Bytes whose own `hash` makes one write of them.
+#[derive(PartialEq, Eq, Drop)]
+struct Piece<'a> {
+    bytes: &'a [u8],
+}
+
+impl<'a> Hash for Piece<'a> {
+    ghost use Rattle.std.specs.Prelude.{[], ◌∷◌};
+    ghost use Rattle.std.proofs.Common.{rules};
+    ghost use Rattle.std.specs.Cmp.Rules.{comparing, hashing};
+
+    ghost hash_input = { λ t. t.bytes.now ∷ [] };
+
+    ghost respects_eq = { Prim.search (hashing, rules) };
+
+    fn hash<H: Hasher>(&self, state: &mut H) {
+        state.write(self.bytes);
+    }
+}
+
+#[test]
+fn of_words(rt: HostRuntime) {
+    for (lo, hi, slot, value) in WORDS {
+        let coupon = Coupon::from_words(lo, hi);
+        assert_eq!(rt;
+            (coupon.slot(), coupon.value()),
+            (slot, value),
+            "{lo} and {hi}"
+        );
+    }
+    assert_eq!(rt; Coupon::from_words(0, 0).raw(), 0xfc00_0000);
+    let packed = Coupon::pack(12345, 42);
+    assert_eq!(rt; (packed.slot(), packed.value()), (12345, 42));
+}
+
+#[test]
+fn of_bytes(rt: HostRuntime) {
+    for end in 0..44usize {
+        let mut hash = MurmurHash3X64128::default();
+        hash.write(&TEXT[..end]);
+        let (lo, hi) = hash.finish128();
+        assert_eq!(rt;
+            Coupon::from_bytes(&TEXT[..end]),
+            Coupon::from_words(lo, hi),
+            "{end} bytes"
+        );
+    }
+}
+
+/// A value of one piece has the coupon of its bytes; of two pieces, of both one behind the other.
+#[test]
+fn of_values(rt: HostRuntime) {
+    for piece in [&TEXT[..0], &TEXT[..15], &TEXT[15..], TEXT.as_slice()] {
+        assert_eq!(rt;
+            Coupon::from_value(Piece { bytes: piece }),
+            Coupon::from_bytes(piece)
+        );
+    }
+    let both = (Piece { bytes: &TEXT[..15] }, Piece { bytes: &TEXT[15..] });
+    assert_eq!(rt;
+        Coupon::from_value(both),
+        Coupon::from_bytes(TEXT.as_slice())
+    );
+    assert!(rt;
+        Coupon::from_value(Piece { bytes: &TEXT[..15] })
+            != Coupon::from_value(Piece { bytes: &TEXT[15..] })
+    );
+}

@@ -1,0 +1,9 @@
+//! Tests of `hll_coupons` through its public calls.
+#![tactic(auto)]
+
+#[cfg(test)]
+mod coupons;
+#[cfg(test)]
+mod lists;
+#[cfg(test)]
+mod reference;

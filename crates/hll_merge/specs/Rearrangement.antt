@@ -1,0 +1,40 @@
+-- Plans that differ in the order, repetition and grouping of children (docs/MODEL.md, "Convergence").
+use Rattle.std.specs.Prelude.{◌≡◌, ℕ, ◌⊎◌}
+use Rattle.hll_coupons.specs.declared.hll_type.HllType.{HllType}
+use Rattle.hll_merge.specs.Plan.{Plan, Plans, image, coupon, union_of, no_plans, more_plans, outcome, Leaves}
+use Rattle.hll_merge.specs.Grown.{IsGrown}
+
+-- the plan is one of the children
+abbrev pub IsChild : Plan → Plans → Type 0
+IsChild t no_plans = ⊥
+IsChild t (more_plans u us) = (t ≡ u) ⊎ IsChild t us
+
+-- each child of one is a child of the other, however often and in whatever order
+pub record SameChildren (ts us : Plans) : Type 0 where
+  pub there : (t : Plan) → IsChild t ts → IsChild t us
+  pub back : (t : Plan) → IsChild t us → IsChild t ts
+
+-- the children of both
+abbrev pub both_plans : Plans → Plans → Plans
+both_plans no_plans us = us
+both_plans (more_plans t ts) us = more_plans t (both_plans ts us)
+
+-- A plan stored as its image and read again, children reordered or repeated, and some of them replaced by one union of the same bound at any width, anywhere in a plan.
+mutual
+  pub data IsRearrangement : Plan → Plan → Type 0 where
+    reordered : {m : ℕ} {w : HllType} {ts us : Plans} → SameChildren ts us → IsRearrangement (union_of m w ts) (union_of m w us)
+    grouped : {m : ℕ} {v w : HllType} {ts us : Plans} → IsRearrangement (union_of m w (more_plans (union_of m v ts) us)) (union_of m w (both_plans ts us))
+    same : {t : Plan} → IsRearrangement t t
+    stored : {t : Plan} → IsRearrangement t (image (outcome t))
+    flipped : {t u : Plan} → IsRearrangement u t → IsRearrangement t u
+    chained : {t v : Plan} → (u : Plan) → Leaves IsGrown u → IsRearrangement t u → IsRearrangement u v → IsRearrangement t v
+    below_coupon : {t u : Plan} {c : ℕ} → IsRearrangement t u → IsRearrangement (coupon t c) (coupon u c)
+    below_union : {m : ℕ} {w : HllType} {ts us : Plans} → AreRearrangements ts us → IsRearrangement (union_of m w ts) (union_of m w us)
+
+  pub data AreRearrangements : Plans → Plans → Type 0 where
+    none : AreRearrangements no_plans no_plans
+    more : {t u : Plan} {ts us : Plans} → IsRearrangement t u → AreRearrangements ts us → AreRearrangements (more_plans t ts) (more_plans u us)
+
+-- over grown images such plans give equal sketches: pairs, table size, registers and state
+abbrev pub RearrangedPlansAgree : Type 0
+RearrangedPlansAgree = (t u : Plan) → Leaves IsGrown t → Leaves IsGrown u → IsRearrangement t u → outcome t ≡ outcome u

@@ -1,0 +1,31 @@
+//! Plans run over memory.
+use hll_merge::run::run;
+use hll_text::fault::{Fault, MergeError};
+use hll_text::watched::Watched;
+use std::test::Fail;
+
+/// Runs a plan over memory: what it answers, and what it wrote.
+pub(crate) fn run_over(rt: &HostRuntime, text: &[u8]) -> (Result<(), MergeError>, Vec<u8>) {
+    let mut reader = Watched::new(text);
+    let mut writer = Watched::new(Vec::new(rt.alloc()));
+    let result = run(rt.alloc(), &mut reader, &mut writer);
+    (result, writer.into_inner())
+}
+
+/// Whether a text prints this.
+pub(crate) fn prints(rt: &HostRuntime, text: &str, printed: &str) -> bool {
+    let (result, written) = run_over(rt, text.as_bytes());
+    result == Ok(()) && written.as_slice() == printed.as_bytes()
+}
+
+/// Whether a text is refused with this fault at this line, and nothing is written.
+pub(crate) fn refuses(rt: &HostRuntime, text: &str, line: u64, fault: Fault) -> bool {
+    let (result, written) = run_over(rt, text.as_bytes());
+    result == Err(MergeError { line, fault }) && written.is_empty()
+}
+
+/// The line of an image.
+pub(crate) fn line_of(rt: &HostRuntime, image: &[u8]) -> Result<String, Fail> {
+    let digits = hex::encode(rt.alloc(), image)?;
+    Ok(format!(in rt.alloc(); "image {digits}")?)
+}

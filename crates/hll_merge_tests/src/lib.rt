@@ -1,0 +1,19 @@
+//! Tests of `hll_merge` through its public calls.
+#![tactic(auto)]
+
+#[cfg(test)]
+mod fixtures;
+#[cfg(test)]
+mod images;
+#[cfg(test)]
+mod memory;
+#[cfg(test)]
+mod plans;
+#[cfg(test)]
+mod reference;
+#[cfg(test)]
+mod registers;
+#[cfg(test)]
+mod texts;
+#[cfg(test)]
+mod unions;

@@ -1,0 +1,134 @@
+//! Texts of plans over memory: what they print, their faults, long lines, and streams that fail.
+use crate::fixtures::run_over;
+use hll_merge::run::run;
+use hll_text::fakes::{Failing, Narrow};
+use hll_text::fault::{Fault, MergeError};
+use hll_text::watched::Watched;
+use std::test::Fail;
+
+/// Plans and what they print.
+pub(crate) const ANSWERS: [(&str, &str); 9] = [
+    ("new 10 8", "0201070a030c0008\n"),
+    ("new 10 4\n", "0201070a030c0000\n"),
+    ("new 4 6", "02010704030c0004\n"),
+    ("new 21 8", "02010715030c0008\n"),
+    ("new 10 8\ncoupon 5 3\n", "0201070a030801080500000c\n"),
+    (
+        "# a plan\r\n\nnew 10 8\r\ncoupon 5 3\ncoupon 5 3\n",
+        "0201070a030801080500000c\n",
+    ),
+    (
+        "new 10 8\ncoupon 7 2\ncoupon 5 1",
+        "0201070a030802080500000407000008\n",
+    ),
+    (
+        "new 10 8\ncoupon 7 2\ncoupon 5 1\ncoupon 07 02",
+        "0201070a030802080500000407000008\n",
+    ),
+    (
+        "new 4 8\ncoupon 67108863 63\ncoupon 16 1",
+        "020107040308020810000004ffffffff\n",
+    ),
+];
+
+/// Texts that are no plan, and their first fault.
+pub(crate) const FAULTS: [(&str, u64, Fault); 24] = [
+    ("", 0, Fault::Stack),
+    ("\n", 1, Fault::Stack),
+    ("# nothing", 1, Fault::Stack),
+    ("new 10 8\nnew 10 8", 2, Fault::Stack),
+    ("coupon 1 1", 1, Fault::Stack),
+    ("\n\ncoupon 1 1\nx", 3, Fault::Stack),
+    ("new  10 8", 1, Fault::Syntax),
+    (" new 10 8", 1, Fault::Syntax),
+    ("new 10 8 ", 1, Fault::Syntax),
+    ("new\t10 8", 1, Fault::Syntax),
+    ("new 10 8\0", 1, Fault::Syntax),
+    ("new 10 8\u{a0}", 1, Fault::Syntax),
+    ("NEW 10 8", 1, Fault::Syntax),
+    ("new 123456789 8", 1, Fault::Syntax),
+    ("new 10 8\r", 1, Fault::Syntax),
+    ("new 10 8\r\r\n", 1, Fault::Syntax),
+    ("new 10 +8", 1, Fault::Syntax),
+    ("new 3 8", 1, Fault::Range),
+    ("new 22 8", 1, Fault::Range),
+    ("new 10 5", 1, Fault::Range),
+    ("new 10 8\ncoupon 67108864 1", 2, Fault::Range),
+    ("new 10 8\ncoupon 5 0", 2, Fault::Range),
+    ("new 10 8\ncoupon 5 64", 2, Fault::Range),
+    // the eighth coupon of a sketch
+    (
+        "new 8 8\ncoupon 0 1\ncoupon 1 2\ncoupon 2 3\ncoupon 3 4\ncoupon 4 5\ncoupon 5 6\ncoupon 6 7\ncoupon 7 8\n",
+        9,
+        Fault::Unserved,
+    ),
+];
+
+/// A line of ten million bytes is read like any other.
+#[test]
+fn long_lines(rt: HostRuntime) -> Result<(), Fail> {
+    let mut text = vec![in rt.alloc(); b'7'; 10_000_000]?;
+    let (result, _) = run_over(&rt, &text);
+    let fault = Fault::Syntax;
+    assert_eq!(rt; result, Err(MergeError { line: 1, fault }));
+    if let Some(first) = text.first_mut() {
+        *first = b'#';
+    }
+    text.extend_from_slice(b"\nnew 10 8\n")?;
+    let (result, written) = run_over(&rt, &text);
+    assert_eq!(rt; result, Ok(()));
+    assert_eq!(rt; written.as_slice(), b"0201070a030c0008\n".as_slice());
+    Ok(())
+}
+
+/// A reader that fails at each call: the first fault of the lines that ended, or else the failed read.
+#[test]
+fn failing_reads(rt: HostRuntime) {
+    let rows: [(&[u8], u32, u64, Fault); 7] = [
+        (b"new 10 8", 0, 0, Fault::Read),
+        (b"new 10 8", 1, 0, Fault::Read),
+        (b"new 10 8", 8, 0, Fault::Read),
+        (b"new 10 8\n", 9, 1, Fault::Read),
+        (b"x\nnew 10 8", 2, 1, Fault::Syntax),
+        (b"new 10 8\nx", 10, 1, Fault::Read),
+        (b"coupon 1 1\n", 11, 1, Fault::Stack),
+    ];
+    for (text, calls, line, fault) in rows {
+        let mut reader = Watched::new(Failing { text, calls });
+        let mut writer = Watched::new(Vec::new(rt.alloc()));
+        let result = run(rt.alloc(), &mut reader, &mut writer);
+        assert_eq!(rt; result, Err(MergeError { line, fault }));
+        assert!(rt; reader.failed());
+        assert!(rt; writer.into_inner().is_empty());
+    }
+}
+
+/// A writer that takes a byte at a time, and one that fails after so many.
+#[test]
+fn failing_writes(rt: HostRuntime) -> Result<(), Fail> {
+    let text: &[u8] = b"new 10 8";
+    let printed: &[u8] = b"0201070a030c0008\n";
+    for room in 0..printed.len().saturating_add(2) {
+        for fails in [false, true] {
+            let mut taken = Vec::new(rt.alloc());
+            let mut reader = Watched::new(text);
+            let mut writer = Watched::new(Narrow {
+                taken: &mut taken,
+                room,
+                fails,
+            });
+            let result = run(rt.alloc(), &mut reader, &mut writer);
+            let failed = writer.failed();
+            drop(writer);
+            assert_eq!(rt; failed, room < printed.len());
+            let refusal = MergeError {
+                line: 1,
+                fault: Fault::Write,
+            };
+            assert_eq!(rt; result, if failed { Err(refusal) } else { Ok(()) });
+            assert_eq!(rt; taken.len(), room.min(printed.len()));
+            assert!(rt; printed.starts_with(taken.as_slice()));
+        }
+    }
+    Ok(())
+}

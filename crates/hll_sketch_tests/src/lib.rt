@@ -1,0 +1,7 @@
+//! Tests of `hll_sketch` through its public calls.
+#![tactic(auto)]
+
+#[cfg(test)]
+mod images;
+#[cfg(test)]
+mod reference;

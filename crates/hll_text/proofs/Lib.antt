@@ -1,0 +1,6 @@
+pub mod FaultLemmas
+pub mod NumberLemmas
+pub mod PartLemmas
+pub mod StepLemmas
+pub mod StreamLemmas
+mod TextRows

@@ -1,0 +1,32 @@
+-- Lemmas on the numbers of a line.
+use Rattle.std.proofs.Common.{◌≡◌, ℕ, ◌+◌, ◌*◌, ◌<◌, ◌≤◌, ◌^◌, add-one, true, List, [], ◌∷◌, length, Err, arith, refl}
+use Rattle.std.proofs.lemmas.Bool.Decides.{nat_tests}
+use Rattle.std.proofs.Math.Nat.{pow-le-pow_right}
+use Rattle.hll_text.specs.declared.fault.Fault.TheVariants.{Syntax}
+use Rattle.hll_text.specs.Text.{is_number, two_numbers, one_word}
+
+-- one more digit
+pub below_next : (v d k : ℕ) → v < 10 ^ k → d ≤ 9 → 10 * v + d < 10 ^ (k + 1)
+below_next v d k h e = rw add-one (omega arith)
+
+-- seven digits and one more fit 32 bits
+pub below_seven : (v k : ℕ) → v < 10 ^ k → k < 8 → v < 10000000
+below_seven v k h e =
+    let few : k ≤ 7 = omega arith in
+    let ten : 0 < 10 = omega arith in
+    let most : 10 ^ k ≤ 10 ^ 7 = pow-le-pow_right {n = 10} ten {i = k} {j = 7} few in
+    omega arith
+
+-- what the test of a number says
+pub length-number : (word : List ℕ) → is_number word ≡ true → length word ≤ 8
+length-number word h = grind (arith, nat_tests)
+
+-- three words are not two numbers
+pub two_numbers-more : (a b : List ℕ) (ws : List (List ℕ)) → 0 < length ws → two_numbers (a ∷ b ∷ ws) ≡ Err Syntax
+two_numbers-more a b [] h = absurd (omega arith)
+two_numbers-more a b (c ∷ ws) h = refl
+
+-- two words and more are not one
+pub one_word-more : (a : List ℕ) (ws : List (List ℕ)) → 0 < length ws → one_word (a ∷ ws) ≡ Err Syntax
+one_word-more a [] h = absurd (omega arith)
+one_word-more a (b ∷ more) h = refl

@@ -1,0 +1,12 @@
+use Rattle.std.proofs.Common.{◌+◌, ◌∙◌, ap, sym, ◌∷◌, take}
+use Rattle.hll_text.specs.Text.{words}
+use Rattle.hll_text.proofs.PartLemmas.{words-some, words-none, take-rest}
+use Rattle.hll_text.proofs.words.split_word.Goals as goal
+
+pub returns-in-None : goal.returns-in-None
+returns-in-None c = words-none c.args.line.now (sym c.in-None.ensures)
+
+pub returns-in-Some : goal.returns-in-Some
+returns-in-Some c =
+    words-some c.args.line.now c.in-Some.at (sym c.in-Some.ensures)
+    ∙ ap (λ ws. take c.in-Some.at c.args.line.now ∷ words ws) (sym (take-rest (c.in-Some.at + 1) c.args.line.now))

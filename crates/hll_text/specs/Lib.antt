@@ -1,0 +1,4 @@
+pub mod Extent
+pub mod Step
+pub mod Text
+pub mod Watching

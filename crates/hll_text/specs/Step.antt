@@ -1,0 +1,49 @@
+-- What contracts see of a step: the plan's step, without its allocator (docs/PLAN.md, "The text").
+use Rattle.std.specs.Prelude.{◌≡◌, ◌⊎◌, ℕ, true, List, ◌<◌, ◌≤◌, ◌^◌, Option, Some, None, Result, Ok, Err}
+use denote.Ref.{Bor}
+use Rattle.hll_base.specs.declared.error.Reason.{Reason}
+use Rattle.hll_base.specs.declared.error.Reason.TheVariants as reasons
+use Rattle.hll_text.specs.declared.fault.Fault.{Fault}
+use Rattle.hll_text.specs.declared.fault.Fault.TheVariants as faults
+use Rattle.hll_text.specs.declared.step.Step.{Step}
+use Rattle.hll_text.specs.declared.step.Step.TheVariants as steps
+use Rattle.hll_text.specs.Text.{PlanStep, Reading, names_image, new, image, coupon, union}
+
+-- the step of the plan
+abbrev pub step_of : {A : Type 0} → Step A → PlanStep
+step_of (steps.New k w) = new k w
+step_of (steps.Image bytes) = image bytes
+step_of (steps.Coupon s v) = coupon s v
+step_of (steps.Union n m w) = union n m w
+
+-- the plan's step or the fault, of what a reader of a step returns
+abbrev pub step_reading_of : {A : Type 0} → Result (Step A) Fault → Result PlanStep Fault
+step_reading_of (Ok step) = Ok (step_of step)
+step_reading_of (Err e) = Err e
+
+-- the line's reading, of what a reader of a line returns
+abbrev pub reading_of : {A : Type 0} → Result (Option (Step A)) Fault → Reading
+reading_of (Err e) = Err e
+reading_of (Ok None) = Ok None
+reading_of (Ok (Some step)) = Ok (Some (step_of step))
+
+-- the bytes of a word or the fault, of what a reader of a word returns
+abbrev pub word_of : Result (Bor (List ℕ)) Fault → Result (List ℕ) Fault
+word_of (Ok word) = Ok word.now
+word_of (Err e) = Err e
+
+-- what a reader of a line returns: what its words say, or that memory was refused for the bytes of an image
+abbrev pub ReadsAs : {A : Type 0} → List (List ℕ) → Reading → Result (Option (Step A)) Fault → Type 0
+ReadsAs words reading r = (reading_of r ≡ reading) ⊎ ((names_image words ≡ true) × (r ≡ Err faults.Memory))
+
+-- a step whose numbers are in their ranges
+abbrev pub IsInRange : PlanStep → Type 0
+IsInRange (new k w) = (4 ≤ k) × (k ≤ 21)
+IsInRange (image bytes) = Unit {0}
+IsInRange (coupon s v) = (s < 2 ^ 26) × (1 ≤ v) × (v ≤ 63)
+IsInRange (union n m w) = (4 ≤ m) × (m ≤ 21)
+
+-- the fault for an error of the crates below
+abbrev pub fault_of : Reason → Fault
+fault_of reasons.Memory = faults.Memory
+fault_of reason = faults.Image reason

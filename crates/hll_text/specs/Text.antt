@@ -1,0 +1,157 @@
+-- The text of a plan: its lines, its words, and what a line says (docs/PLAN.md, "The text").
+use Rattle.std.specs.Prelude.{ℕ, ◌≡◌, ◌⊎◌, IfErr, ◌+◌, ◌-◌, ◌*◌, ◌^◌, min, fold, Bool, false, ◌&&◌, ◌==◌, nat_lt, nat_le, nat_eq, if◌then◌else◌, List, [], ◌∷◌, length, Option, Some, None, Result, Ok, Err, codes}
+use Rattle.std.specs.List.{slice_split, list_all}
+use Rattle.std.specs.Result.{result_map_both}
+use Rattle.std.specs.Str.{bytes_eq}
+use Rattle.std.specs.Str.Lines.{strip_carriage_return}
+use Rattle.std.specs.Char.{is_ascii_digit}
+use Rattle.hex.specs.Hex.{decode_of}
+use Rattle.hll_coupons.specs.declared.hll_type.HllType.{HllType}
+use Rattle.hll_coupons.specs.declared.hll_type.HllType.TheVariants.{Hll4, Hll6, Hll8}
+use Rattle.hll_text.specs.declared.fault.Fault.{Fault}
+use Rattle.hll_text.specs.declared.fault.Fault.TheVariants.{Syntax, Range, Hex}
+
+-- ---- lines
+
+-- the lines of a text that have an LF, each without it and without one CR directly before it;
+-- `lines` of std has these, and then what follows the last LF if it is not empty
+abbrev pub ended_parts : List (List ℕ) → List (List ℕ)
+ended_parts [] = []
+ended_parts (last ∷ []) = []
+ended_parts (part ∷ next ∷ more) = strip_carriage_return part ∷ ended_parts (next ∷ more)
+
+abbrev pub ended_lines : List ℕ → List (List ℕ)
+ended_lines text = ended_parts (slice_split (λ b. b == 10) text)
+
+-- the number that is reported of the n-th line
+abbrev pub line_number : ℕ → ℕ
+line_number n = min n (2 ^ 64 - 1)
+
+-- ---- words and numbers
+
+-- the `?` of the logic: the second step, if the first gave a value
+infixl 10 ◌>>=◌
+abbrev pub ◌>>=◌ : {X Y : Type 0} → Result X Fault → (X → Result Y Fault) → Result Y Fault
+Ok x >>= f = f x
+Err e >>= f = Err e
+
+-- the words of a line: what is before, between and after its spaces
+abbrev pub words : List ℕ → List (List ℕ)
+words line = slice_split (λ b. b == 32) line
+
+-- the words after a space, or none where there is no space
+abbrev pub words_after : Option (List ℕ) → List (List ℕ)
+words_after None = []
+words_after (Some rest) = words rest
+
+-- the value of decimal digits
+abbrev pub decimal_value : List ℕ → ℕ
+decimal_value digits = fold (λ n digit. 10 * n + (digit - 48)) 0 digits
+
+-- a number is 1 to 8 decimal digits
+abbrev pub is_number : List ℕ → Bool
+is_number word = (nat_le 1 (length word) && nat_le (length word) 8) && list_all is_ascii_digit word
+
+abbrev pub number : List ℕ → Result ℕ Fault
+number word = if is_number word then Ok (decimal_value word) else Err Syntax
+
+-- two words, both of them numbers
+abbrev pub two_numbers : List (List ℕ) → Result (ℕ × ℕ) Fault
+two_numbers [] = Err Syntax
+two_numbers (a ∷ []) = Err Syntax
+two_numbers (a ∷ b ∷ []) = do
+  m ← number a
+  n ← number b
+  Ok (m, n)
+two_numbers (a ∷ b ∷ c ∷ more) = Err Syntax
+
+-- three words, all of them numbers
+abbrev pub three_numbers : List (List ℕ) → Result (ℕ × ℕ × ℕ) Fault
+three_numbers [] = Err Syntax
+three_numbers (a ∷ more) = do
+  l ← number a
+  p ← two_numbers more
+  Ok (l, p.0, p.1)
+
+-- one word, which is not empty
+abbrev pub one_word : List (List ℕ) → Result (List ℕ) Fault
+one_word [] = Err Syntax
+one_word (a ∷ []) = if nat_eq (length a) 0 then Err Syntax else Ok a
+one_word (a ∷ b ∷ more) = Err Syntax
+
+-- ---- steps
+
+-- a step of a plan
+pub data PlanStep : Type 0 where
+  -- an empty sketch of an lg_k and a width
+  new : ℕ → HllType → PlanStep
+  -- the sketch of an image
+  image : List ℕ → PlanStep
+  -- a coupon of a slot and a value, for the last sketch
+  coupon : ℕ → ℕ → PlanStep
+  -- the last sketches, of this number, joined within a bound of lg_k and at a width
+  union : ℕ → ℕ → HllType → PlanStep
+
+-- the width of 4, 6 or 8 bits
+abbrev pub width : ℕ → Result HllType Fault
+width bits = if bits == 4 then Ok Hll4 else (if bits == 6 then Ok Hll6 else (if bits == 8 then Ok Hll8 else Err Range))
+
+-- an lg_k is 4 to 21
+abbrev pub lg_k : ℕ → Result ℕ Fault
+lg_k k = if nat_le 4 k && nat_le k 21 then Ok k else Err Range
+
+-- `new K W`
+abbrev pub new_step : ℕ → ℕ → Result PlanStep Fault
+new_step k bits = do
+  k ← lg_k k
+  w ← width bits
+  Ok (new k w)
+
+-- `image HEX`
+abbrev pub image_step : List ℕ → Result PlanStep Fault
+image_step digits = result_map_both image (λ _. Hex) (decode_of digits)
+
+-- `coupon S V`
+abbrev pub coupon_step : ℕ → ℕ → Result PlanStep Fault
+coupon_step s v = if nat_lt s (2 ^ 26) && (nat_le 1 v && nat_le v 63) then Ok (coupon s v) else Err Range
+
+-- `union N M W`
+abbrev pub union_step : ℕ → ℕ → ℕ → Result PlanStep Fault
+union_step n m bits = do
+  m ← lg_k m
+  w ← width bits
+  Ok (union n m w)
+
+-- the step of a line, from its words
+abbrev pub read_words : List (List ℕ) → Result PlanStep Fault
+read_words [] = Err Syntax
+read_words (first ∷ rest) =
+    if bytes_eq first (codes "new") then two_numbers rest >>= (λ p. new_step p.0 p.1)
+    else (if bytes_eq first (codes "image") then one_word rest >>= image_step
+    else (if bytes_eq first (codes "coupon") then two_numbers rest >>= (λ p. coupon_step p.0 p.1)
+    else (if bytes_eq first (codes "union") then three_numbers rest >>= (λ p. union_step p.0 p.1 p.2)
+    else Err Syntax)))
+
+-- what a line says: None if it is skipped, a step, or a fault
+abbrev pub Reading : Type 0
+Reading = Result (Option PlanStep) Fault
+
+-- an empty line is skipped, and so is one that begins with `#`
+abbrev pub reading : List ℕ → Reading
+reading [] = Ok None
+reading (b ∷ more) = if b == 35 then Ok None else read_words (words (b ∷ more)) >>= (λ step. Ok (Some step))
+
+-- a fault of a line by itself
+abbrev pub IsLineFault : Fault → Type 0
+IsLineFault e = (e ≡ Syntax) ⊎ ((e ≡ Range) ⊎ (e ≡ Hex))
+
+-- the fault of a line is one of these three, and so none of memory, of a stream, of an image or of the stack
+abbrev pub FaultsOfLines : Type 0
+FaultsOfLines = (line : List ℕ) → IfErr (reading line) IsLineFault
+
+-- ---- memory
+
+-- whether the first of the words is `image`: the reading of no other line takes memory
+abbrev pub names_image : List (List ℕ) → Bool
+names_image [] = false
+names_image (first ∷ more) = bytes_eq first (codes "image")

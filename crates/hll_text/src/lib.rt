@@ -1,0 +1,18 @@
+//! The text of plans: its lines and their words, the steps that lines say, faults, and streams that are watched for
+//! failures (docs/ARCHITECTURE.md, "The crates").
+#![tactic(auto)]
+
+pub mod fakes;
+pub mod fault;
+pub mod lines;
+pub mod reading;
+pub mod step;
+pub mod streams;
+#[cfg(test)]
+mod tests;
+pub mod watched;
+mod words;
+
+pub use fault::{Fault, MergeError};
+pub use step::{ImageBytes, Step};
+pub use watched::Watched;

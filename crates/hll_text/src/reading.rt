@@ -1,0 +1,121 @@
+//! Reading one line of a plan.
+ghost use Rattle.std.specs.Prelude.{◌≡◌, ◌⊎◌, ◌∷◌, true, Err, IfOk, IfSome};
+ghost use Rattle.std.specs.Option.{option_copied};
+ghost use Rattle.hll_text.specs.declared.fault.Fault.TheVariants.{Memory};
+ghost use Rattle.hll_text.specs.Step.{step_reading_of, step_of, ReadsAs, IsInRange};
+ghost use Rattle.hll_text.specs.Text as plan;
+ghost use Rattle.hll_text.specs.Text.{words, words_after, reading, names_image, width, lg_k, FaultsOfLines};
+
+use crate::fault::Fault;
+use crate::step::{ImageBytes, Step};
+use crate::words::{one_word, split_word, three_numbers, two_numbers};
+use hex::FromHexError;
+use hll_coupons::hll_type::HllType;
+use std::alloc::Allocator;
+
+/// What a line of a plan, without its end, says: `None` for one that is skipped, else a step (docs/PLAN.md, "The text").
+///
+/// `Syntax` where the line has none of the forms of a line, else `Range` where a number is out of its range, or `Hex`
+/// where the word of an `image` line is not an even number of hexadecimal digits. Only an `image` line takes memory, for
+/// its bytes; `Memory` where that is refused.
+pub fn read_step<A: Allocator>(alloc: A, line: &[u8]) -> Result<Option<Step<A>>, Fault>
+    ensures reading { ReadsAs (words line.now) (reading line.now) result }
+    ensures in_range { IfOk result (λ found. IfSome found (λ step. IsInRange (step_of step))) }
+{
+    if line.is_empty() || line[0] == b'#' {
+        return Ok(None);
+    }
+    let (first, rest) = split_word(line);
+    Ok(Some(read_words(alloc, first, rest)?))
+}
+
+/// The step of a line that is not skipped, from its first word and what follows the space after it.
+fn read_words<A: Allocator>(alloc: A, first: &[u8], rest: Option<&[u8]>) -> Result<Step<A>, Fault>
+    ensures reading { let words = first.now ∷ words_after (option_copied rest.entry) in
+        (step_reading_of result ≡ plan.read_words words) ⊎ ((names_image words ≡ true) × (result ≡ Err Memory)) }
+    ensures in_range { IfOk result (λ step. IsInRange (step_of step)) }
+{
+    if first == b"new".as_slice() {
+        let (lg_k, bits) = two_numbers(rest)?;
+        new_step(lg_k, bits)
+    } else if first == b"image".as_slice() {
+        image_step(alloc, one_word(rest)?)
+    } else if first == b"coupon".as_slice() {
+        let (slot, value) = two_numbers(rest)?;
+        coupon_step(slot, value)
+    } else if first == b"union".as_slice() {
+        let (count, lg_max_k, bits) = three_numbers(rest)?;
+        union_step(count, lg_max_k, bits)
+    } else {
+        Err(Fault::Syntax)
+    }
+}
+
+/// The step `new K W`.
+fn new_step<A: Allocator>(lg_k: u32, bits: u32) -> Result<Step<A>, Fault>
+    ensures reading { step_reading_of result ≡ plan.new_step lg_k bits }
+    ensures in_range { IfOk result (λ step. IsInRange (step_of step)) }
+{
+    Ok(Step::New(lg_k_of(lg_k)?, width_of(bits)?))
+}
+
+/// The step `image HEX`.
+fn image_step<A: Allocator>(alloc: A, digits: &[u8]) -> Result<Step<A>, Fault>
+    ensures reading { (step_reading_of result ≡ plan.image_step digits.now) ⊎ (result ≡ Err Memory) }
+    ensures in_range { IfOk result (λ step. IsInRange (step_of step)) }
+{
+    match hex::decode(alloc, digits) {
+        Ok(bytes) => Ok(Step::Image(ImageBytes::new(bytes))),
+        Err(FromHexError::OutOfMemory) => Err(Fault::Memory),
+        Err(_) => Err(Fault::Hex),
+    }
+}
+
+/// The step `coupon S V`.
+fn coupon_step<A: Allocator>(slot: u32, value: u32) -> Result<Step<A>, Fault>
+    ensures reading { step_reading_of result ≡ plan.coupon_step slot value }
+    ensures in_range { IfOk result (λ step. IsInRange (step_of step)) }
+{
+    if slot < 0x0400_0000 && 1 <= value && value <= 63 {
+        Ok(Step::Coupon(slot, value as u8))
+    } else {
+        Err(Fault::Range)
+    }
+}
+
+/// The step `union N M W`.
+fn union_step<A: Allocator>(count: u32, lg_max_k: u32, bits: u32) -> Result<Step<A>, Fault>
+    ensures reading { step_reading_of result ≡ plan.union_step count lg_max_k bits }
+    ensures in_range { IfOk result (λ step. IsInRange (step_of step)) }
+{
+    Ok(Step::Union(count, lg_k_of(lg_max_k)?, width_of(bits)?))
+}
+
+/// An `lg_k`, which is 4 to 21. `Range` for any other number.
+fn lg_k_of(number: u32) -> Result<u8, Fault>
+    ensures { result ≡ lg_k number }
+{
+    if 4 <= number && number <= 21 {
+        Ok(number as u8)
+    } else {
+        Err(Fault::Range)
+    }
+}
+
+/// The width of 4, 6 or 8 bits. `Range` for any other number.
+fn width_of(bits: u32) -> Result<HllType, Fault>
+    ensures { result ≡ width bits }
+{
+    match bits {
+        4 => Ok(HllType::Hll4),
+        6 => Ok(HllType::Hll6),
+        8 => Ok(HllType::Hll8),
+        _ => Err(Fault::Range),
+    }
+}
+
+/// The law of the faults of a line: they are `Syntax`, `Range` and `Hex` (docs/PLAN.md, "Refusals"). So `Memory`, `Read`,
+/// `Write`, `Image` and `Stack` come from elsewhere. Does nothing.
+pub fn faults_of_lines()
+    ensures { FaultsOfLines }
+{}

@@ -1,0 +1,111 @@
+//! The words of a line, and the numbers among them.
+ghost use Rattle.std.specs.Prelude.{◌≡◌, ◌∷◌, ◌==◌, [], true, position, MatchResult, Ok, Err};
+ghost use Rattle.std.specs.List.{list_all};
+ghost use Rattle.std.specs.Option.{option_copied};
+ghost use Rattle.std.specs.Char.{is_ascii_digit};
+ghost use Rattle.hll_text.specs.Text as plan;
+ghost use Rattle.hll_text.specs.Text.{words, words_after, decimal_value, number};
+ghost use Rattle.hll_text.specs.Step.{word_of};
+ghost use Rattle.hll_text.specs.declared.fault.Fault.TheVariants.{Syntax};
+
+use crate::fault::Fault;
+
+/// Where the first space is.
+fn space_at(line: &[u8]) -> Option<usize>
+    ensures { result ≡ position (λ b. b == 32) line.now }
+{
+    line.iter().position(|b| *b == b' ')
+}
+
+/// The first word of a line, and what follows the space after it.
+pub(crate) fn split_word(line: &[u8]) -> (&[u8], Option<&[u8]>)
+    ensures { words line.now ≡ result.0.now ∷ words_after (option_copied result.1) }
+{
+    match space_at(line) {
+        None => (line, None),
+        Some(at) => (&line[..at], Some(&line[at + 1..])),
+    }
+}
+
+/// The next word after a space, and what follows the space after it. `Syntax` where there is no space.
+fn next_word(rest: Option<&[u8]>) -> Result<(&[u8], Option<&[u8]>), Fault>
+    ensures { MatchResult result
+        (λ r. words_after (option_copied rest.entry) ≡ r.0.now ∷ words_after (option_copied r.1))
+        (λ e. (words_after (option_copied rest.entry) ≡ []) × (e ≡ Syntax)) }
+{
+    match rest {
+        Some(line) => Ok(split_word(line)),
+        None => Err(Fault::Syntax),
+    }
+}
+
+/// The two numbers after a space. `Syntax` where there are not just two words, both of them numbers.
+pub(crate) fn two_numbers(rest: Option<&[u8]>) -> Result<(u32, u32), Fault>
+    ensures { result ≡ plan.two_numbers (words_after (option_copied rest.entry)) }
+{
+    let (first, rest) = next_word(rest)?;
+    let (second, rest) = next_word(rest)?;
+    match rest {
+        None => Ok((read_number(first)?, read_number(second)?)),
+        Some(_) => Err(Fault::Syntax),
+    }
+}
+
+/// The three numbers after a space. `Syntax` where there are not just three words, all of them numbers.
+pub(crate) fn three_numbers(rest: Option<&[u8]>) -> Result<(u32, u32, u32), Fault>
+    ensures { result ≡ plan.three_numbers (words_after (option_copied rest.entry)) }
+{
+    let (word, rest) = next_word(rest)?;
+    let first = read_number(word)?;
+    let (second, third) = two_numbers(rest)?;
+    Ok((first, second, third))
+}
+
+/// The word after a space. `Syntax` where there is not just one word, or it is empty.
+pub(crate) fn one_word(rest: Option<&[u8]>) -> Result<&[u8], Fault>
+    ensures { word_of result ≡ plan.one_word (words_after (option_copied rest.entry)) }
+{
+    let (word, rest) = next_word(rest)?;
+    match rest {
+        None if word.is_empty() => Err(Fault::Syntax),
+        None => Ok(word),
+        Some(_) => Err(Fault::Syntax),
+    }
+}
+
+/// The number that a word writes in 1 to 8 decimal digits. `Syntax` for any other word.
+fn read_number(word: &[u8]) -> Result<u32, Fault>
+    ensures { result ≡ number word.now }
+{
+    if is_number(word) {
+        Ok(number_value(word))
+    } else {
+        Err(Fault::Syntax)
+    }
+}
+
+/// Whether a word is 1 to 8 decimal digits.
+fn is_number(word: &[u8]) -> bool
+    ensures { result ≡ plan.is_number word.now }
+{
+    1 <= word.len() && word.len() <= 8 && are_digits(word)
+}
+
+/// Whether all bytes of a word are decimal digits.
+fn are_digits(word: &[u8]) -> bool
+    ensures { result ≡ list_all is_ascii_digit word.now }
+{
+    word.iter().all(|b| b.is_ascii_digit())
+}
+
+/// The number that 1 to 8 decimal digits write.
+fn number_value(word: &[u8]) -> u32
+    requires { plan.is_number word.now ≡ true }
+    ensures { result ≡ decimal_value word.now }
+{
+    let mut value: u32 = 0;
+    for digit in word {
+        value = 10 * value + u32::from(*digit - b'0');
+    }
+    value
+}
