@@ -1,6 +1,6 @@
 //! Measures registers at `lg_k` 12 and 21: merges of eight bits into eight and of six into eight, a fold to half as many
-//! registers, conversions to six bits and updates, beside the same loops over plain slices of bytes here. Each pair has to
-//! leave as many zeros.
+//! registers, conversions to six bits, updates, and `is_empty`, `num_zeros` and `kxq_units` on zeros and on filled registers,
+//! beside the same loops over plain slices of bytes here. The two of each pair have to agree.
 use std::hint::black_box;
 use std::time::Instant;
 
@@ -17,6 +17,12 @@ unsafe extern "C" {
     fn hll_bench_convert_6(lg_k: u8, rounds: u32) -> u64;
     fn hll_bench_update_8(lg_k: u8, rounds: u32) -> u64;
     fn hll_bench_update_6(lg_k: u8, rounds: u32) -> u64;
+    fn hll_bench_is_empty_8(lg_k: u8, full: bool, rounds: u32) -> u64;
+    fn hll_bench_num_zeros_8(lg_k: u8, full: bool, rounds: u32) -> u64;
+    fn hll_bench_kxq_units_8(lg_k: u8, full: bool, rounds: u32) -> u64;
+    fn hll_bench_is_empty_6(lg_k: u8, full: bool, rounds: u32) -> u64;
+    fn hll_bench_num_zeros_6(lg_k: u8, full: bool, rounds: u32) -> u64;
+    fn hll_bench_kxq_units_6(lg_k: u8, full: bool, rounds: u32) -> u64;
 }
 
 /// The slot and value behind a word, and the next word.
@@ -113,6 +119,50 @@ fn update_8(lg_k: u8, rounds: u32) -> u64 {
     zeros(&registers)
 }
 
+fn units(registers: &[u8]) -> u128 {
+    registers.iter().map(|register| 1u128 << (63 - register)).sum()
+}
+
+fn high(units: u128) -> u64 {
+    (units >> 60 & 0xffff_ffff) as u64
+}
+
+/// The sum over some rounds of a number that is made from registers, all 0 or filled.
+fn asked(lg_k: u8, full: bool, rounds: u32, ask: impl Fn(&[u8]) -> u64) -> u64 {
+    let registers = if full { filled(lg_k) } else { vec![0; 1 << lg_k] };
+    (0..rounds).fold(0, |sum: u64, _| sum.wrapping_add(ask(black_box(&registers))))
+}
+
+/// The same of registers of six bits, in groups.
+fn asked_groups(lg_k: u8, full: bool, rounds: u32, ask: impl Fn(&[u8]) -> u64) -> u64 {
+    let groups = packed(&if full { filled(lg_k) } else { vec![0; 1 << lg_k] });
+    (0..rounds).fold(0, |sum: u64, _| sum.wrapping_add(ask(black_box(&groups))))
+}
+
+fn is_empty<const FULL: bool>(lg_k: u8, rounds: u32) -> u64 {
+    asked(lg_k, FULL, rounds, |registers| u64::from(registers.iter().all(|register| *register == 0)))
+}
+
+fn num_zeros<const FULL: bool>(lg_k: u8, rounds: u32) -> u64 {
+    asked(lg_k, FULL, rounds, zeros)
+}
+
+fn kxq_units<const FULL: bool>(lg_k: u8, rounds: u32) -> u64 {
+    asked(lg_k, FULL, rounds, |registers| high(units(registers)))
+}
+
+fn is_empty_6<const FULL: bool>(lg_k: u8, rounds: u32) -> u64 {
+    asked_groups(lg_k, FULL, rounds, |groups| u64::from(groups.iter().all(|byte| *byte == 0)))
+}
+
+fn num_zeros_6<const FULL: bool>(lg_k: u8, rounds: u32) -> u64 {
+    asked_groups(lg_k, FULL, rounds, |groups| groups.chunks_exact(3).map(|group| zeros(&unpacked(group))).sum())
+}
+
+fn kxq_units_6<const FULL: bool>(lg_k: u8, rounds: u32) -> u64 {
+    asked_groups(lg_k, FULL, rounds, |groups| high(groups.chunks_exact(3).map(|group| units(&unpacked(group))).sum()))
+}
+
 type Work = fn(u8, u32) -> u64;
 
 /// The least nanoseconds a round over some runs, and what came out.
@@ -143,5 +193,17 @@ fn main() {
         measure("conversion to six", lg_k, rounds, |k, n| unsafe { hll_bench_convert_6(k, n) }, convert_6);
         measure("update of eight", lg_k, UPDATES_A_RUN, |k, n| unsafe { hll_bench_update_8(k, n) }, update_8);
         measure("update of six, beside eight", lg_k, UPDATES_A_RUN, |k, n| unsafe { hll_bench_update_6(k, n) }, update_8);
+        measure("is_empty of eight, zeros", lg_k, rounds, |k, n| unsafe { hll_bench_is_empty_8(k, false, n) }, is_empty::<false>);
+        measure("is_empty of eight, filled", lg_k, UPDATES_A_RUN, |k, n| unsafe { hll_bench_is_empty_8(k, true, n) }, is_empty::<true>);
+        measure("num_zeros of eight, zeros", lg_k, rounds, |k, n| unsafe { hll_bench_num_zeros_8(k, false, n) }, num_zeros::<false>);
+        measure("num_zeros of eight, filled", lg_k, rounds, |k, n| unsafe { hll_bench_num_zeros_8(k, true, n) }, num_zeros::<true>);
+        measure("kxq_units of eight, zeros", lg_k, rounds, |k, n| unsafe { hll_bench_kxq_units_8(k, false, n) }, kxq_units::<false>);
+        measure("kxq_units of eight, filled", lg_k, rounds, |k, n| unsafe { hll_bench_kxq_units_8(k, true, n) }, kxq_units::<true>);
+        measure("is_empty of six, zeros", lg_k, rounds, |k, n| unsafe { hll_bench_is_empty_6(k, false, n) }, is_empty_6::<false>);
+        measure("is_empty of six, filled", lg_k, UPDATES_A_RUN, |k, n| unsafe { hll_bench_is_empty_6(k, true, n) }, is_empty_6::<true>);
+        measure("num_zeros of six, zeros", lg_k, rounds, |k, n| unsafe { hll_bench_num_zeros_6(k, false, n) }, num_zeros_6::<false>);
+        measure("num_zeros of six, filled", lg_k, rounds, |k, n| unsafe { hll_bench_num_zeros_6(k, true, n) }, num_zeros_6::<true>);
+        measure("kxq_units of six, zeros", lg_k, rounds, |k, n| unsafe { hll_bench_kxq_units_6(k, false, n) }, kxq_units_6::<false>);
+        measure("kxq_units of six, filled", lg_k, rounds, |k, n| unsafe { hll_bench_kxq_units_6(k, true, n) }, kxq_units_6::<true>);
     }
 }

@@ -1,4 +1,4 @@
-//! What the measurements of bench/rust call: exports over the public calls of the crates below (docs/ARCHITECTURE.md,
+//! Exports over the public calls of the crates below, for the measurements of bench/rust (docs/ARCHITECTURE.md,
 //! "Measurements").
 #![tactic(auto)]
 
@@ -10,7 +10,7 @@ mod registers;
 use hll_base::hash::MurmurHash3X64128;
 use std::alloc::Global;
 
-/// What an export gives where memory was refused.
+/// What an export returns if an allocation fails.
 const REFUSED: u64 = u64::MAX;
 
 /// The first word of the hash of bytes at the default seed.
@@ -23,7 +23,7 @@ pub extern "C" fn hll_bench_hash(bytes: &[u8]) -> u64
     hash.finish128().0
 }
 
-/// So many merges of registers of eight bits.
+/// Merges of registers of eight bits.
 #[unsafe(no_mangle)]
 pub extern "C" fn hll_bench_merge_8(alloc: Global, lg_k: u8, rounds: u32) -> u64
     requires { (4 ≤ lg_k) × (lg_k ≤ 21) }
@@ -31,7 +31,7 @@ pub extern "C" fn hll_bench_merge_8(alloc: Global, lg_k: u8, rounds: u32) -> u64
     registers::merge_8(alloc, lg_k, rounds).unwrap_or(REFUSED)
 }
 
-/// So many merges of registers of six bits into registers of eight.
+/// Merges of registers of six bits into registers of eight.
 #[unsafe(no_mangle)]
 pub extern "C" fn hll_bench_merge_6(alloc: Global, lg_k: u8, rounds: u32) -> u64
     requires { (4 ≤ lg_k) × (lg_k ≤ 21) }
@@ -39,7 +39,7 @@ pub extern "C" fn hll_bench_merge_6(alloc: Global, lg_k: u8, rounds: u32) -> u64
     registers::merge_6(alloc, lg_k, rounds).unwrap_or(REFUSED)
 }
 
-/// So many merges of registers of eight bits into half as many.
+/// Merges of registers of eight bits into half as many.
 #[unsafe(no_mangle)]
 pub extern "C" fn hll_bench_downsample(alloc: Global, lg_k: u8, rounds: u32) -> u64
     requires { (4 ≤ lg_k) × (lg_k ≤ 20) }
@@ -47,7 +47,7 @@ pub extern "C" fn hll_bench_downsample(alloc: Global, lg_k: u8, rounds: u32) -> 
     registers::downsample(alloc, lg_k, rounds).unwrap_or(REFUSED)
 }
 
-/// So many conversions of registers of eight bits to six.
+/// Conversions of registers of eight bits to six.
 #[unsafe(no_mangle)]
 pub extern "C" fn hll_bench_convert_6(alloc: Global, lg_k: u8, rounds: u32) -> u64
     requires { (4 ≤ lg_k) × (lg_k ≤ 21) }
@@ -55,7 +55,7 @@ pub extern "C" fn hll_bench_convert_6(alloc: Global, lg_k: u8, rounds: u32) -> u
     registers::convert_6(alloc, lg_k, rounds).unwrap_or(REFUSED)
 }
 
-/// So many updates of registers of eight bits.
+/// Updates of registers of eight bits.
 #[unsafe(no_mangle)]
 pub extern "C" fn hll_bench_update_8(alloc: Global, lg_k: u8, rounds: u32) -> u64
     requires { (4 ≤ lg_k) × (lg_k ≤ 21) }
@@ -63,10 +63,58 @@ pub extern "C" fn hll_bench_update_8(alloc: Global, lg_k: u8, rounds: u32) -> u6
     registers::update_8(alloc, lg_k, rounds).unwrap_or(REFUSED)
 }
 
-/// So many updates of registers of six bits.
+/// Updates of registers of six bits.
 #[unsafe(no_mangle)]
 pub extern "C" fn hll_bench_update_6(alloc: Global, lg_k: u8, rounds: u32) -> u64
     requires { (4 ≤ lg_k) × (lg_k ≤ 21) }
 {
     registers::update_6(alloc, lg_k, rounds).unwrap_or(REFUSED)
+}
+
+/// Tests whether all registers of eight bits are 0.
+#[unsafe(no_mangle)]
+pub extern "C" fn hll_bench_is_empty_8(alloc: Global, lg_k: u8, full: bool, rounds: u32) -> u64
+    requires { (4 ≤ lg_k) × (lg_k ≤ 21) }
+{
+    registers::is_empty_8(alloc, lg_k, full, rounds).unwrap_or(REFUSED)
+}
+
+/// Counts of the registers of eight bits that are 0.
+#[unsafe(no_mangle)]
+pub extern "C" fn hll_bench_num_zeros_8(alloc: Global, lg_k: u8, full: bool, rounds: u32) -> u64
+    requires { (4 ≤ lg_k) × (lg_k ≤ 21) }
+{
+    registers::num_zeros_8(alloc, lg_k, full, rounds).unwrap_or(REFUSED)
+}
+
+/// Sums of the weights of registers of eight bits.
+#[unsafe(no_mangle)]
+pub extern "C" fn hll_bench_kxq_units_8(alloc: Global, lg_k: u8, full: bool, rounds: u32) -> u64
+    requires { (4 ≤ lg_k) × (lg_k ≤ 21) }
+{
+    registers::kxq_units_8(alloc, lg_k, full, rounds).unwrap_or(REFUSED)
+}
+
+/// Tests whether all registers of six bits are 0.
+#[unsafe(no_mangle)]
+pub extern "C" fn hll_bench_is_empty_6(alloc: Global, lg_k: u8, full: bool, rounds: u32) -> u64
+    requires { (4 ≤ lg_k) × (lg_k ≤ 21) }
+{
+    registers::is_empty_6(alloc, lg_k, full, rounds).unwrap_or(REFUSED)
+}
+
+/// Counts of the registers of six bits that are 0.
+#[unsafe(no_mangle)]
+pub extern "C" fn hll_bench_num_zeros_6(alloc: Global, lg_k: u8, full: bool, rounds: u32) -> u64
+    requires { (4 ≤ lg_k) × (lg_k ≤ 21) }
+{
+    registers::num_zeros_6(alloc, lg_k, full, rounds).unwrap_or(REFUSED)
+}
+
+/// Sums of the weights of registers of six bits.
+#[unsafe(no_mangle)]
+pub extern "C" fn hll_bench_kxq_units_6(alloc: Global, lg_k: u8, full: bool, rounds: u32) -> u64
+    requires { (4 ≤ lg_k) × (lg_k ≤ 21) }
+{
+    registers::kxq_units_6(alloc, lg_k, full, rounds).unwrap_or(REFUSED)
 }

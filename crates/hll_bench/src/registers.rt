@@ -1,5 +1,5 @@
-//! Work on registers: each function makes its own, does the work so many times, and gives how many of those that come out
-//! are 0.
+//! Work on registers: each function makes its own, does the work `rounds` times, and returns a number that depends on all
+//! of it, such as how many registers are 0 in the end.
 ghost use Rattle.std.specs.Prelude.{◌≡◌, ◌≤◌, IfOk};
 
 use hll_arrays::array6::Array6;
@@ -10,14 +10,14 @@ use hll_base::error::Error;
 use hll_coupons::coupon::Coupon;
 use std::alloc::Global;
 
-/// The coupon behind a word, and the next word.
+/// The coupon of a word, and the next word.
 fn next(word: u64) -> (Coupon, u64) {
     let word = word.wrapping_mul(0xd134_2543_de82_ef95);
     let coupon = Coupon::from_words(word >> 32, word);
     (coupon, word)
 }
 
-/// Registers of four coupons for each.
+/// Registers after four coupons for each.
 fn filled(alloc: Global, lg_k: u8) -> Result<Array8, Error>
     requires { (4 ≤ lg_k) × (lg_k ≤ 21) }
     ensures { IfOk result (λ a. a.lg_k ≡ lg_k) }
@@ -100,4 +100,99 @@ pub(crate) fn update_6(alloc: Global, lg_k: u8, rounds: u32) -> Result<u64, Erro
         word = after;
     }
     Ok(u64::from(array.num_zeros()))
+}
+
+/// Registers of eight bits, all 0 or filled.
+fn array_8(alloc: Global, lg_k: u8, full: bool) -> Result<Array8, Error>
+    requires { (4 ≤ lg_k) × (lg_k ≤ 21) }
+{
+    if full {
+        filled(alloc, lg_k)
+    } else {
+        Array8::new(alloc, lg_k)
+    }
+}
+
+/// Registers of six bits, all 0 or filled.
+fn array_6(alloc: Global, lg_k: u8, full: bool) -> Result<Array6, Error>
+    requires { (4 ≤ lg_k) × (lg_k ≤ 21) }
+{
+    convert(&array_8(alloc, lg_k, full)?)
+}
+
+/// A coupon of value 0, which an optimizer does not know to be one, so that no round can be left out.
+fn idle(rounds: u32) -> Coupon {
+    Coupon::pack(0, (rounds >> 30) as u8)
+}
+
+pub(crate) fn is_empty_8(alloc: Global, lg_k: u8, full: bool, rounds: u32) -> Result<u64, Error>
+    requires { (4 ≤ lg_k) × (lg_k ≤ 21) }
+{
+    let mut array = array_8(alloc, lg_k, full)?;
+    let mut sum = 0u64;
+    for _ in 0..rounds {
+        array.update(idle(rounds));
+        sum = sum.wrapping_add(u64::from(array.is_empty()));
+    }
+    Ok(sum)
+}
+
+pub(crate) fn num_zeros_8(alloc: Global, lg_k: u8, full: bool, rounds: u32) -> Result<u64, Error>
+    requires { (4 ≤ lg_k) × (lg_k ≤ 21) }
+{
+    let mut array = array_8(alloc, lg_k, full)?;
+    let mut sum = 0u64;
+    for _ in 0..rounds {
+        array.update(idle(rounds));
+        sum = sum.wrapping_add(u64::from(array.num_zeros()));
+    }
+    Ok(sum)
+}
+
+pub(crate) fn kxq_units_8(alloc: Global, lg_k: u8, full: bool, rounds: u32) -> Result<u64, Error>
+    requires { (4 ≤ lg_k) × (lg_k ≤ 21) }
+{
+    let mut array = array_8(alloc, lg_k, full)?;
+    let mut sum = 0u64;
+    for _ in 0..rounds {
+        array.update(idle(rounds));
+        sum = sum.wrapping_add((array.kxq_units() >> 60 & 0xffff_ffff) as u64);
+    }
+    Ok(sum)
+}
+
+pub(crate) fn is_empty_6(alloc: Global, lg_k: u8, full: bool, rounds: u32) -> Result<u64, Error>
+    requires { (4 ≤ lg_k) × (lg_k ≤ 21) }
+{
+    let mut array = array_6(alloc, lg_k, full)?;
+    let mut sum = 0u64;
+    for _ in 0..rounds {
+        array.update(idle(rounds));
+        sum = sum.wrapping_add(u64::from(array.is_empty()));
+    }
+    Ok(sum)
+}
+
+pub(crate) fn num_zeros_6(alloc: Global, lg_k: u8, full: bool, rounds: u32) -> Result<u64, Error>
+    requires { (4 ≤ lg_k) × (lg_k ≤ 21) }
+{
+    let mut array = array_6(alloc, lg_k, full)?;
+    let mut sum = 0u64;
+    for _ in 0..rounds {
+        array.update(idle(rounds));
+        sum = sum.wrapping_add(u64::from(array.num_zeros()));
+    }
+    Ok(sum)
+}
+
+pub(crate) fn kxq_units_6(alloc: Global, lg_k: u8, full: bool, rounds: u32) -> Result<u64, Error>
+    requires { (4 ≤ lg_k) × (lg_k ≤ 21) }
+{
+    let mut array = array_6(alloc, lg_k, full)?;
+    let mut sum = 0u64;
+    for _ in 0..rounds {
+        array.update(idle(rounds));
+        sum = sum.wrapping_add((array.kxq_units() >> 60 & 0xffff_ffff) as u64);
+    }
+    Ok(sum)
 }
