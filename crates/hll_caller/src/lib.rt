@@ -1,13 +1,14 @@
 //! A proved caller of the library: what CALLING.md shows.
 #![tactic(auto)]
 
-ghost use Rattle.std.specs.Prelude.{◌≡◌, ◌≤◌, IfOk, IfErr};
+ghost use Rattle.std.specs.Prelude.{◌≡◌, ◌≤◌, ◌⊎◌, [], Some, IfOk, IfErr};
 ghost use Rattle.std.specs.FinSet.{union};
 ghost use Rattle.hll_base.specs.declared.error.Reason.TheVariants.{Memory};
 ghost use Rattle.hll_coupons.specs.Pair.{set_of};
 ghost use Rattle.hll_coupons.specs.Fold.{fold_to};
 ghost use Rattle.hll_arrays.specs.State.{cleared_state};
-ghost use Rattle.hll_merge.specs.Run.{IsAnswer};
+ghost use Rattle.hll_merge.specs.Run.{IsAnswer, IsRefused, Streams};
+ghost use Rattle.hll_text.specs.declared.fault.Fault.TheVariants as faults;
 
 use hll_arrays::array8::Array8;
 use hll_arrays::merge::merge_from;
@@ -60,9 +61,11 @@ pub fn join_shards<A: Allocator + Clone>(
 
 /// Runs a plan in memory: the line that the program would print for it.
 ///
-/// Refused as `run` says. Takes memory for the text, the sketches and the line.
-pub fn merged<A: Allocator + Clone>(alloc: A, plan: &[u8]) -> Result<Vec<u8, A>, MergeError>
+/// Fails with `Memory` or as `run` does. Takes memory for the text, the sketches and the line.
+pub fn run_in_memory<A: Allocator + Clone>(alloc: A, plan: &[u8]) -> Result<Vec<u8, A>, MergeError>
     ensures ok { IfOk result (λ line. IsAnswer plan.now line.items) }
+    ensures err { IfErr result (λ e. (e.fault ≡ faults.Memory)
+        ⊎ ((streams : Streams) × (streams.before ≡ Some plan.now) × (streams.old ≡ Some []) × IsRefused streams e)) }
 {
     let for_line = match alloc.clone() {
         Ok(for_line) => for_line,

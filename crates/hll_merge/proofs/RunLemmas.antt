@@ -21,7 +21,7 @@ answer text line bytes xs x ts runs stand one written shown =
     let t = AllRepresent-one x xs ts one stand in
     let accepted : Accepts today text t.0 = subst (Runs today [] (lines text)) t.1 runs in
     record {
-      tree = t.0;
+      plan = t.0;
       accepted = accepted;
       holds = accepted_plans_hold text t.0 (served_is_accepted text t.0 accepted);
       bytes = bytes;

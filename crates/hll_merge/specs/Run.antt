@@ -33,11 +33,11 @@ IsAllOf (Some bytes) text = text ≡ bytes
 -- the line is what is printed for the outcome of the text's plan; the outcome is legal, what is written is an image of it,
 -- it means the plan's inputs, and it agrees with that of every plan over the same inputs
 pub record IsAnswer (text line : List ℕ) : Type 0 where
-  pub tree : Plan
-  pub accepted : Accepts today text tree
-  pub holds : Holds tree
+  pub plan : Plan
+  pub accepted : Accepts today text plan
+  pub holds : Holds plan
   pub bytes : List ℕ
-  pub written : Written bytes (outcome tree)
+  pub written : Written bytes (outcome plan)
   pub shown : line ≡ printed_line bytes
 
 -- all was read, and the answer and nothing else was written
