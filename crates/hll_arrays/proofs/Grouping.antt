@@ -9,14 +9,14 @@ use Rattle.std.proofs.Math.ListN.{set}
 use Rattle.std.proofs.Math.Nat.{pow-suc}
 use Rattle.std.proofs.Math.Pow.{pow_mono}
 use Rattle.std.proofs.lemmas.Bool.{cases_eq, eqb-true, false_from_ne_true}
-use Rattle.std.proofs.lemmas.List.{append-nil, append_assoc, length-drop, take-append-drop, take_more, take_all, drop_all}
+use Rattle.std.proofs.lemmas.List.{append-nil, append_assoc, length-drop, length-take-le, take-append-drop, take_more, take_all, drop_all}
 use Rattle.std.proofs.lemmas.List.Concat.{flat_map-append}
-use Rattle.std.proofs.lemmas.List.Elements.{All-tail, All-append, All-take, All-drop}
+use Rattle.std.proofs.lemmas.List.Elements.{All-cons, All-tail, All-append, All-take, All-drop}
 use Rattle.std.proofs.lemmas.List.Folds.{list_all-append}
 use Rattle.std.proofs.lemmas.List.Sums.{sum_by-le, AllPass-from_list_all}
 use Rattle.std.proofs.lemmas.Slice.Eq.{slice_eq-Decides}
 use Rattle.hll_arrays.specs.Groups.{IsGroup, AreGroups, group_number, group_fields, registers_in}
-use Rattle.hll_arrays.specs.Packed.{group_bytes, field_bytes, units}
+use Rattle.hll_arrays.specs.Packed.{group_bytes, field_bytes, fields, units}
 use Rattle.hll_arrays.specs.Store.{AreRegisters}
 use Rattle.hll_arrays.proofs.States.{same_decides}
 
@@ -198,6 +198,36 @@ pub All-first_chunks : (P : ℕ → Type 0) (n : ℕ) (R : List ℕ) (i : ℕ) �
 All-first_chunks P zero R i h l = absurd (omega arith)
 All-first_chunks P (suc n) R zero h l = All-take P 4 R h
 All-first_chunks P (suc n) R (suc i) h l = All-first_chunks P n (drop 4 R) i (All-drop P 4 R h) (omega arith)
+
+-- ---- bytes as groups
+
+-- chunks of three bytes are groups
+pub All-IsGroup-first_chunks : (n : ℕ) (b : List ℕ) → 3 * n ≤ length b → All (λ v. v < 256) b → All IsGroup (first_chunks 3 n b)
+All-IsGroup-first_chunks zero b h bytes = λ k d l. absurd (omega arith)
+All-IsGroup-first_chunks (suc n) b h bytes =
+    let group : IsGroup (take 3 b) = record { three = length-take-le 3 b (omega arith); bytes = All-take (λ v. v < 256) 3 b bytes } in
+    let rest : All IsGroup (first_chunks 3 n (drop 3 b)) = All-IsGroup-first_chunks n (drop 3 b) (omega (arith, length-drop 3 b)) (All-drop (λ v. v < 256) 3 b bytes) in
+    All-cons IsGroup (take 3 b) (first_chunks 3 n (drop 3 b)) group rest
+
+-- their registers are the fields of the bytes, up to two bytes at the end aside
+pub registers_in-first_chunks : (n : ℕ) (b : List ℕ) → 3 * n ≤ length b → length b < 3 * n + 3 → registers_in (first_chunks 3 n b) ≡ fields b
+registers_in-first_chunks zero [] h l = refl
+registers_in-first_chunks zero (a ∷ []) h l = refl
+registers_in-first_chunks zero (a ∷ b ∷ []) h l = refl
+registers_in-first_chunks zero (a ∷ b ∷ c ∷ rest) h l = absurd (omega arith)
+registers_in-first_chunks (suc n) [] h l = absurd (omega arith)
+registers_in-first_chunks (suc n) (a ∷ []) h l = absurd (omega arith)
+registers_in-first_chunks (suc n) (a ∷ b ∷ []) h l = absurd (omega arith)
+registers_in-first_chunks (suc n) (a ∷ b ∷ c ∷ rest) h l = ap (λ R. group_fields (a ∷ b ∷ c ∷ []) ++ R) (registers_in-first_chunks n rest (omega arith) (omega arith))
+
+-- four for each three bytes
+pub length-fields : (n : ℕ) (b : List ℕ) → length b ≡ 3 * n + 1 → length (fields b) ≡ 4 * n
+length-fields zero (a ∷ []) e = refl
+length-fields n [] e = absurd (omega arith)
+length-fields (suc n) (a ∷ []) e = absurd (omega arith)
+length-fields n (a ∷ b ∷ []) e = absurd (omega arith)
+length-fields zero (a ∷ b ∷ c ∷ rest) e = absurd (omega arith)
+length-fields (suc n) (a ∷ b ∷ c ∷ rest) e = omega (arith, length-fields n rest (omega arith))
 
 -- ---- sums
 

@@ -1,5 +1,5 @@
 -- Lemmas on reading the registers of an image.
-use Rattle.std.proofs.Common.{◌≡◌, ℕ, ◌+◌, ◌-◌, ◌^◌, ◌≤◌, List, length, take, drop, true, All, sym, subst, ◌∙◌, arith}
+use Rattle.std.proofs.Common.{◌≡◌, ℕ, ◌+◌, ◌-◌, ◌^◌, ◌≤◌, List, length, take, drop, true, All, Result, Ok, Err, IfErr, sym, subst, ◌∙◌, arith}
 use Rattle.std.specs.Prelude.{nat_le}
 use Rattle.std.specs.List.{list_all}
 use Rattle.std.proofs.lemmas.Bool.{leb-true, le-leb}
@@ -7,7 +7,7 @@ use Rattle.std.proofs.lemmas.List.{length-take, drop-take, take-append-drop}
 use Rattle.std.proofs.lemmas.List.Elements.{All-weaker}
 use Rattle.std.proofs.lemmas.List.Sums.{AllPass-from_list_all, list_all-from_AllPass}
 use Rattle.hll_coupons.proofs.Payloads.{front_number}
-use Rattle.hll_arrays.specs.Payload.{num_at_cur_min, exception_count, IsHll8Payload}
+use Rattle.hll_arrays.specs.Payload.{num_at_cur_min, exception_count, field_size, IsHll8Payload, IsHll6Payload}
 
 -- what the test of bytes says
 pub small-from : (xs : List ℕ) → list_all (λ v. nat_le v 63) xs ≡ true → All (λ v. v ≤ 63) xs
@@ -16,7 +16,7 @@ small-from xs h = All-weaker (λ v. nat_le v 63 ≡ true) (λ v. v ≤ 63) (λ v
 pub small-to : (xs : List ℕ) → All (λ v. v ≤ 63) xs → list_all (λ v. nat_le v 63) xs ≡ true
 small-to xs h = list_all-from_AllPass (λ v. nat_le v 63) xs (All-weaker (λ v. v ≤ 63) (λ v. nat_le v 63 ≡ true) (λ v l. le-leb v 63 l) xs h)
 
--- numbers and registers that are right are a payload
+-- numbers and registers that are right are a payload of eight bits
 pub is_hll8_payload : (k : ℕ) (b : List ℕ) → 32 + 2 ^ k ≤ length b → num_at_cur_min b ≤ 2 ^ k → exception_count b ≡ 0 → All (λ v. v ≤ 63) (take (2 ^ k) (drop 32 b))
     → IsHll8Payload k (take (32 + 2 ^ k) b)
 is_hll8_payload k b there low none small =
@@ -29,6 +29,23 @@ is_hll8_payload k b there low none small =
       size = size;
       small = subst (All (λ v. v ≤ 63)) (sym (drop-take 32 (2 ^ k) b)) small;
     }
+
+-- numbers that are right, and bytes enough, are a payload of six bits
+pub is_hll6_payload : (k : ℕ) (b : List ℕ) → 32 + field_size k ≤ length b → num_at_cur_min b ≤ 2 ^ k → exception_count b ≡ 0 → IsHll6Payload k (take (32 + field_size k) b)
+is_hll6_payload k b there low none =
+    let n : ℕ = 32 + field_size k in
+    let e = take-append-drop n b in
+    let size : length (take n b) ≡ n = omega (arith, length-take n b) in
+    record {
+      zero_count = subst (λ m. m ≤ 2 ^ k) (sym (front_number (take n b) (drop n b) b e 24 (omega (arith, size)))) low;
+      no_exceptions = front_number (take n b) (drop n b) b e 28 (omega (arith, size)) ∙ none;
+      size = size;
+    }
+
+-- what holds of every error holds of a result
+pub IfErr-always : {T E : Type 0} (P : E → Type 0) (r : Result T E) → ((e : E) → P e) → IfErr r P
+IfErr-always P (Ok x) h = tt
+IfErr-always P (Err e) h = h e
 
 -- a front as a slice
 pub slice_front : (n m : ℕ) (xs ys : List ℕ) → n ≡ m → xs ≡ ys → take (n - 0) xs ≡ take m ys

@@ -1,21 +1,23 @@
 //! Registers of six bits: four of them in three bytes.
-ghost use Rattle.std.specs.Prelude.{◌≡◌, ◌^◌, ◌-◌, ◌<◌, ◌≤◌, ◌==◌, slice_index, IfOk, IfErr};
+ghost use Rattle.std.specs.Prelude.{◌≡◌, ◌+◌, ◌^◌, ◌-◌, ◌<◌, ◌≤◌, ◌==◌, ◌⊎◌, take, drop, slice_index, IfOk, IfErr};
 ghost use Rattle.std.specs.List.{list_all};
 ghost use Rattle.hll_base.specs.declared.error.Reason.TheVariants.{Memory};
 ghost use Rattle.hll_coupons.specs.declared.hll_type.HllType.TheVariants.{Hll6};
-ghost use Rattle.hll_arrays.specs.Packed.{zeros, units, size_in_registers};
-ghost use Rattle.hll_arrays.specs.Payload.{hll6_bytes};
+ghost use Rattle.hll_arrays.specs.Packed.{fields, zeros, units, size_in_registers};
+ghost use Rattle.hll_arrays.specs.Payload.{field_size, state_at, IsHll6Payload, Hll6Fault, hll6_bytes};
 ghost use Rattle.hll_arrays.specs.Store.{zero_registers, update_with_coupon, IsStored};
 
 use crate::estimate_state::EstimateState;
 use crate::groups::{
-    all_zero_in, count_zeros_in, max_groups_into, pack_groups, put_register, register_at, units_in,
+    all_zero_in, count_zeros_in, groups_of, max_groups_into, pack_groups, put_register,
+    register_at, units_in,
 };
 use crate::preamble::Preamble;
 use crate::register_store::RegisterStore;
 use crate::registers::{Registers, two_to};
 use hll_base::codec::SketchBytes;
-use hll_base::error::Error;
+use hll_base::cursor::SketchSlice;
+use hll_base::error::{Error, Reason};
 use hll_coupons::coupon::Coupon;
 use hll_coupons::hll_type::HllType;
 use hll_coupons::serialization::HLL_PREAMBLE_SIZE;
@@ -59,6 +61,39 @@ impl<A: Allocator> Array6<A> {
             lg_config_k,
             groups: vec![in alloc; [0; 3]; 1 << (lg_config_k - 2)]?,
             state: EstimateState::CLEARED,
+        })
+    }
+
+    /// Reads the part of an image of six-bit registers that follows the header (docs/FORMAT.md, "HLL").
+    /// The zero count is checked against its bound, and not used. The last byte has to be there, and may be any.
+    ///
+    /// `lg_config_k` is 4 to 21. Fails with `Truncated`, `Count` or `Memory`. Allocates the registers only after the
+    /// bytes are known to be a payload, and copies them once.
+    pub fn deserialize_registers(
+        alloc: A,
+        cursor: SketchSlice<'_>,
+        lg_config_k: u8,
+        ooo: bool,
+    ) -> Result<Array6<A>, Error>
+        requires least { 4 ≤ lg_config_k }
+        requires most { lg_config_k ≤ 21 }
+        ensures ok { IfOk result (λ a. IsHll6Payload lg_config_k (take (32 + field_size lg_config_k) cursor.entry)
+            × (a ≡ record { lg_k = lg_config_k; registers = fields (take (field_size lg_config_k) (drop 32 cursor.entry)); state = state_at ooo cursor.entry })) }
+        ensures err { IfErr result (λ e. (e ≡ Memory) ⊎ Hll6Fault lg_config_k cursor.entry e) }
+        ensures asked { IfErr result (λ e. e ≡ Memory → IsHll6Payload lg_config_k (take (32 + field_size lg_config_k) cursor.entry)) }
+    {
+        let size = two_to(lg_config_k);
+        let (preamble, rest) = Preamble::read(cursor, ooo)?;
+        if preamble.num_at_cur_min as usize > size || preamble.exception_count != 0 {
+            return Err(Error::new(Reason::Count));
+        }
+        let Some(packed) = rest.remaining().get(..packed_size(lg_config_k)) else {
+            return Err(Error::new(Reason::Truncated));
+        };
+        Ok(Array6 {
+            lg_config_k,
+            groups: groups_of(alloc, packed)?,
+            state: preamble.state,
         })
     }
 
@@ -137,7 +172,7 @@ impl<A: Allocator> Array6<A> {
     pub fn estimated_size(&self) -> usize
         ensures { result ≡ size_in_registers self.now.lg_k Hll6 self.now.registers }
     {
-        3 * two_to(self.lg_config_k) / 4 + 1
+        packed_size(self.lg_config_k)
     }
 }
 
@@ -269,4 +304,12 @@ impl<A: Allocator> Eq for Array6<A> {
     ghost use Rattle.hll_arrays.specs.Same.{same_stored-equivalence};
 
     ghost laws = { same_stored-equivalence };
+}
+
+/// How many bytes 2^`lg_k` registers take in an image.
+fn packed_size(lg_k: u8) -> usize
+    requires { lg_k ≤ 21 }
+    ensures { result ≡ field_size lg_k }
+{
+    3 * two_to(lg_k) / 4 + 1
 }

@@ -71,7 +71,7 @@ impl<A: Allocator> Array8<A> {
     /// The zero count is checked against its bound, and not used.
     ///
     /// `lg_config_k` is 4 to 21. Fails with `Truncated`, `Count`, `Register` or `Memory`. Allocates the registers
-    /// only after the bytes are known to be there, and copies them once.
+    /// only after the bytes are known to be a payload, and copies them once.
     pub fn deserialize_registers(
         alloc: A,
         cursor: SketchSlice<'_>,
@@ -83,6 +83,7 @@ impl<A: Allocator> Array8<A> {
         ensures ok { IfOk result (λ a. IsHll8Payload lg_config_k (take (32 + 2 ^ lg_config_k) cursor.entry)
             × (a ≡ record { lg_k = lg_config_k; registers = take (2 ^ lg_config_k) (drop 32 cursor.entry); state = state_at ooo cursor.entry })) }
         ensures err { IfErr result (λ e. (e ≡ Memory) ⊎ Hll8Fault lg_config_k cursor.entry e) }
+        ensures asked { IfErr result (λ e. e ≡ Memory → IsHll8Payload lg_config_k (take (32 + 2 ^ lg_config_k) cursor.entry)) }
     {
         let size = two_to(lg_config_k);
         let (preamble, rest) = Preamble::read(cursor, ooo)?;

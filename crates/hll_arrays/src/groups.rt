@@ -117,3 +117,12 @@ pub(crate) fn units_in(groups: &[[u8; 3]]) -> u128
     }
     sum
 }
+
+/// The groups that bytes hold. Up to two bytes at the end, which fill none, are left out. Allocates in one request.
+pub(crate) fn groups_of<A: Allocator>(alloc: A, bytes: &[u8]) -> Result<Vec<[u8; 3], A>, AllocError>
+    ensures registers { IfOk result (λ groups. registers_in groups.items ≡ packed.fields bytes.now) }
+    ensures groups { IfOk result (λ groups. All IsGroup groups.items) }
+{
+    let (groups, _) = bytes.as_chunks::<3>();
+    Vec::from_slice(alloc, groups)
+}

@@ -3,11 +3,11 @@ use Rattle.std.specs.Prelude.{nat_le}
 use Rattle.std.specs.List.{list_all}
 use Rattle.std.proofs.lemmas.Bool.{true≢false}
 use Rattle.std.proofs.lemmas.List.{length-drop}
-use Rattle.hll_base.specs.declared.error.Reason.TheVariants.{Memory}
+use Rattle.hll_base.specs.declared.error.Reason.TheVariants.{Memory, Truncated}
 use Rattle.hll_arrays.specs.Payload.{num_at_cur_min, exception_count, state_at, IsHll8Payload, Hll8Fault}
 use Rattle.hll_arrays.specs.Payload as payload
 use Rattle.hll_base.proofs.Errors.{IfErr-passed}
-use Rattle.hll_arrays.proofs.ReadingRegisters.{small-from, small-to, is_hll8_payload, slice_front}
+use Rattle.hll_arrays.proofs.ReadingRegisters.{small-from, small-to, is_hll8_payload, IfErr-always, slice_front}
 use Rattle.hll_arrays.proofs.array8.Array8.deserialize_registers.Goals as goal
 
 pub returns-in_err-preamble-clause-err : goal.returns-in_err-preamble-clause-err
@@ -15,6 +15,11 @@ returns-in_err-preamble-clause-err g c =
     let e = c.in_err-preamble.ensures.err in
     IfErr-passed (λ r. (r ≡ Memory) ⊎ Hll8Fault c.args.lg_config_k c.args.cursor r) c.from_residual.result c.in_err-preamble.field-0.0 c.from_residual.ensures.1
     (inr (subst (Hll8Fault c.args.lg_config_k c.args.cursor) (sym e.0) (payload.Hll8Fault.no_counts e.1)))
+
+pub returns-in_err-preamble-clause-asked : goal.returns-in_err-preamble-clause-asked
+returns-in_err-preamble-clause-asked g c =
+    IfErr-passed (λ r. r ≡ Memory → IsHll8Payload c.args.lg_config_k (take (32 + 2 ^ c.args.lg_config_k) c.args.cursor)) c.from_residual.result c.in_err-preamble.field-0.0 c.from_residual.ensures.1
+    (λ memory. absurd (let other : Truncated ≡ Memory = sym c.in_err-preamble.ensures.err.0 ∙ memory in cc))
 
 pub returns-then-preamble-size-clause-err : goal.returns-then-preamble-size-clause-err
 returns-then-preamble-size-clause-err g c =
@@ -42,6 +47,20 @@ returns-then-not-are_registers-clause-err g c =
     let there : 32 + 2 ^ c.args.lg_config_k ≤ length c.args.cursor = omega (arith, found.1, ap length rest, length-drop 32 c.args.cursor, c.two_to-size.ensures, read.0) in
     inr (subst (Hll8Fault c.args.lg_config_k c.args.cursor) (sym c.new-then-not-are_registers.ensures)
     (payload.Hll8Fault.register there (λ small. true≢false (sym (small-to _ small) ∙ sym (ap (list_all (λ v. nat_le v 63)) are) ∙ sym c.are_registers.ensures ∙ c.if-not-are_registers.true))))
+
+-- the bytes are a payload, so memory is asked for
+pub returns-in_err-from_slice-clause-asked : goal.returns-in_err-from_slice-clause-asked
+returns-in_err-from_slice-clause-asked g c =
+    let k : ℕ = c.args.lg_config_k in
+    let read = c.in_ok-preamble.ensures.ok in
+    let found = c.in-Some.ensures.lookup.0 in
+    let rest : c.remaining.result.now ≡ drop 32 c.args.cursor = c.remaining.ensures ∙ read.4 in
+    let are : c.in-Some.registers.now ≡ take (2 ^ k) (drop 32 c.args.cursor) = found.2 ∙ slice_front c.two_to-size.result (2 ^ k) c.remaining.result.now (drop 32 c.args.cursor) c.two_to-size.ensures rest in
+    let there : 32 + 2 ^ k ≤ length c.args.cursor = omega (arith, found.1, ap length rest, length-drop 32 c.args.cursor, c.two_to-size.ensures, read.0) in
+    let low : num_at_cur_min c.args.cursor ≤ 2 ^ k = omega (arith, c.if-preamble-size.false, c.two_to-size.ensures, read.2) in
+    let none : exception_count c.args.cursor ≡ 0 = sym read.3 ∙ c.if-preamble-ne0.false in
+    let small : All (λ v. v ≤ 63) (take (2 ^ k) (drop 32 c.args.cursor)) = subst (All (λ v. v ≤ 63)) are (small-from c.in-Some.registers.now (sym c.are_registers.ensures ∙ c.if-not-are_registers.false)) in
+    IfErr-always (λ e. e ≡ Memory → IsHll8Payload k (take (32 + 2 ^ k) c.args.cursor)) c.from_residual-in_err-from_slice.result (λ e memory. is_hll8_payload k c.args.cursor there low none small)
 
 pub invariant_of-result : goal.invariant_of-result
 invariant_of-result g c =
