@@ -21,7 +21,7 @@ fn two_to(lg_k: u8) -> usize
 /// 2^`lg_k` registers, two bytes each.
 #[derive_where(Debug)]
 #[derive(Drop)]
-pub struct Array16<A: Allocator> {
+pub(crate) struct Array16<A: Allocator> {
     lg_k: u8,
     registers: Vec<u16, A>,
     state: EstimateState,
@@ -75,7 +75,7 @@ impl<A: Allocator> Registers for Array16<A> {
 
 impl<A: Allocator + Clone> Array16<A> {
     /// A copy with one byte for each register.
-    pub fn narrowed(&self) -> Result<Array8<A>, Error>
+    pub(crate) fn narrowed(&self) -> Result<Array8<A>, Error>
         ensures ok { IfOk result (λ a. a ≡ self.now) }
         ensures err { IfErr result (λ e. e ≡ Memory) }
     {

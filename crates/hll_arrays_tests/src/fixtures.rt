@@ -1,5 +1,8 @@
-//! Values that several tests use.
-use hll_arrays::EstimateState;
+//! Values and calls that several tests use.
+ghost use Rattle.std.specs.Prelude.{◌≤◌};
+
+use hll_arrays::{Array6, Array8, EstimateState, RegisterStore, Registers};
+use hll_base::cursor::SketchSlice;
 use hll_base::error::{Error, Reason};
 use hll_coupons::coupon::Coupon;
 use std::alloc::Allocator;
@@ -9,6 +12,48 @@ pub(crate) const READ: EstimateState = EstimateState {
     words: [1, 2, 3],
     out_of_order: false,
 };
+
+/// Registers that can be copied, and read from an image.
+pub(crate) trait Images<A: Allocator>: RegisterStore<A> {
+    /// Reads what follows the header of an image.
+    fn read(alloc: A, image: &[u8], lg_k: u8, out_of_order: bool) -> Result<Self, Error>
+    where
+        Self: Sized,
+        requires least { 4 ≤ lg_k }
+        requires most { lg_k ≤ 21 };
+
+    /// A copy.
+    fn copied(&self) -> Result<Self, Error>
+    where
+        Self: Sized;
+}
+
+impl<A: Allocator + Clone> Images<A> for Array8<A> {
+    fn read(alloc: A, image: &[u8], lg_k: u8, out_of_order: bool) -> Result<Array8<A>, Error> {
+        Array8::deserialize_registers(alloc, behind_header(image)?, lg_k, out_of_order)
+    }
+
+    fn copied(&self) -> Result<Array8<A>, Error> {
+        self.clone()
+    }
+}
+
+impl<A: Allocator + Clone> Images<A> for Array6<A> {
+    fn read(alloc: A, image: &[u8], lg_k: u8, out_of_order: bool) -> Result<Array6<A>, Error> {
+        Array6::deserialize_registers(alloc, behind_header(image)?, lg_k, out_of_order)
+    }
+
+    fn copied(&self) -> Result<Array6<A>, Error> {
+        self.clone()
+    }
+}
+
+/// A cursor behind the eight bytes of a header.
+fn behind_header(image: &[u8]) -> Result<SketchSlice<'_>, Error> {
+    let mut cursor = SketchSlice::new(image);
+    cursor.read_u64_le()?;
+    Ok(cursor)
+}
 
 /// Coupons from a multiplicative sequence, with all values from 0 to 63.
 pub(crate) fn coupons_in<A: Allocator>(alloc: A, count: usize) -> Result<Vec<Coupon, A>, Error> {
@@ -20,6 +65,34 @@ pub(crate) fn coupons_in<A: Allocator>(alloc: A, count: usize) -> Result<Vec<Cou
         coupons.push(coupon)?;
     }
     Ok(coupons)
+}
+
+/// The registers of coupons, by updates, with a state that was read.
+pub(crate) fn store_of<S: RegisterStore<A>, A: Allocator>(
+    alloc: A,
+    lg_k: u8,
+    coupons: &[Coupon],
+) -> Result<S, Error>
+    requires least { 4 ≤ lg_k }
+    requires most { lg_k ≤ 21 }
+{
+    let mut store = S::make(alloc, lg_k)?;
+    for coupon in coupons {
+        store.put_coupon(*coupon)?;
+    }
+    store.restore(READ);
+    Ok(store)
+}
+
+/// The first sixteen registers.
+pub(crate) fn first_of<R: Registers>(store: &R) -> [u8; 16] {
+    let mut registers = [0u8; 16];
+    for slot in 0..16usize {
+        if slot < store.num_registers() {
+            registers[slot] = store.get(slot as u32);
+        }
+    }
+    registers
 }
 
 /// Why a call failed.

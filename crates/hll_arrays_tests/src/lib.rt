@@ -8,6 +8,8 @@ mod eight_bits;
 #[cfg(test)]
 mod fixtures;
 #[cfg(test)]
+mod images;
+#[cfg(test)]
 mod kernels;
 #[cfg(test)]
 mod six_bits;
