@@ -2,8 +2,7 @@
 use crate::refusal::write_refusal;
 use hll_base::error::Reason;
 use hll_merge::fault::{Fault, MergeError};
-use std::io;
-use std::io::Write;
+use hll_text::fakes::Narrow;
 use std::process::Abort;
 use std::test::Fail;
 
@@ -39,31 +38,6 @@ fn printed_lines(rt: HostRuntime) -> Result<(), Fail> {
         assert_eq!(rt; text.as_slice(), printed);
     }
     Ok(())
-}
-
-/// A writer that takes a byte at a time, and fails or takes nothing once it has taken some.
-#[derive(Drop)]
-struct Narrow<'a> {
-    taken: &'a mut Vec<u8>,
-    room: usize,
-    fails: bool,
-}
-
-impl<'a> Write for Narrow<'a> {
-    fn write(&mut self, buf: &[u8]) -> io::Result<usize> {
-        match buf.first() {
-            Some(first) if self.taken.len() < self.room => {
-                self.taken.push(*first)?;
-                Ok(1)
-            }
-            _ if self.fails => Err(io::Error::from(io::ErrorKind::Other)),
-            _ => Ok(0),
-        }
-    }
-
-    fn flush(&mut self) -> io::Result<()> {
-        Ok(())
-    }
 }
 
 #[test]
