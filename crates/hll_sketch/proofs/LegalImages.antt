@@ -19,6 +19,7 @@ use Rattle.hll_arrays.specs.Store.{AreRegisters}
 use Rattle.hll_arrays.specs.Packed.{fields, nibble_at}
 use Rattle.hll_arrays.specs.Payload.{state_at, Hll4Shape, IsHll4Payload, Agrees, register_of, entry_at, entries_of, nibbles_of, exception_places, registers_of}
 use Rattle.hll_arrays.proofs.Exceptions.{has, finds}
+use Rattle.hll_arrays.proofs.Grouping.{length-fields}
 use Rattle.hll_sketch.specs.Value.{ArePairs}
 use Rattle.hll_sketch.specs.Image.{AreBytes, list, set, hll8, hll6, hll4, list_shape, set_shape, hll4_shape, ImageIsLegal}
 
@@ -90,14 +91,6 @@ is_state flag b h = record {
   three = refl;
   words = three (λ w. w < 2 ^ 64) _ _ _ (word64 b h) (word64 (drop 8 b) (AreBytes-drop 8 b h)) (word64 (drop 16 b) (AreBytes-drop 16 b h));
 }
-
-length-fields : (n : ℕ) (b : List ℕ) → length b ≡ 3 * n + 1 → length (fields b) ≡ 4 * n
-length-fields zero (a ∷ []) e = refl
-length-fields n [] e = absurd (omega arith)
-length-fields (suc n) (a ∷ []) e = absurd (omega arith)
-length-fields n (a ∷ b ∷ []) e = absurd (omega arith)
-length-fields zero (a ∷ b ∷ c ∷ rest) e = absurd (omega arith)
-length-fields (suc n) (a ∷ b ∷ c ∷ rest) e = omega (arith, length-fields n rest (omega arith))
 
 fields_small : (b : List ℕ) (i : ℕ) → AreBytes b → i < length (fields b) → get_or (fields b) i 0 ≤ 63
 fields_small [] i h l = absurd (omega arith)
