@@ -21,7 +21,7 @@ use std::alloc::Allocator;
 
 /// The registers of some coupons: at each slot the greatest value of those that fold to it.
 ///
-/// `lg_k` is 4 to 21. Takes a byte a register. Refused with the reason `Memory`.
+/// `lg_k` is 4 to 21. Takes a byte a register. Fails with `Memory`.
 pub fn registers_of<A: Allocator>(
     alloc: A,
     lg_k: u8,
@@ -41,7 +41,7 @@ pub fn registers_of<A: Allocator>(
 
 /// The registers of the coupons of two shards: those of all of them together, whichever shard has which.
 ///
-/// `lg_k` is 4 to 21. Takes two bytes a register. Refused with the reason `Memory`.
+/// `lg_k` is 4 to 21. Takes two bytes a register. Fails with `Memory`.
 pub fn join_shards<A: Allocator + Clone>(
     alloc: A,
     lg_k: u8,

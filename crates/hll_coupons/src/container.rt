@@ -39,7 +39,7 @@ impl<A: Allocator> Model for Container<A> {
 impl<A: Allocator> Container<A> {
     /// 2^`lg_size` empty places, of four bytes each.
     ///
-    /// Refused with the reason `Memory`.
+    /// Fails with `Memory`.
     pub fn new(alloc: A, lg_size: usize) -> Result<Container<A>, Error>
         requires { lg_size ≤ 26 }
         ensures ok { IfOk result (λ c. c ≡ empty_table lg_size) }
@@ -158,7 +158,7 @@ impl<A: Allocator> Container<A> {
 
     /// A copy of the coupons in ascending raw words.
     ///
-    /// Takes four bytes a coupon, in one request. Refused with the reason `Memory`.
+    /// Takes four bytes a coupon, in one request. Fails with `Memory`.
     pub(crate) fn ascending<B: Allocator>(&self, alloc: B) -> Result<Vec<Coupon, B>, Error>
         ensures ok { IfOk result (λ coupons. IsAscending coupons.items (coupons_of self.now)) }
         ensures count { IfOk result (λ coupons. length coupons.items ≡ length (coupons_in self.now.places)) }
@@ -185,7 +185,7 @@ impl<A: Allocator> Container<A> {
 impl<A: Allocator + Clone> Container<A> {
     /// A copy, with the same places.
     ///
-    /// Refused with the reason `Memory`.
+    /// Fails with `Memory`.
     pub fn clone(&self) -> Result<Container<A>, Error>
         ensures ok { IfOk result (λ c. c ≡ self.now) }
         ensures err { IfErr result (λ e. e ≡ Memory) }
@@ -197,7 +197,7 @@ impl<A: Allocator + Clone> Container<A> {
         })
     }
 
-    /// A clone of the allocator. Refused where the allocator's own `clone` is.
+    /// A clone of the allocator. Fails where the allocator's own `clone` does.
     pub fn cloned_allocator(&self) -> Result<A, AllocError> {
         self.coupons.allocator().clone()
     }

@@ -47,7 +47,7 @@ impl<A: Allocator> Model for List<A> {
 impl<A: Allocator> List<A> {
     /// No coupons, and 2^`lg_size` places of four bytes each.
     ///
-    /// Refused with the reason `Memory`.
+    /// Fails with `Memory`.
     pub fn new(alloc: A, lg_size: usize) -> Result<List<A>, Error>
         requires { lg_size ≤ 26 }
         ensures ok { IfOk result (λ l. l ≡ empty_table lg_size) }
@@ -60,7 +60,7 @@ impl<A: Allocator> List<A> {
 
     /// No coupons, and eight places.
     ///
-    /// Refused with the reason `Memory`.
+    /// Fails with `Memory`.
     pub fn default_in(alloc: A) -> Result<List<A>, Error>
         ensures ok { IfOk result (λ l. l ≡ empty_table 3) }
         ensures err { IfErr result (λ e. e ≡ Memory) }
@@ -72,7 +72,7 @@ impl<A: Allocator> List<A> {
     /// which `coupon_count` are filled, all of them, or where `compact` the filled ones alone. Gaps between
     /// filled places are closed, and the order is kept.
     ///
-    /// `lg_arr` is at most 26. Refused with `Count`, `Truncated` or `Coupon` where that fault stands, in the
+    /// `lg_arr` is at most 26. Fails with `Count`, `Truncated` or `Coupon` where that fault stands, in the
     /// order of checks, or else with `Memory`. Takes memory only once the bytes are known to be there.
     pub fn deserialize(
         alloc: A,
@@ -142,7 +142,7 @@ impl<A: Allocator> List<A> {
 impl<A: Allocator + Clone> List<A> {
     /// A copy, with the same places.
     ///
-    /// Refused with the reason `Memory`.
+    /// Fails with `Memory`.
     pub fn clone(&self) -> Result<List<A>, Error>
         ensures ok { IfOk result (λ l. l ≡ self.now) }
         ensures err { IfErr result (λ e. e ≡ Memory) }
@@ -156,7 +156,7 @@ impl<A: Allocator + Clone> List<A> {
     /// each coupon, in ascending raw words.
     ///
     /// `lg_config_k` is 4 to 21, and the list has size 3. Takes memory for a sorted copy of the coupons, and in one
-    /// request for the image. Refused with the reason `Memory`.
+    /// request for the image. Fails with `Memory`.
     pub fn serialize(&self, lg_config_k: u8, hll_type: HllType) -> Result<Vec<u8, A>, Error>
         requires least { 4 ≤ lg_config_k }
         requires most { lg_config_k ≤ 21 }

@@ -13,7 +13,7 @@ use std::alloc::Allocator;
 /// The fold of a set of coupons to `e`, which is at most 21: 2^`e` registers, at each slot the greatest value of
 /// the coupons whose slot is that modulo 2^`e`, or 0 (docs/MODEL.md, "Folds").
 ///
-/// Takes a byte a register. Refused with the reason `Memory`.
+/// Takes a byte a register. Fails with `Memory`.
 pub fn folded<A: Allocator>(alloc: A, coupons: &[Coupon], e: u8) -> Result<Vec<u8, A>, Error>
     requires { e ≤ 21 }
     ensures ok { IfOk result (λ registers. registers.items ≡ fold_to (set_of coupons.now) e) }
@@ -33,7 +33,7 @@ pub fn folded<A: Allocator>(alloc: A, coupons: &[Coupon], e: u8) -> Result<Vec<u
 
 /// The greater register at each slot, of as many registers on both sides (docs/MODEL.md, "Registers").
 ///
-/// Takes a byte a register. Refused with the reason `Memory`.
+/// Takes a byte a register. Fails with `Memory`.
 pub fn joined<A: Allocator>(alloc: A, left: &[u8], right: &[u8]) -> Result<Vec<u8, A>, Error>
     requires { length left.now ≡ length right.now }
     ensures ok { IfOk result (λ registers. registers.items ≡ join left.now right.now) }
@@ -49,7 +49,7 @@ pub fn joined<A: Allocator>(alloc: A, left: &[u8], right: &[u8]) -> Result<Vec<u
 /// The pairs of registers, in ascending slots: a coupon for each register above 0 (docs/MODEL.md, "Registers").
 /// There are at most 2^26 registers, each at most 63.
 ///
-/// Takes four bytes a coupon. Refused with the reason `Memory`.
+/// Takes four bytes a coupon. Fails with `Memory`.
 pub fn pairs_of<A: Allocator>(alloc: A, registers: &[u8]) -> Result<Vec<Coupon, A>, Error>
     requires few { length registers.now ≤ 2 ^ 26 }
     requires small { All (λ v. v ≤ 63) registers.now }

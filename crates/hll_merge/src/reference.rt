@@ -22,7 +22,7 @@ pub fn outcome_of_new<A: Allocator>(alloc: A, lg_k: u8, width: HllType) -> Refer
 
 /// The outcome of a plan with a coupon more (docs/MODEL.md, "Plans").
 ///
-/// Takes memory for the coupons or registers several times over. Refused with the reason `Memory`.
+/// Takes memory for the coupons or registers several times over. Fails with `Memory`.
 pub fn outcome_of_coupon<A: Allocator + Clone>(
     alloc: A,
     sketch: &ReferenceSketch<A>,
@@ -38,7 +38,7 @@ pub fn outcome_of_coupon<A: Allocator + Clone>(
 
 /// The outcome of a union of plans, within a bound of `lg_k` and at a width (docs/MODEL.md, "Plans").
 ///
-/// Takes memory for the coupons or registers several times over. Refused with the reason `Memory`.
+/// Takes memory for the coupons or registers several times over. Fails with `Memory`.
 pub fn outcome_of_union<A: Allocator + Clone>(
     alloc: A,
     bound: u8,

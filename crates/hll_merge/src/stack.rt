@@ -120,7 +120,7 @@ fn update_last<A: Allocator + Clone>(
 }
 
 impl<A: Allocator + Clone> Stack<A> {
-    /// A clone of the allocator. Refused where the allocator's own clone is.
+    /// A clone of the allocator. Fails where the allocator's own clone does.
     fn cloned_allocator(&self) -> Result<A, AllocError> {
         self.sketches.allocator().clone()
     }

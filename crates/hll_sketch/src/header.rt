@@ -53,7 +53,7 @@ pub struct Header {
 impl Header {
     /// Reads the header of an image. Takes no memory.
     ///
-    /// Refused, in this order, with `Truncated` where there are fewer than eight bytes, `Family`, `Version`, `LgK`,
+    /// Fails, in this order, with `Truncated` where there are fewer than eight bytes, `Family`, `Version`, `LgK`,
     /// `Width`, `Stage`, or `Preamble` where the preamble words are not those of the stage.
     pub fn read(bytes: &[u8]) -> Result<Header, Error>
         ensures ok { IfOk result (λ h. HasHeader bytes.now (stage_bits bytes.now) × (stage_bits bytes.now < 3) × (h ≡ header_of bytes.now)) }

@@ -15,8 +15,8 @@ use std::alloc::Allocator;
 /// Reads the registers of an image of eight bits, whose header has been read. What follows the image is not looked
 /// at.
 ///
-/// Refused with `Truncated`, `Count` or `Register` where that fault stands, in the order of checks, or else with
-/// `Memory`. Takes memory for the registers alone, once the bytes are known to be there.
+/// Fails with `Truncated`, `Count` or `Register` where that fault stands, in the order of checks, or else with
+/// `Memory`. Takes memory for the registers alone, once the bytes are known to be a payload.
 pub fn read_hll8<A: Allocator>(alloc: A, bytes: &[u8], header: Header) -> Result<Array8<A>, Error>
     requires registers { HasHeader bytes.now 2 }
     requires width { width_bits bytes.now ≡ 2 }

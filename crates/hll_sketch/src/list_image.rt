@@ -18,7 +18,7 @@ const LG_LIST_SIZE: u8 = 3;
 /// Reads the list of an image, whose header has been read: its coupons in their order. What follows the image is
 /// not looked at.
 ///
-/// Refused with `LgArr`, `Count`, `Truncated` or `Coupon` where that fault stands, in the order of checks, or else
+/// Fails with `LgArr`, `Count`, `Truncated` or `Coupon` where that fault stands, in the order of checks, or else
 /// with `Memory`. Takes memory for the list alone, once the bytes are known to be there.
 pub fn read_list<A: Allocator>(alloc: A, bytes: &[u8], header: Header) -> Result<List<A>, Error>
     requires list { HasHeader bytes.now 0 }

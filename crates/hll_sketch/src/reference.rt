@@ -89,7 +89,7 @@ pub fn empty<A: Allocator>(alloc: A, lg_k: u8, width: HllType) -> ReferenceSketc
 
 /// A sketch in registers that have these coupons, with an estimate state. `lg_k` is at most 21.
 ///
-/// Takes a byte a register. Refused with the reason `Memory`.
+/// Takes a byte a register. Fails with `Memory`.
 pub fn array_of<A: Allocator>(
     alloc: A,
     lg_k: u8,
@@ -112,7 +112,7 @@ pub fn array_of<A: Allocator>(
 
 /// The coupons of a sketch: those that it holds, or those of its registers (docs/MODEL.md, "Sketch values").
 ///
-/// Takes four bytes a coupon. Refused with the reason `Memory`.
+/// Takes four bytes a coupon. Fails with `Memory`.
 pub fn pairs_of<A: Allocator>(
     alloc: A,
     sketch: &ReferenceSketch<A>,
@@ -129,7 +129,7 @@ pub fn pairs_of<A: Allocator>(
 
 /// Whether a sketch has no pairs, as an array of zeros has none (docs/MODEL.md, "Sketch values").
 ///
-/// Takes four bytes a coupon. Refused with the reason `Memory`.
+/// Takes four bytes a coupon. Fails with `Memory`.
 pub fn is_empty<A: Allocator>(alloc: A, sketch: &ReferenceSketch<A>) -> Result<bool, Error>
     requires { Fits (sketch_value sketch.now) }
     ensures ok { IfOk result (λ b. b ≡ values.is_empty (sketch_value sketch.now)) }
@@ -247,7 +247,7 @@ fn content_with<A: Allocator + Clone>(
 
 /// A sketch with more coupons, at least one (docs/MODEL.md, "Adding").
 ///
-/// Takes memory for the coupons or registers several times over. Refused with the reason `Memory`.
+/// Takes memory for the coupons or registers several times over. Fails with `Memory`.
 pub fn add<A: Allocator + Clone>(
     alloc: A,
     sketch: &ReferenceSketch<A>,
@@ -373,7 +373,7 @@ fn merge_content<A: Allocator + Clone>(
 /// The gadget of a union with this bound after a sketch is merged into it; an empty sketch changes nothing
 /// (docs/MODEL.md, "Merging").
 ///
-/// Takes memory for the coupons or registers several times over. Refused with the reason `Memory`.
+/// Takes memory for the coupons or registers several times over. Fails with `Memory`.
 pub fn merge<A: Allocator + Clone>(
     alloc: A,
     bound: u8,
