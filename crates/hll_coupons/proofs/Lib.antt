@@ -6,14 +6,21 @@ pub mod Folds
 pub mod Greatest
 pub mod ImageRows
 pub mod Joins
+pub mod Listed
+pub mod MapChanges
+pub mod Maps
 pub mod Members
 pub mod Payloads
 pub mod Places
 pub mod ReferenceSteps
+pub mod Replacing
 mod ProbeRows
 pub mod Probing
+pub mod Putting
 pub mod Reading
 pub mod Registers
 pub mod Searching
+pub mod Sizes
+pub mod Sought
 pub mod TableLemmas
 pub mod Yielded

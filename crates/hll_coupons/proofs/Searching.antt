@@ -1,11 +1,13 @@
 -- Searches by a key along their paths: what they find, and what an entry more leaves to be found.
-use Rattle.std.proofs.Common.{◌≡◌, ℕ, ◌+◌, ◌*◌, ◌/◌, ◌%◌, ◌^◌, ◌<◌, List, length, get_or, set, sym, ap, ◌∙◌, subst, arith, inl, inr}
+use Rattle.std.proofs.Common.{◌≡◌, ℕ, ◌+◌, ◌*◌, ◌/◌, ◌%◌, ◌^◌, ◌<◌, List, [], ◌∷◌, ◌++◌, length, get_or, set, refl, sym, ap, ◌∙◌, subst, arith, inl, inr}
 use Rattle.std.specs.Prelude.{bit_or}
 use Rattle.std.proofs.lemmas.Bool.{cases_lt, cases_eq, cases_order}
 use Rattle.std.proofs.lemmas.Nat.{pow_pos, mod_below, or_mod}
-use Rattle.std.proofs.lemmas.List.{length-set, get_or-set_same, get_or-set_other}
+use Rattle.std.proofs.lemmas.List.{length-set, length-replicate, get_or-set_same, get_or-set_other, get_or-replicate}
+use Rattle.std.proofs.Math.Nat.{div-add-mod, add-mul-mod_self_left}
+use Rattle.std.specs.Prelude.{replicate}
 use Rattle.hll_coupons.specs.Pair.{slot_of}
-use Rattle.hll_coupons.specs.Probe.{place_of, stride_of, Passes, IsFirstFor}
+use Rattle.hll_coupons.specs.Probe.{place_of, stride_of, Passes, IsFirstFor, IsProbed, Puts, present, placed, PutsEach}
 use Rattle.hll_coupons.specs.Laws.{FoundAfterInsert, AbsentAtEmpty, AbsentFromFull, KeysAreDistinct}
 use Rattle.hll_coupons.proofs.Probing.{meets, path_at}
 
@@ -87,3 +89,31 @@ found_after_insert key_of lg places entry i t filled within before empty = recor
     carried key n passes j l =
         let there : get_or new (place_of lg key j) 0 ≡ get_or places (place_of lg key j) 0 = kept (place_of lg key j) (λ s. (passes j l).0 (ap (λ q. get_or places q 0) s ∙ empty)) in
         (λ z. (passes j l).0 (sym there ∙ z), λ z. (passes j l).1 (ap key_of (sym there) ∙ z))
+
+-- one stride further on the path
+pub next_place : (lg start stride i : ℕ) → ((start + i * stride) % 2 ^ lg + stride) % 2 ^ lg ≡ (start + (i + 1) * stride) % 2 ^ lg
+next_place lg start stride i =
+    let a : ℕ = start + i * stride in
+    let whole : start + (i + 1) * stride ≡ a % 2 ^ lg + stride + 2 ^ lg * (a / 2 ^ lg) = omega (arith, div-add-mod a (2 ^ lg)) in
+    sym (ap (λ m. m % 2 ^ lg) whole ∙ add-mul-mod_self_left (a % 2 ^ lg + stride) (2 ^ lg) (a / 2 ^ lg))
+
+-- in an empty table each entry is found
+pub IsProbed-empty : (key_of : ℕ → ℕ) (lg : ℕ) → IsProbed key_of lg (replicate (2 ^ lg) 0)
+IsProbed-empty key_of lg = record {
+  size = length-replicate {A = ℕ} (2 ^ lg) 0;
+  found = λ p h full. absurd (full (get_or-replicate (2 ^ lg) p 0 0 (omega (arith, h, length-replicate {A = ℕ} (2 ^ lg) 0))));
+}
+
+-- and still after one was put
+pub IsProbed-puts : (key_of : ℕ → ℕ) (lg : ℕ) (places : List ℕ) (entry : ℕ) (new : List ℕ) → IsProbed key_of lg places → (entry ≡ 0 → ⊥) →
+    Puts key_of lg places entry new → IsProbed key_of lg new
+IsProbed-puts key_of lg places entry new t filled (present p first full same is) = subst (IsProbed key_of lg) (sym is) t
+IsProbed-puts key_of lg places entry new t filled (placed p first empty is) =
+    subst (IsProbed key_of lg) (ap (λ q. set places q entry) first.at ∙ sym is)
+    (found_after_insert key_of lg places entry first.index t filled first.within first.passes (ap (λ q. get_or places q 0) first.at ∙ empty))
+
+-- one more entry is put after others
+pub PutsEach-push : (key_of : ℕ → ℕ) (lg : ℕ) (places xs between : List ℕ) (entry : ℕ) (new : List ℕ) → PutsEach key_of lg places xs between →
+    Puts key_of lg between entry new → PutsEach key_of lg places (xs ++ entry ∷ []) new
+PutsEach-push key_of lg places [] between entry new e p = (new, subst (λ ps. Puts key_of lg ps entry new) e p, refl)
+PutsEach-push key_of lg places (x ∷ xs) between entry new (b, q, rest) p = (b, q, PutsEach-push key_of lg b xs between entry new rest p)

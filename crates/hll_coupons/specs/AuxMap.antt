@@ -1,6 +1,14 @@
--- The table of exceptions of registers of four bits: the size that it takes (docs/FORMAT.md, "Probing").
-use Rattle.std.specs.Prelude.{ℕ, ◌-◌, ◌*◌, ◌^◌, ◌==◌, nat_le, if◌then◌else◌, unwrap_or, find}
+-- A map from slots to values, the exceptions of registers of four bits, in a table of places: its entries, and the size
+-- that the table takes (docs/MODEL.md, "Maps of exceptions"; docs/FORMAT.md, "Probing").
+use Rattle.std.specs.Prelude.{ℕ, ◌≡◌, ◌+◌, ◌-◌, ◌*◌, ◌%◌, ◌^◌, ◌<◌, ◌≤◌, ◌==◌, nat_le, if◌then◌else◌, List, length, map, All, unwrap_or, find}
 use Rattle.std.specs.List.{range_with_len}
+use Rattle.std.specs.Option.{option_map}
+use Rattle.std.specs.declared.option.Option.{Option}
+use Rattle.hll_coupons.specs.Pair.{slot_of, value_of, pair}
+use Rattle.hll_coupons.specs.Table.{Table, coupons_in, empty_table, IsTable}
+use Rattle.hll_coupons.specs.Probe.{IsProbed, Puts, PutsEach}
+
+-- ---- sizes
 
 -- the logarithm of the start size of a table of exceptions, by lg_k
 abbrev pub start_size : ℕ → ℕ
@@ -13,3 +21,60 @@ table_size k n = unwrap_or (find (λ q. nat_le (4 * n) (3 * 2 ^ q)) (range_with_
 -- the bytes of a table of exceptions, none where there is no entry
 abbrev pub table_bytes : ℕ → ℕ → ℕ
 table_bytes k n = if n == 0 then 0 else 4 * 2 ^ table_size k n
+
+-- ---- maps
+
+-- what contracts see of a map: the lg_k of its slots, and the table of its entries
+pub record ExceptionMap : Type 0 where
+  pub lg_k : ℕ
+  pub table : Table
+
+-- the value of the first entry at a slot, where slots count modulo 2^k
+abbrev pub entry_at : ℕ → List ℕ → ℕ → Option ℕ
+entry_at k entries s = option_map value_of (find (λ c. slot_of c % 2 ^ k == s) entries)
+
+-- the value that a map has at a slot
+abbrev pub value_in : ExceptionMap → ℕ → Option ℕ
+value_in m s = entry_at m.lg_k (coupons_in m.table.places) s
+
+-- a word as a slot and a value
+abbrev pub entry_of : ℕ → ℕ × ℕ
+entry_of c = (slot_of c, value_of c)
+
+-- the entries of a map, in the order of their places
+abbrev pub entries_in : ExceptionMap → List (ℕ × ℕ)
+entries_in m = map entry_of (coupons_in m.table.places)
+
+-- slots are below 2^lg_k, a search for a slot comes to its entry, and the table has the least size
+pub record IsMap (m : ExceptionMap) : Type 0 where
+  pub low : 4 ≤ m.lg_k
+  pub high : m.lg_k ≤ 21
+  pub table : IsTable m.table
+  pub probed : IsProbed slot_of m.table.lg_size m.table.places
+  pub slots : All (λ c. slot_of c < 2 ^ m.lg_k) (coupons_in m.table.places)
+  pub size : m.table.lg_size ≡ table_size m.lg_k (length (coupons_in m.table.places))
+
+-- a map with no entry
+abbrev pub empty_map : ℕ → ExceptionMap
+empty_map k = record { lg_k = k; table = empty_table (start_size k) }
+
+-- an entry is put, and all entries move to a table of the next size, in the order of their places
+pub record IsGrownFrom (old : Table) (entry : ℕ) (new : Table) : Type 0 where
+  pub places : List ℕ
+  pub put : Puts slot_of old.lg_size old.places entry places
+  pub size : new.lg_size ≡ old.lg_size + 1
+  pub moved : PutsEach slot_of new.lg_size (empty_table new.lg_size).places (coupons_in places) new.places
+
+-- an entry is put; if more than three quarters of the places are then filled, the table grows
+pub data Inserts (old : Table) (entry : ℕ) (new : Table) : Type 0 where
+  fits : 4 * (length (coupons_in old.places) + 1) ≤ 3 * 2 ^ old.lg_size → new.lg_size ≡ old.lg_size
+      → Puts slot_of old.lg_size old.places entry new.places → Inserts old entry new
+  grows : 3 * 2 ^ old.lg_size < 4 * (length (coupons_in old.places) + 1) → IsGrownFrom old entry new → Inserts old entry new
+
+-- a word, or the pair of the slot and the value where the word is an entry at that slot
+abbrev pub replaced : ℕ → ℕ → ℕ → ℕ
+replaced slot value c = if c == 0 then 0 else (if slot_of c == slot then pair slot value else c)
+
+-- a map whose entry at a slot has another value, at the same place
+abbrev pub with_value : ExceptionMap → ℕ → ℕ → ExceptionMap
+with_value m slot value = record { lg_k = m.lg_k; table = record { lg_size = m.table.lg_size; places = map (replaced slot value) m.table.places } }

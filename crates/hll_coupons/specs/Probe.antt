@@ -30,6 +30,12 @@ module _ (key_of : ℕ → ℕ) where
     pub at : place_of lg key index ≡ place
     pub passes : Passes lg places key index
 
+  -- a search for the key ends at the place: it comes to it, and the place is empty or filled with the key
+  pub record EndsAt (lg : ℕ) (places : List ℕ) (key place : ℕ) : Type 0 where
+    pub first : IsFirstFor lg places key place
+    pub within : place < 2 ^ lg
+    pub same : slice_index places place ≢ 0 → key_of (slice_index places place) ≡ key
+
   -- each entry stands where a search for its key comes to it
   pub record IsProbed (lg : ℕ) (places : List ℕ) : Type 0 where
     pub size : length places ≡ 2 ^ lg

@@ -1,5 +1,5 @@
 //! A table of places for coupons (docs/MODEL.md, "Tables").
-ghost use Rattle.std.specs.Prelude.{◌≡◌, ◌*◌, ◌^◌, ◌<◌, ◌≤◌, ◌↔◌, ◌++◌, [], length, slice_set, slice_index, false, IsTrue, IfOk, IfErr, OnOk};
+ghost use Rattle.std.specs.Prelude.{◌≡◌, ◌≢◌, ℕ, ◌*◌, ◌^◌, ◌<◌, ◌≤◌, ◌↔◌, ◌++◌, [], length, slice_set, slice_index, false, IsTrue, IfOk, IfErr, OnOk};
 ghost use Rattle.std.specs.Bool.{OnFalse};
 ghost use Rattle.std.specs.Iterator.{YieldsFirst, item_count};
 ghost use Rattle.std.specs.FinSet as set;
@@ -130,17 +130,48 @@ impl<A: Allocator> Container<A> {
         }
     }
 
+    /// The places, each empty or filled with a coupon.
+    pub(crate) fn places(&self) -> &[Coupon]
+        ensures places { result.now ≡ self.now.places }
+        ensures table { IsTable self.now }
+    {
+        &self.coupons
+    }
+
+    /// The places, taken out of the container.
+    pub(crate) fn into_places(self) -> Vec<Coupon, A>
+        ensures { result.items ≡ self.places }
+    {
+        let Container { coupons, .. } = self;
+        coupons
+    }
+
     /// Puts a new coupon into an empty place.
     pub(crate) fn put(&mut self, place: usize, coupon: Coupon)
         requires inside { place < 2 ^ self.old.lg_size }
         requires empty { slice_index self.old.places place ≡ 0 }
         requires valued { 1 ≤ value_of coupon }
         requires fresh { set.contains (coupons_of self.old) coupon ≡ false }
-        ensures { self.new ≡ record self.old { places = slice_set self.old.places place coupon } }
+        ensures places { self.new ≡ record self.old { places = slice_set self.old.places place coupon } }
+        ensures table { IsTable self.new }
     {
         prove!(1 <= coupon.value());
         self.coupons[place] = coupon;
         self.len += 1;
+    }
+
+    /// Puts a coupon that no other place has into a filled place.
+    pub(crate) fn replace(&mut self, place: usize, coupon: Coupon)
+        requires inside { place < 2 ^ self.old.lg_size }
+        requires filled { slice_index self.old.places place ≢ 0 }
+        requires valued { 1 ≤ value_of coupon }
+        requires others { (p : ℕ) → p < length self.old.places → p ≢ place → slice_index self.old.places p ≢ coupon }
+        ensures places { self.new ≡ record self.old { places = slice_set self.old.places place coupon } }
+        ensures table { IsTable self.new }
+        ensures count { length (coupons_in self.new.places) ≡ length (coupons_in self.old.places) }
+    {
+        prove!(1 <= coupon.value());
+        self.coupons[place] = coupon;
     }
 
     /// A copy of the coupons in the order of their places, in one request for memory.

@@ -2,14 +2,17 @@
 //! "The crates").
 #![tactic(auto)]
 
+pub mod aux_map;
 pub mod container;
 pub mod coupon;
 pub mod hll_type;
 pub mod laws;
 pub mod list;
 pub mod reference;
+mod search;
 pub mod serialization;
 
+pub use aux_map::{AuxMap, AuxMapIter, AuxMapRefIter};
 pub use container::{Container, ContainerIter};
 pub use coupon::Coupon;
 pub use hll_type::HllType;

@@ -2,6 +2,8 @@
 #![tactic(auto)]
 
 #[cfg(test)]
+mod aux_map;
+#[cfg(test)]
 mod coupons;
 #[cfg(test)]
 mod lists;

@@ -1,7 +1,7 @@
-use Rattle.std.proofs.Common.{arith, ◌≡◌, ◌<◌, ◌^◌, ◌+◌, ◌∙◌, sym, ap, subst, get_or, slice_index, false}
+use Rattle.std.proofs.Common.{arith, ℕ, ◌≡◌, ◌<◌, ◌^◌, ◌+◌, ◌∙◌, sym, ap, subst, length, slice_index, slice_set, false}
 use Rattle.std.specs.FinSet.{contains}
 use Rattle.hll_coupons.specs.Pair.{IsPair}
-use Rattle.hll_coupons.specs.Table.{Table, coupons_of}
+use Rattle.hll_coupons.specs.Table.{Table, IsTable, coupons_in, coupons_of}
 use Rattle.hll_coupons.proofs.TableLemmas.{IsTable-put, length-coupons_in-table, small_places}
 use Rattle.hll_coupons.proofs.container.Container.put.Goals as goal
 
@@ -9,13 +9,20 @@ pub overflow_add-self : goal.overflow_add-self
 overflow_add-self g c =
     omega (arith, c.self.invariant.1, length-coupons_in-table _ c.self.invariant.0, c.self.invariant.0.size, small_places _ c.self.invariant.0)
 
+-- one more is held, in a table
+put_in : (t now : Table) (place coupon len : ℕ) → t ≡ now → IsTable t → len ≡ length (coupons_in t.places) → place < 2 ^ now.lg_size → slice_index now.places place ≡ 0 → IsPair coupon →
+    contains (coupons_of now) coupon ≡ false → IsTable (record { lg_size = t.lg_size; places = slice_set t.places place coupon }) × (len + 1 ≡ length (coupons_in (slice_set t.places place coupon)))
+put_in t now place coupon len same table count inside empty pair fresh =
+    let put = IsTable-put t place coupon table (subst (λ (u : Table). place < 2 ^ u.lg_size) (sym same) inside) (ap (λ (u : Table). slice_index u.places place) same ∙ empty) pair
+    (ap (λ u. contains (coupons_of u) coupon) same ∙ fresh) in
+    (put.0, ap (λ n. n + 1) count ∙ sym put.1)
+
 pub invariant_of-self : goal.invariant_of-self
 invariant_of-self g c =
-    let same = c.self.view_is in
-    let t : Table = record { lg_size = c.self.inside.lg_size; places = c.self.inside.coupons.items } in
-    let inside : c.args.place < 2 ^ t.lg_size = subst (λ (u : Table). c.args.place < 2 ^ u.lg_size) (sym same) c.requires.inside in
-    let empty : get_or t.places c.args.place 0 ≡ 0 = ap (λ (u : Table). slice_index u.places c.args.place) same ∙ c.requires.empty in
-    let fresh : contains (coupons_of t) c.args.coupon ≡ false = ap (λ u. contains (coupons_of u) c.args.coupon) same ∙ c.requires.fresh in
-    let pair : IsPair c.args.coupon = record { valued = c.requires.valued; small = omega (arith, c.value.ensures.value, c.value.ensures.small) } in
-    let put = IsTable-put t c.args.place c.args.coupon c.self.invariant.0 inside empty pair fresh in
-    (put.0, ap (λ n. n + 1) c.self.invariant.1 ∙ sym put.1)
+    put_in _ _ c.args.place c.args.coupon c.self.inside.len c.self.view_is c.self.invariant.0 c.self.invariant.1 c.requires.inside c.requires.empty
+    (record { valued = c.requires.valued; small = omega (arith, c.value.ensures.value, c.value.ensures.small) }) c.requires.fresh
+
+pub returns-clause-table : goal.returns-clause-table
+returns-clause-table g c =
+    (put_in _ _ c.args.place c.args.coupon c.self.inside.len c.self.view_is c.self.invariant.0 c.self.invariant.1 c.requires.inside c.requires.empty
+    (record { valued = c.requires.valued; small = omega (arith, c.value.ensures.value, c.value.ensures.small) }) c.requires.fresh).0

@@ -14,7 +14,7 @@ after g c =
     let fresh : contains (coupons_of t) c.args.coupon ≡ false = sym c.contains.ensures ∙ c.if-not-contains.true in
     let fresh_now : contains (coupons_of c.args.self.now) c.args.coupon ≡ false = ap (λ u. contains (coupons_of u) c.args.coupon) (sym c.self.view_is) ∙ fresh in
     let room : length (coupons_in t.places) < 2 ^ t.lg_size = subst (λ (u : Table). length (coupons_in u.places) < 2 ^ u.lg_size) (sym c.self.view_is) (c.requires.room fresh_now) in
-    c.put.ensures
+    c.put.ensures.places
     ∙ ap (λ n. record { lg_size = t.lg_size; places = slice_set t.places n c.args.coupon }) c.len-place.ensures.count
     ∙ places-put t c.args.coupon c.self.invariant fresh room
     ∙ ap (λ (u : Table). filled_from_front u.lg_size (coupons_with (coupons_in u.places) c.args.coupon)) c.self.view_is

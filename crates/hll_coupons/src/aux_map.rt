@@ -1,0 +1,339 @@
+//! The exceptions of registers of four bits: a map from slots to values (docs/MODEL.md, "Maps of exceptions").
+ghost use Rattle.std.specs.Prelude.{◌≡◌, ◌≢◌, ◌+◌, ◌*◌, ◌^◌, ◌<◌, ◌≤◌, ◌↔◌, ◌==◌, ℕ, if◌then◌else◌, length, map, None, Some, IsOk, IsTrue, IfOk, IfErr, OnOk, OnErr, IfSome};
+ghost use Rattle.std.specs.FinSet as set;
+ghost use Rattle.std.specs.Iterator.{YieldsFirst, item_count};
+ghost use Rattle.std.specs.Vec.Iter.{into_iter_items};
+ghost use Rattle.hll_base.specs.declared.error.Reason.TheVariants.{Memory};
+ghost use Rattle.hll_coupons.specs.AuxMap as sizes;
+ghost use Rattle.hll_coupons.specs.AuxMap.{table_size, empty_map, entries_in, entry_of, value_in, with_value, Inserts, IsGrownFrom, IsMap};
+ghost use Rattle.hll_coupons.specs.Pair.{slot_of, value_of, pair};
+ghost use Rattle.hll_coupons.specs.Probe.{IsProbed, IsAbsent};
+ghost use Rattle.hll_coupons.specs.Same.{have_same_coupons};
+ghost use Rattle.hll_coupons.specs.Table.{coupons_in, coupons_of, IsTable};
+
+use crate::container::{Container, ContainerIter};
+use crate::coupon::Coupon;
+use crate::search::{Key, put_all, put_entry, search};
+use hll_base::error::Error;
+use std::alloc::{Allocator, Global};
+use std::marker::Model;
+use std::vec;
+
+/// A map from slots below 2^`lg_config_k` to values of 1 to 63, in a table that is searched by slot. At most three
+/// quarters of the places are filled, and the table has the least such size, from the start size up (docs/FORMAT.md,
+/// "Probing"). Contracts see `lg_config_k`, the size and the list of places; the entries are a function of it.
+#[derive_where(Debug)]
+#[derive(Drop)]
+pub struct AuxMap<A: Allocator = Global> {
+    lg_config_k: u8,
+    table: Container<A>,
+}
+
+impl<A: Allocator> Model for AuxMap<A> {
+    ghost use Rattle.hll_coupons.specs.AuxMap.{ExceptionMap, IsMap};
+
+    ghost Value = { ExceptionMap };
+
+    ghost view = { λ m. record { lg_k = m.lg_config_k; table = m.table } };
+
+    ghost invariant = { λ m. IsMap (record { lg_k = m.lg_config_k; table = m.table }) };
+}
+
+impl<A: Allocator> AuxMap<A> {
+    /// No entries, and places of the start size, four bytes each.
+    ///
+    /// `lg_config_k` is 4 to 21. Fails with `Memory`.
+    pub fn new(alloc: A, lg_config_k: u8) -> Result<AuxMap<A>, Error>
+        requires least { 4 ≤ lg_config_k }
+        requires most { lg_config_k ≤ 21 }
+        ensures ok { IfOk result (λ m. m ≡ empty_map lg_config_k) }
+        ensures err { IfErr result (λ e. e ≡ Memory) }
+    {
+        Ok(AuxMap {
+            lg_config_k,
+            table: Container::new(alloc, start_size(lg_config_k))?,
+        })
+    }
+
+    /// How many entries there are. Takes no memory.
+    pub fn len(&self) -> usize
+        ensures count { result ≡ length (coupons_in self.now.table.places) }
+        ensures map { IsMap self.now }
+    {
+        self.table.len()
+    }
+
+    /// Whether there is no entry. Takes no memory.
+    pub fn is_empty(&self) -> bool
+        ensures { IsTrue result ↔ (length (coupons_in self.now.table.places) ≡ 0) }
+    {
+        self.table.len() == 0
+    }
+
+    /// The value of a slot below 2^`lg_config_k`, if it has one. Takes no memory.
+    pub fn get(&self, slot: u32) -> Option<u8>
+        requires { slot < 2 ^ self.now.lg_k }
+        ensures value { result ≡ value_in self.now slot }
+        ensures small { IfSome result (λ v. (1 ≤ v) × (v ≤ 63)) }
+    {
+        let places = self.table.places();
+        let place = search(Key::Slot, self.table.lg_size(), places, slot)?;
+        value_of_place(places[place])
+    }
+
+    /// Gives a slot that has a value another one, at the same place. Takes no memory.
+    ///
+    /// `slot` is below 2^`lg_config_k` and has a value, and `value` is 1 to 63.
+    pub fn replace(&mut self, slot: u32, value: u8)
+        requires within { slot < 2 ^ self.old.lg_k }
+        requires least { 1 ≤ value }
+        requires most { value ≤ 63 }
+        requires present { value_in self.old slot ≢ None }
+        ensures places { self.new ≡ with_value self.old slot value }
+        ensures values { (s : ℕ) → value_in self.new s ≡ (if s == slot then Some value else value_in self.old s) }
+    {
+        let places = self.table.places();
+        let Some(place) = search(Key::Slot, self.table.lg_size(), places, slot) else {
+            unreachable!()
+        };
+        self.table.replace(place, Coupon::pack(slot, value));
+    }
+
+    /// Whether the map has this entry.
+    fn has(&self, entry: Coupon) -> bool
+        requires { 1 ≤ value_of entry }
+        ensures { result ≡ set.contains (coupons_of self.now.table) entry }
+    {
+        let places = self.table.places();
+        match search(Key::Slot, self.table.lg_size(), places, entry.slot()) {
+            Some(place) => places[place] == entry,
+            None => false,
+        }
+    }
+
+    /// Whether the map has each entry of another one.
+    fn has_all(&self, other: &AuxMap<A>) -> bool
+        ensures { result ≡ set.is_subset (coupons_of other.now.table) (coupons_of self.now.table) }
+    {
+        for entry in other.table.iter() {
+            if !self.has(entry) {
+                return false;
+            }
+        }
+        true
+    }
+
+    /// Whether two maps have the same entries.
+    fn has_same(&self, other: &AuxMap<A>) -> bool
+        ensures { result ≡ have_same_coupons self.now.table other.now.table }
+    {
+        self.table.len() == other.table.len() && other.has_all(self)
+    }
+
+    /// The entries in the order of their places, each once. Takes no memory.
+    pub fn iter(&self) -> AuxMapRefIter<'_>
+        ensures { result ≡ entries_in self.now }
+    {
+        AuxMapRefIter {
+            entries: self.table.iter(),
+        }
+    }
+
+    /// The bytes of all places, four each. Takes no memory.
+    pub fn estimated_size(&self) -> usize
+        ensures { result ≡ 4 * 2 ^ self.now.table.lg_size }
+    {
+        self.table.estimated_size()
+    }
+}
+
+impl<A: Allocator + Clone> AuxMap<A> {
+    /// Gives a slot without a value one. If more than three quarters of the places are then filled, the entries move to
+    /// a table of twice as many, in the order of their places.
+    ///
+    /// `slot` is below 2^`lg_config_k` and has no value, and `value` is 1 to 63. Fails with `Memory`, only if the table
+    /// has to grow, and then changes nothing.
+    pub fn insert(&mut self, slot: u32, value: u8) -> Result<(), Error>
+        requires within { slot < 2 ^ self.old.lg_k }
+        requires least { 1 ≤ value }
+        requires most { value ≤ 63 }
+        requires absent { value_in self.old slot ≡ None }
+        ensures lg_k { OnOk result (self.new.lg_k ≡ self.old.lg_k) }
+        ensures places { OnOk result (Inserts self.old.table (pair slot value) self.new.table) }
+        ensures members { OnOk result (coupons_of self.new.table ≡ set.insert (coupons_of self.old.table) (pair slot value)) }
+        ensures values { OnOk result ((s : ℕ) → value_in self.new s ≡ (if s == slot then Some value else value_in self.old s)) }
+        ensures unchanged { OnErr result (self.new ≡ self.old) }
+        ensures err { IfErr result (λ e. e ≡ Memory) }
+        ensures never { table_size self.old.lg_k (length (coupons_in self.old.table.places) + 1) ≡ self.old.table.lg_size → IsOk result }
+    {
+        let entry = Coupon::pack(slot, value);
+        if 4 * (self.table.len() + 1) <= 3 * self.table.capacity() {
+            put_entry(&mut self.table, Key::Slot, entry);
+        } else {
+            put_growing(&mut self.table, entry)?;
+        }
+        Ok(())
+    }
+
+    /// A copy, with the same places.
+    ///
+    /// Fails with `Memory`.
+    pub fn clone(&self) -> Result<AuxMap<A>, Error>
+        ensures ok { IfOk result (λ m. m ≡ self.now) }
+        ensures err { IfErr result (λ e. e ≡ Memory) }
+    {
+        Ok(AuxMap {
+            lg_config_k: self.lg_config_k,
+            table: self.table.clone()?,
+        })
+    }
+}
+
+/// The logarithm of the start size of a table (docs/FORMAT.md, "Probing").
+fn start_size(lg_config_k: u8) -> usize
+    requires { lg_config_k ≤ 21 }
+    ensures size { result ≡ sizes.start_size lg_config_k }
+    ensures small { result ≤ 26 }
+{
+    match lg_config_k {
+        ..=6 => 2,
+        7..=9 => 3,
+        10..=11 => 4,
+        12..=13 => 5,
+        _ => usize::from(lg_config_k) - 8,
+    }
+}
+
+/// The value of an entry, none of an empty place.
+fn value_of_place(entry: Coupon) -> Option<u8>
+    ensures { result ≡ (if entry == 0 then None else Some (value_of entry)) }
+{
+    if entry.is_empty() {
+        None
+    } else {
+        Some(entry.value())
+    }
+}
+
+/// Puts an entry into a table, and moves all entries to a table of twice as many places, in the order of their places.
+///
+/// Takes memory first: a refusal changes nothing.
+fn put_growing<A: Allocator + Clone>(table: &mut Container<A>, entry: Coupon) -> Result<(), Error>
+    requires probed { IsProbed slot_of table.old.lg_size table.old.places }
+    requires valued { 1 ≤ value_of entry }
+    requires absent { IsAbsent slot_of table.old.places (slot_of entry) }
+    requires room { length (coupons_in table.old.places) < 2 ^ table.old.lg_size }
+    requires small { table.old.lg_size < 26 }
+    ensures ok { OnOk result (IsGrownFrom table.old entry table.new) }
+    ensures probed { OnOk result (IsProbed slot_of table.new.lg_size table.new.places) }
+    ensures members { OnOk result (coupons_of table.new ≡ set.insert (coupons_of table.old) entry) }
+    ensures count { OnOk result (length (coupons_in table.new.places) ≡ length (coupons_in table.old.places) + 1) }
+    ensures table { OnOk result (IsTable table.new) }
+    ensures unchanged { OnErr result (table.new ≡ table.old) }
+    ensures err { IfErr result (λ e. e ≡ Memory) }
+{
+    let mut larger = Container::new(table.cloned_allocator()?, table.lg_size() + 1)?;
+    put_entry(table, Key::Slot, entry);
+    put_all(&mut larger, Key::Slot, table);
+    *table = larger;
+    Ok(())
+}
+
+/// Maps are equal if their `lg_config_k` and entries are; places don't count. Looks up each entry of one in the other;
+/// takes no memory.
+impl<A: Allocator> PartialEq for AuxMap<A> {
+    ghost use Rattle.hll_coupons.specs.Same.{have_same_entries, have_same_entries-partial};
+
+    ghost eq = { have_same_entries };
+
+    ghost laws = { have_same_entries-partial };
+
+    fn eq(&self, other: &AuxMap<A>) -> bool {
+        self.lg_config_k == other.lg_config_k && self.has_same(other)
+    }
+}
+
+impl<A: Allocator> Eq for AuxMap<A> {
+    ghost use Rattle.hll_coupons.specs.Same.{have_same_entries-equivalence};
+
+    ghost laws = { have_same_entries-equivalence };
+}
+
+impl<A: Allocator> IntoIterator for AuxMap<A> {
+    type Item = (u32, u8);
+
+    type IntoIter = AuxMapIter<A>;
+
+    ghost into_iter_gives = { λ m entries. entries ≡ entries_in m };
+
+    /// The entries in the order of their places, each once. Takes no memory.
+    fn into_iter(self) -> AuxMapIter<A> {
+        let AuxMap { table, .. } = self;
+        AuxMapIter {
+            places: table.into_places().into_iter(),
+        }
+    }
+}
+
+/// The entries of a map that are left to give, in the order of their places. Contracts see the list of them.
+#[derive(Debug, Drop)]
+pub struct AuxMapRefIter<'a> {
+    entries: ContainerIter<'a>,
+}
+
+impl<'a> Model for AuxMapRefIter<'a> {
+    ghost use Rattle.std.specs.Prelude.{List, ℕ, map};
+    ghost use Rattle.hll_coupons.specs.AuxMap.{entry_of};
+
+    ghost Value = { List (ℕ × ℕ) };
+
+    ghost view = { λ r. map entry_of r.entries };
+}
+
+impl<'a> Iterator for AuxMapRefIter<'a> {
+    type Item = (u32, u8);
+
+    ghost next_gives = { YieldsFirst (λ s. s) };
+
+    ghost remaining = { item_count (λ s. s) };
+
+    fn next(&mut self) -> Option<(u32, u8)> {
+        let entry = self.entries.next()?;
+        Some((entry.slot(), entry.value()))
+    }
+}
+
+/// The entries of a map that is used up, those that are left to give, in the order of their places. Contracts see the
+/// list of them.
+#[derive(Drop)]
+pub struct AuxMapIter<A: Allocator = Global> {
+    places: vec::IntoIter<Coupon, A>,
+}
+
+impl<A: Allocator> Model for AuxMapIter<A> {
+    ghost use Rattle.std.specs.Prelude.{List, ℕ, map};
+    ghost use Rattle.std.specs.Vec.Iter.{into_iter_items};
+    ghost use Rattle.hll_coupons.specs.AuxMap.{entry_of};
+    ghost use Rattle.hll_coupons.specs.Table.{coupons_in};
+
+    ghost Value = { List (ℕ × ℕ) };
+
+    ghost view = { λ r. map entry_of (coupons_in (into_iter_items r.places)) };
+}
+
+impl<A: Allocator> Iterator for AuxMapIter<A> {
+    type Item = (u32, u8);
+
+    ghost next_gives = { YieldsFirst (λ s. s) };
+
+    ghost remaining = { item_count (λ s. s) };
+
+    fn next(&mut self) -> Option<(u32, u8)> {
+        while let Some(entry) = self.places.next() {
+            if !entry.is_empty() {
+                return Some((entry.slot(), entry.value()));
+            }
+        }
+        None
+    }
+}

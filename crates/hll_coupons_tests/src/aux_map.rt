@@ -1,0 +1,165 @@
+//! Maps of exceptions: what they hold, in which places, and what they do without memory.
+ghost use Rattle.std.specs.Prelude.{◌≡◌, ◌^◌, ◌<◌, ◌≤◌, IfOk, OnOk};
+
+use hll_base::error::{Error, Reason};
+use hll_coupons::aux_map::AuxMap;
+use linked_list_allocator::LocalHeap;
+use std::alloc::Allocator;
+use std::test::Fail;
+
+/// How many slots there are.
+fn slots(lg_k: u8) -> u32
+    requires { lg_k ≤ 21 }
+    ensures { result ≡ 2 ^ lg_k }
+{
+    1 << lg_k
+}
+
+/// Gives a slot a value, whether it has one or not.
+fn set<A: Allocator + Clone>(map: &mut AuxMap<A>, slot: u32, value: u8) -> Result<(), Error>
+    requires within { slot < 2 ^ map.old.lg_k }
+    requires least { 1 ≤ value }
+    requires most { value ≤ 63 }
+    ensures lg_k { OnOk result (map.new.lg_k ≡ map.old.lg_k) }
+{
+    if map.get(slot).is_some() {
+        map.replace(slot, value);
+        return Ok(());
+    }
+    map.insert(slot, value)
+}
+
+/// A map to which these entries came in turn; one that is out of range is left out.
+fn map_of<A: Allocator + Clone>(
+    alloc: A,
+    lg_k: u8,
+    entries: &[(u32, u8)],
+) -> Result<AuxMap<A>, Error>
+    requires least { 4 ≤ lg_k }
+    requires most { lg_k ≤ 21 }
+    ensures { IfOk result (λ m. m.lg_k ≡ lg_k) }
+{
+    let mut map = AuxMap::new(alloc, lg_k)?;
+    for (slot, value) in entries {
+        if *slot < slots(lg_k) && 1 <= *value && *value <= 63 {
+            set(&mut map, *slot, *value)?;
+        }
+    }
+    Ok(map)
+}
+
+/// The entries in the order of their places, and the bytes of all places.
+type Places = ([Option<(u32, u8)>; 5], usize);
+
+fn places_of<A: Allocator>(map: &AuxMap<A>) -> Places {
+    let mut entries = map.iter();
+    let places = [
+        entries.next(),
+        entries.next(),
+        entries.next(),
+        entries.next(),
+        entries.next(),
+    ];
+    (places, map.estimated_size())
+}
+
+/// Two entries that start at place 1, and one that starts where the second of them went.
+const THREE: [(u32, u8); 3] = [(1, 15), (5, 16), (2, 17)];
+
+const THREE_PLACES: Places = (
+    [Some((1, 15)), Some((5, 16)), Some((2, 17)), None, None],
+    16,
+);
+
+/// A fourth makes the table grow.
+const FOUR: [(u32, u8); 4] = [(1, 15), (5, 16), (2, 17), (3, 63)];
+
+const FOUR_PLACES: Places = (
+    [
+        Some((1, 15)),
+        Some((2, 17)),
+        Some((3, 63)),
+        Some((5, 16)),
+        None,
+    ],
+    32,
+);
+
+#[test]
+fn values_are_the_maps(rt: HostRuntime) -> Result<(), Fail> {
+    let mut map = map_of(rt.alloc(), 10, &[(10, 20), (50, 30), (100, 40)])?;
+    let values = (map.get(10), map.get(50), map.get(100), map.get(999));
+    assert_eq!(rt; values, (Some(20), Some(30), Some(40), None));
+    set(&mut map, 50, 35)?;
+    assert_eq!(rt; (map.get(50), map.len()), (Some(35), 3));
+    let map = map_of(rt.alloc(), 8, &[(1, 15), (2, 16), (3, 17), (4, 18)])?;
+    let values = (map.get(1), map.get(2), map.get(3), map.get(4));
+    assert_eq!(rt; values, (Some(15), Some(16), Some(17), Some(18)));
+    assert_eq!(rt; map.estimated_size(), 32);
+    Ok(())
+}
+
+#[test]
+fn places(rt: HostRuntime) -> Result<(), Fail> {
+    assert_eq!(rt; places_of(&map_of(rt.alloc(), 4, &THREE)?), THREE_PLACES);
+    let map = map_of(rt.alloc(), 4, &FOUR)?;
+    assert_eq!(rt; places_of(&map), FOUR_PLACES);
+    assert_eq!(rt; places_of(&map.clone()?), FOUR_PLACES);
+    let mut entries = map.into_iter();
+    for entry in FOUR_PLACES.0 {
+        assert_eq!(rt; entries.next(), entry);
+    }
+    Ok(())
+}
+
+/// Entries at `lg_k` 4, and whether their map is the one of three entries.
+const COMPARED: [(&[(u32, u8)], bool); 5] = [
+    (&[], false),
+    (&[(2, 17), (5, 16)], false),
+    (&[(2, 17), (5, 16), (1, 14)], false),
+    (&[(2, 17), (5, 16), (1, 14), (1, 15)], true),
+    (&FOUR, false),
+];
+
+/// Places don't count, `lg_k`, slots and values do.
+#[test]
+fn equal_by_entries(rt: HostRuntime) -> Result<(), Fail> {
+    let three = map_of(rt.alloc(), 4, &THREE)?;
+    for (entries, same) in COMPARED {
+        let map = map_of(rt.alloc(), 4, entries)?;
+        assert_eq!(rt; (three == map, map == three), (same, same));
+        assert!(rt; !same || places_of(&three) != places_of(&map));
+    }
+    assert!(rt; three != map_of(rt.alloc(), 5, &THREE)?);
+    Ok(())
+}
+
+/// In heaps of several sizes: the first request is refused, the growth is refused and leaves the entries in their
+/// places, or nothing is.
+#[test]
+fn refused_memory(rt: HostRuntime) -> Result<(), Fail> {
+    let (mut small, mut grown) = (0u32, 0u32);
+    for units in 1..12usize {
+        let heap = LocalHeap::new(rt.alloc(), units * 8)?;
+        let refused = AuxMap::new(&heap, 21).err().map(|e| e.reason());
+        assert_eq!(rt; refused, Some(Reason::Memory));
+        let Ok(mut map) = map_of(&heap, 4, &THREE) else {
+            continue;
+        };
+        match set(&mut map, 3, 63) {
+            Ok(()) => {
+                assert_eq!(rt; places_of(&map), FOUR_PLACES);
+                grown = grown.saturating_add(1);
+            }
+            Err(e) => {
+                assert_eq!(rt;
+                    (e.reason(), places_of(&map)),
+                    (Reason::Memory, THREE_PLACES)
+                );
+                small = small.saturating_add(1);
+            }
+        }
+    }
+    assert!(rt; 0 < small && 0 < grown, "{small} {grown}");
+    Ok(())
+}
