@@ -3,6 +3,7 @@ pub mod Entries
 pub mod Exceptions
 pub mod Filling
 pub mod Folding
+pub mod FourBitLanes
 pub mod Grouping
 pub mod Lowering
 pub mod Packing
