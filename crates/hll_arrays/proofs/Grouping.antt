@@ -70,7 +70,7 @@ group_bytes-group_fields g is =
     (λ i. (ap (λ v. v % 256) back ∙ one) i ∷ (ap (λ v. v / 256 % 256) back ∙ two) i ∷ (ap (λ v. v / 65536) back ∙ last) i ∷ []) ∙ sym (three g is.three)
 
 -- a field has six bits
-small-group_fields : (g : List ℕ) → IsGroup g → All (λ v. v ≤ 63) (group_fields g)
+pub small-group_fields : (g : List ℕ) → IsGroup g → All (λ v. v ≤ 63) (group_fields g)
 small-group_fields g is zero d h = omega arith
 small-group_fields g is (suc zero) d h = omega arith
 small-group_fields g is (suc (suc zero)) d h = omega arith

@@ -1,4 +1,5 @@
 pub mod Groups
+pub mod Lanes
 pub mod Packed
 pub mod Payload
 pub mod Same

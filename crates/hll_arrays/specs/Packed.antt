@@ -1,5 +1,5 @@
 -- The packed forms of registers, and their numbers (docs/FORMAT.md, "Packed registers"; docs/MODEL.md, "Packed forms").
-use Rattle.std.specs.Prelude.{◌≡◌, ℕ, ◌+◌, ◌-◌, ◌*◌, ◌/◌, ◌%◌, ◌^◌, ◌<◌, ◌≤◌, ◌==◌, nat_le, min, List, [], ◌∷◌, ◌++◌, length, count_by, sum_by, slice_index, fold, filter, All}
+use Rattle.std.specs.Prelude.{◌≡◌, ℕ, ◌+◌, ◌-◌, ◌*◌, ◌/◌, ◌%◌, ◌^◌, ◌<◌, ◌≤◌, ◌==◌, if◌then◌else◌, nat_le, min, List, [], ◌∷◌, ◌++◌, length, count_by, sum_by, slice_index, fold, filter, All}
 use Rattle.hll_coupons.specs.Pair.{value_of}
 use Rattle.hll_coupons.specs.Fold.{words_from}
 use Rattle.hll_coupons.specs.AuxMap.{table_bytes}
@@ -42,6 +42,18 @@ exceptions R = exceptions_above (minimum R) R
 -- the nibble of a slot
 abbrev pub nibble_at : List ℕ → ℕ → ℕ
 nibble_at bytes s = slice_index bytes (s / 2) / 16 ^ (s % 2) % 16
+
+-- a nibble above 0 made one less, but 15
+abbrev pub lowered_nibble : ℕ → ℕ
+lowered_nibble n = if n == 15 then 15 else (n - 1)
+
+-- a byte with both nibbles lowered
+abbrev pub lowered_byte : ℕ → ℕ
+lowered_byte b = lowered_nibble (b % 16) + 16 * lowered_nibble (b / 16)
+
+-- how many nibbles of bytes are 0
+abbrev pub zero_nibbles : List ℕ → ℕ
+zero_nibbles bytes = count_by (λ b. b % 16 == 0) bytes + count_by (λ b. b / 16 == 0) bytes
 
 -- ---- six bits
 

@@ -1,42 +1,18 @@
 //! Registers of six bits: four of them in three bytes (docs/FORMAT.md, "Packed registers").
-ghost use Rattle.std.specs.Prelude.{◌≡◌, ℕ, ◌+◌, ◌*◌, ◌%◌, ◌^◌, ◌<◌, ◌≤◌, ◌==◌, ◌⊎◌, max, length, slice_index, slice_set, All, IfOk};
-ghost use Rattle.std.specs.List.{list_all, flat_map};
+ghost use Rattle.std.specs.Prelude.{◌≡◌, ℕ, ◌+◌, ◌*◌, ◌/◌, ◌%◌, ◌^◌, ◌<◌, ◌≤◌, ◌==◌, [], ◌∷◌, length, map, take, slice_index, slice_set, All, IfOk};
+ghost use Rattle.std.specs.List.{list_all};
+ghost use Rattle.std.specs.Simd.Lanes.{chunk, put_chunk};
 ghost use Rattle.hll_coupons.specs.Fold.{join};
-ghost use Rattle.hll_arrays.specs.Groups.{IsGroup, registers_in};
+ghost use Rattle.hll_arrays.specs.Groups.{IsGroup, group_fields, registers_in};
+ghost use Rattle.hll_arrays.specs.Lanes.{raise_at, words_of, bytes_of, fields_of, numbers_of, groups_of};
 ghost use Rattle.hll_arrays.specs.Packed as packed;
-ghost use Rattle.hll_arrays.specs.Packed.{zeros};
+ghost use Rattle.hll_arrays.specs.Packed.{fields, zeros};
 
-use crate::kernels::{all_zero, count_zeros, pack_group, units, unpack_group};
+use crate::kernels::{all_zero, count_zeros, pack_group, raise_16, raise_one, units, unpack_group};
 use std::alloc::{AllocError, Allocator};
+use std::simd::prelude::*;
 
-/// The groups of registers. There are a multiple of four, each at most 63. Allocates in one request.
-pub(crate) fn pack_groups<A: Allocator>(
-    alloc: A,
-    registers: &[u8],
-) -> Result<Vec<[u8; 3], A>, AllocError>
-    requires small { All (λ v. v ≤ 63) registers.now }
-    requires whole { length registers.now % 4 ≡ 0 }
-    ensures registers { IfOk result (λ groups. registers_in groups.items ≡ registers.now) }
-    ensures groups { IfOk result (λ groups. All IsGroup groups.items) }
-{
-    let (fours, _) = registers.as_chunks::<4>();
-    let mut groups = vec![in alloc; [0; 3]; fours.len()]?;
-    pack_groups_into(&mut groups, fours);
-    Ok(groups)
-}
-
-/// Writes the group of each four registers, in one pass.
-fn pack_groups_into(groups: &mut [[u8; 3]], fours: &[[u8; 4]])
-    requires size { length groups.old ≡ length fours.now }
-    requires small { All (All (λ v. v ≤ 63)) fours.now }
-    ensures registers { registers_in groups.new ≡ flat_map (λ four. four) fours.now }
-    ensures groups { All IsGroup groups.new }
-    ensures len { length groups.new ≡ length groups.old }
-{
-    for place in 0..fours.len() {
-        groups[place] = pack_group(fours[place]);
-    }
-}
+// ---- one register
 
 /// The register of a slot.
 pub(crate) fn register_at(groups: &[[u8; 3]], slot: usize) -> u8
@@ -60,29 +36,186 @@ pub(crate) fn put_register(groups: &mut [[u8; 3]], slot: usize, value: u8)
     groups[slot / 4] = pack_group(registers);
 }
 
+// ---- packing
+
+/// The groups of registers. There are a multiple of four, each at most 63. Allocates in one request.
+pub(crate) fn pack_groups<A: Allocator>(
+    alloc: A,
+    registers: &[u8],
+) -> Result<Vec<[u8; 3], A>, AllocError>
+    requires small { All (λ v. v ≤ 63) registers.now }
+    requires whole { length registers.now % 4 ≡ 0 }
+    ensures registers { IfOk result (λ groups. registers_in groups.items ≡ registers.now) }
+    ensures groups { IfOk result (λ groups. All IsGroup groups.items) }
+{
+    let mut groups = vec![in alloc; [0; 3]; registers.len() / 4]?;
+    pack_groups_into(&mut groups, registers);
+    Ok(groups)
+}
+
+/// Writes the group of each four registers, sixteen registers at a time.
+fn pack_groups_into(groups: &mut [[u8; 3]], registers: &[u8])
+    requires size { 4 * length groups.old ≡ length registers.now }
+    requires small { All (λ v. v ≤ 63) registers.now }
+    ensures { groups.new ≡ groups_of registers.now }
+{
+    let (blocks, rest) = registers.as_chunks::<16>();
+    for place in 0..blocks.len() {
+        put_four_groups(groups, 4 * place, &blocks[place]);
+    }
+    pack_each(&mut groups[4 * blocks.len()..], rest);
+}
+
+/// Writes the group of each four registers, one after the other.
+fn pack_each(groups: &mut [[u8; 3]], registers: &[u8])
+    requires size { 4 * length groups.old ≡ length registers.now }
+    requires small { All (λ v. v ≤ 63) registers.now }
+    ensures { groups.new ≡ groups_of registers.now }
+{
+    let (fours, _) = registers.as_chunks::<4>();
+    for place in 0..fours.len() {
+        groups[place] = pack_group(fours[place]);
+    }
+}
+
+/// Writes the groups of sixteen registers from the group `at` on.
+fn put_four_groups(groups: &mut [[u8; 3]], at: usize, block: &[u8; 16])
+    requires room { at + 4 ≤ length groups.old }
+    requires small { All (λ v. v ≤ 63) block.now }
+    ensures { groups.new ≡ put_chunk at groups.old (groups_of block.now) }
+{
+    let [first, second, third, fourth] = numbers_in(block).to_array();
+    groups[at] = group_of(first);
+    groups[at + 1] = group_of(second);
+    groups[at + 2] = group_of(third);
+    groups[at + 3] = group_of(fourth);
+}
+
+/// The lower three bytes of a number.
+fn group_of(number: u32) -> [u8; 3]
+    ensures { result ≡ (number % 256) ∷ (number / 256 % 256) ∷ (number / 65536 % 256) ∷ [] }
+{
+    let [low, middle, high, _] = number.to_le_bytes();
+    [low, middle, high]
+}
+
+/// Each four registers as one number, the first in the lowest six bits.
+fn numbers_in(block: &[u8; 16]) -> u32x4
+    requires { All (λ v. v ≤ 63) block.now }
+    ensures { result ≡ numbers_of block.now }
+{
+    let words = words_in(u8x16::from_array(*block));
+    let low = field(words, 0) + (field(words, 8) << u32x4::splat(6));
+    let high = (field(words, 16) << u32x4::splat(12)) + (field(words, 24) << u32x4::splat(18));
+    low + high
+}
+
+// ---- lanes
+
+fn words_in(bytes: u8x16) -> u32x4
+    ensures { result ≡ words_of bytes }
+{
+    u32x4::from_le_bytes(bytes)
+}
+
+fn bytes_in(words: u32x4) -> u8x16
+    ensures { result ≡ bytes_of words }
+{
+    words.to_le_bytes()
+}
+
+/// The six bits of each word from a bit on.
+fn field(words: u32x4, from: u32) -> u32x4
+    requires { from ≤ 24 }
+    ensures { result ≡ map (λ w. w / 2 ^ from % 64) words }
+{
+    words >> u32x4::splat(from) & u32x4::splat(63)
+}
+
+// ---- maxima
+
 /// Raises each byte to the greater of itself and the register at the same index, in one pass.
 pub(crate) fn max_groups_into(dst: &mut [u8], groups: &[[u8; 3]])
     requires { length dst.old ≡ 4 * length groups.now }
     ensures { dst.new ≡ join dst.old (registers_in groups.now) }
 {
+    raise_by_fields(dst, groups.as_flattened());
+}
+
+/// The same of the bytes of groups, sixteen groups at a time.
+fn raise_by_fields(values: &mut [u8], bytes: &[u8])
+    requires { 3 * length values.old ≡ 4 * length bytes.now }
+    ensures { values.new ≡ join values.old (fields bytes.now) }
+{
+    let (blocks, rest) = bytes.as_chunks::<48>();
+    for place in 0..blocks.len() {
+        raise_by_block(values, 64 * place, &blocks[place]);
+    }
+    raise_by_each(&mut values[64 * blocks.len()..], rest);
+}
+
+/// The same, one group after the other.
+fn raise_by_each(values: &mut [u8], bytes: &[u8])
+    requires { 3 * length values.old ≡ 4 * length bytes.now }
+    ensures { values.new ≡ join values.old (fields bytes.now) }
+{
+    let (groups, _) = bytes.as_chunks::<3>();
     for place in 0..groups.len() {
-        max_four_into(dst, 4 * place, unpack_group(groups[place]));
+        raise_by_group(values, 4 * place, groups[place]);
     }
 }
 
-/// Raises each of the four bytes from `at` on to the greater of itself and its register.
-fn max_four_into(dst: &mut [u8], at: usize, registers: [u8; 4])
-    requires { at + 4 ≤ length dst.old }
-    ensures raised { (k : ℕ) → k < 4 → slice_index dst.new (at + k) ≡ max (slice_index dst.old (at + k)) (slice_index registers k) }
-    ensures others { (k : ℕ) → (k < at) ⊎ (at + 4 ≤ k) → slice_index dst.new k ≡ slice_index dst.old k }
-    ensures len { length dst.new ≡ length dst.old }
+/// Raises the four bytes from `at` on to the registers of a group.
+fn raise_by_group(values: &mut [u8], at: usize, group: [u8; 3])
+    requires { at + 4 ≤ length values.old }
+    ensures { values.new ≡ raise_at at values.old (fields group) }
 {
-    let [first, second, third, fourth] = registers;
-    dst[at] = dst[at].max(first);
-    dst[at + 1] = dst[at + 1].max(second);
-    dst[at + 2] = dst[at + 2].max(third);
-    dst[at + 3] = dst[at + 3].max(fourth);
+    let [first, second, third, fourth] = unpack_group(group);
+    raise_one(values, at, first);
+    raise_one(values, at + 1, second);
+    raise_one(values, at + 2, third);
+    raise_one(values, at + 3, fourth);
 }
+
+/// Raises the 64 bytes from `at` on to the registers of sixteen groups.
+fn raise_by_block(values: &mut [u8], at: usize, block: &[u8; 48])
+    requires { at + 64 ≤ length values.old }
+    ensures { values.new ≡ raise_at at values.old (fields block.now) }
+{
+    raise_16(values, at, fields_at(block, 0));
+    raise_16(values, at + 16, fields_at(block, 12));
+    raise_16(values, at + 32, fields_at(block, 24));
+    raise_16(values, at + 48, last_fields(block));
+}
+
+/// The registers of the four groups from byte `at` on.
+fn fields_at(block: &[u8; 48], at: usize) -> u8x16
+    requires { at ≤ 32 }
+    ensures { result ≡ fields (chunk at 12 block.now) }
+{
+    let bytes = u8x16::from_slice(&block[at..]);
+    spread(bytes.swizzle([0, 1, 2, 2, 3, 4, 5, 5, 6, 7, 8, 8, 9, 10, 11, 11]))
+}
+
+/// The registers of the last four groups.
+fn last_fields(block: &[u8; 48]) -> u8x16
+    ensures { result ≡ fields (chunk 36 12 block.now) }
+{
+    let bytes = u8x16::from_slice(&block[32..]);
+    spread(bytes.swizzle([4, 5, 6, 6, 7, 8, 9, 9, 10, 11, 12, 12, 13, 14, 15, 15]))
+}
+
+/// The registers in the first three of each four bytes. The fourth may be any byte.
+fn spread(bytes: u8x16) -> u8x16
+    ensures { result ≡ fields_of bytes }
+{
+    let words = words_in(bytes);
+    let low = field(words, 0) + (field(words, 6) << u32x4::splat(8));
+    let high = (field(words, 12) << u32x4::splat(16)) + (field(words, 18) << u32x4::splat(24));
+    bytes_in(low + high)
+}
+
+// ---- zeros and weights
 
 /// Whether all registers are 0.
 pub(crate) fn all_zero_in(groups: &[[u8; 3]]) -> bool
@@ -98,11 +231,32 @@ pub(crate) fn count_zeros_in(groups: &[[u8; 3]]) -> usize
     ensures count { result ≡ zeros (registers_in groups.now) }
     ensures bound { result ≤ 4 * length groups.now }
 {
+    zero_fields(groups.as_flattened())
+}
+
+/// How many registers in the bytes of groups are 0, 64 groups at a time.
+fn zero_fields(bytes: &[u8]) -> usize
+    requires whole { length bytes.now % 3 ≡ 0 }
+    requires few { length bytes.now ≤ 3 * 2 ^ 19 }
+    ensures { result ≡ zeros (fields bytes.now) }
+{
+    let (blocks, rest) = bytes.as_chunks::<192>();
     let mut count = 0;
-    for group in groups {
-        count += count_zeros(&unpack_group(*group));
+    for block in blocks {
+        count += zero_fields_in(block);
     }
-    count
+    count + zero_fields_in(rest)
+}
+
+/// How many registers of at most 64 groups are 0.
+fn zero_fields_in(bytes: &[u8]) -> usize
+    requires whole { length bytes.now % 3 ≡ 0 }
+    requires few { length bytes.now ≤ 192 }
+    ensures count { result ≡ zeros (fields bytes.now) }
+    ensures bound { result ≤ 256 }
+{
+    let registers = unpacked(bytes);
+    count_zeros(&registers[..bytes.len() / 3 * 4])
 }
 
 /// The sum of 2^-v over the registers v, in units of 2^-63. One pass over at most 2^19 groups.
@@ -111,11 +265,43 @@ pub(crate) fn units_in(groups: &[[u8; 3]]) -> u128
     ensures units { result ≡ packed.units (registers_in groups.now) }
     ensures bound { result ≤ 2 ^ 84 }
 {
+    field_units(groups.as_flattened())
+}
+
+/// The sum of the weights of the registers in the bytes of groups, 64 groups at a time.
+fn field_units(bytes: &[u8]) -> u128
+    requires whole { length bytes.now % 3 ≡ 0 }
+    requires few { length bytes.now ≤ 3 * 2 ^ 19 }
+    ensures { result ≡ packed.units (fields bytes.now) }
+{
+    let (blocks, rest) = bytes.as_chunks::<192>();
     let mut sum = 0;
-    for group in groups {
-        sum += units(&unpack_group(*group));
+    for block in blocks {
+        sum += field_units_in(block);
     }
-    sum
+    sum + field_units_in(rest)
+}
+
+/// The sum of the weights of the registers of at most 64 groups.
+fn field_units_in(bytes: &[u8]) -> u128
+    requires whole { length bytes.now % 3 ≡ 0 }
+    requires few { length bytes.now ≤ 192 }
+    ensures units { result ≡ packed.units (fields bytes.now) }
+    ensures bound { result ≤ 2 ^ 84 }
+{
+    let registers = unpacked(bytes);
+    units(&registers[..bytes.len() / 3 * 4])
+}
+
+/// The registers of at most 64 groups, with zeros behind them.
+fn unpacked(bytes: &[u8]) -> [u8; 256]
+    requires whole { length bytes.now % 3 ≡ 0 }
+    requires few { length bytes.now ≤ 192 }
+    ensures { take (length bytes.now / 3 * 4) result ≡ fields bytes.now }
+{
+    let mut registers = [0; 256];
+    raise_by_fields(&mut registers[..bytes.len() / 3 * 4], bytes);
+    registers
 }
 
 /// The groups that bytes hold. Up to two bytes at the end, which fill none, are left out. Allocates in one request.

@@ -11,6 +11,7 @@ mod groups;
 pub mod kernels;
 pub mod laws;
 pub mod merge;
+mod nibbles;
 mod preamble;
 mod register_slice;
 pub mod register_store;

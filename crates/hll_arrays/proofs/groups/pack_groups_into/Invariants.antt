@@ -1,12 +1,8 @@
-use Rattle.std.proofs.Common.{◌≡◌, take, length, All}
-use Rattle.std.specs.List.{flat_map}
-use Rattle.hll_arrays.specs.Groups.{IsGroup, registers_in}
+use Rattle.std.proofs.Common.{◌≡◌, ◌*◌, take}
+use Rattle.std.specs.Simd.Lanes.{put_chunk}
+use Rattle.hll_arrays.specs.Lanes.{groups_of}
 use Rattle.hll_arrays.proofs.groups.pack_groups_into.Given as goal
 
--- the groups of the registers so far
+-- the groups of the registers so far are written
 abbrev pub invariant-loop-place : goal.invariant-loop-place
-invariant-loop-place l = record {
-  size : length l.groups ≡ length l.fours;
-  registers : registers_in (take l.place l.groups) ≡ flat_map (λ four. four) (take l.place l.fours);
-  groups : All IsGroup (take l.place l.groups);
-}
+invariant-loop-place l = l.groups ≡ put_chunk 0 l.initial.groups (groups_of (take (l.place * 16) l.registers))

@@ -1,11 +1,7 @@
-use Rattle.std.proofs.Common.{◌≡◌, ℕ, ◌<◌, ◌≤◌, length, get_or}
-use Rattle.std.specs.Prelude.{max}
+use Rattle.std.proofs.Common.{◌≡◌, ◌*◌, take}
+use Rattle.hll_arrays.specs.Lanes.{raise_at}
 use Rattle.hll_arrays.proofs.kernels.max_into.Given as goal
 
--- the bytes before the place are the greater of both, and the others are unchanged
+-- the bytes of the blocks so far are raised
 abbrev pub invariant-loop-place : goal.invariant-loop-place
-invariant-loop-place l = record {
-  size : length l.dst ≡ length l.initial.dst;
-  done : (k : ℕ) → k < l.place → get_or l.dst k 0 ≡ max (get_or l.initial.dst k 0) (get_or l.src k 0);
-  left : (k : ℕ) → l.place ≤ k → get_or l.dst k 0 ≡ get_or l.initial.dst k 0;
-}
+invariant-loop-place l = l.dst ≡ raise_at 0 l.initial.dst (take (l.place * 64) l.src)

@@ -1,0 +1,132 @@
+//! Registers of four bits: how far each is above a minimum, two of them in a byte, where 15 marks a register that is kept
+//! elsewhere (docs/FORMAT.md, "Packed registers").
+ghost use Rattle.std.specs.Prelude.{◌≡◌, ℕ, ◌+◌, ◌*◌, ◌≤◌, [], ◌∷◌, ◌++◌, length, map};
+ghost use Rattle.std.specs.Simd.Lanes.{put_chunk, Each1};
+ghost use Rattle.hll_coupons.specs.Fold.{join};
+ghost use Rattle.hll_arrays.specs.Lanes.{raise_at, nibble_values, nibble_pairs};
+ghost use Rattle.hll_arrays.specs.Packed.{nibble, nibble_bytes_above};
+
+use crate::kernels::{raise_16, raise_one};
+use std::simd::prelude::*;
+
+// ---- maxima
+
+/// Raises each value to the greater of itself and its nibble above the minimum, in one pass.
+///
+/// There are two values for each byte, and the minimum is at most 240. A nibble of 15 counts as 15 above the minimum,
+/// which is at most the register that it stands for.
+pub(crate) fn raise_by_nibbles(values: &mut [u8], bytes: &[u8], minimum: u8)
+    requires size { length values.old ≡ 2 * length bytes.now }
+    requires small { minimum ≤ 240 }
+    ensures { values.new ≡ join values.old (nibble_values minimum bytes.now) }
+{
+    let (blocks, rest) = bytes.as_chunks::<16>();
+    for place in 0..blocks.len() {
+        raise_by_block(values, 32 * place, &blocks[place], minimum);
+    }
+    raise_by_each(&mut values[32 * blocks.len()..], rest, minimum);
+}
+
+/// The same, one byte after the other.
+fn raise_by_each(values: &mut [u8], bytes: &[u8], minimum: u8)
+    requires size { length values.old ≡ 2 * length bytes.now }
+    requires small { minimum ≤ 240 }
+    ensures { values.new ≡ join values.old (nibble_values minimum bytes.now) }
+{
+    for place in 0..bytes.len() {
+        raise_one(values, 2 * place, minimum + bytes[place] % 16);
+        raise_one(values, 2 * place + 1, minimum + bytes[place] / 16);
+    }
+}
+
+/// Raises the 32 values from `at` on to the nibbles of a block.
+fn raise_by_block(values: &mut [u8], at: usize, block: &[u8; 16], minimum: u8)
+    requires room { at + 32 ≤ length values.old }
+    requires small { minimum ≤ 240 }
+    ensures { values.new ≡ raise_at at values.old (nibble_values minimum block.now) }
+{
+    let (first, second) = nibble_lanes(u8x16::from_array(*block), minimum);
+    raise_16(values, at, first);
+    raise_16(values, at + 16, second);
+}
+
+/// The nibbles of sixteen bytes above the minimum.
+fn nibble_lanes(bytes: u8x16, minimum: u8) -> (u8x16, u8x16)
+    requires { minimum ≤ 240 }
+    ensures nibbles { result.0 ++ result.1 ≡ nibble_values minimum bytes }
+    ensures len { length result.0 ≡ 16 }
+{
+    let low = (bytes & u8x16::splat(15)) + u8x16::splat(minimum);
+    let high = (bytes >> u8x16::splat(4)) + u8x16::splat(minimum);
+    low.interleave(high)
+}
+
+// ---- packing
+
+/// Writes the nibbles of registers above the minimum, in one pass. A register below it counts as the minimum.
+///
+/// There are two registers for each byte.
+pub(crate) fn pack_nibbles(bytes: &mut [u8], registers: &[u8], minimum: u8)
+    requires { 2 * length bytes.old ≡ length registers.now }
+    ensures { bytes.new ≡ nibble_bytes_above minimum registers.now }
+{
+    let (blocks, rest) = registers.as_chunks::<32>();
+    for place in 0..blocks.len() {
+        put_16(bytes, 16 * place, packed_lanes(&blocks[place], minimum));
+    }
+    pack_each(&mut bytes[16 * blocks.len()..], rest, minimum);
+}
+
+/// The same, one byte after the other.
+fn pack_each(bytes: &mut [u8], registers: &[u8], minimum: u8)
+    requires { 2 * length bytes.old ≡ length registers.now }
+    ensures { bytes.new ≡ nibble_bytes_above minimum registers.now }
+{
+    let (pairs, _) = registers.as_chunks::<2>();
+    for place in 0..pairs.len() {
+        bytes[place] = packed_pair(pairs[place], minimum);
+    }
+}
+
+/// The byte of two registers.
+fn packed_pair(pair: [u8; 2], minimum: u8) -> u8
+    ensures { (result ∷ []) ≡ nibble_bytes_above minimum pair }
+{
+    let [low, high] = pair;
+    low.saturating_sub(minimum).min(15) + 16 * high.saturating_sub(minimum).min(15)
+}
+
+/// Writes the lanes from `at` on.
+fn put_16(bytes: &mut [u8], at: usize, lanes: u8x16)
+    requires { at + 16 ≤ length bytes.old }
+    ensures { bytes.new ≡ put_chunk at bytes.old lanes }
+{
+    lanes.copy_to_slice(&mut bytes[at..]);
+}
+
+/// The bytes of 32 registers.
+fn packed_lanes(block: &[u8; 32], minimum: u8) -> u8x16
+    ensures { result ≡ nibble_bytes_above minimum block.now }
+{
+    let first = nibbles_above(u8x16::from_slice(&block[..]), minimum);
+    let second = nibbles_above(u8x16::from_slice(&block[16..]), minimum);
+    paired(first, second)
+}
+
+/// How far each value is above the minimum, at most 15.
+fn nibbles_above(values: u8x16, minimum: u8) -> u8x16
+    ensures { result ≡ map (nibble minimum) values }
+{
+    values
+        .saturating_sub(u8x16::splat(minimum))
+        .simd_min(u8x16::splat(15))
+}
+
+/// Each two nibbles as a byte, the first in the low one.
+fn paired(first: u8x16, second: u8x16) -> u8x16
+    requires { Each1 (λ v. v ≤ 15) (first ++ second) }
+    ensures { result ≡ nibble_pairs (first ++ second) }
+{
+    let (low, high) = first.deinterleave(second);
+    low + (high << u8x16::splat(4))
+}
