@@ -12,58 +12,12 @@ use Rattle.hll_coupons.specs.Pair.{pair, slot_of, value_of, set_of}
 use Rattle.hll_coupons.specs.Fold.{words_from}
 use Rattle.hll_coupons.specs.Coupons.{IsAscending}
 use Rattle.hll_coupons.proofs.Ascending.{len-ascending}
-use Rattle.hll_coupons.proofs.Greatest.{same_word, itself}
+use Rattle.hll_coupons.proofs.Listed.{has, has-at, Apart, len-map}
 use Rattle.hll_coupons.proofs.Reading.{len-set_of-le}
 use Rattle.hll_coupons.proofs.Registers.{StandsFor, in_words, slot_of-pair, value_of-pair}
 use Rattle.hll_arrays.specs.Packed.{minimum, exceptions}
 use Rattle.hll_arrays.specs.Payload.{AreEntries}
-use Rattle.hll_arrays.proofs.Exceptions.{has, kept, slot_small}
-
--- ---- the count of a set of images
-
-has-map : (f : ℕ → ℕ) (xs : List ℕ) (c : ℕ) → has c xs ≡ true → has (f c) (map f xs) ≡ true
-has-map f [] c h = h
-has-map f (x ∷ xs) c h = elim (or_cases (eq_by_cmp nat_cmp c x) (has c xs) h) [
-  | inl e ↦ or_left (eq_by_cmp nat_cmp (f c) (f x)) (has (f c) (map f xs)) (itself (f c) (f x) (ap f (same_word c x e)))
-  | inr l ↦ or_right (eq_by_cmp nat_cmp (f c) (f x)) (has (f c) (map f xs)) (has-map f xs c l)
-]
-
--- a member whose image is this
-record From (f : ℕ → ℕ) (xs : List ℕ) (q : ℕ) : Type 0 where
-  member : ℕ
-  there : has member xs ≡ true
-  is : q ≡ f member
-
-has-from_map : (f : ℕ → ℕ) (xs : List ℕ) (q : ℕ) → has q (map f xs) ≡ true → From f xs q
-has-from_map f [] q h = absurd (true≢false (sym h))
-has-from_map f (x ∷ xs) q h = elim (or_cases (eq_by_cmp nat_cmp q (f x)) (has q (map f xs)) h) [
-  | inl e ↦ record { member = x; there = or_left (eq_by_cmp nat_cmp x x) (has x xs) (itself x x refl); is = same_word q (f x) e }
-  | inr l ↦ let r : From f xs q = has-from_map f xs q l in record { member = r.member; there = or_right (eq_by_cmp nat_cmp r.member x) (has r.member xs) r.there; is = r.is }
-]
-
--- no two members have one image
-abbrev Apart : (ℕ → ℕ) → List ℕ → Type 0
-Apart f xs = (c d : ℕ) → has c xs ≡ true → has d xs ≡ true → f c ≡ f d → c ≡ d
-
-len-map : (f : ℕ → ℕ) (xs : List ℕ) → Apart f xs → len (set_of (map f xs)) ≡ len (set_of xs)
-len-map f [] apart = refl
-len-map f (x ∷ xs) apart =
-    let rest : Apart f xs = λ c d hc hd e. apart c d (or_right (eq_by_cmp nat_cmp c x) (has c xs) hc) (or_right (eq_by_cmp nat_cmp d x) (has d xs) hd) e in
-    let same : has (f x) (map f xs) ≡ has x xs = both (has (f x) (map f xs)) (has x xs)
-    (λ h. let r : From f xs (f x) = has-from_map f xs (f x) h in
-    let e : r.member ≡ x = apart r.member x (or_right (eq_by_cmp nat_cmp r.member x) (has r.member xs) r.there) (or_left (eq_by_cmp nat_cmp x x) (has x xs) (itself x x refl)) (sym r.is) in
-    ap (λ z. has z xs) (sym e) ∙ r.there)
-    (has-map f xs x) in
-    let known : contains (set_of (map f xs)) (f x) ≡ contains (set_of xs) x =
-    contains-from_list nat_cmp_total (map f xs) (f x) ∙ same ∙ sym (contains-from_list nat_cmp_total xs x) in
-    len-insert nat_cmp_total (set_of (map f xs)) (f x)
-    ∙ (λ i. cond (known i) (len-map f xs rest i) (len-map f xs rest i + 1))
-    ∙ sym (len-insert nat_cmp_total (set_of xs) x)
-  where
-    both : (a b : Bool) → (a ≡ true → b ≡ true) → (b ≡ true → a ≡ true) → a ≡ b
-    both true b f g = sym (f refl)
-    both false true f g = g refl
-    both false false f g = refl
+use Rattle.hll_arrays.proofs.Exceptions.{kept, slot_small}
 
 length-words_from : (s : ℕ) (R : List ℕ) → length (words_from s R) ≤ length R
 length-words_from s [] = omega arith
@@ -102,12 +56,6 @@ module _ (k : ℕ) (R order : List ℕ) (small : k ≤ 21) (size : length R ≡ 
       let two : IsEntry d = entry d hd in
       let slots : one.slot ≡ two.slot = sym (slot-entry c one) ∙ same ∙ slot-entry d two in
       one.is ∙ (λ i. pair (slots i) (get_or R (slots i) 0)) ∙ sym two.is
-
-  -- a member at each index
-  has-at : (xs : List ℕ) (i : ℕ) → i < length xs → has (get_or xs i 0) xs ≡ true
-  has-at [] i h = absurd (omega arith)
-  has-at (x ∷ xs) zero h = or_left (eq_by_cmp nat_cmp x x) (has x xs) (itself x x refl)
-  has-at (x ∷ xs) (suc i) h = or_right (eq_by_cmp nat_cmp (get_or xs i 0) x) (has (get_or xs i 0) xs) (has-at xs i (omega arith))
 
   value-entry : (c : ℕ) → has c order ≡ true → (1 ≤ value_of c) × (c < 2 ^ 32)
   value-entry c h =

@@ -11,13 +11,12 @@ use Rattle.std.proofs.lemmas.Nat.{pow_below}
 use Rattle.std.proofs.Math.Nat.{mod-eq_of_lt, zero-add}
 use Rattle.hll_coupons.specs.Pair.{pair, slot_of, value_of, set_of}
 use Rattle.hll_coupons.specs.Fold.{words_from}
-use Rattle.hll_coupons.proofs.Greatest.{same_word, itself}
+use Rattle.hll_coupons.proofs.Greatest.{same_word}
+use Rattle.hll_coupons.proofs.Listed.{has, finds, finds_none}
 use Rattle.hll_coupons.proofs.Registers.{StandsFor, in_words, words_have, slot_of-pair, value_of-pair}
 use Rattle.hll_arrays.specs.Packed.{nibble, exceptions_above}
-use Rattle.hll_arrays.specs.Payload.{entry_at, Agrees, register_of}
-
-abbrev pub has : ℕ → List ℕ → Bool
-has q xs = list_any (eq_by_cmp nat_cmp q) xs
+use Rattle.hll_coupons.specs.AuxMap.{entry_at}
+use Rattle.hll_arrays.specs.Payload.{Agrees, register_of}
 
 -- what a filter has
 pub kept : (p : ℕ → Bool) (q : ℕ) (xs : List ℕ) → has q (filter p xs) ≡ true → (p q ≡ true) × (has q xs ≡ true)
@@ -37,27 +36,6 @@ keeps p q (x ∷ xs) t h = elim (or_cases (eq_by_cmp nat_cmp q x) (has q xs) h) 
   | inr l ↦
       let rest : has q (filter p xs) ≡ true = keeps p q xs t l in
       elim (p x) as (λ b. has q (cond b (x ∷ filter p xs) (filter p xs)) ≡ true) [ true ↦ or_right (eq_by_cmp nat_cmp q x) (has q (filter p xs)) rest | false ↦ rest ]
-]
-
--- the first that passes is one that passes, and there is one if any passes
-pub finds : (f : ℕ → Bool) (xs : List ℕ) (c : ℕ) → find f xs ≡ Some c → (has c xs ≡ true) × (f c ≡ true)
-finds f [] c e = cc
-finds f (x ∷ xs) c e = elim (cases_Bool (f x)) [
-  | inl t ↦
-      let at : Some x ≡ Some c = sym (cond-true (f x) (Some x) (find f xs) t) ∙ e in
-      let same : c ≡ x = cc in
-      (or_left (eq_by_cmp nat_cmp c x) (has c xs) (itself c x same), ap f same ∙ t)
-  | inr n ↦ let r = finds f xs c (sym (cond-false (f x) (Some x) (find f xs) n) ∙ e) in (or_right (eq_by_cmp nat_cmp c x) (has c xs) r.0, r.1)
-]
-
-finds_none : (f : ℕ → Bool) (xs : List ℕ) (c : ℕ) → find f xs ≡ None → has c xs ≡ true → f c ≡ true → ⊥
-finds_none f [] c e h t = true≢false (sym h)
-finds_none f (x ∷ xs) c e h t = elim (cases_Bool (f x)) [
-  | inl y ↦ let at : Some x ≡ None = sym (cond-true (f x) (Some x) (find f xs) y) ∙ e in cc
-  | inr n ↦ elim (or_cases (eq_by_cmp nat_cmp c x) (has c xs) h) [
-    | inl s ↦ true≢false (sym t ∙ ap f (same_word c x s) ∙ n)
-    | inr l ↦ finds_none f xs c (sym (cond-false (f x) (Some x) (find f xs) n) ∙ e) l t
-  ]
 ]
 
 -- a slot of registers fits a coupon

@@ -3,7 +3,8 @@ use Rattle.std.proofs.Common.{◌≡◌, ℕ, ◌/◌, ◌%◌, ◌^◌, ◌<◌
 use Rattle.std.specs.Prelude.{min, fold}
 use Rattle.std.proofs.lemmas.List.Elements.{All-tail}
 use Rattle.hll_arrays.specs.Packed.{nibble, nibble_bytes_above, nibble_at, minimum, NibblesReadBack, FieldsReadBack}
-use Rattle.hll_arrays.specs.Payload.{ExceptionsReadBack, Agrees, register_of, entry_at}
+use Rattle.hll_coupons.specs.AuxMap.{entry_at}
+use Rattle.hll_arrays.specs.Payload.{ExceptionsReadBack, Agrees, register_of}
 use Rattle.hll_arrays.proofs.Exceptions.{register_back}
 use Rattle.hll_arrays.proofs.Grouping.{group_fields-group_bytes}
 

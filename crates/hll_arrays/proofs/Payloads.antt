@@ -6,7 +6,8 @@ use Rattle.hll_base.specs.declared.error.Reason.{Reason}
 use Rattle.hll_coupons.specs.Coupons.{coupons_at}
 use Rattle.hll_coupons.proofs.Payloads.{front_le, front_byte, front_rest, front_number, front_coupons, front_take, same_fronts}
 use Rattle.hll_arrays.specs.Packed.{nibble_at}
-use Rattle.hll_arrays.specs.Payload.{state_at, num_at_cur_min, exception_count, IsHll8Payload, Hll8Fault, field_size, IsHll6Payload, Hll6Fault, Hll4Shape, exception_places, nibbles_of, entries_of, hll4_size, AreEntries, AllAgree, Agrees, entry_at, HasEntries, IsHll4Payload, Hll4Fault}
+use Rattle.hll_coupons.specs.AuxMap.{entry_at}
+use Rattle.hll_arrays.specs.Payload.{state_at, num_at_cur_min, exception_count, IsHll8Payload, Hll8Fault, field_size, IsHll6Payload, Hll6Fault, Hll4Shape, exception_places, nibbles_of, entries_of, hll4_size, AreEntries, AllAgree, Agrees, HasEntries, IsHll4Payload, Hll4Fault}
 use Rattle.hll_arrays.specs.Payload as payload
 
 -- ---- the state

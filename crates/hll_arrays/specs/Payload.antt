@@ -1,12 +1,12 @@
 -- What follows the header in an image of registers, what can be wrong with it, and what is written
 -- (docs/FORMAT.md, "HLL" and "What is written"; docs/MODEL.md, "Images").
-use Rattle.std.specs.Prelude.{◌≡◌, ◌≢◌, ℕ, ◌+◌, ◌-◌, ◌*◌, ◌/◌, ◌%◌, ◌^◌, ◌≤◌, ◌<◌, ◌==◌, Bool, false, if◌then◌else◌, List, [], ◌∷◌, ◌++◌, length, drop, take, map, find, slice_index, All, Option, Some, None}
+use Rattle.std.specs.Prelude.{◌≡◌, ◌≢◌, ℕ, ◌+◌, ◌-◌, ◌*◌, ◌/◌, ◌%◌, ◌^◌, ◌≤◌, ◌<◌, ◌==◌, Bool, false, if◌then◌else◌, List, [], ◌∷◌, ◌++◌, length, drop, take, map, slice_index, All, Option, Some, None}
 use Rattle.std.specs.List.{range_with_len, flat_map}
-use Rattle.std.specs.Option.{option_map}
 use Rattle.std.specs.Int.{w32, w64, to_le_bytes, from_le_bytes}
 use Rattle.std.specs.FinSet.{len}
 use Rattle.hll_base.specs.declared.error.Reason.{Reason}
 use Rattle.hll_base.specs.declared.error.Reason.TheVariants.{Truncated, LgArr, Count, Coupon, Register}
+use Rattle.hll_coupons.specs.AuxMap.{entry_at}
 use Rattle.hll_coupons.specs.Pair.{slot_of, value_of, set_of}
 use Rattle.hll_coupons.specs.Coupons.{coupons_at, coupon_bytes, mode_byte, WritesAscending}
 use Rattle.hll_coupons.specs.declared.hll_type.HllType.{HllType}
@@ -88,10 +88,6 @@ entries_of h bytes = coupons_at h.compact (exception_places h bytes) (drop (32 +
 -- how many bytes there are in all
 abbrev pub hll4_size : Hll4Shape → List ℕ → ℕ
 hll4_size h bytes = 32 + (2 ^ (h.lg_k - 1) + 4 * exception_places h bytes)
-
--- the value of the first entry at a slot
-abbrev pub entry_at : ℕ → List ℕ → ℕ → Option ℕ
-entry_at k entries s = option_map value_of (find (λ c. slot_of c % 2 ^ k == s) entries)
 
 -- a nibble of 15 has an entry of at least 15 above the minimum, another has none
 abbrev pub Agrees : ℕ → ℕ → Option ℕ → Type 0

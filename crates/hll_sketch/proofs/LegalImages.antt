@@ -17,7 +17,8 @@ use Rattle.hll_coupons.proofs.Greatest.{same_word}
 use Rattle.hll_arrays.specs.State.{IsState}
 use Rattle.hll_arrays.specs.Store.{AreRegisters}
 use Rattle.hll_arrays.specs.Packed.{fields, nibble_at}
-use Rattle.hll_arrays.specs.Payload.{state_at, Hll4Shape, IsHll4Payload, Agrees, register_of, entry_at, entries_of, nibbles_of, exception_places, registers_of}
+use Rattle.hll_coupons.specs.AuxMap.{entry_at}
+use Rattle.hll_arrays.specs.Payload.{state_at, Hll4Shape, IsHll4Payload, Agrees, register_of, entries_of, nibbles_of, exception_places, registers_of}
 use Rattle.hll_arrays.proofs.Exceptions.{has, finds}
 use Rattle.hll_arrays.proofs.Grouping.{length-fields}
 use Rattle.hll_sketch.specs.Value.{ArePairs}
