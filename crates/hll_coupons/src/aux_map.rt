@@ -6,6 +6,7 @@ ghost use Rattle.std.specs.Vec.Iter.{into_iter_items};
 ghost use Rattle.hll_base.specs.declared.error.Reason.TheVariants.{Memory};
 ghost use Rattle.hll_coupons.specs.AuxMap as sizes;
 ghost use Rattle.hll_coupons.specs.AuxMap.{table_size, empty_map, entries_in, entry_of, value_in, with_value, Inserts, IsGrownFrom, IsMap};
+ghost use Rattle.hll_coupons.specs.Coupons.{IsAscending};
 ghost use Rattle.hll_coupons.specs.Pair.{slot_of, value_of, pair};
 ghost use Rattle.hll_coupons.specs.Probe.{IsProbed, IsAbsent};
 ghost use Rattle.hll_coupons.specs.Same.{have_same_coupons};
@@ -47,6 +48,7 @@ impl<A: Allocator> AuxMap<A> {
         requires least { 4 ≤ lg_config_k }
         requires most { lg_config_k ≤ 21 }
         ensures ok { IfOk result (λ m. m ≡ empty_map lg_config_k) }
+        ensures map { IfOk result IsMap }
         ensures err { IfErr result (λ e. e ≡ Memory) }
     {
         Ok(AuxMap {
@@ -91,6 +93,7 @@ impl<A: Allocator> AuxMap<A> {
         requires present { value_in self.old slot ≢ None }
         ensures places { self.new ≡ with_value self.old slot value }
         ensures values { (s : ℕ) → value_in self.new s ≡ (if s == slot then Some value else value_in self.old s) }
+        ensures map { IsMap self.new }
     {
         let places = self.table.places();
         let Some(place) = search(Key::Slot, self.table.lg_size(), places, slot) else {
@@ -130,6 +133,17 @@ impl<A: Allocator> AuxMap<A> {
         self.table.len() == other.table.len() && other.has_all(self)
     }
 
+    /// A copy of the entries as coupons, in ascending raw words.
+    ///
+    /// Takes four bytes an entry, in one request. Fails with `Memory`.
+    pub fn ascending<B: Allocator>(&self, alloc: B) -> Result<Vec<Coupon, B>, Error>
+        ensures ok { IfOk result (λ entries. IsAscending entries.items (coupons_of self.now.table)) }
+        ensures count { IfOk result (λ entries. length entries.items ≡ length (coupons_in self.now.table.places)) }
+        ensures err { IfErr result (λ e. e ≡ Memory) }
+    {
+        self.table.ascending(alloc)
+    }
+
     /// The entries in the order of their places, each once. Takes no memory.
     pub fn iter(&self) -> AuxMapRefIter<'_>
         ensures { result ≡ entries_in self.now }
@@ -162,6 +176,7 @@ impl<A: Allocator + Clone> AuxMap<A> {
         ensures places { OnOk result (Inserts self.old.table (pair slot value) self.new.table) }
         ensures members { OnOk result (coupons_of self.new.table ≡ set.insert (coupons_of self.old.table) (pair slot value)) }
         ensures values { OnOk result ((s : ℕ) → value_in self.new s ≡ (if s == slot then Some value else value_in self.old s)) }
+        ensures map { OnOk result (IsMap self.new) }
         ensures unchanged { OnErr result (self.new ≡ self.old) }
         ensures err { IfErr result (λ e. e ≡ Memory) }
         ensures never { table_size self.old.lg_k (length (coupons_in self.old.table.places) + 1) ≡ self.old.table.lg_size → IsOk result }

@@ -87,3 +87,6 @@ returns-clause-values g c s =
     let is = word _ _ c.args.slot c.args.value _ c.self.view_is c.self.invariant c.requires.within c.pack-entry.ensures in
     values_after (record { lg_k = c.self.inside.lg_config_k; table = c.self.inside.table }) c.if-len-capacity.self c.pack-entry.result c.self.invariant (inserted g c).map (inserted g c).members s
     ∙ (λ i. cond (eqb s (is.slot i)) (Some (is.value i)) (value_in (c.self.view_is i) s))
+
+pub returns-clause-map : goal.returns-clause-map
+returns-clause-map g c = (inserted g c).map

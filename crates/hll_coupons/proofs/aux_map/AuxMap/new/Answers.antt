@@ -8,3 +8,8 @@ pub invariant_of-result : goal.invariant_of-result
 invariant_of-result g c =
     subst (λ t. IsMap (record { lg_k = c.args.lg_config_k; table = t })) (sym (c.in_ok-new.ensures.ok ∙ ap (λ n. empty_table n) c.start_size.ensures.size))
     (IsMap-empty c.args.lg_config_k c.requires.least c.requires.most)
+
+pub returns-clause-map : goal.returns-clause-map
+returns-clause-map g c =
+    subst (λ t. IsMap (record { lg_k = c.args.lg_config_k; table = t })) (sym (c.in_ok-new.ensures.ok ∙ ap (λ n. empty_table n) c.start_size.ensures.size))
+    (IsMap-empty c.args.lg_config_k c.requires.least c.requires.most)

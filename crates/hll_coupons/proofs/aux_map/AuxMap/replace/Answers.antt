@@ -79,3 +79,9 @@ returns-clause-values g c s =
     (ends_as slot_of _ _ _ _ _ _ _ c.lg_size.ensures.size c.places-places.ensures.places refl c.in-Some.ensures.found) c.requires.present c.requires.within c.requires.least c.pack.ensures
     c.replace.ensures.places c.replace.ensures.table c.replace.ensures.count).values s
     ∙ ap (λ m. cond (eqb s c.args.slot) (Some c.args.value) (value_in m s)) c.self.view_is
+
+pub returns-clause-map : goal.returns-clause-map
+returns-clause-map g c =
+    (left _ _ c.args.slot c.args.value c.in-Some.place c.pack.result c.replace.new.self c.self.view_is c.self.invariant
+    (ends_as slot_of _ _ _ _ _ _ _ c.lg_size.ensures.size c.places-places.ensures.places refl c.in-Some.ensures.found) c.requires.present c.requires.within c.requires.least c.pack.ensures
+    c.replace.ensures.places c.replace.ensures.table c.replace.ensures.count).is_map
