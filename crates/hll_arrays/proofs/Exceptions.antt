@@ -29,7 +29,7 @@ kept p q (x ∷ xs) h = elim (cases_Bool (p x)) [
   | inr f ↦ let r = kept p q xs (sym (ap (has q) (cond-false (p x) (x ∷ filter p xs) (filter p xs) f)) ∙ h) in (r.0, or_right (eq_by_cmp nat_cmp q x) (has q xs) r.1)
 ]
 
-keeps : (p : ℕ → Bool) (q : ℕ) (xs : List ℕ) → p q ≡ true → has q xs ≡ true → has q (filter p xs) ≡ true
+pub keeps : (p : ℕ → Bool) (q : ℕ) (xs : List ℕ) → p q ≡ true → has q xs ≡ true → has q (filter p xs) ≡ true
 keeps p q [] t h = absurd (true≢false (sym h))
 keeps p q (x ∷ xs) t h = elim (or_cases (eq_by_cmp nat_cmp q x) (has q xs) h) [
   | inl e ↦ ap (has q) (cond-true (p x) (x ∷ filter p xs) (filter p xs) (ap p (sym (same_word q x e)) ∙ t)) ∙ or_left (eq_by_cmp nat_cmp q x) (has q (filter p xs)) e

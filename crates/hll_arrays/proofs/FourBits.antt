@@ -1,0 +1,168 @@
+-- Registers of four bits: what is kept is the packed form of the registers.
+use Rattle.std.proofs.Common.{◌≡◌, ℕ, ◌+◌, ◌-◌, ◌*◌, ◌/◌, ◌%◌, ◌^◌, ◌<◌, ◌≤◌, zero, suc, Bool, true, false, eqb, leb, cond, List, [], ◌∷◌, All, Option, Some, None, length, map, get_or, refl, sym, ap, subst, ◌∙◌, arith, inl, inr}
+use Rattle.std.specs.Prelude.{min, fold, filter, count_by, nat_le}
+use Rattle.std.specs.List.{range_with_len}
+use Rattle.std.specs.Cmp.{nat_cmp_total, both_ways}
+use Rattle.std.specs.FinSet.{contains, same_set, nat_cmp-IsAntisymmetric}
+use Rattle.std.proofs.lemmas.Bool.{cases_Bool, cases_lt, cond-true, cond-false, eqb-true, eq-eqb, leb-true, le-leb, lt-leb, true≢false}
+use Rattle.std.proofs.lemmas.List.{ext_get_or}
+use Rattle.std.proofs.lemmas.List.Elements.{All-tail}
+use Rattle.std.proofs.lemmas.List.Sums.{length-filter}
+use Rattle.std.proofs.lemmas.List.FromFn.{length-map-range_with_len, get_or-map-range_with_len}
+use Rattle.std.proofs.Math.Nat.{zero-add}
+use Rattle.hll_coupons.specs.AuxMap.{ExceptionMap, IsMap, value_in}
+use Rattle.hll_coupons.specs.Fold.{words_from}
+use Rattle.hll_coupons.specs.Pair.{pair, set_of, slot_of, value_of}
+use Rattle.hll_coupons.specs.Table.{coupons_in}
+use Rattle.hll_coupons.proofs.Listed.{has, contains-has}
+use Rattle.hll_coupons.proofs.MapChanges.{IsEntry, entry_of_value}
+use Rattle.hll_coupons.proofs.Maps.{slot_below, value_found}
+use Rattle.hll_coupons.proofs.Registers.{StandsFor, in_words, words_have, slot_of-pair, value_of-pair}
+use Rattle.hll_arrays.specs.FourBits.{exception_of, exception_in, exceptions_in, unpacked, IsMapFor, IsPacked, PackedIsOfRegisters}
+use Rattle.hll_arrays.specs.Packed.{nibble, nibble_at, nibble_bytes_above, minimum, exceptions_above}
+use Rattle.hll_arrays.specs.Payload.{register_of}
+use Rattle.hll_arrays.proofs.Exceptions.{kept, keeps, slot_small}
+use Rattle.hll_arrays.proofs.Packing.{minimum_le}
+
+-- ---- the minimum
+
+-- where some element passes, one stands at an index
+some_kept : (p : ℕ → Bool) (R : List ℕ) → 0 < length (filter p R) → (i : ℕ) × (i < length R) × (p (get_or R i 0) ≡ true)
+some_kept p [] h = absurd (omega arith)
+some_kept p (r ∷ R) h = elim (cases_Bool (p r)) [
+  | inl t ↦ (0, omega arith, t)
+  | inr f ↦
+      let i = some_kept p R (omega (arith, h, ap length (cond-false (p r) (r ∷ filter p R) (filter p R) f))) in
+      (suc i.0, omega (arith, i.1), i.2)
+]
+
+pub at_some : (p : ℕ → Bool) (R : List ℕ) → 0 < count_by p R → (i : ℕ) × (i < length R) × (p (get_or R i 0) ≡ true)
+at_some p R h = some_kept p R (omega (arith, h, length-filter p R))
+
+minimum_ge : (m a : ℕ) (R : List ℕ) → m ≤ a → ((s : ℕ) → s < length R → m ≤ get_or R s 0) → m ≤ fold min a R
+minimum_ge m a [] h all = h
+minimum_ge m a (r ∷ R) h all = minimum_ge m (min a r) R (omega (arith, h, all 0 (omega arith))) (λ s l. all (suc s) (omega (arith, l)))
+
+-- a bound that some register attains is the minimum
+pub minimum_is : (m : ℕ) (R : List ℕ) → All (λ r. r ≤ 63) R → ((s : ℕ) → s < length R → m ≤ get_or R s 0) → 0 < count_by (λ r. eqb r m) R → m ≡ minimum R
+minimum_is m R small all some =
+    let i = at_some (λ r. eqb r m) R some in
+    let at : get_or R i.0 0 ≡ m = eqb-true (get_or R i.0 0) m i.2 in
+    let most : get_or R i.0 0 ≤ 63 = small i.0 0 i.1 in
+    omega (arith, at, most, minimum_le R i.0 i.1, minimum_ge m 63 R (omega (arith, at, most)) all)
+
+-- ---- nibbles
+
+-- bytes are those of their nibbles
+pub bytes_of_nibbles : (m : ℕ) (bytes R : List ℕ) → 2 * length bytes ≡ length R → All (λ b. b < 256) bytes → ((s : ℕ) → s < length R → nibble_at bytes s ≡ nibble m (get_or R s 0)) → bytes ≡ nibble_bytes_above m R
+bytes_of_nibbles m [] [] size fits at = refl
+bytes_of_nibbles m [] (r ∷ R) size fits at = absurd (omega arith)
+bytes_of_nibbles m (b ∷ bs) [] size fits at = absurd (omega arith)
+bytes_of_nibbles m (b ∷ bs) (r ∷ []) size fits at = absurd (omega arith)
+bytes_of_nibbles m (b ∷ bs) (r ∷ q ∷ R) size fits at =
+    let below : b < 256 = fits 0 0 (omega arith) in
+    let low : b % 16 ≡ nibble m r = sym (let e : nibble_at (b ∷ bs) 0 ≡ b % 16 = omega arith in e) ∙ at 0 (omega arith) in
+    let high : b / 16 % 16 ≡ nibble m q = sym (let e : nibble_at (b ∷ bs) 1 ≡ b / 16 % 16 = omega arith in e) ∙ at 1 (omega arith) in
+    let byte : b ≡ nibble m r + 16 * nibble m q = omega (arith, below, low, high) in
+    let rest : bs ≡ nibble_bytes_above m R = bytes_of_nibbles m bs R (omega (arith, size)) (All-tail (λ b. b < 256) b bs fits)
+    (λ s l. further s ∙ at (suc (suc s)) (omega (arith, l))) in
+    λ i. byte i ∷ rest i
+  where
+    further : (s : ℕ) → nibble_at bs s ≡ nibble_at (b ∷ bs) (suc (suc s))
+    further s =
+        let half : suc (suc s) / 2 ≡ suc (s / 2) = omega arith in
+        let odd : suc (suc s) % 2 ≡ s % 2 = omega arith in
+        sym (λ i. get_or (b ∷ bs) (half i) 0 / 16 ^ odd i % 16)
+
+-- ---- exceptions
+
+pub exception_of-high : (m r : ℕ) → m + 15 ≤ r → exception_of m r ≡ Some r
+exception_of-high m r h = cond-true (leb (m + 15) r) (Some r) None (le-leb (m + 15) r h)
+
+pub exception_of-low : (m r : ℕ) → r < m + 15 → exception_of m r ≡ None
+exception_of-low m r h = cond-false (leb (m + 15) r) (Some r) None (lt-leb (m + 15) r h)
+
+-- nibble and exception give the register
+pub register_of-packed : (m r : ℕ) → m ≤ r → register_of m (nibble m r) (exception_of m r) ≡ r
+register_of-packed m r low = elim (cases_lt r (m + 15)) [
+  | inl under ↦ ap (register_of m (nibble m r)) (exception_of-low m r under) ∙ omega (arith, low, under)
+  | inr high ↦ ap (register_of m (nibble m r)) (exception_of-high m r high)
+]
+
+module _ (k m : ℕ) (R : List ℕ) (t : ExceptionMap) (small : k ≤ 21) (size : length R ≡ 2 ^ k) (is : IsMap t) (same : t.lg_k ≡ k)
+    (at : (s : ℕ) → s < 2 ^ k → value_in t s ≡ exception_of m (get_or R s 0)) where
+  -- an entry is an exception
+  entry_in : (c : ℕ) → has c (coupons_in t.table.places) ≡ true → has c (exceptions_above m R) ≡ true
+  entry_in c h =
+      let s : ℕ = slot_of c in
+      let below : s < 2 ^ k = subst (λ n. s < 2 ^ n) same (slot_below t is c h) in
+      let r : ℕ = get_or R s 0 in
+      let value : Some (value_of c) ≡ exception_of m r = sym (value_found t is c h) ∙ at s below in
+      elim (cases_lt r (m + 15)) [
+        | inl under ↦ let none : Some (value_of c) ≡ None = value ∙ exception_of-low m r under in cc
+        | inr high ↦
+            let both : Some (value_of c) ≡ Some r = value ∙ exception_of-high m r high in
+            let v : value_of c ≡ r = cc in
+            let word : c ≡ pair s r = omega (arith, v) in
+            let some : 0 < r = omega (arith, high) in
+            keeps (λ c. leb (m + 15) (value_of c)) c (words_from 0 R) (le-leb (m + 15) (value_of c) (omega (arith, v, high)))
+            (words_have R 0 c s (record { within = omega (arith, below, size); positive = some; is = word ∙ ap (λ n. pair n r) (sym (zero-add s)) }))
+      ]
+
+  -- and an exception an entry
+  exception_is : (c : ℕ) → has c (exceptions_above m R) ≡ true → has c (coupons_in t.table.places) ≡ true
+  exception_is c h =
+      let parts = kept (λ c. leb (m + 15) (value_of c)) c (words_from 0 R) h in
+      let found : (i : ℕ) × StandsFor R 0 c i = in_words R 0 c parts.1 in
+      let i : ℕ = found.0 in
+      let within : i < 2 ^ k = omega (arith, found.1.within, size) in
+      let r : ℕ = get_or R i 0 in
+      let is_word : c ≡ pair i r = found.1.is ∙ ap (λ n. pair n r) (zero-add i) in
+      let slot : slot_of c ≡ i = ap slot_of is_word ∙ slot_of-pair i r (slot_small k i small within) in
+      let value : value_of c ≡ r = ap value_of is_word ∙ value_of-pair i r (slot_small k i small within) in
+      let high : m + 15 ≤ r = omega (arith, leb-true (m + 15) (value_of c) parts.0, value) in
+      let entry : IsEntry t i r = entry_of_value t is i r (at i within ∙ exception_of-high m r high) in
+      let word : entry.word ≡ c = omega (arith, entry.slot, entry.value, slot, value) in
+      ap (λ w. has w (coupons_in t.table.places)) (sym word) ∙ entry.there
+
+  pub entries_are : set_of (coupons_in t.table.places) ≡ set_of (exceptions_above m R)
+  entries_are = same_set nat_cmp_total nat_cmp-IsAntisymmetric _ _ (λ c. both_ways _ _
+      (λ h. contains-has (exceptions_above m R) c ∙ entry_in c (sym (contains-has (coupons_in t.table.places) c) ∙ h))
+      (λ h. contains-has (coupons_in t.table.places) c ∙ exception_is c (sym (contains-has (exceptions_above m R) c) ∙ h)))
+
+-- no slot has an exception
+no_exceptions : (k m : ℕ) (R : List ℕ) → k ≤ 21 → length R ≡ 2 ^ k → ((s : ℕ) → s < 2 ^ k → None ≡ exception_of m (get_or R s 0)) → set_of [] ≡ set_of (exceptions_above m R)
+no_exceptions k m R small size at = same_set nat_cmp_total nat_cmp-IsAntisymmetric _ _ (λ c. both_ways _ _
+    (λ h. absurd (true≢false (sym h ∙ contains-has [] c)))
+    (λ h. absurd (none c (sym (contains-has (exceptions_above m R) c) ∙ h))))
+  where
+    none : (c : ℕ) → has c (exceptions_above m R) ≡ true → ⊥
+    none c h =
+        let parts = kept (λ c. leb (m + 15) (value_of c)) c (words_from 0 R) h in
+        let found : (i : ℕ) × StandsFor R 0 c i = in_words R 0 c parts.1 in
+        let i : ℕ = found.0 in
+        let within : i < 2 ^ k = omega (arith, found.1.within, size) in
+        let r : ℕ = get_or R i 0 in
+        let value : value_of c ≡ r = ap value_of (found.1.is ∙ ap (λ n. pair n r) (zero-add i)) ∙ value_of-pair i r (slot_small k i small within) in
+        let some : None ≡ Some r = at i within ∙ exception_of-high m r (omega (arith, leb-true (m + 15) (value_of c) parts.0, value)) in
+        cc
+
+-- ---- the law
+
+pub packed_is_of_registers : PackedIsOfRegisters
+packed_is_of_registers k m n bytes e R small p =
+    let least : m ≡ minimum R = minimum_is m R p.registers.small (λ s l. p.least s (omega (arith, l, p.registers.size))) (omega (arith, p.some, p.count)) in
+    record {
+      minimum_is = least;
+      count_is = p.count ∙ ap (λ m. count_by (λ r. eqb r m) R) least;
+      bytes_are = bytes_of_nibbles m bytes R (omega (arith, p.size, p.registers.size)) p.fits (λ s l. p.nibbles s (omega (arith, l, p.registers.size))) ∙ ap (λ m. nibble_bytes_above m R) least;
+      exceptions_are = entries e p.map_for p.excepted ∙ ap (λ m. set_of (exceptions_above m R)) least;
+      unpacked_is = ext_get_or 0 _ _ (length-map-range_with_len _ 0 (2 ^ k) ∙ sym p.registers.size) (λ s l.
+          let within : s < 2 ^ k = omega (arith, l, length-map-range_with_len (λ s. register_of m (nibble_at bytes s) (exception_in e s)) 0 (2 ^ k)) in
+          get_or-map-range_with_len (λ s. register_of m (nibble_at bytes s) (exception_in e s)) 0 (2 ^ k) s s 0 within (zero-add s)
+          ∙ (λ i. register_of m (p.nibbles s within i) (p.excepted s within i)) ∙ register_of-packed m (get_or R s 0) (p.least s within));
+    }
+  where
+    entries : (e : Option ExceptionMap) → IsMapFor k e → ((s : ℕ) → s < 2 ^ k → exception_in e s ≡ exception_of m (get_or R s 0)) → exceptions_in e ≡ set_of (exceptions_above m R)
+    entries None u at = no_exceptions k m R small p.registers.size at
+    entries (Some t) (is, same, more) at = entries_are k m R t small p.registers.size is same at

@@ -1,0 +1,59 @@
+-- Registers of four bits as they are kept: nibbles above a minimum, and a map of exceptions where there are any
+-- (docs/MODEL.md, "Registers of four bits").
+use Rattle.std.specs.Prelude.{◌≡◌, ℕ, ◌+◌, ◌*◌, ◌^◌, ◌<◌, ◌≤◌, ◌==◌, nat_le, if◌then◌else◌, List, length, map, slice_index, count_by, All, Option, Some, None}
+use Rattle.std.specs.List.{range_with_len}
+use Rattle.std.specs.FinSet.{empty}
+use Rattle.hll_coupons.specs.AuxMap.{ExceptionMap, IsMap, value_in}
+use Rattle.hll_coupons.specs.Pair.{Pairs, set_of}
+use Rattle.hll_coupons.specs.Table.{coupons_in, coupons_of}
+use Rattle.hll_arrays.specs.Packed.{nibble, nibble_at, nibble_bytes, minimum, count_at_minimum, exceptions}
+use Rattle.hll_arrays.specs.Payload.{register_of}
+use Rattle.hll_arrays.specs.Store.{AreRegisters}
+
+-- the exception of a register above a minimum: itself, where it is at least 15 above
+abbrev pub exception_of : ℕ → ℕ → Option ℕ
+exception_of m r = if nat_le (m + 15) r then Some r else None
+
+-- the value at a slot of the map, where there is one
+abbrev pub exception_in : Option ExceptionMap → ℕ → Option ℕ
+exception_in None s = None
+exception_in (Some t) s = value_in t s
+
+-- the entries of the map, where there is one
+abbrev pub exceptions_in : Option ExceptionMap → Pairs
+exceptions_in None = empty
+exceptions_in (Some t) = coupons_of t.table
+
+-- the registers of nibbles above a minimum, and exceptions
+abbrev pub unpacked : ℕ → ℕ → List ℕ → Option ExceptionMap → List ℕ
+unpacked k m bytes e = map (λ s. register_of m (nibble_at bytes s) (exception_in e s)) (range_with_len 0 (2 ^ k))
+
+-- a map for slots below 2^k that has an entry, or none
+abbrev pub IsMapFor : ℕ → Option ExceptionMap → Type 0
+IsMapFor k None = Unit {0}
+IsMapFor k (Some t) = IsMap t × (t.lg_k ≡ k) × (0 < length (coupons_in t.table.places))
+
+-- the minimum is attained, and count, nibbles and exceptions are those of the registers above it
+pub record IsPacked (k m n : ℕ) (bytes : List ℕ) (e : Option ExceptionMap) (R : List ℕ) : Type 0 where
+  pub registers : AreRegisters k R
+  pub least : (s : ℕ) → s < 2 ^ k → m ≤ slice_index R s
+  pub count : n ≡ count_by (λ r. r == m) R
+  pub some : 0 < n
+  pub size : 2 * length bytes ≡ 2 ^ k
+  pub fits : All (λ b. b < 256) bytes
+  pub nibbles : (s : ℕ) → s < 2 ^ k → nibble_at bytes s ≡ nibble m (slice_index R s)
+  pub map_for : IsMapFor k e
+  pub excepted : (s : ℕ) → s < 2 ^ k → exception_in e s ≡ exception_of m (slice_index R s)
+
+-- ---- laws
+
+-- what is kept is a function of the registers, which it gives back
+pub record IsOfRegisters (k m n : ℕ) (bytes : List ℕ) (e : Option ExceptionMap) (R : List ℕ) : Type 0 where
+  pub minimum_is : m ≡ minimum R
+  pub count_is : n ≡ count_at_minimum R
+  pub bytes_are : bytes ≡ nibble_bytes R
+  pub exceptions_are : exceptions_in e ≡ set_of (exceptions R)
+  pub unpacked_is : unpacked k m bytes e ≡ R
+
+abbrev pub PackedIsOfRegisters : Type 0
+PackedIsOfRegisters = (k m n : ℕ) (bytes : List ℕ) (e : Option ExceptionMap) (R : List ℕ) → k ≤ 21 → IsPacked k m n bytes e R → IsOfRegisters k m n bytes e R
