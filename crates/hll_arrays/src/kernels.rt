@@ -150,7 +150,8 @@ pub fn units(bytes: &[u8]) -> u128
 
 /// The sum of 2^(31 - v % 32) over the values v of one half: 0 to 31, or 32 to 63.
 ///
-/// The eight values of a class have weights of one byte, and each of the four classes has a sum of its own.
+/// The eight values of a class have weights of one byte, and each of the four classes has a sum of its own. A block
+/// without a value of the half, as most are in the second, is passed over.
 fn half_units(bytes: &[u8], half: u8) -> u64
     requires half { half ≤ 1 }
     requires few { length bytes.now ≤ 2 ^ 21 }
@@ -163,6 +164,9 @@ fn half_units(bytes: &[u8], half: u8) -> u64
     let mut third = u32x4::splat(0);
     let mut fourth = u32x4::splat(0);
     for block in blocks {
+        if members(block, half) == 0 {
+            continue;
+        }
         first += class_lanes(block, 4 * half);
         second += class_lanes(block, 4 * half + 1);
         third += class_lanes(block, 4 * half + 2);
@@ -175,6 +179,14 @@ fn half_units(bytes: &[u8], half: u8) -> u64
         lane_sum(fourth),
     ];
     joined(sums) + half_units_one_by_one(rest, half)
+}
+
+/// A bit for each value of a block, set where it is of the half.
+fn members(block: &[u8; 16], half: u8) -> u64
+    ensures { result ≡ mask_l (map (λ v. v / 32 == half) block.now) }
+{
+    let halves = u8x16::from_array(*block) >> u8x16::splat(5);
+    halves.simd_eq(u8x16::splat(half)).to_bitmask()
 }
 
 /// Four parts of the sum of the weights 2^(7 - v % 8) of a class.
