@@ -131,22 +131,19 @@ fn main() {
             || units(black_box(&values)),
         );
 
-        // Each call lowers a copy, and both times have that of the copy in them.
+        let lower = |bytes: &mut [u8]| unsafe { hll_bench_lower_nibbles(bytes.as_mut_ptr(), bytes.len()) };
         let pair = |pair: &[u8]| pair[0].clamp(1, 15) | pair[1].clamp(1, 15) << 4;
-        let nibbles: Vec<u8> = values.chunks_exact(2).map(pair).collect();
-        let (mut first, mut second) = (nibbles.clone(), nibbles.clone());
+        let mut first: Vec<u8> = values.chunks_exact(2).map(pair).collect();
+        let mut second = first.clone();
+        assert_eq!(lower(&mut first), lower_nibbles(&mut second));
+        assert_eq!(first, second);
+        // Nibbles of 15 stay, so that one call may follow another.
+        let (mut first, mut second) = (vec![0xff; first.len()], vec![0xff; second.len()]);
         measure(
             "lowered nibbles",
             lg_k,
-            || unsafe {
-                first.copy_from_slice(black_box(&nibbles));
-                u64::from(hll_bench_lower_nibbles(first.as_mut_ptr(), first.len()))
-            },
-            || {
-                second.copy_from_slice(black_box(&nibbles));
-                u64::from(lower_nibbles(black_box(&mut second)))
-            },
+            || u64::from(lower(black_box(&mut first))),
+            || u64::from(lower_nibbles(black_box(&mut second))),
         );
-        assert_eq!(first, second);
     }
 }
