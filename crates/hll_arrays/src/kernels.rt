@@ -30,7 +30,7 @@ pub fn max_into(dst: &mut [u8], src: &[u8])
     for place in 0..blocks.len() {
         raise_64(dst, 64 * place, &blocks[place]);
     }
-    raise_each(&mut dst[64 * blocks.len()..], rest);
+    raise_one_by_one(&mut dst[64 * blocks.len()..], rest);
 }
 
 /// Raises the 64 bytes from `at` on to those of a block.
@@ -61,7 +61,7 @@ pub(crate) fn raise_one(dst: &mut [u8], at: usize, value: u8)
 }
 
 /// Raises each byte to that of `src` at the same index, one after the other.
-fn raise_each(dst: &mut [u8], src: &[u8])
+fn raise_one_by_one(dst: &mut [u8], src: &[u8])
     requires { length dst.old ≡ length src.now }
     ensures { dst.new ≡ join dst.old src.now }
 {
@@ -114,11 +114,11 @@ pub fn all_zero(bytes: &[u8]) -> bool
             return false;
         }
     }
-    zeros_alone(rest)
+    all_zero_one_by_one(rest)
 }
 
 /// Whether all bytes are 0, one after the other.
-fn zeros_alone(bytes: &[u8]) -> bool
+fn all_zero_one_by_one(bytes: &[u8]) -> bool
     ensures { result ≡ list_all (λ b. b == 0) bytes.now }
 {
     bytes.iter().all(|byte| *byte == 0)
@@ -274,7 +274,7 @@ pub fn lower_nibbles(bytes: &mut [u8]) -> u32
     for place in 0..blocks {
         zeros += lower_32(bytes, 32 * place);
     }
-    zeros + lower_each(&mut bytes[32 * blocks..])
+    zeros + lower_one_by_one(&mut bytes[32 * blocks..])
 }
 
 /// Lowers the nibbles of the 32 bytes from `at` on.
@@ -334,7 +334,7 @@ fn high_zeros(bytes: u8x32) -> u32
 }
 
 /// The same as `lower_nibbles`, one byte after the other.
-fn lower_each(bytes: &mut [u8]) -> u32
+fn lower_one_by_one(bytes: &mut [u8]) -> u32
     requires none { zero_nibbles bytes.old ≡ 0 }
     requires few { length bytes.old ≤ 2 ^ 20 }
     ensures lowered { bytes.new ≡ map lowered_byte bytes.old }
