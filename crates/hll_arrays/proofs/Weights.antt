@@ -3,17 +3,17 @@ use Rattle.std.proofs.Common.{◌≡◌, ℕ, ◌+◌, ◌-◌, ◌*◌, ◌/◌
 use Rattle.std.specs.Prelude.{if◌then◌else◌, sum_by}
 use Rattle.std.specs.List.{list_all, range_with_len}
 use Rattle.std.specs.Simd.{first_chunks}
-use Rattle.std.specs.Simd.Lanes.{zip2, sel_l, top, Each1, sum_l}
+use Rattle.std.specs.Simd.Lanes.{zip2, sel_l, mask_l, top, Each1, sum_l}
 use lib.Lanes.{products, pair_sums, dots, all_below}
 use mir.Val.{Fits, zeroes}
 use Rattle.std.proofs.Math.Pow.{pow_mono}
-use Rattle.std.proofs.lemmas.Bool.{cases_lt, eqb-true, ne_eqb}
+use Rattle.std.proofs.lemmas.Bool.{cases_lt, eqb-true, ne_eqb, eq-eqb}
 use Rattle.std.proofs.lemmas.List.{length-map}
 use Rattle.std.proofs.lemmas.List.Elements.{All-tail}
 use Rattle.std.proofs.lemmas.List.FromFn.{length-range_with_len, get_or-range_with_len}
 use Rattle.std.proofs.lemmas.List.Sums.{sum_by-cons, sum_by-append, sum_by-take-drop, sum_by-take-le, sum_by-le, AllPass-from_list_all}
 use Rattle.std.proofs.lemmas.Nat.{and_mask}
-use Rattle.std.proofs.lemmas.Simd.{swz_l, SwzOk, SwzOk-from_below, sum_dots, sum_by-ones, dot4_Fits, length-zip2}
+use Rattle.std.proofs.lemmas.Simd.{swz_l, SwzOk, SwzOk-from_below, sum_dots, sum_by-ones, dot4_Fits, length-zip2, bitmask_splat, zip2_splat, map-map}
 use Rattle.hll_arrays.specs.Lanes.{class_sum, half_sum}
 use Rattle.hll_arrays.specs.Packed.{units}
 use Rattle.hll_arrays.proofs.Blocks.{take_block}
@@ -217,6 +217,32 @@ class_more k i n bytes blocks d lanes more are inside few four here before =
       four = length-zip2 (λ a b. (a + b) % 4294967296) lanes more (before.four ∙ sym four) ∙ before.four;
       sum = sum_wrapped lanes more (before.four ∙ sym four) (omega (arith, before.sum)) ∙ omega (arith, before.sum);
     }
+
+-- ---- blocks without a value of a half
+
+pub members_by_mask : (xs : List ℕ) (h : ℕ) → length xs ≡ 16 →
+    mask_l (map (top 7) (zip2 (λ a b. cond (a == b) 255 0) (zip2 (λ a b. a / 2 ^ b) xs (replicate 16 5)) (replicate 16 h))) % 2 ^ 64 ≡ mask_l (map (λ v. v / 32 == h) xs)
+members_by_mask xs h e =
+    ap (λ ys. mask_l (map (top 7) (zip2 (λ a b. cond (a == b) 255 0) ys (replicate 16 h))) % 2 ^ 64) (zip2_splat (λ a b. a / 2 ^ b) xs 16 5 e)
+    ∙ bitmask_splat w8 (λ a b. a == b) (map (λ v. v / 32) xs) 16 h (length-map xs (λ v. v / 32) ∙ e) (omega arith)
+    ∙ ap mask_l (map-map (λ v. v == h) (λ v. v / 32) xs)
+
+not_equal : (q h rest : ℕ) → ◌≡◌ {A = ℕ} (cond (q == h) 1 0 + 2 * rest) 0 → q ≢ h
+not_equal q h rest none e = absurd (let one : ◌≡◌ {A = ℕ} (cond (q == h) 1 0) 1 = ap (λ b. cond b 1 0) (eq-eqb q h e) in omega (arith, one, none))
+
+no_class : (h k : ℕ) (xs : List ℕ) → k / 4 ≡ h → mask_l (map (λ v. v / 32 == h) xs) ≡ 0 → class_sum k xs ≡ 0
+no_class h k [] of empty = refl
+no_class h k (v ∷ xs) of empty =
+    let other : v / 32 ≢ h = not_equal (v / 32) h (mask_l (map (λ w. w / 32 == h) xs)) empty in
+    let here : class_weight k v ≡ 0 = none (v / 8) k (2 ^ (7 - v % 8)) (λ e. other (omega arith)) in
+    omega (arith, sum_by-cons (class_weight k) v xs, no_class h k xs of (omega (arith, empty)))
+
+pub class_same : (h k i n : ℕ) (bytes : List ℕ) (blocks : List (List ℕ)) (d lanes : List ℕ) → k / 4 ≡ h → blocks ≡ first_chunks 16 n bytes → i < n →
+    mask_l (map (λ v. v / 32 == h) (get_or blocks i d)) ≡ 0 → ClassLanes k (i * 16) bytes lanes → ClassLanes k ((i + 1) * 16) bytes lanes
+class_same h k i n bytes blocks d lanes of are inside empty before =
+    let both : class_sum k (take ((i + 1) * 16) bytes) ≡ class_sum k (take (i * 16) bytes) + class_sum k (get_or blocks i d) =
+    ap (class_sum k) (take_block 16 n bytes blocks i d are inside) ∙ sum_by-append (class_weight k) (take (i * 16) bytes) (get_or blocks i d) in
+    record { four = before.four; sum = omega (arith, before.sum, both, no_class h k (get_or blocks i d) of empty) }
 
 -- at most 2^28 in each class
 pub class_small : (k n : ℕ) (bytes lanes : List ℕ) → length bytes ≤ 2 ^ 21 → ClassLanes k n bytes lanes → sum_l lanes ≤ 2 ^ 28

@@ -63,11 +63,11 @@ fn pack_groups_into(groups: &mut [[u8; 3]], registers: &[u8])
     for place in 0..blocks.len() {
         put_four_groups(groups, 4 * place, &blocks[place]);
     }
-    pack_each(&mut groups[4 * blocks.len()..], rest);
+    pack_one_by_one(&mut groups[4 * blocks.len()..], rest);
 }
 
 /// Writes the group of each four registers, one after the other.
-fn pack_each(groups: &mut [[u8; 3]], registers: &[u8])
+fn pack_one_by_one(groups: &mut [[u8; 3]], registers: &[u8])
     requires size { 4 * length groups.old ≡ length registers.now }
     requires small { All (λ v. v ≤ 63) registers.now }
     ensures { groups.new ≡ groups_of registers.now }
@@ -151,11 +151,11 @@ fn raise_by_fields(values: &mut [u8], bytes: &[u8])
     for place in 0..blocks.len() {
         raise_by_block(values, 64 * place, &blocks[place]);
     }
-    raise_by_each(&mut values[64 * blocks.len()..], rest);
+    raise_one_by_one(&mut values[64 * blocks.len()..], rest);
 }
 
 /// The same, one group after the other.
-fn raise_by_each(values: &mut [u8], bytes: &[u8])
+fn raise_one_by_one(values: &mut [u8], bytes: &[u8])
     requires { 3 * length values.old ≡ 4 * length bytes.now }
     ensures { values.new ≡ join values.old (fields bytes.now) }
 {

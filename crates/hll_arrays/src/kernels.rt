@@ -30,7 +30,7 @@ pub fn max_into(dst: &mut [u8], src: &[u8])
     for place in 0..blocks.len() {
         raise_64(dst, 64 * place, &blocks[place]);
     }
-    raise_each(&mut dst[64 * blocks.len()..], rest);
+    raise_one_by_one(&mut dst[64 * blocks.len()..], rest);
 }
 
 /// Raises the 64 bytes from `at` on to those of a block.
@@ -61,7 +61,7 @@ pub(crate) fn raise_one(dst: &mut [u8], at: usize, value: u8)
 }
 
 /// Raises each byte to that of `src` at the same index, one after the other.
-fn raise_each(dst: &mut [u8], src: &[u8])
+fn raise_one_by_one(dst: &mut [u8], src: &[u8])
     requires { length dst.old ≡ length src.now }
     ensures { dst.new ≡ join dst.old src.now }
 {
@@ -114,11 +114,11 @@ pub fn all_zero(bytes: &[u8]) -> bool
             return false;
         }
     }
-    zeros_alone(rest)
+    all_zero_one_by_one(rest)
 }
 
 /// Whether all bytes are 0, one after the other.
-fn zeros_alone(bytes: &[u8]) -> bool
+fn all_zero_one_by_one(bytes: &[u8]) -> bool
     ensures { result ≡ list_all (λ b. b == 0) bytes.now }
 {
     bytes.iter().all(|byte| *byte == 0)
@@ -150,7 +150,8 @@ pub fn units(bytes: &[u8]) -> u128
 
 /// The sum of 2^(31 - v % 32) over the values v of one half: 0 to 31, or 32 to 63.
 ///
-/// The eight values of a class have weights of one byte, and each of the four classes has a sum of its own.
+/// The eight values of a class have weights of one byte, and each of the four classes has a sum of its own. A block
+/// without a value of the half, as most are in the second, is passed over.
 fn half_units(bytes: &[u8], half: u8) -> u64
     requires half { half ≤ 1 }
     requires few { length bytes.now ≤ 2 ^ 21 }
@@ -163,6 +164,9 @@ fn half_units(bytes: &[u8], half: u8) -> u64
     let mut third = u32x4::splat(0);
     let mut fourth = u32x4::splat(0);
     for block in blocks {
+        if members(block, half) == 0 {
+            continue;
+        }
         first += class_lanes(block, 4 * half);
         second += class_lanes(block, 4 * half + 1);
         third += class_lanes(block, 4 * half + 2);
@@ -175,6 +179,14 @@ fn half_units(bytes: &[u8], half: u8) -> u64
         lane_sum(fourth),
     ];
     joined(sums) + half_units_one_by_one(rest, half)
+}
+
+/// A bit for each value of a block, set where it is of the half.
+fn members(block: &[u8; 16], half: u8) -> u64
+    ensures { result ≡ mask_l (map (λ v. v / 32 == half) block.now) }
+{
+    let halves = u8x16::from_array(*block) >> u8x16::splat(5);
+    halves.simd_eq(u8x16::splat(half)).to_bitmask()
 }
 
 /// Four parts of the sum of the weights 2^(7 - v % 8) of a class.
@@ -262,7 +274,7 @@ pub fn lower_nibbles(bytes: &mut [u8]) -> u32
     for place in 0..blocks {
         zeros += lower_32(bytes, 32 * place);
     }
-    zeros + lower_each(&mut bytes[32 * blocks..])
+    zeros + lower_one_by_one(&mut bytes[32 * blocks..])
 }
 
 /// Lowers the nibbles of the 32 bytes from `at` on.
@@ -322,7 +334,7 @@ fn high_zeros(bytes: u8x32) -> u32
 }
 
 /// The same as `lower_nibbles`, one byte after the other.
-fn lower_each(bytes: &mut [u8]) -> u32
+fn lower_one_by_one(bytes: &mut [u8]) -> u32
     requires none { zero_nibbles bytes.old ≡ 0 }
     requires few { length bytes.old ≤ 2 ^ 20 }
     ensures lowered { bytes.new ≡ map lowered_byte bytes.old }

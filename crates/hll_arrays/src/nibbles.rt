@@ -24,11 +24,11 @@ pub(crate) fn raise_by_nibbles(values: &mut [u8], bytes: &[u8], minimum: u8)
     for place in 0..blocks.len() {
         raise_by_block(values, 32 * place, &blocks[place], minimum);
     }
-    raise_by_each(&mut values[32 * blocks.len()..], rest, minimum);
+    raise_one_by_one(&mut values[32 * blocks.len()..], rest, minimum);
 }
 
 /// The same, one byte after the other.
-fn raise_by_each(values: &mut [u8], bytes: &[u8], minimum: u8)
+fn raise_one_by_one(values: &mut [u8], bytes: &[u8], minimum: u8)
     requires size { length values.old ≡ 2 * length bytes.now }
     requires small { minimum ≤ 240 }
     ensures { values.new ≡ join values.old (nibble_values minimum bytes.now) }
@@ -74,11 +74,11 @@ pub(crate) fn pack_nibbles(bytes: &mut [u8], registers: &[u8], minimum: u8)
     for place in 0..blocks.len() {
         put_16(bytes, 16 * place, packed_lanes(&blocks[place], minimum));
     }
-    pack_each(&mut bytes[16 * blocks.len()..], rest, minimum);
+    pack_one_by_one(&mut bytes[16 * blocks.len()..], rest, minimum);
 }
 
 /// The same, one byte after the other.
-fn pack_each(bytes: &mut [u8], registers: &[u8], minimum: u8)
+fn pack_one_by_one(bytes: &mut [u8], registers: &[u8], minimum: u8)
     requires { 2 * length bytes.old ≡ length registers.now }
     ensures { bytes.new ≡ nibble_bytes_above minimum registers.now }
 {

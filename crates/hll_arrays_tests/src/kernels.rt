@@ -1,5 +1,36 @@
-//! The loops over bytes, at values worked out by hand.
-use hll_arrays::kernels::{all_zero, count_zeros, max_into, pack_group, units, unpack_group};
+//! The loops over bytes, at values worked out by hand, and beside plain loops at every length up to 130.
+ghost use Rattle.std.specs.Prelude.{◌≡◌, ◌↔◌, ◌^◌, ◌<◌, ◌≤◌, length, All, IsTrue};
+ghost use Rattle.hll_arrays.specs.Packed.{zero_nibbles};
+
+use hll_arrays::kernels::{
+    all_zero, count_zeros, lower_nibbles, max_into, pack_group, units, unpack_group,
+};
+
+/// Where slices begin in an array of 160 bytes, and the length of the longest.
+const OFFSETS: [usize; 4] = [0, 1, 7, 30];
+
+const LONGEST: usize = 130;
+
+/// The multiples of a step modulo a number of at most 64.
+fn multiples(step: usize, modulus: usize) -> [u8; 160]
+    requires step { step ≤ 64 }
+    requires modulus { (0 < modulus) × (modulus ≤ 64) }
+{
+    let mut bytes = [0; 160];
+    for place in 0..160 {
+        bytes[place] = (place * step % modulus) as u8;
+    }
+    bytes
+}
+
+/// Bytes whose nibbles are 1 to 15.
+fn pairs() -> [u8; 160] {
+    let mut bytes = [0; 160];
+    for place in 0..160 {
+        bytes[place] = (17 + place * 7 % 15 + 16 * (place * 4 % 15)) as u8;
+    }
+    bytes
+}
 
 /// Groups of three bytes with their registers: all 0, each register alone at 1, all 63, and the registers 0, 63, 42, 51.
 const GROUPS: [([u8; 3], [u8; 4]); 7] = [
@@ -38,6 +69,7 @@ fn sums(rt: HostRuntime) {
         assert_eq!(rt; all_zero(&group), zeros == 4);
     }
     assert_eq!(rt; units(&[]), 0);
+    assert_eq!(rt; units(&[0, 63]), 9223372036854775809);
     assert!(rt; all_zero(&[]));
 }
 
@@ -48,4 +80,130 @@ fn maxima(rt: HostRuntime) {
     max_into(&mut dst, &[4, 2, 3, 0]);
     assert_eq!(rt; dst, [4, 5, 3, 0]);
     max_into(&mut [], &[]);
+}
+
+fn zeros_among(bytes: &[u8]) -> usize {
+    let mut count = 0usize;
+    for byte in bytes {
+        if *byte == 0 {
+            count = count.wrapping_add(1);
+        }
+    }
+    count
+}
+
+fn weights_of(bytes: &[u8]) -> u128 {
+    let mut sum = 0u128;
+    for byte in bytes {
+        sum = sum.wrapping_add(1 << (63 - (*byte).min(63)));
+    }
+    sum
+}
+
+fn are_small(bytes: &[u8]) -> bool
+    ensures { IsTrue result ↔ All (λ v. v ≤ 63) bytes.now }
+{
+    bytes.iter().all(|value| *value <= 63)
+}
+
+/// Whether the calls that read give what plain loops give.
+fn reads_agree(bytes: &[u8]) -> bool
+    requires { length bytes.now ≤ 2 ^ 21 }
+{
+    let zeros = zeros_among(bytes);
+    are_small(bytes)
+        && units(bytes) == weights_of(bytes)
+        && count_zeros(bytes) == zeros
+        && all_zero(bytes) == (zeros == bytes.len())
+}
+
+#[test]
+fn reads_of_every_length(rt: HostRuntime) {
+    let values = multiples(37, 64);
+    let others = multiples(23, 3);
+    let zeros = [0u8; 160];
+    for from in OFFSETS {
+        for length in 0..LONGEST + 1 {
+            let to = from + length;
+            assert!(rt; reads_agree(&values[from..to]));
+            assert!(rt; reads_agree(&others[from..to]));
+            assert!(rt; reads_agree(&zeros[from..to]));
+        }
+    }
+}
+
+/// How many nibbles are 0.
+fn zeros_of(bytes: &[u8]) -> usize
+    requires { length bytes.now ≤ 2 ^ 20 }
+    ensures { result ≡ zero_nibbles bytes.now }
+{
+    let low = bytes.iter().filter(|byte| **byte % 16 == 0).count();
+    let high = bytes.iter().filter(|byte| **byte / 16 == 0).count();
+    low + high
+}
+
+/// Lowers nibbles if none is 0.
+fn lowered(bytes: &mut [u8]) -> Option<u32>
+    requires { length bytes.old ≤ 2 ^ 20 }
+{
+    if zeros_of(bytes) == 0 {
+        Some(lower_nibbles(bytes))
+    } else {
+        None
+    }
+}
+
+fn lowered_byte(byte: u8) -> u8 {
+    let low = if byte % 16 == 15 {
+        15
+    } else {
+        (byte % 16).saturating_sub(1)
+    };
+    let high = if byte / 16 == 15 {
+        15
+    } else {
+        (byte / 16).saturating_sub(1)
+    };
+    low + 16 * high
+}
+
+/// Only the bytes of the slice change.
+#[test]
+fn writes_of_every_length(rt: HostRuntime) {
+    let values = multiples(37, 64);
+    let others = multiples(23, 3);
+    let pairs = pairs();
+    for from in OFFSETS {
+        for length in 0..LONGEST + 1 {
+            let to = from + length;
+            let mut raised = values;
+            max_into(&mut raised[from..to], &others[from..to]);
+            let mut nibbles = pairs;
+            let count = lowered(&mut nibbles[from..to]);
+            assert_eq!(rt; count, Some(zeros_of(&nibbles[from..to]) as u32));
+            for place in 0..160 {
+                let inside = from <= place && place < to;
+                let most = values[place].max(others[place]);
+                assert_eq!(rt; raised[place], if inside { most } else { values[place] });
+                let less = lowered_byte(pairs[place]);
+                assert_eq!(rt; nibbles[place], if inside { less } else { pairs[place] });
+            }
+        }
+    }
+}
+
+/// Nibbles with what they become, and how many are 0 then.
+#[test]
+fn lowered_nibbles(rt: HostRuntime) {
+    for (mut bytes, after, zeros) in [
+        ([0x1fu8, 0x21], [0x0fu8, 0x10], 2u32),
+        ([0x11, 0x11], [0, 0], 4),
+        ([0xff, 0xff], [0xff, 0xff], 0),
+        ([0xe2, 0x2e], [0xd1, 0x1d], 0),
+    ] {
+        assert_eq!(rt; lowered(&mut bytes), Some(zeros));
+        assert_eq!(rt; bytes, after);
+    }
+    assert_eq!(rt; lowered(&mut []), Some(0));
+    assert_eq!(rt; lowered(&mut [0x10]), None);
 }

@@ -2,11 +2,15 @@
 //! "Measurements").
 #![tactic(auto)]
 
-ghost use Rattle.std.specs.Prelude.{◌≡◌, ◌≤◌};
+ghost use Rattle.std.specs.Prelude.{◌≡◌, ◌^◌, ◌≤◌, ◌==◌, length, map, All};
+ghost use Rattle.std.specs.List.{list_all};
 ghost use Rattle.hll_base.specs.Hash.{hash, default_seed};
+ghost use Rattle.hll_coupons.specs.Fold.{join};
+ghost use Rattle.hll_arrays.specs.Packed.{zeros, lowered_byte, zero_nibbles};
 
 mod registers;
 
+use hll_arrays::kernels::{all_zero, count_zeros, lower_nibbles, max_into, units};
 use hll_base::hash::MurmurHash3X64128;
 use std::alloc::Global;
 
@@ -117,4 +121,49 @@ pub extern "C" fn hll_bench_kxq_units_6(alloc: Global, lg_k: u8, full: bool, rou
     requires { (4 ≤ lg_k) × (lg_k ≤ 21) }
 {
     registers::kxq_units_6(alloc, lg_k, full, rounds).unwrap_or(REFUSED)
+}
+
+/// `max_into`.
+#[unsafe(no_mangle)]
+pub extern "C" fn hll_bench_max_into(dst: &mut [u8], src: &[u8])
+    requires { length dst.old ≡ length src.now }
+    ensures { dst.new ≡ join dst.old src.now }
+{
+    max_into(dst, src);
+}
+
+/// `count_zeros`.
+#[unsafe(no_mangle)]
+pub extern "C" fn hll_bench_count_zeros(bytes: &[u8]) -> usize
+    ensures { result ≡ zeros bytes.now }
+{
+    count_zeros(bytes)
+}
+
+/// `all_zero`.
+#[unsafe(no_mangle)]
+pub extern "C" fn hll_bench_all_zero(bytes: &[u8]) -> bool
+    ensures { result ≡ list_all (λ b. b == 0) bytes.now }
+{
+    all_zero(bytes)
+}
+
+/// Bits 60 to 91 of the answer of `units`.
+#[unsafe(no_mangle)]
+pub extern "C" fn hll_bench_units(bytes: &[u8]) -> u64
+    requires small { All (λ v. v ≤ 63) bytes.now }
+    requires few { length bytes.now ≤ 2 ^ 21 }
+{
+    (units(bytes) >> 60 & 0xffff_ffff) as u64
+}
+
+/// `lower_nibbles`.
+#[unsafe(no_mangle)]
+pub extern "C" fn hll_bench_lower_nibbles(bytes: &mut [u8]) -> u32
+    requires none { zero_nibbles bytes.old ≡ 0 }
+    requires few { length bytes.old ≤ 2 ^ 20 }
+    ensures lowered { bytes.new ≡ map lowered_byte bytes.old }
+    ensures zeros { result ≡ zero_nibbles bytes.new }
+{
+    lower_nibbles(bytes)
 }

@@ -33,7 +33,7 @@ pub returns : goal.returns
 returns c =
     let S = c.args.registers.now in
     let V = c.loop-place.groups in
-    let W = c.pack_each.new.groups in
+    let W = c.pack_one_by_one.new.groups in
     let p = c.loop-place.place in
     let rest = c.as_chunks.result.1.now in
     let n : p ≡ length c.as_chunks.result.0.now = omega (arith, c.loop-place-test.false, c.loop-place.auto.place-end) in
@@ -43,6 +43,6 @@ returns c =
     ap (λ b. put_mid (4 * b) (length V - 4 * b) V W) (sym n)
     ∙ put_end (4 * p) (length V - 4 * p) c.args.groups.now V W (groups_of (take (p * 16) S)) c.loop-place.invariant
     (sym (length-groups_of (4 * p) (take (p * 16) S) taken)) (omega (arith, e, c.requires.size, c.loop-place.auto.groups))
-    ∙ ap (λ Q. groups_of (take (p * 16) S) ++ Q) c.pack_each.ensures
+    ∙ ap (λ Q. groups_of (take (p * 16) S) ++ Q) c.pack_one_by_one.ensures
     ∙ sym (groups_of-append (4 * p) (take (p * 16) S) rest taken)
     ∙ ap groups_of (ap (λ Q. take (p * 16) S ++ Q) cut ∙ take-append-drop (p * 16) S)

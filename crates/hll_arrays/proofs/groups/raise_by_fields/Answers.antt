@@ -29,7 +29,7 @@ returns c =
     let R = c.args.values.now in
     let B = c.args.bytes.now in
     let V = c.loop-place.values in
-    let W = c.raise_by_each.new.values in
+    let W = c.raise_one_by_one.new.values in
     let p = c.loop-place.place in
     let rest = c.as_chunks.result.1.now in
     let n : p ≡ length c.as_chunks.result.0.now = omega (arith, c.loop-place-test.false, c.loop-place.auto.place-end) in
@@ -42,5 +42,5 @@ returns c =
     ap (λ b. put_mid (64 * b) (length V - 64 * b) V W) (sym n)
     ∙ raise_end (64 * p) (length V - 64 * p) R V W (fields (take (p * 48) B)) (fields rest) c.loop-place.invariant
     (omega (arith, length-fields (16 * p) (take (p * 48) B) taken)) (omega (arith, e, c.requires)) (omega (arith, length-fields g rest left, e, c.requires))
-    (c.raise_by_each.ensures ∙ ap (λ b. join (mid_of (64 * b) (length V - 64 * b) V) (fields rest)) (sym n))
+    (c.raise_one_by_one.ensures ∙ ap (λ b. join (mid_of (64 * b) (length V - 64 * b) V) (fields rest)) (sym n))
     ∙ ap (join R) (sym (fields-append (16 * p) (take (p * 48) B) rest taken) ∙ ap fields (ap (λ Q. take (p * 48) B ++ Q) cut ∙ take-append-drop (p * 48) B))

@@ -19,4 +19,4 @@ pub returns : goal.returns
 returns c =
     let p : c.loop-block.block-index ≡ length c.args.bytes.now / 64 = omega (arith, c.loop-block-test.false, c.loop-block.auto.block-index-end, c.as_chunks.ensures.front_len) in
     let t : list_all (λ b. b == 0) (take (length c.args.bytes.now / 64 * 64) c.args.bytes.now) ≡ true = ap (λ n. list_all (λ b. b == 0) (take (n * 64) c.args.bytes.now)) (sym p) ∙ c.loop-block.invariant in
-    c.zeros_alone.ensures ∙ ap (list_all (λ b. b == 0)) c.as_chunks.ensures.back ∙ all_zero-rest _ c.args.bytes.now t
+    c.all_zero_one_by_one.ensures ∙ ap (list_all (λ b. b == 0)) c.as_chunks.ensures.back ∙ all_zero-rest _ c.args.bytes.now t

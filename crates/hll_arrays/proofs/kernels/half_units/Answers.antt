@@ -1,5 +1,5 @@
 use Rattle.std.proofs.Common.{◌≡◌, ◌<◌, ◌+◌, ◌*◌, ◌/◌, zero, suc, length, take, drop, sym, ap, ◌∙◌, arith}
-use Rattle.hll_arrays.proofs.Weights.{class_more, class_small, half_by_classes, half_sum-rest, half_sum-le}
+use Rattle.hll_arrays.proofs.Weights.{class_more, class_small, half_by_classes, half_sum-rest, half_sum-le, class_same}
 use Rattle.hll_arrays.proofs.kernels.half_units.Goals as goal
 
 pub loop-block-preserved : goal.loop-block-preserved
@@ -15,6 +15,22 @@ loop-block-preserved c =
       second = class_more (4 * h + 1) i (length B / 16) B F _ c.loop-block.second c.class_lanes-second.result c.as_chunks.ensures.front inside c.requires.few c.class_lanes-second.ensures.lanes c.class_lanes-second.ensures.sum v.second;
       third = class_more (4 * h + 2) i (length B / 16) B F _ c.loop-block.third c.class_lanes-third.result c.as_chunks.ensures.front inside c.requires.few c.class_lanes-third.ensures.lanes c.class_lanes-third.ensures.sum v.third;
       fourth = class_more (4 * h + 3) i (length B / 16) B F _ c.loop-block.fourth c.class_lanes-fourth.result c.as_chunks.ensures.front inside c.requires.few c.class_lanes-fourth.ensures.lanes c.class_lanes-fourth.ensures.sum v.fourth;
+    }
+
+pub loop-block-preserved-then-members-eq0 : goal.loop-block-preserved-then-members-eq0
+loop-block-preserved-then-members-eq0 c =
+    let h = c.args.half in
+    let B = c.args.bytes.now in
+    let F = c.as_chunks.result.0.now in
+    let i = c.loop-block.block-index in
+    let v = c.loop-block.invariant in
+    let inside : i < length B / 16 = omega (arith, c.loop-block-test.true, c.as_chunks.ensures.front_len) in
+    let empty = sym c.members.ensures ∙ c.if-members-eq0.true in
+    record {
+      first = class_same h (4 * h) i (length B / 16) B F _ c.loop-block.first (omega arith) c.as_chunks.ensures.front inside empty v.first;
+      second = class_same h (4 * h + 1) i (length B / 16) B F _ c.loop-block.second (omega arith) c.as_chunks.ensures.front inside empty v.second;
+      third = class_same h (4 * h + 2) i (length B / 16) B F _ c.loop-block.third (omega arith) c.as_chunks.ensures.front inside empty v.third;
+      fourth = class_same h (4 * h + 3) i (length B / 16) B F _ c.loop-block.fourth (omega arith) c.as_chunks.ensures.front inside empty v.fourth;
     }
 
 pub lane_sum-requires : goal.lane_sum-requires

@@ -53,8 +53,8 @@ rest : (p q : ℕ) (R V : List ℕ) → p ≡ q → q ≡ length R / 32 → leng
 rest p q R V e f same done =
     rest_part (32 * q) (length V - 32 * q) R V (done ∙ ap (λ n. put_chunk 0 R (map lowered_byte (take (32 * n) R))) e) (omega arith) (omega arith)
 
-pub lower_each-requires-clause-none : goal.lower_each-requires-clause-none
-lower_each-requires-clause-none c =
+pub lower_one_by_one-requires-clause-none : goal.lower_one_by_one-requires-clause-none
+lower_one_by_one-requires-clause-none c =
     let R = c.args.bytes.now in
     let q = length R / 32 in
     ap zero_nibbles (rest c.loop-place.place q R c.loop-place.bytes (omega (arith, c.loop-place-test.false, c.loop-place.auto.place-end)) refl c.loop-place.auto.bytes c.loop-place.invariant.lowered)
@@ -68,9 +68,9 @@ returns-clause-lowered c =
     let q = length R / 32 in
     let e : p ≡ q = omega (arith, c.loop-place-test.false, c.loop-place.auto.place-end) in
     let done : V ≡ put_chunk 0 R (map lowered_byte (take (32 * q) R)) = c.loop-place.invariant.lowered ∙ ap (λ n. put_chunk 0 R (map lowered_byte (take (32 * n) R))) e in
-    put_end (32 * q) (length V - 32 * q) R V c.lower_each.new.bytes (map lowered_byte (take (32 * q) R)) done
+    put_end (32 * q) (length V - 32 * q) R V c.lower_one_by_one.new.bytes (map lowered_byte (take (32 * q) R)) done
     (omega (arith, length-map (take (32 * q) R) lowered_byte, length-take-le (32 * q) R (omega arith))) (omega (arith, c.loop-place.auto.bytes))
-    ∙ ap (λ W. map lowered_byte (take (32 * q) R) ++ W) (c.lower_each.ensures.lowered ∙ ap (map lowered_byte) (rest p q R V e refl c.loop-place.auto.bytes c.loop-place.invariant.lowered))
+    ∙ ap (λ W. map lowered_byte (take (32 * q) R) ++ W) (c.lower_one_by_one.ensures.lowered ∙ ap (map lowered_byte) (rest p q R V e refl c.loop-place.auto.bytes c.loop-place.invariant.lowered))
     ∙ sym (map_append lowered_byte (take (32 * q) R) (drop (32 * q) R)) ∙ ap (map lowered_byte) (take-append-drop (32 * q) R)
 
 pub returns-clause-zeros : goal.returns-clause-zeros
@@ -81,11 +81,11 @@ returns-clause-zeros c =
     let q = length R / 32 in
     let e : p ≡ q = omega (arith, c.loop-place-test.false, c.loop-place.auto.place-end) in
     let first : c.loop-place.zeros ≡ zero_nibbles (map lowered_byte (take (32 * q) R)) = c.loop-place.invariant.zeros ∙ ap (λ n. zero_nibbles (map lowered_byte (take (32 * n) R))) e in
-    let last : c.lower_each.result ≡ zero_nibbles (map lowered_byte (drop (32 * q) R)) =
-    c.lower_each.ensures.zeros ∙ ap zero_nibbles (c.lower_each.ensures.lowered ∙ ap (map lowered_byte) (rest p q R V e refl c.loop-place.auto.bytes c.loop-place.invariant.lowered)) in
+    let last : c.lower_one_by_one.result ≡ zero_nibbles (map lowered_byte (drop (32 * q) R)) =
+    c.lower_one_by_one.ensures.zeros ∙ ap zero_nibbles (c.lower_one_by_one.ensures.lowered ∙ ap (map lowered_byte) (rest p q R V e refl c.loop-place.auto.bytes c.loop-place.invariant.lowered)) in
     (λ i. first i + last i)
     ∙ sym (ap zero_nibbles (returns-clause-lowered c ∙ ap (map lowered_byte) (sym (take-append-drop (32 * q) R)) ∙ map_append lowered_byte (take (32 * q) R) (drop (32 * q) R))
     ∙ zero_nibbles-append (map lowered_byte (take (32 * q) R)) (map lowered_byte (drop (32 * q) R)))
 
 pub returns-clause-bound : goal.returns-clause-bound
-returns-clause-bound c = omega (arith, returns-clause-zeros c, zero_nibbles-le (put_mid (32 * (length c.args.bytes.now / 32)) (length c.loop-place.bytes - 32 * (length c.args.bytes.now / 32)) c.loop-place.bytes c.lower_each.new.bytes))
+returns-clause-bound c = omega (arith, returns-clause-zeros c, zero_nibbles-le (put_mid (32 * (length c.args.bytes.now / 32)) (length c.loop-place.bytes - 32 * (length c.args.bytes.now / 32)) c.loop-place.bytes c.lower_one_by_one.new.bytes))

@@ -32,10 +32,10 @@ returns-clause-joined c =
     let e : p ≡ length S / 64 = B ∙ c.as_chunks.ensures.front_len in
     let cut : rest ≡ drop (p * 64) S = c.as_chunks.ensures.back ∙ ap (λ n. drop (n * 64) S) (sym e) in
     let same : length V ≡ length R = c.loop-place.auto.dst in
-    ap (λ b. put_mid (64 * b) (length V - 64 * b) V c.raise_each.new.dst) (sym B)
-    ∙ raise_end (64 * p) (length V - 64 * p) R V c.raise_each.new.dst (take (p * 64) S) rest c.loop-place.invariant
+    ap (λ b. put_mid (64 * b) (length V - 64 * b) V c.raise_one_by_one.new.dst) (sym B)
+    ∙ raise_end (64 * p) (length V - 64 * p) R V c.raise_one_by_one.new.dst (take (p * 64) S) rest c.loop-place.invariant
     (omega (arith, length-take-le (p * 64) S (omega (arith, e)))) (omega (arith, e, c.requires)) (omega (arith, ap length cut, length-drop (p * 64) S, e, c.requires))
-    (c.raise_each.ensures ∙ ap (λ b. join (mid_of (64 * b) (length V - 64 * b) V) rest) (sym B))
+    (c.raise_one_by_one.ensures ∙ ap (λ b. join (mid_of (64 * b) (length V - 64 * b) V) rest) (sym B))
     ∙ ap (join R) (ap (λ Q. take (p * 64) S ++ Q) cut ∙ take-append-drop (p * 64) S)
 
 pub returns-clause-registers : goal.returns-clause-registers

@@ -29,7 +29,7 @@ returns c =
     let S = c.args.registers.now in
     let m = c.args.minimum in
     let V = c.loop-place.bytes in
-    let W = c.pack_each.new.bytes in
+    let W = c.pack_one_by_one.new.bytes in
     let p = c.loop-place.place in
     let rest = c.as_chunks.result.1.now in
     let n : p ≡ length c.as_chunks.result.0.now = omega (arith, c.loop-place-test.false, c.loop-place.auto.place-end) in
@@ -39,6 +39,6 @@ returns c =
     ap (λ b. put_mid (16 * b) (length V - 16 * b) V W) (sym n)
     ∙ put_end (16 * p) (length V - 16 * p) c.args.bytes.now V W (nibble_bytes_above m (take (p * 32) S)) c.loop-place.invariant
     (sym (length-nibble_bytes_above m (16 * p) (take (p * 32) S) taken)) (omega (arith, e, c.requires, c.loop-place.auto.bytes))
-    ∙ ap (λ Q. nibble_bytes_above m (take (p * 32) S) ++ Q) c.pack_each.ensures
+    ∙ ap (λ Q. nibble_bytes_above m (take (p * 32) S) ++ Q) c.pack_one_by_one.ensures
     ∙ sym (nibble_bytes_above-append m (16 * p) (take (p * 32) S) rest taken)
     ∙ ap (nibble_bytes_above m) (ap (λ Q. take (p * 32) S ++ Q) cut ∙ take-append-drop (p * 32) S)

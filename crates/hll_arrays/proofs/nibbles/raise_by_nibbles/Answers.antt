@@ -29,7 +29,7 @@ returns c =
     let B = c.args.bytes.now in
     let m = c.args.minimum in
     let V = c.loop-place.values in
-    let W = c.raise_by_each.new.values in
+    let W = c.raise_one_by_one.new.values in
     let p = c.loop-place.place in
     let rest = c.as_chunks.result.1.now in
     let n : p ≡ length c.as_chunks.result.0.now = omega (arith, c.loop-place-test.false, c.loop-place.auto.place-end) in
@@ -40,5 +40,5 @@ returns c =
     ∙ raise_end (32 * p) (length V - 32 * p) R V W (nibble_values m (take (p * 16) B)) (nibble_values m rest) c.loop-place.invariant
     (omega (arith, length-nibble_values m (take (p * 16) B), length-take-le (p * 16) B (omega (arith, e)))) (omega (arith, e, c.requires.size))
     (omega (arith, length-nibble_values m rest, ap length cut, length-drop (p * 16) B, e, c.requires.size))
-    (c.raise_by_each.ensures ∙ ap (λ b. join (mid_of (32 * b) (length V - 32 * b) V) (nibble_values m rest)) (sym n))
+    (c.raise_one_by_one.ensures ∙ ap (λ b. join (mid_of (32 * b) (length V - 32 * b) V) (nibble_values m rest)) (sym n))
     ∙ ap (join R) (sym (nibble_values-append m (take (p * 16) B) rest) ∙ ap (nibble_values m) (ap (λ Q. take (p * 16) B ++ Q) cut ∙ take-append-drop (p * 16) B))

@@ -1,6 +1,6 @@
 use Rattle.std.proofs.Common.{◌≡◌, ℕ, ◌<◌, ◌≤◌, length, get_or}
 use Rattle.std.specs.Prelude.{max}
-use Rattle.hll_arrays.proofs.kernels.raise_each.Given as goal
+use Rattle.hll_arrays.proofs.kernels.raise_one_by_one.Given as goal
 
 -- the bytes before the place are the greater of both, and the others are unchanged
 abbrev pub invariant-loop-place : goal.invariant-loop-place

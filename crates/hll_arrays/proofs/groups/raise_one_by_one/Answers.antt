@@ -6,7 +6,7 @@ use Rattle.hll_arrays.specs.Packed.{fields}
 use Rattle.hll_arrays.proofs.Blocks.{take_block}
 use Rattle.hll_arrays.proofs.Parts.{raise_none, raise_step, raise_all}
 use Rattle.hll_arrays.proofs.SixBitLanes.{length-fields, fields-append}
-use Rattle.hll_arrays.proofs.groups.raise_by_each.Goals as goal
+use Rattle.hll_arrays.proofs.groups.raise_one_by_one.Goals as goal
 
 pub loop-place-init : goal.loop-place-init
 loop-place-init c = sym (raise_none 0 c.args.values.now)

@@ -4,7 +4,7 @@ use Rattle.hll_coupons.specs.Fold.{join}
 use Rattle.hll_arrays.specs.Lanes.{raise_at, nibble_values}
 use Rattle.hll_arrays.proofs.FourBitLanes.{length-nibble_values, nibble_values-append}
 use Rattle.hll_arrays.proofs.Parts.{raise_none, raise_more, raise_step, raise_all}
-use Rattle.hll_arrays.proofs.nibbles.raise_by_each.Goals as goal
+use Rattle.hll_arrays.proofs.nibbles.raise_one_by_one.Goals as goal
 
 pub loop-place-init : goal.loop-place-init
 loop-place-init c = sym (raise_none 0 c.args.values.now)

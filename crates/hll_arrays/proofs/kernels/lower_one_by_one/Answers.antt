@@ -4,7 +4,7 @@ use Rattle.std.proofs.lemmas.List.{length-map, length-take, take_all}
 use Rattle.hll_arrays.specs.Packed.{lowered_byte, zero_nibbles}
 use Rattle.hll_arrays.proofs.Parts.{put_none, put_one, put_all}
 use Rattle.hll_arrays.proofs.Lowering.{nibbles_above_zero, next_above, lower_more, count_more, one_chunk, zero_nibbles-le}
-use Rattle.hll_arrays.proofs.kernels.lower_each.Goals as goal
+use Rattle.hll_arrays.proofs.kernels.lower_one_by_one.Goals as goal
 use mathlib.Core.List.{map}
 
 pub loop-place-init : goal.loop-place-init

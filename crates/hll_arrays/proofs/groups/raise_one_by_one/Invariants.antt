@@ -1,7 +1,7 @@
 use Rattle.std.proofs.Common.{◌≡◌, ◌*◌, take}
 use Rattle.hll_arrays.specs.Lanes.{raise_at}
 use Rattle.hll_arrays.specs.Packed.{fields}
-use Rattle.hll_arrays.proofs.groups.raise_by_each.Given as goal
+use Rattle.hll_arrays.proofs.groups.raise_one_by_one.Given as goal
 
 -- the values of the groups so far are raised
 abbrev pub invariant-loop-place : goal.invariant-loop-place

@@ -1,6 +1,6 @@
 use Rattle.std.proofs.Common.{◌≡◌, take}
 use Rattle.hll_arrays.specs.Lanes.{raise_at, nibble_values}
-use Rattle.hll_arrays.proofs.nibbles.raise_by_each.Given as goal
+use Rattle.hll_arrays.proofs.nibbles.raise_one_by_one.Given as goal
 
 -- the values of the bytes so far are raised
 abbrev pub invariant-loop-place : goal.invariant-loop-place

@@ -1,7 +1,7 @@
 use Rattle.std.proofs.Common.{◌≡◌, ◌*◌, take}
 use Rattle.std.specs.Simd.Lanes.{put_chunk}
 use Rattle.hll_arrays.specs.Packed.{nibble_bytes_above}
-use Rattle.hll_arrays.proofs.nibbles.pack_each.Given as goal
+use Rattle.hll_arrays.proofs.nibbles.pack_one_by_one.Given as goal
 
 -- the bytes of the registers so far are written
 abbrev pub invariant-loop-place : goal.invariant-loop-place

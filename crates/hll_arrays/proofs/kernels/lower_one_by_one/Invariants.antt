@@ -1,7 +1,7 @@
 use Rattle.std.proofs.Common.{◌≡◌, take}
 use Rattle.std.specs.Simd.Lanes.{put_chunk}
 use Rattle.hll_arrays.specs.Packed.{lowered_byte, zero_nibbles}
-use Rattle.hll_arrays.proofs.kernels.lower_each.Given as goal
+use Rattle.hll_arrays.proofs.kernels.lower_one_by_one.Given as goal
 use mathlib.Core.List.{map}
 
 -- the bytes so far are lowered, and their zero nibbles counted

@@ -6,7 +6,7 @@ use Rattle.hll_arrays.proofs.Blocks.{take_block, length-block, All-block}
 use Rattle.hll_arrays.proofs.Grouping.{four}
 use Rattle.hll_arrays.proofs.Parts.{put_none, put_one, put_step, put_all}
 use Rattle.hll_arrays.proofs.SixBitLanes.{length-groups_of, groups_of-append}
-use Rattle.hll_arrays.proofs.groups.pack_each.Goals as goal
+use Rattle.hll_arrays.proofs.groups.pack_one_by_one.Goals as goal
 
 pub loop-place-init : goal.loop-place-init
 loop-place-init c = sym (put_none 0 c.args.groups.now)

@@ -1,6 +1,6 @@
 use Rattle.std.proofs.Common.{arith}
 use Rattle.hll_coupons.proofs.ReferenceSteps.{is_join}
-use Rattle.hll_arrays.proofs.kernels.raise_each.Goals as goal
+use Rattle.hll_arrays.proofs.kernels.raise_one_by_one.Goals as goal
 
 pub returns : goal.returns
 returns c =

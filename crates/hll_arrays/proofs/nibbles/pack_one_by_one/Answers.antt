@@ -5,7 +5,7 @@ use Rattle.hll_arrays.specs.Packed.{nibble_bytes_above}
 use Rattle.hll_arrays.proofs.Blocks.{take_block}
 use Rattle.hll_arrays.proofs.FourBitLanes.{length-nibble_bytes_above, nibble_bytes_above-append}
 use Rattle.hll_arrays.proofs.Parts.{put_none, put_one, put_step, put_all}
-use Rattle.hll_arrays.proofs.nibbles.pack_each.Goals as goal
+use Rattle.hll_arrays.proofs.nibbles.pack_one_by_one.Goals as goal
 
 pub loop-place-init : goal.loop-place-init
 loop-place-init c = sym (put_none 0 c.args.bytes.now)
