@@ -7,6 +7,7 @@ pub mod FourBitLanes
 pub mod FourBits
 pub mod Grouping
 pub mod Lowering
+pub mod SingleNibbles
 pub mod Packing
 pub mod Parts
 pub mod Payloads

@@ -1,6 +1,6 @@
 -- Registers of four bits as they are kept: nibbles above a minimum, and a map of exceptions where there are any
 -- (docs/MODEL.md, "Registers of four bits").
-use Rattle.std.specs.Prelude.{◌≡◌, ℕ, ◌+◌, ◌*◌, ◌^◌, ◌<◌, ◌≤◌, ◌==◌, nat_le, if◌then◌else◌, List, length, map, slice_index, count_by, All, Option, Some, None}
+use Rattle.std.specs.Prelude.{◌≡◌, ℕ, ◌+◌, ◌-◌, ◌*◌, ◌^◌, ◌<◌, ◌≤◌, ◌==◌, nat_le, if◌then◌else◌, List, length, map, slice_index, count_by, All, Option, Some, None}
 use Rattle.std.specs.List.{range_with_len}
 use Rattle.std.specs.FinSet.{empty}
 use Rattle.hll_coupons.specs.AuxMap.{ExceptionMap, IsMap, value_in}
@@ -32,6 +32,10 @@ unpacked k m bytes e = map (λ s. register_of m (nibble_at bytes s) (exception_i
 abbrev pub IsMapFor : ℕ → Option ExceptionMap → Type 0
 IsMapFor k None = Unit {0}
 IsMapFor k (Some t) = IsMap t × (t.lg_k ≡ k) × (0 < length (coupons_in t.table.places))
+
+-- a nibble some steps lower, but 15
+abbrev pub lowered_by : ℕ → ℕ → ℕ
+lowered_by d n = if n == 15 then 15 else (n - d)
 
 -- the minimum is attained, and count, nibbles and exceptions are those of the registers above it
 pub record IsPacked (k m n : ℕ) (bytes : List ℕ) (e : Option ExceptionMap) (R : List ℕ) : Type 0 where

@@ -360,7 +360,7 @@ fn lowered(byte: u8) -> u8
 }
 
 /// How many nibbles of a byte are 0.
-fn zeros_of(byte: u8) -> u32
+pub(crate) fn zeros_of(byte: u8) -> u32
     ensures count { result ≡ zero_nibbles (byte ∷ []) }
     ensures bound { result ≤ 2 }
 {

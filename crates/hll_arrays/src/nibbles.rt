@@ -1,13 +1,70 @@
 //! Registers of four bits: how far each is above a minimum, two of them in a byte, where 15 marks a register that is kept
 //! elsewhere (docs/FORMAT.md, "Packed registers").
-ghost use Rattle.std.specs.Prelude.{◌≡◌, ℕ, ◌+◌, ◌*◌, ◌≤◌, [], ◌∷◌, ◌++◌, length, map};
+ghost use Rattle.std.specs.Prelude.{◌≡◌, ℕ, ◌+◌, ◌-◌, ◌*◌, ◌^◌, ◌<◌, ◌≤◌, ◌==◌, ◌⊎◌, if◌then◌else◌, [], ◌∷◌, ◌++◌, length, map, All};
 ghost use Rattle.std.specs.Simd.Lanes.{put_chunk, Each1};
 ghost use Rattle.hll_coupons.specs.Fold.{join};
 ghost use Rattle.hll_arrays.specs.Lanes.{raise_at, nibble_values, nibble_pairs};
-ghost use Rattle.hll_arrays.specs.Packed.{nibble, nibble_bytes_above};
+ghost use Rattle.hll_arrays.specs.Packed.{nibble, nibble_at, nibble_bytes_above, zero_nibbles};
+ghost use Rattle.hll_arrays.specs.FourBits.{lowered_by};
 
-use crate::kernels::{raise_16, raise_one};
+use crate::kernels::{lower_nibbles, raise_16, raise_one, zeros_of};
 use std::simd::prelude::*;
+
+// ---- single nibbles
+
+/// The nibble of a slot.
+pub(crate) fn nibble_of(bytes: &[u8], slot: usize) -> u8
+    requires { slot < 2 * length bytes.now }
+    ensures nibble { result ≡ nibble_at bytes.now slot }
+    ensures small { result < 16 }
+{
+    let byte = bytes[slot / 2];
+    if slot % 2 == 0 { byte % 16 } else { byte / 16 }
+}
+
+/// Sets the nibble of a slot. The others are unchanged.
+pub(crate) fn put_nibble(bytes: &mut [u8], slot: usize, nibble: u8)
+    requires within { slot < 2 * length bytes.old }
+    requires small { nibble < 16 }
+    ensures nibbles { (s : ℕ) → nibble_at bytes.new s ≡ (if s == slot then nibble else nibble_at bytes.old s) }
+    ensures len { length bytes.new ≡ length bytes.old }
+    ensures fits { All (λ b. b < 256) bytes.old → All (λ b. b < 256) bytes.new }
+{
+    let byte = bytes[slot / 2];
+    bytes[slot / 2] = if slot % 2 == 0 {
+        byte / 16 * 16 + nibble
+    } else {
+        byte % 16 + nibble * 16
+    };
+}
+
+/// How many nibbles are 0. One pass.
+pub(crate) fn count_zero_nibbles(bytes: &[u8]) -> u32
+    requires { length bytes.now ≤ 2 ^ 20 }
+    ensures { result ≡ zero_nibbles bytes.now }
+{
+    let mut count = 0;
+    for byte in bytes {
+        count += zeros_of(*byte);
+    }
+    count
+}
+
+/// Lowers each nibble below 15 by `steps`; 15 stays.
+///
+/// Each nibble is 15, or at least `steps`.
+pub(crate) fn lower_by(bytes: &mut [u8], steps: u8)
+    requires few { length bytes.old ≤ 2 ^ 20 }
+    requires fits { All (λ b. b < 256) bytes.old }
+    requires high { (s : ℕ) → s < 2 * length bytes.old → (nibble_at bytes.old s ≡ 15) ⊎ (steps ≤ nibble_at bytes.old s) }
+    ensures nibbles { (s : ℕ) → s < 2 * length bytes.old → nibble_at bytes.new s ≡ lowered_by steps (nibble_at bytes.old s) }
+    ensures len { length bytes.new ≡ length bytes.old }
+    ensures fits { All (λ b. b < 256) bytes.new }
+{
+    for _ in 0..steps {
+        lower_nibbles(bytes);
+    }
+}
 
 // ---- maxima
 
