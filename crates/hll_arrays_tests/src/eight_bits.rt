@@ -1,7 +1,7 @@
 //! Registers of eight bits: the calls that they alone have, at values worked out by hand.
 ghost use Rattle.std.specs.Prelude.{◌≡◌, ◌≤◌, IfOk};
 
-use crate::fixtures::READ;
+use crate::fixtures::{READ, new_in};
 use hll_arrays::merge::merge_from;
 use hll_arrays::{Array8, EstimateState};
 use hll_base::cursor::SketchSlice;
@@ -53,6 +53,21 @@ pub(crate) fn eight_in<A: Allocator>(alloc: A) -> Result<Array8<A>, Error>
     Ok(array)
 }
 
+/// New registers of each size, and the weights of the values 1 to 8 beside eight zeros.
+#[test]
+fn new_registers(rt: HostRuntime) -> Result<(), Fail> {
+    for lg_k in 4..22u8 {
+        let array: Array8 = new_in(&rt, rt.alloc(), lg_k)?;
+        assert!(rt; array.is_empty() && array.values().iter().all(|v| *v == 0));
+        assert_eq!(rt;
+            (array.values().len(), array.num_zeros(), array.kxq_units()),
+            (1usize << lg_k, 1u32 << lg_k, 1u128 << (63 + lg_k))
+        );
+    }
+    assert_eq!(rt; eight_in(rt.alloc())?.kxq_units(), 82974319534674018304);
+    Ok(())
+}
+
 /// Registers, others, the greater at each slot, and how many of these are 0.
 const JOINS: [([u8; 16], [u8; 16], [u8; 16], u32); 4] = [
     (
@@ -94,14 +109,46 @@ fn joins(rt: HostRuntime) -> Result<(), Fail> {
     for (values, others, greater, zeros) in JOINS {
         let mut array = set_in(rt.alloc(), values)?;
         let other = set_in(rt.alloc(), others)?;
-        assert_eq!(rt; array.values(), values.as_slice());
-        assert_eq!(rt; other.values(), others.as_slice());
+        assert_eq!(rt;
+            (array.values(), other.values()),
+            (values.as_slice(), others.as_slice())
+        );
         assert_eq!(rt; array.lg_k(), other.lg_k());
         array.merge_array_same_lgk(other.values());
-        assert_eq!(rt; array.values(), greater.as_slice());
-        assert_eq!(rt; array.num_zeros(), zeros);
-        assert_eq!(rt; array.estimate_state(), EstimateState::CLEARED);
+        assert_eq!(rt;
+            (array.values(), array.num_zeros(), array.estimate_state()),
+            (greater.as_slice(), zeros, EstimateState::CLEARED)
+        );
     }
+    Ok(())
+}
+
+/// Setting a register keeps the state and shows in the count of zeros; rebuilding clears the state and keeps the registers.
+#[test]
+fn set_registers(rt: HostRuntime) -> Result<(), Fail> {
+    let mut array = Array8::new(rt.alloc(), 4)?;
+    array.restore_estimate_state(READ);
+    for (slot, value, zeros) in [(3usize, 7u8, 15u32), (3, 63, 15), (15, 1, 14), (3, 0, 15)] {
+        assert!(rt; slot < array.num_registers() && value < 64);
+        array.set_register(slot, value);
+        assert_eq!(rt;
+            (
+                array.values()[slot],
+                array.num_zeros(),
+                array.estimate_state()
+            ),
+            (value, zeros, READ)
+        );
+    }
+    array.rebuild_estimator_from_registers();
+    assert_eq!(rt;
+        (
+            array.values().last(),
+            array.num_zeros(),
+            array.estimate_state()
+        ),
+        (Some(&1), 15, EstimateState::CLEARED)
+    );
     Ok(())
 }
 

@@ -1,7 +1,7 @@
 //! Registers of six bits: groups of four, at values worked out by hand.
 ghost use Rattle.std.specs.Prelude.{◌≡◌, ◌≤◌, IfOk};
 
-use crate::fixtures::{Images, first_of};
+use crate::fixtures::{Images, first_of, new_in};
 use hll_arrays::{Array6, RegisterStore, Registers};
 use hll_base::error::{Error, Reason};
 use hll_coupons::coupon::Coupon;
@@ -45,6 +45,23 @@ pub(crate) fn three_in<A: Allocator>(alloc: A) -> Result<Array6<A>, Error>
     array.update(Coupon::pack(2, 42));
     array.update(Coupon::pack(3, 51));
     Ok(array)
+}
+
+/// New registers of each size.
+#[test]
+fn new_registers(rt: HostRuntime) -> Result<(), Fail> {
+    for lg_k in 4..22u8 {
+        let array: Array6 = new_in(&rt, rt.alloc(), lg_k)?;
+        assert_eq!(rt;
+            (array.is_empty(), array.num_zeros(), array.kxq_units()),
+            (true, 1u32 << lg_k, 1u128 << (63 + lg_k))
+        );
+    }
+    assert_eq!(rt;
+        Array6::new(rt.alloc(), 4)?.kxq_units(),
+        147573952589676412928
+    );
+    Ok(())
 }
 
 /// One register at `lg_k` 4 beside others that are all the same, by updates.
