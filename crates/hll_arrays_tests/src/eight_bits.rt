@@ -1,13 +1,14 @@
 //! Registers of eight bits: the calls that they alone have, at values worked out by hand.
 ghost use Rattle.std.specs.Prelude.{◌≡◌, ◌≤◌, IfOk};
 
-use crate::fixtures::{READ, new_in};
+use crate::fixtures::{Images, READ, first_of, new_in};
+use crate::images::{largest_in, read_in, written_in};
 use hll_arrays::merge::merge_from;
-use hll_arrays::{Array8, EstimateState};
-use hll_base::cursor::SketchSlice;
+use hll_arrays::{Array8, EstimateState, RegisterStore};
 use hll_base::error::{Error, Reason};
 use hll_coupons::coupon::Coupon;
 use std::alloc::Allocator;
+use std::process::Abort;
 use std::test::Fail;
 
 /// Registers at `lg_k` 4 with the values 1 to 8 in the first slots.
@@ -106,18 +107,15 @@ fn set_in<A: Allocator>(alloc: A, values: [u8; 16]) -> Result<Array8<A>, Error>
 /// The state is cleared, also where no register changes.
 #[test]
 fn joins(rt: HostRuntime) -> Result<(), Fail> {
-    for (values, others, greater, zeros) in JOINS {
-        let mut array = set_in(rt.alloc(), values)?;
-        let other = set_in(rt.alloc(), others)?;
-        assert_eq!(rt;
-            (array.values(), other.values()),
-            (values.as_slice(), others.as_slice())
-        );
+    for (values, others, greater, zeros) in &JOINS {
+        let mut array = set_in(rt.alloc(), *values)?;
+        let other = set_in(rt.alloc(), *others)?;
+        assert_eq!(rt; (first_of(&array), first_of(&other)), (*values, *others));
         assert_eq!(rt; array.lg_k(), other.lg_k());
         array.merge_array_same_lgk(other.values());
         assert_eq!(rt;
-            (array.values(), array.num_zeros(), array.estimate_state()),
-            (greater.as_slice(), zeros, EstimateState::CLEARED)
+            (first_of(&array), array.num_zeros(), array.estimate_state()),
+            (*greater, *zeros, EstimateState::CLEARED)
         );
     }
     Ok(())
@@ -128,17 +126,15 @@ fn joins(rt: HostRuntime) -> Result<(), Fail> {
 fn set_registers(rt: HostRuntime) -> Result<(), Fail> {
     let mut array = Array8::new(rt.alloc(), 4)?;
     array.restore_estimate_state(READ);
-    for (slot, value, zeros) in [(3usize, 7u8, 15u32), (3, 63, 15), (15, 1, 14), (3, 0, 15)] {
-        assert!(rt; slot < array.num_registers() && value < 64);
-        array.set_register(slot, value);
-        assert_eq!(rt;
-            (
-                array.values()[slot],
-                array.num_zeros(),
-                array.estimate_state()
-            ),
-            (value, zeros, READ)
+    for (slot, value, zeros) in &[(3usize, 7u8, 15u32), (3, 63, 15), (15, 1, 14), (3, 0, 15)] {
+        assert!(rt; *slot < array.num_registers() && *value < 64);
+        array.set_register(*slot, *value);
+        let seen = (
+            array.values()[*slot],
+            array.num_zeros(),
+            array.estimate_state(),
         );
+        assert_eq!(rt; seen, (*value, *zeros, READ));
     }
     array.rebuild_estimator_from_registers();
     assert_eq!(rt;
@@ -171,30 +167,48 @@ const JOINED_IMAGE: [u8; 56] = [
     0, 14, 0, 0, 0, 0, 0, 0, 0, 25, 30, 0, 0, 0, 0, 0, 0, 0, 0, 0, 0, 0, 0, 0, 0,
 ];
 
-/// Two images of two sizes are joined at the smaller, in either order.
+/// Merges registers with a source of no smaller `lg_k`, and a state that was read.
+fn merge(rt: &impl Abort, joined: &mut Array8, source: &Array8) {
+    joined.restore_estimate_state(READ);
+    assert!(rt; joined.lg_k() <= source.lg_k());
+    merge_from(joined, source);
+}
+
+/// Two images of two sizes are joined at the smaller, in either order, and the state is cleared, also where no register
+/// changes.
 #[test]
 fn images_are_joined(rt: HostRuntime) -> Result<(), Fail> {
-    let small = Array8::deserialize_registers(
-        rt.alloc(),
-        SketchSlice::new(&IMAGE_AT_4[8..]),
-        4,
-        false,
-    )?;
-    let large = Array8::deserialize_registers(
-        rt.alloc(),
-        SketchSlice::new(&IMAGE_AT_5[8..]),
-        5,
-        false,
-    )?;
-    for first in [&small, &large] {
-        let mut joined = Array8::new(rt.alloc(), 4)?;
-        for source in [first, &small, &large] {
-            assert!(rt; joined.lg_k() <= source.lg_k());
-            merge_from(&mut joined, source);
-        }
-        let lg_k = joined.lg_k();
-        let image = joined.serialize(lg_k)?;
-        assert_eq!(rt; image.as_slice(), JOINED_IMAGE.as_slice());
-    }
+    let mut small: Array8 = Images::read(rt.alloc(), &IMAGE_AT_4, 4, false)?;
+    let large: Array8 = Images::read(rt.alloc(), &IMAGE_AT_5, 5, false)?;
+    let mut joined = Array8::new(rt.alloc(), 4)?;
+    merge(&rt, &mut joined, &small);
+    merge(&rt, &mut joined, &large);
+    assert_eq!(rt; joined.write_image()?.as_slice(), JOINED_IMAGE.as_slice());
+    let mut joined = Array8::new(rt.alloc(), 4)?;
+    merge(&rt, &mut joined, &large);
+    merge(&rt, &mut joined, &small);
+    merge(&rt, &mut joined, &large);
+    assert_eq!(rt; joined.write_image()?.as_slice(), JOINED_IMAGE.as_slice());
+    assert!(rt; small.lg_k() < large.lg_k());
+    small.merge_array_with_downsample(large.values(), large.lg_k());
+    assert_eq!(rt; small.write_image()?.as_slice(), JOINED_IMAGE.as_slice());
+    Ok(())
+}
+
+#[test]
+fn images(rt: HostRuntime) -> Result<(), Fail> {
+    let array = eight_in(rt.alloc())?;
+    assert_eq!(rt; first_of(&array), EIGHT);
+    read_in(&rt, rt.alloc(), &array, &IMAGE)?;
+    written_in(&rt, rt.alloc(), array, &IMAGE)
+}
+
+#[test]
+fn largest_registers(rt: HostRuntime) -> Result<(), Fail> {
+    let (array, image): (Array8, Vec<u8>) = largest_in(&rt, rt.alloc())?;
+    assert_eq!(rt;
+        (array.is_empty(), array.num_zeros(), image.len()),
+        (false, 2097151, 2097192)
+    );
     Ok(())
 }

@@ -14,7 +14,7 @@ use std::process::Abort;
 use std::test::Fail;
 
 /// The image of registers of `lg_k` 4 with the cleared state, written, and read with each flag.
-fn read_in<S: Images<Global>>(
+pub(crate) fn read_in<S: Images<Global>>(
     rt: &impl Abort,
     alloc: Global,
     store: &S,
@@ -40,7 +40,7 @@ fn read_in<S: Images<Global>>(
 }
 
 /// The image of these registers with a state that was read, written, and read back before other bytes.
-fn written_in<S: Images<Global>>(
+pub(crate) fn written_in<S: Images<Global>>(
     rt: &impl Abort,
     alloc: Global,
     mut store: S,
@@ -59,18 +59,6 @@ fn written_in<S: Images<Global>>(
     written.extend_from_slice(&[255, 255])?;
     assert!(rt; S::read(alloc, &written, 4, false)? == store);
     Ok(())
-}
-
-#[test]
-fn images(rt: HostRuntime) -> Result<(), Fail> {
-    let eight = eight_in(rt.alloc())?;
-    assert_eq!(rt; eight.values(), eight_bits::EIGHT.as_slice());
-    read_in(&rt, rt.alloc(), &eight, &eight_bits::IMAGE)?;
-    written_in(&rt, rt.alloc(), eight, &eight_bits::IMAGE)?;
-    let six = three_in(rt.alloc())?;
-    assert_eq!(rt; first_of(&six), six_bits::THREE);
-    read_in(&rt, rt.alloc(), &six, &six_bits::IMAGE)?;
-    written_in(&rt, rt.alloc(), six, &six_bits::IMAGE)
 }
 
 /// How many registers of an image of `lg_k` 4 are 0, or why it is refused.
@@ -108,7 +96,10 @@ fn changed_images(rt: HostRuntime) -> Result<(), Fail> {
 }
 
 /// The last register of the largest store, written through a slot above it, and its image read back.
-fn largest_in<S: Images<Global>>(rt: &impl Abort, alloc: Global) -> Result<(S, Vec<u8>), Fail> {
+pub(crate) fn largest_in<S: Images<Global>>(
+    rt: &impl Abort,
+    alloc: Global,
+) -> Result<(S, Vec<u8>), Fail> {
     let mut store = S::make(alloc, 21)?;
     store.put_coupon(Coupon::pack(67108863, 9))?;
     assert!(rt; store.num_registers() == 2097152);
@@ -117,24 +108,6 @@ fn largest_in<S: Images<Global>>(rt: &impl Abort, alloc: Global) -> Result<(S, V
     let image = store.write_image()?;
     assert!(rt; S::read(alloc, &image, 21, true)? == store);
     Ok((store, image))
-}
-
-#[test]
-fn largest_registers(rt: HostRuntime) -> Result<(), Fail> {
-    let (six, image): (Array6, Vec<u8>) = largest_in(&rt, rt.alloc())?;
-    assert_eq!(rt; (six.is_empty(), six.num_zeros()), (false, 2097151));
-    assert_eq!(rt;
-        (six.kxq_units(), six.estimated_size()),
-        ((2097151u128 << 63) + (1 << 54), 1572865)
-    );
-    assert_eq!(rt; image.len(), 1572905);
-    assert_eq!(rt; [image[1572903], image[1572904]], [9 << 2, 0]);
-    let (eight, image): (Array8, Vec<u8>) = largest_in(&rt, rt.alloc())?;
-    assert_eq!(rt;
-        (eight.is_empty(), eight.num_zeros(), image.len()),
-        (false, 2097151, 2097192)
-    );
-    Ok(())
 }
 
 /// A copy of registers of `lg_k` 4 is equal, and independent.
@@ -169,13 +142,13 @@ const STATES: [([u64; 3], bool, bool); 5] = [
 
 /// States that differ in a word or in the flag are not equal, on the same registers.
 fn compared_in<S: RegisterStore<Global>>(rt: &impl Abort, store: &S, mut other: S) {
-    for (words, out_of_order, same) in STATES {
+    for (words, out_of_order, same) in &STATES {
         let state = EstimateState {
-            words,
-            out_of_order,
+            words: *words,
+            out_of_order: *out_of_order,
         };
         other.restore(state);
-        assert_eq!(rt; (state, *store == other), (state, same));
+        assert_eq!(rt; (state, *store == other), (state, *same));
     }
 }
 

@@ -2,6 +2,7 @@
 ghost use Rattle.std.specs.Prelude.{◌≡◌, ◌≤◌, IfOk};
 
 use crate::fixtures::{Images, first_of, new_in};
+use crate::images::{largest_in, read_in, written_in};
 use hll_arrays::{Array6, RegisterStore, Registers};
 use hll_base::error::{Error, Reason};
 use hll_coupons::coupon::Coupon;
@@ -132,5 +133,26 @@ fn last_byte(rt: HostRuntime) -> Result<(), Fail> {
     let read: Array6 = Images::read(rt.alloc(), &image, 4, false)?;
     image[52] = 0;
     assert_eq!(rt; read.write_image()?.as_slice(), image.as_slice());
+    Ok(())
+}
+
+#[test]
+fn images(rt: HostRuntime) -> Result<(), Fail> {
+    let array = three_in(rt.alloc())?;
+    assert_eq!(rt; first_of(&array), THREE);
+    read_in(&rt, rt.alloc(), &array, &IMAGE)?;
+    written_in(&rt, rt.alloc(), array, &IMAGE)
+}
+
+#[test]
+fn largest_registers(rt: HostRuntime) -> Result<(), Fail> {
+    let (array, image): (Array6, Vec<u8>) = largest_in(&rt, rt.alloc())?;
+    assert_eq!(rt; (array.is_empty(), array.num_zeros()), (false, 2097151));
+    assert_eq!(rt;
+        (array.kxq_units(), array.estimated_size()),
+        ((2097151u128 << 63) + (1 << 54), 1572865)
+    );
+    assert_eq!(rt; image.len(), 1572905);
+    assert_eq!(rt; [image[1572903], image[1572904]], [9 << 2, 0]);
     Ok(())
 }

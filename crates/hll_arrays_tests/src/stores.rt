@@ -25,7 +25,7 @@ const UPDATED: [u8; 16] = [7, 1, 0, 9, 0, 0, 0, 0, 1, 0, 0, 0, 0, 0, 0, 63];
 fn updated<S: RegisterStore<Global>>(rt: &impl Abort, alloc: Global) -> Result<S, Fail> {
     let mut store = S::make(alloc, 4)?;
     let mut registers = [0u8; 16];
-    for (coupon, slot, value, changes) in [
+    for (coupon, slot, value, changes) in &[
         (Coupon::pack(3, 5), 3usize, 5u8, true),
         (Coupon::pack(3, 4), 3, 5, false),
         (Coupon::pack(3, 5), 3, 5, false),
@@ -43,10 +43,10 @@ fn updated<S: RegisterStore<Global>>(rt: &impl Abort, alloc: Global) -> Result<S
         (Coupon::pack(5, 0), 5, 0, false),
         (Coupon::pack(33554440, 1), 8, 1, true),
     ] {
-        registers[slot % 16] = value;
+        registers[*slot % 16] = *value;
         store.restore(READ);
-        store.put_coupon(coupon)?;
-        let state = if changes {
+        store.put_coupon(*coupon)?;
+        let state = if *changes {
             EstimateState::CLEARED
         } else {
             READ
@@ -63,22 +63,27 @@ fn updated<S: RegisterStore<Global>>(rt: &impl Abort, alloc: Global) -> Result<S
 
 #[test]
 fn updates(rt: HostRuntime) -> Result<(), Fail> {
+    let eight: Array8 = updated(&rt, rt.alloc())?;
+    let sixteen: Array16<_> = updated(&rt, rt.alloc())?;
+    assert_eq!(rt;
+        (eight.num_zeros(), eight.is_empty(), eight.estimated_size()),
+        (11, false, 16)
+    );
+    assert_eq!(rt;
+        eight.write_image()?.as_slice(),
+        sixteen.write_image()?.as_slice()
+    );
+    Ok(())
+}
+
+#[test]
+fn updates_of_six_bits(rt: HostRuntime) -> Result<(), Fail> {
     let six: Array6 = updated(&rt, rt.alloc())?;
     assert_eq!(rt;
         (six.num_zeros(), six.is_empty(), six.estimated_size()),
         (11, false, 13)
     );
     assert_eq!(rt; Array6::<Global>::WIDTH, HllType::Hll6);
-    let eight: Array8 = updated(&rt, rt.alloc())?;
-    assert_eq!(rt;
-        (eight.num_zeros(), eight.is_empty(), eight.estimated_size()),
-        (11, false, 16)
-    );
-    let sixteen: Array16<_> = updated(&rt, rt.alloc())?;
-    assert_eq!(rt;
-        eight.write_image()?.as_slice(),
-        sixteen.write_image()?.as_slice()
-    );
     Ok(())
 }
 
@@ -129,45 +134,6 @@ fn updates_are_folds(rt: HostRuntime) -> Result<(), Fail> {
     Ok(())
 }
 
-/// The registers 15, 25, 18, 30 at the slots 0, 16, 1, 17 of `lg_k` 5.
-fn spread_in<A: Allocator>(alloc: A) -> Result<Array8<A>, Error>
-    ensures { IfOk result (λ a. a.lg_k ≡ 5) }
-{
-    let mut array = Array8::new(alloc, 5)?;
-    array.update(Coupon::pack(0, 15));
-    array.update(Coupon::pack(16, 25));
-    array.update(Coupon::pack(1, 18));
-    array.update(Coupon::pack(17, 30));
-    Ok(array)
-}
-
-/// Registers of `lg_k` 5 are folded to the slots modulo 16, and the state is cleared, also where nothing changes.
-#[test]
-fn a_fold(rt: HostRuntime) -> Result<(), Fail> {
-    let spread = spread_in(rt.alloc())?;
-    let mut array = Array8::new(rt.alloc(), 4)?;
-    array.update(Coupon::pack(0, 10));
-    array.update(Coupon::pack(1, 20));
-    let expected = [25, 30, 0, 0, 0, 0, 0, 0, 0, 0, 0, 0, 0, 0, 0, 0];
-    for _ in 0..2 {
-        array.restore_estimate_state(READ);
-        assert!(rt; array.lg_k() <= spread.lg_k());
-        merge_from(&mut array, &spread);
-        assert_eq!(rt;
-            (first_of(&array), array.estimate_state()),
-            (expected, EstimateState::CLEARED)
-        );
-    }
-    array.restore_estimate_state(READ);
-    assert!(rt; array.lg_k() < spread.lg_k());
-    array.merge_array_with_downsample(spread.values(), spread.lg_k());
-    assert_eq!(rt;
-        (first_of(&array), array.estimate_state()),
-        (expected, EstimateState::CLEARED)
-    );
-    Ok(())
-}
-
 /// The registers of coupons merged with a source in this representation are this fold, and the state is cleared.
 fn merged_in<S: RegisterStore<Global>>(
     rt: &impl Abort,
@@ -214,7 +180,7 @@ fn downsampled_in(
 /// A merge from each size and each representation gives the fold of all coupons.
 #[test]
 fn folds(rt: HostRuntime) -> Result<(), Fail> {
-    for (lg_k, src_lg_k) in [
+    for (lg_k, src_lg_k) in &[
         (4u8, 4u8),
         (4, 5),
         (4, 8),
@@ -223,11 +189,11 @@ fn folds(rt: HostRuntime) -> Result<(), Fail> {
         (11, 12),
         (4, 21),
     ] {
-        let lg_k = lg_k.clamp(4, 21);
+        let lg_k = (*lg_k).clamp(4, 21);
         let coupons = coupons_in(rt.alloc(), 1000)?;
         let (left, right) = coupons.split_at(coupons.len() / 3);
         let fold = folded(rt.alloc(), &coupons, lg_k)?;
-        let source: Array8 = store_of(rt.alloc(), src_lg_k.clamp(4, 21), right)?;
+        let source: Array8 = store_of(rt.alloc(), (*src_lg_k).clamp(4, 21), right)?;
         merged_in::<Array8>(&rt, rt.alloc(), lg_k, left, &source, &fold)?;
         merged_in::<Array6>(&rt, rt.alloc(), lg_k, left, &source, &fold)?;
         merged_in::<Array16<_>>(&rt, rt.alloc(), lg_k, left, &source, &fold)?;
@@ -258,9 +224,9 @@ fn converted_in<S: RegisterStore<Global>>(
 
 #[test]
 fn conversions(rt: HostRuntime) -> Result<(), Fail> {
-    for lg_k in [4u8, 5, 10] {
+    for lg_k in &[4u8, 5, 10] {
         let coupons = coupons_in(rt.alloc(), 500)?;
-        let array: Array8 = store_of(rt.alloc(), lg_k.clamp(4, 21), &coupons)?;
+        let array: Array8 = store_of(rt.alloc(), (*lg_k).clamp(4, 21), &coupons)?;
         assert!(rt; converted_in::<Array8>(&rt, rt.alloc(), &array)? == array);
         let six: Array6 = converted_in(&rt, rt.alloc(), &array)?;
         assert_eq!(rt; six.kxq_units(), array.kxq_units());
