@@ -6,6 +6,7 @@ pub mod Grouping
 pub mod Packing
 pub mod Payloads
 pub mod Raising
+pub mod ReadBackLemmas
 pub mod ReadingRegisters
 pub mod States
 pub mod Tail
