@@ -222,20 +222,24 @@ fn converted_in<S: RegisterStore<Global>>(
     Ok(store)
 }
 
+/// As `converted_in`, to and from two bytes each. The image is the same.
+fn widened_in(rt: &impl Abort, alloc: Global, array: &Array8) -> Result<(), Fail> {
+    let sixteen: Array16<_> = converted_in(rt, alloc, array)?;
+    let again: Array16<_> = converted_in(rt, alloc, &sixteen.narrowed()?)?;
+    assert!(rt; again == sixteen);
+    assert!(rt; array.write_image()? == sixteen.write_image()?);
+    Ok(())
+}
+
 #[test]
 fn conversions(rt: HostRuntime) -> Result<(), Fail> {
-    for lg_k in &[4u8, 5, 10] {
+    for lg_k in 4..11u8 {
         let coupons = coupons_in(rt.alloc(), 500)?;
-        let array: Array8 = store_of(rt.alloc(), (*lg_k).clamp(4, 21), &coupons)?;
+        let array: Array8 = store_of(rt.alloc(), lg_k, &coupons)?;
         assert!(rt; converted_in::<Array8>(&rt, rt.alloc(), &array)? == array);
         let six: Array6 = converted_in(&rt, rt.alloc(), &array)?;
         assert_eq!(rt; six.kxq_units(), array.kxq_units());
-        let sixteen: Array16<_> = converted_in(&rt, rt.alloc(), &array)?;
-        assert!(rt; converted_in::<Array16<_>>(&rt, rt.alloc(), &sixteen.narrowed()?)? == sixteen);
-        assert_eq!(rt;
-            array.write_image()?.as_slice(),
-            sixteen.write_image()?.as_slice()
-        );
+        widened_in(&rt, rt.alloc(), &array)?;
     }
     Ok(())
 }
