@@ -111,7 +111,7 @@ pub(crate) fn largest_in<S: Images<Global>>(
 }
 
 /// A copy of registers of `lg_k` 4 is equal, and independent.
-fn copied_in<S: Images<Global>>(rt: &impl Abort, alloc: Global, mut store: S) -> Result<S, Fail> {
+fn copied_in<S: Images<Global>>(rt: &impl Abort, mut store: S) -> Result<S, Fail> {
     let registers = first_of(&store);
     store.restore(READ);
     let mut copy = store.copied()?;
@@ -127,7 +127,6 @@ fn copied_in<S: Images<Global>>(rt: &impl Abort, alloc: Global, mut store: S) ->
     );
     copy.restore(READ);
     assert!(rt; copy != store);
-    assert!(rt; S::make(alloc, 4)? != S::make(alloc, 5)?);
     Ok(store)
 }
 
@@ -140,8 +139,13 @@ const STATES: [([u64; 3], bool, bool); 5] = [
     ([1, 2, 3], true, false),
 ];
 
-/// States that differ in a word or in the flag are not equal, on the same registers.
-fn compared_in<S: RegisterStore<Global>>(rt: &impl Abort, store: &S, mut other: S) {
+/// States that differ in a word or in the flag are not equal, on the same registers; nor are sizes.
+fn compared_in<S: RegisterStore<Global>>(
+    rt: &impl Abort,
+    alloc: Global,
+    store: &S,
+    mut other: S,
+) -> Result<(), Fail> {
     for (words, out_of_order, same) in &STATES {
         let state = EstimateState {
             words: *words,
@@ -150,15 +154,16 @@ fn compared_in<S: RegisterStore<Global>>(rt: &impl Abort, store: &S, mut other: 
         other.restore(state);
         assert_eq!(rt; (state, *store == other), (state, *same));
     }
+    assert!(rt; S::make(alloc, 4)? != S::make(alloc, 5)?);
+    Ok(())
 }
 
 #[test]
 fn copies(rt: HostRuntime) -> Result<(), Fail> {
-    let eight = copied_in(&rt, rt.alloc(), eight_in(rt.alloc())?)?;
-    compared_in(&rt, &eight, eight_in(rt.alloc())?);
-    let six = copied_in(&rt, rt.alloc(), three_in(rt.alloc())?)?;
-    compared_in(&rt, &six, three_in(rt.alloc())?);
-    Ok(())
+    let eight = copied_in(&rt, eight_in(rt.alloc())?)?;
+    compared_in(&rt, rt.alloc(), &eight, eight_in(rt.alloc())?)?;
+    let six = copied_in(&rt, three_in(rt.alloc())?)?;
+    compared_in(&rt, rt.alloc(), &six, three_in(rt.alloc())?)
 }
 
 /// Why each call that allocates fails, beside registers that it leaves as they were.
@@ -185,8 +190,8 @@ fn refusals_in<S: Images<A>, A: Allocator + Clone>(
     Ok(refusals)
 }
 
-/// A failure names memory. Whether all calls fail, and whether none does.
-fn outcome_of(rt: &impl Abort, refusals: &[Option<Reason>; 5]) -> (bool, bool) {
+/// A failure names memory. Whether all calls failed in some heap, and whether none did.
+fn noted(rt: &impl Abort, seen: (bool, bool), refusals: &[Option<Reason>; 5]) -> (bool, bool) {
     assert!(rt;
         refusals
             .iter()
@@ -194,26 +199,22 @@ fn outcome_of(rt: &impl Abort, refusals: &[Option<Reason>; 5]) -> (bool, bool) {
             .all(|reason| *reason == Reason::Memory)
     );
     (
-        refusals.iter().all(|r| r.is_some()),
-        refusals.iter().all(|r| r.is_none()),
+        seen.0 || refusals.iter().all(|r| r.is_some()),
+        seen.1 || refusals.iter().all(|r| r.is_none()),
     )
 }
 
 /// In heaps of growing size, until all calls have room.
 #[test]
 fn refused_memory(rt: HostRuntime) -> Result<(), Fail> {
-    let (mut refused, mut complete) = ([false; 2], [false; 2]);
+    let (mut eight, mut six) = ((false, false), (false, false));
     for units in 1..20usize {
         let heap = LocalHeap::new(rt.alloc(), units * 16)?;
-        let eight = refusals_in::<Array8<_>, _>(&rt, &heap, &eight_bits::IMAGE)?;
-        let six = refusals_in::<Array6<_>, _>(&rt, &heap, &six_bits::IMAGE)?;
-        let (all, none) = outcome_of(&rt, &eight);
-        refused[0] = refused[0] || all;
-        complete[0] = complete[0] || none;
-        let (all, none) = outcome_of(&rt, &six);
-        refused[1] = refused[1] || all;
-        complete[1] = complete[1] || none;
+        let refusals = refusals_in::<Array8<_>, _>(&rt, &heap, &eight_bits::IMAGE)?;
+        eight = noted(&rt, eight, &refusals);
+        let refusals = refusals_in::<Array6<_>, _>(&rt, &heap, &six_bits::IMAGE)?;
+        six = noted(&rt, six, &refusals);
     }
-    assert_eq!(rt; (refused, complete), ([true; 2], [true; 2]));
+    assert_eq!(rt; (eight, six), ((true, true), (true, true)));
     Ok(())
 }
