@@ -1,5 +1,5 @@
 -- What is written for registers is read back.
-use Rattle.std.proofs.Common.{◌≡◌, ℕ, ◌+◌, ◌^◌, ◌≤◌, List, ◌++◌, length, take, drop, refl, sym, ap, subst, ◌∙◌, arith}
+use Rattle.std.proofs.Common.{◌≡◌, ℕ, ◌+◌, ◌^◌, List, ◌++◌, length, take, drop, refl, sym, ap, subst, ◌∙◌, arith}
 use Rattle.std.proofs.lemmas.List.{length-drop, drop-append-le, take_at}
 use Rattle.hll_arrays.specs.Packed.{zeros, fields, field_bytes}
 use Rattle.hll_arrays.specs.Payload.{number_bytes, IsHll8Payload, field_size, IsHll6Payload}
@@ -18,7 +18,7 @@ hll8_read_back x more s =
       subst (IsHll8Payload x.lg_k) (sym (take_at p more (32 + 2 ^ x.lg_k) payload.size)) payload,
       behind (2 ^ x.lg_k) p more payload.size ∙ registers_hll8 x.lg_k x.registers x.state s.low s.high s.registers s.state,
       sym (state_at-front x.state.out_of_order p more (p ++ more) refl (omega (arith, payload.size)))
-      ∙ state_hll8 x.lg_k x.registers x.state s.low s.high s.registers s.state x.state.out_of_order refl,
+          ∙ state_hll8 x.lg_k x.registers x.state s.low s.high s.registers s.state x.state.out_of_order refl,
     )
 
 pub hll6_read_back : Hll6ReadBack
@@ -28,5 +28,5 @@ hll6_read_back x more s =
       subst (IsHll6Payload x.lg_k) (sym (take_at p more (32 + field_size x.lg_k) payload.size)) payload,
       ap fields (behind (field_size x.lg_k) p more payload.size) ∙ registers_hll6 x.lg_k x.registers x.state s.low s.high s.registers s.state,
       sym (state_at-front x.state.out_of_order p more (p ++ more) refl (omega (arith, payload.size)))
-      ∙ state_hll6 x.lg_k x.registers x.state s.low s.high s.registers s.state x.state.out_of_order refl,
+          ∙ state_hll6 x.lg_k x.registers x.state s.low s.high s.registers s.state x.state.out_of_order refl,
     )
