@@ -12,6 +12,7 @@ pub mod Packing
 pub mod Parts
 pub mod Payloads
 pub mod Raising
+pub mod ReadBackLemmas
 pub mod ReadingRegisters
 pub mod SixBitLanes
 pub mod States

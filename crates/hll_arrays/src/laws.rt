@@ -1,6 +1,7 @@
 //! Laws of packed registers. Each is the contract of a function with an empty body (docs/MODEL.md, "Packed forms").
 ghost use Rattle.hll_arrays.specs.Packed.{NibblesReadBack, FieldsReadBack};
 ghost use Rattle.hll_arrays.specs.Payload.{ExceptionsReadBack};
+ghost use Rattle.hll_arrays.specs.ReadBack.{Hll8ReadBack, Hll6ReadBack};
 ghost use Rattle.hll_arrays.specs.Store.{PackedIsWritten};
 
 /// Each nibble is read back.
@@ -16,6 +17,16 @@ pub fn fields_read_back()
 /// Nibbles and exceptions give each register back, in whatever order the exceptions come.
 pub fn exceptions_read_back()
     ensures { ExceptionsReadBack }
+{}
+
+/// What is written for registers of eight bits is a payload behind its header, and gives registers and state back.
+pub fn hll8_read_back()
+    ensures { Hll8ReadBack }
+{}
+
+/// What is written for registers of six bits is a payload behind its header, and gives registers and state back.
+pub fn hll6_read_back()
+    ensures { Hll6ReadBack }
 {}
 
 /// What is written ends in the packed bytes and the exceptions in ascending raw words, functions of width and registers

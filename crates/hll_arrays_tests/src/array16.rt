@@ -19,7 +19,6 @@ fn two_to(lg_k: u8) -> usize
 }
 
 /// 2^`lg_k` registers, two bytes each.
-#[derive_where(Debug)]
 #[derive(Drop)]
 pub(crate) struct Array16<A: Allocator> {
     lg_k: u8,

@@ -1,13 +1,14 @@
 //! Registers of eight bits: the calls that they alone have, at values worked out by hand.
 ghost use Rattle.std.specs.Prelude.{◌≡◌, ◌≤◌, IfOk};
 
-use crate::fixtures::READ;
+use crate::fixtures::{Images, READ, first_of, new_in};
+use crate::images::{largest_in, read_in, written_in};
 use hll_arrays::merge::merge_from;
-use hll_arrays::{Array8, EstimateState};
-use hll_base::cursor::SketchSlice;
+use hll_arrays::{Array8, EstimateState, RegisterStore, Registers};
 use hll_base::error::{Error, Reason};
 use hll_coupons::coupon::Coupon;
 use std::alloc::Allocator;
+use std::process::Abort;
 use std::test::Fail;
 
 /// Registers at `lg_k` 4 with the values 1 to 8 in the first slots.
@@ -53,6 +54,21 @@ pub(crate) fn eight_in<A: Allocator>(alloc: A) -> Result<Array8<A>, Error>
     Ok(array)
 }
 
+/// New registers of each size, and the weights of the values 1 to 8 beside eight zeros.
+#[test]
+fn new_registers(rt: HostRuntime) -> Result<(), Fail> {
+    for lg_k in 4..22u8 {
+        let array: Array8 = new_in(&rt, rt.alloc(), lg_k)?;
+        assert!(rt; array.is_empty() && array.values().iter().all(|v| *v == 0));
+        assert_eq!(rt;
+            (array.values().len(), array.num_zeros(), array.kxq_units()),
+            (1usize << lg_k, 1u32 << lg_k, 1u128 << (63 + lg_k))
+        );
+    }
+    assert_eq!(rt; eight_in(rt.alloc())?.kxq_units(), 82974319534674018304);
+    Ok(())
+}
+
 /// Registers, others, the greater at each slot, and how many of these are 0.
 const JOINS: [([u8; 16], [u8; 16], [u8; 16], u32); 4] = [
     (
@@ -91,17 +107,44 @@ fn set_in<A: Allocator>(alloc: A, values: [u8; 16]) -> Result<Array8<A>, Error>
 /// The state is cleared, also where no register changes.
 #[test]
 fn joins(rt: HostRuntime) -> Result<(), Fail> {
-    for (values, others, greater, zeros) in JOINS {
-        let mut array = set_in(rt.alloc(), values)?;
-        let other = set_in(rt.alloc(), others)?;
-        assert_eq!(rt; array.values(), values.as_slice());
-        assert_eq!(rt; other.values(), others.as_slice());
+    for (values, others, greater, zeros) in &JOINS {
+        let mut array = set_in(rt.alloc(), *values)?;
+        let other = set_in(rt.alloc(), *others)?;
+        assert_eq!(rt; (first_of(&array), first_of(&other)), (*values, *others));
         assert_eq!(rt; array.lg_k(), other.lg_k());
         array.merge_array_same_lgk(other.values());
-        assert_eq!(rt; array.values(), greater.as_slice());
-        assert_eq!(rt; array.num_zeros(), zeros);
-        assert_eq!(rt; array.estimate_state(), EstimateState::CLEARED);
+        assert_eq!(rt;
+            (first_of(&array), array.num_zeros(), array.estimate_state()),
+            (*greater, *zeros, EstimateState::CLEARED)
+        );
     }
+    Ok(())
+}
+
+/// Setting a register keeps the state and shows in the count of zeros; rebuilding clears the state and keeps the registers.
+#[test]
+fn set_registers(rt: HostRuntime) -> Result<(), Fail> {
+    let mut array = Array8::new(rt.alloc(), 4)?;
+    array.restore_estimate_state(READ);
+    for (slot, value, zeros) in &[(3usize, 7u8, 15u32), (3, 63, 15), (15, 1, 14), (3, 0, 15)] {
+        assert!(rt; *slot < array.num_registers() && *value < 64);
+        array.set_register(*slot, *value);
+        let seen = (
+            array.values()[*slot],
+            array.num_zeros(),
+            array.estimate_state(),
+        );
+        assert_eq!(rt; seen, (*value, *zeros, READ));
+    }
+    array.rebuild_estimator_from_registers();
+    assert_eq!(rt;
+        (
+            array.values().last(),
+            array.num_zeros(),
+            array.estimate_state()
+        ),
+        (Some(&1), 15, EstimateState::CLEARED)
+    );
     Ok(())
 }
 
@@ -124,30 +167,52 @@ const JOINED_IMAGE: [u8; 56] = [
     0, 14, 0, 0, 0, 0, 0, 0, 0, 25, 30, 0, 0, 0, 0, 0, 0, 0, 0, 0, 0, 0, 0, 0, 0,
 ];
 
-/// Two images of two sizes are joined at the smaller, in either order.
+/// Merges a source of no smaller `lg_k` into registers whose state was read.
+fn merge<R: Registers>(rt: &impl Abort, joined: &mut Array8, source: &R) {
+    joined.restore_estimate_state(READ);
+    assert!(rt; joined.lg_k() <= source.lg_k());
+    merge_from(joined, source);
+}
+
+/// Two images of two sizes are joined at the smaller, in either order, and the state is cleared, also where no register
+/// changes.
 #[test]
 fn images_are_joined(rt: HostRuntime) -> Result<(), Fail> {
-    let small = Array8::deserialize_registers(
-        rt.alloc(),
-        SketchSlice::new(&IMAGE_AT_4[8..]),
-        4,
-        false,
-    )?;
-    let large = Array8::deserialize_registers(
-        rt.alloc(),
-        SketchSlice::new(&IMAGE_AT_5[8..]),
-        5,
-        false,
-    )?;
-    for first in [&small, &large] {
-        let mut joined = Array8::new(rt.alloc(), 4)?;
-        for source in [first, &small, &large] {
-            assert!(rt; joined.lg_k() <= source.lg_k());
-            merge_from(&mut joined, source);
-        }
-        let lg_k = joined.lg_k();
-        let image = joined.serialize(lg_k)?;
-        assert_eq!(rt; image.as_slice(), JOINED_IMAGE.as_slice());
+    let mut small: Array8 = Images::read(rt.alloc(), &IMAGE_AT_4, 4, false)?;
+    let large: Array8 = Images::read(rt.alloc(), &IMAGE_AT_5, 5, false)?;
+    let mut joined = Array8::new(rt.alloc(), 4)?;
+    merge(&rt, &mut joined, &small);
+    merge(&rt, &mut joined, &small);
+    merge(&rt, &mut joined, &large);
+    assert_eq!(rt; joined.write_image()?.as_slice(), JOINED_IMAGE.as_slice());
+    let mut joined = Array8::new(rt.alloc(), 4)?;
+    merge(&rt, &mut joined, &large);
+    merge(&rt, &mut joined, &small);
+    merge(&rt, &mut joined, &large);
+    assert_eq!(rt; joined.write_image()?.as_slice(), JOINED_IMAGE.as_slice());
+    for _ in 0..2 {
+        small.restore_estimate_state(READ);
+        assert!(rt; small.lg_k() < large.lg_k());
+        small.merge_array_with_downsample(large.values(), large.lg_k());
+        assert_eq!(rt; small.write_image()?.as_slice(), JOINED_IMAGE.as_slice());
     }
+    Ok(())
+}
+
+#[test]
+fn images(rt: HostRuntime) -> Result<(), Fail> {
+    let array = eight_in(rt.alloc())?;
+    assert_eq!(rt; first_of(&array), EIGHT);
+    read_in(&rt, rt.alloc(), &array, &IMAGE)?;
+    written_in(&rt, rt.alloc(), array, &IMAGE)
+}
+
+#[test]
+fn largest_registers(rt: HostRuntime) -> Result<(), Fail> {
+    let (array, image): (Array8, Vec<u8>) = largest_in(&rt, rt.alloc())?;
+    assert_eq!(rt;
+        (array.is_empty(), array.num_zeros(), image.len()),
+        (false, 2097151, 2097192)
+    );
     Ok(())
 }

@@ -5,7 +5,9 @@ use hll_arrays::{Array6, Array8, EstimateState, RegisterStore, Registers};
 use hll_base::cursor::SketchSlice;
 use hll_base::error::{Error, Reason};
 use hll_coupons::coupon::Coupon;
-use std::alloc::Allocator;
+use std::alloc::{Allocator, Global};
+use std::process::Abort;
+use std::test::Fail;
 
 /// A state that was read.
 pub(crate) const READ: EstimateState = EstimateState {
@@ -65,6 +67,27 @@ pub(crate) fn coupons_in<A: Allocator>(alloc: A, count: usize) -> Result<Vec<Cou
         coupons.push(coupon)?;
     }
     Ok(coupons)
+}
+
+/// New registers: zeros, with the cleared state.
+pub(crate) fn new_in<S: RegisterStore<Global>>(
+    rt: &impl Abort,
+    alloc: Global,
+    lg_k: u8,
+) -> Result<S, Fail>
+    requires least { 4 ≤ lg_k }
+    requires most { lg_k ≤ 21 }
+{
+    let store = S::make(alloc, lg_k)?;
+    assert_eq!(rt;
+        (store.lg_k(), store.num_registers()),
+        (lg_k, 1usize << lg_k)
+    );
+    assert_eq!(rt;
+        (first_of(&store), store.estimate_state()),
+        ([0; 16], EstimateState::CLEARED)
+    );
+    Ok(store)
 }
 
 /// The registers of coupons, by updates, with a state that was read.

@@ -13,10 +13,34 @@ use std::alloc::{Allocator, Global};
 use std::process::Abort;
 use std::test::Fail;
 
-/// The image of registers of `lg_k` 4 with the cleared state, written and read with each flag. Then, with a state that
-/// was read, written, and read back before other bytes: the flag is the one that is given, the words are those of the
-/// image.
-fn written_in<S: Images<Global>>(
+/// The image of registers of `lg_k` 4 with the cleared state, written, and read with each flag.
+pub(crate) fn read_in<S: Images<Global>>(
+    rt: &impl Abort,
+    alloc: Global,
+    store: &S,
+    image: &[u8],
+) -> Result<(), Fail> {
+    let written = store.write_image()?;
+    assert_eq!(rt;
+        (written.as_slice(), written.capacity()),
+        (image, image.len())
+    );
+    for out_of_order in [true, false] {
+        let read = S::read(alloc, image, 4, out_of_order)?;
+        let state = EstimateState {
+            words: [0; 3],
+            out_of_order,
+        };
+        assert_eq!(rt;
+            (first_of(&read), read.estimate_state()),
+            (first_of(store), state)
+        );
+    }
+    Ok(())
+}
+
+/// The image of these registers with a state that was read, written, and read back before other bytes.
+pub(crate) fn written_in<S: Images<Global>>(
     rt: &impl Abort,
     alloc: Global,
     mut store: S,
@@ -24,18 +48,6 @@ fn written_in<S: Images<Global>>(
 ) -> Result<(), Fail>
     requires { 40 ≤ length image.now }
 {
-    let written = store.write_image()?;
-    assert_eq!(rt; written.as_slice(), image);
-    assert_eq!(rt; written.capacity(), image.len());
-    for out_of_order in [true, false] {
-        let read = S::read(alloc, image, 4, out_of_order)?;
-        let state = EstimateState {
-            words: [0; 3],
-            out_of_order,
-        };
-        assert_eq!(rt; first_of(&read), first_of(&store));
-        assert_eq!(rt; read.estimate_state(), state);
-    }
     store.restore(READ);
     let mut expected = Vec::from_slice(alloc, image)?;
     expected[5] = 0;
@@ -47,16 +59,6 @@ fn written_in<S: Images<Global>>(
     written.extend_from_slice(&[255, 255])?;
     assert!(rt; S::read(alloc, &written, 4, false)? == store);
     Ok(())
-}
-
-#[test]
-fn images(rt: HostRuntime) -> Result<(), Fail> {
-    let eight = eight_in(rt.alloc())?;
-    assert_eq!(rt; eight.values(), eight_bits::EIGHT.as_slice());
-    written_in(&rt, rt.alloc(), eight, &eight_bits::IMAGE)?;
-    let six = three_in(rt.alloc())?;
-    assert_eq!(rt; first_of(&six), six_bits::THREE);
-    written_in(&rt, rt.alloc(), six, &six_bits::IMAGE)
 }
 
 /// How many registers of an image of `lg_k` 4 are 0, or why it is refused.
@@ -94,7 +96,10 @@ fn changed_images(rt: HostRuntime) -> Result<(), Fail> {
 }
 
 /// The last register of the largest store, written through a slot above it, and its image read back.
-fn largest_in<S: Images<Global>>(rt: &impl Abort, alloc: Global) -> Result<(S, Vec<u8>), Fail> {
+pub(crate) fn largest_in<S: Images<Global>>(
+    rt: &impl Abort,
+    alloc: Global,
+) -> Result<(S, Vec<u8>), Fail> {
     let mut store = S::make(alloc, 21)?;
     store.put_coupon(Coupon::pack(67108863, 9))?;
     assert!(rt; store.num_registers() == 2097152);
@@ -105,94 +110,88 @@ fn largest_in<S: Images<Global>>(rt: &impl Abort, alloc: Global) -> Result<(S, V
     Ok((store, image))
 }
 
-#[test]
-fn largest_registers(rt: HostRuntime) -> Result<(), Fail> {
-    let (eight, image): (Array8, Vec<u8>) = largest_in(&rt, rt.alloc())?;
-    assert!(rt; !eight.is_empty());
-    assert_eq!(rt; eight.num_zeros(), 2097151);
-    assert_eq!(rt; image.len(), 2097192);
-    let (six, image): (Array6, Vec<u8>) = largest_in(&rt, rt.alloc())?;
-    assert!(rt; !six.is_empty());
-    assert_eq!(rt; six.num_zeros(), 2097151);
-    assert_eq!(rt; six.kxq_units(), (2097151u128 << 63) + (1 << 54));
-    assert_eq!(rt; image.len(), 1572905);
-    assert_eq!(rt; [image[1572903], image[1572904]], [9 << 2, 0]);
-    Ok(())
-}
-
-/// A copy is equal, and independent. States that differ in a word or in the flag are not equal, on the same registers
-/// of `lg_k` 4.
-fn copied_in<S: Images<Global>>(
-    rt: &impl Abort,
-    alloc: Global,
-    mut store: S,
-    mut other: S,
-) -> Result<(), Fail> {
+/// A copy of registers of `lg_k` 4 is equal, and independent.
+fn copied_in<S: Images<Global>>(rt: &impl Abort, mut store: S) -> Result<S, Fail> {
     let registers = first_of(&store);
     store.restore(READ);
     let mut copy = store.copied()?;
     assert!(rt; copy == store);
-    assert_eq!(rt; copy.num_registers(), 16);
-    assert_eq!(rt; first_of(&copy), registers);
-    assert_eq!(rt; copy.estimate_state(), READ);
+    assert_eq!(rt;
+        (copy.num_registers(), first_of(&copy), copy.estimate_state()),
+        (16, registers, READ)
+    );
     copy.put_coupon(Coupon::pack(15, 1))?;
-    assert_eq!(rt; first_of(&store), registers);
-    assert_eq!(rt; store.estimate_state(), READ);
+    assert_eq!(rt;
+        (first_of(&store), store.estimate_state()),
+        (registers, READ)
+    );
     copy.restore(READ);
     assert!(rt; copy != store);
-    assert!(rt; S::make(alloc, 4)? != S::make(alloc, 5)?);
-    for (words, out_of_order, same) in [
-        ([1u64, 2, 3], false, true),
-        ([0, 2, 3], false, false),
-        ([1, 3, 3], false, false),
-        ([1, 2, 9223372036854775811], false, false),
-        ([1, 2, 3], true, false),
-    ] {
-        other.restore(EstimateState {
-            words,
-            out_of_order,
-        });
-        assert_eq!(rt; store == other, same, "{words:?} {out_of_order}");
+    Ok(store)
+}
+
+/// States, and whether they are `READ`.
+const STATES: [([u64; 3], bool, bool); 5] = [
+    ([1, 2, 3], false, true),
+    ([0, 2, 3], false, false),
+    ([1, 3, 3], false, false),
+    ([1, 2, 9223372036854775811], false, false),
+    ([1, 2, 3], true, false),
+];
+
+/// States that differ in a word or in the flag are not equal, on the same registers; nor are sizes.
+fn compared_in<S: RegisterStore<Global>>(
+    rt: &impl Abort,
+    alloc: Global,
+    store: &S,
+    mut other: S,
+) -> Result<(), Fail> {
+    for (words, out_of_order, same) in &STATES {
+        let state = EstimateState {
+            words: *words,
+            out_of_order: *out_of_order,
+        };
+        other.restore(state);
+        assert_eq!(rt; (state, *store == other), (state, *same));
     }
+    assert!(rt; S::make(alloc, 4)? != S::make(alloc, 5)?);
     Ok(())
 }
 
 #[test]
 fn copies(rt: HostRuntime) -> Result<(), Fail> {
-    copied_in(
-        &rt,
-        rt.alloc(),
-        eight_in(rt.alloc())?,
-        eight_in(rt.alloc())?,
-    )?;
-    copied_in(
-        &rt,
-        rt.alloc(),
-        three_in(rt.alloc())?,
-        three_in(rt.alloc())?,
-    )
+    let eight = copied_in(&rt, eight_in(rt.alloc())?)?;
+    compared_in(&rt, rt.alloc(), &eight, eight_in(rt.alloc())?)?;
+    let six = copied_in(&rt, three_in(rt.alloc())?)?;
+    compared_in(&rt, rt.alloc(), &six, three_in(rt.alloc())?)
 }
 
-/// Why each call that allocates fails.
+/// Why each call that allocates fails, beside registers that it leaves as they were.
 fn refusals_in<S: Images<A>, A: Allocator + Clone>(
-    store: &S,
+    rt: &impl Abort,
     alloc: A,
     image: &[u8],
 ) -> Result<[Option<Reason>; 5], Error> {
+    let store = S::from_values(alloc.clone()?, 4, &eight_bits::EIGHT)?;
     let read: Result<S, Error> = S::read(alloc.clone()?, image, 4, true);
     let values: Result<S, Error> = S::from_values(alloc.clone()?, 4, &eight_bits::EIGHT);
     let new: Result<S, Error> = S::make(alloc, 4);
-    Ok([
+    let refusals = [
         refusal_of(read),
         refusal_of(values),
         refusal_of(new),
         refusal_of(store.copied()),
         refusal_of(store.write_image()),
-    ])
+    ];
+    assert_eq!(rt;
+        (first_of(&store), store.estimate_state()),
+        (eight_bits::EIGHT, EstimateState::CLEARED)
+    );
+    Ok(refusals)
 }
 
-/// A failure names memory. Whether all calls fail, and whether none does.
-fn outcome_of(rt: &impl Abort, refusals: &[Option<Reason>; 5]) -> (bool, bool) {
+/// A failure names memory. Whether all calls failed in some heap, and whether none did.
+fn noted(rt: &impl Abort, seen: (bool, bool), refusals: &[Option<Reason>; 5]) -> (bool, bool) {
     assert!(rt;
         refusals
             .iter()
@@ -200,30 +199,22 @@ fn outcome_of(rt: &impl Abort, refusals: &[Option<Reason>; 5]) -> (bool, bool) {
             .all(|reason| *reason == Reason::Memory)
     );
     (
-        refusals.iter().all(|r| r.is_some()),
-        refusals.iter().all(|r| r.is_none()),
+        seen.0 || refusals.iter().all(|r| r.is_some()),
+        seen.1 || refusals.iter().all(|r| r.is_none()),
     )
 }
 
-/// In heaps of growing size: a failure names memory, and the registers are unchanged.
+/// In heaps of growing size, until all calls have room.
 #[test]
 fn refused_memory(rt: HostRuntime) -> Result<(), Fail> {
-    let (mut refused, mut complete) = ([false; 2], [false; 2]);
+    let (mut eight, mut six) = ((false, false), (false, false));
     for units in 1..20usize {
         let heap = LocalHeap::new(rt.alloc(), units * 16)?;
-        let eight = eight_in(&heap)?;
-        let (all, none) = outcome_of(&rt, &refusals_in(&eight, &heap, &eight_bits::IMAGE)?);
-        refused[0] = refused[0] || all;
-        complete[0] = complete[0] || none;
-        assert_eq!(rt; eight.values(), eight_bits::EIGHT.as_slice());
-        drop(eight);
-        let six = three_in(&heap)?;
-        let (all, none) = outcome_of(&rt, &refusals_in(&six, &heap, &six_bits::IMAGE)?);
-        refused[1] = refused[1] || all;
-        complete[1] = complete[1] || none;
-        assert_eq!(rt; first_of(&six), six_bits::THREE);
-        assert_eq!(rt; six.estimate_state(), EstimateState::CLEARED);
+        let refusals = refusals_in::<Array8<_>, _>(&rt, &heap, &eight_bits::IMAGE)?;
+        eight = noted(&rt, eight, &refusals);
+        let refusals = refusals_in::<Array6<_>, _>(&rt, &heap, &six_bits::IMAGE)?;
+        six = noted(&rt, six, &refusals);
     }
-    assert_eq!(rt; (refused, complete), ([true; 2], [true; 2]));
+    assert_eq!(rt; (eight, six), ((true, true), (true, true)));
     Ok(())
 }

@@ -1,7 +1,8 @@
 //! Registers of six bits: groups of four, at values worked out by hand.
 ghost use Rattle.std.specs.Prelude.{◌≡◌, ◌≤◌, IfOk};
 
-use crate::fixtures::{Images, first_of};
+use crate::fixtures::{Images, first_of, new_in};
+use crate::images::{largest_in, read_in, written_in};
 use hll_arrays::{Array6, RegisterStore, Registers};
 use hll_base::error::{Error, Reason};
 use hll_coupons::coupon::Coupon;
@@ -45,6 +46,23 @@ pub(crate) fn three_in<A: Allocator>(alloc: A) -> Result<Array6<A>, Error>
     array.update(Coupon::pack(2, 42));
     array.update(Coupon::pack(3, 51));
     Ok(array)
+}
+
+/// New registers of each size.
+#[test]
+fn new_registers(rt: HostRuntime) -> Result<(), Fail> {
+    for lg_k in 4..22u8 {
+        let array: Array6 = new_in(&rt, rt.alloc(), lg_k)?;
+        assert_eq!(rt;
+            (array.is_empty(), array.num_zeros(), array.kxq_units()),
+            (true, 1u32 << lg_k, 1u128 << (63 + lg_k))
+        );
+    }
+    assert_eq!(rt;
+        Array6::new(rt.alloc(), 4)?.kxq_units(),
+        147573952589676412928
+    );
+    Ok(())
 }
 
 /// One register at `lg_k` 4 beside others that are all the same, by updates.
@@ -115,5 +133,26 @@ fn last_byte(rt: HostRuntime) -> Result<(), Fail> {
     let read: Array6 = Images::read(rt.alloc(), &image, 4, false)?;
     image[52] = 0;
     assert_eq!(rt; read.write_image()?.as_slice(), image.as_slice());
+    Ok(())
+}
+
+#[test]
+fn images(rt: HostRuntime) -> Result<(), Fail> {
+    let array = three_in(rt.alloc())?;
+    assert_eq!(rt; first_of(&array), THREE);
+    read_in(&rt, rt.alloc(), &array, &IMAGE)?;
+    written_in(&rt, rt.alloc(), array, &IMAGE)
+}
+
+#[test]
+fn largest_registers(rt: HostRuntime) -> Result<(), Fail> {
+    let (array, image): (Array6, Vec<u8>) = largest_in(&rt, rt.alloc())?;
+    assert_eq!(rt; (array.is_empty(), array.num_zeros()), (false, 2097151));
+    assert_eq!(rt;
+        (array.kxq_units(), array.estimated_size()),
+        ((2097151u128 << 63) + (1 << 54), 1572865)
+    );
+    assert_eq!(rt; image.len(), 1572905);
+    assert_eq!(rt; [image[1572903], image[1572904]], [9 << 2, 0]);
     Ok(())
 }

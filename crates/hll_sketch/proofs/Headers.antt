@@ -1,11 +1,8 @@
 -- Lemmas on the header of an image.
-use Rattle.std.proofs.Common.{◌≡◌, ℕ, zero, suc, ◌/◌, ◌%◌, ◌<◌, ◌≤◌, true, false, List, length, Result, Ok, Err, refl, sym, ap, subst, ◌∙◌, arith}
-use Rattle.std.specs.Result.{IfErr, IsErrAnd}
+use Rattle.std.proofs.Common.{◌≡◌, ℕ, zero, suc, ◌/◌, ◌%◌, ◌<◌, ◌≤◌, true, false, List, length, refl, sym, ap, subst, ◌∙◌, arith}
 use Rattle.std.proofs.lemmas.Bool.{true≢false}
-use Rattle.hll_base.specs.declared.error.Reason.{Reason}
 use Rattle.hll_sketch.specs.Image.{byte, HasHeader}
 use Rattle.hll_sketch.specs.Header.{stage_of_bits, number_of_stage}
-use Rattle.hll_sketch.specs.Fault.{HeaderFault}
 
 -- a test that failed shows that what it tests does not hold
 pub failed_test : {P : Type 0} → (false ≡ true → P) × (P → false ≡ true) → P → ⊥

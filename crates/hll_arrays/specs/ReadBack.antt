@@ -1,0 +1,18 @@
+-- What is written for registers is read back (docs/MODEL.md, "Packed forms").
+use Rattle.std.specs.Prelude.{◌≡◌, ℕ, ◌+◌, ◌^◌, List, ◌++◌, take, drop}
+use Rattle.hll_arrays.specs.Packed.{fields}
+use Rattle.hll_arrays.specs.Payload.{state_at, IsHll8Payload, hll8_bytes, field_size, IsHll6Payload, hll6_bytes}
+use Rattle.hll_arrays.specs.Store.{Stored, IsStored}
+
+-- behind its header, what is written for legal registers of eight bits is a payload, and gives registers and state back,
+-- whatever follows
+abbrev pub Hll8ReadBack : Type 0
+Hll8ReadBack = (x : Stored) (more : List ℕ) → IsStored x →
+    let bytes = drop 8 (hll8_bytes x.lg_k x.registers x.state) ++ more in
+    IsHll8Payload x.lg_k (take (32 + 2 ^ x.lg_k) bytes) × (take (2 ^ x.lg_k) (drop 32 bytes) ≡ x.registers) × (state_at x.state.out_of_order bytes ≡ x.state)
+
+-- and of six bits
+abbrev pub Hll6ReadBack : Type 0
+Hll6ReadBack = (x : Stored) (more : List ℕ) → IsStored x →
+    let bytes = drop 8 (hll6_bytes x.lg_k x.registers x.state) ++ more in
+    IsHll6Payload x.lg_k (take (32 + field_size x.lg_k) bytes) × (fields (take (field_size x.lg_k) (drop 32 bytes)) ≡ x.registers) × (state_at x.state.out_of_order bytes ≡ x.state)
