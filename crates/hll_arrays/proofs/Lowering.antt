@@ -75,13 +75,6 @@ one_byte b h low high =
         let first : (b + (256 - l)) % 256 ≡ b - l = omega arith in
         ap (λ n. (n + (256 - u)) % 256) first ∙ omega arith
 
-pub lowered_by_steps : (b : ℕ) → 0 < b % 16 → 0 < b / 16 → b - (if b % 16 == 15 then 0 else 1) - (if b / 16 == 15 then 0 else 16) ≡ lowered_byte b
-lowered_by_steps b low high =
-    let a : lowered_nibble (b % 16) + (if b % 16 == 15 then 0 else 1) ≡ b % 16 = below_fifteen (b % 16 == 15) (b % 16) (λ t. eqb-true _ _ t) low in
-    let d : lowered_nibble (b / 16) + (if b / 16 == 15 then 0 else 1) ≡ b / 16 = below_fifteen (b / 16 == 15) (b / 16) (λ t. eqb-true _ _ t) high in
-    let e : 16 * (if b / 16 == 15 then 0 else 1) ≡ (if b / 16 == 15 then 0 else 16) = sixteen_times (b / 16 == 15) in
-    omega arith
-
 -- ---- lanes
 
 -- a step is made where the mask is not set

@@ -204,9 +204,6 @@ pub record ClassLanes (k n : ℕ) (bytes lanes : List ℕ) : Type 0 where
   pub four : length lanes ≡ 4
   pub sum : sum_l lanes ≡ class_sum k (take n bytes)
 
-pub class_none : (k : ℕ) (bytes : List ℕ) → ClassLanes k 0 bytes (replicate 4 0)
-class_none k bytes = record { four = refl; sum = refl }
-
 pub class_more : (k i n : ℕ) (bytes : List ℕ) (blocks : List (List ℕ)) (d lanes more : List ℕ) → blocks ≡ first_chunks 16 n bytes → i < n → length bytes ≤ 2 ^ 21 →
     length more ≡ 4 → sum_l more ≡ class_sum k (get_or blocks i d) → ClassLanes k (i * 16) bytes lanes → ClassLanes k ((i + 1) * 16) bytes (zip2 (λ a b. (a + b) % 4294967296) lanes more)
 class_more k i n bytes blocks d lanes more are inside few four here before =
