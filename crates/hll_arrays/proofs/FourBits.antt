@@ -10,13 +10,14 @@ use Rattle.std.proofs.lemmas.List.Elements.{All-tail}
 use Rattle.std.proofs.lemmas.List.Sums.{length-filter}
 use Rattle.std.proofs.lemmas.List.FromFn.{length-map-range_with_len, get_or-map-range_with_len}
 use Rattle.std.proofs.Math.Nat.{zero-add}
-use Rattle.hll_coupons.specs.AuxMap.{ExceptionMap, IsMap, value_in}
+use Rattle.hll_coupons.specs.AuxMap.{ExceptionMap, IsMap, empty_map, entry_at, start_size, value_in}
 use Rattle.hll_coupons.specs.Fold.{words_from}
 use Rattle.hll_coupons.specs.Pair.{pair, set_of, slot_of, value_of}
 use Rattle.hll_coupons.specs.Table.{coupons_in}
 use Rattle.hll_coupons.proofs.Listed.{has, contains-has}
 use Rattle.hll_coupons.proofs.MapChanges.{IsEntry, entry_of_value}
 use Rattle.hll_coupons.proofs.Maps.{slot_below, value_found}
+use Rattle.hll_coupons.proofs.Places.{coupons_in-replicate}
 use Rattle.hll_coupons.proofs.Registers.{StandsFor, in_words, words_have, slot_of-pair, value_of-pair}
 use Rattle.hll_arrays.specs.FourBits.{exception_of, exception_in, exceptions_in, unpacked, IsMapFor, IsPacked, PackedIsOfRegisters}
 use Rattle.hll_arrays.specs.Packed.{nibble, nibble_at, nibble_bytes_above, minimum, exceptions_above}
@@ -146,6 +147,10 @@ no_exceptions k m R small size at = same_set nat_cmp_total nat_cmp-IsAntisymmetr
         let value : value_of c ≡ r = ap value_of (found.1.is ∙ ap (λ n. pair n r) (zero-add i)) ∙ value_of-pair i r (slot_small k i small within) in
         let some : None ≡ Some r = at i within ∙ exception_of-high m r (omega (arith, leb-true (m + 15) (value_of c) parts.0, value)) in
         cc
+
+-- a new map has no value
+pub value_in-empty : (t : ExceptionMap) (k s : ℕ) → t ≡ empty_map k → value_in t s ≡ None
+value_in-empty t k s e = ap (λ u. value_in u s) e ∙ ap (λ xs. entry_at k xs s) (coupons_in-replicate (2 ^ start_size k))
 
 -- ---- the law
 

@@ -24,6 +24,16 @@ abbrev pub exceptions_in : Option ExceptionMap → Pairs
 exceptions_in None = empty
 exceptions_in (Some t) = coupons_of t.table
 
+-- the slot is one of the map's, where there is one
+abbrev pub IsSlotOf : Option ExceptionMap → ℕ → Type 0
+IsSlotOf None s = Unit {0}
+IsSlotOf (Some t) s = s < 2 ^ t.lg_k
+
+-- an exception that stays one above a minimum
+abbrev pub kept_above : ℕ → Option ℕ → Option ℕ
+kept_above m None = None
+kept_above m (Some v) = exception_of m v
+
 -- the registers of nibbles above a minimum, and exceptions
 abbrev pub unpacked : ℕ → ℕ → List ℕ → Option ExceptionMap → List ℕ
 unpacked k m bytes e = map (λ s. register_of m (nibble_at bytes s) (exception_in e s)) (range_with_len 0 (2 ^ k))

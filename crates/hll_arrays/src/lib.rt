@@ -7,6 +7,7 @@ pub mod array8;
 pub mod aux_format;
 pub mod convert;
 pub mod estimate_state;
+mod exception_map;
 mod groups;
 pub mod kernels;
 pub mod laws;
