@@ -1,25 +1,27 @@
 -- Registers of four bits: what is kept is the packed form of the registers.
-use Rattle.std.proofs.Common.{◌≡◌, ℕ, ◌+◌, ◌-◌, ◌*◌, ◌/◌, ◌%◌, ◌^◌, ◌<◌, ◌≤◌, zero, suc, Bool, true, false, eqb, leb, cond, List, [], ◌∷◌, All, Option, Some, None, length, map, get_or, refl, sym, ap, subst, ◌∙◌, arith, inl, inr}
-use Rattle.std.specs.Prelude.{min, fold, filter, count_by, nat_le}
+use Rattle.std.proofs.Common.{◌≡◌, ℕ, ◌+◌, ◌-◌, ◌*◌, ◌/◌, ◌%◌, ◌^◌, ◌<◌, ◌≤◌, zero, suc, Bool, true, false, eqb, leb, cond, List, [], ◌∷◌, ◌++◌, All, Option, Some, None, length, map, get_or, refl, sym, ap, subst, ◌∙◌, arith, inl, inr}
+use Rattle.std.specs.Prelude.{min, fold, filter, count_by, nat_le, OnErr, Result, Ok, Err}
 use Rattle.std.specs.List.{range_with_len}
 use Rattle.std.specs.Cmp.{nat_cmp_total, both_ways}
 use Rattle.std.specs.FinSet.{contains, same_set, nat_cmp-IsAntisymmetric}
 use Rattle.std.proofs.lemmas.Bool.{cases_Bool, cases_lt, cond-true, cond-false, eqb-true, eq-eqb, leb-true, le-leb, lt-leb, true≢false}
-use Rattle.std.proofs.lemmas.List.{ext_get_or}
-use Rattle.std.proofs.lemmas.List.Elements.{All-tail}
+use Rattle.std.proofs.lemmas.List.{ext_get_or, length-append}
+use Rattle.std.proofs.lemmas.List.Elements.{All-tail, All-append}
 use Rattle.std.proofs.lemmas.List.Sums.{length-filter}
 use Rattle.std.proofs.lemmas.List.FromFn.{length-map-range_with_len, get_or-map-range_with_len}
 use Rattle.std.proofs.Math.Nat.{zero-add}
-use Rattle.hll_coupons.specs.AuxMap.{ExceptionMap, IsMap, empty_map, entry_at, start_size, value_in}
+use Rattle.hll_coupons.specs.AuxMap.{ExceptionMap, IsMap, empty_map, entries_in, entry_at, start_size, value_in}
 use Rattle.hll_coupons.specs.Fold.{words_from}
 use Rattle.hll_coupons.specs.Pair.{pair, set_of, slot_of, value_of}
 use Rattle.hll_coupons.specs.Table.{coupons_in}
 use Rattle.hll_coupons.proofs.Listed.{has, contains-has}
 use Rattle.hll_coupons.proofs.MapChanges.{IsEntry, entry_of_value}
 use Rattle.hll_coupons.proofs.Maps.{slot_below, value_found}
+use Rattle.hll_coupons.proofs.Pairs.{IsEntryOf, of_value}
 use Rattle.hll_coupons.proofs.Places.{coupons_in-replicate}
+use Rattle.hll_coupons.proofs.Putting.{last_of_all}
 use Rattle.hll_coupons.proofs.Registers.{StandsFor, in_words, words_have, slot_of-pair, value_of-pair}
-use Rattle.hll_arrays.specs.FourBits.{exception_of, exception_in, exceptions_in, unpacked, IsMapFor, IsPacked, PackedIsOfRegisters}
+use Rattle.hll_arrays.specs.FourBits.{exception_of, exception_in, exceptions_in, kept_above, unpacked, IsMapFor, IsPacked, PackedIsOfRegisters}
 use Rattle.hll_arrays.specs.Packed.{nibble, nibble_at, nibble_bytes_above, minimum, exceptions_above}
 use Rattle.hll_arrays.specs.Payload.{register_of}
 use Rattle.hll_arrays.proofs.Exceptions.{kept, keeps, slot_small}
@@ -171,3 +173,89 @@ packed_is_of_registers k m n bytes e R small p =
     entries : (e : Option ExceptionMap) → IsMapFor k e → ((s : ℕ) → s < 2 ^ k → exception_in e s ≡ exception_of m (get_or R s 0)) → exceptions_in e ≡ set_of (exceptions_above m R)
     entries None u at = no_exceptions k m R small p.registers.size at
     entries (Some t) (is, same, more) at = entries_are k m R t small p.registers.size is same at
+
+-- ---- loops over the entries of a map
+
+pub All-one : {X : Type 0} (P : X → Type 0) (p : X) → P p → All P (p ∷ [])
+All-one P p h zero d l = h
+All-one P p h (suc i) d l = absurd (omega (arith, l))
+
+All-front : {X : Type 0} (P : X → Type 0) (ys zs : List X) → All P (ys ++ zs) → All P ys
+All-front {X = X} P ys zs h i d l = subst P (front ys i l) (h i d (omega (arith, l, length-append ys zs)))
+  where
+    front : (xs : List X) (j : ℕ) → j < length xs → get_or (xs ++ zs) j d ≡ get_or xs j d
+    front [] j k = absurd (omega (arith, k))
+    front (x ∷ xs) zero k = refl
+    front (x ∷ xs) (suc j) k = front xs j (omega (arith, k))
+
+-- the entries so far that are exceptions above a minimum are kept, and no others
+pub record KeptSoFar (t : ExceptionMap) (m : ℕ) (kept : Option ExceptionMap) (ys : List (ℕ × ℕ)) : Type 0 where
+  pub map : IsMapFor t.lg_k kept
+  pub some : All (λ p. m + 15 ≤ p.1 → exception_in kept p.0 ≡ Some p.1) ys
+  pub only : (s v : ℕ) → exception_in kept s ≡ Some v → (value_in t s ≡ Some v) × (m + 15 ≤ v)
+
+pub kept_none : (t : ExceptionMap) (m : ℕ) → KeptSoFar t m None []
+kept_none t m = record { map = tt; some = λ i d l. absurd (omega (arith, l)); only = λ s v e. cc }
+
+-- one that isn't kept
+pub kept_less : (t : ExceptionMap) (m : ℕ) (kept : Option ExceptionMap) (ys : List (ℕ × ℕ)) (s v : ℕ) → KeptSoFar t m kept ys → v < m + 15 → KeptSoFar t m kept (ys ++ (s, v) ∷ [])
+kept_less t m kept ys s v h low = record {
+  map = h.map;
+  some = All-append (λ p. m + 15 ≤ p.1 → exception_in kept p.0 ≡ Some p.1) ys ((s, v) ∷ []) h.some (All-one (λ p. m + 15 ≤ p.1 → exception_in kept p.0 ≡ Some p.1) (s, v) (λ high. absurd (omega (arith, low, high))));
+  only = h.only;
+}
+
+-- one that is
+pub kept_more : (t : ExceptionMap) (m : ℕ) (kept new : Option ExceptionMap) (ys zs : List (ℕ × ℕ)) (s v : ℕ) → KeptSoFar t m kept ys → All (IsEntryOf t) (ys ++ (s, v) ∷ zs) → m + 15 ≤ v → IsMapFor t.lg_k new →
+    ((q : ℕ) → exception_in new q ≡ cond (eqb q s) (Some v) (exception_in kept q)) → KeptSoFar t m new (ys ++ (s, v) ∷ [])
+kept_more t m kept new ys zs s v h all high is put = record {
+  map = is;
+  some = All-append (λ p. m + 15 ≤ p.1 → exception_in new p.0 ≡ Some p.1) ys ((s, v) ∷ [])
+      (λ i d l above. let p : ℕ × ℕ = get_or ys i d in
+      let entry : IsEntryOf t p = All-front (IsEntryOf t) ys ((s, v) ∷ zs) all i d l in
+      elim (cases_Bool (eqb p.0 s)) [
+        | inl same ↦
+            let both : Some p.1 ≡ Some v = sym entry.value ∙ ap (value_in t) (eqb-true p.0 s same) ∙ here.value in
+            put p.0 ∙ cond-true (eqb p.0 s) (Some v) (exception_in kept p.0) same ∙ sym both
+        | inr other ↦ put p.0 ∙ cond-false (eqb p.0 s) (Some v) (exception_in kept p.0) other ∙ h.some i d l above
+      ])
+      (All-one (λ p. m + 15 ≤ p.1 → exception_in new p.0 ≡ Some p.1) (s, v) (λ above. put s ∙ cond-true (eqb s s) (Some v) (exception_in kept s) (eq-eqb s s refl)));
+  only = λ q w e. elim (cases_Bool (eqb q s)) [
+    | inl same ↦
+        let both : Some v ≡ Some w = sym (cond-true (eqb q s) (Some v) (exception_in kept q) same) ∙ sym (put q) ∙ e in
+        let value : v ≡ w = cc in
+        (ap (value_in t) (eqb-true q s same) ∙ here.value ∙ ap (λ n. Some n) value, omega (arith, high, value))
+    | inr other ↦ h.only q w (sym (cond-false (eqb q s) (Some v) (exception_in kept q) other) ∙ sym (put q) ∙ e)
+  ];
+}
+  where
+    here : IsEntryOf t (s, v)
+    here = last_of_all (IsEntryOf t) (ys ++ (s, v) ∷ zs) ys zs (s, v) refl all
+
+-- when all were taken
+pub kept_whole : (t : ExceptionMap) (m : ℕ) (kept : Option ExceptionMap) → IsMap t → KeptSoFar t m kept (entries_in t) → (s : ℕ) → exception_in kept s ≡ kept_above m (value_in t s)
+kept_whole t m kept is h s = of (value_in t s) refl
+  where
+    of : (o : Option ℕ) → value_in t s ≡ o → exception_in kept s ≡ kept_above m o
+    of None e = none (exception_in kept s) refl
+      where
+        none : (x : Option ℕ) → exception_in kept s ≡ x → x ≡ None
+        none None f = refl
+        none (Some w) f = let both : None ≡ Some w = sym e ∙ (h.only s w f).0 in cc
+    of (Some v) e = elim (cases_lt v (m + 15)) [
+      | inr high ↦ of_value t is (λ p. m + 15 ≤ p.1 → exception_in kept p.0 ≡ Some p.1) h.some s v e high ∙ sym (exception_of-high m v high)
+      | inl low ↦ none low (exception_in kept s) refl ∙ sym (exception_of-low m v low)
+    ]
+      where
+        none : v < m + 15 → (x : Option ℕ) → exception_in kept s ≡ x → x ≡ None
+        none low None f = refl
+        none low (Some w) f =
+            let o = h.only s w f in
+            let both : Some v ≡ Some w = sym e ∙ o.0 in
+            let same : v ≡ w = cc in
+            absurd (omega (arith, low, same, o.1))
+
+-- what holds anyway holds on a refusal
+pub OnErr-of : {X Y : Type 0} (r : Result X Y) (P : Type 0) → P → OnErr r P
+OnErr-of (Ok x) P p = tt
+OnErr-of (Err e) P p = p

@@ -34,6 +34,11 @@ abbrev pub kept_above : ℕ → Option ℕ → Option ℕ
 kept_above m None = None
 kept_above m (Some v) = exception_of m v
 
+-- the nibble of a slot whose exception, if any, may be none above a minimum
+abbrev pub fallen : ℕ → Option ℕ → ℕ → ℕ
+fallen m None n = n
+fallen m (Some v) n = if nat_le (m + 15) v then n else (v - m)
+
 -- the registers of nibbles above a minimum, and exceptions
 abbrev pub unpacked : ℕ → ℕ → List ℕ → Option ExceptionMap → List ℕ
 unpacked k m bytes e = map (λ s. register_of m (nibble_at bytes s) (exception_in e s)) (range_with_len 0 (2 ^ k))

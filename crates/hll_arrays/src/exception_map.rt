@@ -1,8 +1,11 @@
 //! The exceptions of registers of four bits: a map, where there is one.
-ghost use Rattle.std.specs.Prelude.{◌≡◌, ◌≢◌, ◌+◌, ◌-◌, ◌*◌, ◌^◌, ◌<◌, ◌≤◌, ◌==◌, ◌↔◌, ℕ, if◌then◌else◌, length, All, None, Some, IsOk, IsTrue, IfOk, IfErr, IfSome, OnOk, OnErr};
+ghost use Rattle.std.specs.Prelude.{◌≡◌, ◌≢◌, ◌+◌, ◌-◌, ◌*◌, ◌^◌, ◌<◌, ◌≤◌, ◌==◌, ◌↔◌, ℕ, if◌then◌else◌, length, All, true, false, None, Some, IsOk, IsTrue, IfOk, IfErr, IfSome, OnOk, OnErr};
 ghost use Rattle.hll_base.specs.declared.error.Reason.TheVariants.{Memory};
-ghost use Rattle.hll_arrays.specs.FourBits.{exception_in, kept_above, IsMapFor, IsSlotOf};
+ghost use Rattle.hll_coupons.specs.AuxMap.{value_in, IsMap};
+ghost use Rattle.hll_arrays.specs.FourBits.{exception_in, fallen, kept_above, IsMapFor, IsSlotOf};
+ghost use Rattle.hll_arrays.specs.Packed.{nibble_at};
 
+use crate::nibbles::put_nibble;
 use hll_base::error::Error;
 use hll_coupons::aux_map::AuxMap;
 use std::alloc::Allocator;
@@ -91,5 +94,63 @@ fn set_value<A: Allocator + Clone>(map: &mut AuxMap<A>, slot: u32, value: u8) ->
             Ok(())
         }
         None => map.insert(slot, value),
+    }
+}
+
+/// Whether each exception is one above a minimum.
+pub(crate) fn stay_above<A: Allocator>(map: &AuxMap<A>, minimum: u8) -> bool
+    requires minimum { minimum ≤ 63 }
+    requires map { IsMap map.now }
+    ensures all { result ≡ true → (s v : ℕ) → value_in map.now s ≡ Some v → minimum + 15 ≤ v }
+    ensures some { result ≡ false → (s : ℕ) × (v : ℕ) × (value_in map.now s ≡ Some v) × (v < minimum + 15) }
+{
+    for (_, value) in map.iter() {
+        if value < minimum + MARK {
+            return false;
+        }
+    }
+    true
+}
+
+/// The exceptions that stay above a minimum, in a map of their own, by the allocator of the nibbles.
+///
+/// Fails with `Memory`, never if none stays.
+pub(crate) fn kept_exceptions<A: Allocator + Clone>(
+    map: &AuxMap<A>,
+    nibbles: &Vec<u8, A>,
+    minimum: u8,
+) -> Result<Option<AuxMap<A>>, Error>
+    requires minimum { minimum ≤ 63 }
+    requires map { IsMap map.now }
+    ensures map { IfOk result (λ kept. IsMapFor map.now.lg_k kept) }
+    ensures values { IfOk result (λ kept. (s : ℕ) → exception_in kept s ≡ kept_above minimum (value_in map.now s)) }
+    ensures err { IfErr result (λ e. e ≡ Memory) }
+    ensures needed { OnErr result ((s : ℕ) × (v : ℕ) × (value_in map.now s ≡ Some v) × (minimum + 15 ≤ v)) }
+{
+    let mut kept = None;
+    for (slot, value) in map.iter() {
+        if value >= minimum + MARK {
+            put_exception(&mut kept, nibbles, map.lg_config_k(), slot, value)?;
+        }
+    }
+    Ok(kept)
+}
+
+/// Sets the nibbles of the exceptions that are none above a minimum.
+///
+/// No exception is below the minimum, and there are two slots for each byte.
+pub(crate) fn put_fallen<A: Allocator>(bytes: &mut [u8], map: &AuxMap<A>, minimum: u8)
+    requires minimum { minimum ≤ 63 }
+    requires map { IsMap map.now }
+    requires size { 2 * length bytes.old ≡ 2 ^ map.now.lg_k }
+    requires above { (s v : ℕ) → value_in map.now s ≡ Some v → minimum ≤ v }
+    ensures nibbles { (s : ℕ) → nibble_at bytes.new s ≡ fallen minimum (value_in map.now s) (nibble_at bytes.old s) }
+    ensures len { length bytes.new ≡ length bytes.old }
+    ensures fits { All (λ b. b < 256) bytes.old → All (λ b. b < 256) bytes.new }
+{
+    for (slot, value) in map.iter() {
+        if value < minimum + MARK {
+            put_nibble(bytes, slot as usize, value - minimum);
+        }
     }
 }

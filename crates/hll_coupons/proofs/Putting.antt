@@ -137,10 +137,10 @@ absent_next f places ys c members new p within full same =
     true≢false (sym (has-map f ys w there) ∙ ap (λ q. has q (map f ys)) same ∙ sym (contains-has (map f ys) (f c)) ∙ new)
 
 -- what is said of all is said of the one between two parts
-pub last_of_all : (P : ℕ → Type 0) (all ys zs : List ℕ) (c : ℕ) → all ≡ ys ++ c ∷ zs → All P all → P c
-last_of_all P all ys zs c e h = subst P (seam ys) (subst (All P) e h (length ys) 0 (omega (arith, length-append ys (c ∷ zs))))
+pub last_of_all : {X : Type 0} (P : X → Type 0) (all ys zs : List X) (c : X) → all ≡ ys ++ c ∷ zs → All P all → P c
+last_of_all {X} P all ys zs c e h = subst P (seam ys) (subst (All P) e h (length ys) c (omega (arith, length-append ys (c ∷ zs))))
   where
-    seam : (xs : List ℕ) → get_or (xs ++ c ∷ zs) (length xs) 0 ≡ c
+    seam : (xs : List X) → get_or (xs ++ c ∷ zs) (length xs) c ≡ c
     seam [] = refl
     seam (x ∷ xs) = seam xs
 

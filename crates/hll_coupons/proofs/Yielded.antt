@@ -3,10 +3,10 @@ use Rattle.std.proofs.Common.{◌≡◌, ◌∙◌, ap, sym, ℕ, List, [], ◌�
 use Rattle.std.specs.Iterator.{Yields, YieldsFirst}
 
 -- what was given and what is left is what there was
-drained : (s xs t : List ℕ) → Yields (YieldsFirst (λ r. r)) s xs t → s ≡ xs ++ t
+drained : {X : Type 0} (s xs t : List X) → Yields (YieldsFirst (λ r. r)) s xs t → s ≡ xs ++ t
 drained s [] t y = y
 drained s (x ∷ xs) t y = y.1 ∙ ap (λ ys. x ∷ ys) (drained y.0 xs t y.2)
 
 -- of an iterator over a whole list, where the next step leaves these
-pub given : (all start left next xs : List ℕ) → start ≡ all → Yields (YieldsFirst (λ r. r)) start xs left → left ≡ next → all ≡ xs ++ next
+pub given : {X : Type 0} (all start left next xs : List X) → start ≡ all → Yields (YieldsFirst (λ r. r)) start xs left → left ≡ next → all ≡ xs ++ next
 given all start left next xs e y step = sym e ∙ drained start xs left y ∙ ap (λ t. xs ++ t) step

@@ -57,6 +57,14 @@ impl<A: Allocator> AuxMap<A> {
         })
     }
 
+    /// The `lg_k` of the slots, 4 to 21. Takes no memory.
+    pub fn lg_config_k(&self) -> u8
+        ensures lg_k { result ≡ self.now.lg_k }
+        ensures map { IsMap self.now }
+    {
+        self.lg_config_k
+    }
+
     /// How many entries there are. Takes no memory.
     pub fn len(&self) -> usize
         ensures count { result ≡ length (coupons_in self.now.table.places) }
