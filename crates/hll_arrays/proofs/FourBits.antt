@@ -1,5 +1,5 @@
 -- Registers of four bits: what is kept is the packed form of the registers.
-use Rattle.std.proofs.Common.{◌≡◌, ℕ, ◌+◌, ◌-◌, ◌*◌, ◌/◌, ◌%◌, ◌^◌, ◌<◌, ◌≤◌, zero, suc, Bool, true, false, eqb, leb, cond, List, [], ◌∷◌, ◌++◌, All, Option, Some, None, length, map, get_or, refl, sym, ap, subst, ◌∙◌, arith, inl, inr}
+use Rattle.std.proofs.Common.{◌≡◌, ℕ, ◌+◌, ◌-◌, ◌*◌, ◌/◌, ◌%◌, ◌^◌, ◌<◌, ◌≤◌, ◌⊎◌, zero, suc, Bool, true, false, eqb, leb, cond, List, [], ◌∷◌, ◌++◌, All, Option, Some, None, length, map, get_or, refl, sym, ap, subst, ◌∙◌, arith, inl, inr}
 use Rattle.std.specs.Prelude.{min, fold, filter, count_by, nat_le, OnErr, Result, Ok, Err}
 use Rattle.std.specs.List.{range_with_len}
 use Rattle.std.specs.Cmp.{nat_cmp_total, both_ways}
@@ -21,7 +21,7 @@ use Rattle.hll_coupons.proofs.Pairs.{IsEntryOf, of_value}
 use Rattle.hll_coupons.proofs.Places.{coupons_in-replicate}
 use Rattle.hll_coupons.proofs.Putting.{last_of_all}
 use Rattle.hll_coupons.proofs.Registers.{StandsFor, in_words, words_have, slot_of-pair, value_of-pair}
-use Rattle.hll_arrays.specs.FourBits.{exception_of, exception_in, exceptions_in, kept_above, unpacked, IsMapFor, IsPacked, PackedIsOfRegisters}
+use Rattle.hll_arrays.specs.FourBits.{exception_of, exception_in, exceptions_in, kept_above, fallen, unpacked, IsMapFor, IsPacked, PackedIsOfRegisters}
 use Rattle.hll_arrays.specs.Packed.{nibble, nibble_at, nibble_bytes_above, minimum, exceptions_above}
 use Rattle.hll_arrays.specs.Payload.{register_of}
 use Rattle.hll_arrays.proofs.Exceptions.{kept, keeps, slot_small}
@@ -259,3 +259,69 @@ kept_whole t m kept is h s = of (value_in t s) refl
 pub OnErr-of : {X Y : Type 0} (r : Result X Y) (P : Type 0) → P → OnErr r P
 OnErr-of (Ok x) P p = tt
 OnErr-of (Err e) P p = p
+
+-- ---- exceptions that fall to nibbles
+
+-- a nibble is as it was, or that of an exception that is none above the minimum
+abbrev pub IsOldOrFallen : ExceptionMap → ℕ → List ℕ → List ℕ → ℕ → Type 0
+IsOldOrFallen t m old new s = (nibble_at new s ≡ nibble_at old s) ⊎ ((v : ℕ) × (value_in t s ≡ Some v) × (v < m + 15) × (nibble_at new s ≡ v - m))
+
+-- those of the entries so far that fall have their nibbles
+pub record FallenSoFar (t : ExceptionMap) (m : ℕ) (old new : List ℕ) (ys : List (ℕ × ℕ)) : Type 0 where
+  pub done : All (λ p. p.1 < m + 15 → nibble_at new p.0 ≡ p.1 - m) ys
+  pub others : (s : ℕ) → IsOldOrFallen t m old new s
+
+pub fallen_none : (t : ExceptionMap) (m : ℕ) (old : List ℕ) → FallenSoFar t m old old []
+fallen_none t m old = record { done = λ i d l. absurd (omega (arith, l)); others = λ s. inl refl }
+
+-- one that stays
+pub fallen_less : (t : ExceptionMap) (m : ℕ) (old new : List ℕ) (ys : List (ℕ × ℕ)) (s v : ℕ) → FallenSoFar t m old new ys → m + 15 ≤ v → FallenSoFar t m old new (ys ++ (s, v) ∷ [])
+fallen_less t m old new ys s v h high = record {
+  done = All-append (λ p. p.1 < m + 15 → nibble_at new p.0 ≡ p.1 - m) ys ((s, v) ∷ []) h.done (All-one (λ p. p.1 < m + 15 → nibble_at new p.0 ≡ p.1 - m) (s, v) (λ low. absurd (omega (arith, low, high))));
+  others = h.others;
+}
+
+-- one that falls
+pub fallen_more : (t : ExceptionMap) (m : ℕ) (old now new : List ℕ) (ys zs : List (ℕ × ℕ)) (s v : ℕ) → FallenSoFar t m old now ys → All (IsEntryOf t) (ys ++ (s, v) ∷ zs) → v < m + 15 →
+    ((q : ℕ) → nibble_at new q ≡ cond (eqb q s) (v - m) (nibble_at now q)) → FallenSoFar t m old new (ys ++ (s, v) ∷ [])
+fallen_more t m old now new ys zs s v h all low put = record {
+  done = All-append (λ p. p.1 < m + 15 → nibble_at new p.0 ≡ p.1 - m) ys ((s, v) ∷ [])
+      (λ i d l below. let p : ℕ × ℕ = get_or ys i d in
+          let entry : IsEntryOf t p = All-front (IsEntryOf t) ys ((s, v) ∷ zs) all i d l in
+          elim (cases_Bool (eqb p.0 s)) [
+            | inl same ↦
+                let both : Some p.1 ≡ Some v = sym entry.value ∙ ap (value_in t) (eqb-true p.0 s same) ∙ here.value in
+                let value : p.1 ≡ v = cc in
+                put p.0 ∙ cond-true (eqb p.0 s) (v - m) (nibble_at now p.0) same ∙ ap (λ n. n - m) (sym value)
+            | inr other ↦ put p.0 ∙ cond-false (eqb p.0 s) (v - m) (nibble_at now p.0) other ∙ h.done i d l below
+          ])
+      (All-one (λ p. p.1 < m + 15 → nibble_at new p.0 ≡ p.1 - m) (s, v) (λ below. put s ∙ cond-true (eqb s s) (v - m) (nibble_at now s) (eq-eqb s s refl)));
+  others = λ q. elim (cases_Bool (eqb q s)) [
+    | inl same ↦ inr (v, ap (value_in t) (eqb-true q s same) ∙ here.value, low, put q ∙ cond-true (eqb q s) (v - m) (nibble_at now q) same)
+    | inr other ↦
+        let kept : nibble_at new q ≡ nibble_at now q = put q ∙ cond-false (eqb q s) (v - m) (nibble_at now q) other in
+        elim (h.others q) [ inl e ↦ inl (kept ∙ e) | inr f ↦ inr (f.0, f.1, f.2, kept ∙ f.3) ]
+  ];
+}
+  where
+    here : IsEntryOf t (s, v)
+    here = last_of_all (IsEntryOf t) (ys ++ (s, v) ∷ zs) ys zs (s, v) refl all
+
+-- when all were taken
+pub fallen_whole : (t : ExceptionMap) (m : ℕ) (old new : List ℕ) → IsMap t → FallenSoFar t m old new (entries_in t) → (s : ℕ) → nibble_at new s ≡ fallen m (value_in t s) (nibble_at old s)
+fallen_whole t m old new is h s = of (value_in t s) refl
+  where
+    of : (o : Option ℕ) → value_in t s ≡ o → nibble_at new s ≡ fallen m o (nibble_at old s)
+    of None e = elim (h.others s) [ inl k ↦ k | inr f ↦ let both : None ≡ Some f.0 = sym e ∙ f.1 in cc ]
+    of (Some v) e = elim (cases_lt v (m + 15)) [
+      | inl low ↦
+          of_value t is (λ p. p.1 < m + 15 → nibble_at new p.0 ≡ p.1 - m) h.done s v e low
+          ∙ sym (cond-false (leb (m + 15) v) (nibble_at old s) (v - m) (lt-leb (m + 15) v low))
+      | inr high ↦ elim (h.others s) [
+        | inl k ↦ k ∙ sym (cond-true (leb (m + 15) v) (nibble_at old s) (v - m) (le-leb (m + 15) v high))
+        | inr f ↦
+            let both : Some v ≡ Some f.0 = sym e ∙ f.1 in
+            let same : v ≡ f.0 = cc in
+            absurd (omega (arith, high, same, f.2))
+      ]
+    ]
