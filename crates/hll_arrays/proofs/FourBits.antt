@@ -1,15 +1,16 @@
 -- Registers of four bits: what is kept is the packed form of the registers.
-use Rattle.std.proofs.Common.{◌≡◌, ℕ, ◌+◌, ◌-◌, ◌*◌, ◌/◌, ◌%◌, ◌^◌, ◌<◌, ◌≤◌, ◌⊎◌, zero, suc, Bool, true, false, eqb, leb, cond, List, [], ◌∷◌, ◌++◌, All, Option, Some, None, length, map, get_or, refl, sym, ap, subst, ◌∙◌, arith, inl, inr}
+use Rattle.std.proofs.Common.{◌≡◌, ℕ, ◌+◌, ◌-◌, ◌*◌, ◌/◌, ◌%◌, ◌^◌, ◌<◌, ◌≤◌, ◌⊎◌, zero, suc, Bool, true, false, eqb, leb, cond, List, [], ◌∷◌, ◌++◌, All, Option, Some, None, length, replicate, take, map, get_or, refl, sym, ap, subst, ◌∙◌, arith, inl, inr}
 use Rattle.std.specs.Prelude.{min, fold, filter, count_by, nat_le, OnErr, Result, Ok, Err}
 use Rattle.std.specs.List.{range_with_len}
 use Rattle.std.specs.Cmp.{nat_cmp_total, both_ways}
 use Rattle.std.specs.FinSet.{contains, same_set, nat_cmp-IsAntisymmetric}
 use Rattle.std.proofs.lemmas.Bool.{cases_Bool, cases_lt, cond-true, cond-false, eqb-true, eq-eqb, leb-true, le-leb, lt-leb, true≢false}
-use Rattle.std.proofs.lemmas.List.{ext_get_or, length-append}
+use Rattle.std.proofs.lemmas.List.{ext_get_or, length-append, length-replicate, get_or-replicate, get_or_default}
 use Rattle.std.proofs.lemmas.List.Elements.{All-tail, All-append}
-use Rattle.std.proofs.lemmas.List.Sums.{length-filter}
+use Rattle.std.proofs.lemmas.List.Sums.{length-filter, sum_by-cons}
+use Rattle.std.proofs.lemmas.Nat.{pow_pos}
 use Rattle.std.proofs.lemmas.List.FromFn.{length-map-range_with_len, get_or-map-range_with_len}
-use Rattle.std.proofs.Math.Nat.{zero-add}
+use Rattle.std.proofs.Math.Nat.{zero-add, zero-div, pow-suc}
 use Rattle.hll_coupons.specs.AuxMap.{ExceptionMap, IsMap, empty_map, entries_in, entry_at, start_size, value_in}
 use Rattle.hll_coupons.specs.Fold.{words_from}
 use Rattle.hll_coupons.specs.Pair.{pair, set_of, slot_of, value_of}
@@ -287,14 +288,14 @@ pub fallen_more : (t : ExceptionMap) (m : ℕ) (old now new : List ℕ) (ys zs :
 fallen_more t m old now new ys zs s v h all low put = record {
   done = All-append (λ p. p.1 < m + 15 → nibble_at new p.0 ≡ p.1 - m) ys ((s, v) ∷ [])
       (λ i d l below. let p : ℕ × ℕ = get_or ys i d in
-          let entry : IsEntryOf t p = All-front (IsEntryOf t) ys ((s, v) ∷ zs) all i d l in
-          elim (cases_Bool (eqb p.0 s)) [
-            | inl same ↦
-                let both : Some p.1 ≡ Some v = sym entry.value ∙ ap (value_in t) (eqb-true p.0 s same) ∙ here.value in
-                let value : p.1 ≡ v = cc in
-                put p.0 ∙ cond-true (eqb p.0 s) (v - m) (nibble_at now p.0) same ∙ ap (λ n. n - m) (sym value)
-            | inr other ↦ put p.0 ∙ cond-false (eqb p.0 s) (v - m) (nibble_at now p.0) other ∙ h.done i d l below
-          ])
+      let entry : IsEntryOf t p = All-front (IsEntryOf t) ys ((s, v) ∷ zs) all i d l in
+      elim (cases_Bool (eqb p.0 s)) [
+        | inl same ↦
+            let both : Some p.1 ≡ Some v = sym entry.value ∙ ap (value_in t) (eqb-true p.0 s same) ∙ here.value in
+            let value : p.1 ≡ v = cc in
+            put p.0 ∙ cond-true (eqb p.0 s) (v - m) (nibble_at now p.0) same ∙ ap (λ n. n - m) (sym value)
+        | inr other ↦ put p.0 ∙ cond-false (eqb p.0 s) (v - m) (nibble_at now p.0) other ∙ h.done i d l below
+      ])
       (All-one (λ p. p.1 < m + 15 → nibble_at new p.0 ≡ p.1 - m) (s, v) (λ below. put s ∙ cond-true (eqb s s) (v - m) (nibble_at now s) (eq-eqb s s refl)));
   others = λ q. elim (cases_Bool (eqb q s)) [
     | inl same ↦ inr (v, ap (value_in t) (eqb-true q s same) ∙ here.value, low, put q ∙ cond-true (eqb q s) (v - m) (nibble_at now q) same)
@@ -325,3 +326,50 @@ fallen_whole t m old new is h s = of (value_in t s) refl
             absurd (omega (arith, high, same, f.2))
       ]
     ]
+
+-- ---- kept registers
+
+-- what is kept gives the registers
+pub unpacked_is : (k m n : ℕ) (bytes : List ℕ) (e : Option ExceptionMap) (R : List ℕ) → k ≤ 21 → IsPacked k m n bytes e R → unpacked k m bytes e ≡ R
+unpacked_is k m n bytes e R small p = (packed_is_of_registers k m n bytes e R small p).unpacked_is
+
+pub packed_here : (k m n : ℕ) (bytes : List ℕ) (e : Option ExceptionMap) (R : List ℕ) → k ≤ 21 → IsPacked k m n bytes e R → IsPacked k m n bytes e (unpacked k m bytes e)
+packed_here k m n bytes e R small p = subst (IsPacked k m n bytes e) (sym (unpacked_is k m n bytes e R small p)) p
+
+replicated : (n v s : ℕ) → s < n → get_or (replicate n v) s 0 ≡ v
+replicated n v s l = get_or-replicate n s v 0 l
+
+count_all : (n : ℕ) → count_by (λ r. eqb r 0) (replicate n 0) ≡ n
+count_all zero = refl
+count_all (suc n) = sum_by-cons (λ r. cond (eqb r 0) 1 0) 0 (replicate n 0) ∙ omega (arith, count_all n)
+
+-- zeros
+pub packed_zeros : (k : ℕ) → 4 ≤ k → IsPacked k 0 (2 ^ k) (replicate (2 ^ (k - 1)) 0) None (replicate (2 ^ k) 0)
+packed_zeros k low =
+    let twice : 2 * 2 ^ (k - 1) ≡ 2 ^ k = sym (ap (λ n. 2 ^ n) (let e : k ≡ suc (k - 1) = omega arith in e) ∙ omega (arith, pow-suc 2 (k - 1))) in
+    let long : length (replicate (2 ^ (k - 1)) 0) ≡ 2 ^ (k - 1) = length-replicate {A = ℕ} (2 ^ (k - 1)) 0 in
+    record {
+      registers = record {
+        size = length-replicate {A = ℕ} (2 ^ k) 0;
+        small = λ i d l. omega (arith, get_or_default (replicate (2 ^ k) 0) i d 0 l, replicated (2 ^ k) 0 i (omega (arith, l, length-replicate {A = ℕ} (2 ^ k) 0)));
+      };
+      least = λ s l. omega arith;
+      count = sym (count_all (2 ^ k));
+      some = pow_pos k;
+      size = omega (arith, twice, long);
+      fits = λ i d l. omega (arith, get_or_default (replicate (2 ^ (k - 1)) 0) i d 0 l, replicated (2 ^ (k - 1)) 0 i (omega (arith, l, long)));
+      nibbles = λ s l.
+          let half : s / 2 < 2 ^ (k - 1) = omega (arith, l, twice) in
+          ap (λ b. b / 16 ^ (s % 2) % 16) (replicated (2 ^ (k - 1)) 0 (s / 2) half) ∙ none (16 ^ (s % 2)) ∙ sym (ap (nibble 0) (replicated (2 ^ k) 0 s l));
+      map_for = tt;
+      excepted = λ s l. sym (ap (exception_of 0) (replicated (2 ^ k) 0 s l));
+    }
+  where
+    none : (n : ℕ) → 0 / n % 16 ≡ 0
+    none n = ap (λ m. m % 16) (zero-div n)
+
+-- the least of one more
+pub fold_more : (a i : ℕ) (xs : List ℕ) → i < length xs → fold min a (take (i + 1) xs) ≡ min (fold min a (take i xs)) (get_or xs i 0)
+fold_more a i [] h = absurd (omega arith)
+fold_more a zero (x ∷ xs) h = refl
+fold_more a (suc i) (x ∷ xs) h = ap (λ n. fold min a (take n (x ∷ xs))) (let e : suc i + 1 ≡ suc (i + 1) = omega arith in e) ∙ fold_more (min a x) i xs (omega (arith, h))

@@ -8,7 +8,7 @@ use Rattle.hll_coupons.specs.Pair.{Pairs, set_of}
 use Rattle.hll_coupons.specs.Table.{coupons_in, coupons_of}
 use Rattle.hll_arrays.specs.Packed.{nibble, nibble_at, nibble_bytes, minimum, count_at_minimum, exceptions}
 use Rattle.hll_arrays.specs.Payload.{register_of}
-use Rattle.hll_arrays.specs.Store.{AreRegisters}
+use Rattle.hll_arrays.specs.Store.{AreRegisters, Stored}
 
 -- the exception of a register above a minimum: itself, where it is at least 15 above
 abbrev pub exception_of : ℕ → ℕ → Option ℕ
@@ -63,6 +63,11 @@ pub record IsPacked (k m n : ℕ) (bytes : List ℕ) (e : Option ExceptionMap) (
   pub nibbles : (s : ℕ) → s < 2 ^ k → nibble_at bytes s ≡ nibble m (slice_index R s)
   pub map_for : IsMapFor k e
   pub excepted : (s : ℕ) → s < 2 ^ k → exception_in e s ≡ exception_of m (slice_index R s)
+
+-- what contracts see of registers of four bits: the registers, and the map with its places
+pub record FourBits : Type 0 where
+  pub stored : Stored
+  pub exceptions : Option ExceptionMap
 
 -- ---- laws
 

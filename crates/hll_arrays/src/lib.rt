@@ -2,6 +2,7 @@
 //! (docs/ARCHITECTURE.md, "Registers").
 #![tactic(auto)]
 
+mod array4;
 pub mod array6;
 pub mod array8;
 pub mod aux_format;
