@@ -1,11 +1,11 @@
 //! The exceptions of registers of four bits: a map, where there is one.
-ghost use Rattle.std.specs.Prelude.{◌≡◌, ◌≢◌, ◌+◌, ◌-◌, ◌*◌, ◌^◌, ◌<◌, ◌≤◌, ◌==◌, ◌↔◌, ℕ, if◌then◌else◌, length, All, true, false, None, Some, IsOk, IsTrue, IfOk, IfErr, IfSome, OnOk, OnErr};
+ghost use Rattle.std.specs.Prelude.{◌≡◌, ◌≢◌, ◌+◌, ◌-◌, ◌*◌, ◌^◌, ◌<◌, ◌≤◌, ◌==◌, ◌↔◌, ◌⊎◌, ℕ, if◌then◌else◌, length, All, true, false, None, Some, IsOk, IsTrue, IfOk, IfErr, IfSome, OnOk, OnErr};
 ghost use Rattle.hll_base.specs.declared.error.Reason.TheVariants.{Memory};
-ghost use Rattle.hll_coupons.specs.AuxMap.{value_in, IsMap};
-ghost use Rattle.hll_arrays.specs.FourBits.{exception_in, fallen, kept_above, IsMapFor, IsSlotOf};
-ghost use Rattle.hll_arrays.specs.Packed.{nibble_at};
+ghost use Rattle.hll_coupons.specs.AuxMap.{value_in, ExceptionMap, IsMap};
+ghost use Rattle.hll_arrays.specs.FourBits.{exception_in, exception_of, fallen, kept_above, lowered_by, IsMapFor, IsSlotOf};
+ghost use Rattle.hll_arrays.specs.Packed.{nibble, nibble_at};
 
-use crate::nibbles::put_nibble;
+use crate::nibbles::{lower_by, put_nibble};
 use hll_base::error::Error;
 use hll_coupons::aux_map::AuxMap;
 use std::alloc::Allocator;
@@ -152,5 +152,116 @@ pub(crate) fn put_fallen<A: Allocator>(bytes: &mut [u8], map: &AuxMap<A>, minimu
         if value < minimum + MARK {
             put_nibble(bytes, slot as usize, value - minimum);
         }
+    }
+}
+
+/// The exceptions above a minimum when one slot, which has none, has another value: a map by the allocator of the nibbles.
+///
+/// Fails with `Memory`, never if there are none.
+pub(crate) fn exceptions_above<A: Allocator + Clone>(
+    map: &Option<AuxMap<A>>,
+    nibbles: &Vec<u8, A>,
+    lg_k: u8,
+    minimum: u8,
+    slot: u32,
+    value: u8,
+) -> Result<Option<AuxMap<A>>, Error>
+    requires low { 4 ≤ lg_k }
+    requires high { lg_k ≤ 21 }
+    requires minimum { minimum ≤ 63 }
+    requires within { slot < 2 ^ lg_k }
+    requires most { value ≤ 63 }
+    requires map { IsMapFor lg_k map.now }
+    requires none { exception_in map.now slot ≡ None }
+    ensures map { IfOk result (λ above. IsMapFor lg_k above) }
+    ensures values { IfOk result (λ above. (s : ℕ) → exception_in above s ≡ (if s == slot then exception_of minimum value else kept_above minimum (exception_in map.now s))) }
+    ensures err { IfErr result (λ e. e ≡ Memory) }
+{
+    let mut above = kept_of(map, nibbles, lg_k, minimum)?;
+    if value >= minimum + MARK {
+        put_exception(&mut above, nibbles, lg_k, slot, value)?;
+    }
+    Ok(above)
+}
+
+/// `kept_exceptions`, where there is a map.
+fn kept_of<A: Allocator + Clone>(
+    map: &Option<AuxMap<A>>,
+    nibbles: &Vec<u8, A>,
+    lg_k: u8,
+    minimum: u8,
+) -> Result<Option<AuxMap<A>>, Error>
+    requires minimum { minimum ≤ 63 }
+    requires map { IsMapFor lg_k map.now }
+    ensures map { IfOk result (λ kept. IsMapFor lg_k kept) }
+    ensures values { IfOk result (λ kept. (s : ℕ) → exception_in kept s ≡ kept_above minimum (exception_in map.now s)) }
+    ensures err { IfErr result (λ e. e ≡ Memory) }
+{
+    match map {
+        Some(map) => kept_exceptions(map, nibbles, minimum),
+        None => Ok(None),
+    }
+}
+
+/// Whether the exceptions stay as they are above a minimum when one slot, which has none, has another value.
+pub(crate) fn stay<A: Allocator>(map: &Option<AuxMap<A>>, minimum: u8, value: u8) -> bool
+    requires minimum { minimum ≤ 63 }
+    requires map { (t : ExceptionMap) → map.now ≡ Some t → IsMap t }
+    ensures all { result ≡ true → (s v : ℕ) → exception_in map.now s ≡ Some v → minimum + 15 ≤ v }
+    ensures value { result ≡ true → value < minimum + 15 }
+{
+    if value >= minimum + MARK {
+        return false;
+    }
+    match map {
+        Some(map) => stay_above(map, minimum),
+        None => true,
+    }
+}
+
+/// Writes the nibbles anew above a greater minimum, when one slot, which has no exception, has another value.
+///
+/// Each other nibble is 15, or at least the difference of the minima; no exception is below the new one.
+pub(crate) fn repack<A: Allocator>(
+    bytes: &mut [u8],
+    map: &Option<AuxMap<A>>,
+    lg_k: u8,
+    from: u8,
+    to: u8,
+    slot: u32,
+    value: u8,
+)
+    requires few { length bytes.old ≤ 2 ^ 20 }
+    requires size { 2 * length bytes.old ≡ 2 ^ lg_k }
+    requires fits { All (λ b. b < 256) bytes.old }
+    requires map { IsMapFor lg_k map.now }
+    requires within { slot < 2 ^ lg_k }
+    requires from { from ≤ to }
+    requires to { to ≤ value }
+    requires most { value ≤ 63 }
+    requires high { (s : ℕ) → s < 2 * length bytes.old → s ≢ slot → (nibble_at bytes.old s ≡ 15) ⊎ (to - from ≤ nibble_at bytes.old s) }
+    requires above { (s v : ℕ) → exception_in map.now s ≡ Some v → to ≤ v }
+    ensures nibbles { (s : ℕ) → s < 2 * length bytes.old → nibble_at bytes.new s ≡ (if s == slot then nibble to value else fallen to (exception_in map.now s) (lowered_by (to - from) (nibble_at bytes.old s))) }
+    ensures len { length bytes.new ≡ length bytes.old }
+    ensures fits { All (λ b. b < 256) bytes.new }
+{
+    put_nibble(bytes, slot as usize, (value - from).min(MARK));
+    lower_by(bytes, to - from);
+    fall(bytes, map, lg_k, to);
+    put_nibble(bytes, slot as usize, (value - to).min(MARK));
+}
+
+/// `put_fallen`, where there is a map.
+fn fall<A: Allocator>(bytes: &mut [u8], map: &Option<AuxMap<A>>, lg_k: u8, minimum: u8)
+    requires minimum { minimum ≤ 63 }
+    requires size { 2 * length bytes.old ≡ 2 ^ lg_k }
+    requires map { IsMapFor lg_k map.now }
+    requires above { (s v : ℕ) → exception_in map.now s ≡ Some v → minimum ≤ v }
+    ensures nibbles { (s : ℕ) → nibble_at bytes.new s ≡ fallen minimum (exception_in map.now s) (nibble_at bytes.old s) }
+    ensures len { length bytes.new ≡ length bytes.old }
+    ensures fits { All (λ b. b < 256) bytes.old → All (λ b. b < 256) bytes.new }
+{
+    if let Some(map) = map {
+        put_fallen(bytes, map, minimum);
     }
 }
