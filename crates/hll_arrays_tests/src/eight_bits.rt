@@ -1,5 +1,5 @@
 //! Registers of eight bits: the calls that they alone have, at values worked out by hand.
-ghost use Rattle.std.specs.Prelude.{◌≡◌, ◌≤◌, IfOk};
+ghost use Rattle.std.specs.Prelude.{◌≡◌, IfOk};
 
 use crate::fixtures::{Images, READ, first_of, merge, new_in};
 use crate::images::{largest_in, read_in, written_in};

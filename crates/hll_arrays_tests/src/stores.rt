@@ -1,6 +1,6 @@
 //! Registers of eight and six bits and of a representation that `hll_arrays` does not know: updates, merges and
 //! conversions, beside the reference functions.
-ghost use Rattle.std.specs.Prelude.{◌≡◌, ◌≤◌, IfOk};
+ghost use Rattle.std.specs.Prelude.{◌≤◌};
 
 use crate::array16::Array16;
 use crate::fixtures::{READ, coupons_in, first_of, merge, store_of};
@@ -12,7 +12,7 @@ use hll_coupons::coupon::Coupon;
 use hll_coupons::hll_type::HllType;
 use hll_coupons::reference::{folded, joined};
 use linked_list_allocator::LocalHeap;
-use std::alloc::{Allocator, Global};
+use std::alloc::Global;
 use std::process::Abort;
 use std::test::Fail;
 
