@@ -1,14 +1,12 @@
 //! Registers of eight bits: the calls that they alone have, at values worked out by hand.
-ghost use Rattle.std.specs.Prelude.{◌≡◌, ◌≤◌, IfOk};
+ghost use Rattle.std.specs.Prelude.{◌≡◌, IfOk};
 
-use crate::fixtures::{Images, READ, first_of, new_in};
+use crate::fixtures::{Images, READ, first_of, merge, new_in};
 use crate::images::{largest_in, read_in, written_in};
-use hll_arrays::merge::merge_from;
-use hll_arrays::{Array8, EstimateState, RegisterStore, Registers};
+use hll_arrays::{Array8, EstimateState, RegisterStore};
 use hll_base::error::{Error, Reason};
 use hll_coupons::coupon::Coupon;
 use std::alloc::Allocator;
-use std::process::Abort;
 use std::test::Fail;
 
 /// Registers at `lg_k` 4 with the values 1 to 8 in the first slots.
@@ -167,11 +165,10 @@ const JOINED_IMAGE: [u8; 56] = [
     0, 14, 0, 0, 0, 0, 0, 0, 0, 25, 30, 0, 0, 0, 0, 0, 0, 0, 0, 0, 0, 0, 0, 0, 0,
 ];
 
-/// Merges a source of no smaller `lg_k` into registers whose state was read.
-fn merge<R: Registers>(rt: &impl Abort, joined: &mut Array8, source: &R) {
-    joined.restore_estimate_state(READ);
-    assert!(rt; joined.lg_k() <= source.lg_k());
-    merge_from(joined, source);
+/// Whether the image of these registers is that of both, joined.
+fn is_joined(array: &Array8) -> Result<bool, Error> {
+    let image = array.write_image()?;
+    Ok(image.as_slice() == JOINED_IMAGE.as_slice())
 }
 
 /// Two images of two sizes are joined at the smaller, in either order, and the state is cleared, also where no register
@@ -184,17 +181,17 @@ fn images_are_joined(rt: HostRuntime) -> Result<(), Fail> {
     merge(&rt, &mut joined, &small);
     merge(&rt, &mut joined, &small);
     merge(&rt, &mut joined, &large);
-    assert_eq!(rt; joined.write_image()?.as_slice(), JOINED_IMAGE.as_slice());
+    assert!(rt; is_joined(&joined)?);
     let mut joined = Array8::new(rt.alloc(), 4)?;
     merge(&rt, &mut joined, &large);
     merge(&rt, &mut joined, &small);
     merge(&rt, &mut joined, &large);
-    assert_eq!(rt; joined.write_image()?.as_slice(), JOINED_IMAGE.as_slice());
+    assert!(rt; is_joined(&joined)?);
     for _ in 0..2 {
         small.restore_estimate_state(READ);
         assert!(rt; small.lg_k() < large.lg_k());
         small.merge_array_with_downsample(large.values(), large.lg_k());
-        assert_eq!(rt; small.write_image()?.as_slice(), JOINED_IMAGE.as_slice());
+        assert!(rt; is_joined(&small)?);
     }
     Ok(())
 }

@@ -1,6 +1,7 @@
 //! Values and calls that several tests use.
 ghost use Rattle.std.specs.Prelude.{◌≤◌};
 
+use hll_arrays::merge::merge_from;
 use hll_arrays::{Array6, Array8, EstimateState, RegisterStore, Registers};
 use hll_base::cursor::SketchSlice;
 use hll_base::error::{Error, Reason};
@@ -105,6 +106,13 @@ pub(crate) fn store_of<S: RegisterStore<A>, A: Allocator>(
     }
     store.restore(READ);
     Ok(store)
+}
+
+/// Merges a source of no smaller `lg_k` into registers whose state was read.
+pub(crate) fn merge<R: Registers>(rt: &impl Abort, array: &mut Array8, source: &R) {
+    array.restore_estimate_state(READ);
+    assert!(rt; array.lg_k() <= source.lg_k());
+    merge_from(array, source);
 }
 
 /// The first sixteen registers.

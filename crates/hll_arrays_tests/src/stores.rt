@@ -1,19 +1,18 @@
 //! Registers of eight and six bits and of a representation that `hll_arrays` does not know: updates, merges and
 //! conversions, beside the reference functions.
-ghost use Rattle.std.specs.Prelude.{◌≡◌, ◌≤◌, IfOk};
+ghost use Rattle.std.specs.Prelude.{◌≤◌};
 
 use crate::array16::Array16;
-use crate::fixtures::{READ, coupons_in, first_of, store_of};
+use crate::fixtures::{READ, coupons_in, first_of, merge, store_of};
 use crate::six_bits::{THREE, three_in};
 use hll_arrays::convert::convert;
-use hll_arrays::merge::merge_from;
 use hll_arrays::{Array6, Array8, EstimateState, RegisterStore, Registers};
 use hll_base::error::{Error, Reason};
 use hll_coupons::coupon::Coupon;
 use hll_coupons::hll_type::HllType;
 use hll_coupons::reference::{folded, joined};
 use linked_list_allocator::LocalHeap;
-use std::alloc::{Allocator, Global};
+use std::alloc::Global;
 use std::process::Abort;
 use std::test::Fail;
 
@@ -148,8 +147,7 @@ fn merged_in<S: RegisterStore<Global>>(
 {
     let source: S = convert(source)?;
     let mut array: Array8 = store_of(alloc, lg_k, coupons)?;
-    assert!(rt; array.lg_k() <= source.lg_k());
-    merge_from(&mut array, &source);
+    merge(rt, &mut array, &source);
     assert_eq!(rt;
         (array.values(), array.estimate_state()),
         (fold, EstimateState::CLEARED)
@@ -215,8 +213,7 @@ fn converted_in<S: RegisterStore<Global>>(
         (array.lg_k(), READ)
     );
     let mut back = Array8::new(alloc, array.lg_k())?;
-    assert!(rt; back.lg_k() <= store.lg_k());
-    merge_from(&mut back, &store);
+    merge(rt, &mut back, &store);
     back.restore_estimate_state(store.estimate_state());
     assert!(rt; back == *array);
     Ok(store)
