@@ -47,7 +47,7 @@ fn all_zero(bytes: &[u8]) -> bool {
 #[inline(never)]
 fn units(bytes: &[u8]) -> u64 {
     let sum: u128 = bytes.iter().map(|value| u128::from(1u64 << (63 - value))).sum();
-    (sum >> 60 & 0xffff_ffff) as u64
+    (sum >> 60) as u64
 }
 
 fn lowered(nibble: u8) -> u8 {

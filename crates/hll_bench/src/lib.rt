@@ -2,10 +2,11 @@
 //! "Measurements").
 #![tactic(auto)]
 
-ghost use Rattle.std.specs.Prelude.{◌≡◌, ◌^◌, ◌≤◌, ◌==◌, length, map, All};
+ghost use Rattle.std.specs.Prelude.{◌≡◌, ◌/◌, ◌^◌, ◌≤◌, ◌==◌, length, map, All};
 ghost use Rattle.std.specs.List.{list_all};
 ghost use Rattle.hll_base.specs.Hash.{hash, default_seed};
 ghost use Rattle.hll_coupons.specs.Fold.{join};
+ghost use Rattle.hll_arrays.specs.Packed as packed;
 ghost use Rattle.hll_arrays.specs.Packed.{zeros, lowered_byte, zero_nibbles};
 
 mod registers;
@@ -148,13 +149,14 @@ pub extern "C" fn hll_bench_all_zero(bytes: &[u8]) -> bool
     all_zero(bytes)
 }
 
-/// Bits 60 to 91 of the answer of `units`.
+/// The answer of `units`, in units of 2^-3.
 #[unsafe(no_mangle)]
 pub extern "C" fn hll_bench_units(bytes: &[u8]) -> u64
     requires small { All (λ v. v ≤ 63) bytes.now }
     requires few { length bytes.now ≤ 2 ^ 21 }
+    ensures { result ≡ packed.units bytes.now / 2 ^ 60 }
 {
-    (units(bytes) >> 60 & 0xffff_ffff) as u64
+    (units(bytes) >> 60) as u64
 }
 
 /// `lower_nibbles`.
