@@ -2,7 +2,7 @@
 //! (docs/ARCHITECTURE.md, "Registers").
 #![tactic(auto)]
 
-mod array4;
+pub mod array4;
 pub mod array6;
 pub mod array8;
 pub mod aux_format;
@@ -19,6 +19,7 @@ mod register_slice;
 pub mod register_store;
 pub mod registers;
 
+pub use array4::Array4;
 pub use array6::Array6;
 pub use array8::Array8;
 pub use aux_format::AuxFormat;
