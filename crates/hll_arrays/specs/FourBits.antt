@@ -1,6 +1,6 @@
 -- Registers of four bits as they are kept: nibbles above a minimum, and a map of exceptions where there are any
 -- (docs/MODEL.md, "Registers of four bits").
-use Rattle.std.specs.Prelude.{◌≡◌, ℕ, ◌+◌, ◌-◌, ◌*◌, ◌^◌, ◌<◌, ◌≤◌, ◌==◌, nat_le, if◌then◌else◌, List, length, map, slice_index, count_by, All, Option, Some, None}
+use Rattle.std.specs.Prelude.{◌≡◌, ℕ, ◌+◌, ◌-◌, ◌*◌, ◌^◌, ◌<◌, ◌≤◌, ◌==◌, nat_le, if◌then◌else◌, List, length, map, slice_index, slice_set, count_by, All, Option, Some, None}
 use Rattle.std.specs.List.{range_with_len}
 use Rattle.std.specs.FinSet.{empty}
 use Rattle.hll_coupons.specs.AuxMap.{ExceptionMap, IsMap, value_in}
@@ -8,6 +8,7 @@ use Rattle.hll_coupons.specs.Pair.{Pairs, set_of}
 use Rattle.hll_coupons.specs.Table.{coupons_in, coupons_of}
 use Rattle.hll_arrays.specs.Packed.{nibble, nibble_at, nibble_bytes, minimum, count_at_minimum, exceptions}
 use Rattle.hll_arrays.specs.Payload.{register_of}
+use Rattle.hll_arrays.specs.State.{cleared_state}
 use Rattle.hll_arrays.specs.Store.{AreRegisters, Stored}
 
 -- the exception of a register above a minimum: itself, where it is at least 15 above
@@ -68,6 +69,10 @@ pub record IsPacked (k m n : ℕ) (bytes : List ℕ) (e : Option ExceptionMap) (
 pub record FourBits : Type 0 where
   pub stored : Stored
   pub exceptions : Option ExceptionMap
+
+-- registers with another one at a slot, and the cleared state
+abbrev pub with_register : Stored → ℕ → ℕ → Stored
+with_register x slot v = record { lg_k = x.lg_k; registers = slice_set x.registers slot v; state = cleared_state }
 
 -- ---- laws
 

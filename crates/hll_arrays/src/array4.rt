@@ -1,16 +1,14 @@
 //! Registers of four bits: nibbles above a minimum, and a map of exceptions (docs/MODEL.md, "Registers of four bits").
-ghost use Rattle.std.specs.Prelude.{◌≡◌, ◌≢◌, ◌+◌, ◌*◌, ◌^◌, ◌<◌, ◌≤◌, ◌==◌, ℕ, min, fold, slice_index, slice_set, IfOk, IfErr, IfSome, OnOk, OnErr, Some, None, length, All, true, false};
+ghost use Rattle.std.specs.Prelude.{◌≡◌, ◌≢◌, ◌+◌, ◌*◌, ◌^◌, ◌<◌, ◌≤◌, ◌==◌, ℕ, if◌then◌else◌, count_by, slice_index, slice_set, IfOk, IfErr, IfSome, OnOk, OnErr, Some, None};
 ghost use Rattle.hll_base.specs.declared.error.Reason.TheVariants.{Memory};
-ghost use Rattle.hll_arrays.specs.FourBits.{exception_of, FourBits};
+ghost use Rattle.hll_arrays.specs.FourBits.{exception_in, exception_of, kept_above, with_register, FourBits, IsMapFor};
 ghost use Rattle.hll_arrays.specs.Packed.{minimum, count_at_minimum, nibble};
 ghost use Rattle.hll_arrays.specs.State.{cleared_state};
 ghost use Rattle.hll_arrays.specs.Store.{zero_registers, update_with_coupon, IsStored};
 
 use crate::estimate_state::EstimateState;
-use crate::exception_map::{
-    MARK, exception_at, kept_exceptions, put_exception, put_fallen, stay_above,
-};
-use crate::nibbles::{count_zero_nibbles, lower_by, nibble_of, put_nibble};
+use crate::exception_map::{MARK, exception_at, exceptions_above, put_exception, repack, stay};
+use crate::nibbles::{count_zero_nibbles, nibble_of, put_nibble};
 use crate::registers::two_to;
 use hll_base::error::Error;
 use hll_coupons::aux_map::AuxMap;
@@ -155,5 +153,163 @@ impl<A: Allocator> Array4<A> {
             least = least.min(register);
         }
         least
+    }
+}
+
+impl<A: Allocator + Clone> Array4<A> {
+    /// Raises the register at the coupon's slot modulo 2^`lg_k` to the coupon's value. If it changes, the state is
+    /// cleared.
+    ///
+    /// Fails with `Memory`, and then changes nothing.
+    pub fn update(&mut self, coupon: Coupon) -> Result<(), Error>
+        ensures ok { OnOk result (self.new.stored ≡ update_with_coupon self.old.stored coupon) }
+        ensures unchanged { OnErr result (self.new ≡ self.old) }
+        ensures err { IfErr result (λ e. e ≡ Memory) }
+    {
+        let slot = coupon.slot() % two_to(self.lg_config_k) as u32;
+        if coupon.value() <= self.get(slot) {
+            return Ok(());
+        }
+        self.raise(slot, coupon.value())
+    }
+
+    /// Gives a slot a greater register.
+    fn raise(&mut self, slot: u32, value: u8) -> Result<(), Error>
+        requires within { slot < 2 ^ self.old.stored.lg_k }
+        requires more { slice_index self.old.stored.registers slot < value }
+        requires most { value ≤ 63 }
+        ensures ok { OnOk result (self.new.stored ≡ with_register self.old.stored slot value) }
+        ensures unchanged { OnErr result (self.new ≡ self.old) }
+        ensures err { IfErr result (λ e. e ≡ Memory) }
+    {
+        let at_minimum = self.get(slot) == self.cur_min;
+        if at_minimum && self.num_at_cur_min == 1 {
+            return self.rise(slot, value);
+        }
+        let left = self.num_at_cur_min - u32::from(at_minimum);
+        if value >= self.cur_min + MARK {
+            return self.put_high(slot, value, left);
+        }
+        self.put_low(slot, value, left);
+        Ok(())
+    }
+
+    /// Gives a slot a greater register that is no exception. The minimum stays, with `left` registers at it.
+    fn put_low(&mut self, slot: u32, value: u8, left: u32)
+        requires within { slot < 2 ^ self.old.stored.lg_k }
+        requires more { slice_index self.old.stored.registers slot < value }
+        requires most { value ≤ 63 }
+        requires low { value < minimum self.old.stored.registers + 15 }
+        requires left { left ≡ count_by (λ r. r == minimum self.old.stored.registers) (slice_set self.old.stored.registers slot value) }
+        requires some { 0 < left }
+        ensures { self.new.stored ≡ with_register self.old.stored slot value }
+    {
+        put_nibble(&mut self.nibbles, slot as usize, value - self.cur_min);
+        self.num_at_cur_min = left;
+        self.state = EstimateState::CLEARED;
+    }
+
+    /// Gives a slot a greater register that is an exception. The minimum stays, with `left` registers at it.
+    fn put_high(&mut self, slot: u32, value: u8, left: u32) -> Result<(), Error>
+        requires within { slot < 2 ^ self.old.stored.lg_k }
+        requires more { slice_index self.old.stored.registers slot < value }
+        requires most { value ≤ 63 }
+        requires high { minimum self.old.stored.registers + 15 ≤ value }
+        requires left { left ≡ count_by (λ r. r == minimum self.old.stored.registers) (slice_set self.old.stored.registers slot value) }
+        requires some { 0 < left }
+        ensures ok { OnOk result (self.new.stored ≡ with_register self.old.stored slot value) }
+        ensures unchanged { OnErr result (self.new ≡ self.old) }
+        ensures err { IfErr result (λ e. e ≡ Memory) }
+    {
+        put_exception(
+            &mut self.exceptions,
+            &self.nibbles,
+            self.lg_config_k,
+            slot,
+            value,
+        )?;
+        put_nibble(&mut self.nibbles, slot as usize, MARK);
+        self.num_at_cur_min = left;
+        self.state = EstimateState::CLEARED;
+        Ok(())
+    }
+
+    /// Gives the only slot at the minimum a greater register: the minimum rises.
+    fn rise(&mut self, slot: u32, value: u8) -> Result<(), Error>
+        requires within { slot < 2 ^ self.old.stored.lg_k }
+        requires more { slice_index self.old.stored.registers slot < value }
+        requires most { value ≤ 63 }
+        requires at { slice_index self.old.stored.registers slot ≡ minimum self.old.stored.registers }
+        requires only { count_at_minimum self.old.stored.registers ≡ 1 }
+        ensures ok { OnOk result (self.new.stored ≡ with_register self.old.stored slot value) }
+        ensures unchanged { OnErr result (self.new ≡ self.old) }
+        ensures err { IfErr result (λ e. e ≡ Memory) }
+    {
+        let minimum = self.least_with(slot, value);
+        if stay(&self.exceptions, minimum, value) {
+            self.rise_to(minimum, slot, value);
+            return Ok(());
+        }
+        let exceptions = exceptions_above(
+            &self.exceptions,
+            &self.nibbles,
+            self.lg_config_k,
+            minimum,
+            slot,
+            value,
+        )?;
+        self.rise_with(exceptions, minimum, slot, value);
+        Ok(())
+    }
+
+    /// Gives the only slot at the minimum a greater register, where the exceptions stay as they are.
+    fn rise_to(&mut self, least: u8, slot: u32, value: u8)
+        requires within { slot < 2 ^ self.old.stored.lg_k }
+        requires more { slice_index self.old.stored.registers slot < value }
+        requires most { value ≤ 63 }
+        requires at { slice_index self.old.stored.registers slot ≡ minimum self.old.stored.registers }
+        requires least { least ≡ minimum (slice_set self.old.stored.registers slot value) }
+        requires low { value < least + 15 }
+        requires stay { (s v : ℕ) → exception_in self.old.exceptions s ≡ Some v → least + 15 ≤ v }
+        ensures { self.new.stored ≡ with_register self.old.stored slot value }
+    {
+        repack(
+            &mut self.nibbles,
+            &self.exceptions,
+            self.lg_config_k,
+            self.cur_min,
+            least,
+            slot,
+            value,
+        );
+        self.cur_min = least;
+        self.num_at_cur_min = count_zero_nibbles(&self.nibbles);
+        self.state = EstimateState::CLEARED;
+    }
+
+    /// Gives the only slot at the minimum a greater register, with the exceptions above the new one.
+    fn rise_with(&mut self, above: Option<AuxMap<A>>, least: u8, slot: u32, value: u8)
+        requires within { slot < 2 ^ self.old.stored.lg_k }
+        requires more { slice_index self.old.stored.registers slot < value }
+        requires most { value ≤ 63 }
+        requires at { slice_index self.old.stored.registers slot ≡ minimum self.old.stored.registers }
+        requires least { least ≡ minimum (slice_set self.old.stored.registers slot value) }
+        requires map { IsMapFor self.old.stored.lg_k above }
+        requires above { (s : ℕ) → exception_in above s ≡ (if s == slot then exception_of least value else kept_above least (exception_in self.old.exceptions s)) }
+        ensures { self.new.stored ≡ with_register self.old.stored slot value }
+    {
+        repack(
+            &mut self.nibbles,
+            &self.exceptions,
+            self.lg_config_k,
+            self.cur_min,
+            least,
+            slot,
+            value,
+        );
+        self.exceptions = above;
+        self.cur_min = least;
+        self.num_at_cur_min = count_zero_nibbles(&self.nibbles);
+        self.state = EstimateState::CLEARED;
     }
 }

@@ -1,0 +1,399 @@
+-- Registers of four bits with a greater one at a slot.
+use Rattle.std.proofs.Common.{◌≡◌, ◌≢◌, ℕ, ◌+◌, ◌-◌, ◌*◌, ◌/◌, ◌%◌, ◌^◌, ◌<◌, ◌≤◌, ◌⊎◌, zero, suc, Bool, true, false, eqb, leb, cond, List, [], ◌∷◌, All, Option, Some, None, length, get_or, set, refl, sym, ap, subst, ◌∙◌, arith, inl, inr}
+use Rattle.std.specs.Prelude.{min, fold, count_by}
+use Rattle.std.proofs.lemmas.Bool.{cases_Bool, cases_eq, cases_lt, cond-true, cond-false, eqb-true, eqb-false, eq-eqb, le-leb, lt-leb}
+use Rattle.std.proofs.lemmas.List.{length-set, get_or-set_same, get_or-set_other, get_or_default}
+use Rattle.std.proofs.lemmas.Nat.{pow_pos}
+use Rattle.std.proofs.Math.Pow.{pow_mono}
+use Rattle.std.proofs.lemmas.List.Sums.{sum_by-cons, sum_by-set}
+use Rattle.hll_arrays.specs.FourBits.{exception_of, exception_in, kept_above, fallen, lowered_by, unpacked, with_register, FourBits, IsMapFor, IsPacked}
+use Rattle.hll_arrays.specs.Packed.{nibble, nibble_at, nibble_bytes_above, minimum, zero_nibbles}
+use Rattle.hll_arrays.specs.Store.{AreRegisters}
+use Rattle.hll_arrays.proofs.FourBits.{bytes_of_nibbles, exception_of-high, exception_of-low, packed_is_of_registers, unpacked_is}
+use Rattle.hll_arrays.proofs.Packing.{minimum_le}
+use Rattle.hll_arrays.proofs.SingleNibbles.{lowered_by-mark, lowered_by-other}
+use Rattle.hll_coupons.specs.AuxMap.{ExceptionMap}
+use Rattle.hll_coupons.proofs.MapChanges.{IsEntry, entry_of_value}
+use Rattle.hll_coupons.proofs.Maps.{slot_below}
+use Rattle.hll_arrays.specs.declared.estimate_state.EstimateState.{EstimateState}
+use Rattle.hll_arrays.specs.State.{cleared_state}
+
+differs : (a b : ℕ) → a ≢ b → eqb a b ≡ false
+differs a b h = elim (cases_Bool (eqb a b)) [ inl t ↦ absurd (h (eqb-true a b t)) | inr f ↦ f ]
+
+-- the register at each slot
+pub at_set : (R : List ℕ) (slot v q : ℕ) → slot < length R → get_or (set R slot v) q 0 ≡ cond (eqb q slot) v (get_or R q 0)
+at_set R slot v q within = elim (cases_eq q slot) [
+  | inl e ↦ ap (λ i. get_or (set R slot v) i 0) e ∙ get_or-set_same R slot v 0 within ∙ sym (cond-true (eqb q slot) v (get_or R q 0) (eq-eqb q slot e))
+  | inr other ↦ get_or-set_other R slot q v 0 other ∙ sym (cond-false (eqb q slot) v (get_or R q 0) (differs q slot other))
+]
+
+through : {X : Type 0} (f : ℕ → X) (b : Bool) (x y : ℕ) → cond b (f x) (f y) ≡ f (cond b x y)
+through f true x y = refl
+through f false x y = refl
+
+pub registers_set : (k : ℕ) (R : List ℕ) (slot v : ℕ) → AreRegisters k R → slot < 2 ^ k → v ≤ 63 → AreRegisters k (set R slot v)
+registers_set k R slot v are within small = record {
+  size = length-set R slot v ∙ are.size;
+  small = λ i d l.
+      let inside : i < length R = omega (arith, l, length-set R slot v) in
+      let here : get_or (set R slot v) i d ≡ cond (eqb i slot) v (get_or R i 0) = get_or_default (set R slot v) i d 0 l ∙ at_set R slot v i (omega (arith, within, are.size)) in
+      subst (λ n. n ≤ 63) (sym here) (either (eqb i slot) (get_or R i 0) (are.small i 0 inside));
+}
+  where
+    either : (b : Bool) (r : ℕ) → r ≤ 63 → cond b v r ≤ 63
+    either true r h = small
+    either false r h = h
+
+-- one is above the minimum: as many as there were, less the one that left
+count_set : (m : ℕ) (R : List ℕ) (slot v : ℕ) → slot < length R → m < v → count_by (λ r. eqb r m) (set R slot v) + cond (eqb (get_or R slot 0) m) 1 0 ≡ count_by (λ r. eqb r m) R
+count_set m R slot v within above =
+    let gone : ◌≡◌ {A = ℕ} (cond (eqb v m) 1 0) 0 = cond-false (eqb v m) 1 0 (differs v m (λ e. omega (arith, e, above))) in
+    omega (arith, sum_by-set (λ r. cond (eqb r m) 1 0) R slot v 0 within, gone)
+
+pub left_over : (m n left : ℕ) (R : List ℕ) (slot v : ℕ) (b : Bool) → slot < length R → m < v → n ≡ count_by (λ r. eqb r m) R → b ≡ eqb (get_or R slot 0) m → left + cond b 1 0 ≡ n → left ≡ count_by (λ r. eqb r m) (set R slot v)
+left_over m n left R slot v b within above count e rest =
+    let one : ◌≡◌ {A = ℕ} (cond b 1 0) (cond (eqb (get_or R slot 0) m) 1 0) = ap (λ b. cond b 1 0) e in
+    omega (arith, count_set m R slot v within above, count, rest, one)
+
+-- ---- a greater register, where the minimum stays
+
+module _ (k m n : ℕ) (bytes : List ℕ) (e : Option ExceptionMap) (R : List ℕ) (p : IsPacked k m n bytes e R) (slot v : ℕ) (within : slot < 2 ^ k) (more : get_or R slot 0 < v) (most : v ≤ 63) where
+  inside : slot < length R
+  inside = omega (arith, within, p.registers.size)
+
+  pub above_minimum : m < v
+  above_minimum = omega (arith, p.least slot within, more)
+
+  pub raised_packed : (left : ℕ) (new : List ℕ) (e' : Option ExceptionMap) → left ≡ count_by (λ r. eqb r m) (set R slot v) → 0 < left →
+      ((q : ℕ) → nibble_at new q ≡ cond (eqb q slot) (nibble m v) (nibble_at bytes q)) → length new ≡ length bytes → All (λ b. b < 256) new →
+      IsMapFor k e' → ((q : ℕ) → q < 2 ^ k → exception_in e' q ≡ cond (eqb q slot) (exception_of m v) (exception_in e q)) → IsPacked k m left new e' (set R slot v)
+  raised_packed left new e' count some put len fits is excepted = record {
+    registers = registers_set k R slot v p.registers within most;
+    least = λ q l. subst (λ r. m ≤ r) (sym (at_set R slot v q inside)) (either (eqb q slot) (get_or R q 0) (p.least q l));
+    count = count;
+    some = some;
+    size = omega (arith, p.size, len);
+    fits = fits;
+    nibbles = λ q l. put q ∙ ap (cond (eqb q slot) (nibble m v)) (p.nibbles q l) ∙ through (nibble m) (eqb q slot) v (get_or R q 0) ∙ ap (nibble m) (sym (at_set R slot v q inside));
+    map_for = is;
+    excepted = λ q l. excepted q l ∙ ap (cond (eqb q slot) (exception_of m v)) (p.excepted q l) ∙ through (exception_of m) (eqb q slot) v (get_or R q 0) ∙ ap (exception_of m) (sym (at_set R slot v q inside));
+  }
+    where
+      either : (b : Bool) (r : ℕ) → m ≤ r → m ≤ cond b v r
+      either true r h = omega (arith, above_minimum)
+      either false r h = h
+
+  -- the same exceptions, where the register is none
+  pub excepted_low : v < m + 15 → (q : ℕ) → q < 2 ^ k → exception_in e q ≡ cond (eqb q slot) (exception_of m v) (exception_in e q)
+  excepted_low low q l = elim (cases_eq q slot) [
+    | inl same ↦
+        let none : exception_in e q ≡ None = p.excepted q l ∙ exception_of-low m (get_or R q 0) (omega (arith, low, more, ap (λ i. get_or R i 0) same)) in
+        none ∙ sym (cond-true (eqb q slot) (exception_of m v) (exception_in e q) (eq-eqb q slot same) ∙ exception_of-low m v low)
+    | inr other ↦ sym (cond-false (eqb q slot) (exception_of m v) (exception_in e q) (differs q slot other))
+  ]
+
+-- ---- the only register at the minimum rises
+
+-- a register at m counts
+count_some : (m : ℕ) (R : List ℕ) (i : ℕ) → i < length R → get_or R i 0 ≡ m → 0 < count_by (λ r. eqb r m) R
+count_some m [] i h e = absurd (omega (arith, h))
+count_some m (r ∷ R) zero h e = let one : ◌≡◌ {A = ℕ} (cond (eqb r m) 1 0) 1 = cond-true (eqb r m) 1 0 (eq-eqb r m e) in omega (arith, sum_by-cons (λ r. cond (eqb r m) 1 0) r R, one)
+count_some m (r ∷ R) (suc i) h e = omega (arith, sum_by-cons (λ r. cond (eqb r m) 1 0) r R, count_some m R i (omega (arith, h)) e)
+
+-- the minimum is attained
+attained_from : (a : ℕ) (R : List ℕ) → (fold min a R ≡ a) ⊎ ((i : ℕ) × (i < length R) × (get_or R i 0 ≡ fold min a R))
+attained_from a [] = inl refl
+attained_from a (r ∷ R) = elim (attained_from (min a r) R) [
+  | inl e ↦ elim (cases_lt r a) [
+    | inl less ↦ inr (0, omega arith, let is : min a r ≡ r = omega (arith, less) in sym (e ∙ is))
+    | inr more ↦ inl (let is : min a r ≡ a = omega (arith, more) in e ∙ is)
+  ]
+  | inr f ↦ inr (suc f.0, omega (arith, f.1), f.2)
+]
+
+attained : (R : List ℕ) → 0 < length R → All (λ r. r ≤ 63) R → (i : ℕ) × (i < length R) × (get_or R i 0 ≡ minimum R)
+attained R some small = elim (attained_from 63 R) [
+  | inr f ↦ f
+  | inl e ↦ (0, some, let low : minimum R ≤ get_or R 0 0 = minimum_le R 0 some in let high : get_or R 0 0 ≤ 63 = small 0 0 some in omega (arith, low, high, e))
+]
+
+-- zero nibbles are the registers at the minimum
+nibble_zero : (m r : ℕ) → m ≤ r → eqb (nibble m r) 0 ≡ eqb r m
+nibble_zero m r low = elim (cases_eq r m) [
+  | inl e ↦ eq-eqb (nibble m r) 0 (let z : nibble m r ≡ 0 = omega (arith, e) in z) ∙ sym (eq-eqb r m e)
+  | inr other ↦ differs (nibble m r) 0 (λ z. omega (arith, z, other, low)) ∙ sym (differs r m other)
+]
+
+zero_nibbles_are : (m : ℕ) (bytes R : List ℕ) → bytes ≡ nibble_bytes_above m R → (h : ℕ) → length R ≡ 2 * h → ((s : ℕ) → s < length R → m ≤ get_or R s 0) → zero_nibbles (nibble_bytes_above m R) ≡ count_by (λ r. eqb r m) R
+zero_nibbles_are m bytes [] e h even low = refl
+zero_nibbles_are m bytes (r ∷ []) e h even low = absurd (omega (arith, even))
+zero_nibbles_are m bytes (r ∷ q ∷ R) e zero even low = absurd (omega (arith, even))
+zero_nibbles_are m bytes (r ∷ q ∷ R) e (suc h) even low =
+    let b : ℕ = nibble m r + 16 * nibble m q in
+    let first : b % 16 ≡ nibble m r = omega arith in
+    let second : b / 16 ≡ nibble m q = omega arith in
+    let one : ◌≡◌ {A = ℕ} (cond (eqb (b % 16) 0) 1 0) (cond (eqb r m) 1 0) = ap (λ n. cond (eqb n 0) 1 0) first ∙ ap (λ c. cond c 1 0) (nibble_zero m r (low 0 (omega arith))) in
+    let two : ◌≡◌ {A = ℕ} (cond (eqb (b / 16) 0) 1 0) (cond (eqb q m) 1 0) = ap (λ n. cond (eqb n 0) 1 0) second ∙ ap (λ c. cond c 1 0) (nibble_zero m q (low 1 (omega arith))) in
+    let rest : zero_nibbles (nibble_bytes_above m R) ≡ count_by (λ r. eqb r m) R = zero_nibbles_are m (nibble_bytes_above m R) R refl h (omega (arith, even)) (λ s l. low (suc (suc s)) (omega (arith, l))) in
+    omega (
+      arith,
+      sum_by-cons (λ b. cond (eqb (b % 16) 0) 1 0) b (nibble_bytes_above m R),
+      sum_by-cons (λ b. cond (eqb (b / 16) 0) 1 0) b (nibble_bytes_above m R),
+      sum_by-cons (λ r. cond (eqb r m) 1 0) r (q ∷ R),
+      sum_by-cons (λ r. cond (eqb r m) 1 0) q R,
+      one,
+      two,
+      rest,
+    )
+
+module _ (k m n : ℕ) (bytes : List ℕ) (e : Option ExceptionMap) (R : List ℕ) (p : IsPacked k m n bytes e R) (slot v to : ℕ) (within : slot < 2 ^ k) (more : get_or R slot 0 < v) (most : v ≤ 63)
+    (at : get_or R slot 0 ≡ m) (least : to ≡ minimum (set R slot v)) where
+  abbrev Q : List ℕ
+  Q = set R slot v
+
+  legal : AreRegisters k Q
+  legal = registers_set k R slot v p.registers within most
+
+  there : slot < length R
+  there = omega (arith, within, p.registers.size)
+
+  elsewhere : (q : ℕ) → q ≢ slot → get_or Q q 0 ≡ get_or R q 0
+  elsewhere q other = get_or-set_other R slot q v 0 other
+
+  pub to_le : (q : ℕ) → q < 2 ^ k → to ≤ get_or Q q 0
+  to_le q l = omega (arith, least, minimum_le Q q (omega (arith, l, legal.size)))
+
+  pub to_value : to ≤ v
+  to_value = omega (arith, to_le slot within, get_or-set_same R slot v 0 there)
+
+  pub from_to : m ≤ to
+  from_to =
+      let i = attained Q (omega (arith, legal.size, pow_pos k)) legal.small in
+      let l : i.0 < 2 ^ k = omega (arith, i.1, legal.size) in
+      elim (cases_eq i.0 slot) [
+        | inl same ↦ omega (arith, least, i.2, ap (λ j. get_or Q j 0) same, get_or-set_same R slot v 0 there, more, at)
+        | inr other ↦ omega (arith, least, i.2, elsewhere i.0 other, p.least i.0 l)
+      ]
+
+  -- what a rise asks of the nibbles
+  pub high : (q : ℕ) → q < 2 * length bytes → q ≢ slot → (nibble_at bytes q ≡ 15) ⊎ (to - m ≤ nibble_at bytes q)
+  high q l other =
+      let inside : q < 2 ^ k = omega (arith, l, p.size) in
+      let r : ℕ = get_or R q 0 in
+      let enough : to ≤ r = omega (arith, to_le q inside, elsewhere q other) in
+      elim (cases_lt r (m + 15)) [
+        | inl under ↦ inr (let n : nibble m r ≡ r - m = omega (arith, under) in omega (arith, p.nibbles q inside, n, enough))
+        | inr over ↦ inl (let n : nibble m r ≡ 15 = omega (arith, over) in p.nibbles q inside ∙ n)
+      ]
+
+  -- and of the exceptions
+  no_exception_here : exception_in e slot ≡ None
+  no_exception_here = p.excepted slot within ∙ exception_of-low m (get_or R slot 0) (omega (arith, at))
+
+  pub above : (s w : ℕ) → exception_in e s ≡ Some w → to ≤ w
+  above s w is =
+      let inside : s < 2 ^ k = slot_within k e p.map_for s w is in
+      let r : ℕ = get_or R s 0 in
+      elim (cases_lt r (m + 15)) [
+        | inl under ↦ let none : Some w ≡ None = sym is ∙ p.excepted s inside ∙ exception_of-low m r under in cc
+        | inr over ↦
+            let both : Some w ≡ Some r = sym is ∙ p.excepted s inside ∙ exception_of-high m r over in
+            let value : w ≡ r = cc in
+            let other : s ≢ slot = λ same. omega (arith, over, ap (λ i. get_or R i 0) same, at) in
+            omega (arith, to_le s inside, elsewhere s other, value)
+      ]
+    where
+      slot_within : (k : ℕ) (e : Option ExceptionMap) → IsMapFor k e → (s w : ℕ) → exception_in e s ≡ Some w → s < 2 ^ k
+      slot_within k None u s w is = cc
+      slot_within k (Some t) (map, lg, some) s w is =
+          let entry : IsEntry t s w = entry_of_value t map s w is in
+          subst (λ n. s < 2 ^ n) lg (subst (λ i. i < 2 ^ t.lg_k) entry.slot (slot_below t map entry.word entry.there))
+
+  -- the nibbles above the new minimum
+  pub risen_nibbles : (new : List ℕ) → ((q : ℕ) → q < 2 * length bytes → nibble_at new q ≡ cond (eqb q slot) (nibble to v) (fallen to (exception_in e q) (lowered_by (to - m) (nibble_at bytes q)))) →
+      (q : ℕ) → q < 2 ^ k → nibble_at new q ≡ nibble to (get_or Q q 0)
+  risen_nibbles new put q l = elim (cases_eq q slot) [
+    | inl same ↦
+        put q (omega (arith, l, p.size)) ∙ cond-true (eqb q slot) (nibble to v) (fallen to (exception_in e q) (lowered_by (to - m) (nibble_at bytes q))) (eq-eqb q slot same)
+        ∙ ap (nibble to) (sym (ap (λ i. get_or Q i 0) same ∙ get_or-set_same R slot v 0 there))
+    | inr other ↦
+        let r : ℕ = get_or R q 0 in
+        let enough : to ≤ r = omega (arith, to_le q l, elsewhere q other) in
+        put q (omega (arith, l, p.size)) ∙ cond-false (eqb q slot) (nibble to v) (fallen to (exception_in e q) (lowered_by (to - m) (nibble_at bytes q))) (differs q slot other)
+        ∙ (λ i. fallen to (p.excepted q l i) (lowered_by (to - m) (p.nibbles q l i))) ∙ one r enough (cases_lt r (m + 15)) ∙ ap (nibble to) (sym (elsewhere q other))
+  ]
+    where
+      one : (r : ℕ) → to ≤ r → (r < m + 15) ⊎ (m + 15 ≤ r) → fallen to (exception_of m r) (lowered_by (to - m) (nibble m r)) ≡ nibble to r
+      one r enough (inl under) =
+          let n : nibble m r ≡ r - m = omega (arith, under) in
+          let fewer : nibble m r ≢ 15 = λ z. omega (arith, z, n, under, from_to, enough) in
+          ap (λ o. fallen to o (lowered_by (to - m) (nibble m r))) (exception_of-low m r under) ∙ lowered_by-other (to - m) (nibble m r) fewer
+          ∙ (let out : nibble m r - (to - m) ≡ nibble to r = omega (arith, under, from_to, enough) in out)
+      one r enough (inr over) =
+          let n : nibble m r ≡ 15 = omega (arith, over) in
+          ap (λ o. fallen to o (lowered_by (to - m) (nibble m r))) (exception_of-high m r over) ∙ ap (λ b. cond (leb (to + 15) r) b (r - to)) (lowered_by-mark (to - m) (nibble m r) n) ∙ kept_or_not (cases_lt r (to + 15))
+        where
+          kept_or_not : (r < to + 15) ⊎ (to + 15 ≤ r) → cond (leb (to + 15) r) 15 (r - to) ≡ nibble to r
+          kept_or_not (inl low) = cond-false (leb (to + 15) r) 15 (r - to) (lt-leb (to + 15) r low) ∙ (let out : r - to ≡ nibble to r = omega (arith, low) in out)
+          kept_or_not (inr up) = cond-true (leb (to + 15) r) 15 (r - to) (le-leb (to + 15) r up) ∙ (let out : 15 ≡ nibble to r = omega (arith, up) in out)
+
+  -- the exceptions above it, where they stay
+  pub excepted_stay : v < to + 15 → ((s w : ℕ) → exception_in e s ≡ Some w → to + 15 ≤ w) → (q : ℕ) → q < 2 ^ k → exception_in e q ≡ exception_of to (get_or Q q 0)
+  excepted_stay low all q l = elim (cases_eq q slot) [
+    | inl same ↦
+        ap (exception_in e) same ∙ no_exception_here
+        ∙ sym (ap (exception_of to) (ap (λ i. get_or Q i 0) same ∙ get_or-set_same R slot v 0 there) ∙ exception_of-low to v low)
+    | inr other ↦ elim (cases_lt (get_or R q 0) (m + 15)) [
+      | inl under ↦
+          p.excepted q l ∙ exception_of-low m (get_or R q 0) under
+          ∙ sym (ap (exception_of to) (elsewhere q other) ∙ exception_of-low to (get_or R q 0) (omega (arith, under, from_to)))
+      | inr over ↦
+          let is : exception_in e q ≡ Some (get_or R q 0) = p.excepted q l ∙ exception_of-high m (get_or R q 0) over in
+          is ∙ sym (ap (exception_of to) (elsewhere q other) ∙ exception_of-high to (get_or R q 0) (all q (get_or R q 0) is))
+    ]
+  ]
+
+  -- and where they are made anew
+  pub excepted_anew : (e' : Option ExceptionMap) → ((q : ℕ) → exception_in e' q ≡ cond (eqb q slot) (exception_of to v) (kept_above to (exception_in e q))) → (q : ℕ) → q < 2 ^ k → exception_in e' q ≡ exception_of to (get_or Q q 0)
+  excepted_anew e' put q l = elim (cases_eq q slot) [
+    | inl same ↦
+        put q ∙ cond-true (eqb q slot) (exception_of to v) (kept_above to (exception_in e q)) (eq-eqb q slot same)
+        ∙ sym (ap (exception_of to) (ap (λ i. get_or Q i 0) same ∙ get_or-set_same R slot v 0 there))
+    | inr other ↦
+        put q ∙ cond-false (eqb q slot) (exception_of to v) (kept_above to (exception_in e q)) (differs q slot other) ∙ ap (kept_above to) (p.excepted q l)
+        ∙ again (get_or R q 0) (cases_lt (get_or R q 0) (m + 15)) ∙ ap (exception_of to) (sym (elsewhere q other))
+  ]
+    where
+      again : (r : ℕ) → (r < m + 15) ⊎ (m + 15 ≤ r) → kept_above to (exception_of m r) ≡ exception_of to r
+      again r (inl under) = ap (kept_above to) (exception_of-low m r under) ∙ sym (exception_of-low to r (omega (arith, under, from_to)))
+      again r (inr over) = ap (kept_above to) (exception_of-high m r over)
+
+  pub risen_packed : (count : ℕ) (new : List ℕ) (e' : Option ExceptionMap) → length new ≡ length bytes → All (λ b. b < 256) new → ((q : ℕ) → q < 2 ^ k → nibble_at new q ≡ nibble to (get_or Q q 0)) → IsMapFor k e' →
+      ((q : ℕ) → q < 2 ^ k → exception_in e' q ≡ exception_of to (get_or Q q 0)) → count ≡ zero_nibbles new → IsPacked k to count new e' Q
+  risen_packed count new e' len fits nibbles is excepted zeros =
+      let bytes_are : new ≡ nibble_bytes_above to Q = bytes_of_nibbles to new Q (omega (arith, len, p.size, legal.size)) fits (λ s l. nibbles s (omega (arith, l, legal.size))) in
+      let counted : count ≡ count_by (λ r. eqb r to) Q =
+      zeros ∙ ap zero_nibbles bytes_are ∙ zero_nibbles_are to new Q bytes_are (length bytes) (omega (arith, p.size, legal.size)) (λ s l. to_le s (omega (arith, l, legal.size))) in
+      let i = attained Q (omega (arith, legal.size, pow_pos k)) legal.small in
+      record {
+        registers = legal;
+        least = to_le;
+        count = counted;
+        some = omega (arith, counted, count_some to Q i.0 i.1 (i.2 ∙ sym least));
+        size = omega (arith, p.size, len);
+        fits = fits;
+        nibbles = nibbles;
+        map_for = is;
+        excepted = excepted;
+      }
+
+-- ---- what contracts ask, of the parts
+
+-- the view of the parts
+abbrev pub seen : ℕ → ℕ → List ℕ → Option ExceptionMap → EstimateState → FourBits
+seen k m bytes e state = record { stored = record { lg_k = k; registers = unpacked k m bytes e; state = state }; exceptions = e }
+
+-- a greater register at a slot, as asked of what contracts see
+pub record IsRaise (x : FourBits) (slot v : ℕ) : Type 0 where
+  pub within : slot < 2 ^ x.stored.lg_k
+  pub more : get_or x.stored.registers slot 0 < v
+  pub most : v ≤ 63
+
+-- where the minimum stays
+pub record IsLeft (x : FourBits) (slot v left : ℕ) : Type 0 where
+  pub left_is : left ≡ count_by (λ r. eqb r (minimum x.stored.registers)) (set x.stored.registers slot v)
+  pub some : 0 < left
+
+module _ (k m n : ℕ) (bytes : List ℕ) (e : Option ExceptionMap) (state : EstimateState) (small : k ≤ 21) (p : IsPacked k m n bytes e (unpacked k m bytes e)) (x : FourBits) (same : seen k m bytes e state ≡ x)
+    (slot v : ℕ) (ask : IsRaise x slot v) where
+  abbrev R : List ℕ
+  R = unpacked k m bytes e
+
+  here : IsRaise (seen k m bytes e state) slot v
+  here = subst (λ x. IsRaise x slot v) (sym same) ask
+
+  least : m ≡ minimum R
+  least = (packed_is_of_registers k m n bytes e R small p).minimum_is
+
+  -- one that is no exception
+  pub low_packed : (left : ℕ) (new : List ℕ) → IsLeft x slot v left → v < minimum x.stored.registers + 15 → length new ≡ length bytes → All (λ b. b < 256) new →
+      ((q : ℕ) → nibble_at new q ≡ cond (eqb q slot) (v - m) (nibble_at bytes q)) → IsPacked k m left new e (set R slot v)
+  low_packed left new count low len fits put =
+      let l : IsLeft (seen k m bytes e state) slot v left = subst (λ x. IsLeft x slot v left) (sym same) count in
+      let under : v < m + 15 = omega (arith, subst (λ (x : FourBits). v < minimum x.stored.registers + 15) (sym same) low, least) in
+      let nib : v - m ≡ nibble m v = omega (arith, under) in
+      raised_packed k m n bytes e R p slot v here.within here.more here.most left new e (l.left_is ∙ ap (λ m. count_by (λ r. eqb r m) (set R slot v)) (sym least)) l.some
+      (λ q. put q ∙ ap (λ n. cond (eqb q slot) n (nibble_at bytes q)) nib) len fits p.map_for (excepted_low k m n bytes e R p slot v here.within here.more here.most under)
+
+  -- one that is
+  pub high_packed : (left : ℕ) (new : List ℕ) (e' : Option ExceptionMap) → IsLeft x slot v left → minimum x.stored.registers + 15 ≤ v → length new ≡ length bytes → All (λ b. b < 256) new →
+      ((q : ℕ) → nibble_at new q ≡ cond (eqb q slot) 15 (nibble_at bytes q)) → IsMapFor k e' → ((q : ℕ) → exception_in e' q ≡ cond (eqb q slot) (Some v) (exception_in e q)) → IsPacked k m left new e' (set R slot v)
+  high_packed left new e' count high len fits put is noted =
+      let l : IsLeft (seen k m bytes e state) slot v left = subst (λ x. IsLeft x slot v left) (sym same) count in
+      let over : m + 15 ≤ v = omega (arith, subst (λ (x : FourBits). minimum x.stored.registers + 15 ≤ v) (sym same) high, least) in
+      let nib : 15 ≡ nibble m v = omega (arith, over) in
+      raised_packed k m n bytes e R p slot v here.within here.more here.most left new e' (l.left_is ∙ ap (λ m. count_by (λ r. eqb r m) (set R slot v)) (sym least)) l.some
+      (λ q. put q ∙ ap (λ n. cond (eqb q slot) n (nibble_at bytes q)) nib) len fits is
+      (λ q b. noted q ∙ ap (λ o. cond (eqb q slot) o (exception_in e q)) (sym (exception_of-high m v over)))
+
+  -- few bytes hold the nibbles
+  pub few_bytes : length bytes ≤ 1048576
+  few_bytes = omega (arith, p.size, pow_mono {i = k} {j = 21} small)
+
+  -- then what contracts see is the registers with this one
+  pub seen_after : (m' left : ℕ) (new : List ℕ) (e' : Option ExceptionMap) → IsPacked k m' left new e' (set R slot v) → (seen k m' new e' cleared_state).stored ≡ with_register x.stored slot v
+  seen_after m' left new e' q =
+      (λ i. record { lg_k = k; registers = unpacked_is k m' left new e' (set R slot v) small q i; state = cleared_state }) ∙ ap (λ (x : FourBits). with_register x.stored slot v) same
+
+-- the register at the minimum rises, and this is the new minimum
+pub record IsRise (x : FourBits) (slot v to : ℕ) : Type 0 where
+  pub at : get_or x.stored.registers slot 0 ≡ minimum x.stored.registers
+  pub least : to ≡ minimum (set x.stored.registers slot v)
+
+module _ (k m n : ℕ) (bytes : List ℕ) (e : Option ExceptionMap) (state : EstimateState) (small : k ≤ 21) (p : IsPacked k m n bytes e (unpacked k m bytes e)) (x : FourBits) (same : seen k m bytes e state ≡ x)
+    (slot v to : ℕ) (ask : IsRaise x slot v) (rise : IsRise x slot v to) where
+  abbrev S : List ℕ
+  S = unpacked k m bytes e
+
+  asked : IsRaise (seen k m bytes e state) slot v
+  asked = subst (λ x. IsRaise x slot v) (sym same) ask
+
+  now : IsRise (seen k m bytes e state) slot v to
+  now = subst (λ x. IsRise x slot v to) (sym same) rise
+
+  seated : get_or S slot 0 ≡ m
+  seated = now.at ∙ sym (packed_is_of_registers k m n bytes e S small p).minimum_is
+
+  pub rise_from : m ≤ to
+  rise_from = from_to k m n bytes e S p slot v to asked.within asked.more asked.most seated now.least
+
+  pub rise_value : to ≤ v
+  rise_value = to_value k m n bytes e S p slot v to asked.within asked.more asked.most seated now.least
+
+  pub rise_high : (lent : List ℕ) → lent ≡ bytes → (q : ℕ) → q < 2 * length lent → q ≢ slot → (nibble_at lent q ≡ 15) ⊎ (to - m ≤ nibble_at lent q)
+  rise_high lent is q l other =
+      subst (λ bs. (nibble_at bs q ≡ 15) ⊎ (to - m ≤ nibble_at bs q)) (sym is)
+      (high k m n bytes e S p slot v to asked.within asked.more asked.most seated now.least q (omega (arith, l, ap length is)) other)
+
+  pub rise_above : (s w : ℕ) → exception_in e s ≡ Some w → to ≤ w
+  rise_above = above k m n bytes e S p slot v to asked.within asked.more asked.most seated now.least
+
+  pub rise_none : exception_in e slot ≡ None
+  rise_none = no_exception_here k m n bytes e S p slot v to asked.within asked.more asked.most seated now.least
+
+  -- with the exceptions that stay
+  module _ (count : ℕ) (lent new : List ℕ) (is : lent ≡ bytes) (len : length new ≡ length lent) (fits : All (λ b. b < 256) new)
+      (put : (q : ℕ) → q < 2 * length lent → nibble_at new q ≡ cond (eqb q slot) (nibble to v) (fallen to (exception_in e q) (lowered_by (to - m) (nibble_at lent q)))) (zeros : count ≡ zero_nibbles new) where
+    nibbles : (q : ℕ) → q < 2 ^ k → nibble_at new q ≡ nibble to (get_or (set S slot v) q 0)
+    nibbles = risen_nibbles k m n bytes e S p slot v to asked.within asked.more asked.most seated now.least new
+        (subst (λ bs. (q : ℕ) → q < 2 * length bs → nibble_at new q ≡ cond (eqb q slot) (nibble to v) (fallen to (exception_in e q) (lowered_by (to - m) (nibble_at bs q)))) is put)
+
+    pub rise_packed : v < to + 15 → ((s w : ℕ) → exception_in x.exceptions s ≡ Some w → to + 15 ≤ w) → IsPacked k to count new e (set S slot v)
+    rise_packed low stay = risen_packed k m n bytes e S p slot v to asked.within asked.more asked.most seated now.least count new e (len ∙ ap length is) fits nibbles p.map_for
+        (excepted_stay k m n bytes e S p slot v to asked.within asked.more asked.most seated now.least low (subst (λ (x : FourBits). (s w : ℕ) → exception_in x.exceptions s ≡ Some w → to + 15 ≤ w) (sym same) stay)) zeros
+
+    -- and with others
+    pub rise_packed_with : (e' : Option ExceptionMap) → IsMapFor x.stored.lg_k e' → ((q : ℕ) → exception_in e' q ≡ cond (eqb q slot) (exception_of to v) (kept_above to (exception_in x.exceptions q))) → IsPacked k to count new e' (set S slot v)
+    rise_packed_with e' map noted = risen_packed k m n bytes e S p slot v to asked.within asked.more asked.most seated now.least count new e' (len ∙ ap length is) fits nibbles (subst (λ (x : FourBits). IsMapFor x.stored.lg_k e') (sym same) map)
+        (excepted_anew k m n bytes e S p slot v to asked.within asked.more asked.most seated now.least e' (subst (λ (x : FourBits). (q : ℕ) → exception_in e' q ≡ cond (eqb q slot) (exception_of to v) (kept_above to (exception_in x.exceptions q))) (sym same) noted)) zeros
