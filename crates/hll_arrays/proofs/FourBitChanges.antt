@@ -1,14 +1,17 @@
 -- Registers of four bits with a greater one at a slot.
 use Rattle.std.proofs.Common.{◌≡◌, ◌≢◌, ℕ, ◌+◌, ◌-◌, ◌*◌, ◌/◌, ◌%◌, ◌^◌, ◌<◌, ◌≤◌, ◌⊎◌, zero, suc, Bool, true, false, eqb, leb, cond, List, [], ◌∷◌, All, Option, Some, None, length, get_or, set, refl, sym, ap, subst, ◌∙◌, arith, inl, inr}
-use Rattle.std.specs.Prelude.{min, fold, count_by}
+use Rattle.std.specs.Prelude.{min, fold, count_by, nat_eq, OnOk, Result, Ok, Err}
+use mir.Val.{bool_byte}
 use Rattle.std.proofs.lemmas.Bool.{cases_Bool, cases_eq, cases_lt, cond-true, cond-false, eqb-true, eqb-false, eq-eqb, le-leb, lt-leb}
 use Rattle.std.proofs.lemmas.List.{length-set, get_or-set_same, get_or-set_other, get_or_default}
-use Rattle.std.proofs.lemmas.Nat.{pow_pos}
+use Rattle.std.proofs.lemmas.Nat.{pow_pos, mod_below}
 use Rattle.std.proofs.Math.Pow.{pow_mono}
 use Rattle.std.proofs.lemmas.List.Sums.{sum_by-cons, sum_by-set}
 use Rattle.hll_arrays.specs.FourBits.{exception_of, exception_in, kept_above, fallen, lowered_by, unpacked, with_register, FourBits, IsMapFor, IsPacked}
 use Rattle.hll_arrays.specs.Packed.{nibble, nibble_at, nibble_bytes_above, minimum, zero_nibbles}
-use Rattle.hll_arrays.specs.Store.{AreRegisters}
+use Rattle.hll_arrays.specs.Store.{AreRegisters, Stored, update_with_coupon}
+use Rattle.hll_arrays.proofs.Raising.{update_with_pairs-low, update_with_pairs-high}
+use Rattle.hll_coupons.specs.Pair.{slot_of, value_of}
 use Rattle.hll_arrays.proofs.FourBits.{bytes_of_nibbles, exception_of-high, exception_of-low, packed_is_of_registers, unpacked_is}
 use Rattle.hll_arrays.proofs.Packing.{minimum_le}
 use Rattle.hll_arrays.proofs.SingleNibbles.{lowered_by-mark, lowered_by-other}
@@ -337,6 +340,19 @@ module _ (k m n : ℕ) (bytes : List ℕ) (e : Option ExceptionMap) (state : Est
       (λ q. put q ∙ ap (λ n. cond (eqb q slot) n (nibble_at bytes q)) nib) len fits is
       (λ q b. noted q ∙ ap (λ o. cond (eqb q slot) o (exception_in e q)) (sym (exception_of-high m v over)))
 
+  -- how many registers stay at the minimum
+  pub left_after : (register byte : ℕ) → register ≡ get_or x.stored.registers slot 0 → byte ≡ bool_byte (nat_eq register m) → n - byte ≡ count_by (λ r. eqb r (minimum x.stored.registers)) (set x.stored.registers slot v)
+  left_after register byte read is =
+      let b : Bool = nat_eq register m in
+      let at : register ≡ get_or R slot 0 = read ∙ ap (λ (x : FourBits). get_or x.stored.registers slot 0) (sym same) in
+      let whole : n - byte + cond b 1 0 ≡ n = rest b byte is in
+      left_over m n (n - byte) R slot v b (omega (arith, here.within, p.registers.size)) (above_minimum k m n bytes e R p slot v here.within here.more here.most) p.count (ap (λ r. eqb r m) at) whole
+      ∙ ap (λ m. count_by (λ r. eqb r m) (set R slot v)) least ∙ ap (λ (x : FourBits). count_by (λ r. eqb r (minimum x.stored.registers)) (set x.stored.registers slot v)) same
+    where
+      rest : (b : Bool) (byte : ℕ) → byte ≡ bool_byte b → n - byte + cond b 1 0 ≡ n
+      rest true byte is = omega (arith, is, p.some)
+      rest false byte is = omega (arith, is)
+
   -- few bytes hold the nibbles
   pub few_bytes : length bytes ≤ 1048576
   few_bytes = omega (arith, p.size, pow_mono {i = k} {j = 21} small)
@@ -397,3 +413,29 @@ module _ (k m n : ℕ) (bytes : List ℕ) (e : Option ExceptionMap) (state : Est
     pub rise_packed_with : (e' : Option ExceptionMap) → IsMapFor x.stored.lg_k e' → ((q : ℕ) → exception_in e' q ≡ cond (eqb q slot) (exception_of to v) (kept_above to (exception_in x.exceptions q))) → IsPacked k to count new e' (set S slot v)
     rise_packed_with e' map noted = risen_packed k m n bytes e S p slot v to asked.within asked.more asked.most seated now.least count new e' (len ∙ ap length is) fits nibbles (subst (λ (x : FourBits). IsMapFor x.stored.lg_k e') (sym same) map)
         (excepted_anew k m n bytes e S p slot v to asked.within asked.more asked.most seated now.least e' (subst (λ (x : FourBits). (q : ℕ) → exception_in e' q ≡ cond (eqb q slot) (exception_of to v) (kept_above to (exception_in x.exceptions q))) (sym same) noted)) zeros
+
+-- ---- a coupon
+
+OnOk-map : {X Y : Type 0} (r : Result X Y) (P Q : Type 0) → (P → Q) → OnOk r P → OnOk r Q
+OnOk-map (Ok x) P Q f h = f h
+OnOk-map (Err e) P Q f h = tt
+
+module _ (k m n : ℕ) (bytes : List ℕ) (e : Option ExceptionMap) (state : EstimateState) (p : IsPacked k m n bytes e (unpacked k m bytes e)) (x : FourBits) (same : seen k m bytes e state ≡ x)
+    (coupon slot size old value : ℕ) (at : slot ≡ slot_of coupon % size) (size_is : size ≡ 2 ^ k) (read : old ≡ get_or x.stored.registers slot 0) (value_is : value ≡ value_of coupon) where
+  full_length : length x.stored.registers ≡ 2 ^ x.stored.lg_k
+  full_length = subst (λ (x : FourBits). length x.stored.registers ≡ 2 ^ x.stored.lg_k) same p.registers.size
+
+  folded : slot ≡ slot_of coupon % 2 ^ x.stored.lg_k
+  folded = at ∙ ap (λ n. slot_of coupon % n) (size_is ∙ ap (λ (x : FourBits). 2 ^ x.stored.lg_k) same)
+
+  register : old ≡ get_or x.stored.registers (slot_of coupon % 2 ^ x.stored.lg_k) 0
+  register = read ∙ ap (λ s. get_or x.stored.registers s 0) folded
+
+  -- one that is no greater changes nothing
+  pub update_less : value ≤ old → x.stored ≡ update_with_coupon x.stored coupon
+  update_less low = update_with_pairs-low x.stored.lg_k x.stored.registers coupon full_length x.stored.state (omega (arith, low, value_is, register))
+
+  -- a greater one is written
+  pub update_more : {Y Z : Type 0} (r : Result Y Z) (new : Stored) → old < value → OnOk r (new ≡ with_register x.stored slot value) → OnOk r (new ≡ update_with_coupon x.stored coupon)
+  update_more r new high h = OnOk-map r _ _ (λ is. is ∙ (λ i. with_register x.stored (folded i) (value_is i))
+      ∙ update_with_pairs-high x.stored.lg_k x.stored.registers coupon full_length x.stored.state (omega (arith, full_length, mod_below (slot_of coupon) (2 ^ x.stored.lg_k) (pow_pos x.stored.lg_k))) (omega (arith, high, value_is, register))) h
