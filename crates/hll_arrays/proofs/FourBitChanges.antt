@@ -2,7 +2,7 @@
 use Rattle.std.proofs.Common.{◌≡◌, ◌≢◌, ℕ, ◌+◌, ◌-◌, ◌*◌, ◌/◌, ◌%◌, ◌^◌, ◌<◌, ◌≤◌, ◌⊎◌, zero, suc, Bool, true, false, eqb, leb, cond, List, [], ◌∷◌, All, Option, Some, None, length, get_or, set, refl, sym, ap, subst, ◌∙◌, arith, inl, inr}
 use Rattle.std.specs.Prelude.{min, fold, count_by, nat_eq, OnOk, Result, Ok, Err}
 use mir.Val.{bool_byte}
-use Rattle.std.proofs.lemmas.Bool.{cases_Bool, cases_eq, cases_lt, cond-true, cond-false, eqb-true, eqb-false, eq-eqb, le-leb, lt-leb}
+use Rattle.std.proofs.lemmas.Bool.{cases_eq, cases_lt, cond-true, cond-false, eq-eqb, le-leb, lt-leb}
 use Rattle.std.proofs.lemmas.List.{length-set, get_or-set_same, get_or-set_other, get_or_default}
 use Rattle.std.proofs.lemmas.Nat.{pow_pos, mod_below}
 use Rattle.std.proofs.Math.Pow.{pow_mono}
@@ -17,12 +17,9 @@ use Rattle.hll_arrays.proofs.Packing.{minimum_le}
 use Rattle.hll_arrays.proofs.SingleNibbles.{lowered_by-mark, lowered_by-other}
 use Rattle.hll_coupons.specs.AuxMap.{ExceptionMap}
 use Rattle.hll_coupons.proofs.MapChanges.{IsEntry, entry_of_value}
-use Rattle.hll_coupons.proofs.Maps.{slot_below}
+use Rattle.hll_coupons.proofs.Maps.{differs, slot_below}
 use Rattle.hll_arrays.specs.declared.estimate_state.EstimateState.{EstimateState}
 use Rattle.hll_arrays.specs.State.{cleared_state}
-
-differs : (a b : ℕ) → a ≢ b → eqb a b ≡ false
-differs a b h = elim (cases_Bool (eqb a b)) [ inl t ↦ absurd (h (eqb-true a b t)) | inr f ↦ f ]
 
 -- the register at each slot
 pub at_set : (R : List ℕ) (slot v q : ℕ) → slot < length R → get_or (set R slot v) q 0 ≡ cond (eqb q slot) v (get_or R q 0)

@@ -1,13 +1,13 @@
 -- Registers of four bits: what is kept is the packed form of the registers.
-use Rattle.std.proofs.Common.{◌≡◌, ℕ, ◌+◌, ◌-◌, ◌*◌, ◌/◌, ◌%◌, ◌^◌, ◌<◌, ◌≤◌, ◌⊎◌, zero, suc, Bool, true, false, eqb, leb, cond, List, [], ◌∷◌, ◌++◌, All, Option, Some, None, length, replicate, take, map, get_or, refl, sym, ap, subst, ◌∙◌, arith, inl, inr}
-use Rattle.std.specs.Prelude.{min, fold, filter, count_by, nat_le, OnErr, Result, Ok, Err}
-use Rattle.std.specs.List.{range_with_len}
+use Rattle.std.proofs.Common.{◌≡◌, ℕ, ◌+◌, ◌-◌, ◌*◌, ◌/◌, ◌%◌, ◌^◌, ◌<◌, ◌≤◌, ◌⊎◌, zero, suc, Bool, true, false, eqb, leb, cond, ◌&&◌, List, [], ◌∷◌, ◌++◌, All, Option, Some, None, length, replicate, take, get_or, refl, sym, ap, subst, ◌∙◌, arith, inl, inr}
+use Rattle.std.specs.Prelude.{min, fold, filter, count_by, OnErr, Result, Ok, Err}
+use Rattle.std.specs.List.{list_all}
 use Rattle.std.specs.Cmp.{nat_cmp_total, both_ways}
-use Rattle.std.specs.FinSet.{contains, same_set, nat_cmp-IsAntisymmetric}
-use Rattle.std.proofs.lemmas.Bool.{cases_Bool, cases_lt, cond-true, cond-false, eqb-true, eq-eqb, leb-true, le-leb, lt-leb, true≢false}
+use Rattle.std.specs.FinSet.{same_set, nat_cmp-IsAntisymmetric}
+use Rattle.std.proofs.lemmas.Bool.{cases_Bool, cases_eq, cases_lt, cond-true, cond-false, eqb-true, eq-eqb, leb-true, le-leb, lt-leb, true≢false}
 use Rattle.std.proofs.lemmas.List.{ext_get_or, length-append, length-replicate, get_or-replicate, get_or_default}
 use Rattle.std.proofs.lemmas.List.Elements.{All-tail, All-append}
-use Rattle.std.proofs.lemmas.List.Sums.{length-filter, sum_by-cons}
+use Rattle.std.proofs.lemmas.List.Sums.{count_by-le-length, length-filter, sum_by-cons}
 use Rattle.std.proofs.lemmas.Nat.{pow_pos}
 use Rattle.std.proofs.lemmas.List.FromFn.{length-map-range_with_len, get_or-map-range_with_len}
 use Rattle.std.proofs.Math.Nat.{zero-add, zero-div, pow-suc}
@@ -17,7 +17,7 @@ use Rattle.hll_coupons.specs.Pair.{pair, set_of, slot_of, value_of}
 use Rattle.hll_coupons.specs.Table.{coupons_in}
 use Rattle.hll_coupons.proofs.Listed.{has, contains-has}
 use Rattle.hll_coupons.proofs.MapChanges.{IsEntry, entry_of_value}
-use Rattle.hll_coupons.proofs.Maps.{slot_below, value_found}
+use Rattle.hll_coupons.proofs.Maps.{differs, slot_below, value_found}
 use Rattle.hll_coupons.proofs.Pairs.{IsEntryOf, of_value}
 use Rattle.hll_coupons.proofs.Places.{coupons_in-replicate}
 use Rattle.hll_coupons.proofs.Putting.{last_of_all}
@@ -373,3 +373,46 @@ pub fold_more : (a i : ℕ) (xs : List ℕ) → i < length xs → fold min a (ta
 fold_more a i [] h = absurd (omega arith)
 fold_more a zero (x ∷ xs) h = refl
 fold_more a (suc i) (x ∷ xs) h = ap (λ n. fold min a (take n (x ∷ xs))) (let e : suc i + 1 ≡ suc (i + 1) = omega arith in e) ∙ fold_more (min a x) i xs (omega (arith, h))
+
+-- ---- counts of zeros
+
+count_above : (m : ℕ) (R : List ℕ) → 0 < m → ((s : ℕ) → s < length R → m ≤ get_or R s 0) → count_by (λ r. eqb r 0) R ≡ 0
+count_above m [] some h = refl
+count_above m (r ∷ R) some h =
+    let first : ◌≡◌ {A = ℕ} (cond (eqb r 0) 1 0) 0 = cond-false (eqb r 0) 1 0 (elim (cases_Bool (eqb r 0)) [ inl t ↦ absurd (omega (arith, some, h 0 (omega arith), eqb-true r 0 t)) | inr f ↦ f ]) in
+    omega (arith, sum_by-cons (λ r. cond (eqb r 0) 1 0) r R, first, count_above m R some (λ s l. h (suc s) (omega (arith, l))))
+
+-- without zeros at the minimum there are none
+pub zeros_packed : (k m n : ℕ) (bytes : List ℕ) (e : Option ExceptionMap) (R : List ℕ) → IsPacked k m n bytes e R → cond (eqb m 0) n 0 ≡ count_by (λ r. eqb r 0) R
+zeros_packed k m n bytes e R p = elim (cases_Bool (eqb m 0)) [
+  | inl t ↦ cond-true (eqb m 0) n 0 t ∙ p.count ∙ ap (λ m. count_by (λ r. eqb r m) R) (eqb-true m 0 t)
+  | inr f ↦
+      let some : 0 < m = positive m f in
+      cond-false (eqb m 0) n 0 f ∙ sym (count_above m R some (λ s l. p.least s (omega (arith, l, p.registers.size))))
+]
+  where
+    positive : (m : ℕ) → eqb m 0 ≡ false → 0 < m
+    positive zero f = absurd (true≢false f)
+    positive (suc m) f = omega arith
+
+one_more : (a b : ℕ) → eqb (suc a) (suc b) ≡ eqb a b
+one_more a b = elim (cases_eq a b) [
+  | inl e ↦ eq-eqb (suc a) (suc b) (ap suc e) ∙ sym (eq-eqb a b e)
+  | inr other ↦ differs (suc a) (suc b) (λ e. other (omega (arith, e))) ∙ sym (differs a b other)
+]
+
+-- all pass exactly if as many pass as there are
+pub all_by_count : (p : ℕ → Bool) (R : List ℕ) → eqb (count_by p R) (length R) ≡ list_all p R
+all_by_count p [] = refl
+all_by_count p (r ∷ R) = decide (p r) refl (all_by_count p R)
+  where
+    decide : (b : Bool) → p r ≡ b → eqb (count_by p R) (length R) ≡ list_all p R → eqb (count_by p (r ∷ R)) (length (r ∷ R)) ≡ (b && list_all p R)
+    decide true e rest =
+        let one : ◌≡◌ {A = ℕ} (cond (p r) 1 0) 1 = cond-true (p r) 1 0 e in
+        ap (λ n. eqb n (length (r ∷ R))) (let s : count_by p (r ∷ R) ≡ suc (count_by p R) = omega (arith, sum_by-cons (λ r. cond (p r) 1 0) r R, one) in s) ∙ one_more (count_by p R) (length R) ∙ rest
+    decide false e rest =
+        let none : ◌≡◌ {A = ℕ} (cond (p r) 1 0) 0 = cond-false (p r) 1 0 e in
+        elim (cases_Bool (eqb (count_by p (r ∷ R)) (length (r ∷ R)))) [
+          | inl t ↦ absurd (omega (arith, sum_by-cons (λ r. cond (p r) 1 0) r R, none, count_by-le-length p R, eqb-true (count_by p (r ∷ R)) (length (r ∷ R)) t))
+          | inr f ↦ f
+        ]

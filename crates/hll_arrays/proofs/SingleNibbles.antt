@@ -1,11 +1,11 @@
 -- Single nibbles of bytes, and nibbles that are lowered.
-use Rattle.std.proofs.Common.{◌≡◌, ◌≢◌, ℕ, ◌+◌, ◌-◌, ◌*◌, ◌/◌, ◌%◌, ◌^◌, ◌<◌, ◌≤◌, ◌⊎◌, zero, suc, Bool, true, false, eqb, cond, List, [], ◌∷◌, ◌++◌, All, length, take, map, get_or, refl, sym, ap, ◌∙◌, arith, inl, inr}
-use Rattle.std.specs.Prelude.{count_by}
-use Rattle.std.proofs.lemmas.Bool.{cases_Bool, cases_eq, cond-true, cond-false, eqb-true, eqb-false, eq-eqb}
+use Rattle.std.proofs.Common.{◌≡◌, ◌≢◌, ℕ, ◌+◌, ◌-◌, ◌*◌, ◌/◌, ◌%◌, ◌^◌, ◌<◌, ◌⊎◌, zero, suc, true, false, eqb, cond, List, [], ◌∷◌, All, length, map, get_or, refl, sym, ap, ◌∙◌, arith, inl, inr}
+use Rattle.std.proofs.lemmas.Bool.{cases_Bool, cases_eq, cond-true, cond-false, eqb-true, eq-eqb}
 use Rattle.std.proofs.lemmas.List.{length-map, get_or-map}
 use Rattle.std.proofs.lemmas.List.Elements.{All-tail, All-from_get_or}
 use Rattle.std.proofs.lemmas.List.Sums.{sum_by-cons}
 use Rattle.std.proofs.lemmas.Nat.{mod_below}
+use Rattle.hll_coupons.proofs.Maps.{differs}
 use Rattle.hll_arrays.specs.FourBits.{lowered_by}
 use Rattle.hll_arrays.specs.Packed.{nibble_at, lowered_nibble, lowered_byte, zero_nibbles}
 
@@ -65,9 +65,6 @@ nibble_at-lowered (b ∷ bs) fits (suc (suc s)) h =
     ∙ ap lowered_nibble (sym (nibble_at-tail b bs s))
 
 -- ---- several steps
-
-differs : (a b : ℕ) → a ≢ b → eqb a b ≡ false
-differs a b h = elim (cases_Bool (eqb a b)) [ inl t ↦ absurd (h (eqb-true a b t)) | inr f ↦ f ]
 
 pub lowered_by-mark : (d n : ℕ) → n ≡ 15 → lowered_by d n ≡ 15
 lowered_by-mark d n e = cond-true (eqb n 15) 15 (n - d) (eq-eqb n 15 e)

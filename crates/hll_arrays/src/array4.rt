@@ -1,15 +1,18 @@
 //! Registers of four bits: nibbles above a minimum, and a map of exceptions (docs/MODEL.md, "Registers of four bits").
 ghost use Rattle.std.specs.Prelude.{◌≡◌, ◌≢◌, ◌+◌, ◌*◌, ◌^◌, ◌<◌, ◌≤◌, ◌==◌, ℕ, if◌then◌else◌, count_by, slice_index, slice_set, IfOk, IfErr, IfSome, OnOk, OnErr, Some, None};
+ghost use Rattle.std.specs.List.{list_all};
 ghost use Rattle.hll_base.specs.declared.error.Reason.TheVariants.{Memory};
 ghost use Rattle.hll_arrays.specs.FourBits.{exception_in, exception_of, kept_above, with_register, FourBits, IsMapFor};
-ghost use Rattle.hll_arrays.specs.Packed.{minimum, count_at_minimum, nibble};
+ghost use Rattle.hll_arrays.specs.Packed.{minimum, count_at_minimum, nibble, zeros};
 ghost use Rattle.hll_arrays.specs.State.{cleared_state};
 ghost use Rattle.hll_arrays.specs.Store.{zero_registers, update_with_coupon, IsStored};
 
 use crate::estimate_state::EstimateState;
-use crate::exception_map::{MARK, exception_at, exceptions_above, put_exception, repack, stay};
+use crate::exception_map::{
+    MARK, copied, exception_at, exceptions_above, put_exception, repack, stay,
+};
 use crate::nibbles::{count_zero_nibbles, nibble_of, put_nibble};
-use crate::registers::two_to;
+use crate::registers::{Registers, two_to};
 use hll_base::error::Error;
 use hll_coupons::aux_map::AuxMap;
 use hll_coupons::coupon::Coupon;
@@ -123,6 +126,24 @@ impl<A: Allocator> Array4<A> {
         }
     }
 
+    /// Whether all registers are 0. Takes no memory.
+    pub fn is_empty(&self) -> bool
+        ensures { result ≡ list_all (λ v. v == 0) self.now.stored.registers }
+    {
+        self.num_zeros() as usize == two_to(self.lg_config_k)
+    }
+
+    /// How many registers are 0. Takes no memory.
+    pub fn num_zeros(&self) -> u32
+        ensures { result ≡ zeros self.now.stored.registers }
+    {
+        if self.cur_min == 0 {
+            self.num_at_cur_min
+        } else {
+            0
+        }
+    }
+
     /// The estimate state. Takes no memory.
     pub fn estimate_state(&self) -> EstimateState
         ensures { result ≡ self.now.stored.state }
@@ -157,6 +178,23 @@ impl<A: Allocator> Array4<A> {
 }
 
 impl<A: Allocator + Clone> Array4<A> {
+    /// A copy, with the same places of the map.
+    ///
+    /// Fails with `Memory`.
+    pub fn clone(&self) -> Result<Array4<A>, Error>
+        ensures ok { IfOk result (λ a. a ≡ self.now) }
+        ensures err { IfErr result (λ e. e ≡ Memory) }
+    {
+        Ok(Array4 {
+            lg_config_k: self.lg_config_k,
+            cur_min: self.cur_min,
+            num_at_cur_min: self.num_at_cur_min,
+            nibbles: Vec::from_slice(self.nibbles.allocator().clone()?, &self.nibbles)?,
+            exceptions: copied(&self.exceptions)?,
+            state: self.state,
+        })
+    }
+
     /// Raises the register at the coupon's slot modulo 2^`lg_k` to the coupon's value. If it changes, the state is
     /// cleared.
     ///
@@ -311,5 +349,25 @@ impl<A: Allocator + Clone> Array4<A> {
         self.cur_min = least;
         self.num_at_cur_min = count_zero_nibbles(&self.nibbles);
         self.state = EstimateState::CLEARED;
+    }
+}
+
+impl<A: Allocator> Registers for Array4<A> {
+    ghost stored = { λ a. a.stored };
+
+    fn lg_k(&self) -> u8 {
+        Array4::lg_k(self)
+    }
+
+    fn num_registers(&self) -> usize {
+        Array4::num_registers(self)
+    }
+
+    fn get(&self, slot: u32) -> u8 {
+        Array4::get(self, slot)
+    }
+
+    fn estimate_state(&self) -> EstimateState {
+        Array4::estimate_state(self)
     }
 }

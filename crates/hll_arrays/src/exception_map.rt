@@ -25,6 +25,19 @@ pub(crate) fn exception_at<A: Allocator>(map: &Option<AuxMap<A>>, slot: u32) -> 
     }
 }
 
+/// A copy, with the same places.
+pub(crate) fn copied<A: Allocator + Clone>(
+    map: &Option<AuxMap<A>>,
+) -> Result<Option<AuxMap<A>>, Error>
+    ensures ok { IfOk result (λ copy. copy ≡ map.now) }
+    ensures err { IfErr result (λ e. e ≡ Memory) }
+{
+    match map {
+        Some(map) => Ok(Some(map.clone()?)),
+        None => Ok(None),
+    }
+}
+
 /// A map of one entry.
 fn one_entry<A: Allocator + Clone>(
     alloc: A,

@@ -15,7 +15,7 @@ use Rattle.hll_coupons.specs.Probe.{IsFirstFor, IsProbed, IsAbsent, Puts, place_
 use Rattle.hll_coupons.specs.Table.{Table, IsTable, coupons_in, coupons_of}
 use Rattle.hll_coupons.proofs.Greatest.{same_word}
 use Rattle.hll_coupons.proofs.Listed.{has, contains-has, finds}
-use Rattle.hll_coupons.proofs.Maps.{for_all, slot_below, value_found, value_absent, absent_of_value, map_size, size_kept, size_doubled, small_table}
+use Rattle.hll_coupons.proofs.Maps.{differs, for_all, slot_below, value_found, value_absent, absent_of_value, map_size, size_kept, size_doubled, small_table}
 use Rattle.hll_coupons.proofs.Putting.{Stands, stands, found_at_place, PutAt, put_at, length-put, members-put}
 use Rattle.hll_coupons.proofs.Searching.{keys_are_distinct, IsProbed-puts}
 use Rattle.hll_coupons.proofs.Registers.{slot_of-pair, value_of-pair}
@@ -187,9 +187,6 @@ module _ (m : ExceptionMap) (is : IsMap m) (slot value p : ℕ) (within : p < le
         ]
       ]
         where
-          differs : (a b : ℕ) → a ≢ b → eqb a b ≡ false
-          differs a b h = elim (cases_Bool (eqb a b)) [ inl t ↦ absurd (h (eqb-true a b t)) | inr f ↦ f ]
-
           not_zero : (a : ℕ) → a ≢ 0 → eqb a 0 ≡ false
           not_zero a h = differs a 0 h
 

@@ -98,7 +98,7 @@ absent_of_value m is s none p within full same =
     let both : Some (value_of w) ≡ None = sym (value_found m is w there) ∙ ap (value_in m) same ∙ none in
     cc
 
-differs : (a b : ℕ) → a ≢ b → eqb a b ≡ false
+pub differs : (a b : ℕ) → a ≢ b → eqb a b ≡ false
 differs a b h = elim (cases_Bool (eqb a b)) [ inl t ↦ absurd (h (eqb-true a b t)) | inr f ↦ f ]
 
 -- where a search ends at an entry, and where it ends at an empty place or went through the table

@@ -1,8 +1,8 @@
 -- The entries of a map as pairs of a slot and a value.
-use Rattle.std.proofs.Common.{◌≡◌, ℕ, true, ◌^◌, ◌<◌, ◌≤◌, List, All, Option, Some, length, map, get_or, sym, ap, ◌∙◌, subst, arith}
+use Rattle.std.proofs.Common.{◌≡◌, ℕ, true, ◌^◌, ◌<◌, ◌≤◌, List, All, Some, length, get_or, sym, ap, ◌∙◌, subst, arith}
 use Rattle.std.proofs.lemmas.List.{length-map, get_or-map}
 use Rattle.hll_coupons.specs.AuxMap.{ExceptionMap, IsMap, entry_of, entries_in, value_in}
-use Rattle.hll_coupons.specs.Pair.{IsPair, slot_of, value_of}
+use Rattle.hll_coupons.specs.Pair.{IsPair}
 use Rattle.hll_coupons.specs.Table.{coupons_in}
 use Rattle.hll_coupons.proofs.Listed.{has, has-at, at_index}
 use Rattle.hll_coupons.proofs.MapChanges.{IsEntry, entry_of_value}

@@ -1,5 +1,5 @@
 -- Iterators that give a list from its first item on.
-use Rattle.std.proofs.Common.{◌≡◌, ◌∙◌, ap, sym, ℕ, List, [], ◌∷◌, ◌++◌}
+use Rattle.std.proofs.Common.{◌≡◌, ◌∙◌, ap, sym, List, [], ◌∷◌, ◌++◌}
 use Rattle.std.specs.Iterator.{Yields, YieldsFirst}
 
 -- what was given and what is left is what there was

@@ -1,4 +1,4 @@
-use Rattle.std.proofs.Common.{arith, ◌≡◌, ℕ, ◌+◌, ◌^◌, ◌<◌, ◌≤◌, ◌∷◌, All, Some, ◌∙◌, sym, ap, subst}
+use Rattle.std.proofs.Common.{◌^◌, ◌<◌, All, ◌∙◌, sym, subst}
 use Rattle.std.proofs.lemmas.List.{append-nil}
 use Rattle.hll_coupons.specs.AuxMap.{entries_in}
 use Rattle.hll_coupons.proofs.Pairs.{IsEntryOf, entries_are}

@@ -1,5 +1,4 @@
-use Rattle.std.proofs.Common.{◌≡◌, ◌∙◌, Some, None, eqb, cond, ap, subst}
-use Rattle.hll_arrays.specs.FourBits.{IsMapFor}
+use Rattle.std.proofs.Common.{◌∙◌, Some, eqb, cond, ap}
 use Rattle.hll_arrays.proofs.FourBits.{value_in-empty}
 use Rattle.hll_arrays.proofs.exception_map.one_entry.Goals as goal
 

@@ -1,4 +1,4 @@
-use Rattle.std.proofs.Common.{ℕ, ◌≡◌, ◌<◌, ◌^◌, ◌∙◌, sym, ap, subst, slice_index}
+use Rattle.std.proofs.Common.{ℕ, ◌<◌, ◌^◌, ◌∙◌, sym, ap, subst, slice_index}
 use Rattle.hll_arrays.specs.FourBits.{FourBits, exception_of, unpacked}
 use Rattle.hll_arrays.specs.Packed.{minimum}
 use Rattle.hll_arrays.proofs.FourBits.{packed_is_of_registers}

@@ -1,5 +1,5 @@
-use Rattle.std.proofs.Common.{arith, ℕ, ◌≡◌, ◌∙◌, ◌^◌, ◌-◌, ◌≤◌, None, List, replicate, sym, ap, subst}
-use Rattle.hll_arrays.specs.FourBits.{IsPacked, FourBits}
+use Rattle.std.proofs.Common.{ℕ, ◌≡◌, ◌∙◌, ◌^◌, ◌-◌, ◌≤◌, None, List, replicate, sym, ap, subst}
+use Rattle.hll_arrays.specs.FourBits.{IsPacked}
 use Rattle.hll_arrays.specs.State.{cleared_state}
 use Rattle.hll_arrays.proofs.FourBits.{packed_here, packed_zeros, unpacked_is}
 use Rattle.hll_arrays.proofs.States.{IsState-cleared}

@@ -1,10 +1,9 @@
-use Rattle.std.proofs.Common.{arith, ℕ, ◌≡◌, ◌<◌, ◌≤◌, ◌-◌, ◌∙◌, List, All, eqb, cond, set, sym, ap, subst, length}
+use Rattle.std.proofs.Common.{◌≡◌, ◌<◌, ◌∙◌, All, eqb, cond, set, sym, ap, subst, length}
 use Rattle.std.proofs.lemmas.List.{with_items_is}
 use Rattle.std.specs.Vec.{with_items}
 use Rattle.hll_arrays.specs.FourBits.{IsPacked, unpacked}
 use Rattle.hll_arrays.specs.Packed.{nibble_at}
-use Rattle.hll_arrays.specs.State.{IsState}
-use Rattle.hll_arrays.proofs.FourBits.{packed_here, packed_is_of_registers}
+use Rattle.hll_arrays.proofs.FourBits.{packed_here}
 use Rattle.hll_arrays.proofs.FourBitChanges.{high_packed, seen_after}
 use Rattle.hll_arrays.proofs.States.{IsState-cleared}
 use Rattle.hll_arrays.proofs.array4.Array4.put_high.Given.{Over}

@@ -1,9 +1,8 @@
-use Rattle.std.proofs.Common.{arith, ℕ, ◌≡◌, ◌<◌, ◌≤◌, ◌-◌, ◌∙◌, List, All, eqb, cond, set, sym, ap, subst, length}
+use Rattle.std.proofs.Common.{arith, ◌≡◌, ◌<◌, ◌-◌, ◌∙◌, All, eqb, cond, set, sym, ap, subst, length}
 use Rattle.std.proofs.lemmas.List.{with_items_is}
 use Rattle.std.specs.Vec.{with_items}
 use Rattle.hll_arrays.specs.FourBits.{FourBits, IsPacked, unpacked}
 use Rattle.hll_arrays.specs.Packed.{minimum, nibble_at}
-use Rattle.hll_arrays.specs.State.{IsState}
 use Rattle.hll_arrays.proofs.FourBits.{packed_here, packed_is_of_registers}
 use Rattle.hll_arrays.proofs.FourBitChanges.{low_packed, seen_after}
 use Rattle.hll_arrays.proofs.States.{IsState-cleared}

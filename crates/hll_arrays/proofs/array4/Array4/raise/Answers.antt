@@ -1,9 +1,8 @@
-use Rattle.std.proofs.Common.{arith, ℕ, ◌≡◌, ◌+◌, ◌-◌, ◌<◌, ◌^◌, ◌∙◌, Bool, true, false, cond, eqb, nat_eq, length, get_or, refl, sym, ap, subst}
-use mir.Val.{bool_byte}
-use Rattle.hll_arrays.specs.FourBits.{FourBits, IsPacked, unpacked}
+use Rattle.std.proofs.Common.{arith, ◌∙◌, sym, ap}
+use Rattle.hll_arrays.specs.FourBits.{FourBits}
 use Rattle.hll_arrays.specs.Packed.{minimum, count_at_minimum}
 use Rattle.hll_arrays.proofs.FourBits.{packed_is_of_registers}
-use Rattle.hll_arrays.proofs.FourBitChanges.{seen, IsRaise, left_after}
+use Rattle.hll_arrays.proofs.FourBitChanges.{left_after}
 use Rattle.hll_arrays.proofs.array4.Array4.raise.Goals as goal
 
 pub rise-requires-clause-at : goal.rise-requires-clause-at
