@@ -128,7 +128,7 @@ fn one_to_twenty(rt: HostRuntime) -> Result<(), Fail> {
         assert_eq!(rt;
             (
                 array.cur_min(),
-                array.num_at_cur_min() + slot,
+                array.num_at_cur_min().saturating_add(slot),
                 seen_at(&array, slot)
             ),
             (1, 15, (15, Some(20), 20))
@@ -174,7 +174,7 @@ fn neighbours(rt: HostRuntime) -> Result<(), Fail> {
 /// After each coupon the registers are those of eight bits.
 #[test]
 fn beside_eight_bits(rt: HostRuntime) -> Result<(), Fail> {
-    let mut exceptions = 0usize;
+    let mut excepted = false;
     for lg_k in 4..8u8 {
         let mut four = Array4::new(rt.alloc(), lg_k)?;
         let mut eight = Array8::new(rt.alloc(), lg_k)?;
@@ -184,11 +184,11 @@ fn beside_eight_bits(rt: HostRuntime) -> Result<(), Fail> {
             assert_packed(&rt, &four, eight.values());
         }
         assert_eq!(rt; four.num_zeros(), eight.num_zeros());
-        exceptions += (0..1u32 << lg_k)
-            .filter(|slot| seen_at(&four, *slot).1.is_some())
-            .count();
+        for slot in 0..1u32 << lg_k {
+            excepted = excepted || seen_at(&four, slot).1.is_some();
+        }
     }
-    assert!(rt; 0 < exceptions);
+    assert!(rt; excepted);
     Ok(())
 }
 
