@@ -1,18 +1,18 @@
 -- Registers of four bits with a greater one at a slot.
 use Rattle.std.proofs.Common.{◌≡◌, ◌≢◌, ℕ, ◌+◌, ◌-◌, ◌*◌, ◌/◌, ◌%◌, ◌^◌, ◌<◌, ◌≤◌, ◌⊎◌, zero, suc, Bool, true, false, eqb, leb, cond, List, [], ◌∷◌, All, Option, Some, None, length, get_or, set, refl, sym, ap, subst, ◌∙◌, arith, inl, inr}
-use Rattle.std.specs.Prelude.{min, fold, count_by, nat_eq, OnOk, Result, Ok, Err}
+use Rattle.std.specs.Prelude.{min, fold, count_by, nat_eq, OnOk, OnErr, Result, Ok, Err}
 use mir.Val.{bool_byte}
-use Rattle.std.proofs.lemmas.Bool.{cases_eq, cases_lt, cond-true, cond-false, eq-eqb, le-leb, lt-leb}
+use Rattle.std.proofs.lemmas.Bool.{cases_eq, cases_lt, cond-true, cond-false, eq-eqb, le-leb, lt-leb, true≢false}
 use Rattle.std.proofs.lemmas.List.{length-set, get_or-set_same, get_or-set_other, get_or_default}
 use Rattle.std.proofs.lemmas.Nat.{pow_pos, mod_below}
 use Rattle.std.proofs.Math.Pow.{pow_mono}
 use Rattle.std.proofs.lemmas.List.Sums.{sum_by-cons, sum_by-set}
-use Rattle.hll_arrays.specs.FourBits.{exception_of, exception_in, kept_above, fallen, lowered_by, unpacked, with_register, FourBits, IsMapFor, IsPacked}
+use Rattle.hll_arrays.specs.FourBits.{exception_of, exception_in, kept_above, fallen, lowered_by, unpacked, with_register, has_exception, ExceptionsMove, FourBits, IsMapFor, IsPacked}
 use Rattle.hll_arrays.specs.Packed.{nibble, nibble_at, nibble_bytes_above, minimum, zero_nibbles}
 use Rattle.hll_arrays.specs.Store.{AreRegisters, Stored, update_with_coupon}
 use Rattle.hll_arrays.proofs.Raising.{update_with_pairs-low, update_with_pairs-high}
 use Rattle.hll_coupons.specs.Pair.{slot_of, value_of}
-use Rattle.hll_arrays.proofs.FourBits.{bytes_of_nibbles, exception_of-high, exception_of-low, packed_is_of_registers, unpacked_is}
+use Rattle.hll_arrays.proofs.FourBits.{bytes_of_nibbles, exception_of-high, exception_of-low, minimum_is, packed_is_of_registers, unpacked_is}
 use Rattle.hll_arrays.proofs.Packing.{minimum_le}
 use Rattle.hll_arrays.proofs.SingleNibbles.{lowered_by-mark, lowered_by-other}
 use Rattle.hll_coupons.specs.AuxMap.{ExceptionMap}
@@ -56,6 +56,20 @@ left_over m n left R slot v b within above count e rest =
     let one : ◌≡◌ {A = ℕ} (cond b 1 0) (cond (eqb (get_or R slot 0) m) 1 0) = ap (λ b. cond b 1 0) e in
     omega (arith, count_set m R slot v within above, count, rest, one)
 
+-- ---- slots with an exception
+
+has_exception-high : (m : ℕ) (R : List ℕ) (s : ℕ) → m ≡ minimum R → m + 15 ≤ get_or R s 0 → has_exception R s ≡ true
+has_exception-high m R s least high = le-leb (minimum R + 15) (get_or R s 0) (omega (arith, least, high))
+
+has_exception-low : (m : ℕ) (R : List ℕ) (s : ℕ) → m ≡ minimum R → get_or R s 0 < m + 15 → has_exception R s ≡ false
+has_exception-low m R s least low = lt-leb (minimum R + 15) (get_or R s 0) (omega (arith, least, low))
+
+true_other : (a b : Bool) → a ≡ true → b ≡ false → a ≢ b
+true_other a b t f same = true≢false (sym t ∙ same ∙ f)
+
+false_other : (a b : Bool) → a ≡ false → b ≡ true → a ≢ b
+false_other a b f t same = true_other b a t f (sym same)
+
 -- ---- a greater register, where the minimum stays
 
 module _ (k m n : ℕ) (bytes : List ℕ) (e : Option ExceptionMap) (R : List ℕ) (p : IsPacked k m n bytes e R) (slot v : ℕ) (within : slot < 2 ^ k) (more : get_or R slot 0 < v) (most : v ≤ 63) where
@@ -92,6 +106,33 @@ module _ (k m n : ℕ) (bytes : List ℕ) (e : Option ExceptionMap) (R : List �
         none ∙ sym (cond-true (eqb q slot) (exception_of m v) (exception_in e q) (eq-eqb q slot same) ∙ exception_of-low m v low)
     | inr other ↦ sym (cond-false (eqb q slot) (exception_of m v) (exception_in e q) (differs q slot other))
   ]
+
+  -- where it is one, the exceptions change, if the slot had none
+  pub raised_moves : 0 < count_by (λ r. eqb r m) (set R slot v) → m + 15 ≤ v → exception_in e slot ≡ None → ExceptionsMove k R (set R slot v)
+  raised_moves some high none =
+      let before : m ≡ minimum R = minimum_is m R p.registers.small (λ s l. p.least s (omega (arith, l, p.registers.size))) (omega (arith, p.some, p.count)) in
+      let legal = registers_set k R slot v p.registers within most in
+      let after : m ≡ minimum (set R slot v) = minimum_is m (set R slot v) legal.small (λ q l. subst (λ r. m ≤ r) (sym (at_set R slot v q inside)) (no_less q (omega (arith, l, legal.size)))) some in
+      let now = has_exception-high m (set R slot v) slot after (omega (arith, high, get_or-set_same R slot v 0 inside)) in
+      record {
+        moved = slot;
+        moved_within = within;
+        moves = false_other (has_exception R slot) (has_exception (set R slot v) slot) (has_exception-low m R slot before (below (cases_lt (get_or R slot 0) (m + 15)))) now;
+        left = slot;
+        left_within = within;
+        leaves = now;
+      }
+    where
+      no_less : (q : ℕ) → q < 2 ^ k → m ≤ cond (eqb q slot) v (get_or R q 0)
+      no_less q l = either (eqb q slot)
+        where
+          either : (b : Bool) → m ≤ cond b v (get_or R q 0)
+          either true = omega (arith, above_minimum)
+          either false = p.least q l
+
+      below : (get_or R slot 0 < m + 15) ⊎ (m + 15 ≤ get_or R slot 0) → get_or R slot 0 < m + 15
+      below (inl l) = l
+      below (inr g) = let both : None ≡ Some (get_or R slot 0) = sym none ∙ p.excepted slot within ∙ exception_of-high m (get_or R slot 0) g in cc
 
 -- ---- the only register at the minimum rises
 
@@ -147,6 +188,13 @@ zero_nibbles_are m bytes (r ∷ q ∷ R) e (suc h) even low =
       rest,
     )
 
+-- an exception is the register of another slot
+record IsException (k m : ℕ) (R : List ℕ) (slot s w : ℕ) : Type 0 where
+  within : s < 2 ^ k
+  over : m + 15 ≤ w
+  register : get_or R s 0 ≡ w
+  other : s ≢ slot
+
 module _ (k m n : ℕ) (bytes : List ℕ) (e : Option ExceptionMap) (R : List ℕ) (p : IsPacked k m n bytes e R) (slot v to : ℕ) (within : slot < 2 ^ k) (more : get_or R slot 0 < v) (most : v ≤ 63)
     (at : get_or R slot 0 ≡ m) (least : to ≡ minimum (set R slot v)) where
   abbrev Q : List ℕ
@@ -160,6 +208,9 @@ module _ (k m n : ℕ) (bytes : List ℕ) (e : Option ExceptionMap) (R : List �
 
   elsewhere : (q : ℕ) → q ≢ slot → get_or Q q 0 ≡ get_or R q 0
   elsewhere q other = get_or-set_other R slot q v 0 other
+
+  before : m ≡ minimum R
+  before = minimum_is m R p.registers.small (λ s l. p.least s (omega (arith, l, p.registers.size))) (omega (arith, p.some, p.count))
 
   pub to_le : (q : ℕ) → q < 2 ^ k → to ≤ get_or Q q 0
   to_le q l = omega (arith, least, minimum_le Q q (omega (arith, l, legal.size)))
@@ -187,28 +238,33 @@ module _ (k m n : ℕ) (bytes : List ℕ) (e : Option ExceptionMap) (R : List �
         | inr over ↦ inl (let n : nibble m r ≡ 15 = omega (arith, over) in p.nibbles q inside ∙ n)
       ]
 
-  -- and of the exceptions
-  no_exception_here : exception_in e slot ≡ None
-  no_exception_here = p.excepted slot within ∙ exception_of-low m (get_or R slot 0) (omega (arith, at))
-
-  pub above : (s w : ℕ) → exception_in e s ≡ Some w → to ≤ w
-  above s w is =
-      let inside : s < 2 ^ k = slot_within k e p.map_for s w is in
-      let r : ℕ = get_or R s 0 in
-      elim (cases_lt r (m + 15)) [
-        | inl under ↦ let none : Some w ≡ None = sym is ∙ p.excepted s inside ∙ exception_of-low m r under in cc
-        | inr over ↦
-            let both : Some w ≡ Some r = sym is ∙ p.excepted s inside ∙ exception_of-high m r over in
-            let value : w ≡ r = cc in
-            let other : s ≢ slot = λ same. omega (arith, over, ap (λ i. get_or R i 0) same, at) in
-            omega (arith, to_le s inside, elsewhere s other, value)
-      ]
+  -- each exception is the register of another slot
+  exception_is : (s w : ℕ) → exception_in e s ≡ Some w → IsException k m R slot s w
+  exception_is s w is = elim (cases_lt (get_or R s 0) (m + 15)) [
+    | inl under ↦ let none : Some w ≡ None = sym is ∙ p.excepted s there_too ∙ exception_of-low m (get_or R s 0) under in cc
+    | inr over ↦
+        let both : Some w ≡ Some (get_or R s 0) = sym is ∙ p.excepted s there_too ∙ exception_of-high m (get_or R s 0) over in
+        let value : get_or R s 0 ≡ w = cc in
+        record { within = there_too; over = omega (arith, over, value); register = value; other = λ same. omega (arith, over, ap (λ i. get_or R i 0) same, at) }
+  ]
     where
       slot_within : (k : ℕ) (e : Option ExceptionMap) → IsMapFor k e → (s w : ℕ) → exception_in e s ≡ Some w → s < 2 ^ k
       slot_within k None u s w is = cc
       slot_within k (Some t) (map, lg, some) s w is =
           let entry : IsEntry t s w = entry_of_value t map s w is in
           subst (λ n. s < 2 ^ n) lg (subst (λ i. i < 2 ^ t.lg_k) entry.slot (slot_below t map entry.word entry.there))
+
+      there_too : s < 2 ^ k
+      there_too = slot_within k e p.map_for s w is
+
+  -- and of the exceptions
+  no_exception_here : exception_in e slot ≡ None
+  no_exception_here = p.excepted slot within ∙ exception_of-low m (get_or R slot 0) (omega (arith, at))
+
+  pub above : (s w : ℕ) → exception_in e s ≡ Some w → to ≤ w
+  above s w is =
+      let x : IsException k m R slot s w = exception_is s w is in
+      omega (arith, to_le s x.within, elsewhere s x.other, x.register)
 
   -- the nibbles above the new minimum
   pub risen_nibbles : (new : List ℕ) → ((q : ℕ) → q < 2 * length bytes → nibble_at new q ≡ cond (eqb q slot) (nibble to v) (fallen to (exception_in e q) (lowered_by (to - m) (nibble_at bytes q)))) →
@@ -268,6 +324,27 @@ module _ (k m n : ℕ) (bytes : List ℕ) (e : Option ExceptionMap) (R : List �
       again : (r : ℕ) → (r < m + 15) ⊎ (m + 15 ≤ r) → kept_above to (exception_of m r) ≡ exception_of to r
       again r (inl under) = ap (kept_above to) (exception_of-low m r under) ∙ sym (exception_of-low to r (omega (arith, under, from_to)))
       again r (inr over) = ap (kept_above to) (exception_of-high m r over)
+
+  -- a slot whose exception comes or goes
+  slot_moved : (to + 15 ≤ v) ⊎ ((s : ℕ) × (w : ℕ) × (exception_in e s ≡ Some w) × (w < to + 15)) → (s : ℕ) × (s < 2 ^ k) × (has_exception R s ≢ has_exception Q s)
+  slot_moved (inl high) =
+      (slot, within, false_other (has_exception R slot) (has_exception Q slot) (has_exception-low m R slot before (omega (arith, at))) (has_exception-high to Q slot least (omega (arith, high, get_or-set_same R slot v 0 there))))
+  slot_moved (inr (s, w, is, low)) =
+      let x : IsException k m R slot s w = exception_is s w is in
+      (s, x.within, true_other (has_exception R s) (has_exception Q s) (has_exception-high m R s before (omega (arith, x.over, x.register))) (has_exception-low to Q s least (omega (arith, low, elsewhere s x.other, x.register))))
+
+  -- a slot with an exception afterwards
+  slot_left : (to + 15 ≤ v) ⊎ ((s : ℕ) × (w : ℕ) × (exception_in e s ≡ Some w) × (to + 15 ≤ w)) → (s : ℕ) × (s < 2 ^ k) × (has_exception Q s ≡ true)
+  slot_left (inl high) = (slot, within, has_exception-high to Q slot least (omega (arith, high, get_or-set_same R slot v 0 there)))
+  slot_left (inr (s, w, is, high)) =
+      let x : IsException k m R slot s w = exception_is s w is in
+      (s, x.within, has_exception-high to Q s least (omega (arith, high, elsewhere s x.other, x.register)))
+
+  pub risen_moves : (to + 15 ≤ v) ⊎ ((s : ℕ) × (w : ℕ) × (exception_in e s ≡ Some w) × (w < to + 15)) → (to + 15 ≤ v) ⊎ ((s : ℕ) × (w : ℕ) × (exception_in e s ≡ Some w) × (to + 15 ≤ w)) → ExceptionsMove k R Q
+  risen_moves some stays =
+      let a = slot_moved some in
+      let b = slot_left stays in
+      record { moved = a.0; moved_within = a.1; moves = a.2; left = b.0; left_within = b.1; leaves = b.2 }
 
   pub risen_packed : (count : ℕ) (new : List ℕ) (e' : Option ExceptionMap) → length new ≡ length bytes → All (λ b. b < 256) new → ((q : ℕ) → q < 2 ^ k → nibble_at new q ≡ nibble to (get_or Q q 0)) → IsMapFor k e' →
       ((q : ℕ) → q < 2 ^ k → exception_in e' q ≡ exception_of to (get_or Q q 0)) → count ≡ zero_nibbles new → IsPacked k to count new e' Q
@@ -337,6 +414,13 @@ module _ (k m n : ℕ) (bytes : List ℕ) (e : Option ExceptionMap) (state : Est
       (λ q. put q ∙ ap (λ n. cond (eqb q slot) n (nibble_at bytes q)) nib) len fits is
       (λ q b. noted q ∙ ap (λ o. cond (eqb q slot) o (exception_in e q)) (sym (exception_of-high m v over)))
 
+  pub high_moves : (left : ℕ) → IsLeft x slot v left → minimum x.stored.registers + 15 ≤ v → exception_in e slot ≡ None → ExceptionsMove x.stored.lg_k x.stored.registers (set x.stored.registers slot v)
+  high_moves left count high none =
+      let l : IsLeft (seen k m bytes e state) slot v left = subst (λ x. IsLeft x slot v left) (sym same) count in
+      let over : m + 15 ≤ v = omega (arith, subst (λ (x : FourBits). minimum x.stored.registers + 15 ≤ v) (sym same) high, least) in
+      let some : 0 < count_by (λ r. eqb r m) (set R slot v) = omega (arith, l.some, l.left_is, ap (λ m. count_by (λ r. eqb r m) (set R slot v)) least) in
+      subst (λ (x : FourBits). ExceptionsMove x.stored.lg_k x.stored.registers (set x.stored.registers slot v)) same (raised_moves k m n bytes e R p slot v here.within here.more here.most some over none)
+
   -- how many registers stay at the minimum
   pub left_after : (register byte : ℕ) → register ≡ get_or x.stored.registers slot 0 → byte ≡ bool_byte (nat_eq register m) → n - byte ≡ count_by (λ r. eqb r (minimum x.stored.registers)) (set x.stored.registers slot v)
   left_after register byte read is =
@@ -395,6 +479,12 @@ module _ (k m n : ℕ) (bytes : List ℕ) (e : Option ExceptionMap) (state : Est
   pub rise_none : exception_in e slot ≡ None
   rise_none = no_exception_here k m n bytes e S p slot v to asked.within asked.more asked.most seated now.least
 
+  pub rise_moves : (to + 15 ≤ v) ⊎ ((s : ℕ) × (w : ℕ) × (exception_in e s ≡ Some w) × (w < to + 15)) → (to + 15 ≤ v) ⊎ ((s : ℕ) × (w : ℕ) × (exception_in e s ≡ Some w) × (to + 15 ≤ w)) →
+      ExceptionsMove x.stored.lg_k x.stored.registers (set x.stored.registers slot v)
+  rise_moves some stays =
+      subst (λ (x : FourBits). ExceptionsMove x.stored.lg_k x.stored.registers (set x.stored.registers slot v)) same
+      (risen_moves k m n bytes e S p slot v to asked.within asked.more asked.most seated now.least some stays)
+
   -- with the exceptions that stay
   module _ (count : ℕ) (lent new : List ℕ) (is : lent ≡ bytes) (len : length new ≡ length lent) (fits : All (λ b. b < 256) new)
       (put : (q : ℕ) → q < 2 * length lent → nibble_at new q ≡ cond (eqb q slot) (nibble to v) (fallen to (exception_in e q) (lowered_by (to - m) (nibble_at lent q)))) (zeros : count ≡ zero_nibbles new) where
@@ -417,6 +507,10 @@ OnOk-map : {X Y : Type 0} (r : Result X Y) (P Q : Type 0) → (P → Q) → OnOk
 OnOk-map (Ok x) P Q f h = f h
 OnOk-map (Err e) P Q f h = tt
 
+OnErr-map : {X Y : Type 0} (r : Result X Y) (P Q : Type 0) → (P → Q) → OnErr r P → OnErr r Q
+OnErr-map (Ok x) P Q f h = tt
+OnErr-map (Err e) P Q f h = f h
+
 module _ (k m n : ℕ) (bytes : List ℕ) (e : Option ExceptionMap) (state : EstimateState) (p : IsPacked k m n bytes e (unpacked k m bytes e)) (x : FourBits) (same : seen k m bytes e state ≡ x)
     (coupon slot size old value : ℕ) (at : slot ≡ slot_of coupon % size) (size_is : size ≡ 2 ^ k) (read : old ≡ get_or x.stored.registers slot 0) (value_is : value ≡ value_of coupon) where
   full_length : length x.stored.registers ≡ 2 ^ x.stored.lg_k
@@ -433,6 +527,14 @@ module _ (k m n : ℕ) (bytes : List ℕ) (e : Option ExceptionMap) (state : Est
   update_less low = update_with_pairs-low x.stored.lg_k x.stored.registers coupon full_length x.stored.state (omega (arith, low, value_is, register))
 
   -- a greater one is written
+  written : old < value → with_register x.stored slot value ≡ update_with_coupon x.stored coupon
+  written high =
+      (λ i. with_register x.stored (folded i) (value_is i))
+      ∙ update_with_pairs-high x.stored.lg_k x.stored.registers coupon full_length x.stored.state (omega (arith, full_length, mod_below (slot_of coupon) (2 ^ x.stored.lg_k) (pow_pos x.stored.lg_k))) (omega (arith, high, value_is, register))
+
   pub update_more : {Y Z : Type 0} (r : Result Y Z) (new : Stored) → old < value → OnOk r (new ≡ with_register x.stored slot value) → OnOk r (new ≡ update_with_coupon x.stored coupon)
-  update_more r new high h = OnOk-map r _ _ (λ is. is ∙ (λ i. with_register x.stored (folded i) (value_is i))
-      ∙ update_with_pairs-high x.stored.lg_k x.stored.registers coupon full_length x.stored.state (omega (arith, full_length, mod_below (slot_of coupon) (2 ^ x.stored.lg_k) (pow_pos x.stored.lg_k))) (omega (arith, high, value_is, register))) h
+  update_more r new high h = OnOk-map r _ _ (λ is. is ∙ written high) h
+
+  pub update_needed : {Y Z : Type 0} (r : Result Y Z) → old < value → OnErr r (ExceptionsMove x.stored.lg_k x.stored.registers (set x.stored.registers slot value)) →
+      OnErr r (ExceptionsMove x.stored.lg_k x.stored.registers (update_with_coupon x.stored coupon).registers)
+  update_needed r high h = OnErr-map r _ _ (subst (λ (y : Stored). ExceptionsMove x.stored.lg_k x.stored.registers y.registers) (written high)) h

@@ -1,6 +1,6 @@
 -- Registers of four bits as they are kept: nibbles above a minimum, and a map of exceptions where there are any
 -- (docs/MODEL.md, "Registers of four bits").
-use Rattle.std.specs.Prelude.{◌≡◌, ℕ, ◌+◌, ◌-◌, ◌*◌, ◌^◌, ◌<◌, ◌≤◌, ◌==◌, nat_le, if◌then◌else◌, List, length, map, slice_index, slice_set, count_by, All, Option, Some, None}
+use Rattle.std.specs.Prelude.{◌≡◌, ◌≢◌, ℕ, Bool, true, ◌+◌, ◌-◌, ◌*◌, ◌^◌, ◌<◌, ◌≤◌, ◌==◌, nat_le, if◌then◌else◌, List, length, map, slice_index, slice_set, count_by, All, Option, Some, None}
 use Rattle.std.specs.List.{range_with_len}
 use Rattle.std.specs.FinSet.{empty}
 use Rattle.hll_coupons.specs.AuxMap.{ExceptionMap, IsMap, value_in}
@@ -73,6 +73,19 @@ pub record FourBits : Type 0 where
 -- registers with another one at a slot, and the cleared state
 abbrev pub with_register : Stored → ℕ → ℕ → Stored
 with_register x slot v = record { lg_k = x.lg_k; registers = slice_set x.registers slot v; state = cleared_state }
+
+-- the register at the slot is an exception
+abbrev pub has_exception : List ℕ → ℕ → Bool
+has_exception R s = nat_le (minimum R + 15) (slice_index R s)
+
+-- the set of slots with an exception is another one, and not empty
+pub record ExceptionsMove (k : ℕ) (old new : List ℕ) : Type 0 where
+  pub moved : ℕ
+  pub moved_within : moved < 2 ^ k
+  pub moves : has_exception old moved ≢ has_exception new moved
+  pub left : ℕ
+  pub left_within : left < 2 ^ k
+  pub leaves : has_exception new left ≡ true
 
 -- ---- laws
 

@@ -2,7 +2,7 @@
 ghost use Rattle.std.specs.Prelude.{◌≡◌, ◌≢◌, ◌+◌, ◌*◌, ◌^◌, ◌<◌, ◌≤◌, ◌==◌, ℕ, if◌then◌else◌, count_by, slice_index, slice_set, IfOk, IfErr, IfSome, OnOk, OnErr, Some, None};
 ghost use Rattle.std.specs.List.{list_all};
 ghost use Rattle.hll_base.specs.declared.error.Reason.TheVariants.{Memory};
-ghost use Rattle.hll_arrays.specs.FourBits.{exception_in, exception_of, kept_above, with_register, FourBits, IsMapFor};
+ghost use Rattle.hll_arrays.specs.FourBits.{exception_in, exception_of, kept_above, with_register, ExceptionsMove, FourBits, IsMapFor};
 ghost use Rattle.hll_arrays.specs.Packed.{minimum, count_at_minimum, nibble, zeros};
 ghost use Rattle.hll_arrays.specs.State.{cleared_state};
 ghost use Rattle.hll_arrays.specs.Store.{zero_registers, update_with_coupon, IsStored};
@@ -198,11 +198,13 @@ impl<A: Allocator + Clone> Array4<A> {
     /// Raises the register at the coupon's slot modulo 2^`lg_k` to the coupon's value. If it changes, the state is
     /// cleared.
     ///
-    /// Fails with `Memory`, and then changes nothing.
+    /// Fails with `Memory`, only if the set of slots with an exception changes and isn't empty afterwards, and then
+    /// changes nothing.
     pub fn update(&mut self, coupon: Coupon) -> Result<(), Error>
         ensures ok { OnOk result (self.new.stored ≡ update_with_coupon self.old.stored coupon) }
         ensures unchanged { OnErr result (self.new ≡ self.old) }
         ensures err { IfErr result (λ e. e ≡ Memory) }
+        ensures needed { OnErr result (ExceptionsMove self.old.stored.lg_k self.old.stored.registers (update_with_coupon self.old.stored coupon).registers) }
     {
         let slot = coupon.slot() % two_to(self.lg_config_k) as u32;
         if coupon.value() <= self.get(slot) {
@@ -219,6 +221,7 @@ impl<A: Allocator + Clone> Array4<A> {
         ensures ok { OnOk result (self.new.stored ≡ with_register self.old.stored slot value) }
         ensures unchanged { OnErr result (self.new ≡ self.old) }
         ensures err { IfErr result (λ e. e ≡ Memory) }
+        ensures needed { OnErr result (ExceptionsMove self.old.stored.lg_k self.old.stored.registers (slice_set self.old.stored.registers slot value)) }
     {
         let at_minimum = self.get(slot) == self.cur_min;
         if at_minimum && self.num_at_cur_min == 1 {
@@ -258,6 +261,7 @@ impl<A: Allocator + Clone> Array4<A> {
         ensures ok { OnOk result (self.new.stored ≡ with_register self.old.stored slot value) }
         ensures unchanged { OnErr result (self.new ≡ self.old) }
         ensures err { IfErr result (λ e. e ≡ Memory) }
+        ensures needed { OnErr result (ExceptionsMove self.old.stored.lg_k self.old.stored.registers (slice_set self.old.stored.registers slot value)) }
     {
         put_exception(
             &mut self.exceptions,
@@ -282,6 +286,7 @@ impl<A: Allocator + Clone> Array4<A> {
         ensures ok { OnOk result (self.new.stored ≡ with_register self.old.stored slot value) }
         ensures unchanged { OnErr result (self.new ≡ self.old) }
         ensures err { IfErr result (λ e. e ≡ Memory) }
+        ensures needed { OnErr result (ExceptionsMove self.old.stored.lg_k self.old.stored.registers (slice_set self.old.stored.registers slot value)) }
     {
         let minimum = self.least_with(slot, value);
         if stay(&self.exceptions, minimum, value) {

@@ -189,6 +189,7 @@ pub(crate) fn exceptions_above<A: Allocator + Clone>(
     ensures map { IfOk result (λ above. IsMapFor lg_k above) }
     ensures values { IfOk result (λ above. (s : ℕ) → exception_in above s ≡ (if s == slot then exception_of minimum value else kept_above minimum (exception_in map.now s))) }
     ensures err { IfErr result (λ e. e ≡ Memory) }
+    ensures needed { OnErr result ((minimum + 15 ≤ value) ⊎ ((s : ℕ) × (v : ℕ) × (exception_in map.now s ≡ Some v) × (minimum + 15 ≤ v))) }
 {
     let mut above = kept_of(map, nibbles, lg_k, minimum)?;
     if value >= minimum + MARK {
@@ -209,6 +210,7 @@ fn kept_of<A: Allocator + Clone>(
     ensures map { IfOk result (λ kept. IsMapFor lg_k kept) }
     ensures values { IfOk result (λ kept. (s : ℕ) → exception_in kept s ≡ kept_above minimum (exception_in map.now s)) }
     ensures err { IfErr result (λ e. e ≡ Memory) }
+    ensures needed { OnErr result ((s : ℕ) × (v : ℕ) × (exception_in map.now s ≡ Some v) × (minimum + 15 ≤ v)) }
 {
     match map {
         Some(map) => kept_exceptions(map, nibbles, minimum),
@@ -222,6 +224,7 @@ pub(crate) fn stay<A: Allocator>(map: &Option<AuxMap<A>>, minimum: u8, value: u8
     requires map { (t : ExceptionMap) → map.now ≡ Some t → IsMap t }
     ensures all { result ≡ true → (s v : ℕ) → exception_in map.now s ≡ Some v → minimum + 15 ≤ v }
     ensures value { result ≡ true → value < minimum + 15 }
+    ensures some { result ≡ false → (minimum + 15 ≤ value) ⊎ ((s : ℕ) × (v : ℕ) × (exception_in map.now s ≡ Some v) × (v < minimum + 15)) }
 {
     if value >= minimum + MARK {
         return false;

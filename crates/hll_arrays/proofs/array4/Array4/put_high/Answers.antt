@@ -1,10 +1,11 @@
 use Rattle.std.proofs.Common.{◌≡◌, ◌<◌, ◌∙◌, All, eqb, cond, set, sym, ap, subst, length}
+use Rattle.std.proofs.lemmas.Bool.{true≢false}
 use Rattle.std.proofs.lemmas.List.{with_items_is}
 use Rattle.std.specs.Vec.{with_items}
 use Rattle.hll_arrays.specs.FourBits.{IsPacked, unpacked}
 use Rattle.hll_arrays.specs.Packed.{nibble_at}
-use Rattle.hll_arrays.proofs.FourBits.{packed_here}
-use Rattle.hll_arrays.proofs.FourBitChanges.{high_packed, seen_after}
+use Rattle.hll_arrays.proofs.FourBits.{packed_here, OnErr-of, none_of_refused}
+use Rattle.hll_arrays.proofs.FourBitChanges.{high_moves, high_packed, seen_after}
 use Rattle.hll_arrays.proofs.States.{IsState-cleared}
 use Rattle.hll_arrays.proofs.array4.Array4.put_high.Given.{Over}
 use Rattle.hll_arrays.proofs.array4.Array4.put_high.Goals as goal
@@ -31,3 +32,9 @@ pub returns-clause-ok : goal.returns-clause-ok
 returns-clause-ok g c =
     seen_after _ _ _ _ _ c.self.inside.state c.self.invariant.1 c.self.invariant.2 c.args.self.now c.self.view_is c.args.slot c.args.value (record { within = c.requires.within; more = c.requires.more; most = c.requires.most })
     _ c.args.left _ _ (packed g c)
+
+pub returns-in_err-put_exception-clause-needed : goal.returns-in_err-put_exception-clause-needed
+returns-in_err-put_exception-clause-needed g c =
+    OnErr-of c.from_residual.result _
+    (high_moves _ _ _ _ _ c.self.inside.state c.self.invariant.1 c.self.invariant.2 c.args.self.now c.self.view_is c.args.slot c.args.value (record { within = c.requires.within; more = c.requires.more; most = c.requires.most })
+    c.args.left (record { left_is = c.requires.left; some = c.requires.some }) c.requires.high (none_of_refused _ (λ some. true≢false (sym (c.in_err-put_exception.ensures.never some)))))

@@ -1,6 +1,7 @@
 use Rattle.std.proofs.Common.{arith, ◌∙◌, ap}
 use Rattle.hll_arrays.specs.FourBits.{FourBits, exception_in}
-use Rattle.hll_arrays.proofs.FourBitChanges.{rise_value, rise_none}
+use Rattle.hll_arrays.proofs.FourBits.{OnErr-of}
+use Rattle.hll_arrays.proofs.FourBitChanges.{rise_value, rise_none, rise_moves}
 use Rattle.hll_arrays.proofs.array4.Array4.rise.Goals as goal
 
 pub stay-requires-clause-minimum : goal.stay-requires-clause-minimum
@@ -14,3 +15,9 @@ exceptions_above-requires-clause-minimum g c = omega (arith, c.requires.most, ri
 
 pub exceptions_above-requires-clause-none : goal.exceptions_above-requires-clause-none
 exceptions_above-requires-clause-none g c = rise_none _ _ _ _ _ c.self.inside.state c.self.invariant.1 c.self.invariant.2 c.args.self.now c.self.view_is c.args.slot c.args.value c.least_with-minimum.result (record { within = c.requires.within; more = c.requires.more; most = c.requires.most }) (record { at = c.requires.at; least = c.least_with-minimum.ensures })
+
+pub returns-in_err-exceptions-clause-needed : goal.returns-in_err-exceptions-clause-needed
+returns-in_err-exceptions-clause-needed g c =
+    OnErr-of c.from_residual.result _
+    (rise_moves _ _ _ _ _ c.self.inside.state c.self.invariant.1 c.self.invariant.2 c.args.self.now c.self.view_is c.args.slot c.args.value c.least_with-minimum.result (record { within = c.requires.within; more = c.requires.more; most = c.requires.most }) (record { at = c.requires.at; least = c.least_with-minimum.ensures })
+    (c.stay.ensures.some c.if-stay.false) c.in_err-exceptions.ensures.needed)
