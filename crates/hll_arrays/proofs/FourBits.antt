@@ -43,7 +43,16 @@ some_kept p (r ∷ R) h = elim (cases_Bool (p r)) [
 pub at_some : (p : ℕ → Bool) (R : List ℕ) → 0 < count_by p R → (i : ℕ) × (i < length R) × (p (get_or R i 0) ≡ true)
 at_some p R h = some_kept p R (omega (arith, h, length-filter p R))
 
-minimum_ge : (m a : ℕ) (R : List ℕ) → m ≤ a → ((s : ℕ) → s < length R → m ≤ get_or R s 0) → m ≤ fold min a R
+-- it is at most what it starts from
+pub minimum_most : (R : List ℕ) → minimum R ≤ 63
+minimum_most R = from 63 R
+  where
+    from : (a : ℕ) (R : List ℕ) → fold min a R ≤ a
+    from a [] = omega arith
+    from a (r ∷ R) = omega (arith, from (min a r) R)
+
+-- and at least what each is
+pub minimum_ge : (m a : ℕ) (R : List ℕ) → m ≤ a → ((s : ℕ) → s < length R → m ≤ get_or R s 0) → m ≤ fold min a R
 minimum_ge m a [] h all = h
 minimum_ge m a (r ∷ R) h all = minimum_ge m (min a r) R (omega (arith, h, all 0 (omega arith))) (λ s l. all (suc s) (omega (arith, l)))
 

@@ -9,8 +9,7 @@ use Rattle.std.proofs.Math.ListN.{set}
 use Rattle.std.proofs.Math.Nat.{pow-suc}
 use Rattle.std.proofs.Math.Pow.{pow_mono}
 use Rattle.std.proofs.lemmas.Bool.{cases_eq, eqb-true, false_from_ne_true}
-use Rattle.std.proofs.lemmas.List.{append-nil, append_assoc, length-drop, length-take-le, take-append-drop, take_more, take_all, drop_all}
-use Rattle.std.proofs.lemmas.List.Concat.{flat_map-append}
+use Rattle.std.proofs.lemmas.List.{append_assoc, length-drop, length-take-le, take_all, drop_all}
 use Rattle.std.proofs.lemmas.List.Elements.{All-cons, All-tail, All-append, All-take, All-drop}
 use Rattle.std.proofs.lemmas.List.Folds.{list_all-append}
 use Rattle.std.proofs.lemmas.List.Sums.{sum_by-le, AllPass-from_list_all}
@@ -181,23 +180,6 @@ drop-registers_in zero G = refl
 drop-registers_in (suc n) [] = drop_all (4 * suc n) [] (omega arith)
 drop-registers_in (suc n) (g ∷ G) =
     ap (λ m. drop m (registers_in (g ∷ G))) (let more : 4 * suc n ≡ suc (suc (suc (suc (4 * n)))) = omega arith in more) ∙ drop-registers_in n G
-
--- one group more
-pub registers_in-take_more : (G : List (List ℕ)) (i : ℕ) (d : List ℕ) → i < length G → registers_in (take (i + 1) G) ≡ registers_in (take i G) ++ group_fields (get_or G i d)
-registers_in-take_more G i d h =
-    ap registers_in (take_more G i d h) ∙ flat_map-append group_fields (take i G) (get_or G i d ∷ []) ∙ ap (λ R. registers_in (take i G) ++ R) (append-nil (group_fields (get_or G i d)))
-
--- a list by its chunks of four
-pub flat-first_chunks : (n : ℕ) (R : List ℕ) → length R ≡ 4 * n → flat_map (λ x. x) (first_chunks 4 n R) ≡ R
-flat-first_chunks zero [] e = refl
-flat-first_chunks zero (a ∷ R) e = absurd (omega arith)
-flat-first_chunks (suc n) R e = ap (λ Q. take 4 R ++ Q) (flat-first_chunks n (drop 4 R) (omega (arith, length-drop 4 R))) ∙ take-append-drop 4 R
-
--- each chunk is of what the list is of
-pub All-first_chunks : (P : ℕ → Type 0) (n : ℕ) (R : List ℕ) (i : ℕ) → All P R → i < n → All P (get_or (first_chunks 4 n R) i [])
-All-first_chunks P zero R i h l = absurd (omega arith)
-All-first_chunks P (suc n) R zero h l = All-take P 4 R h
-All-first_chunks P (suc n) R (suc i) h l = All-first_chunks P n (drop 4 R) i (All-drop P 4 R h) (omega arith)
 
 -- ---- bytes as groups
 

@@ -8,6 +8,7 @@ pub mod FourBitChanges
 pub mod FourBits
 pub mod Grouping
 pub mod Lowering
+pub mod Minimum
 pub mod SingleNibbles
 pub mod Packing
 pub mod Parts

@@ -1,7 +1,7 @@
 -- Registers of four bits as they are kept: nibbles above a minimum, and a map of exceptions where there are any
 -- (docs/MODEL.md, "Registers of four bits").
-use Rattle.std.specs.Prelude.{◌≡◌, ◌≢◌, ℕ, Bool, true, ◌+◌, ◌-◌, ◌*◌, ◌^◌, ◌<◌, ◌≤◌, ◌==◌, nat_le, if◌then◌else◌, List, length, map, slice_index, slice_set, count_by, All, Option, Some, None}
-use Rattle.std.specs.List.{range_with_len}
+use Rattle.std.specs.Prelude.{◌≡◌, ◌≢◌, ℕ, Bool, true, ◌+◌, ◌-◌, ◌*◌, ◌^◌, ◌<◌, ◌≤◌, ◌==◌, nat_le, if◌then◌else◌, List, length, map, slice_index, slice_set, count_by, ◌++◌, All, Option, Some, None}
+use Rattle.std.specs.List.{fold, range_with_len}
 use Rattle.std.specs.FinSet.{empty}
 use Rattle.hll_coupons.specs.AuxMap.{ExceptionMap, IsMap, value_in}
 use Rattle.hll_coupons.specs.Pair.{Pairs, set_of}
@@ -9,7 +9,7 @@ use Rattle.hll_coupons.specs.Table.{coupons_in, coupons_of}
 use Rattle.hll_arrays.specs.Packed.{nibble, nibble_at, nibble_bytes, minimum, count_at_minimum, exceptions}
 use Rattle.hll_arrays.specs.Payload.{register_of}
 use Rattle.hll_arrays.specs.State.{cleared_state}
-use Rattle.hll_arrays.specs.Store.{AreRegisters, Stored}
+use Rattle.hll_arrays.specs.Store.{AreRegisters, Stored, zero_registers, update_with_coupon}
 
 -- the exception of a register above a minimum: itself, where it is at least 15 above
 abbrev pub exception_of : ℕ → ℕ → Option ℕ
@@ -99,3 +99,12 @@ pub record IsOfRegisters (k m n : ℕ) (bytes : List ℕ) (e : Option ExceptionM
 
 abbrev pub PackedIsOfRegisters : Type 0
 PackedIsOfRegisters = (k m n : ℕ) (bytes : List ℕ) (e : Option ExceptionMap) (R : List ℕ) → k ≤ 21 → IsPacked k m n bytes e R → IsOfRegisters k m n bytes e R
+
+-- from new registers on the minimum starts at 0, never falls over more updates, and is at most 63
+pub record MinimumRises (k : ℕ) (coupons more : List ℕ) : Type 0 where
+  pub starts : minimum (zero_registers k).registers ≡ 0
+  pub never_falls : minimum (fold update_with_coupon (zero_registers k) coupons).registers ≤ minimum (fold update_with_coupon (zero_registers k) (coupons ++ more)).registers
+  pub most : minimum (fold update_with_coupon (zero_registers k) (coupons ++ more)).registers ≤ 63
+
+abbrev pub MinimumNeverFalls : Type 0
+MinimumNeverFalls = (k : ℕ) (coupons more : List ℕ) → MinimumRises k coupons more

@@ -9,7 +9,7 @@ ghost use Rattle.hll_arrays.specs.Store.{zero_registers, update_with_coupon, IsS
 
 use crate::estimate_state::EstimateState;
 use crate::groups::{
-    all_zero_in, count_zeros_in, groups_of, max_groups_into, pack_groups, put_register,
+    all_zero_in, count_zeros_in, groups_from_bytes, max_groups_into, pack_groups, put_register,
     register_at, units_in,
 };
 use crate::preamble::Preamble;
@@ -92,7 +92,7 @@ impl<A: Allocator> Array6<A> {
         };
         Ok(Array6 {
             lg_config_k,
-            groups: groups_of(alloc, packed)?,
+            groups: groups_from_bytes(alloc, packed)?,
             state: preamble.state,
         })
     }

@@ -305,7 +305,10 @@ fn unpacked(bytes: &[u8]) -> [u8; 256]
 }
 
 /// The groups that bytes hold. Up to two bytes at the end, which fill none, are left out. Allocates in one request.
-pub(crate) fn groups_of<A: Allocator>(alloc: A, bytes: &[u8]) -> Result<Vec<[u8; 3], A>, AllocError>
+pub(crate) fn groups_from_bytes<A: Allocator>(
+    alloc: A,
+    bytes: &[u8],
+) -> Result<Vec<[u8; 3], A>, AllocError>
     ensures registers { IfOk result (λ groups. registers_in groups.items ≡ packed.fields bytes.now) }
     ensures groups { IfOk result (λ groups. All IsGroup groups.items) }
 {

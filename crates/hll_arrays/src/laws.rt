@@ -1,5 +1,5 @@
 //! Laws of packed registers. Each is the contract of a function with an empty body (docs/MODEL.md, "Packed forms").
-ghost use Rattle.hll_arrays.specs.FourBits.{PackedIsOfRegisters};
+ghost use Rattle.hll_arrays.specs.FourBits.{MinimumNeverFalls, PackedIsOfRegisters};
 ghost use Rattle.hll_arrays.specs.Packed.{NibblesReadBack, FieldsReadBack};
 ghost use Rattle.hll_arrays.specs.Payload.{ExceptionsReadBack};
 ghost use Rattle.hll_arrays.specs.ReadBack.{Hll8ReadBack, Hll6ReadBack};
@@ -23,6 +23,11 @@ pub fn exceptions_read_back()
 /// What registers of four bits keep are the minimum, the count at it, the nibbles and the exceptions of their registers.
 pub fn packed_is_of_registers()
     ensures { PackedIsOfRegisters }
+{}
+
+/// From new registers on the minimum rises by at most 63 over any run of updates, and never falls.
+pub fn minimum_never_falls()
+    ensures { MinimumNeverFalls }
 {}
 
 /// What is written for registers of eight bits is a payload behind its header, and gives registers and state back.

@@ -37,8 +37,8 @@ returns-in_default-clause-err g c =
     (payload.Hll6Fault.short (omega (arith, short, left, length-drop 32 c.args.cursor, c.packed_size.ensures, read.0))))
 
 -- the bytes are a payload, so memory is asked for
-pub returns-in_err-groups_of-clause-asked : goal.returns-in_err-groups_of-clause-asked
-returns-in_err-groups_of-clause-asked g c =
+pub returns-in_err-groups_from_bytes-clause-asked : goal.returns-in_err-groups_from_bytes-clause-asked
+returns-in_err-groups_from_bytes-clause-asked g c =
     let k : ℕ = c.args.lg_config_k in
     let read = c.in_ok-preamble.ensures.ok in
     let found = c.in-Some.ensures.lookup.0 in
@@ -46,20 +46,20 @@ returns-in_err-groups_of-clause-asked g c =
     let there : 32 + field_size k ≤ length c.args.cursor = omega (arith, found.1, ap length rest, length-drop 32 c.args.cursor, c.packed_size.ensures, read.0) in
     let low : num_at_cur_min c.args.cursor ≤ 2 ^ k = omega (arith, c.if-preamble-size.false, c.two_to-size.ensures, read.2) in
     let none : exception_count c.args.cursor ≡ 0 = sym read.3 ∙ c.if-preamble-ne0.false in
-    IfErr-always (λ e. e ≡ Memory → IsHll6Payload k (take (32 + field_size k) c.args.cursor)) c.from_residual-in_err-groups_of.result (λ e memory. is_hll6_payload k c.args.cursor there low none)
+    IfErr-always (λ e. e ≡ Memory → IsHll6Payload k (take (32 + field_size k) c.args.cursor)) c.from_residual-in_err-groups_from_bytes.result (λ e memory. is_hll6_payload k c.args.cursor there low none)
 
 pub invariant_of-result : goal.invariant_of-result
 invariant_of-result g c =
     let k : ℕ = c.args.lg_config_k in
     let b : List ℕ = c.in-Some.packed.now in
-    let G : List (List ℕ) = c.in_ok-groups_of.field-0.items in
+    let G : List (List ℕ) = c.in_ok-groups_from_bytes.field-0.items in
     let found = c.in-Some.ensures.lookup.0 in
     let quarter : 4 * 2 ^ (k - 2) ≡ 2 ^ k = groups-pow k (omega (arith, c.requires.least)) in
     let long : length b ≡ 3 * 2 ^ (k - 2) + 1 = omega (arith, found.3, c.packed_size.ensures, quarter) in
-    let many : 4 * length G ≡ 4 * 2 ^ (k - 2) = sym (length-registers_in G) ∙ ap length c.in_ok-groups_of.ensures.registers ∙ length-fields (2 ^ (k - 2)) b long in (
+    let many : 4 * length G ≡ 4 * 2 ^ (k - 2) = sym (length-registers_in G) ∙ ap length c.in_ok-groups_from_bytes.ensures.registers ∙ length-fields (2 ^ (k - 2)) b long in (
       c.requires.least,
       c.requires.most,
-      record { size = omega (arith, many); bytes = c.in_ok-groups_of.ensures.groups },
+      record { size = omega (arith, many); bytes = c.in_ok-groups_from_bytes.ensures.groups },
       c.in_ok-preamble.ensures.legal,
     )
 
@@ -74,5 +74,5 @@ returns-clause-ok g c =
     let low : num_at_cur_min c.args.cursor ≤ 2 ^ k = omega (arith, c.if-preamble-size.false, c.two_to-size.ensures, read.2) in
     let none : exception_count c.args.cursor ≡ 0 = sym read.3 ∙ c.if-preamble-ne0.false in (
       is_hll6_payload k c.args.cursor there low none,
-      λ i. record { lg_k = k; registers = (c.in_ok-groups_of.ensures.registers ∙ ap fields are) i; state = read.1 i },
+      λ i. record { lg_k = k; registers = (c.in_ok-groups_from_bytes.ensures.registers ∙ ap fields are) i; state = read.1 i },
     )

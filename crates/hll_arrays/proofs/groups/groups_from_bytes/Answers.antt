@@ -5,7 +5,7 @@ use Rattle.std.proofs.lemmas.Result.{IfOk-weaker}
 use Rattle.hll_arrays.specs.Groups.{IsGroup, registers_in}
 use Rattle.hll_arrays.specs.Packed.{fields}
 use Rattle.hll_arrays.proofs.Grouping.{All-IsGroup-first_chunks, registers_in-first_chunks}
-use Rattle.hll_arrays.proofs.groups.groups_of.Goals as goal
+use Rattle.hll_arrays.proofs.groups.groups_from_bytes.Goals as goal
 
 -- chunks hold the fields of the bytes, and are groups
 fields_of : (b : List ℕ) (F : List (List ℕ)) → F ≡ first_chunks 3 (length b / 3) b → registers_in F ≡ fields b
