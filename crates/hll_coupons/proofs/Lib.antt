@@ -21,6 +21,8 @@ pub mod Putting
 pub mod Reading
 pub mod Registers
 pub mod Searching
+pub mod SetReading
+pub mod Sets
 pub mod Sizes
 pub mod Sought
 pub mod TableLemmas

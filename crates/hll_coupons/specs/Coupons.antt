@@ -62,7 +62,10 @@ list_header lg_k width count = 2 ∷ 1 ∷ 7 ∷ lg_k ∷ 3 ∷ (if count == 0 t
 abbrev pub list_bytes : ℕ → HllType → List ℕ → List ℕ
 list_bytes lg_k width order = list_header lg_k width (length order) ++ coupon_bytes order
 
--- the compact image of a set with a table of 2^size places
+-- the eight bytes before the count of a set, of a table of 2^size places
+abbrev pub set_header : ℕ → HllType → ℕ → List ℕ
+set_header lg_k width size = 3 ∷ 1 ∷ 7 ∷ lg_k ∷ size ∷ 8 ∷ 0 ∷ mode_byte 1 width ∷ []
+
+-- the compact image of a set: the header, the count, and the coupons in this order
 abbrev pub set_bytes : ℕ → HllType → ℕ → List ℕ → List ℕ
-set_bytes lg_k width size order =
-    3 ∷ 1 ∷ 7 ∷ lg_k ∷ size ∷ 8 ∷ 0 ∷ mode_byte 1 width ∷ to_le_bytes w32 (length order) ++ coupon_bytes order
+set_bytes lg_k width size order = set_header lg_k width size ++ (to_le_bytes w32 (length order) ++ coupon_bytes order)

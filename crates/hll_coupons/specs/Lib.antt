@@ -2,6 +2,7 @@ pub mod AuxMap
 pub mod Coupons
 pub mod Fold
 pub mod Hashed
+pub mod HashSet
 pub mod Keys
 pub mod Laws
 pub mod Pair

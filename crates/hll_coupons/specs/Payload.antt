@@ -59,6 +59,10 @@ pub record SetShape : Type 0 where
   pub lg_size : ℕ
   pub compact : Bool
 
+-- the same from its parts, in the order of a reader's arguments
+abbrev pub shape_of_set : ℕ → Bool → SetShape
+shape_of_set lg_size compact = record { lg_size = lg_size; compact = compact }
+
 -- the count, four bytes
 abbrev pub set_count : List ℕ → ℕ
 set_count bytes = from_le_bytes w32 bytes

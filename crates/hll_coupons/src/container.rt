@@ -254,6 +254,14 @@ impl<A: Allocator> Eq for Container<A> {
     ghost laws = { have_same_coupons-equivalence };
 }
 
+/// The number of places of a size.
+pub(crate) fn places_of(lg_size: usize) -> usize
+    requires { lg_size ≤ 26 }
+    ensures { result ≡ 2 ^ lg_size }
+{
+    1 << lg_size
+}
+
 /// Appends coupons, four bytes each.
 pub(crate) fn write_coupons<A: Allocator>(
     bytes: &mut SketchBytes<A>,

@@ -5,6 +5,7 @@
 pub mod aux_map;
 pub mod container;
 pub mod coupon;
+pub mod hash_set;
 pub mod hll_type;
 pub mod laws;
 pub mod list;
@@ -15,5 +16,6 @@ pub mod serialization;
 pub use aux_map::{AuxMap, AuxMapIter, AuxMapRefIter};
 pub use container::{Container, ContainerIter};
 pub use coupon::Coupon;
+pub use hash_set::HashSet;
 pub use hll_type::HllType;
 pub use list::List;

@@ -9,7 +9,7 @@ ghost use Rattle.hll_coupons.specs.Coupons.{WritesAscending, list_bytes, coupons
 ghost use Rattle.hll_coupons.specs.Payload.{shape_of_list, HasListCount, list_places, list_table, IsListPayload, ListFault};
 ghost use Rattle.hll_coupons.specs.Coupons as header;
 
-use crate::container::{Container, write_coupons};
+use crate::container::{Container, places_of, write_coupons};
 use crate::coupon::Coupon;
 use crate::hll_type::HllType;
 use crate::serialization::{
@@ -194,14 +194,6 @@ impl<A: Allocator> Eq for List<A> {
     ghost use Rattle.hll_coupons.specs.Same.{have_same_coupons-equivalence};
 
     ghost laws = { have_same_coupons-equivalence };
-}
-
-/// The number of places of a size.
-fn places_of(lg_size: usize) -> usize
-    requires { lg_size ≤ 26 }
-    ensures { result ≡ 2 ^ lg_size }
-{
-    1 << lg_size
 }
 
 /// Whether a list of this size may have this count, and the empty flag says whether it is 0.

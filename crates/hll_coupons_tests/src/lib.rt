@@ -9,3 +9,5 @@ mod coupons;
 mod lists;
 #[cfg(test)]
 mod reference;
+#[cfg(test)]
+mod sets;

@@ -1,0 +1,144 @@
+-- Lemmas on reading the places of a set.
+use Rattle.std.proofs.Common.{◌≡◌, ℕ, ◌+◌, ◌-◌, ◌*◌, ◌^◌, ◌<◌, ◌≤◌, Bool, true, false, List, [], ◌∷◌, ◌++◌, length, take, drop, cond, refl, sym, ◌∙◌, ap, subst, arith, append_assoc}
+use Rattle.std.specs.Cmp.{nat_cmp_total}
+use Rattle.std.specs.FinSet.{contains, insert, len, from_list_push, nat_cmp-IsAntisymmetric}
+use Rattle.std.proofs.lemmas.List.{length-append, length-drop, length-take, take-append-drop}
+use Rattle.std.specs.Int.{w32, from_le_bytes}
+use Rattle.hll_coupons.specs.Coupons.{coupons_at, AreCoupons}
+use Rattle.hll_coupons.specs.HashSet.{IsHashSet}
+use Rattle.hll_coupons.specs.Pair.{set_of, value_of}
+use Rattle.hll_coupons.specs.Payload.{SetShape, HasSetCount, IsSetPayload, IsSetTable, set_count, set_coupons, set_places}
+use Rattle.hll_coupons.specs.Probe.{Puts, PutsEach}
+use Rattle.hll_coupons.specs.Table.{Table, coupons_in, coupons_of, empty_table}
+use Rattle.hll_coupons.proofs.Payloads.{front_coupons, front_number}
+use Rattle.hll_coupons.proofs.Places.{coupons_in-replicate}
+use Rattle.hll_coupons.proofs.Reading.{AreCoupons-nil, AreCoupons-push, all_places, passed_over}
+use Rattle.hll_coupons.proofs.Searching.{IsProbed-empty, PutsEach-push}
+use Rattle.hll_coupons.proofs.TableLemmas.{IsTable-empty}
+
+-- an empty set
+pub IsHashSet-empty : (lg : ℕ) → lg ≤ 26 → IsHashSet (empty_table lg)
+IsHashSet-empty lg small = record { table = IsTable-empty lg small; probed = IsProbed-empty (λ c. c) lg }
+
+-- the coupons of the places so far are in the set, and the rest is to come
+pub record ReadSoFar (compact : Bool) (places counter lg : ℕ) (all before : List ℕ) (t : Table) (cursor : List ℕ) : Type 0 where
+  pub order : List ℕ
+  pub read : all ≡ order ++ coupons_at compact (places - counter) cursor
+  pub room : 4 * (places - counter) ≤ length cursor
+  pub size : t.lg_size ≡ lg
+  pub puts : PutsEach (λ c. c) lg before order t.places
+  pub members : coupons_of t ≡ set_of order
+  pub few : length order ≤ counter
+  pub are : AreCoupons order
+  pub set : IsHashSet t
+
+pub read_none : (compact : Bool) (places : ℕ) (t : Table) (cursor : List ℕ) → t.lg_size ≤ 26 → t ≡ empty_table t.lg_size → 4 * places ≤ length cursor →
+    ReadSoFar compact places 0 t.lg_size (coupons_at compact places cursor) t.places t cursor
+read_none compact places t cursor small none there =
+    let whole : places ≡ places - 0 = omega arith in
+    record {
+      order = [];
+      read = ap (λ n. coupons_at compact n cursor) whole;
+      room = omega (arith, there);
+      size = refl;
+      puts = refl;
+      members = ap coupons_of none ∙ ap set_of (coupons_in-replicate (2 ^ t.lg_size));
+      few = omega arith;
+      are = AreCoupons-nil;
+      set = subst IsHashSet (sym none) (IsHashSet-empty t.lg_size small);
+    }
+
+module _ (compact : Bool) (places counter lg : ℕ) (all before : List ℕ) (t : Table) (cursor : List ℕ) (so : ReadSoFar compact places counter lg all before t cursor) (left : counter < places)
+    (w : ℕ) (rest : List ℕ) (is : w ≡ from_le_bytes w32 cursor) (rest_is : rest ≡ drop 4 cursor) where
+  -- the set has no more coupons than places were read
+  pub few_in : length (coupons_in t.places) ≤ counter
+  few_in = omega (arith, so.few, so.are.distinct, so.set.table.distinct, ap len so.members)
+
+  less : 4 * (places - (counter + 1)) ≤ length rest
+  less = omega (arith, so.room, ap length rest_is, length-drop 4 cursor, left)
+
+  -- an empty place is passed over
+  pub read_over : w ≡ 0 → compact ≡ false → ReadSoFar compact places (counter + 1) lg all before t rest
+  read_over zero' loose =
+      let P : Bool → Type 0 = λ b. all ≡ so.order ++ coupons_at b (places - counter) cursor in
+      let Q : Bool → Type 0 = λ b. all ≡ so.order ++ coupons_at b (places - (counter + 1)) rest in
+      record {
+        order = so.order;
+        read = subst Q (sym loose) (passed_over places counter w cursor rest all so.order left (subst P loose so.read) is rest_is zero');
+        room = less;
+        size = so.size;
+        puts = so.puts;
+        members = so.members;
+        few = omega (arith, so.few);
+        are = so.are;
+        set = so.set;
+      }
+
+  -- a word that has to be a coupon
+  pub read_word : (w ≡ 0 → compact ≡ true) → all ≡ so.order ++ w ∷ coupons_at compact (places - (counter + 1)) rest
+  read_word filled = all_places compact places counter w cursor rest all so.order left so.read is rest_is filled
+
+  -- a new coupon is put
+  pub read_more : (new : Table) → (w ≡ 0 → compact ≡ true) → 1 ≤ value_of w → contains (coupons_of t) w ≡ false → new.lg_size ≡ t.lg_size → Puts (λ c. c) t.lg_size t.places w new.places →
+      coupons_of new ≡ insert (coupons_of t) w → IsHashSet new → ReadSoFar compact places (counter + 1) lg all before new rest
+  read_more new filled valued fresh size put members set = record {
+    order = so.order ++ w ∷ [];
+    read = read_word filled ∙ sym (append_assoc so.order (w ∷ []) (coupons_at compact (places - (counter + 1)) rest));
+    room = less;
+    size = size ∙ so.size;
+    puts = PutsEach-push (λ c. c) lg before so.order t.places w new.places so.puts (subst (λ n. Puts (λ c. c) n t.places w new.places) so.size put);
+    members = members ∙ ap (λ S. insert S w) so.members ∙ sym (from_list_push nat_cmp_total nat_cmp-IsAntisymmetric so.order w);
+    few = omega (arith, so.few, length-append so.order (w ∷ []));
+    are = AreCoupons-push so.order w so.are valued (ap (λ S. contains S w) (sym so.members) ∙ fresh);
+    set = set;
+  }
+
+-- ---- the whole
+
+-- no more places than the table has
+pub set_places-le : (h : SetShape) (b : List ℕ) → HasSetCount h b → set_places h b ≤ 2 ^ h.lg_size
+set_places-le h b few = of h.compact
+  where
+    of : (c : Bool) → cond c (set_count b) (2 ^ h.lg_size) ≤ 2 ^ h.lg_size
+    of true = omega (arith, few.low)
+    of false = omega arith
+
+-- the front of the bytes is the payload
+pub is_set_payload : (h : SetShape) (b : List ℕ) → HasSetCount h b → 4 + 4 * set_places h b ≤ length b → AreCoupons (set_coupons h b) → length (set_coupons h b) ≡ set_count b →
+    IsSetPayload h (take (4 + 4 * set_places h b) b)
+is_set_payload h b few there are number =
+    let n : ℕ = 4 + 4 * set_places h b in
+    let a : List ℕ = take n b in
+    let cut : a ++ drop n b ≡ b = take-append-drop n b in
+    let size : length a ≡ n = omega (arith, length-take n b) in
+    let count : set_count a ≡ set_count b = front_number a (drop n b) b cut 0 (omega (arith, size)) in
+    let places : set_places h a ≡ set_places h b = ap (λ m. cond h.compact m (2 ^ h.lg_size)) count in
+    let coupons : set_coupons h a ≡ set_coupons h b =
+    ap (λ m. coupons_at h.compact m (drop 4 a)) places ∙ front_coupons a (drop n b) b cut h.compact (set_places h b) 4 (omega (arith, size)) in
+    record {
+      count = record { whole = omega (arith, size); low = omega (arith, count, few.low) };
+      size = size ∙ ap (λ m. 4 + 4 * m) (sym places);
+      are_coupons = subst AreCoupons (sym coupons) are;
+      number = ap length coupons ∙ number ∙ sym count;
+    }
+
+-- what is known once the places were read
+pub record IsRead (h : SetShape) (b : List ℕ) (t : Table) : Type 0 where
+  pub are : AreCoupons (set_coupons h b)
+  pub table : IsSetTable h b t
+  pub number : length (coupons_in t.places) ≡ length (set_coupons h b)
+
+pub is_read : (h : SetShape) (b : List ℕ) (start t : Table) (n : ℕ) (rest : List ℕ) → start ≡ empty_table h.lg_size → t.lg_size ≡ start.lg_size → n ≡ set_places h b → rest ≡ drop 4 b →
+    PutsEach (λ c. c) start.lg_size start.places (coupons_at h.compact n rest) t.places → AreCoupons (coupons_at h.compact n rest) → coupons_of t ≡ set_of (coupons_at h.compact n rest) →
+    len (coupons_of t) ≡ length (coupons_in t.places) → IsRead h b t
+is_read h b start t n rest empty size n_is rest_is puts are members distinct =
+    let same : coupons_at h.compact n rest ≡ set_coupons h b = λ i. coupons_at h.compact (n_is i) (rest_is i) in
+    let here : AreCoupons (set_coupons h b) = subst AreCoupons same are in
+    record {
+      are = here;
+      table = record {
+        size = size ∙ ap (λ (u : Table). u.lg_size) empty;
+        places = subst (λ (u : Table). PutsEach (λ c. c) u.lg_size u.places (set_coupons h b) t.places) empty (subst (λ cs. PutsEach (λ c. c) start.lg_size start.places cs t.places) same puts);
+      };
+      number = sym distinct ∙ ap len (members ∙ ap set_of same) ∙ here.distinct;
+    }

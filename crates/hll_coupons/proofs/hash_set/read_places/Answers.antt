@@ -1,0 +1,59 @@
+use Rattle.std.proofs.Common.{arith, ℕ, ◌≡◌, ◌≤◌, ◌∙◌, true, false, sym, ap, subst, inl, inr}
+use Rattle.std.specs.FinSet.{contains, insert}
+use Rattle.std.proofs.lemmas.Bool.{cases_Bool, true≢false}
+use Rattle.hll_coupons.specs.Coupons.{AreCoupons}
+use Rattle.hll_coupons.specs.Pair.{Pairs, value_of}
+use Rattle.hll_coupons.specs.Probe.{Puts}
+use Rattle.hll_coupons.specs.Table.{coupons_of}
+use Rattle.hll_coupons.proofs.Reading.{no_value, twice}
+use Rattle.hll_coupons.proofs.SetReading.{read_none, read_over, read_word, read_more}
+use Rattle.hll_coupons.proofs.hash_set.read_places.Goals as goal
+use Rattle.hll_coupons.proofs.hash_set.read_places.Goals.{else-is_empty-via-then-is_empty+else-not-compact, else-is_empty-via-else-is_empty, then-value-eq0-via-then-value-eq0, then-value-eq0-via-else-value-eq0+then-not-insert}
+
+-- what is not lacking is there
+held : (S : Pairs) (c : ℕ) → (contains S c ≡ false → ⊥) → contains S c ≡ true
+held S c h = elim (cases_Bool (contains S c)) [ inl t ↦ t | inr f ↦ absurd (h f) ]
+
+pub loop-init : goal.loop-init
+loop-init g c = read_none c.args.compact c.args.places c.args.set.now c.args.cursor c.requires.small c.requires.none c.requires.there
+
+pub loop-preserved-then-not-compact : goal.loop-preserved-then-not-compact
+loop-preserved-then-not-compact g c =
+    let word = c.in_ok-read_u32_le.ensures.ok in
+    read_over c.args.compact c.args.places c.loop.counter _ _ _ c.loop.set c.loop.cursor c.loop.invariant c.loop-test.true c.in_ok-read_u32_le.field-0 c.read_u32_le.new.self word.1 word.2
+    (sym c.from_raw-coupon.ensures ∙ c.is_empty.ensures.0 c.if-is_empty.true) c.if-not-compact.true
+
+pub returns-then-value-eq0-clause-err : goal.returns-then-value-eq0-clause-err
+returns-then-value-eq0-clause-err g c =
+    let so = c.loop.invariant in
+    let word = c.in_ok-read_u32_le.ensures.ok in
+    let w : ℕ = c.in_ok-read_u32_le.field-0 in
+    let filled : w ≡ 0 → c.args.compact ≡ true = λ z. elim c.else-is_empty.branch [
+      | else-is_empty-via-then-is_empty+else-not-compact v ↦ v.if-not-compact.false
+      | else-is_empty-via-else-is_empty v ↦ absurd (true≢false (sym (c.is_empty.ensures.1 (c.from_raw-coupon.ensures ∙ z)) ∙ v.if-is_empty.false))
+    ] in
+    let all = read_word c.args.compact c.args.places c.loop.counter _ _ _ c.loop.set c.loop.cursor so c.loop-test.true w c.read_u32_le.new.self word.1 word.2 filled in
+    let same : c.from_raw-coupon.result ≡ w = c.from_raw-coupon.ensures in (
+      c.new.ensures,
+      λ are. elim c.then-value-eq0.branch [
+        | then-value-eq0-via-then-value-eq0 v ↦ no_value so.order _ w (ap value_of (sym same) ∙ sym c.value.ensures.value ∙ v.if-value-eq0.true) (subst AreCoupons all are)
+        | then-value-eq0-via-else-value-eq0+then-not-insert v ↦
+            let there : contains (coupons_of c.loop.set) c.from_raw-coupon.result ≡ true = held (coupons_of c.loop.set) c.from_raw-coupon.result (λ none. true≢false (sym (v.insert.ensures.new.1 none) ∙ v.if-not-insert.true)) in
+            twice so.order _ w ((λ i. contains (sym so.members i) (sym same i)) ∙ there) (subst AreCoupons all are)
+      ],
+    )
+
+pub loop-preserved : goal.loop-preserved
+loop-preserved g c =
+    let word = c.in_ok-read_u32_le.ensures.ok in
+    let w : ℕ = c.in_ok-read_u32_le.field-0 in
+    let filled : w ≡ 0 → c.args.compact ≡ true = λ z. elim c.else-is_empty.branch [
+      | else-is_empty-via-then-is_empty+else-not-compact v ↦ v.if-not-compact.false
+      | else-is_empty-via-else-is_empty v ↦ absurd (true≢false (sym (c.is_empty.ensures.1 (c.from_raw-coupon.ensures ∙ z)) ∙ v.if-is_empty.false))
+    ] in
+    let same : c.from_raw-coupon.result ≡ w = c.from_raw-coupon.ensures in
+    let new = c.insert.ensures in
+    read_more c.args.compact c.args.places c.loop.counter _ _ _ c.loop.set c.loop.cursor c.loop.invariant c.loop-test.true w c.read_u32_le.new.self word.1 word.2 c.insert.new.self filled
+    (let v : 1 ≤ value_of w = omega (arith, c.if-value-eq0.false, c.value.ensures.value, ap value_of same) in v)
+    (ap (contains (coupons_of c.loop.set)) (sym same) ∙ new.new.0 c.if-not-insert.false) new.size
+    (subst (λ w. Puts (λ c. c) c.loop.set.lg_size c.loop.set.places w c.insert.new.self.places) same new.places) (new.members ∙ ap (insert (coupons_of c.loop.set)) same) new.set

@@ -1,0 +1,288 @@
+//! A set of coupons in a table that is searched by probing (docs/MODEL.md, "Tables" and "Probing").
+ghost use Rattle.std.specs.Prelude.{◌≡◌, ◌+◌, ◌*◌, ◌^◌, ◌<◌, ◌≤◌, ◌⊎◌, ◌↔◌, if◌then◌else◌, length, take, drop, false, IsTrue, IfOk, IfErr, OnOk};
+ghost use Rattle.std.specs.FinSet as set;
+ghost use Rattle.hll_base.specs.declared.error.Reason.TheVariants.{Memory};
+ghost use Rattle.hll_base.specs.declared.error.Reason.TheVariants as reasons;
+ghost use Rattle.hll_coupons.specs.Coupons.{WritesAscending, set_bytes, coupons_at, AreCoupons};
+ghost use Rattle.hll_coupons.specs.Coupons as header;
+ghost use Rattle.hll_coupons.specs.Pair.{set_of, value_of};
+ghost use Rattle.hll_coupons.specs.Payload.{shape_of_set, HasSetCount, set_places, IsSetPayload, IsSetTable, SetFault};
+ghost use Rattle.hll_coupons.specs.HashSet.{IsHashSet};
+ghost use Rattle.hll_coupons.specs.Probe.{Puts, PutsEach};
+ghost use Rattle.hll_coupons.specs.Same.{have_same_coupons};
+ghost use Rattle.hll_coupons.specs.Table.{coupons_in, coupons_of, empty_table, IsTable};
+
+use crate::container::{Container, places_of, write_coupons};
+use crate::coupon::Coupon;
+use crate::hll_type::HllType;
+use crate::search::{Key, search};
+use crate::serialization::{
+    COMPACT_FLAG_MASK, COUPON_SIZE_BYTES, CUR_MODE_SET, HASH_SET_PREINTS, SERIAL_VERSION,
+    SET_PREAMBLE_SIZE, encode_mode_byte,
+};
+use hll_base::codec::SketchBytes;
+use hll_base::cursor::SketchSlice;
+use hll_base::error::{Error, Reason};
+use hll_base::family::Family;
+use std::alloc::{Allocator, Global};
+use std::marker::Model;
+
+/// The logarithm of the number of places where none is given.
+const LG_DEFAULT_SIZE: usize = 5;
+
+/// A container in which each coupon stands where a search for it comes to it. Contracts see what they
+/// see of the container.
+#[derive_where(Debug)]
+#[derive(Drop)]
+pub struct HashSet<A: Allocator = Global> {
+    container: Container<A>,
+}
+
+impl<A: Allocator> Model for HashSet<A> {
+    ghost use Rattle.hll_coupons.specs.HashSet.{IsHashSet};
+    ghost use Rattle.hll_coupons.specs.Table.{Table};
+
+    ghost Value = { Table };
+
+    ghost view = { λ s. s.container };
+
+    ghost invariant = { λ s. IsHashSet s.container };
+}
+
+impl<A: Allocator> HashSet<A> {
+    /// No coupons, and 2^`lg_size` places of four bytes each.
+    ///
+    /// `lg_size` is at most 26. Fails with `Memory`.
+    pub fn new(alloc: A, lg_size: usize) -> Result<HashSet<A>, Error>
+        requires { lg_size ≤ 26 }
+        ensures ok { IfOk result (λ s. s ≡ empty_table lg_size) }
+        ensures err { IfErr result (λ e. e ≡ Memory) }
+    {
+        Ok(HashSet {
+            container: Container::new(alloc, lg_size)?,
+        })
+    }
+
+    /// No coupons, and 32 places.
+    ///
+    /// Fails with `Memory`.
+    pub fn default_in(alloc: A) -> Result<HashSet<A>, Error>
+        ensures ok { IfOk result (λ s. s ≡ empty_table 5) }
+        ensures err { IfErr result (λ e. e ≡ Memory) }
+    {
+        HashSet::new(alloc, LG_DEFAULT_SIZE)
+    }
+
+    /// Reads what follows the header of a set's image (docs/FORMAT.md, "SET"): the count, and 2^`lg_arr` places, or
+    /// where `compact` the filled ones alone. The coupons are placed anew, in their order.
+    ///
+    /// `lg_arr` is at most 26. Fails with `Truncated`, `Count` or `Coupon` where that fault stands, in the
+    /// order of checks, or else with `Memory`. Takes memory only once the bytes are known to be there.
+    pub fn deserialize(
+        alloc: A,
+        mut cursor: SketchSlice<'_>,
+        lg_arr: usize,
+        compact: bool,
+    ) -> Result<HashSet<A>, Error>
+        requires { lg_arr ≤ 26 }
+        ensures ok { let h = shape_of_set lg_arr compact in
+            IfOk result (λ s. IsSetPayload h (take (4 + 4 * set_places h cursor.entry) cursor.entry) × IsSetTable h cursor.entry s) }
+        ensures err { let h = shape_of_set lg_arr compact in
+            IfErr result (λ e. (e ≡ Memory) ⊎ SetFault h cursor.entry e) }
+        ensures asked { let h = shape_of_set lg_arr compact in
+            IfErr result (λ e. e ≡ Memory → HasSetCount h cursor.entry × (4 + 4 * set_places h cursor.entry ≤ length cursor.entry)) }
+        ensures order { let h = shape_of_set lg_arr compact in
+            IfErr result (λ e. e ≡ reasons.Count → HasSetCount h cursor.entry → AreCoupons (coupons_at compact (set_places h cursor.entry) (drop 4 cursor.entry))) }
+    {
+        let count = cursor.read_u32_le()? as usize;
+        if count >= places_of(lg_arr) {
+            return Err(Error::new(Reason::Count));
+        }
+        let places = places_to_read(lg_arr, count, compact);
+        if cursor.remaining().len() < places * COUPON_SIZE_BYTES {
+            return Err(Error::new(Reason::Truncated));
+        }
+        let mut set = HashSet::new(alloc, lg_arr)?;
+        match read_places(&mut set, cursor, places, compact) {
+            Ok(()) if set.container.len() == count => Ok(set),
+            Ok(()) => Err(Error::new(Reason::Count)),
+            Err(e) => Err(e),
+        }
+    }
+
+    /// Puts a coupon where a search for it ends, unless the set has it. Takes no memory.
+    ///
+    /// Its value is at least 1, and a place is free if the set doesn't have it.
+    pub fn update(&mut self, coupon: Coupon)
+        requires valued { 1 ≤ value_of coupon }
+        requires room { set.contains (coupons_of self.old) coupon ≡ false → length (coupons_in self.old.places) < 2 ^ self.old.lg_size }
+        ensures size { self.new.lg_size ≡ self.old.lg_size }
+        ensures places { Puts (λ c. c) self.old.lg_size self.old.places coupon self.new.places }
+        ensures members { coupons_of self.new ≡ set.insert (coupons_of self.old) coupon }
+    {
+        self.insert(coupon);
+    }
+
+    /// The same. Says whether the coupon is new.
+    fn insert(&mut self, coupon: Coupon) -> bool
+        requires valued { 1 ≤ value_of coupon }
+        requires room { set.contains (coupons_of self.old) coupon ≡ false → length (coupons_in self.old.places) < 2 ^ self.old.lg_size }
+        ensures new { IsTrue result ↔ (set.contains (coupons_of self.old) coupon ≡ false) }
+        ensures size { self.new.lg_size ≡ self.old.lg_size }
+        ensures places { Puts (λ c. c) self.old.lg_size self.old.places coupon self.new.places }
+        ensures members { coupons_of self.new ≡ set.insert (coupons_of self.old) coupon }
+        ensures set { IsHashSet self.new }
+    {
+        let places = self.container.places();
+        let found = search(Key::Word, self.container.lg_size(), places, coupon.raw());
+        let Some(place) = found else { unreachable!() };
+        let is_new = places[place].is_empty();
+        if is_new {
+            self.container.put(place, coupon);
+        }
+        is_new
+    }
+
+    /// Whether the set has the coupon, by a search for it. Takes no memory.
+    pub fn contains(&self, coupon: Coupon) -> bool
+        ensures { result ≡ set.contains (coupons_of self.now) coupon }
+    {
+        let places = self.container.places();
+        match search(Key::Word, self.container.lg_size(), places, coupon.raw()) {
+            Some(place) => !places[place].is_empty(),
+            None => false,
+        }
+    }
+
+    /// The places. Takes no memory.
+    pub fn container(&self) -> &Container<A>
+        ensures same { result.now ≡ self.now }
+        ensures set { IsHashSet self.now }
+    {
+        &self.container
+    }
+
+    /// Whether the set has each coupon of another one.
+    fn contains_all(&self, other: &HashSet<A>) -> bool
+        ensures { result ≡ set.is_subset (coupons_of other.now) (coupons_of self.now) }
+    {
+        for coupon in other.container.iter() {
+            if !self.contains(coupon) {
+                return false;
+            }
+        }
+        true
+    }
+}
+
+impl<A: Allocator + Clone> HashSet<A> {
+    /// A copy, with the same places.
+    ///
+    /// Fails with `Memory`.
+    pub fn clone(&self) -> Result<HashSet<A>, Error>
+        ensures ok { IfOk result (λ s. s ≡ self.now) }
+        ensures err { IfErr result (λ e. e ≡ Memory) }
+    {
+        Ok(HashSet {
+            container: self.container.clone()?,
+        })
+    }
+
+    /// The compact image of a set (docs/FORMAT.md, "What is written"): twelve bytes, and four for each coupon, in
+    /// ascending raw words.
+    ///
+    /// `lg_config_k` is 4 to 21, and the set has a size of 5 to `lg_config_k` - 3 and an empty place. Takes memory for a
+    /// sorted copy of the coupons, and in one request for the image. Fails with `Memory`.
+    pub fn serialize(&self, lg_config_k: u8, hll_type: HllType) -> Result<Vec<u8, A>, Error>
+        requires most { lg_config_k ≤ 21 }
+        requires low { 5 ≤ self.now.lg_size }
+        requires high { self.now.lg_size + 3 ≤ lg_config_k }
+        requires room { length (coupons_in self.now.places) < 2 ^ self.now.lg_size }
+        ensures ok { IfOk result (λ image. WritesAscending (set_bytes lg_config_k hll_type self.now.lg_size) (coupons_of self.now) image.items) }
+        ensures err { IfErr result (λ e. e ≡ Memory) }
+    {
+        let coupons = self
+            .container
+            .ascending(self.container.cloned_allocator()?)?;
+        let count = self.container.len();
+        let needed = SET_PREAMBLE_SIZE + count * COUPON_SIZE_BYTES;
+        let mut bytes = SketchBytes::with_capacity(self.container.cloned_allocator()?, needed)?;
+        let lg_size = self.container.lg_size() as u8;
+        bytes.write(&set_header(lg_config_k, hll_type, lg_size))?;
+        bytes.write_u32_le(count as u32)?;
+        write_coupons(&mut bytes, &coupons)?;
+        Ok(bytes.into_bytes())
+    }
+}
+
+/// Sets are equal where they have the same coupons, whatever their sizes and places: as many, and each of one found in
+/// the other. Takes no memory.
+impl<A: Allocator> PartialEq for HashSet<A> {
+    ghost use Rattle.hll_coupons.specs.Same.{have_same_coupons, have_same_coupons-partial};
+
+    ghost eq = { have_same_coupons };
+
+    ghost laws = { have_same_coupons-partial };
+
+    fn eq(&self, other: &HashSet<A>) -> bool {
+        self.container.len() == other.container.len() && other.contains_all(self)
+    }
+}
+
+impl<A: Allocator> Eq for HashSet<A> {
+    ghost use Rattle.hll_coupons.specs.Same.{have_same_coupons-equivalence};
+
+    ghost laws = { have_same_coupons-equivalence };
+}
+
+/// How many places follow the count.
+fn places_to_read(lg_arr: usize, count: usize, compact: bool) -> usize
+    requires { lg_arr ≤ 26 }
+    ensures { result ≡ (if compact then count else (2 ^ lg_arr)) }
+{
+    if compact { count } else { places_of(lg_arr) }
+}
+
+/// Reads places into an empty set. `Coupon` where one that has to be a coupon has no value, or comes twice.
+fn read_places<A: Allocator>(
+    set: &mut HashSet<A>,
+    mut cursor: SketchSlice<'_>,
+    places: usize,
+    compact: bool,
+) -> Result<(), Error>
+    requires small { set.old.lg_size ≤ 26 }
+    requires none { set.old ≡ empty_table set.old.lg_size }
+    requires room { places ≤ 2 ^ set.old.lg_size }
+    requires there { 4 * places ≤ length cursor }
+    ensures size { set.new.lg_size ≡ set.old.lg_size }
+    ensures ok { OnOk result (PutsEach (λ c. c) set.old.lg_size set.old.places (coupons_at compact places cursor.entry) set.new.places × AreCoupons (coupons_at compact places cursor.entry)) }
+    ensures members { OnOk result (coupons_of set.new ≡ set_of (coupons_at compact places cursor.entry)) }
+    ensures err { IfErr result (λ e. (e ≡ reasons.Coupon) × (AreCoupons (coupons_at compact places cursor.entry) → ⊥)) }
+{
+    for _ in 0..places {
+        let coupon = Coupon::from_raw(cursor.read_u32_le()?);
+        if coupon.is_empty() && !compact {
+            continue;
+        }
+        if coupon.value() == 0 || !set.insert(coupon) {
+            return Err(Error::new(Reason::Coupon));
+        }
+    }
+    Ok(())
+}
+
+/// The eight bytes before the count of a set.
+fn set_header(lg_config_k: u8, hll_type: HllType, lg_size: u8) -> [u8; 8]
+    ensures { result ≡ header.set_header lg_config_k hll_type lg_size }
+{
+    [
+        HASH_SET_PREINTS,
+        SERIAL_VERSION,
+        Family::HLL.id,
+        lg_config_k,
+        lg_size,
+        COMPACT_FLAG_MASK,
+        0,
+        encode_mode_byte(CUR_MODE_SET, hll_type as u8),
+    ]
+}
