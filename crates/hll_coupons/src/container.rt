@@ -255,7 +255,9 @@ impl<A: Allocator> Eq for Container<A> {
 }
 
 /// Appends coupons, four bytes each.
-pub(crate) fn write_coupons<A: Allocator>(
+///
+/// Takes memory where the buffer has no room. Fails with `Memory`.
+pub fn write_coupons<A: Allocator>(
     bytes: &mut SketchBytes<A>,
     coupons: &[Coupon],
 ) -> Result<(), Error>
