@@ -1,6 +1,7 @@
 //! Registers of four bits as a store: sizes, images, equality, values, conversions and merges, beside registers of eight
 //! bits and values worked out by hand.
 ghost use Rattle.std.specs.Prelude.{◌≤◌};
+ghost use Rattle.hll_arrays.specs.Store.{AreRegisters};
 
 use crate::fixtures::{READ, coupons_in, first_of, merge, refusal_of, store_of};
 use crate::four_bits::{assert_packed, one_in};
@@ -186,33 +187,38 @@ fn differences(rt: HostRuntime) -> Result<(), Fail> {
     compared_in(&rt, rt.alloc(), &read, high_in(rt.alloc())?)
 }
 
-/// Values at once: the minimum, nibbles and exceptions are those of the values.
+/// Sixteen values in a row, from 0.
+const ROW: [u8; 16] = [0, 1, 2, 3, 4, 5, 6, 7, 8, 9, 10, 11, 12, 13, 14, 15];
+
+/// Sixteen values in a row, to 63.
+const LAST: [u8; 16] = [
+    63, 62, 61, 60, 59, 58, 57, 56, 55, 54, 53, 52, 51, 50, 49, 48,
+];
+
+/// Exceptions at the first and the last slot, at 15 above the minimum, and beside one another.
+const MIXED: [u8; 16] = [17, 3, 63, 18, 2, 5, 16, 4, 4, 2, 3, 40, 40, 16, 2, 17];
+
+/// Values at once: the minimum, nibbles and exceptions are those of the values, and so are the weights.
+fn packed_in(rt: &impl Abort, alloc: Global, lg_k: u8, values: &[u8]) -> Result<(), Fail>
+    requires least { 4 ≤ lg_k }
+    requires most { lg_k ≤ 21 }
+    requires registers { AreRegisters lg_k values.now }
+{
+    let four: Array4 = RegisterStore::from_values(alloc, lg_k, values)?;
+    assert_packed(rt, &four, values);
+    assert_eq!(rt; four.estimate_state(), EstimateState::CLEARED);
+    let eight: Array8 = RegisterStore::from_values(alloc, lg_k, values)?;
+    assert_eq!(rt; four.kxq_units(), eight.kxq_units());
+    Ok(())
+}
+
 #[test]
 fn values(rt: HostRuntime) -> Result<(), Fail> {
-    for (first, step) in [
-        (0u8, 0u8),
-        (0, 1),
-        (63, 0),
-        (48, 1),
-        (1, 2),
-        (3, 11),
-        (0, 4),
-        (15, 15),
-    ] {
-        let mut values = [0u8; 64];
-        for slot in 0..64u8 {
-            values[slot as usize] = first.wrapping_add(slot.wrapping_mul(step)) % 64;
-        }
-        for lg_k in 4..7u8 {
-            let values = &values[..1usize << lg_k];
-            let array: Array4 = RegisterStore::from_values(rt.alloc(), lg_k, values)?;
-            assert_packed(&rt, &array, values);
-            assert_eq!(rt; array.estimate_state(), EstimateState::CLEARED);
-            let eight: Array8 = RegisterStore::from_values(rt.alloc(), lg_k, values)?;
-            assert_eq!(rt; array.kxq_units(), eight.kxq_units());
-        }
-    }
-    Ok(())
+    packed_in(&rt, rt.alloc(), 4, &[0; 16])?;
+    packed_in(&rt, rt.alloc(), 4, &[63; 16])?;
+    packed_in(&rt, rt.alloc(), 4, &ROW)?;
+    packed_in(&rt, rt.alloc(), 4, &LAST)?;
+    packed_in(&rt, rt.alloc(), 4, &MIXED)
 }
 
 /// Sums worked out by hand.
@@ -235,6 +241,7 @@ fn weights(rt: HostRuntime) -> Result<(), Fail> {
 fn joins(rt: HostRuntime) -> Result<(), Fail> {
     let array = one_in(rt.alloc(), 5, 40, 3)?;
     array.lg_k();
+    assert!(rt; array.num_registers() == 16);
     let mut all = [9u8; 16];
     all[0] = 0;
     array.join_into(0, &mut all);
