@@ -8,7 +8,7 @@ ghost use Rattle.hll_arrays.specs.FourBits.{exception_in, exception_of, exceptio
 ghost use Rattle.hll_arrays.specs.Packed.{nibble, nibble_at};
 ghost use Rattle.hll_arrays.specs.Store.{AreRegisters};
 
-use crate::nibbles::{lower_by, nibble_of, put_nibble};
+use crate::nibbles::{has_mark, lower_by, nibble_of, put_nibble};
 use hll_base::codec::SketchBytes;
 use hll_base::error::Error;
 use hll_coupons::aux_map::AuxMap;
@@ -366,7 +366,8 @@ pub(crate) fn exceptions_of<A: Allocator + Clone>(
     Ok(map)
 }
 
-/// Raises each value to the exception of its slot, if it has one: `first + i` for value i. Searches where a nibble is 15.
+/// Raises each value to the exception of its slot, if it has one: `first + i` for value i. Searches where a nibble is 15,
+/// and passes over blocks of 32 where none is.
 ///
 /// Each two values have a byte of nibbles, and a slot whose nibble isn't 15 has no exception.
 pub(crate) fn raise_by_exceptions<A: Allocator>(
@@ -382,7 +383,36 @@ pub(crate) fn raise_by_exceptions<A: Allocator>(
     ensures raised { (s : ℕ) → s < length values.old → slice_index values.new s ≡ max (slice_index values.old s) (unwrap_or (value_in map.now (first + s)) 0) }
     ensures len { length values.new ≡ length values.old }
 {
-    for slot in 0..values.len() {
+    for block in 0..nibbles.len() / 16 + 1 {
+        let start = 16 * block;
+        let end = nibbles.len().min(start + 16);
+        if has_mark(nibbles, start, end) {
+            raise_marked(values, nibbles, map, first, 2 * start, 2 * end);
+        }
+    }
+}
+
+/// The same of the values from `start` up to `end`. The others are unchanged.
+fn raise_marked<A: Allocator>(
+    values: &mut [u8],
+    nibbles: &[u8],
+    map: &AuxMap<A>,
+    first: u32,
+    start: usize,
+    end: usize,
+)
+    requires size { length values.old ≡ 2 * length nibbles.now }
+    requires within { first + length values.old ≤ 2 ^ map.now.lg_k }
+    requires map { IsMap map.now }
+    requires marked { (s : ℕ) → s < length values.old → nibble_at nibbles.now s ≢ 15 → value_in map.now (first + s) ≡ None }
+    requires order { start ≤ end }
+    requires end { end ≤ length values.old }
+    ensures raised { (s : ℕ) → start ≤ s → s < end → slice_index values.new s ≡ max (slice_index values.old s) (unwrap_or (value_in map.now (first + s)) 0) }
+    ensures before { (s : ℕ) → s < start → slice_index values.new s ≡ slice_index values.old s }
+    ensures behind { (s : ℕ) → end ≤ s → slice_index values.new s ≡ slice_index values.old s }
+    ensures len { length values.new ≡ length values.old }
+{
+    for slot in start..end {
         if nibble_of(nibbles, slot) == MARK {
             let exception = map.get(first + slot as u32).unwrap_or(0);
             values[slot] = values[slot].max(exception);

@@ -1,6 +1,6 @@
 //! Registers of four bits: how far each is above a minimum, two of them in a byte, where 15 marks a register that is kept
 //! elsewhere (docs/FORMAT.md, "Packed registers").
-ghost use Rattle.std.specs.Prelude.{◌≡◌, ℕ, ◌+◌, ◌-◌, ◌*◌, ◌%◌, ◌^◌, ◌<◌, ◌≤◌, ◌==◌, ◌⊎◌, if◌then◌else◌, [], ◌∷◌, ◌++◌, length, map, All, IfOk};
+ghost use Rattle.std.specs.Prelude.{◌≡◌, ◌≢◌, false, ℕ, ◌+◌, ◌-◌, ◌*◌, ◌%◌, ◌^◌, ◌<◌, ◌≤◌, ◌==◌, ◌⊎◌, if◌then◌else◌, [], ◌∷◌, ◌++◌, length, map, All, IfOk};
 ghost use Rattle.std.specs.Simd.Lanes.{put_chunk, Each1};
 ghost use Rattle.hll_coupons.specs.Fold.{join};
 ghost use Rattle.hll_arrays.specs.Lanes.{raise_at, nibble_values, nibble_pairs};
@@ -37,6 +37,19 @@ pub(crate) fn put_nibble(bytes: &mut [u8], slot: usize, nibble: u8)
     } else {
         byte % 16 + nibble * 16
     };
+}
+
+/// Whether a nibble of the bytes from `start` up to `end` is 15.
+pub(crate) fn has_mark(bytes: &[u8], start: usize, end: usize) -> bool
+    requires { end ≤ length bytes.now }
+    ensures { result ≡ false → (s : ℕ) → 2 * start ≤ s → s < 2 * end → nibble_at bytes.now s ≢ 15 }
+{
+    let mut found = false;
+    for place in start..end {
+        let byte = bytes[place];
+        found = found || byte % 16 == 15 || byte / 16 == 15;
+    }
+    found
 }
 
 /// How many nibbles are 0. One pass.
