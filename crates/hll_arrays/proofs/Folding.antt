@@ -134,7 +134,7 @@ module _ (R : List ℕ) (e i : ℕ) (small : length R ≤ 2 ^ 22) (enough : (i +
 -- ---- the blocks of 2^k registers
 
 module _ (k e i : ℕ) (small : k ≤ 21) (le : e ≤ k) where
-  whole : 2 ^ (k - e) * 2 ^ e ≡ 2 ^ k
+  pub whole : 2 ^ (k - e) * 2 ^ e ≡ 2 ^ k
   whole = sym (pow-add 2 (k - e) e) ∙ ap (λ n. 2 ^ n) (let sum : k - e + e ≡ k = omega (arith, le) in sum)
 
   -- a block ends within the registers

@@ -137,7 +137,7 @@ module _ (k m n : ℕ) (bytes : List ℕ) (e : Option ExceptionMap) (R : List �
 -- ---- the only register at the minimum rises
 
 -- a register at m counts
-count_some : (m : ℕ) (R : List ℕ) (i : ℕ) → i < length R → get_or R i 0 ≡ m → 0 < count_by (λ r. eqb r m) R
+pub count_some : (m : ℕ) (R : List ℕ) (i : ℕ) → i < length R → get_or R i 0 ≡ m → 0 < count_by (λ r. eqb r m) R
 count_some m [] i h e = absurd (omega (arith, h))
 count_some m (r ∷ R) zero h e = let one : ◌≡◌ {A = ℕ} (cond (eqb r m) 1 0) 1 = cond-true (eqb r m) 1 0 (eq-eqb r m e) in omega (arith, sum_by-cons (λ r. cond (eqb r m) 1 0) r R, one)
 count_some m (r ∷ R) (suc i) h e = omega (arith, sum_by-cons (λ r. cond (eqb r m) 1 0) r R, count_some m R i (omega (arith, h)) e)
@@ -153,7 +153,7 @@ attained_from a (r ∷ R) = elim (attained_from (min a r) R) [
   | inr f ↦ inr (suc f.0, omega (arith, f.1), f.2)
 ]
 
-attained : (R : List ℕ) → 0 < length R → All (λ r. r ≤ 63) R → (i : ℕ) × (i < length R) × (get_or R i 0 ≡ minimum R)
+pub attained : (R : List ℕ) → 0 < length R → All (λ r. r ≤ 63) R → (i : ℕ) × (i < length R) × (get_or R i 0 ≡ minimum R)
 attained R some small = elim (attained_from 63 R) [
   | inr f ↦ f
   | inl e ↦ (0, some, let low : minimum R ≤ get_or R 0 0 = minimum_le R 0 some in let high : get_or R 0 0 ≤ 63 = small 0 0 some in omega (arith, low, high, e))
@@ -166,7 +166,7 @@ nibble_zero m r low = elim (cases_eq r m) [
   | inr other ↦ differs (nibble m r) 0 (λ z. omega (arith, z, other, low)) ∙ sym (differs r m other)
 ]
 
-zero_nibbles_are : (m : ℕ) (bytes R : List ℕ) → bytes ≡ nibble_bytes_above m R → (h : ℕ) → length R ≡ 2 * h → ((s : ℕ) → s < length R → m ≤ get_or R s 0) → zero_nibbles (nibble_bytes_above m R) ≡ count_by (λ r. eqb r m) R
+pub zero_nibbles_are : (m : ℕ) (bytes R : List ℕ) → bytes ≡ nibble_bytes_above m R → (h : ℕ) → length R ≡ 2 * h → ((s : ℕ) → s < length R → m ≤ get_or R s 0) → zero_nibbles (nibble_bytes_above m R) ≡ count_by (λ r. eqb r m) R
 zero_nibbles_are m bytes [] e h even low = refl
 zero_nibbles_are m bytes (r ∷ []) e h even low = absurd (omega (arith, even))
 zero_nibbles_are m bytes (r ∷ q ∷ R) e zero even low = absurd (omega (arith, even))

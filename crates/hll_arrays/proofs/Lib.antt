@@ -4,6 +4,7 @@ pub mod Exceptions
 pub mod Filling
 pub mod Folding
 pub mod FourBitLanes
+pub mod FourBitStores
 pub mod FourBitChanges
 pub mod FourBits
 pub mod Grouping

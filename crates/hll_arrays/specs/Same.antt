@@ -7,6 +7,7 @@ use Rattle.std.specs.Cmp.{IsPartialEquivalence, IsEquivalence, both_ways, equiv}
 use Rattle.std.specs.Cmp.Lexicographic.{pointwise}
 use Rattle.std.specs.Ordering.{on, eq_of_both}
 use lib.Pointwise.{bytes_decides}
+use Rattle.hll_arrays.specs.FourBits.{FourBits}
 use Rattle.hll_arrays.specs.Store.{Stored}
 
 -- the same lg_k, registers and state
@@ -65,3 +66,18 @@ same_stored-partial = record {
 
 pub same_stored-equivalence : IsEquivalence same_stored
 same_stored-equivalence = equiv same_stored-partial (λ x. same_stored-to x x refl)
+
+-- ---- four bits
+
+-- the same lg_k, registers and state; the places of exceptions don't count
+abbrev pub same_four_bits : FourBits → FourBits → Bool
+same_four_bits = on (λ a. a.stored) same_stored
+
+pub same_four_bits-partial : IsPartialEquivalence same_four_bits
+same_four_bits-partial = record {
+  symm = λ x y. same_stored-partial.symm x.stored y.stored;
+  trans = λ x y z. same_stored-partial.trans x.stored y.stored z.stored;
+}
+
+pub same_four_bits-equivalence : IsEquivalence same_four_bits
+same_four_bits-equivalence = equiv same_four_bits-partial (λ x. same_stored-to x.stored x.stored refl)

@@ -1,21 +1,31 @@
 //! Registers of four bits: nibbles above a minimum, and a map of exceptions (docs/MODEL.md, "Registers of four bits").
-ghost use Rattle.std.specs.Prelude.{◌≡◌, ◌≢◌, ◌+◌, ◌*◌, ◌^◌, ◌<◌, ◌≤◌, ◌==◌, ℕ, if◌then◌else◌, count_by, slice_index, slice_set, IfOk, IfErr, IfSome, OnOk, OnErr, Some, None};
+ghost use Rattle.std.specs.Prelude.{◌≡◌, ◌≢◌, ◌+◌, ◌*◌, ◌^◌, ◌<◌, ◌≤◌, ◌==◌, ℕ, if◌then◌else◌, count_by, nat_eq, slice_index, slice_set, IfOk, IfErr, IfSome, OnOk, OnErr, Some, None};
 ghost use Rattle.std.specs.List.{list_all};
+ghost use Rattle.std.specs.Cmp.Lexicographic.{pointwise};
 ghost use Rattle.hll_base.specs.declared.error.Reason.TheVariants.{Memory};
+ghost use Rattle.hll_coupons.specs.declared.hll_type.HllType.TheVariants.{Hll4};
 ghost use Rattle.hll_arrays.specs.FourBits.{exception_in, exception_of, kept_above, with_register, ExceptionsMove, FourBits, IsMapFor};
-ghost use Rattle.hll_arrays.specs.Packed.{minimum, count_at_minimum, nibble, zeros};
+ghost use Rattle.hll_arrays.specs.Packed.{minimum, count_at_minimum, nibble, units, zeros, size_in_registers};
+ghost use Rattle.hll_arrays.specs.Payload.{WritesRegisters};
 ghost use Rattle.hll_arrays.specs.State.{cleared_state};
 ghost use Rattle.hll_arrays.specs.Store.{zero_registers, update_with_coupon, IsStored};
 
 use crate::estimate_state::EstimateState;
 use crate::exception_map::{
-    MARK, copied, exception_at, exceptions_above, put_exception, repack, stay,
+    MARK, bytes_of_places, copied, count_exceptions, exception_at, exceptions_above, exceptions_of,
+    have_same_exceptions, put_exception, raise_by_exceptions, repack, stay, write_exceptions,
 };
-use crate::nibbles::{count_zero_nibbles, nibble_of, put_nibble};
-use crate::registers::{Registers, two_to};
+use crate::kernels::least_of;
+use crate::nibbles::{count_zero_nibbles, nibble_of, packed_nibbles, put_nibble, raise_by_nibbles};
+use crate::preamble::{HllHeader, Preamble};
+use crate::register_store::RegisterStore;
+use crate::registers::{Registers, two_to, units_of};
+use hll_base::codec::SketchBytes;
 use hll_base::error::Error;
 use hll_coupons::aux_map::AuxMap;
 use hll_coupons::coupon::Coupon;
+use hll_coupons::hll_type::HllType;
+use hll_coupons::serialization::{COMPACT_FLAG_MASK, COUPON_SIZE_BYTES, HLL_PREAMBLE_SIZE};
 use std::alloc::{Allocator, Global};
 use std::marker::Model;
 
@@ -144,6 +154,15 @@ impl<A: Allocator> Array4<A> {
         }
     }
 
+    /// The sum of 2^-v over the registers v, in units of 2^-63. One pass, and a search for each exception; takes no
+    /// memory.
+    pub fn kxq_units(&self) -> u128
+        ensures units { result ≡ units self.now.stored.registers }
+        ensures bound { result ≤ 2 ^ 84 }
+    {
+        units_of(self)
+    }
+
     /// The estimate state. Takes no memory.
     pub fn estimate_state(&self) -> EstimateState
         ensures { result ≡ self.now.stored.state }
@@ -156,6 +175,36 @@ impl<A: Allocator> Array4<A> {
         ensures { self.new ≡ record { stored = record self.old.stored { state = state }; exceptions = self.old.exceptions } }
     {
         self.state = state;
+    }
+
+    /// How many bytes the registers take: 2^(`lg_k` - 1), and the places of the map where there are exceptions. Takes no
+    /// memory.
+    pub fn estimated_size(&self) -> usize
+        ensures { result ≡ size_in_registers self.now.stored.lg_k Hll4 self.now.stored.registers }
+    {
+        self.nibbles.len() + bytes_of_places(&self.exceptions)
+    }
+
+    /// What the header of the image says.
+    fn header(&self, lg_config_k: u8) -> HllHeader
+        ensures { result ≡ record { lg_config_k = lg_config_k; hll_type = Hll4; flags = 8; minimum = minimum self.now.stored.registers } }
+    {
+        HllHeader {
+            lg_config_k,
+            hll_type: HllType::Hll4,
+            flags: COMPACT_FLAG_MASK,
+            minimum: self.cur_min(),
+        }
+    }
+
+    /// Whether the registers are the same as others of the same `lg_k`.
+    fn has_same_registers(&self, other: &Array4<A>) -> bool
+        requires { self.now.stored.lg_k ≡ other.now.stored.lg_k }
+        ensures { result ≡ pointwise nat_eq self.now.stored.registers other.now.stored.registers }
+    {
+        self.cur_min == other.cur_min
+            && self.nibbles.as_slice() == other.nibbles.as_slice()
+            && have_same_exceptions(&self.exceptions, &other.exceptions)
     }
 
     /// The least register when that of one slot has another value.
@@ -193,6 +242,31 @@ impl<A: Allocator + Clone> Array4<A> {
             exceptions: copied(&self.exceptions)?,
             state: self.state,
         })
+    }
+
+    /// The image (docs/FORMAT.md, "What is written"): 40 bytes, two registers a byte, and four for each exception, in
+    /// ascending raw words.
+    ///
+    /// `lg_config_k` is that of the registers. Takes memory in one request for the image, and where there are exceptions
+    /// for a sorted copy of them. Fails with `Memory`.
+    pub fn serialize(&self, lg_config_k: u8) -> Result<Vec<u8, A>, Error>
+        requires { lg_config_k ≡ self.now.stored.lg_k }
+        ensures ok { IfOk result (λ image. WritesRegisters image.items lg_config_k Hll4 self.now.stored.registers self.now.stored.state) }
+        ensures err { IfErr result (λ e. e ≡ Memory) }
+    {
+        let count = count_exceptions(&self.exceptions);
+        let preamble = Preamble {
+            state: self.estimate_state(),
+            num_at_cur_min: self.num_at_cur_min,
+            exception_count: count as u32,
+        };
+        let needed = HLL_PREAMBLE_SIZE + self.nibbles.len() + count * COUPON_SIZE_BYTES;
+        let mut bytes = SketchBytes::with_capacity(self.nibbles.allocator().clone()?, needed)?;
+        preamble.write_header(&mut bytes, self.header(lg_config_k))?;
+        preamble.write(&mut bytes)?;
+        bytes.write(&self.nibbles)?;
+        write_exceptions(&self.exceptions, &self.nibbles, &mut bytes)?;
+        Ok(bytes.into_bytes())
     }
 
     /// Raises the register at the coupon's slot modulo 2^`lg_k` to the coupon's value. If it changes, the state is
@@ -375,4 +449,82 @@ impl<A: Allocator> Registers for Array4<A> {
     fn estimate_state(&self) -> EstimateState {
         Array4::estimate_state(self)
     }
+
+    /// One pass, and a search for each exception.
+    fn join_into(&self, first: u32, values: &mut [u8]) {
+        let start = first as usize / 2;
+        let nibbles = &self.nibbles[start..start + values.len() / 2];
+        raise_by_nibbles(values, nibbles, self.cur_min);
+        if let Some(map) = &self.exceptions {
+            raise_by_exceptions(values, nibbles, map, first);
+        }
+    }
+}
+
+impl<A: Allocator + Clone> RegisterStore<A> for Array4<A> {
+    ghost use Rattle.std.specs.Prelude.{false};
+    ghost use Rattle.hll_coupons.specs.declared.hll_type.HllType.TheVariants.{Hll4};
+    ghost use Rattle.hll_arrays.specs.Same.{same_stored-from, same_stored-to};
+
+    const WIDTH: HllType = HllType::Hll4;
+
+    ghost WIDTH = { Hll4 };
+
+    const NEVER_REFUSES: bool = false;
+
+    ghost NEVER_REFUSES = { false };
+
+    fn make(alloc: A, lg_k: u8) -> Result<Array4<A>, Error> {
+        Array4::new(alloc, lg_k)
+    }
+
+    fn put_coupon(&mut self, coupon: Coupon) -> Result<(), Error> {
+        self.update(coupon)
+    }
+
+    fn restore(&mut self, state: EstimateState) {
+        self.restore_estimate_state(state);
+    }
+
+    fn write_image(&self) -> Result<Vec<u8, A>, Error> {
+        self.serialize(self.lg_config_k)
+    }
+
+    /// Three passes, and an entry for each exception.
+    fn from_values(alloc: A, lg_k: u8, values: &[u8]) -> Result<Array4<A>, Error> {
+        let minimum = least_of(values);
+        let nibbles = packed_nibbles(alloc, values, minimum)?;
+        let exceptions = exceptions_of(&nibbles, lg_k, values, minimum)?;
+        Ok(Array4 {
+            lg_config_k: lg_k,
+            cur_min: minimum,
+            num_at_cur_min: count_zero_nibbles(&nibbles),
+            nibbles,
+            exceptions,
+            state: EstimateState::CLEARED,
+        })
+    }
+
+    ghost equal = { λ x y. (same_stored-from x.stored y.stored, same_stored-to x.stored y.stored) };
+}
+
+/// Two arrays are equal if their `lg_k`, registers and states are; the places of exceptions don't count. Takes no memory.
+impl<A: Allocator> PartialEq for Array4<A> {
+    ghost use Rattle.hll_arrays.specs.Same.{same_four_bits, same_four_bits-partial};
+
+    ghost eq = { same_four_bits };
+
+    ghost laws = { same_four_bits-partial };
+
+    fn eq(&self, other: &Array4<A>) -> bool {
+        self.lg_config_k == other.lg_config_k
+            && self.has_same_registers(other)
+            && self.state == other.state
+    }
+}
+
+impl<A: Allocator> Eq for Array4<A> {
+    ghost use Rattle.hll_arrays.specs.Same.{same_four_bits-equivalence};
+
+    ghost laws = { same_four_bits-equivalence };
 }

@@ -12,7 +12,7 @@ use crate::groups::{
     all_zero_in, count_zeros_in, groups_from_bytes, max_groups_into, pack_groups, put_register,
     register_at, units_in,
 };
-use crate::preamble::Preamble;
+use crate::preamble::{HllHeader, Preamble};
 use crate::register_store::RegisterStore;
 use crate::registers::{Registers, two_to};
 use hll_base::codec::SketchBytes;
@@ -207,7 +207,7 @@ impl<A: Allocator + Clone> Array6<A> {
         };
         let needed = HLL_PREAMBLE_SIZE + self.estimated_size();
         let mut bytes = SketchBytes::with_capacity(self.groups.allocator().clone()?, needed)?;
-        preamble.write_header(&mut bytes, lg_config_k, HllType::Hll6)?;
+        preamble.write_header(&mut bytes, HllHeader::plain(lg_config_k, HllType::Hll6))?;
         preamble.write(&mut bytes)?;
         bytes.write(self.groups.as_flattened())?;
         bytes.write(&[0])?;

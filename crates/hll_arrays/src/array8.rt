@@ -12,7 +12,7 @@ ghost use Rattle.hll_arrays.specs.Store.{zero_registers, update_with_coupon, mer
 
 use crate::estimate_state::EstimateState;
 use crate::kernels::{all_zero, count_zeros, max_into, units};
-use crate::preamble::Preamble;
+use crate::preamble::{HllHeader, Preamble};
 use crate::register_slice::RegisterSlice;
 use crate::register_store::RegisterStore;
 use crate::registers::{Registers, join_folds, two_to};
@@ -285,7 +285,7 @@ impl<A: Allocator + Clone> Array8<A> {
         };
         let needed = HLL_PREAMBLE_SIZE + self.registers.len();
         let mut bytes = SketchBytes::with_capacity(self.registers.allocator().clone()?, needed)?;
-        preamble.write_header(&mut bytes, lg_config_k, HllType::Hll8)?;
+        preamble.write_header(&mut bytes, HllHeader::plain(lg_config_k, HllType::Hll8))?;
         preamble.write(&mut bytes)?;
         bytes.write(&self.registers)?;
         Ok(bytes.into_bytes())

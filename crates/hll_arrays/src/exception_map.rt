@@ -1,13 +1,18 @@
 //! The exceptions of registers of four bits: a map, where there is one.
-ghost use Rattle.std.specs.Prelude.{◌≡◌, ◌≢◌, ◌+◌, ◌-◌, ◌*◌, ◌^◌, ◌<◌, ◌≤◌, ◌==◌, ◌↔◌, ◌⊎◌, ℕ, if◌then◌else◌, length, All, true, false, None, Some, IsOk, IsTrue, IfOk, IfErr, IfSome, OnOk, OnErr};
+ghost use Rattle.std.specs.Prelude.{◌≡◌, ◌≢◌, ◌+◌, ◌-◌, ◌*◌, ◌^◌, ◌++◌, ◌<◌, ◌≤◌, ◌==◌, ◌↔◌, ◌⊎◌, ℕ, if◌then◌else◌, length, max, slice_index, unwrap_or, All, true, false, None, Some, IsOk, IsTrue, IfOk, IfErr, IfSome, OnOk, OnErr};
 ghost use Rattle.hll_base.specs.declared.error.Reason.TheVariants.{Memory};
-ghost use Rattle.hll_coupons.specs.AuxMap.{value_in, ExceptionMap, IsMap};
-ghost use Rattle.hll_arrays.specs.FourBits.{exception_in, exception_of, fallen, kept_above, lowered_by, IsMapFor, IsSlotOf};
+ghost use Rattle.std.specs.FinSet.{len};
+ghost use Rattle.hll_coupons.specs.AuxMap.{table_bytes, value_in, ExceptionMap, IsMap};
+ghost use Rattle.hll_coupons.specs.Coupons.{coupon_bytes, WritesAscending};
+ghost use Rattle.hll_arrays.specs.FourBits.{exception_in, exception_of, exceptions_in, fallen, kept_above, lowered_by, IsMapFor, IsSlotOf};
 ghost use Rattle.hll_arrays.specs.Packed.{nibble, nibble_at};
+ghost use Rattle.hll_arrays.specs.Store.{AreRegisters};
 
-use crate::nibbles::{lower_by, put_nibble};
+use crate::nibbles::{has_mark, lower_by, nibble_of, put_nibble};
+use hll_base::codec::SketchBytes;
 use hll_base::error::Error;
 use hll_coupons::aux_map::AuxMap;
+use hll_coupons::container::write_coupons;
 use std::alloc::Allocator;
 
 /// How far above the minimum an exception is at least, and the nibble that marks one.
@@ -35,6 +40,62 @@ pub(crate) fn copied<A: Allocator + Clone>(
     match map {
         Some(map) => Ok(Some(map.clone()?)),
         None => Ok(None),
+    }
+}
+
+/// The bytes of the map's places, 0 where there is no map.
+pub(crate) fn bytes_of_places<A: Allocator>(map: &Option<AuxMap<A>>) -> usize
+    ensures size { (k : ℕ) → IsMapFor k map.now → result ≡ table_bytes k (len (exceptions_in map.now)) }
+    ensures bound { (k : ℕ) → IsMapFor k map.now → result ≤ 2 ^ 28 }
+{
+    match map {
+        Some(map) => map.estimated_size(),
+        None => 0,
+    }
+}
+
+/// How many exceptions there are.
+pub(crate) fn count_exceptions<A: Allocator>(map: &Option<AuxMap<A>>) -> usize
+    ensures count { (k : ℕ) → IsMapFor k map.now → result ≡ len (exceptions_in map.now) }
+    ensures bound { (k : ℕ) → IsMapFor k map.now → result ≤ 2 ^ 21 }
+{
+    match map {
+        Some(map) => map.len(),
+        None => 0,
+    }
+}
+
+/// Whether two maps for the same slots have the same entries. Places don't count.
+pub(crate) fn have_same_exceptions<A: Allocator>(
+    map: &Option<AuxMap<A>>,
+    other: &Option<AuxMap<A>>,
+) -> bool
+    ensures { (k : ℕ) → IsMapFor k map.now → IsMapFor k other.now → IsTrue result ↔ (exceptions_in map.now ≡ exceptions_in other.now) }
+{
+    match (map, other) {
+        (Some(map), Some(other)) => *map == *other,
+        (None, None) => true,
+        _ => false,
+    }
+}
+
+/// Appends the exceptions as coupons in ascending raw words.
+///
+/// Takes memory for a sorted copy, none where there is no map. Fails with `Memory`.
+pub(crate) fn write_exceptions<A: Allocator + Clone>(
+    map: &Option<AuxMap<A>>,
+    nibbles: &Vec<u8, A>,
+    bytes: &mut SketchBytes<A>,
+) -> Result<(), Error>
+    ensures ok { OnOk result (WritesAscending (λ order. bytes.old ++ coupon_bytes order) (exceptions_in map.now) bytes.new) }
+    ensures err { IfErr result (λ e. e ≡ Memory) }
+{
+    match map {
+        Some(map) => {
+            let entries = map.ascending(nibbles.allocator().clone()?)?;
+            write_coupons(bytes, &entries)
+        }
+        None => Ok(()),
     }
 }
 
@@ -279,5 +340,85 @@ fn fall<A: Allocator>(bytes: &mut [u8], map: &Option<AuxMap<A>>, lg_k: u8, minim
 {
     if let Some(map) = map {
         put_fallen(bytes, map, minimum);
+    }
+}
+
+/// The exceptions of registers above a minimum: a map by the allocator of the nibbles, none where there are none.
+///
+/// Fails with `Memory`.
+pub(crate) fn exceptions_of<A: Allocator + Clone>(
+    nibbles: &Vec<u8, A>,
+    lg_k: u8,
+    values: &[u8],
+    minimum: u8,
+) -> Result<Option<AuxMap<A>>, Error>
+    requires low { 4 ≤ lg_k }
+    requires high { lg_k ≤ 21 }
+    requires minimum { minimum ≤ 63 }
+    requires registers { AreRegisters lg_k values.now }
+    ensures map { IfOk result (λ map. IsMapFor lg_k map) }
+    ensures exceptions { IfOk result (λ map. (s : ℕ) → s < 2 ^ lg_k → exception_in map s ≡ exception_of minimum (slice_index values.now s)) }
+    ensures err { IfErr result (λ e. e ≡ Memory) }
+{
+    let mut map = None;
+    for slot in 0..values.len() {
+        if values[slot] >= minimum + MARK {
+            put_exception(&mut map, nibbles, lg_k, slot as u32, values[slot])?;
+        }
+    }
+    Ok(map)
+}
+
+/// Raises each value to the exception of its slot, if it has one: `first + i` for value i. Searches where a nibble is 15,
+/// and passes over blocks of 32 where none is.
+///
+/// Each two values have a byte of nibbles, and a slot whose nibble isn't 15 has no exception.
+pub(crate) fn raise_by_exceptions<A: Allocator>(
+    values: &mut [u8],
+    nibbles: &[u8],
+    map: &AuxMap<A>,
+    first: u32,
+)
+    requires size { length values.old ≡ 2 * length nibbles.now }
+    requires within { first + length values.old ≤ 2 ^ map.now.lg_k }
+    requires map { IsMap map.now }
+    requires marked { (s : ℕ) → s < length values.old → nibble_at nibbles.now s ≢ 15 → value_in map.now (first + s) ≡ None }
+    ensures raised { (s : ℕ) → s < length values.old → slice_index values.new s ≡ max (slice_index values.old s) (unwrap_or (value_in map.now (first + s)) 0) }
+    ensures len { length values.new ≡ length values.old }
+{
+    for block in 0..nibbles.len() / 16 + 1 {
+        let start = 16 * block;
+        let end = nibbles.len().min(start + 16);
+        if has_mark(nibbles, start, end) {
+            raise_marked(values, nibbles, map, first, 2 * start, 2 * end);
+        }
+    }
+}
+
+/// The same of the values from `start` up to `end`. The others are unchanged.
+fn raise_marked<A: Allocator>(
+    values: &mut [u8],
+    nibbles: &[u8],
+    map: &AuxMap<A>,
+    first: u32,
+    start: usize,
+    end: usize,
+)
+    requires size { length values.old ≡ 2 * length nibbles.now }
+    requires within { first + length values.old ≤ 2 ^ map.now.lg_k }
+    requires map { IsMap map.now }
+    requires marked { (s : ℕ) → s < length values.old → nibble_at nibbles.now s ≢ 15 → value_in map.now (first + s) ≡ None }
+    requires order { start ≤ end }
+    requires end { end ≤ length values.old }
+    ensures raised { (s : ℕ) → start ≤ s → s < end → slice_index values.new s ≡ max (slice_index values.old s) (unwrap_or (value_in map.now (first + s)) 0) }
+    ensures before { (s : ℕ) → s < start → slice_index values.new s ≡ slice_index values.old s }
+    ensures behind { (s : ℕ) → end ≤ s → slice_index values.new s ≡ slice_index values.old s }
+    ensures len { length values.new ≡ length values.old }
+{
+    for slot in start..end {
+        if nibble_of(nibbles, slot) == MARK {
+            let exception = map.get(first + slot as u32).unwrap_or(0);
+            values[slot] = values[slot].max(exception);
+        }
     }
 }

@@ -104,6 +104,17 @@ fn zeros_one_by_one(bytes: &[u8]) -> usize
     count
 }
 
+/// The least of registers. One pass.
+pub(crate) fn least_of(values: &[u8]) -> u8
+    ensures { result ≡ packed.minimum values.now }
+{
+    let mut least = 63u8;
+    for value in values {
+        least = least.min(*value);
+    }
+    least
+}
+
 /// Whether all bytes are 0. Stops at the first block that has another; takes no memory.
 pub fn all_zero(bytes: &[u8]) -> bool
     ensures { result ≡ list_all (λ b. b == 0) bytes.now }

@@ -1,6 +1,6 @@
 //! Registers of four bits: how far each is above a minimum, two of them in a byte, where 15 marks a register that is kept
 //! elsewhere (docs/FORMAT.md, "Packed registers").
-ghost use Rattle.std.specs.Prelude.{◌≡◌, ℕ, ◌+◌, ◌-◌, ◌*◌, ◌^◌, ◌<◌, ◌≤◌, ◌==◌, ◌⊎◌, if◌then◌else◌, [], ◌∷◌, ◌++◌, length, map, All};
+ghost use Rattle.std.specs.Prelude.{◌≡◌, ◌≢◌, false, ℕ, ◌+◌, ◌-◌, ◌*◌, ◌%◌, ◌^◌, ◌<◌, ◌≤◌, ◌==◌, ◌⊎◌, if◌then◌else◌, [], ◌∷◌, ◌++◌, length, map, All, IfOk};
 ghost use Rattle.std.specs.Simd.Lanes.{put_chunk, Each1};
 ghost use Rattle.hll_coupons.specs.Fold.{join};
 ghost use Rattle.hll_arrays.specs.Lanes.{raise_at, nibble_values, nibble_pairs};
@@ -8,6 +8,7 @@ ghost use Rattle.hll_arrays.specs.Packed.{nibble, nibble_at, nibble_bytes_above,
 ghost use Rattle.hll_arrays.specs.FourBits.{lowered_by};
 
 use crate::kernels::{lower_nibbles, raise_16, raise_one, zeros_of};
+use std::alloc::{AllocError, Allocator};
 use std::simd::prelude::*;
 
 // ---- single nibbles
@@ -36,6 +37,19 @@ pub(crate) fn put_nibble(bytes: &mut [u8], slot: usize, nibble: u8)
     } else {
         byte % 16 + nibble * 16
     };
+}
+
+/// Whether a nibble of the bytes from `start` up to `end` is 15.
+pub(crate) fn has_mark(bytes: &[u8], start: usize, end: usize) -> bool
+    requires { end ≤ length bytes.now }
+    ensures { result ≡ false → (s : ℕ) → 2 * start ≤ s → s < 2 * end → nibble_at bytes.now s ≢ 15 }
+{
+    let mut found = false;
+    for place in start..end {
+        let byte = bytes[place];
+        found = found || byte % 16 == 15 || byte / 16 == 15;
+    }
+    found
 }
 
 /// How many nibbles are 0. One pass.
@@ -120,10 +134,24 @@ fn nibble_lanes(bytes: u8x16, minimum: u8) -> (u8x16, u8x16)
 
 // ---- packing
 
+/// The nibbles of registers above the minimum. There are an even number. Allocates in one request.
+pub(crate) fn packed_nibbles<A: Allocator>(
+    alloc: A,
+    registers: &[u8],
+    minimum: u8,
+) -> Result<Vec<u8, A>, AllocError>
+    requires { length registers.now % 2 ≡ 0 }
+    ensures { IfOk result (λ nibbles. nibbles.items ≡ nibble_bytes_above minimum registers.now) }
+{
+    let mut nibbles = vec![in alloc; 0; registers.len() / 2]?;
+    pack_nibbles(&mut nibbles, registers, minimum);
+    Ok(nibbles)
+}
+
 /// Writes the nibbles of registers above the minimum, in one pass. A register below it counts as the minimum.
 ///
 /// There are two registers for each byte.
-pub(crate) fn pack_nibbles(bytes: &mut [u8], registers: &[u8], minimum: u8)
+fn pack_nibbles(bytes: &mut [u8], registers: &[u8], minimum: u8)
     requires { 2 * length bytes.old ≡ length registers.now }
     ensures { bytes.new ≡ nibble_bytes_above minimum registers.now }
 {

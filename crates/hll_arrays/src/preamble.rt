@@ -1,5 +1,5 @@
 //! The estimate state and counts that precede the registers in an image (docs/FORMAT.md, "HLL").
-ghost use Rattle.std.specs.Prelude.{◌≡◌, ◌≤◌, ◌<◌, ◌∷◌, [], ◌++◌, length, drop, OnOk, IfOk, IfErr};
+ghost use Rattle.std.specs.Prelude.{◌≡◌, ◌+◌, ◌≤◌, ◌<◌, ◌∷◌, [], ◌++◌, length, drop, OnOk, IfOk, IfErr};
 ghost use Rattle.hll_base.specs.declared.error.Reason.TheVariants.{Truncated, Memory};
 ghost use Rattle.hll_coupons.specs.Coupons.{mode_byte};
 ghost use Rattle.hll_arrays.specs.State.{IsState};
@@ -24,6 +24,31 @@ pub(crate) struct Preamble {
     pub(crate) num_at_cur_min: u32,
     /// The number of exceptions, 0 unless there are four bits.
     pub(crate) exception_count: u32,
+}
+
+/// What the header of an image says beside the state.
+#[derive(Clone, Copy)]
+pub(crate) struct HllHeader {
+    pub(crate) lg_config_k: u8,
+    pub(crate) hll_type: HllType,
+    /// The flags beside that of the state: the compact flag at four bits, otherwise 0.
+    pub(crate) flags: u8,
+    /// The state byte: the least register at four bits, otherwise 0.
+    pub(crate) minimum: u8,
+}
+
+impl HllHeader {
+    /// The header of an image of six or eight bits.
+    pub(crate) fn plain(lg_config_k: u8, hll_type: HllType) -> HllHeader
+        ensures { result ≡ record { lg_config_k = lg_config_k; hll_type = hll_type; flags = 0; minimum = 0 } }
+    {
+        HllHeader {
+            lg_config_k,
+            hll_type,
+            flags: 0,
+            minimum: 0,
+        }
+    }
 }
 
 impl Preamble {
@@ -66,17 +91,17 @@ impl Preamble {
         bytes.write_u32_le(self.exception_count)
     }
 
-    /// Writes the header of an image of six or eight bits.
+    /// Writes the header of an image.
     pub(crate) fn write_header<A: Allocator>(
         self,
         bytes: &mut SketchBytes<A>,
-        lg_config_k: u8,
-        hll_type: HllType,
+        header: HllHeader,
     ) -> Result<(), Error>
-        ensures ok { OnOk result (bytes.new ≡ bytes.old ++ 10 ∷ 1 ∷ 7 ∷ lg_config_k ∷ 0 ∷ flag_of self.state ∷ 0 ∷ mode_byte 2 hll_type ∷ []) }
+        requires { header.flags < 128 }
+        ensures ok { OnOk result (bytes.new ≡ bytes.old ++ 10 ∷ 1 ∷ 7 ∷ header.lg_config_k ∷ 0 ∷ (header.flags + flag_of self.state) ∷ header.minimum ∷ mode_byte 2 header.hll_type ∷ []) }
         ensures err { IfErr result (λ e. e ≡ Memory) }
     {
-        let flags = if self.state.out_of_order {
+        let flag = if self.state.out_of_order {
             OUT_OF_ORDER_FLAG_MASK
         } else {
             0
@@ -85,11 +110,11 @@ impl Preamble {
             HLL_PREINTS,
             SERIAL_VERSION,
             Family::HLL.id,
-            lg_config_k,
+            header.lg_config_k,
             0,
-            flags,
-            0,
-            encode_mode_byte(CUR_MODE_HLL, hll_type as u8),
+            header.flags + flag,
+            header.minimum,
+            encode_mode_byte(CUR_MODE_HLL, header.hll_type as u8),
         ])
     }
 }

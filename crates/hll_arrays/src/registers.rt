@@ -1,9 +1,11 @@
 //! Registers that can be read, however they are stored (docs/MODEL.md, "Laws of a store").
 ghost use Rattle.std.specs.Prelude.{◌≡◌, ◌+◌, ◌%◌, ◌^◌, ◌<◌, ◌≤◌, length, take, drop, slice_index};
 ghost use Rattle.hll_coupons.specs.Fold.{fold_to, join, pairs};
+ghost use Rattle.hll_arrays.specs.Packed as packed;
 ghost use Rattle.hll_arrays.specs.Store.{Stored, IsStored, AreRegisters};
 
 use crate::estimate_state::EstimateState;
+use crate::kernels::units;
 
 /// 2^`lg_k` registers of 0 to 63, and their estimate state. No call takes memory.
 pub trait Registers {
@@ -67,4 +69,46 @@ pub(crate) fn join_folds<R: Registers>(values: &mut [u8], lg_k: u8, src: &R)
     for block in 0..two_to(src.lg_k() - lg_k) {
         src.join_into((block * size) as u32, values);
     }
+}
+
+/// The sum of 2^-v over the registers v, in units of 2^-63. One pass, at most 256 registers at a time.
+pub(crate) fn units_of<R: Registers>(src: &R) -> u128
+    ensures units { result ≡ packed.units (R.stored src.now).registers }
+    ensures bound { result ≤ 2 ^ 84 }
+{
+    let lg_size = src.lg_k().min(8);
+    let size = two_to(lg_size);
+    let mut sum = 0;
+    for block in 0..two_to(src.lg_k() - lg_size) {
+        sum += units_at(src, block * size, size);
+    }
+    sum
+}
+
+/// The same of at most 256 registers from `first` on.
+fn units_at<R: Registers>(src: &R, first: usize, size: usize) -> u128
+    requires within { first + size ≤ 2 ^ (R.stored src.now).lg_k }
+    requires aligned { first % 4 ≡ 0 }
+    requires groups { size % 4 ≡ 0 }
+    requires few { size ≤ 256 }
+    requires legal { IsStored (R.stored src.now) }
+    ensures units { result ≡ packed.units (take size (drop first (R.stored src.now).registers)) }
+    ensures bound { result ≤ 2 ^ 84 }
+{
+    let registers = registers_at(src, first, size);
+    units(&registers[..size])
+}
+
+/// At most 256 registers from `first` on, with zeros behind them.
+fn registers_at<R: Registers>(src: &R, first: usize, size: usize) -> [u8; 256]
+    requires within { first + size ≤ 2 ^ (R.stored src.now).lg_k }
+    requires aligned { first % 4 ≡ 0 }
+    requires groups { size % 4 ≡ 0 }
+    requires few { size ≤ 256 }
+    requires legal { IsStored (R.stored src.now) }
+    ensures { take size result ≡ take size (drop first (R.stored src.now).registers) }
+{
+    let mut values = [0; 256];
+    src.join_into(first as u32, &mut values[..size]);
+    values
 }

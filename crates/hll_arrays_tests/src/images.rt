@@ -140,7 +140,7 @@ const STATES: [([u64; 3], bool, bool); 5] = [
 ];
 
 /// States that differ in a word or in the flag are not equal, on the same registers; nor are sizes.
-fn compared_in<S: RegisterStore<Global>>(
+pub(crate) fn compared_in<S: RegisterStore<Global>>(
     rt: &impl Abort,
     alloc: Global,
     store: &S,

@@ -21,7 +21,7 @@ const UPDATED: [u8; 16] = [7, 1, 0, 9, 0, 0, 0, 0, 1, 0, 0, 0, 0, 0, 0, 63];
 
 /// Coupons at `lg_k` 4, one after another, each with the slot of its register, the value there afterwards and whether
 /// it changed. The state is cleared where it did, and no other register changes. Values at once make the same store.
-fn updated<S: RegisterStore<Global>>(rt: &impl Abort, alloc: Global) -> Result<S, Fail> {
+pub(crate) fn updated<S: RegisterStore<Global>>(rt: &impl Abort, alloc: Global) -> Result<S, Fail> {
     let mut store = S::make(alloc, 4)?;
     let mut registers = [0u8; 16];
     for (coupon, slot, value, changes) in &[
@@ -87,7 +87,7 @@ fn updates_of_six_bits(rt: HostRuntime) -> Result<(), Fail> {
 }
 
 /// Updates are the fold of their coupons.
-fn folded_in<S: RegisterStore<Global>>(
+pub(crate) fn folded_in<S: RegisterStore<Global>>(
     rt: &impl Abort,
     alloc: Global,
     lg_k: u8,
@@ -134,7 +134,7 @@ fn updates_are_folds(rt: HostRuntime) -> Result<(), Fail> {
 }
 
 /// The registers of coupons merged with a source in this representation are this fold, and the state is cleared.
-fn merged_in<S: RegisterStore<Global>>(
+pub(crate) fn merged_in<S: RegisterStore<Global>>(
     rt: &impl Abort,
     alloc: Global,
     lg_k: u8,
@@ -201,7 +201,7 @@ fn folds(rt: HostRuntime) -> Result<(), Fail> {
 }
 
 /// A conversion keeps registers and state, there and back.
-fn converted_in<S: RegisterStore<Global>>(
+pub(crate) fn converted_in<S: RegisterStore<Global>>(
     rt: &impl Abort,
     alloc: Global,
     array: &Array8,

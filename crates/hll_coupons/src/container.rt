@@ -263,7 +263,9 @@ pub(crate) fn places_of(lg_size: usize) -> usize
 }
 
 /// Appends coupons, four bytes each.
-pub(crate) fn write_coupons<A: Allocator>(
+///
+/// Takes memory where the buffer has no room. Fails with `Memory`.
+pub fn write_coupons<A: Allocator>(
     bytes: &mut SketchBytes<A>,
     coupons: &[Coupon],
 ) -> Result<(), Error>

@@ -1,12 +1,19 @@
-use Rattle.std.proofs.Common.{◌≡◌, ℕ, List, [], ◌∷◌, ◌++◌, sym, ap, subst, ◌∙◌, append_assoc}
+use Rattle.std.proofs.Common.{◌≡◌, ℕ, List, [], ◌∷◌, ◌++◌, ◌+◌, sym, ap, subst, ◌∙◌, append_assoc}
 use Rattle.std.specs.List.{flat_map}
+use Rattle.std.proofs.Math.Nat.{zero-add}
+use Rattle.hll_coupons.specs.Coupons.{mode_byte}
 use Rattle.hll_arrays.specs.Groups.{registers_in}
 use Rattle.hll_arrays.specs.Packed.{zeros}
 use Rattle.hll_arrays.specs.Payload.{number_bytes, hll6_bytes, flag_of}
 use Rattle.hll_arrays.specs.Store.{Stored}
 use Rattle.hll_arrays.specs.declared.estimate_state.EstimateState.{EstimateState}
+use Rattle.hll_arrays.specs.declared.preamble.HllHeader.{HllHeader}
 use Rattle.hll_arrays.proofs.Grouping.{field_bytes-registers_in}
 use Rattle.hll_arrays.proofs.array6.Array6.serialize.Goals as goal
+
+-- the bytes of a header
+abbrev header_of : HllHeader → EstimateState → List ℕ
+header_of h state = 10 ∷ 1 ∷ 7 ∷ h.lg_config_k ∷ 0 ∷ (h.flags + flag_of state) ∷ h.minimum ∷ mode_byte 2 h.hll_type ∷ []
 
 pub returns-clause-ok : goal.returns-clause-ok
 returns-clause-ok g c =
@@ -17,7 +24,8 @@ returns-clause-ok g c =
     let count : c.num_zeros.result ≡ zeros (registers_in G) = c.num_zeros.ensures ∙ ap (λ (x : Stored). zeros x.registers) (sym c.self.view_is) in
     let N : List ℕ = number_bytes state (zeros (registers_in G)) 0 in
     let B : List ℕ = flat_map (λ x. x) G in
-    let first : c.write_header.new.bytes ≡ header = c.in_ok-write_header.ensures.ok ∙ ap (λ b. b ++ header) c.in_ok-bytes.ensures.ok in
+    let first : c.write_header.new.bytes ≡ header =
+    c.in_ok-write_header.ensures.ok ∙ (λ i. c.in_ok-bytes.ensures.ok i ++ header_of (c.plain.ensures i) state) ∙ ap (λ flags. 10 ∷ 1 ∷ 7 ∷ k ∷ 0 ∷ flags ∷ 0 ∷ 6 ∷ []) (zero-add (flag_of state)) in
     let second : c.write.new.bytes ≡ header ++ N = c.in_ok-write.ensures.ok ∙ (λ i. first i ++ number_bytes state (count i) 0) in
     let third : c.write-2.new.self ≡ (header ++ N) ++ B = c.in_ok-write-2.ensures.ok ∙ (λ i. second i ++ (c.as_flattened.ensures.value ∙ ap (flat_map (λ x. x)) c.deref.ensures.value) i) in
     let all : c.into_bytes.result.items ≡ ((header ++ N) ++ B) ++ 0 ∷ [] = c.into_bytes.ensures ∙ c.in_ok-write-3.ensures.ok ∙ ap (λ b. b ++ 0 ∷ []) third in

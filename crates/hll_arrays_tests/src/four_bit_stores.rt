@@ -1,0 +1,392 @@
+//! Registers of four bits as a store: sizes, images, equality, values, conversions and merges, beside registers of eight
+//! bits and values worked out by hand.
+ghost use Rattle.std.specs.Prelude.{◌≤◌};
+ghost use Rattle.hll_arrays.specs.Store.{AreRegisters};
+
+use crate::fixtures::{READ, coupons_in, first_of, merge, refusal_of, store_of};
+use crate::four_bits::{assert_packed, one_in};
+use crate::images::compared_in;
+use crate::stores::{converted_in, folded_in, merged_in, updated};
+use hll_arrays::convert::convert;
+use hll_arrays::{Array4, Array8, EstimateState, RegisterStore, Registers};
+use hll_base::error::{Error, Reason};
+use hll_coupons::coupon::Coupon;
+use hll_coupons::hll_type::HllType;
+use hll_coupons::reference::folded;
+use linked_list_allocator::LocalHeap;
+use std::alloc::{Allocator, Global};
+use std::process::Abort;
+use std::test::Fail;
+
+/// The image of 15 at slot 0 and 1 at fifteen others: no exception.
+const LOW: [u8; 48] = [
+    0x0a, 0x01, 0x07, 0x04, 0x00, 0x18, 0x01, 0x02, 0, 0, 0, 0, 0, 0, 0, 0, 0, 0, 0, 0, 0, 0, 0, 0,
+    0, 0, 0, 0, 0, 0, 0, 0, 0x0f, 0, 0, 0, 0, 0, 0, 0, 0x0e, 0, 0, 0, 0, 0, 0, 0,
+];
+
+/// The image of 20 at slot 0 and 1 at seven others: one exception.
+const HIGH: [u8; 52] = [
+    0x0a, 0x01, 0x07, 0x04, 0x00, 0x18, 0x00, 0x02, 0, 0, 0, 0, 0, 0, 0, 0, 0, 0, 0, 0, 0, 0, 0, 0,
+    0, 0, 0, 0, 0, 0, 0, 0, 0x08, 0, 0, 0, 0x01, 0, 0, 0, 0x1f, 0x11, 0x11, 0x11, 0, 0, 0, 0, 0, 0,
+    0, 0x50,
+];
+
+/// The image of sixteen registers of 1 without the flag.
+const EVEN: [u8; 48] = [
+    0x0a, 0x01, 0x07, 0x04, 0x00, 0x08, 0x01, 0x02, 0, 0, 0, 0, 0, 0, 0, 0, 0, 0, 0, 0, 0, 0, 0, 0,
+    0, 0, 0, 0, 0, 0, 0, 0, 0x10, 0, 0, 0, 0, 0, 0, 0, 0, 0, 0, 0, 0, 0, 0, 0,
+];
+
+/// Registers of 20 to 22 at three slots, by updates in this order.
+fn three_in<A: Allocator + Clone>(alloc: A, slots: [u32; 3]) -> Result<Array4<A>, Error> {
+    let mut array = Array4::new(alloc, 4)?;
+    for slot in slots {
+        array.update(Coupon::pack(slot, 20 + (slot % 3) as u8))?;
+    }
+    Ok(array)
+}
+
+/// The registers of `HIGH`, by updates.
+fn high_in<A: Allocator + Clone>(alloc: A) -> Result<Array4<A>, Error> {
+    let mut array = Array4::new(alloc, 4)?;
+    array.update(Coupon::pack(0, 20))?;
+    for slot in 1..8u32 {
+        array.update(Coupon::pack(slot, 1))?;
+    }
+    Ok(array)
+}
+
+#[test]
+fn updates(rt: HostRuntime) -> Result<(), Fail> {
+    let four: Array4 = updated(&rt, rt.alloc())?;
+    assert_eq!(rt;
+        (four.num_zeros(), four.is_empty(), four.estimated_size()),
+        (11, false, 24)
+    );
+    assert_eq!(rt; Array4::<Global>::WIDTH, HllType::Hll4);
+    Ok(())
+}
+
+#[test]
+fn updates_are_folds(rt: HostRuntime) -> Result<(), Fail> {
+    for lg_k in 4..13u8 {
+        let coupons = coupons_in(rt.alloc(), 3usize << lg_k)?;
+        folded_in::<Array4>(&rt, rt.alloc(), lg_k, &coupons)?;
+    }
+    Ok(())
+}
+
+/// 8 bytes for sixteen registers, 16 for up to three exceptions, 32 for the fourth.
+#[test]
+fn sizes(rt: HostRuntime) -> Result<(), Fail> {
+    let mut array = Array4::new(rt.alloc(), 4)?;
+    assert_eq!(rt; array.estimated_size(), 8);
+    for (slot, size) in [(3u32, 24usize), (4, 24), (5, 24), (9, 40)] {
+        array.update(Coupon::pack(slot, 15))?;
+        assert_eq!(rt; array.estimated_size(), size, "{slot}");
+    }
+    assert_eq!(rt; Array4::new(rt.alloc(), 21)?.estimated_size(), 1048576);
+    Ok(())
+}
+
+#[test]
+fn images(rt: HostRuntime) -> Result<(), Fail> {
+    let low = one_in(rt.alloc(), 0, 15, 1)?;
+    let written = low.write_image()?;
+    assert_eq!(rt;
+        (written.as_slice(), written.capacity()),
+        (LOW.as_slice(), 48)
+    );
+    let high = high_in(rt.alloc())?;
+    let written = high.write_image()?;
+    assert_eq!(rt;
+        (written.as_slice(), written.capacity()),
+        (HIGH.as_slice(), 52)
+    );
+    let mut even: Array4 = RegisterStore::from_values(rt.alloc(), 4, &[1; 16])?;
+    even.restore_estimate_state(EstimateState {
+        words: [0; 3],
+        out_of_order: false,
+    });
+    assert_eq!(rt; even.write_image()?.as_slice(), EVEN.as_slice());
+    Ok(())
+}
+
+/// The exceptions of an image ascend by value and then by slot, and the words of the state are written.
+#[test]
+fn ascending_exceptions(rt: HostRuntime) -> Result<(), Fail> {
+    let mut array = three_in(rt.alloc(), [9, 1, 5])?;
+    array.restore_estimate_state(READ);
+    let written = array.write_image()?;
+    let Some(exceptions) = written.get(48..) else {
+        return Ok(());
+    };
+    assert_eq!(rt;
+        exceptions,
+        [9u8, 0, 0, 0x50, 1, 0, 0, 0x54, 5, 0, 0, 0x58].as_slice()
+    );
+    assert_eq!(rt;
+        (written[5], written[8], written[16], written[24]),
+        (8, 1, 2, 3)
+    );
+    Ok(())
+}
+
+/// Exceptions whose search begins at one place stand in the order of their arrival. Arrays with the same registers are
+/// equal all the same, and their images are.
+#[test]
+fn histories(rt: HostRuntime) -> Result<(), Fail> {
+    let array = three_in(rt.alloc(), [1, 5, 9])?;
+    let mut values = [0u8; 16];
+    values[1] = 21;
+    values[5] = 22;
+    values[9] = 20;
+    assert_eq!(rt; first_of(&array), values);
+    for slots in [[1u32, 9, 5], [5, 1, 9], [5, 9, 1], [9, 1, 5], [9, 5, 1]] {
+        let other = three_in(rt.alloc(), slots)?;
+        assert!(rt; array == other && other == array);
+        assert!(rt; array.write_image()? == other.write_image()?);
+    }
+    let at_once: Array4 = RegisterStore::from_values(rt.alloc(), 4, &values)?;
+    assert!(rt; array == at_once);
+    Ok(())
+}
+
+/// Exceptions that came and went leave none: raised in turn, or at once.
+#[test]
+fn risen(rt: HostRuntime) -> Result<(), Fail> {
+    let mut array = three_in(rt.alloc(), [1, 5, 9])?;
+    for slot in 0..16u32 {
+        array.update(Coupon::pack(slot, 30))?;
+    }
+    let at_once: Array4 = RegisterStore::from_values(rt.alloc(), 4, &[30; 16])?;
+    assert!(rt; array == at_once);
+    assert_eq!(rt; (array.estimated_size(), at_once.estimated_size()), (8, 8));
+    Ok(())
+}
+
+/// Registers that differ in a nibble, an exception, its slot, the minimum, or the size are not equal; nor are states.
+#[test]
+fn differences(rt: HostRuntime) -> Result<(), Fail> {
+    let array = one_in(rt.alloc(), 2, 60, 7)?;
+    for (slot, value, others) in [
+        (2u32, 61u8, 7u8),
+        (3, 60, 7),
+        (2, 60, 6),
+        (2, 8, 7),
+        (2, 7, 7),
+    ] {
+        assert!(rt; array != one_in(rt.alloc(), slot, value, others)?);
+    }
+    let mut other = one_in(rt.alloc(), 2, 60, 7)?;
+    assert!(rt; array == other);
+    other.update(Coupon::pack(9, 8))?;
+    assert!(rt; array != other);
+    let mut read = high_in(rt.alloc())?;
+    read.restore_estimate_state(READ);
+    compared_in(&rt, rt.alloc(), &read, high_in(rt.alloc())?)
+}
+
+/// Sixteen values in a row, from 0.
+const ROW: [u8; 16] = [0, 1, 2, 3, 4, 5, 6, 7, 8, 9, 10, 11, 12, 13, 14, 15];
+
+/// Sixteen values in a row, to 63.
+const LAST: [u8; 16] = [
+    63, 62, 61, 60, 59, 58, 57, 56, 55, 54, 53, 52, 51, 50, 49, 48,
+];
+
+/// Exceptions at the first and the last slot, at 15 above the minimum, and beside one another.
+const MIXED: [u8; 16] = [17, 3, 63, 18, 2, 5, 16, 4, 4, 2, 3, 40, 40, 16, 2, 17];
+
+/// Values at once: the minimum, nibbles and exceptions are those of the values, and so are the weights.
+fn packed_in(rt: &impl Abort, alloc: Global, lg_k: u8, values: &[u8]) -> Result<(), Fail>
+    requires least { 4 ≤ lg_k }
+    requires most { lg_k ≤ 21 }
+    requires registers { AreRegisters lg_k values.now }
+{
+    let four: Array4 = RegisterStore::from_values(alloc, lg_k, values)?;
+    assert_packed(rt, &four, values);
+    assert_eq!(rt; four.estimate_state(), EstimateState::CLEARED);
+    let eight: Array8 = RegisterStore::from_values(alloc, lg_k, values)?;
+    assert_eq!(rt; four.kxq_units(), eight.kxq_units());
+    Ok(())
+}
+
+#[test]
+fn values(rt: HostRuntime) -> Result<(), Fail> {
+    packed_in(&rt, rt.alloc(), 4, &[0; 16])?;
+    packed_in(&rt, rt.alloc(), 4, &[63; 16])?;
+    packed_in(&rt, rt.alloc(), 4, &ROW)?;
+    packed_in(&rt, rt.alloc(), 4, &LAST)?;
+    packed_in(&rt, rt.alloc(), 4, &MIXED)
+}
+
+/// Sums worked out by hand.
+#[test]
+fn weights(rt: HostRuntime) -> Result<(), Fail> {
+    assert_eq!(rt; Array4::new(rt.alloc(), 21)?.kxq_units(), 1u128 << 84);
+    assert_eq!(rt;
+        one_in(rt.alloc(), 0, 15, 1)?.kxq_units(),
+        (15u128 << 62) + (1 << 48)
+    );
+    assert_eq!(rt;
+        high_in(rt.alloc())?.kxq_units(),
+        (8u128 << 63) + (7 << 62) + (1 << 43)
+    );
+    Ok(())
+}
+
+/// The greater of value i and register `first + i`.
+#[test]
+fn joins(rt: HostRuntime) -> Result<(), Fail> {
+    let array = one_in(rt.alloc(), 5, 40, 3)?;
+    array.lg_k();
+    assert!(rt; array.num_registers() == 16);
+    let mut all = [9u8; 16];
+    all[0] = 0;
+    array.join_into(0, &mut all);
+    assert_eq!(rt; all, [3, 9, 9, 9, 9, 40, 9, 9, 9, 9, 9, 9, 9, 9, 9, 9]);
+    let mut part = [1u8, 39, 41, 2];
+    array.join_into(4, &mut part);
+    assert_eq!(rt; part, [3, 40, 41, 3]);
+    let mut greater = [50u8, 50, 50, 50, 0, 0, 0, 0];
+    array.join_into(4, &mut greater);
+    assert_eq!(rt; greater, [50, 50, 50, 50, 3, 3, 3, 3]);
+    array.join_into(16, &mut []);
+    Ok(())
+}
+
+/// To four bits and back, and to eight and back, keeps registers, state and weights.
+#[test]
+fn conversions(rt: HostRuntime) -> Result<(), Fail> {
+    for lg_k in 4..11u8 {
+        let coupons = coupons_in(rt.alloc(), 500)?;
+        let array: Array8 = store_of(rt.alloc(), lg_k, &coupons)?;
+        let four: Array4 = converted_in(&rt, rt.alloc(), &array)?;
+        assert_eq!(rt; four.kxq_units(), array.kxq_units());
+        let updated: Array4 = store_of(rt.alloc(), lg_k, &coupons)?;
+        assert!(rt; four == updated);
+        assert!(rt; four.write_image()? == updated.write_image()?);
+        let mut back = Array8::new(rt.alloc(), lg_k)?;
+        merge(&rt, &mut back, &four);
+        back.restore_estimate_state(four.estimate_state());
+        let again: Array4 = convert(&back)?;
+        assert!(rt; again == four);
+    }
+    Ok(())
+}
+
+/// Merged into registers of eight bits, of the same size and of fewer.
+#[test]
+fn folds(rt: HostRuntime) -> Result<(), Fail> {
+    for (lg_k, src_lg_k) in &[
+        (4u8, 4u8),
+        (4, 5),
+        (4, 8),
+        (5, 5),
+        (6, 12),
+        (11, 12),
+        (4, 16),
+    ] {
+        let lg_k = (*lg_k).clamp(4, 21);
+        let coupons = coupons_in(rt.alloc(), 1000)?;
+        let (left, right) = coupons.split_at(coupons.len() / 3);
+        let fold = folded(rt.alloc(), &coupons, lg_k)?;
+        let source: Array8 = store_of(rt.alloc(), (*src_lg_k).clamp(4, 21), right)?;
+        merged_in::<Array4>(&rt, rt.alloc(), lg_k, left, &source, &fold)?;
+    }
+    Ok(())
+}
+
+/// Exceptions at slots that fold to one: the greatest stays.
+#[test]
+fn folded_exceptions(rt: HostRuntime) -> Result<(), Fail> {
+    let mut source = Array4::new(rt.alloc(), 6)?;
+    for (slot, value) in [
+        (3u32, 20u8),
+        (19, 41),
+        (35, 40),
+        (51, 1),
+        (12, 14),
+        (60, 15),
+    ] {
+        source.update(Coupon::pack(slot, value))?;
+    }
+    let mut merged = Array8::new(rt.alloc(), 4)?;
+    merge(&rt, &mut merged, &source);
+    let mut expected = [0u8; 16];
+    expected[3] = 41;
+    expected[12] = 15;
+    assert_eq!(rt; merged.values(), expected.as_slice());
+    Ok(())
+}
+
+/// Why each call that allocates fails, beside registers that it leaves as they were.
+fn refusals_in<A: Allocator + Clone>(
+    rt: &impl Abort,
+    alloc: A,
+) -> Result<[Option<Reason>; 4], Error> {
+    let mut store: Array4<A> = RegisterStore::from_values(alloc.clone()?, 4, &[2; 16])?;
+    let values: Result<Array4<A>, Error> = RegisterStore::from_values(
+        alloc.clone()?,
+        4,
+        &[0, 9, 0, 0, 0, 0, 40, 0, 0, 0, 0, 0, 0, 0, 0, 0],
+    );
+    let new: Result<Array4<A>, Error> = RegisterStore::make(alloc, 4);
+    let written = refusal_of(store.write_image());
+    assert_eq!(rt;
+        (first_of(&store), store.estimate_state()),
+        ([2; 16], EstimateState::CLEARED)
+    );
+    let put = refusal_of(store.put_coupon(Coupon::pack(1, 17)));
+    assert_eq!(rt; store.get(1), if put.is_none() { 17 } else { 2 });
+    Ok([refusal_of(values), refusal_of(new), written, put])
+}
+
+/// In heaps of growing size, until all calls have room: each names memory where it is refused.
+#[test]
+fn refused_memory(rt: HostRuntime) -> Result<(), Fail> {
+    let (mut all, mut none) = (false, false);
+    for units in 1..20usize {
+        let heap = LocalHeap::new(rt.alloc(), units * 16)?;
+        let Ok(refusals) = refusals_in(&rt, &heap) else {
+            continue;
+        };
+        assert!(rt;
+            refusals
+                .iter()
+                .flatten()
+                .all(|reason| *reason == Reason::Memory)
+        );
+        all = all || refusals.iter().all(|r| r.is_some());
+        none = none || refusals.iter().all(|r| r.is_none());
+    }
+    assert!(rt; all && none);
+    Ok(())
+}
+
+/// An image with exceptions is refused where there is no room for its bytes, and where there is none for the sorted copy
+/// beside them.
+#[test]
+fn refused_images(rt: HostRuntime) -> Result<(), Fail> {
+    let (mut refused, mut served) = (0u32, false);
+    for units in 1..30usize {
+        let heap = LocalHeap::new(rt.alloc(), units * 16)?;
+        let Ok(array) = high_in(&heap) else {
+            continue;
+        };
+        match array.write_image() {
+            Ok(image) => {
+                served = true;
+                assert_eq!(rt; image.as_slice(), HIGH.as_slice());
+            }
+            Err(e) => {
+                refused = refused.saturating_add(1);
+                assert_eq!(rt; e.reason(), Reason::Memory);
+            }
+        }
+        assert_eq!(rt; array.num_zeros(), 8);
+    }
+    assert!(rt; refused > 0 && served);
+    Ok(())
+}
