@@ -7,6 +7,7 @@ pub mod Folding
 pub mod FourBitLanes
 pub mod FourBitChanges
 pub mod FourBitReading
+pub mod FourBitWholes
 pub mod FourBits
 pub mod Grouping
 pub mod Lowering

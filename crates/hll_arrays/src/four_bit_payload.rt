@@ -56,7 +56,9 @@ pub(crate) fn read_payload<A: Allocator + Clone>(
     ensures registers { let h = shape_of_hll4 lg_config_k cur_min aux_format in
         IfOk result (λ r. IsPacked lg_config_k r.0.cur_min r.0.num_at_cur_min r.0.nibbles.items r.0.exceptions (registers_of h cursor.entry)) }
     ensures err { let h = shape_of_hll4 lg_config_k cur_min aux_format in
-        IfErr result (λ e. ((e ≡ Memory) × IsWhole h cursor.entry) ⊎ FirstHll4Fault h cursor.entry e) }
+        IfErr result (λ e. (e ≡ Memory) ⊎ FirstHll4Fault h cursor.entry e) }
+    ensures asked { let h = shape_of_hll4 lg_config_k cur_min aux_format in
+        IfErr result (λ e. e ≡ Memory → IsWhole h cursor.entry) }
 {
     let frame = frame_of(cursor, lg_config_k, aux_format, ooo)?;
     let nibbles = Vec::from_slice(alloc, frame.nibbles)?;

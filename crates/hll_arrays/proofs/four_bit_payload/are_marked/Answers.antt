@@ -23,11 +23,16 @@ nibble_of-requires g c =
 pub returns-then-value-cur_min-clause-some : goal.returns-then-value-cur_min-clause-some
 returns-then-value-cur_min-clause-some g c e =
     let parts = given _ _ _ _ _ (c.into_iter-slot-iterator.ensures.into_iter_gives ∙ c.iter-slot-items.ensures) c.loop-slot.yielded_by c.in-Some.ensures.steps in
-    let entry : IsEntryOf c.args.map.now (c.in-Some.slot, c.in-Some.value) = last_of_all (IsEntryOf c.args.map.now) (entries_in c.args.map.now) _ _ _ parts (entries_are c.args.map.now c.requires.map) in
-    (c.in-Some.slot, c.in-Some.value, entry.slot, entry.value, λ a. elim c.then-value-cur_min.branch [
-      | then-value-cur_min-via-then-value-cur_min w ↦ omega (arith, a.1, w.if-value-cur_min.true)
-      | then-value-cur_min-via-else-value-cur_min+then-nibble_of-ne-MARK w ↦ w.if-nibble_of-ne-MARK.true (w.nibble_of.ensures.nibble ∙ a.0)
-    ])
+    let entry : IsEntryOf c.args.map.now (c.in-Some.slot, c.in-Some.value) = last_of_all (IsEntryOf c.args.map.now) (entries_in c.args.map.now) _ _ _ parts (entries_are c.args.map.now c.requires.map) in (
+      c.in-Some.slot,
+      c.in-Some.value,
+      entry.slot,
+      entry.value,
+      λ a. elim c.then-value-cur_min.branch [
+        | then-value-cur_min-via-then-value-cur_min w ↦ omega (arith, a.1, w.if-value-cur_min.true)
+        | then-value-cur_min-via-else-value-cur_min+then-nibble_of-ne-MARK w ↦ w.if-nibble_of-ne-MARK.true (w.nibble_of.ensures.nibble ∙ a.0)
+      ],
+    )
 
 pub loop-slot-preserved : goal.loop-slot-preserved
 loop-slot-preserved g c =
