@@ -56,7 +56,7 @@ fn one_in<A: Allocator + Clone>(
 }
 
 /// Registers in this representation are packed as `array` has them: nibbles, exceptions, minimum and count at it.
-fn assert_packed<A: Allocator>(rt: &impl Abort, array: &Array4<A>, registers: &[u8]) {
+pub(crate) fn assert_packed<A: Allocator>(rt: &impl Abort, array: &Array4<A>, registers: &[u8]) {
     let least = registers.iter().copied().min().unwrap_or(0);
     let count = registers.iter().filter(|r| **r == least).count();
     assert_eq!(rt;
