@@ -1,10 +1,12 @@
 -- Registers of four bits as they are read: nibbles above a minimum and exceptions that agree.
-use Rattle.std.proofs.Common.{◌≡◌, ℕ, ◌+◌, ◌-◌, ◌*◌, ◌^◌, ◌<◌, ◌≤◌, ◌⊎◌, List, All, Option, Some, None, length, get_or, refl, sym, ap, subst, ◌∙◌, arith, inl, inr}
-use Rattle.std.specs.Prelude.{count_by, nat_eq}
-use Rattle.std.proofs.lemmas.Bool.{cases_lt}
-use Rattle.std.proofs.lemmas.List.{get_or_default}
+use Rattle.std.proofs.Common.{◌≡◌, ℕ, zero, suc, ◌+◌, ◌-◌, ◌*◌, ◌/◌, ◌%◌, ◌^◌, ◌<◌, ◌≤◌, ◌⊎◌, Bool, true, false, ◌&&◌, List, All, Option, Some, None, length, take, drop, get_or, refl, sym, ap, subst, ◌∙◌, arith, inl, inr}
+use Rattle.std.specs.Prelude.{count_by, nat_eq, nat_le}
+use Rattle.std.specs.List.{list_all}
+use Rattle.std.proofs.lemmas.Bool.{cases_lt, leb-true, true≢false}
+use Rattle.std.proofs.lemmas.List.Sums.{AllPass-from_list_all}
+use Rattle.std.proofs.lemmas.List.{get_or_default, get_or-drop, get_or-take, length-drop, length-take}
 use Rattle.std.proofs.lemmas.List.FromFn.{length-map-range_with_len, get_or-map-range_with_len}
-use Rattle.std.proofs.lemmas.Nat.{pow_pos}
+use Rattle.std.proofs.lemmas.Nat.{pow_pos, mod_below}
 use Rattle.std.proofs.Math.Nat.{zero-add}
 use Rattle.hll_coupons.specs.AuxMap.{ExceptionMap}
 use Rattle.hll_coupons.proofs.Pairs.{entries_are, of_value}
@@ -60,6 +62,32 @@ minimum_small k m bytes e is agree =
 pub agrees_either : (m n : ℕ) (o : Option ℕ) → ((v : ℕ) → o ≡ Some v → Agrees m n (Some v)) → (o ≡ None → Agrees m n None) → Agrees m n o
 agrees_either m n None some none = none refl
 agrees_either m n (Some v) some none = some v refl
+
+-- ---- blocks
+
+both_true : (a b : Bool) → (a && b) ≡ true → (a ≡ true) × (b ≡ true)
+both_true true b h = (refl, h)
+both_true false b h = absurd (true≢false (sym h))
+
+-- no nibble of a block of bytes is greater
+pub nibbles_at_most : (bytes block : List ℕ) (place g : ℕ) → block ≡ take 16 (drop (place * 16) bytes) → (place + 1) * 16 ≤ length bytes →
+    list_all (λ b. nat_le (b % 16) g && nat_le (b / 16) g) block ≡ true → (s : ℕ) → 32 * place ≤ s → s < 32 * (place + 1) → nibble_at bytes s ≤ g
+nibbles_at_most bytes block place g is room all s from to =
+    let i : ℕ = s / 2 - place * 16 in
+    let within : i < 16 = omega (arith, from, to) in
+    let long : length block ≡ 16 = omega (arith, ap length is, length-take 16 (drop (place * 16) bytes), length-drop (place * 16) bytes, room) in
+    let byte : get_or block i 0 ≡ get_or bytes (s / 2) 0 =
+    ap (λ ys. get_or ys i 0) is ∙ get_or-take 16 (drop (place * 16) bytes) i 0 within ∙ get_or-drop (place * 16) bytes i 0
+    ∙ ap (λ n. get_or bytes n 0) (let e : place * 16 + i ≡ s / 2 = omega (arith, from) in e) in
+    let parts = both_true _ _ (AllPass-from_list_all (λ b. nat_le (b % 16) g && nat_le (b / 16) g) block all i 0 (omega (arith, long, within))) in
+    let low : get_or bytes (s / 2) 0 % 16 ≤ g = omega (arith, leb-true (get_or block i 0 % 16) g parts.0, ap (λ b. b % 16) byte) in
+    let high : get_or bytes (s / 2) 0 / 16 ≤ g = omega (arith, leb-true (get_or block i 0 / 16) g parts.1, ap (λ b. b / 16) byte) in
+    one (get_or bytes (s / 2) 0) (s % 2) (mod_below s 2 (let some : 0 < 2 = omega arith in some)) low high
+  where
+    one : (b odd : ℕ) → odd < 2 → b % 16 ≤ g → b / 16 ≤ g → b / 16 ^ odd % 16 ≤ g
+    one b zero l low high = omega (arith, low)
+    one b (suc zero) l low high = omega (arith, high)
+    one b (suc (suc odd)) l low high = absurd (omega (arith, l))
 
 -- ---- parts that agree
 

@@ -1,5 +1,6 @@
 //! Reads registers of four bits from the part of an image that follows the header (docs/FORMAT.md, "HLL").
-ghost use Rattle.std.specs.Prelude.{◌≡◌, ◌≢◌, ◌+◌, ◌-◌, ◌*◌, ◌%◌, ◌^◌, ◌<◌, ◌≤◌, ◌==◌, ◌⊎◌, ℕ, if◌then◌else◌, length, take, drop, All, true, false, None, Some, IfOk, IfErr, OnOk};
+ghost use Rattle.std.specs.Prelude.{◌≡◌, ◌≢◌, ◌+◌, ◌-◌, ◌*◌, ◌/◌, ◌%◌, ◌^◌, ◌<◌, ◌≤◌, ◌==◌, ◌⊎◌, ◌&&◌, nat_le, ℕ, if◌then◌else◌, length, take, drop, All, true, false, None, Some, IfOk, IfErr, OnOk};
+ghost use Rattle.std.specs.List.{list_all};
 ghost use Rattle.hll_base.specs.declared.error.Reason.TheVariants.{Memory};
 ghost use Rattle.hll_base.specs.declared.error.Reason.TheVariants as reasons;
 ghost use Rattle.hll_coupons.specs.AuxMap.{entry_at, value_in, IsMap};
@@ -289,8 +290,58 @@ fn others_agree<A: Allocator>(
     ensures some { result ≡ false → (s : ℕ) × (s < 2 ^ lg_config_k) × (exception_in map.now s ≡ None) × (Agrees cur_min (nibble_at nibbles.now s) None → ⊥) }
 {
     let greatest = (MOST - cur_min).min(MARK - 1);
-    for slot in 0..two_to(lg_config_k) as u32 {
-        if nibble_of(nibbles, slot as usize) > greatest && exception_at(map, slot).is_none() {
+    let (blocks, _) = nibbles.as_chunks::<16>();
+    for place in 0..blocks.len() {
+        if !are_at_most(&blocks[place], greatest)
+            && !slots_agree(
+                nibbles,
+                map,
+                lg_config_k,
+                greatest,
+                32 * place,
+                32 * place + 32,
+            )
+        {
+            return false;
+        }
+    }
+    slots_agree(
+        nibbles,
+        map,
+        lg_config_k,
+        greatest,
+        32 * blocks.len(),
+        2 * nibbles.len(),
+    )
+}
+
+/// Whether no nibble of a block is greater.
+fn are_at_most(block: &[u8; 16], greatest: u8) -> bool
+    ensures { result ≡ list_all (λ b. nat_le (b % 16) greatest && nat_le (b / 16) greatest) block.now }
+{
+    block
+        .iter()
+        .all(|byte| *byte % 16 <= greatest && *byte / 16 <= greatest)
+}
+
+/// Whether each slot of a range has an exception, or no greater nibble.
+fn slots_agree<A: Allocator>(
+    nibbles: &[u8],
+    map: &Option<AuxMap<A>>,
+    lg_config_k: u8,
+    greatest: u8,
+    from: usize,
+    to: usize,
+) -> bool
+    requires most { lg_config_k ≤ 21 }
+    requires size { 2 * length nibbles.now ≡ 2 ^ lg_config_k }
+    requires map { IsMapFor lg_config_k map.now }
+    requires to { to ≤ 2 ^ lg_config_k }
+    ensures all { result ≡ true → (s : ℕ) → from ≤ s → s < to → exception_in map.now s ≡ None → nibble_at nibbles.now s ≤ greatest }
+    ensures some { result ≡ false → (s : ℕ) × (s < 2 ^ lg_config_k) × (exception_in map.now s ≡ None) × (greatest < nibble_at nibbles.now s) }
+{
+    for slot in from..to {
+        if nibble_of(nibbles, slot) > greatest && exception_at(map, slot as u32).is_none() {
             return false;
         }
     }

@@ -1,5 +1,4 @@
-use Rattle.std.proofs.Common.{arith, ℕ, ◌≡◌, ◌<◌, ◌^◌, Some, ap, sym, subst, ◌∙◌}
-use Rattle.hll_coupons.specs.AuxMap.{value_in}
+use Rattle.std.proofs.Common.{arith, ◌<◌, ◌^◌, Some, ap, sym, subst, ◌∙◌}
 use Rattle.hll_arrays.specs.FourBits.{exception_in, IsMapFor}
 use Rattle.hll_arrays.specs.Packed.{nibble_at}
 use Rattle.hll_arrays.specs.Payload.{Agrees}

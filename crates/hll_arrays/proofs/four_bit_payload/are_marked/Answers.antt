@@ -1,4 +1,4 @@
-use Rattle.std.proofs.Common.{arith, ◌≡◌, ◌∷◌, [], All, Some, ◌∙◌, sym, subst}
+use Rattle.std.proofs.Common.{arith, ◌∷◌, [], All, Some, ◌∙◌, sym, subst}
 use Rattle.std.proofs.lemmas.List.{append-nil}
 use Rattle.std.proofs.lemmas.List.Elements.{All-append}
 use Rattle.hll_coupons.specs.AuxMap.{entries_in}

@@ -1,4 +1,4 @@
-use Rattle.std.proofs.Common.{arith, ◌≡◌, ◌≢◌, ◌+◌, ◌-◌, ◌*◌, ◌^◌, ◌<◌, ◌≤◌, ℕ, cond, eqb, List, length, take, drop, inl, inr, sym, ap, subst, ◌∙◌}
+use Rattle.std.proofs.Common.{arith, ◌≡◌, ◌+◌, ◌-◌, ◌*◌, ◌^◌, ◌<◌, ◌≤◌, cond, eqb, length, take, drop, inl, inr, sym, ap, subst, ◌∙◌}
 use Rattle.std.proofs.lemmas.List.{drop-drop, length-drop}
 use Rattle.hll_base.proofs.Errors.{IfErr-passed}
 use Rattle.hll_arrays.specs.Payload.{Hll4Shape, exception_count, exception_places, hll4_size, is_compact, lg_table_of, num_at_cur_min, shape_of_hll4, FirstHll4Fault, HasEntries}

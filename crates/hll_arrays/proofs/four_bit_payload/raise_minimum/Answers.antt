@@ -1,11 +1,9 @@
-use Rattle.std.proofs.Common.{arith, rules, ◌≡◌, ◌≤◌, ◌<◌, ◌∙◌, All, sym, ap, subst, length}
+use Rattle.std.proofs.Common.{arith, rules, ◌≡◌, ◌∙◌, sym, ap, subst, length}
 use Rattle.std.proofs.Math.Pow.{pow_mono}
 use Rattle.std.proofs.lemmas.List.{with_items_is}
-use Rattle.std.specs.Vec.{with_items}
 use Rattle.hll_arrays.specs.FourBits.{unpacked, IsPacked}
 use Rattle.hll_arrays.specs.Packed.{minimum, zero_nibbles}
 use Rattle.hll_arrays.proofs.FourBitReading.{AgreeAbove, least_small, below_least, high_enough, exceptions_high, raised}
-use Rattle.hll_arrays.proofs.four_bit_payload.raise_minimum.Given.{Over}
 use Rattle.hll_arrays.proofs.four_bit_payload.raise_minimum.Goals as goal
 
 pub kept_of-requires-clause-minimum : goal.kept_of-requires-clause-minimum

@@ -1,13 +1,12 @@
-use Rattle.std.proofs.Common.{arith, ◌≡◌, ◌≢◌, ◌+◌, ◌*◌, ◌%◌, ◌^◌, ◌≤◌, ◌⊎◌, ℕ, Bool, true, false, cond, eqb, Some, None, List, [], ◌∷◌, ◌++◌, length, inl, inr, refl, sym, ap, subst, ◌∙◌}
+use Rattle.std.proofs.Common.{arith, ◌≡◌, ◌≢◌, ◌+◌, ◌%◌, ◌^◌, ◌≤◌, ◌⊎◌, ℕ, true, cond, eqb, Some, None, List, [], ◌∷◌, ◌++◌, length, inl, inr, refl, sym, ap, subst, ◌∙◌}
 use Rattle.std.proofs.lemmas.Bool.{true≢false}
-use Rattle.std.proofs.lemmas.List.{length-append, length-drop}
+use Rattle.std.proofs.lemmas.List.{length-append}
 use Rattle.hll_base.proofs.Errors.{IfErr-passed}
 use Rattle.hll_base.specs.declared.error.Reason.{Reason}
 use Rattle.hll_base.specs.declared.error.Reason.TheVariants.{Memory, Coupon, Count}
 use Rattle.hll_coupons.specs.AuxMap.{entry_at}
 use Rattle.hll_coupons.specs.Coupons.{coupons_at}
 use Rattle.hll_coupons.specs.Pair.{slot_of, value_of}
-use Rattle.hll_arrays.specs.FourBits.{exception_in}
 use Rattle.hll_arrays.specs.Payload.{AreEntries}
 use Rattle.hll_arrays.proofs.EntryReading.{coupons-more, coupons-same, coupons-all, rest-more, entries-none, length-none, entry_at-none, entry_at-push, AreEntries-push, no_entry}
 use Rattle.hll_arrays.proofs.four_bit_payload.read_entries.Goals as goal

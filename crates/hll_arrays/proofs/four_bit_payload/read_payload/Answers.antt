@@ -1,17 +1,15 @@
-use Rattle.std.proofs.Common.{arith, ◌≡◌, ◌≢◌, ◌+◌, ◌-◌, ◌*◌, ◌^◌, ◌≤◌, ◌<◌, ◌⊎◌, ℕ, List, length, inl, inr, sym, ap, subst, ◌∙◌}
+use Rattle.std.proofs.Common.{arith, ◌≡◌, ◌+◌, ◌-◌, ◌*◌, ◌^◌, ◌<◌, ◌⊎◌, ℕ, length, inl, inr, sym, ap, subst, ◌∙◌}
 use Rattle.std.proofs.lemmas.List.{length-drop}
 use Rattle.hll_base.proofs.Errors.{IfErr-passed}
-use Rattle.hll_base.specs.declared.error.Reason.{Reason}
 use Rattle.hll_base.specs.declared.error.Reason.TheVariants.{Memory}
 use Rattle.hll_coupons.specs.AuxMap.{entry_at}
 use Rattle.hll_coupons.specs.Coupons.{coupons_at}
-use Rattle.hll_arrays.specs.FourBits.{exception_in, unpacked, IsPacked}
+use Rattle.hll_arrays.specs.FourBits.{exception_in, IsPacked}
 use Rattle.hll_arrays.specs.Packed.{nibble_at}
 use Rattle.hll_arrays.specs.Payload.{Hll4Shape, entries_of, exception_count, nibbles_of, shape_of_hll4, AreEntries, Agrees, FirstHll4Fault, IsWhole}
 use Rattle.hll_arrays.specs.Payload as payload
 use Rattle.hll_arrays.proofs.FourBitWholes.{all_agree, fault_not_memory, is_hll4_payload, nibbles-size, parts_agree, unpacked-registers}
 use Rattle.hll_arrays.proofs.ReadingRegisters.{IfErr-always}
-use Rattle.hll_arrays.proofs.four_bit_payload.read_payload.Given.{Over}
 use Rattle.hll_arrays.proofs.four_bit_payload.read_payload.Goals as goal
 
 pub returns-in_err-frame-clause-asked : goal.returns-in_err-frame-clause-asked

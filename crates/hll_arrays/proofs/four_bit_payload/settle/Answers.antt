@@ -1,4 +1,4 @@
-use Rattle.std.proofs.Common.{arith, rules, ◌<◌, All, length, ap, ◌∙◌}
+use Rattle.std.proofs.Common.{arith, rules, length, ap, ◌∙◌}
 use Rattle.std.proofs.Math.Pow.{pow_mono}
 use Rattle.hll_arrays.specs.Packed.{zero_nibbles}
 use Rattle.hll_arrays.proofs.FourBitReading.{AgreeAbove, settled}

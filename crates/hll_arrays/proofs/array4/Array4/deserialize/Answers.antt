@@ -1,8 +1,7 @@
-use Rattle.std.proofs.Common.{◌≡◌, ◌⊎◌, List, ℕ, inl, inr, sym, ap, ◌∙◌, take}
+use Rattle.std.proofs.Common.{◌≡◌, ◌⊎◌, inl, inr, sym, ◌∙◌}
 use Rattle.hll_base.proofs.Errors.{IfErr-passed}
 use Rattle.hll_base.specs.declared.error.Reason.TheVariants.{Memory}
-use Rattle.hll_arrays.specs.FourBits.{unpacked}
-use Rattle.hll_arrays.specs.Payload.{Hll4Shape, hll4_size, registers_of, shape_of_hll4, Hll4Fault, IsWhole}
+use Rattle.hll_arrays.specs.Payload.{Hll4Shape, shape_of_hll4, Hll4Fault, IsWhole}
 use Rattle.hll_arrays.proofs.FourBits.{packed_here, unpacked_is}
 use Rattle.hll_arrays.proofs.FourBitWholes.{fault_of_first, registers-front}
 use Rattle.hll_arrays.proofs.array4.Array4.deserialize.Goals as goal
