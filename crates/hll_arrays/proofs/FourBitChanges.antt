@@ -134,7 +134,7 @@ module _ (k m n : ℕ) (bytes : List ℕ) (e : Option ExceptionMap) (R : List �
       below (inl l) = l
       below (inr g) = let both : None ≡ Some (get_or R slot 0) = sym none ∙ p.excepted slot within ∙ exception_of-high m (get_or R slot 0) g in cc
 
--- ---- the only register at the minimum rises
+-- ---- the least register
 
 -- a register at m counts
 pub count_some : (m : ℕ) (R : List ℕ) (i : ℕ) → i < length R → get_or R i 0 ≡ m → 0 < count_by (λ r. eqb r m) R
@@ -187,6 +187,67 @@ zero_nibbles_are m bytes (r ∷ q ∷ R) e (suc h) even low =
       two,
       rest,
     )
+
+-- as many as there are registers at it
+pub counted_zeros : (k m : ℕ) (bytes R : List ℕ) → length R ≡ 2 ^ k → ((s : ℕ) → s < 2 ^ k → m ≤ get_or R s 0) → 2 * length bytes ≡ 2 ^ k → All (λ b. b < 256) bytes →
+    ((s : ℕ) → s < 2 ^ k → nibble_at bytes s ≡ nibble m (get_or R s 0)) → zero_nibbles bytes ≡ count_by (λ r. eqb r m) R
+counted_zeros k m bytes R long low size fits nibbles =
+    let bytes_are : bytes ≡ nibble_bytes_above m R = bytes_of_nibbles m bytes R (size ∙ sym long) fits (λ s l. nibbles s (omega (arith, l, long))) in
+    ap zero_nibbles bytes_are ∙ zero_nibbles_are m bytes R bytes_are (length bytes) (omega (arith, size, long)) (λ s l. low s (omega (arith, l, long)))
+
+-- parts above the least register are packed
+pub packed_least : (k to count : ℕ) (bytes : List ℕ) (e : Option ExceptionMap) (R : List ℕ) → AreRegisters k R → to ≡ minimum R → 2 * length bytes ≡ 2 ^ k → All (λ b. b < 256) bytes →
+    ((s : ℕ) → s < 2 ^ k → nibble_at bytes s ≡ nibble to (get_or R s 0)) → IsMapFor k e → ((s : ℕ) → s < 2 ^ k → exception_in e s ≡ exception_of to (get_or R s 0)) → count ≡ zero_nibbles bytes →
+    IsPacked k to count bytes e R
+packed_least k to count bytes e R legal least size fits nibbles is excepted zeros =
+    let low : (s : ℕ) → s < 2 ^ k → to ≤ get_or R s 0 = λ s l. omega (arith, least, minimum_le R s (omega (arith, l, legal.size))) in
+    let counted : count ≡ count_by (λ r. eqb r to) R = zeros ∙ counted_zeros k to bytes R legal.size low size fits nibbles in
+    let i = attained R (omega (arith, legal.size, pow_pos k)) legal.small in
+    record {
+      registers = legal;
+      least = low;
+      count = counted;
+      some = omega (arith, counted, count_some to R i.0 i.1 (i.2 ∙ sym least));
+      size = size;
+      fits = fits;
+      nibbles = nibbles;
+      map_for = is;
+      excepted = excepted;
+    }
+
+-- an exception is that of a slot
+pub slot_within : (k : ℕ) (e : Option ExceptionMap) → IsMapFor k e → (s w : ℕ) → exception_in e s ≡ Some w → s < 2 ^ k
+slot_within k None u s w is = cc
+slot_within k (Some t) (map, lg, some) s w is =
+    let entry : IsEntry t s w = entry_of_value t map s w is in
+    subst (λ n. s < 2 ^ n) lg (subst (λ i. i < 2 ^ t.lg_k) entry.slot (slot_below t map entry.word entry.there))
+
+-- ---- a nibble and an exception above a greater minimum
+
+pub fallen_nibble : (m to r : ℕ) → m ≤ to → to ≤ r → fallen to (exception_of m r) (lowered_by (to - m) (nibble m r)) ≡ nibble to r
+fallen_nibble m to r rise enough = of (cases_lt r (m + 15))
+  where
+    kept_or_not : (r < to + 15) ⊎ (to + 15 ≤ r) → cond (leb (to + 15) r) 15 (r - to) ≡ nibble to r
+    kept_or_not (inl low) = cond-false (leb (to + 15) r) 15 (r - to) (lt-leb (to + 15) r low) ∙ (let out : r - to ≡ nibble to r = omega (arith, low) in out)
+    kept_or_not (inr up) = cond-true (leb (to + 15) r) 15 (r - to) (le-leb (to + 15) r up) ∙ (let out : 15 ≡ nibble to r = omega (arith, up) in out)
+
+    of : (r < m + 15) ⊎ (m + 15 ≤ r) → fallen to (exception_of m r) (lowered_by (to - m) (nibble m r)) ≡ nibble to r
+    of (inl under) =
+        let n : nibble m r ≡ r - m = omega (arith, under) in
+        let fewer : nibble m r ≢ 15 = λ z. omega (arith, z, n, under, rise, enough) in
+        ap (λ o. fallen to o (lowered_by (to - m) (nibble m r))) (exception_of-low m r under) ∙ lowered_by-other (to - m) (nibble m r) fewer
+        ∙ (let out : nibble m r - (to - m) ≡ nibble to r = omega (arith, under, rise, enough) in out)
+    of (inr over) =
+        let n : nibble m r ≡ 15 = omega (arith, over) in
+        ap (λ o. fallen to o (lowered_by (to - m) (nibble m r))) (exception_of-high m r over) ∙ ap (λ b. cond (leb (to + 15) r) b (r - to)) (lowered_by-mark (to - m) (nibble m r) n) ∙ kept_or_not (cases_lt r (to + 15))
+
+pub kept_exception : (m to r : ℕ) → m ≤ to → kept_above to (exception_of m r) ≡ exception_of to r
+kept_exception m to r rise = elim (cases_lt r (m + 15)) [
+  | inl under ↦ ap (kept_above to) (exception_of-low m r under) ∙ sym (exception_of-low to r (omega (arith, under, rise)))
+  | inr over ↦ ap (kept_above to) (exception_of-high m r over)
+]
+
+-- ---- the only register at the minimum rises
 
 -- an exception is the register of another slot
 record IsException (k m : ℕ) (R : List ℕ) (slot s w : ℕ) : Type 0 where
@@ -248,12 +309,6 @@ module _ (k m n : ℕ) (bytes : List ℕ) (e : Option ExceptionMap) (R : List �
         record { within = there_too; over = omega (arith, over, value); register = value; other = λ same. omega (arith, over, ap (λ i. get_or R i 0) same, at) }
   ]
     where
-      slot_within : (k : ℕ) (e : Option ExceptionMap) → IsMapFor k e → (s w : ℕ) → exception_in e s ≡ Some w → s < 2 ^ k
-      slot_within k None u s w is = cc
-      slot_within k (Some t) (map, lg, some) s w is =
-          let entry : IsEntry t s w = entry_of_value t map s w is in
-          subst (λ n. s < 2 ^ n) lg (subst (λ i. i < 2 ^ t.lg_k) entry.slot (slot_below t map entry.word entry.there))
-
       there_too : s < 2 ^ k
       there_too = slot_within k e p.map_for s w is
 
@@ -277,22 +332,8 @@ module _ (k m n : ℕ) (bytes : List ℕ) (e : Option ExceptionMap) (R : List �
         let r : ℕ = get_or R q 0 in
         let enough : to ≤ r = omega (arith, to_le q l, elsewhere q other) in
         put q (omega (arith, l, p.size)) ∙ cond-false (eqb q slot) (nibble to v) (fallen to (exception_in e q) (lowered_by (to - m) (nibble_at bytes q))) (differs q slot other)
-        ∙ (λ i. fallen to (p.excepted q l i) (lowered_by (to - m) (p.nibbles q l i))) ∙ one r enough (cases_lt r (m + 15)) ∙ ap (nibble to) (sym (elsewhere q other))
+        ∙ (λ i. fallen to (p.excepted q l i) (lowered_by (to - m) (p.nibbles q l i))) ∙ fallen_nibble m to r from_to enough ∙ ap (nibble to) (sym (elsewhere q other))
   ]
-    where
-      one : (r : ℕ) → to ≤ r → (r < m + 15) ⊎ (m + 15 ≤ r) → fallen to (exception_of m r) (lowered_by (to - m) (nibble m r)) ≡ nibble to r
-      one r enough (inl under) =
-          let n : nibble m r ≡ r - m = omega (arith, under) in
-          let fewer : nibble m r ≢ 15 = λ z. omega (arith, z, n, under, from_to, enough) in
-          ap (λ o. fallen to o (lowered_by (to - m) (nibble m r))) (exception_of-low m r under) ∙ lowered_by-other (to - m) (nibble m r) fewer
-          ∙ (let out : nibble m r - (to - m) ≡ nibble to r = omega (arith, under, from_to, enough) in out)
-      one r enough (inr over) =
-          let n : nibble m r ≡ 15 = omega (arith, over) in
-          ap (λ o. fallen to o (lowered_by (to - m) (nibble m r))) (exception_of-high m r over) ∙ ap (λ b. cond (leb (to + 15) r) b (r - to)) (lowered_by-mark (to - m) (nibble m r) n) ∙ kept_or_not (cases_lt r (to + 15))
-        where
-          kept_or_not : (r < to + 15) ⊎ (to + 15 ≤ r) → cond (leb (to + 15) r) 15 (r - to) ≡ nibble to r
-          kept_or_not (inl low) = cond-false (leb (to + 15) r) 15 (r - to) (lt-leb (to + 15) r low) ∙ (let out : r - to ≡ nibble to r = omega (arith, low) in out)
-          kept_or_not (inr up) = cond-true (leb (to + 15) r) 15 (r - to) (le-leb (to + 15) r up) ∙ (let out : 15 ≡ nibble to r = omega (arith, up) in out)
 
   -- the exceptions above it, where they stay
   pub excepted_stay : v < to + 15 → ((s w : ℕ) → exception_in e s ≡ Some w → to + 15 ≤ w) → (q : ℕ) → q < 2 ^ k → exception_in e q ≡ exception_of to (get_or Q q 0)
@@ -318,12 +359,8 @@ module _ (k m n : ℕ) (bytes : List ℕ) (e : Option ExceptionMap) (R : List �
         ∙ sym (ap (exception_of to) (ap (λ i. get_or Q i 0) same ∙ get_or-set_same R slot v 0 there))
     | inr other ↦
         put q ∙ cond-false (eqb q slot) (exception_of to v) (kept_above to (exception_in e q)) (differs q slot other) ∙ ap (kept_above to) (p.excepted q l)
-        ∙ again (get_or R q 0) (cases_lt (get_or R q 0) (m + 15)) ∙ ap (exception_of to) (sym (elsewhere q other))
+        ∙ kept_exception m to (get_or R q 0) from_to ∙ ap (exception_of to) (sym (elsewhere q other))
   ]
-    where
-      again : (r : ℕ) → (r < m + 15) ⊎ (m + 15 ≤ r) → kept_above to (exception_of m r) ≡ exception_of to r
-      again r (inl under) = ap (kept_above to) (exception_of-low m r under) ∙ sym (exception_of-low to r (omega (arith, under, from_to)))
-      again r (inr over) = ap (kept_above to) (exception_of-high m r over)
 
   -- a slot whose exception comes or goes
   slot_moved : (to + 15 ≤ v) ⊎ ((s : ℕ) × (w : ℕ) × (exception_in e s ≡ Some w) × (w < to + 15)) → (s : ℕ) × (s < 2 ^ k) × (has_exception R s ≢ has_exception Q s)
@@ -348,22 +385,7 @@ module _ (k m n : ℕ) (bytes : List ℕ) (e : Option ExceptionMap) (R : List �
 
   pub risen_packed : (count : ℕ) (new : List ℕ) (e' : Option ExceptionMap) → length new ≡ length bytes → All (λ b. b < 256) new → ((q : ℕ) → q < 2 ^ k → nibble_at new q ≡ nibble to (get_or Q q 0)) → IsMapFor k e' →
       ((q : ℕ) → q < 2 ^ k → exception_in e' q ≡ exception_of to (get_or Q q 0)) → count ≡ zero_nibbles new → IsPacked k to count new e' Q
-  risen_packed count new e' len fits nibbles is excepted zeros =
-      let bytes_are : new ≡ nibble_bytes_above to Q = bytes_of_nibbles to new Q (omega (arith, len, p.size, legal.size)) fits (λ s l. nibbles s (omega (arith, l, legal.size))) in
-      let counted : count ≡ count_by (λ r. eqb r to) Q =
-      zeros ∙ ap zero_nibbles bytes_are ∙ zero_nibbles_are to new Q bytes_are (length bytes) (omega (arith, p.size, legal.size)) (λ s l. to_le s (omega (arith, l, legal.size))) in
-      let i = attained Q (omega (arith, legal.size, pow_pos k)) legal.small in
-      record {
-        registers = legal;
-        least = to_le;
-        count = counted;
-        some = omega (arith, counted, count_some to Q i.0 i.1 (i.2 ∙ sym least));
-        size = omega (arith, p.size, len);
-        fits = fits;
-        nibbles = nibbles;
-        map_for = is;
-        excepted = excepted;
-      }
+  risen_packed count new e' len fits nibbles is excepted zeros = packed_least k to count new e' Q legal least (omega (arith, p.size, len)) fits nibbles is excepted zeros
 
 -- ---- what contracts ask, of the parts
 

@@ -1,11 +1,14 @@
 pub mod Blocks
 pub mod Entries
+pub mod EntryReading
 pub mod Exceptions
 pub mod Filling
 pub mod Folding
 pub mod FourBitLanes
 pub mod FourBitStores
 pub mod FourBitChanges
+pub mod FourBitReading
+pub mod FourBitWholes
 pub mod FourBits
 pub mod Grouping
 pub mod Lowering

@@ -1,6 +1,6 @@
 -- What follows the header in an image of registers, what can be wrong with it, and what is written
 -- (docs/FORMAT.md, "HLL" and "What is written"; docs/MODEL.md, "Images").
-use Rattle.std.specs.Prelude.{◌≡◌, ◌≢◌, ℕ, ◌+◌, ◌-◌, ◌*◌, ◌/◌, ◌%◌, ◌^◌, ◌≤◌, ◌<◌, ◌==◌, Bool, false, if◌then◌else◌, List, [], ◌∷◌, ◌++◌, length, drop, take, map, slice_index, All, Option, Some, None}
+use Rattle.std.specs.Prelude.{◌≡◌, ◌≢◌, ℕ, ◌+◌, ◌-◌, ◌*◌, ◌/◌, ◌%◌, ◌^◌, ◌≤◌, ◌<◌, ◌==◌, Bool, true, false, if◌then◌else◌, List, [], ◌∷◌, ◌++◌, length, drop, take, map, slice_index, All, Option, Some, None}
 use Rattle.std.specs.List.{range_with_len, flat_map}
 use Rattle.std.specs.Int.{w32, w64, to_le_bytes, from_le_bytes}
 use Rattle.std.specs.FinSet.{len}
@@ -11,6 +11,8 @@ use Rattle.hll_coupons.specs.Pair.{slot_of, value_of, set_of}
 use Rattle.hll_coupons.specs.Coupons.{coupons_at, coupon_bytes, mode_byte, WritesAscending}
 use Rattle.hll_coupons.specs.declared.hll_type.HllType.{HllType}
 use Rattle.hll_coupons.specs.declared.hll_type.HllType.TheVariants.{Hll4, Hll6, Hll8}
+use Rattle.hll_arrays.specs.declared.aux_format.AuxFormat.{AuxFormat}
+use Rattle.hll_arrays.specs.declared.aux_format.AuxFormat.TheVariants.{Compact, Updatable}
 use Rattle.hll_arrays.specs.declared.estimate_state.EstimateState.{EstimateState}
 use Rattle.hll_arrays.specs.Packed.{field_bytes, nibble_at, nibble_bytes, exceptions, minimum, count_at_minimum, zeros}
 
@@ -72,6 +74,19 @@ pub record Hll4Shape : Type 0 where
   pub minimum : ℕ
   pub compact : Bool
   pub lg_table : ℕ
+
+-- the exceptions follow one another, with no empty place
+abbrev pub is_compact : AuxFormat → Bool
+is_compact Compact = true
+is_compact (Updatable lg_arr) = false
+
+abbrev pub lg_table_of : AuxFormat → ℕ
+lg_table_of Compact = 0
+lg_table_of (Updatable lg_arr) = lg_arr
+
+-- the shape of registers of four bits, by lg_k, the minimum in the header and the format of the exceptions
+abbrev pub shape_of_hll4 : ℕ → ℕ → AuxFormat → Hll4Shape
+shape_of_hll4 k m format = record { lg_k = k; minimum = m; compact = is_compact format; lg_table = lg_table_of format }
 
 abbrev pub exception_places : Hll4Shape → List ℕ → ℕ
 exception_places h bytes =
@@ -137,6 +152,25 @@ pub data Hll4Fault (h : Hll4Shape) (bytes : List ℕ) : Reason → Type 0 where
   coupon : HasEntries h bytes → hll4_size h bytes ≤ length bytes → (AreEntries h.lg_k (entries_of h bytes) → ⊥) → Hll4Fault h bytes Coupon
   number : HasEntries h bytes → hll4_size h bytes ≤ length bytes → length (entries_of h bytes) ≢ exception_count bytes → Hll4Fault h bytes Count
   register : HasEntries h bytes → hll4_size h bytes ≤ length bytes → AreEntries h.lg_k (entries_of h bytes) → (AllAgree h bytes → ⊥) → Hll4Fault h bytes Register
+
+-- the counts pass their checks, and all bytes that they ask for are there
+pub record IsWhole (h : Hll4Shape) (bytes : List ℕ) : Type 0 where
+  pub low : num_at_cur_min bytes ≤ 2 ^ h.lg_k
+  pub has_entries : HasEntries h bytes
+  pub there : hll4_size h bytes ≤ length bytes
+
+-- the check of this reason is the first that fails
+pub data FirstHll4Fault (h : Hll4Shape) (bytes : List ℕ) : Reason → Type 0 where
+  no_counts : length bytes < 32 → FirstHll4Fault h bytes Truncated
+  low_count_above : 32 ≤ length bytes → 2 ^ h.lg_k < num_at_cur_min bytes → FirstHll4Fault h bytes Count
+  exceptions_above : 32 ≤ length bytes → 2 ^ h.lg_k < exception_count bytes → FirstHll4Fault h bytes Count
+  table : 32 ≤ length bytes → num_at_cur_min bytes ≤ 2 ^ h.lg_k → exception_count bytes ≤ 2 ^ h.lg_k → h.compact ≡ false → exception_count bytes ≢ 0 → 26 < h.lg_table
+      → FirstHll4Fault h bytes LgArr
+  short : num_at_cur_min bytes ≤ 2 ^ h.lg_k → HasEntries h bytes → length bytes < hll4_size h bytes → FirstHll4Fault h bytes Truncated
+  coupon : IsWhole h bytes → (AreEntries h.lg_k (entries_of h bytes) → ⊥) → FirstHll4Fault h bytes Coupon
+  number : IsWhole h bytes → AreEntries h.lg_k (entries_of h bytes) → length (entries_of h bytes) ≢ exception_count bytes → FirstHll4Fault h bytes Count
+  register : IsWhole h bytes → AreEntries h.lg_k (entries_of h bytes) → length (entries_of h bytes) ≡ exception_count bytes → (AllAgree h bytes → ⊥)
+      → FirstHll4Fault h bytes Register
 
 -- ---- what is written
 

@@ -1,7 +1,10 @@
 -- What is written for registers is read back (docs/MODEL.md, "Packed forms").
 use Rattle.std.specs.Prelude.{◌≡◌, ℕ, ◌+◌, ◌^◌, List, ◌++◌, take, drop}
-use Rattle.hll_arrays.specs.Packed.{fields}
-use Rattle.hll_arrays.specs.Payload.{state_at, IsHll8Payload, hll8_bytes, field_size, IsHll6Payload, hll6_bytes}
+use Rattle.hll_coupons.specs.Pair.{set_of}
+use Rattle.hll_coupons.specs.Coupons.{IsAscending}
+use Rattle.hll_arrays.specs.declared.aux_format.AuxFormat.TheVariants.{Compact}
+use Rattle.hll_arrays.specs.Packed.{fields, minimum, exceptions}
+use Rattle.hll_arrays.specs.Payload.{state_at, IsHll8Payload, hll8_bytes, field_size, IsHll6Payload, hll6_bytes, shape_of_hll4, hll4_size, registers_of, IsHll4Payload, hll4_bytes}
 use Rattle.hll_arrays.specs.Store.{Stored, IsStored}
 
 -- behind its header, what is written for legal registers of eight bits is a payload, and gives registers and state back,
@@ -16,3 +19,11 @@ abbrev pub Hll6ReadBack : Type 0
 Hll6ReadBack = (x : Stored) (more : List ℕ) → IsStored x →
     let bytes = drop 8 (hll6_bytes x.lg_k x.registers x.state) ++ more in
     IsHll6Payload x.lg_k (take (32 + field_size x.lg_k) bytes) × (fields (take (field_size x.lg_k) (drop 32 bytes)) ≡ x.registers) × (state_at x.state.out_of_order bytes ≡ x.state)
+
+-- and of four bits, with the exceptions in ascending raw words
+abbrev pub Hll4ReadBack : Type 0
+Hll4ReadBack = (x : Stored) (order more : List ℕ) → IsStored x → IsAscending order (set_of (exceptions x.registers)) →
+    let h = shape_of_hll4 x.lg_k (minimum x.registers) Compact in
+    let bytes = drop 8 (hll4_bytes x.lg_k x.registers x.state order) ++ more in
+    let payload = take (hll4_size h bytes) bytes in
+    IsHll4Payload h payload × (registers_of h payload ≡ x.registers) × (state_at x.state.out_of_order bytes ≡ x.state)

@@ -1,26 +1,29 @@
 //! Registers of four bits: nibbles above a minimum, and a map of exceptions (docs/MODEL.md, "Registers of four bits").
-ghost use Rattle.std.specs.Prelude.{◌≡◌, ◌≢◌, ◌+◌, ◌*◌, ◌^◌, ◌<◌, ◌≤◌, ◌==◌, ℕ, if◌then◌else◌, count_by, nat_eq, slice_index, slice_set, IfOk, IfErr, IfSome, OnOk, OnErr, Some, None};
+ghost use Rattle.std.specs.Prelude.{◌≡◌, ◌≢◌, ◌+◌, ◌*◌, ◌^◌, ◌<◌, ◌≤◌, ◌==◌, ◌⊎◌, ℕ, take, if◌then◌else◌, count_by, nat_eq, slice_index, slice_set, IfOk, IfErr, IfSome, OnOk, OnErr, Some, None};
 ghost use Rattle.std.specs.List.{list_all};
 ghost use Rattle.std.specs.Cmp.Lexicographic.{pointwise};
 ghost use Rattle.hll_base.specs.declared.error.Reason.TheVariants.{Memory};
 ghost use Rattle.hll_coupons.specs.declared.hll_type.HllType.TheVariants.{Hll4};
 ghost use Rattle.hll_arrays.specs.FourBits.{exception_in, exception_of, kept_above, with_register, ExceptionsMove, FourBits, IsMapFor};
 ghost use Rattle.hll_arrays.specs.Packed.{minimum, count_at_minimum, nibble, units, zeros, size_in_registers};
-ghost use Rattle.hll_arrays.specs.Payload.{WritesRegisters};
+ghost use Rattle.hll_arrays.specs.Payload.{shape_of_hll4, hll4_size, registers_of, state_at, FirstHll4Fault, Hll4Fault, IsHll4Payload, IsWhole, WritesRegisters};
 ghost use Rattle.hll_arrays.specs.State.{cleared_state};
 ghost use Rattle.hll_arrays.specs.Store.{zero_registers, update_with_coupon, IsStored};
 
+use crate::aux_format::AuxFormat;
 use crate::estimate_state::EstimateState;
 use crate::exception_map::{
     MARK, bytes_of_places, copied, count_exceptions, exception_at, exceptions_above, exceptions_of,
     have_same_exceptions, put_exception, raise_by_exceptions, repack, stay, write_exceptions,
 };
+use crate::four_bit_payload::read_payload;
 use crate::kernels::least_of;
 use crate::nibbles::{count_zero_nibbles, nibble_of, packed_nibbles, put_nibble, raise_by_nibbles};
 use crate::preamble::{HllHeader, Preamble};
 use crate::register_store::RegisterStore;
 use crate::registers::{Registers, two_to, units_of};
 use hll_base::codec::SketchBytes;
+use hll_base::cursor::SketchSlice;
 use hll_base::error::Error;
 use hll_coupons::aux_map::AuxMap;
 use hll_coupons::coupon::Coupon;
@@ -227,6 +230,44 @@ impl<A: Allocator> Array4<A> {
 }
 
 impl<A: Allocator + Clone> Array4<A> {
+    /// Reads the part of an image of four-bit registers that follows the header (docs/FORMAT.md, "HLL"). `cur_min` is
+    /// the state byte, which may be below the least register, and `aux_format` says how the exceptions are stored. The
+    /// count at the minimum is checked against its bound, and not used.
+    ///
+    /// `lg_config_k` is 4 to 21. Fails with the first fault in the order of checks (`Count`, `LgArr`, `Truncated`,
+    /// `Coupon` or `Register`), or else with `Memory`. Takes memory only once the bytes are known to be there: the
+    /// nibbles in one request, then the map of exceptions as it grows, and where the minimum is raised another one.
+    pub fn deserialize(
+        alloc: A,
+        cursor: SketchSlice<'_>,
+        cur_min: u8,
+        lg_config_k: u8,
+        aux_format: AuxFormat,
+        ooo: bool,
+    ) -> Result<Array4<A>, Error>
+        requires least { 4 ≤ lg_config_k }
+        requires most { lg_config_k ≤ 21 }
+        ensures ok { let h = shape_of_hll4 lg_config_k cur_min aux_format in
+            IfOk result (λ a. IsHll4Payload h (take (hll4_size h cursor.entry) cursor.entry)
+            × (a.stored ≡ record { lg_k = lg_config_k; registers = registers_of h (take (hll4_size h cursor.entry) cursor.entry); state = state_at ooo cursor.entry })) }
+        ensures err { let h = shape_of_hll4 lg_config_k cur_min aux_format in
+            IfErr result (λ e. (e ≡ Memory) ⊎ Hll4Fault h cursor.entry e) }
+        ensures order { let h = shape_of_hll4 lg_config_k cur_min aux_format in
+            IfErr result (λ e. (e ≡ Memory) ⊎ FirstHll4Fault h cursor.entry e) }
+        ensures asked { let h = shape_of_hll4 lg_config_k cur_min aux_format in
+            IfErr result (λ e. e ≡ Memory → IsWhole h cursor.entry) }
+    {
+        let (parts, state) = read_payload(alloc, cursor, cur_min, lg_config_k, aux_format, ooo)?;
+        Ok(Array4 {
+            lg_config_k,
+            cur_min: parts.cur_min,
+            num_at_cur_min: parts.num_at_cur_min,
+            nibbles: parts.nibbles,
+            exceptions: parts.exceptions,
+            state,
+        })
+    }
+
     /// A copy, with the same places of the map.
     ///
     /// Fails with `Memory`.

@@ -260,7 +260,7 @@ pub(crate) fn exceptions_above<A: Allocator + Clone>(
 }
 
 /// `kept_exceptions`, where there is a map.
-fn kept_of<A: Allocator + Clone>(
+pub(crate) fn kept_of<A: Allocator + Clone>(
     map: &Option<AuxMap<A>>,
     nibbles: &Vec<u8, A>,
     lg_k: u8,
@@ -329,7 +329,7 @@ pub(crate) fn repack<A: Allocator>(
 }
 
 /// `put_fallen`, where there is a map.
-fn fall<A: Allocator>(bytes: &mut [u8], map: &Option<AuxMap<A>>, lg_k: u8, minimum: u8)
+pub(crate) fn fall<A: Allocator>(bytes: &mut [u8], map: &Option<AuxMap<A>>, lg_k: u8, minimum: u8)
     requires minimum { minimum ≤ 63 }
     requires size { 2 * length bytes.old ≡ 2 ^ lg_k }
     requires map { IsMapFor lg_k map.now }

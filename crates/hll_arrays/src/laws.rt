@@ -2,7 +2,7 @@
 ghost use Rattle.hll_arrays.specs.FourBits.{MinimumNeverFalls, PackedIsOfRegisters};
 ghost use Rattle.hll_arrays.specs.Packed.{NibblesReadBack, FieldsReadBack};
 ghost use Rattle.hll_arrays.specs.Payload.{ExceptionsReadBack};
-ghost use Rattle.hll_arrays.specs.ReadBack.{Hll8ReadBack, Hll6ReadBack};
+ghost use Rattle.hll_arrays.specs.ReadBack.{Hll8ReadBack, Hll6ReadBack, Hll4ReadBack};
 ghost use Rattle.hll_arrays.specs.Store.{PackedIsWritten};
 
 /// Each nibble is read back.
@@ -38,6 +38,11 @@ pub fn hll8_read_back()
 /// What is written for registers of six bits is a payload behind its header, and gives registers and state back.
 pub fn hll6_read_back()
     ensures { Hll6ReadBack }
+{}
+
+/// What is written for registers of four bits is a payload behind its header, and gives registers and state back.
+pub fn hll4_read_back()
+    ensures { Hll4ReadBack }
 {}
 
 /// What is written ends in the packed bytes and the exceptions in ascending raw words, functions of width and registers

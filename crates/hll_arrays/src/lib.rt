@@ -9,6 +9,7 @@ pub mod aux_format;
 pub mod convert;
 pub mod estimate_state;
 mod exception_map;
+mod four_bit_payload;
 mod groups;
 pub mod kernels;
 pub mod laws;

@@ -8,6 +8,8 @@ mod eight_bits;
 #[cfg(test)]
 mod fixtures;
 #[cfg(test)]
+mod four_bit_images;
+#[cfg(test)]
 mod four_bit_stores;
 #[cfg(test)]
 mod four_bits;

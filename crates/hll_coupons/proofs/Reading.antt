@@ -59,20 +59,21 @@ no_value xs rest c none are =
     seam [] = refl
     seam (y ∷ ys) = seam ys
 
--- nor is one that stands before
-pub twice : (xs rest : List ℕ) (c : ℕ) → contains (set_of xs) c ≡ true → AreCoupons (xs ++ c ∷ rest) → ⊥
-twice xs rest c there are =
+-- a word that stands before is not distinct
+pub not_distinct : (xs rest : List ℕ) (c : ℕ) → contains (set_of xs) c ≡ true → len (set_of (xs ++ c ∷ rest)) ≡ length (xs ++ c ∷ rest) → ⊥
+not_distinct xs rest c there distinct =
     let more : contains (set_of (xs ++ rest)) c ≡ true = contains-front xs rest c there in
     let same : set_of (xs ++ c ∷ rest) ≡ set_of (xs ++ rest) = set_of-between xs rest c ∙ insert-member (set_of (xs ++ rest)) c more in
-    omega (arith, are.distinct, ap len same, len-set_of-le (xs ++ rest), length-append xs rest, length-append xs (c ∷ rest))
+    omega (arith, distinct, ap len same, len-set_of-le (xs ++ rest), length-append xs rest, length-append xs (c ∷ rest))
   where
-    or_true : (b : Bool) → (true || b) ≡ true
-    or_true b = refl
-
     contains-front : (xs rest : List ℕ) (c : ℕ) → contains (set_of xs) c ≡ true → contains (set_of (xs ++ rest)) c ≡ true
     contains-front xs rest c h =
         contains-from_list_nat (xs ++ rest) c ∙ list_any-append (λ y. nat_eq y c) xs rest
         ∙ ap (λ b. b || list_any (λ y. nat_eq y c) rest) (sym (contains-from_list_nat xs c) ∙ h)
+
+-- so it is no coupon
+pub twice : (xs rest : List ℕ) (c : ℕ) → contains (set_of xs) c ≡ true → AreCoupons (xs ++ c ∷ rest) → ⊥
+twice xs rest c there are = not_distinct xs rest c there are.distinct
 
 -- a new coupon behind others
 pub AreCoupons-push : (xs : List ℕ) (c : ℕ) → AreCoupons xs → 1 ≤ value_of c → contains (set_of xs) c ≡ false → AreCoupons (xs ++ c ∷ [])

@@ -1,0 +1,167 @@
+-- Registers of four bits as they are read: nibbles above a minimum and exceptions that agree.
+use Rattle.std.proofs.Common.{◌≡◌, ℕ, zero, suc, ◌+◌, ◌-◌, ◌*◌, ◌/◌, ◌%◌, ◌^◌, ◌<◌, ◌≤◌, ◌⊎◌, Bool, true, false, ◌&&◌, List, All, Option, Some, None, length, take, drop, get_or, refl, sym, ap, subst, ◌∙◌, arith, inl, inr}
+use Rattle.std.specs.Prelude.{count_by, nat_eq, nat_le}
+use Rattle.std.specs.List.{list_all}
+use Rattle.std.proofs.lemmas.Bool.{cases_lt, leb-true, true≢false}
+use Rattle.std.proofs.lemmas.List.Sums.{AllPass-from_list_all}
+use Rattle.std.proofs.lemmas.List.{get_or_default, get_or-drop, get_or-take, length-drop, length-take}
+use Rattle.std.proofs.lemmas.List.FromFn.{length-map-range_with_len, get_or-map-range_with_len}
+use Rattle.std.proofs.lemmas.Nat.{pow_pos, mod_below}
+use Rattle.std.proofs.Math.Nat.{zero-add}
+use Rattle.hll_coupons.specs.AuxMap.{ExceptionMap}
+use Rattle.hll_coupons.proofs.Pairs.{entries_are, of_value}
+use Rattle.hll_arrays.specs.FourBits.{exception_in, exception_of, fallen, kept_above, lowered_by, unpacked, IsMapFor, IsPacked}
+use Rattle.hll_arrays.specs.Packed.{minimum, nibble, nibble_at, zero_nibbles}
+use Rattle.hll_arrays.specs.Payload.{Agrees, register_of}
+use Rattle.hll_arrays.specs.Store.{AreRegisters}
+use Rattle.hll_arrays.proofs.FourBits.{exception_of-high, exception_of-low, minimum_is}
+use Rattle.hll_arrays.proofs.FourBitChanges.{attained, counted_zeros, slot_within, fallen_nibble, kept_exception, packed_least}
+use Rattle.hll_arrays.proofs.Packing.{minimum_le}
+
+-- ---- registers of parts
+
+pub length-unpacked : (k m : ℕ) (bytes : List ℕ) (e : Option ExceptionMap) → length (unpacked k m bytes e) ≡ 2 ^ k
+length-unpacked k m bytes e = length-map-range_with_len _ 0 (2 ^ k)
+
+pub unpacked-at : (k m : ℕ) (bytes : List ℕ) (e : Option ExceptionMap) (s : ℕ) → s < 2 ^ k → get_or (unpacked k m bytes e) s 0 ≡ register_of m (nibble_at bytes s) (exception_in e s)
+unpacked-at k m bytes e s within = get_or-map-range_with_len (λ s. register_of m (nibble_at bytes s) (exception_in e s)) 0 (2 ^ k) s s 0 within (zero-add s)
+
+-- an exception is at most 63
+pub exception_small : (k : ℕ) (e : Option ExceptionMap) → IsMapFor k e → (s v : ℕ) → exception_in e s ≡ Some v → v ≤ 63
+exception_small k None u s v is = cc
+exception_small k (Some t) (map, lg, some) s v is = of_value t map (λ p. p.1 ≤ 63) (λ i d l. (entries_are t map i d l).most) s v is
+
+-- a nibble and an exception are those of their register
+record OfRegister (m n : ℕ) (o : Option ℕ) (r : ℕ) : Type 0 where
+  small : r ≤ 63
+  least : m ≤ r
+  nibble_is : n ≡ nibble m r
+  exception_is : o ≡ exception_of m r
+
+of_register : (m n : ℕ) (o : Option ℕ) → Agrees m n o → ((v : ℕ) → o ≡ Some v → v ≤ 63) → OfRegister m n o (register_of m n o)
+of_register m n None agrees small = record {
+  small = agrees.1;
+  least = omega arith;
+  nibble_is = omega (arith, agrees.0);
+  exception_is = sym (exception_of-low m (m + n) (omega (arith, agrees.0)));
+}
+of_register m n (Some v) agrees small = record {
+  small = small v refl;
+  least = omega (arith, agrees.1);
+  nibble_is = omega (arith, agrees.0, agrees.1);
+  exception_is = sym (exception_of-high m v agrees.1);
+}
+
+-- then the minimum is a register's bound
+pub minimum_small : (k m : ℕ) (bytes : List ℕ) (e : Option ExceptionMap) → IsMapFor k e → ((s : ℕ) → s < 2 ^ k → Agrees m (nibble_at bytes s) (exception_in e s)) → m ≤ 63
+minimum_small k m bytes e is agree =
+    let o = of_register m (nibble_at bytes 0) (exception_in e 0) (agree 0 (pow_pos k)) (exception_small k e is 0) in
+    omega (arith, o.least, o.small)
+
+-- a slot has an exception, or none
+pub agrees_either : (m n : ℕ) (o : Option ℕ) → ((v : ℕ) → o ≡ Some v → Agrees m n (Some v)) → (o ≡ None → Agrees m n None) → Agrees m n o
+agrees_either m n None some none = none refl
+agrees_either m n (Some v) some none = some v refl
+
+-- ---- blocks
+
+both_true : (a b : Bool) → (a && b) ≡ true → (a ≡ true) × (b ≡ true)
+both_true true b h = (refl, h)
+both_true false b h = absurd (true≢false (sym h))
+
+-- no nibble of a block of bytes is greater
+pub nibbles_at_most : (bytes block : List ℕ) (place g : ℕ) → block ≡ take 16 (drop (place * 16) bytes) → (place + 1) * 16 ≤ length bytes →
+    list_all (λ b. nat_le (b % 16) g && nat_le (b / 16) g) block ≡ true → (s : ℕ) → 32 * place ≤ s → s < 32 * (place + 1) → nibble_at bytes s ≤ g
+nibbles_at_most bytes block place g is room all s from to =
+    let i : ℕ = s / 2 - place * 16 in
+    let within : i < 16 = omega (arith, from, to) in
+    let long : length block ≡ 16 = omega (arith, ap length is, length-take 16 (drop (place * 16) bytes), length-drop (place * 16) bytes, room) in
+    let byte : get_or block i 0 ≡ get_or bytes (s / 2) 0 =
+    ap (λ ys. get_or ys i 0) is ∙ get_or-take 16 (drop (place * 16) bytes) i 0 within ∙ get_or-drop (place * 16) bytes i 0
+    ∙ ap (λ n. get_or bytes n 0) (let e : place * 16 + i ≡ s / 2 = omega (arith, from) in e) in
+    let parts = both_true _ _ (AllPass-from_list_all (λ b. nat_le (b % 16) g && nat_le (b / 16) g) block all i 0 (omega (arith, long, within))) in
+    let low : get_or bytes (s / 2) 0 % 16 ≤ g = omega (arith, leb-true (get_or block i 0 % 16) g parts.0, ap (λ b. b % 16) byte) in
+    let high : get_or bytes (s / 2) 0 / 16 ≤ g = omega (arith, leb-true (get_or block i 0 / 16) g parts.1, ap (λ b. b / 16) byte) in
+    one (get_or bytes (s / 2) 0) (s % 2) (mod_below s 2 (let some : 0 < 2 = omega arith in some)) low high
+  where
+    one : (b odd : ℕ) → odd < 2 → b % 16 ≤ g → b / 16 ≤ g → b / 16 ^ odd % 16 ≤ g
+    one b zero l low high = omega (arith, low)
+    one b (suc zero) l low high = omega (arith, high)
+    one b (suc (suc odd)) l low high = absurd (omega (arith, l))
+
+-- ---- parts that agree
+
+pub record AgreeAbove (k m : ℕ) (bytes : List ℕ) (e : Option ExceptionMap) : Type 0 where
+  pub size : 2 * length bytes ≡ 2 ^ k
+  pub fits : All (λ b. b < 256) bytes
+  pub map_for : IsMapFor k e
+  pub agree : (s : ℕ) → s < 2 ^ k → Agrees m (nibble_at bytes s) (exception_in e s)
+
+module _ {k m : ℕ} {bytes : List ℕ} {e : Option ExceptionMap} (parts : AgreeAbove k m bytes e) where
+  abbrev R : List ℕ
+  R = unpacked k m bytes e
+
+  at : (s : ℕ) → s < 2 ^ k → OfRegister m (nibble_at bytes s) (exception_in e s) (get_or R s 0)
+  at s l = subst (OfRegister m (nibble_at bytes s) (exception_in e s)) (sym (unpacked-at k m bytes e s l))
+      (of_register m (nibble_at bytes s) (exception_in e s) (parts.agree s l) (exception_small k e parts.map_for s))
+
+  legal : AreRegisters k R
+  legal = record {
+    size = length-unpacked k m bytes e;
+    small = λ i d l. omega (arith, get_or_default R i d 0 l, (at i (omega (arith, l, length-unpacked k m bytes e))).small);
+  }
+
+  low : (s : ℕ) → s < 2 ^ k → m ≤ get_or R s 0
+  low s l = (at s l).least
+
+  -- where a nibble is 0, they are packed
+  pub settled : (count : ℕ) → count ≡ zero_nibbles bytes → 0 < count → IsPacked k m count bytes e R
+  settled count zeros some =
+      let nibbles : (s : ℕ) → s < 2 ^ k → nibble_at bytes s ≡ nibble m (get_or R s 0) = λ s l. (at s l).nibble_is in
+      let counted : count ≡ count_by (λ r. nat_eq r m) R = zeros ∙ counted_zeros k m bytes R legal.size low parts.size parts.fits nibbles in
+      let least : m ≡ minimum R = minimum_is m R legal.small (λ s l. low s (omega (arith, l, legal.size))) (omega (arith, some, counted)) in
+      packed_least k m count bytes e R legal least parts.size parts.fits nibbles parts.map_for (λ s l. (at s l).exception_is) zeros
+
+  module _ (to : ℕ) (least : to ≡ minimum R) where
+    to_le : (s : ℕ) → s < 2 ^ k → to ≤ get_or R s 0
+    to_le s l = omega (arith, least, minimum_le R s (omega (arith, l, legal.size)))
+
+    pub least_small : to ≤ 63
+    least_small =
+        let i = attained R (omega (arith, legal.size, pow_pos k)) legal.small in
+        omega (arith, least, i.2, legal.small i.0 0 i.1)
+
+    -- the minimum of the parts is not above the least register
+    pub below_least : m ≤ to
+    below_least =
+        let i = attained R (omega (arith, legal.size, pow_pos k)) legal.small in
+        omega (arith, least, i.2, low i.0 (omega (arith, i.1, legal.size)))
+
+    -- what lowering asks of the nibbles
+    pub high_enough : (lent : List ℕ) → lent ≡ bytes → (s : ℕ) → s < 2 * length lent → (nibble_at lent s ≡ 15) ⊎ (to - m ≤ nibble_at lent s)
+    high_enough lent is s l =
+        let within : s < 2 ^ k = omega (arith, l, ap length is, parts.size) in
+        let r : ℕ = get_or R s 0 in
+        let same : nibble_at lent s ≡ nibble m r = ap (λ bs. nibble_at bs s) is ∙ (at s within).nibble_is in
+        elim (cases_lt r (m + 15)) [
+          | inl under ↦ inr (let n : nibble m r ≡ r - m = omega (arith, under) in omega (arith, same, n, to_le s within))
+          | inr over ↦ inl (let n : nibble m r ≡ 15 = omega (arith, over) in same ∙ n)
+        ]
+
+    -- and of the exceptions
+    pub exceptions_high : (s v : ℕ) → exception_in e s ≡ Some v → to ≤ v
+    exceptions_high s v there =
+        let within : s < 2 ^ k = slot_within k e parts.map_for s v there in
+        let register : get_or R s 0 ≡ v = unpacked-at k m bytes e s within ∙ ap (register_of m (nibble_at bytes s)) there in
+        omega (arith, register, to_le s within)
+
+    -- then they are packed above the least register
+    pub raised : (count : ℕ) (lent new : List ℕ) (kept : Option ExceptionMap) → lent ≡ bytes → length new ≡ length lent → All (λ b. b < 256) new →
+        ((s : ℕ) → s < 2 * length lent → nibble_at new s ≡ fallen to (exception_in e s) (lowered_by (to - m) (nibble_at lent s))) → IsMapFor k kept →
+        ((s : ℕ) → exception_in kept s ≡ kept_above to (exception_in e s)) → count ≡ zero_nibbles new → IsPacked k to count new kept R
+    raised count lent new kept is len new_fits put map put_kept zeros = packed_least k to count new kept R legal least (omega (arith, len, ap length is, parts.size)) new_fits
+        (λ s l. let a = at s l in
+        put s (omega (arith, l, ap length is, parts.size)) ∙ (λ i. fallen to (a.exception_is i) (lowered_by (to - m) ((ap (λ bs. nibble_at bs s) is ∙ a.nibble_is) i))) ∙ fallen_nibble m to (get_or R s 0) below_least (to_le s l))
+        map
+        (λ s l. put_kept s ∙ ap (kept_above to) (at s l).exception_is ∙ kept_exception m to (get_or R s 0) below_least)
+        zeros
