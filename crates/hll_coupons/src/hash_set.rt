@@ -15,7 +15,7 @@ ghost use Rattle.hll_coupons.specs.Table.{coupons_in, coupons_of, empty_table, I
 use crate::container::{Container, places_of, write_coupons};
 use crate::coupon::Coupon;
 use crate::hll_type::HllType;
-use crate::search::{Key, search};
+use crate::search::{Key, put_all, search};
 use crate::serialization::{
     COMPACT_FLAG_MASK, COUPON_SIZE_BYTES, CUR_MODE_SET, HASH_SET_PREINTS, SERIAL_VERSION,
     SET_PREAMBLE_SIZE, encode_mode_byte,
@@ -73,6 +73,28 @@ impl<A: Allocator> HashSet<A> {
         HashSet::new(alloc, LG_DEFAULT_SIZE)
     }
 
+    /// The coupons of a container, put in the order of its places into 2^`lg_size` empty ones.
+    ///
+    /// `lg_size` is at most 26, and there are no more coupons than places. Fails with `Memory`.
+    pub fn from_container(
+        alloc: A,
+        lg_size: usize,
+        coupons: &Container<A>,
+    ) -> Result<HashSet<A>, Error>
+        requires small { lg_size ≤ 26 }
+        requires room { length (coupons_in coupons.now.places) ≤ 2 ^ lg_size }
+        ensures size { IfOk result (λ s. s.lg_size ≡ lg_size) }
+        ensures places { IfOk result (λ s. PutsEach (λ c. c) lg_size (empty_table lg_size).places (coupons_in coupons.now.places) s.places) }
+        ensures members { IfOk result (λ s. coupons_of s ≡ coupons_of coupons.now) }
+        ensures set { IfOk result IsHashSet }
+        ensures err { IfErr result (λ e. e ≡ Memory) }
+    {
+        let _table = coupons.len();
+        let mut container = Container::new(alloc, lg_size)?;
+        put_all(&mut container, Key::Word, coupons);
+        Ok(HashSet { container })
+    }
+
     /// Reads what follows the header of a set's image (docs/FORMAT.md, "SET"): the count, and 2^`lg_arr` places, or
     /// where `compact` the filled ones alone. The coupons are placed anew, in their order.
     ///
@@ -119,6 +141,7 @@ impl<A: Allocator> HashSet<A> {
         ensures size { self.new.lg_size ≡ self.old.lg_size }
         ensures places { Puts (λ c. c) self.old.lg_size self.old.places coupon self.new.places }
         ensures members { coupons_of self.new ≡ set.insert (coupons_of self.old) coupon }
+        ensures set { IsHashSet self.new }
     {
         self.insert(coupon);
     }

@@ -1,0 +1,14 @@
+use Rattle.std.proofs.Common.{◌∙◌, ap, subst}
+use Rattle.std.specs.FinSet.{len}
+use Rattle.std.proofs.lemmas.List.{map-id}
+use Rattle.hll_coupons.specs.Pair.{set_of}
+use Rattle.hll_coupons.specs.Probe.{PutsEach}
+use Rattle.hll_coupons.specs.Table.{Table, coupons_in}
+use Rattle.hll_coupons.proofs.hash_set.HashSet.from_container.Goals as goal
+
+pub put_all-requires-clause-distinct : goal.put_all-requires-clause-distinct
+put_all-requires-clause-distinct g c = ap (λ cs. len (set_of cs)) (map-id (coupons_in c.args.coupons.now.places)) ∙ c.len-table.ensures.table.distinct
+
+pub returns-clause-places : goal.returns-clause-places
+returns-clause-places g c =
+    subst (λ (t : Table). PutsEach (λ c. c) t.lg_size t.places (coupons_in c.args.coupons.now.places) c.put_all.new.into.places) c.in_ok-container.ensures.ok c.put_all.ensures.places
