@@ -256,6 +256,33 @@ fn joins(rt: HostRuntime) -> Result<(), Fail> {
     Ok(())
 }
 
+/// Exceptions at the ends of blocks of 32 registers, with blocks between them that have none.
+#[test]
+fn joined_blocks(rt: HostRuntime) -> Result<(), Fail> {
+    let mut array = Array4::new(rt.alloc(), 7)?;
+    let mut expected = [5u8; 128];
+    for (slot, value) in [
+        (0usize, 15u8),
+        (31, 16),
+        (96, 63),
+        (127, 14),
+        (126, 40),
+        (33, 4),
+    ] {
+        array.update(Coupon::pack(slot as u32, value))?;
+        expected[slot] = value.max(5);
+    }
+    array.lg_k();
+    assert!(rt; array.num_registers() == 128);
+    let mut all = [5u8; 128];
+    array.join_into(0, &mut all);
+    assert_eq!(rt; all, expected);
+    let mut end = [0u8; 36];
+    array.join_into(92, &mut end);
+    assert_eq!(rt; (end[4], end[34], end[35], end[3]), (63, 40, 14, 0));
+    Ok(())
+}
+
 /// To four bits and back, and to eight and back, keeps registers, state and weights.
 #[test]
 fn conversions(rt: HostRuntime) -> Result<(), Fail> {

@@ -1,23 +1,19 @@
-use Rattle.std.proofs.Common.{◌≡◌, ◌≤◌, ◌++◌, ℕ, List, length, take, drop, replicate, ap, ◌∙◌, arith}
-use Rattle.std.proofs.Math.Seq.{take-append_seam}
-use Rattle.std.proofs.lemmas.List.{length-drop, length-replicate, length-take-le}
+use Rattle.std.proofs.Common.{◌≡◌, ◌≤◌, ℕ, List, length, take, drop, replicate, ap, ◌∙◌, arith}
+use Rattle.std.proofs.lemmas.List.{length-drop, length-replicate, length-take-le, take_at}
 use Rattle.hll_coupons.specs.Fold.{join}
 use Rattle.hll_arrays.specs.Store.{Stored}
 use Rattle.hll_arrays.proofs.SixBitLanes.{join_zeros}
 use Rattle.hll_arrays.proofs.registers.registers_at.Goals as goal
-
--- the front of a list
-front : (k : ℕ) (W rest : List ℕ) → k ≡ length W → take k (W ++ rest) ≡ W
-front k W rest e = ap (λ n. take n (W ++ rest)) e ∙ take-append_seam W rest
 
 pub returns : goal.returns
 returns g c =
     let x : Stored = g.R.Registers.stored c.args.src.now in
     let n : ℕ = c.args.size in
     let behind : List ℕ = drop c.args.first x.registers in
+    let zeros : List ℕ = replicate 256 0 in
     let W : List ℕ = c.join_into.new.values in
     let many : n ≤ length behind = omega (arith, length-drop c.args.first x.registers, c.requires.within, c.requires.legal.registers.size) in
     let long : length (take n behind) ≡ n = length-take-le n behind many in
-    let lent : length (take n (replicate 256 0)) ≡ n = length-take-le n (replicate 256 0) (omega (arith, c.requires.few, length-replicate {A = ℕ} 256 0)) in
-    let is : W ≡ take n behind = c.join_into.ensures ∙ (λ i. join (take n (replicate 256 0)) (take (lent i) behind)) ∙ join_zeros 256 n (take n behind) c.requires.few long in
-    front n W _ (omega (arith, ap length is, long)) ∙ is
+    let lent : length (take n zeros) ≡ n = length-take-le n zeros (omega (arith, c.requires.few, length-replicate {A = ℕ} 256 0)) in
+    let is : W ≡ take n behind = c.join_into.ensures ∙ (λ i. join (take n zeros) (take (lent i) behind)) ∙ join_zeros 256 n (take n behind) c.requires.few long in
+    take_at W _ n (ap length is ∙ long) ∙ is
