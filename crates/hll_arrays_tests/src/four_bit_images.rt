@@ -447,16 +447,16 @@ fn refused_registers(rt: HostRuntime) -> Result<(), Fail> {
 #[test]
 fn refused_memory(rt: HostRuntime) -> Result<(), Fail> {
     let bytes = payload_in(rt.alloc(), &EXCEPTIONS)?;
-    let (mut refused, mut served) = (0, 0);
+    let (mut refused, mut served) = (0u8, 0u8);
     for units in 1..40usize {
         let heap = LocalHeap::new(rt.alloc(), units * 16)?;
         match read_in(&heap, &EXCEPTIONS, &bytes) {
             Ok(array) => {
-                served += 1;
+                served = served.saturating_add(1);
                 assert_packed(&rt, &array, &EXCEPTED);
             }
             Err(e) => {
-                refused += 1;
+                refused = refused.saturating_add(1);
                 assert_eq!(rt; e.reason(), Reason::Memory);
             }
         }
