@@ -1,9 +1,9 @@
 //! Registers of four bits read from what follows the header of an image, at values worked out by hand.
 ghost use Rattle.std.specs.Prelude.{◌≤◌, ◌<◌, ◌≡◌, IfOk};
 
-use crate::fixtures::{READ, first_of, refusal_of};
-use crate::four_bits::assert_packed;
-use hll_arrays::{Array4, AuxFormat};
+use crate::fixtures::{READ, coupons_in, refusal_of};
+use crate::four_bits::{assert_packed, seen_at};
+use hll_arrays::{Array4, Array8, AuxFormat};
 use hll_base::cursor::SketchSlice;
 use hll_base::error::{Error, Reason};
 use hll_coupons::coupon::Coupon;
@@ -68,22 +68,34 @@ const fn table(lg_arr: u8) -> AuxFormat {
     AuxFormat::Updatable { lg_arr }
 }
 
-/// The words 1, 2 and 3, the counts, eight nibble bytes, and the exceptions.
-fn payload_in<A: Allocator>(alloc: A, image: &Image) -> Result<Vec<u8, A>, Error> {
+/// The words 1, 2 and 3, the counts, the nibble bytes, and the exceptions.
+fn payload_of<A: Allocator>(
+    alloc: A,
+    counts: [u32; 2],
+    nibbles: &[u8],
+    entries: &[u32],
+) -> Result<Vec<u8, A>, Error> {
     let mut bytes = Vec::new(alloc);
     for word in [1u64, 2, 3] {
         bytes.extend_from_slice(&word.to_le_bytes())?;
     }
-    for count in image.counts {
+    for count in counts {
         bytes.extend_from_slice(&count.to_le_bytes())?;
     }
-    for place in 0..8usize {
-        bytes.push(image.nibbles.get(place).copied().unwrap_or(0))?;
-    }
-    for entry in image.entries {
+    bytes.extend_from_slice(nibbles)?;
+    for entry in entries {
         bytes.extend_from_slice(&entry.to_le_bytes())?;
     }
     Ok(bytes)
+}
+
+/// What follows the header, at `lg_k` 4.
+fn payload_in<A: Allocator>(alloc: A, image: &Image) -> Result<Vec<u8, A>, Error> {
+    let mut nibbles = [0u8; 8];
+    for place in 0..8usize {
+        nibbles[place] = image.nibbles.get(place).copied().unwrap_or(0);
+    }
+    payload_of(alloc, image.counts, &nibbles, image.entries)
 }
 
 /// Reads what follows the header, at `lg_k` 4.
@@ -440,6 +452,49 @@ fn refused_registers(rt: HostRuntime) -> Result<(), Fail> {
         &image,
         &[20, 5, 5, 5, 5, 5, 5, 5, 5, 5, 5, 5, 5, 5, 5, 5],
     )
+}
+
+/// Registers of each size, by updates, and read from the nibbles and exceptions that they have then.
+#[test]
+fn sizes(rt: HostRuntime) -> Result<(), Fail> {
+    for lg_k in 4..11u8 {
+        let mut four = Array4::new(rt.alloc(), lg_k)?;
+        let mut eight = Array8::new(rt.alloc(), lg_k)?;
+        for coupon in &coupons_in(rt.alloc(), 3usize << lg_k)? {
+            four.update(*coupon)?;
+            eight.update(*coupon);
+        }
+        let mut nibbles = Vec::new(rt.alloc());
+        let mut entries = Vec::new(rt.alloc());
+        let mut counts = [0u32; 2];
+        for pair in 0..1u32 << (lg_k - 1) {
+            let (low, first, _) = seen_at(&four, 2 * pair);
+            let (high, second, _) = seen_at(&four, 2 * pair + 1);
+            nibbles.push(high.wrapping_mul(16).wrapping_add(low))?;
+            for (slot, exception) in [(2 * pair, first), (2 * pair + 1, second)] {
+                if let Some(value) = exception {
+                    counts[1] = counts[1].saturating_add(1);
+                    entries.push(
+                        u32::from(value)
+                            .wrapping_mul(0x0400_0000)
+                            .wrapping_add(slot),
+                    )?;
+                }
+            }
+        }
+        let bytes = payload_of(rt.alloc(), counts, &nibbles, &entries)?;
+        let read = Array4::deserialize(
+            rt.alloc(),
+            SketchSlice::new(&bytes),
+            four.cur_min(),
+            lg_k,
+            AuxFormat::Compact,
+            false,
+        )?;
+        assert_packed(&rt, &read, eight.values());
+        assert!(rt; !entries.is_empty());
+    }
+    Ok(())
 }
 
 /// In heaps of growing size, images are refused for memory alone, or read. The map of exceptions grows three times, and
