@@ -454,6 +454,39 @@ fn refused_registers(rt: HostRuntime) -> Result<(), Fail> {
     )
 }
 
+/// The nibble bytes of registers.
+fn nibbles_of<A: Allocator>(alloc: A, array: &Array4<A>, lg_k: u8) -> Result<Vec<u8, A>, Error>
+    requires least { 4 ≤ lg_k }
+    requires most { lg_k ≤ 21 }
+{
+    let mut nibbles = Vec::new(alloc);
+    for pair in 0..1u32 << (lg_k - 1) {
+        let (low, high) = (seen_at(array, 2 * pair).0, seen_at(array, 2 * pair + 1).0);
+        nibbles.push(high.wrapping_mul(16).wrapping_add(low))?;
+    }
+    Ok(nibbles)
+}
+
+/// The words of their exceptions, and how many these are.
+fn entries_of<A: Allocator>(
+    alloc: A,
+    array: &Array4<A>,
+    lg_k: u8,
+) -> Result<(Vec<u32, A>, u32), Error>
+    requires { lg_k ≤ 21 }
+{
+    let mut entries = Vec::new(alloc);
+    let mut count = 0u32;
+    for slot in 0..1u32 << lg_k {
+        if let Some(value) = seen_at(array, slot).1 {
+            let word = u32::from(value).wrapping_mul(0x0400_0000);
+            entries.push(word.wrapping_add(slot))?;
+            count = count.saturating_add(1);
+        }
+    }
+    Ok((entries, count))
+}
+
 /// Registers of each size, by updates, and read from the nibbles and exceptions that they have then.
 #[test]
 fn sizes(rt: HostRuntime) -> Result<(), Fail> {
@@ -464,25 +497,10 @@ fn sizes(rt: HostRuntime) -> Result<(), Fail> {
             four.update(*coupon)?;
             eight.update(*coupon);
         }
-        let mut nibbles = Vec::new(rt.alloc());
-        let mut entries = Vec::new(rt.alloc());
-        let mut counts = [0u32; 2];
-        for pair in 0..1u32 << (lg_k - 1) {
-            let (low, first, _) = seen_at(&four, 2 * pair);
-            let (high, second, _) = seen_at(&four, 2 * pair + 1);
-            nibbles.push(high.wrapping_mul(16).wrapping_add(low))?;
-            for (slot, exception) in [(2 * pair, first), (2 * pair + 1, second)] {
-                if let Some(value) = exception {
-                    counts[1] = counts[1].saturating_add(1);
-                    entries.push(
-                        u32::from(value)
-                            .wrapping_mul(0x0400_0000)
-                            .wrapping_add(slot),
-                    )?;
-                }
-            }
-        }
-        let bytes = payload_of(rt.alloc(), counts, &nibbles, &entries)?;
+        let nibbles = nibbles_of(rt.alloc(), &four, lg_k)?;
+        let (entries, count) = entries_of(rt.alloc(), &four, lg_k)?;
+        assert!(rt; count > 0);
+        let bytes = payload_of(rt.alloc(), [0, count], &nibbles, &entries)?;
         let read = Array4::deserialize(
             rt.alloc(),
             SketchSlice::new(&bytes),
@@ -492,7 +510,6 @@ fn sizes(rt: HostRuntime) -> Result<(), Fail> {
             false,
         )?;
         assert_packed(&rt, &read, eight.values());
-        assert!(rt; !entries.is_empty());
     }
     Ok(())
 }
