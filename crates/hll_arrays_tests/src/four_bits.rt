@@ -11,9 +11,9 @@ use std::process::Abort;
 use std::test::Fail;
 
 /// What is seen of a slot: its nibble, its exception, and its register.
-type Seen = (u8, Option<u8>, u8);
+pub(crate) type Seen = (u8, Option<u8>, u8);
 
-fn seen_at<A: Allocator>(array: &Array4<A>, slot: u32) -> Seen {
+pub(crate) fn seen_at<A: Allocator>(array: &Array4<A>, slot: u32) -> Seen {
     if array.num_registers() <= slot as usize {
         return (0, None, 0);
     }
