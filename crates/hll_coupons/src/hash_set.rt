@@ -86,6 +86,7 @@ impl<A: Allocator> HashSet<A> {
         ensures size { IfOk result (λ s. s.lg_size ≡ lg_size) }
         ensures places { IfOk result (λ s. PutsEach (λ c. c) lg_size (empty_table lg_size).places (coupons_in coupons.now.places) s.places) }
         ensures members { IfOk result (λ s. coupons_of s ≡ coupons_of coupons.now) }
+        ensures count { IfOk result (λ s. length (coupons_in s.places) ≡ length (coupons_in coupons.now.places)) }
         ensures set { IfOk result IsHashSet }
         ensures err { IfErr result (λ e. e ≡ Memory) }
     {

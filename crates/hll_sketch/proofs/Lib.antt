@@ -1,15 +1,21 @@
 mod StageRows
 pub mod Adding
+pub mod Emptiness
 pub mod FaultKinds
 pub mod Faults
 pub mod Headers
 mod ImageRows
 pub mod Images
+pub mod Inserting
+pub mod Keeping
 pub mod LegalImages
 pub mod LegalSketches
 pub mod ListImages
+pub mod Promoting
 pub mod ReferenceSteps
 pub mod RegisterImages
+pub mod SameLemmas
 pub mod Sets
 pub mod Stages
+pub mod Steps
 pub mod Written

@@ -4,8 +4,10 @@ pub mod Fault
 pub mod Header
 pub mod Image
 pub mod Laws
+pub mod Layout
 pub mod Merging
 pub mod Reference
+pub mod Same
 pub mod Stage
 pub mod Value
 pub mod Written

@@ -1,6 +1,8 @@
 //! The laws of adding, merging and images, each the contract of a function that does nothing
 //! (docs/MODEL.md, "Laws of adding and merging" and "Images").
 ghost use Rattle.hll_sketch.specs.Laws.{AddOfAdd, AddEach, MergeOfEmpty, UnionLgK, AddIsLegal, MergeIsLegal};
+ghost use Rattle.hll_sketch.specs.Layout.{OneStepSuffices};
+ghost use Rattle.hll_sketch.specs.Same.{SameIsEqual};
 ghost use Rattle.hll_sketch.specs.Image.{OneImage, ImageIsLegal};
 ghost use Rattle.hll_sketch.specs.Fault.{FaultExcludesHeader, FaultExcludesImage, FaultsAreOfData};
 ghost use Rattle.hll_sketch.specs.Written.{WrittenIsImage, SameBytes, ListIsReadBack};
@@ -13,6 +15,16 @@ pub fn add_of_add()
 /// After a list of updates a sketch depends on the set of their coupons alone: content, table size and state.
 pub fn add_each()
     ensures { AddEach }
+{}
+
+/// After one coupon more a table stays as large as it is, the next size holds its coupons, or registers take over.
+pub fn one_step_suffices()
+    ensures { OneStepSuffices }
+{}
+
+/// Sketches are equal exactly if their values are.
+pub fn same_is_equal()
+    ensures { SameIsEqual }
 {}
 
 /// An empty sketch merged changes nothing.

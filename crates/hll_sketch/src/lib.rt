@@ -5,6 +5,11 @@ pub mod header;
 pub mod hll8_image;
 pub mod laws;
 pub mod list_image;
+pub mod mode;
+mod promotion;
 pub mod reference;
+pub mod sketch;
 
 pub use header::{Header, Stage};
+pub use mode::Mode;
+pub use sketch::HllSketch;

@@ -1,0 +1,79 @@
+-- A table and a coupon more, in the words of the definitions.
+use Rattle.std.proofs.Common.{◌≡◌, ℕ, ◌+◌, ◌*◌, ◌^◌, ◌≤◌, ◌<◌, Bool, true, false, not, cond, eqb, leb, [], ◌∷◌, length, Some, Result, Ok, Err, OnErr, sym, ap, subst, ◌∙◌, arith}
+use mir.Val.{bool_byte}
+use Rattle.std.specs.Cmp.{nat_cmp_total}
+use Rattle.std.specs.FinSet.{contains, insert, len, len-insert}
+use Rattle.std.proofs.lemmas.Nat.{pow_pos}
+use Rattle.std.proofs.lemmas.Bool.{leb-true, cond-false}
+use Rattle.std.proofs.lemmas.Bool.Decides.{nat_tests}
+use Rattle.hll_coupons.specs.Pair.{Pairs, set_of}
+use Rattle.hll_coupons.specs.Table.{Table, coupons_in, coupons_of, IsTable}
+use Rattle.hll_arrays.specs.Store.{Stored, update_with_pairs, update_with_coupon}
+use Rattle.hll_sketch.specs.Stage.{holds, stage}
+use Rattle.hll_sketch.specs.Value.{coupons, registers}
+use Rattle.hll_sketch.specs.Adding.{content_for, content_with}
+use Rattle.hll_sketch.specs.Layout.{IsSize, TableChanges}
+use Rattle.hll_sketch.proofs.Inserting.{insert-union}
+use Rattle.hll_sketch.proofs.Steps.{stage_stays}
+
+pub OnErr-of : {X E : Type 0} (r : Result X E) (P : Type 0) → P → OnErr r P
+OnErr-of (Ok x) P p = tt
+OnErr-of (Err e) P p = p
+
+pub OnErr-map : {X E : Type 0} (r : Result X E) (P Q : Type 0) → (P → Q) → OnErr r P → OnErr r Q
+OnErr-map (Ok x) P Q f h = tt
+OnErr-map (Err e) P Q f h = f h
+
+-- one more, unless it is coupons_in
+pub count_with : (S : Pairs) (c : ℕ) (b : Bool) → b ≡ contains S c → len S + bool_byte (not b) ≡ len (insert S c)
+count_with S c true e = let same : len (insert S c) ≡ len S = len-insert nat_cmp_total S c ∙ ap (λ b. cond b (len S) (len S + 1)) (sym e) in omega (arith, same)
+count_with S c false e = let same : len (insert S c) ≡ len S + 1 = len-insert nat_cmp_total S c ∙ ap (λ b. cond b (len S) (len S + 1)) (sym e) in omega (arith, same)
+
+-- what a table that its coupons leave becomes
+pub content_for_as : (k : ℕ) (t u : Table) (c n : ℕ) → t ≡ u → n ≡ len (insert (coupons_of t) c) →
+    content_for k (insert (coupons_of t) c) (stage k t.lg_size n) ≡ content_with k (coupons (coupons_of u) u.lg_size) (set_of (c ∷ []))
+content_for_as k t u c n e count =
+    ap (λ m. content_for k (insert (coupons_of t) c) (stage k t.lg_size m)) count
+    ∙ ap (λ (v : Table). content_for k (insert (coupons_of v) c) (stage k v.lg_size (len (insert (coupons_of v) c)))) e
+    ∙ ap (λ T. content_for k T (stage k u.lg_size (len T))) (insert-union (coupons_of u) c)
+
+pub holds_as : (t u : Table) (c n : ℕ) → t ≡ u → n ≡ len (insert (coupons_of t) c) → holds t.lg_size n ≡ holds u.lg_size (len (insert (coupons_of u) c))
+holds_as t u c n e count = ap (holds t.lg_size) count ∙ ap (λ (v : Table). holds v.lg_size (len (insert (coupons_of v) c))) e
+
+pub changes_as : (k : ℕ) (t u : Table) (c n : ℕ) → t ≡ u → n ≡ len (insert (coupons_of t) c) → (stage k t.lg_size n ≡ Some t.lg_size → ⊥) → TableChanges k u c
+changes_as k t u c n e count other stays =
+    let same : stage k t.lg_size (len (insert (coupons_of t) c)) ≡ Some t.lg_size =
+    subst (λ (v : Table). stage k v.lg_size (len (insert (coupons_of v) c)) ≡ Some v.lg_size) (sym e) (ap (λ T. stage k u.lg_size (len T)) (insert-union (coupons_of u) c) ∙ stays) in
+    other (ap (stage k t.lg_size) count ∙ same)
+
+-- what a table that holds its coupons becomes
+pub stays_as : (k : ℕ) (t : Table) (c : ℕ) (S : Pairs) (size : ℕ) → IsSize k t.lg_size → holds t.lg_size (len (insert (coupons_of t) c)) ≡ true →
+    S ≡ insert (coupons_of t) c → size ≡ t.lg_size → coupons S size ≡ content_with k (coupons (coupons_of t) t.lg_size) (set_of (c ∷ []))
+stays_as k t c S size is holds' members same =
+    (λ i. coupons (members i) (same i))
+    ∙ ap (content_for k (insert (coupons_of t) c)) (sym (stage_stays k t.lg_size (len (insert (coupons_of t) c)) is holds'))
+    ∙ ap (λ T. content_for k T (stage k t.lg_size (len T))) (insert-union (coupons_of t) c)
+
+pub updated_as : (k : ℕ) (x y : Stored) (c : ℕ) → x.lg_k ≡ k → y ≡ update_with_coupon x c → registers y.registers y.state ≡ content_with k (registers x.registers x.state) (set_of (c ∷ []))
+updated_as k x y c same e =
+    ap (λ (z : Stored). registers z.registers z.state) e
+    ∙ ap (λ m. let z : Stored = update_with_pairs (record { lg_k = m; registers = x.registers; state = x.state }) (set_of (c ∷ [])) in registers z.registers z.state) same
+
+-- a list that holds one more has a free place for it
+pub room_of_list : (t : Table) (c : ℕ) → IsTable t → t.lg_size ≡ 3 → holds t.lg_size (len (insert (coupons_of t) c)) ≡ true → contains (coupons_of t) c ≡ false →
+    length (coupons_in t.places) < 2 ^ t.lg_size
+room_of_list t c table three holds' fresh =
+    let seven : holds 3 (len (insert (coupons_of t) c)) ≡ true = ap (λ q. holds q (len (insert (coupons_of t) c))) (sym three) ∙ holds' in
+    let few : len (insert (coupons_of t) c) ≤ 7 = leb-true _ 7 seven in
+    let more : len (insert (coupons_of t) c) ≡ len (coupons_of t) + 1 = len-insert nat_cmp_total (coupons_of t) c ∙ ap (λ b. cond b (len (coupons_of t)) (len (coupons_of t) + 1)) fresh in
+    let eight : 2 ^ t.lg_size ≡ 8 = ap (λ q. 2 ^ q) three in
+    omega (arith, few, more, eight, table.distinct)
+
+-- a set that holds so many has a free place
+pub room_of_set : (p n : ℕ) → 5 ≤ p → holds p n ≡ true → n < 2 ^ p
+room_of_set p n low h =
+    let few : 4 * n ≤ 3 * 2 ^ p = leb-true (4 * n) (3 * 2 ^ p) (sym (cond-false (eqb p 3) (leb n 7) (leb (4 * n) (3 * 2 ^ p)) (other p low)) ∙ h) in
+    omega (arith, few, pow_pos p)
+  where
+    other : (p : ℕ) → 5 ≤ p → eqb p 3 ≡ false
+    other p h = grind (arith, nat_tests)

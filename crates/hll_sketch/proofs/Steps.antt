@@ -1,0 +1,150 @@
+-- One step suffices: where a table holds its coupons its size stays, else the next size holds them, or registers take over.
+use Rattle.std.proofs.Common.{◌≡◌, ℕ, ◌+◌, ◌-◌, ◌*◌, ◌^◌, ◌≤◌, ◌<◌, zero, suc, Bool, true, false, cond, ◌&&◌, eqb, leb, length, Some, None, refl, sym, ap, subst, ◌∙◌, arith, inl, inr}
+use Rattle.std.specs.Prelude.{find}
+use Rattle.std.specs.List.{range_with_len}
+use Rattle.std.proofs.Math.Nat.{pow-suc}
+use Rattle.std.proofs.lemmas.Nat.{pow_pos}
+use Rattle.std.proofs.lemmas.Bool.{le-leb, lt-leb, cases_lt, cases_eq, and_from, and_left, and_right, cond-true, cond-false}
+use Rattle.std.proofs.lemmas.Bool.Decides.{nat_tests}
+use Rattle.std.specs.Cmp.{nat_cmp_total}
+use Rattle.std.specs.FinSet.{contains, insert, len, len-insert}
+use Rattle.hll_coupons.specs.Pair.{Pairs}
+use Rattle.hll_coupons.specs.Table.{Table, coupons_in, coupons_of, IsTable}
+use Rattle.hll_sketch.specs.Stage.{holds, stage}
+use Rattle.hll_sketch.specs.Layout.{IsSize, AtMost, size_after, OneStepSuffices}
+
+abbrev fits : ℕ → ℕ → ℕ → Bool
+fits p n q = leb p q && holds q n
+
+-- the first that passes is found
+found_at : (f : ℕ → Bool) (a c q : ℕ) → a ≤ q → q < a + c → ((y : ℕ) → a ≤ y → y < q → f y ≡ false) → f q ≡ true → find f (range_with_len a c) ≡ Some q
+found_at f a zero q low high before here = absurd (omega arith)
+found_at f a (suc c) q low high before here = elim (cases_eq a q) [
+  | inl e ↦ cond-true (f a) (Some a) (find f (range_with_len (a + 1) c)) (ap f e ∙ here) ∙ ap (λ m. Some m) e
+  | inr other ↦ cond-false (f a) (Some a) (find f (range_with_len (a + 1) c)) (before a (omega arith) (omega (arith, other)))
+      ∙ found_at f (a + 1) c q (omega (arith, other)) (omega arith) (λ y l h. before y (omega arith) h) here
+]
+
+none_at : (f : ℕ → Bool) (a c : ℕ) → ((y : ℕ) → a ≤ y → y < a + c → f y ≡ false) → find f (range_with_len a c) ≡ None
+none_at f a zero before = refl
+none_at f a (suc c) before = cond-false (f a) (Some a) (find f (range_with_len (a + 1) c)) (before a (omega arith) (omega arith))
+    ∙ none_at f (a + 1) c (λ y l h. before y (omega arith) (omega arith))
+
+smaller : (p n q : ℕ) → q < p → fits p n q ≡ false
+smaller p n q l = and_left (leb p q) (holds q n) (lt-leb p q l)
+
+too_many : (p n : ℕ) → holds p n ≡ false → fits p n p ≡ false
+too_many p n many = and_right (leb p p) (holds p n) many
+
+past_three : (k p n : ℕ) → fits p n 3 ≡ false → stage k p n ≡ find (fits p n) (range_with_len 5 (k - 7))
+past_three k p n e = cond-false (fits p n 3) (Some 3) (find (fits p n) (range_with_len 5 (k - 7))) e
+
+-- what is coupons_in stays in its table
+pub stage_stays : (k p n : ℕ) → IsSize k p → holds p n ≡ true → stage k p n ≡ Some p
+stage_stays k p n (inl e) = subst (λ q. holds q n ≡ true → stage k q n ≡ Some q) (sym e) list
+  where
+    list : holds 3 n ≡ true → stage k 3 n ≡ Some 3
+    list h = cond-true (fits 3 n 3) (Some 3) (find (fits 3 n) (range_with_len 5 (k - 7))) (and_from (leb 3 3) (holds 3 n) refl h)
+stage_stays k p n (inr (low, high)) = λ h.
+    past_three k p n (smaller p n 3 (omega arith))
+    ∙ found_at (fits p n) 5 (k - 7) p low (omega arith) (λ y l u. smaller p n y u) (and_from (leb p p) (holds p n) (le-leb p p (omega arith)) h)
+
+-- the size above 3 holds three quarters of its places
+holds_quarters : (q n : ℕ) → 3 < q → 4 * n ≤ 3 * 2 ^ q → holds q n ≡ true
+holds_quarters q n above few = cond-false (eqb q 3) (leb n 7) (leb (4 * n) (3 * 2 ^ q)) (not_three q above) ∙ le-leb (4 * n) (3 * 2 ^ q) few
+  where
+    not_three : (q : ℕ) → 3 < q → eqb q 3 ≡ false
+    not_three q h = grind (arith, nat_tests)
+
+after_set : (p : ℕ) → 5 ≤ p → size_after p ≡ p + 1
+after_set p low = cond-false (eqb p 3) 5 (p + 1) (other p low)
+  where
+    other : (p : ℕ) → 5 ≤ p → eqb p 3 ≡ false
+    other p h = grind (arith, nat_tests)
+
+-- what is not coupons_in goes to the next size
+pub stage_next : (k p n q : ℕ) → IsSize k p → holds p n ≡ false → AtMost p n → q ≡ size_after p → q + 3 ≤ k → stage k p n ≡ Some q
+stage_next k p n q (inl three) = subst (λ p. holds p n ≡ false → AtMost p n → q ≡ size_after p → q + 3 ≤ k → stage k p n ≡ Some q) (sym three) list
+  where
+    list : holds 3 n ≡ false → AtMost 3 n → q ≡ 5 → q + 3 ≤ k → stage k 3 n ≡ Some q
+    list many few e fit =
+        past_three k 3 n (too_many 3 n many)
+        ∙ found_at (fits 3 n) 5 (k - 7) q (omega (arith, e)) (omega arith) (λ y l u. absurd (omega (arith, e)))
+        (ap (fits 3 n) e ∙ and_from (leb 3 5) (holds 5 n) refl (holds_quarters 5 n (omega arith) (omega (arith, few.0 refl))))
+stage_next k p n q (inr (low, high)) = λ many few e fit.
+    let is : q ≡ p + 1 = e ∙ after_set p low in
+    let twice : 2 ^ (p + 1) ≡ 2 * 2 ^ p = ap (λ m. 2 ^ m) (let s : p + 1 ≡ suc p = omega arith in s) ∙ omega (arith, pow-suc 2 p) in
+    let coupons_in : holds (p + 1) n ≡ true = holds_quarters (p + 1) n (omega arith) (omega (arith, few.1 low, twice)) in
+    past_three k p n (smaller p n 3 (omega arith))
+    ∙ found_at (fits p n) 5 (k - 7) q (omega arith) (omega arith)
+    (λ y l u. elim (cases_lt y p) [
+      | inl below ↦ smaller p n y below
+      | inr above ↦ let same : y ≡ p = omega arith in ap (fits p n) same ∙ too_many p n many
+    ])
+    (ap (fits p n) is ∙ and_from (leb p (p + 1)) (holds (p + 1) n) (le-leb p (p + 1) (omega arith)) coupons_in)
+
+-- and where there is none, to registers
+pub stage_last : (k p n : ℕ) → IsSize k p → holds p n ≡ false → k < size_after p + 3 → stage k p n ≡ None
+stage_last k p n (inl three) = subst (λ p. holds p n ≡ false → k < size_after p + 3 → stage k p n ≡ None) (sym three) list
+  where
+    list : holds 3 n ≡ false → k < 8 → stage k 3 n ≡ None
+    list many last =
+        past_three k 3 n (too_many 3 n many) ∙ ap (λ m. find (fits 3 n) (range_with_len 5 m)) (let none : k - 7 ≡ 0 = omega arith in none)
+stage_last k p n (inr (low, high)) = λ many last.
+    past_three k p n (smaller p n 3 (omega arith))
+    ∙ none_at (fits p n) 5 (k - 7) (λ y l u. elim (cases_lt y p) [
+      | inl below ↦ smaller p n y below
+      | inr above ↦ let same : y ≡ p = omega (arith, after_set p low) in ap (fits p n) same ∙ too_many p n many
+    ])
+
+-- and they are fewer than the next size has places
+pub fewer : (k p n : ℕ) → IsSize k p → AtMost p n → n < 2 ^ size_after p
+fewer k p n (inl three) few = subst (λ p. n < 2 ^ size_after p) (sym three) (let below : n < 32 = omega (arith, few.0 three) in below)
+fewer k p n (inr (low, high)) few =
+    let twice : 2 ^ (p + 1) ≡ 2 * 2 ^ p = ap (λ m. 2 ^ m) (let s : p + 1 ≡ suc p = omega arith in s) ∙ omega (arith, pow-suc 2 p) in
+    subst (λ q. n < 2 ^ q) (sym (after_set p low)) (omega (arith, twice, few.1 low, pow_pos p))
+
+pub from_five : (k p : ℕ) → IsSize k p → 5 ≤ size_after p
+from_five k p (inl three) = subst (λ p. 5 ≤ size_after p) (sym three) (let five : 5 ≤ 5 = omega arith in five)
+from_five k p (inr (low, high)) = omega (arith, after_set p low)
+
+-- what is not coupons_in does not stay
+pub leaves : (k p n : ℕ) → IsSize k p → holds p n ≡ false → AtMost p n → stage k p n ≡ Some p → ⊥
+leaves k p n size many few e = elim (cases_lt k (size_after p + 3)) [
+  | inl last ↦ let z : Some p ≡ None = sym e ∙ stage_last k p n size many last in cc
+  | inr fit ↦ let z : Some p ≡ Some (size_after p) = sym e ∙ stage_next k p n (size_after p) size many few refl fit in
+      let same : p ≡ size_after p = cc in
+      other k p size same
+]
+  where
+    other : (k p : ℕ) → IsSize k p → p ≡ size_after p → ⊥
+    other k p (inl three) h = let five : 3 ≡ 5 = sym three ∙ h ∙ ap size_after three in omega (arith, five)
+    other k p (inr (low, high)) h = omega (arith, h, after_set p low)
+
+-- ---- a table and a coupon more
+
+pub len-insert_le : (S : Pairs) (c : ℕ) → len (insert S c) ≤ len S + 1
+len-insert_le S c = rw (len-insert nat_cmp_total S c) (elim (contains S c) as (λ b. cond b (len S) (len S + 1) ≤ len S + 1) [ true ↦ omega arith | false ↦ omega arith ])
+
+pub len-insert_ge : (S : Pairs) (c : ℕ) → len S ≤ len (insert S c)
+len-insert_ge S c = rw (len-insert nat_cmp_total S c) (elim (contains S c) as (λ b. len S ≤ cond b (len S) (len S + 1)) [ true ↦ omega arith | false ↦ omega arith ])
+
+pub AtMost-with : (t : Table) (c n : ℕ) → IsTable t → length (coupons_in t.places) ≤ 2 ^ t.lg_size → (5 ≤ t.lg_size → length (coupons_in t.places) < 2 ^ t.lg_size) →
+    n ≡ len (insert (coupons_of t) c) → AtMost t.lg_size n
+AtMost-with t c n table within room count =
+    let more : len (insert (coupons_of t) c) ≤ len (coupons_of t) + 1 = len-insert_le (coupons_of t) c in (
+      λ three. let eight : 2 ^ t.lg_size ≡ 8 = ap (λ q. 2 ^ q) three in omega (arith, count, more, table.distinct, within, eight),
+      λ low. omega (arith, count, more, table.distinct, room low),
+    )
+
+-- the next size has room for them
+pub room_after : (k : ℕ) (t : Table) (c n : ℕ) → IsTable t → IsSize k t.lg_size → AtMost t.lg_size n → n ≡ len (insert (coupons_of t) c) →
+    length (coupons_in t.places) < 2 ^ size_after t.lg_size
+room_after k t c n table size few count = omega (arith, fewer k t.lg_size n size few, count, len-insert_ge (coupons_of t) c, table.distinct)
+
+pub one_step_suffices : OneStepSuffices
+one_step_suffices = record {
+  stays = stage_stays;
+  next = λ k p n size many few fit. stage_next k p n (size_after p) size many few refl fit;
+  last = stage_last;
+}

@@ -1,0 +1,131 @@
+//! What takes over from a table that a coupon more doesn't leave as large as it is (docs/MODEL.md, "Stages").
+ghost use Rattle.std.specs.Prelude.{◌≡◌, ◌+◌, ◌^◌, ◌<◌, ◌≤◌, length, true, IfOk, IfErr, IfSome, IfNone, OnErr, Some};
+ghost use Rattle.std.specs.FinSet.{len, insert};
+ghost use Rattle.hll_base.specs.declared.error.Reason.TheVariants.{Memory};
+ghost use Rattle.hll_coupons.specs.Fold.{fold_to};
+ghost use Rattle.hll_coupons.specs.Pair.{value_of};
+ghost use Rattle.hll_coupons.specs.Table.{coupons_in, coupons_of};
+ghost use Rattle.hll_arrays.specs.State.{cleared_state};
+ghost use Rattle.hll_sketch.specs.Adding.{content_for};
+ghost use Rattle.hll_sketch.specs.Layout.{layout_of, content_in, width_of, IsLayoutFor, IsSize, size_after};
+ghost use Rattle.hll_sketch.specs.Stage as stages;
+ghost use Rattle.hll_sketch.specs.Value.{IsLgK, registers};
+
+use crate::mode::Mode;
+use crate::reference::holds;
+use hll_arrays::array4::Array4;
+use hll_arrays::array6::Array6;
+use hll_arrays::array8::Array8;
+use hll_arrays::register_store::RegisterStore;
+use hll_base::error::Error;
+use hll_coupons::container::Container;
+use hll_coupons::coupon::Coupon;
+use hll_coupons::hash_set::HashSet;
+use hll_coupons::hll_type::HllType;
+use std::alloc::Allocator;
+
+/// What takes over from a table once it has a coupon more, `count` of them then, or none if it stays as large as it is.
+///
+/// Fails with `Memory`, only if something takes over.
+pub(crate) fn next_of<A: Allocator + Clone>(
+    lg_k: u8,
+    hll_type: HllType,
+    table: &Container<A>,
+    count: usize,
+    coupon: Coupon,
+) -> Result<Option<Mode<A>>, Error>
+    requires lg_k { IsLgK lg_k }
+    requires size { IsSize lg_k table.now.lg_size }
+    requires room { 5 ≤ table.now.lg_size → length (coupons_in table.now.places) < 2 ^ table.now.lg_size }
+    requires count { count ≡ len (insert (coupons_of table.now) coupon) }
+    requires valued { 1 ≤ value_of coupon }
+    ensures stays { IfOk result (λ next. IfNone next (stages.holds table.now.lg_size count ≡ true)) }
+    ensures goes { IfOk result (λ next. IfSome next (λ mode.
+        content_in (layout_of mode) ≡ content_for lg_k (insert (coupons_of table.now) coupon) (stages.stage lg_k table.now.lg_size count))) }
+    ensures layout { IfOk result (λ next. IfSome next (λ mode. IsLayoutFor lg_k (layout_of mode))) }
+    ensures width { IfOk result (λ next. IfSome next (λ mode. width_of (layout_of mode) ≡ hll_type)) }
+    ensures needed { OnErr result (stages.stage lg_k table.now.lg_size count ≡ Some table.now.lg_size → ⊥) }
+    ensures err { IfErr result (λ e. e ≡ Memory) }
+{
+    let size = table.lg_size();
+    let _len = table.len();
+    if holds(size as u8, count) {
+        return Ok(None);
+    }
+    let Some(size) = next_size(lg_k, size) else {
+        return Ok(Some(promoted(lg_k, hll_type, table, coupon)?));
+    };
+    let set = set_of_size(size, table, coupon)?;
+    Ok(Some(Mode::Set { set, hll_type }))
+}
+
+/// The size after this one, or none: then registers take over.
+fn next_size(lg_k: u8, size: usize) -> Option<usize>
+    requires { size ≤ 26 }
+    ensures some { IfSome result (λ next. (next ≡ size_after size) × (next + 3 ≤ lg_k)) }
+    ensures none { IfNone result (lg_k < size_after size + 3) }
+{
+    let next = if size == 3 { 5 } else { size + 1 };
+    if next + 3 <= usize::from(lg_k) {
+        Some(next)
+    } else {
+        None
+    }
+}
+
+/// The registers of this width of the coupons of a table and of one more.
+fn promoted<A: Allocator + Clone>(
+    lg_k: u8,
+    hll_type: HllType,
+    table: &Container<A>,
+    coupon: Coupon,
+) -> Result<Mode<A>, Error>
+    requires lg_k { IsLgK lg_k }
+    ensures content { IfOk result (λ m. content_in (layout_of m) ≡ registers (fold_to (insert (coupons_of table.now) coupon) lg_k) cleared_state) }
+    ensures layout { IfOk result (λ m. IsLayoutFor lg_k (layout_of m)) }
+    ensures width { IfOk result (λ m. width_of (layout_of m) ≡ hll_type) }
+    ensures err { IfErr result (λ e. e ≡ Memory) }
+{
+    Ok(match hll_type {
+        HllType::Hll4 => Mode::Array4(registers_of::<Array4<A>, A>(lg_k, table, coupon)?),
+        HllType::Hll6 => Mode::Array6(registers_of::<Array6<A>, A>(lg_k, table, coupon)?),
+        HllType::Hll8 => Mode::Array8(registers_of::<Array8<A>, A>(lg_k, table, coupon)?),
+    })
+}
+
+/// The registers of the coupons of a table and of one more.
+fn registers_of<S: RegisterStore<A>, A: Allocator + Clone>(
+    lg_k: u8,
+    table: &Container<A>,
+    coupon: Coupon,
+) -> Result<S, Error>
+    requires { IsLgK lg_k }
+    ensures ok { IfOk result (λ s. S.stored s ≡ record { lg_k = lg_k; registers = fold_to (insert (coupons_of table.now) coupon) lg_k; state = cleared_state }) }
+    ensures err { IfErr result (λ e. e ≡ Memory) }
+{
+    let mut registers = S::make(table.cloned_allocator()?, lg_k)?;
+    for other in table.iter() {
+        registers.put_coupon(other)?;
+    }
+    registers.put_coupon(coupon)?;
+    Ok(registers)
+}
+
+/// A set of 2^`lg_size` places with the coupons of a table and one more.
+fn set_of_size<A: Allocator + Clone>(
+    lg_size: usize,
+    table: &Container<A>,
+    coupon: Coupon,
+) -> Result<HashSet<A>, Error>
+    requires small { lg_size ≤ 26 }
+    requires room { length (coupons_in table.now.places) < 2 ^ lg_size }
+    requires valued { 1 ≤ value_of coupon }
+    ensures size { IfOk result (λ s. s.lg_size ≡ lg_size) }
+    ensures members { IfOk result (λ s. coupons_of s ≡ insert (coupons_of table.now) coupon) }
+    ensures count { IfOk result (λ s. length (coupons_in s.places) ≡ len (insert (coupons_of table.now) coupon)) }
+    ensures err { IfErr result (λ e. e ≡ Memory) }
+{
+    let mut set = HashSet::from_container(table.cloned_allocator()?, lg_size, table)?;
+    set.update(coupon);
+    Ok(set)
+}

@@ -1,0 +1,243 @@
+//! Sketches (docs/MODEL.md, "Sketch values" and "Adding").
+ghost use Rattle.std.specs.Prelude.{◌≡◌, ◌≤◌, ◌⊎◌, [], ◌∷◌, true, fold, IfOk, IfErr, IfSome, IfNone, OnOk, OnErr};
+ghost use Rattle.hll_base.specs.declared.error.Reason.TheVariants.{Memory};
+ghost use Rattle.hll_base.specs.declared.error.Reason.TheVariants as reasons;
+ghost use Rattle.hll_base.specs.Hash.{hash_of, initial_state, after_piece, default_seed};
+ghost use Rattle.hll_coupons.specs.Hashed.{coupon_of_halves};
+ghost use Rattle.hll_coupons.specs.Pair.{value_of, set_of};
+ghost use Rattle.hll_sketch.specs.Adding.{add, content_with};
+ghost use Rattle.hll_sketch.specs.Layout.{layout_of, content_in, width_of, sketch_of, IsLayoutFor, holds_with, count_in, NeedsMemory};
+ghost use Rattle.hll_sketch.specs.Value.{IsLgK, empty_sketch, is_empty, size_of};
+
+use crate::mode::Mode;
+use crate::promotion::next_of;
+use hll_base::error::{Error, Reason};
+use hll_coupons::coupon::Coupon;
+use hll_coupons::hll_type::HllType;
+use hll_coupons::list::List;
+use std::alloc::{Allocator, Global};
+use std::hash::Hash;
+use std::marker::Model;
+
+/// A sketch: an `lg_k`, and a mode. Contracts see the `lg_k` and the layout of the mode, with the places of tables; the
+/// sketch value is a function of them.
+#[derive_where(Debug)]
+#[derive(Drop)]
+pub struct HllSketch<A: Allocator = Global> {
+    lg_config_k: u8,
+    mode: Mode<A>,
+}
+
+impl<A: Allocator> Model for HllSketch<A> {
+    ghost use Rattle.hll_sketch.specs.Layout.{SketchLayout, layout_of, IsLayoutFor};
+    ghost use Rattle.hll_sketch.specs.Value.{IsLgK};
+
+    ghost Value = { SketchLayout };
+
+    ghost view = { λ s. record { lg_k = s.lg_config_k; layout = layout_of s.mode } };
+
+    ghost invariant = { λ s. IsLgK s.lg_config_k × IsLayoutFor s.lg_config_k (layout_of s.mode) };
+}
+
+impl<A: Allocator> HllSketch<A> {
+    /// An empty list, for registers of a width to come.
+    ///
+    /// Fails with `Argument` if `lg_config_k` is not 4 to 21, or else with `Memory`.
+    pub fn new(alloc: A, lg_config_k: u8, hll_type: HllType) -> Result<HllSketch<A>, Error>
+        ensures ok { IfOk result (λ s. sketch_of s ≡ empty_sketch lg_config_k hll_type) }
+        ensures lg_k { OnOk result (IsLgK lg_config_k) }
+        ensures outside { IfErr result (λ e. e ≡ reasons.Argument → IsLgK lg_config_k → ⊥) }
+        ensures within { IfErr result (λ e. e ≡ Memory → IsLgK lg_config_k) }
+        ensures err { IfErr result (λ e. (e ≡ reasons.Argument) ⊎ (e ≡ Memory)) }
+    {
+        if lg_config_k < 4 || lg_config_k > 21 {
+            return Err(Error::new(Reason::Argument));
+        }
+        let list = List::default_in(alloc)?;
+        Ok(HllSketch {
+            lg_config_k,
+            mode: Mode::List { list, hll_type },
+        })
+    }
+
+    /// The `lg_k`, 4 to 21. Takes no memory.
+    pub fn lg_config_k(&self) -> u8
+        ensures lg_k { result ≡ self.now.lg_k }
+        ensures legal { IsLgK self.now.lg_k }
+    {
+        self.lg_config_k
+    }
+
+    /// The width of registers. Takes no memory.
+    pub fn target_type(&self) -> HllType
+        ensures { result ≡ width_of self.now.layout }
+    {
+        match &self.mode {
+            Mode::List { hll_type, .. } | Mode::Set { hll_type, .. } => *hll_type,
+            Mode::Array4(_) => HllType::Hll4,
+            Mode::Array6(_) => HllType::Hll6,
+            Mode::Array8(_) => HllType::Hll8,
+        }
+    }
+
+    /// The mode. Takes no memory.
+    pub fn mode(&self) -> &Mode<A>
+        ensures { layout_of result.now ≡ self.now.layout }
+    {
+        &self.mode
+    }
+
+    /// Whether there are no coupons, or registers that are all 0. Takes no memory.
+    pub fn is_empty(&self) -> bool
+        ensures { result ≡ is_empty (sketch_of self.now) }
+    {
+        match &self.mode {
+            Mode::List { list, .. } => list.container().len() == 0,
+            Mode::Set { set, .. } => set.container().len() == 0,
+            Mode::Array4(array) => array.is_empty(),
+            Mode::Array6(array) => array.is_empty(),
+            Mode::Array8(array) => array.is_empty(),
+        }
+    }
+
+    /// How many coupons a list or a set has, none of registers. Takes no memory.
+    pub fn num_coupons(&self) -> Option<usize>
+        ensures { result ≡ count_in (content_in self.now.layout) }
+    {
+        match &self.mode {
+            Mode::List { list, .. } => Some(list.container().len()),
+            Mode::Set { set, .. } => Some(set.container().len()),
+            Mode::Array4(_) | Mode::Array6(_) | Mode::Array8(_) => None,
+        }
+    }
+
+    /// The bytes of the table or of the registers. Takes no memory.
+    pub fn estimated_size(&self) -> usize
+        ensures { result ≡ size_of (sketch_of self.now) }
+    {
+        match &self.mode {
+            Mode::List { list, .. } => list.container().estimated_size(),
+            Mode::Set { set, .. } => set.container().estimated_size(),
+            Mode::Array4(array) => array.estimated_size(),
+            Mode::Array6(array) => array.estimated_size(),
+            Mode::Array8(array) => array.estimated_size(),
+        }
+    }
+}
+
+impl<A: Allocator + Clone> HllSketch<A> {
+    /// A copy, with the same places.
+    ///
+    /// Fails with `Memory`.
+    pub fn clone(&self) -> Result<HllSketch<A>, Error>
+        ensures ok { IfOk result (λ s. s ≡ self.now) }
+        ensures err { IfErr result (λ e. e ≡ Memory) }
+    {
+        Ok(HllSketch {
+            lg_config_k: self.lg_config_k,
+            mode: self.mode.clone()?,
+        })
+    }
+
+    /// Adds a coupon (docs/MODEL.md, "Adding").
+    ///
+    /// Its value is at least 1. Fails with `Memory`, only if a table changes its size or the slots of exceptions of
+    /// registers of four bits do, and then changes nothing, places included.
+    pub fn update_with_coupon(&mut self, coupon: Coupon) -> Result<(), Error>
+        requires { 1 ≤ value_of coupon }
+        ensures ok { OnOk result (sketch_of self.new ≡ add (sketch_of self.old) (set_of (coupon ∷ []))) }
+        ensures unchanged { OnErr result (self.new ≡ self.old) }
+        ensures needed { OnErr result (NeedsMemory self.old.lg_k self.old.layout coupon) }
+        ensures err { IfErr result (λ e. e ≡ Memory) }
+    {
+        match self.next(coupon)? {
+            Some(mode) => {
+                self.mode = mode;
+                Ok(())
+            }
+            None => self.put(coupon),
+        }
+    }
+
+    /// Adds the coupon of a value, as `update_with_coupon` does.
+    ///
+    /// Fails with `Memory`, and then changes nothing.
+    pub fn update<T: Hash + Drop>(&mut self, value: T) -> Result<(), Error>
+        ensures ok { let c = coupon_of_halves (hash_of (fold after_piece (initial_state default_seed) (T.hash_input value))) in
+            OnOk result (sketch_of self.new ≡ add (sketch_of self.old) (set_of (c ∷ []))) }
+        ensures unchanged { OnErr result (self.new ≡ self.old) }
+        ensures needed { let c = coupon_of_halves (hash_of (fold after_piece (initial_state default_seed) (T.hash_input value))) in
+            OnErr result (NeedsMemory self.old.lg_k self.old.layout c) }
+        ensures err { IfErr result (λ e. e ≡ Memory) }
+    {
+        self.update_with_coupon(Coupon::from_value(value))
+    }
+
+    /// What takes over from a table once it has a coupon more, none if it stays as large as it is. Registers stay.
+    fn next(&self, coupon: Coupon) -> Result<Option<Mode<A>>, Error>
+        requires { 1 ≤ value_of coupon }
+        ensures stays { IfOk result (λ next. IfNone next (holds_with self.now.layout coupon ≡ true)) }
+        ensures goes { IfOk result (λ next. IfSome next (λ mode.
+            content_in (layout_of mode) ≡ content_with self.now.lg_k (content_in self.now.layout) (set_of (coupon ∷ [])))) }
+        ensures layout { IfOk result (λ next. IfSome next (λ mode. IsLayoutFor self.now.lg_k (layout_of mode))) }
+        ensures width { IfOk result (λ next. IfSome next (λ mode. width_of (layout_of mode) ≡ width_of self.now.layout)) }
+        ensures needed { OnErr result (NeedsMemory self.now.lg_k self.now.layout coupon) }
+        ensures err { IfErr result (λ e. e ≡ Memory) }
+    {
+        match &self.mode {
+            Mode::List { list, hll_type } => {
+                let table = list.container();
+                let count = table.len() + usize::from(!list.contains(coupon));
+                next_of(self.lg_config_k, *hll_type, table, count, coupon)
+            }
+            Mode::Set { set, hll_type } => {
+                let table = set.container();
+                let count = table.len() + usize::from(!set.contains(coupon));
+                next_of(self.lg_config_k, *hll_type, table, count, coupon)
+            }
+            Mode::Array4(_) | Mode::Array6(_) | Mode::Array8(_) => Ok(None),
+        }
+    }
+
+    /// Adds a coupon to a table that stays as large as it is, or to registers.
+    fn put(&mut self, coupon: Coupon) -> Result<(), Error>
+        requires valued { 1 ≤ value_of coupon }
+        requires holds { holds_with self.old.layout coupon ≡ true }
+        ensures ok { OnOk result (sketch_of self.new ≡ add (sketch_of self.old) (set_of (coupon ∷ []))) }
+        ensures unchanged { OnErr result (self.new ≡ self.old) }
+        ensures needed { OnErr result (NeedsMemory self.old.lg_k self.old.layout coupon) }
+        ensures err { IfErr result (λ e. e ≡ Memory) }
+    {
+        match &mut self.mode {
+            Mode::List { list, .. } => {
+                let _len = list.container().len();
+                list.update(coupon);
+            }
+            Mode::Set { set, .. } => set.update(coupon),
+            Mode::Array4(array) => return array.update(coupon),
+            Mode::Array6(array) => array.update(coupon),
+            Mode::Array8(array) => array.update(coupon),
+        }
+        Ok(())
+    }
+}
+
+/// Sketches are equal if `lg_k`, kind, width and coupons are, or registers and state; the places of tables don't count.
+/// Takes no memory.
+impl<A: Allocator> PartialEq for HllSketch<A> {
+    ghost use Rattle.hll_sketch.specs.Same.{same_sketch, same_sketch-partial};
+
+    ghost eq = { same_sketch };
+
+    ghost laws = { same_sketch-partial };
+
+    fn eq(&self, other: &HllSketch<A>) -> bool {
+        self.lg_config_k == other.lg_config_k && self.mode == other.mode
+    }
+}
+
+impl<A: Allocator> Eq for HllSketch<A> {
+    ghost use Rattle.hll_sketch.specs.Same.{same_sketch-equivalence};
+
+    ghost laws = { same_sketch-equivalence };
+}
