@@ -1,5 +1,4 @@
 pub mod Accepted
-pub mod Emptiness
 pub mod Growing
 pub mod Headline
 pub mod Joining

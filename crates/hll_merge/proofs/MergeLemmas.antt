@@ -22,7 +22,7 @@ use Rattle.hll_merge.specs.Listed.{Listed}
 use Rattle.hll_merge.specs.Served.{IsServed, IsOfSize}
 use Rattle.hll_merge.specs.Kept.{Kept, list, array, value_of_kept, IsKept, AddsEach, Merges, joined_into}
 use Rattle.hll_merge.proofs.Outcomes.{merged_none, merged_some, union-empty}
-use Rattle.hll_merge.proofs.Updating.{set_of-nil}
+use Rattle.hll_sketch.proofs.Inserting.{set_of-nil}
 use Rattle.hll_merge.proofs.Joining.{lg_k-add_in_turn, width-add_in_turn}
 
 -- ---- merges

@@ -1,4 +1,4 @@
--- Lemmas on the registers of a list that leaves its stage.
+-- Registers joined with the coupons of a list.
 use Rattle.std.proofs.Common.{◌≡◌, ℕ, ◌^◌, ◌<◌, List, [], ◌∷◌, ◌++◌, length, get_or, replicate, refl, sym, ap, ◌∙◌, arith}
 use Rattle.std.proofs.lemmas.List.{append-nil, length-replicate, get_or-replicate}
 use Rattle.std.specs.FinSet.{insert}
@@ -11,28 +11,7 @@ use Rattle.hll_coupons.proofs.Joins.{join_assoc}
 use Rattle.hll_arrays.specs.State.{cleared_state}
 use Rattle.hll_arrays.specs.Store.{Stored, zero_registers, update_with_coupon}
 use Rattle.hll_arrays.proofs.States.{state_after-cleared_state}
-use Rattle.hll_merge.proofs.Updating.{insert-union, set_of-nil}
-
--- registers of pairs, with the cleared state
-abbrev pub folded : ℕ → Pairs → Stored
-folded k P = record { lg_k = k; registers = fold_to P k; state = cleared_state }
-
-pub folded-none : (k : ℕ) → zero_registers k ≡ folded k (set_of [])
-folded-none k = λ i. record { lg_k = k; registers = (fold_to-empty k ∙ ap (λ P. fold_to P k) (sym set_of-nil)) i; state = cleared_state }
-
--- one coupon more
-pub folded-more : (k : ℕ) (P : Pairs) (c : ℕ) → update_with_coupon (folded k P) c ≡ folded k (insert P c)
-folded-more k P c = λ i. record {
-  lg_k = k;
-  registers = (sym (fold_to-union P (set_of (c ∷ [])) k) ∙ ap (λ Q. fold_to Q k) (sym (insert-union P c))) i;
-  state = state_after-cleared_state (fold_to P k) (join (fold_to P k) (fold_to (set_of (c ∷ [])) k)) i;
-}
-
--- behind others
-pub folded-behind : (k : ℕ) (order : List ℕ) (c : ℕ) → update_with_coupon (folded k (set_of order)) c ≡ folded k (set_of (order ++ c ∷ []))
-folded-behind k order c = folded-more k (set_of order) c ∙ ap (folded k) (sym (set_of-between order [] c ∙ ap (λ xs. insert (set_of xs) c) (append-nil order)))
-
--- ---- registers joined with coupons
+use Rattle.hll_sketch.proofs.Inserting.{insert-union, set_of-nil}
 
 pub join-none : (k : ℕ) (R : List ℕ) → length R ≡ 2 ^ k → join R (fold_to (set_of []) k) ≡ R
 join-none k R size =

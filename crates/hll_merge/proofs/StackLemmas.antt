@@ -12,7 +12,7 @@ use Rattle.hll_sketch.specs.Merging.{merge, merge_all, empty_union}
 use Rattle.hll_sketch.specs.Image as images
 use Rattle.hll_sketch.specs.Image.{stage_bits, width_bits, IsListImage, IsHll8Image}
 use Rattle.hll_sketch.proofs.Images.{same_stage, same_width}
-use Rattle.hll_merge.proofs.Updating.{set_of-nil}
+use Rattle.hll_sketch.proofs.Inserting.{set_of-nil}
 use Rattle.hll_text.specs.declared.fault.Fault.{Fault}
 use Rattle.hll_merge.specs.Plan as plan
 use Rattle.hll_merge.specs.Plan.{Plan, outcome, outcomes, plans_of, inputs}

@@ -14,27 +14,11 @@ use Rattle.hll_arrays.specs.Store.{Stored, update_with_coupon}
 use Rattle.hll_sketch.specs.Value.{Sketch, coupons, in_registers}
 use Rattle.hll_sketch.specs.Stage.{stage}
 use Rattle.hll_sketch.specs.Adding.{add, content_for}
-use Rattle.hll_sketch.proofs.Sets.{same_members, contains_union}
+use Rattle.hll_sketch.proofs.Inserting.{insert-union}
 use Rattle.hll_sketch.proofs.Stages.{stage_list, stage_three, stage_low, stage_high}
 use Rattle.hll_merge.specs.Listed.{Listed, BringsEighth, updated, promoted}
 use Rattle.hll_merge.specs.Served.{IsServedContent}
 use Rattle.hll_merge.specs.Kept.{list, array, value_of_kept, Adds, GoesBeyond, Promotes}
-
--- no coupons are the empty set
-pub set_of-nil : set_of [] ≡ empty
-set_of-nil = same_members (set_of []) empty (λ q. contains-from_list nat_cmp_total [] q ∙ sym (contains-empty nat_cmp q))
-
-or-false-last : (a b : Bool) → (b || a) ≡ (a || (b || false))
-or-false-last true true = refl
-or-false-last true false = refl
-or-false-last false true = refl
-or-false-last false false = refl
-
--- one coupon more is a union with it
-pub insert-union : (S : Pairs) (c : ℕ) → insert S c ≡ union S (set_of (c ∷ []))
-insert-union S c = same_members (insert S c) (union S (set_of (c ∷ []))) (λ q.
-    contains-insert nat_cmp_total S c q ∙ or-false-last (contains S q) (eq_by_cmp nat_cmp q c)
-    ∙ sym (contains_union S (set_of (c ∷ [])) q ∙ ap (λ b. contains S q || b) (contains-from_list nat_cmp_total (c ∷ []) q)))
 
 -- a coupon of a value is not 0
 pub some_of_value : (c : ℕ) → 1 ≤ value_of c → 0 < c

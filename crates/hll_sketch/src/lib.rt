@@ -1,4 +1,4 @@
-//! Sketch values, images, and the laws of adding and merging.
+//! Sketches, their values and images, and the laws of adding and merging (docs/ARCHITECTURE.md, "Sketches").
 #![tactic(auto)]
 
 pub mod header;

@@ -8,6 +8,7 @@ ghost use Rattle.hll_coupons.specs.Pair.{value_of, set_of};
 ghost use Rattle.hll_sketch.specs.Adding.{add, content_with};
 ghost use Rattle.hll_sketch.specs.Layout.{layout_of, content_in, width_of, sketch_of, IsLayoutFor, holds_with, count_in, NeedsMemory};
 ghost use Rattle.hll_sketch.specs.Value.{IsLgK, empty_sketch, is_empty, size_of};
+ghost use Rattle.hll_sketch.specs.Written.{Written};
 
 use crate::mode::Mode;
 use crate::promotion::next_of;
@@ -16,12 +17,12 @@ use hll_coupons::coupon::Coupon;
 use hll_coupons::hll_type::HllType;
 use hll_coupons::list::List;
 use std::alloc::{Allocator, Global};
+use std::fmt;
 use std::hash::Hash;
 use std::marker::Model;
 
 /// A sketch: an `lg_k`, and a mode. Contracts see the `lg_k` and the layout of the mode, with the places of tables; the
 /// sketch value is a function of them.
-#[derive_where(Debug)]
 #[derive(Drop)]
 pub struct HllSketch<A: Allocator = Global> {
     lg_config_k: u8,
@@ -111,6 +112,21 @@ impl<A: Allocator> HllSketch<A> {
         }
     }
 
+    /// The estimator that the state of registers belongs to, none of coupons.
+    fn estimator(&self) -> Option<&'static str> {
+        let state = match &self.mode {
+            Mode::List { .. } | Mode::Set { .. } => return None,
+            Mode::Array4(array) => array.estimate_state(),
+            Mode::Array6(array) => array.estimate_state(),
+            Mode::Array8(array) => array.estimate_state(),
+        };
+        if state.out_of_order {
+            Some("Composite")
+        } else {
+            Some("HIP")
+        }
+    }
+
     /// The bytes of the table or of the registers. Takes no memory.
     pub fn estimated_size(&self) -> usize
         ensures { result ≡ size_of (sketch_of self.now) }
@@ -137,6 +153,22 @@ impl<A: Allocator + Clone> HllSketch<A> {
             lg_config_k: self.lg_config_k,
             mode: self.mode.clone()?,
         })
+    }
+
+    /// The image (docs/FORMAT.md, "What is written"), with coupons and exceptions in ascending raw words.
+    ///
+    /// Takes memory for a sorted copy of these, and in one request for the image. Fails with `Memory`.
+    pub fn serialize(&self) -> Result<Vec<u8, A>, Error>
+        ensures ok { IfOk result (λ image. Written image.items (sketch_of self.now)) }
+        ensures err { IfErr result (λ e. e ≡ Memory) }
+    {
+        match &self.mode {
+            Mode::List { list, hll_type } => list.serialize(self.lg_config_k, *hll_type),
+            Mode::Set { set, hll_type } => set.serialize(self.lg_config_k, *hll_type),
+            Mode::Array4(array) => array.serialize(self.lg_config_k),
+            Mode::Array6(array) => array.serialize(self.lg_config_k),
+            Mode::Array8(array) => array.serialize(self.lg_config_k),
+        }
     }
 
     /// Adds a coupon (docs/MODEL.md, "Adding").
@@ -219,6 +251,28 @@ impl<A: Allocator + Clone> HllSketch<A> {
             Mode::Array8(array) => array.update(coupon),
         }
         Ok(())
+    }
+}
+
+/// The `lg_k`, the width, the kind of mode, and whether the sketch is empty; of registers also the estimator that their
+/// state belongs to.
+impl<A: Allocator> fmt::Debug for HllSketch<A> {
+    fn fmt<W: fmt::Write>(&self, f: &mut fmt::Formatter<W>) -> fmt::Result {
+        let mode = match &self.mode {
+            Mode::List { .. } => "List",
+            Mode::Set { .. } => "Set",
+            Mode::Array4(_) | Mode::Array6(_) | Mode::Array8(_) => "Hll",
+        };
+        let mut shown = f.debug_struct("HllSketch");
+        shown
+            .field("lg_config_k", &self.lg_config_k)
+            .field("target_type", &self.target_type())
+            .field("mode", &mode)
+            .field("is_empty", &self.is_empty());
+        if let Some(estimator) = self.estimator() {
+            shown.field("estimator", &estimator);
+        }
+        shown.finish()
     }
 }
 

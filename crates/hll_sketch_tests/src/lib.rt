@@ -5,3 +5,5 @@
 mod images;
 #[cfg(test)]
 mod reference;
+#[cfg(test)]
+mod sketches;

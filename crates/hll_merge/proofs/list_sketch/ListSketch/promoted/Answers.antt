@@ -6,7 +6,7 @@ use Rattle.hll_coupons.specs.Table.{Table, coupons_in, coupons_of}
 use Rattle.hll_coupons.proofs.Yielded.{given}
 use Rattle.hll_arrays.specs.Store.{update_with_coupon}
 use Rattle.hll_merge.specs.Listed.{Listed}
-use Rattle.hll_merge.proofs.Promoting.{folded, folded-none, folded-more, folded-behind}
+use Rattle.hll_sketch.proofs.Promoting.{folded, folded-none, folded-more, folded-behind}
 use Rattle.hll_merge.proofs.list_sketch.ListSketch.promoted.Goals as goal
 
 pub loop-kept-init : goal.loop-kept-init

@@ -1,6 +1,6 @@
 use Rattle.std.proofs.Common.{◌≡◌}
 use Rattle.hll_coupons.specs.Pair.{set_of}
-use Rattle.hll_merge.proofs.Promoting.{folded}
+use Rattle.hll_sketch.proofs.Promoting.{folded}
 use Rattle.hll_merge.proofs.list_sketch.ListSketch.promoted.Given as goal
 
 -- the registers of the coupons so far

@@ -1,7 +1,7 @@
 use Rattle.std.proofs.Common.{◌∙◌, ap, sym, subst}
 use Rattle.hll_sketch.specs.Value.{is_empty}
 use Rattle.hll_merge.specs.Kept.{kept_of, value_of_kept, IsKept}
-use Rattle.hll_merge.proofs.Emptiness.{zeros-empty}
+use Rattle.hll_sketch.proofs.Emptiness.{zeros-empty}
 use Rattle.hll_merge.proofs.sketch.Sketch.is_empty.Goals as goal
 
 pub returns-in-Array-clause-answer : goal.returns-in-Array-clause-answer

@@ -1,0 +1,361 @@
+//! Sketches of every width through their stages: what they keep, count and write, and refused memory.
+ghost use Rattle.std.specs.Prelude.{◌≤◌};
+
+use hll_base::error::{Error, Reason};
+use hll_coupons::coupon::Coupon;
+use hll_coupons::hll_type::HllType;
+use hll_sketch::{HllSketch, Mode};
+use linked_list_allocator::LocalHeap;
+use std::alloc::{Allocator, Global};
+use std::process::Abort;
+use std::test::Fail;
+
+const WIDTHS: [HllType; 3] = [HllType::Hll4, HllType::Hll6, HllType::Hll8];
+
+/// A coupon, if it has a value.
+fn add<A: Allocator + Clone>(sketch: &mut HllSketch<A>, slot: u32, value: u8) -> Result<(), Error>
+    requires { value ≤ 63 }
+{
+    let coupon = Coupon::pack(slot, value);
+    if coupon.value() > 0 {
+        sketch.update_with_coupon(coupon)?;
+    }
+    Ok(())
+}
+
+/// Coupons of value 1 at the slots from 0 on.
+fn add_slots<A: Allocator + Clone>(sketch: &mut HllSketch<A>, count: u32) -> Result<(), Error> {
+    for slot in 0..count {
+        add(sketch, slot, 1)?;
+    }
+    Ok(())
+}
+
+/// A sketch after coupons of value 1 at the slots from 0 on.
+fn counted<A: Allocator + Clone>(
+    alloc: A,
+    lg_k: u8,
+    hll_type: HllType,
+    count: u32,
+) -> Result<HllSketch<A>, Error> {
+    let mut sketch = HllSketch::new(alloc, lg_k, hll_type)?;
+    add_slots(&mut sketch, count)?;
+    Ok(sketch)
+}
+
+/// What is kept: the number of places and coupons of a table, and none of registers.
+fn table_of<A: Allocator>(sketch: &HllSketch<A>) -> (&'static str, usize, Option<usize>) {
+    match sketch.mode() {
+        Mode::List { list, .. } => ("list", list.container().capacity(), sketch.num_coupons()),
+        Mode::Set { set, .. } => ("set", set.container().capacity(), sketch.num_coupons()),
+        Mode::Array4(_) => ("four", 0, sketch.num_coupons()),
+        Mode::Array6(_) => ("six", 0, sketch.num_coupons()),
+        Mode::Array8(_) => ("eight", 0, sketch.num_coupons()),
+    }
+}
+
+/// At each `lg_k` how many coupons come, and what keeps them: the kind, its places, and the size in bytes, of which
+/// registers give those at four, six and eight bits.
+const STAGES: [(u8, u32, &'static str, usize, [usize; 3]); 14] = [
+    (4, 0, "list", 8, [32; 3]),
+    (4, 7, "list", 8, [32; 3]),
+    (4, 8, "array", 0, [8, 13, 16]),
+    (7, 8, "array", 0, [64, 97, 128]),
+    (8, 7, "list", 8, [32; 3]),
+    (8, 8, "set", 32, [128; 3]),
+    (8, 24, "set", 32, [128; 3]),
+    (8, 25, "array", 0, [128, 193, 256]),
+    (9, 25, "set", 64, [256; 3]),
+    (9, 48, "set", 64, [256; 3]),
+    (9, 49, "array", 0, [256, 385, 512]),
+    (10, 49, "set", 128, [512; 3]),
+    (12, 385, "array", 0, [2048, 3073, 4096]),
+    (21, 49, "set", 128, [512; 3]),
+];
+
+#[test]
+fn stages(rt: HostRuntime) -> Result<(), Fail> {
+    for (lg_k, count, kind, places, sizes) in STAGES {
+        for (hll_type, name, size) in [
+            (HllType::Hll4, "four", sizes[0]),
+            (HllType::Hll6, "six", sizes[1]),
+            (HllType::Hll8, "eight", sizes[2]),
+        ] {
+            let sketch = counted(rt.alloc(), lg_k, hll_type, count)?;
+            let coupons = if kind == "array" {
+                None
+            } else {
+                Some(count as usize)
+            };
+            let kept = if kind == "array" { name } else { kind };
+            assert_eq!(rt;
+                table_of(&sketch),
+                (kept, places, coupons),
+                "{lg_k} {count}"
+            );
+            assert_eq!(rt; sketch.estimated_size(), size, "{lg_k} {count} {name}");
+            assert_eq!(rt;
+                (
+                    sketch.lg_config_k(),
+                    sketch.target_type(),
+                    sketch.is_empty()
+                ),
+                (lg_k, hll_type, count == 0)
+            );
+        }
+    }
+    Ok(())
+}
+
+#[test]
+fn arguments(rt: HostRuntime) -> Result<(), Fail> {
+    for lg_k in [0, 3, 22, 255] {
+        let refused = HllSketch::new(rt.alloc(), lg_k, HllType::Hll8);
+        assert_eq!(rt;
+            refused.err().map(|e| e.reason()),
+            Some(Reason::Argument),
+            "{lg_k}"
+        );
+    }
+    Ok(())
+}
+
+/// Slots that start at place 0 of 32, with the strides 1, 1, 3, 3, 5, 5, 7 and 7, and their order in the places: the
+/// coupons of the list come first, then the eighth.
+const SLOTS: [u32; 8] = [0, 32, 64, 96, 128, 160, 192, 224];
+
+const PLACED: [u32; 8] = [0, 32, 64, 128, 96, 192, 160, 224];
+
+#[test]
+fn places(rt: HostRuntime) -> Result<(), Fail> {
+    let mut sketch = HllSketch::new(rt.alloc(), 10, HllType::Hll8)?;
+    for slot in SLOTS {
+        add(&mut sketch, slot, 1)?;
+    }
+    let mut slots = Vec::new(rt.alloc());
+    if let Mode::Set { set, .. } = sketch.mode() {
+        for coupon in set.container().iter() {
+            slots.push(coupon.slot())?;
+        }
+    }
+    assert_eq!(rt; slots.as_slice(), PLACED.as_slice());
+    Ok(())
+}
+
+/// One set of coupons in two orders is one sketch, and so are its copy and one that had each coupon twice; another
+/// width, `lg_k`, kind or coupon is not.
+fn equal_in(rt: &impl Abort, alloc: Global, lg_k: u8, count: u32) -> Result<(), Fail> {
+    for hll_type in WIDTHS {
+        let sketch = counted(alloc, lg_k, hll_type, count)?;
+        let mut turned = HllSketch::new(alloc, lg_k, hll_type)?;
+        for slot in 0..count {
+            add(&mut turned, (count - 1) - slot, 1)?;
+        }
+        assert!(rt; sketch == turned && sketch == sketch.clone()?);
+        add_slots(&mut turned, count)?;
+        assert!(rt; sketch == turned);
+        add(&mut turned, 0, 2)?;
+        assert!(rt; sketch != turned && turned != sketch);
+        for other in WIDTHS {
+            let same = sketch == counted(alloc, lg_k, other, count)?;
+            assert_eq!(rt; same, hll_type == other);
+        }
+        if lg_k < 21 {
+            assert!(rt; sketch != counted(alloc, lg_k + 1, hll_type, count)?);
+        }
+    }
+    Ok(())
+}
+
+#[test]
+fn equality(rt: HostRuntime) -> Result<(), Fail> {
+    for (lg_k, count) in [(4u8, 7u32), (4, 16), (8, 8), (8, 24), (8, 40), (21, 5)] {
+        equal_in(&rt, rt.alloc(), lg_k, count)?;
+    }
+    Ok(())
+}
+
+/// The register of a slot, 0 of coupons and past the end.
+fn register_of<A: Allocator>(sketch: &HllSketch<A>, slot: u32) -> u8 {
+    match sketch.mode() {
+        Mode::Array4(array) if (slot as usize) < array.num_registers() => array.get(slot),
+        Mode::Array6(array) if (slot as usize) < array.num_registers() => array.get(slot),
+        Mode::Array8(array) if (slot as usize) < array.num_registers() => array.get(slot),
+        _ => 0,
+    }
+}
+
+#[test]
+fn registers_are_the_greatest_values(rt: HostRuntime) -> Result<(), Fail> {
+    for hll_type in WIDTHS {
+        let mut sketch = counted(rt.alloc(), 4, hll_type, 8)?;
+        for (slot, value) in [(0u32, 20u8), (16, 5), (17, 63), (1, 62), (3, 1)] {
+            add(&mut sketch, slot, value)?;
+        }
+        let first = [0, 1, 2, 15].map(|slot| register_of(&sketch, slot));
+        assert_eq!(rt; first, [20, 63, 1, 0]);
+    }
+    Ok(())
+}
+
+/// Coupons at an `lg_k` and a width, and the image that is written for them.
+const IMAGES: [(u8, HllType, &[(u32, u8)], &[u8]); 5] = [
+    (10, HllType::Hll8, &[], &[2, 1, 7, 10, 3, 12, 0, 8]),
+    (
+        10,
+        HllType::Hll8,
+        &[(5, 3), (5, 3)],
+        &[2, 1, 7, 10, 3, 8, 1, 8, 5, 0, 0, 12],
+    ),
+    (
+        12,
+        HllType::Hll6,
+        &[
+            (23, 8),
+            (22, 7),
+            (21, 6),
+            (20, 5),
+            (19, 4),
+            (18, 3),
+            (17, 2),
+            (16, 1),
+        ],
+        &[
+            3, 1, 7, 12, 5, 8, 0, 5, 8, 0, 0, 0, 16, 0, 0, 4, 17, 0, 0, 8, 18, 0, 0, 12, 19, 0, 0,
+            16, 20, 0, 0, 20, 21, 0, 0, 24, 22, 0, 0, 28, 23, 0, 0, 32,
+        ],
+    ),
+    (
+        4,
+        HllType::Hll8,
+        &[
+            (0, 1),
+            (1, 2),
+            (2, 3),
+            (3, 4),
+            (4, 5),
+            (5, 6),
+            (6, 7),
+            (7, 8),
+        ],
+        &[
+            10, 1, 7, 4, 0, 16, 0, 10, 0, 0, 0, 0, 0, 0, 0, 0, 0, 0, 0, 0, 0, 0, 0, 0, 0, 0, 0, 0,
+            0, 0, 0, 0, 8, 0, 0, 0, 0, 0, 0, 0, 1, 2, 3, 4, 5, 6, 7, 8, 0, 0, 0, 0, 0, 0, 0, 0,
+        ],
+    ),
+    (
+        4,
+        HllType::Hll4,
+        &[
+            (0, 20),
+            (1, 1),
+            (2, 1),
+            (3, 1),
+            (4, 1),
+            (5, 1),
+            (6, 1),
+            (7, 1),
+        ],
+        &[
+            10, 1, 7, 4, 0, 24, 0, 2, 0, 0, 0, 0, 0, 0, 0, 0, 0, 0, 0, 0, 0, 0, 0, 0, 0, 0, 0, 0,
+            0, 0, 0, 0, 8, 0, 0, 0, 1, 0, 0, 0, 31, 17, 17, 17, 0, 0, 0, 0, 0, 0, 0, 80,
+        ],
+    ),
+];
+
+#[test]
+fn images(rt: HostRuntime) -> Result<(), Fail> {
+    for (lg_k, hll_type, coupons, image) in IMAGES {
+        let mut sketch = HllSketch::new(rt.alloc(), lg_k, hll_type)?;
+        for (slot, value) in coupons {
+            if *value <= 63 {
+                add(&mut sketch, *slot, *value)?;
+            }
+        }
+        let written = sketch.serialize()?;
+        assert_eq!(rt; written.as_slice(), image, "{lg_k}");
+        assert_eq!(rt; written.capacity(), image.len());
+    }
+    Ok(())
+}
+
+#[test]
+fn debug_output(rt: HostRuntime) -> Result<(), Fail> {
+    for (lg_k, hll_type, count, text) in [
+        (
+            10u8,
+            HllType::Hll8,
+            0u32,
+            "HllSketch { lg_config_k: 10, target_type: Hll8, mode: \"List\", is_empty: true }",
+        ),
+        (
+            10,
+            HllType::Hll4,
+            8,
+            "HllSketch { lg_config_k: 10, target_type: Hll4, mode: \"Set\", is_empty: false }",
+        ),
+        (
+            4,
+            HllType::Hll6,
+            8,
+            "HllSketch { lg_config_k: 4, target_type: Hll6, mode: \"Hll\", is_empty: false, estimator: \"Composite\" }",
+        ),
+    ] {
+        let sketch = counted(rt.alloc(), lg_k, hll_type, count)?;
+        assert_eq!(rt; format!(in rt.alloc(); "{sketch:?}")?.as_str(), text);
+    }
+    Ok(())
+}
+
+/// A value is added as its coupon.
+#[test]
+fn values(rt: HostRuntime) -> Result<(), Fail> {
+    let mut sketch = HllSketch::new(rt.alloc(), 12, HllType::Hll4)?;
+    let mut by_coupons = HllSketch::new(rt.alloc(), 12, HllType::Hll4)?;
+    for value in 0..100u64 {
+        sketch.update(value)?;
+        by_coupons.update_with_coupon(Coupon::from_value(value))?;
+    }
+    assert!(rt; sketch == by_coupons);
+    assert_eq!(rt; sketch.num_coupons(), Some(100));
+    Ok(())
+}
+
+/// Adds coupons until memory is refused. Then the sketch is as it was before, places included.
+fn fill(rt: &impl Abort, heap: &LocalHeap, lg_k: u8, hll_type: HllType) -> Result<bool, Fail> {
+    let Ok(mut sketch) = HllSketch::new(heap, lg_k, hll_type) else {
+        return Ok(false);
+    };
+    for slot in 0..30u32 {
+        let before = (sketch.num_coupons(), sketch.estimated_size());
+        match add(&mut sketch, slot, 1 + 2 * slot as u8) {
+            Ok(()) => {}
+            Err(e) => {
+                assert_eq!(rt; e.reason(), Reason::Memory);
+                assert_eq!(rt; (sketch.num_coupons(), sketch.estimated_size()), before);
+                return Ok(false);
+            }
+        }
+    }
+    assert_eq!(rt; sketch.num_coupons(), None);
+    Ok(sketch.clone().is_ok() && sketch.serialize().is_ok())
+}
+
+#[test]
+fn refused_memory(rt: HostRuntime) -> Result<(), Fail> {
+    for lg_k in [4, 8] {
+        for hll_type in WIDTHS {
+            let (mut refused, mut complete) = (0u32, 0u32);
+            for units in 1..80usize {
+                let heap = LocalHeap::new(rt.alloc(), units * 16)?;
+                if fill(&rt, &heap, lg_k, hll_type)? {
+                    complete = complete.saturating_add(1);
+                } else {
+                    refused = refused.saturating_add(1);
+                }
+            }
+            assert!(rt; 0 < refused && 0 < complete, "{lg_k} {refused} {complete}");
+        }
+    }
+    Ok(())
+}
