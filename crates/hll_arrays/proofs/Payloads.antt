@@ -36,7 +36,7 @@ one_hll6 k a b s t p q e = same_fronts a b s t e (p.size ∙ sym q.size)
 front_exceptions : (a t b : List ℕ) → a ++ t ≡ b → 32 ≤ length a → exception_count a ≡ exception_count b
 front_exceptions a t b e h = front_number a t b e 28 (omega arith)
 
-front_places : (h : Hll4Shape) (a t b : List ℕ) → a ++ t ≡ b → 32 ≤ length a → exception_places h a ≡ exception_places h b
+pub front_places : (h : Hll4Shape) (a t b : List ℕ) → a ++ t ≡ b → 32 ≤ length a → exception_places h a ≡ exception_places h b
 front_places h a t b e w = ap (λ n. cond h.compact n (cond (eqb n 0) 0 (2 ^ h.lg_table))) (front_exceptions a t b e w)
 
 pub one_hll4 : (h : Hll4Shape) (a b s t : List ℕ) → IsHll4Payload h a → IsHll4Payload h b → a ++ s ≡ b ++ t → a ≡ b

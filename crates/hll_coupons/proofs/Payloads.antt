@@ -70,10 +70,10 @@ list_fault_excludes h a t b r e p (payload.ListFault.number c l n) = n (ap lengt
 front_set_count : (h : SetShape) (a t b : List ℕ) → a ++ t ≡ b → IsSetPayload h a → set_count a ≡ set_count b
 front_set_count h a t b e p = front_number a t b e 0 (omega (arith, p.count.whole))
 
-front_set_places : (h : SetShape) (a t b : List ℕ) → a ++ t ≡ b → IsSetPayload h a → set_places h a ≡ set_places h b
+pub front_set_places : (h : SetShape) (a t b : List ℕ) → a ++ t ≡ b → IsSetPayload h a → set_places h a ≡ set_places h b
 front_set_places h a t b e p = ap (λ n. cond h.compact n (2 ^ h.lg_size)) (front_set_count h a t b e p)
 
-front_set_coupons : (h : SetShape) (a t b : List ℕ) → a ++ t ≡ b → IsSetPayload h a → set_coupons h a ≡ set_coupons h b
+pub front_set_coupons : (h : SetShape) (a t b : List ℕ) → a ++ t ≡ b → IsSetPayload h a → set_coupons h a ≡ set_coupons h b
 front_set_coupons h a t b e p =
     front_coupons a t b e h.compact (set_places h a) 4 (omega (arith, p.size))
     ∙ ap (λ n. coupons_at h.compact n (drop 4 b)) (front_set_places h a t b e p)

@@ -6,7 +6,7 @@ ghost use Rattle.hll_base.specs.declared.error.Reason.TheVariants as reasons;
 ghost use Rattle.hll_coupons.specs.Coupons.{WritesAscending, set_bytes, coupons_at, AreCoupons};
 ghost use Rattle.hll_coupons.specs.Coupons as header;
 ghost use Rattle.hll_coupons.specs.Pair.{set_of, value_of};
-ghost use Rattle.hll_coupons.specs.Payload.{shape_of_set, HasSetCount, set_places, IsSetPayload, IsSetTable, SetFault};
+ghost use Rattle.hll_coupons.specs.Payload.{shape_of_set, HasSetCount, set_coupons, set_places, IsSetPayload, IsSetTable, SetFault};
 ghost use Rattle.hll_coupons.specs.HashSet.{IsHashSet};
 ghost use Rattle.hll_coupons.specs.Probe.{Puts, PutsEach};
 ghost use Rattle.hll_coupons.specs.Same.{have_same_coupons};
@@ -110,6 +110,9 @@ impl<A: Allocator> HashSet<A> {
         requires { lg_arr ≤ 26 }
         ensures ok { let h = shape_of_set lg_arr compact in
             IfOk result (λ s. IsSetPayload h (take (4 + 4 * set_places h cursor.entry) cursor.entry) × IsSetTable h cursor.entry s) }
+        ensures members { let h = shape_of_set lg_arr compact in
+            IfOk result (λ s. coupons_of s ≡ set_of (set_coupons h cursor.entry)) }
+        ensures room { IfOk result (λ s. length (coupons_in s.places) < 2 ^ s.lg_size) }
         ensures err { let h = shape_of_set lg_arr compact in
             IfErr result (λ e. (e ≡ Memory) ⊎ SetFault h cursor.entry e) }
         ensures asked { let h = shape_of_set lg_arr compact in

@@ -3,6 +3,7 @@ pub mod Adding
 pub mod Emptiness
 pub mod FaultKinds
 pub mod Faults
+pub mod FrontImages
 pub mod Headers
 mod ImageRows
 pub mod Images

@@ -1,5 +1,5 @@
 -- The grammar of images, by cases (docs/FORMAT.md, "The image"; docs/MODEL.md, "Images").
-use Rattle.std.specs.Prelude.{◌≡◌, ℕ, ◌+◌, ◌/◌, ◌%◌, ◌≤◌, ◌<◌, ◌==◌, Bool, if◌then◌else◌, List, length, drop, slice_index, All, ◌++◌}
+use Rattle.std.specs.Prelude.{◌≡◌, ℕ, ◌+◌, ◌/◌, ◌%◌, ◌≤◌, ◌<◌, ◌==◌, Bool, if◌then◌else◌, List, length, take, drop, slice_index, All, ◌++◌}
 use Rattle.hll_coupons.specs.Pair.{set_of}
 use Rattle.hll_coupons.specs.Payload.{ListShape, shape_of_list, list_coupons, IsListPayload, SetShape, set_coupons, IsSetPayload}
 use Rattle.hll_coupons.specs.declared.hll_type.HllType.{HllType}
@@ -139,3 +139,8 @@ AreBytes b = All (λ c. c < 256) b
 -- an image means a legal sketch
 abbrev pub ImageIsLegal : Type 0
 ImageIsLegal = (b : List ℕ) (x : Sketch) → AreBytes b → Image b x → IsLegal x
+
+-- a front of the bytes is an image of the sketch
+pub record IsReadAs (b : List ℕ) (x : Sketch) : Type 0 where
+  pub size : ℕ
+  pub image : Image (take size b) x

@@ -6,6 +6,7 @@ pub mod hll8_image;
 pub mod laws;
 pub mod list_image;
 pub mod mode;
+mod mode_image;
 mod promotion;
 pub mod reference;
 pub mod sketch;

@@ -6,11 +6,15 @@ ghost use Rattle.hll_base.specs.Hash.{hash_of, initial_state, after_piece, defau
 ghost use Rattle.hll_coupons.specs.Hashed.{coupon_of_halves};
 ghost use Rattle.hll_coupons.specs.Pair.{value_of, set_of};
 ghost use Rattle.hll_sketch.specs.Adding.{add, content_with};
+ghost use Rattle.hll_sketch.specs.Fault.{Fault};
+ghost use Rattle.hll_sketch.specs.Image.{IsReadAs};
 ghost use Rattle.hll_sketch.specs.Layout.{layout_of, content_in, width_of, sketch_of, IsLayoutFor, holds_with, count_in, NeedsMemory};
 ghost use Rattle.hll_sketch.specs.Value.{IsLgK, empty_sketch, is_empty, size_of};
 ghost use Rattle.hll_sketch.specs.Written.{Written};
 
+use crate::header::Header;
 use crate::mode::Mode;
+use crate::mode_image::read_mode;
 use crate::promotion::next_of;
 use hll_base::error::{Error, Reason};
 use hll_coupons::coupon::Coupon;
@@ -142,6 +146,22 @@ impl<A: Allocator> HllSketch<A> {
 }
 
 impl<A: Allocator + Clone> HllSketch<A> {
+    /// The sketch of an image, of any stage and width (docs/FORMAT.md, "The image"). What follows the image is not looked
+    /// at.
+    ///
+    /// Fails with the reason of a fault that stands in the bytes, by the order of checks, or else with `Memory`. Takes
+    /// memory only once the bytes are known to be there.
+    pub fn deserialize(alloc: A, bytes: &[u8]) -> Result<HllSketch<A>, Error>
+        ensures ok { IfOk result (λ s. IsReadAs bytes.now (sketch_of s)) }
+        ensures err { IfErr result (λ e. (e ≡ Memory) ⊎ Fault bytes.now e) }
+    {
+        let header = Header::read(bytes)?;
+        Ok(HllSketch {
+            lg_config_k: header.lg_k,
+            mode: read_mode(alloc, bytes, header)?,
+        })
+    }
+
     /// A copy, with the same places.
     ///
     /// Fails with `Memory`.

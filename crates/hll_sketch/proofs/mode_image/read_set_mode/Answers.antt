@@ -1,0 +1,64 @@
+use Rattle.std.proofs.Common.{arith, ◌≡◌, ◌+◌, ◌*◌, ◌≤◌, ◌⊎◌, Bool, List, ℕ, take, drop, length, sym, ap, subst, ◌∙◌, inl, inr}
+use Rattle.std.proofs.lemmas.List.{take_rest}
+use Rattle.hll_base.proofs.Errors.{IfErr-passed}
+use Rattle.hll_base.specs.declared.error.Reason.TheVariants.{Memory}
+use Rattle.hll_coupons.specs.Pair.{set_of}
+use Rattle.hll_coupons.specs.Payload.{SetShape, shape_of_set, set_coupons, set_places, IsSetPayload, IsSetTable, SetFault}
+use Rattle.hll_coupons.specs.Table.{Table, coupons_of}
+use Rattle.hll_sketch.specs.Fault.{Fault}
+use Rattle.hll_sketch.specs.Fault as fault
+use Rattle.hll_sketch.specs.Image.{lg_k_byte, table_byte, set_shape, HasSetTable, IsReadAs}
+use Rattle.hll_sketch.specs.Header.{header_of}
+use Rattle.hll_sketch.specs.Value.{coupons}
+use Rattle.hll_sketch.specs.declared.header.Header.{Header}
+use Rattle.hll_sketch.proofs.FrontImages.{read_as-set}
+use Rattle.hll_sketch.proofs.mode_image.read_set_mode.Goals as goal
+use Rattle.hll_sketch.proofs.mode_image.read_set_mode.Goals.{then-header-lt-LG_LEAST_SET-via-then-header-lt-LG_LEAST_SET, then-header-lt-LG_LEAST_SET-via-else-header-lt-LG_LEAST_SET+then-header}
+
+-- what was handed to the reader of sets is the shape of the image
+same_shape : (b : List ℕ) (h : Header) (lg : ℕ) → h ≡ header_of b → lg ≡ h.lg_arr → shape_of_set lg h.compact ≡ set_shape b
+same_shape b h lg is size = λ i. record { lg_size = (size ∙ ap (λ (x : Header). x.lg_arr) is) i; compact = ap (λ (x : Header). x.compact) is i }
+
+pub returns-then-header-lt-LG_LEAST_SET-clause-err : goal.returns-then-header-lt-LG_LEAST_SET-clause-err
+returns-then-header-lt-LG_LEAST_SET-clause-err g c =
+    let b : List ℕ = c.args.bytes.now in
+    let arr = ap (λ (h : Header). h.lg_arr) c.requires.header in
+    let k = ap (λ (h : Header). h.lg_k) c.requires.header in
+    let none : HasSetTable b → ⊥ = λ t. elim c.then-header-lt-LG_LEAST_SET.branch [
+      | then-header-lt-LG_LEAST_SET-via-then-header-lt-LG_LEAST_SET w ↦ omega (arith, w.if-header-lt-LG_LEAST_SET.true, arr, t.low)
+      | then-header-lt-LG_LEAST_SET-via-else-header-lt-LG_LEAST_SET+then-header w ↦ omega (arith, w.if-header.true, arr, k, t.high)
+    ] in
+    inr (subst (Fault b) (sym c.new.ensures) (fault.Fault.set_table c.requires.has.whole c.requires.has.stage_is c.requires.has.lg_k none))
+
+pub returns-in_err-set-clause-err : goal.returns-in_err-set-clause-err
+returns-in_err-set-clause-err g c =
+    let b : List ℕ = c.args.bytes.now in
+    let e = c.in_err-set.field-0.0 in
+    let arr = ap (λ (h : Header). h.lg_arr) c.requires.header in
+    let k = ap (λ (h : Header). h.lg_k) c.requires.header in
+    let table : HasSetTable b = record { low = omega (arith, c.if-header-lt-LG_LEAST_SET.false, arr); high = omega (arith, c.if-header.false, arr, k, c.requires.has.lg_k.low) } in
+    let shape = same_shape b c.args.header c.from.result c.requires.header c.from.ensures in
+    IfErr-passed (λ r. (r ≡ Memory) ⊎ Fault b r) c.from_residual.result e c.from_residual.ensures.1
+    (elim c.in_err-set.ensures.err [
+      | inl full ↦ inl full
+      | inr f ↦ inr (fault.Fault.set_payload c.requires.has.whole c.requires.has.stage_is c.requires.has.lg_k table
+          (subst (λ h. SetFault h (drop 8 b) e) shape (subst (λ xs. SetFault (shape_of_set c.from.result c.args.header.compact) xs e) (c.new-2.ensures ∙ take_rest b 8) f)))
+    ])
+
+-- the set that the reader of the payload gives
+abbrev Given : SetShape → List ℕ → Table → Type 0
+Given h payload t = IsSetPayload h (take (4 + 4 * set_places h payload) payload) × IsSetTable h payload t
+
+pub returns-clause-ok : goal.returns-clause-ok
+returns-clause-ok g c =
+    let b : List ℕ = c.args.bytes.now in
+    let t : Table = c.in_ok-set.set in
+    let arr = ap (λ (h : Header). h.lg_arr) c.requires.header in
+    let k = ap (λ (h : Header). h.lg_k) c.requires.header in
+    let table : HasSetTable b = record { low = omega (arith, c.if-header-lt-LG_LEAST_SET.false, arr); high = omega (arith, c.if-header.false, arr, k, c.requires.has.lg_k.low) } in
+    let shape = same_shape b c.args.header c.from.result c.requires.header c.from.ensures in
+    let entry = c.new-2.ensures ∙ take_rest b 8 in
+    let same : Given (set_shape b) (drop 8 b) t = subst (λ h. Given h (drop 8 b) t) shape (subst (λ xs. Given (shape_of_set c.from.result c.args.header.compact) xs t) entry c.in_ok-set.ensures.ok) in
+    let members : coupons_of t ≡ set_of (set_coupons (set_shape b) (drop 8 b)) = c.in_ok-set.ensures.members ∙ (λ i. set_of (set_coupons (shape i) (entry i))) in
+    subst (λ (h : Header). IsReadAs b (record { lg_k = h.lg_k; width = h.hll_type; content = coupons (coupons_of t) t.lg_size })) (sym c.requires.header)
+    (read_as-set b t c.requires.has table same.0 same.1.size members)
