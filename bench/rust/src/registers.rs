@@ -1,22 +1,26 @@
-//! Measures registers at `lg_k` 12 and 21: merges of eight bits into eight and of six into eight, a fold to half as many
-//! registers, conversions to six bits, updates, and `is_empty`, `num_zeros` and `kxq_units` on zeros and on filled registers,
-//! beside the same loops over plain slices of bytes here. The two of each pair have to agree.
-use std::hint::black_box;
-use std::time::Instant;
+//! Measures registers at `lg_k` 12 and 21: merges of eight, six and four bits into eight, a fold to half as many registers,
+//! conversions to six and four bits, updates, and `is_empty`, `num_zeros` and `kxq_units` on zeros and on filled registers,
+//! beside the same loops over plain slices of bytes here. Updates of four bits stand beside those of eight bits of the same
+//! library too. The two of each pair have to agree.
+mod common;
 
-const LG_K: [u8; 2] = [12, 21];
+use common::{LG_K, exceptions, filled, least, measure, nibbles, packed, unpacked, updated, zeros};
+use std::hint::black_box;
+
 const MERGED_A_RUN: usize = 1 << 29;
 const UPDATES_A_RUN: u32 = 1 << 24;
-const RUNS: usize = 5;
 
 // The exports of crates/hll_bench; a `Global` takes no argument.
 unsafe extern "C" {
     fn hll_bench_merge_8(lg_k: u8, rounds: u32) -> u64;
     fn hll_bench_merge_6(lg_k: u8, rounds: u32) -> u64;
+    fn hll_bench_merge_4(lg_k: u8, rounds: u32) -> u64;
     fn hll_bench_downsample(lg_k: u8, rounds: u32) -> u64;
     fn hll_bench_convert_6(lg_k: u8, rounds: u32) -> u64;
+    fn hll_bench_convert_4(lg_k: u8, rounds: u32) -> u64;
     fn hll_bench_update_8(lg_k: u8, rounds: u32) -> u64;
     fn hll_bench_update_6(lg_k: u8, rounds: u32) -> u64;
+    fn hll_bench_update_4(lg_k: u8, rounds: u32) -> u64;
     fn hll_bench_is_empty_8(lg_k: u8, full: bool, rounds: u32) -> u64;
     fn hll_bench_num_zeros_8(lg_k: u8, full: bool, rounds: u32) -> u64;
     fn hll_bench_kxq_units_8(lg_k: u8, full: bool, rounds: u32) -> u64;
@@ -25,52 +29,10 @@ unsafe extern "C" {
     fn hll_bench_kxq_units_6(lg_k: u8, full: bool, rounds: u32) -> u64;
 }
 
-/// The slot and value behind a word, and the next word.
-fn next(word: u64) -> (usize, u8, u64) {
-    let word = word.wrapping_mul(0xd134_2543_de82_ef95);
-    let slot = (word >> 32 & 0x03ff_ffff) as usize;
-    (slot, word.leading_zeros().min(62) as u8 + 1, word)
-}
-
-fn updated(registers: &mut [u8], coupons: usize) {
-    let mut word = 1;
-    let mask = registers.len() - 1;
-    for _ in 0..coupons {
-        let (slot, value, after) = next(word);
-        let register = &mut registers[slot & mask];
-        *register = value.max(*register);
-        word = after;
-    }
-}
-
-fn filled(lg_k: u8) -> Vec<u8> {
-    let mut registers = vec![0; 1 << lg_k];
-    updated(&mut registers, 4 << lg_k);
-    registers
-}
-
 fn raise(registers: &mut [u8], others: &[u8]) {
     for (register, other) in registers.iter_mut().zip(others) {
         *register = (*other).max(*register);
     }
-}
-
-fn packed(registers: &[u8]) -> Vec<u8> {
-    let mut bytes = Vec::with_capacity(registers.len() / 4 * 3);
-    for four in registers.chunks_exact(4) {
-        let bits = four.iter().rev().fold(0u32, |bits, value| bits << 6 | u32::from(*value));
-        bytes.extend_from_slice(&bits.to_le_bytes()[..3]);
-    }
-    bytes
-}
-
-fn unpacked(group: &[u8]) -> [u8; 4] {
-    let bits = u32::from_le_bytes([group[0], group[1], group[2], 0]);
-    [bits & 63, bits >> 6 & 63, bits >> 12 & 63, bits >> 18].map(|field| field as u8)
-}
-
-fn zeros(registers: &[u8]) -> u64 {
-    registers.iter().filter(|register| **register == 0).count() as u64
 }
 
 fn merge_8(lg_k: u8, rounds: u32) -> u64 {
@@ -88,6 +50,23 @@ fn merge_6(lg_k: u8, rounds: u32) -> u64 {
     for _ in 0..rounds {
         for (four, group) in registers.chunks_exact_mut(4).zip(black_box(&source).chunks_exact(3)) {
             raise(four, &unpacked(group));
+        }
+    }
+    zeros(&registers)
+}
+
+fn merge_4(lg_k: u8, rounds: u32) -> u64 {
+    let source = filled(lg_k);
+    let minimum = least(&source);
+    let (source, exceptions) = (nibbles(&source, minimum), exceptions(&source, minimum));
+    assert!(!exceptions.is_empty());
+    let mut registers = vec![0; 1 << lg_k];
+    for _ in 0..rounds {
+        for (pair, byte) in registers.chunks_exact_mut(2).zip(black_box(&source)) {
+            raise(pair, &[minimum + byte % 16, minimum + byte / 16]);
+        }
+        for (slot, value) in black_box(&exceptions) {
+            registers[*slot] = registers[*slot].max(*value);
         }
     }
     zeros(&registers)
@@ -113,10 +92,25 @@ fn convert_6(lg_k: u8, rounds: u32) -> u64 {
     made.chunks_exact(3).map(|group| zeros(&unpacked(group))).sum()
 }
 
+/// The minimum, the nibbles above it and the exceptions.
+fn convert_4(lg_k: u8, rounds: u32) -> u64 {
+    let source = filled(lg_k);
+    let mut made = nibbles(&vec![0; 1 << lg_k], 0);
+    let mut minimum = 0;
+    for _ in 0..rounds {
+        let source = black_box(&source);
+        minimum = least(source);
+        made = nibbles(source, minimum);
+        black_box(exceptions(source, minimum));
+    }
+    assert_eq!(minimum, 0);
+    made.iter().map(|byte| zeros(&[byte % 16, byte / 16])).sum()
+}
+
 fn update_8(lg_k: u8, rounds: u32) -> u64 {
     let mut registers = vec![0; 1 << lg_k];
     updated(&mut registers, rounds as usize);
-    zeros(&registers)
+    high(units(&registers))
 }
 
 fn units(registers: &[u8]) -> u128 {
@@ -163,36 +157,27 @@ fn kxq_units_6<const FULL: bool>(lg_k: u8, rounds: u32) -> u64 {
     asked_groups(lg_k, FULL, rounds, |groups| high(groups.chunks_exact(3).map(|group| units(&unpacked(group))).sum()))
 }
 
-type Work = fn(u8, u32) -> u64;
-
-/// The least nanoseconds a round over some runs, and what came out.
-fn nanoseconds(work: Work, lg_k: u8, rounds: u32) -> (f64, u64) {
-    let timed = |rounds: u32| {
-        let start = Instant::now();
-        let out = black_box(work(lg_k, black_box(rounds)));
-        (start.elapsed().as_nanos() as f64, out)
-    };
-    let least = |rounds: u32| (0..RUNS).map(|_| timed(rounds).0).fold(f64::INFINITY, f64::min);
-    ((least(rounds) - least(0)) / f64::from(rounds), timed(rounds).1)
-}
-
-fn measure(name: &str, lg_k: u8, rounds: u32, ours: Work, theirs: Work) {
-    let (ours, out) = nanoseconds(ours, lg_k, rounds);
-    let (theirs, expected) = nanoseconds(theirs, lg_k, rounds);
-    assert_eq!(out, expected, "{name} at lg_k {lg_k}");
-    println!("{name:28} lg_k {lg_k}: {ours:12.1} ns, plainly {theirs:12.1} ns, ratio {:.2}", ours / theirs);
-}
-
 fn main() {
     // SAFETY, of each call: the declarations above are those of crates/hll_bench, and `lg_k` is 4 to 21, or to 20.
     for lg_k in LG_K {
         let rounds = (MERGED_A_RUN >> lg_k) as u32;
         measure("merge of eight into eight", lg_k, rounds, |k, n| unsafe { hll_bench_merge_8(k, n) }, merge_8);
         measure("merge of six into eight", lg_k, rounds, |k, n| unsafe { hll_bench_merge_6(k, n) }, merge_6);
+        measure("merge of four into eight", lg_k, rounds, |k, n| unsafe { hll_bench_merge_4(k, n) }, merge_4);
         measure("fold from one more", lg_k - 1, rounds, |k, n| unsafe { hll_bench_downsample(k, n) }, downsample);
         measure("conversion to six", lg_k, rounds, |k, n| unsafe { hll_bench_convert_6(k, n) }, convert_6);
+        measure("conversion to four", lg_k, rounds, |k, n| unsafe { hll_bench_convert_4(k, n) }, convert_4);
         measure("update of eight", lg_k, UPDATES_A_RUN, |k, n| unsafe { hll_bench_update_8(k, n) }, update_8);
         measure("update of six, beside eight", lg_k, UPDATES_A_RUN, |k, n| unsafe { hll_bench_update_6(k, n) }, update_8);
+        let coupons = 16 << lg_k;
+        measure("update of four, beside eight", lg_k, coupons, |k, n| unsafe { hll_bench_update_4(k, n) }, update_8);
+        measure(
+            "the same, beside our eight",
+            lg_k,
+            coupons,
+            |k, n| unsafe { hll_bench_update_4(k, n) },
+            |k, n| unsafe { hll_bench_update_8(k, n) },
+        );
         measure("is_empty of eight, zeros", lg_k, rounds, |k, n| unsafe { hll_bench_is_empty_8(k, false, n) }, is_empty::<false>);
         measure("is_empty of eight, filled", lg_k, UPDATES_A_RUN, |k, n| unsafe { hll_bench_is_empty_8(k, true, n) }, is_empty::<true>);
         measure("num_zeros of eight, zeros", lg_k, rounds, |k, n| unsafe { hll_bench_num_zeros_8(k, false, n) }, num_zeros::<false>);

@@ -9,8 +9,12 @@ ghost use Rattle.hll_coupons.specs.Fold.{join};
 ghost use Rattle.hll_arrays.specs.Packed as packed;
 ghost use Rattle.hll_arrays.specs.Packed.{zeros, lowered_byte, zero_nibbles};
 
+mod images;
 mod registers;
 
+use hll_arrays::array4::Array4;
+use hll_arrays::array6::Array6;
+use hll_arrays::array8::Array8;
 use hll_arrays::kernels::{all_zero, count_zeros, lower_nibbles, max_into, units};
 use hll_base::hash::MurmurHash3X64128;
 use std::alloc::Global;
@@ -44,6 +48,14 @@ pub extern "C" fn hll_bench_merge_6(alloc: Global, lg_k: u8, rounds: u32) -> u64
     registers::merge_6(alloc, lg_k, rounds).unwrap_or(REFUSED)
 }
 
+/// Merges of registers of four bits into registers of eight.
+#[unsafe(no_mangle)]
+pub extern "C" fn hll_bench_merge_4(alloc: Global, lg_k: u8, rounds: u32) -> u64
+    requires { (4 ≤ lg_k) × (lg_k ≤ 21) }
+{
+    registers::merge_4(alloc, lg_k, rounds).unwrap_or(REFUSED)
+}
+
 /// Merges of registers of eight bits into half as many.
 #[unsafe(no_mangle)]
 pub extern "C" fn hll_bench_downsample(alloc: Global, lg_k: u8, rounds: u32) -> u64
@@ -60,6 +72,14 @@ pub extern "C" fn hll_bench_convert_6(alloc: Global, lg_k: u8, rounds: u32) -> u
     registers::convert_6(alloc, lg_k, rounds).unwrap_or(REFUSED)
 }
 
+/// Conversions of registers of eight bits to four.
+#[unsafe(no_mangle)]
+pub extern "C" fn hll_bench_convert_4(alloc: Global, lg_k: u8, rounds: u32) -> u64
+    requires { (4 ≤ lg_k) × (lg_k ≤ 21) }
+{
+    registers::convert_4(alloc, lg_k, rounds).unwrap_or(REFUSED)
+}
+
 /// Updates of registers of eight bits.
 #[unsafe(no_mangle)]
 pub extern "C" fn hll_bench_update_8(alloc: Global, lg_k: u8, rounds: u32) -> u64
@@ -74,6 +94,14 @@ pub extern "C" fn hll_bench_update_6(alloc: Global, lg_k: u8, rounds: u32) -> u6
     requires { (4 ≤ lg_k) × (lg_k ≤ 21) }
 {
     registers::update_6(alloc, lg_k, rounds).unwrap_or(REFUSED)
+}
+
+/// Updates of registers of four bits.
+#[unsafe(no_mangle)]
+pub extern "C" fn hll_bench_update_4(alloc: Global, lg_k: u8, rounds: u32) -> u64
+    requires { (4 ≤ lg_k) × (lg_k ≤ 21) }
+{
+    registers::update_4(alloc, lg_k, rounds).unwrap_or(REFUSED)
 }
 
 /// Tests whether all registers of eight bits are 0.
@@ -122,6 +150,54 @@ pub extern "C" fn hll_bench_kxq_units_6(alloc: Global, lg_k: u8, full: bool, rou
     requires { (4 ≤ lg_k) × (lg_k ≤ 21) }
 {
     registers::kxq_units_6(alloc, lg_k, full, rounds).unwrap_or(REFUSED)
+}
+
+/// Reads of an image of registers of eight bits.
+#[unsafe(no_mangle)]
+pub extern "C" fn hll_bench_read_8(alloc: Global, lg_k: u8, rounds: u32) -> u64
+    requires { (4 ≤ lg_k) × (lg_k ≤ 21) }
+{
+    images::read_8(alloc, lg_k, rounds).unwrap_or(REFUSED)
+}
+
+/// Reads of an image of registers of six bits.
+#[unsafe(no_mangle)]
+pub extern "C" fn hll_bench_read_6(alloc: Global, lg_k: u8, rounds: u32) -> u64
+    requires { (4 ≤ lg_k) × (lg_k ≤ 21) }
+{
+    images::read_6(alloc, lg_k, rounds).unwrap_or(REFUSED)
+}
+
+/// Reads of an image of registers of four bits.
+#[unsafe(no_mangle)]
+pub extern "C" fn hll_bench_read_4(alloc: Global, lg_k: u8, rounds: u32) -> u64
+    requires { (4 ≤ lg_k) × (lg_k ≤ 21) }
+{
+    images::read_4(alloc, lg_k, rounds).unwrap_or(REFUSED)
+}
+
+/// Writes of images of registers of eight bits.
+#[unsafe(no_mangle)]
+pub extern "C" fn hll_bench_write_8(alloc: Global, lg_k: u8, rounds: u32) -> u64
+    requires { (4 ≤ lg_k) × (lg_k ≤ 21) }
+{
+    images::write::<Array8>(alloc, lg_k, rounds).unwrap_or(REFUSED)
+}
+
+/// Writes of images of registers of six bits.
+#[unsafe(no_mangle)]
+pub extern "C" fn hll_bench_write_6(alloc: Global, lg_k: u8, rounds: u32) -> u64
+    requires { (4 ≤ lg_k) × (lg_k ≤ 21) }
+{
+    images::write::<Array6>(alloc, lg_k, rounds).unwrap_or(REFUSED)
+}
+
+/// Writes of images of registers of four bits.
+#[unsafe(no_mangle)]
+pub extern "C" fn hll_bench_write_4(alloc: Global, lg_k: u8, rounds: u32) -> u64
+    requires { (4 ≤ lg_k) × (lg_k ≤ 21) }
+{
+    images::write::<Array4>(alloc, lg_k, rounds).unwrap_or(REFUSED)
 }
 
 /// `max_into`.

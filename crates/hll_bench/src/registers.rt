@@ -2,6 +2,7 @@
 //! of it, such as how many registers are 0 in the end.
 ghost use Rattle.std.specs.Prelude.{◌≡◌, ◌≤◌, IfOk};
 
+use hll_arrays::array4::Array4;
 use hll_arrays::array6::Array6;
 use hll_arrays::array8::Array8;
 use hll_arrays::convert::convert;
@@ -17,8 +18,8 @@ fn next(word: u64) -> (Coupon, u64) {
     (coupon, word)
 }
 
-/// Registers after four coupons for each.
-fn filled(alloc: Global, lg_k: u8) -> Result<Array8, Error>
+/// Registers after four coupons for each, and one that is an exception at four bits.
+pub(crate) fn filled(alloc: Global, lg_k: u8) -> Result<Array8, Error>
     requires { (4 ≤ lg_k) × (lg_k ≤ 21) }
     ensures { IfOk result (λ a. a.lg_k ≡ lg_k) }
 {
@@ -29,7 +30,13 @@ fn filled(alloc: Global, lg_k: u8) -> Result<Array8, Error>
         array.update(coupon);
         word = after;
     }
+    array.update(Coupon::pack(0, 40));
     Ok(array)
+}
+
+/// A sum of weights in units of 2^-3, modulo 2^32.
+fn weight(units: u128) -> u64 {
+    (units >> 60 & 0xffff_ffff) as u64
 }
 
 pub(crate) fn merge_8(alloc: Global, lg_k: u8, rounds: u32) -> Result<u64, Error>
@@ -47,6 +54,17 @@ pub(crate) fn merge_6(alloc: Global, lg_k: u8, rounds: u32) -> Result<u64, Error
     requires { (4 ≤ lg_k) × (lg_k ≤ 21) }
 {
     let source: Array6 = convert(&filled(alloc, lg_k)?)?;
+    let mut array = Array8::new(alloc, lg_k)?;
+    for _ in 0..rounds {
+        merge_from(&mut array, &source);
+    }
+    Ok(u64::from(array.num_zeros()))
+}
+
+pub(crate) fn merge_4(alloc: Global, lg_k: u8, rounds: u32) -> Result<u64, Error>
+    requires { (4 ≤ lg_k) × (lg_k ≤ 21) }
+{
+    let source: Array4 = convert(&filled(alloc, lg_k)?)?;
     let mut array = Array8::new(alloc, lg_k)?;
     for _ in 0..rounds {
         merge_from(&mut array, &source);
@@ -76,6 +94,17 @@ pub(crate) fn convert_6(alloc: Global, lg_k: u8, rounds: u32) -> Result<u64, Err
     Ok(u64::from(made.num_zeros()))
 }
 
+pub(crate) fn convert_4(alloc: Global, lg_k: u8, rounds: u32) -> Result<u64, Error>
+    requires { (4 ≤ lg_k) × (lg_k ≤ 21) }
+{
+    let source = filled(alloc, lg_k)?;
+    let mut made: Array4 = Array4::new(alloc, lg_k)?;
+    for _ in 0..rounds {
+        made = convert(&source)?;
+    }
+    Ok(u64::from(made.num_zeros()))
+}
+
 pub(crate) fn update_8(alloc: Global, lg_k: u8, rounds: u32) -> Result<u64, Error>
     requires { (4 ≤ lg_k) × (lg_k ≤ 21) }
 {
@@ -86,7 +115,7 @@ pub(crate) fn update_8(alloc: Global, lg_k: u8, rounds: u32) -> Result<u64, Erro
         array.update(coupon);
         word = after;
     }
-    Ok(u64::from(array.num_zeros()))
+    Ok(weight(array.kxq_units()))
 }
 
 pub(crate) fn update_6(alloc: Global, lg_k: u8, rounds: u32) -> Result<u64, Error>
@@ -99,7 +128,20 @@ pub(crate) fn update_6(alloc: Global, lg_k: u8, rounds: u32) -> Result<u64, Erro
         array.update(coupon);
         word = after;
     }
-    Ok(u64::from(array.num_zeros()))
+    Ok(weight(array.kxq_units()))
+}
+
+pub(crate) fn update_4(alloc: Global, lg_k: u8, rounds: u32) -> Result<u64, Error>
+    requires { (4 ≤ lg_k) × (lg_k ≤ 21) }
+{
+    let mut array = Array4::new(alloc, lg_k)?;
+    let mut word = 1;
+    for _ in 0..rounds {
+        let (coupon, after) = next(word);
+        array.update(coupon)?;
+        word = after;
+    }
+    Ok(weight(array.kxq_units()))
 }
 
 /// Registers of eight bits, all 0 or filled.
@@ -156,7 +198,7 @@ pub(crate) fn kxq_units_8(alloc: Global, lg_k: u8, full: bool, rounds: u32) -> R
     let mut sum = 0u64;
     for _ in 0..rounds {
         array.update(idle(rounds));
-        sum = sum.wrapping_add((array.kxq_units() >> 60 & 0xffff_ffff) as u64);
+        sum = sum.wrapping_add(weight(array.kxq_units()));
     }
     Ok(sum)
 }
@@ -192,7 +234,7 @@ pub(crate) fn kxq_units_6(alloc: Global, lg_k: u8, full: bool, rounds: u32) -> R
     let mut sum = 0u64;
     for _ in 0..rounds {
         array.update(idle(rounds));
-        sum = sum.wrapping_add((array.kxq_units() >> 60 & 0xffff_ffff) as u64);
+        sum = sum.wrapping_add(weight(array.kxq_units()));
     }
     Ok(sum)
 }
