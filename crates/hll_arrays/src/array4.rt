@@ -339,7 +339,7 @@ impl<A: Allocator + Clone> Array4<A> {
         ensures needed { OnErr result (ExceptionsMove self.old.stored.lg_k self.old.stored.registers (slice_set self.old.stored.registers slot value)) }
     {
         let at_minimum = self.get(slot) == self.cur_min;
-        if at_minimum && self.num_at_cur_min == 1 {
+        if self.num_at_cur_min == 1 && at_minimum {
             return self.rise(slot, value);
         }
         let left = self.num_at_cur_min - u32::from(at_minimum);
@@ -366,6 +366,7 @@ impl<A: Allocator + Clone> Array4<A> {
     }
 
     /// Gives a slot a greater register that is an exception. The minimum stays, with `left` registers at it.
+    #[inline(never)]
     fn put_high(&mut self, slot: u32, value: u8, left: u32) -> Result<(), Error>
         requires within { slot < 2 ^ self.old.stored.lg_k }
         requires more { slice_index self.old.stored.registers slot < value }
@@ -392,6 +393,7 @@ impl<A: Allocator + Clone> Array4<A> {
     }
 
     /// Gives the only slot at the minimum a greater register: the minimum rises.
+    #[inline(never)]
     fn rise(&mut self, slot: u32, value: u8) -> Result<(), Error>
         requires within { slot < 2 ^ self.old.stored.lg_k }
         requires more { slice_index self.old.stored.registers slot < value }

@@ -43,64 +43,66 @@ fn counted<A: Allocator + Clone>(
     Ok(sketch)
 }
 
-/// What is kept: the number of places and coupons of a table, and none of registers.
-fn table_of<A: Allocator>(sketch: &HllSketch<A>) -> (&'static str, usize, Option<usize>) {
+/// What a sketch keeps.
+#[derive(Clone, Copy, Debug, PartialEq, Eq)]
+enum Kind {
+    List,
+    Set,
+    Registers(HllType),
+}
+
+/// What is kept, the number of places, and of coupons.
+fn table_of<A: Allocator>(sketch: &HllSketch<A>) -> (Kind, usize, Option<usize>) {
     match sketch.mode() {
-        Mode::List { list, .. } => ("list", list.container().capacity(), sketch.num_coupons()),
-        Mode::Set { set, .. } => ("set", set.container().capacity(), sketch.num_coupons()),
-        Mode::Array4(_) => ("four", 0, sketch.num_coupons()),
-        Mode::Array6(_) => ("six", 0, sketch.num_coupons()),
-        Mode::Array8(_) => ("eight", 0, sketch.num_coupons()),
+        Mode::List { list, .. } => (
+            Kind::List,
+            list.container().capacity(),
+            sketch.num_coupons(),
+        ),
+        Mode::Set { set, .. } => (Kind::Set, set.container().capacity(), sketch.num_coupons()),
+        Mode::Array4(_) => (Kind::Registers(HllType::Hll4), 0, sketch.num_coupons()),
+        Mode::Array6(_) => (Kind::Registers(HllType::Hll6), 0, sketch.num_coupons()),
+        Mode::Array8(_) => (Kind::Registers(HllType::Hll8), 0, sketch.num_coupons()),
     }
 }
 
-/// At each `lg_k` how many coupons come, and what keeps them: the kind, its places, and the size in bytes, of which
-/// registers give those at four, six and eight bits.
-const STAGES: [(u8, u32, &'static str, usize, [usize; 3]); 14] = [
-    (4, 0, "list", 8, [32; 3]),
-    (4, 7, "list", 8, [32; 3]),
-    (4, 8, "array", 0, [8, 13, 16]),
-    (7, 8, "array", 0, [64, 97, 128]),
-    (8, 7, "list", 8, [32; 3]),
-    (8, 8, "set", 32, [128; 3]),
-    (8, 24, "set", 32, [128; 3]),
-    (8, 25, "array", 0, [128, 193, 256]),
-    (9, 25, "set", 64, [256; 3]),
-    (9, 48, "set", 64, [256; 3]),
-    (9, 49, "array", 0, [256, 385, 512]),
-    (10, 49, "set", 128, [512; 3]),
-    (12, 385, "array", 0, [2048, 3073, 4096]),
-    (21, 49, "set", 128, [512; 3]),
+/// At each `lg_k` how many coupons come, and what keeps them: a table, or none where registers do, its places, and the
+/// size in bytes at four, six and eight bits.
+const STAGES: [(u8, u32, Option<Kind>, usize, [usize; 3]); 14] = [
+    (4, 0, Some(Kind::List), 8, [32; 3]),
+    (4, 7, Some(Kind::List), 8, [32; 3]),
+    (4, 8, None, 0, [8, 13, 16]),
+    (7, 8, None, 0, [64, 97, 128]),
+    (8, 7, Some(Kind::List), 8, [32; 3]),
+    (8, 8, Some(Kind::Set), 32, [128; 3]),
+    (8, 24, Some(Kind::Set), 32, [128; 3]),
+    (8, 25, None, 0, [128, 193, 256]),
+    (9, 25, Some(Kind::Set), 64, [256; 3]),
+    (9, 48, Some(Kind::Set), 64, [256; 3]),
+    (9, 49, None, 0, [256, 385, 512]),
+    (10, 49, Some(Kind::Set), 128, [512; 3]),
+    (12, 385, None, 0, [2048, 3073, 4096]),
+    (21, 49, Some(Kind::Set), 128, [512; 3]),
 ];
 
 #[test]
 fn stages(rt: HostRuntime) -> Result<(), Fail> {
-    for (lg_k, count, kind, places, sizes) in STAGES {
-        for (hll_type, name, size) in [
-            (HllType::Hll4, "four", sizes[0]),
-            (HllType::Hll6, "six", sizes[1]),
-            (HllType::Hll8, "eight", sizes[2]),
-        ] {
-            let sketch = counted(rt.alloc(), lg_k, hll_type, count)?;
-            let coupons = if kind == "array" {
-                None
-            } else {
-                Some(count as usize)
+    for (lg_k, count, table, places, sizes) in STAGES {
+        for (hll_type, size) in WIDTHS.iter().zip(sizes.iter()) {
+            let sketch = counted(rt.alloc(), lg_k, *hll_type, count)?;
+            let wanted = match table {
+                Some(kind) => (kind, places, Some(count as usize)),
+                None => (Kind::Registers(*hll_type), places, None),
             };
-            let kept = if kind == "array" { name } else { kind };
-            assert_eq!(rt;
-                table_of(&sketch),
-                (kept, places, coupons),
-                "{lg_k} {count}"
-            );
-            assert_eq!(rt; sketch.estimated_size(), size, "{lg_k} {count} {name}");
+            assert_eq!(rt; table_of(&sketch), wanted, "{lg_k} {count}");
+            assert_eq!(rt; sketch.estimated_size(), *size, "{lg_k} {count}");
             assert_eq!(rt;
                 (
                     sketch.lg_config_k(),
                     sketch.target_type(),
                     sketch.is_empty()
                 ),
-                (lg_k, hll_type, count == 0)
+                (lg_k, *hll_type, count == 0)
             );
         }
     }
@@ -276,6 +278,148 @@ fn images(rt: HostRuntime) -> Result<(), Fail> {
         assert_eq!(rt; written.as_slice(), image, "{lg_k}");
         assert_eq!(rt; written.capacity(), image.len());
     }
+    Ok(())
+}
+
+/// What is written is read back, with bytes behind it too, and written again as it was; cut short it is refused.
+fn read_back(rt: &impl Abort, alloc: Global, sketch: &HllSketch) -> Result<(), Fail> {
+    let image = sketch.serialize()?;
+    let mut longer = image.clone()?;
+    longer.push(255)?;
+    for bytes in [image.as_slice(), longer.as_slice()] {
+        let read = HllSketch::deserialize(alloc, bytes)?;
+        assert!(rt; read == *sketch);
+        assert_eq!(rt; read.serialize()?.as_slice(), image.as_slice());
+    }
+    for end in [0, 7, 8, image.len() / 2, image.len() - 1] {
+        if let Some(front) = image.get(..end.min(image.len() - 1)) {
+            assert!(rt; HllSketch::deserialize(alloc, front).is_err());
+        }
+    }
+    Ok(())
+}
+
+#[test]
+fn images_are_read_back(rt: HostRuntime) -> Result<(), Fail> {
+    for (lg_k, count, _, _, _) in STAGES {
+        for hll_type in WIDTHS {
+            let mut sketch = counted(rt.alloc(), lg_k, hll_type, count)?;
+            read_back(&rt, rt.alloc(), &sketch)?;
+            add(&mut sketch, 3, 40)?;
+            read_back(&rt, rt.alloc(), &sketch)?;
+        }
+    }
+    for (_, _, _, image) in IMAGES {
+        let sketch = HllSketch::deserialize(rt.alloc(), image)?;
+        assert_eq!(rt; sketch.serialize()?.as_slice(), image);
+    }
+    Ok(())
+}
+
+/// Images that are read, and what is written for them: a list in descending order, a set with a place for each coupon
+/// that isn't where a search finds it, registers of four bits with a minimum that is too low, of six bits with a last
+/// byte.
+const MENDED: [(&[u8], &[u8]); 4] = [
+    (
+        &[2, 1, 7, 10, 3, 8, 2, 8, 7, 0, 0, 8, 5, 0, 0, 4],
+        &[2, 1, 7, 10, 3, 8, 2, 8, 5, 0, 0, 4, 7, 0, 0, 8],
+    ),
+    (
+        &[3, 1, 7, 8, 5, 8, 0, 9, 2, 0, 0, 0, 9, 0, 0, 4, 3, 0, 0, 4],
+        &[3, 1, 7, 8, 5, 8, 0, 9, 2, 0, 0, 0, 3, 0, 0, 4, 9, 0, 0, 4],
+    ),
+    (
+        &[
+            10, 1, 7, 4, 0, 8, 0, 2, 0, 0, 0, 0, 0, 0, 0, 0, 0, 0, 0, 0, 0, 0, 0, 0, 0, 0, 0, 0, 0,
+            0, 0, 0, 16, 0, 0, 0, 0, 0, 0, 0, 17, 17, 17, 17, 17, 17, 17, 17,
+        ],
+        &[
+            10, 1, 7, 4, 0, 8, 1, 2, 0, 0, 0, 0, 0, 0, 0, 0, 0, 0, 0, 0, 0, 0, 0, 0, 0, 0, 0, 0, 0,
+            0, 0, 0, 16, 0, 0, 0, 0, 0, 0, 0, 0, 0, 0, 0, 0, 0, 0, 0,
+        ],
+    ),
+    (
+        &[
+            10, 1, 7, 4, 0, 0, 0, 6, 0, 0, 0, 0, 0, 0, 0, 0, 0, 0, 0, 0, 0, 0, 0, 0, 0, 0, 0, 0, 0,
+            0, 0, 0, 16, 0, 0, 0, 0, 0, 0, 0, 0, 0, 0, 0, 0, 0, 0, 0, 0, 0, 0, 0, 255,
+        ],
+        &[
+            10, 1, 7, 4, 0, 0, 0, 6, 0, 0, 0, 0, 0, 0, 0, 0, 0, 0, 0, 0, 0, 0, 0, 0, 0, 0, 0, 0, 0,
+            0, 0, 0, 16, 0, 0, 0, 0, 0, 0, 0, 0, 0, 0, 0, 0, 0, 0, 0, 0, 0, 0, 0, 0,
+        ],
+    ),
+];
+
+#[test]
+fn images_are_mended(rt: HostRuntime) -> Result<(), Fail> {
+    for (image, written) in MENDED {
+        let sketch = HllSketch::deserialize(rt.alloc(), image)?;
+        assert_eq!(rt; sketch.serialize()?.as_slice(), written);
+    }
+    Ok(())
+}
+
+/// Images with a fault, and its reason.
+const FAULTS: [(&[u8], Reason); 14] = [
+    (&[], Reason::Truncated),
+    (&[2, 1, 7, 12, 3, 12, 0], Reason::Truncated),
+    (&[2, 1, 8, 10, 3, 12, 0, 8], Reason::Family),
+    (&[2, 2, 7, 10, 3, 12, 0, 8], Reason::Version),
+    (&[2, 1, 7, 3, 3, 12, 0, 8], Reason::LgK),
+    (&[2, 1, 7, 10, 3, 12, 0, 12], Reason::Width),
+    (&[2, 1, 7, 10, 3, 12, 0, 11], Reason::Stage),
+    (&[3, 1, 7, 10, 3, 12, 0, 8], Reason::Preamble),
+    (&[2, 1, 7, 10, 4, 12, 0, 8], Reason::LgArr),
+    (&[2, 1, 7, 10, 3, 8, 1, 8, 5, 0, 0], Reason::Truncated),
+    (
+        &[3, 1, 7, 8, 5, 8, 0, 9, 1, 0, 0, 0, 0, 0, 0, 0],
+        Reason::Coupon,
+    ),
+    (
+        &[3, 1, 7, 8, 6, 8, 0, 9, 1, 0, 0, 0, 9, 0, 0, 4],
+        Reason::LgArr,
+    ),
+    (
+        &[3, 1, 7, 7, 4, 8, 0, 9, 1, 0, 0, 0, 9, 0, 0, 4],
+        Reason::LgArr,
+    ),
+    (
+        &[
+            10, 1, 7, 4, 0, 8, 0, 2, 0, 0, 0, 0, 0, 0, 0, 0, 0, 0, 0, 0, 0, 0, 0, 0, 0, 0, 0, 0, 0,
+            0, 0, 0, 15, 0, 0, 0, 0, 0, 0, 0, 15, 0, 0, 0, 0, 0, 0, 0,
+        ],
+        Reason::Register,
+    ),
+];
+
+#[test]
+fn faults(rt: HostRuntime) -> Result<(), Fail> {
+    for (image, reason) in FAULTS {
+        let read = HllSketch::deserialize(rt.alloc(), image);
+        assert_eq!(rt; read.err().map(|e| e.reason()), Some(reason), "{image:?}");
+    }
+    Ok(())
+}
+
+/// A set of 31 coupons in 32 places is read, and becomes registers with the next update, though the coupon is there.
+#[test]
+fn crowded_sets(rt: HostRuntime) -> Result<(), Fail> {
+    let mut image = vec![in rt.alloc(); 0u8; 136]?;
+    for (place, byte) in [3, 1, 7, 8, 5, 8, 0, 9, 31].iter().enumerate() {
+        image[place] = *byte;
+    }
+    for slot in 0..31usize {
+        image[12 + 4 * slot] = slot as u8;
+        image[15 + 4 * slot] = 4;
+    }
+    let mut sketch = HllSketch::deserialize(rt.alloc(), &image)?;
+    assert_eq!(rt; table_of(&sketch), (Kind::Set, 32, Some(31)));
+    add(&mut sketch, 7, 1)?;
+    assert_eq!(rt;
+        table_of(&sketch),
+        (Kind::Registers(HllType::Hll8), 0, None)
+    );
+    assert!(rt; sketch == counted(rt.alloc(), 8, HllType::Hll8, 31)?);
     Ok(())
 }
 
