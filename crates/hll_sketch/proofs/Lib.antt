@@ -13,6 +13,7 @@ pub mod LegalImages
 pub mod LegalSketches
 pub mod ListImages
 pub mod Promoting
+pub mod ReadBack
 pub mod ReferenceSteps
 pub mod RegisterImages
 pub mod SameLemmas

@@ -1,9 +1,13 @@
 -- The laws of adding and merging (docs/MODEL.md, "Laws of adding and merging").
-use Rattle.std.specs.Prelude.{◌≡◌, ℕ, true, min, List, [], ◌∷◌, if◌then◌else◌}
+use Rattle.std.specs.Prelude.{◌≡◌, ℕ, true, min, List, [], ◌∷◌, ◌++◌, if◌then◌else◌}
 use Rattle.std.specs.FinSet.{union}
 use Rattle.hll_coupons.specs.Pair.{Pairs, set_of}
 use Rattle.hll_sketch.specs.Value.{Sketch, is_empty, has_registers, ArePairs, IsLegal}
+use Rattle.hll_base.specs.declared.error.Reason.{Reason}
 use Rattle.hll_sketch.specs.Adding.{add}
+use Rattle.hll_sketch.specs.Fault.{Fault}
+use Rattle.hll_sketch.specs.Image.{IsReadAs}
+use Rattle.hll_sketch.specs.Written.{Written}
 use Rattle.hll_sketch.specs.Merging.{merge, empty_union}
 
 -- to add twice is to add the union
@@ -56,3 +60,14 @@ AddIsLegal = (x : Sketch) (T : Pairs) → IsLegal x → ArePairs T → IsLegal (
 
 abbrev pub MergeIsLegal : Type 0
 MergeIsLegal = (bound : ℕ) (g x : Sketch) → IsLegal g → IsLegal x → IsLegal (merge bound g x)
+
+-- ---- what is written is read back
+
+-- whatever follows, the bytes are read as this sketch and no other, and have no fault
+pub record IsReadBackAs (written more : List ℕ) (x : Sketch) : Type 0 where
+  pub is_read : IsReadAs (written ++ more) x
+  pub no_other : (y : Sketch) → IsReadAs (written ++ more) y → y ≡ x
+  pub no_fault : (r : Reason) → Fault (written ++ more) r → ⊥
+
+abbrev pub WrittenIsReadBack : Type 0
+WrittenIsReadBack = (bytes more : List ℕ) (x : Sketch) → IsLegal x → Written bytes x → IsReadBackAs bytes more x

@@ -1,6 +1,6 @@
 //! The laws of adding, merging and images, each the contract of a function that does nothing
 //! (docs/MODEL.md, "Laws of adding and merging" and "Images").
-ghost use Rattle.hll_sketch.specs.Laws.{AddOfAdd, AddEach, MergeOfEmpty, UnionLgK, AddIsLegal, MergeIsLegal};
+ghost use Rattle.hll_sketch.specs.Laws.{AddOfAdd, AddEach, MergeOfEmpty, UnionLgK, AddIsLegal, MergeIsLegal, WrittenIsReadBack};
 ghost use Rattle.hll_sketch.specs.Layout.{OneStepSuffices};
 ghost use Rattle.hll_sketch.specs.Same.{SameIsEqual};
 ghost use Rattle.hll_sketch.specs.Image.{OneImage, ImageIsLegal};
@@ -55,6 +55,11 @@ pub fn fault_excludes_image()
 /// A fault of an image is one of data, never of an argument or of memory.
 pub fn faults_are_of_data()
     ensures { FaultsAreOfData }
+{}
+
+/// What is written for a legal sketch is read as that sketch and no other, and has no fault, whatever follows.
+pub fn written_is_read_back()
+    ensures { WrittenIsReadBack }
 {}
 
 /// What is written for a legal sketch is an image of it.
