@@ -1,6 +1,6 @@
 use Rattle.std.proofs.Common.{◌≡◌, take}
 use Rattle.hll_coupons.specs.Pair.{set_of}
-use Rattle.hll_merge.proofs.Promoting.{folded}
+use Rattle.hll_sketch.proofs.Promoting.{folded}
 use Rattle.hll_caller.proofs.registers_of.Given as goal
 
 -- the coupons so far are folded
