@@ -29,7 +29,7 @@ use hll_coupons::aux_map::AuxMap;
 use hll_coupons::coupon::Coupon;
 use hll_coupons::hll_type::HllType;
 use hll_coupons::serialization::{COMPACT_FLAG_MASK, COUPON_SIZE_BYTES, HLL_PREAMBLE_SIZE};
-use std::alloc::{Allocator, Global};
+use std::alloc::{AllocError, Allocator, Global};
 use std::marker::Model;
 
 /// 2^`lg_k` registers of 0 to 63, and their estimate state: two registers a byte, each as far above the least of all as
@@ -266,6 +266,11 @@ impl<A: Allocator + Clone> Array4<A> {
             exceptions: parts.exceptions,
             state,
         })
+    }
+
+    /// A clone of the allocator. Fails where the allocator's own `clone` does.
+    pub fn cloned_allocator(&self) -> Result<A, AllocError> {
+        self.nibbles.allocator().clone()
     }
 
     /// A copy, with the same places of the map.

@@ -21,7 +21,7 @@ use hll_base::error::{Error, Reason};
 use hll_coupons::coupon::Coupon;
 use hll_coupons::hll_type::HllType;
 use hll_coupons::serialization::HLL_PREAMBLE_SIZE;
-use std::alloc::{Allocator, Global};
+use std::alloc::{AllocError, Allocator, Global};
 use std::marker::Model;
 
 /// 2^`lg_k` registers of 0 to 63, four of them in three bytes, and their estimate state. Contracts see the `lg_k`, the
@@ -177,6 +177,11 @@ impl<A: Allocator> Array6<A> {
 }
 
 impl<A: Allocator + Clone> Array6<A> {
+    /// A clone of the allocator. Fails where the allocator's own `clone` does.
+    pub fn cloned_allocator(&self) -> Result<A, AllocError> {
+        self.groups.allocator().clone()
+    }
+
     /// A copy.
     ///
     /// Fails with `Memory`.

@@ -22,7 +22,7 @@ use hll_base::error::{Error, Reason};
 use hll_coupons::coupon::Coupon;
 use hll_coupons::hll_type::HllType;
 use hll_coupons::serialization::HLL_PREAMBLE_SIZE;
-use std::alloc::{Allocator, Global};
+use std::alloc::{AllocError, Allocator, Global};
 use std::marker::Model;
 
 /// The greatest value of a register.
@@ -132,6 +132,13 @@ impl<A: Allocator> Array8<A> {
         ensures registers { AreRegisters self.now.lg_k self.now.registers }
     {
         &self.registers
+    }
+
+    /// The registers, without their `lg_k` and state. Takes no memory.
+    pub fn into_values(self) -> Vec<u8, A>
+        ensures { result.items ≡ self.registers }
+    {
+        self.registers
     }
 
     /// Raises the register at the coupon's slot modulo 2^`lg_k` to the coupon's value. If it changes, the state is
@@ -249,11 +256,9 @@ impl<A: Allocator> Array8<A> {
 }
 
 impl<A: Allocator + Clone> Array8<A> {
-    /// A clone of the allocator.
-    pub(crate) fn allocator(&self) -> Result<A, Error>
-        ensures err { IfErr result (λ e. e ≡ Memory) }
-    {
-        Ok(self.registers.allocator().clone()?)
+    /// A clone of the allocator. Fails where the allocator's own `clone` does.
+    pub fn cloned_allocator(&self) -> Result<A, AllocError> {
+        self.registers.allocator().clone()
     }
 
     /// A copy.

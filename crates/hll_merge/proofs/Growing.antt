@@ -21,7 +21,8 @@ use Rattle.hll_sketch.specs.Adding.{content_for, content_with, add}
 use Rattle.hll_sketch.specs.Merging.{merge, merge_coupons, merge_content, state_after_merge, merge_all, empty_union}
 use Rattle.hll_merge.specs.Plan.{Plan, Plans, new, image, coupon, union_of, no_plans, more_plans, inputs, outcome, outcomes, Leaves, LeavesOfEach}
 use Rattle.hll_merge.specs.Meaning.{Means}
-use Rattle.hll_merge.specs.Grown.{IsGrownContent, IsGrown, all_pairs, least_lg_k, union_value_of_pairs, union_value, Converges, JoinsChildren, IsGrownOfPairs}
+use Rattle.hll_sketch.specs.Grown.{IsGrownContent, IsGrown}
+use Rattle.hll_merge.specs.Grown.{all_pairs, least_lg_k, union_value_of_pairs, union_value, Converges, JoinsChildren, IsGrownOfPairs}
 use Rattle.hll_sketch.proofs.Sets.{union_assoc, len_union_le, union_left, union_right, or_assoc, or-false}
 use Rattle.hll_sketch.proofs.LegalSketches.{ArePairs-union}
 use Rattle.hll_sketch.proofs.Stages.{stage_again}

@@ -7,7 +7,8 @@ use Rattle.hll_sketch.specs.Value.{Sketch}
 use Rattle.hll_sketch.specs.Adding.{add}
 use Rattle.hll_sketch.specs.Merging.{merge_all, empty_union}
 use Rattle.hll_merge.specs.Plan.{Plan, Plans, union_of, no_plans, more_plans, outcome, outcomes, Leaves, LeavesOfEach}
-use Rattle.hll_merge.specs.Grown.{IsGrown, union_value}
+use Rattle.hll_sketch.specs.Grown.{IsGrown}
+use Rattle.hll_merge.specs.Grown.{union_value}
 use Rattle.hll_merge.specs.Rearrangement.{IsChild, both_plans, IsRearrangement, AreRearrangements, reordered, grouped, same, stored, flipped, chained, below_coupon, below_union, none, more, RearrangedPlansAgree}
 use Rattle.hll_merge.proofs.Growing.{merge-is_joined, fits}
 use Rattle.hll_merge.proofs.Regrouping.{joined_same, joined_joined}

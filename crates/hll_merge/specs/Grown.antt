@@ -1,4 +1,4 @@
--- Sketches that grew from the empty one, and the join of many (docs/MODEL.md, "Convergence").
+-- The join of many sketches (docs/MODEL.md, "Convergence").
 use Rattle.std.specs.Prelude.{◌≡◌, ℕ, ◌≤◌, min, Bool, true, false, if◌then◌else◌, List, [], ◌∷◌, ◌++◌, Some, Contains}
 use Rattle.std.specs.List.{list_any, AllByRecursion}
 use Rattle.std.specs.FinSet.{empty, union, len}
@@ -7,17 +7,10 @@ use Rattle.hll_coupons.specs.Fold.{fold_to}
 use Rattle.hll_coupons.specs.declared.hll_type.HllType.{HllType}
 use Rattle.hll_arrays.specs.State.{cleared_state}
 use Rattle.hll_sketch.specs.Stage.{stage}
-use Rattle.hll_sketch.specs.Value.{Sketch, Content, coupons, registers, pairs_of, has_registers, ArePairs}
+use Rattle.hll_sketch.specs.Value.{Sketch, registers, pairs_of, has_registers, ArePairs}
 use Rattle.hll_sketch.specs.Adding.{content_for}
+use Rattle.hll_sketch.specs.Grown.{IsGrown}
 use Rattle.hll_merge.specs.Plan.{Plan, new, image, coupon, union_of, outcome, outcomes, Leaves}
-
--- the size that its pairs need from the start, or registers with the cleared state
-abbrev pub IsGrownContent : ℕ → Content → Type 0
-IsGrownContent k (coupons S size) = stage k 3 (len S) ≡ Some size
-IsGrownContent k (registers R state) = state ≡ cleared_state
-
-abbrev pub IsGrown : Sketch → Type 0
-IsGrown x = IsGrownContent x.lg_k x.content
 
 -- the pairs of all
 abbrev pub all_pairs : List Sketch → Pairs

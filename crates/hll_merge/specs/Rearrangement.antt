@@ -2,7 +2,7 @@
 use Rattle.std.specs.Prelude.{◌≡◌, ℕ, ◌⊎◌}
 use Rattle.hll_coupons.specs.declared.hll_type.HllType.{HllType}
 use Rattle.hll_merge.specs.Plan.{Plan, Plans, image, coupon, union_of, no_plans, more_plans, outcome, Leaves}
-use Rattle.hll_merge.specs.Grown.{IsGrown}
+use Rattle.hll_sketch.specs.Grown.{IsGrown}
 
 -- the plan is one of the children
 abbrev pub IsChild : Plan → Plans → Type 0

@@ -36,7 +36,7 @@ found_in_range f a (suc n) q e = elim (cases_Bool (f a)) [
   | inr z ↦ let r = found_in_range f (a + 1) n q (sym (cond-false (f a) (Some a) (find f (range_with_len (a + 1) n)) z) ∙ e) in (omega (arith, r.0), omega (arith, r.1), r.2)
 ]
 
-legal_size : (k from n q : ℕ) → stage k from n ≡ Some q → IsTableFor k n q
+pub legal_size : (k from n q : ℕ) → stage k from n ≡ Some q → IsTableFor k n q
 legal_size k from n q e = elim (cases_Bool (leb from 3 && holds 3 n)) [
   | inl t ↦
       let at : Some 3 ≡ Some q = sym (cond-true (leb from 3 && holds 3 n) (Some 3) _ t) ∙ e in
@@ -55,7 +55,7 @@ legal_size k from n q e = elim (cases_Bool (leb from 3 && holds 3 n)) [
 pub ArePairs-union : (P Q : Pairs) → ArePairs P → ArePairs Q → ArePairs (union P Q)
 ArePairs-union P Q p q c h = elim (or_cases (contains P c) (contains Q c) (sym (contains_union P Q c) ∙ h)) [ inl l ↦ p c l | inr r ↦ q c r ]
 
-fold_are_registers : (P : Pairs) (k : ℕ) → ArePairs P → AreRegisters k (fold_to P k)
+pub fold_are_registers : (P : Pairs) (k : ℕ) → ArePairs P → AreRegisters k (fold_to P k)
 fold_are_registers P k are = record {
   size = length-fold_to P k;
   small = All-from_get_or (λ v. v ≤ 63) (fold_to P k) 0 (λ i h.
@@ -64,7 +64,7 @@ fold_are_registers P k are = record {
       omega (arith, get_or-fold_to P k i within));
 }
 
-join_are_registers : (k : ℕ) (R Q : List ℕ) → AreRegisters k R → AreRegisters k Q → AreRegisters k (join R Q)
+pub join_are_registers : (k : ℕ) (R Q : List ℕ) → AreRegisters k R → AreRegisters k Q → AreRegisters k (join R Q)
 join_are_registers k R Q r q =
     let size : length (join R Q) ≡ length R = length-join R Q (r.size ∙ sym q.size) in
     record {
@@ -75,7 +75,7 @@ join_are_registers k R Q r q =
           omega (arith, get_or-join R Q i));
     }
 
-ArePairs-pairs : (k : ℕ) (R : List ℕ) → k ≤ 21 → AreRegisters k R → ArePairs (pairs R)
+pub ArePairs-pairs : (k : ℕ) (R : List ℕ) → k ≤ 21 → AreRegisters k R → ArePairs (pairs R)
 ArePairs-pairs k R small are q h =
     let found : (i : ℕ) × StandsFor R 0 q i = pairs_only R q h in
     let i : ℕ = found.0 in
@@ -93,7 +93,7 @@ zeros_small = All-from_get_or (λ w. w < 2 ^ 64) (0 ∷ 0 ∷ 0 ∷ []) 0 at
     at (suc (suc zero)) h = omega arith
     at (suc (suc (suc i))) h = absurd (omega arith)
 
-IsState-cleared_state : IsState cleared_state
+pub IsState-cleared_state : IsState cleared_state
 IsState-cleared_state = record { three = refl; words = zeros_small }
 
 IsState-after : (R Q : List ℕ) (s : EstimateState) → IsState s → IsState (state_after R Q s)
@@ -101,7 +101,7 @@ IsState-after R Q s h = elim (pointwise nat_eq R Q) as (λ b. IsState (cond b s 
 
 -- ---- adding
 
-settled_legal : (k : ℕ) (S : Pairs) (n : ℕ) (o : Option ℕ) (from : ℕ) → ArePairs S → n ≡ len S → stage k from n ≡ o → IsLegalContent k (content_for k S o)
+pub settled_legal : (k : ℕ) (S : Pairs) (n : ℕ) (o : Option ℕ) (from : ℕ) → ArePairs S → n ≡ len S → stage k from n ≡ o → IsLegalContent k (content_for k S o)
 settled_legal k S n (Some q) from are is e = (are, subst (λ m. IsTableFor k m q) is (legal_size k from n q e))
 settled_legal k S n None from are is e = (fold_are_registers S k are, IsState-cleared_state)
 

@@ -1,8 +1,10 @@
 mod StageRows
 pub mod Adding
+pub mod Collecting
 pub mod Emptiness
 pub mod FaultKinds
 pub mod Faults
+pub mod Folds
 pub mod FrontImages
 pub mod Headers
 mod ImageRows
@@ -10,6 +12,7 @@ pub mod Images
 pub mod Inserting
 pub mod Keeping
 pub mod LegalImages
+pub mod LegalLayouts
 pub mod LegalSketches
 pub mod ListImages
 pub mod Promoting

@@ -2,7 +2,7 @@
 use Rattle.std.specs.Prelude.{◌≡◌, ◌≢◌, ℕ, ◌+◌, ◌^◌, ◌≤◌, ◌<◌, ◌==◌, ◌⊎◌, Bool, true, false, Option, Some, None, if◌then◌else◌, [], ◌∷◌, length}
 use Rattle.std.specs.FinSet.{insert, union, len}
 use Rattle.hll_coupons.specs.AuxMap.{ExceptionMap}
-use Rattle.hll_coupons.specs.Pair.{Pairs, set_of}
+use Rattle.hll_coupons.specs.Pair.{set_of}
 use Rattle.hll_coupons.specs.Table.{Table, coupons_in, coupons_of}
 use Rattle.hll_coupons.specs.declared.hll_type.HllType.{HllType}
 use Rattle.hll_coupons.specs.declared.hll_type.HllType.TheVariants.{Hll4, Hll6, Hll8}
@@ -54,6 +54,12 @@ abbrev pub IsLayoutFor : ℕ → Layout → Type 0
 IsLayoutFor k (list width t) = t.lg_size ≡ 3
 IsLayoutFor k (set width t) = (5 ≤ t.lg_size) × (t.lg_size + 3 ≤ k) × (length (coupons_in t.places) < 2 ^ t.lg_size)
 IsLayoutFor k (array width x e) = x.lg_k ≡ k
+
+-- registers, if that is what is kept, are at this lg_k or a greater one
+abbrev pub IsWithin : ℕ → Layout → Type 0
+IsWithin e (list width t) = Unit {0}
+IsWithin e (set width t) = Unit {0}
+IsWithin e (array width x m) = e ≤ x.lg_k
 
 -- ---- steps
 

@@ -1,6 +1,8 @@
 pub mod Adding
 pub mod Agree
 pub mod Fault
+pub mod Folding
+pub mod Grown
 pub mod Header
 pub mod Image
 pub mod Laws

@@ -2,6 +2,7 @@
 //! (docs/MODEL.md, "Laws of adding and merging" and "Images").
 ghost use Rattle.hll_sketch.specs.Laws.{AddOfAdd, AddEach, MergeOfEmpty, UnionLgK, AddIsLegal, MergeIsLegal, WrittenIsReadBack};
 ghost use Rattle.hll_sketch.specs.Layout.{OneStepSuffices};
+ghost use Rattle.hll_sketch.specs.Folding.{FoldedIsLegal, FoldedIsGrown, FoldedHasSameFolds};
 ghost use Rattle.hll_sketch.specs.Same.{SameIsEqual};
 ghost use Rattle.hll_sketch.specs.Image.{OneImage, ImageIsLegal};
 ghost use Rattle.hll_sketch.specs.Fault.{FaultExcludesHeader, FaultExcludesImage, FaultsAreOfData};
@@ -90,4 +91,19 @@ pub fn add_is_legal()
 /// A legal gadget stays legal when a legal sketch is merged.
 pub fn merge_is_legal()
     ensures { MergeIsLegal }
+{}
+
+/// A legal sketch folded to an lg_k of 4 to its own stays legal.
+pub fn folded_is_legal()
+    ensures { FoldedIsLegal }
+{}
+
+/// A grown sketch stays grown when it is folded.
+pub fn folded_is_grown()
+    ensures { FoldedIsGrown }
+{}
+
+/// At each lg_k up to the one that a sketch is folded to, the sketch and its fold have the same registers.
+pub fn folded_has_same_folds()
+    ensures { FoldedHasSameFolds }
 {}

@@ -1,6 +1,7 @@
 //! Sketches, their values and images, and the laws of adding and merging (docs/ARCHITECTURE.md, "Sketches").
 #![tactic(auto)]
 
+mod folding;
 pub mod header;
 pub mod hll8_image;
 pub mod laws;

@@ -103,11 +103,47 @@ fn registers_of<S: RegisterStore<A>, A: Allocator + Clone>(
     ensures ok { IfOk result (λ s. S.stored s ≡ record { lg_k = lg_k; registers = fold_to (insert (coupons_of table.now) coupon) lg_k; state = cleared_state }) }
     ensures err { IfErr result (λ e. e ≡ Memory) }
 {
-    let mut registers = S::make(table.cloned_allocator()?, lg_k)?;
-    for other in table.iter() {
-        registers.put_coupon(other)?;
-    }
+    let mut registers: S = registers_of_table(lg_k, table)?;
     registers.put_coupon(coupon)?;
+    Ok(registers)
+}
+
+/// The registers of this width of the coupons of a table.
+///
+/// Fails with `Memory`.
+pub(crate) fn mode_of_table<A: Allocator + Clone>(
+    lg_k: u8,
+    hll_type: HllType,
+    table: &Container<A>,
+) -> Result<Mode<A>, Error>
+    requires lg_k { IsLgK lg_k }
+    ensures content { IfOk result (λ m. content_in (layout_of m) ≡ registers (fold_to (coupons_of table.now) lg_k) cleared_state) }
+    ensures layout { IfOk result (λ m. IsLayoutFor lg_k (layout_of m)) }
+    ensures width { IfOk result (λ m. width_of (layout_of m) ≡ hll_type) }
+    ensures err { IfErr result (λ e. e ≡ Memory) }
+{
+    Ok(match hll_type {
+        HllType::Hll4 => Mode::Array4(registers_of_table::<Array4<A>, A>(lg_k, table)?),
+        HllType::Hll6 => Mode::Array6(registers_of_table::<Array6<A>, A>(lg_k, table)?),
+        HllType::Hll8 => Mode::Array8(registers_of_table::<Array8<A>, A>(lg_k, table)?),
+    })
+}
+
+/// The registers of the coupons of a table, with the cleared state.
+///
+/// Fails with `Memory`.
+pub(crate) fn registers_of_table<S: RegisterStore<A>, A: Allocator + Clone>(
+    lg_k: u8,
+    table: &Container<A>,
+) -> Result<S, Error>
+    requires { IsLgK lg_k }
+    ensures ok { IfOk result (λ s. S.stored s ≡ record { lg_k = lg_k; registers = fold_to (coupons_of table.now) lg_k; state = cleared_state }) }
+    ensures err { IfErr result (λ e. e ≡ Memory) }
+{
+    let mut registers = S::make(table.cloned_allocator()?, lg_k)?;
+    for coupon in table.iter() {
+        registers.put_coupon(coupon)?;
+    }
     Ok(registers)
 }
 

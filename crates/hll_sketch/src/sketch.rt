@@ -4,14 +4,18 @@ ghost use Rattle.hll_base.specs.declared.error.Reason.TheVariants.{Memory};
 ghost use Rattle.hll_base.specs.declared.error.Reason.TheVariants as reasons;
 ghost use Rattle.hll_base.specs.Hash.{hash_of, initial_state, after_piece, default_seed};
 ghost use Rattle.hll_coupons.specs.Hashed.{coupon_of_halves};
+ghost use Rattle.hll_coupons.specs.Fold.{fold_to};
 ghost use Rattle.hll_coupons.specs.Pair.{value_of, set_of};
 ghost use Rattle.hll_sketch.specs.Adding.{add, content_with};
 ghost use Rattle.hll_sketch.specs.Fault.{Fault};
+ghost use Rattle.hll_sketch.specs.Folding as folding;
+ghost use Rattle.hll_sketch.specs.Folding.{IsFoldLgK};
 ghost use Rattle.hll_sketch.specs.Image.{IsReadAs};
 ghost use Rattle.hll_sketch.specs.Layout.{layout_of, content_in, width_of, sketch_of, IsLayoutFor, holds_with, count_in, NeedsMemory};
-ghost use Rattle.hll_sketch.specs.Value.{IsLgK, empty_sketch, is_empty, size_of};
+ghost use Rattle.hll_sketch.specs.Value.{IsLgK, empty_sketch, in_registers, is_empty, pairs_of, size_of, IsLegal};
 ghost use Rattle.hll_sketch.specs.Written.{Written};
 
+use crate::folding::{fold_of, of_width, settled};
 use crate::header::Header;
 use crate::mode::Mode;
 use crate::mode_image::read_mode;
@@ -223,6 +227,93 @@ impl<A: Allocator + Clone> HllSketch<A> {
         ensures err { IfErr result (λ e. e ≡ Memory) }
     {
         self.update_with_coupon(Coupon::from_value(value))
+    }
+
+    /// The registers that its pairs fold to at an `lg_k`: 2^`lg_k` values of 0 to 63.
+    ///
+    /// `lg_k` is 4 to the sketch's. Takes a byte a register, and one pass. Fails with `Memory`.
+    pub fn registers_at(&self, lg_k: u8) -> Result<Vec<u8, A>, Error>
+        requires least { 4 ≤ lg_k }
+        requires most { lg_k ≤ self.now.lg_k }
+        ensures ok { IfOk result (λ values. values.items ≡ fold_to (pairs_of (sketch_of self.now)) lg_k) }
+        ensures err { IfErr result (λ e. e ≡ Memory) }
+    {
+        Ok(fold_of(&self.mode, lg_k)?.into_values())
+    }
+
+    /// The sketch folded to an `lg_k`, of the same width (docs/MODEL.md, "Folding"): coupons stay whole, and registers keep
+    /// their state only at their own `lg_k`.
+    ///
+    /// Fails with `Argument` if `lg_k` is not 4 to the sketch's, or else with `Memory`.
+    pub fn folded(&self, lg_k: u8) -> Result<HllSketch<A>, Error>
+        ensures ok { IfOk result (λ s. sketch_of s ≡ folding.folded (sketch_of self.now) lg_k) }
+        ensures lg_k { OnOk result (IsFoldLgK self.now.lg_k lg_k) }
+        ensures outside { IfErr result (λ e. e ≡ reasons.Argument → IsFoldLgK self.now.lg_k lg_k → ⊥) }
+        ensures within { IfErr result (λ e. e ≡ Memory → IsFoldLgK self.now.lg_k lg_k) }
+        ensures err { IfErr result (λ e. (e ≡ reasons.Argument) ⊎ (e ≡ Memory)) }
+    {
+        if lg_k < 4 || self.lg_config_k < lg_k {
+            return Err(Error::new(Reason::Argument));
+        }
+        Ok(HllSketch {
+            lg_config_k: lg_k,
+            mode: self.folded_mode(lg_k)?,
+        })
+    }
+
+    /// The mode at an `lg_k`.
+    fn folded_mode(&self, lg_k: u8) -> Result<Mode<A>, Error>
+        requires { IsFoldLgK self.now.lg_k lg_k }
+        ensures content { IfOk result (λ m. content_in (layout_of m) ≡ folding.folded_content self.now.lg_k lg_k (content_in self.now.layout)) }
+        ensures layout { IfOk result (λ m. IsLayoutFor lg_k (layout_of m)) }
+        ensures width { IfOk result (λ m. width_of (layout_of m) ≡ width_of self.now.layout) }
+        ensures err { IfErr result (λ e. e ≡ Memory) }
+    {
+        match &self.mode {
+            Mode::List { list, hll_type } => settled(lg_k, *hll_type, list.container()),
+            Mode::Set { set, hll_type } => settled(lg_k, *hll_type, set.container()),
+            Mode::Array4(_) | Mode::Array6(_) | Mode::Array8(_) => self.folded_registers(lg_k),
+        }
+    }
+
+    /// Says that the sketch value is legal. Does nothing.
+    pub(crate) fn value_is_legal(&self)
+        ensures { IsLegal (sketch_of self.now) }
+    {
+        match &self.mode {
+            Mode::List { list, .. } => {
+                let _len = list.container().len();
+            }
+            Mode::Set { set, .. } => {
+                let _len = set.container().len();
+            }
+            Mode::Array4(array) => {
+                let _lg_k = array.lg_k();
+            }
+            Mode::Array6(array) => {
+                let _lg_k = array.lg_k();
+            }
+            Mode::Array8(array) => {
+                let _lg_k = array.lg_k();
+            }
+        }
+    }
+
+    /// The registers at an `lg_k`.
+    fn folded_registers(&self, lg_k: u8) -> Result<Mode<A>, Error>
+        requires lg_k { IsFoldLgK self.now.lg_k lg_k }
+        requires registers { in_registers (content_in self.now.layout) ≡ true }
+        ensures content { IfOk result (λ m. content_in (layout_of m) ≡ folding.folded_content self.now.lg_k lg_k (content_in self.now.layout)) }
+        ensures layout { IfOk result (λ m. IsLayoutFor lg_k (layout_of m)) }
+        ensures width { IfOk result (λ m. width_of (layout_of m) ≡ width_of self.now.layout) }
+        ensures err { IfErr result (λ e. e ≡ Memory) }
+    {
+        self.value_is_legal();
+        if lg_k == self.lg_config_k {
+            self.mode.clone()
+        } else {
+            of_width(fold_of(&self.mode, lg_k)?, self.target_type())
+        }
     }
 
     /// What takes over from a table once it has a coupon more, none if it stays as large as it is. Registers stay.

@@ -2,6 +2,8 @@
 #![tactic(auto)]
 
 #[cfg(test)]
+mod folds;
+#[cfg(test)]
 mod images;
 #[cfg(test)]
 mod reference;

@@ -1,0 +1,123 @@
+//! What a mode becomes at a smaller `lg_k` (docs/MODEL.md, "Folding").
+ghost use Rattle.std.specs.Prelude.{◌≡◌, ◌≤◌, IfOk, IfErr};
+ghost use Rattle.std.specs.FinSet.{len};
+ghost use Rattle.hll_base.specs.declared.error.Reason.TheVariants.{Memory};
+ghost use Rattle.hll_coupons.specs.Fold.{fold_to, pairs};
+ghost use Rattle.hll_coupons.specs.Table.{coupons_of};
+ghost use Rattle.hll_coupons.specs.declared.hll_type.HllType.TheVariants.{Hll8};
+ghost use Rattle.hll_arrays.specs.State.{cleared_state};
+ghost use Rattle.hll_sketch.specs.Adding.{content_for};
+ghost use Rattle.hll_sketch.specs.Layout.{layout_of, content_in, width_of, IsLayoutFor, IsWithin};
+ghost use Rattle.hll_sketch.specs.Stage as stages;
+ghost use Rattle.hll_sketch.specs.Value.{IsLgK, pairs_in, registers};
+
+use crate::mode::Mode;
+use crate::promotion::{mode_of_table, registers_of_table};
+use crate::reference::stage;
+use hll_arrays::array8::Array8;
+use hll_arrays::convert::convert;
+use hll_arrays::merge::merge_from;
+use hll_arrays::registers::Registers;
+use hll_base::error::Error;
+use hll_coupons::container::Container;
+use hll_coupons::hash_set::HashSet;
+use hll_coupons::hll_type::HllType;
+use hll_coupons::list::List;
+use std::alloc::Allocator;
+
+/// The registers of eight bits that all pairs of a mode fold to, with the cleared state.
+///
+/// `lg_k` is at most that of registers. One pass. Fails with `Memory`.
+pub(crate) fn fold_of<A: Allocator + Clone>(mode: &Mode<A>, lg_k: u8) -> Result<Array8<A>, Error>
+    requires lg_k { IsLgK lg_k }
+    requires within { IsWithin lg_k (layout_of mode.now) }
+    ensures ok { IfOk result (λ a. a ≡ record { lg_k = lg_k; registers = fold_to (pairs_in (content_in (layout_of mode.now))) lg_k; state = cleared_state }) }
+    ensures err { IfErr result (λ e. e ≡ Memory) }
+{
+    match mode {
+        Mode::List { list, .. } => registers_of_table(lg_k, list.container()),
+        Mode::Set { set, .. } => registers_of_table(lg_k, set.container()),
+        Mode::Array4(array) => fold_of_registers(array.cloned_allocator()?, lg_k, array),
+        Mode::Array6(array) => fold_of_registers(array.cloned_allocator()?, lg_k, array),
+        Mode::Array8(array) => fold_of_registers(array.cloned_allocator()?, lg_k, array),
+    }
+}
+
+/// The fold of registers.
+fn fold_of_registers<R: Registers, A: Allocator>(
+    alloc: A,
+    lg_k: u8,
+    source: &R,
+) -> Result<Array8<A>, Error>
+    requires lg_k { IsLgK lg_k }
+    requires within { lg_k ≤ (R.stored source.now).lg_k }
+    ensures ok { IfOk result (λ a. a ≡ record { lg_k = lg_k; registers = fold_to (pairs (R.stored source.now).registers) lg_k; state = cleared_state }) }
+    ensures err { IfErr result (λ e. e ≡ Memory) }
+{
+    let mut made = Array8::new(alloc, lg_k)?;
+    merge_from(&mut made, source);
+    Ok(made)
+}
+
+/// The mode of the coupons of a table at an `lg_k`: at the size that they need from the start, or registers.
+///
+/// Fails with `Memory`.
+pub(crate) fn settled<A: Allocator + Clone>(
+    lg_k: u8,
+    hll_type: HllType,
+    table: &Container<A>,
+) -> Result<Mode<A>, Error>
+    requires { IsLgK lg_k }
+    ensures content { IfOk result (λ m. content_in (layout_of m) ≡ content_for lg_k (coupons_of table.now) (stages.stage lg_k 3 (len (coupons_of table.now)))) }
+    ensures layout { IfOk result (λ m. IsLayoutFor lg_k (layout_of m)) }
+    ensures width { IfOk result (λ m. width_of (layout_of m) ≡ hll_type) }
+    ensures err { IfErr result (λ e. e ≡ Memory) }
+{
+    match stage(lg_k, 3, table.len()) {
+        None => mode_of_table(lg_k, hll_type, table),
+        Some(3) => Ok(Mode::List {
+            list: list_of(table)?,
+            hll_type,
+        }),
+        Some(size) => {
+            let alloc = table.cloned_allocator()?;
+            let set = HashSet::from_container(alloc, usize::from(size), table)?;
+            Ok(Mode::Set { set, hll_type })
+        }
+    }
+}
+
+/// A list of eight places with the coupons of a table, at most eight.
+fn list_of<A: Allocator + Clone>(table: &Container<A>) -> Result<List<A>, Error>
+    requires { len (coupons_of table.now) ≤ 8 }
+    ensures size { IfOk result (λ l. l.lg_size ≡ 3) }
+    ensures members { IfOk result (λ l. coupons_of l ≡ coupons_of table.now) }
+    ensures err { IfErr result (λ e. e ≡ Memory) }
+{
+    let _len = table.len();
+    let mut list = List::default_in(table.cloned_allocator()?)?;
+    for coupon in table.iter() {
+        let _len = list.container().len();
+        list.update(coupon);
+    }
+    Ok(list)
+}
+
+/// Registers of eight bits at another width, with their state.
+///
+/// Takes no memory at eight bits. Fails with `Memory`.
+pub(crate) fn of_width<A: Allocator + Clone>(
+    array: Array8<A>,
+    hll_type: HllType,
+) -> Result<Mode<A>, Error>
+    ensures content { IfOk result (λ m. content_in (layout_of m) ≡ registers array.registers array.state) }
+    ensures layout { IfOk result (λ m. IsLayoutFor array.lg_k (layout_of m)) }
+    ensures width { IfOk result (λ m. width_of (layout_of m) ≡ hll_type) }
+    ensures err { IfErr result (λ e. e ≡ Memory) }
+{
+    match hll_type {
+        HllType::Hll4 => Ok(Mode::Array4(convert(&array)?)),
+        HllType::Hll6 => Ok(Mode::Array6(convert(&array)?)),
+        HllType::Hll8 => Ok(Mode::Array8(array)),
+    }
+}
