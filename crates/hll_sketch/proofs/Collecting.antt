@@ -1,12 +1,18 @@
 -- Coupons of a list that come one after another.
-use Rattle.std.proofs.Common.{◌≡◌, ℕ, ◌+◌, ◌≤◌, ◌<◌, ◌^◌, false, List, [], ◌∷◌, ◌++◌, length, All, refl, sym, ap, ◌∙◌, arith}
-use Rattle.std.specs.FinSet.{len, contains}
+use Rattle.std.proofs.Common.{◌≡◌, ℕ, ◌+◌, ◌≤◌, ◌<◌, ◌^◌, ◌||◌, nat_eq, true, false, cond, List, [], ◌∷◌, ◌++◌, length, All, refl, sym, ap, ◌∙◌, arith, inl, inr}
+use Rattle.std.specs.Cmp.{nat_cmp_total}
+use Rattle.std.specs.Ordering.{nat_cmp}
+use Rattle.std.specs.FinSet.{len, contains, insert, union, contains-from_list_nat, len-insert, len-empty}
+use Rattle.std.proofs.lemmas.Bool.{cases_Bool, or_left}
+use Rattle.std.proofs.lemmas.List.Folds.{list_any-append}
 use Rattle.std.proofs.lemmas.List.{append-nil}
 use Rattle.std.proofs.lemmas.List.Elements.{All-head, All-tail}
-use Rattle.hll_coupons.specs.Pair.{set_of}
+use Rattle.hll_coupons.specs.Pair.{Pairs, set_of}
 use Rattle.hll_coupons.specs.Table.{Table, coupons_in, coupons_of, IsTable}
-use Rattle.hll_coupons.proofs.Members.{set_of-between, len-between}
-use Rattle.hll_sketch.proofs.Steps.{len-insert_ge}
+use Rattle.hll_coupons.proofs.Members.{set_of-between, len-between, insert-member}
+use Rattle.hll_sketch.proofs.Inserting.{insert-union, set_of-nil}
+use Rattle.hll_sketch.proofs.Sets.{contains_union, union_assoc, union_none}
+use Rattle.hll_sketch.proofs.Steps.{len-insert_ge, len-insert_le}
 
 -- what all of a list have, one between others has
 pub All-between : {X : Type 0} (P : X → Type 0) (xs zs : List X) (y : X) → All P (xs ++ y ∷ zs) → P y
@@ -39,3 +45,71 @@ room_of_eight t all xs ys c table three is whole few new =
     let eight : 2 ^ t.lg_size ≡ 8 = ap (λ q. 2 ^ q) three in
     let more : len (set_of xs) + 1 ≤ len (set_of (xs ++ c ∷ ys)) = len-with_new xs ys c (ap (λ S. contains S c) (sym is) ∙ new) in
     omega (arith, eight, more, few, ap (λ zs. len (set_of zs)) whole, table.distinct, ap len is)
+
+-- ---- with a set
+
+-- one more, behind others
+pub union_behind : (S : Pairs) (xs : List ℕ) (c : ℕ) → union S (set_of (xs ++ c ∷ [])) ≡ insert (union S (set_of xs)) c
+union_behind S xs c =
+    ap (union S) (set_of-between xs [] c ∙ ap (λ zs. insert (set_of zs) c) (append-nil xs) ∙ insert-union (set_of xs) c)
+    ∙ sym (union_assoc S (set_of xs) (set_of (c ∷ []))) ∙ sym (insert-union (union S (set_of xs)) c)
+
+union_between : (S : Pairs) (xs ys : List ℕ) (c : ℕ) → union S (set_of (xs ++ c ∷ ys)) ≡ insert (union S (set_of (xs ++ ys))) c
+union_between S xs ys c =
+    ap (union S) (set_of-between xs ys c ∙ insert-union (set_of (xs ++ ys)) c)
+    ∙ sym (union_assoc S (set_of (xs ++ ys)) (set_of (c ∷ []))) ∙ sym (insert-union (union S (set_of (xs ++ ys))) c)
+
+-- a longer list has as many members or more beside those of a set
+pub len-union_longer : (S : Pairs) (xs ys : List ℕ) → len (union S (set_of xs)) ≤ len (union S (set_of (xs ++ ys)))
+len-union_longer S xs [] = let same : len (union S (set_of (xs ++ []))) ≡ len (union S (set_of xs)) = ap (λ zs. len (union S (set_of zs))) (append-nil xs) in omega (arith, same)
+len-union_longer S xs (y ∷ ys) =
+    let more : len (union S (set_of (xs ++ ys))) ≤ len (union S (set_of (xs ++ y ∷ ys))) = rw (union_between S xs ys y) (len-insert_ge (union S (set_of (xs ++ ys))) y) in
+    omega (arith, more, len-union_longer S xs ys)
+
+pub len-union_with : (S : Pairs) (xs ys : List ℕ) (c : ℕ) → len (union S (set_of (xs ++ c ∷ []))) ≤ len (union S (set_of (xs ++ c ∷ ys)))
+len-union_with S xs ys c = rw (sym (append-between xs ys c)) (len-union_longer S (xs ++ c ∷ []) ys)
+
+len-set_le : (xs : List ℕ) → len (set_of xs) ≤ length xs
+len-set_le [] = let none : len (set_of []) ≡ 0 = ap len set_of-nil ∙ len-empty nat_cmp in omega (arith, none)
+len-set_le (x ∷ xs) = omega (arith, len-insert_le (set_of xs) x, len-set_le xs)
+
+-- in a list without repetition one is not among those before it
+pub new_between : (xs ys : List ℕ) (c : ℕ) → len (set_of (xs ++ c ∷ ys)) ≡ length (xs ++ c ∷ ys) → contains (set_of xs) c ≡ false
+new_between xs ys c distinct = elim (cases_Bool (contains (set_of xs) c)) [
+  | inl t ↦
+      let there : contains (set_of (xs ++ ys)) c ≡ true = contains-from_list_nat (xs ++ ys) c ∙ list_any-append (λ y. nat_eq y c) xs ys ∙ or_left _ _ (sym (contains-from_list_nat xs c) ∙ t) in
+      let same : set_of (xs ++ c ∷ ys) ≡ set_of (xs ++ ys) = set_of-between xs ys c ∙ insert-member (set_of (xs ++ ys)) c there in
+      absurd (omega (arith, distinct, ap len same, len-set_le (xs ++ ys), length-between xs ys c))
+  | inr f ↦ f
+]
+  where
+    length-between : (xs ys : List ℕ) (c : ℕ) → length (xs ++ c ∷ ys) ≡ length (xs ++ ys) + 1
+    length-between [] ys c = omega arith
+    length-between (x ∷ xs) ys c = omega (arith, length-between xs ys c)
+
+-- how many there are beside those of a set: none yet, one that stands in neither, one that stands in the set
+pub len-union_none : (S : Pairs) → len (union S (set_of [])) ≡ len S
+len-union_none S = ap len (union_none S)
+
+pub len-union_new : (S : Pairs) (xs ys : List ℕ) (c : ℕ) → len (set_of (xs ++ c ∷ ys)) ≡ length (xs ++ c ∷ ys) → contains S c ≡ false →
+    len (union S (set_of (xs ++ c ∷ []))) ≡ len (union S (set_of xs)) + 1
+len-union_new S xs ys c distinct new =
+    let out : contains (union S (set_of xs)) c ≡ false = contains_union S (set_of xs) c ∙ ap (λ b. b || contains (set_of xs) c) new ∙ new_between xs ys c distinct in
+    ap len (union_behind S xs c) ∙ len-insert nat_cmp_total (union S (set_of xs)) c
+    ∙ ap (λ b. cond b (len (union S (set_of xs))) (len (union S (set_of xs)) + 1)) out
+
+pub len-union_old : (S : Pairs) (xs : List ℕ) (c : ℕ) → contains S c ≡ true → len (union S (set_of (xs ++ c ∷ []))) ≡ len (union S (set_of xs))
+len-union_old S xs c old =
+    let is_in : contains (union S (set_of xs)) c ≡ true = contains_union S (set_of xs) c ∙ or_left _ _ old in
+    ap len (union_behind S xs c ∙ insert-member (union S (set_of xs)) c is_in)
+
+pub len-union_most : (S : Pairs) (xs : List ℕ) → len (union S (set_of xs)) ≤ len S + length xs
+len-union_most S [] = omega (arith, len-union_none S)
+len-union_most S (x ∷ xs) =
+    let one : len (union S (set_of (x ∷ xs))) ≤ len (union S (set_of xs)) + 1 = rw (union_between S [] xs x) (len-insert_le (union S (set_of xs)) x) in
+    omega (arith, one, len-union_most S xs)
+
+-- a front is no longer than the whole
+pub shorter : (xs ys : List ℕ) → length xs ≤ length (xs ++ ys)
+shorter [] ys = omega arith
+shorter (x ∷ xs) ys = omega (arith, shorter xs ys)

@@ -1,5 +1,5 @@
 -- A table and a coupon more, in the words of the definitions.
-use Rattle.std.proofs.Common.{◌≡◌, ℕ, ◌+◌, ◌*◌, ◌^◌, ◌≤◌, ◌<◌, Bool, true, false, not, cond, eqb, leb, [], ◌∷◌, length, Some, Result, Ok, Err, IfOk, OnErr, sym, ap, subst, ◌∙◌, arith}
+use Rattle.std.proofs.Common.{◌≡◌, ℕ, ◌+◌, ◌*◌, ◌^◌, ◌≤◌, ◌<◌, Bool, true, false, not, cond, eqb, leb, [], ◌∷◌, length, Some, Result, Ok, Err, IfOk, OnOk, OnErr, sym, ap, subst, ◌∙◌, arith}
 use mir.Val.{bool_byte}
 use Rattle.std.specs.Cmp.{nat_cmp_total}
 use Rattle.std.specs.FinSet.{contains, insert, len, len-insert}
@@ -81,3 +81,12 @@ room_of_set p n low h =
 pub IfOk-map : {X E : Type 0} (r : Result X E) (P Q : X → Type 0) → ((x : X) → P x → Q x) → IfOk r P → IfOk r Q
 IfOk-map (Ok x) P Q f h = f x h
 IfOk-map (Err e) P Q f h = tt
+
+-- what follows from either outcome
+pub either_way : {X E : Type 0} (r : Result X E) (P Q T : Type 0) → OnOk r P → OnErr r Q → (P → T) → (Q → T) → T
+either_way (Ok x) P Q T p q f h = f p
+either_way (Err e) P Q T p q f h = h q
+
+pub OnOk-map : {X E : Type 0} (r : Result X E) (P Q : Type 0) → (P → Q) → OnOk r P → OnOk r Q
+OnOk-map (Ok x) P Q f h = f h
+OnOk-map (Err e) P Q f h = tt

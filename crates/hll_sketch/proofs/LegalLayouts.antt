@@ -1,9 +1,7 @@
 -- What a sketch keeps is a legal sketch value.
-use Rattle.std.proofs.Common.{◌≡◌, ℕ, ◌≤◌, ◌^◌, Option, length, ap, subst, inl, inr, arith}
-use Rattle.hll_coupons.specs.AuxMap.{ExceptionMap}
+use Rattle.std.proofs.Common.{◌≡◌, ℕ, ◌≤◌, ◌^◌, length, ap, inl, inr, arith}
 use Rattle.hll_coupons.specs.Table.{Table, coupons_in, IsTable}
 use Rattle.hll_coupons.specs.declared.hll_type.HllType.{HllType}
-use Rattle.hll_arrays.specs.Store.{Stored, IsStored, AreRegisters}
 use Rattle.hll_sketch.specs.Layout as layouts
 use Rattle.hll_sketch.specs.Layout.{SketchLayout, sketch_of, IsLayoutFor}
 use Rattle.hll_sketch.specs.Value.{IsLgK, IsLegal}

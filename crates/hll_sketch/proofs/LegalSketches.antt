@@ -26,7 +26,7 @@ use Rattle.hll_sketch.proofs.Sets.{contains_union}
 -- ---- sizes
 
 -- what is found in a range, is in it and passes
-found_in_range : (f : ℕ → Bool) (a n q : ℕ) → find f (range_with_len a n) ≡ Some q → (a ≤ q) × (q < a + n) × (f q ≡ true)
+pub found_in_range : (f : ℕ → Bool) (a n q : ℕ) → find f (range_with_len a n) ≡ Some q → (a ≤ q) × (q < a + n) × (f q ≡ true)
 found_in_range f a zero q e = absurd (cc)
 found_in_range f a (suc n) q e = elim (cases_Bool (f a)) [
   | inl t ↦

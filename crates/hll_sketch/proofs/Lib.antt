@@ -6,6 +6,7 @@ pub mod FaultKinds
 pub mod Faults
 pub mod Folds
 pub mod FrontImages
+pub mod Gadgets
 pub mod Headers
 mod ImageRows
 pub mod Images
@@ -15,6 +16,7 @@ pub mod LegalImages
 pub mod LegalLayouts
 pub mod LegalSketches
 pub mod ListImages
+pub mod Merges
 pub mod Promoting
 pub mod ReadBack
 pub mod ReferenceSteps

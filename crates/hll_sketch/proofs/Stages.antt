@@ -6,7 +6,7 @@ use Rattle.std.proofs.lemmas.Bool.{leb-true, le-leb, lt-leb, cases_Bool, and_par
 use Rattle.hll_sketch.specs.Stage.{sizes, holds, stage}
 
 -- what holds more holds less
-holds_fewer : (q n m : ℕ) → n ≤ m → holds q m ≡ true → holds q n ≡ true
+pub holds_fewer : (q n m : ℕ) → n ≤ m → holds q m ≡ true → holds q n ≡ true
 holds_fewer q n m le =
     elim (eqb q 3) as (λ b. cond b (leb m 7) (leb (4 * m) (3 * 2 ^ q)) ≡ true → cond b (leb n 7) (leb (4 * n) (3 * 2 ^ q)) ≡ true) [
       | true ↦ λ h. le-leb n 7 (omega (arith, leb-true m 7 h))

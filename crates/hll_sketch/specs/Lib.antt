@@ -11,5 +11,6 @@ pub mod Merging
 pub mod Reference
 pub mod Same
 pub mod Stage
+pub mod Union
 pub mod Value
 pub mod Written

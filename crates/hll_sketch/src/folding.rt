@@ -103,7 +103,7 @@ fn list_of<A: Allocator + Clone>(table: &Container<A>) -> Result<List<A>, Error>
     Ok(list)
 }
 
-/// Registers of eight bits at another width, with their state.
+/// Registers of eight bits at a width, with their state.
 ///
 /// Takes no memory at eight bits. Fails with `Memory`.
 pub(crate) fn of_width<A: Allocator + Clone>(
@@ -116,8 +116,26 @@ pub(crate) fn of_width<A: Allocator + Clone>(
     ensures err { IfErr result (λ e. e ≡ Memory) }
 {
     match hll_type {
-        HllType::Hll4 => Ok(Mode::Array4(convert(&array)?)),
-        HllType::Hll6 => Ok(Mode::Array6(convert(&array)?)),
         HllType::Hll8 => Ok(Mode::Array8(array)),
+        HllType::Hll4 | HllType::Hll6 => converted(&array, hll_type),
+    }
+}
+
+/// A copy of registers of eight bits at a width, with their state.
+///
+/// Fails with `Memory`.
+pub(crate) fn converted<A: Allocator + Clone>(
+    array: &Array8<A>,
+    hll_type: HllType,
+) -> Result<Mode<A>, Error>
+    ensures content { IfOk result (λ m. content_in (layout_of m) ≡ registers array.now.registers array.now.state) }
+    ensures layout { IfOk result (λ m. IsLayoutFor array.now.lg_k (layout_of m)) }
+    ensures width { IfOk result (λ m. width_of (layout_of m) ≡ hll_type) }
+    ensures err { IfErr result (λ e. e ≡ Memory) }
+{
+    match hll_type {
+        HllType::Hll4 => Ok(Mode::Array4(convert(array)?)),
+        HllType::Hll6 => Ok(Mode::Array6(convert(array)?)),
+        HllType::Hll8 => Ok(Mode::Array8(array.clone()?)),
     }
 }

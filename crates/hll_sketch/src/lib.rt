@@ -4,6 +4,7 @@
 mod folding;
 pub mod header;
 pub mod hll8_image;
+mod joining;
 pub mod laws;
 pub mod list_image;
 pub mod mode;
@@ -11,7 +12,9 @@ mod mode_image;
 mod promotion;
 pub mod reference;
 pub mod sketch;
+pub mod union;
 
 pub use header::{Header, Stage};
 pub use mode::Mode;
 pub use sketch::HllSketch;
+pub use union::{HllUnion, agree};

@@ -33,8 +33,8 @@ use std::marker::Model;
 /// sketch value is a function of them.
 #[derive(Drop)]
 pub struct HllSketch<A: Allocator = Global> {
-    lg_config_k: u8,
-    mode: Mode<A>,
+    pub(crate) lg_config_k: u8,
+    pub(crate) mode: Mode<A>,
 }
 
 impl<A: Allocator> Model for HllSketch<A> {

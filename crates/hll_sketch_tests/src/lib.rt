@@ -9,3 +9,5 @@ mod images;
 mod reference;
 #[cfg(test)]
 mod sketches;
+#[cfg(test)]
+mod unions;

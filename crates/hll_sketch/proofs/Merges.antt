@@ -1,0 +1,296 @@
+-- Merges into a gadget, in the words of the definitions.
+use Rattle.std.proofs.Common.{◌≡◌, ℕ, ◌-◌, ◌^◌, ◌≤◌, ◌<◌, ◌||◌, Bool, true, false, cond, ◌&&◌, nat_eq, leb, List, [], ◌∷◌, ◌++◌, Option, Some, None, length, refl, sym, ap, subst, ◌∙◌, arith, inl, inr}
+use Rattle.std.specs.Prelude.{min}
+use Rattle.std.specs.FinSet.{empty, union, len, contains, empty_of_len, len-empty, contains-empty}
+use Rattle.std.specs.Ordering.{nat_cmp}
+use Rattle.std.proofs.lemmas.Bool.{cases_Bool, cond-true, cond-false, and_parts, eqb-true, eq-eqb, ne_eqb, le-leb, lt-leb, true≢false}
+use Rattle.std.specs.Option.{unwrap_or}
+use Rattle.std.proofs.lemmas.Nat.{pow_below, pow_pos}
+use Rattle.hll_coupons.specs.AuxMap.{ExceptionMap}
+use Rattle.hll_coupons.specs.Pair.{Pairs, set_of}
+use Rattle.hll_coupons.specs.Fold.{fold_to, join, pairs}
+use Rattle.hll_coupons.proofs.Folds.{fold_to-union}
+use Rattle.hll_coupons.proofs.Registers.{fold_to-pairs}
+use Rattle.hll_coupons.specs.declared.hll_type.HllType.{HllType}
+use Rattle.hll_coupons.specs.Table.{Table, coupons_of}
+use Rattle.hll_coupons.specs.declared.hll_type.HllType.TheVariants.{Hll4, Hll6, Hll8}
+use Rattle.hll_arrays.specs.declared.estimate_state.EstimateState.{EstimateState}
+use Rattle.hll_arrays.specs.State.{cleared_state}
+use Rattle.hll_arrays.specs.Store.{Stored, merge_with}
+use Rattle.hll_sketch.specs.Stage.{holds, stage}
+use Rattle.hll_sketch.specs.Value.{Sketch, Content, coupons, registers, pairs_in, pairs_of, is_empty, in_registers, IsTableFor, IsLgK, IsLegalContent, IsLegal}
+use Rattle.hll_sketch.specs.Adding.{add, content_for, content_with}
+use Rattle.hll_sketch.specs.Layout.{Layout, list, set, array, SketchLayout, content_in, count_in, width_of, sketch_of, IsSize, TableChanges, NeedsMemory}
+use Rattle.hll_sketch.specs.Union.{IsGadget, coupons_kept, holds_all, ContentNeedsMemory}
+use Rattle.hll_sketch.specs.Laws.{add_in_turn}
+use Rattle.hll_sketch.specs.Merging.{merge_content, merge_coupons, merge_registers, state_after_merge}
+use Rattle.hll_sketch.proofs.Adding.{add_each}
+use Rattle.hll_sketch.proofs.Collecting.{union_behind, len-union_longer, len-union_none, len-union_with}
+use Rattle.hll_sketch.proofs.Gadgets.{false_unless}
+use Rattle.hll_sketch.proofs.Inserting.{insert-union, set_of-nil}
+use Rattle.hll_sketch.proofs.LegalSketches.{found_in_range}
+use Rattle.hll_sketch.proofs.Sets.{same_members, contains_union, union_none}
+use Rattle.hll_sketch.proofs.Stages.{holds_fewer}
+use Rattle.hll_sketch.proofs.Steps.{stage_stays}
+
+-- registers merged in place
+pub merged_in_place : (bound : ℕ) (g : Sketch) (x : Stored) (k : ℕ) (R : List ℕ) (s : EstimateState) →
+    g.content ≡ registers x.registers x.state → x.lg_k ≡ g.lg_k → g.lg_k ≤ 21 → length x.registers ≡ 2 ^ x.lg_k → is_empty g ≡ false → x.lg_k ≤ k →
+    record g { content = registers (join x.registers (fold_to (pairs R) x.lg_k)) cleared_state } ≡ merge_registers bound g k R s
+merged_in_place bound g x k R s is same small size some below =
+    let least : x.lg_k ≡ min g.lg_k k = omega (arith, same) in
+    let P : Pairs = pairs_of g in
+    let own : P ≡ pairs x.registers = ap pairs_in is in
+    let all : join x.registers (fold_to (pairs R) x.lg_k) ≡ fold_to (union P (pairs R)) x.lg_k =
+    ap (λ Q. join Q (fold_to (pairs R) x.lg_k)) (sym (fold_to-pairs x.registers x.lg_k (omega (arith, same)) size))
+    ∙ sym (fold_to-union (pairs x.registers) (pairs R) x.lg_k) ∙ ap (λ S. fold_to (union S (pairs R)) x.lg_k) (sym own) in
+    let gone : cleared_state ≡ state_after_merge bound g k s = sym (ap (λ b. cond (b && leb k bound) s cleared_state) some) in
+    λ i. record g {
+      lg_k = (sym same ∙ least) i;
+      content = registers ((all ∙ ap (fold_to (union P (pairs R))) least) i) (gone i);
+    }
+
+-- registers merged into the fold of the gadget
+pub merged_aside : (bound : ℕ) (g : Sketch) (e k : ℕ) (R : List ℕ) (s t : EstimateState) → e ≡ min g.lg_k k → t ≡ state_after_merge bound g k s →
+    record g { lg_k = e; content = registers (join (fold_to (pairs_of g) e) (fold_to (pairs R) e)) t } ≡ merge_registers bound g k R s
+merged_aside bound g e k R s t least state = λ i. record g {
+  lg_k = least i;
+  content = registers ((sym (fold_to-union (pairs_of g) (pairs R) e) ∙ ap (fold_to (union (pairs_of g) (pairs R))) least) i) (state i);
+}
+
+union-empty : (P : Pairs) → union empty P ≡ P
+union-empty P = same_members (union empty P) P (λ q. contains_union empty P q ∙ ap (λ b. b || contains P q) (contains-empty nat_cmp q))
+
+-- registers taken whole by an empty gadget
+pub merged_whole : (bound : ℕ) (g : Sketch) (k : ℕ) (R : List ℕ) (s : EstimateState) → is_empty g ≡ true → k ≤ bound → g.lg_k ≡ bound → k ≤ 21 → length R ≡ 2 ^ k →
+    record g { lg_k = k; content = registers R s } ≡ merge_registers bound g k R s
+merged_whole bound g k R s none below at small size =
+    let least : k ≡ min g.lg_k k = omega (arith, at) in
+    let bare : union (pairs_of g) (pairs R) ≡ pairs R = ap (λ P. union P (pairs R)) (empty_of_len (pairs_of g) (eqb-true (len (pairs_of g)) 0 none)) ∙ union-empty (pairs R) in
+    let state : s ≡ state_after_merge bound g k s = sym (ap (λ b. cond (b && leb k bound) s cleared_state) none ∙ cond-true (leb k bound) s cleared_state (le-leb k bound below)) in
+    λ i. record g {
+      lg_k = least i;
+      content = registers ((sym (fold_to-pairs R k small size) ∙ ap (λ P. fold_to P k) (sym bare) ∙ ap (fold_to (union (pairs_of g) (pairs R))) least) i) (state i);
+    }
+
+-- coupons taken whole
+pub coupons_whole : (g x : Sketch) → is_empty g ≡ true → g.lg_k ≡ x.lg_k → g.width ≡ Hll8 → record x { width = Hll8 } ≡ merge_coupons g x
+coupons_whole g x none same width =
+    (λ i. let y : Sketch = record { lg_k = sym same i; width = sym width i; content = x.content } in y)
+    ∙ sym (cond-true (is_empty g && nat_eq g.lg_k x.lg_k) (record g { content = x.content }) (add g (pairs_of x))
+    (ap (λ b. b && nat_eq g.lg_k x.lg_k) none ∙ eq-eqb g.lg_k x.lg_k same))
+
+-- coupons added, where the gadget has some or is of another lg_k
+pub coupons_added : (g x y : Sketch) (T : Pairs) → (is_empty g && nat_eq g.lg_k x.lg_k) ≡ false → pairs_of x ≡ T → y ≡ add g T → y ≡ merge_coupons g x
+coupons_added g x y T other is e =
+    e ∙ ap (add g) (sym is) ∙ sym (cond-false (is_empty g && nat_eq g.lg_k x.lg_k) (record g { content = x.content }) (add g (pairs_of x)) other)
+
+-- coupons in turn are added at once, where there is one
+pub in_turn : (g : Sketch) (order : List ℕ) → (len (set_of order) ≡ 0 → ⊥) → add_in_turn g order ≡ add g (set_of order)
+in_turn g [] some = absurd (some (ap len set_of-nil ∙ len-empty nat_cmp))
+in_turn g (c ∷ cs) some = add_each g c cs
+
+-- ---- room
+
+-- the size that a count stays at holds it
+pub stays_held : (k p q n : ℕ) → stage k p n ≡ Some q → holds q n ≡ true
+stays_held k p q n e = elim (cases_Bool (leb p 3 && holds 3 n)) [
+  | inl t ↦
+      let at : Some 3 ≡ Some q = sym (cond-true (leb p 3 && holds 3 n) (Some 3) _ t) ∙ e in
+      let same : 3 ≡ q = cc in
+      ap (λ m. holds m n) (sym same) ∙ (and_parts (leb p 3) (holds 3 n) t).1
+  | inr z ↦
+      let r = found_in_range (λ size. leb p size && holds size n) 5 (k - 7) q (sym (cond-false (leb p 3 && holds 3 n) (Some 3) _ z) ∙ e) in
+      (and_parts (leb p q) (holds q n) r.2).1
+]
+
+-- ---- coupons in turn, where there is room for all
+
+pub lg_k-add_in_turn : (x : Sketch) (ys : List ℕ) → (add_in_turn x ys).lg_k ≡ x.lg_k
+lg_k-add_in_turn x [] = refl
+lg_k-add_in_turn x (y ∷ ys) = lg_k-add_in_turn (add x (set_of (y ∷ []))) ys
+
+pub width-add_in_turn : (x : Sketch) (ys : List ℕ) → (add_in_turn x ys).width ≡ x.width
+width-add_in_turn x [] = refl
+width-add_in_turn x (y ∷ ys) = width-add_in_turn (add x (set_of (y ∷ []))) ys
+
+pub added_more : (x : Sketch) (ys : List ℕ) (c : ℕ) → add_in_turn x (ys ++ c ∷ []) ≡ add (add_in_turn x ys) (set_of (c ∷ []))
+added_more x [] c = refl
+added_more x (y ∷ ys) c = added_more (add x (set_of (y ∷ []))) ys c
+
+registers_in_turn : (g : Sketch) (ys : List ℕ) → in_registers g.content ≡ true → in_registers (add_in_turn g ys).content ≡ true
+registers_in_turn g [] h = h
+registers_in_turn g (y ∷ ys) h = registers_in_turn (add g (set_of (y ∷ []))) ys (stay g.content h)
+  where
+    stay : (c : Content) → in_registers c ≡ true → in_registers (content_with g.lg_k c (set_of (y ∷ []))) ≡ true
+    stay (coupons S p) h = absurd (cc)
+    stay (registers R s) h = refl
+
+-- the size stays
+in_turn_stays : (g : Sketch) (S : Pairs) (p : ℕ) (ys zs : List ℕ) → g.content ≡ coupons S p → IsSize g.lg_k p → holds p (len (union S (set_of (ys ++ zs)))) ≡ true →
+    (add_in_turn g ys).content ≡ coupons (union S (set_of ys)) p
+in_turn_stays g S p [] zs is size room = is ∙ ap (λ T. coupons T p) (sym (union_none S))
+in_turn_stays g S p (y ∷ ys) zs is size room =
+    let T : Pairs = set_of (y ∷ ys) in
+    ap (λ (x : Sketch). x.content) (add_each g y ys) ∙ ap (λ c. content_with g.lg_k c T) is
+    ∙ ap (content_for g.lg_k (union S T)) (stage_stays g.lg_k p (len (union S T)) size (holds_fewer p (len (union S T)) (len (union S (set_of ((y ∷ ys) ++ zs)))) (len-union_longer S (y ∷ ys) zs) room))
+
+size_of_legal : (k n p : ℕ) → IsTableFor k n p → IsSize k p
+size_of_legal k n p (inl few) = inl few.0
+size_of_legal k n p (inr large) = inr (large.0, large.1)
+
+-- so a table of this content has room for one more of them
+table_stays : (k p : ℕ) (S : Pairs) (t : Table) (ys zs : List ℕ) (c : ℕ) → IsSize k p → holds p (len (union S (set_of (ys ++ c ∷ zs)))) ≡ true →
+    coupons (coupons_of t) t.lg_size ≡ coupons (union S (set_of ys)) p → TableChanges k t c → ⊥
+table_stays k p S t ys zs c size room is changes =
+    let members : coupons_of t ≡ union S (set_of ys) = cc in
+    let same : t.lg_size ≡ p = cc in
+    let all : union (coupons_of t) (set_of (c ∷ [])) ≡ union S (set_of (ys ++ c ∷ [])) = ap (λ T. union T (set_of (c ∷ []))) members ∙ sym (insert-union (union S (set_of ys)) c) ∙ sym (union_behind S ys c) in
+    let fit : holds p (len (union S (set_of (ys ++ c ∷ [])))) ≡ true = holds_fewer p _ _ (len-union_with S ys zs c) room in
+    let stays : stage k p (len (union S (set_of (ys ++ c ∷ [])))) ≡ Some p = stage_stays k p _ size fit in
+    changes ((λ i. stage k (same i) (len (all i))) ∙ stays ∙ ap (λ q. Some q) (sym same))
+
+-- so no coupon of them needs memory
+pub room_suffices : (x y : SketchLayout) (ys zs : List ℕ) (c : ℕ) → IsLegal (sketch_of x) → sketch_of y ≡ add_in_turn (sketch_of x) ys →
+    holds_all x.layout (set_of (ys ++ c ∷ zs)) ≡ true → NeedsMemory y.lg_k y.layout c → ⊥
+room_suffices x y ys zs c legal same room needs = of x.lg_k x.layout y.lg_k y.layout legal same room needs
+  where
+    of_table : (k : ℕ) (w : HllType) (t : Table) (j : ℕ) (m : Layout) → let g : Sketch = record { lg_k = k; width = w; content = coupons (coupons_of t) t.lg_size } in
+        IsSize k t.lg_size → sketch_of (record { lg_k = j; layout = m }) ≡ add_in_turn g ys → holds t.lg_size (len (union (coupons_of t) (set_of (ys ++ c ∷ zs)))) ≡ true → NeedsMemory j m c → ⊥
+    of_table k w t j m size same room needs = pick m (ap (λ (x : Sketch). x.lg_k) same ∙ lg_k-add_in_turn g ys) (ap (λ (x : Sketch). x.content) same ∙ in_turn_stays g (coupons_of t) t.lg_size ys (c ∷ zs) refl size room) needs
+      where
+        g : Sketch
+        g = record { lg_k = k; width = w; content = coupons (coupons_of t) t.lg_size }
+
+        pick : (m : Layout) → j ≡ k → content_in m ≡ coupons (union (coupons_of t) (set_of ys)) t.lg_size → NeedsMemory j m c → ⊥
+        pick (list v u) e is needs = table_stays k t.lg_size (coupons_of t) u ys zs c size room is (subst (λ q. TableChanges q u c) e needs)
+        pick (set v u) e is needs = table_stays k t.lg_size (coupons_of t) u ys zs c size room is (subst (λ q. TableChanges q u c) e needs)
+        pick (array v z o) e is needs = absurd (cc)
+
+    of_registers : (w : HllType) (j : ℕ) (m : Layout) → (w ≡ Hll4 → ⊥) → width_of m ≡ w → in_registers (content_in m) ≡ true → NeedsMemory j m c → ⊥
+    of_registers w j (list v u) other is reg needs = absurd (cc)
+    of_registers w j (set v u) other is reg needs = absurd (cc)
+    of_registers w j (array Hll4 z o) other is reg needs = other (sym is)
+    of_registers w j (array Hll6 z o) other is reg needs = needs
+    of_registers w j (array Hll8 z o) other is reg needs = needs
+
+    of : (k : ℕ) (l : Layout) (j : ℕ) (m : Layout) → IsLegal (sketch_of (record { lg_k = k; layout = l })) →
+        sketch_of (record { lg_k = j; layout = m }) ≡ add_in_turn (sketch_of (record { lg_k = k; layout = l })) ys → holds_all l (set_of (ys ++ c ∷ zs)) ≡ true → NeedsMemory j m c → ⊥
+    of k (list w t) j m legal same room needs = of_table k w t j m (size_of_legal k _ t.lg_size legal.content.1) same room needs
+    of k (set w t) j m legal same room needs = of_table k w t j m (size_of_legal k _ t.lg_size legal.content.1) same room needs
+    of k (array Hll4 z o) j m legal same room needs = absurd (cc)
+    of k (array Hll6 z o) j m legal same room needs =
+        of_registers Hll6 j m (λ e. absurd (cc)) (ap (λ (x : Sketch). x.width) same ∙ width-add_in_turn _ ys) (ap (λ (x : Sketch). in_registers x.content) same ∙ registers_in_turn _ ys refl) needs
+    of k (array Hll8 z o) j m legal same room needs =
+        of_registers Hll8 j m (λ e. absurd (cc)) (ap (λ (x : Sketch). x.width) same ∙ width-add_in_turn _ ys) (ap (λ (x : Sketch). in_registers x.content) same ∙ registers_in_turn _ ys refl) needs
+
+-- ---- what the code makes
+
+-- the state of registers merged aside
+pub state_kept : (bound : ℕ) (g : Sketch) (k : ℕ) (s : EstimateState) → is_empty g ≡ true → k ≤ bound → s ≡ state_after_merge bound g k s
+state_kept bound g k s none below = sym (ap (λ b. cond (b && leb k bound) s cleared_state) none ∙ cond-true (leb k bound) s cleared_state (le-leb k bound below))
+
+pub state_gone : (bound : ℕ) (g : Sketch) (k : ℕ) (s : EstimateState) → is_empty g ≡ false → cleared_state ≡ state_after_merge bound g k s
+state_gone bound g k s some = sym (ap (λ b. cond (b && leb k bound) s cleared_state) some)
+
+pub state_gone_above : (bound : ℕ) (g : Sketch) (k : ℕ) (s : EstimateState) → bound < k → cleared_state ≡ state_after_merge bound g k s
+state_gone_above bound g k s above = sym (ap (λ b. cond (is_empty g && b) s cleared_state) (lt-leb k bound above) ∙ never (is_empty g))
+  where
+    never : (b : Bool) → cond (b && false) s cleared_state ≡ cleared_state
+    never true = refl
+    never false = refl
+
+pub aside_as : (bound : ℕ) (x y : SketchLayout) (a b d source : Stored) (l : ℕ) → x ≡ y → width_of y.layout ≡ Hll8 → l ≡ min x.lg_k source.lg_k →
+    a ≡ record { lg_k = l; registers = fold_to (pairs_in (content_in x.layout)) l; state = cleared_state } → b ≡ merge_with a source.registers →
+    d.registers ≡ b.registers → d.state ≡ state_after_merge bound (sketch_of y) source.lg_k source.state →
+    sketch_of (record { lg_k = l; layout = array Hll8 d None }) ≡ merge_registers bound (sketch_of y) source.lg_k source.registers source.state
+aside_as bound x y a b d source l is width least made merged same state =
+    let g : Sketch = sketch_of y in
+    let folded : a.registers ≡ fold_to (pairs_of g) l = ap (λ (z : Stored). z.registers) made ∙ ap (λ (z : SketchLayout). fold_to (pairs_in (content_in z.layout)) l) is in
+    let all : d.registers ≡ join (fold_to (pairs_of g) l) (fold_to (pairs source.registers) l) =
+    same ∙ ap (λ (z : Stored). z.registers) merged ∙ (λ i. join (folded i) (fold_to (pairs source.registers) (made i).lg_k)) in
+    (λ i. let z : Sketch = record { lg_k = l; width = sym width i; content = registers (all i) d.state } in z)
+    ∙ merged_aside bound g l source.lg_k source.registers source.state d.state (least ∙ ap (λ (z : SketchLayout). min z.lg_k source.lg_k) is) state
+
+pub in_place_as : (bound k : ℕ) (y : SketchLayout) (a b source : Stored) → record { lg_k = k; layout = array Hll8 a None } ≡ y → IsLgK k → is_empty (sketch_of y) ≡ false →
+    a.lg_k ≡ k → length a.registers ≡ 2 ^ a.lg_k → b ≡ merge_with a source.registers → a.lg_k ≤ source.lg_k →
+    sketch_of (record { lg_k = k; layout = array Hll8 b None }) ≡ merge_registers bound (sketch_of y) source.lg_k source.registers source.state
+in_place_as bound k y a b source is lg_k some same size merged below =
+    let x : SketchLayout = record { lg_k = k; layout = array Hll8 a None } in
+    (λ i. let z : Sketch = record { lg_k = k; width = Hll8; content = registers (merged i).registers (merged i).state } in z)
+    ∙ merged_in_place bound (sketch_of x) a source.lg_k source.registers source.state refl same lg_k.high size (ap (λ z. is_empty (sketch_of z)) is ∙ some) below
+    ∙ ap (λ z. merge_registers bound (sketch_of z) source.lg_k source.registers source.state) is
+
+pub whole_as : (bound l : ℕ) (y : SketchLayout) (a source : Stored) → is_empty (sketch_of y) ≡ true → IsGadget bound (sketch_of y) → a ≡ source → l ≡ a.lg_k → source.lg_k ≤ bound →
+    source.lg_k ≤ 21 → length source.registers ≡ 2 ^ source.lg_k →
+    sketch_of (record { lg_k = l; layout = array Hll8 a None }) ≡ merge_registers bound (sketch_of y) source.lg_k source.registers source.state
+whole_as bound l y a source none gadget copied same below small size =
+    let g : Sketch = sketch_of y in
+    let bare : in_registers g.content ≡ false = false_unless (in_registers g.content) (is_empty g ≡ false) gadget.registers (λ h. true≢false (sym none ∙ h)) in
+    (λ i. let z : Sketch = record { lg_k = (same ∙ ap (λ (s : Stored). s.lg_k) copied) i; width = sym gadget.width i; content = registers (copied i).registers (copied i).state } in z)
+    ∙ merged_whole bound g source.lg_k source.registers source.state none below (gadget.coupons bare) small size
+
+-- ---- what needs memory
+
+pub needs_whole : (y : SketchLayout) (k : ℕ) (c : Content) (T : Pairs) (q : ℕ) → c ≡ coupons T q → is_empty (sketch_of y) ≡ true → y.lg_k ≡ k →
+    (in_registers (content_in y.layout) ≡ true → is_empty (sketch_of y) ≡ false) → ContentNeedsMemory (sketch_of y) (content_in y.layout) k c
+needs_whole y k c T q is none same filled = rw is (of (content_in y.layout) (λ h. true≢false (sym none ∙ filled h)))
+  where
+    of : (d : Content) → (in_registers d ≡ true → ⊥) → ContentNeedsMemory (sketch_of y) d k (coupons T q)
+    of (coupons S p) bare = inl (ap (λ b. b && nat_eq y.lg_k k) none ∙ eq-eqb y.lg_k k same)
+    of (registers R s) bare = absurd (bare refl)
+
+pub needs_larger : (y : SketchLayout) (k : ℕ) (c : Content) (T : Pairs) (q : ℕ) → c ≡ coupons T q → width_of y.layout ≡ Hll8 → holds_all y.layout T ≡ false →
+    ContentNeedsMemory (sketch_of y) (content_in y.layout) k c
+needs_larger y k c T q is width room = rw is (of y.layout width room)
+  where
+    of : (l : Layout) → width_of l ≡ Hll8 → holds_all l T ≡ false → ContentNeedsMemory (sketch_of y) (content_in l) k (coupons T q)
+    of (list w t) width room = inr (λ e. true≢false (sym (stays_held y.lg_k t.lg_size t.lg_size _ e) ∙ room))
+    of (set w t) width room = inr (λ e. true≢false (sym (stays_held y.lg_k t.lg_size t.lg_size _ e) ∙ room))
+    of (array Hll4 x e) width room = absurd (cc)
+    of (array Hll6 x e) width room = absurd (cc)
+    of (array Hll8 x e) width room = absurd (cc)
+
+-- coupons added in turn are merged
+pub coupons_merged : (g x y : Sketch) (order : List ℕ) (q : ℕ) → (is_empty g && nat_eq g.lg_k x.lg_k) ≡ false → x.content ≡ coupons (set_of order) q → is_empty x ≡ false →
+    y ≡ add_in_turn g order → y ≡ merge_coupons g x
+coupons_merged g x y order q other is some e =
+    let here : pairs_of x ≡ set_of order = ap pairs_in is in
+    coupons_added g x y (set_of order) other here
+    (e ∙ in_turn g order (λ none. true≢false (sym (eq-eqb (len (pairs_of x)) 0 (ap len here ∙ none)) ∙ some)))
+
+pub other_size : (b : Bool) (j k : ℕ) → (j ≡ k → ⊥) → (b && nat_eq j k) ≡ false
+other_size true j k other = ne_eqb j k other
+other_size false j k other = refl
+
+pub other_empty : (b : Bool) (j k : ℕ) → b ≡ false → (b && nat_eq j k) ≡ false
+other_empty b j k e = ap (λ a. a && nat_eq j k) e
+
+-- ---- registers of a sketch
+
+pub merged_as : (bound k : ℕ) (g : Sketch) (y : SketchLayout) (w : HllType) (a : Stored) (o : Option ExceptionMap) → record { lg_k = k; layout = array w a o } ≡ y → a.lg_k ≡ k →
+    merge_registers bound g a.lg_k a.registers a.state ≡ merge_content bound g (sketch_of y) (content_in y.layout)
+merged_as bound k g y w a o is same = ap (λ j. merge_registers bound g j a.registers a.state) same ∙ ap (λ z. merge_content bound g (sketch_of z) (content_in z.layout)) is
+
+pub needed_as : (k : ℕ) (g : Sketch) (c : Content) (y : SketchLayout) (w : HllType) (a : Stored) (o : Option ExceptionMap) → record { lg_k = k; layout = array w a o } ≡ y → a.lg_k ≡ k →
+    ContentNeedsMemory g c a.lg_k (registers a.registers a.state) → ContentNeedsMemory g c y.lg_k (content_in y.layout)
+needed_as k g c y w a o is same needs = subst (λ z. ContentNeedsMemory g c z.lg_k (content_in z.layout)) is (subst (λ j. ContentNeedsMemory g c j (registers a.registers a.state)) same needs)
+
+-- ---- how many coupons a table has
+
+pub kept_count : (l : Layout) → unwrap_or (count_in (content_in l)) 0 ≡ len (union (coupons_kept l) empty)
+kept_count (list w t) = sym (len-union_none (coupons_of t))
+kept_count (set w t) = sym (len-union_none (coupons_of t))
+kept_count (array w x e) = sym (len-union_none empty ∙ len-empty nat_cmp)
+
+pub kept_few : (y : SketchLayout) → IsLegal (sketch_of y) → len (coupons_kept y.layout) < 2 ^ 26
+kept_few y legal = of y.layout legal.content
+  where
+    table : (n p : ℕ) → IsTableFor y.lg_k n p → n < 2 ^ 26
+    table n p (inl few) = omega (arith, few.1, pow_below 3 26 (omega arith))
+    table n p (inr large) = omega (arith, large.2, pow_below p 26 (omega (arith, large.1, legal.lg_k.high)))
+
+    of : (l : Layout) → IsLegalContent y.lg_k (content_in l) → len (coupons_kept l) < 2 ^ 26
+    of (list w t) legal = table _ t.lg_size legal.1
+    of (set w t) legal = table _ t.lg_size legal.1
+    of (array w x e) legal = omega (arith, len-empty nat_cmp, pow_pos 26)

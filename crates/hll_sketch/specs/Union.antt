@@ -1,0 +1,52 @@
+-- What a union keeps, as contracts see it (docs/MODEL.md, "Merging").
+use Rattle.std.specs.Prelude.{◌≡◌, ◌≢◌, ℕ, ◌≤◌, ◌<◌, ◌==◌, ◌&&◌, ◌⊎◌, Bool, true, false, Some}
+use Rattle.std.specs.FinSet.{empty, union, len}
+use Rattle.hll_coupons.specs.Pair.{Pairs}
+use Rattle.hll_coupons.specs.declared.hll_type.HllType.TheVariants.{Hll4, Hll6, Hll8}
+use Rattle.hll_coupons.specs.Table.{coupons_of}
+use Rattle.hll_sketch.specs.Layout.{Layout, list, set, array, SketchLayout, sketch_of}
+use Rattle.hll_sketch.specs.Stage.{holds, stage}
+use Rattle.hll_sketch.specs.Value.{Sketch, Content, coupons, registers, in_registers, is_empty}
+
+-- a bound, and a gadget with its places
+pub record UnionLayout : Type 0 where
+  pub lg_max_k : ℕ
+  pub gadget : SketchLayout
+
+-- the gadget's sketch value
+abbrev pub gadget_of : UnionLayout → Sketch
+gadget_of u = sketch_of u.gadget
+
+-- a gadget is of eight bits; its coupons are at the bound, its registers there or lower, and not all 0
+pub record IsGadget (bound : ℕ) (g : Sketch) : Type 0 where
+  pub width : g.width ≡ Hll8
+  pub lg_k : g.lg_k ≤ bound
+  pub coupons : in_registers g.content ≡ false → g.lg_k ≡ bound
+  pub registers : in_registers g.content ≡ true → is_empty g ≡ false
+
+-- the coupons of a table; registers have none
+abbrev pub coupons_kept : Layout → Pairs
+coupons_kept (list width t) = coupons_of t
+coupons_kept (set width t) = coupons_of t
+coupons_kept (array width x e) = empty
+
+-- whether a table holds its coupons and others; registers of six and eight bits always do
+abbrev pub holds_all : Layout → Pairs → Bool
+holds_all (list width t) T = holds t.lg_size (len (union (coupons_of t) T))
+holds_all (set width t) T = holds t.lg_size (len (union (coupons_of t) T))
+holds_all (array Hll4 x e) T = false
+holds_all (array Hll6 x e) T = true
+holds_all (array Hll8 x e) T = true
+
+-- What a merge of a content into a gadget's may need memory for: coupons that are taken whole or that the table doesn't hold with its
+-- own, registers that take over from coupons, and registers at a smaller lg_k.
+abbrev pub ContentNeedsMemory : Sketch → Content → ℕ → Content → Type 0
+ContentNeedsMemory g (coupons S p) k (coupons T q) = (is_empty g && (g.lg_k == k) ≡ true) ⊎ (stage g.lg_k p (len (union S T)) ≢ Some p)
+ContentNeedsMemory g (registers R s) k (coupons T q) = ⊥
+ContentNeedsMemory g (coupons S p) k (registers Q t) = Unit {0}
+ContentNeedsMemory g (registers R s) k (registers Q t) = k < g.lg_k
+
+-- a merge of a sketch may need memory; an empty one needs none
+pub record MergeNeedsMemory (g x : Sketch) : Type 0 where
+  pub some : is_empty x ≡ false
+  pub content : ContentNeedsMemory g g.content x.lg_k x.content

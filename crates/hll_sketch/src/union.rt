@@ -1,0 +1,186 @@
+//! Unions of sketches (docs/MODEL.md, "Merging").
+ghost use Rattle.std.specs.Prelude.{◌≡◌, ◌≤◌, ◌⊎◌, ◌↔◌, IsTrue, [], ◌∷◌, fold, IfOk, IfErr, OnOk, OnErr};
+ghost use Rattle.hll_base.specs.declared.error.Reason.TheVariants.{Memory};
+ghost use Rattle.hll_base.specs.declared.error.Reason.TheVariants as reasons;
+ghost use Rattle.hll_base.specs.Hash.{hash_of, initial_state, after_piece, default_seed};
+ghost use Rattle.hll_coupons.specs.Hashed.{coupon_of_halves};
+ghost use Rattle.hll_coupons.specs.Pair.{value_of, set_of};
+ghost use Rattle.hll_coupons.specs.declared.hll_type.HllType.TheVariants.{Hll8};
+ghost use Rattle.hll_sketch.specs.Adding.{add};
+ghost use Rattle.hll_sketch.specs.Agree.{Agree};
+ghost use Rattle.hll_sketch.specs.Layout.{sketch_of, NeedsMemory};
+ghost use Rattle.hll_sketch.specs.Merging.{merge, empty_union};
+ghost use Rattle.hll_sketch.specs.Union.{gadget_of, MergeNeedsMemory};
+ghost use Rattle.hll_sketch.specs.Value.{IsLgK, is_empty, size_of};
+
+use crate::sketch::HllSketch;
+use hll_base::error::Error;
+use hll_coupons::coupon::Coupon;
+use hll_coupons::hll_type::HllType;
+use std::alloc::{Allocator, Global};
+use std::hash::Hash;
+use std::marker::Model;
+
+/// A union: a bound of the `lg_k`, and a gadget that sketches are merged into. The gadget is a sketch of eight bits, with
+/// coupons at the bound, or registers there or at a smaller `lg_k`. Contracts see the bound and the gadget.
+#[derive(Drop)]
+pub struct HllUnion<A: Allocator = Global> {
+    lg_max_k: u8,
+    gadget: HllSketch<A>,
+}
+
+impl<A: Allocator> Model for HllUnion<A> {
+    ghost use Rattle.hll_sketch.specs.Layout.{sketch_of};
+    ghost use Rattle.hll_sketch.specs.Union.{UnionLayout, IsGadget};
+    ghost use Rattle.hll_sketch.specs.Value.{IsLgK};
+
+    ghost Value = { UnionLayout };
+
+    ghost view = { λ u. record { lg_max_k = u.lg_max_k; gadget = u.gadget } };
+
+    ghost invariant = { λ u. IsLgK u.lg_max_k × IsGadget u.lg_max_k (sketch_of u.gadget) };
+}
+
+impl<A: Allocator> HllUnion<A> {
+    /// A union of nothing: an empty list at the bound.
+    ///
+    /// Fails with `Argument` if `lg_max_k` is not 4 to 21, or else with `Memory`.
+    pub fn new(alloc: A, lg_max_k: u8) -> Result<HllUnion<A>, Error>
+        ensures ok { IfOk result (λ u. (u.lg_max_k ≡ lg_max_k) × (gadget_of u ≡ empty_union lg_max_k)) }
+        ensures lg_k { OnOk result (IsLgK lg_max_k) }
+        ensures outside { IfErr result (λ e. e ≡ reasons.Argument → IsLgK lg_max_k → ⊥) }
+        ensures within { IfErr result (λ e. e ≡ Memory → IsLgK lg_max_k) }
+        ensures err { IfErr result (λ e. (e ≡ reasons.Argument) ⊎ (e ≡ Memory)) }
+    {
+        Ok(HllUnion {
+            lg_max_k,
+            gadget: HllSketch::new(alloc, lg_max_k, HllType::Hll8)?,
+        })
+    }
+
+    /// The `lg_k` of the gadget: the least of the bound and of the `lg_k` of all merged sketches in registers that are not
+    /// all 0. Takes no memory.
+    pub fn lg_config_k(&self) -> u8
+        ensures lg_k { result ≡ (gadget_of self.now).lg_k }
+        ensures legal { IsLgK result }
+    {
+        self.gadget.lg_config_k()
+    }
+
+    /// The bound. Takes no memory.
+    pub fn lg_max_k(&self) -> u8
+        ensures lg_max_k { result ≡ self.now.lg_max_k }
+        ensures legal { IsLgK result }
+    {
+        self.lg_max_k
+    }
+
+    /// Whether nothing was merged but empty sketches. Takes no memory.
+    pub fn is_empty(&self) -> bool
+        ensures { result ≡ is_empty (gadget_of self.now) }
+    {
+        self.gadget.is_empty()
+    }
+
+    /// The bytes of the gadget's table or registers. Takes no memory.
+    pub fn estimated_size(&self) -> usize
+        ensures { result ≡ size_of (gadget_of self.now) }
+    {
+        self.gadget.estimated_size()
+    }
+}
+
+impl<A: Allocator + Clone> HllUnion<A> {
+    /// Merges a sketch of any stage, width and `lg_k` (docs/MODEL.md, "Merging"). One pass.
+    ///
+    /// Fails with `Memory`, and then changes nothing, places included. Takes no memory for an empty sketch, for coupons
+    /// into registers, for coupons that the table holds beside its own, nor for registers into registers at their `lg_k` or a
+    /// smaller one.
+    pub fn update(&mut self, sketch: &HllSketch<A>) -> Result<(), Error>
+        ensures ok { OnOk result (gadget_of self.new ≡ merge self.old.lg_max_k (gadget_of self.old) (sketch_of sketch.now)) }
+        ensures bound { self.new.lg_max_k ≡ self.old.lg_max_k }
+        ensures unchanged { OnErr result (self.new ≡ self.old) }
+        ensures needed { OnErr result (MergeNeedsMemory (gadget_of self.old) (sketch_of sketch.now)) }
+        ensures err { IfErr result (λ e. e ≡ Memory) }
+    {
+        self.gadget.merge(self.lg_max_k, sketch)
+    }
+
+    /// Adds a coupon, as to a sketch.
+    ///
+    /// Its value is at least 1. Fails with `Memory`, only if a table changes its size, and then changes nothing, places
+    /// included.
+    pub fn update_with_coupon(&mut self, coupon: Coupon) -> Result<(), Error>
+        requires { 1 ≤ value_of coupon }
+        ensures ok { OnOk result (gadget_of self.new ≡ add (gadget_of self.old) (set_of (coupon ∷ []))) }
+        ensures bound { self.new.lg_max_k ≡ self.old.lg_max_k }
+        ensures unchanged { OnErr result (self.new ≡ self.old) }
+        ensures needed { OnErr result (NeedsMemory self.old.gadget.lg_k self.old.gadget.layout coupon) }
+        ensures err { IfErr result (λ e. e ≡ Memory) }
+    {
+        self.gadget.value_is_legal();
+        let _value = coupon.value();
+        self.gadget.update_with_coupon(coupon)
+    }
+
+    /// Adds the coupon of a value, as `update_with_coupon` does.
+    ///
+    /// Fails with `Memory`, and then changes nothing.
+    pub fn update_value<T: Hash + Drop>(&mut self, value: T) -> Result<(), Error>
+        ensures ok { let c = coupon_of_halves (hash_of (fold after_piece (initial_state default_seed) (T.hash_input value))) in
+            OnOk result (gadget_of self.new ≡ add (gadget_of self.old) (set_of (c ∷ []))) }
+        ensures bound { self.new.lg_max_k ≡ self.old.lg_max_k }
+        ensures unchanged { OnErr result (self.new ≡ self.old) }
+        ensures err { IfErr result (λ e. e ≡ Memory) }
+    {
+        self.update_with_coupon(Coupon::from_value(value))
+    }
+
+    /// The gadget at a width: its `lg_k`, and its coupons at the size of its table, or its registers with their state.
+    ///
+    /// Fails with `Memory`.
+    pub fn to_sketch(&self, hll_type: HllType) -> Result<HllSketch<A>, Error>
+        ensures ok { IfOk result (λ s. sketch_of s ≡ record (gadget_of self.now) { width = hll_type }) }
+        ensures err { IfErr result (λ e. e ≡ Memory) }
+    {
+        self.gadget.at_width(hll_type)
+    }
+
+    /// Forgets all: an empty list at the bound.
+    ///
+    /// Fails with `Memory`, and then changes nothing.
+    pub fn reset(&mut self) -> Result<(), Error>
+        ensures ok { OnOk result (gadget_of self.new ≡ empty_union self.old.lg_max_k) }
+        ensures bound { self.new.lg_max_k ≡ self.old.lg_max_k }
+        ensures unchanged { OnErr result (self.new ≡ self.old) }
+        ensures err { IfErr result (λ e. e ≡ Memory) }
+    {
+        let alloc = self.gadget.cloned_allocator()?;
+        self.gadget = HllSketch::new(alloc, self.lg_max_k, HllType::Hll8)?;
+        Ok(())
+    }
+
+    /// A copy, with the same places.
+    ///
+    /// Fails with `Memory`.
+    pub fn clone(&self) -> Result<HllUnion<A>, Error>
+        ensures ok { IfOk result (λ u. u ≡ self.now) }
+        ensures err { IfErr result (λ e. e ≡ Memory) }
+    {
+        Ok(HllUnion {
+            lg_max_k: self.lg_max_k,
+            gadget: self.gadget.clone()?,
+        })
+    }
+}
+
+/// Whether two sketches fold to the same registers at the smaller `lg_k` of both. Takes two bytes a register there.
+///
+/// Fails with `Memory`.
+pub fn agree<A: Allocator + Clone>(a: &HllSketch<A>, b: &HllSketch<A>) -> Result<bool, Error>
+    ensures ok { IfOk result (λ same. IsTrue same ↔ Agree (sketch_of a.now) (sketch_of b.now)) }
+    ensures err { IfErr result (λ e. e ≡ Memory) }
+{
+    let lg_k = a.lg_config_k().min(b.lg_config_k());
+    Ok(a.registers_at(lg_k)?.as_slice() == b.registers_at(lg_k)?.as_slice())
+}
