@@ -4,6 +4,8 @@
 #[cfg(test)]
 mod folds;
 #[cfg(test)]
+mod hostile;
+#[cfg(test)]
 mod images;
 #[cfg(test)]
 mod reference;

@@ -317,9 +317,8 @@ fn images_are_read_back(rt: HostRuntime) -> Result<(), Fail> {
 }
 
 /// Images that are read, and what is written for them: a list in descending order, a set with a place for each coupon
-/// that isn't where a search finds it, registers of four bits with a minimum that is too low, of six bits with a last
-/// byte.
-const MENDED: [(&[u8], &[u8]); 4] = [
+/// that isn't where a search finds it.
+const MENDED: [(&[u8], &[u8]); 2] = [
     (
         &[2, 1, 7, 10, 3, 8, 2, 8, 7, 0, 0, 8, 5, 0, 0, 4],
         &[2, 1, 7, 10, 3, 8, 2, 8, 5, 0, 0, 4, 7, 0, 0, 8],
@@ -327,26 +326,6 @@ const MENDED: [(&[u8], &[u8]); 4] = [
     (
         &[3, 1, 7, 8, 5, 8, 0, 9, 2, 0, 0, 0, 9, 0, 0, 4, 3, 0, 0, 4],
         &[3, 1, 7, 8, 5, 8, 0, 9, 2, 0, 0, 0, 3, 0, 0, 4, 9, 0, 0, 4],
-    ),
-    (
-        &[
-            10, 1, 7, 4, 0, 8, 0, 2, 0, 0, 0, 0, 0, 0, 0, 0, 0, 0, 0, 0, 0, 0, 0, 0, 0, 0, 0, 0, 0,
-            0, 0, 0, 16, 0, 0, 0, 0, 0, 0, 0, 17, 17, 17, 17, 17, 17, 17, 17,
-        ],
-        &[
-            10, 1, 7, 4, 0, 8, 1, 2, 0, 0, 0, 0, 0, 0, 0, 0, 0, 0, 0, 0, 0, 0, 0, 0, 0, 0, 0, 0, 0,
-            0, 0, 0, 16, 0, 0, 0, 0, 0, 0, 0, 0, 0, 0, 0, 0, 0, 0, 0,
-        ],
-    ),
-    (
-        &[
-            10, 1, 7, 4, 0, 0, 0, 6, 0, 0, 0, 0, 0, 0, 0, 0, 0, 0, 0, 0, 0, 0, 0, 0, 0, 0, 0, 0, 0,
-            0, 0, 0, 16, 0, 0, 0, 0, 0, 0, 0, 0, 0, 0, 0, 0, 0, 0, 0, 0, 0, 0, 0, 255,
-        ],
-        &[
-            10, 1, 7, 4, 0, 0, 0, 6, 0, 0, 0, 0, 0, 0, 0, 0, 0, 0, 0, 0, 0, 0, 0, 0, 0, 0, 0, 0, 0,
-            0, 0, 0, 16, 0, 0, 0, 0, 0, 0, 0, 0, 0, 0, 0, 0, 0, 0, 0, 0, 0, 0, 0, 0,
-        ],
     ),
 ];
 
@@ -356,70 +335,6 @@ fn images_are_mended(rt: HostRuntime) -> Result<(), Fail> {
         let sketch = HllSketch::deserialize(rt.alloc(), image)?;
         assert_eq!(rt; sketch.serialize()?.as_slice(), written);
     }
-    Ok(())
-}
-
-/// Images with a fault, and its reason.
-const FAULTS: [(&[u8], Reason); 14] = [
-    (&[], Reason::Truncated),
-    (&[2, 1, 7, 12, 3, 12, 0], Reason::Truncated),
-    (&[2, 1, 8, 10, 3, 12, 0, 8], Reason::Family),
-    (&[2, 2, 7, 10, 3, 12, 0, 8], Reason::Version),
-    (&[2, 1, 7, 3, 3, 12, 0, 8], Reason::LgK),
-    (&[2, 1, 7, 10, 3, 12, 0, 12], Reason::Width),
-    (&[2, 1, 7, 10, 3, 12, 0, 11], Reason::Stage),
-    (&[3, 1, 7, 10, 3, 12, 0, 8], Reason::Preamble),
-    (&[2, 1, 7, 10, 4, 12, 0, 8], Reason::LgArr),
-    (&[2, 1, 7, 10, 3, 8, 1, 8, 5, 0, 0], Reason::Truncated),
-    (
-        &[3, 1, 7, 8, 5, 8, 0, 9, 1, 0, 0, 0, 0, 0, 0, 0],
-        Reason::Coupon,
-    ),
-    (
-        &[3, 1, 7, 8, 6, 8, 0, 9, 1, 0, 0, 0, 9, 0, 0, 4],
-        Reason::LgArr,
-    ),
-    (
-        &[3, 1, 7, 7, 4, 8, 0, 9, 1, 0, 0, 0, 9, 0, 0, 4],
-        Reason::LgArr,
-    ),
-    (
-        &[
-            10, 1, 7, 4, 0, 8, 0, 2, 0, 0, 0, 0, 0, 0, 0, 0, 0, 0, 0, 0, 0, 0, 0, 0, 0, 0, 0, 0, 0,
-            0, 0, 0, 15, 0, 0, 0, 0, 0, 0, 0, 15, 0, 0, 0, 0, 0, 0, 0,
-        ],
-        Reason::Register,
-    ),
-];
-
-#[test]
-fn faults(rt: HostRuntime) -> Result<(), Fail> {
-    for (image, reason) in FAULTS {
-        let read = HllSketch::deserialize(rt.alloc(), image);
-        assert_eq!(rt; read.err().map(|e| e.reason()), Some(reason), "{image:?}");
-    }
-    Ok(())
-}
-
-/// A set of 31 coupons in 32 places is read, and becomes registers with the next update, though the coupon is there.
-#[test]
-fn crowded_sets(rt: HostRuntime) -> Result<(), Fail> {
-    let mut image = vec![in rt.alloc(); 0u8; 136]?;
-    for (place, byte) in [3, 1, 7, 8, 5, 8, 0, 9, 31].iter().enumerate() {
-        image[place] = *byte;
-    }
-    for slot in 0..31usize {
-        image[12 + 4 * slot] = slot as u8;
-        image[15 + 4 * slot] = 4;
-    }
-    let mut sketch = HllSketch::deserialize(rt.alloc(), &image)?;
-    assert_eq!(rt; table_of(&sketch), (Kind::Set, 32, Some(31)));
-    add(&mut sketch, 7, 1)?;
-    assert_eq!(rt;
-        table_of(&sketch),
-        (Kind::Registers(HllType::Hll8), 0, None)
-    );
-    assert!(rt; sketch == counted(rt.alloc(), 8, HllType::Hll8, 31)?);
     Ok(())
 }
 
