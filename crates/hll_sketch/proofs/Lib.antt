@@ -1,7 +1,10 @@
 mod StageRows
 pub mod Adding
+pub mod Checks
 pub mod Emptiness
 pub mod FaultKinds
+pub mod FirstFailing
+pub mod FirstFaults
 pub mod Faults
 pub mod FrontImages
 pub mod Headers
