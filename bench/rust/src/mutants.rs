@@ -10,6 +10,7 @@ use std::io::{BufWriter, Write};
 const IMAGES: u32 = 1_000_000;
 const COMPARED: u32 = 20_000;
 const BUFFER: usize = 1 << 22;
+const HEADER: usize = 8;
 const WORDS: [&str; 14] = [
     "accepted", "truncated", "family", "version", "lgk", "width", "stage", "preamble", "lgarr", "count", "coupon",
     "register", "argument", "memory",
@@ -173,7 +174,7 @@ impl Random {
     fn mutate(&mut self, image: &mut Vec<u8>) {
         let length = image.len();
         // Where words of four bytes begin: coupons, or the numbers of registers.
-        let start = if image[7] % 4 == 1 { 12 } else { 8 };
+        let start = length.min(if image[7] % 4 == 1 { HEADER + 4 } else { HEADER });
         let word = |random: &mut Random| start + 4 * random.below(((length - start) / 4).max(1));
         match self.below(10) {
             0 => {
@@ -238,7 +239,7 @@ impl Random {
             _ => self.registers(kind.width),
         };
         for _ in 0..[0, 1, 1, 1, 2, 3][self.below(6)] {
-            if image.len() >= 12 {
+            if image.len() >= HEADER {
                 self.mutate(&mut image);
             }
         }
