@@ -271,7 +271,7 @@ fn answer(image: &[u8], value: &mut [u8], written: &mut [u8]) -> (u8, usize, usi
             image.as_ptr(), image.len(), value.as_mut_ptr(), value.len(), written.as_mut_ptr(), written.len(),
         )
     };
-    (answer as u8, (answer >> 8) as usize & (1 << 28) - 1, (answer >> 36) as usize)
+    (answer as u8, (answer >> 8) as usize & 0x0fff_ffff, (answer >> 36) as usize)
 }
 
 /// A value with its coupons in ascending order, whatever their places.
