@@ -1,4 +1,4 @@
-"""A plain reader of images, written from docs/FORMAT.md alone, whose answers are compared with those of the library.
+"""A plain reader of images that follows docs/FORMAT.md alone; its answers are compared with those of the library.
 
 Run `mutants FILE` in bench/rust first, then this script with the same file. It prints for each kind of image how many
 were answered how, and ends with status 1 if an answer differs.
