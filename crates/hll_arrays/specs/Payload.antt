@@ -48,6 +48,20 @@ pub data Hll8Fault (k : ℕ) (bytes : List ℕ) : Reason → Type 0 where
   short : length bytes < 32 + 2 ^ k → Hll8Fault k bytes Truncated
   register : 32 + 2 ^ k ≤ length bytes → (All (λ v. v ≤ 63) (take (2 ^ k) (drop 32 bytes)) → ⊥) → Hll8Fault k bytes Register
 
+-- the counts of registers of eight or six bits pass their checks
+pub record HasPlainCounts (k : ℕ) (bytes : List ℕ) : Type 0 where
+  pub whole : 32 ≤ length bytes
+  pub zero_count : num_at_cur_min bytes ≤ 2 ^ k
+  pub no_exceptions : exception_count bytes ≡ 0
+
+-- the check of this reason is the first that fails
+pub data FirstHll8Fault (k : ℕ) (bytes : List ℕ) : Reason → Type 0 where
+  no_counts : length bytes < 32 → FirstHll8Fault k bytes Truncated
+  zero_count : 32 ≤ length bytes → 2 ^ k < num_at_cur_min bytes → FirstHll8Fault k bytes Count
+  exceptions_counted : 32 ≤ length bytes → exception_count bytes ≢ 0 → FirstHll8Fault k bytes Count
+  short : HasPlainCounts k bytes → length bytes < 32 + 2 ^ k → FirstHll8Fault k bytes Truncated
+  register : HasPlainCounts k bytes → 32 + 2 ^ k ≤ length bytes → (All (λ v. v ≤ 63) (take (2 ^ k) (drop 32 bytes)) → ⊥) → FirstHll8Fault k bytes Register
+
 -- ---- six bits
 
 -- the bytes of the fields, and one that holds none
@@ -65,6 +79,13 @@ pub data Hll6Fault (k : ℕ) (bytes : List ℕ) : Reason → Type 0 where
   zero_count : 32 ≤ length bytes → 2 ^ k < num_at_cur_min bytes → Hll6Fault k bytes Count
   exceptions_counted : 32 ≤ length bytes → exception_count bytes ≢ 0 → Hll6Fault k bytes Count
   short : length bytes < 32 + field_size k → Hll6Fault k bytes Truncated
+
+-- the check of this reason is the first that fails
+pub data FirstHll6Fault (k : ℕ) (bytes : List ℕ) : Reason → Type 0 where
+  no_counts : length bytes < 32 → FirstHll6Fault k bytes Truncated
+  zero_count : 32 ≤ length bytes → 2 ^ k < num_at_cur_min bytes → FirstHll6Fault k bytes Count
+  exceptions_counted : 32 ≤ length bytes → exception_count bytes ≢ 0 → FirstHll6Fault k bytes Count
+  short : HasPlainCounts k bytes → length bytes < 32 + field_size k → FirstHll6Fault k bytes Truncated
 
 -- ---- four bits
 

@@ -4,7 +4,7 @@ ghost use Rattle.std.specs.List.{list_all};
 ghost use Rattle.hll_base.specs.declared.error.Reason.TheVariants.{Memory};
 ghost use Rattle.hll_coupons.specs.declared.hll_type.HllType.TheVariants.{Hll6};
 ghost use Rattle.hll_arrays.specs.Packed.{fields, zeros, units, size_in_registers};
-ghost use Rattle.hll_arrays.specs.Payload.{field_size, state_at, IsHll6Payload, Hll6Fault, hll6_bytes};
+ghost use Rattle.hll_arrays.specs.Payload.{field_size, state_at, IsHll6Payload, FirstHll6Fault, Hll6Fault, hll6_bytes};
 ghost use Rattle.hll_arrays.specs.Store.{zero_registers, update_with_coupon, IsStored};
 
 use crate::estimate_state::EstimateState;
@@ -80,6 +80,7 @@ impl<A: Allocator> Array6<A> {
         ensures ok { IfOk result (λ a. IsHll6Payload lg_config_k (take (32 + field_size lg_config_k) cursor.entry)
             × (a ≡ record { lg_k = lg_config_k; registers = fields (take (field_size lg_config_k) (drop 32 cursor.entry)); state = state_at ooo cursor.entry })) }
         ensures err { IfErr result (λ e. (e ≡ Memory) ⊎ Hll6Fault lg_config_k cursor.entry e) }
+        ensures order { IfErr result (λ e. (e ≡ Memory) ⊎ FirstHll6Fault lg_config_k cursor.entry e) }
         ensures asked { IfErr result (λ e. e ≡ Memory → IsHll6Payload lg_config_k (take (32 + field_size lg_config_k) cursor.entry)) }
     {
         let size = two_to(lg_config_k);

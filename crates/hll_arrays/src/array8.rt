@@ -5,7 +5,7 @@ ghost use Rattle.hll_base.specs.declared.error.Reason.TheVariants.{Memory};
 ghost use Rattle.hll_coupons.specs.Fold.{join};
 ghost use Rattle.hll_arrays.specs.Packed as packed;
 ghost use Rattle.hll_arrays.specs.Packed.{zeros, size_in_registers};
-ghost use Rattle.hll_arrays.specs.Payload.{state_at, IsHll8Payload, Hll8Fault, hll8_bytes};
+ghost use Rattle.hll_arrays.specs.Payload.{state_at, IsHll8Payload, FirstHll8Fault, Hll8Fault, hll8_bytes};
 ghost use Rattle.hll_arrays.specs.State.{cleared_state};
 ghost use Rattle.hll_coupons.specs.declared.hll_type.HllType.TheVariants.{Hll8};
 ghost use Rattle.hll_arrays.specs.Store.{zero_registers, update_with_coupon, merge_with, AreRegisters, IsStored};
@@ -83,6 +83,7 @@ impl<A: Allocator> Array8<A> {
         ensures ok { IfOk result (λ a. IsHll8Payload lg_config_k (take (32 + 2 ^ lg_config_k) cursor.entry)
             × (a ≡ record { lg_k = lg_config_k; registers = take (2 ^ lg_config_k) (drop 32 cursor.entry); state = state_at ooo cursor.entry })) }
         ensures err { IfErr result (λ e. (e ≡ Memory) ⊎ Hll8Fault lg_config_k cursor.entry e) }
+        ensures order { IfErr result (λ e. (e ≡ Memory) ⊎ FirstHll8Fault lg_config_k cursor.entry e) }
         ensures asked { IfErr result (λ e. e ≡ Memory → IsHll8Payload lg_config_k (take (32 + 2 ^ lg_config_k) cursor.entry)) }
     {
         let size = two_to(lg_config_k);

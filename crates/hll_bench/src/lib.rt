@@ -11,6 +11,7 @@ ghost use Rattle.hll_arrays.specs.Packed.{zeros, lowered_byte, zero_nibbles};
 
 mod images;
 mod registers;
+mod sketches;
 
 use hll_arrays::array4::Array4;
 use hll_arrays::array6::Array6;
@@ -198,6 +199,69 @@ pub extern "C" fn hll_bench_write_4(alloc: Global, lg_k: u8, rounds: u32) -> u64
     requires { (4 ≤ lg_k) × (lg_k ≤ 21) }
 {
     images::write::<Array4>(alloc, lg_k, rounds).unwrap_or(REFUSED)
+}
+
+/// Reads an image, writes it, and reads that again. What it means is put into `value` and what is written for it into
+/// `image`, their lengths stand in the bits from 8 and from 36 on. Otherwise the number of the reason, or 255 if the
+/// sketch that was written is not read as an equal one.
+#[unsafe(no_mangle)]
+pub extern "C" fn hll_bench_read_image(
+    alloc: Global,
+    bytes: &[u8],
+    value: &mut [u8],
+    image: &mut [u8],
+) -> u64 {
+    match sketches::read_image(alloc, bytes, value, image) {
+        Ok(lengths) => lengths,
+        Err(e) => u64::from(e.reason().number()),
+    }
+}
+
+/// Updates of sketches from empty; the width is 0, 1 and 2 for four, six and eight bits.
+#[unsafe(no_mangle)]
+pub extern "C" fn hll_bench_sketch_update(
+    alloc: Global,
+    lg_k: u8,
+    width: u8,
+    coupons: u32,
+    rounds: u32,
+) -> u64 {
+    sketches::update(alloc, lg_k, sketches::width_of(width), coupons, rounds).unwrap_or(REFUSED)
+}
+
+/// Updates of a sketch by coupons that it has.
+#[unsafe(no_mangle)]
+pub extern "C" fn hll_bench_sketch_update_held(
+    alloc: Global,
+    lg_k: u8,
+    coupons: u32,
+    rounds: u32,
+) -> u64 {
+    sketches::update_held(alloc, lg_k, coupons, rounds).unwrap_or(REFUSED)
+}
+
+/// The image of a sketch, put into a buffer; its length.
+#[unsafe(no_mangle)]
+pub extern "C" fn hll_bench_sketch_image(
+    alloc: Global,
+    lg_k: u8,
+    width: u8,
+    coupons: u32,
+    buffer: &mut [u8],
+) -> u64 {
+    sketches::image(alloc, lg_k, sketches::width_of(width), coupons, buffer).unwrap_or(REFUSED)
+}
+
+/// Reads of an image of a sketch.
+#[unsafe(no_mangle)]
+pub extern "C" fn hll_bench_sketch_read(alloc: Global, image: &[u8], rounds: u32) -> u64 {
+    sketches::read(alloc, image, rounds).unwrap_or(REFUSED)
+}
+
+/// Writes of the sketch of an image.
+#[unsafe(no_mangle)]
+pub extern "C" fn hll_bench_sketch_write(alloc: Global, image: &[u8], rounds: u32) -> u64 {
+    sketches::write(alloc, image, rounds).unwrap_or(REFUSED)
 }
 
 /// `max_into`.

@@ -1,6 +1,7 @@
 //! Work on registers: each function makes its own, does the work `rounds` times, and returns a number that depends on all
 //! of it, such as how many registers are 0 in the end.
 ghost use Rattle.std.specs.Prelude.{◌≡◌, ◌≤◌, IfOk};
+ghost use Rattle.hll_coupons.specs.Pair.{value_of};
 
 use hll_arrays::array4::Array4;
 use hll_arrays::array6::Array6;
@@ -12,7 +13,9 @@ use hll_coupons::coupon::Coupon;
 use std::alloc::Global;
 
 /// The coupon of a word, and the next word.
-fn next(word: u64) -> (Coupon, u64) {
+pub(crate) fn next(word: u64) -> (Coupon, u64)
+    ensures { 1 ≤ value_of result.0 }
+{
     let word = word.wrapping_mul(0xd134_2543_de82_ef95);
     let coupon = Coupon::from_words(word >> 32, word);
     (coupon, word)
@@ -35,7 +38,7 @@ pub(crate) fn filled(alloc: Global, lg_k: u8) -> Result<Array8, Error>
 }
 
 /// A sum of weights in units of 2^-3, modulo 2^32.
-fn weight(units: u128) -> u64 {
+pub(crate) fn weight(units: u128) -> u64 {
     (units >> 60 & 0xffff_ffff) as u64
 }
 

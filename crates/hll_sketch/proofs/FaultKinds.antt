@@ -1,7 +1,8 @@
 -- A fault of an image is one of data.
-use Rattle.std.proofs.Common.{◌≡◌, ℕ, List, refl}
+use Rattle.std.proofs.Common.{◌≡◌, ℕ, List, refl, sym, ap, ◌∙◌}
 use Rattle.hll_base.specs.declared.error.Reason.{Reason}
-use Rattle.hll_base.specs.declared.error.ErrorKind.TheVariants.{InvalidData}
+use Rattle.hll_base.specs.declared.error.Reason.TheVariants as reasons
+use Rattle.hll_base.specs.declared.error.ErrorKind.TheVariants.{InvalidData, OutOfMemory}
 use Rattle.hll_base.specs.Reason.{kind_of}
 use Rattle.hll_coupons.specs.Payload.{ListShape, ListFault, SetShape, SetFault}
 use Rattle.hll_coupons.specs.Payload as coupons
@@ -66,3 +67,7 @@ faults_are_of_data b r (fault.Fault.hll_short l s w n) = refl
 faults_are_of_data b r (fault.Fault.hll8_payload l s w k f) = hll8_data _ _ r f
 faults_are_of_data b r (fault.Fault.hll6_payload l s w k f) = hll6_data _ _ r f
 faults_are_of_data b r (fault.Fault.hll4_payload l s w k f) = hll4_data _ _ r f
+
+-- a fault of the header is not of memory
+pub not_memory : (b : List ℕ) (r : Reason) → HeaderFault b r → r ≡ reasons.Memory → ⊥
+not_memory b r f is = let other : InvalidData ≡ OutOfMemory = sym (header_data b r f) ∙ ap kind_of is in cc

@@ -3,21 +3,20 @@ use Rattle.std.proofs.Common.{◌≡◌, ℕ, ◌+◌, ◌-◌, ◌*◌, ◌/◌
 use Rattle.std.proofs.lemmas.List.{take-append-drop, drop-take, drop-drop, length-drop, length-take}
 use Rattle.hll_coupons.specs.Coupons.{AreCoupons}
 use Rattle.hll_coupons.specs.Pair.{set_of}
-use Rattle.hll_coupons.specs.Payload.{list_places, list_coupons, list_table, IsListPayload, set_coupons, set_places, IsSetPayload}
+use Rattle.hll_coupons.specs.Payload.{list_places, list_coupons, list_table, set_coupons, set_places, IsSetPayload}
 use Rattle.hll_coupons.specs.Table.{Table, coupons_in, coupons_of}
-use Rattle.hll_coupons.specs.declared.hll_type.HllType.{HllType}
 use Rattle.hll_coupons.specs.declared.hll_type.HllType.TheVariants.{Hll4, Hll6, Hll8}
 use Rattle.hll_coupons.proofs.Payloads.{front_set_coupons, front_set_places}
 use Rattle.hll_coupons.proofs.Reading.{coupons_in-list_table, list_coupons-front}
 use Rattle.hll_arrays.specs.Packed.{fields}
-use Rattle.hll_arrays.specs.Payload.{state_at, field_size, IsHll8Payload, IsHll6Payload, Hll4Shape, hll4_size, registers_of, shape_of_hll4, HasEntries, IsHll4Payload, Hll4Fault}
+use Rattle.hll_arrays.specs.Payload.{state_at, field_size, IsHll8Payload, IsHll6Payload, Hll4Shape, hll4_size, registers_of, shape_of_hll4, HasEntries, IsHll4Payload, IsWhole, Hll4Fault, FirstHll4Fault}
 use Rattle.hll_arrays.specs.Payload as payloads
 use Rattle.hll_arrays.specs.declared.aux_format.AuxFormat.TheVariants.{Compact, Updatable}
 use Rattle.hll_base.specs.declared.error.Reason.{Reason}
 use Rattle.std.proofs.lemmas.Bool.{true≢false}
 use Rattle.hll_arrays.specs.Store.{Stored}
 use Rattle.hll_arrays.proofs.Payloads.{front_places, state_at-front}
-use Rattle.hll_sketch.specs.Value.{Sketch, coupons, registers}
+use Rattle.hll_sketch.specs.Value.{coupons, registers}
 use Rattle.hll_sketch.specs.Image as image
 use Rattle.hll_sketch.specs.Image.{byte, lg_k_byte, table_byte, width_bits, width_of_bits, is_flagged, HasHeader, HasSetTable, list_shape, set_shape, hll4_shape, IsListImage, IsReadAs}
 use Rattle.hll_sketch.proofs.Headers.{HasHeader-same}
@@ -193,6 +192,10 @@ entries_as : (k m q : ℕ) (c : Bool) (bytes : List ℕ) → HasEntries (with_fo
 entries_as k m q true bytes p = record { whole = p.whole; few = p.few; table = λ e. absurd (true≢false e) }
 entries_as k m q false bytes p = p
 
+pub whole_as : (k m q : ℕ) (c : Bool) (bytes : List ℕ) → IsWhole (with_format k m c q) bytes → IsWhole (with_flag k m c q) bytes
+whole_as k m q true bytes w = record { low = w.low; has_entries = entries_as k m q true bytes w.has_entries; there = w.there }
+whole_as k m q false bytes w = w
+
 pub payload_as : (k m q : ℕ) (c : Bool) (bytes : List ℕ) → IsHll4Payload (with_format k m c q) bytes → IsHll4Payload (with_flag k m c q) bytes
 payload_as k m q true bytes p = record { low = p.low; has_entries = entries_as k m q true bytes p.has_entries; size = p.size; are_entries = p.are_entries; number = p.number; agree = p.agree }
 payload_as k m q false bytes p = p
@@ -207,6 +210,17 @@ fault_as k m q true bytes r (payloads.Hll4Fault.coupon h l n) = payloads.Hll4Fau
 fault_as k m q true bytes r (payloads.Hll4Fault.number h l n) = payloads.Hll4Fault.number (entries_as k m q true bytes h) l n
 fault_as k m q true bytes r (payloads.Hll4Fault.register h l e n) = payloads.Hll4Fault.register (entries_as k m q true bytes h) l e n
 fault_as k m q false bytes r f = f
+
+pub first_as : (k m q : ℕ) (c : Bool) (bytes : List ℕ) (r : Reason) → FirstHll4Fault (with_format k m c q) bytes r → FirstHll4Fault (with_flag k m c q) bytes r
+first_as k m q true bytes r (payloads.FirstHll4Fault.no_counts a) = payloads.FirstHll4Fault.no_counts a
+first_as k m q true bytes r (payloads.FirstHll4Fault.low_count_above a l) = payloads.FirstHll4Fault.low_count_above a l
+first_as k m q true bytes r (payloads.FirstHll4Fault.exceptions_above a l) = payloads.FirstHll4Fault.exceptions_above a l
+first_as k m q true bytes r (payloads.FirstHll4Fault.table a l f e x y) = absurd (true≢false e)
+first_as k m q true bytes r (payloads.FirstHll4Fault.short l h n) = payloads.FirstHll4Fault.short l (entries_as k m q true bytes h) n
+first_as k m q true bytes r (payloads.FirstHll4Fault.coupon w n) = payloads.FirstHll4Fault.coupon (whole_as k m q true bytes w) n
+first_as k m q true bytes r (payloads.FirstHll4Fault.number w e n) = payloads.FirstHll4Fault.number (whole_as k m q true bytes w) e n
+first_as k m q true bytes r (payloads.FirstHll4Fault.register w e x n) = payloads.FirstHll4Fault.register (whole_as k m q true bytes w) e x n
+first_as k m q false bytes r f = f
 
 pub size_as : (k m q : ℕ) (c : Bool) (bytes : List ℕ) → hll4_size (with_format k m c q) bytes ≡ hll4_size (with_flag k m c q) bytes
 size_as k m q true bytes = refl

@@ -1,9 +1,9 @@
 -- Worked images: what they mean, what is written, and a fault of each kind.
-use Rattle.std.proofs.Common.{◌≡◌, ℕ, false, List, [], ◌∷◌, length, drop, refl, arith}
+use Rattle.std.proofs.Common.{◌≡◌, ℕ, false, List, [], ◌∷◌, length, drop, Some, None, refl, arith}
 use Rattle.std.specs.Prelude.{replicate}
 use Rattle.std.specs.FinSet.{len-empty}
 use Rattle.std.specs.Ordering.{nat_cmp}
-use Rattle.hll_base.specs.declared.error.Reason.TheVariants.{LgArr, Count, Register}
+use Rattle.hll_base.specs.declared.error.Reason.TheVariants.{Family, LgArr, Count, Register}
 use Rattle.hll_coupons.specs.Pair.{pair}
 use Rattle.hll_coupons.specs.Payload.{list_coupons, set_count, set_coupons}
 use Rattle.hll_arrays.specs.declared.estimate_state.EstimateState.{EstimateState}
@@ -11,6 +11,7 @@ use Rattle.hll_arrays.specs.State.{cleared_state}
 use Rattle.hll_arrays.specs.Payload.{registers_of, hll4_bytes, hll6_bytes}
 use Rattle.hll_arrays.specs.Payload as payload
 use Rattle.hll_sketch.specs.Image.{list_shape, set_shape, hll4_shape}
+use Rattle.hll_sketch.specs.Checks.{first_fault}
 use Rattle.hll_sketch.specs.Fault.{Fault, set_table, hll8_payload, hll4_payload}
 
 -- ---- what images mean
@@ -110,3 +111,26 @@ zeros_above = 10 ∷ 1 ∷ 7 ∷ 4 ∷ 0 ∷ 0 ∷ 0 ∷ 10 ∷ 0 ∷ 0 ∷ 0 �
 
 pub fault-zeros_above : Fault zeros_above Count
 fault-zeros_above = hll8_payload (omega arith) refl refl (record { low = omega arith; high = omega arith }) (payload.zero_count (omega arith) (omega arith))
+
+-- ---- first faults
+
+-- another version, and another family
+abbrev two_faults : List ℕ
+two_faults = 2 ∷ 2 ∷ 8 ∷ 10 ∷ 3 ∷ 12 ∷ 0 ∷ 8 ∷ []
+
+pub first-two_faults : first_fault two_faults ≡ Some Family
+first-two_faults = refl
+
+-- a set in 64 places, at an lg_k of 8, that ends before its count
+abbrev short_set_of_size_6 : List ℕ
+short_set_of_size_6 = 3 ∷ 1 ∷ 7 ∷ 8 ∷ 6 ∷ 8 ∷ 0 ∷ 9 ∷ []
+
+pub first-short_set_of_size_6 : first_fault short_set_of_size_6 ≡ Some LgArr
+first-short_set_of_size_6 = refl
+
+pub first-zeros_above : first_fault zeros_above ≡ Some Count
+first-zeros_above = refl
+
+-- what is written for sixteen registers of 0 at six bits has none
+pub first-six_zeros : first_fault (hll6_bytes 4 (replicate 16 0) cleared_state) ≡ None
+first-six_zeros = refl

@@ -1,8 +1,11 @@
 mod StageRows
 pub mod Adding
+pub mod Checks
 pub mod Collecting
 pub mod Emptiness
 pub mod FaultKinds
+pub mod FirstFailing
+pub mod FirstFaults
 pub mod Faults
 pub mod Folds
 pub mod FrontImages

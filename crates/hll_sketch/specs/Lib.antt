@@ -1,5 +1,6 @@
 pub mod Adding
 pub mod Agree
+pub mod Checks
 pub mod Fault
 pub mod Folding
 pub mod Grown

@@ -1,9 +1,10 @@
 //! The first eight bytes of an image (docs/FORMAT.md, "Header").
-ghost use Rattle.std.specs.Prelude.{◌≡◌, ◌<◌, ◌≤◌, ◌/◌, ◌%◌, ◌==◌, ◌↔◌, IsOk, IfOk, IfErr, ◌*◌};
+ghost use Rattle.std.specs.Prelude.{◌≡◌, ◌<◌, ◌≤◌, ◌/◌, ◌%◌, ◌==◌, ◌↔◌, Some, IsOk, IfOk, IfErr, ◌*◌};
 ghost use Rattle.hll_base.specs.declared.error.Reason.TheVariants as reasons;
 ghost use Rattle.hll_sketch.specs.Value.{IsLgK};
 ghost use Rattle.hll_sketch.specs.Image.{HasHeader, stage_bits, width_of_bits, preamble_words};
 ghost use Rattle.hll_sketch.specs.Header.{stage_of_bits, number_of_stage, header_of};
+ghost use Rattle.hll_sketch.specs.Checks.{first_failing, header_checks};
 ghost use Rattle.hll_sketch.specs.Fault.{HeaderFault};
 
 use hll_base::error::{Error, Reason};
@@ -58,6 +59,7 @@ impl Header {
     pub fn read(bytes: &[u8]) -> Result<Header, Error>
         ensures ok { IfOk result (λ h. HasHeader bytes.now (stage_bits bytes.now) × (stage_bits bytes.now < 3) × (h ≡ header_of bytes.now)) }
         ensures err { IfErr result (λ e. HeaderFault bytes.now e) }
+        ensures order { IfErr result (λ e. first_failing (header_checks bytes.now) ≡ Some e) }
     {
         let [
             preamble,

@@ -5,6 +5,7 @@ ghost use Rattle.hll_sketch.specs.Layout.{OneStepSuffices};
 ghost use Rattle.hll_sketch.specs.Folding.{FoldedIsLegal, FoldedIsGrown, FoldedHasSameFolds};
 ghost use Rattle.hll_sketch.specs.Same.{SameIsEqual};
 ghost use Rattle.hll_sketch.specs.Image.{OneImage, ImageIsLegal};
+ghost use Rattle.hll_sketch.specs.Checks.{FirstFaultStands, FaultlessIsImage};
 ghost use Rattle.hll_sketch.specs.Fault.{FaultExcludesHeader, FaultExcludesImage, FaultsAreOfData};
 ghost use Rattle.hll_sketch.specs.Written.{WrittenIsImage, SameBytes, ListIsReadBack};
 
@@ -51,6 +52,16 @@ pub fn fault_excludes_header()
 /// Where bytes have a fault, no front of them is an image.
 pub fn fault_excludes_image()
     ensures { FaultExcludesImage }
+{}
+
+/// The first check that an image fails is a fault of it.
+pub fn first_fault_stands()
+    ensures { FirstFaultStands }
+{}
+
+/// Bytes that pass every check have an image in front, and no others have.
+pub fn faultless_is_image()
+    ensures { FaultlessIsImage }
 {}
 
 /// A fault of an image is one of data, never of an argument or of memory.

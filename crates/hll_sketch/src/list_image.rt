@@ -1,9 +1,10 @@
 //! Reading a list from its image (docs/FORMAT.md, "LIST").
-ghost use Rattle.std.specs.Prelude.{◌≡◌, ◌+◌, ◌*◌, ◌⊎◌, drop, take, IfOk, IfErr};
+ghost use Rattle.std.specs.Prelude.{◌≡◌, ◌+◌, ◌*◌, ◌⊎◌, drop, take, Some, None, IfOk, IfErr};
 ghost use Rattle.hll_base.specs.declared.error.Reason.TheVariants.{Memory};
 ghost use Rattle.hll_coupons.specs.Payload.{list_places, list_table};
 ghost use Rattle.hll_sketch.specs.Image.{HasHeader, list_shape, IsListImage};
 ghost use Rattle.hll_sketch.specs.Header.{header_of};
+ghost use Rattle.hll_sketch.specs.Checks.{first_fault, size_fault};
 ghost use Rattle.hll_sketch.specs.Fault.{Fault};
 
 use crate::header::{HEADER_SIZE, Header};
@@ -26,6 +27,8 @@ pub fn read_list<A: Allocator>(alloc: A, bytes: &[u8], header: Header) -> Result
     ensures ok { let shape = list_shape bytes.now in
         IfOk result (λ l. IsListImage (take (8 + 4 * list_places shape) bytes.now) × (l ≡ list_table shape (drop 8 bytes.now))) }
     ensures err { IfErr result (λ e. (e ≡ Memory) ⊎ Fault bytes.now e) }
+    ensures order { IfErr result (λ e. (e ≡ Memory) ⊎ (first_fault bytes.now ≡ Some e)) }
+    ensures asked { IfErr result (λ e. e ≡ Memory → size_fault bytes.now ≡ None) }
 {
     if header.lg_arr != LG_LIST_SIZE {
         return Err(Error::new(Reason::LgArr));

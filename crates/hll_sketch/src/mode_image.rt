@@ -1,8 +1,9 @@
 //! Reading a mode from an image, whose header has been read (docs/FORMAT.md, "The image"). Each reader looks at a front
 //! of the bytes alone, fails with the fault that stands, in the order of checks, or else with `Memory`, and takes memory
 //! only once the bytes are known to be there.
-ghost use Rattle.std.specs.Prelude.{◌≡◌, ◌⊎◌, ◌<◌, IfOk, IfErr};
+ghost use Rattle.std.specs.Prelude.{◌≡◌, ◌⊎◌, ◌<◌, Some, None, IfOk, IfErr};
 ghost use Rattle.hll_base.specs.declared.error.Reason.TheVariants.{Memory};
+ghost use Rattle.hll_sketch.specs.Checks.{first_fault, size_fault};
 ghost use Rattle.hll_sketch.specs.Fault.{Fault};
 ghost use Rattle.hll_sketch.specs.Header.{header_of};
 ghost use Rattle.hll_sketch.specs.Image.{HasHeader, IsReadAs, stage_bits, width_bits};
@@ -39,6 +40,8 @@ pub(crate) fn read_mode<A: Allocator + Clone>(
     ensures ok { IfOk result (λ m. IsReadAs bytes.now (sketch_of (record { lg_k = header.lg_k; layout = layout_of m }))) }
     ensures layout { IfOk result (λ m. IsLayoutFor header.lg_k (layout_of m)) }
     ensures err { IfErr result (λ e. (e ≡ Memory) ⊎ Fault bytes.now e) }
+    ensures order { IfErr result (λ e. (e ≡ Memory) ⊎ (first_fault bytes.now ≡ Some e)) }
+    ensures asked { IfErr result (λ e. e ≡ Memory → size_fault bytes.now ≡ None) }
 {
     match (header.stage, header.hll_type) {
         (Stage::List, _) => read_list_mode(alloc, bytes, header),
@@ -55,6 +58,8 @@ fn read_list_mode<A: Allocator>(alloc: A, bytes: &[u8], header: Header) -> Resul
     ensures ok { IfOk result (λ m. IsReadAs bytes.now (sketch_of (record { lg_k = header.lg_k; layout = layout_of m }))) }
     ensures layout { IfOk result (λ m. IsLayoutFor header.lg_k (layout_of m)) }
     ensures err { IfErr result (λ e. (e ≡ Memory) ⊎ Fault bytes.now e) }
+    ensures order { IfErr result (λ e. (e ≡ Memory) ⊎ (first_fault bytes.now ≡ Some e)) }
+    ensures asked { IfErr result (λ e. e ≡ Memory → size_fault bytes.now ≡ None) }
 {
     Ok(Mode::List {
         list: read_list(alloc, bytes, header)?,
@@ -68,6 +73,8 @@ fn read_set_mode<A: Allocator>(alloc: A, bytes: &[u8], header: Header) -> Result
     ensures ok { IfOk result (λ m. IsReadAs bytes.now (sketch_of (record { lg_k = header.lg_k; layout = layout_of m }))) }
     ensures layout { IfOk result (λ m. IsLayoutFor header.lg_k (layout_of m)) }
     ensures err { IfErr result (λ e. (e ≡ Memory) ⊎ Fault bytes.now e) }
+    ensures order { IfErr result (λ e. (e ≡ Memory) ⊎ (first_fault bytes.now ≡ Some e)) }
+    ensures asked { IfErr result (λ e. e ≡ Memory → size_fault bytes.now ≡ None) }
 {
     if header.lg_arr < LG_LEAST_SET || header.lg_k - LG_SET_BELOW < header.lg_arr {
         return Err(Error::new(Reason::LgArr));
@@ -91,6 +98,8 @@ fn read_four<A: Allocator + Clone>(alloc: A, bytes: &[u8], header: Header) -> Re
     ensures ok { IfOk result (λ m. IsReadAs bytes.now (sketch_of (record { lg_k = header.lg_k; layout = layout_of m }))) }
     ensures layout { IfOk result (λ m. IsLayoutFor header.lg_k (layout_of m)) }
     ensures err { IfErr result (λ e. (e ≡ Memory) ⊎ Fault bytes.now e) }
+    ensures order { IfErr result (λ e. (e ≡ Memory) ⊎ (first_fault bytes.now ≡ Some e)) }
+    ensures asked { IfErr result (λ e. e ≡ Memory → size_fault bytes.now ≡ None) }
 {
     let array = Array4::deserialize(
         alloc,
@@ -110,6 +119,8 @@ fn read_six<A: Allocator>(alloc: A, bytes: &[u8], header: Header) -> Result<Mode
     ensures ok { IfOk result (λ m. IsReadAs bytes.now (sketch_of (record { lg_k = header.lg_k; layout = layout_of m }))) }
     ensures layout { IfOk result (λ m. IsLayoutFor header.lg_k (layout_of m)) }
     ensures err { IfErr result (λ e. (e ≡ Memory) ⊎ Fault bytes.now e) }
+    ensures order { IfErr result (λ e. (e ≡ Memory) ⊎ (first_fault bytes.now ≡ Some e)) }
+    ensures asked { IfErr result (λ e. e ≡ Memory → size_fault bytes.now ≡ None) }
 {
     let payload = SketchSlice::new(&bytes[HEADER_SIZE..]);
     let array = Array6::deserialize_registers(alloc, payload, header.lg_k, header.out_of_order)?;
@@ -123,6 +134,8 @@ fn read_eight<A: Allocator>(alloc: A, bytes: &[u8], header: Header) -> Result<Mo
     ensures ok { IfOk result (λ m. IsReadAs bytes.now (sketch_of (record { lg_k = header.lg_k; layout = layout_of m }))) }
     ensures layout { IfOk result (λ m. IsLayoutFor header.lg_k (layout_of m)) }
     ensures err { IfErr result (λ e. (e ≡ Memory) ⊎ Fault bytes.now e) }
+    ensures order { IfErr result (λ e. (e ≡ Memory) ⊎ (first_fault bytes.now ≡ Some e)) }
+    ensures asked { IfErr result (λ e. e ≡ Memory → size_fault bytes.now ≡ None) }
 {
     let payload = SketchSlice::new(&bytes[HEADER_SIZE..]);
     let array = Array8::deserialize_registers(alloc, payload, header.lg_k, header.out_of_order)?;

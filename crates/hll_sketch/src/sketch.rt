@@ -1,5 +1,5 @@
 //! Sketches (docs/MODEL.md, "Sketch values" and "Adding").
-ghost use Rattle.std.specs.Prelude.{◌≡◌, ◌≤◌, ◌⊎◌, [], ◌∷◌, true, fold, IfOk, IfErr, IfSome, IfNone, OnOk, OnErr};
+ghost use Rattle.std.specs.Prelude.{◌≡◌, ◌≤◌, ◌⊎◌, [], ◌∷◌, true, fold, Some, None, IfOk, IfErr, IfSome, IfNone, OnOk, OnErr};
 ghost use Rattle.hll_base.specs.declared.error.Reason.TheVariants.{Memory};
 ghost use Rattle.hll_base.specs.declared.error.Reason.TheVariants as reasons;
 ghost use Rattle.hll_base.specs.Hash.{hash_of, initial_state, after_piece, default_seed};
@@ -7,6 +7,7 @@ ghost use Rattle.hll_coupons.specs.Hashed.{coupon_of_halves};
 ghost use Rattle.hll_coupons.specs.Fold.{fold_to};
 ghost use Rattle.hll_coupons.specs.Pair.{value_of, set_of};
 ghost use Rattle.hll_sketch.specs.Adding.{add, content_with};
+ghost use Rattle.hll_sketch.specs.Checks.{first_fault, size_fault};
 ghost use Rattle.hll_sketch.specs.Fault.{Fault};
 ghost use Rattle.hll_sketch.specs.Folding as folding;
 ghost use Rattle.hll_sketch.specs.Folding.{IsFoldLgK};
@@ -153,11 +154,13 @@ impl<A: Allocator + Clone> HllSketch<A> {
     /// The sketch of an image, of any stage and width (docs/FORMAT.md, "The image"). What follows the image is not looked
     /// at.
     ///
-    /// Fails with the reason of a fault that stands in the bytes, by the order of checks, or else with `Memory`. Takes
-    /// memory only once the bytes are known to be there.
+    /// Fails with the reason of the first check that the bytes fail, in the order of docs/FORMAT.md, or else with
+    /// `Memory`. Takes memory only once the counts pass their checks and the bytes that they ask for are there.
     pub fn deserialize(alloc: A, bytes: &[u8]) -> Result<HllSketch<A>, Error>
         ensures ok { IfOk result (λ s. IsReadAs bytes.now (sketch_of s)) }
         ensures err { IfErr result (λ e. (e ≡ Memory) ⊎ Fault bytes.now e) }
+        ensures order { IfErr result (λ e. (e ≡ Memory) ⊎ (first_fault bytes.now ≡ Some e)) }
+        ensures asked { IfErr result (λ e. e ≡ Memory → size_fault bytes.now ≡ None) }
     {
         let header = Header::read(bytes)?;
         Ok(HllSketch {

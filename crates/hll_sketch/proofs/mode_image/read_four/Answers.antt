@@ -1,19 +1,20 @@
-use Rattle.std.proofs.Common.{◌≡◌, ◌⊎◌, Bool, List, ℕ, take, drop, length, cond, sym, ap, subst, ◌∙◌, inl, inr}
+use Rattle.std.proofs.Common.{◌≡◌, ◌⊎◌, Bool, List, ℕ, take, drop, cond, sym, ap, subst, ◌∙◌, Some, None, inl, inr}
 use Rattle.std.proofs.lemmas.List.{take_rest}
 use Rattle.hll_base.proofs.Errors.{IfErr-passed}
 use Rattle.hll_base.specs.declared.error.Reason.TheVariants.{Memory}
 use Rattle.hll_coupons.specs.declared.hll_type.HllType.TheVariants.{Hll4}
-use Rattle.hll_arrays.specs.FourBits.{FourBits}
-use Rattle.hll_arrays.specs.Payload.{Hll4Shape, hll4_size, registers_of, shape_of_hll4, state_at, IsHll4Payload, Hll4Fault}
+use Rattle.hll_arrays.specs.Payload.{Hll4Shape, hll4_size, registers_of, shape_of_hll4, state_at, IsHll4Payload, IsWhole, Hll4Fault, FirstHll4Fault}
 use Rattle.hll_arrays.specs.declared.aux_format.AuxFormat.{AuxFormat}
 use Rattle.hll_arrays.specs.Store.{Stored}
+use Rattle.hll_sketch.specs.Checks.{first_fault, size_fault}
 use Rattle.hll_sketch.specs.Fault.{Fault}
 use Rattle.hll_sketch.specs.Fault as fault
 use Rattle.hll_sketch.specs.Header.{header_of}
 use Rattle.hll_sketch.specs.Image.{lg_k_byte, is_flagged, hll4_shape, IsReadAs}
 use Rattle.hll_sketch.specs.Value.{registers}
 use Rattle.hll_sketch.specs.declared.header.Header.{Header}
-use Rattle.hll_sketch.proofs.FrontImages.{fault_as, payload_as, read_as-four, registers_as, size_as}
+use Rattle.hll_sketch.proofs.FirstFailing.{four_first, four_asked}
+use Rattle.hll_sketch.proofs.FrontImages.{fault_as, first_as, whole_as, payload_as, read_as-four, registers_as, size_as}
 use Rattle.hll_sketch.proofs.mode_image.read_four.Goals as goal
 
 -- the registers that the reader of the payload gives
@@ -48,6 +49,32 @@ returns-in_err-array-clause-err g c =
           (subst (λ xs. Hll4Fault (shape_of_hll4 h.lg_k h.state_byte (cond h.compact AuxFormat.Compact (AuxFormat.Updatable h.lg_arr))) xs e) (c.new.ensures ∙ take_rest b 8)
           (subst (λ t. Hll4Fault (shape_of_hll4 h.lg_k h.state_byte t) c.new.result e) c.from_header.ensures f)))))
     ])
+
+pub returns-in_err-array-clause-order : goal.returns-in_err-array-clause-order
+returns-in_err-array-clause-order g c =
+    let b : List ℕ = c.args.bytes.now in
+    let e = c.in_err-array.field-0.0 in
+    let h : Header = c.args.header in
+    IfErr-passed (λ r. (r ≡ Memory) ⊎ (first_fault b ≡ Some r)) c.from_residual.result e c.from_residual.ensures.1
+    (elim c.in_err-array.ensures.order [
+      | inl full ↦ inl full
+      | inr f ↦ inr (four_first b e c.requires.has c.requires.width
+          (subst (λ s. FirstHll4Fault s (drop 8 b) e) (shape_is b h c.requires.header)
+          (first_as h.lg_k h.state_byte h.lg_arr h.compact (drop 8 b) e
+          (subst (λ xs. FirstHll4Fault (shape_of_hll4 h.lg_k h.state_byte (cond h.compact AuxFormat.Compact (AuxFormat.Updatable h.lg_arr))) xs e) (c.new.ensures ∙ take_rest b 8)
+          (subst (λ t. FirstHll4Fault (shape_of_hll4 h.lg_k h.state_byte t) c.new.result e) c.from_header.ensures f)))))
+    ])
+
+pub returns-in_err-array-clause-asked : goal.returns-in_err-array-clause-asked
+returns-in_err-array-clause-asked g c =
+    let b : List ℕ = c.args.bytes.now in
+    let h : Header = c.args.header in
+    IfErr-passed (λ r. r ≡ Memory → size_fault b ≡ None) c.from_residual.result c.in_err-array.field-0.0 c.from_residual.ensures.1
+    (λ full. four_asked b c.requires.has c.requires.width
+    (subst (λ s. IsWhole s (drop 8 b)) (shape_is b h c.requires.header)
+    (whole_as h.lg_k h.state_byte h.lg_arr h.compact (drop 8 b)
+    (subst (IsWhole (shape_of_hll4 h.lg_k h.state_byte (cond h.compact AuxFormat.Compact (AuxFormat.Updatable h.lg_arr)))) (c.new.ensures ∙ take_rest b 8)
+    (subst (λ t. IsWhole (shape_of_hll4 h.lg_k h.state_byte t) c.new.result) c.from_header.ensures (c.in_err-array.ensures.asked full))))))
 
 pub returns-clause-ok : goal.returns-clause-ok
 returns-clause-ok g c =

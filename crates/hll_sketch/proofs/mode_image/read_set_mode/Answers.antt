@@ -1,16 +1,21 @@
-use Rattle.std.proofs.Common.{arith, ◌≡◌, ◌+◌, ◌*◌, ◌≤◌, ◌⊎◌, Bool, List, ℕ, take, drop, length, sym, ap, subst, ◌∙◌, inl, inr}
+use Rattle.std.proofs.Common.{arith, ◌≡◌, ◌+◌, ◌*◌, ◌⊎◌, List, ℕ, take, drop, sym, ap, subst, ◌∙◌, Some, inl, inr}
 use Rattle.std.proofs.lemmas.List.{take_rest}
 use Rattle.hll_base.proofs.Errors.{IfErr-passed}
 use Rattle.hll_base.specs.declared.error.Reason.TheVariants.{Memory}
+use Rattle.hll_base.specs.declared.error.Reason.{Reason}
+use Rattle.hll_base.specs.declared.error.Reason.TheVariants as reasons
+use Rattle.hll_coupons.specs.Coupons.{AreCoupons}
 use Rattle.hll_coupons.specs.Pair.{set_of}
-use Rattle.hll_coupons.specs.Payload.{SetShape, shape_of_set, set_coupons, set_places, IsSetPayload, IsSetTable, SetFault}
+use Rattle.hll_coupons.specs.Payload.{SetShape, shape_of_set, set_coupons, set_places, IsSetPayload, HasSetCount, IsSetTable, SetFault}
 use Rattle.hll_coupons.specs.Table.{Table, coupons_of}
+use Rattle.hll_sketch.specs.Checks.{first_fault}
 use Rattle.hll_sketch.specs.Fault.{Fault}
 use Rattle.hll_sketch.specs.Fault as fault
-use Rattle.hll_sketch.specs.Image.{lg_k_byte, table_byte, set_shape, HasSetTable, IsReadAs}
+use Rattle.hll_sketch.specs.Image.{set_shape, HasSetTable, IsReadAs}
 use Rattle.hll_sketch.specs.Header.{header_of}
 use Rattle.hll_sketch.specs.Value.{coupons}
 use Rattle.hll_sketch.specs.declared.header.Header.{Header}
+use Rattle.hll_sketch.proofs.FirstFailing.{set_first}
 use Rattle.hll_sketch.proofs.FrontImages.{read_as-set}
 use Rattle.hll_sketch.proofs.mode_image.read_set_mode.Goals as goal
 use Rattle.hll_sketch.proofs.mode_image.read_set_mode.Goals.{then-header-lt-LG_LEAST_SET-via-then-header-lt-LG_LEAST_SET, then-header-lt-LG_LEAST_SET-via-else-header-lt-LG_LEAST_SET+then-header}
@@ -43,6 +48,27 @@ returns-in_err-set-clause-err g c =
       | inl full ↦ inl full
       | inr f ↦ inr (fault.Fault.set_payload c.requires.has.whole c.requires.has.stage_is c.requires.has.lg_k table
           (subst (λ h. SetFault h (drop 8 b) e) shape (subst (λ xs. SetFault (shape_of_set c.from.result c.args.header.compact) xs e) (c.new-2.ensures ∙ take_rest b 8) f)))
+    ])
+
+-- the checks up to a wrong number of filled places pass
+abbrev Right : SetShape → List ℕ → Reason → Type 0
+Right h payload e = e ≡ reasons.Count → HasSetCount h payload → AreCoupons (set_coupons h payload)
+
+pub returns-in_err-set-clause-order : goal.returns-in_err-set-clause-order
+returns-in_err-set-clause-order g c =
+    let b : List ℕ = c.args.bytes.now in
+    let e = c.in_err-set.field-0.0 in
+    let arr = ap (λ (h : Header). h.lg_arr) c.requires.header in
+    let k = ap (λ (h : Header). h.lg_k) c.requires.header in
+    let table : HasSetTable b = record { low = omega (arith, c.if-header-lt-LG_LEAST_SET.false, arr); high = omega (arith, c.if-header.false, arr, k, c.requires.has.lg_k.low) } in
+    let shape = same_shape b c.args.header c.from.result c.requires.header c.from.ensures in
+    let entry = c.new-2.ensures ∙ take_rest b 8 in
+    IfErr-passed (λ r. (r ≡ Memory) ⊎ (first_fault b ≡ Some r)) c.from_residual.result e c.from_residual.ensures.1
+    (elim c.in_err-set.ensures.err [
+      | inl full ↦ inl full
+      | inr f ↦ inr (set_first b e c.requires.has table
+          (subst (λ h. SetFault h (drop 8 b) e) shape (subst (λ xs. SetFault (shape_of_set c.from.result c.args.header.compact) xs e) entry f))
+          (subst (λ h. Right h (drop 8 b) e) shape (subst (λ xs. Right (shape_of_set c.from.result c.args.header.compact) xs e) entry c.in_err-set.ensures.order)))
     ])
 
 -- the set that the reader of the payload gives

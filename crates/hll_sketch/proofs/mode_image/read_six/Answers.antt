@@ -1,16 +1,18 @@
-use Rattle.std.proofs.Common.{◌≡◌, ◌+◌, ◌^◌, ◌⊎◌, Bool, List, ℕ, take, drop, sym, ap, subst, ◌∙◌, inl, inr}
+use Rattle.std.proofs.Common.{◌≡◌, ◌+◌, ◌⊎◌, Bool, List, ℕ, take, drop, sym, ap, subst, ◌∙◌, Some, None, inl, inr}
 use Rattle.std.proofs.lemmas.List.{take_rest}
 use Rattle.hll_base.proofs.Errors.{IfErr-passed}
 use Rattle.hll_base.specs.declared.error.Reason.TheVariants.{Memory}
 use Rattle.hll_coupons.specs.declared.hll_type.HllType.TheVariants.{Hll6}
 use Rattle.hll_arrays.specs.Packed.{fields}
-use Rattle.hll_arrays.specs.Payload.{field_size, state_at, IsHll6Payload, Hll6Fault}
+use Rattle.hll_arrays.specs.Payload.{field_size, state_at, IsHll6Payload, FirstHll6Fault, Hll6Fault}
 use Rattle.hll_arrays.specs.Store.{Stored}
+use Rattle.hll_sketch.specs.Checks.{first_fault, size_fault}
 use Rattle.hll_sketch.specs.Fault.{Fault}
 use Rattle.hll_sketch.specs.Fault as fault
 use Rattle.hll_sketch.specs.Image.{lg_k_byte, is_flagged, IsReadAs}
 use Rattle.hll_sketch.specs.Value.{registers}
 use Rattle.hll_sketch.specs.declared.header.Header.{Header}
+use Rattle.hll_sketch.proofs.FirstFailing.{six_first, six_asked}
 use Rattle.hll_sketch.proofs.FrontImages.{read_as-six}
 use Rattle.hll_sketch.proofs.mode_image.read_six.Goals as goal
 
@@ -28,6 +30,24 @@ returns-in_err-array-clause-err g c =
       | inr f ↦ inr (fault.Fault.hll6_payload c.requires.has.whole c.requires.has.stage_is c.requires.width c.requires.has.lg_k
           (subst (λ (h : Header). Hll6Fault h.lg_k (drop 8 b) e) c.requires.header (subst (λ xs. Hll6Fault c.args.header.lg_k xs e) (c.new-payload.ensures ∙ take_rest b 8) f)))
     ])
+
+pub returns-in_err-array-clause-order : goal.returns-in_err-array-clause-order
+returns-in_err-array-clause-order g c =
+    let b : List ℕ = c.args.bytes.now in
+    let e = c.in_err-array.field-0.0 in
+    IfErr-passed (λ r. (r ≡ Memory) ⊎ (first_fault b ≡ Some r)) c.from_residual.result e c.from_residual.ensures.1
+    (elim c.in_err-array.ensures.order [
+      | inl full ↦ inl full
+      | inr f ↦ inr (six_first b e c.requires.has c.requires.width
+          (subst (λ (h : Header). FirstHll6Fault h.lg_k (drop 8 b) e) c.requires.header (subst (λ xs. FirstHll6Fault c.args.header.lg_k xs e) (c.new-payload.ensures ∙ take_rest b 8) f)))
+    ])
+
+pub returns-in_err-array-clause-asked : goal.returns-in_err-array-clause-asked
+returns-in_err-array-clause-asked g c =
+    let b : List ℕ = c.args.bytes.now in
+    let P : Header → List ℕ → Type 0 = λ h xs. IsHll6Payload h.lg_k (take (32 + field_size h.lg_k) xs) in
+    IfErr-passed (λ r. r ≡ Memory → size_fault b ≡ None) c.from_residual.result c.in_err-array.field-0.0 c.from_residual.ensures.1
+    (λ full. six_asked b c.requires.has c.requires.width (subst (λ h. P h (drop 8 b)) c.requires.header (subst (P c.args.header) (c.new-payload.ensures ∙ take_rest b 8) (c.in_err-array.ensures.asked full))))
 
 pub returns-clause-ok : goal.returns-clause-ok
 returns-clause-ok g c =

@@ -2,7 +2,7 @@ use Rattle.std.proofs.Common.{◌≡◌, ◌⊎◌, ℕ, ◌+◌, ◌*◌, ◌-�
 use Rattle.std.proofs.lemmas.List.{length-drop}
 use Rattle.hll_base.specs.declared.error.Reason.TheVariants.{Memory, Truncated}
 use Rattle.hll_arrays.specs.Packed.{fields}
-use Rattle.hll_arrays.specs.Payload.{num_at_cur_min, exception_count, field_size, IsHll6Payload, Hll6Fault}
+use Rattle.hll_arrays.specs.Payload.{num_at_cur_min, exception_count, field_size, HasPlainCounts, IsHll6Payload, Hll6Fault, FirstHll6Fault}
 use Rattle.hll_arrays.specs.Payload as payload
 use Rattle.hll_base.proofs.Errors.{IfErr-passed}
 use Rattle.hll_arrays.proofs.Grouping.{groups-pow, length-fields, length-registers_in}
@@ -14,6 +14,12 @@ returns-in_err-preamble-clause-err g c =
     let e = c.in_err-preamble.ensures.err in
     IfErr-passed (λ r. (r ≡ Memory) ⊎ Hll6Fault c.args.lg_config_k c.args.cursor r) c.from_residual.result c.in_err-preamble.field-0.0 c.from_residual.ensures.1
     (inr (subst (Hll6Fault c.args.lg_config_k c.args.cursor) (sym e.0) (payload.Hll6Fault.no_counts e.1)))
+
+pub returns-in_err-preamble-clause-order : goal.returns-in_err-preamble-clause-order
+returns-in_err-preamble-clause-order g c =
+    let e = c.in_err-preamble.ensures.err in
+    IfErr-passed (λ r. (r ≡ Memory) ⊎ FirstHll6Fault c.args.lg_config_k c.args.cursor r) c.from_residual.result c.in_err-preamble.field-0.0 c.from_residual.ensures.1
+    (inr (subst (FirstHll6Fault c.args.lg_config_k c.args.cursor) (sym e.0) (payload.FirstHll6Fault.no_counts e.1)))
 
 pub returns-in_err-preamble-clause-asked : goal.returns-in_err-preamble-clause-asked
 returns-in_err-preamble-clause-asked g c =
@@ -28,6 +34,14 @@ returns-then-preamble-size-clause-err g c =
       | inr some ↦ payload.Hll6Fault.exceptions_counted read.0 (λ none. some.1 (read.3 ∙ none))
     ]))
 
+pub returns-then-preamble-size-clause-order : goal.returns-then-preamble-size-clause-order
+returns-then-preamble-size-clause-order g c =
+    let read = c.in_ok-preamble.ensures.ok in
+    inr (subst (FirstHll6Fault c.args.lg_config_k c.args.cursor) (sym c.new.ensures) (elim c.then-preamble-size.either [
+      | inl many ↦ payload.FirstHll6Fault.zero_count read.0 (let above : 2 ^ c.args.lg_config_k < num_at_cur_min c.args.cursor = omega (arith, many, c.two_to-size.ensures, read.2) in above)
+      | inr some ↦ payload.FirstHll6Fault.exceptions_counted read.0 (λ none. some.1 (read.3 ∙ none))
+    ]))
+
 pub returns-in_default-clause-err : goal.returns-in_default-clause-err
 returns-in_default-clause-err g c =
     let read = c.in_ok-preamble.ensures.ok in
@@ -35,6 +49,16 @@ returns-in_default-clause-err g c =
     let short : length c.remaining.result.now < c.packed_size.result = elim c.in_default.ensures.lookup.0 [ inl below ↦ absurd (omega (arith, below)) | inr l ↦ l ] in
     inr (subst (Hll6Fault c.args.lg_config_k c.args.cursor) (sym c.new-in_default.ensures)
     (payload.Hll6Fault.short (omega (arith, short, left, length-drop 32 c.args.cursor, c.packed_size.ensures, read.0))))
+
+pub returns-in_default-clause-order : goal.returns-in_default-clause-order
+returns-in_default-clause-order g c =
+    let k : ℕ = c.args.lg_config_k in
+    let read = c.in_ok-preamble.ensures.ok in
+    let left : length c.remaining.result.now ≡ length (drop 32 c.args.cursor) = ap length (c.remaining.ensures ∙ read.4) in
+    let short : length c.remaining.result.now < c.packed_size.result = elim c.in_default.ensures.lookup.0 [ inl below ↦ absurd (omega (arith, below)) | inr l ↦ l ] in
+    let counts : HasPlainCounts k c.args.cursor = record { whole = read.0; zero_count = omega (arith, c.if-preamble-size.false, c.two_to-size.ensures, read.2); no_exceptions = sym read.3 ∙ c.if-preamble-ne0.false } in
+    inr (subst (FirstHll6Fault k c.args.cursor) (sym c.new-in_default.ensures)
+    (payload.FirstHll6Fault.short counts (omega (arith, short, left, length-drop 32 c.args.cursor, c.packed_size.ensures, read.0))))
 
 -- the bytes are a payload, so memory is asked for
 pub returns-in_err-groups_from_bytes-clause-asked : goal.returns-in_err-groups_from_bytes-clause-asked

@@ -4,7 +4,7 @@ use Rattle.std.specs.List.{list_all}
 use Rattle.std.proofs.lemmas.Bool.{true≢false}
 use Rattle.std.proofs.lemmas.List.{length-drop}
 use Rattle.hll_base.specs.declared.error.Reason.TheVariants.{Memory, Truncated}
-use Rattle.hll_arrays.specs.Payload.{num_at_cur_min, exception_count, state_at, IsHll8Payload, Hll8Fault}
+use Rattle.hll_arrays.specs.Payload.{num_at_cur_min, exception_count, state_at, HasPlainCounts, IsHll8Payload, Hll8Fault, FirstHll8Fault}
 use Rattle.hll_arrays.specs.Payload as payload
 use Rattle.hll_base.proofs.Errors.{IfErr-passed}
 use Rattle.hll_arrays.proofs.ReadingRegisters.{small-from, small-to, is_hll8_payload, IfErr-always, slice_front}
@@ -15,6 +15,12 @@ returns-in_err-preamble-clause-err g c =
     let e = c.in_err-preamble.ensures.err in
     IfErr-passed (λ r. (r ≡ Memory) ⊎ Hll8Fault c.args.lg_config_k c.args.cursor r) c.from_residual.result c.in_err-preamble.field-0.0 c.from_residual.ensures.1
     (inr (subst (Hll8Fault c.args.lg_config_k c.args.cursor) (sym e.0) (payload.Hll8Fault.no_counts e.1)))
+
+pub returns-in_err-preamble-clause-order : goal.returns-in_err-preamble-clause-order
+returns-in_err-preamble-clause-order g c =
+    let e = c.in_err-preamble.ensures.err in
+    IfErr-passed (λ r. (r ≡ Memory) ⊎ FirstHll8Fault c.args.lg_config_k c.args.cursor r) c.from_residual.result c.in_err-preamble.field-0.0 c.from_residual.ensures.1
+    (inr (subst (FirstHll8Fault c.args.lg_config_k c.args.cursor) (sym e.0) (payload.FirstHll8Fault.no_counts e.1)))
 
 pub returns-in_err-preamble-clause-asked : goal.returns-in_err-preamble-clause-asked
 returns-in_err-preamble-clause-asked g c =
@@ -29,6 +35,14 @@ returns-then-preamble-size-clause-err g c =
       | inr some ↦ payload.Hll8Fault.exceptions_counted read.0 (λ none. some.1 (read.3 ∙ none))
     ]))
 
+pub returns-then-preamble-size-clause-order : goal.returns-then-preamble-size-clause-order
+returns-then-preamble-size-clause-order g c =
+    let read = c.in_ok-preamble.ensures.ok in
+    inr (subst (FirstHll8Fault c.args.lg_config_k c.args.cursor) (sym c.new.ensures) (elim c.then-preamble-size.either [
+      | inl many ↦ payload.FirstHll8Fault.zero_count read.0 (let above : 2 ^ c.args.lg_config_k < num_at_cur_min c.args.cursor = omega (arith, many, c.two_to-size.ensures, read.2) in above)
+      | inr some ↦ payload.FirstHll8Fault.exceptions_counted read.0 (λ none. some.1 (read.3 ∙ none))
+    ]))
+
 pub returns-in_default-clause-err : goal.returns-in_default-clause-err
 returns-in_default-clause-err g c =
     let read = c.in_ok-preamble.ensures.ok in
@@ -36,6 +50,28 @@ returns-in_default-clause-err g c =
     let short : length c.remaining.result.now < c.two_to-size.result = elim c.in_default.ensures.lookup.0 [ inl below ↦ absurd (omega (arith, below)) | inr l ↦ l ] in
     inr (subst (Hll8Fault c.args.lg_config_k c.args.cursor) (sym c.new-in_default.ensures)
     (payload.Hll8Fault.short (omega (arith, short, left, length-drop 32 c.args.cursor, c.two_to-size.ensures, read.0))))
+
+pub returns-in_default-clause-order : goal.returns-in_default-clause-order
+returns-in_default-clause-order g c =
+    let k : ℕ = c.args.lg_config_k in
+    let read = c.in_ok-preamble.ensures.ok in
+    let left : length c.remaining.result.now ≡ length (drop 32 c.args.cursor) = ap length (c.remaining.ensures ∙ read.4) in
+    let short : length c.remaining.result.now < c.two_to-size.result = elim c.in_default.ensures.lookup.0 [ inl below ↦ absurd (omega (arith, below)) | inr l ↦ l ] in
+    let counts : HasPlainCounts k c.args.cursor = record { whole = read.0; zero_count = omega (arith, c.if-preamble-size.false, c.two_to-size.ensures, read.2); no_exceptions = sym read.3 ∙ c.if-preamble-ne0.false } in
+    inr (subst (FirstHll8Fault k c.args.cursor) (sym c.new-in_default.ensures)
+    (payload.FirstHll8Fault.short counts (omega (arith, short, left, length-drop 32 c.args.cursor, c.two_to-size.ensures, read.0))))
+
+pub returns-then-not-are_registers-clause-order : goal.returns-then-not-are_registers-clause-order
+returns-then-not-are_registers-clause-order g c =
+    let k : ℕ = c.args.lg_config_k in
+    let read = c.in_ok-preamble.ensures.ok in
+    let found = c.in-Some.ensures.lookup.0 in
+    let rest : c.remaining.result.now ≡ drop 32 c.args.cursor = c.remaining.ensures ∙ read.4 in
+    let are : c.in-Some.registers.now ≡ take (2 ^ k) (drop 32 c.args.cursor) = found.2 ∙ slice_front c.two_to-size.result (2 ^ k) c.remaining.result.now (drop 32 c.args.cursor) c.two_to-size.ensures rest in
+    let there : 32 + 2 ^ k ≤ length c.args.cursor = omega (arith, found.1, ap length rest, length-drop 32 c.args.cursor, c.two_to-size.ensures, read.0) in
+    let counts : HasPlainCounts k c.args.cursor = record { whole = read.0; zero_count = omega (arith, c.if-preamble-size.false, c.two_to-size.ensures, read.2); no_exceptions = sym read.3 ∙ c.if-preamble-ne0.false } in
+    inr (subst (FirstHll8Fault k c.args.cursor) (sym c.new-then-not-are_registers.ensures)
+    (payload.FirstHll8Fault.register counts there (λ small. true≢false (sym (small-to _ small) ∙ sym (ap (list_all (λ v. nat_le v 63)) are) ∙ sym c.are_registers.ensures ∙ c.if-not-are_registers.true))))
 
 -- the registers that were found
 pub returns-then-not-are_registers-clause-err : goal.returns-then-not-are_registers-clause-err
