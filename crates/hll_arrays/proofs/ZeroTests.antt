@@ -38,6 +38,17 @@ pub zeros_by_mask : (n : ℕ) (xs : List ℕ) → length xs ≡ n → n ≤ 64 �
     count_ones (mask_l (map (top 7) (zip2 (λ a b. cond (a == b) 255 0) xs (replicate n 0))) % 2 ^ 64) ≡ count_by (λ x. x == 0) xs
 zeros_by_mask n xs e few = ap count_ones (bitmask_splat w8 (λ a b. a == b) xs n 0 e few) ∙ ones-mask_l (λ x. x == 0) xs
 
+-- ---- whether all pass a test
+
+one_more : (b r : Bool) (m : ℕ) → (m == 0) ≡ r → (cond (not b) 1 0 + 2 * m == 0) ≡ (b && r)
+one_more true r m e = (let twice : (0 + 2 * m == 0) ≡ (m == 0) = grind (arith, nat_tests) in twice) ∙ e
+one_more false r m e = grind (arith, nat_tests)
+
+-- by the mask of those that don't
+pub none_by_mask : (q : ℕ → Bool) (xs : List ℕ) → (mask_l (map (λ x. not (q x)) xs) == 0) ≡ list_all q xs
+none_by_mask q [] = refl
+none_by_mask q (x ∷ xs) = one_more (q x) (list_all q xs) (mask_l (map (λ v. not (q v)) xs)) (none_by_mask q xs)
+
 -- ---- whether all are 0
 
 pub nonzeros_by_mask : (xs : List ℕ) → length xs ≡ 64 →

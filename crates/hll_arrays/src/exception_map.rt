@@ -8,7 +8,7 @@ ghost use Rattle.hll_arrays.specs.FourBits.{exception_in, exception_of, exceptio
 ghost use Rattle.hll_arrays.specs.Packed.{nibble, nibble_at};
 ghost use Rattle.hll_arrays.specs.Store.{AreRegisters};
 
-use crate::nibbles::{has_mark, lower_by, nibble_of, put_nibble};
+use crate::nibbles::{are_at_most, lower_by, nibble_of, put_nibble};
 use hll_base::codec::SketchBytes;
 use hll_base::error::Error;
 use hll_coupons::aux_map::AuxMap;
@@ -370,7 +370,7 @@ pub(crate) fn exceptions_of<A: Allocator + Clone>(
 }
 
 /// Raises each value to the exception of its slot, if it has one: `first + i` for value i. Searches where a nibble is 15,
-/// and passes over blocks of 32 where none is.
+/// and passes over blocks of 64 where none is.
 ///
 /// Each two values have a byte of nibbles, and a slot whose nibble isn't 15 has no exception.
 pub(crate) fn raise_by_exceptions<A: Allocator>(
@@ -386,13 +386,20 @@ pub(crate) fn raise_by_exceptions<A: Allocator>(
     ensures raised { (s : ℕ) → s < length values.old → slice_index values.new s ≡ max (slice_index values.old s) (unwrap_or (value_in map.now (first + s)) 0) }
     ensures len { length values.new ≡ length values.old }
 {
-    for block in 0..nibbles.len() / 16 + 1 {
-        let start = 16 * block;
-        let end = nibbles.len().min(start + 16);
-        if has_mark(nibbles, start, end) {
-            raise_marked(values, nibbles, map, first, 2 * start, 2 * end);
+    let (blocks, _) = nibbles.as_chunks::<32>();
+    for place in 0..blocks.len() {
+        if !are_at_most(&blocks[place], MARK - 1) {
+            raise_marked(values, nibbles, map, first, 64 * place, 64 * place + 64);
         }
     }
+    raise_marked(
+        values,
+        nibbles,
+        map,
+        first,
+        64 * blocks.len(),
+        2 * nibbles.len(),
+    );
 }
 
 /// The same of the values from `start` up to `end`. The others are unchanged.

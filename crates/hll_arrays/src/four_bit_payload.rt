@@ -14,7 +14,7 @@ ghost use Rattle.hll_arrays.specs.State.{IsState};
 use crate::aux_format::AuxFormat;
 use crate::estimate_state::EstimateState;
 use crate::exception_map::{MARK, exception_at, fall, kept_of, put_exception};
-use crate::nibbles::{count_zero_nibbles, lower_by, nibble_of};
+use crate::nibbles::{are_at_most, count_zero_nibbles, lower_by, nibble_of};
 use crate::preamble::Preamble;
 use crate::registers::two_to;
 use hll_base::cursor::SketchSlice;
@@ -290,7 +290,7 @@ fn others_agree<A: Allocator>(
     ensures some { result ≡ false → (s : ℕ) × (s < 2 ^ lg_config_k) × (exception_in map.now s ≡ None) × (Agrees cur_min (nibble_at nibbles.now s) None → ⊥) }
 {
     let greatest = (MOST - cur_min).min(MARK - 1);
-    let (blocks, _) = nibbles.as_chunks::<16>();
+    let (blocks, _) = nibbles.as_chunks::<32>();
     for place in 0..blocks.len() {
         if !are_at_most(&blocks[place], greatest)
             && !slots_agree(
@@ -298,8 +298,8 @@ fn others_agree<A: Allocator>(
                 map,
                 lg_config_k,
                 greatest,
-                32 * place,
-                32 * place + 32,
+                64 * place,
+                64 * place + 64,
             )
         {
             return false;
@@ -310,18 +310,9 @@ fn others_agree<A: Allocator>(
         map,
         lg_config_k,
         greatest,
-        32 * blocks.len(),
+        64 * blocks.len(),
         2 * nibbles.len(),
     )
-}
-
-/// Whether no nibble of a block is greater.
-fn are_at_most(block: &[u8; 16], greatest: u8) -> bool
-    ensures { result ≡ list_all (λ b. nat_le (b % 16) greatest && nat_le (b / 16) greatest) block.now }
-{
-    block
-        .iter()
-        .all(|byte| *byte % 16 <= greatest && *byte / 16 <= greatest)
 }
 
 /// Whether each slot of a range has an exception, or no greater nibble.
