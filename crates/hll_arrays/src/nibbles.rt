@@ -56,6 +56,31 @@ pub(crate) fn count_zero_nibbles(bytes: &[u8]) -> u32
     requires { length bytes.now ≤ 2 ^ 20 }
     ensures { result ≡ zero_nibbles bytes.now }
 {
+    let (blocks, rest) = bytes.as_chunks::<64>();
+    let mut count = 0;
+    for block in blocks {
+        count += u32::from(zero_nibbles_in(block));
+    }
+    count + zero_nibbles_one_by_one(rest)
+}
+
+/// How many nibbles of a block are 0, which a byte can count.
+fn zero_nibbles_in(block: &[u8; 64]) -> u8
+    ensures count { result ≡ zero_nibbles block.now }
+    ensures bound { result ≤ 128 }
+{
+    let mut count = 0;
+    for byte in block {
+        count += zeros_of(*byte) as u8;
+    }
+    count
+}
+
+/// How many nibbles are 0, one byte after the other.
+fn zero_nibbles_one_by_one(bytes: &[u8]) -> u32
+    requires { length bytes.now ≤ 2 ^ 20 }
+    ensures { result ≡ zero_nibbles bytes.now }
+{
     let mut count = 0;
     for byte in bytes {
         count += zeros_of(*byte);
