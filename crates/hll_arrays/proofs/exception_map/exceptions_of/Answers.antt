@@ -1,6 +1,6 @@
-use Rattle.std.proofs.Common.{◌≡◌, ◌+◌, ◌*◌, ◌/◌, ◌<◌, ◌≤◌, ℕ, None, get_or, inl, inr, length, take, drop, slice_index, sym, ap, subst, ◌∙◌, arith}
+use Rattle.std.proofs.Common.{◌≡◌, ◌*◌, ◌/◌, ◌<◌, ℕ, inl, inr, length, sym, ap, subst, ◌∙◌, arith}
 use Rattle.std.proofs.lemmas.Bool.{cases_lt}
-use Rattle.hll_arrays.specs.FourBits.{exception_in, exception_of, IsMapFor}
+use Rattle.hll_arrays.specs.FourBits.{exception_in, IsMapFor}
 use Rattle.hll_arrays.proofs.Blocks.{get_or-blocks}
 use Rattle.hll_arrays.proofs.FourBitReading.{no_exception_in_block}
 use Rattle.hll_arrays.proofs.exception_map.exceptions_of.Goals as goal
