@@ -6,7 +6,7 @@ ghost use Rattle.hll_base.specs.declared.error.Reason.TheVariants as reasons;
 ghost use Rattle.hll_coupons.specs.AuxMap.{entry_at, value_in, IsMap};
 ghost use Rattle.hll_coupons.specs.Coupons.{coupons_at};
 ghost use Rattle.hll_coupons.specs.Pair.{slot_of, value_of};
-ghost use Rattle.hll_arrays.specs.FourBits.{exception_in, fallen, lowered_by, unpacked, IsMapFor, IsPacked};
+ghost use Rattle.hll_arrays.specs.FourBits.{exception_in, fallen, lowered_by, unpacked, IsMapFor, IsPacked, IsSlotOf};
 ghost use Rattle.hll_arrays.specs.Packed.{minimum, nibble_at};
 ghost use Rattle.hll_arrays.specs.Payload.{state_at, exception_count, exception_places, hll4_size, is_compact, lg_table_of, nibbles_of, register_of, registers_of, shape_of_hll4, Agrees, AreEntries, FirstHll4Fault, IsHll4Payload, IsWhole};
 ghost use Rattle.hll_arrays.specs.State.{IsState};
@@ -298,8 +298,8 @@ fn others_agree<A: Allocator>(
                 map,
                 lg_config_k,
                 greatest,
-                64 * place,
-                64 * place + 64,
+                32 * place,
+                32 * place + 32,
             )
         {
             return false;
@@ -310,12 +310,12 @@ fn others_agree<A: Allocator>(
         map,
         lg_config_k,
         greatest,
-        64 * blocks.len(),
-        2 * nibbles.len(),
+        32 * blocks.len(),
+        nibbles.len(),
     )
 }
 
-/// Whether each slot of a range has an exception, or no greater nibble.
+/// Whether each slot of the bytes from `from` up to `to` has an exception, or no greater nibble.
 fn slots_agree<A: Allocator>(
     nibbles: &[u8],
     map: &Option<AuxMap<A>>,
@@ -327,16 +327,29 @@ fn slots_agree<A: Allocator>(
     requires most { lg_config_k ≤ 21 }
     requires size { 2 * length nibbles.now ≡ 2 ^ lg_config_k }
     requires map { IsMapFor lg_config_k map.now }
-    requires to { to ≤ 2 ^ lg_config_k }
-    ensures all { result ≡ true → (s : ℕ) → from ≤ s → s < to → exception_in map.now s ≡ None → nibble_at nibbles.now s ≤ greatest }
+    requires to { to ≤ length nibbles.now }
+    ensures all { result ≡ true → (s : ℕ) → 2 * from ≤ s → s < 2 * to → exception_in map.now s ≡ None → nibble_at nibbles.now s ≤ greatest }
     ensures some { result ≡ false → (s : ℕ) × (s < 2 ^ lg_config_k) × (exception_in map.now s ≡ None) × (greatest < nibble_at nibbles.now s) }
 {
-    for slot in from..to {
-        if nibble_of(nibbles, slot) > greatest && exception_at(map, slot as u32).is_none() {
+    for place in from..to {
+        let slot = 2 * place as u32;
+        let byte = nibbles[place];
+        if !slot_agrees(map, greatest, slot, byte % 16)
+            || !slot_agrees(map, greatest, slot + 1, byte / 16)
+        {
             return false;
         }
     }
     true
+}
+
+/// Whether a slot has an exception, or no greater nibble.
+fn slot_agrees<A: Allocator>(map: &Option<AuxMap<A>>, greatest: u8, slot: u32, nibble: u8) -> bool
+    requires { IsSlotOf map.now slot }
+    ensures all { result ≡ true → exception_in map.now slot ≡ None → nibble ≤ greatest }
+    ensures some { result ≡ false → (exception_in map.now slot ≡ None) × (greatest < nibble) }
+{
+    nibble <= greatest || exception_at(map, slot).is_some()
 }
 
 // ---- the minimum

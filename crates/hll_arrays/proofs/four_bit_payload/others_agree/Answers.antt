@@ -9,7 +9,7 @@ pub loop-place-preserved : goal.loop-place-preserved
 loop-place-preserved g c = λ s l none. elim (cases_lt s (64 * c.loop-place.place)) [
   | inl before ↦ c.loop-place.invariant s before none
   | inr from ↦ elim c.else-not-are_at_most.branch [
-    | else-not-are_at_most-via-then-not-are_at_most+else-not-slots_agree w ↦ w.slots_agree.ensures.all w.if-not-slots_agree.false s from (omega (arith, l)) none
+    | else-not-are_at_most-via-then-not-are_at_most+else-not-slots_agree w ↦ w.slots_agree.ensures.all w.if-not-slots_agree.false s (omega (arith, from)) (omega (arith, l)) none
     | else-not-are_at_most-via-else-not-are_at_most w ↦
         let inside : c.loop-place.place < length c.args.nibbles.now / 32 = omega (arith, c.loop-place-test.true, c.as_chunks.ensures.front_len) in
         nibbles_at_most c.args.nibbles.now _ c.loop-place.place c.min-greatest.result
