@@ -1,5 +1,5 @@
 -- Registers of four bits with a greater one at a slot.
-use Rattle.std.proofs.Common.{◌≡◌, ◌≢◌, ℕ, ◌+◌, ◌-◌, ◌*◌, ◌/◌, ◌%◌, ◌^◌, ◌<◌, ◌≤◌, ◌⊎◌, zero, suc, Bool, true, false, eqb, leb, cond, List, [], ◌∷◌, All, Option, Some, None, length, get_or, set, refl, sym, ap, subst, ◌∙◌, arith, inl, inr}
+use Rattle.std.proofs.Common.{◌≡◌, ◌≢◌, ℕ, ◌+◌, ◌-◌, ◌*◌, ◌/◌, ◌%◌, ◌^◌, ◌<◌, ◌≤◌, ◌⊎◌, zero, suc, Bool, true, false, eqb, leb, cond, List, [], ◌∷◌, All, Option, Some, None, length, get_or, set, take, refl, sym, ap, subst, ◌∙◌, arith, inl, inr}
 use Rattle.std.specs.Prelude.{min, fold, count_by, nat_eq, OnOk, OnErr, Result, Ok, Err}
 use mir.Val.{bool_byte}
 use Rattle.std.proofs.lemmas.Bool.{cases_eq, cases_lt, cond-true, cond-false, eq-eqb, le-leb, lt-leb, true≢false}
@@ -8,11 +8,11 @@ use Rattle.std.proofs.lemmas.Nat.{pow_pos, mod_below}
 use Rattle.std.proofs.Math.Pow.{pow_mono}
 use Rattle.std.proofs.lemmas.List.Sums.{sum_by-cons, sum_by-set}
 use Rattle.hll_arrays.specs.FourBits.{exception_of, exception_in, kept_above, fallen, lowered_by, unpacked, with_register, has_exception, ExceptionsMove, FourBits, IsMapFor, IsPacked}
-use Rattle.hll_arrays.specs.Packed.{nibble, nibble_at, nibble_bytes_above, minimum, zero_nibbles}
+use Rattle.hll_arrays.specs.Packed.{nibble, nibble_at, nibble_bytes_above, minimum, count_at_minimum, zero_nibbles}
 use Rattle.hll_arrays.specs.Store.{AreRegisters, Stored, update_with_coupon}
 use Rattle.hll_arrays.proofs.Raising.{update_with_pairs-low, update_with_pairs-high}
 use Rattle.hll_coupons.specs.Pair.{slot_of, value_of}
-use Rattle.hll_arrays.proofs.FourBits.{bytes_of_nibbles, exception_of-high, exception_of-low, minimum_is, packed_is_of_registers, unpacked_is}
+use Rattle.hll_arrays.proofs.FourBits.{bytes_of_nibbles, exception_of-high, exception_of-low, minimum_is, minimum_of_front, packed_is_of_registers, unpacked_is}
 use Rattle.hll_arrays.proofs.Packing.{minimum_le}
 use Rattle.hll_arrays.proofs.SingleNibbles.{lowered_by-mark, lowered_by-other}
 use Rattle.hll_coupons.specs.AuxMap.{ExceptionMap}
@@ -455,6 +455,29 @@ module _ (k m n : ℕ) (bytes : List ℕ) (e : Option ExceptionMap) (state : Est
       rest : (b : Bool) (byte : ℕ) → byte ≡ bool_byte b → n - byte + cond b 1 0 ≡ n
       rest true byte is = omega (arith, is, p.some)
       rest false byte is = omega (arith, is)
+
+  -- none stays where the only one at the minimum is raised
+  pub none_left : get_or x.stored.registers slot 0 ≡ minimum x.stored.registers → count_at_minimum x.stored.registers ≡ 1 → count_by (λ r. eqb r (minimum x.stored.registers)) (set x.stored.registers slot v) ≡ 0
+  none_left at only =
+      let one : n ≡ 1 = (packed_is_of_registers k m n bytes e R small p).count_is ∙ ap (λ (x : FourBits). count_at_minimum x.stored.registers) same ∙ only in
+      let there : nat_eq (get_or x.stored.registers slot 0) m ≡ true = eq-eqb (get_or x.stored.registers slot 0) m (at ∙ sym (least ∙ ap (λ (x : FourBits). minimum x.stored.registers) same)) in
+      sym (left_after (get_or x.stored.registers slot 0) 1 refl (ap bool_byte (sym there))) ∙ omega (arith, one)
+
+  -- the least of a front that is one above the minimum, where none stays at it
+  pub least_of_front : (i : ℕ) → fold min 63 (take i (set x.stored.registers slot v)) ≡ m + 1 → count_by (λ r. eqb r (minimum x.stored.registers)) (set x.stored.registers slot v) ≡ 0 →
+      fold min 63 (take i (set x.stored.registers slot v)) ≡ minimum (set x.stored.registers slot v)
+  least_of_front i is none =
+      let low : (s : ℕ) → s < length (set R slot v) → m ≤ get_or (set R slot v) s 0 = λ s l.
+      subst (λ r. m ≤ r) (sym (at_set R slot v s (omega (arith, here.within, p.registers.size)))) (either (eqb s slot) (get_or R s 0) (p.least s (omega (arith, l, length-set R slot v, p.registers.size)))) in
+      minimum_of_front m i (set x.stored.registers slot v) is (subst (λ (x : FourBits). (s : ℕ) → s < length (set x.stored.registers slot v) → m ≤ get_or (set x.stored.registers slot v) s 0) same low)
+      (ap (λ m. count_by (λ r. eqb r m) (set x.stored.registers slot v)) (least ∙ ap (λ (x : FourBits). minimum x.stored.registers) same) ∙ none)
+    where
+      above : m < v
+      above = above_minimum k m n bytes e R p slot v here.within here.more here.most
+
+      either : (b : Bool) (r : ℕ) → m ≤ r → m ≤ cond b v r
+      either true r h = omega (arith, above)
+      either false r h = h
 
   -- few bytes hold the nibbles
   pub few_bytes : length bytes ≤ 1048576

@@ -1,14 +1,16 @@
 -- Lemmas on registers of four bits in lanes.
-use Rattle.std.proofs.Common.{◌≡◌, ℕ, ◌+◌, ◌-◌, ◌*◌, ◌/◌, ◌%◌, ◌^◌, ◌<◌, ◌≤◌, zero, suc, List, [], ◌∷◌, ◌++◌, length, get_or, replicate, cond, bit_and, nat_lt, max, refl, ap, subst, ◌∙◌, arith}
-use Rattle.std.specs.Prelude.{min}
-use Rattle.std.specs.List.{flat_map}
-use Rattle.std.specs.Simd.Lanes.{pick_l, zip2, sel_l, top, Each1}
+use Rattle.std.proofs.Common.{◌≡◌, ℕ, ◌+◌, ◌-◌, ◌*◌, ◌/◌, ◌%◌, ◌^◌, ◌<◌, ◌≤◌, zero, suc, List, [], ◌∷◌, ◌++◌, length, get_or, replicate, cond, bit_and, bit_or, nat_lt, max, Bool, true, false, refl, ap, subst, ◌∙◌, arith}
+use Rattle.std.specs.Prelude.{◌&&◌, ◌==◌, min, nat_le, not}
+use Rattle.std.specs.List.{flat_map, list_all}
+use Rattle.std.specs.Simd.Lanes.{pick_l, zip2, sel_l, mask_l, top, Each1}
 use Rattle.std.proofs.lemmas.Bool.Decides.{nat_tests}
 use Rattle.std.proofs.lemmas.List.Concat.{flat_map-append}
 use Rattle.std.proofs.lemmas.Nat.{and_mask}
-use Rattle.std.proofs.lemmas.Simd.{pick_l_whole}
+use Rattle.std.proofs.lemmas.List.{length-map}
+use Rattle.std.proofs.lemmas.Simd.{mask_l-mod, pick_l_whole}
 use Rattle.hll_arrays.specs.Lanes.{nibble_values, nibble_pairs}
 use Rattle.hll_arrays.specs.Packed.{nibble, nibble_bytes_above}
+use Rattle.hll_arrays.proofs.ZeroTests.{none_by_mask}
 use mathlib.Core.List.{map}
 
 -- ---- unpacking
@@ -48,6 +50,36 @@ nibble_values-append m xs ys = flat_map-append (λ b. (m + b % 16) ∷ (m + b / 
 pub length-nibble_values : (m : ℕ) (xs : List ℕ) → length (nibble_values m xs) ≡ 2 * length xs
 length-nibble_values m [] = refl
 length-nibble_values m (x ∷ xs) = omega (arith, length-nibble_values m xs)
+
+-- ---- tests
+
+-- the mask of a lane of 8 bits where one of two masks is set
+either : (p q : Bool) → top 7 (bit_or (cond p 255 0) (cond q 255 0)) ≡ not (not p && not q)
+either true true = refl
+either true false = refl
+either false true = refl
+either false false = refl
+
+greater_lane : (g b : ℕ) → top 7 (bit_or (cond (nat_lt g (bit_and b 15)) 255 0) (cond (nat_lt (16 * g + 15) b) 255 0)) ≡ not (nat_le (b % 16) g && nat_le (b / 16) g)
+greater_lane g b =
+    let low : not (nat_lt g (bit_and b 15)) ≡ nat_le (b % 16) g = ap (λ m. not (nat_lt g m)) (and_mask b 4) ∙ grind (arith, nat_tests) in
+    let high : not (nat_lt (16 * g + 15) b) ≡ nat_le (b / 16) g = grind (arith, nat_tests) in
+    either (nat_lt g (bit_and b 15)) (nat_lt (16 * g + 15) b) ∙ (λ i. not (low i && high i))
+
+greater_lanes : (n g : ℕ) (xs : List ℕ) → length xs ≡ n →
+    map (top 7) (zip2 bit_or (zip2 (λ a b. cond (nat_lt a b) 255 0) (replicate n g) (zip2 bit_and xs (replicate n 15))) (zip2 (λ a b. cond (nat_lt a b) 255 0) (replicate n (16 * g + 15)) xs))
+    ≡ map (λ b. not (nat_le (b % 16) g && nat_le (b / 16) g)) xs
+greater_lanes zero g [] e = refl
+greater_lanes zero g (x ∷ xs) e = absurd (omega arith)
+greater_lanes (suc n) g [] e = refl
+greater_lanes (suc n) g (x ∷ xs) e = λ i. greater_lane g x i ∷ greater_lanes n g xs (omega arith) i
+
+pub at_most_by_mask : (n g : ℕ) (xs : List ℕ) → length xs ≡ n → n ≤ 64 →
+    (mask_l (map (top 7) (zip2 bit_or (zip2 (λ a b. cond (nat_lt a b) 255 0) (replicate n g) (zip2 bit_and xs (replicate n 15))) (zip2 (λ a b. cond (nat_lt a b) 255 0) (replicate n (16 * g + 15)) xs))) % 2 ^ 64 == 0)
+    ≡ list_all (λ b. nat_le (b % 16) g && nat_le (b / 16) g) xs
+at_most_by_mask n g xs e few =
+    let q : ℕ → Bool = λ b. nat_le (b % 16) g && nat_le (b / 16) g in
+    ap (λ ms. mask_l ms % 2 ^ 64 == 0) (greater_lanes n g xs e) ∙ ap (λ m. m == 0) (mask_l-mod (map (λ b. not (q b)) xs) 64 (omega (arith, length-map xs (λ b. not (q b)), e))) ∙ none_by_mask q xs
 
 -- ---- packing
 

@@ -1,8 +1,8 @@
 -- Registers of four bits as they are read: nibbles above a minimum and exceptions that agree.
 use Rattle.std.proofs.Common.{◌≡◌, ℕ, zero, suc, ◌+◌, ◌-◌, ◌*◌, ◌/◌, ◌%◌, ◌^◌, ◌<◌, ◌≤◌, ◌⊎◌, Bool, true, false, ◌&&◌, List, All, Option, Some, None, length, take, drop, get_or, refl, sym, ap, subst, ◌∙◌, arith, inl, inr}
-use Rattle.std.specs.Prelude.{count_by, nat_eq, nat_le}
+use Rattle.std.specs.Prelude.{count_by, nat_eq, nat_le, nat_lt}
 use Rattle.std.specs.List.{list_all}
-use Rattle.std.proofs.lemmas.Bool.{cases_lt, leb-true, true≢false}
+use Rattle.std.proofs.lemmas.Bool.{cases_lt, leb-true, ltb-true, true≢false}
 use Rattle.std.proofs.lemmas.List.Sums.{AllPass-from_list_all}
 use Rattle.std.proofs.lemmas.List.{get_or_default, get_or-drop, get_or-take, length-drop, length-take}
 use Rattle.std.proofs.lemmas.List.FromFn.{length-map-range_with_len, get_or-map-range_with_len}
@@ -69,16 +69,29 @@ both_true : (a b : Bool) → (a && b) ≡ true → (a ≡ true) × (b ≡ true)
 both_true true b h = (refl, h)
 both_true false b h = absurd (true≢false (sym h))
 
+-- no register of a block is an exception
+pub no_exception_in_block : (m : ℕ) (R block : List ℕ) (place : ℕ) → block ≡ take 64 (drop (place * 64) R) → (place + 1) * 64 ≤ length R →
+    list_all (λ v. nat_lt v (m + 15)) block ≡ true → (s : ℕ) → 64 * place ≤ s → s < 64 * (place + 1) → exception_of m (get_or R s 0) ≡ None
+no_exception_in_block m R block place is room all s from to =
+    let i : ℕ = s - place * 64 in
+    let within : i < 64 = omega (arith, from, to) in
+    let long : length block ≡ 64 = omega (arith, ap length is, length-take 64 (drop (place * 64) R), length-drop (place * 64) R, room) in
+    let register : get_or block i 0 ≡ get_or R s 0 =
+    ap (λ ys. get_or ys i 0) is ∙ get_or-take 64 (drop (place * 64) R) i 0 within ∙ get_or-drop (place * 64) R i 0
+    ∙ ap (λ n. get_or R n 0) (let e : place * 64 + i ≡ s = omega (arith, from) in e) in
+    let below : get_or block i 0 < m + 15 = ltb-true (get_or block i 0) (m + 15) (AllPass-from_list_all (λ v. nat_lt v (m + 15)) block all i 0 (omega (arith, long, within))) in
+    exception_of-low m (get_or R s 0) (omega (arith, below, register))
+
 -- no nibble of a block of bytes is greater
-pub nibbles_at_most : (bytes block : List ℕ) (place g : ℕ) → block ≡ take 16 (drop (place * 16) bytes) → (place + 1) * 16 ≤ length bytes →
-    list_all (λ b. nat_le (b % 16) g && nat_le (b / 16) g) block ≡ true → (s : ℕ) → 32 * place ≤ s → s < 32 * (place + 1) → nibble_at bytes s ≤ g
+pub nibbles_at_most : (bytes block : List ℕ) (place g : ℕ) → block ≡ take 32 (drop (place * 32) bytes) → (place + 1) * 32 ≤ length bytes →
+    list_all (λ b. nat_le (b % 16) g && nat_le (b / 16) g) block ≡ true → (s : ℕ) → 64 * place ≤ s → s < 64 * (place + 1) → nibble_at bytes s ≤ g
 nibbles_at_most bytes block place g is room all s from to =
-    let i : ℕ = s / 2 - place * 16 in
-    let within : i < 16 = omega (arith, from, to) in
-    let long : length block ≡ 16 = omega (arith, ap length is, length-take 16 (drop (place * 16) bytes), length-drop (place * 16) bytes, room) in
+    let i : ℕ = s / 2 - place * 32 in
+    let within : i < 32 = omega (arith, from, to) in
+    let long : length block ≡ 32 = omega (arith, ap length is, length-take 32 (drop (place * 32) bytes), length-drop (place * 32) bytes, room) in
     let byte : get_or block i 0 ≡ get_or bytes (s / 2) 0 =
-    ap (λ ys. get_or ys i 0) is ∙ get_or-take 16 (drop (place * 16) bytes) i 0 within ∙ get_or-drop (place * 16) bytes i 0
-    ∙ ap (λ n. get_or bytes n 0) (let e : place * 16 + i ≡ s / 2 = omega (arith, from) in e) in
+    ap (λ ys. get_or ys i 0) is ∙ get_or-take 32 (drop (place * 32) bytes) i 0 within ∙ get_or-drop (place * 32) bytes i 0
+    ∙ ap (λ n. get_or bytes n 0) (let e : place * 32 + i ≡ s / 2 = omega (arith, from) in e) in
     let parts = both_true _ _ (AllPass-from_list_all (λ b. nat_le (b % 16) g && nat_le (b / 16) g) block all i 0 (omega (arith, long, within))) in
     let low : get_or bytes (s / 2) 0 % 16 ≤ g = omega (arith, leb-true (get_or block i 0 % 16) g parts.0, ap (λ b. b % 16) byte) in
     let high : get_or bytes (s / 2) 0 / 16 ≤ g = omega (arith, leb-true (get_or block i 0 / 16) g parts.1, ap (λ b. b / 16) byte) in

@@ -1,13 +1,13 @@
 -- Registers of four bits: what is kept is the packed form of the registers.
-use Rattle.std.proofs.Common.{◌≡◌, ◌≢◌, ℕ, ◌+◌, ◌-◌, ◌*◌, ◌/◌, ◌%◌, ◌^◌, ◌<◌, ◌≤◌, ◌⊎◌, zero, suc, Bool, true, false, eqb, leb, cond, ◌&&◌, List, [], ◌∷◌, ◌++◌, All, Option, Some, None, length, replicate, take, get_or, refl, sym, ap, subst, ◌∙◌, arith, inl, inr}
+use Rattle.std.proofs.Common.{◌≡◌, ◌≢◌, ℕ, ◌+◌, ◌-◌, ◌*◌, ◌/◌, ◌%◌, ◌^◌, ◌<◌, ◌≤◌, ◌⊎◌, zero, suc, Bool, true, false, eqb, leb, cond, ◌&&◌, List, [], ◌∷◌, ◌++◌, All, Option, Some, None, length, replicate, take, drop, get_or, refl, sym, ap, subst, ◌∙◌, arith, inl, inr}
 use Rattle.std.specs.Prelude.{min, fold, filter, count_by, OnErr, Result, Ok, Err}
 use Rattle.std.specs.List.{list_all}
 use Rattle.std.specs.Cmp.{nat_cmp_total, both_ways}
 use Rattle.std.specs.FinSet.{same_set, nat_cmp-IsAntisymmetric}
 use Rattle.std.proofs.lemmas.Bool.{cases_Bool, cases_eq, cases_lt, cond-true, cond-false, eqb-true, eq-eqb, leb-true, le-leb, lt-leb, true≢false}
-use Rattle.std.proofs.lemmas.List.{ext_get_or, length-append, length-replicate, get_or-replicate, get_or_default}
+use Rattle.std.proofs.lemmas.List.{ext_get_or, length-append, length-replicate, get_or-replicate, get_or_default, take-append-drop}
 use Rattle.std.proofs.lemmas.List.Elements.{All-tail, All-append}
-use Rattle.std.proofs.lemmas.List.Sums.{count_by-le-length, length-filter, sum_by-cons}
+use Rattle.std.proofs.lemmas.List.Sums.{count_by-le-length, fold-append, get_or-le-sum_by, length-filter, sum_by-cons}
 use Rattle.std.proofs.lemmas.Nat.{pow_pos}
 use Rattle.std.proofs.lemmas.List.FromFn.{length-map-range_with_len, get_or-map-range_with_len}
 use Rattle.std.proofs.Math.Nat.{zero-add, zero-div, pow-suc}
@@ -387,6 +387,24 @@ pub fold_more : (a i : ℕ) (xs : List ℕ) → i < length xs → fold min a (ta
 fold_more a i [] h = absurd (omega arith)
 fold_more a zero (x ∷ xs) h = refl
 fold_more a (suc i) (x ∷ xs) h = ap (λ n. fold min a (take n (x ∷ xs))) (let e : suc i + 1 ≡ suc (i + 1) = omega arith in e) ∙ fold_more (min a x) i xs (omega (arith, h))
+
+fold_le : (a : ℕ) (xs : List ℕ) → fold min a xs ≤ a
+fold_le a [] = omega arith
+fold_le a (x ∷ xs) = omega (arith, fold_le (min a x) xs)
+
+counted : (b : Bool) (n : ℕ) → cond b 1 0 ≤ n → n ≡ 0 → b ≡ false
+counted true n h e = absurd (omega (arith, h, e))
+counted false n h e = refl
+
+-- the least of a front is that of all, where it is one above a bound that none attains
+pub minimum_of_front : (m i : ℕ) (R : List ℕ) → fold min 63 (take i R) ≡ m + 1 → ((s : ℕ) → s < length R → m ≤ get_or R s 0) → count_by (λ r. eqb r m) R ≡ 0 → fold min 63 (take i R) ≡ minimum R
+minimum_of_front m i R is all none =
+    let whole : minimum R ≡ fold min (fold min 63 (take i R)) (drop i R) = ap (fold min 63) (sym (take-append-drop i R)) ∙ fold-append min 63 (take i R) (drop i R) in
+    let each : (s : ℕ) → s < length R → m + 1 ≤ get_or R s 0 = λ s l.
+    let other : eqb (get_or R s 0) m ≡ false = counted (eqb (get_or R s 0) m) _ (get_or-le-sum_by (λ r. cond (eqb r m) 1 0) R s 0 l) none in
+    let above : get_or R s 0 ≢ m = λ e. true≢false (sym (eq-eqb (get_or R s 0) m e) ∙ other) in
+    omega (arith, all s l, above) in
+    omega (arith, whole, fold_le (fold min 63 (take i R)) (drop i R), minimum_ge (m + 1) 63 R (omega (arith, is, fold_le 63 (take i R))) each)
 
 -- ---- counts of zeros
 

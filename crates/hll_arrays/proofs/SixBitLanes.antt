@@ -1,17 +1,21 @@
 -- Lemmas on registers of six bits in lanes.
-use Rattle.std.proofs.Common.{◌≡◌, ℕ, ◌+◌, ◌*◌, ◌/◌, ◌%◌, ◌^◌, ◌<◌, ◌≤◌, zero, suc, List, [], ◌∷◌, ◌++◌, length, get_or, take, drop, replicate, max, All, bit_and, refl, sym, ap, subst, ◌∙◌, arith}
+use Rattle.std.proofs.Common.{◌≡◌, ℕ, ◌+◌, ◌*◌, ◌/◌, ◌%◌, ◌^◌, ◌<◌, ◌≤◌, zero, suc, List, [], ◌∷◌, ◌++◌, length, get_or, take, drop, replicate, cond, max, All, Bool, true, false, bit_and, refl, sym, ap, subst, ◌∙◌, arith}
+use Rattle.std.specs.Prelude.{◌&&◌, ◌==◌, nat_le}
 use Rattle.std.specs.List.{flat_map}
-use Rattle.std.specs.Simd.Lanes.{pick_l, zip2, chunk, put_chunk, number_l, digits_l, Each1}
+use Rattle.std.specs.Simd.Lanes.{pick_l, zip2, chunk, put_chunk, mask_l, top, number_l, digits_l, Each1}
+use Rattle.std.specs.Int.RustNames.{count_ones}
+use Rattle.std.proofs.lemmas.Bool.Decides.{nat_tests}
 use Rattle.std.proofs.Math.ListN.{set}
 use Rattle.std.proofs.Math.Seq.{take-add}
-use Rattle.std.proofs.lemmas.List.{length-append, length-take-le, take_all}
+use Rattle.std.proofs.lemmas.List.{length-append, length-map, length-take-le, take_all}
+use Rattle.std.proofs.lemmas.List.Sums.{count_by-le-length}
 use Rattle.std.proofs.lemmas.List.Elements.{All-tail, All-append, All-take, All-drop}
 use Rattle.std.proofs.lemmas.Nat.{and_mask}
-use Rattle.std.proofs.lemmas.Simd.{pick_l_whole}
+use Rattle.std.proofs.lemmas.Simd.{Each1-get_or, mask_l-mod, ones-mask_l, pick_l_whole}
 use Rattle.hll_coupons.specs.Fold.{join}
 use Rattle.hll_arrays.specs.Groups.{IsGroup, group_fields, registers_in}
 use Rattle.hll_arrays.specs.Lanes.{raise_at, words_of, bytes_of, fields_of, numbers_of, groups_of}
-use Rattle.hll_arrays.specs.Packed.{group_bytes, fields}
+use Rattle.hll_arrays.specs.Packed.{group_bytes, fields, zeros}
 use Rattle.hll_arrays.proofs.Grouping.{small-group_fields, group_fields-group_bytes}
 use Rattle.hll_arrays.proofs.Parts.{raise_more}
 use mathlib.Core.List.{map}
@@ -107,6 +111,98 @@ spread_lanes (suc n) (a ∷ b ∷ c ∷ []) e h = absurd (omega arith)
 spread_lanes (suc n) (a ∷ b ∷ c ∷ d ∷ xs) e h =
     let g = one_group a b c d h.0 h.1.0 h.1.1.0 h.1.1.1.0 in
     λ i. g.0 i ∷ g.1 i ∷ g.2 i ∷ g.3 i ∷ spread_lanes n xs (omega arith) h.1.1.1.1 i
+
+-- ---- zeros
+
+-- what each lane is compared with: n words
+abbrev belows : ℕ → List ℕ
+belows zero = []
+belows (suc n) = 255 ∷ 63 ∷ 15 ∷ 3 ∷ belows n
+
+abbrev lowers : ℕ → List ℕ
+lowers zero = []
+lowers (suc n) = 63 ∷ 15 ∷ 3 ∷ 0 ∷ lowers n
+
+abbrev no_bits : ℕ → List ℕ
+no_bits zero = []
+no_bits (suc n) = 0 ∷ 0 ∷ 0 ∷ 0 ∷ no_bits n
+
+-- the mask of a lane where two masks are set
+both : (p q : Bool) → top 7 (bit_and (cond p 255 0) (cond q 255 0)) ≡ (p && q)
+both true true = refl
+both true false = refl
+both false true = refl
+both false false = refl
+
+zero_first : (y a b c : ℕ) → y < 256 → (nat_le y 255 && (bit_and a 63 == 0)) ≡ ((a + 256 * b + 65536 * c) % 64 == 0)
+zero_first y a b c h =
+    let e : (a + 256 * b + 65536 * c) % 64 ≡ a % 64 = omega arith in
+    let t : (nat_le y 255 && (a % 64 == 0)) ≡ (a % 64 == 0) = grind (arith, nat_tests) in
+    ap (λ m. nat_le y 255 && (m == 0)) (and_mask a 6) ∙ t ∙ sym (ap (λ m. m == 0) e)
+
+zero_second : (a b c : ℕ) → a < 256 → (nat_le a 63 && (bit_and b 15 == 0)) ≡ ((a + 256 * b + 65536 * c) / 64 % 64 == 0)
+zero_second a b c h =
+    let e : (a + 256 * b + 65536 * c) / 64 % 64 ≡ a / 64 + 4 * (b % 16) = omega arith in
+    let t : (nat_le a 63 && (b % 16 == 0)) ≡ (a / 64 + 4 * (b % 16) == 0) = grind (arith, nat_tests) in
+    ap (λ m. nat_le a 63 && (m == 0)) (and_mask b 4) ∙ t ∙ sym (ap (λ m. m == 0) e)
+
+zero_third : (a b c : ℕ) → a < 256 → b < 256 → (nat_le b 15 && (bit_and c 3 == 0)) ≡ ((a + 256 * b + 65536 * c) / 4096 % 64 == 0)
+zero_third a b c h k =
+    let e : (a + 256 * b + 65536 * c) / 4096 % 64 ≡ b / 16 + 16 * (c % 4) = omega arith in
+    let t : (nat_le b 15 && (c % 4 == 0)) ≡ (b / 16 + 16 * (c % 4) == 0) = grind (arith, nat_tests) in
+    ap (λ m. nat_le b 15 && (m == 0)) (and_mask c 2) ∙ t ∙ sym (ap (λ m. m == 0) e)
+
+zero_fourth : (a b c d : ℕ) → a < 256 → b < 256 → (nat_le c 3 && (bit_and d 0 == 0)) ≡ ((a + 256 * b + 65536 * c) / 262144 == 0)
+zero_fourth a b c d h k =
+    let e : (a + 256 * b + 65536 * c) / 262144 ≡ c / 4 = omega arith in
+    let none : bit_and d 0 ≡ 0 = and_mask d 0 ∙ omega arith in
+    let t : (nat_le c 3 && (0 == 0)) ≡ (c / 4 == 0) = grind (arith, nat_tests) in
+    ap (λ m. nat_le c 3 && (m == 0)) none ∙ t ∙ sym (ap (λ m. m == 0) e)
+
+-- a lane and the one before it
+zero_lanes : (n y : ℕ) (xs : List ℕ) → length xs ≡ 4 * n → y < 256 → Each1 (λ x. x < 256) xs →
+    map (top 7) (zip2 bit_and (zip2 (λ a b. cond (nat_le a b) 255 0) (y ∷ xs) (belows n)) (zip2 (λ a b. cond (a == b) 255 0) (zip2 bit_and xs (lowers n)) (no_bits n))) ≡ map (λ v. v == 0) (fields_of xs)
+zero_lanes zero y [] e h k = refl
+zero_lanes zero y (a ∷ xs) e h k = absurd (omega arith)
+zero_lanes (suc n) y [] e h k = absurd (omega arith)
+zero_lanes (suc n) y (a ∷ []) e h k = absurd (omega arith)
+zero_lanes (suc n) y (a ∷ b ∷ []) e h k = absurd (omega arith)
+zero_lanes (suc n) y (a ∷ b ∷ c ∷ []) e h k = absurd (omega arith)
+zero_lanes (suc n) y (a ∷ b ∷ c ∷ d ∷ xs) e h k =
+    let first = both (nat_le y 255) (bit_and a 63 == 0) ∙ zero_first y a b c h in
+    let second = both (nat_le a 63) (bit_and b 15 == 0) ∙ zero_second a b c k.0 in
+    let third = both (nat_le b 15) (bit_and c 3 == 0) ∙ zero_third a b c k.0 k.1.0 in
+    let fourth = both (nat_le c 3) (bit_and d 0 == 0) ∙ zero_fourth a b c d k.0 k.1.0 in
+    λ i. first i ∷ second i ∷ third i ∷ fourth i ∷ zero_lanes n d xs (omega arith) k.1.1.1.0 k.1.1.1.1 i
+
+-- sixteen lanes that are rotated by one
+before_lanes : (f : ℕ → ℕ → ℕ) (xs : List ℕ) → length xs ≡ 16 →
+    zip2 f (pick_l 0 (xs ++ xs) (15 ∷ 0 ∷ 1 ∷ 2 ∷ 3 ∷ 4 ∷ 5 ∷ 6 ∷ 7 ∷ 8 ∷ 9 ∷ 10 ∷ 11 ∷ 12 ∷ 13 ∷ 14 ∷ [])) (belows 4) ≡ zip2 f (get_or xs 15 0 ∷ xs) (belows 4)
+before_lanes f xs e =
+    subst (λ ys. zip2 f (pick_l 0 (ys ++ ys) (15 ∷ 0 ∷ 1 ∷ 2 ∷ 3 ∷ 4 ∷ 5 ∷ 6 ∷ 7 ∷ 8 ∷ 9 ∷ 10 ∷ 11 ∷ 12 ∷ 13 ∷ 14 ∷ [])) (belows 4) ≡ zip2 f (get_or ys 15 0 ∷ ys) (belows 4)) (pick_l_whole 0 xs 16 e) refl
+
+length-fields_of : (n : ℕ) (xs : List ℕ) → length xs ≡ 4 * n → length (fields_of xs) ≡ 4 * n
+length-fields_of zero [] e = refl
+length-fields_of zero (a ∷ xs) e = absurd (omega arith)
+length-fields_of (suc n) [] e = absurd (omega arith)
+length-fields_of (suc n) (a ∷ []) e = absurd (omega arith)
+length-fields_of (suc n) (a ∷ b ∷ []) e = absurd (omega arith)
+length-fields_of (suc n) (a ∷ b ∷ c ∷ []) e = absurd (omega arith)
+length-fields_of (suc n) (a ∷ b ∷ c ∷ d ∷ xs) e = omega (arith, length-fields_of n xs (omega arith))
+
+pub zeros_of_lanes : (xs : List ℕ) → length xs ≡ 16 → Each1 (λ x. x < 256) xs →
+    count_ones (mask_l (map (top 7) (zip2 bit_and (zip2 (λ a b. cond (nat_le a b) 255 0) (pick_l 0 (xs ++ xs) (15 ∷ 0 ∷ 1 ∷ 2 ∷ 3 ∷ 4 ∷ 5 ∷ 6 ∷ 7 ∷ 8 ∷ 9 ∷ 10 ∷ 11 ∷ 12 ∷ 13 ∷ 14 ∷ [])) (belows 4))
+    (zip2 (λ a b. cond (a == b) 255 0) (zip2 bit_and xs (lowers 4)) (no_bits 4)))) % 2 ^ 64) ≡ zeros (fields_of xs)
+zeros_of_lanes xs e k =
+    let rest : List ℕ = zip2 (λ a b. cond (a == b) 255 0) (zip2 bit_and xs (lowers 4)) (no_bits 4) in
+    let F : List ℕ = fields_of xs in
+    ap (λ us. count_ones (mask_l (map (top 7) (zip2 bit_and us rest)) % 2 ^ 64)) (before_lanes (λ a b. cond (nat_le a b) 255 0) xs e)
+    ∙ ap (λ ms. count_ones (mask_l ms % 2 ^ 64)) (zero_lanes 4 (get_or xs 15 0) xs e (Each1-get_or (λ x. x < 256) xs 15 0 (omega (arith, e)) k) k)
+    ∙ ap count_ones (mask_l-mod (map (λ v. v == 0) F) 64 (omega (arith, length-map F (λ v. v == 0), length-fields_of 4 xs e)))
+    ∙ ones-mask_l (λ v. v == 0) F
+
+pub zeros_of_lanes-le : (xs : List ℕ) → length xs ≡ 16 → zeros (fields_of xs) ≤ 16
+zeros_of_lanes-le xs e = omega (arith, count_by-le-length (λ v. v == 0) (fields_of xs), length-fields_of 4 xs e)
 
 -- ---- fields of bytes
 

@@ -1,14 +1,14 @@
 -- Lemmas on counts and tests of zeros by blocks.
-use Rattle.std.proofs.Common.{◌≡◌, ℕ, ◌+◌, ◌*◌, ◌%◌, ◌^◌, ◌<◌, ◌≤◌, ◌==◌, zero, suc, List, [], ◌∷◌, length, get_or, take, drop, count_by, cond, Bool, true, false, replicate, refl, sym, ap, ◌∙◌, arith, w8}
-use Rattle.std.specs.Prelude.{◌&&◌, ◌≢◌, not}
+use Rattle.std.proofs.Common.{◌≡◌, ℕ, ◌+◌, ◌*◌, ◌%◌, ◌^◌, ◌<◌, ◌≤◌, ◌==◌, zero, suc, List, [], ◌∷◌, length, get_or, take, drop, count_by, cond, nat_lt, Bool, true, false, replicate, refl, sym, ap, ◌∙◌, arith, w8}
+use Rattle.std.specs.Prelude.{◌&&◌, ◌≢◌, nat_le, not}
 use Rattle.std.specs.List.{list_all}
 use Rattle.std.specs.Simd.{first_chunks}
 use Rattle.std.specs.Simd.Lanes.{zip2, mask_l, top}
 use Rattle.std.specs.Int.RustNames.{count_ones}
-use Rattle.std.proofs.lemmas.List.{length-take, take-append-drop}
+use Rattle.std.proofs.lemmas.List.{length-map, length-take, take-append-drop}
 use Rattle.std.proofs.lemmas.List.Sums.{sum_by-append, sum_by-take-drop, count_by-le-length}
 use Rattle.std.proofs.lemmas.List.Folds.{list_all-append}
-use Rattle.std.proofs.lemmas.Simd.{bitmask_splat, ones-mask_l}
+use Rattle.std.proofs.lemmas.Simd.{bitmask_splat, mask_l-mod, ones-mask_l}
 use Rattle.std.proofs.lemmas.Bool.Decides.{nat_tests}
 use Rattle.hll_arrays.proofs.Blocks.{take_block}
 use mathlib.Core.List.{map}
@@ -37,6 +37,33 @@ count_rest p n xs rest total r e is here =
 pub zeros_by_mask : (n : ℕ) (xs : List ℕ) → length xs ≡ n → n ≤ 64 →
     count_ones (mask_l (map (top 7) (zip2 (λ a b. cond (a == b) 255 0) xs (replicate n 0))) % 2 ^ 64) ≡ count_by (λ x. x == 0) xs
 zeros_by_mask n xs e few = ap count_ones (bitmask_splat w8 (λ a b. a == b) xs n 0 e few) ∙ ones-mask_l (λ x. x == 0) xs
+
+-- ---- whether all pass a test
+
+one_more : (b r : Bool) (m : ℕ) → (m == 0) ≡ r → (cond (not b) 1 0 + 2 * m == 0) ≡ (b && r)
+one_more true r m e = (let twice : (0 + 2 * m == 0) ≡ (m == 0) = grind (arith, nat_tests) in twice) ∙ e
+one_more false r m e = grind (arith, nat_tests)
+
+-- by the mask of those that don't
+pub none_by_mask : (q : ℕ → Bool) (xs : List ℕ) → (mask_l (map (λ x. not (q x)) xs) == 0) ≡ list_all q xs
+none_by_mask q [] = refl
+none_by_mask q (x ∷ xs) = one_more (q x) (list_all q xs) (mask_l (map (λ v. not (q v)) xs)) (none_by_mask q xs)
+
+at_least : (b v : ℕ) → top 7 (cond (nat_le b v) 255 0) ≡ not (nat_lt v b)
+at_least b v = grind (arith, nat_tests)
+
+at_least_lanes : (n b : ℕ) (xs : List ℕ) → length xs ≡ n → map (top 7) (zip2 (λ a v. cond (nat_le a v) 255 0) (replicate n b) xs) ≡ map (λ v. not (nat_lt v b)) xs
+at_least_lanes zero b [] e = refl
+at_least_lanes zero b (x ∷ xs) e = absurd (omega arith)
+at_least_lanes (suc n) b [] e = refl
+at_least_lanes (suc n) b (x ∷ xs) e = λ i. at_least b x i ∷ at_least_lanes n b xs (omega arith) i
+
+-- whether all are below a bound
+pub below_by_mask : (n b : ℕ) (xs : List ℕ) → length xs ≡ n → n ≤ 64 →
+    (mask_l (map (top 7) (zip2 (λ a v. cond (nat_le a v) 255 0) (replicate n b) xs)) % 2 ^ 64 == 0) ≡ list_all (λ v. nat_lt v b) xs
+below_by_mask n b xs e few =
+    ap (λ ms. mask_l ms % 2 ^ 64 == 0) (at_least_lanes n b xs e)
+    ∙ ap (λ m. m == 0) (mask_l-mod (map (λ v. not (nat_lt v b)) xs) 64 (omega (arith, length-map xs (λ v. not (nat_lt v b)), e))) ∙ none_by_mask (λ v. nat_lt v b) xs
 
 -- ---- whether all are 0
 

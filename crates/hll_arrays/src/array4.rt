@@ -210,10 +210,13 @@ impl<A: Allocator> Array4<A> {
             && have_same_exceptions(&self.exceptions, &other.exceptions)
     }
 
-    /// The least register when that of one slot has another value.
+    /// The least register when that of one slot has a greater value and none is left at the minimum. Stops at the first
+    /// that is one above it.
     fn least_with(&self, slot: u32, value: u8) -> u8
         requires within { slot < 2 ^ self.now.stored.lg_k }
-        requires small { value ≤ 63 }
+        requires more { slice_index self.now.stored.registers slot < value }
+        requires most { value ≤ 63 }
+        requires none { count_by (λ r. r == minimum self.now.stored.registers) (slice_set self.now.stored.registers slot value) ≡ 0 }
         ensures { result ≡ minimum (slice_set self.now.stored.registers slot value) }
     {
         let mut least = 63u8;
@@ -224,6 +227,9 @@ impl<A: Allocator> Array4<A> {
                 self.get(other)
             };
             least = least.min(register);
+            if least == self.cur_min + 1 {
+                return least;
+            }
         }
         least
     }

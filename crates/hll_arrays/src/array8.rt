@@ -11,7 +11,7 @@ ghost use Rattle.hll_coupons.specs.declared.hll_type.HllType.TheVariants.{Hll8};
 ghost use Rattle.hll_arrays.specs.Store.{zero_registers, update_with_coupon, merge_with, AreRegisters, IsStored};
 
 use crate::estimate_state::EstimateState;
-use crate::kernels::{all_zero, count_zeros, max_into, units};
+use crate::kernels::{all_zero, count_zeros, greatest_of, max_into, units};
 use crate::preamble::{HllHeader, Preamble};
 use crate::register_slice::RegisterSlice;
 use crate::register_store::RegisterStore;
@@ -387,9 +387,9 @@ impl<A: Allocator> Eq for Array8<A> {
     ghost laws = { same_stored-equivalence };
 }
 
-/// Whether each byte is at most 63.
+/// Whether each byte is at most 63. One pass.
 fn are_registers(bytes: &[u8]) -> bool
     ensures { result ≡ list_all (λ v. nat_le v 63) bytes.now }
 {
-    bytes.iter().all(|v| *v <= MAX_VALUE)
+    greatest_of(bytes) <= MAX_VALUE
 }

@@ -1,19 +1,21 @@
 //! The exceptions of registers of four bits: a map, where there is one.
-ghost use Rattle.std.specs.Prelude.{◌≡◌, ◌≢◌, ◌+◌, ◌-◌, ◌*◌, ◌^◌, ◌++◌, ◌<◌, ◌≤◌, ◌==◌, ◌↔◌, ◌⊎◌, ℕ, if◌then◌else◌, length, max, slice_index, unwrap_or, All, true, false, None, Some, IsOk, IsTrue, IfOk, IfErr, IfSome, OnOk, OnErr};
+ghost use Rattle.std.specs.Prelude.{◌≡◌, ◌≢◌, ◌+◌, ◌-◌, ◌*◌, ◌^◌, ◌++◌, ◌<◌, ◌≤◌, ◌==◌, ◌↔◌, ◌⊎◌, nat_lt, ℕ, if◌then◌else◌, length, max, slice_index, unwrap_or, All, true, false, None, Some, IsOk, IsTrue, IfOk, IfErr, IfSome, OnOk, OnErr};
 ghost use Rattle.hll_base.specs.declared.error.Reason.TheVariants.{Memory};
 ghost use Rattle.std.specs.FinSet.{len};
+ghost use Rattle.std.specs.List.{list_all};
 ghost use Rattle.hll_coupons.specs.AuxMap.{table_bytes, value_in, ExceptionMap, IsMap};
 ghost use Rattle.hll_coupons.specs.Coupons.{coupon_bytes, WritesAscending};
 ghost use Rattle.hll_arrays.specs.FourBits.{exception_in, exception_of, exceptions_in, fallen, kept_above, lowered_by, IsMapFor, IsSlotOf};
 ghost use Rattle.hll_arrays.specs.Packed.{nibble, nibble_at};
 ghost use Rattle.hll_arrays.specs.Store.{AreRegisters};
 
-use crate::nibbles::{has_mark, lower_by, nibble_of, put_nibble};
+use crate::nibbles::{are_at_most, lower_by, nibble_of, put_nibble};
 use hll_base::codec::SketchBytes;
 use hll_base::error::Error;
 use hll_coupons::aux_map::AuxMap;
 use hll_coupons::container::write_coupons;
 use std::alloc::Allocator;
+use std::simd::prelude::*;
 
 /// How far above the minimum an exception is at least, and the nibble that marks one.
 pub(crate) const MARK: u8 = 15;
@@ -361,16 +363,78 @@ pub(crate) fn exceptions_of<A: Allocator + Clone>(
     ensures err { IfErr result (λ e. e ≡ Memory) }
 {
     let mut map = None;
-    for slot in 0..values.len() {
-        if values[slot] >= minimum + MARK {
-            put_exception(&mut map, nibbles, lg_k, slot as u32, values[slot])?;
+    let (blocks, _) = values.as_chunks::<64>();
+    for place in 0..blocks.len() {
+        if !are_below(&blocks[place], minimum + MARK) {
+            put_exceptions_of(
+                &mut map,
+                nibbles,
+                lg_k,
+                values,
+                minimum,
+                64 * place,
+                64 * place + 64,
+            )?;
         }
     }
+    put_exceptions_of(
+        &mut map,
+        nibbles,
+        lg_k,
+        values,
+        minimum,
+        64 * blocks.len(),
+        values.len(),
+    )?;
     Ok(map)
 }
 
+/// Whether each value of a block is below a bound.
+fn are_below(block: &[u8; 64], bound: u8) -> bool
+    ensures { result ≡ list_all (λ v. nat_lt v bound) block.now }
+{
+    u8x64::from_array(*block)
+        .simd_ge(u8x64::splat(bound))
+        .to_bitmask()
+        == 0
+}
+
+/// Puts the exceptions of the registers of the slots from `from` up to `to` into the map, which has none from there on.
+///
+/// Fails with `Memory`.
+fn put_exceptions_of<A: Allocator + Clone>(
+    map: &mut Option<AuxMap<A>>,
+    nibbles: &Vec<u8, A>,
+    lg_k: u8,
+    values: &[u8],
+    minimum: u8,
+    from: usize,
+    to: usize,
+) -> Result<(), Error>
+    requires low { 4 ≤ lg_k }
+    requires high { lg_k ≤ 21 }
+    requires minimum { minimum ≤ 63 }
+    requires registers { AreRegisters lg_k values.now }
+    requires order { from ≤ to }
+    requires to { to ≤ length values.now }
+    requires map { IsMapFor lg_k map.old }
+    requires none { (s : ℕ) → from ≤ s → exception_in map.old s ≡ None }
+    ensures map { OnOk result (IsMapFor lg_k map.new) }
+    ensures put { OnOk result ((s : ℕ) → from ≤ s → s < to → exception_in map.new s ≡ exception_of minimum (slice_index values.now s)) }
+    ensures before { OnOk result ((s : ℕ) → s < from → exception_in map.new s ≡ exception_in map.old s) }
+    ensures behind { OnOk result ((s : ℕ) → to ≤ s → exception_in map.new s ≡ None) }
+    ensures err { IfErr result (λ e. e ≡ Memory) }
+{
+    for slot in from..to {
+        if values[slot] >= minimum + MARK {
+            put_exception(map, nibbles, lg_k, slot as u32, values[slot])?;
+        }
+    }
+    Ok(())
+}
+
 /// Raises each value to the exception of its slot, if it has one: `first + i` for value i. Searches where a nibble is 15,
-/// and passes over blocks of 32 where none is.
+/// and passes over blocks of 64 where none is.
 ///
 /// Each two values have a byte of nibbles, and a slot whose nibble isn't 15 has no exception.
 pub(crate) fn raise_by_exceptions<A: Allocator>(
@@ -386,13 +450,20 @@ pub(crate) fn raise_by_exceptions<A: Allocator>(
     ensures raised { (s : ℕ) → s < length values.old → slice_index values.new s ≡ max (slice_index values.old s) (unwrap_or (value_in map.now (first + s)) 0) }
     ensures len { length values.new ≡ length values.old }
 {
-    for block in 0..nibbles.len() / 16 + 1 {
-        let start = 16 * block;
-        let end = nibbles.len().min(start + 16);
-        if has_mark(nibbles, start, end) {
-            raise_marked(values, nibbles, map, first, 2 * start, 2 * end);
+    let (blocks, _) = nibbles.as_chunks::<32>();
+    for place in 0..blocks.len() {
+        if !are_at_most(&blocks[place], MARK - 1) {
+            raise_marked(values, nibbles, map, first, 64 * place, 64 * place + 64);
         }
     }
+    raise_marked(
+        values,
+        nibbles,
+        map,
+        first,
+        64 * blocks.len(),
+        2 * nibbles.len(),
+    );
 }
 
 /// The same of the values from `start` up to `end`. The others are unchanged.

@@ -6,7 +6,7 @@ ghost use Rattle.hll_base.specs.declared.error.Reason.TheVariants as reasons;
 ghost use Rattle.hll_coupons.specs.AuxMap.{entry_at, value_in, IsMap};
 ghost use Rattle.hll_coupons.specs.Coupons.{coupons_at};
 ghost use Rattle.hll_coupons.specs.Pair.{slot_of, value_of};
-ghost use Rattle.hll_arrays.specs.FourBits.{exception_in, fallen, lowered_by, unpacked, IsMapFor, IsPacked};
+ghost use Rattle.hll_arrays.specs.FourBits.{exception_in, fallen, lowered_by, unpacked, IsMapFor, IsPacked, IsSlotOf};
 ghost use Rattle.hll_arrays.specs.Packed.{minimum, nibble_at};
 ghost use Rattle.hll_arrays.specs.Payload.{state_at, exception_count, exception_places, hll4_size, is_compact, lg_table_of, nibbles_of, register_of, registers_of, shape_of_hll4, Agrees, AreEntries, FirstHll4Fault, IsHll4Payload, IsWhole};
 ghost use Rattle.hll_arrays.specs.State.{IsState};
@@ -14,7 +14,7 @@ ghost use Rattle.hll_arrays.specs.State.{IsState};
 use crate::aux_format::AuxFormat;
 use crate::estimate_state::EstimateState;
 use crate::exception_map::{MARK, exception_at, fall, kept_of, put_exception};
-use crate::nibbles::{count_zero_nibbles, lower_by, nibble_of};
+use crate::nibbles::{are_at_most, count_zero_nibbles, lower_by, nibble_of};
 use crate::preamble::Preamble;
 use crate::registers::two_to;
 use hll_base::cursor::SketchSlice;
@@ -290,7 +290,7 @@ fn others_agree<A: Allocator>(
     ensures some { result ≡ false → (s : ℕ) × (s < 2 ^ lg_config_k) × (exception_in map.now s ≡ None) × (Agrees cur_min (nibble_at nibbles.now s) None → ⊥) }
 {
     let greatest = (MOST - cur_min).min(MARK - 1);
-    let (blocks, _) = nibbles.as_chunks::<16>();
+    let (blocks, _) = nibbles.as_chunks::<32>();
     for place in 0..blocks.len() {
         if !are_at_most(&blocks[place], greatest)
             && !slots_agree(
@@ -311,20 +311,11 @@ fn others_agree<A: Allocator>(
         lg_config_k,
         greatest,
         32 * blocks.len(),
-        2 * nibbles.len(),
+        nibbles.len(),
     )
 }
 
-/// Whether no nibble of a block is greater.
-fn are_at_most(block: &[u8; 16], greatest: u8) -> bool
-    ensures { result ≡ list_all (λ b. nat_le (b % 16) greatest && nat_le (b / 16) greatest) block.now }
-{
-    block
-        .iter()
-        .all(|byte| *byte % 16 <= greatest && *byte / 16 <= greatest)
-}
-
-/// Whether each slot of a range has an exception, or no greater nibble.
+/// Whether each slot of the bytes from `from` up to `to` has an exception, or no greater nibble.
 fn slots_agree<A: Allocator>(
     nibbles: &[u8],
     map: &Option<AuxMap<A>>,
@@ -336,16 +327,29 @@ fn slots_agree<A: Allocator>(
     requires most { lg_config_k ≤ 21 }
     requires size { 2 * length nibbles.now ≡ 2 ^ lg_config_k }
     requires map { IsMapFor lg_config_k map.now }
-    requires to { to ≤ 2 ^ lg_config_k }
-    ensures all { result ≡ true → (s : ℕ) → from ≤ s → s < to → exception_in map.now s ≡ None → nibble_at nibbles.now s ≤ greatest }
+    requires to { to ≤ length nibbles.now }
+    ensures all { result ≡ true → (s : ℕ) → 2 * from ≤ s → s < 2 * to → exception_in map.now s ≡ None → nibble_at nibbles.now s ≤ greatest }
     ensures some { result ≡ false → (s : ℕ) × (s < 2 ^ lg_config_k) × (exception_in map.now s ≡ None) × (greatest < nibble_at nibbles.now s) }
 {
-    for slot in from..to {
-        if nibble_of(nibbles, slot) > greatest && exception_at(map, slot as u32).is_none() {
+    for place in from..to {
+        let slot = 2 * place as u32;
+        let byte = nibbles[place];
+        if !slot_agrees(map, greatest, slot, byte % 16)
+            || !slot_agrees(map, greatest, slot + 1, byte / 16)
+        {
             return false;
         }
     }
     true
+}
+
+/// Whether a slot has an exception, or no greater nibble.
+fn slot_agrees<A: Allocator>(map: &Option<AuxMap<A>>, greatest: u8, slot: u32, nibble: u8) -> bool
+    requires { IsSlotOf map.now slot }
+    ensures all { result ≡ true → exception_in map.now slot ≡ None → nibble ≤ greatest }
+    ensures some { result ≡ false → (exception_in map.now slot ≡ None) × (greatest < nibble) }
+{
+    nibble <= greatest || exception_at(map, slot).is_some()
 }
 
 // ---- the minimum

@@ -12,6 +12,14 @@ use crate::kernels::{all_zero, count_zeros, pack_group, raise_16, raise_one, uni
 use std::alloc::{AllocError, Allocator};
 use std::simd::prelude::*;
 
+/// The greatest byte before each one of a word whose bits of the register there are 0.
+const BELOW: [u8; 16] = [
+    255, 63, 15, 3, 255, 63, 15, 3, 255, 63, 15, 3, 255, 63, 15, 3,
+];
+
+/// The bits of each byte of a word that are lower ones of the register there.
+const LOWER: [u8; 16] = [63, 15, 3, 0, 63, 15, 3, 0, 63, 15, 3, 0, 63, 15, 3, 0];
+
 // ---- one register
 
 /// The register of a slot.
@@ -193,16 +201,31 @@ fn fields_at(block: &[u8; 48], at: usize) -> u8x16
     requires { at ≤ 32 }
     ensures { result ≡ fields (chunk at 12 block.now) }
 {
-    let bytes = u8x16::from_slice(&block[at..]);
-    spread(bytes.swizzle([0, 1, 2, 2, 3, 4, 5, 5, 6, 7, 8, 8, 9, 10, 11, 11]))
+    spread(words_at(block, at))
 }
 
 /// The registers of the last four groups.
 fn last_fields(block: &[u8; 48]) -> u8x16
     ensures { result ≡ fields (chunk 36 12 block.now) }
 {
+    spread(last_words(block))
+}
+
+/// The four groups from byte `at` on, each with a fourth byte.
+fn words_at(block: &[u8; 48], at: usize) -> u8x16
+    requires { at ≤ 32 }
+    ensures { fields_of result ≡ fields (chunk at 12 block.now) }
+{
+    let bytes = u8x16::from_slice(&block[at..]);
+    bytes.swizzle([0, 1, 2, 2, 3, 4, 5, 5, 6, 7, 8, 8, 9, 10, 11, 11])
+}
+
+/// The last four groups, each with a fourth byte.
+fn last_words(block: &[u8; 48]) -> u8x16
+    ensures { fields_of result ≡ fields (chunk 36 12 block.now) }
+{
     let bytes = u8x16::from_slice(&block[32..]);
-    spread(bytes.swizzle([4, 5, 6, 6, 7, 8, 9, 9, 10, 11, 12, 12, 13, 14, 15, 15]))
+    bytes.swizzle([4, 5, 6, 6, 7, 8, 9, 9, 10, 11, 12, 12, 13, 14, 15, 15])
 }
 
 /// The registers in the first three of each four bytes. The fourth may be any byte.
@@ -234,29 +257,54 @@ pub(crate) fn count_zeros_in(groups: &[[u8; 3]]) -> usize
     zero_fields(groups.as_flattened())
 }
 
-/// How many registers in the bytes of groups are 0, 64 groups at a time.
+/// How many registers in the bytes of groups are 0, sixteen groups at a time.
 fn zero_fields(bytes: &[u8]) -> usize
     requires whole { length bytes.now % 3 ≡ 0 }
     requires few { length bytes.now ≤ 3 * 2 ^ 19 }
     ensures { result ≡ zeros (fields bytes.now) }
 {
-    let (blocks, rest) = bytes.as_chunks::<192>();
+    let (blocks, rest) = bytes.as_chunks::<48>();
     let mut count = 0;
     for block in blocks {
-        count += zero_fields_in(block);
+        count += zero_fields_in(block) as usize;
     }
-    count + zero_fields_in(rest)
+    count + zero_fields_one_by_one(rest)
 }
 
-/// How many registers of at most 64 groups are 0.
-fn zero_fields_in(bytes: &[u8]) -> usize
+/// How many registers of less than sixteen groups are 0.
+fn zero_fields_one_by_one(bytes: &[u8]) -> usize
     requires whole { length bytes.now % 3 ≡ 0 }
-    requires few { length bytes.now ≤ 192 }
+    requires few { length bytes.now < 48 }
     ensures count { result ≡ zeros (fields bytes.now) }
-    ensures bound { result ≤ 256 }
+    ensures bound { result ≤ 64 }
 {
     let registers = unpacked(bytes);
     count_zeros(&registers[..bytes.len() / 3 * 4])
+}
+
+/// How many registers of sixteen groups are 0.
+fn zero_fields_in(block: &[u8; 48]) -> u32
+    ensures count { result ≡ zeros (fields block.now) }
+    ensures bound { result ≤ 64 }
+{
+    zeros_in(words_at(block, 0))
+        + zeros_in(words_at(block, 12))
+        + zeros_in(words_at(block, 24))
+        + zeros_in(last_words(block))
+}
+
+/// How many of the registers in the first three of each four bytes are 0. The fourth may be any byte.
+///
+/// Each lane stands for one register: that is 0 where its lower bits are, in the byte of the lane, and its upper bits, in
+/// the byte before.
+fn zeros_in(bytes: u8x16) -> u32
+    ensures count { result ≡ zeros (fields_of bytes) }
+    ensures bound { result ≤ 16 }
+{
+    let before = bytes.rotate_elements_right::<1>();
+    let upper = before.simd_le(u8x16::from_array(BELOW));
+    let lower = (bytes & u8x16::from_array(LOWER)).simd_eq(u8x16::splat(0));
+    (upper & lower).to_bitmask().count_ones()
 }
 
 /// The sum of 2^-v over the registers v, in units of 2^-63. One pass over at most 2^19 groups.

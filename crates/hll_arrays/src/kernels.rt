@@ -1,6 +1,6 @@
 //! Loops over the bytes of registers, by lanes, and byte by byte where less than a block is left. None of them takes
 //! memory.
-ghost use Rattle.std.specs.Prelude.{◌≡◌, ℕ, ◌+◌, ◌-◌, ◌*◌, ◌/◌, ◌%◌, ◌^◌, ◌<◌, ◌≤◌, ◌==◌, if◌then◌else◌, not, [], ◌∷◌, length, map, count_by, slice_index, All};
+ghost use Rattle.std.specs.Prelude.{◌≡◌, ℕ, ◌+◌, ◌-◌, ◌*◌, ◌/◌, ◌%◌, ◌^◌, ◌<◌, ◌≤◌, ◌==◌, if◌then◌else◌, nat_le, not, [], ◌∷◌, length, map, count_by, slice_index, All};
 ghost use Rattle.std.specs.List.{list_all};
 ghost use Rattle.std.specs.Simd.Lanes.{chunk, put_chunk, mask_l, sum_l};
 ghost use Rattle.hll_coupons.specs.Fold.{join};
@@ -113,6 +113,17 @@ pub(crate) fn least_of(values: &[u8]) -> u8
         least = least.min(*value);
     }
     least
+}
+
+/// The greatest of bytes, 0 where there are none. One pass.
+pub(crate) fn greatest_of(bytes: &[u8]) -> u8
+    ensures { (bound : ℕ) → list_all (λ b. nat_le b bound) bytes.now ≡ nat_le result bound }
+{
+    let mut greatest = 0u8;
+    for byte in bytes {
+        greatest = greatest.max(*byte);
+    }
+    greatest
 }
 
 /// Whether all bytes are 0. Stops at the first block that has another; takes no memory.

@@ -1,6 +1,7 @@
 //! Registers of four bits: how far each is above a minimum, two of them in a byte, where 15 marks a register that is kept
 //! elsewhere (docs/FORMAT.md, "Packed registers").
-ghost use Rattle.std.specs.Prelude.{◌≡◌, ◌≢◌, false, ℕ, ◌+◌, ◌-◌, ◌*◌, ◌%◌, ◌^◌, ◌<◌, ◌≤◌, ◌==◌, ◌⊎◌, if◌then◌else◌, [], ◌∷◌, ◌++◌, length, map, All, IfOk};
+ghost use Rattle.std.specs.Prelude.{◌≡◌, ℕ, ◌+◌, ◌-◌, ◌*◌, ◌/◌, ◌%◌, ◌^◌, ◌<◌, ◌≤◌, ◌==◌, ◌⊎◌, ◌&&◌, nat_le, if◌then◌else◌, [], ◌∷◌, ◌++◌, length, map, All, IfOk};
+ghost use Rattle.std.specs.List.{list_all};
 ghost use Rattle.std.specs.Simd.Lanes.{put_chunk, Each1};
 ghost use Rattle.hll_coupons.specs.Fold.{join};
 ghost use Rattle.hll_arrays.specs.Lanes.{raise_at, nibble_values, nibble_pairs};
@@ -39,21 +40,44 @@ pub(crate) fn put_nibble(bytes: &mut [u8], slot: usize, nibble: u8)
     };
 }
 
-/// Whether a nibble of the bytes from `start` up to `end` is 15.
-pub(crate) fn has_mark(bytes: &[u8], start: usize, end: usize) -> bool
-    requires { end ≤ length bytes.now }
-    ensures { result ≡ false → (s : ℕ) → 2 * start ≤ s → s < 2 * end → nibble_at bytes.now s ≢ 15 }
+/// Whether no nibble of a block is greater than `greatest`, which is at most 15.
+pub(crate) fn are_at_most(block: &[u8; 32], greatest: u8) -> bool
+    requires { greatest ≤ 15 }
+    ensures { result ≡ list_all (λ b. nat_le (b % 16) greatest && nat_le (b / 16) greatest) block.now }
 {
-    let mut found = false;
-    for place in start..end {
-        let byte = bytes[place];
-        found = found || byte % 16 == 15 || byte / 16 == 15;
-    }
-    found
+    let bytes = u8x32::from_array(*block);
+    let low = (bytes & u8x32::splat(15)).simd_gt(u8x32::splat(greatest));
+    let high = bytes.simd_gt(u8x32::splat(16 * greatest + 15));
+    (low | high).to_bitmask() == 0
 }
 
 /// How many nibbles are 0. One pass.
 pub(crate) fn count_zero_nibbles(bytes: &[u8]) -> u32
+    requires { length bytes.now ≤ 2 ^ 20 }
+    ensures { result ≡ zero_nibbles bytes.now }
+{
+    let (blocks, rest) = bytes.as_chunks::<64>();
+    let mut count = 0;
+    for block in blocks {
+        count += u32::from(zero_nibbles_in(block));
+    }
+    count + zero_nibbles_one_by_one(rest)
+}
+
+/// How many nibbles of a block are 0, which a byte can count.
+fn zero_nibbles_in(block: &[u8; 64]) -> u8
+    ensures count { result ≡ zero_nibbles block.now }
+    ensures bound { result ≤ 128 }
+{
+    let mut count = 0;
+    for byte in block {
+        count += zeros_of(*byte) as u8;
+    }
+    count
+}
+
+/// How many nibbles are 0, one byte after the other.
+fn zero_nibbles_one_by_one(bytes: &[u8]) -> u32
     requires { length bytes.now ≤ 2 ^ 20 }
     ensures { result ≡ zero_nibbles bytes.now }
 {

@@ -4,9 +4,9 @@ use Rattle.hll_coupons.specs.AuxMap.{value_in}
 use Rattle.hll_arrays.proofs.exception_map.raise_by_exceptions.Given as goal
 
 -- the values of the blocks so far are raised, and the others are as they were
-abbrev pub invariant-loop-block : goal.invariant-loop-block
-invariant-loop-block g l = record {
+abbrev pub invariant-loop-place : goal.invariant-loop-place
+invariant-loop-place g l = record {
   size : length l.values ≡ length l.initial.values;
-  done : (s : ℕ) → s < 32 * l.block → s < length l.initial.values → slice_index l.values s ≡ max (slice_index l.initial.values s) (unwrap_or (value_in l.map (l.first + s)) 0);
-  left : (s : ℕ) → 32 * l.block ≤ s → slice_index l.values s ≡ slice_index l.initial.values s;
+  done : (s : ℕ) → s < 64 * l.place → s < length l.initial.values → slice_index l.values s ≡ max (slice_index l.initial.values s) (unwrap_or (value_in l.map (l.first + s)) 0);
+  left : (s : ℕ) → 64 * l.place ≤ s → slice_index l.values s ≡ slice_index l.initial.values s;
 }

@@ -5,4 +5,4 @@ use Rattle.hll_arrays.proofs.four_bit_payload.others_agree.Given as goal
 
 -- each slot of the blocks so far agrees
 abbrev pub invariant-loop-place : goal.invariant-loop-place
-invariant-loop-place g l = (s : ℕ) → s < 32 * l.place → exception_in l.map s ≡ None → nibble_at l.nibbles s ≤ l.greatest
+invariant-loop-place g l = (s : ℕ) → s < 64 * l.place → exception_in l.map s ≡ None → nibble_at l.nibbles s ≤ l.greatest

@@ -15,30 +15,30 @@ loop-block-preserved c =
     let B = c.args.bytes.now in
     let F = c.as_chunks.result.0.now in
     let i = c.loop-block.block-index in
-    let inside : i < length B / 192 = omega (arith, c.loop-block-test.true, c.as_chunks.ensures.front_len) in
-    let taken : length (take (i * 192) B) ≡ 3 * (64 * i) = omega (arith, length-take-le (i * 192) B (omega arith)) in
-    (λ j. c.loop-block.invariant j + c.zero_fields_in-count.ensures.count j)
-    ∙ sym (append (fields (take (i * 192) B)) (fields _))
-    ∙ ap zeros (sym (ap fields (take_block 192 (length B / 192) B F i _ c.as_chunks.ensures.front inside) ∙ fields-append (64 * i) (take (i * 192) B) _ taken))
+    let inside : i < length B / 48 = omega (arith, c.loop-block-test.true, c.as_chunks.ensures.front_len) in
+    let taken : length (take (i * 48) B) ≡ 3 * (16 * i) = omega (arith, length-take-le (i * 48) B (omega arith)) in
+    (λ j. c.loop-block.invariant j + c.zero_fields_in.ensures.count j)
+    ∙ sym (append (fields (take (i * 48) B)) (fields _))
+    ∙ ap zeros (sym (ap fields (take_block 48 (length B / 48) B F i _ c.as_chunks.ensures.front inside) ∙ fields-append (16 * i) (take (i * 48) B) _ taken))
 
 pub returns : goal.returns
 returns c =
     let B = c.args.bytes.now in
     let i = c.loop-block.block-index in
     let rest = c.as_chunks.result.1.now in
-    let e : i ≡ length B / 192 = omega (arith, c.loop-block-test.false, c.loop-block.auto.block-index-end, c.as_chunks.ensures.front_len) in
-    let cut : rest ≡ drop (i * 192) B = c.as_chunks.ensures.back ∙ ap (λ n. drop (n * 192) B) (sym e) in
-    let taken : length (take (i * 192) B) ≡ 3 * (64 * i) = omega (arith, length-take-le (i * 192) B (omega (arith, e))) in
-    (λ j. c.loop-block.invariant j + c.zero_fields_in.ensures.count j)
-    ∙ sym (append (fields (take (i * 192) B)) (fields rest))
-    ∙ ap zeros (sym (fields-append (64 * i) (take (i * 192) B) rest taken) ∙ ap fields (ap (λ Q. take (i * 192) B ++ Q) cut ∙ take-append-drop (i * 192) B))
+    let e : i ≡ length B / 48 = omega (arith, c.loop-block-test.false, c.loop-block.auto.block-index-end, c.as_chunks.ensures.front_len) in
+    let cut : rest ≡ drop (i * 48) B = c.as_chunks.ensures.back ∙ ap (λ n. drop (n * 48) B) (sym e) in
+    let taken : length (take (i * 48) B) ≡ 3 * (16 * i) = omega (arith, length-take-le (i * 48) B (omega (arith, e))) in
+    (λ j. c.loop-block.invariant j + c.zero_fields_one_by_one.ensures.count j)
+    ∙ sym (append (fields (take (i * 48) B)) (fields rest))
+    ∙ ap zeros (sym (fields-append (16 * i) (take (i * 48) B) rest taken) ∙ ap fields (ap (λ Q. take (i * 48) B ++ Q) cut ∙ take-append-drop (i * 48) B))
 
 -- the zeros of a part are few
 few : (n : ℕ) (B : List ℕ) → length B ≤ 3 * 2 ^ 19 → zeros (fields (take n B)) ≤ 3 * 2 ^ 20
 few n B h = omega (arith, count_by-le-length (λ v. v == 0) (fields (take n B)), length-fields-le (take n B), length-take n B)
 
 pub overflow_add-count : goal.overflow_add-count
-overflow_add-count c = record { fits = omega (arith, c.loop-block.invariant, few (c.loop-block.block-index * 192) c.args.bytes.now c.requires.few, c.zero_fields_in-count.ensures.bound) }
+overflow_add-count c = record { fits = omega (arith, c.loop-block.invariant, few (c.loop-block.block-index * 48) c.args.bytes.now c.requires.few, c.zero_fields_in.ensures.bound) }
 
 pub overflow_add-result : goal.overflow_add-result
-overflow_add-result c = record { fits = omega (arith, c.loop-block.invariant, few (c.loop-block.block-index * 192) c.args.bytes.now c.requires.few, c.zero_fields_in.ensures.bound) }
+overflow_add-result c = record { fits = omega (arith, c.loop-block.invariant, few (c.loop-block.block-index * 48) c.args.bytes.now c.requires.few, c.zero_fields_one_by_one.ensures.bound) }

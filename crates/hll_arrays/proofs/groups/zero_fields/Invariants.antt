@@ -4,4 +4,4 @@ use Rattle.hll_arrays.proofs.groups.zero_fields.Given as goal
 
 -- the count so far
 abbrev pub invariant-loop-block : goal.invariant-loop-block
-invariant-loop-block l = l.count ≡ zeros (fields (take (l.block-index * 192) l.bytes))
+invariant-loop-block l = l.count ≡ zeros (fields (take (l.block-index * 48) l.bytes))

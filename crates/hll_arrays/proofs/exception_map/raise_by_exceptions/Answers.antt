@@ -1,0 +1,58 @@
+use Rattle.std.proofs.Common.{◌≡◌, ◌+◌, ◌*◌, ◌/◌, ◌<◌, ◌≤◌, ℕ, Option, None, inl, inr, length, slice_index, sym, ap, subst, ◌∙◌, arith}
+use Rattle.std.specs.Prelude.{max, unwrap_or}
+use Rattle.std.proofs.lemmas.Bool.{cases_lt}
+use Rattle.hll_coupons.specs.AuxMap.{value_in}
+use Rattle.hll_arrays.specs.Packed.{nibble_at}
+use Rattle.hll_arrays.proofs.Blocks.{get_or-blocks}
+use Rattle.hll_arrays.proofs.FourBitReading.{nibbles_at_most}
+use Rattle.hll_arrays.proofs.exception_map.raise_by_exceptions.Goals as goal
+use Rattle.hll_arrays.proofs.exception_map.raise_by_exceptions.Goals.{then-not-are_at_most, else-not-are_at_most}
+
+-- a slot without an exception keeps its value
+kept : (x : ℕ) (o : Option ℕ) → o ≡ None → x ≡ max x (unwrap_or o 0)
+kept x o none = subst (λ p. x ≡ max x (unwrap_or p 0)) (sym none) (omega arith)
+
+pub loop-place-preserved : goal.loop-place-preserved
+loop-place-preserved g c =
+    let before = c.loop-place.invariant in
+    let place = c.loop-place.place in
+    let nibbles = c.args.nibbles.now in
+    let exception : ℕ → ℕ = λ s. unwrap_or (value_in c.args.map.now (c.args.first + s)) 0 in
+    elim c.if-not-are_at_most.branch [
+      | then-not-are_at_most w ↦
+          let at : (s : ℕ) → slice_index c.if-not-are_at_most.values s ≡ slice_index w.raise_marked.new.values s = λ s. ap (λ vs. slice_index vs s) w.values-is in
+          record {
+            size = ap length w.values-is ∙ w.raise_marked.ensures.len ∙ before.size;
+            done = λ s l some. at s ∙ elim (cases_lt s (64 * place)) [
+              | inl earlier ↦ w.raise_marked.ensures.before s earlier ∙ before.done s earlier some
+              | inr from ↦ w.raise_marked.ensures.raised s from (omega (arith, l)) ∙ ap (λ v. max v (exception s)) (before.left s from)
+            ];
+            left = λ s l. at s ∙ w.raise_marked.ensures.behind s (omega (arith, l)) ∙ before.left s (omega (arith, l));
+          }
+      | else-not-are_at_most w ↦
+          let at : (s : ℕ) → slice_index c.if-not-are_at_most.values s ≡ slice_index c.loop-place.values s = λ s. ap (λ vs. slice_index vs s) w.values-is in
+          let inside : place < length nibbles / 32 = omega (arith, c.loop-place-test.true, c.as_chunks.ensures.front_len) in
+          let low : (s : ℕ) → 64 * place ≤ s → s < 64 * (place + 1) → nibble_at nibbles s ≤ 14 =
+          nibbles_at_most nibbles _ place 14 (get_or-blocks 32 (length nibbles / 32) nibbles c.as_chunks.result.0.now place _ c.as_chunks.ensures.front inside) (omega (arith, inside))
+          (sym c.are_at_most.ensures ∙ w.if-not-are_at_most.false) in
+          record {
+            size = ap length w.values-is ∙ before.size;
+            done = λ s l some. at s ∙ elim (cases_lt s (64 * place)) [
+              | inl earlier ↦ before.done s earlier some
+              | inr from ↦ before.left s from ∙ kept _ (value_in c.args.map.now (c.args.first + s)) (c.requires.marked s some (λ mark. omega (arith, mark, low s from l)))
+            ];
+            left = λ s l. at s ∙ before.left s (omega (arith, l));
+          }
+    ]
+
+pub returns-clause-raised : goal.returns-clause-raised
+returns-clause-raised g c =
+    let before = c.loop-place.invariant in
+    let nibbles = c.args.nibbles.now in
+    let all : c.loop-place.place ≡ length nibbles / 32 = omega (arith, c.loop-place-test.false, c.loop-place.auto.place-end, c.as_chunks.ensures.front_len) in
+    λ s some. elim (cases_lt s (64 * c.loop-place.place)) [
+      | inl earlier ↦ c.raise_marked-2.ensures.before s (omega (arith, earlier, all, c.as_chunks.ensures.front_len)) ∙ before.done s earlier some
+      | inr from ↦
+          c.raise_marked-2.ensures.raised s (omega (arith, from, all, c.as_chunks.ensures.front_len)) (omega (arith, some, c.requires.size))
+          ∙ ap (λ v. max v (unwrap_or (value_in c.args.map.now (c.args.first + s)) 0)) (before.left s from)
+    ]
