@@ -1,5 +1,5 @@
 -- Merges into a gadget, in the words of the definitions.
-use Rattle.std.proofs.Common.{◌≡◌, ℕ, ◌-◌, ◌^◌, ◌≤◌, ◌<◌, ◌||◌, Bool, true, false, cond, ◌&&◌, nat_eq, leb, List, [], ◌∷◌, ◌++◌, Option, Some, None, length, refl, sym, ap, subst, ◌∙◌, arith, inl, inr}
+use Rattle.std.proofs.Common.{◌≡◌, ◌+◌, ℕ, ◌-◌, ◌^◌, ◌≤◌, ◌<◌, ◌||◌, Bool, true, false, cond, ◌&&◌, nat_eq, leb, List, [], ◌∷◌, ◌++◌, Option, Some, None, length, refl, sym, ap, subst, ◌∙◌, arith, inl, inr, map, take, get_or, zero, suc}
 use Rattle.std.specs.Prelude.{min}
 use Rattle.std.specs.FinSet.{empty, union, len, contains, empty_of_len, len-empty, contains-empty}
 use Rattle.std.specs.Ordering.{nat_cmp}
@@ -22,9 +22,9 @@ use Rattle.hll_sketch.specs.Value.{Sketch, Content, coupons, registers, pairs_in
 use Rattle.hll_sketch.specs.Adding.{add, content_for, content_with}
 use Rattle.hll_sketch.specs.Layout.{Layout, list, set, array, SketchLayout, content_in, count_in, width_of, sketch_of, IsSize, TableChanges, NeedsMemory}
 use Rattle.hll_sketch.specs.Union.{IsGadget, coupons_kept, holds_all, ContentNeedsMemory}
-use Rattle.hll_sketch.specs.Laws.{add_in_turn}
-use Rattle.hll_sketch.specs.Merging.{merge_content, merge_coupons, merge_registers, state_after_merge}
-use Rattle.hll_sketch.proofs.Adding.{add_each}
+use Rattle.hll_sketch.specs.Laws.{add_in_turn, of_sketch, least_lg_k}
+use Rattle.hll_sketch.specs.Merging.{merge, merge_all, merge_content, merge_coupons, merge_registers, state_after_merge}
+use Rattle.hll_sketch.proofs.Adding.{add_each, lg_k-merge}
 use Rattle.hll_sketch.proofs.Collecting.{union_behind, len-union_longer, len-union_none, len-union_with}
 use Rattle.hll_sketch.proofs.Gadgets.{false_unless}
 use Rattle.hll_sketch.proofs.Inserting.{insert-union, set_of-nil}
@@ -294,3 +294,20 @@ kept_few y legal = of y.layout legal.content
     of (list w t) legal = table _ t.lg_size legal.1
     of (set w t) legal = table _ t.lg_size legal.1
     of (array w x e) legal = omega (arith, len-empty nat_cmp, pow_pos 26)
+
+-- ---- sketches in turn
+
+merged_next : (m : ℕ) (g : Sketch) (xs : List SketchLayout) (i : ℕ) (d : SketchLayout) → i < length xs →
+    merge m (merge_all m g (map sketch_of (take i xs))) (sketch_of (get_or xs i d)) ≡ merge_all m g (map sketch_of (take (suc i) xs))
+merged_next m g [] i d l = absurd (omega (arith, l))
+merged_next m g (x ∷ xs) zero d l = refl
+merged_next m g (x ∷ xs) (suc i) d l = merged_next m (merge m g (sketch_of x)) xs i d (omega (arith, l))
+
+-- one more, behind others
+pub merged_more : (m : ℕ) (g : Sketch) (xs : List SketchLayout) (i : ℕ) (d : SketchLayout) → i < length xs →
+    merge m (merge_all m g (map sketch_of (take i xs))) (sketch_of (get_or xs i d)) ≡ merge_all m g (map sketch_of (take (i + 1) xs))
+merged_more m g xs i d l = merged_next m g xs i d l ∙ ap (λ n. merge_all m g (map sketch_of (take n xs))) (let next : suc i ≡ i + 1 = omega arith in next)
+
+pub lg_k-merge_all : (m : ℕ) (g : Sketch) (xs : List SketchLayout) → (merge_all m g (map sketch_of xs)).lg_k ≡ least_lg_k g.lg_k (map (λ x. of_sketch (sketch_of x)) xs)
+lg_k-merge_all m g [] = refl
+lg_k-merge_all m g (x ∷ xs) = lg_k-merge_all m (merge m g (sketch_of x)) xs ∙ ap (λ k. least_lg_k k (map (λ x. of_sketch (sketch_of x)) xs)) (lg_k-merge m g (sketch_of x))

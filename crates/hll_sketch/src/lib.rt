@@ -17,4 +17,4 @@ pub mod union;
 pub use header::{Header, Stage};
 pub use mode::Mode;
 pub use sketch::HllSketch;
-pub use union::{HllUnion, agree};
+pub use union::{HllUnion, agree, union_of};

@@ -1,5 +1,5 @@
 //! Unions of sketches (docs/MODEL.md, "Merging").
-ghost use Rattle.std.specs.Prelude.{◌≡◌, ◌≤◌, ◌⊎◌, ◌↔◌, IsTrue, [], ◌∷◌, fold, IfOk, IfErr, OnOk, OnErr};
+ghost use Rattle.std.specs.Prelude.{◌≡◌, ◌≤◌, ◌⊎◌, ◌↔◌, IsTrue, map, [], ◌∷◌, fold, IfOk, IfErr, OnOk, OnErr};
 ghost use Rattle.hll_base.specs.declared.error.Reason.TheVariants.{Memory};
 ghost use Rattle.hll_base.specs.declared.error.Reason.TheVariants as reasons;
 ghost use Rattle.hll_base.specs.Hash.{hash_of, initial_state, after_piece, default_seed};
@@ -9,7 +9,8 @@ ghost use Rattle.hll_coupons.specs.declared.hll_type.HllType.TheVariants.{Hll8};
 ghost use Rattle.hll_sketch.specs.Adding.{add};
 ghost use Rattle.hll_sketch.specs.Agree.{Agree};
 ghost use Rattle.hll_sketch.specs.Layout.{sketch_of, NeedsMemory};
-ghost use Rattle.hll_sketch.specs.Merging.{merge, empty_union};
+ghost use Rattle.hll_sketch.specs.Laws.{of_sketch, least_lg_k};
+ghost use Rattle.hll_sketch.specs.Merging.{merge, merge_all, empty_union};
 ghost use Rattle.hll_sketch.specs.Union.{gadget_of, MergeNeedsMemory};
 ghost use Rattle.hll_sketch.specs.Value.{IsLgK, is_empty, size_of};
 
@@ -172,6 +173,28 @@ impl<A: Allocator + Clone> HllUnion<A> {
             gadget: self.gadget.clone()?,
         })
     }
+}
+
+/// The union of sketches under a bound. Its `lg_k` is the least of the bound and of the `lg_k` of the sketches in registers
+/// that are not all 0.
+///
+/// Fails with `Argument` if `lg_max_k` is not 4 to 21, or else with `Memory`.
+pub fn union_of<A: Allocator + Clone>(
+    alloc: A,
+    lg_max_k: u8,
+    sketches: &[HllSketch<A>],
+) -> Result<HllUnion<A>, Error>
+    ensures merged { IfOk result (λ u. gadget_of u ≡ merge_all lg_max_k (empty_union lg_max_k) (map sketch_of sketches.now)) }
+    ensures bound { IfOk result (λ u. u.lg_max_k ≡ lg_max_k) }
+    ensures lg_k { IfOk result (λ u. (gadget_of u).lg_k ≡ least_lg_k lg_max_k (map (λ x. of_sketch (sketch_of x)) sketches.now)) }
+    ensures outside { IfErr result (λ e. e ≡ reasons.Argument → IsLgK lg_max_k → ⊥) }
+    ensures err { IfErr result (λ e. (e ≡ reasons.Argument) ⊎ (e ≡ Memory)) }
+{
+    let mut union = HllUnion::new(alloc, lg_max_k)?;
+    for sketch in sketches {
+        union.update(sketch)?;
+    }
+    Ok(union)
 }
 
 /// Whether two sketches fold to the same registers at the smaller `lg_k` of both. Takes two bytes a register there.

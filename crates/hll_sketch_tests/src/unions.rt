@@ -4,7 +4,7 @@ ghost use Rattle.std.specs.Prelude.{◌≤◌};
 use hll_base::error::{Error, Reason};
 use hll_coupons::coupon::Coupon;
 use hll_coupons::hll_type::HllType;
-use hll_sketch::{HllSketch, HllUnion, agree};
+use hll_sketch::{HllSketch, HllUnion, agree, union_of};
 use linked_list_allocator::LocalHeap;
 use std::alloc::{Allocator, Global};
 use std::process::Abort;
@@ -135,24 +135,23 @@ const UNIONS: [(u8, &[&[u8]], HllType, &[u8]); 16] = [
     ),
 ];
 
-/// The union of images.
-fn union_of<A: Allocator + Clone>(
+/// The sketches of images.
+fn sketches_in<A: Allocator + Clone>(
     alloc: A,
-    lg_max_k: u8,
     images: &[&[u8]],
-) -> Result<HllUnion<A>, Error> {
-    let mut union = HllUnion::new(alloc.clone()?, lg_max_k)?;
+) -> Result<Vec<HllSketch<A>, A>, Error> {
+    let mut sketches = Vec::new(alloc.clone()?);
     for image in images {
-        let sketch = HllSketch::deserialize(alloc.clone()?, image)?;
-        union.update(&sketch)?;
+        sketches.push(HllSketch::deserialize(alloc.clone()?, image)?)?;
     }
-    Ok(union)
+    Ok(sketches)
 }
 
 #[test]
 fn unions(rt: HostRuntime) -> Result<(), Fail> {
     for (lg_max_k, images, hll_type, wanted) in UNIONS {
-        let union = union_of(rt.alloc(), lg_max_k, images)?;
+        let sketches = sketches_in(rt.alloc(), images)?;
+        let union = union_of(rt.alloc(), lg_max_k, &sketches)?;
         let sketch = union.to_sketch(hll_type)?;
         assert_eq!(rt; sketch.serialize()?.as_slice(), wanted, "{lg_max_k}");
         assert_eq!(rt; union.lg_max_k(), lg_max_k);

@@ -1,0 +1,26 @@
+use Rattle.std.proofs.Common.{◌≡◌, map, take, sym, ap, ◌∙◌}
+use Rattle.std.proofs.lemmas.List.{take_all}
+use Rattle.hll_sketch.specs.Laws.{of_sketch, least_lg_k}
+use Rattle.hll_sketch.specs.Layout.{SketchLayout, sketch_of}
+use Rattle.hll_sketch.specs.Merging.{merge, merge_all, empty_union}
+use Rattle.hll_sketch.specs.Union.{gadget_of}
+use Rattle.hll_sketch.specs.Value.{Sketch}
+use Rattle.hll_sketch.proofs.Merges.{merged_more, lg_k-merge_all}
+use Rattle.hll_sketch.proofs.union.union_of.Goals as goal
+
+pub loop-sketch-preserved : goal.loop-sketch-preserved
+loop-sketch-preserved g c = (
+  c.in_ok-update.ensures.bound ∙ c.loop-sketch.invariant.0,
+  c.in_ok-update.ensures.ok
+      ∙ (λ i. merge (c.loop-sketch.invariant.0 i) (c.loop-sketch.invariant.1 i) (sketch_of (c.sketch-item.is i)))
+      ∙ merged_more c.args.lg_max_k (empty_union c.args.lg_max_k) c.args.sketches.now c.loop-sketch.sketch-index c.sketch-item.result c.loop-sketch-test.true,
+)
+
+pub returns-clause-merged : goal.returns-clause-merged
+returns-clause-merged g c =
+    c.loop-sketch.invariant.1 ∙ ap (λ xs. merge_all c.args.lg_max_k (empty_union c.args.lg_max_k) (map sketch_of xs)) (take_all c.loop-sketch.sketch-index c.args.sketches.now c.loop-sketch-test.false)
+
+pub returns-clause-lg_k : goal.returns-clause-lg_k
+returns-clause-lg_k g c =
+    ap (λ (x : Sketch). x.lg_k) (c.loop-sketch.invariant.1 ∙ ap (λ xs. merge_all c.args.lg_max_k (empty_union c.args.lg_max_k) (map sketch_of xs)) (take_all c.loop-sketch.sketch-index c.args.sketches.now c.loop-sketch-test.false))
+    ∙ lg_k-merge_all c.args.lg_max_k (empty_union c.args.lg_max_k) c.args.sketches.now

@@ -1,0 +1,9 @@
+use Rattle.std.proofs.Common.{◌≡◌, map, take}
+use Rattle.hll_sketch.specs.Layout.{sketch_of}
+use Rattle.hll_sketch.specs.Merging.{merge_all, empty_union}
+use Rattle.hll_sketch.specs.Union.{gadget_of}
+use Rattle.hll_sketch.proofs.union.union_of.Given as goal
+
+-- the sketches so far are merged
+abbrev pub invariant-loop-sketch : goal.invariant-loop-sketch
+invariant-loop-sketch g l = (l.union.lg_max_k ≡ l.lg_max_k) × (gadget_of l.union ≡ merge_all l.lg_max_k (empty_union l.lg_max_k) (map sketch_of (take l.sketch-index l.sketches)))
