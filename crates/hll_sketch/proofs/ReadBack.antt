@@ -1,5 +1,5 @@
 -- What is written for a sketch is read back.
-use Rattle.std.proofs.Common.{◌≡◌, List, ℕ, ◌++◌, length, take, drop, refl, sym, subst, ◌∙◌}
+use Rattle.std.proofs.Common.{◌≡◌, ◌++◌, length, take, drop, refl, sym, subst}
 use Rattle.std.proofs.lemmas.List.{take-append-drop, take_at}
 use Rattle.hll_sketch.specs.Image.{Image}
 use Rattle.hll_sketch.specs.Laws.{WrittenIsReadBack}

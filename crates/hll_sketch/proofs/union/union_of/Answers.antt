@@ -1,9 +1,7 @@
-use Rattle.std.proofs.Common.{◌≡◌, map, take, sym, ap, ◌∙◌}
+use Rattle.std.proofs.Common.{map, ap, ◌∙◌}
 use Rattle.std.proofs.lemmas.List.{take_all}
-use Rattle.hll_sketch.specs.Laws.{of_sketch, least_lg_k}
-use Rattle.hll_sketch.specs.Layout.{SketchLayout, sketch_of}
+use Rattle.hll_sketch.specs.Layout.{sketch_of}
 use Rattle.hll_sketch.specs.Merging.{merge, merge_all, empty_union}
-use Rattle.hll_sketch.specs.Union.{gadget_of}
 use Rattle.hll_sketch.specs.Value.{Sketch}
 use Rattle.hll_sketch.proofs.Merges.{merged_more, lg_k-merge_all}
 use Rattle.hll_sketch.proofs.union.union_of.Goals as goal

@@ -13,7 +13,6 @@ returns-in-Array4 g c =
     ] in
     sym (ap (λ S. contains S c.args.coupon) (sym (ap (λ y. coupons_kept y.layout) c.self.view_is) ∙ none) ∙ contains-empty nat_cmp c.args.coupon)
 
-
 pub returns-in-Array4-2 : goal.returns-in-Array4-2
 returns-in-Array4-2 g c =
     let none : coupons_kept (layout_of c.self.inside.mode) ≡ empty = elim c.in-Array4.is [
@@ -21,7 +20,6 @@ returns-in-Array4-2 g c =
       | inr others ↦ elim others [ inl six ↦ ap (λ m. coupons_kept (layout_of m)) six.1 | inr eight ↦ ap (λ m. coupons_kept (layout_of m)) eight.1 ]
     ] in
     sym (ap (λ S. contains S c.args.coupon) (sym (ap (λ y. coupons_kept y.layout) c.self.view_is) ∙ none) ∙ contains-empty nat_cmp c.args.coupon)
-
 
 pub returns-in-Array4-3 : goal.returns-in-Array4-3
 returns-in-Array4-3 g c =

@@ -17,7 +17,7 @@ returns-clause-ok g c =
       | then-is_empty+then-lg_k-bound w ↦ (
         ap (λ (a : Stored). a.registers) (w.merged-is ∙ w.restore_estimate_state.ensures),
         ap (λ (a : Stored). a.state) (w.merged-is ∙ w.restore_estimate_state.ensures) ∙ w.estimate_state.ensures
-        ∙ state_kept c.args.bound (sketch_of c.args.self.now) source.lg_k source.state (sym c.is_empty.ensures ∙ w.if-is_empty.true) (omega (arith, w.if-lg_k-bound.true, w.lg_k-then-is_empty.ensures.lg_k)),
+            ∙ state_kept c.args.bound (sketch_of c.args.self.now) source.lg_k source.state (sym c.is_empty.ensures ∙ w.if-is_empty.true) (omega (arith, w.if-lg_k-bound.true, w.lg_k-then-is_empty.ensures.lg_k)),
       )
       | else-is_empty w ↦ (
         ap (λ (a : Stored). a.registers) w.merged-is,
