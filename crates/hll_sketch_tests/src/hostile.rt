@@ -6,7 +6,9 @@ use std::alloc::Allocator;
 use std::test::Fail;
 
 /// Images with a fault, and its reason.
-const REFUSED: [(&[u8], Reason); 26] = [
+const REFUSED: [(&[u8], Reason); 28] = [
+    (&[2, 1, 8, 10, 3, 12, 0, 8], Reason::Family),
+    (&[2, 1, 7, 10, 3, 8, 1, 8, 5, 0, 0], Reason::Truncated),
     (&[2, 2, 7, 10, 3, 12, 0, 8], Reason::Version),
     (&[2, 1, 7, 22, 3, 12, 0, 8], Reason::LgK),
     (&[2, 1, 7, 10, 3, 12, 0, 12], Reason::Width),
@@ -296,6 +298,60 @@ const LEGAL: [(&[u8], &[u8]); 20] = [
 fn legal(rt: HostRuntime) -> Result<(), Fail> {
     for (image, written) in LEGAL {
         let sketch = HllSketch::deserialize(rt.alloc(), image)?;
+        assert_eq!(rt; sketch.serialize()?.as_slice(), written, "{image:?}");
+    }
+    Ok(())
+}
+
+/// Images, a coupon that is added, and what is then written: a full list becomes a set, and what has the coupon stays, state
+/// included.
+const UPDATED: [(&[u8], u32, u8, &[u8]); 4] = [
+    (
+        &[
+            2, 1, 7, 10, 3, 8, 8, 8, 0, 0, 0, 4, 1, 0, 0, 4, 2, 0, 0, 4, 3, 0, 0, 4, 4, 0, 0, 4, 5,
+            0, 0, 4, 6, 0, 0, 4, 7, 0, 0, 4,
+        ],
+        8,
+        1,
+        &[
+            3, 1, 7, 10, 5, 8, 0, 9, 9, 0, 0, 0, 0, 0, 0, 4, 1, 0, 0, 4, 2, 0, 0, 4, 3, 0, 0, 4, 4,
+            0, 0, 4, 5, 0, 0, 4, 6, 0, 0, 4, 7, 0, 0, 4, 8, 0, 0, 4,
+        ],
+    ),
+    (
+        &[2, 1, 7, 10, 3, 8, 1, 8, 5, 0, 0, 12],
+        5,
+        3,
+        &[2, 1, 7, 10, 3, 8, 1, 8, 5, 0, 0, 12],
+    ),
+    (
+        &[3, 1, 7, 8, 5, 8, 0, 9, 1, 0, 0, 0, 5, 0, 0, 12],
+        5,
+        3,
+        &[3, 1, 7, 8, 5, 8, 0, 9, 1, 0, 0, 0, 5, 0, 0, 12],
+    ),
+    (
+        &[
+            10, 1, 7, 4, 0, 0, 0, 10, 1, 0, 0, 0, 0, 0, 0, 0, 2, 0, 0, 0, 0, 0, 0, 0, 3, 0, 0, 0,
+            0, 0, 0, 0, 15, 0, 0, 0, 0, 0, 0, 0, 5, 0, 0, 0, 0, 0, 0, 0, 0, 0, 0, 0, 0, 0, 0, 0,
+        ],
+        0,
+        5,
+        &[
+            10, 1, 7, 4, 0, 0, 0, 10, 1, 0, 0, 0, 0, 0, 0, 0, 2, 0, 0, 0, 0, 0, 0, 0, 3, 0, 0, 0,
+            0, 0, 0, 0, 15, 0, 0, 0, 0, 0, 0, 0, 5, 0, 0, 0, 0, 0, 0, 0, 0, 0, 0, 0, 0, 0, 0, 0,
+        ],
+    ),
+];
+
+#[test]
+fn updated(rt: HostRuntime) -> Result<(), Fail> {
+    for (image, slot, value, written) in UPDATED {
+        let mut sketch = HllSketch::deserialize(rt.alloc(), image)?;
+        let coupon = Coupon::pack(slot, value.min(63));
+        if coupon.value() > 0 {
+            sketch.update_with_coupon(coupon)?;
+        }
         assert_eq!(rt; sketch.serialize()?.as_slice(), written, "{image:?}");
     }
     Ok(())
