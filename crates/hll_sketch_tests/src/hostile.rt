@@ -396,12 +396,12 @@ fn table_of<A: Allocator>(sketch: &HllSketch<A>) -> (Kind, usize, usize) {
 
 /// A list of eight coupons, or a set of 31 in 32 places, of eight bits at an `lg_k`.
 fn full<A: Allocator + Clone>(alloc: A, lg_k: u8, count: u8) -> Result<HllSketch<A>, Error> {
-    let head: &[u8] = if count == 8 {
-        &[2, 1, 7, lg_k, 3, 8, 8, 8]
+    let mut image = Vec::new(alloc.clone()?);
+    if count == 8 {
+        image.extend_from_slice(&[2, 1, 7, lg_k, 3, 8, 8, 8])?;
     } else {
-        &[3, 1, 7, lg_k, 5, 8, 0, 9, count, 0, 0, 0]
-    };
-    let mut image = Vec::from_slice(alloc.clone()?, head)?;
+        image.extend_from_slice(&[3, 1, 7, lg_k, 5, 8, 0, 9, count, 0, 0, 0])?;
+    }
     for slot in 0..count {
         image.extend_from_slice(&[slot, 0, 0, 4])?;
     }

@@ -160,34 +160,36 @@ fn unions(rt: HostRuntime) -> Result<(), Fail> {
     Ok(())
 }
 
-/// The `lg_k` goes down to that of registers that are not all 0, and a reset brings the bound back.
+/// The `lg_k`, width and count of coupons of what is merged in turn, and the `lg_k` of the union after it.
+const STEPS: [(u8, HllType, u32, u8); 4] = [
+    (6, HllType::Hll4, 1, 12),
+    (6, HllType::Hll6, 8, 6),
+    (21, HllType::Hll4, 3, 6),
+    (4, HllType::Hll8, 40, 4),
+];
+
+fn merge_filled(
+    union: &mut HllUnion,
+    alloc: Global,
+    lg_k: u8,
+    hll_type: HllType,
+    count: u32,
+) -> Result<(), Error> {
+    let sketch = filled(alloc, lg_k, hll_type, count)?;
+    union.update(&sketch)
+}
+
+/// The `lg_k` goes down to that of registers, and a reset brings the bound back.
 #[test]
 fn lg_k(rt: HostRuntime) -> Result<(), Fail> {
     let mut union = HllUnion::new(rt.alloc(), 12)?;
-    let mut coupon = HllSketch::new(rt.alloc(), 6, HllType::Hll4)?;
-    coupon.update_with_coupon(Coupon::pack(70, 3))?;
-    union.update(&coupon)?;
-    assert_eq!(rt; (union.lg_config_k(), union.is_empty()), (12u8, false));
-    union.update(&HllSketch::deserialize(rt.alloc(), ZEROS)?)?;
-    assert_eq!(rt; union.lg_config_k(), 12u8);
-    union.update(&filled(rt.alloc(), 6, HllType::Hll6, 8)?)?;
-    assert_eq!(rt; union.lg_config_k(), 6u8);
-    union.update(&filled(rt.alloc(), 21, HllType::Hll4, 3)?)?;
-    assert_eq!(rt; union.lg_config_k(), 6u8);
-    union.update(&filled(rt.alloc(), 4, HllType::Hll8, 40)?)?;
-    assert_eq!(rt;
-        (union.lg_config_k(), union.estimated_size()),
-        (4u8, 16usize)
-    );
+    for (lg_k, hll_type, count, wanted) in STEPS {
+        merge_filled(&mut union, rt.alloc(), lg_k, hll_type, count)?;
+        assert_eq!(rt; union.lg_config_k(), wanted, "{lg_k}");
+    }
+    assert_eq!(rt; union.estimated_size(), 16usize);
     union.reset()?;
-    assert_eq!(rt;
-        (
-            union.lg_config_k(),
-            union.is_empty(),
-            union.estimated_size()
-        ),
-        (12u8, true, 32usize)
-    );
+    assert_eq!(rt; (union.lg_config_k(), union.is_empty()), (12u8, true));
     Ok(())
 }
 
@@ -283,17 +285,31 @@ fn values(rt: HostRuntime) -> Result<(), Fail> {
     Ok(())
 }
 
+/// An empty list at `lg_k` 12.
+const EMPTY: &[u8] = &[2, 1, 7, 12, 3, 12, 0, 8];
+
 /// Zeros of one `lg_k` agree with an empty list of another; registers with another value don't.
+const AGREEMENTS: [(&[u8], &[u8], bool); 4] = [
+    (ZEROS, EMPTY, true),
+    (JOINED, B, true),
+    (JOINED, A, false),
+    (EMPTY, A, false),
+];
+
+/// Whether the sketches of two images agree, asked both ways.
+fn images_agree(alloc: Global, a: &[u8], b: &[u8]) -> Result<(bool, bool), Error> {
+    let a = HllSketch::deserialize(alloc, a)?;
+    let b = HllSketch::deserialize(alloc, b)?;
+    let there = agree(&a, &b)?;
+    let back = agree(&b, &a)?;
+    Ok((there, back))
+}
+
 #[test]
 fn agreement(rt: HostRuntime) -> Result<(), Fail> {
-    let zeros = HllSketch::deserialize(rt.alloc(), ZEROS)?;
-    let empty = HllSketch::new(rt.alloc(), 12, HllType::Hll8)?;
-    assert!(rt; agree(&zeros, &empty)? && agree(&empty, &zeros)?);
-    let joined = HllSketch::deserialize(rt.alloc(), JOINED)?;
-    let other = HllSketch::deserialize(rt.alloc(), B)?;
-    assert!(rt; agree(&joined, &other)? && agree(&other, &joined)?);
-    let first = HllSketch::deserialize(rt.alloc(), A)?;
-    assert!(rt; !agree(&joined, &first)? && !agree(&empty, &first)?);
+    for (a, b, wanted) in AGREEMENTS {
+        assert_eq!(rt; images_agree(rt.alloc(), a, b)?, (wanted, wanted));
+    }
     Ok(())
 }
 
