@@ -126,12 +126,14 @@ impl<A: Allocator + Clone> HllUnion<A> {
 
     /// Adds the coupon of a value, as `update_with_coupon` does.
     ///
-    /// Fails with `Memory`, and then changes nothing.
+    /// Fails with `Memory`, only if a table changes its size, and then changes nothing.
     pub fn update_value<T: Hash + Drop>(&mut self, value: T) -> Result<(), Error>
         ensures ok { let c = coupon_of_halves (hash_of (fold after_piece (initial_state default_seed) (T.hash_input value))) in
             OnOk result (gadget_of self.new ≡ add (gadget_of self.old) (set_of (c ∷ []))) }
         ensures bound { self.new.lg_max_k ≡ self.old.lg_max_k }
         ensures unchanged { OnErr result (self.new ≡ self.old) }
+        ensures needed { let c = coupon_of_halves (hash_of (fold after_piece (initial_state default_seed) (T.hash_input value))) in
+            OnErr result (NeedsMemory self.old.gadget.lg_k self.old.gadget.layout c) }
         ensures err { IfErr result (λ e. e ≡ Memory) }
     {
         self.update_with_coupon(Coupon::from_value(value))
