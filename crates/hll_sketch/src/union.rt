@@ -95,8 +95,8 @@ impl<A: Allocator + Clone> HllUnion<A> {
     /// Merges a sketch of any stage, width and `lg_k` (docs/MODEL.md, "Merging"). One pass.
     ///
     /// Fails with `Memory`, and then changes nothing, places included. Takes no memory for an empty sketch, for coupons
-    /// into registers, for coupons that the table holds beside its own, nor for registers into registers at their `lg_k` or a
-    /// smaller one.
+    /// into registers, for coupons that a table with some of its own holds beside these, nor for registers into registers
+    /// at their `lg_k` or a smaller one.
     pub fn update(&mut self, sketch: &HllSketch<A>) -> Result<(), Error>
         ensures ok { OnOk result (gadget_of self.new ≡ merge self.old.lg_max_k (gadget_of self.old) (sketch_of sketch.now)) }
         ensures bound { self.new.lg_max_k ≡ self.old.lg_max_k }
