@@ -45,16 +45,6 @@ pub false_unless : (b : Bool) (P : Type 0) → (b ≡ true → P) → (P → ⊥
 false_unless true P f none = absurd (none (f refl))
 false_unless false P f none = refl
 
--- ---- empty
-
-pub empty_gadget : (m : ℕ) → IsGadget m (empty_sketch m Hll8)
-empty_gadget m = record {
-  width = refl;
-  lg_k = omega arith;
-  coupons = λ h. refl;
-  registers = λ h. absurd (cc);
-}
-
 -- ---- pairs added
 
 -- a content with pairs, at least one, is not empty

@@ -73,13 +73,6 @@ merged_whole bound g k R s none below at small size =
       content = registers ((sym (fold_to-pairs R k small size) ∙ ap (λ P. fold_to P k) (sym bare) ∙ ap (fold_to (union (pairs_of g) (pairs R))) least) i) (state i);
     }
 
--- coupons taken whole
-pub coupons_whole : (g x : Sketch) → is_empty g ≡ true → g.lg_k ≡ x.lg_k → g.width ≡ Hll8 → record x { width = Hll8 } ≡ merge_coupons g x
-coupons_whole g x none same width =
-    (λ i. let y : Sketch = record { lg_k = sym same i; width = sym width i; content = x.content } in y)
-    ∙ sym (cond-true (is_empty g && nat_eq g.lg_k x.lg_k) (record g { content = x.content }) (add g (pairs_of x))
-    (ap (λ b. b && nat_eq g.lg_k x.lg_k) none ∙ eq-eqb g.lg_k x.lg_k same))
-
 -- coupons added, where the gadget has some or is of another lg_k
 pub coupons_added : (g x y : Sketch) (T : Pairs) → (is_empty g && nat_eq g.lg_k x.lg_k) ≡ false → pairs_of x ≡ T → y ≡ add g T → y ≡ merge_coupons g x
 coupons_added g x y T other is e =
