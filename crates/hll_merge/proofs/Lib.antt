@@ -1,15 +1,11 @@
 pub mod Accepted
+pub mod FedLemmas
+pub mod FeedingLemmas
 pub mod Growing
 pub mod Headline
-pub mod Joining
-pub mod KeptLemmas
-pub mod MergeLemmas
 pub mod Outcomes
 pub mod ReferenceSteps
-pub mod Promoting
-pub mod ReadLemmas
 pub mod Rearranging
 pub mod Regrouping
 pub mod RunLemmas
 pub mod StackLemmas
-pub mod Updating

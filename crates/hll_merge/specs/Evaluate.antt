@@ -3,20 +3,20 @@ use Rattle.std.specs.Prelude.{◌≡◌, Bool, true, ◌↔◌, List, Some, Ok}
 use Rattle.hll_sketch.specs.Agree.{Agree}
 use Rattle.hll_text.specs.declared.fault.MergeError.{MergeError}
 use Rattle.hll_merge.specs.Plan.{Plan, outcome}
-use Rattle.hll_text.specs.Text.{PlanStep}
-use Rattle.hll_merge.specs.Accepting.{Service, AcceptsLines, IsFirstFaultOfLines}
+use Rattle.hll_text.specs.Text.{PlanStep, Reading}
+use Rattle.hll_merge.specs.Accepting.{AcceptsLines, IsFirstFaultOfLines}
 
--- every step is served, and is its own line
-abbrev pub steps : Service PlanStep
-steps = record { reads = λ step. Ok (Some step); Refuses = λ _ _. ⊥ }
+-- a step is its own line
+abbrev pub itself : PlanStep → Reading
+itself step = Ok (Some step)
 
 -- the plan of a list of steps
 abbrev pub AcceptsSteps : List PlanStep → Plan → Type 0
-AcceptsSteps all t = AcceptsLines steps all t
+AcceptsSteps all t = AcceptsLines itself all t
 
 -- the first fault of a list of steps, with the step's number
 abbrev pub IsFirstFaultOfSteps : List PlanStep → MergeError → Type 0
-IsFirstFaultOfSteps all e = IsFirstFaultOfLines steps all e
+IsFirstFaultOfSteps all e = IsFirstFaultOfLines itself all e
 
 -- both are accepted, and this is whether their outcomes agree
 pub record Compared (left right : List PlanStep) (agree : Bool) : Type 0 where

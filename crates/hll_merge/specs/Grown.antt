@@ -10,7 +10,7 @@ use Rattle.hll_sketch.specs.Stage.{stage}
 use Rattle.hll_sketch.specs.Value.{Sketch, registers, pairs_of, has_registers, ArePairs}
 use Rattle.hll_sketch.specs.Adding.{content_for}
 use Rattle.hll_sketch.specs.Grown.{IsGrown}
-use Rattle.hll_merge.specs.Plan.{Plan, new, image, coupon, union_of, outcome, outcomes, Leaves}
+use Rattle.hll_merge.specs.Plan.{Plan, new, image, coupon, union_of, fold, outcome, outcomes, Leaves}
 
 -- the pairs of all
 abbrev pub all_pairs : List Sketch → Pairs
@@ -38,6 +38,7 @@ abbrev pub JoinsChildren : Plan → Type 0
 JoinsChildren (new k w) = Unit {0}
 JoinsChildren (image x) = Unit {0}
 JoinsChildren (coupon t c) = Unit {0}
+JoinsChildren (fold t e) = Unit {0}
 JoinsChildren (union_of m w ts) = outcome (union_of m w ts) ≡ union_value m w (outcomes ts)
 
 -- what holds of a plan whose images are grown

@@ -5,7 +5,7 @@ use Rattle.hll_sketch.specs.Image.{Image}
 use Rattle.hll_sketch.specs.Written.{Written}
 use Rattle.hll_merge.specs.Plan.{Plan, inputs, outcome, IsLegalPlan}
 use Rattle.hll_merge.specs.Meaning.{HasMeaning, AgreeFolded}
-use Rattle.hll_merge.specs.Accepting.{full, Accepts}
+use Rattle.hll_merge.specs.Accepting.{Accepts}
 
 -- the outcome of a legal plan is a legal sketch
 abbrev pub OutcomeIsLegal : Type 0
@@ -23,4 +23,4 @@ pub record Holds (t : Plan) : Type 0 where
   pub agrees : (u : Plan) → IsLegalPlan u → inputs u ≡ inputs t → AgreeFolded t u
 
 abbrev pub AcceptedPlansHold : Type 0
-AcceptedPlansHold = (text : List ℕ) (t : Plan) → Accepts full text t → Holds t
+AcceptedPlansHold = (text : List ℕ) (t : Plan) → Accepts text t → Holds t

@@ -1,11 +1,11 @@
 pub mod Accepting
 pub mod Evaluate
+pub mod Feeding
 pub mod Grown
 pub mod Headline
-pub mod Kept
-pub mod Listed
 pub mod Meaning
 pub mod Plan
 pub mod Rearrangement
 pub mod Run
-pub mod Served
+pub mod Stack
+pub mod Texts

@@ -5,15 +5,17 @@ use Rattle.hll_coupons.specs.Pair.{Pairs, IsPair, set_of}
 use Rattle.hll_coupons.specs.declared.hll_type.HllType.{HllType}
 use Rattle.hll_sketch.specs.Value.{Sketch, pairs_of, has_registers, empty_sketch, IsLgK, IsLegal}
 use Rattle.hll_sketch.specs.Adding.{add}
+use Rattle.hll_sketch.specs.Folding.{folded, IsFoldLgK}
 use Rattle.hll_sketch.specs.Merging.{empty_union, merge_all}
 
--- an empty sketch, the sketch of an image, a plan with one coupon more, or a union of plans
+-- an empty sketch, the sketch of an image, a plan with one coupon more, a union of plans, or a plan folded to an lg_k
 mutual
   pub data Plan : Type 0 where
     new : ℕ → HllType → Plan
     image : Sketch → Plan
     coupon : Plan → ℕ → Plan
     union_of : ℕ → HllType → Plans → Plan
+    fold : Plan → ℕ → Plan
 
   pub data Plans : Type 0 where
     no_plans : Plans
@@ -31,6 +33,7 @@ abbrev mutual
   inputs (image x) = pairs_of x
   inputs (coupon t c) = union (inputs t) (set_of (c ∷ []))
   inputs (union_of m w ts) = inputs_of_each ts
+  inputs (fold t e) = inputs t
 
   pub inputs_of_each : Plans → Pairs
   inputs_of_each no_plans = empty
@@ -43,18 +46,20 @@ abbrev mutual
   outcome (image x) = x
   outcome (coupon t c) = add (outcome t) (set_of (c ∷ []))
   outcome (union_of m w ts) = record (merge_all m (empty_union m) (outcomes ts)) { width = w }
+  outcome (fold t e) = folded (outcome t) e
 
   pub outcomes : Plans → List Sketch
   outcomes no_plans = []
   outcomes (more_plans t ts) = outcome t ∷ outcomes ts
 
--- the effective lg_k: of a union the least of its bound and that of each child in registers that are not all 0
+-- the effective lg_k: of a union the least of its bound and that of each child in registers that are not all 0, of a fold its own
 abbrev mutual
   pub effective_lg_k : Plan → ℕ
   effective_lg_k (new k w) = k
   effective_lg_k (image x) = x.lg_k
   effective_lg_k (coupon t c) = effective_lg_k t
   effective_lg_k (union_of m w ts) = least_of_each m ts
+  effective_lg_k (fold t e) = e
 
   pub least_of_each : ℕ → Plans → ℕ
   least_of_each k no_plans = k
@@ -62,13 +67,14 @@ abbrev mutual
 
 -- ---- leaves
 
--- the plan's numbers are in their ranges, and its images are legal and have the property
+-- the plan's numbers are in their ranges, its images are legal and have the property, and no plan is folded above its effective lg_k
 abbrev mutual
   pub Leaves : (Sketch → Type 0) → Plan → Type 0
   Leaves Q (new k w) = IsLgK k
   Leaves Q (image x) = IsLegal x × Q x
   Leaves Q (coupon t c) = Leaves Q t × IsPair c
   Leaves Q (union_of m w ts) = IsLgK m × LeavesOfEach Q ts
+  Leaves Q (fold t e) = Leaves Q t × IsFoldLgK (effective_lg_k t) e
 
   pub LeavesOfEach : (Sketch → Type 0) → Plans → Type 0
   LeavesOfEach Q no_plans = Unit {0}
@@ -85,6 +91,7 @@ abbrev mutual
   IsImageOf x (image y) = x ≡ y
   IsImageOf x (coupon t c) = IsImageOf x t
   IsImageOf x (union_of m w ts) = IsImageOfEach x ts
+  IsImageOf x (fold t e) = IsImageOf x t
 
   pub IsImageOfEach : Sketch → Plans → Type 0
   IsImageOfEach x no_plans = ⊥

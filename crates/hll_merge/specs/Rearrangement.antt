@@ -1,7 +1,7 @@
 -- Plans that differ in the order, repetition and grouping of children (docs/MODEL.md, "Convergence").
 use Rattle.std.specs.Prelude.{◌≡◌, ℕ, ◌⊎◌}
 use Rattle.hll_coupons.specs.declared.hll_type.HllType.{HllType}
-use Rattle.hll_merge.specs.Plan.{Plan, Plans, image, coupon, union_of, no_plans, more_plans, outcome, Leaves}
+use Rattle.hll_merge.specs.Plan.{Plan, Plans, image, coupon, union_of, fold, no_plans, more_plans, outcome, Leaves}
 use Rattle.hll_sketch.specs.Grown.{IsGrown}
 
 -- the plan is one of the children
@@ -29,6 +29,7 @@ mutual
     flipped : {t u : Plan} → IsRearrangement u t → IsRearrangement t u
     chained : {t v : Plan} → (u : Plan) → Leaves IsGrown u → IsRearrangement t u → IsRearrangement u v → IsRearrangement t v
     below_coupon : {t u : Plan} {c : ℕ} → IsRearrangement t u → IsRearrangement (coupon t c) (coupon u c)
+    below_fold : {t u : Plan} {e : ℕ} → IsRearrangement t u → IsRearrangement (fold t e) (fold u e)
     below_union : {m : ℕ} {w : HllType} {ts us : Plans} → AreRearrangements ts us → IsRearrangement (union_of m w ts) (union_of m w us)
 
   pub data AreRearrangements : Plans → Plans → Type 0 where

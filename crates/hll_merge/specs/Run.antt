@@ -7,10 +7,9 @@ use Rattle.hll_sketch.specs.Written.{Written}
 use Rattle.hll_text.specs.declared.fault.Fault.TheVariants.{Memory, Read, Write}
 use Rattle.hll_text.specs.declared.fault.MergeError.{MergeError}
 use Rattle.hll_merge.specs.Plan.{Plan, outcome}
-use Rattle.hll_text.specs.Text.{ended_lines, line_number}
+use Rattle.hll_text.specs.Text.{ended_lines, line_number, reading}
 use Rattle.hll_merge.specs.Accepting.{Runs, Accepts, FaultsAtLine, IsFirstFault}
 use Rattle.hll_merge.specs.Headline.{Holds}
-use Rattle.hll_merge.specs.Served.{today}
 
 -- what is printed for the bytes of an image: lower-case hexadecimal and LF
 abbrev pub printed_line : List ℕ → List ℕ
@@ -34,7 +33,7 @@ IsAllOf (Some bytes) text = text ≡ bytes
 -- it means the plan's inputs, and it agrees with that of every plan over the same inputs
 pub record IsAnswer (text line : List ℕ) : Type 0 where
   pub plan : Plan
-  pub accepted : Accepts today text plan
+  pub accepted : Accepts text plan
   pub holds : Holds plan
   pub bytes : List ℕ
   pub written : Written bytes (outcome plan)
@@ -66,14 +65,14 @@ pub record IsNoPlan (s : Streams) (e : MergeError) : Type 0 where
   pub all : IsAllOf s.before text
   pub taken : List ℕ
   pub read : Consumes s.before s.after taken
-  pub first : IsFirstFault today text e
+  pub first : IsFirstFault text e
 
 -- no line that ended is at fault, and this is their number
 pub record AllEndedRun (text : List ℕ) (e : MergeError) : Type 0 where
   pub fault : e.fault ≡ Read
   pub at : e.line ≡ line_number (length (ended_lines text))
   pub stack : List Plan
-  pub runs : Runs today [] (ended_lines text) stack
+  pub runs : Runs reading [] (ended_lines text) stack
 
 -- the reader failed behind this text: the answer is the first fault of its lines that ended, or else Read; nothing was written
 pub record ReaderFails (s : Streams) (e : MergeError) : Type 0 where
@@ -82,7 +81,7 @@ pub record ReaderFails (s : Streams) (e : MergeError) : Type 0 where
   pub unwritten : Keeps s.old s.new
   pub text : List ℕ
   pub read : Consumes s.before s.after text
-  pub first : FaultsAtLine today (ended_lines text) e ⊎ AllEndedRun text e
+  pub first : FaultsAtLine reading (ended_lines text) e ⊎ AllEndedRun text e
 
 -- the writer failed after a front of the answer that lacks something of it
 pub record WriterFails (s : Streams) (e : MergeError) : Type 0 where

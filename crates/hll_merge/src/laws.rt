@@ -4,7 +4,7 @@ ghost use Rattle.hll_merge.specs.Meaning.{PlansHaveMeaning, SameInputsAgree};
 ghost use Rattle.hll_merge.specs.Headline.{OutcomeIsLegal, AcceptedPlansHold};
 ghost use Rattle.hll_merge.specs.Grown.{GrownPlansConverge, UnionOfSame, UnionOfUnion};
 ghost use Rattle.hll_merge.specs.Rearrangement.{RearrangedPlansAgree};
-ghost use Rattle.hll_merge.specs.Served.{ServedIsAccepted, ServedFaultIsFirst, OnePlan, AcceptedIsFaultless, FirstFaultsAreOwn};
+ghost use Rattle.hll_merge.specs.Texts.{OnePlan, OneFirstFault, AcceptedIsFaultless, FirstFaultsAreOwn};
 
 /// The outcome of a legal plan has the effective `lg_k`, which no register image is below, and the greatest
 /// value among the inputs at each slot.
@@ -37,19 +37,14 @@ pub fn rearranged_plans_agree()
     ensures { RearrangedPlansAgree }
 {}
 
-/// A text that is accepted today has the same plan where every step is served.
-pub fn served_is_accepted()
-    ensures { ServedIsAccepted }
-{}
-
-/// A first fault of today that is not `Unserved` is one where every step is served.
-pub fn served_fault_is_first()
-    ensures { ServedFaultIsFirst }
-{}
-
 /// A text has one plan at most.
 pub fn one_plan()
     ensures { OnePlan }
+{}
+
+/// A text has one first fault at most.
+pub fn one_first_fault()
+    ensures { OneFirstFault }
 {}
 
 /// An accepted text has no first fault.

@@ -7,7 +7,7 @@ use Rattle.hex.specs.Hex.{decode_of}
 use Rattle.hex.specs.declared.error.FromHexError.{FromHexError}
 use Rattle.hll_text.specs.declared.fault.Fault.{Fault}
 use Rattle.hll_text.specs.declared.fault.Fault.TheVariants.{Hex}
-use Rattle.hll_text.specs.Text.{IsLineFault, ◌>>=◌, is_number, lg_k, width, image, new_step, image_step, coupon_step, union_step, read_words, reading, words, number, two_numbers, three_numbers, one_word}
+use Rattle.hll_text.specs.Text.{IsLineFault, ◌>>=◌, is_number, lg_k, width, image, new_step, image_step, coupon_step, union_step, fold_step, read_words, reading, words, number, one_number, two_numbers, three_numbers, one_word}
 
 module _ {X : Type 0} where
   IfErr-cond : (b : Bool) (x y : Result X Fault) → IfErr x IsLineFault → IfErr y IsLineFault → IfErr (cond b x y) IsLineFault
@@ -22,6 +22,11 @@ module _ {X : Type 0} where
 
 IfErr-number : (word : List ℕ) → IfErr (number word) IsLineFault
 IfErr-number word = IfErr-cond (is_number word) _ _ tt (inl refl)
+
+IfErr-one_number : (ws : List (List ℕ)) → IfErr (one_number ws) IsLineFault
+IfErr-one_number [] = inl refl
+IfErr-one_number (a ∷ []) = IfErr-number a
+IfErr-one_number (a ∷ b ∷ more) = inl refl
 
 IfErr-two_numbers : (ws : List (List ℕ)) → IfErr (two_numbers ws) IsLineFault
 IfErr-two_numbers [] = inl refl
@@ -62,13 +67,17 @@ IfErr-coupon_step s v = IfErr-cond (nat_lt s (2 ^ 26) && (nat_le 1 v && nat_le v
 IfErr-union_step : (n m bits : ℕ) → IfErr (union_step n m bits) IsLineFault
 IfErr-union_step n m bits = IfErr-and_then (lg_k m) _ (IfErr-lg_k m) (λ m. IfErr-and_then (width bits) _ (IfErr-width bits) (λ w. tt))
 
+IfErr-fold_step : (e : ℕ) → IfErr (fold_step e) IsLineFault
+IfErr-fold_step e = IfErr-and_then (lg_k e) _ (IfErr-lg_k e) (λ e. tt)
+
 IfErr-read_words : (ws : List (List ℕ)) → IfErr (read_words ws) IsLineFault
 IfErr-read_words [] = inl refl
 IfErr-read_words (first ∷ rest) =
     IfErr-cond (bytes_eq first (codes "new")) _ _ (IfErr-and_then (two_numbers rest) _ (IfErr-two_numbers rest) (λ p. IfErr-new_step p.0 p.1))
     (IfErr-cond (bytes_eq first (codes "image")) _ _ (IfErr-and_then (one_word rest) _ (IfErr-one_word rest) IfErr-image_step)
     (IfErr-cond (bytes_eq first (codes "coupon")) _ _ (IfErr-and_then (two_numbers rest) _ (IfErr-two_numbers rest) (λ p. IfErr-coupon_step p.0 p.1))
-    (IfErr-cond (bytes_eq first (codes "union")) _ _ (IfErr-and_then (three_numbers rest) _ (IfErr-three_numbers rest) (λ p. IfErr-union_step p.0 p.1 p.2)) (inl refl))))
+    (IfErr-cond (bytes_eq first (codes "union")) _ _ (IfErr-and_then (three_numbers rest) _ (IfErr-three_numbers rest) (λ p. IfErr-union_step p.0 p.1 p.2))
+    (IfErr-cond (bytes_eq first (codes "fold")) _ _ (IfErr-and_then (one_number rest) _ (IfErr-one_number rest) IfErr-fold_step) (inl refl)))))
 
 -- a fault of a line
 pub IfErr-reading : (line : List ℕ) → IfErr (reading line) IsLineFault

@@ -3,7 +3,7 @@ use Rattle.std.proofs.Common.{◌≡◌, ℕ, ◌+◌, ◌*◌, ◌<◌, ◌≤�
 use Rattle.std.proofs.lemmas.Bool.Decides.{nat_tests}
 use Rattle.std.proofs.Math.Nat.{pow-le-pow_right}
 use Rattle.hll_text.specs.declared.fault.Fault.TheVariants.{Syntax}
-use Rattle.hll_text.specs.Text.{is_number, two_numbers, one_word}
+use Rattle.hll_text.specs.Text.{is_number, one_number, two_numbers, one_word}
 
 -- one more digit
 pub below_next : (v d k : ℕ) → v < 10 ^ k → d ≤ 9 → 10 * v + d < 10 ^ (k + 1)
@@ -20,6 +20,11 @@ below_seven v k h e =
 -- what the test of a number says
 pub length-number : (word : List ℕ) → is_number word ≡ true → length word ≤ 8
 length-number word h = grind (arith, nat_tests)
+
+-- two words and more are not one number
+pub one_number-more : (a : List ℕ) (ws : List (List ℕ)) → 0 < length ws → one_number (a ∷ ws) ≡ Err Syntax
+one_number-more a [] h = absurd (omega arith)
+one_number-more a (b ∷ more) h = refl
 
 -- three words are not two numbers
 pub two_numbers-more : (a b : List ℕ) (ws : List (List ℕ)) → 0 < length ws → two_numbers (a ∷ b ∷ ws) ≡ Err Syntax

@@ -13,7 +13,7 @@ use Rattle.hex.specs.declared.error.FromHexError.TheVariants.{OddLength}
 use Rattle.hex.proofs.HexLemmas.{decode_pairs-ok}
 use Rattle.hll_text.specs.declared.fault.Fault.{Fault}
 use Rattle.hll_text.specs.declared.fault.Fault.TheVariants.{Range, Hex}
-use Rattle.hll_text.specs.Text.{PlanStep, new, image, coupon, union, ◌>>=◌, words, lg_k, width, two_numbers, three_numbers, one_word, new_step, image_step, coupon_step, union_step, read_words, reading}
+use Rattle.hll_text.specs.Text.{PlanStep, new, image, coupon, union, fold, ◌>>=◌, words, lg_k, width, one_number, two_numbers, three_numbers, one_word, new_step, image_step, coupon_step, union_step, fold_step, read_words, reading}
 
 -- the numbers of a step are in their ranges, and the bytes of an image are bytes
 abbrev pub IsWellFormed : PlanStep → Type 0
@@ -21,6 +21,7 @@ IsWellFormed (new k w) = (4 ≤ k) × (k ≤ 21)
 IsWellFormed (image bytes) = All (λ b. b < 256) bytes
 IsWellFormed (coupon s v) = (s < 2 ^ 26) × (1 ≤ v) × (v ≤ 63)
 IsWellFormed (union n m w) = (4 ≤ m) × (m ≤ 21)
+IsWellFormed (fold e) = (4 ≤ e) × (e ≤ 21)
 
 module _ {X : Type 0} (P : X → Type 0) where
   IfOk-cond : (b : Bool) (r s : Result X Fault) → (b ≡ true → IfOk r P) → IfOk s P → IfOk (cond b r s) P
@@ -52,6 +53,9 @@ IfOk-union_step n m bits =
     IfOk-and_then IsWellFormed (λ k. (4 ≤ k) × (k ≤ 21)) (lg_k m) _ (IfOk-lg_k m) (λ m h.
     IfOk-and_then IsWellFormed Any (width bits) _ (IfOk-any (width bits)) (λ w _. h))
 
+IfOk-fold_step : (e : ℕ) → IfOk (fold_step e) IsWellFormed
+IfOk-fold_step e = IfOk-and_then IsWellFormed (λ k. (4 ≤ k) × (k ≤ 21)) (lg_k e) _ (IfOk-lg_k e) (λ e h. h)
+
 IfOk-coupon_step : (s v : ℕ) → IfOk (coupon_step s v) IsWellFormed
 IfOk-coupon_step s v =
     IfOk-cond IsWellFormed (nat_lt s (2 ^ 26) && (leb 1 v && leb v 63)) (Ok (coupon s v)) (Err Range) (λ h.
@@ -77,7 +81,8 @@ IfOk-read_words (first ∷ rest) =
     IfOk-cond IsWellFormed (bytes_eq first (codes "new")) _ _ (λ _. IfOk-and_then IsWellFormed Any (two_numbers rest) _ (IfOk-any (two_numbers rest)) (λ p _. IfOk-new_step p.0 p.1))
     (IfOk-cond IsWellFormed (bytes_eq first (codes "image")) _ _ (λ _. IfOk-and_then IsWellFormed Any (one_word rest) _ (IfOk-any (one_word rest)) (λ digits _. IfOk-image_step digits))
     (IfOk-cond IsWellFormed (bytes_eq first (codes "coupon")) _ _ (λ _. IfOk-and_then IsWellFormed Any (two_numbers rest) _ (IfOk-any (two_numbers rest)) (λ p _. IfOk-coupon_step p.0 p.1))
-    (IfOk-cond IsWellFormed (bytes_eq first (codes "union")) _ _ (λ _. IfOk-and_then IsWellFormed Any (three_numbers rest) _ (IfOk-any (three_numbers rest)) (λ p _. IfOk-union_step p.0 p.1 p.2)) tt)))
+    (IfOk-cond IsWellFormed (bytes_eq first (codes "union")) _ _ (λ _. IfOk-and_then IsWellFormed Any (three_numbers rest) _ (IfOk-any (three_numbers rest)) (λ p _. IfOk-union_step p.0 p.1 p.2))
+    (IfOk-cond IsWellFormed (bytes_eq first (codes "fold")) _ _ (λ _. IfOk-and_then IsWellFormed Any (one_number rest) _ (IfOk-any (one_number rest)) (λ e _. IfOk-fold_step e)) tt))))
 
 -- a step that is there
 abbrev OfStep : Option PlanStep → Type 0

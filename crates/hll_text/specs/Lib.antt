@@ -1,4 +1,4 @@
-pub mod Extent
+pub mod Cuts
 pub mod Step
 pub mod Text
 pub mod Watching

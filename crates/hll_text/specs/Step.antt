@@ -7,7 +7,7 @@ use Rattle.hll_text.specs.declared.fault.Fault.{Fault}
 use Rattle.hll_text.specs.declared.fault.Fault.TheVariants as faults
 use Rattle.hll_text.specs.declared.step.Step.{Step}
 use Rattle.hll_text.specs.declared.step.Step.TheVariants as steps
-use Rattle.hll_text.specs.Text.{PlanStep, Reading, names_image, new, image, coupon, union}
+use Rattle.hll_text.specs.Text.{PlanStep, Reading, names_image, new, image, coupon, union, fold}
 
 -- the step of the plan
 abbrev pub step_of : {A : Type 0} → Step A → PlanStep
@@ -15,6 +15,7 @@ step_of (steps.New k w) = new k w
 step_of (steps.Image bytes) = image bytes
 step_of (steps.Coupon s v) = coupon s v
 step_of (steps.Union n m w) = union n m w
+step_of (steps.Fold e) = fold e
 
 -- the plan's step or the fault, of what a reader of a step returns
 abbrev pub step_reading_of : {A : Type 0} → Result (Step A) Fault → Result PlanStep Fault
@@ -42,6 +43,7 @@ IsInRange (new k w) = (4 ≤ k) × (k ≤ 21)
 IsInRange (image bytes) = Unit {0}
 IsInRange (coupon s v) = (s < 2 ^ 26) × (1 ≤ v) × (v ≤ 63)
 IsInRange (union n m w) = (4 ≤ m) × (m ≤ 21)
+IsInRange (fold e) = (4 ≤ e) × (e ≤ 21)
 
 -- the fault for an error of the crates below
 abbrev pub fault_of : Reason → Fault

@@ -1,5 +1,6 @@
 -- The text of a plan: its lines, its words, and what a line says (docs/PLAN.md, "The text").
-use Rattle.std.specs.Prelude.{ℕ, ◌≡◌, ◌⊎◌, IfErr, ◌+◌, ◌-◌, ◌*◌, ◌^◌, min, fold, Bool, false, ◌&&◌, ◌==◌, nat_lt, nat_le, nat_eq, if◌then◌else◌, List, [], ◌∷◌, length, Option, Some, None, Result, Ok, Err, codes}
+use Rattle.std.specs.Prelude as std
+use Rattle.std.specs.Prelude.{ℕ, ◌≡◌, ◌⊎◌, IfErr, ◌+◌, ◌-◌, ◌*◌, ◌^◌, min, Bool, false, ◌&&◌, ◌==◌, nat_lt, nat_le, nat_eq, if◌then◌else◌, List, [], ◌∷◌, length, Option, Some, None, Result, Ok, Err, codes}
 use Rattle.std.specs.List.{slice_split, list_all}
 use Rattle.std.specs.Result.{result_map_both}
 use Rattle.std.specs.Str.{bytes_eq}
@@ -22,6 +23,20 @@ ended_parts (part ∷ next ∷ more) = strip_carriage_return part ∷ ended_part
 
 abbrev pub ended_lines : List ℕ → List (List ℕ)
 ended_lines text = ended_parts (slice_split (λ b. b == 10) text)
+
+-- what follows the last LF of a text
+abbrev pub last_part : List (List ℕ) → List ℕ
+last_part [] = []
+last_part (last ∷ []) = last
+last_part (part ∷ next ∷ more) = last_part (next ∷ more)
+
+abbrev pub open_line : List ℕ → List ℕ
+open_line text = last_part (slice_split (λ b. b == 10) text)
+
+-- the line of bytes that have no LF: none if there are no bytes
+abbrev pub line_of_rest : List ℕ → List (List ℕ)
+line_of_rest [] = []
+line_of_rest (b ∷ more) = (b ∷ more) ∷ []
 
 -- the number that is reported of the n-th line
 abbrev pub line_number : ℕ → ℕ
@@ -46,7 +61,7 @@ words_after (Some rest) = words rest
 
 -- the value of decimal digits
 abbrev pub decimal_value : List ℕ → ℕ
-decimal_value digits = fold (λ n digit. 10 * n + (digit - 48)) 0 digits
+decimal_value digits = std.fold (λ n digit. 10 * n + (digit - 48)) 0 digits
 
 -- a number is 1 to 8 decimal digits
 abbrev pub is_number : List ℕ → Bool
@@ -54,6 +69,12 @@ is_number word = (nat_le 1 (length word) && nat_le (length word) 8) && list_all 
 
 abbrev pub number : List ℕ → Result ℕ Fault
 number word = if is_number word then Ok (decimal_value word) else Err Syntax
+
+-- one word, which is a number
+abbrev pub one_number : List (List ℕ) → Result ℕ Fault
+one_number [] = Err Syntax
+one_number (a ∷ []) = number a
+one_number (a ∷ b ∷ more) = Err Syntax
 
 -- two words, both of them numbers
 abbrev pub two_numbers : List (List ℕ) → Result (ℕ × ℕ) Fault
@@ -91,6 +112,8 @@ pub data PlanStep : Type 0 where
   coupon : ℕ → ℕ → PlanStep
   -- the last sketches, of this number, joined within a bound of lg_k and at a width
   union : ℕ → ℕ → HllType → PlanStep
+  -- the last sketch folded to an lg_k
+  fold : ℕ → PlanStep
 
 -- the width of 4, 6 or 8 bits
 abbrev pub width : ℕ → Result HllType Fault
@@ -122,6 +145,12 @@ union_step n m bits = do
   w ← width bits
   Ok (union n m w)
 
+-- `fold E`
+abbrev pub fold_step : ℕ → Result PlanStep Fault
+fold_step e = do
+  e ← lg_k e
+  Ok (fold e)
+
 -- the step of a line, from its words
 abbrev pub read_words : List (List ℕ) → Result PlanStep Fault
 read_words [] = Err Syntax
@@ -130,7 +159,8 @@ read_words (first ∷ rest) =
     else (if bytes_eq first (codes "image") then one_word rest >>= image_step
     else (if bytes_eq first (codes "coupon") then two_numbers rest >>= (λ p. coupon_step p.0 p.1)
     else (if bytes_eq first (codes "union") then three_numbers rest >>= (λ p. union_step p.0 p.1 p.2)
-    else Err Syntax)))
+    else (if bytes_eq first (codes "fold") then one_number rest >>= fold_step
+    else Err Syntax))))
 
 -- what a line says: None if it is skipped, a step, or a fault
 abbrev pub Reading : Type 0

@@ -24,8 +24,8 @@ pub enum Fault {
     Read,
     /// 8, `write`: the writer failed.
     Write,
-    /// 9, `unserved`: the line is valid, but its step is not served yet.
-    Unserved,
+    /// 10, `fold`: a sketch is to be folded to an `lg_k` above its own.
+    Fold,
 }
 
 /// A fault, and the line where it was found (docs/PLAN.md, "Numbers of lines").

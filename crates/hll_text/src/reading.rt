@@ -8,7 +8,7 @@ ghost use Rattle.hll_text.specs.Text.{words, words_after, reading, names_image, 
 
 use crate::fault::Fault;
 use crate::step::{ImageBytes, Step};
-use crate::words::{one_word, split_word, three_numbers, two_numbers};
+use crate::words::{one_number, one_word, split_word, three_numbers, two_numbers};
 use hex::FromHexError;
 use hll_coupons::hll_type::HllType;
 use std::alloc::Allocator;
@@ -46,6 +46,8 @@ fn read_words<A: Allocator>(alloc: A, first: &[u8], rest: Option<&[u8]>) -> Resu
     } else if first == b"union".as_slice() {
         let (count, lg_max_k, bits) = three_numbers(rest)?;
         union_step(count, lg_max_k, bits)
+    } else if first == b"fold".as_slice() {
+        fold_step(one_number(rest)?)
     } else {
         Err(Fault::Syntax)
     }
@@ -89,6 +91,14 @@ fn union_step<A: Allocator>(count: u32, lg_max_k: u32, bits: u32) -> Result<Step
     ensures in_range { IfOk result (λ step. IsInRange (step_of step)) }
 {
     Ok(Step::Union(count, lg_k_of(lg_max_k)?, width_of(bits)?))
+}
+
+/// The step `fold E`.
+fn fold_step<A: Allocator>(lg_k: u32) -> Result<Step<A>, Fault>
+    ensures reading { step_reading_of result ≡ plan.fold_step lg_k }
+    ensures in_range { IfOk result (λ step. IsInRange (step_of step)) }
+{
+    Ok(Step::Fold(lg_k_of(lg_k)?))
 }
 
 /// An `lg_k`, which is 4 to 21. `Range` for any other number.

@@ -65,4 +65,6 @@ pub enum Step<A: Allocator = Global> {
     /// Replaces the last sketches by their union: how many there are, the bound on the union's
     /// `lg_k`, 4 to 21, and the width of the result.
     Union(u32, u8, HllType),
+    /// Replaces the last sketch by its fold to an `lg_k`, 4 to 21.
+    Fold(u8),
 }

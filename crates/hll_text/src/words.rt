@@ -39,6 +39,17 @@ fn next_word(rest: Option<&[u8]>) -> Result<(&[u8], Option<&[u8]>), Fault>
     }
 }
 
+/// The number after a space. `Syntax` where there is not just one word, which is a number.
+pub(crate) fn one_number(rest: Option<&[u8]>) -> Result<u32, Fault>
+    ensures { result ≡ plan.one_number (words_after (option_copied rest.entry)) }
+{
+    let (word, rest) = next_word(rest)?;
+    match rest {
+        None => read_number(word),
+        Some(_) => Err(Fault::Syntax),
+    }
+}
+
 /// The two numbers after a space. `Syntax` where there are not just two words, both of them numbers.
 pub(crate) fn two_numbers(rest: Option<&[u8]>) -> Result<(u32, u32), Fault>
     ensures { result ≡ plan.two_numbers (words_after (option_copied rest.entry)) }

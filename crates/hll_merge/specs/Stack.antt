@@ -1,0 +1,56 @@
+-- The sketches of a run, and the plans that they are outcomes of (docs/ARCHITECTURE.md, "A run").
+use Rattle.std.specs.Prelude.{◌≡◌, ◌⊎◌, ℕ, List, [], ◌∷◌, ◌++◌}
+use Rattle.hll_sketch.specs.Layout.{SketchLayout, sketch_of}
+use Rattle.hll_sketch.specs.Value.{Sketch}
+use Rattle.hll_text.specs.declared.fault.Fault.{Fault}
+use Rattle.hll_text.specs.declared.fault.Fault.TheVariants.{Memory}
+use Rattle.hll_text.specs.declared.fault.MergeError.{MergeError}
+use Rattle.hll_text.specs.Text.{PlanStep, reading}
+use Rattle.hll_merge.specs.Plan.{Plan, outcome}
+use Rattle.hll_merge.specs.Accepting.{Carries, IsFaultOfStep, Gives, IsFaultOfLine, Runs, FaultsFrom}
+
+-- the sketch is the plan's outcome
+abbrev pub Represents : SketchLayout → Plan → Type 0
+Represents x t = sketch_of x ≡ outcome t
+
+-- each sketch of a stack is its plan's outcome
+abbrev pub AllRepresent : List SketchLayout → List Plan → Type 0
+AllRepresent [] [] = Unit {0}
+AllRepresent [] (t ∷ ts) = ⊥
+AllRepresent (x ∷ xs) [] = ⊥
+AllRepresent (x ∷ xs) (t ∷ ts) = Represents x t × AllRepresent xs ts
+
+-- the last sketch was replaced by another, and the others stayed
+pub record ReplacesLast (old : List SketchLayout) (IsFor : Sketch → Sketch → Type 0) (new : List SketchLayout) : Type 0 where
+  pub front : List SketchLayout
+  pub last : SketchLayout
+  pub made : SketchLayout
+  pub is : old ≡ front ++ last ∷ []
+  pub value : IsFor (sketch_of last) (sketch_of made)
+  pub gives : new ≡ front ++ made ∷ []
+
+-- ---- steps and lines, whatever plans the old sketches are outcomes of
+
+-- the new sketches are outcomes of what the step makes of the plans
+abbrev pub StackCarries : List SketchLayout → PlanStep → List SketchLayout → Type 0
+StackCarries old step new = (ts : List Plan) → AllRepresent old ts → (us : List Plan) × Carries ts step us × AllRepresent new us
+
+-- memory was refused, or this is the fault of the step
+abbrev pub StackRefuses : List SketchLayout → PlanStep → Fault → Type 0
+StackRefuses old step e = (ts : List Plan) → AllRepresent old ts → (e ≡ Memory) ⊎ IsFaultOfStep ts step e
+
+-- the new sketches are outcomes of what the line makes of the plans
+abbrev pub StackGives : List SketchLayout → List ℕ → List SketchLayout → Type 0
+StackGives old line new = (ts : List Plan) → AllRepresent old ts → (us : List Plan) × Gives reading ts line us × AllRepresent new us
+
+-- memory was refused, or this is the fault of the line
+abbrev pub StackFaults : List SketchLayout → List ℕ → Fault → Type 0
+StackFaults old line e = (ts : List Plan) → AllRepresent old ts → (e ≡ Memory) ⊎ IsFaultOfLine reading ts line e
+
+-- the new sketches are outcomes of what the lines in turn make of the plans
+abbrev pub StackRuns : List SketchLayout → List (List ℕ) → List SketchLayout → Type 0
+StackRuns old lines new = (ts : List Plan) → AllRepresent old ts → (us : List Plan) × Runs reading ts lines us × AllRepresent new us
+
+-- memory was refused, or one of these lines is at fault, and none before it; so many lines came before all of these
+abbrev pub StackStops : List SketchLayout → ℕ → List (List ℕ) → MergeError → Type 0
+StackStops old n lines e = (ts : List Plan) → AllRepresent old ts → (e.fault ≡ Memory) ⊎ FaultsFrom reading ts n lines e

@@ -1,0 +1,36 @@
+-- Laws of plan texts (docs/MODEL.md, "Plan texts").
+use Rattle.std.specs.Prelude.{◌≡◌, ◌≢◌, ℕ, List}
+use Rattle.hll_base.specs.declared.error.Reason.{Reason}
+use Rattle.hll_base.specs.declared.error.ErrorKind.TheVariants.{InvalidData}
+use Rattle.hll_base.specs.Reason.{kind_of}
+use Rattle.hll_text.specs.declared.fault.Fault.{Fault}
+use Rattle.hll_text.specs.declared.fault.Fault.TheVariants as faults
+use Rattle.hll_text.specs.declared.fault.MergeError.{MergeError}
+use Rattle.hll_text.specs.Text.{PlanStep, reading}
+use Rattle.hll_merge.specs.Plan.{Plan}
+use Rattle.hll_merge.specs.Accepting.{Accepts, IsFirstFault, IsFirstFaultOfLines}
+use Rattle.hll_merge.specs.Evaluate.{IsFirstFaultOfSteps}
+
+-- a text has one plan
+abbrev pub OnePlan : Type 0
+OnePlan = (text : List ℕ) (t u : Plan) → Accepts text t → Accepts text u → t ≡ u
+
+-- a text has one first fault
+abbrev pub OneFirstFault : Type 0
+OneFirstFault = (text : List ℕ) (d e : MergeError) → IsFirstFault text d → IsFirstFault text e → d ≡ e
+
+-- an accepted text has no first fault
+abbrev pub AcceptedIsFaultless : Type 0
+AcceptedIsFaultless = (text : List ℕ) (t : Plan) (e : MergeError) → Accepts text t → IsFirstFault text e → ⊥
+
+-- a fault of a text itself is none of memory or a stream, and that of an image is one of data
+pub record IsOwnFault (e : Fault) : Type 0 where
+  pub not_memory : e ≢ faults.Memory
+  pub not_read : e ≢ faults.Read
+  pub not_write : e ≢ faults.Write
+  pub of_data : (r : Reason) → e ≡ faults.Image r → kind_of r ≡ InvalidData
+
+-- for any lines, and for a list of steps
+pub record FirstFaultsAreOwn : Type 0 where
+  pub of_lines : (all : List (List ℕ)) (e : MergeError) → IsFirstFaultOfLines reading all e → IsOwnFault e.fault
+  pub of_steps : (all : List PlanStep) (e : MergeError) → IsFirstFaultOfSteps all e → IsOwnFault e.fault

@@ -1,0 +1,25 @@
+-- Texts that come in pieces (docs/PLAN.md, "In pieces").
+use Rattle.std.specs.Prelude.{ℕ, ◌≡◌, ◌==◌, false, List, ◌++◌}
+use Rattle.std.specs.List.{All}
+use Rattle.std.specs.Str.Lines.{lines}
+use Rattle.hll_text.specs.Text.{ended_lines, open_line, line_of_rest}
+
+-- bytes without an LF
+abbrev pub IsOpen : List ℕ → Type 0
+IsOpen bytes = All (λ b. (b == 10) ≡ false) bytes
+
+-- The lines that end in a text of two pieces are those that end in the first, and then those that end once the second follows the
+-- open line of the first; so it is with the open line. A text's lines are those that end, and its open line.
+pub record CutsAt (a b : List ℕ) : Type 0 where
+  pub ended : ended_lines (a ++ b) ≡ ended_lines a ++ ended_lines (open_line a ++ b)
+  pub rest : open_line (a ++ b) ≡ open_line (open_line a ++ b)
+  pub whole : lines (a ++ b) ≡ ended_lines (a ++ b) ++ line_of_rest (open_line (a ++ b))
+
+abbrev pub LinesOfCuts : Type 0
+LinesOfCuts = (a b : List ℕ) → CutsAt a b
+
+-- what is pending before a piece is ended by it, if the piece has an LF: lines that end, and what is left of both
+pub record Closes (pending piece left rest : List ℕ) (ended : List (List ℕ)) : Type 0 where
+  pub lines : ended_lines (pending ++ piece) ≡ ended ++ ended_lines rest
+  pub open_bytes : open_line (pending ++ piece) ≡ left ++ open_line rest
+  pub still : IsOpen left
