@@ -1,12 +1,16 @@
 //! A proved caller of the library: what CALLING.md shows.
 #![tactic(auto)]
 
-ghost use Rattle.std.specs.Prelude.{◌≡◌, ◌≤◌, ◌⊎◌, [], Some, IfOk, IfErr};
+ghost use Rattle.std.specs.Prelude.{◌≡◌, ◌≤◌, ◌⊎◌, ◌++◌, [], All, map, Some, IfOk, IfErr};
 ghost use Rattle.std.specs.FinSet.{union};
+ghost use Rattle.hll_base.specs.declared.error.Reason.TheVariants as reasons;
 ghost use Rattle.hll_base.specs.declared.error.Reason.TheVariants.{Memory};
 ghost use Rattle.hll_coupons.specs.Pair.{set_of};
 ghost use Rattle.hll_coupons.specs.Fold.{fold_to};
 ghost use Rattle.hll_arrays.specs.State.{cleared_state};
+ghost use Rattle.hll_sketch.specs.Grown.{IsGrown};
+ghost use Rattle.hll_sketch.specs.Joined.{IsJoinOf};
+ghost use Rattle.hll_sketch.specs.Layout.{sketch_of};
 ghost use Rattle.hll_merge.specs.Run.{IsAnswer, IsRefused, Streams};
 ghost use Rattle.hll_text.specs.declared.fault.Fault.TheVariants as faults;
 
@@ -14,9 +18,12 @@ use hll_arrays::array8::Array8;
 use hll_arrays::merge::merge_from;
 use hll_base::error::Error;
 use hll_coupons::coupon::Coupon;
+use hll_coupons::hll_type::HllType;
 use hll_merge::fault::{Fault, MergeError};
 use hll_merge::run::run;
 use hll_merge::watched::Watched;
+use hll_sketch::sketch::HllSketch;
+use hll_sketch::union::{HllUnion, union_of};
 use std::alloc::Allocator;
 
 /// The registers of some coupons: at each slot the greatest value of those that fold to it.
@@ -57,6 +64,29 @@ pub fn join_shards<A: Allocator + Clone>(
     let other = registers_of(alloc, lg_k, there)?;
     merge_from(&mut joined, &other);
     Ok(joined)
+}
+
+/// The union of the sketches of two shards, one of which sends the sketch of its own union at some width: where all are grown,
+/// the join of them all, whichever shard has which.
+///
+/// Fails with `Argument` if `lg_max_k` is not 4 to 21, or else with `Memory`. Takes memory for both unions and the sketch that
+/// is sent.
+pub fn union_of_shards<A: Allocator + Clone>(
+    alloc: A,
+    lg_max_k: u8,
+    width: HllType,
+    here: &[HllSketch<A>],
+    there: &[HllSketch<A>],
+) -> Result<HllUnion<A>, Error>
+    ensures grown { let all = map sketch_of here.now ++ map sketch_of there.now in IfOk result (λ u. All IsGrown all → IsJoinOf all u) }
+    ensures bound { IfOk result (λ u. u.lg_max_k ≡ lg_max_k) }
+    ensures err { IfErr result (λ e. (e ≡ reasons.Argument) ⊎ (e ≡ Memory)) }
+{
+    let sender = union_of(alloc.clone()?, lg_max_k, there)?;
+    let sent = sender.to_sketch(width)?;
+    let mut union = union_of(alloc, lg_max_k, here)?;
+    union.update(&sent)?;
+    Ok(union)
 }
 
 /// Runs a plan in memory: the line that the program would print for it.
