@@ -45,10 +45,6 @@ Means-union_value_of_pairs : (m : ℕ) (w : HllType) (e : ℕ) (P : Pairs) (any 
 Means-union_value_of_pairs m w e P true = refl
 Means-union_value_of_pairs m w e P false = Means-content_for m P P (stage m 3 (len P)) refl
 
-MeansPairs-union_value_of_pairs : (m : ℕ) (w : HllType) (e : ℕ) (P : Pairs) (any : Bool) → SoFar m e P any → MeansPairs (union_value_of_pairs m w e P any) P
-MeansPairs-union_value_of_pairs m w e P true h = record { small = omega (arith, h.small, h.below); are = h.are; meaning = refl }
-MeansPairs-union_value_of_pairs m w e P false h = record { small = h.small; are = h.are; meaning = Means-content_for m P P (stage m 3 (len P)) refl }
-
 -- a set from the start, and then more of it
 settled_again : (m : ℕ) (P S : Pairs) → content_with m (content_for m P (stage m 3 (len P))) S ≡ content_for m (union P S) (stage m 3 (len (union P S)))
 settled_again m P S =

@@ -1,5 +1,5 @@
 //! Stages, adding and merging as slow programs, each with its definition as its contract (docs/MODEL.md, "Stages",
-//! "Adding" and "Merging"). They are for tests, and for a reader of the definitions.
+//! "Adding", "Folding" and "Merging"). They are for tests, and for a reader of the definitions.
 ghost use Rattle.std.specs.Prelude.{◌≡◌, ◌≤◌, ◌++◌, IfOk, IfErr};
 ghost use Rattle.std.specs.FinSet.{len, union};
 ghost use Rattle.hll_base.specs.declared.error.Reason.TheVariants.{Memory};
@@ -9,6 +9,7 @@ ghost use Rattle.hll_arrays.specs.Store.{AreRegisters};
 ghost use Rattle.hll_sketch.specs.Stage as stages;
 ghost use Rattle.hll_sketch.specs.Value as values;
 ghost use Rattle.hll_sketch.specs.Adding as adding;
+ghost use Rattle.hll_sketch.specs.Folding as folding;
 ghost use Rattle.hll_sketch.specs.Merging as merging;
 ghost use Rattle.hll_sketch.specs.Reference.{content_value, sketch_value, ContentFits, Fits};
 
@@ -262,6 +263,65 @@ pub fn add<A: Allocator + Clone>(
         lg_k: sketch.lg_k,
         width: sketch.width,
         content: content_with(alloc, sketch.lg_k, &sketch.content, coupons)?,
+    })
+}
+
+// ---- folding
+
+/// Registers with their state where they keep their `lg_k`, else with the cleared one.
+fn registers_at<A: Allocator + Clone>(
+    alloc: A,
+    old: u8,
+    lg_k: u8,
+    registers: &[u8],
+    state: EstimateState,
+) -> Result<ReferenceContent<A>, Error>
+    requires old { old ≤ 21 }
+    requires small { lg_k ≤ 21 }
+    requires registers { AreRegisters old registers.now }
+    ensures ok { IfOk result (λ new. content_value new ≡ folding.folded_content old lg_k (values.registers registers.now state)) }
+    ensures fits { IfOk result (λ new. ContentFits lg_k (content_value new)) }
+    ensures err { IfErr result (λ e. e ≡ Memory) }
+{
+    let pairs = pairs_of_registers(alloc.clone()?, registers)?;
+    let registers = folded(alloc, &pairs, lg_k)?;
+    Ok(ReferenceContent::Registers(
+        registers,
+        if lg_k == old {
+            state
+        } else {
+            EstimateState::CLEARED
+        },
+    ))
+}
+
+/// A sketch folded to an `lg_k` of at most 21 (docs/MODEL.md, "Folding").
+///
+/// Takes memory for the coupons or registers several times over. Fails with `Memory`.
+pub fn fold<A: Allocator + Clone>(
+    alloc: A,
+    sketch: &ReferenceSketch<A>,
+    lg_k: u8,
+) -> Result<ReferenceSketch<A>, Error>
+    requires small { lg_k ≤ 21 }
+    requires fits { Fits (sketch_value sketch.now) }
+    ensures ok { IfOk result (λ new. sketch_value new ≡ folding.folded (sketch_value sketch.now) lg_k) }
+    ensures fits { IfOk result (λ new. Fits (sketch_value new)) }
+    ensures err { IfErr result (λ e. e ≡ Memory) }
+{
+    let content = match &sketch.content {
+        ReferenceContent::Coupons(coupons, _) => {
+            let kept = copied(alloc.clone()?, coupons)?;
+            content_for(alloc, lg_k, 3, kept)?
+        }
+        ReferenceContent::Registers(registers, state) => {
+            registers_at(alloc, sketch.lg_k, lg_k, registers, *state)?
+        }
+    };
+    Ok(ReferenceSketch {
+        lg_k,
+        width: sketch.width,
+        content,
     })
 }
 
