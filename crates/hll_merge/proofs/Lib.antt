@@ -1,5 +1,6 @@
 pub mod Accepted
-pub mod FedLemmas
+pub mod CutLemmas
+pub mod EffectiveLgK
 pub mod FeedingLemmas
 pub mod Growing
 pub mod Headline
