@@ -1,223 +1,26 @@
 -- Over grown images every outcome is grown, and a union has the value of its children.
-use Rattle.std.proofs.Common.{◌≡◌, ℕ, ◌<◌, ◌≤◌, ◌^◌, Bool, true, false, cond, not, ◌&&◌, ◌||◌, nat_eq, eqb, leb, List, [], ◌∷◌, Some, None, length, get_or, refl, sym, ap, subst, ◌∙◌, arith, inl, inr}
-use Rattle.std.specs.Prelude.{min, if◌then◌else◌}
+use Rattle.std.proofs.Common.{ap, sym, subst, [], ◌∷◌}
 use Rattle.std.specs.List.{list_any, AllByRecursion}
 use Rattle.std.specs.Ordering.{nat_cmp}
-use Rattle.std.specs.FinSet.{items, empty, union, len, len-empty, empty_of_len}
-use Rattle.std.proofs.lemmas.Bool.{cases_Bool, cond-true, cond-false, and_parts, or_parts, or_cases, true≢false, eqb-true, eq-eqb}
-use Rattle.hll_coupons.specs.Pair.{Pairs, set_of}
-use Rattle.hll_coupons.specs.Fold.{fold_to, join, pairs, greatest, value_at}
-use Rattle.std.proofs.lemmas.List.Elements.{All-from_get_or}
-use Rattle.hll_coupons.proofs.Greatest.{bounded}
-use Rattle.hll_coupons.proofs.Registers.{value_at_cases}
-use Rattle.hll_coupons.proofs.Folds.{fold_to-union, length-fold_to, get_or-fold_to}
-use Rattle.hll_coupons.specs.declared.hll_type.HllType.{HllType}
-use Rattle.hll_coupons.specs.declared.hll_type.HllType.TheVariants.{Hll8}
-use Rattle.hll_arrays.specs.declared.estimate_state.EstimateState.{EstimateState}
+use Rattle.std.specs.FinSet.{len-empty}
+use Rattle.hll_coupons.specs.Pair.{set_of}
 use Rattle.hll_sketch.specs.Stage.{stage}
-use Rattle.hll_arrays.specs.State.{cleared_state, state_after}
-use Rattle.hll_sketch.specs.Value.{Content, coupons, registers, Sketch, pairs_in, pairs_of, is_empty, in_registers, has_registers, ArePairs}
-use Rattle.hll_sketch.specs.Adding.{content_for, content_with, add}
-use Rattle.hll_sketch.specs.Merging.{merge, merge_coupons, merge_content, state_after_merge, merge_all, empty_union}
-use Rattle.hll_merge.specs.Plan.{Plan, Plans, new, image, coupon, union_of, no_plans, more_plans, inputs, outcome, outcomes, Leaves, LeavesOfEach}
-use Rattle.hll_merge.specs.Meaning.{Means}
-use Rattle.hll_sketch.specs.Grown.{IsGrownContent, IsGrown}
-use Rattle.hll_merge.specs.Grown.{all_pairs, least_lg_k, union_value_of_pairs, union_value, Converges, JoinsChildren, IsGrownOfPairs}
-use Rattle.hll_sketch.proofs.Sets.{union_assoc, len_union_le, union_left, union_right, or_assoc, or-false}
-use Rattle.hll_sketch.proofs.LegalSketches.{ArePairs-union}
-use Rattle.hll_sketch.proofs.Stages.{stage_again}
-use Rattle.hll_arrays.proofs.States.{state_after-cleared_state}
-use Rattle.hll_sketch.proofs.Adding.{added_again}
-use Rattle.hll_merge.proofs.Outcomes.{Good, good, nothing, ArePairs-pairs, ArePairs-empty, folds_as, Means-content_for, merged_none, merged_some, union-empty, empty-union}
-
--- ---- one merge
-
--- what the join so far is
-pub record SoFar (m e : ℕ) (P : Pairs) (any : Bool) : Type 0 where
-  pub small : m ≤ 21
-  pub below : e ≤ m
-  pub are : ArePairs P
-  pub none : any ≡ false → e ≡ m
-  pub some : any ≡ true → P ≡ empty → ⊥
-
-Means-union_value_of_pairs : (m : ℕ) (w : HllType) (e : ℕ) (P : Pairs) (any : Bool) → Means (union_value_of_pairs m w e P any).lg_k (union_value_of_pairs m w e P any).content P
-Means-union_value_of_pairs m w e P true = refl
-Means-union_value_of_pairs m w e P false = Means-content_for m P P (stage m 3 (len P)) refl
-
-Good-union_value_of_pairs : (m : ℕ) (w : HllType) (e : ℕ) (P : Pairs) (any : Bool) → SoFar m e P any → Good (union_value_of_pairs m w e P any) P
-Good-union_value_of_pairs m w e P true h = record { small = omega (arith, h.small, h.below); are = h.are; meaning = refl }
-Good-union_value_of_pairs m w e P false h = record { small = h.small; are = h.are; meaning = Means-content_for m P P (stage m 3 (len P)) refl }
-
--- a set from the start, and then more of it
-settled_again : (m : ℕ) (P S : Pairs) → content_with m (content_for m P (stage m 3 (len P))) S ≡ content_for m (union P S) (stage m 3 (len (union P S)))
-settled_again m P S =
-    let from : Pairs → Content = λ T. content_for m T (stage m 3 (len T)) in
-    ap (λ T. content_with m (from T) S) (sym (union-empty P)) ∙ added_again m (coupons empty 3) P S ∙ ap from (union-empty (union P S))
-
-add-union_value_of_pairs : (m : ℕ) (w : HllType) (e : ℕ) (P S : Pairs) (any : Bool) → add (union_value_of_pairs m w e P any) S ≡ union_value_of_pairs m w e (union P S) any
-add-union_value_of_pairs m w e P S true = λ i. record { lg_k = e; width = w; content = registers (sym (fold_to-union P S e) i) (state_after-cleared_state (fold_to P e) (join (fold_to P e) (fold_to S e)) i) }
-add-union_value_of_pairs m w e P S false = ap (λ c. let x : Sketch = record { lg_k = m; width = w; content = c } in x) (settled_again m P S)
-
--- coupons whole, into an empty gadget
-whole : (m : ℕ) (w : HllType) (e l : ℕ) (P S : Pairs) (p : ℕ) (any : Bool) → SoFar m e P any → stage l 3 (len S) ≡ Some p → is_empty (union_value_of_pairs m w e P any) ≡ true → (union_value_of_pairs m w e P any).lg_k ≡ l →
-    record (union_value_of_pairs m w e P any) { content = coupons S p } ≡ union_value_of_pairs m w e (union P S) any
-whole m w e l P S p true h grown bare same = absurd (h.some refl (nothing e (union_value_of_pairs m w e P true).content P (omega (arith, h.small, h.below)) h.are refl bare))
-whole m w e l P S p false h grown bare same =
-    let none : P ≡ empty = nothing m (union_value_of_pairs m w e P false).content P h.small h.are (Means-union_value_of_pairs m w e P false) bare in
-    let at : stage m 3 (len S) ≡ Some p = ap (λ k. stage k 3 (len S)) same ∙ grown in
-    let all : union P S ≡ S = ap (λ T. union T S) none ∙ union-empty S in
-    let made : Content → Sketch = λ c. record { lg_k = m; width = w; content = c } in
-    sym (ap (λ T. made (content_for m T (stage m 3 (len T)))) all ∙ ap (λ o. made (content_for m S o)) at)
-
-or-true : (a : Bool) → (a || true) ≡ true
-or-true true = refl
-or-true false = refl
-
-and-false : (a : Bool) → (a && false) ≡ false
-and-false true = refl
-and-false false = refl
-
-has_none : (x : Sketch) → is_empty x ≡ true → has_registers x ≡ false
-has_none x e = ap (λ b. in_registers x.content && not b) e ∙ and-false (in_registers x.content)
-
-no_pairs : (x : Sketch) → is_empty x ≡ true → pairs_of x ≡ empty
-no_pairs x e = empty_of_len (pairs_of x) (eqb-true (len (pairs_of x)) 0 e)
-
-lg_k-union_value_of_pairs : (m : ℕ) (w : HllType) (e : ℕ) (P : Pairs) (any : Bool) → SoFar m e P any → (union_value_of_pairs m w e P any).lg_k ≡ e
-lg_k-union_value_of_pairs m w e P true h = refl
-lg_k-union_value_of_pairs m w e P false h = sym (h.none refl)
-
-width-union_value_of_pairs : (m : ℕ) (w : HllType) (e : ℕ) (P : Pairs) (any : Bool) → (union_value_of_pairs m w e P any).width ≡ w
-width-union_value_of_pairs m w e P true = refl
-width-union_value_of_pairs m w e P false = refl
-
-state_after_merge-cleared_state : (m : ℕ) (g : Sketch) (l : ℕ) (s : EstimateState) → s ≡ cleared_state → state_after_merge m g l s ≡ cleared_state
-state_after_merge-cleared_state m g l s h = elim (is_empty g && leb l m) as (λ b. cond b s cleared_state ≡ cleared_state) [ true ↦ h | false ↦ refl ]
-
--- the lg_k after one more
-abbrev pub lowered : ℕ → Sketch → ℕ
-lowered e x = if has_registers x then min x.lg_k e else e
-
-merge_joint : (m e : ℕ) (P : Pairs) (any : Bool) (x : Sketch) → SoFar m e P any → x.lg_k ≤ 21 → IsGrown x →
-    merge m (union_value_of_pairs m Hll8 e P any) x ≡ union_value_of_pairs m Hll8 (lowered e x) (union P (pairs_of x)) (any || has_registers x)
-merge_joint m e P any x h small grown = elim (cases_Bool (is_empty x)) [
-  | inl bare ↦
-      let no_reg : has_registers x ≡ false = has_none x bare in
-      let all : union P (pairs_of x) ≡ P = ap (union P) (no_pairs x bare) ∙ empty-union P in
-      merged_none m g x bare ∙ sym (λ i. union_value_of_pairs m Hll8 (cond (no_reg i) (min x.lg_k e) e) (all i) ((ap (λ b. any || b) no_reg ∙ or-false any) i))
-  | inr full ↦ merged_some m g x full ∙ of x.lg_k x.width x.content small grown full
-]
-  where
-    g : Sketch
-    g = union_value_of_pairs m Hll8 e P any
-
-    of : (l : ℕ) (w : HllType) (c : Content) → let x : Sketch = record { lg_k = l; width = w; content = c } in
-        l ≤ 21 → IsGrown x → is_empty x ≡ false → merge_content m (union_value_of_pairs m Hll8 e P any) x c ≡ union_value_of_pairs m Hll8 (lowered e x) (union P (pairs_of x)) (any || has_registers x)
-    of l w (coupons S p) small grown full =
-        let x : Sketch = record { lg_k = l; width = w; content = coupons S p } in
-        let y : Sketch = union_value_of_pairs m Hll8 e P any in
-        (elim (cases_Bool (is_empty y && nat_eq y.lg_k l)) as (λ _. merge_coupons y x ≡ union_value_of_pairs m Hll8 e (union P S) any) [
-          | inl t ↦
-              let both = and_parts (is_empty y) (nat_eq y.lg_k l) t in
-              cond-true (is_empty y && nat_eq y.lg_k l) (record y { content = coupons S p }) (add y S) t ∙ whole m Hll8 e l P S p any h grown both.0 (eqb-true y.lg_k l both.1)
-          | inr f ↦ cond-false (is_empty y && nat_eq y.lg_k l) (record y { content = coupons S p }) (add y S) f ∙ add-union_value_of_pairs m Hll8 e P S any
-        ]) ∙ ap (union_value_of_pairs m Hll8 e (union P S)) (sym (or-false any))
-    of l w (registers R s) small grown full =
-        let y : Sketch = union_value_of_pairs m Hll8 e P any in
-        let has : not (eqb (len (pairs R)) 0) ≡ true = ap not full in
-        let lg : y.lg_k ≡ e = lg_k-union_value_of_pairs m Hll8 e P any h in
-        let new : min y.lg_k l ≡ min l e = omega arith in
-        let part : fold_to (pairs_of y) (min l e) ≡ fold_to P (min l e) = folds_as y.lg_k (min l e) y.content P (omega (arith, h.small, h.below)) (omega arith) (Means-union_value_of_pairs m Hll8 e P any) in
-        let all : fold_to (union (pairs_of y) (pairs R)) (min l e) ≡ fold_to (union P (pairs R)) (min l e) = fold_to-union (pairs_of y) (pairs R) (min l e) ∙ ap (λ F. join F (fold_to (pairs R) (min l e))) part ∙ sym (fold_to-union P (pairs R) (min l e)) in
-        let made : ℕ → HllType → List ℕ → EstimateState → Sketch = λ k w R s. record { lg_k = k; width = w; content = registers R s } in
-        (λ i. made (new i) (width-union_value_of_pairs m Hll8 e P any i) ((ap (fold_to (union (pairs_of y) (pairs R))) new ∙ all) i) (state_after_merge-cleared_state m y l s grown i))
-        ∙ sym (λ i. union_value_of_pairs m Hll8 (cond (has i) (min l e) e) (union P (pairs R)) ((ap (λ b. any || b) has ∙ or-true any) i))
-
--- ---- what stays true
-
-has_some : (x : Sketch) → has_registers x ≡ true → pairs_of x ≡ empty → ⊥
-has_some x h none = true≢false (sym h ∙ has_none x (eq-eqb (len (pairs_of x)) 0 (ap len none ∙ len-empty nat_cmp)))
-
-pub lowered_le : (e : ℕ) (x : Sketch) → lowered e x ≤ e
-lowered_le e x = elim (has_registers x) as (λ b. cond b (min x.lg_k e) e ≤ e) [ true ↦ omega arith | false ↦ omega arith ]
-
-pub SoFar-more : (m e : ℕ) (P : Pairs) (any : Bool) (x : Sketch) → SoFar m e P any → ArePairs (pairs_of x) → SoFar m (lowered e x) (union P (pairs_of x)) (any || has_registers x)
-SoFar-more m e P any x h are = record {
-  small = h.small;
-  below = omega (arith, h.below, lowered_le e x);
-  are = ArePairs-union P (pairs_of x) h.are are;
-  none = λ f. let parts = or_parts any (has_registers x) f in cond-false (has_registers x) (min x.lg_k e) e parts.1 ∙ h.none parts.0;
-  some = λ t z. elim (or_cases any (has_registers x) t) [
-    | inl before ↦ h.some before (union_left P (pairs_of x) z)
-    | inr now ↦ has_some x now (union_right P (pairs_of x) z)
-  ];
-}
-
-pub least-lowered : (e : ℕ) (x : Sketch) (xs : List Sketch) → least_lg_k (lowered e x) xs ≡ lowered (least_lg_k e xs) x
-least-lowered e x [] = refl
-least-lowered e x (y ∷ xs) = ap (λ n. cond (has_registers y) (min y.lg_k n) n) (least-lowered e x xs)
-    ∙ (elim (has_registers x) as (λ b. cond (has_registers y) (min y.lg_k (cond b (min x.lg_k n) n)) (cond b (min x.lg_k n) n) ≡ cond b (min x.lg_k (cond (has_registers y) (min y.lg_k n) n)) (cond (has_registers y) (min y.lg_k n) n)) [
-      | false ↦ refl
-      | true ↦ elim (has_registers y) as (λ d. cond d (min y.lg_k (min x.lg_k n)) (min x.lg_k n) ≡ min x.lg_k (cond d (min y.lg_k n) n)) [ true ↦ omega arith | false ↦ refl ]
-    ])
-  where
-    n : ℕ
-    n = least_lg_k e xs
-
-merge_all-union_value_of_pairs : (m e : ℕ) (P : Pairs) (any : Bool) (xs : List Sketch) → SoFar m e P any → AllByRecursion IsGrownOfPairs xs →
-    merge_all m (union_value_of_pairs m Hll8 e P any) xs ≡ union_value_of_pairs m Hll8 (least_lg_k e xs) (union P (all_pairs xs)) (any || list_any has_registers xs)
-merge_all-union_value_of_pairs m e P any [] h f = λ i. union_value_of_pairs m Hll8 e (sym (empty-union P) i) (sym (or-false any) i)
-merge_all-union_value_of_pairs m e P any (x ∷ xs) h f =
-    ap (λ g. merge_all m g xs) (merge_joint m e P any x h f.0.small f.0.grown)
-    ∙ merge_all-union_value_of_pairs m (lowered e x) (union P (pairs_of x)) (any || has_registers x) xs (SoFar-more m e P any x h f.0.are) f.1
-    ∙ (λ i. union_value_of_pairs m Hll8 (least-lowered e x xs i) (union_assoc P (pairs_of x) (all_pairs xs) i) (or_assoc any (has_registers x) (list_any has_registers xs) i))
-
-pub nothing-yet : (m : ℕ) → m ≤ 21 → SoFar m m empty false
-nothing-yet m h = record { small = h; below = omega arith; are = ArePairs-empty; none = λ _. refl; some = λ t. absurd (true≢false (sym t)) }
-
-start : (m : ℕ) → empty_union m ≡ union_value_of_pairs m Hll8 m empty false
-start m = sym (ap (λ n. let x : Sketch = record { lg_k = m; width = Hll8; content = content_for m empty (stage m 3 n) } in x) (len-empty nat_cmp))
-
-width-changed : (m : ℕ) (w : HllType) (e : ℕ) (P : Pairs) (any : Bool) → record (union_value_of_pairs m Hll8 e P any) { width = w } ≡ union_value_of_pairs m w e P any
-width-changed m w e P true = refl
-width-changed m w e P false = refl
-
--- sketches merged in turn are joined
-pub merge-is_joined : (m : ℕ) (w : HllType) (xs : List Sketch) → m ≤ 21 → AllByRecursion IsGrownOfPairs xs → record (merge_all m (empty_union m) xs) { width = w } ≡ union_value m w xs
-merge-is_joined m w xs small f =
-    ap (λ (x : Sketch). let y : Sketch = record x { width = w } in y) (ap (λ g. merge_all m g xs) (start m) ∙ merge_all-union_value_of_pairs m m empty false xs (nothing-yet m small) f)
-    ∙ width-changed m w (least_lg_k m xs) (union empty (all_pairs xs)) (list_any has_registers xs)
-    ∙ ap (λ P. union_value_of_pairs m w (least_lg_k m xs) P (list_any has_registers xs)) (union-empty (all_pairs xs))
-
--- ---- what a plan gives is grown
-
-IsGrown-union_value_of_pairs : (m : ℕ) (w : HllType) (e : ℕ) (P : Pairs) (any : Bool) → IsGrown (union_value_of_pairs m w e P any)
-IsGrown-union_value_of_pairs m w e P true = refl
-IsGrown-union_value_of_pairs m w e P false = elim (stage m 3 (len P)) as (λ o. stage m 3 (len P) ≡ o → IsGrownContent m (content_for m P o)) [ Some p ↦ λ h. h | None ↦ λ _. refl ] refl
-
-IsGrown-content_with : (k : ℕ) (c : Content) (T : Pairs) → IsGrownContent k c → IsGrownContent k (content_with k c T)
-IsGrown-content_with k (registers R s) T h = ap (state_after R (join R (fold_to T k))) h ∙ state_after-cleared_state R (join R (fold_to T k))
-IsGrown-content_with k (coupons S p) T h =
-    let whole : stage k p (len (union S T)) ≡ stage k 3 (len (union S T)) = stage_again k 3 p (len S) (len (union S T)) (len_union_le S T) h in
-    elim (stage k p (len (union S T))) as (λ o. stage k p (len (union S T)) ≡ o → IsGrownContent k (content_for k (union S T) o)) [ Some q ↦ λ e. sym whole ∙ e | None ↦ λ _. refl ] refl
-
-IsGrownOfPairs-from : (x : Sketch) (P : Pairs) → Good x P → IsGrown x → IsGrownOfPairs x
-IsGrownOfPairs-from x P g h = record { small = g.small; are = of x.lg_k x.content g.small g.are g.meaning; grown = h }
-  where
-    of : (k : ℕ) (c : Content) → k ≤ 21 → ArePairs P → Means k c P → ArePairs (pairs_in c)
-    of k (coupons S p) small are m = subst ArePairs (sym m) are
-    of k (registers R s) small are m = ArePairs-pairs k R small (ap length m ∙ length-fold_to P k) (All-from_get_or (λ v. v ≤ 63) R 0 (λ i h.
-        let within : i < 2 ^ k = omega (arith, ap length m, length-fold_to P k) in
-        let at : get_or R i 0 ≡ greatest (value_at k i) (items P) = ap (λ R. get_or R i 0) m ∙ get_or-fold_to P k i within in
-        let most : greatest (value_at k i) (items P) ≤ 63 = bounded (value_at k i) 63 P (λ c e. elim (value_at_cases k i c) [ inl z ↦ omega arith | inr y ↦ omega (arith, y.1, (are c e).small) ]) in
-        omega arith))
+use Rattle.hll_sketch.specs.Value.{has_registers}
+use Rattle.hll_sketch.specs.Grown.{IsGrown}
+use Rattle.hll_sketch.specs.Joined.{all_pairs, least_lg_k, IsGrownOfPairs}
+use Rattle.hll_sketch.proofs.Folds.{folded_is_grown}
+use Rattle.hll_sketch.proofs.Joined.{merge_at_width, IsGrown-union_value_of_pairs, IsGrown-content_with, IsGrownOfPairs-from}
+use Rattle.hll_merge.specs.Plan.{Plan, Plans, new, image, coupon, union_of, fold, no_plans, more_plans, inputs, outcome, outcomes, Leaves, LeavesOfEach}
+use Rattle.hll_merge.specs.Grown.{Converges, JoinsChildren}
+use Rattle.hll_merge.proofs.Outcomes.{good}
 
 mutual
   pub grown : (t : Plan) → Leaves IsGrown t → IsGrown (outcome t)
   grown (new k w) h = ap (stage k 3) (len-empty nat_cmp)
   grown (image x) h = h.1
   grown (coupon t c) h = IsGrown-content_with (outcome t).lg_k (outcome t).content (set_of (c ∷ [])) (grown t h.0)
-  grown (union_of m w ts) h = subst IsGrown (sym (merge-is_joined m w (outcomes ts) h.0.high (fits ts h.1))) (IsGrown-union_value_of_pairs m w (least_lg_k m (outcomes ts)) (all_pairs (outcomes ts)) (list_any has_registers (outcomes ts)))
+  grown (fold t e) h = folded_is_grown (outcome t) e (grown t h.0)
+  grown (union_of m w ts) h = subst IsGrown (sym (merge_at_width m w (outcomes ts) h.0.high (fits ts h.1))) (IsGrown-union_value_of_pairs m w (least_lg_k m (outcomes ts)) (all_pairs (outcomes ts)) (list_any has_registers (outcomes ts)))
 
   pub fits : (ts : Plans) → LeavesOfEach IsGrown ts → AllByRecursion IsGrownOfPairs (outcomes ts)
   fits no_plans h = tt
@@ -230,4 +33,5 @@ converges t h = record { grown = grown t h; joined_children = of t h }
     of (new k w) h = tt
     of (image x) h = tt
     of (coupon t c) h = tt
-    of (union_of m w ts) h = merge-is_joined m w (outcomes ts) h.0.high (fits ts h.1)
+    of (fold t e) h = tt
+    of (union_of m w ts) h = merge_at_width m w (outcomes ts) h.0.high (fits ts h.1)

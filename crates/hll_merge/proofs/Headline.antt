@@ -8,18 +8,23 @@ use Rattle.hll_coupons.specs.Pair.{IsPair, pair, value_of, set_of}
 use Rattle.hll_coupons.specs.declared.hll_type.HllType.{HllType}
 use Rattle.hll_coupons.specs.declared.hll_type.HllType.TheVariants.{Hll8}
 use Rattle.hll_sketch.specs.Value.{Sketch, IsLgK, IsLegal, empty_sketch}
+use Rattle.hll_sketch.specs.Folding.{IsFoldLgK}
 use Rattle.hll_sketch.specs.Merging.{merge, merge_all, empty_union}
 use Rattle.hll_sketch.specs.Image.{AreBytes}
+use Rattle.hll_sketch.proofs.Folds.{folded_is_legal}
+use Rattle.hll_sketch.proofs.Gadgets.{ArePairs-one}
+use Rattle.hll_sketch.proofs.Meanings.{ArePairs-empty}
 use Rattle.hll_sketch.proofs.LegalImages.{image_is_legal}
 use Rattle.hll_sketch.proofs.LegalSketches.{add_is_legal, merge_is_legal}
 use Rattle.hll_sketch.proofs.Written.{written_is_image}
 use Rattle.hll_merge.specs.Plan as plan
 use Rattle.hll_merge.specs.Plan.{Plan, Plans, no_plans, more_plans, plans_of, outcome, outcomes, IsLegalPlan, LeavesOfEach}
-use Rattle.hll_text.specs.Text.{PlanStep, reading, new, image, coupon, union}
+use Rattle.hll_text.specs.Text.{PlanStep, reading, new, image, coupon, union, fold}
 use Rattle.hll_text.proofs.StepLemmas.{IsWellFormed, reading-well_formed}
-use Rattle.hll_merge.specs.Accepting.{full, Carries, Gives, Runs, skipped, taken}
+use Rattle.hll_merge.specs.Accepting.{Carries, Gives, Runs, skipped, taken}
 use Rattle.hll_merge.specs.Headline.{OutcomeIsLegal, AcceptedPlansHold}
-use Rattle.hll_merge.proofs.Outcomes.{plans_have_meaning, same_inputs_agree, ArePairs-empty, ArePairs-one}
+use Rattle.hll_merge.proofs.EffectiveLgK.{lg_k-outcome}
+use Rattle.hll_merge.proofs.Outcomes.{plans_have_meaning, same_inputs_agree}
 
 -- ---- outcomes
 
@@ -34,6 +39,7 @@ mutual
   outcome_is_legal (plan.new k w) h = empty_legal k w h
   outcome_is_legal (plan.image x) h = h.0
   outcome_is_legal (plan.coupon t c) h = add_is_legal (outcome t) (set_of (c ∷ [])) (outcome_is_legal t h.0) (ArePairs-one c h.1)
+  outcome_is_legal (plan.fold t e) h = folded_is_legal (outcome t) e (outcome_is_legal t h.0) (subst (λ k. IsFoldLgK k e) (sym (lg_k-outcome t)) h.1)
   outcome_is_legal (plan.union_of m w ts) h = legal_width (merge_all m (empty_union m) (outcomes ts)) w (merged_each m (empty_union m) ts (empty_legal m Hll8 h.0) h.1)
 
   merged_each : (m : ℕ) (g : Sketch) (ts : Plans) → IsLegal g → LeavesOfEach (λ _. Unit {0}) ts → IsLegal (merge_all m g (outcomes ts))
@@ -48,6 +54,7 @@ IsRight (new k w) = IsLgK k
 IsRight (image bytes) = AreBytes bytes
 IsRight (coupon s v) = IsPair (pair s v)
 IsRight (union n m w) = IsLgK m
+IsRight (fold e) = IsLgK e
 
 pair_right : (s v : ℕ) → s < 2 ^ 26 → 1 ≤ v → v ≤ 63 → IsPair (pair s v)
 pair_right s v low least most =
@@ -62,6 +69,7 @@ step_right l step e = right step (reading-well_formed l step e)
     right (image bytes) h = h
     right (coupon s v) h = pair_right s v h.0 h.1 h.2
     right (union n m w) h = record { low = h.0; high = h.1 }
+    right (fold e) h = record { low = h.0; high = h.1 }
 
 -- ---- the stack stays legal
 
@@ -96,19 +104,22 @@ AreBytes-take n b h = All-from_get_or (λ c. c < 256) (take n b) 0 (at n b h)
 
 carried_legal : (ts : List Plan) (step : PlanStep) (us : List Plan) → IsRight step → AreLegal ts → Carries ts step us → AreLegal us
 carried_legal ts (new k w) us r h c = subst AreLegal (sym c) (AreLegal-append ts _ h (r, tt))
-carried_legal ts (image bytes) us r h c = subst AreLegal (sym c.3) (AreLegal-append ts _ h ((image_is_legal (take c.0 bytes) c.1 (AreBytes-take c.0 bytes r) c.2, tt), tt))
+carried_legal ts (image bytes) us r h c = subst AreLegal (sym c.2) (AreLegal-append ts _ h ((image_is_legal (take c.1.size bytes) c.0 (AreBytes-take c.1.size bytes r) c.1.image, tt), tt))
 carried_legal ts (coupon s v) us r h c =
     let all : AreLegal (c.0 ++ c.1 ∷ []) = subst AreLegal c.2 h in
     subst AreLegal (sym c.3) (AreLegal-append c.0 _ (AreLegal-front c.0 _ all) (((AreLegal-back c.0 _ all).0, r), tt))
+carried_legal ts (fold e) us r h c =
+    let all : AreLegal (c.0 ++ c.1 ∷ []) = subst AreLegal c.2 h in
+    subst AreLegal (sym c.4) (AreLegal-append c.0 _ (AreLegal-front c.0 _ all) (((AreLegal-back c.0 _ all).0, record { low = r.low; high = c.3 }), tt))
 carried_legal ts (union n m w) us r h c =
     let all : AreLegal (c.0 ++ c.1) = subst AreLegal c.2 h in
     subst AreLegal (sym c.4) (AreLegal-append c.0 _ (AreLegal-front c.0 c.1 all) ((r, children_legal c.1 (AreLegal-back c.0 c.1 all)), tt))
 
-line_legal : (ts : List Plan) (l : List ℕ) (us : List Plan) → AreLegal ts → Gives full ts l us → AreLegal us
+line_legal : (ts : List Plan) (l : List ℕ) (us : List Plan) → AreLegal ts → Gives reading ts l us → AreLegal us
 line_legal ts l us h (skipped r e) = subst AreLegal (sym e) h
-line_legal ts l us h (taken step r t) = carried_legal ts step us (step_right l step r) h t.carries
+line_legal ts l us h (taken step r t) = carried_legal ts step us (step_right l step r) h t
 
-run_legal : (ts : List Plan) (ls : List (List ℕ)) (us : List Plan) → AreLegal ts → Runs full ts ls us → AreLegal us
+run_legal : (ts : List Plan) (ls : List (List ℕ)) (us : List Plan) → AreLegal ts → Runs reading ts ls us → AreLegal us
 run_legal ts [] us h r = subst AreLegal (sym r) h
 run_legal ts (l ∷ ls) us h r = run_legal r.0 ls us (line_legal ts l r.0 h r.1) r.2
 

@@ -2,11 +2,11 @@ pub mod Accepted
 pub mod CutLemmas
 pub mod EffectiveLgK
 pub mod FeedingLemmas
+pub mod EffectiveLgK
 pub mod Growing
 pub mod Headline
 pub mod Outcomes
 pub mod ReferenceSteps
 pub mod Rearranging
-pub mod Regrouping
 pub mod RunLemmas
 pub mod StackLemmas

@@ -8,10 +8,12 @@ use Rattle.hll_sketch.specs.Adding.{add}
 use Rattle.hll_sketch.specs.Merging.{merge_all, empty_union}
 use Rattle.hll_merge.specs.Plan.{Plan, Plans, union_of, no_plans, more_plans, outcome, outcomes, Leaves, LeavesOfEach}
 use Rattle.hll_sketch.specs.Grown.{IsGrown}
-use Rattle.hll_merge.specs.Grown.{union_value}
-use Rattle.hll_merge.specs.Rearrangement.{IsChild, both_plans, IsRearrangement, AreRearrangements, reordered, grouped, same, stored, flipped, chained, below_coupon, below_union, none, more, RearrangedPlansAgree}
-use Rattle.hll_merge.proofs.Growing.{merge-is_joined, fits}
-use Rattle.hll_merge.proofs.Regrouping.{joined_same, joined_joined}
+use Rattle.hll_sketch.specs.Joined.{union_value}
+use Rattle.hll_sketch.specs.Folding.{folded}
+use Rattle.hll_merge.specs.Rearrangement.{IsChild, both_plans, IsRearrangement, AreRearrangements, reordered, grouped, same, stored, flipped, chained, below_coupon, below_fold, below_union, none, more, RearrangedPlansAgree}
+use Rattle.hll_sketch.proofs.Joined.{merge_at_width}
+use Rattle.hll_sketch.proofs.Regrouping.{union_of_same, union_of_union}
+use Rattle.hll_merge.proofs.Growing.{fits}
 
 -- ---- children and their outcomes
 
@@ -40,7 +42,7 @@ outcomes-both (more_plans t ts) us = ap (λ xs. outcome t ∷ xs) (outcomes-both
 
 -- the join of the children
 union_is : (m : ℕ) (w : HllType) (ts : Plans) → Leaves IsGrown (union_of m w ts) → outcome (union_of m w ts) ≡ union_value m w (outcomes ts)
-union_is m w ts h = merge-is_joined m w (outcomes ts) h.0.high (fits ts h.1)
+union_is m w ts h = merge_at_width m w (outcomes ts) h.0.high (fits ts h.1)
 
 merged_as : (m : ℕ) (w : HllType) (xs ys : List Sketch) → xs ≡ ys → record (merge_all m (empty_union m) xs) { width = w } ≡ record (merge_all m (empty_union m) ys) { width = w }
 merged_as m w xs ys e = ap (λ zs. let y : Sketch = record (merge_all m (empty_union m) zs) { width = w } in y) e
@@ -50,11 +52,11 @@ merged_as m w xs ys e = ap (λ zs. let y : Sketch = record (merge_all m (empty_u
 mutual
   agree : {t u : Plan} → IsRearrangement t u → Leaves IsGrown t → Leaves IsGrown u → outcome t ≡ outcome u
   agree (reordered {m} {w} {ts} {us} s) h k =
-      union_is m w ts h ∙ joined_same m w (outcomes ts) (outcomes us) (members ts us s.there, members us ts s.back) ∙ sym (union_is m w us k)
+      union_is m w ts h ∙ union_of_same m w (outcomes ts) (outcomes us) (members ts us s.there, members us ts s.back) ∙ sym (union_is m w us k)
   agree (grouped {m} {v} {w} {ts} {us}) h k =
       union_is m w (more_plans (union_of m v ts) us) h
       ∙ ap (λ x. union_value m w (x ∷ outcomes us)) (union_is m v ts h.1.0)
-      ∙ joined_joined m v w (outcomes us) (outcomes ts) h.0.high (fits ts h.1.0.1)
+      ∙ union_of_union m v w (outcomes us) (outcomes ts) h.0.high (fits ts h.1.0.1)
       ∙ ap (union_value m w) (sym (outcomes-both ts us))
       ∙ sym (union_is m w (both_plans ts us) k)
   agree same h k = refl
@@ -62,6 +64,7 @@ mutual
   agree (flipped r) h k = sym (agree r k h)
   agree (chained u l r s) h k = agree r h l ∙ agree s l k
   agree (below_coupon {t} {u} {c} r) h k = ap (λ x. add x (set_of (c ∷ []))) (agree r h.0 k.0)
+  agree (below_fold {t} {u} {e} r) h k = ap (λ x. folded x e) (agree r h.0 k.0)
   agree (below_union {m} {w} {ts} {us} r) h k = merged_as m w (outcomes ts) (outcomes us) (agree_each r h.1 k.1)
 
   agree_each : {ts us : Plans} → AreRearrangements ts us → LeavesOfEach IsGrown ts → LeavesOfEach IsGrown us → outcomes ts ≡ outcomes us

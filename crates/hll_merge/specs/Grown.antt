@@ -1,37 +1,8 @@
--- The join of many sketches (docs/MODEL.md, "Convergence").
-use Rattle.std.specs.Prelude.{◌≡◌, ℕ, ◌≤◌, min, Bool, true, false, if◌then◌else◌, List, [], ◌∷◌, ◌++◌, Some, Contains}
-use Rattle.std.specs.List.{list_any, AllByRecursion}
-use Rattle.std.specs.FinSet.{empty, union, len}
-use Rattle.hll_coupons.specs.Pair.{Pairs}
-use Rattle.hll_coupons.specs.Fold.{fold_to}
-use Rattle.hll_coupons.specs.declared.hll_type.HllType.{HllType}
-use Rattle.hll_arrays.specs.State.{cleared_state}
-use Rattle.hll_sketch.specs.Stage.{stage}
-use Rattle.hll_sketch.specs.Value.{Sketch, registers, pairs_of, has_registers, ArePairs}
-use Rattle.hll_sketch.specs.Adding.{content_for}
+-- Plans over grown images (docs/MODEL.md, "Convergence").
+use Rattle.std.specs.Prelude.{◌≡◌}
 use Rattle.hll_sketch.specs.Grown.{IsGrown}
+use Rattle.hll_sketch.specs.Joined.{union_value}
 use Rattle.hll_merge.specs.Plan.{Plan, new, image, coupon, union_of, fold, outcome, outcomes, Leaves}
-
--- the pairs of all
-abbrev pub all_pairs : List Sketch → Pairs
-all_pairs [] = empty
-all_pairs (x ∷ xs) = union (pairs_of x) (all_pairs xs)
-
--- the least of m and of the lg_k of those in registers that are not all 0
-abbrev pub least_lg_k : ℕ → List Sketch → ℕ
-least_lg_k m [] = m
-least_lg_k m (x ∷ xs) = if has_registers x then min x.lg_k (least_lg_k m xs) else least_lg_k m xs
-
--- pairs at m in the size that they need from the start, or as registers at e
-abbrev pub union_value_of_pairs : ℕ → HllType → ℕ → Pairs → Bool → Sketch
-union_value_of_pairs m w e P true = record { lg_k = e; width = w; content = registers (fold_to P e) cleared_state }
-union_value_of_pairs m w e P false = record { lg_k = m; width = w; content = content_for m P (stage m 3 (len P)) }
-
--- the join of sketches under a bound, by one count over all their pairs
-abbrev pub union_value : ℕ → HllType → List Sketch → Sketch
-union_value m w xs = union_value_of_pairs m w (least_lg_k m xs) (all_pairs xs) (list_any has_registers xs)
-
--- ---- laws
 
 -- a union gives the join of its children
 abbrev pub JoinsChildren : Plan → Type 0
@@ -48,22 +19,3 @@ pub record Converges (t : Plan) : Type 0 where
 
 abbrev pub GrownPlansConverge : Type 0
 GrownPlansConverge = (t : Plan) → Leaves IsGrown t → Converges t
-
--- the lists have the same members
-abbrev pub SameMembers : List Sketch → List Sketch → Type 0
-SameMembers xs ys = ((x : Sketch) → Contains xs x → Contains ys x) × ((x : Sketch) → Contains ys x → Contains xs x)
-
--- a join does not depend on order or repetition
-abbrev pub UnionOfSame : Type 0
-UnionOfSame = (m : ℕ) (w : HllType) (xs ys : List Sketch) → SameMembers xs ys → union_value m w xs ≡ union_value m w ys
-
--- a grown sketch of pairs
-pub record IsGrownOfPairs (x : Sketch) : Type 0 where
-  pub small : x.lg_k ≤ 21
-  pub are : ArePairs (pairs_of x)
-  pub grown : IsGrown x
-
--- some may be joined first, under the same bound and at any width
-abbrev pub UnionOfUnion : Type 0
-UnionOfUnion = (m : ℕ) (v w : HllType) (xs ys : List Sketch) → m ≤ 21 → AllByRecursion IsGrownOfPairs ys →
-    union_value m w (union_value m v ys ∷ xs) ≡ union_value m w (ys ++ xs)

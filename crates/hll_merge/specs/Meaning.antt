@@ -1,14 +1,9 @@
 -- What the outcome of a plan means (docs/MODEL.md, "The meaning of a plan").
 use Rattle.std.specs.Prelude.{◌≡◌, ℕ, ◌≤◌, min, true}
-use Rattle.hll_coupons.specs.Pair.{Pairs}
 use Rattle.hll_coupons.specs.Fold.{fold_to}
-use Rattle.hll_sketch.specs.Value.{Sketch, Content, coupons, registers, pairs_of, has_registers}
+use Rattle.hll_sketch.specs.Meaning.{Means}
+use Rattle.hll_sketch.specs.Value.{Sketch, pairs_of, has_registers}
 use Rattle.hll_merge.specs.Plan.{Plan, inputs, outcome, effective_lg_k, IsLegalPlan, IsImageOf}
-
--- coupons are all the pairs, registers are their fold
-abbrev pub Means : ℕ → Content → Pairs → Type 0
-Means k (coupons S size) P = S ≡ P
-Means k (registers R state) P = R ≡ fold_to P k
 
 -- what holds of the outcome of a plan
 pub record HasMeaning (t : Plan) : Type 0 where

@@ -2,7 +2,7 @@
 //! (docs/MODEL.md, "The meaning of a plan", "Convergence" and "Plan texts").
 ghost use Rattle.hll_merge.specs.Meaning.{PlansHaveMeaning, SameInputsAgree};
 ghost use Rattle.hll_merge.specs.Headline.{OutcomeIsLegal, AcceptedPlansHold};
-ghost use Rattle.hll_merge.specs.Grown.{GrownPlansConverge, UnionOfSame, UnionOfUnion};
+ghost use Rattle.hll_merge.specs.Grown.{GrownPlansConverge};
 ghost use Rattle.hll_merge.specs.Rearrangement.{RearrangedPlansAgree};
 ghost use Rattle.hll_merge.specs.Texts.{OnePlan, OneFirstFault, AcceptedIsFaultless, FirstFaultsAreOwn};
 
@@ -20,16 +20,6 @@ pub fn same_inputs_agree()
 /// Plans over grown images give grown sketches, and a union the join of its children.
 pub fn grown_plans_converge()
     ensures { GrownPlansConverge }
-{}
-
-/// A join does not depend on order or repetition.
-pub fn union_of_same()
-    ensures { UnionOfSame }
-{}
-
-/// Some sketches may be joined first, under the same bound and at any width.
-pub fn union_of_union()
-    ensures { UnionOfUnion }
 {}
 
 /// Over grown images children may be reordered, repeated and grouped under the same bound, anywhere in a plan.

@@ -1,5 +1,5 @@
 -- Adding pairs once, twice and in turn, and the lg_k of a union.
-use Rattle.std.proofs.Common.{◌≡◌, ℕ, ◌≤◌, Bool, true, false, nat_eq, eqb, not, ◌&&◌, if◌then◌else◌, List, [], ◌∷◌, Option, Some, None, refl, sym, ap, ◌∙◌, inl, inr}
+use Rattle.std.proofs.Common.{◌≡◌, ℕ, ◌≤◌, Bool, true, false, cond, arith, nat_eq, eqb, not, ◌&&◌, if◌then◌else◌, List, [], ◌∷◌, Option, Some, None, refl, sym, ap, ◌∙◌, inl, inr}
 use Rattle.std.specs.Prelude.{min}
 use Rattle.std.specs.Cmp.Lexicographic.{pointwise}
 use Rattle.std.specs.FinSet.{union, len, from_list}
@@ -15,8 +15,9 @@ use Rattle.hll_arrays.proofs.States.{same_decides, state_after-same, state_after
 use Rattle.hll_sketch.specs.Stage.{stage}
 use Rattle.hll_sketch.specs.Value.{Content, coupons, registers, Sketch, is_empty, has_registers}
 use Rattle.hll_sketch.specs.Adding.{content_for, content_with, add}
-use Rattle.hll_sketch.specs.Merging.{merge, merge_registers, empty_union}
-use Rattle.hll_sketch.specs.Laws.{AddOfAdd, AddEach, add_in_turn, UnionLgK, Event, of_sketch, of_pairs, gadget_after_all, least_lg_k}
+use Rattle.hll_sketch.specs.Merging.{merge, merge_content, merge_registers, empty_union}
+use Rattle.hll_sketch.specs.Laws.{AddOfAdd, AddEach, add_in_turn, UnionLgK, Event, of_sketch, of_pairs, gadget_after_all, merged_sketches}
+use Rattle.hll_sketch.specs.Joined.{least_lg_k}
 use Rattle.hll_sketch.proofs.Sets.{union_assoc, len_union_le, from_list_cons, union_none}
 use Rattle.hll_sketch.proofs.Stages.{stage_again, stage_none}
 
@@ -88,9 +89,30 @@ lg_k-merge m g x = of x.lg_k x.width x.content
     of l w (coupons S p) = choose (eqb (len S) 0) (is_empty g && nat_eq g.lg_k l) (record { lg_k = l; width = w; content = coupons S p }) S
     of l w (registers R s) = pick (eqb (len (pairs R)) 0) (merge_registers m g l R s)
 
-lg_k-gadget_after_all : (bound : ℕ) (g : Sketch) (es : List Event) → (gadget_after_all bound g es).lg_k ≡ least_lg_k g.lg_k es
+-- the lg_k after one more
+abbrev pub lowered : ℕ → Sketch → ℕ
+lowered e x = if has_registers x then min x.lg_k e else e
+
+pub least-lowered : (e : ℕ) (x : Sketch) (xs : List Sketch) → least_lg_k (lowered e x) xs ≡ lowered (least_lg_k e xs) x
+least-lowered e x [] = refl
+least-lowered e x (y ∷ xs) = ap (λ n. cond (has_registers y) (min y.lg_k n) n) (least-lowered e x xs)
+    ∙ (elim (has_registers x) as (λ b. cond (has_registers y) (min y.lg_k (cond b (min x.lg_k n) n)) (cond b (min x.lg_k n) n) ≡ cond b (min x.lg_k (cond (has_registers y) (min y.lg_k n) n)) (cond (has_registers y) (min y.lg_k n) n)) [
+      | false ↦ refl
+      | true ↦ elim (has_registers y) as (λ d. cond d (min y.lg_k (min x.lg_k n)) (min x.lg_k n) ≡ min x.lg_k (cond d (min y.lg_k n) n)) [ true ↦ omega arith | false ↦ refl ]
+    ])
+  where
+    n : ℕ
+    n = least_lg_k e xs
+
+-- the lg_k of a gadget after one more, and then others
+pub least-merge : (bound : ℕ) (g x : Sketch) (xs : List Sketch) → least_lg_k (merge bound g x).lg_k xs ≡ least_lg_k g.lg_k (x ∷ xs)
+least-merge bound g x xs =
+    let next : (merge bound g x).lg_k ≡ lowered g.lg_k x = lg_k-merge bound g x ∙ elim (has_registers x) as (λ b. cond b (min g.lg_k x.lg_k) g.lg_k ≡ cond b (min x.lg_k g.lg_k) g.lg_k) [ true ↦ omega arith | false ↦ refl ] in
+    ap (λ k. least_lg_k k xs) next ∙ least-lowered g.lg_k x xs
+
+lg_k-gadget_after_all : (bound : ℕ) (g : Sketch) (es : List Event) → (gadget_after_all bound g es).lg_k ≡ least_lg_k g.lg_k (merged_sketches es)
 lg_k-gadget_after_all bound g [] = refl
-lg_k-gadget_after_all bound g (of_sketch x ∷ es) = lg_k-gadget_after_all bound (merge bound g x) es ∙ ap (λ k. least_lg_k k es) (lg_k-merge bound g x)
+lg_k-gadget_after_all bound g (of_sketch x ∷ es) = lg_k-gadget_after_all bound (merge bound g x) es ∙ least-merge bound g x (merged_sketches es)
 lg_k-gadget_after_all bound g (of_pairs T ∷ es) = lg_k-gadget_after_all bound (add g T) es
 
 pub union_lg_k : UnionLgK
@@ -98,3 +120,6 @@ union_lg_k bound es = lg_k-gadget_after_all bound (empty_union bound) es
 
 pub merge_of_empty : (bound : ℕ) (g x : Sketch) → is_empty x ≡ true → merge bound g x ≡ g
 merge_of_empty bound g x e = cond-true (is_empty x) g _ e
+
+pub merge_of_some : (bound : ℕ) (g x : Sketch) → is_empty x ≡ false → merge bound g x ≡ merge_content bound g x x.content
+merge_of_some bound g x e = cond-false (is_empty x) g _ e

@@ -13,14 +13,13 @@ use Rattle.hll_coupons.specs.Fold.{fold_to, join, pairs, greatest, value_at}
 use Rattle.hll_coupons.proofs.Greatest.{itself, reached}
 use Rattle.hll_coupons.proofs.Folds.{fold_to-union, length-fold_to, get_or-fold_to}
 use Rattle.hll_coupons.proofs.Registers.{fold_to-pairs, pairs_have, value_at_same}
-use Rattle.hll_coupons.specs.declared.hll_type.HllType.TheVariants.{Hll8}
 use Rattle.hll_arrays.specs.declared.estimate_state.EstimateState.{EstimateState}
 use Rattle.hll_sketch.specs.Stage.{stage}
-use Rattle.hll_sketch.specs.Value.{Sketch, Content, coupons, registers, pairs_in, pairs_of, in_registers, is_empty, empty_sketch, ArePairs, IsLegalContent, IsLegal}
+use Rattle.hll_sketch.specs.Value.{Sketch, Content, coupons, registers, pairs_in, pairs_of, in_registers, is_empty, ArePairs, IsLegalContent, IsLegal}
 use Rattle.hll_sketch.specs.Adding.{content_for, content_with, add}
 use Rattle.hll_sketch.specs.Merging.{merge_coupons, merge_registers, merge_content}
 use Rattle.hll_sketch.specs.Union.{IsGadget}
-use Rattle.hll_sketch.proofs.LegalImages.{all_pairs}
+use Rattle.hll_sketch.proofs.LegalImages.{ArePairs-set_of}
 use Rattle.hll_sketch.proofs.Sets.{no_members, union_right}
 use Rattle.hll_sketch.proofs.LegalSketches.{ArePairs-union, ArePairs-pairs, pairs_are}
 
@@ -79,10 +78,13 @@ All-one c pair = All-from_get_or IsPair (c ∷ []) 0 of
     of zero h = pair
     of (suc i) h = absurd (omega arith)
 
+pub ArePairs-one : (c : ℕ) → IsPair c → ArePairs (set_of (c ∷ []))
+ArePairs-one c pair = ArePairs-set_of (c ∷ []) (All-one c pair)
+
 -- a coupon added
 pub gadget_with_coupon : (m : ℕ) (g h : Sketch) (c : ℕ) → IsGadget m g → IsLegal g → 1 ≤ value_of c → value_of c ≤ 63 → h ≡ add g (set_of (c ∷ [])) → IsGadget m h
 gadget_with_coupon m g h c is legal valued small e = rw e
-    (gadget_with m g (set_of (c ∷ [])) is legal (all_pairs (c ∷ []) (All-one c (record { valued = valued; small = small })))
+    (gadget_with m g (set_of (c ∷ [])) is legal (ArePairs-one c (record { valued = valued; small = small }))
     (λ none. true≢false (sym (contains-from_list nat_cmp_total (c ∷ []) c ∙ or_left _ _ (itself c c refl)) ∙ ap (λ S. contains S c) none ∙ contains-empty nat_cmp c)))
 
 -- ---- a sketch merged

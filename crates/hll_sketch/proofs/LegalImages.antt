@@ -66,8 +66,8 @@ member P (x ∷ xs) c h m = elim (or_cases (eq_by_cmp nat_cmp c x) (has c xs) m)
   | inr l ↦ member P xs c (All-tail P x xs h) l
 ]
 
-pub all_pairs : (cs : List ℕ) → All IsPair cs → ArePairs (set_of cs)
-all_pairs cs h c m = member IsPair cs c h (sym (contains-from_list nat_cmp_total cs c) ∙ m)
+pub ArePairs-set_of : (cs : List ℕ) → All IsPair cs → ArePairs (set_of cs)
+ArePairs-set_of cs h c m = member IsPair cs c h (sym (contains-from_list nat_cmp_total cs c) ∙ m)
 
 are_pairs : (cs : List ℕ) → All (λ c. 1 ≤ value_of c) cs → All Fits cs → ArePairs (set_of cs)
 are_pairs cs valued fit c m =

@@ -14,16 +14,19 @@ pub mod Headers
 mod ImageRows
 pub mod Images
 pub mod Inserting
+pub mod Joined
 pub mod Keeping
 pub mod LegalImages
 pub mod LegalLayouts
 pub mod LegalSketches
 pub mod ListImages
+pub mod Meanings
 pub mod Merges
 pub mod Promoting
 pub mod ReadBack
 pub mod ReferenceSteps
 pub mod RegisterImages
+pub mod Regrouping
 pub mod SameLemmas
 pub mod Sets
 pub mod Stages

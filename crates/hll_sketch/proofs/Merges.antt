@@ -1,7 +1,7 @@
 -- Merges into a gadget, in the words of the definitions.
-use Rattle.std.proofs.Common.{◌≡◌, ◌+◌, ℕ, ◌-◌, ◌^◌, ◌≤◌, ◌<◌, ◌||◌, Bool, true, false, cond, ◌&&◌, nat_eq, leb, List, [], ◌∷◌, ◌++◌, Option, Some, None, length, refl, sym, ap, subst, ◌∙◌, arith, inl, inr, map, take, get_or, zero, suc}
+use Rattle.std.proofs.Common.{◌≡◌, ◌+◌, ℕ, ◌-◌, ◌^◌, ◌≤◌, ◌<◌, Bool, true, false, cond, ◌&&◌, nat_eq, leb, List, [], ◌∷◌, ◌++◌, Option, Some, None, length, refl, sym, ap, subst, ◌∙◌, arith, inl, inr, map, take, get_or, zero, suc}
 use Rattle.std.specs.Prelude.{min}
-use Rattle.std.specs.FinSet.{empty, union, len, contains, empty_of_len, len-empty, contains-empty}
+use Rattle.std.specs.FinSet.{empty, union, len, empty_of_len, len-empty}
 use Rattle.std.specs.Ordering.{nat_cmp}
 use Rattle.std.proofs.lemmas.Bool.{cases_Bool, cond-true, cond-false, and_parts, eqb-true, eq-eqb, ne_eqb, le-leb, lt-leb, true≢false}
 use Rattle.std.specs.Option.{unwrap_or}
@@ -22,14 +22,15 @@ use Rattle.hll_sketch.specs.Value.{Sketch, Content, coupons, registers, pairs_in
 use Rattle.hll_sketch.specs.Adding.{add, content_for, content_with}
 use Rattle.hll_sketch.specs.Layout.{Layout, list, set, array, SketchLayout, content_in, count_in, width_of, sketch_of, IsSize, TableChanges, NeedsMemory}
 use Rattle.hll_sketch.specs.Union.{IsGadget, coupons_kept, holds_all, ContentNeedsMemory}
-use Rattle.hll_sketch.specs.Laws.{add_in_turn, of_sketch, least_lg_k}
+use Rattle.hll_sketch.specs.Joined.{least_lg_k}
+use Rattle.hll_sketch.specs.Laws.{add_in_turn}
 use Rattle.hll_sketch.specs.Merging.{merge, merge_all, merge_content, merge_coupons, merge_registers, state_after_merge}
-use Rattle.hll_sketch.proofs.Adding.{add_each, lg_k-merge}
+use Rattle.hll_sketch.proofs.Adding.{add_each, least-merge}
 use Rattle.hll_sketch.proofs.Collecting.{union_behind, len-union_longer, len-union_none, len-union_with}
 use Rattle.hll_sketch.proofs.Gadgets.{false_unless}
 use Rattle.hll_sketch.proofs.Inserting.{insert-union, set_of-nil}
 use Rattle.hll_sketch.proofs.LegalSketches.{found_in_range}
-use Rattle.hll_sketch.proofs.Sets.{same_members, contains_union, union_none}
+use Rattle.hll_sketch.proofs.Sets.{union-empty, union_none}
 use Rattle.hll_sketch.proofs.Stages.{holds_fewer}
 use Rattle.hll_sketch.proofs.Steps.{stage_stays}
 
@@ -57,9 +58,6 @@ merged_aside bound g e k R s t least state = λ i. record g {
   lg_k = least i;
   content = registers ((sym (fold_to-union (pairs_of g) (pairs R) e) ∙ ap (fold_to (union (pairs_of g) (pairs R))) least) i) (state i);
 }
-
-union-empty : (P : Pairs) → union empty P ≡ P
-union-empty P = same_members (union empty P) P (λ q. contains_union empty P q ∙ ap (λ b. b || contains P q) (contains-empty nat_cmp q))
 
 -- registers taken whole by an empty gadget
 pub merged_whole : (bound : ℕ) (g : Sketch) (k : ℕ) (R : List ℕ) (s : EstimateState) → is_empty g ≡ true → k ≤ bound → g.lg_k ≡ bound → k ≤ 21 → length R ≡ 2 ^ k →
@@ -301,6 +299,6 @@ pub merged_more : (m : ℕ) (g : Sketch) (xs : List SketchLayout) (i : ℕ) (d :
     merge m (merge_all m g (map sketch_of (take i xs))) (sketch_of (get_or xs i d)) ≡ merge_all m g (map sketch_of (take (i + 1) xs))
 merged_more m g xs i d l = merged_next m g xs i d l ∙ ap (λ n. merge_all m g (map sketch_of (take n xs))) (let next : suc i ≡ i + 1 = omega arith in next)
 
-pub lg_k-merge_all : (m : ℕ) (g : Sketch) (xs : List SketchLayout) → (merge_all m g (map sketch_of xs)).lg_k ≡ least_lg_k g.lg_k (map (λ x. of_sketch (sketch_of x)) xs)
+pub lg_k-merge_all : (m : ℕ) (g : Sketch) (xs : List SketchLayout) → (merge_all m g (map sketch_of xs)).lg_k ≡ least_lg_k g.lg_k (map sketch_of xs)
 lg_k-merge_all m g [] = refl
-lg_k-merge_all m g (x ∷ xs) = lg_k-merge_all m (merge m g (sketch_of x)) xs ∙ ap (λ k. least_lg_k k (map (λ x. of_sketch (sketch_of x)) xs)) (lg_k-merge m g (sketch_of x))
+lg_k-merge_all m g (x ∷ xs) = lg_k-merge_all m (merge m g (sketch_of x)) xs ∙ least-merge m g (sketch_of x) (map sketch_of xs)

@@ -62,6 +62,9 @@ from_list_cons c cs = same_members _ _ (λ q.
 pub union_none : (T : Pairs) → union T (from_list {R = nat_cmp} []) ≡ T
 union_none T = same_members _ _ (λ q. contains_union T _ q ∙ ap (λ b. contains T q || b) (contains-from_list nat_cmp_total [] q) ∙ or-false (contains T q))
 
+pub union-empty : (P : Pairs) → union empty P ≡ P
+union-empty P = same_members (union empty P) P (λ q. contains_union empty P q ∙ ap (λ b. b || contains P q) (contains-empty nat_cmp q))
+
 -- ---- empty sets
 
 -- a set without members is empty

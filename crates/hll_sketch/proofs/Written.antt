@@ -25,7 +25,7 @@ use Rattle.hll_arrays.specs.Payload.{flag_of, hll4_bytes, WritesRegisters, IsHll
 use Rattle.hll_arrays.proofs.Written.{written_hll8, state_hll8, registers_hll8, written_hll6, state_hll6, registers_hll6, written_hll4, state_hll4, registers_hll4}
 use Rattle.hll_sketch.specs.Value.{Sketch, Content, coupons, registers, ArePairs, IsLgK, IsLegalContent, IsEqual, IsEqualContent}
 use Rattle.hll_sketch.specs.Image.{width_of_bits, list_shape, set_shape, IsListImage, Image, list, set, hll8, hll6, hll4}
-use Rattle.hll_sketch.proofs.LegalImages.{all_pairs}
+use Rattle.hll_sketch.proofs.LegalImages.{ArePairs-set_of}
 use Rattle.hll_sketch.specs.Written.{coupon_image, WritesContent, Written, WrittenIsImage, HaveSameSize, SameBytes, IsReadBack, ListIsReadBack}
 use Rattle.hll_sketch.proofs.Images.{one_image}
 
@@ -229,7 +229,7 @@ written_is_image bytes x legal written = content_image bytes x.lg_k x.width x.co
 
 pub list_is_read_back : ListIsReadBack
 list_is_read_back k w order more lg_k few valued distinct =
-    read_back k w (set_of order) order lg_k (all_pairs order valued) (record { members = refl; once = sym distinct }) more (omega (arith, distinct))
+    read_back k w (set_of order) order lg_k (ArePairs-set_of order valued) (record { members = refl; once = sym distinct }) more (omega (arith, distinct))
 
 -- ---- same bytes
 

@@ -1,12 +1,13 @@
 -- The laws of adding and merging (docs/MODEL.md, "Laws of adding and merging").
-use Rattle.std.specs.Prelude.{◌≡◌, ℕ, true, min, List, [], ◌∷◌, ◌++◌, if◌then◌else◌}
+use Rattle.std.specs.Prelude.{◌≡◌, ℕ, true, List, [], ◌∷◌, ◌++◌}
 use Rattle.std.specs.FinSet.{union}
 use Rattle.hll_coupons.specs.Pair.{Pairs, set_of}
-use Rattle.hll_sketch.specs.Value.{Sketch, is_empty, has_registers, ArePairs, IsLegal}
+use Rattle.hll_sketch.specs.Value.{Sketch, is_empty, ArePairs, IsLegal}
 use Rattle.hll_base.specs.declared.error.Reason.{Reason}
 use Rattle.hll_sketch.specs.Adding.{add}
 use Rattle.hll_sketch.specs.Fault.{Fault}
 use Rattle.hll_sketch.specs.Image.{IsReadAs}
+use Rattle.hll_sketch.specs.Joined.{least_lg_k}
 use Rattle.hll_sketch.specs.Written.{Written}
 use Rattle.hll_sketch.specs.Merging.{merge, empty_union}
 
@@ -43,15 +44,15 @@ abbrev pub gadget_after_all : ℕ → Sketch → List Event → Sketch
 gadget_after_all bound g [] = g
 gadget_after_all bound g (e ∷ es) = gadget_after_all bound (gadget_after bound g e) es
 
--- the least of k and of the lg_k of the merged sketches in registers that are not all 0
-abbrev pub least_lg_k : ℕ → List Event → ℕ
-least_lg_k k [] = k
-least_lg_k k (of_sketch x ∷ es) = least_lg_k (if has_registers x then min k x.lg_k else k) es
-least_lg_k k (of_pairs T ∷ es) = least_lg_k k es
+-- the sketches among them
+abbrev pub merged_sketches : List Event → List Sketch
+merged_sketches [] = []
+merged_sketches (of_sketch x ∷ es) = x ∷ merged_sketches es
+merged_sketches (of_pairs T ∷ es) = merged_sketches es
 
--- the lg_k of a union is the least of its bound and of those sketches
+-- the lg_k of a union is the least of its bound and of the merged sketches in registers that are not all 0
 abbrev pub UnionLgK : Type 0
-UnionLgK = (bound : ℕ) (es : List Event) → (gadget_after_all bound (empty_union bound) es).lg_k ≡ least_lg_k bound es
+UnionLgK = (bound : ℕ) (es : List Event) → (gadget_after_all bound (empty_union bound) es).lg_k ≡ least_lg_k bound (merged_sketches es)
 
 -- ---- legal values stay legal
 

@@ -6,8 +6,10 @@ pub mod Folding
 pub mod Grown
 pub mod Header
 pub mod Image
+pub mod Joined
 pub mod Laws
 pub mod Layout
+pub mod Meaning
 pub mod Merging
 pub mod Reference
 pub mod Same

@@ -2,6 +2,7 @@
 //! (docs/MODEL.md, "Laws of adding and merging" and "Images").
 ghost use Rattle.hll_sketch.specs.Laws.{AddOfAdd, AddEach, MergeOfEmpty, UnionLgK, AddIsLegal, MergeIsLegal, WrittenIsReadBack};
 ghost use Rattle.hll_sketch.specs.Layout.{OneStepSuffices};
+ghost use Rattle.hll_sketch.specs.Joined.{MergeOfGrown, UnionOfSame, UnionOfUnion, JoinsOfSame, JoinOfJoin};
 ghost use Rattle.hll_sketch.specs.Folding.{FoldedIsLegal, FoldedIsGrown, FoldedHasSameFolds};
 ghost use Rattle.hll_sketch.specs.Same.{SameIsEqual};
 ghost use Rattle.hll_sketch.specs.Image.{OneImage, ImageIsLegal};
@@ -37,6 +38,32 @@ pub fn merge_of_empty()
 /// The lg_k of a union is the least of its bound and of the merged sketches in registers that are not all 0.
 pub fn union_lg_k()
     ensures { UnionLgK }
+{}
+
+/// Grown sketches merged in turn into the empty union are their join.
+pub fn merge_of_grown()
+    ensures { MergeOfGrown }
+{}
+
+/// A join does not depend on order or repetition.
+pub fn union_of_same()
+    ensures { UnionOfSame }
+{}
+
+/// Some sketches may be joined first, under the same bound and at any width.
+pub fn union_of_union()
+    ensures { UnionOfUnion }
+{}
+
+/// Unions of the same bound and the same grown sketches have equal gadgets, whatever the order and however often each was
+/// merged.
+pub fn joins_of_same()
+    ensures { JoinsOfSame }
+{}
+
+/// Merging what a union of the same bound gives, at any width, is merging the grown sketches that went into it.
+pub fn join_of_join()
+    ensures { JoinOfJoin }
 {}
 
 /// No image begins another, and the bytes of an image have one meaning.

@@ -1,5 +1,5 @@
 //! Unions of sketches (docs/MODEL.md, "Merging").
-ghost use Rattle.std.specs.Prelude.{◌≡◌, ◌≤◌, ◌⊎◌, ◌↔◌, IsTrue, map, [], ◌∷◌, fold, IfOk, IfErr, OnOk, OnErr};
+ghost use Rattle.std.specs.Prelude.{◌≡◌, ◌≤◌, ◌⊎◌, ◌↔◌, IsTrue, All, List, map, [], ◌∷◌, ◌++◌, fold, IfOk, IfErr, OnOk, OnErr};
 ghost use Rattle.hll_base.specs.declared.error.Reason.TheVariants.{Memory};
 ghost use Rattle.hll_base.specs.declared.error.Reason.TheVariants as reasons;
 ghost use Rattle.hll_base.specs.Hash.{hash_of, initial_state, after_piece, default_seed};
@@ -8,11 +8,12 @@ ghost use Rattle.hll_coupons.specs.Pair.{value_of, set_of};
 ghost use Rattle.hll_coupons.specs.declared.hll_type.HllType.TheVariants.{Hll8};
 ghost use Rattle.hll_sketch.specs.Adding.{add};
 ghost use Rattle.hll_sketch.specs.Agree.{Agree};
+ghost use Rattle.hll_sketch.specs.Grown.{IsGrown};
 ghost use Rattle.hll_sketch.specs.Layout.{sketch_of, NeedsMemory};
-ghost use Rattle.hll_sketch.specs.Laws.{of_sketch, least_lg_k};
+ghost use Rattle.hll_sketch.specs.Joined.{least_lg_k, IsJoinOf};
 ghost use Rattle.hll_sketch.specs.Merging.{merge, merge_all, empty_union};
 ghost use Rattle.hll_sketch.specs.Union.{gadget_of, MergeNeedsMemory};
-ghost use Rattle.hll_sketch.specs.Value.{IsLgK, is_empty, size_of};
+ghost use Rattle.hll_sketch.specs.Value.{Sketch, IsLgK, is_empty, size_of};
 
 use crate::sketch::HllSketch;
 use hll_base::error::Error;
@@ -92,7 +93,8 @@ impl<A: Allocator> HllUnion<A> {
 }
 
 impl<A: Allocator + Clone> HllUnion<A> {
-    /// Merges a sketch of any stage, width and `lg_k` (docs/MODEL.md, "Merging"). One pass.
+    /// Merges a sketch of any stage, width and `lg_k` (docs/MODEL.md, "Merging"). One pass. The join of grown sketches and one
+    /// more is the join of them all (docs/MODEL.md, "Convergence").
     ///
     /// Fails with `Memory`, and then changes nothing, places included. Takes no memory for an empty sketch, for coupons
     /// into registers, for coupons that a table with some of its own holds beside these, nor for registers into registers
@@ -100,10 +102,12 @@ impl<A: Allocator + Clone> HllUnion<A> {
     pub fn update(&mut self, sketch: &HllSketch<A>) -> Result<(), Error>
         ensures ok { OnOk result (gadget_of self.new ≡ merge self.old.lg_max_k (gadget_of self.old) (sketch_of sketch.now)) }
         ensures bound { self.new.lg_max_k ≡ self.old.lg_max_k }
+        ensures grown { OnOk result ((xs : List Sketch) → IsJoinOf xs self.old → IsGrown (sketch_of sketch.now) → IsJoinOf (xs ++ sketch_of sketch.now ∷ []) self.new) }
         ensures unchanged { OnErr result (self.new ≡ self.old) }
         ensures needed { OnErr result (MergeNeedsMemory (gadget_of self.old) (sketch_of sketch.now)) }
         ensures err { IfErr result (λ e. e ≡ Memory) }
     {
+        sketch.value_is_legal();
         self.gadget.merge(self.lg_max_k, sketch)
     }
 
@@ -178,7 +182,7 @@ impl<A: Allocator + Clone> HllUnion<A> {
 }
 
 /// The union of sketches under a bound. Its `lg_k` is the least of the bound and of the `lg_k` of the sketches in registers
-/// that are not all 0.
+/// that are not all 0. Where all sketches are grown, the gadget is their join, whatever their order, and grown.
 ///
 /// Fails with `Argument` if `lg_max_k` is not 4 to 21, or else with `Memory`.
 pub fn union_of<A: Allocator + Clone>(
@@ -188,12 +192,14 @@ pub fn union_of<A: Allocator + Clone>(
 ) -> Result<HllUnion<A>, Error>
     ensures merged { IfOk result (λ u. gadget_of u ≡ merge_all lg_max_k (empty_union lg_max_k) (map sketch_of sketches.now)) }
     ensures bound { IfOk result (λ u. u.lg_max_k ≡ lg_max_k) }
-    ensures lg_k { IfOk result (λ u. (gadget_of u).lg_k ≡ least_lg_k lg_max_k (map (λ x. of_sketch (sketch_of x)) sketches.now)) }
+    ensures lg_k { IfOk result (λ u. (gadget_of u).lg_k ≡ least_lg_k lg_max_k (map sketch_of sketches.now)) }
+    ensures grown { IfOk result (λ u. All IsGrown (map sketch_of sketches.now) → IsJoinOf (map sketch_of sketches.now) u) }
     ensures outside { IfErr result (λ e. e ≡ reasons.Argument → IsLgK lg_max_k → ⊥) }
     ensures err { IfErr result (λ e. (e ≡ reasons.Argument) ⊎ (e ≡ Memory)) }
 {
     let mut union = HllUnion::new(alloc, lg_max_k)?;
     for sketch in sketches {
+        sketch.value_is_legal();
         union.update(sketch)?;
     }
     Ok(union)

@@ -1,8 +1,9 @@
-use Rattle.std.proofs.Common.{map, ap, ◌∙◌}
+use Rattle.std.proofs.Common.{map, ap, subst, ◌∙◌, All}
 use Rattle.std.proofs.lemmas.List.{take_all}
 use Rattle.hll_sketch.specs.Layout.{sketch_of}
 use Rattle.hll_sketch.specs.Merging.{merge, merge_all, empty_union}
-use Rattle.hll_sketch.specs.Value.{Sketch}
+use Rattle.hll_sketch.specs.Value.{Sketch, IsLegal}
+use Rattle.hll_sketch.proofs.Joined.{legal_more, joined_list}
 use Rattle.hll_sketch.proofs.Merges.{merged_more, lg_k-merge_all}
 use Rattle.hll_sketch.proofs.union.union_of.Goals as goal
 
@@ -12,6 +13,8 @@ loop-sketch-preserved g c = (
   c.in_ok-update.ensures.ok
       ∙ (λ i. merge (c.loop-sketch.invariant.0 i) (c.loop-sketch.invariant.1 i) (sketch_of (c.sketch-item.is i)))
       ∙ merged_more c.args.lg_max_k (empty_union c.args.lg_max_k) c.args.sketches.now c.loop-sketch.sketch-index c.sketch-item.result c.loop-sketch-test.true,
+  legal_more c.args.sketches.now c.loop-sketch.sketch-index c.sketch-item.result c.loop-sketch-test.true c.loop-sketch.invariant.2
+      (subst (λ x. IsLegal (sketch_of x)) c.sketch-item.is c.value_is_legal.ensures),
 )
 
 pub returns-clause-merged : goal.returns-clause-merged
@@ -20,5 +23,10 @@ returns-clause-merged g c =
 
 pub returns-clause-lg_k : goal.returns-clause-lg_k
 returns-clause-lg_k g c =
-    ap (λ (x : Sketch). x.lg_k) (c.loop-sketch.invariant.1 ∙ ap (λ xs. merge_all c.args.lg_max_k (empty_union c.args.lg_max_k) (map sketch_of xs)) (take_all c.loop-sketch.sketch-index c.args.sketches.now c.loop-sketch-test.false))
+    ap (λ (x : Sketch). x.lg_k) (returns-clause-merged g c)
     ∙ lg_k-merge_all c.args.lg_max_k (empty_union c.args.lg_max_k) c.args.sketches.now
+
+pub returns-clause-grown : goal.returns-clause-grown
+returns-clause-grown g c = λ grown.
+    joined_list c.args.lg_max_k c.loop-sketch.union c.args.sketches.now c.loop-sketch.invariant.0 (returns-clause-merged g c) c.in_ok-union.ensures.lg_k.high
+    (subst (All (λ x. IsLegal (sketch_of x))) (take_all c.loop-sketch.sketch-index c.args.sketches.now c.loop-sketch-test.false) c.loop-sketch.invariant.2) grown

@@ -1,4 +1,4 @@
--- The value of a union depends on neither the order, nor the repetition, nor the grouping of its children.
+-- The value of a union depends on neither the order, nor the repetition, nor the grouping of the sketches.
 use Rattle.std.proofs.Common.{◌≡◌, ℕ, ◌<◌, ◌≤◌, zero, suc, Bool, true, false, cond, not, ◌||◌, eqb, List, [], ◌∷◌, ◌++◌, Option, Some, None, length, refl, sym, ap, ◌∙◌, arith, inl, inr}
 use Rattle.std.specs.Prelude.{min}
 use Rattle.std.specs.List.{list_any, AllByRecursion}
@@ -10,15 +10,19 @@ use Rattle.hll_coupons.specs.Fold.{fold_to, join, pairs}
 use Rattle.std.specs.List.{slice_index_or, Contains}
 use Rattle.hll_coupons.proofs.Folds.{fold_to-union}
 use Rattle.hll_coupons.specs.declared.hll_type.HllType.{HllType}
+use Rattle.hll_coupons.specs.declared.hll_type.HllType.TheVariants.{Hll8}
+use Rattle.std.proofs.lemmas.List.Elements.{Contains-append_left, Contains-append_right, Contains-append_cases}
+use Rattle.hll_sketch.specs.Union.{gadget_of}
 use Rattle.hll_sketch.specs.Stage.{stage}
 use Rattle.hll_arrays.specs.State.{cleared_state}
 use Rattle.hll_sketch.specs.Value.{registers, Sketch, pairs_of, has_registers, ArePairs}
 use Rattle.hll_sketch.specs.Adding.{content_for}
-use Rattle.hll_merge.specs.Grown.{all_pairs, least_lg_k, union_value_of_pairs, union_value, UnionOfSame, UnionOfUnion, IsGrownOfPairs}
-use Rattle.hll_sketch.proofs.Sets.{same_members, union_assoc, contains_union, len_union_le, or_assoc, or-false}
+use Rattle.hll_sketch.specs.Joined.{all_pairs, least_lg_k, union_value_of_pairs, union_value, UnionOfSame, UnionOfUnion, IsGrownOfPairs, JoinsOfSame, JoinOfJoin}
+use Rattle.hll_sketch.proofs.Sets.{same_members, union_assoc, contains_union, len_union_le, or_assoc, or-false, union-empty, union_none}
 use Rattle.hll_sketch.proofs.Stages.{stage_none}
-use Rattle.hll_merge.proofs.Outcomes.{nothing, folds_as, union-empty, empty-union}
-use Rattle.hll_merge.proofs.Growing.{SoFar-more, least-lowered, lowered, lowered_le, nothing-yet, SoFar}
+use Rattle.hll_sketch.proofs.Meanings.{nothing, folds_as}
+use Rattle.hll_sketch.proofs.Adding.{lowered, least-lowered}
+use Rattle.hll_sketch.proofs.Joined.{SoFar, SoFar-more, lowered_le, nothing-yet, width-changed}
 
 -- ---- order and repetition
 
@@ -69,8 +73,8 @@ both_ways_same true b f g = sym (f refl)
 both_ways_same false true f g = g refl
 both_ways_same false false f g = refl
 
-pub joined_same : UnionOfSame
-joined_same m w xs ys same =
+pub union_of_same : UnionOfSame
+union_of_same m w xs ys same =
     let pairs_same : all_pairs xs ≡ all_pairs ys = same_members (all_pairs xs) (all_pairs ys) (λ q. both_ways_same (contains (all_pairs xs) q) (contains (all_pairs ys) q)
     (from_pairs xs q _ (λ x c d. let to = same.0 x c in reach_pairs ys x q to.0 to.1 to.2 d))
     (from_pairs ys q _ (λ x c d. let to = same.1 x c in reach_pairs xs x q to.0 to.1 to.2 d))) in
@@ -100,7 +104,7 @@ least-append m (y ∷ ys) xs = elim (has_registers y) as (λ b. cond b (min y.lg
 ]
 
 SoFar-all : (m e : ℕ) (P : Pairs) (any : Bool) (xs : List Sketch) → SoFar m e P any → AllByRecursion IsGrownOfPairs xs → SoFar m (least_lg_k e xs) (union P (all_pairs xs)) (any || list_any has_registers xs)
-SoFar-all m e P any [] h f = rw (empty-union P, or-false any) h
+SoFar-all m e P any [] h f = rw (union_none P, or-false any) h
 SoFar-all m e P any (x ∷ xs) h f =
     rw (← least-lowered e x xs, ← union_assoc P (pairs_of x) (all_pairs xs), ← or_assoc any (has_registers x) (list_any has_registers xs))
     (SoFar-all m (lowered e x) (union P (pairs_of x)) (any || has_registers x) xs (SoFar-more m e P any x h f.0.are) f.1)
@@ -160,8 +164,8 @@ module _ (m : ℕ) (v w : HllType) (a : ℕ) (A : Pairs) (xs : List Sketch) wher
           (λ i. let x : Sketch = record { lg_k = at i; width = w; content = registers (fold_to (union A X) (at i)) cleared_state } in x)
           ∙ ap (λ o. let x : Sketch = record { lg_k = m; width = w; content = content_for m (union A X) o } in x) (sym none)
 
-pub joined_joined : UnionOfUnion
-joined_joined m v w xs ys small f =
+pub union_of_union : UnionOfUnion
+union_of_union m v w xs ys small f =
     of (least_lg_k m ys) (list_any has_registers ys) refl
     (rw (← union-empty (all_pairs ys)) (SoFar-all m m empty false ys (nothing-yet m small) f))
     ∙ sym (λ i. union_value_of_pairs m w (least-append m ys xs i) (all_pairs-append ys xs i) (any-append ys xs i))
@@ -170,3 +174,34 @@ joined_joined m v w xs ys small f =
     of a true e h = first_registers m v w a (all_pairs ys) xs (omega (arith, h.small, h.below)) h.are (h.some refl)
     of a false e h = first_settled m v w a (all_pairs ys) xs small h.are (stage m 3 (len (all_pairs ys))) refl
         ∙ ap (λ k. union_value_of_pairs m w k (union (all_pairs ys) (all_pairs xs)) (list_any has_registers xs)) (let s : least_lg_k m xs ≡ min a (least_lg_k m xs) = omega (arith, h.none refl, least_bound m xs) in s)
+
+-- ---- unions
+
+pub joins_of_same : JoinsOfSame
+joins_of_same u v xs ys bound one two same =
+    one.value ∙ ap (λ m. union_value m Hll8 xs) bound ∙ union_of_same v.lg_max_k Hll8 xs ys same ∙ sym two.value
+
+swapped : (xs ys : List Sketch) (x : Sketch) → Contains (xs ++ ys) x → Contains (ys ++ xs) x
+swapped xs ys x h = elim (Contains-append_cases xs ys x h) [ inl l ↦ Contains-append_right ys xs x l | inr r ↦ Contains-append_left ys xs x r ]
+
+front : (xs ys zs : List Sketch) → AllByRecursion IsGrownOfPairs (xs ++ zs) → AllByRecursion IsGrownOfPairs ys → AllByRecursion IsGrownOfPairs (xs ++ ys)
+front [] ys zs h k = k
+front (x ∷ xs) ys zs h k = (h.0, front xs ys zs h.1 k)
+
+pub join_of_join : JoinOfJoin
+join_of_join u v w xs ys bound inner outer =
+    let m : ℕ = u.lg_max_k in
+    let y : Sketch = record (gadget_of v) { width = w } in
+    let is : y ≡ union_value m w ys =
+    ap (λ (x : Sketch). let z : Sketch = record x { width = w } in z) (inner.value ∙ ap (λ k. union_value k Hll8 ys) (sym bound))
+    ∙ width-changed m w (least_lg_k m ys) (all_pairs ys) (list_any has_registers ys) in
+    record {
+      small = outer.small;
+      merged = front xs ys (y ∷ []) outer.merged inner.merged;
+      value = outer.value
+          ∙ union_of_same m Hll8 (xs ++ y ∷ []) (y ∷ xs) (swapped xs (y ∷ []), swapped (y ∷ []) xs)
+          ∙ ap (λ z. union_value m Hll8 (z ∷ xs)) is
+          ∙ union_of_union m w Hll8 xs ys outer.small inner.merged
+          ∙ union_of_same m Hll8 (ys ++ xs) (xs ++ ys) (swapped ys xs, swapped xs ys);
+      grown = outer.grown;
+    }
