@@ -1,9 +1,8 @@
 -- Lemmas on texts: a text has one plan or one first fault, and not both.
-use Rattle.std.proofs.Common.{◌≡◌, ℕ, suc, ◌+◌, ◌<◌, inl, inr, List, [], ◌∷◌, ◌++◌, length, take, drop, refl, sym, ◌∙◌, ap, subst, arith, Option, Some, None, Ok, Err}
+use Rattle.std.proofs.Common.{◌≡◌, ℕ, suc, ◌+◌, inl, inr, List, [], ◌∷◌, ◌++◌, length, take, drop, refl, sym, ◌∙◌, ap, subst, arith, Some, None, Ok, Err}
 use Rattle.std.proofs.lemmas.List.{length-append, take-append-drop}
 use Rattle.std.proofs.lemmas.Result.{IfErr-at_err}
 use Rattle.std.specs.Str.Lines.{lines}
-use Rattle.hll_base.specs.declared.error.Reason.{Reason}
 use Rattle.hll_base.specs.Reason.{kind_of}
 use Rattle.hll_coupons.specs.Pair.{pair}
 use Rattle.hll_sketch.specs.Checks.{first_fault}
@@ -19,7 +18,7 @@ use Rattle.hll_text.specs.Text.{PlanStep, Reading, new, image, coupon, union, fo
 use Rattle.hll_text.proofs.FaultLemmas.{IfErr-reading}
 use Rattle.hll_merge.specs.Plan as plan
 use Rattle.hll_merge.specs.Plan.{Plan, plans_of, effective_lg_k}
-use Rattle.hll_merge.specs.Accepting.{Carries, IsFaultOfStep, Gives, IsFaultOfLine, Runs, FaultsFrom, FaultsAtLine, AcceptsLines, IsFirstFaultOfLines, skipped, taken, unread, refused}
+use Rattle.hll_merge.specs.Accepting.{Carries, IsFaultOfStep, Gives, IsFaultOfLine, Runs, FaultsFrom, AcceptsLines, IsFirstFaultOfLines, skipped, taken, unread, refused}
 use Rattle.hll_merge.specs.Evaluate.{itself}
 use Rattle.hll_merge.specs.Texts.{OnePlan, OneFirstFault, AcceptedIsFaultless, IsOwnFault, FirstFaultsAreOwn}
 

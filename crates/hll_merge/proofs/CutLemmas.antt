@@ -1,9 +1,9 @@
 -- Two feeds of one text agree.
-use Rattle.std.proofs.Common.{◌≡◌, List, [], Option, Some, None, inl, inr, sym, ◌∙◌, subst}
+use Rattle.std.proofs.Common.{◌≡◌, [], Option, Some, None, inl, inr, sym, ◌∙◌, subst}
 use Rattle.hll_text.specs.declared.fault.MergeError.{MergeError}
 use Rattle.hll_text.specs.Text.{ended_lines, reading}
 use Rattle.hll_merge.specs.Stack.{AllRepresent}
-use Rattle.hll_merge.specs.Feeding.{Feed, IsFedBy, going, stopped, AgreeBy, CutsAgree}
+use Rattle.hll_merge.specs.Feeding.{Feed, going, stopped, AgreeBy, CutsAgree}
 use Rattle.hll_merge.proofs.Accepted.{one_run, runs_or_faults, one_first_fault_from}
 
 by_faults : (s u : Feed) (d e : Option MergeError) → s.fault ≡ d → u.fault ≡ e → AgreeBy d e s u → AgreeBy s.fault u.fault s u

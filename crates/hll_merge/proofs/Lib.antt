@@ -2,7 +2,6 @@ pub mod Accepted
 pub mod CutLemmas
 pub mod EffectiveLgK
 pub mod FeedingLemmas
-pub mod EffectiveLgK
 pub mod Growing
 pub mod Headline
 pub mod Outcomes

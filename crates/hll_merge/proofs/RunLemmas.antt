@@ -1,5 +1,5 @@
 -- Lemmas on the answer of a run.
-use Rattle.std.proofs.Common.{◌≡◌, ◌⊎◌, ℕ, Option, None, Some, List, [], ◌∷◌, ◌++◌, inl, inr, refl, sym, ◌∙◌, ap, subst, append_assoc, Result, Ok, Err}
+use Rattle.std.proofs.Common.{◌≡◌, ◌⊎◌, ℕ, Option, None, Some, List, [], ◌++◌, inl, refl, sym, ◌∙◌, ap, subst, append_assoc, Result, Ok, Err}
 use Rattle.std.specs.Result.{IsErrAnd, MatchResult}
 use Rattle.std.proofs.lemmas.List.{append-nil}
 use Rattle.std.specs.Io.KnownBytes.{Consumes, IsAtEnd}
@@ -62,5 +62,5 @@ first_of_front text taken more e is f =
     let after : List (List ℕ) = ended_lines (open_line taken ++ more) in
     let last : List (List ℕ) = line_of_rest (open_line (taken ++ more)) in
     let all : lines (taken ++ more) ≡ ended_lines taken ++ (after ++ last) =
-        lines-ended (taken ++ more) ∙ ap (λ ls. ls ++ last) (ended_lines-append taken more) ∙ append_assoc (ended_lines taken) after last in
+    lines-ended (taken ++ more) ∙ ap (λ ls. ls ++ last) (ended_lines-append taken more) ∙ append_assoc (ended_lines taken) after last in
     inl (subst (λ t. FaultsAtLine reading (lines t) e) (sym is) (subst (λ ls. FaultsAtLine reading ls e) (sym all) (FaultsFrom-before [] 0 (ended_lines taken) (after ++ last) e f)))

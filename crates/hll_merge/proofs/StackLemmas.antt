@@ -1,5 +1,5 @@
 -- Lemmas on carrying out steps: the sketches of a stack are outcomes of the plans.
-use Rattle.std.proofs.Common.{◌≡◌, ℕ, zero, suc, ◌+◌, ◌-◌, ◌<◌, ◌≤◌, inl, inr, List, [], ◌∷◌, ◌++◌, length, take, drop, get_or, Some, refl, sym, ◌∙◌, ap, subst, arith, map, option_to_list, Option, None}
+use Rattle.std.proofs.Common.{◌≡◌, ℕ, zero, suc, ◌+◌, ◌-◌, ◌<◌, ◌≤◌, inl, inr, List, [], ◌∷◌, ◌++◌, length, take, drop, get_or, Some, refl, sym, ◌∙◌, ap, subst, arith, map, option_to_list, Option}
 use Rattle.std.proofs.Math.ListN.{set}
 use Rattle.std.proofs.Math.Nat.{eq-or-lt_of_le}
 use Rattle.std.proofs.Math.Seq.{take-suc, get_or-append_seam}
@@ -139,8 +139,8 @@ replaced_from xs at y h =
     ∙ elim (eq-or-lt_of_le h) [
       | inl same ↦
           let there : take (at + 1) (set (set ys at (get_or ys n y)) at (get_or ys at y)) ≡ take at ys ++ get_or ys at y ∷ [] =
-              take_more_set (set ys at (get_or ys n y)) at (get_or ys at y) (omega (arith, length-set ys at (get_or ys n y), same))
-              ∙ ap (λ zs. zs ++ get_or ys at y ∷ []) (take-set ys at (get_or ys n y)) in
+          take_more_set (set ys at (get_or ys n y)) at (get_or ys at y) (omega (arith, length-set ys at (get_or ys n y), same))
+          ∙ ap (λ zs. zs ++ get_or ys at y ∷ []) (take-set ys at (get_or ys n y)) in
           ap (λ k. take (at + 1) (set (set ys at (get_or ys n y)) k (get_or ys at y))) (sym same)
           ∙ there ∙ (λ i. front i ++ (ap (λ k. get_or ys k y) same ∙ last) i ∷ [])
       | inr low ↦

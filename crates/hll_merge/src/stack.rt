@@ -110,7 +110,8 @@ impl<A: Allocator + Clone> Stack<A> {
     fn replace_from(&mut self, at: usize, sketch: HllSketch<A>) -> Result<(), Fault>
         requires { at ≤ length self.old }
         ensures ok { OnOk result (self.new ≡ take at self.old ++ sketch ∷ []) }
-        ensures err { IfErr result (λ e. (e ≡ Memory) × (self.new ≡ self.old)) }
+        ensures err { IfErr result (λ e. e ≡ Memory) }
+        ensures unchanged { OnErr result (self.new ≡ self.old) }
     {
         let last = self.sketches.len();
         self.sketches.push(sketch)?;

@@ -1,6 +1,5 @@
 use Rattle.std.proofs.Common.{◌≡◌, ℕ, ◌+◌, inl, inr, List, [], ◌∷◌, ◌++◌, length, ap, sym, subst, ◌∙◌, append_assoc, arith}
 use Rattle.std.proofs.lemmas.List.{length-append}
-use Rattle.hll_merge.specs.Plan.{Plan}
 use Rattle.hll_text.specs.Text.{line_number, ended_lines}
 use Rattle.hll_merge.specs.Stack.{StackStops}
 use Rattle.hll_merge.proofs.StackLemmas.{Runs-more}

@@ -1,6 +1,5 @@
 use Rattle.std.proofs.Common.{◌≡◌, ◌+◌, ◌-◌, ◌++◌, [], ◌∷◌, List, ℕ, length, take, drop, inl, inr, refl, sym, ap, subst, ◌∙◌, arith}
 use Rattle.std.specs.Str.Lines.{strip_carriage_return}
-use Rattle.hll_merge.specs.Plan.{Plan}
 use Rattle.hll_text.specs.Text.{ended_lines, line_number, reading}
 use Rattle.hll_merge.specs.Accepting.{Gives, IsFaultOfLine}
 use Rattle.hll_text.specs.Cuts.{Closes}

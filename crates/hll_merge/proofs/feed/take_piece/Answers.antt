@@ -15,12 +15,12 @@ returns-in-Ok-extend_from_slice g c =
       let n : c.in-Ok.found.1 ≡ line_number (c.args.count + length (ended_lines (c.args.pending.now.items ++ c.args.piece.now))) =
           omega (arith, carried.1, closed.2, ap length closed.1.lines, length-append ended left) in n,
       λ ts h.
-        let a = closed.3 ts h in
-        let b = carried.2 a.0 a.2 in (
-          b.0,
-          subst (λ ls. Runs reading ts ls b.0) (sym closed.1.lines) (Runs-append ts a.0 b.0 ended left a.1 b.1),
-          b.2,
-        ),
+          let a = closed.3 ts h in
+          let b = carried.2 a.0 a.2 in (
+            b.0,
+            subst (λ ls. Runs reading ts ls b.0) (sym closed.1.lines) (Runs-append ts a.0 b.0 ended left a.1 b.1),
+            b.2,
+          ),
     )
 
 pub returns-in-Err : goal.returns-in-Err

@@ -1,6 +1,6 @@
-use Rattle.std.proofs.Common.{◌≡◌, ◌++◌, ℕ, List, [], take, refl, sym, ap, subst, ◌∙◌}
+use Rattle.std.proofs.Common.{◌++◌, ℕ, List, [], take, sym, ap, subst, ◌∙◌}
 use Rattle.std.proofs.lemmas.List.{append-nil}
-use Rattle.hll_merge.specs.Feeding.{Feed, IsFedBy, TakesPiece, unfed}
+use Rattle.hll_merge.specs.Feeding.{Feed, IsFedBy, TakesPiece}
 use Rattle.hll_text.proofs.StreamLemmas.{Consumes-nil, Consumes-more}
 use Rattle.hll_merge.proofs.FeedingLemmas.{unfed-stream, none_of_option, Consumes-keeps}
 use Rattle.hll_merge.proofs.run.feed_all.Goals as goal

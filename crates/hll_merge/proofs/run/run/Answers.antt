@@ -1,6 +1,5 @@
-use Rattle.std.proofs.Common.{◌≡◌, ◌∙◌, inl, inr, sym, subst, ap, refl, length, take, string_bytes}
+use Rattle.std.proofs.Common.{◌≡◌, ◌∙◌, inl, inr, sym, subst, refl}
 use Rattle.std.proofs.KnownBytes.{Keeps-refl}
-use Rattle.hll_merge.specs.Accepting.{IsFirstFault}
 use Rattle.hll_merge.specs.Run.{IsAnswer, IsRefused}
 use Rattle.hll_merge.proofs.FeedingLemmas.{Gone, gone}
 use Rattle.hll_merge.proofs.RunLemmas.{all_of, refused_with, fault_of_fed, Whole, whole_of, first_of_front}

@@ -1,7 +1,6 @@
-use Rattle.std.proofs.Common.{◌≡◌, ◌⊎◌, ◌+◌, ◌++◌, ◌∷◌, [], ℕ, List, length, inl, inr, refl, sym, ap, subst, ◌∙◌, arith}
+use Rattle.std.proofs.Common.{◌≡◌, ◌⊎◌, ◌+◌, ◌++◌, ◌∷◌, [], ℕ, List, length, inl, inr, sym, ap, subst, ◌∙◌, arith}
 use Rattle.std.proofs.lemmas.List.{append-nil, length-append}
 use Rattle.std.specs.Str.Lines.{lines}
-use Rattle.hll_merge.specs.Plan.{Plan}
 use Rattle.hll_text.specs.Text.{ended_lines, line_of_rest, line_number, reading}
 use Rattle.hll_text.specs.declared.fault.Fault.TheVariants.{Memory}
 use Rattle.hll_merge.specs.Accepting.{Runs, FaultsAtLine}
@@ -26,7 +25,7 @@ returns-in-Ok-clause-going g c = λ none text h.
     let s : Gone text old = gone text old (subst (λ x. IsFedBy text x) (sym c.self.view_is) h) c.in_default.is in
     let last : List ℕ = c.as_slice-last.result.now in
     let same : lines text ≡ ended_lines text ++ last ∷ [] =
-        s.lines ∙ ap (λ bytes. ended_lines text ++ line_of_rest bytes) (sym c.as_slice-last.ensures.value) ∙ ap (λ ls. ended_lines text ++ ls) (one-left last (sym c.is_empty.ensures ∙ c.if-is_empty.false)) in
+    s.lines ∙ ap (λ bytes. ended_lines text ++ line_of_rest bytes) (sym c.as_slice-last.ensures.value) ∙ ap (λ ls. ended_lines text ++ ls) (one-left last (sym c.is_empty.ensures ∙ c.if-is_empty.false)) in
     let next = c.in-Ok.ensures.ok s.stack s.all in (
       record { plans = next.0; runs = subst (λ ls. Runs reading [] ls next.0) (sym same) (Runs-more [] s.stack next.0 (ended_lines text) last s.runs next.1); all = next.2 },
       let n : c.saturating_add-number.result ≡ line_number (length (lines text)) = omega (arith, s.count, c.saturating_add-number.ensures, ap length same, length-append (ended_lines text) (last ∷ [])) in n,
@@ -38,7 +37,7 @@ returns-in-Err-clause-going g c = λ none text h. subst (λ e. (e.fault ≡ Memo
     let s : Gone text old = gone text old (subst (λ x. IsFedBy text x) (sym c.self.view_is) h) c.in_default.is in
     let last : List ℕ = c.as_slice-last.result.now in
     let same : lines text ≡ ended_lines text ++ last ∷ [] =
-        s.lines ∙ ap (λ bytes. ended_lines text ++ line_of_rest bytes) (sym c.as_slice-last.ensures.value) ∙ ap (λ ls. ended_lines text ++ ls) (one-left last (sym c.is_empty.ensures ∙ c.if-is_empty.false)) in
+    s.lines ∙ ap (λ bytes. ended_lines text ++ line_of_rest bytes) (sym c.as_slice-last.ensures.value) ∙ ap (λ ls. ended_lines text ++ ls) (one-left last (sym c.is_empty.ensures ∙ c.if-is_empty.false)) in
     elim (c.in-Err.ensures.err s.stack s.all) [
       | inl m ↦ inl m
       | inr f ↦ inr (record {

@@ -1,4 +1,4 @@
-use Rattle.std.proofs.Common.{◌≡◌, ◌++◌, List, ℕ, Some, sym, ap, subst, refl, ◌∙◌}
+use Rattle.std.proofs.Common.{◌++◌, Some, sym, ap, subst, refl, ◌∙◌}
 use Rattle.hll_merge.specs.Feeding.{Feed, TakesPiece, RefusesPiece, IsFedBy}
 use Rattle.hll_text.specs.Cuts.{IsOpen}
 use Rattle.hll_merge.proofs.FeedingLemmas.{takes-stream, refuses-stream, stays-stream}

@@ -1,4 +1,4 @@
-use Rattle.std.proofs.Common.{◌≡◌, inl, inr, ◌∷◌, [], ◌++◌, List, ap, ◌∙◌, refl}
+use Rattle.std.proofs.Common.{inl, inr, ◌∷◌, [], ◌++◌, ap, ◌∙◌, refl}
 use Rattle.hll_base.proofs.Errors.{IfErr-passed}
 use Rattle.hll_sketch.specs.Layout.{SketchLayout}
 use Rattle.hll_text.specs.Step.{fault_of}

@@ -1,5 +1,5 @@
-use Rattle.std.proofs.Common.{◌≡◌, ◌-◌, ◌<◌, ◌≤◌, inl, inr, ◌∷◌, [], ◌++◌, List, ℕ, take, drop, map, length, ap, sym, subst, ◌∙◌, refl, arith}
-use Rattle.std.proofs.lemmas.Result.{on_ok_weaker}
+use Rattle.std.proofs.Common.{◌≡◌, ◌-◌, inl, inr, ◌∷◌, [], ◌++◌, List, ℕ, take, length, ap, sym, subst, ◌∙◌, refl, arith}
+use Rattle.std.proofs.lemmas.Result.{IfErr-weaker, on_ok_weaker}
 use Rattle.hll_base.proofs.Errors.{IfErr-passed}
 use Rattle.hll_sketch.specs.Layout.{SketchLayout}
 use Rattle.hll_sketch.specs.Value.{Sketch}
@@ -32,3 +32,9 @@ returns-clause-ok g c =
     (omega (arith, c.in-Some.ensures.0, count)) (c.in-Some.ensures.1 ∙ ap (λ n. n - c.args.count) count)
     (c.in_ok-sketch.ensures.ok ∙ ap (λ (z : Sketch). record z { width = c.args.hll_type }) c.in_ok-union.ensures.merged)
     (gives ∙ ap (λ xs. take at xs ++ made ∷ []) (sym all)))) c.replace_from.ensures.ok
+
+pub returns-clause-err : goal.returns-clause-err
+returns-clause-err g c = IfErr-weaker c.replace_from.result _ _ (λ e m ts h. inl m) c.replace_from.ensures.err
+
+pub returns-clause-unchanged : goal.returns-clause-unchanged
+returns-clause-unchanged g c = c.replace_from.ensures.unchanged

@@ -1,4 +1,4 @@
-use Rattle.std.proofs.Common.{◌≡◌, ℕ, ◌+◌, ◌∷◌, [], ◌++◌, List, take, length, ap, sym, ◌∙◌, arith}
+use Rattle.std.proofs.Common.{◌≡◌, ◌+◌, ◌∷◌, [], ◌++◌, List, take, length, ap, ◌∙◌, arith}
 use Rattle.std.specs.List.{swap}
 use Rattle.hll_sketch.specs.Layout.{SketchLayout}
 use Rattle.hll_merge.proofs.StackLemmas.{replaced_from}
