@@ -1,7 +1,7 @@
 pub mod Accepted
-pub mod FedLemmas
-pub mod FeedingLemmas
+pub mod CutLemmas
 pub mod EffectiveLgK
+pub mod FeedingLemmas
 pub mod Growing
 pub mod Headline
 pub mod Outcomes

@@ -1,238 +1,221 @@
--- Lemmas on carrying out lines: the sketches that are kept stand for the plans of a stack.
-use Rattle.std.proofs.Common.{◌≡◌, ℕ, zero, suc, ◌-◌, ◌<◌, ◌≤◌, inl, inr, List, [], ◌∷◌, ◌++◌, length, take, drop, refl, sym, ◌∙◌, ap, subst, arith}
-use Rattle.std.specs.Prelude.{◌↔◌}
-use Rattle.std.specs.List.{AllByRecursion}
-use Rattle.std.proofs.lemmas.List.{take-append-drop, take_at, drop_at, length-append}
+-- Lemmas on carrying out steps: the sketches of a stack are outcomes of the plans.
+use Rattle.std.proofs.Common.{◌≡◌, ℕ, zero, suc, ◌+◌, ◌-◌, ◌<◌, ◌≤◌, inl, inr, List, [], ◌∷◌, ◌++◌, length, take, drop, get_or, Some, refl, sym, ◌∙◌, ap, subst, arith, map, option_to_list, Option}
+use Rattle.std.proofs.Math.ListN.{set}
+use Rattle.std.proofs.Math.Nat.{eq-or-lt_of_le}
+use Rattle.std.proofs.Math.Seq.{take-suc, get_or-append_seam}
+use Rattle.std.proofs.lemmas.List.{set_split, take_all, take-append-drop, take-append-le, take-set, take-set-le, take_more_set, length-append, length-drop, length-set}
+use Rattle.std.proofs.lemmas.List.Edits.{swap_is}
+use Rattle.std.specs.List.{swap}
+use Rattle.hll_base.specs.declared.error.Reason.{Reason}
+use Rattle.hll_base.specs.declared.error.Reason.TheVariants as reasons
+use Rattle.hll_base.specs.declared.error.ErrorKind.TheVariants.{InvalidData}
+use Rattle.hll_base.specs.Reason.{kind_of}
 use Rattle.hll_coupons.specs.Pair.{pair, set_of}
 use Rattle.hll_coupons.specs.declared.hll_type.HllType.{HllType}
-use Rattle.hll_coupons.specs.declared.hll_type.HllType.TheVariants.{Hll8}
-use Rattle.hll_sketch.specs.Value.{Sketch, coupons}
 use Rattle.hll_sketch.specs.Adding.{add}
-use Rattle.hll_sketch.specs.Merging.{merge, merge_all, empty_union}
-use Rattle.hll_sketch.specs.Image as images
-use Rattle.hll_sketch.specs.Image.{stage_bits, width_bits, IsListImage, IsHll8Image}
-use Rattle.hll_sketch.proofs.Images.{same_stage, same_width}
-use Rattle.hll_sketch.proofs.Inserting.{set_of-nil}
-use Rattle.hll_text.specs.declared.fault.Fault.{Fault}
-use Rattle.hll_merge.specs.Plan as plan
-use Rattle.hll_merge.specs.Plan.{Plan, outcome, outcomes, plans_of, inputs}
-use Rattle.hll_text.specs.Text.{new, image, coupon}
+use Rattle.hll_sketch.specs.Checks.{first_fault}
+use Rattle.hll_sketch.specs.Folding.{folded}
+use Rattle.hll_sketch.specs.Image.{IsReadAs}
+use Rattle.hll_sketch.specs.Layout.{SketchLayout, sketch_of}
+use Rattle.hll_sketch.specs.Merging.{merge_all, empty_union}
+use Rattle.hll_sketch.specs.Value.{Sketch}
+use Rattle.hll_sketch.proofs.FaultKinds.{faults_are_of_data}
+use Rattle.hll_sketch.proofs.FirstFaults.{first_fault_stands}
+use Rattle.hll_text.specs.declared.fault.Fault.TheVariants as faults
+use Rattle.hll_text.specs.Step.{fault_of}
 use Rattle.hll_text.specs.Text as text
-use Rattle.hll_merge.specs.Accepting.{Service, Takes, IsRefusal, Gives, Runs, unserved, faulty}
-use Rattle.hll_merge.specs.Served.{today, IsServed, LeavesServed, IsBeyond, IsOfSize, IsJoinable, last_of}
-use Rattle.hll_merge.specs.Listed.{fresh}
-use Rattle.hll_merge.specs.Kept as kept
-use Rattle.hll_merge.specs.Kept.{Kept, value_of_kept, Adds, GoesBeyond, IsReadFrom, of_list, of_array, RefusesBytes, other_image, no_image, UpdatesLast, RefusesLast, none, beyond, MergesEach, CanJoin, JoinsLast, RefusesUnion, fewer, unjoined, Represents, AllRepresent}
+use Rattle.hll_text.specs.Text.{PlanStep, reading}
+use Rattle.hll_merge.specs.Plan as plan
+use Rattle.hll_merge.specs.Plan.{Plan, outcome, outcomes, plans_of, effective_lg_k}
+use Rattle.hll_merge.specs.Accepting.{Gives, Runs, IsAboveLast, IsFaultOfStep}
+use Rattle.hll_merge.specs.Stack.{Represents, AllRepresent, ReplacesLast, IsAbove, StackCarries}
+use Rattle.hll_merge.proofs.EffectiveLgK.{lg_k-outcome}
 
--- ---- one sketch
+-- ---- a stack and its plans
 
-pub fresh-stands : (k : ℕ) (w : HllType) → Represents (kept.list (fresh k w)) (plan.new k w)
-fresh-stands k w = ap (λ S. let x : Sketch = record { lg_k = k; width = w; content = coupons S 3 } in x) set_of-nil
-
-pub adds-stands : (x y : Kept) (t : Plan) (c : ℕ) → Represents x t → Adds x c y → Represents y (plan.coupon t c)
-adds-stands x y t c h a = a.value ∙ ap (λ z. add z (set_of (c ∷ []))) h
-
--- ---- a stack
-
-pub AllRepresent-push : (xs : List Kept) (ts : List Plan) (x : Kept) (t : Plan) → AllRepresent xs ts → Represents x t → AllRepresent (xs ++ x ∷ []) (ts ++ t ∷ [])
+pub AllRepresent-push : (xs : List SketchLayout) (ts : List Plan) (x : SketchLayout) (t : Plan) → AllRepresent xs ts → Represents x t → AllRepresent (xs ++ x ∷ []) (ts ++ t ∷ [])
 AllRepresent-push [] [] x t h s = (s, tt)
 AllRepresent-push [] (u ∷ ts) x t h s = absurd h
 AllRepresent-push (y ∷ xs) [] x t h s = absurd h
 AllRepresent-push (y ∷ xs) (u ∷ ts) x t h s = (h.0, AllRepresent-push xs ts x t h.1 s)
 
 -- what the last of a stack stands for
-pub record Last (front : List Kept) (last : Kept) (ts : List Plan) : Type 0 where
-  pub below : List Plan
-  pub top : Plan
-  pub is : ts ≡ below ++ top ∷ []
-  pub stand : AllRepresent front below
-  pub stands : Represents last top
+record Last (front : List SketchLayout) (last : SketchLayout) (ts : List Plan) : Type 0 where
+  below : List Plan
+  top : Plan
+  is : ts ≡ below ++ top ∷ []
+  all : AllRepresent front below
+  one : Represents last top
 
-pub AllRepresent-last : (front : List Kept) (last : Kept) (ts : List Plan) → AllRepresent (front ++ last ∷ []) ts → Last front last ts
+AllRepresent-last : (front : List SketchLayout) (last : SketchLayout) (ts : List Plan) → AllRepresent (front ++ last ∷ []) ts → Last front last ts
 AllRepresent-last [] last [] h = absurd h
-AllRepresent-last [] last (t ∷ []) h = record { below = []; top = t; is = refl; stand = tt; stands = h.0 }
+AllRepresent-last [] last (t ∷ []) h = record { below = []; top = t; is = refl; all = tt; one = h.0 }
 AllRepresent-last [] last (t ∷ u ∷ ts) h = absurd h.1
 AllRepresent-last (x ∷ front) last [] h = absurd h
 AllRepresent-last (x ∷ front) last (t ∷ ts) h =
     let l : Last front last ts = AllRepresent-last front last ts h.1 in
-    record { below = t ∷ l.below; top = l.top; is = ap (λ us. t ∷ us) l.is; stand = (h.0, l.stand); stands = l.stands }
+    record { below = t ∷ l.below; top = l.top; is = ap (λ us. t ∷ us) l.is; all = (h.0, l.all); one = l.one }
 
-AllRepresent-nil : (xs : List Kept) (ts : List Plan) → xs ≡ [] → AllRepresent xs ts → ts ≡ []
+pub AllRepresent-nil : (xs : List SketchLayout) (ts : List Plan) → xs ≡ [] → AllRepresent xs ts → ts ≡ []
 AllRepresent-nil [] [] e h = refl
 AllRepresent-nil [] (t ∷ ts) e h = absurd h
 AllRepresent-nil (x ∷ xs) ts e h = absurd (cc)
 
-LeavesServed-last : (below : List Plan) (t : Plan) (c : ℕ) → LeavesServed (below ++ t ∷ []) c ≡ (IsServed (outcome (plan.coupon t c)) → ⊥)
-LeavesServed-last [] t c = refl
-LeavesServed-last (u ∷ []) t c = refl
-LeavesServed-last (u ∷ v ∷ below) t c = LeavesServed-last (v ∷ below) t c
-
--- the plan's question is the sketch's
-asks : (x : Kept) (below ts : List Plan) (t : Plan) (c : ℕ) → Represents x t → ts ≡ below ++ t ∷ [] → LeavesServed ts c ≡ GoesBeyond x c
-asks x below ts t c h is =
-    ap (λ us. LeavesServed us c) is ∙ LeavesServed-last below t c ∙ ap (λ z. IsServed (add z (set_of (c ∷ []))) → ⊥) (sym h)
-
--- ---- steps
-
-pub takes-new : (xs : List Kept) (ts : List Plan) (k : ℕ) (w : HllType) → AllRepresent xs ts
-    → (us : List Plan) × Takes today ts (new k w) us × AllRepresent (xs ++ kept.list (fresh k w) ∷ []) us
-takes-new xs ts k w h = (ts ++ plan.new k w ∷ [], record { served = λ z. z; carries = refl }, AllRepresent-push xs ts (kept.list (fresh k w)) (plan.new k w) h (fresh-stands k w))
-
-pub takes-coupon : (xs ys : List Kept) (ts : List Plan) (s v : ℕ) → AllRepresent xs ts → UpdatesLast xs (pair s v) ys
-    → (us : List Plan) × Takes today ts (coupon s v) us × AllRepresent ys us
-takes-coupon xs ys ts s v h u =
-    let l : Last u.front u.last ts = AllRepresent-last u.front u.last ts (subst (λ zs. AllRepresent zs ts) u.is h) in
-    let c : ℕ = pair s v in (
-      l.below ++ plan.coupon l.top c ∷ [],
-      record {
-        served = λ z. subst (λ T. T) (asks u.last l.below ts l.top c l.stands l.is) z (subst IsServed u.adds.value u.adds.served);
-        carries = (l.below, l.top, l.is, refl);
-      },
-      subst (λ zs. AllRepresent zs (l.below ++ plan.coupon l.top c ∷ [])) (sym u.gives)
-          (AllRepresent-push u.front l.below u.raised (plan.coupon l.top c) l.stand (adds-stands u.last u.raised l.top c l.stands u.adds)),
-    )
-
-pub refuses-coupon : (xs : List Kept) (ts : List Plan) (s v : ℕ) (e : Fault) → AllRepresent xs ts → RefusesLast xs (pair s v) e → IsRefusal today ts (coupon s v) e
-refuses-coupon xs ts s v e h (none is) =
-    let bare : ts ≡ [] = AllRepresent-nil xs ts is h in
-    faulty (λ z. subst (λ us. LeavesServed us (pair s v)) bare z) (bare, refl)
-refuses-coupon xs ts s v e h (beyond front last is at) =
-    let l : Last front last ts = AllRepresent-last front last ts (subst (λ zs. AllRepresent zs ts) is h) in
-    unserved (subst (λ T. T) (sym (asks last l.below ts l.top (pair s v) l.stands l.is)) at) refl
-
--- an image of a list is no other, nor is one of registers of eight bits
-not_beyond-list : (bytes : List ℕ) (n : ℕ) → IsListImage (take n bytes) → IsBeyond bytes → ⊥
-not_beyond-list bytes n h other =
-    let zeroth : stage_bits bytes ≡ 0 = sym (same_stage (take n bytes) (drop n bytes) bytes (take-append-drop n bytes) h.header.whole) ∙ h.header.stage_is in
-    elim other [
-      | inl set ↦ omega (arith, zeroth, set.stage_is)
-      | inr hll ↦ omega (arith, zeroth, hll.0.stage_is)
-    ]
-
-not_beyond-hll8 : (bytes : List ℕ) (n : ℕ) → IsHll8Image (take n bytes) → IsBeyond bytes → ⊥
-not_beyond-hll8 bytes n h other =
-    let e = take-append-drop n bytes in
-    let second : stage_bits bytes ≡ 2 = sym (same_stage (take n bytes) (drop n bytes) bytes e h.header.whole) ∙ h.header.stage_is in
-    let width : width_bits bytes ≡ 2 = sym (same_width (take n bytes) (drop n bytes) bytes e h.header.whole) ∙ h.width in
-    elim other [
-      | inl set ↦ omega (arith, second, set.stage_is)
-      | inr hll ↦ hll.1 width
-    ]
-
-pub takes-image : (xs : List Kept) (ts : List Plan) (bytes : List ℕ) (x : Kept) → AllRepresent xs ts → IsReadFrom bytes x
-    → (us : List Plan) × Takes today ts (image bytes) us × AllRepresent (xs ++ x ∷ []) us
-takes-image xs ts bytes x h (of_list n l right is) = (
-  ts ++ plan.image (value_of_kept (kept.list l)) ∷ [],
-  record { served = not_beyond-list bytes n right; carries = (n, value_of_kept (kept.list l), images.list right is, refl) },
-  AllRepresent-push xs ts (kept.list l) (plan.image (value_of_kept (kept.list l))) h refl,
-)
-takes-image xs ts bytes x h (of_array n a right is) = (
-  ts ++ plan.image (value_of_kept (kept.array a)) ∷ [],
-  record { served = not_beyond-hll8 bytes n right; carries = (n, value_of_kept (kept.array a), images.hll8 right is, refl) },
-  AllRepresent-push xs ts (kept.array a) (plan.image (value_of_kept (kept.array a))) h refl,
-)
-
-pub refuses-image : (ts : List Plan) (bytes : List ℕ) (e : Fault) → RefusesBytes bytes e → IsRefusal today ts (image bytes) e
-refuses-image ts bytes e (other_image h) = unserved h refl
-refuses-image ts bytes e (no_image r h f) = faulty h (r, f, refl)
-
-pub length-AllRepresent : (xs : List Kept) (ts : List Plan) → AllRepresent xs ts → length xs ≡ length ts
+pub length-AllRepresent : (xs : List SketchLayout) (ts : List Plan) → AllRepresent xs ts → length xs ≡ length ts
 length-AllRepresent [] [] h = refl
 length-AllRepresent [] (t ∷ ts) h = absurd h
 length-AllRepresent (x ∷ xs) [] h = absurd h
 length-AllRepresent (x ∷ xs) (t ∷ ts) h = ap suc (length-AllRepresent xs ts h.1)
 
--- ---- unions
-
-AllRepresent-drop : (k : ℕ) (xs : List Kept) (ts : List Plan) → AllRepresent xs ts → AllRepresent (drop k xs) (drop k ts)
+AllRepresent-drop : (k : ℕ) (xs : List SketchLayout) (ts : List Plan) → AllRepresent xs ts → AllRepresent (drop k xs) (drop k ts)
 AllRepresent-drop zero xs ts h = h
 AllRepresent-drop (suc k) [] [] h = tt
 AllRepresent-drop (suc k) [] (t ∷ ts) h = absurd h
 AllRepresent-drop (suc k) (x ∷ xs) [] h = absurd h
 AllRepresent-drop (suc k) (x ∷ xs) (t ∷ ts) h = AllRepresent-drop k xs ts h.1
 
-AllRepresent-take : (k : ℕ) (xs : List Kept) (ts : List Plan) → AllRepresent xs ts → AllRepresent (take k xs) (take k ts)
+AllRepresent-take : (k : ℕ) (xs : List SketchLayout) (ts : List Plan) → AllRepresent xs ts → AllRepresent (take k xs) (take k ts)
 AllRepresent-take zero xs ts h = tt
 AllRepresent-take (suc k) [] [] h = tt
 AllRepresent-take (suc k) [] (t ∷ ts) h = absurd h
 AllRepresent-take (suc k) (x ∷ xs) [] h = absurd h
 AllRepresent-take (suc k) (x ∷ xs) (t ∷ ts) h = (h.0, AllRepresent-take k xs ts h.1)
 
--- the plans are of a size where the sketches are
-sizes : (m : ℕ) (xs : List Kept) (ts : List Plan) → AllRepresent xs ts
-    → AllByRecursion (λ x. IsOfSize m (value_of_kept x)) xs ↔ AllByRecursion (λ t. IsOfSize m (outcome t)) ts
-sizes m [] [] h = (λ z. z, λ z. z)
-sizes m [] (t ∷ ts) h = absurd h
-sizes m (x ∷ xs) [] h = absurd h
-sizes m (x ∷ xs) (t ∷ ts) h =
-    let more = sizes m xs ts h.1 in
-    (λ z. (subst (IsOfSize m) h.0 z.0, more.0 z.1), λ z. (subst (IsOfSize m) (sym h.0) z.0, more.1 z.1))
+-- the values of a stack are its plans' outcomes
+AllRepresent-values : (xs : List SketchLayout) (ts : List Plan) → AllRepresent xs ts → map sketch_of xs ≡ outcomes (plans_of ts)
+AllRepresent-values [] [] h = refl
+AllRepresent-values [] (t ∷ ts) h = absurd h
+AllRepresent-values (x ∷ xs) [] h = absurd h
+AllRepresent-values (x ∷ xs) (t ∷ ts) h = λ i. h.0 i ∷ AllRepresent-values xs ts h.1 i
 
--- sketches merged in turn give their plans' outcomes merged in turn
-merge-in_turn : (m : ℕ) (g y : Kept) (xs : List Kept) (ts : List Plan) → AllRepresent xs ts → MergesEach m g xs y
-    → value_of_kept y ≡ merge_all m (value_of_kept g) (outcomes (plans_of ts))
-merge-in_turn m g y [] [] h e = ap value_of_kept e
-merge-in_turn m g y [] (t ∷ ts) h e = absurd h
-merge-in_turn m g y (x ∷ xs) [] h e = absurd h
-merge-in_turn m g y (x ∷ xs) (t ∷ ts) h e =
-    let is : value_of_kept e.0 ≡ merge m (value_of_kept g) (outcome t) = e.1.value ∙ ap (merge m (value_of_kept g)) h.0 in
-    merge-in_turn m e.0 y xs ts h.1 e.2 ∙ ap (λ z. merge_all m z (outcomes (plans_of ts))) is
-
--- the result is of eight bits
-width-in_turn : (m : ℕ) (g y : Kept) (xs : List Kept) → MergesEach m g xs y → (value_of_kept g).width ≡ Hll8 → (value_of_kept y).width ≡ Hll8
-width-in_turn m g y [] e w = ap (λ x. (value_of_kept x).width) e ∙ w
-width-in_turn m g y (x ∷ xs) e w = width-in_turn m e.0 y xs e.2 e.1.size.width
-
-union-stands : (m : ℕ) (w : HllType) (y : Kept) (xs : List Kept) (ts : List Plan) → w ≡ Hll8 → AllRepresent xs ts → MergesEach m (kept.list (fresh m Hll8)) xs y
-    → Represents y (plan.union_of m w (plans_of ts))
-union-stands m w y xs ts eight h e =
-    let all : value_of_kept y ≡ merge_all m (value_of_kept (kept.list (fresh m Hll8))) (outcomes (plans_of ts)) = merge-in_turn m (kept.list (fresh m Hll8)) y xs ts h e in
-    let bare : value_of_kept (kept.list (fresh m Hll8)) ≡ empty_union m = fresh-stands m Hll8 in
-    let same : (value_of_kept y).width ≡ w = width-in_turn m (kept.list (fresh m Hll8)) y xs e refl ∙ sym eight in
-    (λ i. record (value_of_kept y) { width = same i }) ∙ ap (λ (z : Sketch). record z { width = w }) (all ∙ ap (λ g. merge_all m g (outcomes (plans_of ts))) bare)
-
--- the last sketches may be joined where their plans may be
-joinable : (n m : ℕ) (w : HllType) (xs : List Kept) (ts : List Plan) → AllRepresent xs ts → CanJoin m w (last_of n xs) ↔ IsJoinable m w (last_of n ts)
-joinable n m w xs ts h =
-    let stand : AllRepresent (last_of n xs) (last_of n ts) = subst (λ k. AllRepresent (drop (k - n) xs) (last_of n ts)) (sym (length-AllRepresent xs ts h)) (AllRepresent-drop (length ts - n) xs ts h) in
-    let all = sizes m (last_of n xs) (last_of n ts) stand in
-    (λ z. record { small = z.small; width = z.width; each = all.0 z.each }, λ z. record { small = z.small; width = z.width; each = all.1 z.each })
-
-pub takes-union : (xs ys : List Kept) (ts : List Plan) (n m : ℕ) (w : HllType) → AllRepresent xs ts → JoinsLast xs n m w ys
-    → (us : List Plan) × Takes today ts (text.union n m w) us × AllRepresent ys us
-takes-union xs ys ts n m w h u =
-    let at : ℕ = length u.front in
-    let whole : AllRepresent (u.front ++ u.last) ts = subst (λ zs. AllRepresent zs ts) u.is h in
-    let below : List Plan = take at ts in
-    let top : List Plan = drop at ts in
-    let low : AllRepresent u.front below = subst (λ zs. AllRepresent zs below) (take_at u.front u.last at refl) (AllRepresent-take at (u.front ++ u.last) ts whole) in
-    let high : AllRepresent u.last top = subst (λ zs. AllRepresent zs top) (drop_at u.front u.last at refl) (AllRepresent-drop at (u.front ++ u.last) ts whole) in
-    let last : last_of n xs ≡ u.last = ap (last_of n) u.is ∙ ap (λ k. drop k (u.front ++ u.last)) (let seam : length (u.front ++ u.last) - n ≡ at = omega (arith, length-append u.front u.last, u.number) in seam) ∙ drop_at u.front u.last at refl in (
-      below ++ plan.union_of m w (plans_of top) ∷ [],
-      record {
-        served = λ z. z.1 ((joinable n m w xs ts h).0 (subst (CanJoin m w) (sym last) u.can));
-        carries = (below, top, sym (take-append-drop at ts), sym (length-AllRepresent u.last top high) ∙ u.number, refl);
-      },
-      subst (λ zs. AllRepresent zs (below ++ plan.union_of m w (plans_of top) ∷ [])) (sym u.gives)
-          (AllRepresent-push u.front below u.joined (plan.union_of m w (plans_of top)) low (union-stands m w u.joined u.last top u.can.width high u.joins)),
-    )
-
-pub refuses-union : (xs : List Kept) (ts : List Plan) (n m : ℕ) (w : HllType) (e : Fault) → AllRepresent xs ts → RefusesUnion xs n m w e → IsRefusal today ts (text.union n m w) e
-refuses-union xs ts n m w e h (fewer l) = let few : length ts < n = omega (arith, l, length-AllRepresent xs ts h) in faulty (λ z. omega (arith, z.0, few)) (few, refl)
-refuses-union xs ts n m w e h (unjoined l cannot) =
-    unserved (let enough : n ≤ length ts = omega (arith, l, length-AllRepresent xs ts h) in enough, λ z. cannot ((joinable n m w xs ts h).1 z)) refl
-
--- ---- lines
-
-pub Runs-more : (service : Service (List ℕ)) (ts us vs : List Plan) (front : List (List ℕ)) (line : List ℕ) → Runs service ts front us → Gives service us line vs → Runs service ts (front ++ line ∷ []) vs
-Runs-more service ts us vs [] line h g = (vs, subst (λ zs. Gives service zs line vs) h g, refl)
-Runs-more service ts us vs (l ∷ front) line h g = (h.0, h.1, Runs-more service h.0 us vs front line h.2 g)
-
--- a stack of one stands for one plan
-pub AllRepresent-one : (x : Kept) (xs : List Kept) (ts : List Plan) → xs ≡ x ∷ [] → AllRepresent xs ts → (t : Plan) × (ts ≡ t ∷ []) × Represents x t
+-- a stack of one
+pub AllRepresent-one : (x : SketchLayout) (xs : List SketchLayout) (ts : List Plan) → xs ≡ x ∷ [] → AllRepresent xs ts → (t : Plan) × (ts ≡ t ∷ []) × Represents x t
 AllRepresent-one x xs ts e h = of ts (subst (λ zs. AllRepresent zs ts) e h)
   where
     of : (ts : List Plan) → AllRepresent (x ∷ []) ts → (t : Plan) × (ts ≡ t ∷ []) × Represents x t
     of [] h = absurd h
     of (t ∷ []) h = (t, refl, h.0)
     of (t ∷ u ∷ ts) h = absurd h.1
+
+-- ---- the last of a list
+
+split_last : (xs : List SketchLayout) (n : ℕ) (d : SketchLayout) → length xs ≡ suc n → xs ≡ take n xs ++ get_or xs n d ∷ []
+split_last xs n d e = sym (take_all (suc n) xs (omega (arith, e))) ∙ take-suc xs n d (omega arith)
+
+set_last : (xs : List SketchLayout) (n : ℕ) (y : SketchLayout) → length xs ≡ suc n → set xs n y ≡ take n xs ++ y ∷ []
+set_last xs n y e = set_split xs n y (omega arith) ∙ ap (λ ys. take n xs ++ y ∷ ys) (none xs (suc n) e)
+  where
+    none : (xs : List SketchLayout) (n : ℕ) → length xs ≡ n → drop n xs ≡ []
+    none [] zero e = refl
+    none [] (suc n) e = refl
+    none (x ∷ xs) zero e = absurd (omega arith)
+    none (x ∷ xs) (suc n) e = none xs n (omega arith)
+
+pub replaces_last : (IsFor : Sketch → Sketch → Type 0) (xs : List SketchLayout) (n : ℕ) (x y : SketchLayout) → length xs ≡ suc n → x ≡ get_or xs n x → IsFor (sketch_of x) (sketch_of y)
+    → ReplacesLast xs IsFor (set xs n y)
+replaces_last IsFor xs n x y e at h = record {
+  front = take n xs;
+  last = x;
+  made = y;
+  is = split_last xs n x e ∙ ap (λ z. take n xs ++ z ∷ []) (sym at);
+  value = h;
+  gives = set_last xs n y e;
+}
+
+-- the last of one is the only one
+pub only : (xs ys : List SketchLayout) (o : Option SketchLayout) (x : SketchLayout) → o ≡ Some x → xs ≡ ys ++ option_to_list o → length xs ≡ 1 → xs ≡ x ∷ []
+only xs [] o x is e one = e ∙ ap option_to_list is
+only xs (y ∷ ys) o x is e one = absurd (omega (arith, one, ap length (e ∙ ap (λ p. (y ∷ ys) ++ option_to_list p) is), length-append (y ∷ ys) (x ∷ [])))
+
+-- a list with one more, which takes the place of those from an index on
+pub replaced_from : (xs : List SketchLayout) (at : ℕ) (y : SketchLayout) → at ≤ length xs → take (at + 1) (swap (xs ++ y ∷ []) at (length xs)) ≡ take at xs ++ y ∷ []
+replaced_from xs at y h =
+    let n : ℕ = length xs in
+    let ys = xs ++ y ∷ [] in
+    let more : length ys ≡ n + 1 = length-append xs (y ∷ []) in
+    let last : get_or ys n y ≡ y = get_or-append_seam xs y [] y in
+    let front : take at ys ≡ take at xs = take-append-le at xs (y ∷ []) h in
+    ap (take (at + 1)) (sym (swap_is ys at n y (omega arith) (omega arith)))
+    ∙ elim (eq-or-lt_of_le h) [
+      | inl same ↦
+          let there : take (at + 1) (set (set ys at (get_or ys n y)) at (get_or ys at y)) ≡ take at ys ++ get_or ys at y ∷ [] =
+          take_more_set (set ys at (get_or ys n y)) at (get_or ys at y) (omega (arith, length-set ys at (get_or ys n y), same))
+          ∙ ap (λ zs. zs ++ get_or ys at y ∷ []) (take-set ys at (get_or ys n y)) in
+          ap (λ k. take (at + 1) (set (set ys at (get_or ys n y)) k (get_or ys at y))) (sym same)
+          ∙ there ∙ (λ i. front i ++ (ap (λ k. get_or ys k y) same ∙ last) i ∷ [])
+      | inr low ↦
+          take-set-le (at + 1) (set ys at (get_or ys n y)) n (get_or ys at y) (omega (arith, low))
+          ∙ take_more_set ys at (get_or ys n y) (omega arith) ∙ (λ i. front i ++ last i ∷ [])
+    ]
+
+-- ---- steps
+
+pub carries-push : (xs ys : List SketchLayout) (ts : List Plan) (x : SketchLayout) (t : Plan) → AllRepresent xs ts → Represents x t → ys ≡ xs ++ x ∷ [] → AllRepresent ys (ts ++ t ∷ [])
+carries-push xs ys ts x t h s is = subst (λ zs. AllRepresent zs (ts ++ t ∷ [])) (sym is) (AllRepresent-push xs ts x t h s)
+
+pub carries-coupon : (xs ys : List SketchLayout) (s v : ℕ) → ReplacesLast xs (λ x y. y ≡ add x (set_of (pair s v ∷ []))) ys → StackCarries xs (text.coupon s v) ys
+carries-coupon xs ys s v u = λ ts h.
+    let l : Last u.front u.last ts = AllRepresent-last u.front u.last ts (subst (λ zs. AllRepresent zs ts) u.is h) in
+    let c : ℕ = pair s v in (
+      l.below ++ plan.coupon l.top c ∷ [],
+      (l.below, l.top, l.is, refl),
+      carries-push u.front ys l.below u.made (plan.coupon l.top c) l.all (u.value ∙ ap (λ z. add z (set_of (c ∷ []))) l.one) u.gives,
+    )
+
+pub carries-fold : (xs ys : List SketchLayout) (e : ℕ) → ReplacesLast xs (λ x y. (e ≤ x.lg_k) × (y ≡ folded x e)) ys → StackCarries xs (text.fold e) ys
+carries-fold xs ys e u = λ ts h.
+    let l : Last u.front u.last ts = AllRepresent-last u.front u.last ts (subst (λ zs. AllRepresent zs ts) u.is h) in
+    let low : e ≤ effective_lg_k l.top = subst (λ k. e ≤ k) (ap (λ (z : Sketch). z.lg_k) l.one ∙ lg_k-outcome l.top) u.value.0 in (
+      l.below ++ plan.fold l.top e ∷ [],
+      (l.below, l.top, l.is, low, refl),
+      carries-push u.front ys l.below u.made (plan.fold l.top e) l.all (u.value.1 ∙ ap (λ z. folded z e) l.one) u.gives,
+    )
+
+pub above-plans : (xs : List SketchLayout) (ts : List Plan) (e : ℕ) → AllRepresent xs ts → IsAbove xs e → IsAboveLast ts e
+above-plans xs ts e h a =
+    let l : Last a.front a.last ts = AllRepresent-last a.front a.last ts (subst (λ zs. AllRepresent zs ts) a.is h) in
+    (l.below, l.top, l.is, subst (λ k. k < e) (ap (λ (z : Sketch). z.lg_k) l.one ∙ lg_k-outcome l.top) a.below)
+
+-- a fault of data is told as one of the image
+fault_of-data : (r : Reason) → kind_of r ≡ InvalidData → fault_of r ≡ faults.Image r
+fault_of-data reasons.Truncated h = refl
+fault_of-data reasons.Family h = refl
+fault_of-data reasons.Version h = refl
+fault_of-data reasons.LgK h = refl
+fault_of-data reasons.Width h = refl
+fault_of-data reasons.Stage h = refl
+fault_of-data reasons.Preamble h = refl
+fault_of-data reasons.LgArr h = refl
+fault_of-data reasons.Count h = refl
+fault_of-data reasons.Coupon h = refl
+fault_of-data reasons.Register h = refl
+fault_of-data reasons.Argument h = refl
+fault_of-data reasons.Memory h = absurd (cc)
+
+pub fault_of-image : (ts : List Plan) (bytes : List ℕ) (r : Reason) → first_fault bytes ≡ Some r → IsFaultOfStep ts (text.image bytes) (fault_of r)
+fault_of-image ts bytes r h = (r, h, fault_of-data r (faults_are_of_data bytes r (first_fault_stands bytes r h)))
+
+pub carries-image : (xs : List SketchLayout) (bytes : List ℕ) (x : SketchLayout) → IsReadAs bytes (sketch_of x) → StackCarries xs (text.image bytes) (xs ++ x ∷ [])
+carries-image xs bytes x r = λ ts h. (ts ++ plan.image (sketch_of x) ∷ [], (sketch_of x, r, refl), AllRepresent-push xs ts x (plan.image (sketch_of x)) h refl)
+
+pub carries-union : (xs ys : List SketchLayout) (n at m : ℕ) (w : HllType) (y : SketchLayout) → n ≤ length xs → at ≡ length xs - n
+    → sketch_of y ≡ record (merge_all m (empty_union m) (map sketch_of (take (length xs - at) (drop at xs)))) { width = w } → ys ≡ take at xs ++ y ∷ []
+    → StackCarries xs (text.union n m w) ys
+carries-union xs ys n at m w y enough is value gives = λ ts h.
+    let below : List Plan = take at ts in
+    let top : List Plan = drop at ts in
+    let high : AllRepresent (drop at xs) top = AllRepresent-drop at xs ts h in
+    let whole : take (length xs - at) (drop at xs) ≡ drop at xs = take_all (length xs - at) (drop at xs) (omega (arith, length-drop at xs)) in
+    let all : map sketch_of (take (length xs - at) (drop at xs)) ≡ outcomes (plans_of top) = ap (map sketch_of) whole ∙ AllRepresent-values (drop at xs) top high in
+    let number : length top ≡ n = omega (arith, length-AllRepresent (drop at xs) top high, length-drop at xs, is, enough) in (
+      below ++ plan.union_of m w (plans_of top) ∷ [],
+      (below, top, sym (take-append-drop at ts), number, refl),
+      carries-push (take at xs) ys below y (plan.union_of m w (plans_of top)) (AllRepresent-take at xs ts h)
+          (value ∙ ap (λ zs. let z : Sketch = record (merge_all m (empty_union m) zs) { width = w } in z) all) gives,
+    )
+
+-- ---- lines
+
+pub Runs-more : (ts us vs : List Plan) (front : List (List ℕ)) (line : List ℕ) → Runs reading ts front us → Gives reading us line vs → Runs reading ts (front ++ line ∷ []) vs
+Runs-more ts us vs [] line h g = (vs, subst (λ zs. Gives reading zs line vs) h g, refl)
+Runs-more ts us vs (l ∷ front) line h g = (h.0, h.1, Runs-more h.0 us vs front line h.2 g)

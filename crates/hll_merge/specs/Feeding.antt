@@ -52,6 +52,12 @@ pub record IsOutcomeOf (text : List ℕ) (x : SketchLayout) : Type 0 where
   pub accepted : Accepts text plan
   pub value : sketch_of x ≡ outcome plan
 
+-- the lines of the text were carried out in turn, and the sketches are outcomes of the plans that are left
+pub record EndsIn (text : List ℕ) (xs : List SketchLayout) : Type 0 where
+  pub plans : List Plan
+  pub runs : Runs reading [] (lines text) plans
+  pub all : AllRepresent xs plans
+
 -- memory was refused, or this is the first fault of the text
 abbrev pub StopsText : List ℕ → MergeError → Type 0
 StopsText text e = (e.fault ≡ Memory) ⊎ IsFirstFault text e

@@ -1,5 +1,5 @@
 -- The sketches of a run, and the plans that they are outcomes of (docs/ARCHITECTURE.md, "A run").
-use Rattle.std.specs.Prelude.{◌≡◌, ◌⊎◌, ℕ, List, [], ◌∷◌, ◌++◌}
+use Rattle.std.specs.Prelude.{◌≡◌, ◌<◌, ◌⊎◌, ℕ, List, [], ◌∷◌, ◌++◌}
 use Rattle.hll_sketch.specs.Layout.{SketchLayout, sketch_of}
 use Rattle.hll_sketch.specs.Value.{Sketch}
 use Rattle.hll_text.specs.declared.fault.Fault.{Fault}
@@ -28,6 +28,13 @@ pub record ReplacesLast (old : List SketchLayout) (IsFor : Sketch → Sketch →
   pub is : old ≡ front ++ last ∷ []
   pub value : IsFor (sketch_of last) (sketch_of made)
   pub gives : new ≡ front ++ made ∷ []
+
+-- the last sketch is of an lg_k below
+pub record IsAbove (old : List SketchLayout) (e : ℕ) : Type 0 where
+  pub front : List SketchLayout
+  pub last : SketchLayout
+  pub is : old ≡ front ++ last ∷ []
+  pub below : (sketch_of last).lg_k < e
 
 -- ---- steps and lines, whatever plans the old sketches are outcomes of
 

@@ -1,30 +1,35 @@
 //! Running a plan: its text is read, and the image of its sketch is written.
-ghost use Rattle.std.specs.Prelude.{◌≡◌, ◌⊎◌, length, false, MatchResult, IfOk, IfErr, OnOk, string_bytes};
+ghost use Rattle.std.specs.Prelude.{◌≡◌, ℕ, List, None, Some, length, false, MatchResult, IfOk, IfErr, OnOk, string_bytes};
 ghost use Rattle.std.specs.Io.KnownBytes.{Consumes, IsAtEnd};
 ghost use Rattle.std.specs.Str.Lines.{lines};
-ghost use Rattle.hll_text.specs.Text.{line_number, ended_lines};
-ghost use Rattle.hll_merge.specs.Accepting.{IsFirstFault, FaultsAtLine};
-ghost use Rattle.hll_merge.specs.Served.{today};
-ghost use Rattle.hll_merge.specs.Run.{IsAnswer, AllEndedRun, Streams, Succeeds, IsRefused};
+ghost use Rattle.hll_sketch.specs.Layout.{sketch_of};
+ghost use Rattle.hll_sketch.specs.Written.{Written};
 ghost use Rattle.hll_text.specs.declared.fault.Fault.TheVariants.{Memory};
+ghost use Rattle.hll_text.specs.Text.{line_number};
+ghost use Rattle.hll_merge.specs.Feeding as feeding;
+ghost use Rattle.hll_merge.specs.Feeding.{IsFedBy, StopsText};
+ghost use Rattle.hll_merge.specs.Run as definitions;
+ghost use Rattle.hll_merge.specs.Run.{IsAnswer, Streams, Succeeds, IsRefused};
 
-use crate::stack::carry_lines;
+use crate::feed::PlanFeed;
+use hll_sketch::sketch::HllSketch;
 use hll_text::fault::{Fault, MergeError};
-use hll_text::lines::Extent;
-use hll_text::streams::{read_all, write_all};
+use hll_text::streams::write_all;
 use hll_text::watched::Watched;
 use std::alloc::Allocator;
 use std::io;
 
+/// The most bytes that one read may return.
+const READ_SIZE: usize = 65536;
+
 /// Reads a plan to its end, and writes the image of its sketch as lower-case hexadecimal and LF (docs/PLAN.md, "A run").
 ///
-/// Today the lines `new`, `image` of a list or of registers of eight bits, `coupon` while it leaves a sketch one of
-/// these, and `union` of such sketches that are all of eight bits and of its `lg_k`, of at most 7, are served. Neither
-/// stream may have failed before. What is said of bytes presupposes streams whose bytes are known.
+/// Neither stream may have failed before. What is said of bytes presupposes streams whose bytes are known.
 ///
-/// Takes memory for the text, the stack of sketches and the answer. A refusal is `Memory` where memory was refused (its
-/// line is free), the first fault of the text with its line, `Read` where the reader failed, or `Write` where the writer
-/// failed. Nothing is written on a refusal, but for a front of the answer with `Write`.
+/// Each piece that the reader gives is carried out at once: memory is taken for the stack of sketches, for a line that is
+/// not whole in a piece, for the bytes of one image, and for the answer. A refusal is `Memory` where memory was refused
+/// (its line is free), the first fault of the text with its line, `Read` where the reader failed, or `Write` where the
+/// writer failed. Nothing is written on a refusal, but for a front of the answer with `Write`.
 pub fn run<A: Allocator + Clone, R: io::Read, W: io::Write>(
     alloc: A,
     reader: &mut Watched<R>,
@@ -42,59 +47,67 @@ pub fn run<A: Allocator + Clone, R: io::Read, W: io::Write>(
     }
         in MatchResult result (λ _. Succeeds streams) (λ e. IsRefused streams e) }
 {
-    let text = match read_text(&alloc, reader) {
-        Ok(text) => text,
-        Err(fault) => return Err(fault.at(0)),
-    };
+    let mut feed = PlanFeed::new(alloc)?;
+    feed_all(&mut feed, reader)?;
     if reader.failed() {
-        return Err(fault_of_ended(alloc, &text));
+        return Err(Fault::Read.at(feed.count()));
     }
-    let (answer, line) = answer_of(&alloc, &text)?;
+    let (answer, line) = answer_of(feed)?;
     match write_all(writer, answer.as_bytes()) {
         Ok(()) => Ok(()),
         Err(fault) => Err(fault.at(line)),
     }
 }
 
-/// What the reader gives until it ends or fails. `Memory` where memory for the text is refused.
-fn read_text<A: Allocator + Clone, R: io::Read>(
-    alloc: &A,
+/// Feeds what a stream gives, piece by piece, until it ends or fails, or a line that ended is at fault.
+fn feed_all<A: Allocator + Clone, R: io::Read>(
+    feed: &mut PlanFeed<A>,
     reader: &mut Watched<R>,
-) -> Result<Vec<u8, A>, Fault>
-    requires { reader.old.failed ≡ false }
-    ensures bytes { IfOk result (λ text. Consumes (R.remaining reader.old.inner) (R.remaining reader.new.inner) text.items) }
-    ensures end { OnOk result (reader.new.failed ≡ false → IsAtEnd (R.remaining reader.new.inner)) }
-    ensures err { IfErr result (λ e. (e ≡ Memory) × (reader.new.failed ≡ false)) }
+) -> Result<(), MergeError>
+    requires works { reader.old.failed ≡ false }
+    requires unfed { feed.old ≡ feeding.unfed }
+    ensures fed { (text : List ℕ) × Consumes (R.remaining reader.old.inner) (R.remaining reader.new.inner) text × IsFedBy text feed.new }
+    ensures ok { OnOk result ((feed.new.fault ≡ None) × (reader.new.failed ≡ false → IsAtEnd (R.remaining reader.new.inner))) }
+    ensures err { IfErr result (λ e. (feed.new.fault ≡ Some e) × (reader.new.failed ≡ false)) }
 {
-    read_all(alloc.clone()?, reader)
+    let mut buffer = [0u8; READ_SIZE];
+    'pieces: loop {
+        match reader.read(&mut buffer) {
+            Err(_) => return Ok(()),
+            Ok(count) => {
+                if count == 0 {
+                    return Ok(());
+                }
+                if let Err(e) = feed.feed(&buffer[..count]) {
+                    return Err(e);
+                }
+            }
+        }
+    }
 }
 
-/// What is printed for the plan of a text, and the number of its lines.
-fn answer_of<A: Allocator + Clone>(alloc: &A, text: &[u8]) -> Result<(String<A>, u64), MergeError>
-    ensures { MatchResult result
-        (λ r. IsAnswer text.now (string_bytes r.0) × (r.1 ≡ line_number (length (lines text.now))))
-        (λ e. (e.fault ≡ Memory) ⊎ IsFirstFault today text.now e) }
+/// What is printed for the plan of a text that was fed, and the number of its lines.
+fn answer_of<A: Allocator + Clone>(feed: PlanFeed<A>) -> Result<(String<A>, u64), MergeError>
+    ensures { feed.fault ≡ None → (text : List ℕ) → IsFedBy text feed → MatchResult result
+        (λ r. IsAnswer text (string_bytes r.0) × (r.1 ≡ line_number (length (lines text)))) (StopsText text) }
 {
-    let for_stack = match alloc.clone() {
-        Ok(for_stack) => for_stack,
-        Err(e) => return Err(Fault::from(e).at(0)),
+    let (sketch, line) = match feed.finished() {
+        Ok(found) => found,
+        Err(e) => return Err(e),
     };
-    let (stack, line) = carry_lines(for_stack, Extent::All, text)?;
-    let Some(sketch) = stack.only() else {
-        return Err(Fault::Stack.at(line));
-    };
-    match sketch.printed_line() {
+    match printed_line(&sketch) {
         Ok(answer) => Ok((answer, line)),
         Err(fault) => Err(fault.at(line)),
     }
 }
 
-/// The first fault of the lines of a text that ended before a read failed, or else that.
-fn fault_of_ended<A: Allocator + Clone>(alloc: A, text: &[u8]) -> MergeError
-    ensures { (result.fault ≡ Memory) ⊎ (FaultsAtLine today (ended_lines text.now) result ⊎ AllEndedRun text.now result) }
+/// The image of a sketch in lower-case hexadecimal, and LF. `Memory` where the image or the text is refused.
+fn printed_line<A: Allocator + Clone>(sketch: &HllSketch<A>) -> Result<String<A>, Fault>
+    ensures ok { IfOk result (λ text. (bytes : List ℕ) × Written bytes (sketch_of sketch.now) × (string_bytes text ≡ definitions.printed_line bytes)) }
+    ensures err { IfErr result (λ e. e ≡ Memory) }
 {
-    match carry_lines(alloc, Extent::Ended, text) {
-        Ok((_, line)) => Fault::Read.at(line),
-        Err(e) => e,
-    }
+    let image = sketch.serialize()?;
+    let mut text = hex::encode(image.allocator().clone()?, image)?;
+    text.push('\n')?;
+    Ok(text)
 }

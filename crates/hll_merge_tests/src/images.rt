@@ -261,44 +261,6 @@ pub(crate) const MENDED: [(&str, Reason); 11] = [
     ),
 ];
 
-/// Texts that are right up to a step that is not served, and its line.
-pub(crate) const UNSERVED: [(&str, u64); 16] = [
-    // sets and registers of each width: the header alone, and with what would be refused behind it
-    ("image 0301070805080001", 1),
-    ("image 0301070a05080005", 1),
-    ("image 0301071507000009", 1),
-    ("image 0a01070400080002", 1),
-    ("image 0a01070a00000006", 1),
-    ("image 0a01071500000002", 1),
-    ("image 03010708050800090100000000000000", 1),
-    ("image 0301070403080001ffffffff", 1),
-    (
-        "image 0a01070400000006000000000000000000000000000000000000000000000000ffffffffffffffff40404040404040404040404040404040",
-        1,
-    ),
-    // a coupon after which there are eight or more
-    (
-        "image 0201070a030808080000000401000004020000040300000404000004050000040600000407000004\ncoupon 8 1",
-        2,
-    ),
-    (
-        "image 0201070a030808080000000401000004020000040300000404000004050000040600000407000004\ncoupon 0 1",
-        2,
-    ),
-    (
-        "image 0201070a0308070800000004010000040200000403000004040000040500000406000004\ncoupon 7 1",
-        2,
-    ),
-    // unions, where so many sketches are there
-    ("union 0 12 4", 1),
-    ("new 10 8\nunion 0 10 8", 2),
-    ("new 10 8\nunion 1 10 8", 2),
-    (
-        "image 0201070a030801080500000c\nimage 0201070a030801080500000c\nunion 2 4 6",
-        3,
-    ),
-];
-
 /// Texts that are no plan, and their first fault.
 pub(crate) const FAULTS: [(&str, u64, Fault); 38] = [
     // a fault in a header of a set or of registers
@@ -347,7 +309,7 @@ pub(crate) const FAULTS: [(&str, u64, Fault); 38] = [
     ("IMAGE 02", 1, Fault::Syntax),
     // the first line with a fault
     ("\nimage 0201\nimage 0g", 2, Fault::Image(Reason::Truncated)),
-    ("image 0301070805080009\nimage 0g", 1, Fault::Unserved),
+    ("image 0301070805080009\nimage 0g", 1, Fault::Image(Reason::Truncated)),
 ];
 
 /// A legal image of one coupon, and for each check what to flip in which of its bytes so that it fails, in their order.

@@ -8,11 +8,15 @@ mod images;
 #[cfg(test)]
 mod memory;
 #[cfg(test)]
+mod pieces;
+#[cfg(test)]
 mod plans;
 #[cfg(test)]
 mod reference;
 #[cfg(test)]
 mod registers;
+#[cfg(test)]
+mod rows;
 #[cfg(test)]
 mod texts;
 #[cfg(test)]

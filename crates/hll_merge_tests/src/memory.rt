@@ -6,7 +6,7 @@ use linked_list_allocator::LocalHeap;
 use std::process::Abort;
 use std::test::Fail;
 
-/// Plans and what they print, and a line at which memory is refused in a heap of some size; 0 while the text is read.
+/// Plans and what they print, and a line at which memory is refused in a heap of some size.
 const PLANS: [(&str, &str, u64); 6] = [
     ("new 10 8\ncoupon 5 3\n", "0201070a030801080500000c\n", 1),
     (
@@ -34,7 +34,7 @@ const PLANS: [(&str, &str, u64); 6] = [
     (
         "image 0a0107040000000a0100000000000000020000000000000003000000000000000f0000000000000005000000000000000000000000000000\nimage 0a0107040000000a0400000000000000050000000000000006000000000000000d000000000000000400000900000000000000000000003f\nunion 2 4 8\n#",
         "0a0107040010000a0000000000000000000000000000000000000000000000000d000000000000000500000900000000000000000000003f\n",
-        0,
+        2,
     ),
 ];
 

@@ -1,12 +1,12 @@
 //! The plans of all tables: what they print, and how they are refused.
 use crate::fixtures::{prints, refuses};
-use crate::{images, registers, texts, unions};
+use crate::{images, registers, rows, texts, unions};
 use hll_base::error::Reason;
 use hll_text::fault::Fault;
 
 #[test]
 fn answers(rt: HostRuntime) {
-    let tables: [&[(&str, &str)]; 8] = [
+    let tables: [&[(&str, &str)]; 9] = [
         &texts::ANSWERS,
         &images::ANSWERS,
         &images::UPDATED,
@@ -15,6 +15,7 @@ fn answers(rt: HostRuntime) {
         &unions::PROMOTED,
         &unions::REGISTERS,
         &unions::NESTED,
+        &rows::ANSWERS,
     ];
     for table in tables {
         for (text, printed) in table {
@@ -25,7 +26,7 @@ fn answers(rt: HostRuntime) {
 
 #[test]
 fn refusals(rt: HostRuntime) {
-    let faults: [&[(&str, u64, Fault)]; 2] = [&texts::FAULTS, &images::FAULTS];
+    let faults: [&[(&str, u64, Fault)]; 3] = [&texts::FAULTS, &images::FAULTS, &rows::REFUSED];
     for table in faults {
         for (text, line, fault) in table {
             assert!(rt; refuses(&rt, text, *line, *fault), "{text}");
@@ -40,16 +41,6 @@ fn refusals(rt: HostRuntime) {
     for table in refused {
         for (text, reason) in table {
             assert!(rt; refuses(&rt, text, 1, Fault::Image(*reason)), "{text}");
-        }
-    }
-    let unserved: [&[(&str, u64)]; 3] = [
-        &images::UNSERVED,
-        &registers::UNSERVED,
-        &unions::UNSERVED,
-    ];
-    for table in unserved {
-        for (text, line) in table {
-            assert!(rt; refuses(&rt, text, *line, Fault::Unserved), "{text}");
         }
     }
     for (text, line) in unions::STACK {

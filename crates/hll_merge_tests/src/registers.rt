@@ -1,4 +1,4 @@
-//! Plans with registers of eight bits over memory: what they print, faults of their images, and what is not served.
+//! Plans with registers of eight bits over memory: what they print, and faults of their images.
 use crate::fixtures::{line_of, run_over};
 use hll_base::error::Reason;
 use std::test::Fail;
@@ -145,26 +145,6 @@ pub(crate) const REFUSED: [(&str, Reason); 10] = [
     (
         "image 0a0107040010000a0000000000000000000000000000000000000000000000000f00000000000000400000000000000000000000000000",
         Reason::Truncated,
-    ),
-];
-
-/// Texts whose last line takes a list to a set, or to registers of another width.
-pub(crate) const UNSERVED: [(&str, u64); 4] = [
-    (
-        "new 4 4\ncoupon 0 1\ncoupon 1 2\ncoupon 2 3\ncoupon 3 4\ncoupon 4 5\ncoupon 5 6\ncoupon 6 7\ncoupon 7 8",
-        9,
-    ),
-    (
-        "new 4 6\ncoupon 0 1\ncoupon 1 2\ncoupon 2 3\ncoupon 3 4\ncoupon 4 5\ncoupon 5 6\ncoupon 6 7\ncoupon 7 8",
-        9,
-    ),
-    (
-        "new 8 8\ncoupon 0 1\ncoupon 1 2\ncoupon 2 3\ncoupon 3 4\ncoupon 4 5\ncoupon 5 6\ncoupon 6 7\ncoupon 7 8",
-        9,
-    ),
-    (
-        "new 21 8\ncoupon 0 1\ncoupon 1 2\ncoupon 2 3\ncoupon 3 4\ncoupon 4 5\ncoupon 5 6\ncoupon 6 7\ncoupon 7 8",
-        9,
     ),
 ];
 

@@ -1,5 +1,5 @@
 //! Plans with unions of sketches of eight bits over memory: what they print, orders and groups of their sketches, a
-//! thousand of them, faults, and what is not served.
+//! thousand of them, and faults.
 use crate::fixtures::prints;
 use std::test::Fail;
 
@@ -536,63 +536,6 @@ pub(crate) const STACK: [(&str, u64); 23] = [
     ("new 4 4\nunion 2 4 8", 2),
     ("new 8 8\nunion 2 8 8", 2),
     ("new 21 8\nunion 99999999 21 6", 2),
-];
-
-/// Texts with a union that is not served, and its line.
-pub(crate) const UNSERVED: [(&str, u64); 29] = [
-    // another width
-    ("new 4 8\nunion 1 4 4", 2),
-    ("new 4 8\nunion 1 4 6", 2),
-    (
-        "image 0a0107040000000a0100000000000000020000000000000003000000000000000f0000000000000005000000000000000000000000000000\nunion 1 4 6",
-        2,
-    ),
-    ("union 0 4 4", 1),
-    ("union 0 7 6", 1),
-    // a bound above 7
-    ("union 0 8 8", 1),
-    ("union 0 12 8", 1),
-    ("union 0 21 8", 1),
-    ("new 8 8\nunion 1 8 8", 2),
-    ("new 21 8\nunion 1 21 8", 2),
-    ("new 12 8\ncoupon 5 3\nunion 1 12 8", 3),
-    // sketches of another `lg_k`
-    ("new 5 8\nunion 1 4 8", 2),
-    ("new 4 8\nunion 1 5 8", 2),
-    ("new 4 8\nunion 1 8 8", 2),
-    ("new 8 8\nunion 1 7 8", 2),
-    ("new 4 8\nunion 1 4 8\nnew 5 8\nunion 2 4 8", 4),
-    ("new 5 8\nnew 4 8\nunion 2 4 8", 3),
-    (
-        "image 0a0107040000000a0100000000000000020000000000000003000000000000000f0000000000000005000000000000000000000000000000\nunion 1 5 8",
-        2,
-    ),
-    (
-        "image 0a0107050000000a0100000000000000020000000000000003000000000000001f000000000000000500000000000000000000000000000000000000000000000000000000000000\nunion 1 4 8",
-        2,
-    ),
-    (
-        "image 0a0107040000000a0100000000000000020000000000000003000000000000000f0000000000000005000000000000000000000000000000\nimage 0a0107050000000a0100000000000000020000000000000003000000000000001f000000000000000500000000000000000000000000000000000000000000000000000000000000\nunion 2 4 8",
-        3,
-    ),
-    (
-        "new 5 8\ncoupon 5 3\nnew 4 8\nnew 4 8\ncoupon 5 3\nunion 3 4 8",
-        6,
-    ),
-    // sketches of another width
-    ("new 4 4\nunion 1 4 8", 2),
-    ("new 4 6\nunion 1 4 8", 2),
-    ("new 4 4\ncoupon 5 3\nunion 1 4 8", 3),
-    ("new 4 8\nnew 4 6\nunion 2 4 8", 3),
-    ("new 4 4\nnew 4 8\nnew 4 8\nunion 3 4 8", 4),
-    // behind a union that is served
-    (
-        "image 0a0107040000000a0100000000000000020000000000000003000000000000000f0000000000000005000000000000000000000000000000\nunion 1 4 8\nunion 1 4 4",
-        3,
-    ),
-    ("union 0 5 8\nunion 1 4 8", 2),
-    // before another fault
-    ("new 4 8\nunion 1 4 6\nx", 2),
 ];
 
 /// A union for each group, of a sketch for each number in it with this slot and value; of several groups, their union.

@@ -16,7 +16,7 @@ words_of faults.Stack = codes "stack"
 words_of faults.Memory = codes "memory"
 words_of faults.Read = codes "read"
 words_of faults.Write = codes "write"
-words_of faults.Unserved = codes "unserved"
+words_of faults.Fold = codes "fold"
 
 -- `line L: `, the words, and LF
 abbrev pub refusal_line : MergeError → List ℕ

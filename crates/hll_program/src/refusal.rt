@@ -48,7 +48,7 @@ fn write_words<W: io::Write>(writer: &mut W, fault: Fault) -> Result<(), Fault>
         Fault::Memory => write_piece(writer, b"memory"),
         Fault::Read => write_piece(writer, b"read"),
         Fault::Write => write_piece(writer, b"write"),
-        Fault::Unserved => write_piece(writer, b"unserved"),
+        Fault::Fold => write_piece(writer, b"fold"),
     }
 }
 

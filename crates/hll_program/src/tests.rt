@@ -24,7 +24,7 @@ const LINES: [(u64, Fault, &[u8]); 10] = [
         Fault::Write,
         b"line 18446744073709551615: write\n",
     ),
-    (9, Fault::Unserved, b"line 9: unserved\n"),
+    (9, Fault::Fold, b"line 9: fold\n"),
 ];
 
 #[test]

@@ -130,7 +130,7 @@ pub closes-some : (pending piece : List ℕ) (i : ℕ) → IsOpen pending → po
     → Closes pending piece [] (drop (i + 1) piece) (strip_carriage_return (pending ++ take i piece) ∷ [])
 closes-some pending piece i h e =
     let cut : parts (pending ++ piece) ≡ (pending ++ take i piece) ∷ parts (drop (i + 1) piece) =
-        parts-before pending piece h ∙ ap (before_parts pending) (parts-some 10 piece i e).0 in
+    parts-before pending piece h ∙ ap (before_parts pending) (parts-some 10 piece i e).0 in
     let full = length-parts 10 (drop (i + 1) piece) in
     record {
       lines = ap ended_parts cut ∙ ended_parts-cons (pending ++ take i piece) _ full;

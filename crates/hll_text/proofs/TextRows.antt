@@ -4,7 +4,7 @@ use Rattle.std.specs.Str.Lines.{lines}
 use Rattle.hex.proofs.OnLiterals.{hex_on_literals}
 use Rattle.hll_coupons.specs.declared.hll_type.HllType.TheVariants.{Hll4, Hll8}
 use Rattle.hll_text.specs.declared.fault.Fault.TheVariants.{Syntax, Range, Hex}
-use Rattle.hll_text.specs.Text.{reading, ended_lines, new, image, coupon, union}
+use Rattle.hll_text.specs.Text.{reading, ended_lines, open_line, new, image, coupon, union, fold}
 
 row-new : reading (codes "new 10 8") ≡ Ok (Some (new 10 Hll8))
 row-new = refl
@@ -110,3 +110,18 @@ row-ended = refl
 
 row-none_ended : ended_lines (66 ∷ []) ≡ []
 row-none_ended = refl
+
+row-fold : reading (codes "fold 04") ≡ Ok (Some (fold 4))
+row-fold = refl
+
+row-fold_range : reading (codes "fold 22") ≡ Err Range
+row-fold_range = refl
+
+row-fold_words : reading (codes "fold 4 8") ≡ Err Syntax
+row-fold_words = refl
+
+row-open_line : open_line (codes "new 10 8" ++ 10 ∷ codes "new") ≡ codes "new"
+row-open_line = refl
+
+row-no_open_line : open_line (codes "new" ++ 10 ∷ []) ≡ []
+row-no_open_line = refl

@@ -1,10 +1,10 @@
 //! Lines of plans, lines of texts, watched streams that work and that fail, and refused memory.
 use crate::fakes::{Failing, Narrow};
 use crate::fault::{Fault, MergeError};
-use crate::lines::{Extent, next_of};
+use crate::lines::{line_end, lines_of_cuts, next_ended, without_return};
 use crate::reading::{faults_of_lines, read_step};
 use crate::step::{ImageBytes, Step};
-use crate::streams::{read_all, write_all};
+use crate::streams::write_all;
 use crate::watched::Watched;
 use hll_coupons::hll_type::HllType;
 use linked_list_allocator::LocalHeap;
@@ -12,7 +12,7 @@ use std::process::Abort;
 use std::test::Fail;
 
 /// Lines that are no step, and their faults.
-const REFUSED: [(&[u8], Fault); 8] = [
+const REFUSED: [(&[u8], Fault); 12] = [
     (b"new  10 8", Fault::Syntax),
     (b"new 123456789 8", Fault::Syntax),
     (b"new 10 8\r", Fault::Syntax),
@@ -21,6 +21,10 @@ const REFUSED: [(&[u8], Fault); 8] = [
     (b"coupon 67108864 1", Fault::Range),
     (b"image", Fault::Syntax),
     (b"union 0 12", Fault::Syntax),
+    (b"fold", Fault::Syntax),
+    (b"fold 4 4", Fault::Syntax),
+    (b"fold 3", Fault::Range),
+    (b"fold 22", Fault::Range),
 ];
 
 #[test]
@@ -30,11 +34,12 @@ fn steps(rt: HostRuntime) -> Result<(), Fail> {
     let other = ImageBytes::new(Vec::from_slice(rt.alloc(), &[2, 11])?);
     assert_eq!(rt; bytes.as_slice(), [2, 10].as_slice());
     assert!(rt; bytes == same && bytes != other);
-    let rows: [(&[u8], Option<Step>); 6] = [
+    let rows: [(&[u8], Option<Step>); 7] = [
         (b"new 10 8", Some(Step::New(10, HllType::Hll8))),
         (b"coupon 5 03", Some(Step::Coupon(5, 3))),
         (b"image 020A", Some(Step::Image(bytes))),
         (b"union 3 12 6", Some(Step::Union(3, 12, HllType::Hll6))),
+        (b"fold 04", Some(Step::Fold(4))),
         (b"# new 10 8", None),
         (b"", None),
     ];
@@ -50,22 +55,24 @@ fn steps(rt: HostRuntime) -> Result<(), Fail> {
     Ok(())
 }
 
-/// The first line of a text and what follows it, for all lines and for those that end in an LF.
+/// The first line of a text that has an LF, and what follows it; the CR before it belongs to its end.
 #[test]
 fn first_lines(rt: HostRuntime) {
-    let rows: [(Extent, &[u8], Option<(&[u8], &[u8])>); 8] = [
-        (Extent::All, b"", None),
-        (Extent::All, b"\n", Some((b"", b""))),
-        (Extent::All, b"a\r\r\nb", Some((b"a\r", b"b"))),
-        (Extent::All, b"b\r", Some((b"b\r", b""))),
-        (Extent::Ended, b"", None),
-        (Extent::Ended, b"\r\n\n", Some((b"", b"\n"))),
-        (Extent::Ended, b"a\nb", Some((b"a", b"b"))),
-        (Extent::Ended, b"b\r", None),
+    let rows: [(&[u8], Option<(&[u8], &[u8])>); 6] = [
+        (b"", None),
+        (b"\n", Some((b"", b""))),
+        (b"\r\n\n", Some((b"", b"\n"))),
+        (b"a\r\r\nb", Some((b"a\r", b"b"))),
+        (b"a\nb\n", Some((b"a", b"b\n"))),
+        (b"b\r", None),
     ];
-    for (extent, text, first) in rows {
-        assert_eq!(rt; next_of(extent, text), first);
+    for (text, first) in rows {
+        assert_eq!(rt; next_ended(text), first);
+        assert_eq!(rt; line_end(text).is_some(), first.is_some());
     }
+    assert_eq!(rt; line_end(b"ab\ncd\n"), Some(2));
+    assert_eq!(rt; without_return(b"a\r\r"), b"a\r".as_slice());
+    lines_of_cuts();
 }
 
 /// Each read calls the stream once, and fails only where the stream fails.
@@ -92,39 +99,19 @@ fn watched_reads(rt: HostRuntime) -> Result<(), Fail> {
     Ok(())
 }
 
-/// All is read where the stream works, and what came before where it fails.
-#[test]
-fn whole_texts(rt: HostRuntime) -> Result<(), Fail> {
-    let mut reader = Watched::new(b"new 10 8\n".as_slice());
-    assert_eq!(rt;
-        read_all(rt.alloc(), &mut reader)?.as_slice(),
-        b"new 10 8\n".as_slice()
-    );
-    assert!(rt; !reader.failed());
-    let text: &[u8] = b"new 10 8";
-    for calls in 0..12u32 {
-        let mut reader = Watched::new(Failing { text, calls });
-        let read = read_all(rt.alloc(), &mut reader)?;
-        assert_eq!(rt; reader.failed(), calls < 9);
-        assert_eq!(rt; read.len(), 8.min(calls as usize));
-        assert!(rt; text.starts_with(read.as_slice()));
-    }
-    Ok(())
-}
-
-/// A text read with a heap of each size: memory is refused until one is large enough.
+/// An image line read with a heap of each size: memory is refused until one is large enough.
 #[test]
 fn refused_memory(rt: HostRuntime) -> Result<(), Fail> {
-    let text = [b'#'; 300];
+    let mut line = [b'0'; 606];
+    line[..6].copy_from_slice(b"image ");
     let mut refused = 0u32;
     for size in 1..60usize {
         let heap = LocalHeap::new(rt.alloc(), size * 32)?;
-        let mut reader = Watched::new(text.as_slice());
-        match read_all(&heap, &mut reader) {
-            Ok(read) => assert_eq!(rt; read.as_slice(), text.as_slice()),
+        match read_step(&heap, &line) {
+            Ok(Some(Step::Image(bytes))) => assert_eq!(rt; bytes.as_slice(), [0u8; 300].as_slice()),
+            Ok(_) => assert!(rt; false, "no image"),
             Err(fault) => {
                 assert_eq!(rt; fault, Fault::Memory);
-                assert!(rt; !reader.failed());
                 refused = refused.saturating_add(1);
             }
         }

@@ -1,0 +1,132 @@
+-- Lemmas on a plan that comes in pieces.
+use Rattle.std.proofs.Common.{◌≡◌, ℕ, suc, ◌+◌, true, false, nat_eq, List, [], ◌∷◌, ◌++◌, length, Option, Some, None, MatchOption, inl, inr, refl, sym, ◌∙◌, ap, subst, arith, append_assoc}
+use Rattle.std.specs.Io.KnownBytes.{Consumes, Keeps}
+use Rattle.std.specs.Str.Lines.{lines}
+use Rattle.std.proofs.lemmas.Bool.Decides.{nat_tests}
+use Rattle.std.proofs.lemmas.List.{length-append}
+use Rattle.hll_sketch.specs.Layout.{SketchLayout}
+use Rattle.hll_text.specs.declared.fault.MergeError.{MergeError}
+use Rattle.hll_text.specs.Text.{ended_lines, open_line, line_of_rest, line_number, reading}
+use Rattle.hll_text.proofs.CutLemmas.{ended_lines-append, open_line-append, lines-ended}
+use Rattle.hll_merge.specs.Plan.{Plan}
+use Rattle.hll_merge.specs.Accepting.{Runs, FaultsFrom, FaultsAtLine}
+use Rattle.hll_merge.specs.Stack.{AllRepresent}
+use Rattle.hll_merge.specs.Feeding.{Feed, TakesPiece, RefusesPiece, IsFedBy, going, stopped, unfed, EndsIn, IsOutcomeOf}
+use Rattle.hll_merge.proofs.StackLemmas.{AllRepresent-one}
+
+-- ---- lines in turn, and then more
+
+pub Runs-append : (ts us vs : List Plan) (ls ms : List (List ℕ)) → Runs reading ts ls us → Runs reading us ms vs → Runs reading ts (ls ++ ms) vs
+Runs-append ts us vs [] ms h g = subst (λ xs. Runs reading xs ms vs) h g
+Runs-append ts us vs (l ∷ ls) ms h g = (h.0, h.1, Runs-append h.0 us vs ls ms h.2 g)
+
+-- a fault of lines after others
+pub FaultsFrom-after : (ts us : List Plan) (n m : ℕ) (ls ms : List (List ℕ)) (e : MergeError) → Runs reading ts ls us → m ≡ line_number (n + length ls)
+    → FaultsFrom reading us m ms e → FaultsFrom reading ts n (ls ++ ms) e
+FaultsFrom-after ts us n m ls ms e h k f = record {
+  front = ls ++ f.front;
+  line = f.line;
+  rest = f.rest;
+  is = ap (λ xs. ls ++ xs) f.is ∙ sym (append_assoc ls f.front (f.line ∷ f.rest));
+  stack = f.stack;
+  runs = Runs-append ts us f.stack ls f.front h f.runs;
+  fault = f.fault;
+  at = let line : e.line ≡ line_number (n + length (ls ++ f.front) + 1) = omega (arith, k, f.at, length-append ls f.front) in line;
+}
+
+-- a fault of lines stays that when more follow
+pub FaultsFrom-before : (ts : List Plan) (n : ℕ) (ls ms : List (List ℕ)) (e : MergeError) → FaultsFrom reading ts n ls e → FaultsFrom reading ts n (ls ++ ms) e
+FaultsFrom-before ts n ls ms e f = record {
+  front = f.front;
+  line = f.line;
+  rest = f.rest ++ ms;
+  is = ap (λ xs. xs ++ ms) f.is ∙ append_assoc f.front (f.line ∷ f.rest) ms;
+  stack = f.stack;
+  runs = f.runs;
+  fault = f.fault;
+  at = f.at;
+}
+
+-- ---- streams
+
+-- the lines that ended in a text and a piece are those of the text, and those of what was pending and the piece
+lines-more : (text piece pending : List ℕ) → pending ≡ open_line text → ended_lines (text ++ piece) ≡ ended_lines text ++ ended_lines (pending ++ piece)
+lines-more text piece pending e = ended_lines-append text piece ∙ ap (λ bytes. ended_lines text ++ ended_lines (bytes ++ piece)) (sym e)
+
+pub takes-stream : (text piece : List ℕ) (s u : Feed) → IsFedBy text s → s.fault ≡ None → TakesPiece s piece u → IsFedBy (text ++ piece) u
+takes-stream text piece s u (going f p n ts r h) none t =
+    let before : List (List ℕ) = ended_lines text in
+    let more : List (List ℕ) = ended_lines (s.pending ++ piece) in
+    let all = lines-more text piece s.pending p in
+    let run = t.runs ts h in
+    let count : u.count ≡ line_number (length (ended_lines (text ++ piece))) = omega (arith, t.count, n, ap length all, length-append before more) in
+    going t.fault (t.pending ∙ ap (λ bytes. open_line (bytes ++ piece)) p ∙ sym (open_line-append text piece)) count run.0
+    (subst (λ ls. Runs reading [] ls run.0) (sym all) (Runs-append [] ts run.0 before more r run.1)) run.2
+takes-stream text piece s u (stopped e f p h) none t = absurd (let same : None ≡ Some e = sym none ∙ f in cc)
+
+pub refuses-stream : (text piece : List ℕ) (s u : Feed) (e : MergeError) → IsFedBy text s → s.fault ≡ None → RefusesPiece s piece u e → IsFedBy (text ++ piece) u
+refuses-stream text piece s u e (going f p n ts r h) none t =
+    let before : List (List ℕ) = ended_lines text in
+    let more : List (List ℕ) = ended_lines (s.pending ++ piece) in
+    stopped e t.fault t.pending (elim (t.first ts h) [
+      | inl m ↦ inl m
+      | inr faults ↦ inr (subst (λ ls. FaultsAtLine reading ls e) (sym (lines-more text piece s.pending p)) (FaultsFrom-after [] ts 0 s.count before more e r (let k : s.count ≡ line_number (0 + length before) = omega (arith, n) in k) faults))
+    ])
+refuses-stream text piece s u e (stopped d f p h) none t = absurd (let same : None ≡ Some d = sym none ∙ f in cc)
+
+pub stays-stream : (text piece : List ℕ) (s : Feed) (e : MergeError) → IsFedBy text s → s.fault ≡ Some e → IsFedBy (text ++ piece) s
+stays-stream text piece s e (going f p n ts r h) some = absurd (let same : None ≡ Some e = sym f ∙ some in cc)
+stays-stream text piece s e (stopped d f p (inl m)) some = stopped d f p (inl m)
+stays-stream text piece s e (stopped d f p (inr h)) some =
+    stopped d f p (inr (subst (λ ls. FaultsAtLine reading ls d) (sym (ended_lines-append text piece)) (FaultsFrom-before [] 0 (ended_lines text) (ended_lines (open_line text ++ piece)) d h)))
+
+-- with no text yet
+pub unfed-stream : IsFedBy [] unfed
+unfed-stream = going refl refl (let none : 0 ≡ line_number (length (ended_lines [])) = omega arith in none) [] refl tt
+
+pub none_of_option : {X A : Type 0} (B : X → Type 0) (o : Option X) → o ≡ None → MatchOption o A B → A
+none_of_option B None e h = h
+none_of_option B (Some x) e h = absurd (cc)
+
+pub Consumes-keeps : (a b c : Option (List ℕ)) (xs : List ℕ) → Consumes a b xs → Keeps b c → Consumes a c xs
+Consumes-keeps None b c xs h k = tt
+Consumes-keeps (Some us) None c xs h k = elim h [ ]
+Consumes-keeps (Some us) (Some bs) None xs h k = elim k [ ]
+Consumes-keeps (Some us) (Some bs) (Some cs) xs h k = h ∙ ap (λ zs. xs ++ zs) (sym k)
+
+-- ---- the end of a text
+
+positive : (n : ℕ) → nat_eq (suc n) 0 ≡ false
+positive n = grind (arith, nat_tests)
+
+pub none-left : (xs : List ℕ) → nat_eq (length xs) 0 ≡ true → xs ≡ []
+none-left [] e = refl
+none-left (x ∷ xs) e = absurd (let same : true ≡ false = sym e ∙ positive (length xs) in cc)
+
+pub one-left : (xs : List ℕ) → nat_eq (length xs) 0 ≡ false → line_of_rest xs ≡ xs ∷ []
+one-left [] e = absurd (cc)
+one-left (x ∷ xs) e = refl
+
+-- a feed that went on, and what of its text is left
+pub record Gone (text : List ℕ) (s : Feed) : Type 0 where
+  pub count : s.count ≡ line_number (length (ended_lines text))
+  pub stack : List Plan
+  pub runs : Runs reading [] (ended_lines text) stack
+  pub all : AllRepresent s.stack stack
+  pub lines : lines text ≡ ended_lines text ++ line_of_rest s.pending
+
+pub gone : (text : List ℕ) (s : Feed) → IsFedBy text s → s.fault ≡ None → Gone text s
+gone text s (going f p n ts r h) none = record {
+  count = n;
+  stack = ts;
+  runs = r;
+  all = h;
+  lines = lines-ended text ∙ ap (λ bytes. ended_lines text ++ line_of_rest bytes) (sym p);
+}
+gone text s (stopped e f p h) none = absurd (let same : None ≡ Some e = sym none ∙ f in cc)
+
+-- the one sketch that is left is the outcome of the text's plan
+pub outcome_of : (text : List ℕ) (xs : List SketchLayout) (x : SketchLayout) → EndsIn text xs → xs ≡ x ∷ [] → IsOutcomeOf text x
+outcome_of text xs x r one =
+    let t = AllRepresent-one x xs r.plans one r.all in
+    record { plan = t.0; accepted = subst (Runs reading [] (lines text)) t.1 r.runs; value = t.2 }

@@ -1,0 +1,246 @@
+//! A plan that comes in pieces (docs/PLAN.md, "In pieces").
+ghost use Rattle.std.specs.Prelude.{◌≡◌, ◌⊎◌, ◌+◌, ◌++◌, List, ℕ, length, None, MatchResult, MatchOption, IfOk, IfErr, IfSome};
+ghost use Rattle.std.specs.Str.Lines.{lines};
+ghost use Rattle.hll_text.specs.declared.fault.Fault.TheVariants.{Memory};
+ghost use Rattle.hll_text.specs.Cuts.{IsOpen, Closes};
+ghost use Rattle.hll_text.specs.Text.{ended_lines, open_line, line_number, reading};
+ghost use Rattle.hll_merge.specs.Accepting.{FaultsAtLine};
+ghost use Rattle.hll_merge.specs.Feeding.{CutsAgree, TakesPiece, RefusesPiece, IsFedBy, EndsIn, IsOutcomeOf, StopsText, unfed};
+ghost use Rattle.hll_merge.specs.Stack.{StackRuns, StackStops};
+
+use crate::stack::Stack;
+use hll_sketch::sketch::HllSketch;
+use hll_text::fault::{Fault, MergeError};
+use hll_text::lines::{line_end, next_ended, without_return};
+use std::alloc::{Allocator, Global};
+use std::marker::Model;
+
+/// Carries out the lines of a text that end in an LF, in turn, after `count` others. Returns what follows the last LF, and
+/// how many lines there were in all.
+fn carry_ended<'t, A: Allocator + Clone>(
+    stack: &mut Stack<A>,
+    count: u64,
+    text: &'t [u8],
+) -> Result<(&'t [u8], u64), MergeError>
+    ensures { MatchResult result
+        (λ r. (r.0.now ≡ open_line text.now) × (r.1 ≡ line_number (count + length (ended_lines text.now)))
+        × StackRuns stack.old (ended_lines text.now) stack.new)
+        (λ e. StackStops stack.old count (ended_lines text.now) e) }
+{
+    let mut number = count;
+    let mut rest = text;
+    'lines: loop {
+        match next_ended(rest) {
+            None => return Ok((rest, number)),
+            Some((line, more)) => {
+                number = number.saturating_add(1);
+                if let Err(fault) = stack.carry_line(line) {
+                    return Err(fault.at(number));
+                }
+                rest = more;
+            }
+        }
+    }
+}
+
+/// Carries out the line that is pending, if the piece has its LF, after `count` others. Returns what is left of the piece,
+/// and how many lines there were in all.
+fn close_line<'p, A: Allocator + Clone>(
+    stack: &mut Stack<A>,
+    pending: &mut Vec<u8, A>,
+    count: u64,
+    piece: &'p [u8],
+) -> Result<(&'p [u8], u64), MergeError>
+    requires { IsOpen pending.old.items }
+    ensures { MatchResult result
+        (λ r. (ended : List (List ℕ)) × Closes pending.old.items piece.now pending.new.items r.0.now ended
+        × (r.1 ≡ line_number (count + length ended)) × StackRuns stack.old ended stack.new)
+        (λ e. StackStops stack.old count (ended_lines (pending.old.items ++ piece.now)) e) }
+{
+    if pending.is_empty() {
+        return Ok((piece, count));
+    }
+    let Some(at) = line_end(piece) else {
+        return Ok((piece, count));
+    };
+    if let Err(e) = pending.extend_from_slice(&piece[..at]) {
+        return Err(Fault::from(e).at(count));
+    }
+    let number = count.saturating_add(1);
+    match stack.carry_line(without_return(pending.as_slice())) {
+        Ok(()) => {
+            pending.clear();
+            Ok((&piece[at + 1..], number))
+        }
+        Err(fault) => Err(fault.at(number)),
+    }
+}
+
+/// Carries out the lines that end in what is pending and a piece, after `count` others. Returns how many there were in
+/// all; what follows the last LF is pending then.
+fn take_piece<A: Allocator + Clone>(
+    stack: &mut Stack<A>,
+    pending: &mut Vec<u8, A>,
+    count: u64,
+    piece: &[u8],
+) -> Result<u64, MergeError>
+    requires { IsOpen pending.old.items }
+    ensures { MatchResult result
+        (λ n. (pending.new.items ≡ open_line (pending.old.items ++ piece.now))
+        × (n ≡ line_number (count + length (ended_lines (pending.old.items ++ piece.now))))
+        × StackRuns stack.old (ended_lines (pending.old.items ++ piece.now)) stack.new)
+        (λ e. StackStops stack.old count (ended_lines (pending.old.items ++ piece.now)) e) }
+{
+    let (left, number) = close_line(stack, pending, count, piece)?;
+    let (rest, total) = match carry_ended(stack, number, left) {
+        Ok(found) => found,
+        Err(e) => return Err(e),
+    };
+    match pending.extend_from_slice(rest) {
+        Ok(()) => Ok(total),
+        Err(e) => Err(Fault::from(e).at(total)),
+    }
+}
+
+/// A plan that comes in pieces: the sketches that its lines made so far, and the bytes of the line that has not ended.
+/// Contracts see these, the number of lines that ended, and the fault that stays.
+#[derive(Drop)]
+pub struct PlanFeed<A: Allocator = Global> {
+    stack: Stack<A>,
+    pending: Vec<u8, A>,
+    count: u64,
+    fault: Option<MergeError>,
+}
+
+impl<A: Allocator> Model for PlanFeed<A> {
+    ghost use Rattle.hll_text.specs.Cuts.{IsOpen};
+    ghost use Rattle.hll_merge.specs.Feeding.{Feed};
+
+    ghost Value = { Feed };
+
+    ghost view = { λ f. record { stack = f.stack; pending = f.pending.items; count = f.count; fault = f.fault } };
+
+    ghost invariant = { λ f. IsOpen f.pending.items };
+}
+
+impl<A: Allocator> PlanFeed<A> {
+    /// The bytes of the line that has not ended: what follows the last LF, none after a fault. Takes no memory.
+    pub fn pending(&self) -> &[u8]
+        ensures { result.now ≡ self.now.pending }
+    {
+        self.pending.as_slice()
+    }
+
+    /// How many lines ended so far.
+    pub(crate) fn count(&self) -> u64
+        ensures { result ≡ self.now.count }
+    {
+        self.count
+    }
+}
+
+impl<A: Allocator + Clone> PlanFeed<A> {
+    /// No text yet, and no sketches. `Memory` where a clone of the allocator is refused.
+    pub fn new(alloc: A) -> Result<PlanFeed<A>, MergeError>
+        ensures ok { IfOk result (λ f. f ≡ unfed) }
+        ensures err { IfErr result (λ e. e.fault ≡ Memory) }
+    {
+        let for_stack = match alloc.clone() {
+            Ok(for_stack) => for_stack,
+            Err(e) => return Err(Fault::from(e).at(0)),
+        };
+        Ok(PlanFeed {
+            stack: Stack::new(for_stack),
+            pending: Vec::new(alloc),
+            count: 0,
+            fault: None,
+        })
+    }
+
+    /// Carries out every line that ended so far. A line that stands whole in the piece is read where it stands.
+    ///
+    /// A refusal is `Memory`, or the first fault of the text so far, with its line. It stays: each later call answers it
+    /// again and does nothing, and no bytes are pending. How the text is cut into pieces makes no difference.
+    pub fn feed(&mut self, piece: &[u8]) -> Result<(), MergeError>
+        ensures piece { MatchOption self.old.fault
+            (MatchResult result (λ _. TakesPiece self.old piece.now self.new) (λ e. RefusesPiece self.old piece.now self.new e))
+            (λ e. (result ≡ Err e) × (self.new ≡ self.old)) }
+        ensures stream { (text : List ℕ) → IsFedBy text self.old → IsFedBy (text ++ piece.now) self.new }
+    {
+        if let Some(fault) = self.fault {
+            return Err(fault);
+        }
+        match take_piece(&mut self.stack, &mut self.pending, self.count, piece) {
+            Ok(count) => {
+                self.count = count;
+                Ok(())
+            }
+            Err(fault) => {
+                self.pending.clear();
+                self.fault = Some(fault);
+                Err(fault)
+            }
+        }
+    }
+
+    /// Carries out the last line if it lacks an LF, and returns the one sketch that is left.
+    ///
+    /// A refusal is the fault that stays, `Memory`, or the first fault of the text: that of its last line, or `Stack` where
+    /// not exactly one sketch is left.
+    pub fn finish(self) -> Result<HllSketch<A>, MergeError>
+        ensures stopped { IfSome self.fault (λ e. result ≡ Err e) }
+        ensures going { self.fault ≡ None → (text : List ℕ) → IsFedBy text self → MatchResult result (IsOutcomeOf text) (StopsText text) }
+    {
+        match self.finished() {
+            Ok((sketch, _)) => Ok(sketch),
+            Err(e) => Err(e),
+        }
+    }
+
+    /// As `finish`, and also returns the number of lines of the text.
+    pub(crate) fn finished(self) -> Result<(HllSketch<A>, u64), MergeError>
+        ensures stopped { IfSome self.fault (λ e. result ≡ Err e) }
+        ensures going { self.fault ≡ None → (text : List ℕ) → IsFedBy text self → MatchResult result
+            (λ r. IsOutcomeOf text r.0 × (r.1 ≡ line_number (length (lines text)))) (StopsText text) }
+    {
+        match self.ended() {
+            Ok((stack, line)) => match stack.into_only() {
+                Some(sketch) => Ok((sketch, line)),
+                None => Err(Fault::Stack.at(line)),
+            },
+            Err(e) => Err(e),
+        }
+    }
+
+    /// Carries out the last line if it lacks an LF. Returns the sketches that are left, and the number of lines.
+    fn ended(self) -> Result<(Stack<A>, u64), MergeError>
+        ensures stopped { IfSome self.fault (λ e. result ≡ Err e) }
+        ensures going { self.fault ≡ None → (text : List ℕ) → IsFedBy text self → MatchResult result
+            (λ r. EndsIn text r.0 × (r.1 ≡ line_number (length (lines text))))
+            (λ e. (e.fault ≡ Memory) ⊎ FaultsAtLine reading (lines text) e) }
+    {
+        let PlanFeed {
+            mut stack,
+            pending,
+            count,
+            fault,
+        } = self;
+        if let Some(fault) = fault {
+            return Err(fault);
+        }
+        let last = pending.as_slice();
+        if last.is_empty() {
+            return Ok((stack, count));
+        }
+        let number = count.saturating_add(1);
+        match stack.carry_line(last) {
+            Ok(()) => Ok((stack, number)),
+            Err(fault) => Err(fault.at(number)),
+        }
+    }
+}
+
+/// The law of cuts: two feeds of one text agree, however it was cut. Does nothing.
+pub fn cuts_agree()
+    ensures { CutsAgree }
+{}
