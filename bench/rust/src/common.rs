@@ -79,8 +79,13 @@ fn nanoseconds(work: Work, lg_k: u8, rounds: u32) -> (f64, u64) {
 }
 
 pub fn measure(name: &str, lg_k: u8, rounds: u32, ours: Work, theirs: Work) {
+    measure_beside("plainly", name, lg_k, rounds, ours, theirs);
+}
+
+/// The same beside work of another kind.
+pub fn measure_beside(kind: &str, name: &str, lg_k: u8, rounds: u32, ours: Work, theirs: Work) {
     let (ours, out) = nanoseconds(ours, lg_k, rounds);
     let (theirs, expected) = nanoseconds(theirs, lg_k, rounds);
     assert_eq!(out, expected, "{name} at lg_k {lg_k}");
-    println!("{name:28} lg_k {lg_k}: {ours:12.1} ns, plainly {theirs:12.1} ns, ratio {:.2}", ours / theirs);
+    println!("{name:28} lg_k {lg_k}: {ours:12.1} ns, {kind} {theirs:12.1} ns, ratio {:.2}", ours / theirs);
 }

@@ -12,6 +12,7 @@ ghost use Rattle.hll_arrays.specs.Packed.{zeros, lowered_byte, zero_nibbles};
 mod images;
 mod registers;
 mod sketches;
+mod unions;
 
 use hll_arrays::array4::Array4;
 use hll_arrays::array6::Array6;
@@ -262,6 +263,35 @@ pub extern "C" fn hll_bench_sketch_read(alloc: Global, image: &[u8], rounds: u32
 #[unsafe(no_mangle)]
 pub extern "C" fn hll_bench_sketch_write(alloc: Global, image: &[u8], rounds: u32) -> u64 {
     sketches::write(alloc, image, rounds).unwrap_or(REFUSED)
+}
+
+/// Merges of sketches into a union under a bound.
+#[unsafe(no_mangle)]
+pub extern "C" fn hll_bench_union_update(
+    alloc: Global,
+    bound: u8,
+    lg_k: u8,
+    width: u8,
+    rounds: u32,
+) -> u64
+    requires { lg_k ≤ 21 }
+{
+    unions::update(alloc, bound, lg_k, sketches::width_of(width), rounds).unwrap_or(REFUSED)
+}
+
+/// Merges of the registers of the same sketches alone.
+#[unsafe(no_mangle)]
+pub extern "C" fn hll_bench_union_merge(
+    alloc: Global,
+    bound: u8,
+    lg_k: u8,
+    width: u8,
+    rounds: u32,
+) -> u64
+    requires bound { (4 ≤ bound) × (bound ≤ 21) }
+    requires lg_k { lg_k ≤ 21 }
+{
+    unions::merge(alloc, bound, lg_k, sketches::width_of(width), rounds).unwrap_or(REFUSED)
 }
 
 /// `max_into`.

@@ -193,8 +193,10 @@ pub fn union_of<A: Allocator + Clone>(
     ensures merged { IfOk result (λ u. gadget_of u ≡ merge_all lg_max_k (empty_union lg_max_k) (map sketch_of sketches.now)) }
     ensures bound { IfOk result (λ u. u.lg_max_k ≡ lg_max_k) }
     ensures lg_k { IfOk result (λ u. (gadget_of u).lg_k ≡ least_lg_k lg_max_k (map sketch_of sketches.now)) }
+    ensures legal { OnOk result (IsLgK lg_max_k) }
     ensures grown { IfOk result (λ u. All IsGrown (map sketch_of sketches.now) → IsJoinOf (map sketch_of sketches.now) u) }
     ensures outside { IfErr result (λ e. e ≡ reasons.Argument → IsLgK lg_max_k → ⊥) }
+    ensures within { IfErr result (λ e. e ≡ Memory → IsLgK lg_max_k) }
     ensures err { IfErr result (λ e. (e ≡ reasons.Argument) ⊎ (e ≡ Memory)) }
 {
     let mut union = HllUnion::new(alloc, lg_max_k)?;

@@ -1,8 +1,6 @@
-//! Tests of `hll_sketch` through its public calls.
+//! Tests of the sketches of `hll_sketch` and their images through its public calls.
 #![tactic(auto)]
 
-#[cfg(test)]
-mod folds;
 #[cfg(test)]
 mod hostile;
 #[cfg(test)]
@@ -11,5 +9,3 @@ mod images;
 mod reference;
 #[cfg(test)]
 mod sketches;
-#[cfg(test)]
-mod unions;

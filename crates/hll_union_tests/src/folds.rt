@@ -1,6 +1,7 @@
 //! Sketches folded to a smaller `lg_k`.
 ghost use Rattle.std.specs.Prelude.{◌≤◌};
 
+use crate::fixtures::{WIDTHS, filled};
 use hll_base::error::{Error, Reason};
 use hll_coupons::coupon::Coupon;
 use hll_coupons::hll_type::HllType;
@@ -121,22 +122,6 @@ fn arguments(rt: HostRuntime) -> Result<(), Fail> {
         assert_eq!(rt; sketch.folded(lg_k)?.lg_config_k(), lg_k);
     }
     Ok(())
-}
-
-const WIDTHS: [HllType; 3] = [HllType::Hll4, HllType::Hll6, HllType::Hll8];
-
-/// A sketch with coupons that have each slot from 0 on, and values up to 63.
-fn filled<A: Allocator + Clone>(
-    alloc: A,
-    lg_k: u8,
-    hll_type: HllType,
-    count: u32,
-) -> Result<HllSketch<A>, Error> {
-    let mut sketch = HllSketch::new(alloc, lg_k, hll_type)?;
-    for slot in 0..count {
-        sketch.update_with_coupon(Coupon::pack(slot, 1 + (slot % 63) as u8))?;
-    }
-    Ok(sketch)
 }
 
 /// The registers at an `lg_k` of a sketch of 8.

@@ -1,6 +1,7 @@
 //! Unions: what is merged into them, in images, and what they give.
 ghost use Rattle.std.specs.Prelude.{◌≤◌};
 
+use crate::fixtures::{WIDTHS, filled};
 use hll_base::error::{Error, Reason};
 use hll_coupons::coupon::Coupon;
 use hll_coupons::hll_type::HllType;
@@ -9,8 +10,6 @@ use linked_list_allocator::LocalHeap;
 use std::alloc::{Allocator, Global};
 use std::process::Abort;
 use std::test::Fail;
-
-const WIDTHS: [HllType; 3] = [HllType::Hll4, HllType::Hll6, HllType::Hll8];
 
 /// Registers of `lg_k` 4: 10 and 20 at the first slots.
 const A: &[u8] = &[
@@ -204,20 +203,6 @@ fn arguments(rt: HostRuntime) -> Result<(), Fail> {
         );
     }
     Ok(())
-}
-
-/// A sketch with coupons of each slot from 0 on, and values up to 63.
-fn filled<A: Allocator + Clone>(
-    alloc: A,
-    lg_k: u8,
-    hll_type: HllType,
-    count: u32,
-) -> Result<HllSketch<A>, Error> {
-    let mut sketch = HllSketch::new(alloc, lg_k, hll_type)?;
-    for slot in 0..count {
-        sketch.update_with_coupon(Coupon::pack(slot, 1 + (slot % 63) as u8))?;
-    }
-    Ok(sketch)
 }
 
 /// 25 coupons of an `lg_k` of 10 in an empty union of 10 keep their table of 64 places.

@@ -1,0 +1,38 @@
+//! Measures unions: 1,000 sketches of each width into one union of bound 12, beside merges of the same registers alone. The
+//! two of each pair have to agree.
+#[allow(dead_code)]
+mod common;
+
+use common::measure_beside;
+
+const BOUND: u8 = 12;
+const LG_K: [(u8, u32); 3] = [(12, 1000), (13, 500), (15, 100)];
+
+// The exports of crates/hll_bench; a `Global` takes no argument.
+unsafe extern "C" {
+    fn hll_bench_union_update(bound: u8, lg_k: u8, width: u8, rounds: u32) -> u64;
+    fn hll_bench_union_merge(bound: u8, lg_k: u8, width: u8, rounds: u32) -> u64;
+}
+
+fn update<const WIDTH: u8>(lg_k: u8, rounds: u32) -> u64 {
+    // SAFETY: the declaration above is that of crates/hll_bench.
+    unsafe { hll_bench_union_update(BOUND, lg_k, WIDTH, rounds) }
+}
+
+fn merge<const WIDTH: u8>(lg_k: u8, rounds: u32) -> u64 {
+    // SAFETY: as above.
+    unsafe { hll_bench_union_merge(BOUND, lg_k, WIDTH, rounds) }
+}
+
+fn measure_width<const WIDTH: u8>(lg_k: u8, rounds: u32) {
+    let name = format!("1,000 sketches, {} bits", 4 + 2 * WIDTH);
+    measure_beside("registers alone", &name, lg_k, rounds, update::<WIDTH>, merge::<WIDTH>);
+}
+
+fn main() {
+    for (lg_k, rounds) in LG_K {
+        measure_width::<0>(lg_k, rounds);
+        measure_width::<1>(lg_k, rounds);
+        measure_width::<2>(lg_k, rounds);
+    }
+}

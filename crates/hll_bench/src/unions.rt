@@ -1,0 +1,103 @@
+//! Sketches that are merged into one union, and the registers of the same sketches merged alone.
+ghost use Rattle.std.specs.Prelude.{◌≤◌};
+
+use crate::registers::{next, weight};
+use hll_arrays::array8::Array8;
+use hll_arrays::merge::merge_from;
+use hll_arrays::registers::Registers;
+use hll_base::error::Error;
+use hll_coupons::hll_type::HllType;
+use hll_sketch::{HllSketch, HllUnion, Mode};
+use std::alloc::Global;
+
+/// How many sketches are merged in a round.
+const SKETCHES: u32 = 1000;
+
+/// Sketches with two coupons for each register, each with coupons of its own.
+fn sketches(alloc: Global, lg_k: u8, width: HllType) -> Result<Vec<HllSketch>, Error>
+    requires { lg_k ≤ 21 }
+{
+    let mut made = Vec::new(alloc);
+    let mut word = 1;
+    for _ in 0..SKETCHES {
+        let mut sketch = HllSketch::new(alloc, lg_k, width)?;
+        for _ in 0..2u32 << lg_k {
+            let (coupon, after) = next(word);
+            sketch.update_with_coupon(coupon)?;
+            word = after;
+        }
+        made.push(sketch)?;
+    }
+    Ok(made)
+}
+
+/// Merges all sketches into one union, `rounds` times; the sum of the weights of its registers.
+pub(crate) fn update(
+    alloc: Global,
+    bound: u8,
+    lg_k: u8,
+    width: HllType,
+    rounds: u32,
+) -> Result<u64, Error>
+    requires { lg_k ≤ 21 }
+{
+    let sketches = sketches(alloc, lg_k, width)?;
+    let mut union = HllUnion::new(alloc, bound)?;
+    for _ in 0..rounds {
+        for sketch in &sketches {
+            union.update(sketch)?;
+        }
+    }
+    weight_of(&union)
+}
+
+/// The sum of the weights of the registers of a union, 0 of coupons.
+fn weight_of(union: &HllUnion) -> Result<u64, Error> {
+    let sketch = union.to_sketch(HllType::Hll8)?;
+    Ok(match sketch.mode() {
+        Mode::Array8(array) => weight(array.kxq_units()),
+        _ => 0,
+    })
+}
+
+/// Merges the registers of all sketches into registers of eight bits, `rounds` times; the sum of their weights.
+pub(crate) fn merge(
+    alloc: Global,
+    bound: u8,
+    lg_k: u8,
+    width: HllType,
+    rounds: u32,
+) -> Result<u64, Error>
+    requires bound { (4 ≤ bound) × (bound ≤ 21) }
+    requires lg_k { lg_k ≤ 21 }
+{
+    let sketches = sketches(alloc, lg_k, width)?;
+    let mut array = Array8::new(alloc, bound)?;
+    for _ in 0..rounds {
+        for sketch in &sketches {
+            merge_mode(&mut array, sketch.mode());
+        }
+    }
+    Ok(if rounds == 0 {
+        0
+    } else {
+        weight(array.kxq_units())
+    })
+}
+
+/// Merges registers of any width; a table is passed over.
+fn merge_mode(array: &mut Array8, mode: &Mode) {
+    match mode {
+        Mode::List { .. } | Mode::Set { .. } => {}
+        Mode::Array4(source) => merge_registers(array, source),
+        Mode::Array6(source) => merge_registers(array, source),
+        Mode::Array8(source) => merge_registers(array, source),
+    }
+}
+
+/// Merges registers; those of a smaller `lg_k` are passed over.
+fn merge_registers<R: Registers>(array: &mut Array8, source: &R) {
+    if array.lg_k() <= source.lg_k() {
+        merge_from(array, source);
+    }
+}
