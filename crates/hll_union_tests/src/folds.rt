@@ -7,7 +7,7 @@ use hll_coupons::coupon::Coupon;
 use hll_coupons::hll_type::HllType;
 use hll_sketch::HllSketch;
 use linked_list_allocator::LocalHeap;
-use std::alloc::{Allocator, Global};
+use std::alloc::Global;
 use std::process::Abort;
 use std::test::Fail;
 
