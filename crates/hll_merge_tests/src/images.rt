@@ -309,7 +309,11 @@ pub(crate) const FAULTS: [(&str, u64, Fault); 38] = [
     ("IMAGE 02", 1, Fault::Syntax),
     // the first line with a fault
     ("\nimage 0201\nimage 0g", 2, Fault::Image(Reason::Truncated)),
-    ("image 0301070805080009\nimage 0g", 1, Fault::Image(Reason::Truncated)),
+    (
+        "image 0301070805080009\nimage 0g",
+        1,
+        Fault::Image(Reason::Truncated),
+    ),
 ];
 
 /// A legal image of one coupon, and for each check what to flip in which of its bytes so that it fails, in their order.

@@ -51,10 +51,7 @@ pub(crate) const ANSWERS: [(&str, &str); 46] = [
         "new 4 8\ncoupon 16 1\ncoupon 17 2\ncoupon 18 3\ncoupon 19 4\ncoupon 20 5\ncoupon 21 6\ncoupon 22 7\ncoupon 23 8\nunion 1 12 8",
         "0a0107040010000a000000000000000000000000000000000000000000000000080000000000000001020304050607080000000000000000\n",
     ),
-    (
-        "union 0 12 4",
-        "0201070c030c0000\n",
-    ),
+    ("union 0 12 4", "0201070c030c0000\n"),
     (
         "new 4 8\ncoupon 16 1\nunion 1 12 8",
         "0201070c0308010810000004\n",
@@ -174,10 +171,7 @@ pub(crate) const ANSWERS: [(&str, &str); 46] = [
         "new 12 8\ncoupon 16 1\ncoupon 17 2\ncoupon 18 3\ncoupon 19 4\ncoupon 20 5\ncoupon 21 6\ncoupon 22 7\ncoupon 23 8\nfold 4",
         "0a0107040010000a000000000000000000000000000000000000000000000000080000000000000001020304050607080000000000000000\n",
     ),
-    (
-        "new 10 8\ncoupon 5 3\nfold 4",
-        "02010704030801080500000c\n",
-    ),
+    ("new 10 8\ncoupon 5 3\nfold 4", "02010704030801080500000c\n"),
     (
         "image 0a0107040000000a0100000000000000020000000000000003000000000000000f0000000000000005000000000000000000000000000000\nfold 4",
         "0a0107040000000a0100000000000000020000000000000003000000000000000f0000000000000005000000000000000000000000000000\n",
@@ -202,51 +196,15 @@ pub(crate) const ANSWERS: [(&str, &str); 46] = [
 
 /// Plans that are refused, each with its line and fault.
 pub(crate) const REFUSED: [(&str, u64, Fault); 45] = [
-    (
-        "image 0202070a030c0008",
-        1,
-        Fault::Image(Reason::Version),
-    ),
-    (
-        "image 02010716030c0008",
-        1,
-        Fault::Image(Reason::LgK),
-    ),
-    (
-        "image 0201070a030c000c",
-        1,
-        Fault::Image(Reason::Width),
-    ),
-    (
-        "image 0201070a030c000b",
-        1,
-        Fault::Image(Reason::Stage),
-    ),
-    (
-        "image 0301070a030c0008",
-        1,
-        Fault::Image(Reason::Preamble),
-    ),
-    (
-        "image 0201070a040c0008",
-        1,
-        Fault::Image(Reason::LgArr),
-    ),
-    (
-        "image 0201070a03080908",
-        1,
-        Fault::Image(Reason::Count),
-    ),
-    (
-        "image 0201070a030c0108",
-        1,
-        Fault::Image(Reason::Count),
-    ),
-    (
-        "image 0201070a03080008",
-        1,
-        Fault::Image(Reason::Count),
-    ),
+    ("image 0202070a030c0008", 1, Fault::Image(Reason::Version)),
+    ("image 02010716030c0008", 1, Fault::Image(Reason::LgK)),
+    ("image 0201070a030c000c", 1, Fault::Image(Reason::Width)),
+    ("image 0201070a030c000b", 1, Fault::Image(Reason::Stage)),
+    ("image 0301070a030c0008", 1, Fault::Image(Reason::Preamble)),
+    ("image 0201070a040c0008", 1, Fault::Image(Reason::LgArr)),
+    ("image 0201070a03080908", 1, Fault::Image(Reason::Count)),
+    ("image 0201070a030c0108", 1, Fault::Image(Reason::Count)),
+    ("image 0201070a03080008", 1, Fault::Image(Reason::Count)),
     (
         "image 030107080508000920000000",
         1,
@@ -337,94 +295,34 @@ pub(crate) const REFUSED: [(&str, u64, Fault); 45] = [
         1,
         Fault::Image(Reason::Register),
     ),
-    (
-        "image 0201070a030c00",
-        1,
-        Fault::Image(Reason::Truncated),
-    ),
-    (
-        "image 0201080a030c0008",
-        1,
-        Fault::Image(Reason::Family),
-    ),
+    ("image 0201070a030c00", 1, Fault::Image(Reason::Truncated)),
+    ("image 0201080a030c0008", 1, Fault::Image(Reason::Family)),
     (
         "image 0201070a03080108050000",
         1,
         Fault::Image(Reason::Truncated),
     ),
-    (
-        "new 10 8\nnew 10 8",
-        2,
-        Fault::Stack,
-    ),
-    (
-        "new 10 8\nfold 11",
-        2,
-        Fault::Fold,
-    ),
-    (
-        "new 10 8\nfold 3",
-        2,
-        Fault::Range,
-    ),
-    (
-        "new 10 8\nfold 22",
-        2,
-        Fault::Range,
-    ),
-    (
-        "new 10 8\nfold",
-        2,
-        Fault::Syntax,
-    ),
-    (
-        "new 10 8\nfold 4 4",
-        2,
-        Fault::Syntax,
-    ),
-    (
-        "fold 4",
-        1,
-        Fault::Stack,
-    ),
+    ("new 10 8\nnew 10 8", 2, Fault::Stack),
+    ("new 10 8\nfold 11", 2, Fault::Fold),
+    ("new 10 8\nfold 3", 2, Fault::Range),
+    ("new 10 8\nfold 22", 2, Fault::Range),
+    ("new 10 8\nfold", 2, Fault::Syntax),
+    ("new 10 8\nfold 4 4", 2, Fault::Syntax),
+    ("fold 4", 1, Fault::Stack),
     (
         "image 0a0107040010000a0000000000000000000000000000000000000000000000000e000000000000000a140000000000000000000000000000\nnew 12 8\nunion 2 12 8\nfold 5",
         4,
         Fault::Fold,
     ),
-    (
-        "new 10 8\nfold 9\nfold 10",
-        3,
-        Fault::Fold,
-    ),
-    (
-        "image 0g",
-        1,
-        Fault::Hex,
-    ),
-    (
-        "image 020",
-        1,
-        Fault::Hex,
-    ),
+    ("new 10 8\nfold 9\nfold 10", 3, Fault::Fold),
+    ("image 0g", 1, Fault::Hex),
+    ("image 020", 1, Fault::Hex),
     (
         "image 0301070805080009\nimage 0g",
         1,
         Fault::Image(Reason::Truncated),
     ),
-    (
-        "union 1 10 8",
-        1,
-        Fault::Stack,
-    ),
-    (
-        "new 10 8\nunion 2 10 8",
-        2,
-        Fault::Stack,
-    ),
-    (
-        "union 4294967 10 8",
-        1,
-        Fault::Stack,
-    ),
+    ("union 1 10 8", 1, Fault::Stack),
+    ("new 10 8\nunion 2 10 8", 2, Fault::Stack),
+    ("union 4294967 10 8", 1, Fault::Stack),
 ];
