@@ -16,15 +16,18 @@ use Rattle.hll_sketch.proofs.Gadgets.{ArePairs-one}
 use Rattle.hll_sketch.proofs.Meanings.{ArePairs-empty}
 use Rattle.hll_sketch.proofs.LegalImages.{image_is_legal}
 use Rattle.hll_sketch.proofs.LegalSketches.{add_is_legal, merge_is_legal}
-use Rattle.hll_sketch.proofs.Written.{written_is_image}
+use Rattle.hll_sketch.specs.Written.{Written}
+use Rattle.hll_sketch.proofs.Written.{written_is_image, one_written}
 use Rattle.hll_merge.specs.Plan as plan
 use Rattle.hll_merge.specs.Plan.{Plan, Plans, no_plans, more_plans, plans_of, outcome, outcomes, IsLegalPlan, LeavesOfEach}
 use Rattle.hll_text.specs.Text.{PlanStep, reading, new, image, coupon, union, fold}
 use Rattle.hll_text.proofs.StepLemmas.{IsWellFormed, reading-well_formed}
 use Rattle.hll_merge.specs.Accepting.{Carries, Gives, Runs, skipped, taken}
-use Rattle.hll_merge.specs.Headline.{OutcomeIsLegal, AcceptedPlansHold}
+use Rattle.hll_merge.specs.Headline.{OutcomeIsLegal, AcceptedPlansHold, GrownPlansConvergeAnywhere}
 use Rattle.hll_merge.proofs.EffectiveLgK.{lg_k-outcome}
+use Rattle.hll_merge.proofs.Growing.{converges}
 use Rattle.hll_merge.proofs.Outcomes.{plans_have_meaning, same_inputs_agree}
+use Rattle.hll_merge.proofs.Rearranging.{rearranged_plans_agree}
 
 -- ---- outcomes
 
@@ -123,6 +126,13 @@ run_legal : (ts : List Plan) (ls : List (List ℕ)) (us : List Plan) → AreLega
 run_legal ts [] us h r = subst AreLegal (sym r) h
 run_legal ts (l ∷ ls) us h r = run_legal r.0 ls us (line_legal ts l r.0 h r.1) r.2
 
+pub grown_plans_converge_anywhere : GrownPlansConvergeAnywhere
+grown_plans_converge_anywhere t h = record {
+  grown = converges t h;
+  rearranged = λ u k r. sym (rearranged_plans_agree t u h k r);
+  same_bytes = λ u a b k r v w. one_written (outcome t) a b v (subst (Written b) (sym (rearranged_plans_agree t u h k r)) w);
+}
+
 pub accepted_plans_hold : AcceptedPlansHold
 accepted_plans_hold text t h =
     let legal : IsLegalPlan t = (run_legal [] (lines text) (t ∷ []) tt h).0 in
@@ -133,4 +143,5 @@ accepted_plans_hold text t h =
       meaning = plans_have_meaning t legal;
       image = λ bytes w. written_is_image bytes (outcome t) sketch w;
       agrees = λ u k same. same_inputs_agree t u legal k (sym same);
+      converges = grown_plans_converge_anywhere t;
     }

@@ -1,6 +1,7 @@
 pub mod Accepted
 pub mod CutLemmas
 pub mod EffectiveLgK
+pub mod Evaluating
 pub mod FeedingLemmas
 pub mod Growing
 pub mod Headline

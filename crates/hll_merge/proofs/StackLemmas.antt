@@ -24,7 +24,7 @@ use Rattle.hll_sketch.proofs.FirstFaults.{first_fault_stands}
 use Rattle.hll_text.specs.declared.fault.Fault.TheVariants as faults
 use Rattle.hll_text.specs.Step.{fault_of}
 use Rattle.hll_text.specs.Text as text
-use Rattle.hll_text.specs.Text.{PlanStep, reading}
+use Rattle.hll_text.specs.Text.{PlanStep, Reading}
 use Rattle.hll_merge.specs.Plan as plan
 use Rattle.hll_merge.specs.Plan.{Plan, outcome, outcomes, plans_of, effective_lg_k}
 use Rattle.hll_merge.specs.Accepting.{Gives, Runs, IsAboveLast, IsFaultOfStep}
@@ -216,6 +216,7 @@ carries-union xs ys n at m w y enough is value gives = λ ts h.
 
 -- ---- lines
 
-pub Runs-more : (ts us vs : List Plan) (front : List (List ℕ)) (line : List ℕ) → Runs reading ts front us → Gives reading us line vs → Runs reading ts (front ++ line ∷ []) vs
-Runs-more ts us vs [] line h g = (vs, subst (λ zs. Gives reading zs line vs) h g, refl)
-Runs-more ts us vs (l ∷ front) line h g = (h.0, h.1, Runs-more h.0 us vs front line h.2 g)
+module _ {L : Type 0} (reads : L → Reading) where
+  pub Runs-more : (ts us vs : List Plan) (front : List L) (line : L) → Runs reads ts front us → Gives reads us line vs → Runs reads ts (front ++ line ∷ []) vs
+  Runs-more ts us vs [] line h g = (vs, subst (λ zs. Gives reads zs line vs) h g, refl)
+  Runs-more ts us vs (l ∷ front) line h g = (h.0, h.1, Runs-more h.0 us vs front line h.2 g)

@@ -1,15 +1,30 @@
 -- What an accepted text promises of its image (docs/MODEL.md, "The meaning of a plan").
 use Rattle.std.specs.Prelude.{◌≡◌, ℕ, List}
+use Rattle.hll_sketch.specs.Grown.{IsGrown}
 use Rattle.hll_sketch.specs.Value.{IsLegal}
 use Rattle.hll_sketch.specs.Image.{Image}
 use Rattle.hll_sketch.specs.Written.{Written}
-use Rattle.hll_merge.specs.Plan.{Plan, inputs, outcome, IsLegalPlan}
+use Rattle.hll_merge.specs.Plan.{Plan, inputs, outcome, Leaves, IsLegalPlan}
+use Rattle.hll_merge.specs.Grown.{Converges}
+use Rattle.hll_merge.specs.Rearrangement.{IsRearrangement}
 use Rattle.hll_merge.specs.Meaning.{HasMeaning, AgreeFolded}
 use Rattle.hll_merge.specs.Accepting.{Accepts}
 
 -- the outcome of a legal plan is a legal sketch
 abbrev pub OutcomeIsLegal : Type 0
 OutcomeIsLegal = (t : Plan) → IsLegalPlan t → IsLegal (outcome t)
+
+-- what holds of a plan over grown images
+pub record ConvergesAnywhere (t : Plan) : Type 0 where
+  -- the outcome is grown, and that of a union is the join of its children's
+  pub grown : Converges t
+  -- children anywhere may be reordered, repeated and grouped, and parts stored: pairs, table size, registers and state are equal
+  pub rearranged : (u : Plan) → Leaves IsGrown u → IsRearrangement t u → outcome u ≡ outcome t
+  -- and so are the bytes
+  pub same_bytes : (u : Plan) (a b : List ℕ) → Leaves IsGrown u → IsRearrangement t u → Written a (outcome t) → Written b (outcome u) → a ≡ b
+
+abbrev pub GrownPlansConvergeAnywhere : Type 0
+GrownPlansConvergeAnywhere = (t : Plan) → Leaves IsGrown t → ConvergesAnywhere t
 
 -- what holds of the plan of an accepted text
 pub record Holds (t : Plan) : Type 0 where
@@ -21,6 +36,8 @@ pub record Holds (t : Plan) : Type 0 where
   pub image : (bytes : List ℕ) → Written bytes (outcome t) → Image bytes (outcome t)
   -- every plan over the same inputs agrees with it, once both are folded to the smaller effective lg_k
   pub agrees : (u : Plan) → IsLegalPlan u → inputs u ≡ inputs t → AgreeFolded t u
+  -- where its images are grown, order, repetition and grouping show nowhere
+  pub converges : Leaves IsGrown t → ConvergesAnywhere t
 
 abbrev pub AcceptedPlansHold : Type 0
 AcceptedPlansHold = (text : List ℕ) (t : Plan) → Accepts text t → Holds t

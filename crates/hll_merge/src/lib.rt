@@ -1,6 +1,7 @@
 //! Plans of sketches: text in, the image of one sketch out.
 #![tactic(auto)]
 
+pub mod evaluate;
 pub mod feed;
 pub mod laws;
 pub mod reference;

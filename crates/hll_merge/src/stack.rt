@@ -155,18 +155,20 @@ impl<A: Allocator + Clone> Stack<A> {
     ///
     /// `Memory` where a sketch, or a larger stack, is refused; `Image`, `Stack` and `Fold` as the plan says. A refusal
     /// leaves the stack as it was.
-    fn carry_out(&mut self, step: Step<A>) -> Result<(), Fault>
-        requires { IsInRange (step_of step) }
-        ensures ok { OnOk result (StackCarries self.old (step_of step) self.new) }
-        ensures err { IfErr result (λ e. StackRefuses self.old (step_of step) e) }
+    pub(crate) fn carry_out(&mut self, step: &Step<A>) -> Result<(), Fault>
+        requires { IsInRange (step_of step.now) }
+        ensures ok { OnOk result (StackCarries self.old (step_of step.now) self.new) }
+        ensures err { IfErr result (λ e. StackRefuses self.old (step_of step.now) e) }
         ensures unchanged { OnErr result (self.new ≡ self.old) }
     {
         match step {
-            Step::New(lg_k, hll_type) => self.push_new(lg_k, hll_type),
+            Step::New(lg_k, hll_type) => self.push_new(*lg_k, *hll_type),
             Step::Image(bytes) => self.push_image(bytes.as_slice()),
-            Step::Coupon(slot, value) => self.push_coupon(Coupon::pack(slot, value)),
-            Step::Union(count, lg_max_k, hll_type) => self.push_union(count, lg_max_k, hll_type),
-            Step::Fold(lg_k) => self.push_fold(lg_k),
+            Step::Coupon(slot, value) => self.push_coupon(Coupon::pack(*slot, *value)),
+            Step::Union(count, lg_max_k, hll_type) => {
+                self.push_union(*count, *lg_max_k, *hll_type)
+            }
+            Step::Fold(lg_k) => self.push_fold(*lg_k),
         }
     }
 
@@ -178,7 +180,7 @@ impl<A: Allocator + Clone> Stack<A> {
     {
         let alloc = self.cloned_allocator()?;
         match read_step(alloc, line)? {
-            Some(step) => self.carry_out(step),
+            Some(step) => self.carry_out(&step),
             None => Ok(()),
         }
     }

@@ -18,6 +18,8 @@ mod registers;
 #[cfg(test)]
 mod rows;
 #[cfg(test)]
+mod steps;
+#[cfg(test)]
 mod texts;
 #[cfg(test)]
 mod unions;

@@ -1,6 +1,6 @@
 use Rattle.std.proofs.Common.{◌≡◌, ℕ, ◌+◌, inl, inr, List, [], ◌∷◌, ◌++◌, length, ap, sym, subst, ◌∙◌, append_assoc, arith}
 use Rattle.std.proofs.lemmas.List.{length-append}
-use Rattle.hll_text.specs.Text.{line_number, ended_lines}
+use Rattle.hll_text.specs.Text.{line_number, ended_lines, reading}
 use Rattle.hll_merge.specs.Stack.{StackStops}
 use Rattle.hll_merge.proofs.StackLemmas.{Runs-more}
 use Rattle.hll_merge.proofs.feed.carry_ended.Goals as goal
@@ -32,5 +32,5 @@ lines-preserved g c =
       inv.1 ∙ ap (λ ls. front ++ ls) c.in-Some.ensures.lines.0 ∙ sym (append_assoc front (c.in-Some.line.now ∷ []) (ended_lines c.in-Some.more.now)),
       inv.2 ∙ c.in-Some.ensures.rest,
       let n : c.saturating_add-number.result ≡ line_number (c.args.count + length (front ++ c.in-Some.line.now ∷ [])) = omega (arith, inv.3, c.saturating_add-number.ensures, length-append front (c.in-Some.line.now ∷ [])) in n,
-      λ ts h. let run = inv.4 ts h in let next = c.in_default.ensures.ok run.0 run.2 in (next.0, Runs-more ts run.0 next.0 front c.in-Some.line.now run.1 next.1, next.2),
+      λ ts h. let run = inv.4 ts h in let next = c.in_default.ensures.ok run.0 run.2 in (next.0, Runs-more reading ts run.0 next.0 front c.in-Some.line.now run.1 next.1, next.2),
     )

@@ -27,7 +27,7 @@ returns-in-Ok-clause-going g c = λ none text h.
     let same : lines text ≡ ended_lines text ++ last ∷ [] =
     s.lines ∙ ap (λ bytes. ended_lines text ++ line_of_rest bytes) (sym c.as_slice-last.ensures.value) ∙ ap (λ ls. ended_lines text ++ ls) (one-left last (sym c.is_empty.ensures ∙ c.if-is_empty.false)) in
     let next = c.in-Ok.ensures.ok s.stack s.all in (
-      record { plans = next.0; runs = subst (λ ls. Runs reading [] ls next.0) (sym same) (Runs-more [] s.stack next.0 (ended_lines text) last s.runs next.1); all = next.2 },
+      record { plans = next.0; runs = subst (λ ls. Runs reading [] ls next.0) (sym same) (Runs-more reading [] s.stack next.0 (ended_lines text) last s.runs next.1); all = next.2 },
       let n : c.saturating_add-number.result ≡ line_number (length (lines text)) = omega (arith, s.count, c.saturating_add-number.ensures, ap length same, length-append (ended_lines text) (last ∷ [])) in n,
     )
 
