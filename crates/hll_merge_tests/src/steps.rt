@@ -33,12 +33,20 @@ fn one_input_at_two_sizes(rt: HostRuntime) -> Result<(), Fail> {
     let set = eight_in_union(12);
     let array = eight_in_union(4);
     let of_set = evaluate(rt.alloc(), &set)?;
-    assert_eq!(rt; image_of(&rt, &of_set)?.as_bytes(), b"0301070c05080009080000001000000411000008\
+    assert_eq!(rt;
+        image_of(&rt, &of_set)?.as_bytes(),
+        b"0301070c05080009080000001000000411000008\
         1200000c13000010140000141500001816\
-        00001c17000020".as_slice());
+        00001c17000020"
+            .as_slice()
+    );
     let of_array = evaluate(rt.alloc(), &array)?;
-    assert_eq!(rt; image_of(&rt, &of_array)?.as_bytes(), b"0a0107040010000a0000000000000000000000000000000000\
-        00000000000000080000000000000001020304050607080000000000000000".as_slice());
+    assert_eq!(rt;
+        image_of(&rt, &of_array)?.as_bytes(),
+        b"0a0107040010000a0000000000000000000000000000000000\
+        00000000000000080000000000000001020304050607080000000000000000"
+            .as_slice()
+    );
     assert_eq!(rt; compare(rt.alloc(), &set, &array), Ok(true));
     assert_eq!(rt; compare(rt.alloc(), &set, &set[..1]), Ok(false));
     Ok(())
@@ -75,6 +83,9 @@ fn images_and_folds(rt: HostRuntime) -> Result<(), Fail> {
         Step::Fold(10),
     ];
     let folded = evaluate(rt.alloc(), &steps)?;
-    assert_eq!(rt; image_of(&rt, &folded)?.as_bytes(), b"0201070a030801000500000c".as_slice());
+    assert_eq!(rt;
+        image_of(&rt, &folded)?.as_bytes(),
+        b"0201070a030801000500000c".as_slice()
+    );
     Ok(())
 }
