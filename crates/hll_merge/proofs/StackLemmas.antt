@@ -1,11 +1,12 @@
 -- Lemmas on carrying out steps: the sketches of a stack are outcomes of the plans.
-use Rattle.std.proofs.Common.{◌≡◌, ℕ, zero, suc, ◌+◌, ◌-◌, ◌<◌, ◌≤◌, inl, inr, List, [], ◌∷◌, ◌++◌, length, take, drop, get_or, Some, refl, sym, ◌∙◌, ap, subst, arith, map, option_to_list, Option}
+use Rattle.std.proofs.Common.{◌≡◌, ℕ, zero, suc, ◌+◌, ◌-◌, ◌<◌, ◌≤◌, inl, inr, List, [], ◌∷◌, ◌++◌, length, take, drop, get_or, Some, Ok, refl, sym, ◌∙◌, ap, subst, arith, map, option_to_list, Option, None}
 use Rattle.std.proofs.Math.ListN.{set}
 use Rattle.std.proofs.Math.Nat.{eq-or-lt_of_le}
 use Rattle.std.proofs.Math.Seq.{take-suc, get_or-append_seam}
 use Rattle.std.proofs.lemmas.List.{set_split, take_all, take-append-drop, take-append-le, take-set, take-set-le, take_more_set, length-append, length-drop, length-set}
 use Rattle.std.proofs.lemmas.List.Edits.{swap_is}
 use Rattle.std.specs.List.{swap}
+use Rattle.std.specs.Prelude.{IsSome, IfSome, IfNone}
 use Rattle.hll_base.specs.declared.error.Reason.{Reason}
 use Rattle.hll_base.specs.declared.error.Reason.TheVariants as reasons
 use Rattle.hll_base.specs.declared.error.ErrorKind.TheVariants.{InvalidData}
@@ -21,14 +22,15 @@ use Rattle.hll_sketch.specs.Merging.{merge_all, empty_union}
 use Rattle.hll_sketch.specs.Value.{Sketch}
 use Rattle.hll_sketch.proofs.FaultKinds.{faults_are_of_data}
 use Rattle.hll_sketch.proofs.FirstFaults.{first_fault_stands}
+use Rattle.hll_text.specs.declared.fault.Fault.{Fault}
 use Rattle.hll_text.specs.declared.fault.Fault.TheVariants as faults
 use Rattle.hll_text.specs.Step.{fault_of}
 use Rattle.hll_text.specs.Text as text
 use Rattle.hll_text.specs.Text.{PlanStep, Reading}
 use Rattle.hll_merge.specs.Plan as plan
 use Rattle.hll_merge.specs.Plan.{Plan, outcome, outcomes, plans_of, effective_lg_k}
-use Rattle.hll_merge.specs.Accepting.{Gives, Runs, IsAboveLast, IsFaultOfStep}
-use Rattle.hll_merge.specs.Stack.{Represents, AllRepresent, ReplacesLast, IsAbove, StackCarries}
+use Rattle.hll_merge.specs.Accepting.{Gives, IsFaultOfLine, Runs, IsAboveLast, IsFaultOfStep, skipped, taken, unread, refused}
+use Rattle.hll_merge.specs.Stack.{Represents, AllRepresent, ReplacesLast, IsAbove, StackCarries, StackRefuses, StackGives, StackFaults}
 use Rattle.hll_merge.proofs.EffectiveLgK.{lg_k-outcome}
 
 -- ---- a stack and its plans
@@ -123,9 +125,14 @@ replaces_last IsFor xs n x y e at h = record {
 }
 
 -- the last of one is the only one
-pub only : (xs ys : List SketchLayout) (o : Option SketchLayout) (x : SketchLayout) → o ≡ Some x → xs ≡ ys ++ option_to_list o → length xs ≡ 1 → xs ≡ x ∷ []
-only xs [] o x is e one = e ∙ ap option_to_list is
-only xs (y ∷ ys) o x is e one = absurd (omega (arith, one, ap length (e ∙ ap (λ p. (y ∷ ys) ++ option_to_list p) is), length-append (y ∷ ys) (x ∷ [])))
+pub only : (xs ys : List SketchLayout) (o : Option SketchLayout) → xs ≡ ys ++ option_to_list o → length xs ≡ 1 → IfSome o (λ x. xs ≡ x ∷ [])
+only xs ys None e one = tt
+only xs [] (Some x) e one = e
+only xs (y ∷ ys) (Some x) e one = absurd (omega (arith, one, ap length e, length-append (y ∷ ys) (x ∷ [])))
+
+pub some_is_not_none : (o : Option SketchLayout) (Q : Type 0) → IsSome o → IfNone o Q
+some_is_not_none None Q some = absurd (cc)
+some_is_not_none (Some x) Q some = tt
 
 -- a list with one more, which takes the place of those from an index on
 pub replaced_from : (xs : List SketchLayout) (at : ℕ) (y : SketchLayout) → at ≤ length xs → take (at + 1) (swap (xs ++ y ∷ []) at (length xs)) ≡ take at xs ++ y ∷ []
@@ -220,3 +227,28 @@ module _ {L : Type 0} (reads : L → Reading) where
   pub Runs-more : (ts us vs : List Plan) (front : List L) (line : L) → Runs reads ts front us → Gives reads us line vs → Runs reads ts (front ++ line ∷ []) vs
   Runs-more ts us vs [] line h g = (vs, subst (λ zs. Gives reads zs line vs) h g, refl)
   Runs-more ts us vs (l ∷ front) line h g = (h.0, h.1, Runs-more h.0 us vs front line h.2 g)
+
+module _ (reads : List ℕ → Reading) (old : List SketchLayout) (line : List ℕ) where
+  -- a line that says a step
+  module _ (step : PlanStep) (read : reads line ≡ Ok (Some step)) where
+    pub gives-step : (new : List SketchLayout) → StackCarries old step new → StackGives reads old line new
+    gives-step new carries = λ ts h. let next = carries ts h in (next.0, taken step read next.1, next.2)
+
+    pub faults-step : (e : Fault) → StackRefuses old step e → StackFaults reads old line e
+    faults-step e refuses = λ ts h. elim (refuses ts h) [ inl m ↦ inl m | inr f ↦ inr (refused step read f) ]
+
+  -- a line that is read as another is, in another way
+  module _ (other_reads : List ℕ → Reading) (other : List ℕ) (alike : reads line ≡ other_reads other) where
+    of_other : (ts us : List Plan) → Gives other_reads ts other us → Gives reads ts line us
+    of_other ts us (skipped e is) = skipped (alike ∙ e) is
+    of_other ts us (taken step e carries) = taken step (alike ∙ e) carries
+
+    fault_of_other : (ts : List Plan) (e : Fault) → IsFaultOfLine other_reads ts other e → IsFaultOfLine reads ts line e
+    fault_of_other ts e (unread is) = unread (alike ∙ is)
+    fault_of_other ts e (refused step is f) = refused step (alike ∙ is) f
+
+    pub gives-alike : (new : List SketchLayout) → StackGives other_reads old other new → StackGives reads old line new
+    gives-alike new gives = λ ts h. let next = gives ts h in (next.0, of_other ts next.0 next.1, next.2)
+
+    pub faults-alike : (e : Fault) → StackFaults other_reads old other e → StackFaults reads old line e
+    faults-alike e faults = λ ts h. elim (faults ts h) [ inl m ↦ inl m | inr f ↦ inr (fault_of_other ts e f) ]

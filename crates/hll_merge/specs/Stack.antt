@@ -5,7 +5,7 @@ use Rattle.hll_sketch.specs.Value.{Sketch}
 use Rattle.hll_text.specs.declared.fault.Fault.{Fault}
 use Rattle.hll_text.specs.declared.fault.Fault.TheVariants.{Memory}
 use Rattle.hll_text.specs.declared.fault.MergeError.{MergeError}
-use Rattle.hll_text.specs.Text.{PlanStep, reading}
+use Rattle.hll_text.specs.Text.{PlanStep, Reading, reading}
 use Rattle.hll_merge.specs.Plan.{Plan, outcome}
 use Rattle.hll_merge.specs.Accepting.{Carries, IsFaultOfStep, Gives, IsFaultOfLine, Runs, FaultsFrom}
 
@@ -46,13 +46,15 @@ StackCarries old step new = (ts : List Plan) → AllRepresent old ts → (us : L
 abbrev pub StackRefuses : List SketchLayout → PlanStep → Fault → Type 0
 StackRefuses old step e = (ts : List Plan) → AllRepresent old ts → (e ≡ Memory) ⊎ IsFaultOfStep ts step e
 
--- the new sketches are outcomes of what the line makes of the plans
-abbrev pub StackGives : List SketchLayout → List ℕ → List SketchLayout → Type 0
-StackGives old line new = (ts : List Plan) → AllRepresent old ts → (us : List Plan) × Gives reading ts line us × AllRepresent new us
+-- a line, or the digits of an image, by how they are read
+module _ (reads : List ℕ → Reading) where
+  -- the new sketches are outcomes of what the line makes of the plans
+  abbrev pub StackGives : List SketchLayout → List ℕ → List SketchLayout → Type 0
+  StackGives old line new = (ts : List Plan) → AllRepresent old ts → (us : List Plan) × Gives reads ts line us × AllRepresent new us
 
--- memory was refused, or this is the fault of the line
-abbrev pub StackFaults : List SketchLayout → List ℕ → Fault → Type 0
-StackFaults old line e = (ts : List Plan) → AllRepresent old ts → (e ≡ Memory) ⊎ IsFaultOfLine reading ts line e
+  -- memory was refused, or this is the fault of the line
+  abbrev pub StackFaults : List SketchLayout → List ℕ → Fault → Type 0
+  StackFaults old line e = (ts : List Plan) → AllRepresent old ts → (e ≡ Memory) ⊎ IsFaultOfLine reads ts line e
 
 -- the new sketches are outcomes of what the lines in turn make of the plans
 abbrev pub StackRuns : List SketchLayout → List (List ℕ) → List SketchLayout → Type 0

@@ -42,7 +42,10 @@ fn carry_steps<A: Allocator + Clone>(
     ensures { MatchResult result (λ r. RunsSteps (map step_of steps.now) r.0 r.1)
         (λ e. (e.fault ≡ Memory) ⊎ FaultsAtLine itself (map step_of steps.now) e) }
 {
-    let mut stack = Stack::new(alloc);
+    let mut stack = match Stack::new(alloc) {
+        Ok(stack) => stack,
+        Err(e) => return Err(Fault::from(e).at(0)),
+    };
     let mut number = 0u64;
     for step in steps {
         number = number.saturating_add(1);

@@ -12,7 +12,7 @@ use crate::stack::Stack;
 use hll_sketch::sketch::HllSketch;
 use hll_text::fault::{Fault, MergeError};
 use hll_text::lines::{line_end, next_ended, without_return};
-use std::alloc::{Allocator, Global};
+use std::alloc::{AllocError, Allocator, Global};
 use std::marker::Model;
 
 /// Carries out the lines of a text that end in an LF, in turn, after `count` others. Returns what follows the last LF, and
@@ -145,13 +145,20 @@ impl<A: Allocator + Clone> PlanFeed<A> {
         ensures ok { IfOk result (λ f. f ≡ unfed) }
         ensures err { IfErr result (λ e. e.fault ≡ Memory) }
     {
-        let for_stack = match alloc.clone() {
-            Ok(for_stack) => for_stack,
-            Err(e) => return Err(Fault::from(e).at(0)),
-        };
+        match Self::unfed(alloc) {
+            Ok(feed) => Ok(feed),
+            Err(e) => Err(Fault::from(e).at(0)),
+        }
+    }
+
+    /// No text yet, and no sketches. Fails where a clone of the allocator does.
+    fn unfed(alloc: A) -> Result<PlanFeed<A>, AllocError>
+        ensures { IfOk result (λ f. f ≡ unfed) }
+    {
+        let for_pending = alloc.clone()?;
         Ok(PlanFeed {
-            stack: Stack::new(for_stack),
-            pending: Vec::new(alloc),
+            stack: Stack::new(alloc)?,
+            pending: Vec::new(for_pending),
             count: 0,
             fault: None,
         })

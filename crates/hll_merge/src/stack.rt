@@ -1,12 +1,12 @@
 //! The sketches of a plan while its lines are carried out, the last one on top.
-ghost use Rattle.std.specs.Prelude.{◌≡◌, ◌≤◌, ◌<◌, ◌⊎◌, ◌++◌, ◌∷◌, [], length, take, OnOk, OnErr, IfErr, IfSome, IfNone};
+ghost use Rattle.std.specs.Prelude.{◌≡◌, ◌≤◌, ◌<◌, ◌⊎◌, ◌++◌, ◌∷◌, [], length, take, OnOk, OnErr, IfOk, IfErr, IfSome, IfNone};
 ghost use Rattle.hll_coupons.specs.Pair.{value_of, set_of};
 ghost use Rattle.hll_sketch.specs.Adding.{add};
 ghost use Rattle.hll_sketch.specs.Folding as folding;
 ghost use Rattle.hll_sketch.specs.Layout.{sketch_of};
 ghost use Rattle.hll_sketch.specs.Value.{IsLgK};
 ghost use Rattle.hll_text.specs.Step.{step_of, IsInRange};
-ghost use Rattle.hll_text.specs.Text.{new, image, union};
+ghost use Rattle.hll_text.specs.Text.{new, image, union, reading, image_reading};
 ghost use Rattle.hll_merge.specs.Stack.{ReplacesLast, IsAbove, StackCarries, StackRefuses, StackGives, StackFaults};
 ghost use Rattle.hll_text.specs.declared.fault.Fault.TheVariants.{Memory};
 ghost use Rattle.hll_text.specs.declared.fault.Fault.TheVariants as faults;
@@ -16,15 +16,17 @@ use hll_coupons::hll_type::HllType;
 use hll_sketch::sketch::HllSketch;
 use hll_sketch::union::union_of;
 use hll_text::fault::Fault;
-use hll_text::reading::read_step;
-use hll_text::step::Step;
+use hll_text::reading::{decode_into, read_line};
+use hll_text::step::{Line, Step};
 use std::alloc::{AllocError, Allocator};
 use std::marker::Model;
 
-/// The sketches of a plan, the last one on top. Contracts see the list of them.
+/// The sketches of a plan, the last one on top, and a buffer for the bytes of their images. Contracts see the list of
+/// sketches.
 #[derive(Drop)]
 pub(crate) struct Stack<A: Allocator> {
     sketches: Vec<HllSketch<A>, A>,
+    image: Vec<u8, A>,
 }
 
 impl<A: Allocator> Model for Stack<A> {
@@ -37,21 +39,12 @@ impl<A: Allocator> Model for Stack<A> {
 }
 
 impl<A: Allocator> Stack<A> {
-    /// No sketches.
-    pub(crate) fn new(alloc: A) -> Self
-        ensures { result ≡ [] }
-    {
-        Stack {
-            sketches: Vec::new(alloc),
-        }
-    }
-
     /// The one sketch, where there is just one.
     pub(crate) fn into_only(self) -> Option<HllSketch<A>>
         ensures one { IfSome result (λ x. self ≡ x ∷ []) }
         ensures other { IfNone result (length self ≡ 1 → ⊥) }
     {
-        let Stack { mut sketches } = self;
+        let Stack { mut sketches, .. } = self;
         if sketches.len() == 1 {
             sketches.pop()
         } else {
@@ -61,6 +54,17 @@ impl<A: Allocator> Stack<A> {
 }
 
 impl<A: Allocator + Clone> Stack<A> {
+    /// No sketches. Fails where the allocator's own clone does.
+    pub(crate) fn new(alloc: A) -> Result<Self, AllocError>
+        ensures { IfOk result (λ s. s ≡ []) }
+    {
+        let for_sketches = alloc.clone()?;
+        Ok(Stack {
+            sketches: Vec::new(for_sketches),
+            image: Vec::new(alloc),
+        })
+    }
+
     /// A clone of the allocator. Fails where the allocator's own clone does.
     fn cloned_allocator(&self) -> Result<A, AllocError> {
         self.sketches.allocator().clone()
@@ -172,16 +176,30 @@ impl<A: Allocator + Clone> Stack<A> {
         }
     }
 
-    /// Reads a line and carries it out. A refusal leaves the stack as it was.
-    pub(crate) fn carry_line(&mut self, line: &[u8]) -> Result<(), Fault>
-        ensures ok { OnOk result (StackGives self.old line.now self.new) }
-        ensures err { IfErr result (λ e. StackFaults self.old line.now e) }
+    /// Pushes the sketch of an image from its digits, which are decoded into the one buffer. `Hex` where they are not an
+    /// even number of hexadecimal digits, else as `push_image`, or `Memory` where a larger buffer is refused.
+    fn push_digits(&mut self, digits: &[u8]) -> Result<(), Fault>
+        ensures ok { OnOk result (StackGives image_reading self.old digits.now self.new) }
+        ensures err { IfErr result (λ e. StackFaults image_reading self.old digits.now e) }
         ensures unchanged { OnErr result (self.new ≡ self.old) }
     {
         let alloc = self.cloned_allocator()?;
-        match read_step(alloc, line)? {
-            Some(step) => self.carry_out(&step),
-            None => Ok(()),
+        let bytes = decode_into(&mut self.image, digits)?;
+        let sketch = HllSketch::deserialize(alloc, bytes)?;
+        self.sketches.push(sketch)?;
+        Ok(())
+    }
+
+    /// Reads a line and carries it out. A refusal leaves the stack as it was.
+    pub(crate) fn carry_line(&mut self, line: &[u8]) -> Result<(), Fault>
+        ensures ok { OnOk result (StackGives reading self.old line.now self.new) }
+        ensures err { IfErr result (λ e. StackFaults reading self.old line.now e) }
+        ensures unchanged { OnErr result (self.new ≡ self.old) }
+    {
+        match read_line(line)? {
+            Line::Skipped => Ok(()),
+            Line::Image(digits) => self.push_digits(digits),
+            Line::Step(step) => self.carry_out(&step),
         }
     }
 }

@@ -1,9 +1,8 @@
 -- Lemmas on the numbers of a line.
-use Rattle.std.proofs.Common.{◌≡◌, ℕ, ◌+◌, ◌*◌, ◌<◌, ◌≤◌, ◌^◌, add-one, true, List, [], ◌∷◌, length, Err, arith, refl}
-use Rattle.std.proofs.lemmas.Bool.Decides.{nat_tests}
+use Rattle.std.proofs.Common.{◌≡◌, ℕ, ◌+◌, ◌*◌, ◌<◌, ◌≤◌, ◌^◌, add-one, false, cond, nat_eq, List, [], ◌∷◌, length, Ok, Err, arith, refl, ap}
 use Rattle.std.proofs.Math.Nat.{pow-le-pow_right}
 use Rattle.hll_text.specs.declared.fault.Fault.TheVariants.{Syntax}
-use Rattle.hll_text.specs.Text.{is_number, one_number, two_numbers, one_word}
+use Rattle.hll_text.specs.Text.{one_number, two_numbers, one_word}
 
 -- one more digit
 pub below_next : (v d k : ℕ) → v < 10 ^ k → d ≤ 9 → 10 * v + d < 10 ^ (k + 1)
@@ -17,10 +16,6 @@ below_seven v k h e =
     let most : 10 ^ k ≤ 10 ^ 7 = pow-le-pow_right {n = 10} ten {i = k} {j = 7} few in
     omega arith
 
--- what the test of a number says
-pub length-number : (word : List ℕ) → is_number word ≡ true → length word ≤ 8
-length-number word h = grind (arith, nat_tests)
-
 -- two words and more are not one number
 pub one_number-more : (a : List ℕ) (ws : List (List ℕ)) → 0 < length ws → one_number (a ∷ ws) ≡ Err Syntax
 one_number-more a [] h = absurd (omega arith)
@@ -30,6 +25,10 @@ one_number-more a (b ∷ more) h = refl
 pub two_numbers-more : (a b : List ℕ) (ws : List (List ℕ)) → 0 < length ws → two_numbers (a ∷ b ∷ ws) ≡ Err Syntax
 two_numbers-more a b [] h = absurd (omega arith)
 two_numbers-more a b (c ∷ ws) h = refl
+
+-- a word that isn't empty
+pub one_word-one : (a : List ℕ) → nat_eq (length a) 0 ≡ false → one_word (a ∷ []) ≡ Ok a
+one_word-one a e = ap (λ b. cond b (Err Syntax) (Ok a)) e
 
 -- two words and more are not one
 pub one_word-more : (a : List ℕ) (ws : List (List ℕ)) → 0 < length ws → one_word (a ∷ ws) ≡ Err Syntax

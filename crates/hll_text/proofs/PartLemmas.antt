@@ -12,11 +12,11 @@ use Rattle.std.proofs.lemmas.List.Sums.{fails_before_first}
 use Rattle.hll_text.specs.Text.{words, ended_parts, ended_lines}
 
 -- a test decides which of two options there is
-some_of : (b : Bool) (n i : ℕ) → cond b (Some n) None ≡ Some i → (b ≡ true) × (n ≡ i)
+pub some_of : (b : Bool) (n i : ℕ) → cond b (Some n) None ≡ Some i → (b ≡ true) × (n ≡ i)
 some_of true n i e = (refl, cc)
 some_of false n i e = absurd (cc)
 
-none_of : (b : Bool) (n : ℕ) → cond b (Some n) None ≡ None → b ≡ false
+pub none_of : (b : Bool) (n : ℕ) → cond b (Some n) None ≡ None → b ≡ false
 none_of true n e = absurd (cc)
 none_of false n e = refl
 

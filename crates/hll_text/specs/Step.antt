@@ -7,7 +7,9 @@ use Rattle.hll_text.specs.declared.fault.Fault.{Fault}
 use Rattle.hll_text.specs.declared.fault.Fault.TheVariants as faults
 use Rattle.hll_text.specs.declared.step.Step.{Step}
 use Rattle.hll_text.specs.declared.step.Step.TheVariants as steps
-use Rattle.hll_text.specs.Text.{PlanStep, Reading, names_image, new, image, coupon, union, fold}
+use Rattle.hll_text.specs.declared.step.Line.{Line}
+use Rattle.hll_text.specs.declared.step.Line.TheVariants as lines
+use Rattle.hll_text.specs.Text.{PlanStep, Reading, names_image, image_reading, new, image, coupon, union, fold}
 
 -- the step of the plan
 abbrev pub step_of : {A : Type 0} → Step A → PlanStep
@@ -27,6 +29,30 @@ abbrev pub reading_of : {A : Type 0} → Result (Option (Step A)) Fault → Read
 reading_of (Err e) = Err e
 reading_of (Ok None) = Ok None
 reading_of (Ok (Some step)) = Ok (Some (step_of step))
+
+-- the line's reading, of what a reader returns that leaves the digits of an image as they are
+abbrev pub line_reading_of : {A : Type 0} → Result (Line A) Fault → Reading
+line_reading_of (Err e) = Err e
+line_reading_of (Ok lines.Skipped) = Ok None
+line_reading_of (Ok (lines.Image digits)) = image_reading digits.now
+line_reading_of (Ok (lines.Step step)) = Ok (Some (step_of step))
+
+-- the plan's step or the fault, of what a reader of an image's digits returns
+abbrev pub image_of : Result (Bor (List ℕ)) Fault → Result PlanStep Fault
+image_of (Ok bytes) = Ok (image bytes.now)
+image_of (Err e) = Err e
+
+-- where a line says an image
+abbrev pub IfImage : {A : Type 0} → Line A → Type 0 → Type 0
+IfImage lines.Skipped P = Unit {0}
+IfImage (lines.Image digits) P = P
+IfImage (lines.Step step) P = Unit {0}
+
+-- where a line says another step
+abbrev pub IfStep : {A : Type 0} → Line A → (Step A → Type 0) → Type 0
+IfStep lines.Skipped P = Unit {0}
+IfStep (lines.Image digits) P = Unit {0}
+IfStep (lines.Step step) P = P step
 
 -- the bytes of a word or the fault, of what a reader of a word returns
 abbrev pub word_of : Result (Bor (List ℕ)) Fault → Result (List ℕ) Fault

@@ -166,10 +166,18 @@ read_words (first ∷ rest) =
 abbrev pub Reading : Type 0
 Reading = Result (Option PlanStep) Fault
 
+-- what a line says that isn't skipped: its step
+abbrev pub as_reading : Result PlanStep Fault → Reading
+as_reading r = r >>= (λ step. Ok (Some step))
+
+-- what the digits of an image say
+abbrev pub image_reading : List ℕ → Reading
+image_reading digits = as_reading (image_step digits)
+
 -- an empty line is skipped, and so is one that begins with `#`
 abbrev pub reading : List ℕ → Reading
 reading [] = Ok None
-reading (b ∷ more) = if b == 35 then Ok None else read_words (words (b ∷ more)) >>= (λ step. Ok (Some step))
+reading (b ∷ more) = if b == 35 then Ok None else as_reading (read_words (words (b ∷ more)))
 
 -- a fault of a line by itself
 abbrev pub IsLineFault : Fault → Type 0

@@ -2,6 +2,7 @@
 //! failures (docs/ARCHITECTURE.md, "The crates").
 #![tactic(auto)]
 
+mod bytes;
 pub mod fakes;
 pub mod fault;
 pub mod lines;
@@ -14,5 +15,5 @@ pub mod watched;
 mod words;
 
 pub use fault::{Fault, MergeError};
-pub use step::{ImageBytes, Step};
+pub use step::{ImageBytes, Line, Step};
 pub use watched::Watched;

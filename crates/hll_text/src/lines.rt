@@ -4,11 +4,13 @@ ghost use Rattle.std.specs.Str.Lines.{strip_carriage_return};
 ghost use Rattle.hll_text.specs.Text.{ended_lines, open_line};
 ghost use Rattle.hll_text.specs.Cuts.{LinesOfCuts};
 
+use crate::bytes::first_of;
+
 /// Where the first LF is. Takes no memory.
 pub fn line_end(text: &[u8]) -> Option<usize>
     ensures { result ≡ position (λ b. b == 10) text.now }
 {
-    text.iter().position(|b| *b == b'\n')
+    first_of(b'\n', text)
 }
 
 /// A line without the CR at its end, if it has one. Takes no memory.

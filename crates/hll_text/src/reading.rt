@@ -2,12 +2,12 @@
 ghost use Rattle.std.specs.Prelude.{◌≡◌, ◌⊎◌, ◌∷◌, true, Err, IfOk, IfSome};
 ghost use Rattle.std.specs.Option.{option_copied};
 ghost use Rattle.hll_text.specs.declared.fault.Fault.TheVariants.{Memory};
-ghost use Rattle.hll_text.specs.Step.{step_reading_of, step_of, ReadsAs, IsInRange};
+ghost use Rattle.hll_text.specs.Step.{step_reading_of, line_reading_of, image_of, step_of, ReadsAs, IsInRange, IfImage, IfStep};
 ghost use Rattle.hll_text.specs.Text as plan;
-ghost use Rattle.hll_text.specs.Text.{words, words_after, reading, names_image, width, lg_k, FaultsOfLines};
+ghost use Rattle.hll_text.specs.Text.{as_reading, words, words_after, reading, names_image, width, lg_k, FaultsOfLines};
 
 use crate::fault::Fault;
-use crate::step::{ImageBytes, Step};
+use crate::step::{ImageBytes, Line, Step};
 use crate::words::{one_number, one_word, split_word, three_numbers, two_numbers};
 use hex::FromHexError;
 use hll_coupons::hll_type::HllType;
@@ -22,34 +22,69 @@ pub fn read_step<A: Allocator>(alloc: A, line: &[u8]) -> Result<Option<Step<A>>,
     ensures reading { ReadsAs (words line.now) (reading line.now) result }
     ensures in_range { IfOk result (λ found. IfSome found (λ step. IsInRange (step_of step))) }
 {
-    if line.is_empty() || line[0] == b'#' {
-        return Ok(None);
+    match read_line(line)? {
+        Line::Skipped => Ok(None),
+        Line::Image(digits) => Ok(Some(image_step(alloc, digits)?)),
+        Line::Step(step) => Ok(Some(step)),
     }
-    let (first, rest) = split_word(line);
-    Ok(Some(read_words(alloc, first, rest)?))
 }
 
-/// The step of a line that is not skipped, from its first word and what follows the space after it.
-fn read_words<A: Allocator>(alloc: A, first: &[u8], rest: Option<&[u8]>) -> Result<Step<A>, Fault>
-    ensures reading { let words = first.now ∷ words_after (option_copied rest.entry) in
-        (step_reading_of result ≡ plan.read_words words) ⊎ ((names_image words ≡ true) × (result ≡ Err Memory)) }
-    ensures in_range { IfOk result (λ step. IsInRange (step_of step)) }
+/// What a line of a plan, without its end, says, the digits of an image left as they are. `Syntax` and `Range` as
+/// `read_step`. Takes no memory.
+pub fn read_line<A: Allocator>(line: &[u8]) -> Result<Line<'_, A>, Fault>
+    ensures reading { line_reading_of result ≡ reading line.now }
+    ensures image { IfOk result (λ said. IfImage said (names_image (words line.now) ≡ true)) }
+    ensures in_range { IfOk result (λ said. IfStep said (λ step. IsInRange (step_of step))) }
+{
+    if line.is_empty() || line[0] == b'#' {
+        return Ok(Line::Skipped);
+    }
+    let (first, rest) = split_word(line);
+    read_words(first, rest)
+}
+
+/// What a line that is not skipped says, from its first word and what follows the space after it.
+fn read_words<'l, A: Allocator>(first: &[u8], rest: Option<&'l [u8]>) -> Result<Line<'l, A>, Fault>
+    ensures reading { line_reading_of result ≡ as_reading (plan.read_words (first.now ∷ words_after (option_copied rest.entry))) }
+    ensures image { IfOk result (λ said. IfImage said (names_image (first.now ∷ words_after (option_copied rest.entry)) ≡ true)) }
+    ensures in_range { IfOk result (λ said. IfStep said (λ step. IsInRange (step_of step))) }
 {
     if first == b"new".as_slice() {
         let (lg_k, bits) = two_numbers(rest)?;
-        new_step(lg_k, bits)
+        Ok(Line::Step(new_step(lg_k, bits)?))
     } else if first == b"image".as_slice() {
-        image_step(alloc, one_word(rest)?)
+        Ok(Line::Image(one_word(rest)?))
     } else if first == b"coupon".as_slice() {
         let (slot, value) = two_numbers(rest)?;
-        coupon_step(slot, value)
+        Ok(Line::Step(coupon_step(slot, value)?))
     } else if first == b"union".as_slice() {
         let (count, lg_max_k, bits) = three_numbers(rest)?;
-        union_step(count, lg_max_k, bits)
+        Ok(Line::Step(union_step(count, lg_max_k, bits)?))
     } else if first == b"fold".as_slice() {
-        fold_step(one_number(rest)?)
+        Ok(Line::Step(fold_step(one_number(rest)?)?))
     } else {
         Err(Fault::Syntax)
+    }
+}
+
+/// The bytes of an image, from its digits, in a buffer that serves line after line.
+///
+/// What the buffer held is lost; it grows to the longest image and keeps its size. `Hex` where the word is not an even
+/// number of hexadecimal digits, `Memory` where a larger buffer is refused.
+pub fn decode_into<'b, A: Allocator>(
+    buffer: &'b mut Vec<u8, A>,
+    digits: &[u8],
+) -> Result<&'b [u8], Fault>
+    ensures { (image_of result ≡ plan.image_step digits.now) ⊎ (result ≡ Err Memory) }
+{
+    let size = digits.len() / 2;
+    if buffer.len() < size {
+        buffer.resize(size, 0)?;
+    }
+    let bytes = &mut buffer[..size];
+    match hex::decode_to_slice(digits, bytes) {
+        Ok(()) => Ok(bytes),
+        Err(_) => Err(Fault::Hex),
     }
 }
 

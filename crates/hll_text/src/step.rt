@@ -68,3 +68,14 @@ pub enum Step<A: Allocator = Global> {
     /// Replaces the last sketch by its fold to an `lg_k`, 4 to 21.
     Fold(u8),
 }
+
+/// What a line of a plan says, the image of an `image` line still in digits (docs/PLAN.md, "The text").
+#[derive(Drop)]
+pub enum Line<'l, A: Allocator = Global> {
+    /// Nothing: the line is skipped.
+    Skipped,
+    /// The step `image`, of these digits, which need not be hexadecimal.
+    Image(&'l [u8]),
+    /// Any other step.
+    Step(Step<A>),
+}

@@ -1,13 +1,15 @@
 //! Lines of plans, lines of texts, watched streams that work and that fail, and refused memory.
+use crate::bytes::{first_of, first_one_by_one};
 use crate::fakes::{Failing, Narrow};
 use crate::fault::{Fault, MergeError};
 use crate::lines::{line_end, lines_of_cuts, next_ended, without_return};
-use crate::reading::{faults_of_lines, read_step};
+use crate::reading::{decode_into, faults_of_lines, read_step};
 use crate::step::{ImageBytes, Step};
 use crate::streams::write_all;
 use crate::watched::Watched;
 use hll_coupons::hll_type::HllType;
 use linked_list_allocator::LocalHeap;
+use std::alloc::Allocator;
 use std::process::Abort;
 use std::test::Fail;
 
@@ -75,6 +77,39 @@ fn first_lines(rt: HostRuntime) {
     lines_of_cuts();
 }
 
+/// A byte at each place of texts round two blocks, and twice, and a text that lacks it.
+#[test]
+fn first_bytes(rt: HostRuntime) {
+    for len in 0..150usize {
+        let mut text = [b'a'; 150];
+        let text = &mut text[..len];
+        assert_eq!(rt; first_of(b'\n', text), None);
+        for at in (0..len).rev() {
+            text[at] = b'\n';
+            assert_eq!(rt; first_of(b'\n', text), Some(at));
+            assert_eq!(rt; first_one_by_one(b'\n', text), Some(at));
+        }
+    }
+}
+
+/// One buffer serves digits after digits, shorter ones too.
+#[test]
+fn decoded_images(rt: HostRuntime) -> Result<(), Fail> {
+    let rows: [(&[u8], Result<&[u8], Fault>); 6] = [
+        (b"02", Ok(b"\x02")),
+        (b"0a0B0c", Ok(b"\x0a\x0b\x0c")),
+        (b"ff", Ok(b"\xff")),
+        (b"", Ok(b"")),
+        (b"123", Err(Fault::Hex)),
+        (b"0g", Err(Fault::Hex)),
+    ];
+    let mut buffer = Vec::new(rt.alloc());
+    for (digits, bytes) in rows {
+        assert_eq!(rt; decode_into(&mut buffer, digits), bytes);
+    }
+    Ok(())
+}
+
 /// Each read calls the stream once, and fails only where the stream fails.
 #[test]
 fn watched_reads(rt: HostRuntime) -> Result<(), Fail> {
@@ -99,6 +134,14 @@ fn watched_reads(rt: HostRuntime) -> Result<(), Fail> {
     Ok(())
 }
 
+/// The bytes of an `image` step, none of another.
+fn image_of<A: Allocator>(found: &Option<Step<A>>) -> &[u8] {
+    match found {
+        Some(Step::Image(bytes)) => bytes.as_slice(),
+        _ => &[],
+    }
+}
+
 /// An image line read with a heap of each size: memory is refused until one is large enough.
 #[test]
 fn refused_memory(rt: HostRuntime) -> Result<(), Fail> {
@@ -108,8 +151,7 @@ fn refused_memory(rt: HostRuntime) -> Result<(), Fail> {
     for size in 1..60usize {
         let heap = LocalHeap::new(rt.alloc(), size * 32)?;
         match read_step(&heap, &line) {
-            Ok(Some(Step::Image(bytes))) => assert_eq!(rt; bytes.as_slice(), [0u8; 300].as_slice()),
-            Ok(_) => assert!(rt; false, "no image"),
+            Ok(found) => assert_eq!(rt; image_of(&found), [0u8; 300].as_slice()),
             Err(fault) => {
                 assert_eq!(rt; fault, Fault::Memory);
                 refused = refused.saturating_add(1);
@@ -117,6 +159,11 @@ fn refused_memory(rt: HostRuntime) -> Result<(), Fail> {
         }
     }
     assert!(rt; 0 < refused && refused < 59, "{refused}");
+    let heap = LocalHeap::new(rt.alloc(), 256)?;
+    assert_eq!(rt;
+        decode_into(&mut Vec::new(&heap), &line[6..]),
+        Err(Fault::Memory)
+    );
     Ok(())
 }
 

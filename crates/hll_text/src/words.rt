@@ -8,20 +8,14 @@ ghost use Rattle.hll_text.specs.Text.{words, words_after, decimal_value, number}
 ghost use Rattle.hll_text.specs.Step.{word_of};
 ghost use Rattle.hll_text.specs.declared.fault.Fault.TheVariants.{Syntax};
 
+use crate::bytes::{first_of, first_one_by_one};
 use crate::fault::Fault;
 
-/// Where the first space is.
-fn space_at(line: &[u8]) -> Option<usize>
-    ensures { result ≡ position (λ b. b == 32) line.now }
-{
-    line.iter().position(|b| *b == b' ')
-}
-
-/// The first word of a line, and what follows the space after it.
+/// The first word of a line, which is short, and what follows the space after it.
 pub(crate) fn split_word(line: &[u8]) -> (&[u8], Option<&[u8]>)
     ensures { words line.now ≡ result.0.now ∷ words_after (option_copied result.1) }
 {
-    match space_at(line) {
+    match first_one_by_one(b' ', line) {
         None => (line, None),
         Some(at) => (&line[..at], Some(&line[at + 1..])),
     }
@@ -72,51 +66,35 @@ pub(crate) fn three_numbers(rest: Option<&[u8]>) -> Result<(u32, u32, u32), Faul
     Ok((first, second, third))
 }
 
-/// The word after a space. `Syntax` where there is not just one word, or it is empty.
+/// The word after a space, sought whole, since it may be long. `Syntax` where there is not just one word, or it is empty.
 pub(crate) fn one_word(rest: Option<&[u8]>) -> Result<&[u8], Fault>
     ensures { word_of result ≡ plan.one_word (words_after (option_copied rest.entry)) }
 {
-    let (word, rest) = next_word(rest)?;
-    match rest {
-        None if word.is_empty() => Err(Fault::Syntax),
+    let Some(word) = rest else {
+        return Err(Fault::Syntax);
+    };
+    if word.is_empty() {
+        return Err(Fault::Syntax);
+    }
+    match first_of(b' ', word) {
         None => Ok(word),
         Some(_) => Err(Fault::Syntax),
     }
 }
 
-/// The number that a word writes in 1 to 8 decimal digits. `Syntax` for any other word.
+/// The number that a word writes in 1 to 8 decimal digits, in one pass. `Syntax` for any other word.
 fn read_number(word: &[u8]) -> Result<u32, Fault>
     ensures { result ≡ number word.now }
 {
-    if is_number(word) {
-        Ok(number_value(word))
-    } else {
-        Err(Fault::Syntax)
+    if word.is_empty() || word.len() > 8 {
+        return Err(Fault::Syntax);
     }
-}
-
-/// Whether a word is 1 to 8 decimal digits.
-fn is_number(word: &[u8]) -> bool
-    ensures { result ≡ plan.is_number word.now }
-{
-    1 <= word.len() && word.len() <= 8 && are_digits(word)
-}
-
-/// Whether all bytes of a word are decimal digits.
-fn are_digits(word: &[u8]) -> bool
-    ensures { result ≡ list_all is_ascii_digit word.now }
-{
-    word.iter().all(|b| b.is_ascii_digit())
-}
-
-/// The number that 1 to 8 decimal digits write.
-fn number_value(word: &[u8]) -> u32
-    requires { plan.is_number word.now ≡ true }
-    ensures { result ≡ decimal_value word.now }
-{
     let mut value: u32 = 0;
     for digit in word {
+        if !digit.is_ascii_digit() {
+            return Err(Fault::Syntax);
+        }
         value = 10 * value + u32::from(*digit - b'0');
     }
-    value
+    Ok(value)
 }

@@ -9,21 +9,21 @@ use Rattle.hll_merge.proofs.Evaluating.{map-next, map-parts, runs_none, runs_mor
 use Rattle.hll_merge.proofs.evaluate.carry_steps.Goals as goal
 
 pub loop-step-init : goal.loop-step-init
-loop-step-init g c = runs_none c.new-stack.result c.new-stack.ensures
+loop-step-init g c = runs_none c.in-Ok.stack c.in-Ok.ensures
 
 pub carry_out-requires : goal.carry_out-requires
 carry_out-requires g c = subst (λ s. IsInRange (step_of s)) (sym c.step-item.is) (c.requires c.loop-step.step-index c.step-item.result c.loop-step-test.true)
 
-pub returns-in-Err : goal.returns-in-Err
-returns-in-Err g c =
+pub returns-in-Err-carry_out : goal.returns-in-Err-carry_out
+returns-in-Err-carry_out g c =
     let all : List PlanStep = map step_of c.args.steps.now in
     let i : ℕ = c.loop-step.step-index in
-    subst (λ e. (e.fault ≡ Memory) ⊎ FaultsAtLine itself all e) (sym c.at.ensures)
+    subst (λ e. (e.fault ≡ Memory) ⊎ FaultsAtLine itself all e) (sym c.at-in-Err-carry_out.ensures)
     (stops_at (map step_of (take i c.args.steps.now)) (step_of c.step-item.result) (map step_of (drop (i + 1) c.args.steps.now)) all c.loop-step.stack c.loop-step.number
-    c.saturating_add-number.result c.in-Err.fault
+    c.saturating_add-number.result c.in-Err-carry_out.fault
     (map-parts step_of c.args.steps.now i c.step-item.result c.loop-step-test.true
     ∙ ap (λ s. map step_of (take i c.args.steps.now) ++ step_of s ∷ map step_of (drop (i + 1) c.args.steps.now)) (sym c.step-item.is))
-    c.loop-step.invariant c.in-Err.ensures.err c.saturating_add-number.ensures)
+    c.loop-step.invariant c.in-Err-carry_out.ensures.err c.saturating_add-number.ensures)
 
 pub loop-step-preserved : goal.loop-step-preserved
 loop-step-preserved g c =
