@@ -1,8 +1,10 @@
 -- Lemmas on the numbers of a line.
-use Rattle.std.proofs.Common.{◌≡◌, ℕ, ◌+◌, ◌*◌, ◌<◌, ◌≤◌, ◌^◌, add-one, false, cond, nat_eq, List, [], ◌∷◌, length, Ok, Err, arith, refl, ap}
+use Rattle.std.proofs.Common.{◌≡◌, ℕ, ◌+◌, ◌*◌, ◌<◌, ◌≤◌, ◌^◌, add-one, false, cond, nat_eq, List, [], ◌∷◌, length, get_or, Ok, Err, None, arith, refl, sym, ap}
 use Rattle.std.proofs.Math.Nat.{pow-le-pow_right}
+use Rattle.std.specs.Prelude.{◌≢◌}
+use Rattle.std.proofs.lemmas.Bool.{ne_eqb}
 use Rattle.hll_text.specs.declared.fault.Fault.TheVariants.{Syntax}
-use Rattle.hll_text.specs.Text.{one_number, two_numbers, one_word}
+use Rattle.hll_text.specs.Text.{as_reading, read_words, reading, words, one_number, two_numbers, one_word}
 
 -- one more digit
 pub below_next : (v d k : ℕ) → v < 10 ^ k → d ≤ 9 → 10 * v + d < 10 ^ (k + 1)
@@ -34,3 +36,8 @@ one_word-one a e = ap (λ b. cond b (Err Syntax) (Ok a)) e
 pub one_word-more : (a : List ℕ) (ws : List (List ℕ)) → 0 < length ws → one_word (a ∷ ws) ≡ Err Syntax
 one_word-more a [] h = absurd (omega arith)
 one_word-more a (b ∷ more) h = refl
+
+-- a line that isn't skipped
+pub reading-taken : (line : List ℕ) → nat_eq (length line) 0 ≡ false → get_or line 0 0 ≢ 35 → as_reading (read_words (words line)) ≡ reading line
+reading-taken [] some h = absurd (cc)
+reading-taken (b ∷ more) some h = sym (ap (λ t. cond t (Ok None) (as_reading (read_words (words (b ∷ more))))) (ne_eqb b 35 h))
