@@ -1,5 +1,5 @@
 -- Lemmas on carrying out a list of steps.
-use Rattle.std.proofs.Common.{◌≡◌, ◌⊎◌, ℕ, suc, ◌+◌, ◌<◌, List, [], ◌∷◌, ◌++◌, length, take, drop, get_or, map, Some, Ok, refl, sym, ◌∙◌, ap, subst, arith, append_assoc, inl, inr}
+use Rattle.std.proofs.Common.{◌≡◌, ◌⊎◌, ℕ, suc, ◌+◌, ◌<◌, List, [], ◌∷◌, ◌++◌, length, take, drop, get_or, map, refl, sym, ◌∙◌, ap, subst, arith, append_assoc, inl, inr}
 use Rattle.std.proofs.Math.Seq.{take-suc}
 use Rattle.std.proofs.lemmas.List.{map-append, take-append-drop, length-append}
 use Rattle.hll_sketch.specs.Layout.{SketchLayout}
@@ -7,8 +7,7 @@ use Rattle.hll_text.specs.declared.fault.Fault.{Fault}
 use Rattle.hll_text.specs.declared.fault.Fault.TheVariants.{Memory, Stack}
 use Rattle.hll_text.specs.declared.fault.MergeError.{MergeError}
 use Rattle.hll_text.specs.Text.{PlanStep, line_number}
-use Rattle.hll_merge.specs.Plan.{Plan}
-use Rattle.hll_merge.specs.Accepting.{Runs, FaultsAtLine, FaultsAtEnd, IsFirstFaultOfLines, taken, refused}
+use Rattle.hll_merge.specs.Accepting.{Runs, FaultsAtLine, IsFirstFaultOfLines, taken, refused}
 use Rattle.hll_merge.specs.Evaluate.{itself, IsOutcomeOfSteps, RunsSteps}
 use Rattle.hll_merge.specs.Stack.{StackCarries, StackRefuses}
 use Rattle.hll_merge.proofs.Headline.{grown_plans_converge_anywhere}

@@ -160,7 +160,7 @@ fn width_of(bits: u32) -> Result<HllType, Fault>
 }
 
 /// The law of the faults of a line: they are `Syntax`, `Range` and `Hex` (docs/PLAN.md, "Refusals"). So `Memory`, `Read`,
-/// `Write`, `Image` and `Stack` come from elsewhere. Does nothing.
+/// `Write`, `Image`, `Stack` and `Fold` come from elsewhere. Does nothing.
 pub fn faults_of_lines()
     ensures { FaultsOfLines }
 {}
