@@ -27,3 +27,4 @@ pub mod Weights
 pub mod Written
 pub mod ZeroTests
 pub mod ZeroCounts
+pub mod Bounds
