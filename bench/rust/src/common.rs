@@ -75,7 +75,7 @@ fn timed(work: Work, lg_k: u8, rounds: u32) -> (f64, u64) {
 }
 
 /// The least nanoseconds of some rounds and of none, of two pieces of work over some runs in turn.
-fn least_in_turn(work: [Work; 2], lg_k: u8, rounds: u32) -> [[f64; 2]; 2] {
+pub fn least_in_turn(work: [Work; 2], lg_k: u8, rounds: u32) -> [[f64; 2]; 2] {
     let mut least = [[f64::INFINITY; 2]; 2];
     for _ in 0..RUNS {
         for (work, [with, without]) in work.into_iter().zip(&mut least) {
@@ -86,7 +86,8 @@ fn least_in_turn(work: [Work; 2], lg_k: u8, rounds: u32) -> [[f64; 2]; 2] {
     least
 }
 
-fn assert_same(name: &str, lg_k: u8, rounds: u32, [ours, theirs]: [Work; 2]) {
+/// Checks that two pieces of work have the same outcome.
+pub fn assert_same(name: &str, lg_k: u8, rounds: u32, [ours, theirs]: [Work; 2]) {
     assert_eq!(timed(ours, lg_k, rounds).1, timed(theirs, lg_k, rounds).1, "{name} at lg_k {lg_k}");
 }
 
@@ -94,14 +95,4 @@ pub fn measure(name: &str, lg_k: u8, rounds: u32, ours: Work, theirs: Work) {
     assert_same(name, lg_k, rounds, [ours, theirs]);
     let [ours, theirs] = least_in_turn([ours, theirs], lg_k, rounds).map(|[with, without]| (with - without) / f64::from(rounds));
     println!("{name:28} lg_k {lg_k}: {ours:12.1} ns, plainly {theirs:12.1} ns, ratio {:.2}", ours / theirs);
-}
-
-/// The same beside work of another kind, where nothing is subtracted: both make the same before their rounds, and the line
-/// says what part of the time that takes.
-pub fn measure_whole(kind: &str, name: &str, lg_k: u8, rounds: u32, ours: Work, theirs: Work) {
-    assert_same(name, lg_k, rounds, [ours, theirs]);
-    let [[ours, _], [theirs, made]] = least_in_turn([ours, theirs], lg_k, rounds);
-    let [our_round, their_round] = [ours, theirs].map(|time| time / f64::from(rounds));
-    let part = 100.0 * made / theirs;
-    println!("{name:28} lg_k {lg_k}: {our_round:12.1} ns, {kind} {their_round:12.1} ns, ratio {:.2} (made in {part:.1} %)", ours / theirs);
 }
