@@ -230,10 +230,14 @@ impl<A: Allocator> Array8<A> {
         self.registers.len()
     }
 
-    /// Whether all registers are 0. Stops at the first that is not; takes no memory.
+    /// Whether all registers are 0. Looks at them only where it isn't known how many are, up to the first that is not; takes
+    /// no memory.
     pub fn is_empty(&self) -> bool
         ensures empty { result ≡ list_all (λ v. v == 0) self.now.registers }
     {
+        if let Some(count) = self.zero_count {
+            return count as usize == two_to(self.lg_config_k);
+        }
         all_zero(&self.registers)
     }
 
