@@ -1,4 +1,4 @@
-//! Registers as plain bytes, and the time of a piece of work, for `registers` and `images`.
+//! Registers as plain bytes, and the time of a piece of work beside another.
 use std::hint::black_box;
 use std::time::Instant;
 
@@ -67,25 +67,32 @@ pub fn exceptions(registers: &[u8], minimum: u8) -> Vec<(usize, u8)> {
 
 pub type Work = fn(u8, u32) -> u64;
 
-/// The least nanoseconds a round over some runs, and what came out.
-fn nanoseconds(work: Work, lg_k: u8, rounds: u32) -> (f64, u64) {
-    let timed = |rounds: u32| {
-        let start = Instant::now();
-        let out = black_box(work(lg_k, black_box(rounds)));
-        (start.elapsed().as_nanos() as f64, out)
-    };
-    let least = |rounds: u32| (0..RUNS).map(|_| timed(rounds).0).fold(f64::INFINITY, f64::min);
-    ((least(rounds) - least(0)) / f64::from(rounds), timed(rounds).1)
+/// The nanoseconds of some rounds, and what came out.
+fn timed(work: Work, lg_k: u8, rounds: u32) -> (f64, u64) {
+    let start = Instant::now();
+    let out = black_box(work(lg_k, black_box(rounds)));
+    (start.elapsed().as_nanos() as f64, out)
+}
+
+/// The least nanoseconds of some rounds and of none, of two pieces of work over some runs in turn.
+pub fn least_in_turn(work: [Work; 2], lg_k: u8, rounds: u32) -> [[f64; 2]; 2] {
+    let mut least = [[f64::INFINITY; 2]; 2];
+    for _ in 0..RUNS {
+        for (work, [with, without]) in work.into_iter().zip(&mut least) {
+            *with = with.min(timed(work, lg_k, rounds).0);
+            *without = without.min(timed(work, lg_k, 0).0);
+        }
+    }
+    least
+}
+
+/// Checks that two pieces of work have the same outcome.
+pub fn assert_same(name: &str, lg_k: u8, rounds: u32, [ours, theirs]: [Work; 2]) {
+    assert_eq!(timed(ours, lg_k, rounds).1, timed(theirs, lg_k, rounds).1, "{name} at lg_k {lg_k}");
 }
 
 pub fn measure(name: &str, lg_k: u8, rounds: u32, ours: Work, theirs: Work) {
-    measure_beside("plainly", name, lg_k, rounds, ours, theirs);
-}
-
-/// The same beside work of another kind.
-pub fn measure_beside(kind: &str, name: &str, lg_k: u8, rounds: u32, ours: Work, theirs: Work) {
-    let (ours, out) = nanoseconds(ours, lg_k, rounds);
-    let (theirs, expected) = nanoseconds(theirs, lg_k, rounds);
-    assert_eq!(out, expected, "{name} at lg_k {lg_k}");
-    println!("{name:28} lg_k {lg_k}: {ours:12.1} ns, {kind} {theirs:12.1} ns, ratio {:.2}", ours / theirs);
+    assert_same(name, lg_k, rounds, [ours, theirs]);
+    let [ours, theirs] = least_in_turn([ours, theirs], lg_k, rounds).map(|[with, without]| (with - without) / f64::from(rounds));
+    println!("{name:28} lg_k {lg_k}: {ours:12.1} ns, plainly {theirs:12.1} ns, ratio {:.2}", ours / theirs);
 }

@@ -1,5 +1,6 @@
 //! Measures images at `lg_k` 12 and 21: reads and writes of registers of eight, six and four bits, beside a plain copy of
-//! the bytes of the image. The two of each pair have to agree.
+//! the bytes of the image. Writes are of registers that were made by updates or conversions, which know how many are 0, and
+//! at eight and six bits of registers that were read too, which have to count. The two of each pair have to agree.
 mod common;
 
 use common::{LG_K, exceptions, filled, least, measure, nibbles, packed, unpacked, zeros};
@@ -16,6 +17,8 @@ unsafe extern "C" {
     fn hll_bench_write_8(lg_k: u8, rounds: u32) -> u64;
     fn hll_bench_write_6(lg_k: u8, rounds: u32) -> u64;
     fn hll_bench_write_4(lg_k: u8, rounds: u32) -> u64;
+    fn hll_bench_rewrite_8(lg_k: u8, rounds: u32) -> u64;
+    fn hll_bench_rewrite_6(lg_k: u8, rounds: u32) -> u64;
 }
 
 /// As many bytes as the image has, with those of the registers in their place.
@@ -81,5 +84,7 @@ fn main() {
         measure("write of eight", lg_k, rounds, |k, n| unsafe { hll_bench_write_8(k, n) }, |k, n| summed(image_8(&filled(k)), n));
         measure("write of six", lg_k, rounds, |k, n| unsafe { hll_bench_write_6(k, n) }, |k, n| summed(image_6(&filled(k)), n));
         measure("write of four", lg_k, rounds, |k, n| unsafe { hll_bench_write_4(k, n) }, |k, n| summed(image_4(&filled(k)), n));
+        measure("write of eight, read before", lg_k, rounds, |k, n| unsafe { hll_bench_rewrite_8(k, n) }, |k, n| summed(image_8(&filled(k)), n));
+        measure("write of six, read before", lg_k, rounds, |k, n| unsafe { hll_bench_rewrite_6(k, n) }, |k, n| summed(image_6(&filled(k)), n));
     }
 }

@@ -1,12 +1,13 @@
-//! Measures unions: 1,000 sketches of each width into one union of bound 12, beside merges of the same registers alone. The
-//! two of each pair have to agree.
+//! Measures unions: 1,000 sketches of each width and of `lg_k` 12, 13 and 15 into one union of bound 12, beside merges of
+//! the same registers alone. The two of each pair have to agree. Both make the sketches once, before as many rounds as make
+//! that a small part of the time, and nothing is subtracted.
 #[allow(dead_code)]
 mod common;
 
-use common::measure_beside;
+use common::{Work, assert_same, least_in_turn};
 
 const BOUND: u8 = 12;
-const LG_K: [(u8, u32); 3] = [(12, 1000), (13, 500), (15, 100)];
+const LG_K: [(u8, u32); 3] = [(12, 1000), (13, 500), (15, 200)];
 
 // The exports of crates/hll_bench; a `Global` takes no argument.
 unsafe extern "C" {
@@ -24,9 +25,18 @@ fn merge<const WIDTH: u8>(lg_k: u8, rounds: u32) -> u64 {
     unsafe { hll_bench_union_merge(BOUND, lg_k, WIDTH, rounds) }
 }
 
+/// Nothing is subtracted: the line says what part of the time it takes to make the sketches.
+fn measure(name: &str, lg_k: u8, rounds: u32, work: [Work; 2]) {
+    assert_same(name, lg_k, rounds, work);
+    let [[whole, _], [alone, made]] = least_in_turn(work, lg_k, rounds);
+    let [round, alone_round] = [whole, alone].map(|time| time / f64::from(rounds));
+    let part = 100.0 * made / alone;
+    println!("{name:28} lg_k {lg_k}: {round:12.1} ns, registers alone {alone_round:12.1} ns, ratio {:.2} (made in {part:.1} %)", whole / alone);
+}
+
 fn measure_width<const WIDTH: u8>(lg_k: u8, rounds: u32) {
     let name = format!("1,000 sketches, {} bits", 4 + 2 * WIDTH);
-    measure_beside("registers alone", &name, lg_k, rounds, update::<WIDTH>, merge::<WIDTH>);
+    measure(&name, lg_k, rounds, [update::<WIDTH>, merge::<WIDTH>]);
 }
 
 fn main() {

@@ -26,3 +26,5 @@ pub mod Tail
 pub mod Weights
 pub mod Written
 pub mod ZeroTests
+pub mod ZeroCounts
+pub mod Bounds

@@ -12,9 +12,10 @@ use crate::groups::{
     all_zero_in, count_zeros_in, groups_from_bytes, max_groups_into, pack_groups, put_register,
     register_at, units_in,
 };
+use crate::kernels::count_zeros;
 use crate::preamble::{HllHeader, Preamble};
 use crate::register_store::RegisterStore;
-use crate::registers::{Registers, two_to};
+use crate::registers::{Registers, two_to, zeros_left};
 use hll_base::codec::SketchBytes;
 use hll_base::cursor::SketchSlice;
 use hll_base::error::{Error, Reason};
@@ -31,12 +32,15 @@ use std::marker::Model;
 pub struct Array6<A: Allocator = Global> {
     lg_config_k: u8,
     groups: Vec<[u8; 3], A>,
+    /// How many registers are 0, where that is known.
+    zero_count: Option<u32>,
     state: EstimateState,
 }
 
 impl<A: Allocator> Model for Array6<A> {
-    ghost use Rattle.std.specs.Prelude.{◌≤◌};
+    ghost use Rattle.std.specs.Prelude.{◌≡◌, ◌≤◌, IfSome};
     ghost use Rattle.hll_arrays.specs.Groups.{registers_in, AreGroups};
+    ghost use Rattle.hll_arrays.specs.Packed.{zeros};
     ghost use Rattle.hll_arrays.specs.State.{IsState};
     ghost use Rattle.hll_arrays.specs.Store.{Stored};
 
@@ -44,7 +48,7 @@ impl<A: Allocator> Model for Array6<A> {
 
     ghost view = { λ a. record { lg_k = a.lg_config_k; registers = registers_in a.groups.items; state = a.state } };
 
-    ghost invariant = { λ a. (4 ≤ a.lg_config_k) × (a.lg_config_k ≤ 21) × AreGroups a.lg_config_k a.groups.items × IsState a.state };
+    ghost invariant = { λ a. (4 ≤ a.lg_config_k) × (a.lg_config_k ≤ 21) × AreGroups a.lg_config_k a.groups.items × IsState a.state × IfSome a.zero_count (λ n. n ≡ zeros (registers_in a.groups.items)) };
 }
 
 impl<A: Allocator> Array6<A> {
@@ -60,6 +64,7 @@ impl<A: Allocator> Array6<A> {
         Ok(Array6 {
             lg_config_k,
             groups: vec![in alloc; [0; 3]; 1 << (lg_config_k - 2)]?,
+            zero_count: Some(two_to(lg_config_k) as u32),
             state: EstimateState::CLEARED,
         })
     }
@@ -94,6 +99,7 @@ impl<A: Allocator> Array6<A> {
         Ok(Array6 {
             lg_config_k,
             groups: groups_from_bytes(alloc, packed)?,
+            zero_count: None,
             state: preamble.state,
         })
     }
@@ -127,7 +133,9 @@ impl<A: Allocator> Array6<A> {
         ensures { self.new ≡ update_with_coupon self.old coupon }
     {
         let slot = coupon.slot() as usize % two_to(self.lg_config_k);
-        if register_at(&self.groups, slot) < coupon.value() {
+        let register = register_at(&self.groups, slot);
+        if register < coupon.value() {
+            self.zero_count = zeros_left(self.zero_count, register);
             put_register(&mut self.groups, slot, coupon.value());
             self.state = EstimateState::CLEARED;
         }
@@ -140,11 +148,14 @@ impl<A: Allocator> Array6<A> {
         all_zero_in(&self.groups)
     }
 
-    /// How many registers are 0. One pass; takes no memory.
+    /// How many registers are 0. One pass where they were read from an image, otherwise none; takes no memory.
     pub fn num_zeros(&self) -> u32
         ensures { result ≡ zeros self.now.registers }
     {
-        count_zeros_in(&self.groups) as u32
+        match self.zero_count {
+            Some(count) => count,
+            None => count_zeros_in(&self.groups) as u32,
+        }
     }
 
     /// The sum of 2^-v over the registers v, in units of 2^-63. One pass; takes no memory.
@@ -193,6 +204,7 @@ impl<A: Allocator + Clone> Array6<A> {
         Ok(Array6 {
             lg_config_k: self.lg_config_k,
             groups: Vec::from_slice(self.groups.allocator().clone()?, &self.groups)?,
+            zero_count: self.zero_count,
             state: self.state,
         })
     }
@@ -279,11 +291,12 @@ impl<A: Allocator + Clone> RegisterStore<A> for Array6<A> {
         self.serialize(self.lg_config_k)
     }
 
-    /// One pass, by groups.
+    /// One pass by groups, and one that counts the zeros.
     fn from_values(alloc: A, lg_k: u8, values: &[u8]) -> Result<Array6<A>, Error> {
         Ok(Array6 {
             lg_config_k: lg_k,
             groups: pack_groups(alloc, values)?,
+            zero_count: Some(count_zeros(values) as u32),
             state: EstimateState::CLEARED,
         })
     }

@@ -15,7 +15,7 @@ use crate::kernels::{all_zero, count_zeros, greatest_of, max_into, units};
 use crate::preamble::{HllHeader, Preamble};
 use crate::register_slice::RegisterSlice;
 use crate::register_store::RegisterStore;
-use crate::registers::{Registers, join_folds, two_to};
+use crate::registers::{Registers, join_folds, two_to, zeros_left};
 use hll_base::codec::SketchBytes;
 use hll_base::cursor::SketchSlice;
 use hll_base::error::{Error, Reason};
@@ -35,11 +35,14 @@ const MAX_VALUE: u8 = 63;
 pub struct Array8<A: Allocator = Global> {
     lg_config_k: u8,
     registers: Vec<u8, A>,
+    /// How many registers are 0, where that is known.
+    zero_count: Option<u32>,
     state: EstimateState,
 }
 
 impl<A: Allocator> Model for Array8<A> {
-    ghost use Rattle.std.specs.Prelude.{◌≤◌};
+    ghost use Rattle.std.specs.Prelude.{◌≡◌, ◌≤◌, IfSome};
+    ghost use Rattle.hll_arrays.specs.Packed.{zeros};
     ghost use Rattle.hll_arrays.specs.State.{IsState};
     ghost use Rattle.hll_arrays.specs.Store.{Stored, AreRegisters};
 
@@ -47,7 +50,7 @@ impl<A: Allocator> Model for Array8<A> {
 
     ghost view = { λ a. record { lg_k = a.lg_config_k; registers = a.registers.items; state = a.state } };
 
-    ghost invariant = { λ a. (4 ≤ a.lg_config_k) × (a.lg_config_k ≤ 21) × AreRegisters a.lg_config_k a.registers.items × IsState a.state };
+    ghost invariant = { λ a. (4 ≤ a.lg_config_k) × (a.lg_config_k ≤ 21) × AreRegisters a.lg_config_k a.registers.items × IsState a.state × IfSome a.zero_count (λ n. n ≡ zeros a.registers.items) };
 }
 
 impl<A: Allocator> Array8<A> {
@@ -63,6 +66,7 @@ impl<A: Allocator> Array8<A> {
         Ok(Array8 {
             lg_config_k,
             registers: vec![in alloc; 0; two_to(lg_config_k)]?,
+            zero_count: Some(two_to(lg_config_k) as u32),
             state: EstimateState::CLEARED,
         })
     }
@@ -100,6 +104,7 @@ impl<A: Allocator> Array8<A> {
         Ok(Array8 {
             lg_config_k,
             registers: Vec::from_slice(alloc, registers)?,
+            zero_count: None,
             state: preamble.state,
         })
     }
@@ -148,7 +153,9 @@ impl<A: Allocator> Array8<A> {
         ensures { self.new ≡ update_with_coupon self.old coupon }
     {
         let slot = coupon.slot() as usize % two_to(self.lg_config_k);
-        if self.registers[slot] < coupon.value() {
+        let register = self.registers[slot];
+        if register < coupon.value() {
+            self.zero_count = zeros_left(self.zero_count, register);
             self.registers[slot] = coupon.value();
             self.state = EstimateState::CLEARED;
         }
@@ -161,6 +168,7 @@ impl<A: Allocator> Array8<A> {
         requires { AreRegisters self.old.lg_k src.now }
         ensures { self.new ≡ record { lg_k = self.old.lg_k; registers = join self.old.registers src.now; state = cleared_state } }
     {
+        self.zero_count = None;
         max_into(&mut self.registers, src);
         self.rebuild_estimator_from_registers();
     }
@@ -175,6 +183,7 @@ impl<A: Allocator> Array8<A> {
         requires registers { AreRegisters src_lg_k src.now }
         ensures { self.new ≡ merge_with self.old src.now }
     {
+        self.zero_count = None;
         join_folds(
             &mut self.registers,
             self.lg_config_k,
@@ -190,6 +199,7 @@ impl<A: Allocator> Array8<A> {
         requires { self.old.lg_k ≤ (R.stored src.now).lg_k }
         ensures { self.new ≡ merge_with self.old (R.stored src.now).registers }
     {
+        self.zero_count = None;
         join_folds(&mut self.registers, self.lg_config_k, src);
         self.rebuild_estimator_from_registers();
     }
@@ -202,6 +212,7 @@ impl<A: Allocator> Array8<A> {
         requires value { value ≤ 63 }
         ensures { self.new ≡ record self.old { registers = slice_set self.old.registers slot value } }
     {
+        self.zero_count = None;
         self.registers[slot] = value;
     }
 
@@ -219,18 +230,25 @@ impl<A: Allocator> Array8<A> {
         self.registers.len()
     }
 
-    /// Whether all registers are 0. Stops at the first that is not; takes no memory.
+    /// Whether all registers are 0. Looks at them only where it isn't known how many are, up to the first that is not; takes
+    /// no memory.
     pub fn is_empty(&self) -> bool
         ensures empty { result ≡ list_all (λ v. v == 0) self.now.registers }
     {
+        if let Some(count) = self.zero_count {
+            return count as usize == two_to(self.lg_config_k);
+        }
         all_zero(&self.registers)
     }
 
-    /// How many registers are 0. One pass; takes no memory.
+    /// How many registers are 0. One pass, none where updates alone made the registers; takes no memory.
     pub fn num_zeros(&self) -> u32
         ensures { result ≡ zeros self.now.registers }
     {
-        count_zeros(&self.registers) as u32
+        match self.zero_count {
+            Some(count) => count,
+            None => count_zeros(&self.registers) as u32,
+        }
     }
 
     /// The sum of 2^-v over the registers v, in units of 2^-63. One pass; takes no memory.
@@ -272,6 +290,7 @@ impl<A: Allocator + Clone> Array8<A> {
         Ok(Array8 {
             lg_config_k: self.lg_config_k,
             registers: Vec::from_slice(self.registers.allocator().clone()?, &self.registers)?,
+            zero_count: self.zero_count,
             state: self.state,
         })
     }
@@ -354,11 +373,12 @@ impl<A: Allocator + Clone> RegisterStore<A> for Array8<A> {
         self.serialize(self.lg_config_k)
     }
 
-    /// Copies the values.
+    /// Copies the values, and counts the zeros.
     fn from_values(alloc: A, lg_k: u8, values: &[u8]) -> Result<Array8<A>, Error> {
         Ok(Array8 {
             lg_config_k: lg_k,
             registers: Vec::from_slice(alloc, values)?,
+            zero_count: Some(count_zeros(values) as u32),
             state: EstimateState::CLEARED,
         })
     }

@@ -119,6 +119,18 @@ pub(crate) fn least_of(values: &[u8]) -> u8
 pub(crate) fn greatest_of(bytes: &[u8]) -> u8
     ensures { (bound : ℕ) → list_all (λ b. nat_le b bound) bytes.now ≡ nat_le result bound }
 {
+    let (blocks, rest) = bytes.as_chunks::<64>();
+    let mut lanes = u8x64::splat(0);
+    for block in blocks {
+        lanes = lanes.simd_max(u8x64::from_array(*block));
+    }
+    greatest_one_by_one(&lanes.to_array()).max(greatest_one_by_one(rest))
+}
+
+/// The greatest of bytes, compared one after the other.
+fn greatest_one_by_one(bytes: &[u8]) -> u8
+    ensures { (bound : ℕ) → list_all (λ b. nat_le b bound) bytes.now ≡ nat_le result bound }
+{
     let mut greatest = 0u8;
     for byte in bytes {
         greatest = greatest.max(*byte);

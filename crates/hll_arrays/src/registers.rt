@@ -1,5 +1,5 @@
 //! Registers that can be read, however they are stored (docs/MODEL.md, "Laws of a store").
-ghost use Rattle.std.specs.Prelude.{◌≡◌, ◌+◌, ◌%◌, ◌^◌, ◌<◌, ◌≤◌, length, take, drop, slice_index};
+ghost use Rattle.std.specs.Prelude.{◌≡◌, ◌+◌, ◌%◌, ◌^◌, ◌<◌, ◌≤◌, ◌==◌, if◌then◌else◌, length, take, drop, slice_index, Some, None, IfSome};
 ghost use Rattle.hll_coupons.specs.Fold.{fold_to, join, pairs};
 ghost use Rattle.hll_arrays.specs.Packed as packed;
 ghost use Rattle.hll_arrays.specs.Store.{Stored, IsStored, AreRegisters};
@@ -54,6 +54,18 @@ pub(crate) fn two_to(lg_k: u8) -> usize
     ensures { result ≡ 2 ^ lg_k }
 {
     1 << lg_k
+}
+
+/// How many registers are 0 once this one of them is greater, where it is known how many there were before.
+pub(crate) fn zeros_left(zero_count: Option<u32>, register: u8) -> Option<u32>
+    requires some { register ≡ 0 → IfSome zero_count (λ n. 0 < n) }
+    ensures left { IfSome result (λ left. zero_count ≡ Some (if register == 0 then (left + 1) else left)) }
+    ensures known { result ≡ None → zero_count ≡ None }
+{
+    match zero_count {
+        Some(count) if register == 0 => Some(count - 1),
+        _ => zero_count,
+    }
 }
 
 /// Raises each of 2^`lg_k` values to the greatest of itself and the source's registers that fold to it: each block of

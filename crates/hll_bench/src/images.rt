@@ -64,7 +64,7 @@ pub(crate) fn read_4(alloc: Global, lg_k: u8, rounds: u32) -> Result<u64, Error>
     Ok(u64::from(made.num_zeros()))
 }
 
-/// Writes of images; the sum of their lengths and of the first byte of their registers.
+/// Writes of images of new registers; the sum of their lengths and of the first byte of their registers.
 pub(crate) fn write<S: RegisterStore<Global>>(
     alloc: Global,
     lg_k: u8,
@@ -73,6 +73,30 @@ pub(crate) fn write<S: RegisterStore<Global>>(
     requires { (4 ≤ lg_k) × (lg_k ≤ 21) }
 {
     let array: S = convert(&filled(alloc, lg_k)?)?;
+    written(&array, rounds)
+}
+
+/// The same of registers of eight bits that were read.
+pub(crate) fn rewrite_8(alloc: Global, lg_k: u8, rounds: u32) -> Result<u64, Error>
+    requires { (4 ≤ lg_k) × (lg_k ≤ 21) }
+{
+    let image = image_of::<Array8>(alloc, lg_k)?;
+    let (cursor, _) = payload(&image)?;
+    let array = Array8::deserialize_registers(alloc, cursor, lg_k, false)?;
+    written(&array, rounds)
+}
+
+/// The same of registers of six bits that were read.
+pub(crate) fn rewrite_6(alloc: Global, lg_k: u8, rounds: u32) -> Result<u64, Error>
+    requires { (4 ≤ lg_k) × (lg_k ≤ 21) }
+{
+    let image = image_of::<Array6>(alloc, lg_k)?;
+    let (cursor, _) = payload(&image)?;
+    let array = Array6::deserialize_registers(alloc, cursor, lg_k, false)?;
+    written(&array, rounds)
+}
+
+fn written<S: RegisterStore<Global>>(array: &S, rounds: u32) -> Result<u64, Error> {
     let mut sum = 0u64;
     for _ in 0..rounds {
         let image = array.write_image()?;

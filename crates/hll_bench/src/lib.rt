@@ -194,6 +194,22 @@ pub extern "C" fn hll_bench_write_6(alloc: Global, lg_k: u8, rounds: u32) -> u64
     images::write::<Array6>(alloc, lg_k, rounds).unwrap_or(REFUSED)
 }
 
+/// Writes of images of registers of eight bits that were read.
+#[unsafe(no_mangle)]
+pub extern "C" fn hll_bench_rewrite_8(alloc: Global, lg_k: u8, rounds: u32) -> u64
+    requires { (4 ≤ lg_k) × (lg_k ≤ 21) }
+{
+    images::rewrite_8(alloc, lg_k, rounds).unwrap_or(REFUSED)
+}
+
+/// Writes of images of registers of six bits that were read.
+#[unsafe(no_mangle)]
+pub extern "C" fn hll_bench_rewrite_6(alloc: Global, lg_k: u8, rounds: u32) -> u64
+    requires { (4 ≤ lg_k) × (lg_k ≤ 21) }
+{
+    images::rewrite_6(alloc, lg_k, rounds).unwrap_or(REFUSED)
+}
+
 /// Writes of images of registers of four bits.
 #[unsafe(no_mangle)]
 pub extern "C" fn hll_bench_write_4(alloc: Global, lg_k: u8, rounds: u32) -> u64

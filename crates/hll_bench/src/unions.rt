@@ -7,19 +7,22 @@ use hll_arrays::merge::merge_from;
 use hll_arrays::registers::Registers;
 use hll_base::error::Error;
 use hll_coupons::hll_type::HllType;
-use hll_sketch::{HllSketch, HllUnion, Mode};
+use hll_sketch::{HllSketch, HllUnion, Mode, union_of};
 use std::alloc::Global;
 
-/// How many sketches are merged in a round.
-const SKETCHES: u32 = 1000;
+/// How many sketches have coupons of their own.
+const OWN: u32 = 10;
+
+/// How many copies there are of each of these: a round merges all of them.
+const COPIES: u32 = 100;
 
 /// Sketches with two coupons for each register, each with coupons of its own.
-fn sketches(alloc: Global, lg_k: u8, width: HllType) -> Result<Vec<HllSketch>, Error>
+fn own_sketches(alloc: Global, lg_k: u8, width: HllType) -> Result<Vec<HllSketch>, Error>
     requires { lg_k ≤ 21 }
 {
     let mut made = Vec::new(alloc);
     let mut word = 1;
-    for _ in 0..SKETCHES {
+    for _ in 0..OWN {
         let mut sketch = HllSketch::new(alloc, lg_k, width)?;
         for _ in 0..2u32 << lg_k {
             let (coupon, after) = next(word);
@@ -31,7 +34,21 @@ fn sketches(alloc: Global, lg_k: u8, width: HllType) -> Result<Vec<HllSketch>, E
     Ok(made)
 }
 
-/// Merges all sketches into one union, `rounds` times; the sum of the weights of its registers.
+/// Copies of these sketches, each with registers in a place of its own.
+fn sketches(alloc: Global, lg_k: u8, width: HllType) -> Result<Vec<HllSketch>, Error>
+    requires { lg_k ≤ 21 }
+{
+    let own = own_sketches(alloc, lg_k, width)?;
+    let mut made = Vec::new(alloc);
+    for _ in 0..COPIES {
+        for sketch in &own {
+            made.push(sketch.clone()?)?;
+        }
+    }
+    Ok(made)
+}
+
+/// Merges all sketches into a new union, `rounds` times; the sum of the weights of the registers of the last one.
 pub(crate) fn update(
     alloc: Global,
     bound: u8,
@@ -44,9 +61,7 @@ pub(crate) fn update(
     let sketches = sketches(alloc, lg_k, width)?;
     let mut union = HllUnion::new(alloc, bound)?;
     for _ in 0..rounds {
-        for sketch in &sketches {
-            union.update(sketch)?;
-        }
+        union = union_of(alloc, bound, &sketches)?;
     }
     weight_of(&union)
 }
@@ -60,7 +75,8 @@ fn weight_of(union: &HllUnion) -> Result<u64, Error> {
     })
 }
 
-/// Merges the registers of all sketches into registers of eight bits, `rounds` times; the sum of their weights.
+/// Merges the registers of all sketches into new registers of eight bits, `rounds` times; the sum of the weights of the
+/// last ones.
 pub(crate) fn merge(
     alloc: Global,
     bound: u8,
@@ -74,15 +90,20 @@ pub(crate) fn merge(
     let sketches = sketches(alloc, lg_k, width)?;
     let mut array = Array8::new(alloc, bound)?;
     for _ in 0..rounds {
-        for sketch in &sketches {
-            merge_mode(&mut array, sketch.mode());
-        }
+        array = merged(alloc, bound, &sketches)?;
     }
-    Ok(if rounds == 0 {
-        0
-    } else {
-        weight(array.kxq_units())
-    })
+    Ok(weight(array.kxq_units()))
+}
+
+/// New registers with those of all sketches.
+fn merged(alloc: Global, bound: u8, sketches: &[HllSketch]) -> Result<Array8, Error>
+    requires { (4 ≤ bound) × (bound ≤ 21) }
+{
+    let mut array = Array8::new(alloc, bound)?;
+    for sketch in sketches {
+        merge_mode(&mut array, sketch.mode());
+    }
+    Ok(array)
 }
 
 /// Merges registers of any width; a table is passed over.

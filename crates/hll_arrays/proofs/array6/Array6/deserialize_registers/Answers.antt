@@ -85,6 +85,7 @@ invariant_of-result g c =
       c.requires.most,
       record { size = omega (arith, many); bytes = c.in_ok-groups_from_bytes.ensures.groups },
       c.in_ok-preamble.ensures.legal,
+      tt,
     )
 
 pub returns-clause-ok : goal.returns-clause-ok

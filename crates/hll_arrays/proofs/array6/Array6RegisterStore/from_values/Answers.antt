@@ -1,5 +1,6 @@
 use Rattle.std.proofs.Common.{◌≡◌, ℕ, ◌*◌, List, length, sym, ap, ◌∙◌, arith, rules}
 use Rattle.hll_arrays.proofs.Grouping.{groups-pow, length-registers_in}
+use Rattle.hll_arrays.specs.Packed.{zeros}
 use Rattle.hll_arrays.proofs.array6.Array6RegisterStore.from_values.Goals as goal
 
 pub pack_groups-requires-clause-whole : goal.pack_groups-requires-clause-whole
@@ -13,4 +14,5 @@ invariant_of-result g c =
       c.requires.most,
       record { size = omega (arith, many, c.requires.registers.size, groups-pow c.args.lg_k (omega (arith, c.requires.least))); bytes = c.in_ok-pack_groups.ensures.groups },
       search rules,
+      omega (arith, c.count_zeros.ensures.zeros, ap zeros c.in_ok-pack_groups.ensures.registers),
     )

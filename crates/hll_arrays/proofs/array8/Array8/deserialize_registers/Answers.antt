@@ -109,6 +109,7 @@ invariant_of-result g c =
         small = subst (All (λ v. v ≤ 63)) (sym items) (small-from c.in-Some.registers.now (sym c.are_registers.ensures ∙ c.if-not-are_registers.false));
       },
       c.in_ok-preamble.ensures.legal,
+      tt,
     )
 
 pub returns-clause-ok : goal.returns-clause-ok
