@@ -76,19 +76,6 @@ fn updates_are_folds(rt: HostRuntime) -> Result<(), Fail> {
     Ok(())
 }
 
-/// 8 bytes for sixteen registers, 16 for up to three exceptions, 32 for the fourth.
-#[test]
-fn sizes(rt: HostRuntime) -> Result<(), Fail> {
-    let mut array = Array4::new(rt.alloc(), 4)?;
-    assert_eq!(rt; array.estimated_size(), 8);
-    for (slot, size) in [(3u32, 24usize), (4, 24), (5, 24), (9, 40)] {
-        array.update(Coupon::pack(slot, 15))?;
-        assert_eq!(rt; array.estimated_size(), size, "{slot}");
-    }
-    assert_eq!(rt; Array4::new(rt.alloc(), 21)?.estimated_size(), 1048576);
-    Ok(())
-}
-
 #[test]
 fn images(rt: HostRuntime) -> Result<(), Fail> {
     let low = one_in(rt.alloc(), 0, 15, 1)?;

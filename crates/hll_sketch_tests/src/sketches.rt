@@ -109,41 +109,6 @@ fn stages(rt: HostRuntime) -> Result<(), Fail> {
     Ok(())
 }
 
-#[test]
-fn arguments(rt: HostRuntime) -> Result<(), Fail> {
-    for lg_k in [0, 3, 22, 255] {
-        let refused = HllSketch::new(rt.alloc(), lg_k, HllType::Hll8);
-        assert_eq!(rt;
-            refused.err().map(|e| e.reason()),
-            Some(Reason::Argument),
-            "{lg_k}"
-        );
-    }
-    Ok(())
-}
-
-/// Slots that start at place 0 of 32, with the strides 1, 1, 3, 3, 5, 5, 7 and 7, and their order in the places: the
-/// coupons of the list come first, then the eighth.
-const SLOTS: [u32; 8] = [0, 32, 64, 96, 128, 160, 192, 224];
-
-const PLACED: [u32; 8] = [0, 32, 64, 128, 96, 192, 160, 224];
-
-#[test]
-fn places(rt: HostRuntime) -> Result<(), Fail> {
-    let mut sketch = HllSketch::new(rt.alloc(), 10, HllType::Hll8)?;
-    for slot in SLOTS {
-        add(&mut sketch, slot, 1)?;
-    }
-    let mut slots = Vec::new(rt.alloc());
-    if let Mode::Set { set, .. } = sketch.mode() {
-        for coupon in set.container().iter() {
-            slots.push(coupon.slot())?;
-        }
-    }
-    assert_eq!(rt; slots.as_slice(), PLACED.as_slice());
-    Ok(())
-}
-
 /// One set of coupons in two orders is one sketch, and so are its copy and one that had each coupon twice; another
 /// width, `lg_k`, kind or coupon is not.
 fn equal_in(rt: &impl Abort, alloc: Global, lg_k: u8, count: u32) -> Result<(), Fail> {
@@ -312,56 +277,6 @@ fn images_are_read_back(rt: HostRuntime) -> Result<(), Fail> {
     for (_, _, _, image) in IMAGES {
         let sketch = HllSketch::deserialize(rt.alloc(), image)?;
         assert_eq!(rt; sketch.serialize()?.as_slice(), image);
-    }
-    Ok(())
-}
-
-/// Images that are read, and what is written for them: a list in descending order, a set with a place for each coupon
-/// that isn't where a search finds it.
-const MENDED: [(&[u8], &[u8]); 2] = [
-    (
-        &[2, 1, 7, 10, 3, 8, 2, 8, 7, 0, 0, 8, 5, 0, 0, 4],
-        &[2, 1, 7, 10, 3, 8, 2, 8, 5, 0, 0, 4, 7, 0, 0, 8],
-    ),
-    (
-        &[3, 1, 7, 8, 5, 8, 0, 9, 2, 0, 0, 0, 9, 0, 0, 4, 3, 0, 0, 4],
-        &[3, 1, 7, 8, 5, 8, 0, 9, 2, 0, 0, 0, 3, 0, 0, 4, 9, 0, 0, 4],
-    ),
-];
-
-#[test]
-fn images_are_mended(rt: HostRuntime) -> Result<(), Fail> {
-    for (image, written) in MENDED {
-        let sketch = HllSketch::deserialize(rt.alloc(), image)?;
-        assert_eq!(rt; sketch.serialize()?.as_slice(), written);
-    }
-    Ok(())
-}
-
-#[test]
-fn debug_output(rt: HostRuntime) -> Result<(), Fail> {
-    for (lg_k, hll_type, count, text) in [
-        (
-            10u8,
-            HllType::Hll8,
-            0u32,
-            "HllSketch { lg_config_k: 10, target_type: Hll8, mode: \"List\", is_empty: true }",
-        ),
-        (
-            10,
-            HllType::Hll4,
-            8,
-            "HllSketch { lg_config_k: 10, target_type: Hll4, mode: \"Set\", is_empty: false }",
-        ),
-        (
-            4,
-            HllType::Hll6,
-            8,
-            "HllSketch { lg_config_k: 4, target_type: Hll6, mode: \"Hll\", is_empty: false, estimator: \"Composite\" }",
-        ),
-    ] {
-        let sketch = counted(rt.alloc(), lg_k, hll_type, count)?;
-        assert_eq!(rt; format!(in rt.alloc(); "{sketch:?}")?.as_str(), text);
     }
     Ok(())
 }
