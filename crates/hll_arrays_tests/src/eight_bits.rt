@@ -52,7 +52,7 @@ pub(crate) fn eight_in<A: Allocator>(alloc: A) -> Result<Array8<A>, Error>
     Ok(array)
 }
 
-/// New registers of each size, and the weights of the values 1 to 8 beside eight zeros.
+/// New registers of each size.
 #[test]
 fn new_registers(rt: HostRuntime) -> Result<(), Fail> {
     for lg_k in 4..22u8 {
@@ -63,7 +63,6 @@ fn new_registers(rt: HostRuntime) -> Result<(), Fail> {
             (1usize << lg_k, 1u32 << lg_k, 1u128 << (63 + lg_k))
         );
     }
-    assert_eq!(rt; eight_in(rt.alloc())?.kxq_units(), 82974319534674018304);
     Ok(())
 }
 

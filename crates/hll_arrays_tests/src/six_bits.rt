@@ -58,10 +58,6 @@ fn new_registers(rt: HostRuntime) -> Result<(), Fail> {
             (true, 1u32 << lg_k, 1u128 << (63 + lg_k))
         );
     }
-    assert_eq!(rt;
-        Array6::new(rt.alloc(), 4)?.kxq_units(),
-        147573952589676412928
-    );
     Ok(())
 }
 
