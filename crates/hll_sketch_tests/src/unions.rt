@@ -27,16 +27,16 @@ const SOURCES: [(u32, u8); 7] = [
 fn widths_and_orders(rt: HostRuntime) -> Result<(), Fail> {
     for (first, first_lg_k) in SOURCES {
         for (second, second_lg_k) in SOURCES {
-            let a = filled(rt.alloc(), first_lg_k, HllType::Hll8, first)?;
-            let b = filled(rt.alloc(), second_lg_k, HllType::Hll8, second)?;
+            let a = filled(rt.alloc(), first_lg_k, HllType::Hll8, first, 63)?;
+            let b = filled(rt.alloc(), second_lg_k, HllType::Hll8, second, 63)?;
             let mut both = HllUnion::new(rt.alloc(), 8)?;
             both.update(&a)?;
             both.update(&b)?;
             let wanted = both.to_sketch(HllType::Hll8)?;
             for hll_type in WIDTHS {
                 let mut turned = HllUnion::new(rt.alloc(), 8)?;
-                turned.update(&filled(rt.alloc(), second_lg_k, hll_type, second)?)?;
-                turned.update(&filled(rt.alloc(), first_lg_k, hll_type, first)?)?;
+                turned.update(&filled(rt.alloc(), second_lg_k, hll_type, second, 63)?)?;
+                turned.update(&filled(rt.alloc(), first_lg_k, hll_type, first, 63)?)?;
                 let least = turned.lg_config_k().min(both.lg_config_k());
                 assert_eq!(rt; turned.lg_config_k(), both.lg_config_k());
                 assert!(rt;
@@ -89,9 +89,9 @@ fn merge_in(rt: &impl Abort, heap: &LocalHeap) -> Result<bool, Fail> {
 fn seven_and_eight(
     heap: &LocalHeap,
 ) -> Result<(HllUnion<&LocalHeap>, HllSketch<&LocalHeap>), Error> {
-    let mut union = HllUnion::new(heap, 10)?;
-    union.update(&filled(heap, 10, HllType::Hll8, 7)?)?;
-    let mut sketch = HllSketch::new(heap, 10, HllType::Hll8)?;
+    let mut union = HllUnion::new(heap, 8)?;
+    union.update(&filled(heap, 8, HllType::Hll8, 7, 63)?)?;
+    let mut sketch = HllSketch::new(heap, 8, HllType::Hll8)?;
     for slot in 100..108u32 {
         sketch.update_with_coupon(Coupon::pack(slot, 1))?;
     }

@@ -13,7 +13,7 @@ use std::test::Fail;
 
 /// The registers at an `lg_k` of a sketch of 8.
 fn registers_of(alloc: Global, hll_type: HllType, count: u32, lg_k: u8) -> Result<Vec<u8>, Error> {
-    let sketch = filled(alloc, 8, hll_type, count)?;
+    let sketch = filled(alloc, 8, hll_type, count, 63)?;
     let lg_k = lg_k.max(4).min(sketch.lg_config_k());
     sketch.registers_at(lg_k)
 }
@@ -35,7 +35,7 @@ fn registers(rt: HostRuntime) -> Result<(), Fail> {
 
 #[test]
 fn values(rt: HostRuntime) -> Result<(), Fail> {
-    let values = filled(rt.alloc(), 10, HllType::Hll6, 18)?.registers_at(4)?;
+    let values = filled(rt.alloc(), 10, HllType::Hll6, 18, 63)?.registers_at(4)?;
     let wanted = [17u8, 18, 3, 4, 5, 6, 7, 8, 9, 10, 11, 12, 13, 14, 15, 16];
     assert_eq!(rt; values.as_slice(), wanted.as_slice());
     Ok(())
@@ -43,7 +43,7 @@ fn values(rt: HostRuntime) -> Result<(), Fail> {
 
 /// Folds in a heap that may be too small for it.
 fn fold_in(heap: &LocalHeap, hll_type: HllType, count: u32) -> Result<(), Error> {
-    let sketch = filled(heap, 8, hll_type, count)?;
+    let sketch = filled(heap, 8, hll_type, count, 63)?;
     let _folded = sketch.folded(5)?;
     let _registers = sketch.registers_at(4)?;
     Ok(())
