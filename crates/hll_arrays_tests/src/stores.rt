@@ -4,7 +4,6 @@ ghost use Rattle.std.specs.Prelude.{◌≤◌};
 
 use crate::array16::Array16;
 use crate::fixtures::{READ, coupons_in, first_of, merge, store_of};
-use crate::six_bits::{THREE, three_in};
 use hll_arrays::convert::convert;
 use hll_arrays::{Array6, Array8, EstimateState, RegisterStore, Registers};
 use hll_base::error::{Error, Reason};
@@ -238,19 +237,6 @@ fn conversions(rt: HostRuntime) -> Result<(), Fail> {
         assert_eq!(rt; six.kxq_units(), array.kxq_units());
         widened_in(&rt, rt.alloc(), &array)?;
     }
-    Ok(())
-}
-
-/// The registers 63, 42, 51 at the slots 1, 2, 3, converted to six bits, are those that updates give.
-#[test]
-fn six_bits(rt: HostRuntime) -> Result<(), Fail> {
-    let mut array: Array8 = RegisterStore::from_values(rt.alloc(), 4, &THREE)?;
-    array.restore_estimate_state(READ);
-    let six: Array6 = converted_in(&rt, rt.alloc(), &array)?;
-    let mut updated = three_in(rt.alloc())?;
-    assert!(rt; six != updated);
-    updated.restore_estimate_state(READ);
-    assert!(rt; six == updated);
     Ok(())
 }
 

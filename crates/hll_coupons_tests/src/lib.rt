@@ -4,8 +4,6 @@
 #[cfg(test)]
 mod aux_map;
 #[cfg(test)]
-mod coupons;
-#[cfg(test)]
 mod lists;
 #[cfg(test)]
 mod reference;

@@ -5,13 +5,9 @@ use hll_text::fault::Fault;
 use std::test::Fail;
 
 /// Images and what they print.
-pub(crate) const ANSWERS: [(&str, &str); 27] = [
-    // the empty list, full lists and the greatest coupon
+pub(crate) const ANSWERS: [(&str, &str); 25] = [
+    // the empty list and the greatest coupon
     ("image 0201070a030c0008", "0201070a030c0008\n"),
-    (
-        "image 0201070a030808080000000401000004020000040300000404000004050000040600000407000004",
-        "0201070a030808080000000401000004020000040300000404000004050000040600000407000004\n",
-    ),
     (
         "image 0201070a03080108ffffffff",
         "0201070a03080108ffffffff\n",
@@ -60,10 +56,6 @@ pub(crate) const ANSWERS: [(&str, &str); 27] = [
     ("image 0201070a03040008ffffffff", "0201070a030c0008\n"),
     ("image 0201070a030c0008ffffffff", "0201070a030c0008\n"),
     // bytes after the image
-    (
-        "image 0201070a030801080500000cffff",
-        "0201070a030801080500000c\n",
-    ),
     (
         "image 0201070a03000208070000080000000000000000050000040000000000000000000000000000000000",
         "0201070a030802080500000407000008\n",
@@ -146,21 +138,14 @@ pub(crate) const UPDATED: [(&str, &str); 7] = [
 ];
 
 /// Headers with a fault, and its reason.
-pub(crate) const HEADERS: [(&str, Reason); 18] = [
+pub(crate) const HEADERS: [(&str, Reason); 11] = [
     // seven bytes of any value, and eight
     ("image 00000000000000", Reason::Truncated),
-    ("image 0201070a030c00", Reason::Truncated),
     ("image 0000000000000000", Reason::Family),
-    ("image 0201080a030c0008", Reason::Family),
     ("image 0200070a030c0008", Reason::Version),
-    ("image 0202070a030c0008", Reason::Version),
     ("image 02010703030c0008", Reason::LgK),
-    ("image 02010716030c0008", Reason::LgK),
-    ("image 0201070a030c000c", Reason::Width),
     ("image 0201070a030c00fc", Reason::Width),
-    ("image 0201070a030c000b", Reason::Stage),
     // preamble words of a list, a set and registers
-    ("image 0301070a030c0008", Reason::Preamble),
     ("image 0a01070a030c0008", Reason::Preamble),
     ("image 0001070a030c0008", Reason::Preamble),
     ("image 0201070a05080009", Reason::Preamble),
@@ -170,7 +155,7 @@ pub(crate) const HEADERS: [(&str, Reason); 18] = [
 ];
 
 /// Images of lists with a fault, and its reason.
-pub(crate) const LISTS: [(&str, Reason); 24] = [
+pub(crate) const LISTS: [(&str, Reason); 22] = [
     // the size of the table, also with the empty flag
     ("image 0201070a020801080500000c", Reason::LgArr),
     ("image 0201070a040801080500000c", Reason::LgArr),
@@ -188,7 +173,6 @@ pub(crate) const LISTS: [(&str, Reason); 24] = [
     ("image 0201070a0308ff08", Reason::Count),
     // the empty flag with a coupon, and no coupon without it
     ("image 0201070a030c01080500000c", Reason::Count),
-    ("image 0201070a03080008", Reason::Count),
     (
         "image 0201070a030000080000000000000000000000000000000000000000000000000000000000000000",
         Reason::Count,
@@ -231,7 +215,6 @@ pub(crate) const LISTS: [(&str, Reason); 24] = [
         Reason::Count,
     ),
     // what is missing, before what is wrong
-    ("image 0201070a03080108050000", Reason::Truncated),
     ("image 0201070a0308020805000000", Reason::Truncated),
     (
         "image 0201070a0300020805000000000000000000000000000000000000000000000000000000000000",
@@ -262,7 +245,7 @@ pub(crate) const MENDED: [(&str, Reason); 11] = [
 ];
 
 /// Texts that are no plan, and their first fault.
-pub(crate) const FAULTS: [(&str, u64, Fault); 38] = [
+pub(crate) const FAULTS: [(&str, u64, Fault); 33] = [
     // a fault in a header of a set or of registers
     ("image 0301080805080001", 1, Fault::Image(Reason::Family)),
     ("image 0302070a05080005", 1, Fault::Image(Reason::Version)),
@@ -281,7 +264,6 @@ pub(crate) const FAULTS: [(&str, u64, Fault); 38] = [
         Fault::Stack,
     ),
     ("union 1 12 4", 1, Fault::Stack),
-    ("new 10 8\nunion 2 10 8", 2, Fault::Stack),
     ("union 99999999 4 8", 1, Fault::Stack),
     // numbers and words of a union
     ("union 1 3 8", 1, Fault::Range),
@@ -293,14 +275,11 @@ pub(crate) const FAULTS: [(&str, u64, Fault); 38] = [
     ("union a 10 8", 1, Fault::Syntax),
     ("union", 1, Fault::Syntax),
     // words that are no hexadecimal, and lines with none or two
-    ("image 0g", 1, Fault::Hex),
-    ("image 020", 1, Fault::Hex),
     ("image 02\t", 1, Fault::Hex),
     ("image 020\t", 1, Fault::Hex),
     ("image 0x02", 1, Fault::Hex),
     ("image \u{e9}", 1, Fault::Hex),
     ("image 02\r", 1, Fault::Hex),
-    ("image", 1, Fault::Syntax),
     ("image ", 1, Fault::Syntax),
     ("image  02", 1, Fault::Syntax),
     ("image 02 ", 1, Fault::Syntax),
@@ -309,11 +288,6 @@ pub(crate) const FAULTS: [(&str, u64, Fault); 38] = [
     ("IMAGE 02", 1, Fault::Syntax),
     // the first line with a fault
     ("\nimage 0201\nimage 0g", 2, Fault::Image(Reason::Truncated)),
-    (
-        "image 0301070805080009\nimage 0g",
-        1,
-        Fault::Image(Reason::Truncated),
-    ),
 ];
 
 /// A legal image of one coupon, and for each check what to flip in which of its bytes so that it fails, in their order.

@@ -16,10 +16,6 @@ mod reference;
 #[cfg(test)]
 mod registers;
 #[cfg(test)]
-mod rows;
-#[cfg(test)]
-mod steps;
-#[cfg(test)]
 mod texts;
 #[cfg(test)]
 mod unions;

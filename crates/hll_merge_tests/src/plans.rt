@@ -1,12 +1,12 @@
 //! The plans of all tables: what they print, and how they are refused.
 use crate::fixtures::{prints, refuses};
-use crate::{images, registers, rows, texts, unions};
+use crate::{images, registers, texts, unions};
 use hll_base::error::Reason;
 use hll_text::fault::Fault;
 
 #[test]
 fn answers(rt: HostRuntime) {
-    let tables: [&[(&str, &str)]; 9] = [
+    let tables: [&[(&str, &str)]; 8] = [
         &texts::ANSWERS,
         &images::ANSWERS,
         &images::UPDATED,
@@ -15,7 +15,6 @@ fn answers(rt: HostRuntime) {
         &unions::PROMOTED,
         &unions::REGISTERS,
         &unions::NESTED,
-        &rows::ANSWERS,
     ];
     for table in tables {
         for (text, printed) in table {
@@ -26,11 +25,8 @@ fn answers(rt: HostRuntime) {
 
 #[test]
 fn refusals(rt: HostRuntime) {
-    let faults: [&[(&str, u64, Fault)]; 3] = [&texts::FAULTS, &images::FAULTS, &rows::REFUSED];
-    for table in faults {
-        for (text, line, fault) in table {
-            assert!(rt; refuses(&rt, text, *line, *fault), "{text}");
-        }
+    for (text, line, fault) in images::FAULTS {
+        assert!(rt; refuses(&rt, text, line, fault), "{text}");
     }
     let refused: [&[(&str, Reason)]; 4] = [
         &images::HEADERS,

@@ -1,4 +1,4 @@
-//! Texts of plans over memory: what they print, their faults, long lines, and streams that fail.
+//! Texts of plans over memory: what they print, long lines, and streams that fail.
 use crate::fixtures::run_over;
 use hll_merge::run::run;
 use hll_text::fakes::{Failing, Narrow};
@@ -7,8 +7,7 @@ use hll_text::watched::Watched;
 use std::test::Fail;
 
 /// Plans and what they print.
-pub(crate) const ANSWERS: [(&str, &str); 9] = [
-    ("new 10 8", "0201070a030c0008\n"),
+pub(crate) const ANSWERS: [(&str, &str); 7] = [
     ("new 10 4\n", "0201070a030c0000\n"),
     ("new 4 6", "02010704030c0004\n"),
     ("new 21 8", "02010715030c0008\n"),
@@ -18,10 +17,6 @@ pub(crate) const ANSWERS: [(&str, &str); 9] = [
         "0201070a030801080500000c\n",
     ),
     (
-        "new 10 8\ncoupon 7 2\ncoupon 5 1",
-        "0201070a030802080500000407000008\n",
-    ),
-    (
         "new 10 8\ncoupon 7 2\ncoupon 5 1\ncoupon 07 02",
         "0201070a030802080500000407000008\n",
     ),
@@ -29,33 +24,6 @@ pub(crate) const ANSWERS: [(&str, &str); 9] = [
         "new 4 8\ncoupon 67108863 63\ncoupon 16 1",
         "020107040308020810000004ffffffff\n",
     ),
-];
-
-/// Texts that are no plan, and their first fault.
-pub(crate) const FAULTS: [(&str, u64, Fault); 23] = [
-    ("", 0, Fault::Stack),
-    ("\n", 1, Fault::Stack),
-    ("# nothing", 1, Fault::Stack),
-    ("new 10 8\nnew 10 8", 2, Fault::Stack),
-    ("coupon 1 1", 1, Fault::Stack),
-    ("\n\ncoupon 1 1\nx", 3, Fault::Stack),
-    ("new  10 8", 1, Fault::Syntax),
-    (" new 10 8", 1, Fault::Syntax),
-    ("new 10 8 ", 1, Fault::Syntax),
-    ("new\t10 8", 1, Fault::Syntax),
-    ("new 10 8\0", 1, Fault::Syntax),
-    ("new 10 8\u{a0}", 1, Fault::Syntax),
-    ("NEW 10 8", 1, Fault::Syntax),
-    ("new 123456789 8", 1, Fault::Syntax),
-    ("new 10 8\r", 1, Fault::Syntax),
-    ("new 10 8\r\r\n", 1, Fault::Syntax),
-    ("new 10 +8", 1, Fault::Syntax),
-    ("new 3 8", 1, Fault::Range),
-    ("new 22 8", 1, Fault::Range),
-    ("new 10 5", 1, Fault::Range),
-    ("new 10 8\ncoupon 67108864 1", 2, Fault::Range),
-    ("new 10 8\ncoupon 5 0", 2, Fault::Range),
-    ("new 10 8\ncoupon 5 64", 2, Fault::Range),
 ];
 
 /// A line of ten million bytes is read like any other.

@@ -1,11 +1,15 @@
-//! Tests of the sketches of `hll_sketch` and their images through its public calls.
+//! Tests of `hll_sketch` through its public calls.
 #![tactic(auto)]
 
 #[cfg(test)]
-mod hostile;
+mod fixtures;
+#[cfg(test)]
+mod folds;
 #[cfg(test)]
 mod images;
 #[cfg(test)]
 mod reference;
 #[cfg(test)]
 mod sketches;
+#[cfg(test)]
+mod unions;

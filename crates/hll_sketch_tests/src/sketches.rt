@@ -1,6 +1,7 @@
 //! Sketches of every width through their stages: what they keep, count and write, and refused memory.
 ghost use Rattle.std.specs.Prelude.{◌≤◌};
 
+use crate::fixtures::{WIDTHS, filled};
 use hll_base::error::{Error, Reason};
 use hll_coupons::coupon::Coupon;
 use hll_coupons::hll_type::HllType;
@@ -9,8 +10,6 @@ use linked_list_allocator::LocalHeap;
 use std::alloc::{Allocator, Global};
 use std::process::Abort;
 use std::test::Fail;
-
-const WIDTHS: [HllType; 3] = [HllType::Hll4, HllType::Hll6, HllType::Hll8];
 
 /// A coupon, if it has a value.
 fn add<A: Allocator + Clone>(sketch: &mut HllSketch<A>, slot: u32, value: u8) -> Result<(), Error>
@@ -21,26 +20,6 @@ fn add<A: Allocator + Clone>(sketch: &mut HllSketch<A>, slot: u32, value: u8) ->
         sketch.update_with_coupon(coupon)?;
     }
     Ok(())
-}
-
-/// Coupons of value 1 at the slots from 0 on.
-fn add_slots<A: Allocator + Clone>(sketch: &mut HllSketch<A>, count: u32) -> Result<(), Error> {
-    for slot in 0..count {
-        add(sketch, slot, 1)?;
-    }
-    Ok(())
-}
-
-/// A sketch after coupons of value 1 at the slots from 0 on.
-fn counted<A: Allocator + Clone>(
-    alloc: A,
-    lg_k: u8,
-    hll_type: HllType,
-    count: u32,
-) -> Result<HllSketch<A>, Error> {
-    let mut sketch = HllSketch::new(alloc, lg_k, hll_type)?;
-    add_slots(&mut sketch, count)?;
-    Ok(sketch)
 }
 
 /// What a sketch keeps.
@@ -73,10 +52,10 @@ const STAGES: [(u8, u32, Option<Kind>, usize, [usize; 3]); 14] = [
     (4, 7, Some(Kind::List), 8, [32; 3]),
     (4, 8, None, 0, [8, 13, 16]),
     (7, 8, None, 0, [64, 97, 128]),
-    (8, 7, Some(Kind::List), 8, [32; 3]),
-    (8, 8, Some(Kind::Set), 32, [128; 3]),
-    (8, 24, Some(Kind::Set), 32, [128; 3]),
-    (8, 25, None, 0, [128, 193, 256]),
+    (8, 26, None, 0, [128, 193, 256]),
+    (9, 7, Some(Kind::List), 8, [32; 3]),
+    (9, 8, Some(Kind::Set), 32, [128; 3]),
+    (9, 24, Some(Kind::Set), 32, [128; 3]),
     (9, 25, Some(Kind::Set), 64, [256; 3]),
     (9, 48, Some(Kind::Set), 64, [256; 3]),
     (9, 49, None, 0, [256, 385, 512]),
@@ -89,7 +68,7 @@ const STAGES: [(u8, u32, Option<Kind>, usize, [usize; 3]); 14] = [
 fn stages(rt: HostRuntime) -> Result<(), Fail> {
     for (lg_k, count, table, places, sizes) in STAGES {
         for (hll_type, size) in WIDTHS.iter().zip(sizes.iter()) {
-            let sketch = counted(rt.alloc(), lg_k, *hll_type, count)?;
+            let sketch = filled(rt.alloc(), lg_k, *hll_type, count, 1)?;
             let wanted = match table {
                 Some(kind) => (kind, places, Some(count as usize)),
                 None => (Kind::Registers(*hll_type), places, None),
@@ -109,61 +88,28 @@ fn stages(rt: HostRuntime) -> Result<(), Fail> {
     Ok(())
 }
 
-#[test]
-fn arguments(rt: HostRuntime) -> Result<(), Fail> {
-    for lg_k in [0, 3, 22, 255] {
-        let refused = HllSketch::new(rt.alloc(), lg_k, HllType::Hll8);
-        assert_eq!(rt;
-            refused.err().map(|e| e.reason()),
-            Some(Reason::Argument),
-            "{lg_k}"
-        );
-    }
-    Ok(())
-}
-
-/// Slots that start at place 0 of 32, with the strides 1, 1, 3, 3, 5, 5, 7 and 7, and their order in the places: the
-/// coupons of the list come first, then the eighth.
-const SLOTS: [u32; 8] = [0, 32, 64, 96, 128, 160, 192, 224];
-
-const PLACED: [u32; 8] = [0, 32, 64, 128, 96, 192, 160, 224];
-
-#[test]
-fn places(rt: HostRuntime) -> Result<(), Fail> {
-    let mut sketch = HllSketch::new(rt.alloc(), 10, HllType::Hll8)?;
-    for slot in SLOTS {
-        add(&mut sketch, slot, 1)?;
-    }
-    let mut slots = Vec::new(rt.alloc());
-    if let Mode::Set { set, .. } = sketch.mode() {
-        for coupon in set.container().iter() {
-            slots.push(coupon.slot())?;
-        }
-    }
-    assert_eq!(rt; slots.as_slice(), PLACED.as_slice());
-    Ok(())
-}
-
 /// One set of coupons in two orders is one sketch, and so are its copy and one that had each coupon twice; another
 /// width, `lg_k`, kind or coupon is not.
 fn equal_in(rt: &impl Abort, alloc: Global, lg_k: u8, count: u32) -> Result<(), Fail> {
     for hll_type in WIDTHS {
-        let sketch = counted(alloc, lg_k, hll_type, count)?;
+        let sketch = filled(alloc, lg_k, hll_type, count, 1)?;
         let mut turned = HllSketch::new(alloc, lg_k, hll_type)?;
         for slot in 0..count {
             add(&mut turned, (count - 1) - slot, 1)?;
         }
         assert!(rt; sketch == turned && sketch == sketch.clone()?);
-        add_slots(&mut turned, count)?;
+        for slot in 0..count {
+            add(&mut turned, slot, 1)?;
+        }
         assert!(rt; sketch == turned);
         add(&mut turned, 0, 2)?;
         assert!(rt; sketch != turned && turned != sketch);
         for other in WIDTHS {
-            let same = sketch == counted(alloc, lg_k, other, count)?;
+            let same = sketch == filled(alloc, lg_k, other, count, 1)?;
             assert_eq!(rt; same, hll_type == other);
         }
         if lg_k < 21 {
-            assert!(rt; sketch != counted(alloc, lg_k + 1, hll_type, count)?);
+            assert!(rt; sketch != filled(alloc, lg_k + 1, hll_type, count, 1)?);
         }
     }
     Ok(())
@@ -190,7 +136,7 @@ fn register_of<A: Allocator>(sketch: &HllSketch<A>, slot: u32) -> u8 {
 #[test]
 fn registers_are_the_greatest_values(rt: HostRuntime) -> Result<(), Fail> {
     for hll_type in WIDTHS {
-        let mut sketch = counted(rt.alloc(), 4, hll_type, 8)?;
+        let mut sketch = filled(rt.alloc(), 4, hll_type, 8, 1)?;
         for (slot, value) in [(0u32, 20u8), (16, 5), (17, 63), (1, 62), (3, 1)] {
             add(&mut sketch, slot, value)?;
         }
@@ -200,90 +146,10 @@ fn registers_are_the_greatest_values(rt: HostRuntime) -> Result<(), Fail> {
     Ok(())
 }
 
-/// Coupons at an `lg_k` and a width, and the image that is written for them.
-const IMAGES: [(u8, HllType, &[(u32, u8)], &[u8]); 5] = [
-    (10, HllType::Hll8, &[], &[2, 1, 7, 10, 3, 12, 0, 8]),
-    (
-        10,
-        HllType::Hll8,
-        &[(5, 3), (5, 3)],
-        &[2, 1, 7, 10, 3, 8, 1, 8, 5, 0, 0, 12],
-    ),
-    (
-        12,
-        HllType::Hll6,
-        &[
-            (23, 8),
-            (22, 7),
-            (21, 6),
-            (20, 5),
-            (19, 4),
-            (18, 3),
-            (17, 2),
-            (16, 1),
-        ],
-        &[
-            3, 1, 7, 12, 5, 8, 0, 5, 8, 0, 0, 0, 16, 0, 0, 4, 17, 0, 0, 8, 18, 0, 0, 12, 19, 0, 0,
-            16, 20, 0, 0, 20, 21, 0, 0, 24, 22, 0, 0, 28, 23, 0, 0, 32,
-        ],
-    ),
-    (
-        4,
-        HllType::Hll8,
-        &[
-            (0, 1),
-            (1, 2),
-            (2, 3),
-            (3, 4),
-            (4, 5),
-            (5, 6),
-            (6, 7),
-            (7, 8),
-        ],
-        &[
-            10, 1, 7, 4, 0, 16, 0, 10, 0, 0, 0, 0, 0, 0, 0, 0, 0, 0, 0, 0, 0, 0, 0, 0, 0, 0, 0, 0,
-            0, 0, 0, 0, 8, 0, 0, 0, 0, 0, 0, 0, 1, 2, 3, 4, 5, 6, 7, 8, 0, 0, 0, 0, 0, 0, 0, 0,
-        ],
-    ),
-    (
-        4,
-        HllType::Hll4,
-        &[
-            (0, 20),
-            (1, 1),
-            (2, 1),
-            (3, 1),
-            (4, 1),
-            (5, 1),
-            (6, 1),
-            (7, 1),
-        ],
-        &[
-            10, 1, 7, 4, 0, 24, 0, 2, 0, 0, 0, 0, 0, 0, 0, 0, 0, 0, 0, 0, 0, 0, 0, 0, 0, 0, 0, 0,
-            0, 0, 0, 0, 8, 0, 0, 0, 1, 0, 0, 0, 31, 17, 17, 17, 0, 0, 0, 0, 0, 0, 0, 80,
-        ],
-    ),
-];
-
-#[test]
-fn images(rt: HostRuntime) -> Result<(), Fail> {
-    for (lg_k, hll_type, coupons, image) in IMAGES {
-        let mut sketch = HllSketch::new(rt.alloc(), lg_k, hll_type)?;
-        for (slot, value) in coupons {
-            if *value <= 63 {
-                add(&mut sketch, *slot, *value)?;
-            }
-        }
-        let written = sketch.serialize()?;
-        assert_eq!(rt; written.as_slice(), image, "{lg_k}");
-        assert_eq!(rt; written.capacity(), image.len());
-    }
-    Ok(())
-}
-
 /// What is written is read back, with bytes behind it too, and written again as it was; cut short it is refused.
 fn read_back(rt: &impl Abort, alloc: Global, sketch: &HllSketch) -> Result<(), Fail> {
     let image = sketch.serialize()?;
+    assert_eq!(rt; image.capacity(), image.len());
     let mut longer = image.clone()?;
     longer.push(255)?;
     for bytes in [image.as_slice(), longer.as_slice()] {
@@ -292,9 +158,8 @@ fn read_back(rt: &impl Abort, alloc: Global, sketch: &HllSketch) -> Result<(), F
         assert_eq!(rt; read.serialize()?.as_slice(), image.as_slice());
     }
     for end in [0, 7, 8, image.len() / 2, image.len() - 1] {
-        if let Some(front) = image.get(..end.min(image.len() - 1)) {
-            assert!(rt; HllSketch::deserialize(alloc, front).is_err());
-        }
+        let read = HllSketch::deserialize(alloc, &image[..end.min(image.len() - 1)]);
+        assert_eq!(rt; read.err().map(|e| e.reason()), Some(Reason::Truncated));
     }
     Ok(())
 }
@@ -303,65 +168,11 @@ fn read_back(rt: &impl Abort, alloc: Global, sketch: &HllSketch) -> Result<(), F
 fn images_are_read_back(rt: HostRuntime) -> Result<(), Fail> {
     for (lg_k, count, _, _, _) in STAGES {
         for hll_type in WIDTHS {
-            let mut sketch = counted(rt.alloc(), lg_k, hll_type, count)?;
+            let mut sketch = filled(rt.alloc(), lg_k, hll_type, count, 1)?;
             read_back(&rt, rt.alloc(), &sketch)?;
             add(&mut sketch, 3, 40)?;
             read_back(&rt, rt.alloc(), &sketch)?;
         }
-    }
-    for (_, _, _, image) in IMAGES {
-        let sketch = HllSketch::deserialize(rt.alloc(), image)?;
-        assert_eq!(rt; sketch.serialize()?.as_slice(), image);
-    }
-    Ok(())
-}
-
-/// Images that are read, and what is written for them: a list in descending order, a set with a place for each coupon
-/// that isn't where a search finds it.
-const MENDED: [(&[u8], &[u8]); 2] = [
-    (
-        &[2, 1, 7, 10, 3, 8, 2, 8, 7, 0, 0, 8, 5, 0, 0, 4],
-        &[2, 1, 7, 10, 3, 8, 2, 8, 5, 0, 0, 4, 7, 0, 0, 8],
-    ),
-    (
-        &[3, 1, 7, 8, 5, 8, 0, 9, 2, 0, 0, 0, 9, 0, 0, 4, 3, 0, 0, 4],
-        &[3, 1, 7, 8, 5, 8, 0, 9, 2, 0, 0, 0, 3, 0, 0, 4, 9, 0, 0, 4],
-    ),
-];
-
-#[test]
-fn images_are_mended(rt: HostRuntime) -> Result<(), Fail> {
-    for (image, written) in MENDED {
-        let sketch = HllSketch::deserialize(rt.alloc(), image)?;
-        assert_eq!(rt; sketch.serialize()?.as_slice(), written);
-    }
-    Ok(())
-}
-
-#[test]
-fn debug_output(rt: HostRuntime) -> Result<(), Fail> {
-    for (lg_k, hll_type, count, text) in [
-        (
-            10u8,
-            HllType::Hll8,
-            0u32,
-            "HllSketch { lg_config_k: 10, target_type: Hll8, mode: \"List\", is_empty: true }",
-        ),
-        (
-            10,
-            HllType::Hll4,
-            8,
-            "HllSketch { lg_config_k: 10, target_type: Hll4, mode: \"Set\", is_empty: false }",
-        ),
-        (
-            4,
-            HllType::Hll6,
-            8,
-            "HllSketch { lg_config_k: 4, target_type: Hll6, mode: \"Hll\", is_empty: false, estimator: \"Composite\" }",
-        ),
-    ] {
-        let sketch = counted(rt.alloc(), lg_k, hll_type, count)?;
-        assert_eq!(rt; format!(in rt.alloc(); "{sketch:?}")?.as_str(), text);
     }
     Ok(())
 }
@@ -380,20 +191,37 @@ fn values(rt: HostRuntime) -> Result<(), Fail> {
     Ok(())
 }
 
+/// The raw words of the coupons of a list or a set in the order of places, and the size in bytes.
+fn places_of(alloc: Global, sketch: &HllSketch<&LocalHeap>) -> Result<(Vec<u32>, usize), Fail> {
+    let coupons = match sketch.mode() {
+        Mode::List { list, .. } => Some(list.container().iter()),
+        Mode::Set { set, .. } => Some(set.container().iter()),
+        Mode::Array4(_) | Mode::Array6(_) | Mode::Array8(_) => None,
+    };
+    let mut words = Vec::new(alloc);
+    for coupon in coupons.into_iter().flatten() {
+        words.push(coupon.raw())?;
+    }
+    Ok((words, sketch.estimated_size()))
+}
+
 /// Adds coupons until memory is refused. Then the sketch is as it was before, places included.
-fn fill(rt: &impl Abort, heap: &LocalHeap, lg_k: u8, hll_type: HllType) -> Result<bool, Fail> {
+fn fill(
+    rt: &impl Abort,
+    alloc: Global,
+    heap: &LocalHeap,
+    lg_k: u8,
+    hll_type: HllType,
+) -> Result<bool, Fail> {
     let Ok(mut sketch) = HllSketch::new(heap, lg_k, hll_type) else {
         return Ok(false);
     };
     for slot in 0..30u32 {
-        let before = (sketch.num_coupons(), sketch.estimated_size());
-        match add(&mut sketch, slot, 1 + 2 * slot as u8) {
-            Ok(()) => {}
-            Err(e) => {
-                assert_eq!(rt; e.reason(), Reason::Memory);
-                assert_eq!(rt; (sketch.num_coupons(), sketch.estimated_size()), before);
-                return Ok(false);
-            }
+        let before = places_of(alloc, &sketch)?;
+        if let Err(e) = add(&mut sketch, slot, 1 + 2 * slot as u8) {
+            assert_eq!(rt; e.reason(), Reason::Memory);
+            assert_eq!(rt; places_of(alloc, &sketch)?, before);
+            return Ok(false);
         }
     }
     assert_eq!(rt; sketch.num_coupons(), None);
@@ -407,7 +235,7 @@ fn refused_memory(rt: HostRuntime) -> Result<(), Fail> {
             let (mut refused, mut complete) = (0u32, 0u32);
             for units in 1..80usize {
                 let heap = LocalHeap::new(rt.alloc(), units * 16)?;
-                if fill(&rt, &heap, lg_k, hll_type)? {
+                if fill(&rt, rt.alloc(), &heap, lg_k, hll_type)? {
                     complete = complete.saturating_add(1);
                 } else {
                     refused = refused.saturating_add(1);

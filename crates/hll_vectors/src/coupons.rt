@@ -1,9 +1,8 @@
 //! Coupons of words, of bytes and of values.
+use crate::hash::TEXT;
 use hll_base::hash::MurmurHash3X64128;
 use hll_coupons::coupon::Coupon;
 use std::hash::{Hash, Hasher};
-
-const TEXT: [u8; 43] = *b"The quick brown fox jumps over the lazy dog";
 
 /// The two words of a hash, and the slot and value of their coupon.
 const WORDS: [(u64, u64, u32, u8); 8] = [
@@ -19,8 +18,8 @@ const WORDS: [(u64, u64, u32, u8); 8] = [
 
 /// Bytes whose own `hash` makes one write of them.
 #[derive(PartialEq, Eq, Drop)]
-struct Piece<'a> {
-    bytes: &'a [u8],
+pub(crate) struct Piece<'a> {
+    pub(crate) bytes: &'a [u8],
 }
 
 impl<'a> Hash for Piece<'a> {

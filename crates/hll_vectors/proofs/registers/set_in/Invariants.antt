@@ -1,6 +1,6 @@
 use Rattle.std.proofs.Common.{◌≡◌}
-use Rattle.hll_arrays_tests.proofs.eight_bits.set_in.Given as goal
+use Rattle.hll_vectors.proofs.registers.set_in.Given as goal
 
 -- the array keeps its size
 abbrev pub invariant-loop-slot : goal.invariant-loop-slot
-invariant-loop-slot g l = l.array.lg_k ≡ 4
+invariant-loop-slot l = l.array.lg_k ≡ 4

@@ -20,24 +20,53 @@ fn images_and_folds(rt: HostRuntime) -> Result<(), Fail> {
     Ok(())
 }
 
-/// One coupon at two sizes agrees, and does not agree with none.
+/// The coupons of a set agree with the registers that they make, and with no coupons they do not.
 #[test]
-fn compared(rt: HostRuntime) -> Result<(), Fail> {
-    let at_12: [Step; 2] = [Step::New(12, HllType::Hll8), Step::Coupon(16, 1)];
-    let at_4: [Step; 2] = [Step::New(4, HllType::Hll4), Step::Coupon(16, 1)];
+fn compared(rt: HostRuntime) {
+    let at_12: [Step; 10] = [
+        Step::New(12, HllType::Hll8),
+        Step::Coupon(16, 1),
+        Step::Coupon(17, 2),
+        Step::Coupon(18, 3),
+        Step::Coupon(19, 4),
+        Step::Coupon(20, 5),
+        Step::Coupon(21, 6),
+        Step::Coupon(22, 7),
+        Step::Coupon(23, 8),
+        Step::Union(1, 12, HllType::Hll8),
+    ];
+    let at_4: [Step; 10] = [
+        Step::New(4, HllType::Hll8),
+        Step::Coupon(16, 1),
+        Step::Coupon(17, 2),
+        Step::Coupon(18, 3),
+        Step::Coupon(19, 4),
+        Step::Coupon(20, 5),
+        Step::Coupon(21, 6),
+        Step::Coupon(22, 7),
+        Step::Coupon(23, 8),
+        Step::Union(1, 12, HllType::Hll8),
+    ];
     let none: [Step; 1] = [Step::New(4, HllType::Hll8)];
     assert_eq!(rt; compare(rt.alloc(), &at_12, &at_4), Ok(true));
     assert_eq!(rt; compare(rt.alloc(), &at_12, &none), Ok(false));
-    Ok(())
 }
 
-/// The first fault of a list, with the step's number.
+/// The first fault of a list, with the step's number; of two lists that of the left one, whatever the right one is.
 #[test]
 fn first_faults(rt: HostRuntime) {
+    let no_steps: [Step; 0] = [];
     let bare: [Step; 1] = [Step::Coupon(1, 1)];
     let above: [Step; 2] = [Step::New(10, HllType::Hll8), Step::Fold(11)];
+    let one: [Step; 1] = [Step::New(10, HllType::Hll8)];
     let two: [Step; 2] = [Step::New(10, HllType::Hll8), Step::New(10, HllType::Hll8)];
+    assert_eq!(rt;
+        evaluate(rt.alloc(), &no_steps).err(),
+        Some(Fault::Stack.at(0))
+    );
     assert_eq!(rt; evaluate(rt.alloc(), &bare).err(), Some(Fault::Stack.at(1)));
     assert_eq!(rt; evaluate(rt.alloc(), &above).err(), Some(Fault::Fold.at(2)));
     assert_eq!(rt; compare(rt.alloc(), &two, &bare), Err(Fault::Stack.at(2)));
+    assert_eq!(rt; compare(rt.alloc(), &two, &one), Err(Fault::Stack.at(2)));
+    assert_eq!(rt; compare(rt.alloc(), &one, &bare), Err(Fault::Stack.at(1)));
 }

@@ -1,0 +1,234 @@
+//! Registers of eight, six and four bits: weights, images, merges, states, and exceptions.
+ghost use Rattle.std.specs.Prelude.{◌≡◌, ◌≤◌, IfOk};
+
+use hll_arrays::convert::convert;
+use hll_arrays::merge::merge_from;
+use hll_arrays::{Array4, Array6, Array8, EstimateState, RegisterStore, Registers};
+use hll_base::error::Error;
+use hll_coupons::coupon::Coupon;
+use std::alloc::{Allocator, Global};
+use std::test::Fail;
+
+/// A state that was read.
+const READ: EstimateState = EstimateState {
+    words: [1, 2, 3],
+    out_of_order: false,
+};
+
+/// The image of registers in hexadecimal.
+fn image_of<S: RegisterStore<Global>>(alloc: Global, store: &S) -> Result<String, Fail> {
+    Ok(hex::encode(alloc, store.write_image()?)?)
+}
+
+/// Sixteen registers, each set alone, with a state that was read.
+fn set_in(alloc: Global, values: [u8; 16]) -> Result<Array8, Error>
+    ensures { IfOk result (λ a. a.lg_k ≡ 4) }
+{
+    let mut array = Array8::new(alloc, 4)?;
+    for slot in 0..16usize {
+        array.set_register(slot, values[slot].min(63));
+    }
+    array.restore_estimate_state(READ);
+    Ok(array)
+}
+
+/// The weights of zeros, and of the values 1 to 8 beside eight zeros.
+#[test]
+fn weights(rt: HostRuntime) -> Result<(), Fail> {
+    let mut array = Array8::new(rt.alloc(), 4)?;
+    assert_eq!(rt; array.kxq_units(), 147573952589676412928);
+    assert_eq!(rt; Array6::new(rt.alloc(), 4)?.kxq_units(), array.kxq_units());
+    for value in 1..9u8 {
+        array.update(Coupon::pack(u32::from(value) - 1, value));
+    }
+    assert_eq!(rt; array.kxq_units(), 82974319534674018304);
+    Ok(())
+}
+
+/// Registers, others, the greater at each slot, and how many of these are 0.
+const JOINS: [([u8; 16], [u8; 16], [u8; 16], u32); 4] = [
+    (
+        [10, 20, 30, 0, 0, 0, 0, 0, 0, 0, 0, 0, 0, 0, 0, 0],
+        [0, 15, 35, 40, 0, 0, 0, 0, 0, 0, 0, 0, 0, 0, 0, 0],
+        [10, 20, 35, 40, 0, 0, 0, 0, 0, 0, 0, 0, 0, 0, 0, 0],
+        12,
+    ),
+    (
+        [10, 20, 35, 40, 0, 0, 0, 0, 0, 0, 0, 0, 0, 0, 0, 0],
+        [0; 16],
+        [10, 20, 35, 40, 0, 0, 0, 0, 0, 0, 0, 0, 0, 0, 0, 0],
+        12,
+    ),
+    (
+        [0, 1, 2, 3, 4, 5, 6, 7, 8, 9, 10, 11, 12, 13, 14, 15],
+        [15, 14, 13, 12, 11, 10, 9, 8, 7, 6, 5, 4, 3, 2, 1, 0],
+        [15, 14, 13, 12, 11, 10, 9, 8, 8, 9, 10, 11, 12, 13, 14, 15],
+        0,
+    ),
+    ([0; 16], [0; 16], [0; 16], 16),
+];
+
+/// The state is cleared, also where no register changes.
+#[test]
+fn joins(rt: HostRuntime) -> Result<(), Fail> {
+    for (values, others, greater, zeros) in JOINS {
+        let mut array = set_in(rt.alloc(), values)?;
+        let other = set_in(rt.alloc(), others)?;
+        assert_eq!(rt; array.lg_k(), other.lg_k());
+        array.merge_array_same_lgk(other.values());
+        assert_eq!(rt;
+            (array.values(), array.num_zeros(), array.estimate_state()),
+            (greater.as_slice(), zeros, EstimateState::CLEARED)
+        );
+    }
+    Ok(())
+}
+
+/// Two sizes are joined at the smaller, in either order, and the state is cleared, also where no register changes.
+#[test]
+fn joins_of_two_sizes(rt: HostRuntime) -> Result<(), Fail> {
+    let wanted =
+        "0a0107040010000a0000000000000000000000000000000000000000000000000e00000000000000191e0000000000000000000000000000";
+    let mut small = Array8::new(rt.alloc(), 4)?;
+    small.update(Coupon::pack(0, 10));
+    small.update(Coupon::pack(1, 20));
+    let mut large = Array8::new(rt.alloc(), 5)?;
+    large.update(Coupon::pack(0, 15));
+    large.update(Coupon::pack(16, 25));
+    large.update(Coupon::pack(1, 18));
+    large.update(Coupon::pack(17, 30));
+    let mut joined = Array8::new(rt.alloc(), 4)?;
+    merge_from(&mut joined, &small);
+    merge_from(&mut joined, &large);
+    let written = hex::encode(rt.alloc(), joined.serialize(4)?)?;
+    assert_eq!(rt; written.as_str(), wanted);
+    let mut joined = Array8::new(rt.alloc(), 4)?;
+    merge_from(&mut joined, &large);
+    joined.restore_estimate_state(READ);
+    merge_from(&mut joined, &small);
+    assert_eq!(rt; image_of(rt.alloc(), &joined)?.as_str(), wanted);
+    for _ in 0..2 {
+        small.restore_estimate_state(READ);
+        assert!(rt; small.lg_k() < large.lg_k());
+        small.merge_array_with_downsample(large.values(), large.lg_k());
+        assert_eq!(rt; image_of(rt.alloc(), &small)?.as_str(), wanted);
+    }
+    Ok(())
+}
+
+/// Setting a register keeps the state and shows in the count of zeros; rebuilding clears the state and keeps the registers.
+#[test]
+fn states(rt: HostRuntime) -> Result<(), Fail> {
+    let mut array = Array8::new(rt.alloc(), 4)?;
+    array.restore_estimate_state(READ);
+    for (slot, value, zeros) in [(3usize, 7u8, 15u32), (3, 63, 15), (15, 1, 14), (3, 0, 15)] {
+        assert!(rt; slot < array.num_registers() && value < 64);
+        array.set_register(slot, value);
+        let seen = (
+            array.values()[slot],
+            array.num_zeros(),
+            array.estimate_state(),
+        );
+        assert_eq!(rt; seen, (value, zeros, READ));
+    }
+    array.rebuild_estimator_from_registers();
+    assert_eq!(rt;
+        (array.values(), array.num_zeros(), array.estimate_state()),
+        (
+            [0, 0, 0, 0, 0, 0, 0, 0, 0, 0, 0, 0, 0, 0, 0, 1].as_slice(),
+            15,
+            EstimateState::CLEARED
+        )
+    );
+    Ok(())
+}
+
+/// Registers of six bits by updates, and converted from eight bits.
+#[test]
+fn six_bits(rt: HostRuntime) -> Result<(), Fail> {
+    let mut six = Array6::new(rt.alloc(), 4)?;
+    six.update(Coupon::pack(1, 63));
+    six.update(Coupon::pack(2, 42));
+    six.update(Coupon::pack(3, 51));
+    assert_eq!(rt;
+        hex::encode(rt.alloc(), six.serialize(4)?)?.as_str(),
+        "0a010704001000060000000000000000000000000000000000000000000000000d00000000000000c0afce00000000000000000000"
+    );
+    let values = [0, 63, 42, 51, 0, 0, 0, 0, 0, 0, 0, 0, 0, 0, 0, 0];
+    let converted: Array6 = convert(&set_in(rt.alloc(), values)?)?;
+    assert!(rt; converted != six);
+    six.restore_estimate_state(READ);
+    assert!(rt; converted == six);
+    Ok(())
+}
+
+/// Raises registers of sixteen, from a slot on, to a value.
+fn raise(array: &mut Array4, from: u32, value: u8) -> Result<(), Error>
+    requires { value ≤ 63 }
+{
+    for slot in from..16u32 {
+        array.update(Coupon::pack(slot, value))?;
+    }
+    Ok(())
+}
+
+/// What is seen of a slot: its nibble, its exception, and its register.
+type Seen = (u8, Option<u8>, u8);
+
+/// The minimum, how many registers are at it, and what is seen of slot 0.
+fn first_of(array: &Array4) -> (u8, u32, Seen) {
+    array.lg_k();
+    (
+        array.cur_min(),
+        array.num_at_cur_min(),
+        (array.nibble(0), array.exception(0), array.get(0)),
+    )
+}
+
+/// A register of 15 among others of 1 is no exception: it was one while the minimum was 0.
+#[test]
+fn fifteen_among_ones(rt: HostRuntime) -> Result<(), Fail> {
+    let mut array = Array4::new(rt.alloc(), 4)?;
+    array.update(Coupon::pack(0, 15))?;
+    assert_eq!(rt; first_of(&array), (0, 15, (15, Some(15), 15)));
+    raise(&mut array, 1, 1)?;
+    assert_eq!(rt; first_of(&array), (1, 15, (14, None, 15)));
+    assert_eq!(rt;
+        image_of(rt.alloc(), &array)?.as_str(),
+        "0a010704001801020000000000000000000000000000000000000000000000000f000000000000000e00000000000000"
+    );
+    Ok(())
+}
+
+/// Sixteen registers go from 1 to 20: the minimum rises by 19 at the last, and no exception is left.
+#[test]
+fn one_to_twenty(rt: HostRuntime) -> Result<(), Fail> {
+    let mut array = Array4::new(rt.alloc(), 4)?;
+    raise(&mut array, 0, 1)?;
+    assert_eq!(rt; first_of(&array), (1, 16, (0, None, 1)));
+    for slot in 0..15u32 {
+        array.update(Coupon::pack(slot, 20))?;
+        assert_eq!(rt; first_of(&array), (1, 15 - slot, (15, Some(20), 20)));
+    }
+    array.update(Coupon::pack(15, 20))?;
+    assert_eq!(rt; first_of(&array), (20, 16, (0, None, 20)));
+    assert_eq!(rt; array.estimated_size(), 8);
+    assert_eq!(rt;
+        image_of(rt.alloc(), &array)?.as_str(),
+        "0a0107040018140200000000000000000000000000000000000000000000000010000000000000000000000000000000"
+    );
+    Ok(())
+}
+
+/// 8 bytes for sixteen registers, 16 for up to three exceptions, 32 for the fourth.
+#[test]
+fn sizes(rt: HostRuntime) -> Result<(), Fail> {
+    let mut array = Array4::new(rt.alloc(), 4)?;
+    assert_eq!(rt; array.estimated_size(), 8);
+    for (slot, size) in [(3u32, 24usize), (4, 24), (5, 24), (9, 40)] {
+        array.update(Coupon::pack(slot, 15))?;
+        assert_eq!(rt; array.estimated_size(), size, "{slot}");
+    }
+    assert_eq!(rt; Array4::new(rt.alloc(), 21)?.estimated_size(), 1048576);
+    Ok(())
+}

@@ -1,0 +1,182 @@
+//! Sketches: stages, arguments, places, texts, values and folds.
+use crate::coupons::Piece;
+use crate::hash::TEXT;
+use hll_base::error::{Error, ErrorKind, Reason};
+use hll_coupons::coupon::Coupon;
+use hll_coupons::hll_type::HllType;
+use hll_sketch::{HllSketch, HllUnion, Mode, Stage};
+use linked_list_allocator::LocalHeap;
+use std::alloc::Global;
+use std::test::Fail;
+
+/// How many coupons, and what keeps them: a list of 8 places, a set of 32, registers of four bits; the number of coupons, and
+/// the size in bytes.
+const STAGES: [(u32, Stage, Option<usize>, usize); 4] = [
+    (7, Stage::List, Some(7), 32),
+    (8, Stage::Set, Some(8), 128),
+    (24, Stage::Set, Some(24), 128),
+    (25, Stage::Hll, None, 128),
+];
+
+fn stage_of(sketch: &HllSketch) -> Stage {
+    match sketch.mode() {
+        Mode::List { .. } => Stage::List,
+        Mode::Set { .. } => Stage::Set,
+        Mode::Array4(_) | Mode::Array6(_) | Mode::Array8(_) => Stage::Hll,
+    }
+}
+
+#[test]
+fn stages(rt: HostRuntime) -> Result<(), Fail> {
+    for (count, stage, coupons, size) in STAGES {
+        let mut sketch = HllSketch::new(rt.alloc(), 8, HllType::Hll4)?;
+        for slot in 0..count {
+            sketch.update_with_coupon(Coupon::pack(slot, 1))?;
+        }
+        assert_eq!(rt;
+            (
+                stage_of(&sketch),
+                sketch.num_coupons(),
+                sketch.estimated_size()
+            ),
+            (stage, coupons, size)
+        );
+    }
+    Ok(())
+}
+
+/// What kind of error this is.
+fn kind_of<T: Drop>(answer: Result<T, Error>) -> Option<ErrorKind> {
+    answer.err().map(|e| e.kind())
+}
+
+#[test]
+fn arguments(rt: HostRuntime) {
+    let refused = Some(ErrorKind::InvalidArgument);
+    for lg_k in [0u8, 3, 22, 255] {
+        let sketch = HllSketch::new(rt.alloc(), lg_k, HllType::Hll8);
+        assert_eq!(rt; kind_of(sketch), refused, "{lg_k}");
+        let union = HllUnion::new(rt.alloc(), lg_k);
+        assert_eq!(rt; kind_of(union), refused, "{lg_k}");
+    }
+}
+
+/// A sketch at `lg_k` 10 with one coupon, folded.
+fn folded(alloc: Global, lg_k: u8) -> Result<HllSketch, Error> {
+    let mut sketch = HllSketch::new(alloc, 10, HllType::Hll8)?;
+    sketch.update_with_coupon(Coupon::pack(5, 3))?;
+    sketch.folded(lg_k)
+}
+
+/// A sketch can be folded to 4 up to its own `lg_k`.
+#[test]
+fn folds(rt: HostRuntime) -> Result<(), Fail> {
+    let refused = Some(ErrorKind::InvalidArgument);
+    for lg_k in [0u8, 3, 11, 21, 255] {
+        assert_eq!(rt; kind_of(folded(rt.alloc(), lg_k)), refused, "{lg_k}");
+    }
+    for lg_k in 4..11u8 {
+        assert_eq!(rt; folded(rt.alloc(), lg_k)?.lg_config_k(), lg_k);
+    }
+    let written = hex::encode(rt.alloc(), folded(rt.alloc(), 4)?.serialize()?)?;
+    assert_eq!(rt; written.as_str(), "02010704030801080500000c");
+    Ok(())
+}
+
+/// Slots that start at place 0 of 32, with the strides 1, 1, 3, 3, 5, 5, 7 and 7, and their order in the places: the
+/// coupons of the list come first, then the eighth.
+const SLOTS: [u32; 8] = [0, 32, 64, 96, 128, 160, 192, 224];
+
+const PLACED: [u32; 8] = [0, 32, 64, 128, 96, 192, 160, 224];
+
+/// The slots of a set in the order of places, of anything else none.
+fn placed(alloc: Global, sketch: &HllSketch) -> Result<Vec<u32>, Fail> {
+    let mut slots = Vec::new(alloc);
+    if let Mode::Set { set, .. } = sketch.mode() {
+        for coupon in set.container().iter() {
+            slots.push(coupon.slot())?;
+        }
+    }
+    Ok(slots)
+}
+
+/// The image has them in ascending raw words.
+#[test]
+fn places(rt: HostRuntime) -> Result<(), Fail> {
+    let mut sketch = HllSketch::new(rt.alloc(), 10, HllType::Hll8)?;
+    for slot in SLOTS {
+        sketch.update_with_coupon(Coupon::pack(slot, 1))?;
+    }
+    let slots = placed(rt.alloc(), &sketch)?;
+    assert_eq!(rt; slots.as_slice(), PLACED.as_slice());
+    let written = hex::encode(rt.alloc(), sketch.serialize()?)?;
+    assert_eq!(rt;
+        written.as_str(),
+        "0301070a05080009080000000000000420000004400000046000000480000004a0000004c0000004e0000004"
+    );
+    Ok(())
+}
+
+/// An `lg_k`, a width, how many coupons, and the text for debugging.
+const TEXTS: [(u8, HllType, u32, &str); 3] = [
+    (
+        10,
+        HllType::Hll8,
+        0,
+        "HllSketch { lg_config_k: 10, target_type: Hll8, mode: \"List\", is_empty: true }",
+    ),
+    (
+        10,
+        HllType::Hll4,
+        8,
+        "HllSketch { lg_config_k: 10, target_type: Hll4, mode: \"Set\", is_empty: false }",
+    ),
+    (
+        4,
+        HllType::Hll6,
+        8,
+        "HllSketch { lg_config_k: 4, target_type: Hll6, mode: \"Hll\", is_empty: false, estimator: \"Composite\" }",
+    ),
+];
+
+#[test]
+fn texts(rt: HostRuntime) -> Result<(), Fail> {
+    for (lg_k, hll_type, count, text) in TEXTS {
+        let mut sketch = HllSketch::new(rt.alloc(), lg_k, hll_type)?;
+        for slot in 0..count {
+            sketch.update_with_coupon(Coupon::pack(slot, 1))?;
+        }
+        assert_eq!(rt; format!(in rt.alloc(); "{sketch:?}")?.as_str(), text);
+    }
+    Ok(())
+}
+
+/// A value is added to a sketch and to a union as the coupon of its bytes.
+#[test]
+fn values(rt: HostRuntime) -> Result<(), Fail> {
+    for bytes in [&TEXT[..0], &TEXT[..15], &TEXT[15..]] {
+        let coupon = Coupon::from_bytes(bytes);
+        let mut sketch = HllSketch::new(rt.alloc(), 10, HllType::Hll8)?;
+        sketch.update_with_coupon(coupon)?;
+        let mut by_value = HllSketch::new(rt.alloc(), 10, HllType::Hll8)?;
+        by_value.update(Piece { bytes })?;
+        assert!(rt; by_value == sketch, "{bytes:?}");
+        let mut union = HllUnion::new(rt.alloc(), 10)?;
+        union.update_value(Piece { bytes })?;
+        assert!(rt; union.to_sketch(HllType::Hll8)? == sketch, "{bytes:?}");
+    }
+    Ok(())
+}
+
+/// The size of a table that is not there is refused without a request for its memory.
+#[test]
+fn missing_tables(rt: HostRuntime) -> Result<(), Fail> {
+    let image = hex::decode(
+        rt.alloc(),
+        "0a0107041a0000020000000000000000000000000000000000000000000000000f000000010000000000000000000000",
+    )?;
+    let heap = LocalHeap::new(rt.alloc(), 64)?;
+    let read = HllSketch::deserialize(&heap, &image);
+    assert_eq!(rt; read.err().map(|e| e.reason()), Some(Reason::Truncated));
+    Ok(())
+}
