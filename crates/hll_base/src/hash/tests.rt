@@ -1,11 +1,5 @@
-//! The hash: known vectors, and the same bytes cut differently.
+//! The hash: vectors at several seeds, and the same bytes cut differently.
 use crate::hash::MurmurHash3X64128;
-use std::hash::Hasher;
-
-/// A text of two full blocks and eleven bytes, and its hash at seed 0.
-const TEXT: [u8; 43] = *b"The quick brown fox jumps over the lazy dog";
-
-const TEXT_WORDS: (u64, u64) = (0xe34b_bc7b_bc07_1b6c, 0x7a43_3ca9_c49a_9347);
 
 /// The bytes 0 to 69.
 const BYTES: [u8; 70] = [
@@ -130,8 +124,6 @@ fn words_of_two(seed: u64, first: &[u8], second: &[u8]) -> (u64, u64) {
 
 #[test]
 fn vectors(rt: HostRuntime) {
-    assert_eq!(rt; words_of(0, &[]), (0, 0));
-    assert_eq!(rt; words_of(0, TEXT.as_slice()), TEXT_WORDS);
     for (seed, end, first, second) in VECTORS {
         assert_eq!(rt;
             words_of(seed, &BYTES[..end.min(70)]),
@@ -144,25 +136,8 @@ fn vectors(rt: HostRuntime) {
 #[test]
 fn default_seed(rt: HostRuntime) {
     let mut hash = MurmurHash3X64128::default();
-    hash.write(TEXT.as_slice());
-    assert_eq!(rt; hash.finish128(), words_of(9001, TEXT.as_slice()));
-}
-
-/// The text byte by byte, and in two and three pieces.
-#[test]
-fn pieces(rt: HostRuntime) {
-    let mut single = MurmurHash3X64128::with_seed(0);
-    for byte in TEXT {
-        single.write(&[byte]);
-    }
-    assert_eq!(rt; single.finish128(), TEXT_WORDS);
-    assert_eq!(rt; Hasher::finish(&single), TEXT_WORDS.0);
-    assert_eq!(rt; words_of_two(0, &TEXT[..15], &TEXT[15..]), TEXT_WORDS);
-    let mut three = MurmurHash3X64128::with_seed(0);
-    three.write(&TEXT[..16]);
-    three.write(&TEXT[16..32]);
-    three.write(&TEXT[32..]);
-    assert_eq!(rt; three.finish128(), TEXT_WORDS);
+    hash.write(&BYTES);
+    assert_eq!(rt; hash.finish128(), words_of(9001, &BYTES));
 }
 
 /// Up to seventy bytes, cut in two at each place.
