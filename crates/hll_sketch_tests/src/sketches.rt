@@ -3,6 +3,7 @@ ghost use Rattle.std.specs.Prelude.{◌≤◌};
 
 use crate::fixtures::{WIDTHS, filled};
 use hll_base::error::{Error, Reason};
+use hll_coupons::container::Container;
 use hll_coupons::coupon::Coupon;
 use hll_coupons::hll_type::HllType;
 use hll_sketch::{HllSketch, Mode};
@@ -191,16 +192,21 @@ fn values(rt: HostRuntime) -> Result<(), Fail> {
     Ok(())
 }
 
+/// Adds the raw words of a table's coupons, in the order of places.
+fn put_words(words: &mut Vec<u32>, table: &Container<&LocalHeap>) -> Result<(), Fail> {
+    for coupon in table.iter() {
+        words.push(coupon.raw())?;
+    }
+    Ok(())
+}
+
 /// The raw words of the coupons of a list or a set in the order of places, and the size in bytes.
 fn places_of(alloc: Global, sketch: &HllSketch<&LocalHeap>) -> Result<(Vec<u32>, usize), Fail> {
-    let coupons = match sketch.mode() {
-        Mode::List { list, .. } => Some(list.container().iter()),
-        Mode::Set { set, .. } => Some(set.container().iter()),
-        Mode::Array4(_) | Mode::Array6(_) | Mode::Array8(_) => None,
-    };
     let mut words = Vec::new(alloc);
-    for coupon in coupons.into_iter().flatten() {
-        words.push(coupon.raw())?;
+    match sketch.mode() {
+        Mode::List { list, .. } => put_words(&mut words, list.container())?,
+        Mode::Set { set, .. } => put_words(&mut words, set.container())?,
+        Mode::Array4(_) | Mode::Array6(_) | Mode::Array8(_) => {}
     }
     Ok((words, sketch.estimated_size()))
 }
