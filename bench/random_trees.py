@@ -14,7 +14,9 @@ import subprocess
 import sys
 from dataclasses import dataclass, replace
 
-ROOT = pathlib.Path(__file__).resolve().parent.parent
+sys.dont_write_bytecode = True
+from plans import built_program
+
 WIDTHS = (4, 6, 8)
 SIZES = (0, 1, 7, 8, 9, 24, 25, 60, 200)
 PAIRS = 1000
@@ -149,8 +151,7 @@ def difference(task):
 
 def main():
     pairs = int(sys.argv[1]) if len(sys.argv) > 1 else PAIRS
-    program = pathlib.Path(sys.argv[2]).resolve() if len(sys.argv) > 2 else ROOT / "hll_merge"
-    subprocess.run([program], input=b"new 10 8\n", stdout=subprocess.DEVNULL, check=True)
+    program = pathlib.Path(sys.argv[2]).resolve() if len(sys.argv) > 2 else built_program()
     with multiprocessing.Pool() as pool:
         tasks = ((str(program), seed) for seed in range(pairs))
         for found in pool.imap_unordered(difference, tasks, chunksize=50):

@@ -241,7 +241,7 @@ impl<A: Allocator> Array8<A> {
         all_zero(&self.registers)
     }
 
-    /// How many registers are 0. One pass, none where updates alone made the registers; takes no memory.
+    /// How many registers are 0. One pass where they were read from an image, merged or set, otherwise none; takes no memory.
     pub fn num_zeros(&self) -> u32
         ensures { result ≡ zeros self.now.registers }
     {

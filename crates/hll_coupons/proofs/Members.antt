@@ -1,10 +1,10 @@
 -- The set of the coupons of a list or of places.
-use Rattle.std.proofs.Common.{◌≡◌, ℕ, ◌+◌, ◌<◌, Bool, true, false, cond, ◌||◌, ◌&&◌, List, [], ◌∷◌, ◌++◌, nat_lt, nat_eq, refl, sym, ◌∙◌, ap, arith, rules}
+use Rattle.std.proofs.Common.{◌≡◌, ℕ, ◌+◌, ◌<◌, Bool, true, false, cond, ◌||◌, ◌&&◌, List, [], ◌∷◌, ◌++◌, nat_lt, nat_eq, refl, inl, inr, sym, ◌∙◌, ap, arith, rules}
 use Rattle.std.specs.List.{list_any, list_all}
 use Rattle.std.specs.Ordering.{nat_cmp, eq_by_cmp}
 use Rattle.std.specs.Cmp.{nat_cmp_total, unsigned_tied}
 use Rattle.std.specs.FinSet.{members, same_set, nat_cmp-IsAntisymmetric, contains, insert, len, is_subset, contains-from_list_nat, contains-insert, len-insert, from_list_push, is_subset-contains, contains-is_subset}
-use Rattle.std.proofs.lemmas.Bool.{eqb-true, eq-eqb}
+use Rattle.std.proofs.lemmas.Bool.{eqb-true, eq-eqb, cases_Bool}
 use Rattle.std.proofs.lemmas.Bool.Decides.{nat_tests}
 use Rattle.std.proofs.lemmas.List.{append-nil}
 use Rattle.std.proofs.lemmas.List.Folds.{list_any-append}
@@ -45,6 +45,10 @@ contains-zero places =
 or-true : (b : Bool) → (b || true) ≡ true
 or-true true = refl
 or-true false = refl
+
+-- what a set doesn't lack is a member
+pub member_unless_lacking : (s : Pairs) (c : ℕ) → (contains s c ≡ false → ⊥) → contains s c ≡ true
+member_unless_lacking s c h = elim (cases_Bool (contains s c)) [ inl t ↦ t | inr f ↦ absurd (h f) ]
 
 -- a member that comes again changes nothing
 pub insert-member : (s : Pairs) (c : ℕ) → contains s c ≡ true → insert s c ≡ s

@@ -117,10 +117,24 @@ impl<A: Allocator> List<A> {
         ensures order { coupons_in self.new.places ≡ coupons_with (coupons_in self.old.places) coupon }
         ensures members { coupons_of self.new ≡ set.insert (coupons_of self.old) coupon }
     {
-        if !self.container.contains(coupon) {
-            let place = self.container.len();
-            self.container.put(place, coupon);
+        self.insert(coupon);
+    }
+
+    /// The same. Says whether the coupon is new.
+    fn insert(&mut self, coupon: Coupon) -> bool
+        requires valued { 1 ≤ value_of coupon }
+        requires room { set.contains (coupons_of self.old) coupon ≡ false → length (coupons_in self.old.places) < 2 ^ self.old.lg_size }
+        ensures new { IsTrue result ↔ (set.contains (coupons_of self.old) coupon ≡ false) }
+        ensures places { self.new ≡ filled_from_front self.old.lg_size (coupons_with (coupons_in self.old.places) coupon) }
+        ensures order { coupons_in self.new.places ≡ coupons_with (coupons_in self.old.places) coupon }
+        ensures members { coupons_of self.new ≡ set.insert (coupons_of self.old) coupon }
+    {
+        if self.container.contains(coupon) {
+            return false;
         }
+        let place = self.container.len();
+        self.container.put(place, coupon);
+        true
     }
 
     /// Whether the list has the coupon. Looks at each place until it is found; takes no memory.
@@ -238,10 +252,9 @@ fn read_places<A: Allocator>(
         if coupon.is_empty() && !compact {
             continue;
         }
-        if coupon.value() == 0 || list.contains(coupon) {
+        if coupon.value() == 0 || !list.insert(coupon) {
             return Err(Error::new(Reason::Coupon));
         }
-        list.update(coupon);
     }
     Ok(())
 }

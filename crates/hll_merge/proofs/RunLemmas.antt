@@ -8,11 +8,11 @@ use Rattle.hll_sketch.specs.Layout.{SketchLayout, sketch_of}
 use Rattle.hll_sketch.specs.Written.{Written}
 use Rattle.hll_text.specs.declared.fault.Fault.TheVariants.{Memory}
 use Rattle.hll_text.specs.declared.fault.MergeError.{MergeError}
-use Rattle.hll_text.specs.Text.{ended_lines, open_line, line_of_rest, reading}
+use Rattle.hll_text.specs.Text.{ended_lines, open_line, line_of_rest, printed_line, reading}
 use Rattle.hll_text.proofs.CutLemmas.{ended_lines-append, lines-ended}
 use Rattle.hll_merge.specs.Accepting.{FaultsAtLine, IsFirstFault}
 use Rattle.hll_merge.specs.Feeding.{Feed, IsFedBy, going, stopped, IsOutcomeOf}
-use Rattle.hll_merge.specs.Run.{printed_line, IsAnswer, IsAllOf}
+use Rattle.hll_merge.specs.Run.{IsAnswer, IsAllOf}
 use Rattle.hll_merge.proofs.FeedingLemmas.{FaultsFrom-before}
 use Rattle.hll_merge.proofs.Headline.{accepted_plans_hold}
 

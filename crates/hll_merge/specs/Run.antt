@@ -2,18 +2,13 @@
 use Rattle.std.specs.Prelude.{ℕ, ◌<◌, Bool, true, false, ◌≡◌, ◌⊎◌, List, [], ◌∷◌, ◌++◌, length, take, Option, Some, None}
 use Rattle.std.specs.Str.Lines.{lines}
 use Rattle.std.specs.Io.KnownBytes.{Appends, Consumes, IsAtEnd, Keeps}
-use Rattle.hex.specs.Hex.{encode_lower}
 use Rattle.hll_sketch.specs.Written.{Written}
 use Rattle.hll_text.specs.declared.fault.Fault.TheVariants.{Memory, Read, Write}
 use Rattle.hll_text.specs.declared.fault.MergeError.{MergeError}
 use Rattle.hll_merge.specs.Plan.{Plan, outcome}
-use Rattle.hll_text.specs.Text.{ended_lines, line_number, reading}
+use Rattle.hll_text.specs.Text.{ended_lines, line_number, printed_line, reading}
 use Rattle.hll_merge.specs.Accepting.{Runs, Accepts, FaultsAtLine, IsFirstFault}
 use Rattle.hll_merge.specs.Headline.{Holds}
-
--- what is printed for the bytes of an image: lower-case hexadecimal and LF
-abbrev pub printed_line : List ℕ → List ℕ
-printed_line bytes = encode_lower bytes ++ 10 ∷ []
 
 -- the streams of a run: what the reader had left before and after, whether it failed, whether the writer did, and what that contained before and after
 pub record Streams : Type 0 where

@@ -1,20 +1,15 @@
 //! Running a plan: its text is read, and the image of its sketch is written.
-ghost use Rattle.std.specs.Prelude.{◌≡◌, ℕ, List, None, Some, length, false, MatchResult, IfOk, IfErr, OnOk, string_bytes};
+ghost use Rattle.std.specs.Prelude.{◌≡◌, ℕ, List, None, Some, length, false, MatchResult, IfErr, OnOk};
 ghost use Rattle.std.specs.Io.KnownBytes.{Consumes, IsAtEnd};
 ghost use Rattle.std.specs.Str.Lines.{lines};
-ghost use Rattle.hll_sketch.specs.Layout.{sketch_of};
-ghost use Rattle.hll_sketch.specs.Written.{Written};
-ghost use Rattle.hll_text.specs.declared.fault.Fault.TheVariants.{Memory};
-ghost use Rattle.hll_text.specs.Text.{line_number};
+ghost use Rattle.hll_text.specs.Text.{line_number, printed_line};
 ghost use Rattle.hll_merge.specs.Feeding as feeding;
 ghost use Rattle.hll_merge.specs.Feeding.{IsFedBy, StopsText};
-ghost use Rattle.hll_merge.specs.Run as definitions;
 ghost use Rattle.hll_merge.specs.Run.{IsAnswer, Streams, Succeeds, IsRefused};
 
 use crate::feed::PlanFeed;
-use hll_sketch::sketch::HllSketch;
 use hll_text::fault::{Fault, MergeError};
-use hll_text::streams::write_all;
+use hll_text::streams::write_hex_line;
 use hll_text::watched::Watched;
 use std::alloc::Allocator;
 use std::io;
@@ -27,7 +22,7 @@ const READ_SIZE: usize = 65536;
 /// Neither stream may have failed before. What is said of bytes presupposes streams whose bytes are known.
 ///
 /// Each piece that the reader gives is carried out at once: memory is taken for the stack of sketches, for a line that is
-/// not whole in a piece, for the bytes of one image, and for the answer. A refusal is `Memory` where memory was refused
+/// not whole in a piece, and for the bytes of one image. A refusal is `Memory` where memory was refused
 /// (its line is free), the first fault of the text with its line, `Read` where the reader failed, or `Write` where the
 /// writer failed. Nothing is written on a refusal, but for a front of the answer with `Write`.
 pub fn run<A: Allocator + Clone, R: io::Read, W: io::Write>(
@@ -52,8 +47,8 @@ pub fn run<A: Allocator + Clone, R: io::Read, W: io::Write>(
     if reader.failed() {
         return Err(Fault::Read.at(feed.count()));
     }
-    let (answer, line) = answer_of(feed)?;
-    match write_all(writer, answer.as_bytes()) {
+    let (image, line) = image_of(feed)?;
+    match write_hex_line(writer, &image) {
         Ok(()) => Ok(()),
         Err(fault) => Err(fault.at(line)),
     }
@@ -86,28 +81,17 @@ fn feed_all<A: Allocator + Clone, R: io::Read>(
     }
 }
 
-/// What is printed for the plan of a text that was fed, and the number of its lines.
-fn answer_of<A: Allocator + Clone>(feed: PlanFeed<A>) -> Result<(String<A>, u64), MergeError>
+/// The image of the plan of a text that was fed, and the number of its lines.
+fn image_of<A: Allocator + Clone>(feed: PlanFeed<A>) -> Result<(Vec<u8, A>, u64), MergeError>
     ensures { feed.fault ≡ None → (text : List ℕ) → IsFedBy text feed → MatchResult result
-        (λ r. IsAnswer text (string_bytes r.0) × (r.1 ≡ line_number (length (lines text)))) (StopsText text) }
+        (λ r. IsAnswer text (printed_line r.0.items) × (r.1 ≡ line_number (length (lines text)))) (StopsText text) }
 {
     let (sketch, line) = match feed.finished() {
         Ok(found) => found,
         Err(e) => return Err(e),
     };
-    match printed_line(&sketch) {
-        Ok(answer) => Ok((answer, line)),
-        Err(fault) => Err(fault.at(line)),
+    match sketch.serialize() {
+        Ok(image) => Ok((image, line)),
+        Err(e) => Err(Fault::from(e).at(line)),
     }
-}
-
-/// The image of a sketch in lower-case hexadecimal, and LF. `Memory` where the image or the text is refused.
-fn printed_line<A: Allocator + Clone>(sketch: &HllSketch<A>) -> Result<String<A>, Fault>
-    ensures ok { IfOk result (λ text. (bytes : List ℕ) × Written bytes (sketch_of sketch.now) × (string_bytes text ≡ definitions.printed_line bytes)) }
-    ensures err { IfErr result (λ e. e ≡ Memory) }
-{
-    let image = sketch.serialize()?;
-    let mut text = hex::encode(image.allocator().clone()?, image)?;
-    text.push('\n')?;
-    Ok(text)
 }

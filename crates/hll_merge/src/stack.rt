@@ -106,7 +106,7 @@ impl<A: Allocator + Clone> Stack<A> {
             return Err(Fault::Stack);
         };
         let union = union_of(self.cloned_allocator()?, lg_max_k, &self.sketches[at..])?;
-        let sketch = union.to_sketch(hll_type)?;
+        let sketch = union.into_sketch(hll_type)?;
         self.replace_from(at, sketch)
     }
 

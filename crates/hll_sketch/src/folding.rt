@@ -1,5 +1,5 @@
 //! What a mode becomes at a smaller `lg_k` (docs/MODEL.md, "Folding").
-ghost use Rattle.std.specs.Prelude.{◌≡◌, ◌≤◌, IfOk, IfErr};
+ghost use Rattle.std.specs.Prelude.{◌≡◌, ◌≢◌, ◌≤◌, IfOk, IfErr, OnErr};
 ghost use Rattle.std.specs.FinSet.{len};
 ghost use Rattle.hll_base.specs.declared.error.Reason.TheVariants.{Memory};
 ghost use Rattle.hll_coupons.specs.Fold.{fold_to, pairs};
@@ -113,6 +113,7 @@ pub(crate) fn of_width<A: Allocator + Clone>(
     ensures content { IfOk result (λ m. content_in (layout_of m) ≡ registers array.registers array.state) }
     ensures layout { IfOk result (λ m. IsLayoutFor array.lg_k (layout_of m)) }
     ensures width { IfOk result (λ m. width_of (layout_of m) ≡ hll_type) }
+    ensures needed { OnErr result (hll_type ≢ Hll8) }
     ensures err { IfErr result (λ e. e ≡ Memory) }
 {
     match hll_type {

@@ -1,6 +1,6 @@
 //! Merging a sketch into the gadget of a union (docs/MODEL.md, "Merging"). What needs memory is made aside, and then takes
 //! the place of what was there.
-ghost use Rattle.std.specs.Prelude.{◌≡◌, ◌≤◌, ◌<◌, true, false, IfOk, IfErr, OnOk, OnErr};
+ghost use Rattle.std.specs.Prelude.{◌≡◌, ◌≢◌, ◌≤◌, ◌<◌, true, false, IfOk, IfErr, OnOk, OnErr};
 ghost use Rattle.std.specs.FinSet.{contains, len, union};
 ghost use Rattle.hll_base.specs.declared.error.Reason.TheVariants.{Memory};
 ghost use Rattle.hll_coupons.specs.Table.{coupons_in, coupons_of};
@@ -12,7 +12,7 @@ ghost use Rattle.hll_sketch.specs.Merging as merging;
 ghost use Rattle.hll_sketch.specs.Union.{IsGadget, coupons_kept, holds_all, ContentNeedsMemory, MergeNeedsMemory};
 ghost use Rattle.hll_sketch.specs.Value.{IsLegal, IsLgK, coupons, in_registers, is_empty, registers};
 
-use crate::folding::{converted, fold_of};
+use crate::folding::{converted, fold_of, of_width};
 use crate::mode::Mode;
 use crate::reference::holds;
 use crate::sketch::HllSketch;
@@ -116,6 +116,25 @@ impl<A: Allocator + Clone> HllSketch<A> {
             lg_config_k: self.lg_config_k,
             mode,
         })
+    }
+
+    /// The sketch at another width, as `at_width`, without a copy of what stays as it is.
+    ///
+    /// Registers are of eight bits. Fails with `Memory`, only for registers of four and six bits to come.
+    pub(crate) fn into_width(self, hll_type: HllType) -> Result<HllSketch<A>, Error>
+        requires { in_registers (content_in self.layout) ≡ true → width_of self.layout ≡ Hll8 }
+        ensures ok { IfOk result (λ s. sketch_of s ≡ record (sketch_of self) { width = hll_type }) }
+        ensures needed { OnErr result ((in_registers (content_in self.layout) ≡ true) × (hll_type ≢ Hll8)) }
+        ensures err { IfErr result (λ e. e ≡ Memory) }
+    {
+        let HllSketch { lg_config_k, mode } = self;
+        let mode = match mode {
+            Mode::List { list, .. } => Mode::List { list, hll_type },
+            Mode::Set { set, .. } => Mode::Set { set, hll_type },
+            Mode::Array8(array) => of_width(array, hll_type)?,
+            Mode::Array4(_) | Mode::Array6(_) => unreachable!(),
+        };
+        Ok(HllSketch { lg_config_k, mode })
     }
 
     /// Adds the coupons of a table in turn.

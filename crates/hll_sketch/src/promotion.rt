@@ -1,5 +1,5 @@
 //! What takes over from a table that a coupon more doesn't leave as large as it is (docs/MODEL.md, "Stages").
-ghost use Rattle.std.specs.Prelude.{◌≡◌, ◌+◌, ◌^◌, ◌<◌, ◌≤◌, length, true, IfOk, IfErr, IfSome, IfNone, OnErr, Some};
+ghost use Rattle.std.specs.Prelude.{◌≡◌, ◌+◌, ◌^◌, ◌<◌, ◌≤◌, length, false, IfOk, IfErr, IfSome, IfNone, OnErr, Some};
 ghost use Rattle.std.specs.FinSet.{len, insert};
 ghost use Rattle.hll_base.specs.declared.error.Reason.TheVariants.{Memory};
 ghost use Rattle.hll_coupons.specs.Fold.{fold_to};
@@ -12,7 +12,6 @@ ghost use Rattle.hll_sketch.specs.Stage as stages;
 ghost use Rattle.hll_sketch.specs.Value.{IsLgK, registers};
 
 use crate::mode::Mode;
-use crate::reference::holds;
 use hll_arrays::array4::Array4;
 use hll_arrays::array6::Array6;
 use hll_arrays::array8::Array8;
@@ -24,39 +23,35 @@ use hll_coupons::hash_set::HashSet;
 use hll_coupons::hll_type::HllType;
 use std::alloc::Allocator;
 
-/// What takes over from a table once it has a coupon more, `count` of them then, or none if it stays as large as it is.
+/// What takes over from a table that a coupon more doesn't leave as large as it is.
 ///
-/// Fails with `Memory`, only if something takes over.
+/// Fails with `Memory`.
 pub(crate) fn next_of<A: Allocator + Clone>(
     lg_k: u8,
     hll_type: HllType,
     table: &Container<A>,
-    count: usize,
     coupon: Coupon,
-) -> Result<Option<Mode<A>>, Error>
+) -> Result<Mode<A>, Error>
     requires lg_k { IsLgK lg_k }
     requires size { IsSize lg_k table.now.lg_size }
     requires room { 5 ≤ table.now.lg_size → length (coupons_in table.now.places) < 2 ^ table.now.lg_size }
-    requires count { count ≡ len (insert (coupons_of table.now) coupon) }
     requires valued { 1 ≤ value_of coupon }
-    ensures stays { IfOk result (λ next. IfNone next (stages.holds table.now.lg_size count ≡ true)) }
-    ensures goes { IfOk result (λ next. IfSome next (λ mode.
-        content_in (layout_of mode) ≡ content_for lg_k (insert (coupons_of table.now) coupon) (stages.stage lg_k table.now.lg_size count))) }
-    ensures layout { IfOk result (λ next. IfSome next (λ mode. IsLayoutFor lg_k (layout_of mode))) }
-    ensures width { IfOk result (λ next. IfSome next (λ mode. width_of (layout_of mode) ≡ hll_type)) }
-    ensures needed { OnErr result (stages.stage lg_k table.now.lg_size count ≡ Some table.now.lg_size → ⊥) }
+    requires leaves { stages.holds table.now.lg_size (len (insert (coupons_of table.now) coupon)) ≡ false }
+    ensures content { let pairs = insert (coupons_of table.now) coupon in
+        IfOk result (λ mode. content_in (layout_of mode) ≡ content_for lg_k pairs (stages.stage lg_k table.now.lg_size (len pairs))) }
+    ensures layout { IfOk result (λ mode. IsLayoutFor lg_k (layout_of mode)) }
+    ensures width { IfOk result (λ mode. width_of (layout_of mode) ≡ hll_type) }
+    ensures needed { OnErr result (stages.stage lg_k table.now.lg_size (len (insert (coupons_of table.now) coupon)) ≡ Some table.now.lg_size → ⊥) }
     ensures err { IfErr result (λ e. e ≡ Memory) }
 {
-    let size = table.lg_size();
     let _len = table.len();
-    if holds(size as u8, count) {
-        return Ok(None);
+    match next_size(lg_k, table.lg_size()) {
+        None => promoted(lg_k, hll_type, table, coupon),
+        Some(size) => Ok(Mode::Set {
+            set: set_of_size(size, table, coupon)?,
+            hll_type,
+        }),
     }
-    let Some(size) = next_size(lg_k, size) else {
-        return Ok(Some(promoted(lg_k, hll_type, table, coupon)?));
-    };
-    let set = set_of_size(size, table, coupon)?;
-    Ok(Some(Mode::Set { set, hll_type }))
 }
 
 /// The size after this one, or none: then registers take over.

@@ -1,5 +1,5 @@
 //! Sketches (docs/MODEL.md, "Sketch values" and "Adding").
-ghost use Rattle.std.specs.Prelude.{◌≡◌, ◌≤◌, ◌⊎◌, [], ◌∷◌, true, fold, Some, None, IfOk, IfErr, IfSome, IfNone, OnOk, OnErr};
+ghost use Rattle.std.specs.Prelude.{◌≡◌, ◌≤◌, ◌⊎◌, [], ◌∷◌, true, false, fold, Some, None, IfOk, IfErr, IfSome, IfNone, OnOk, OnErr};
 ghost use Rattle.hll_base.specs.declared.error.Reason.TheVariants.{Memory};
 ghost use Rattle.hll_base.specs.declared.error.Reason.TheVariants as reasons;
 ghost use Rattle.hll_base.specs.Hash.{hash_of, initial_state, after_piece, default_seed};
@@ -21,6 +21,7 @@ use crate::header::Header;
 use crate::mode::Mode;
 use crate::mode_image::read_mode;
 use crate::promotion::next_of;
+use crate::reference::holds;
 use hll_base::error::{Error, Reason};
 use hll_coupons::coupon::Coupon;
 use hll_coupons::hll_type::HllType;
@@ -209,12 +210,11 @@ impl<A: Allocator + Clone> HllSketch<A> {
         ensures needed { OnErr result (NeedsMemory self.old.lg_k self.old.layout coupon) }
         ensures err { IfErr result (λ e. e ≡ Memory) }
     {
-        match self.next(coupon)? {
-            Some(mode) => {
-                self.mode = mode;
-                Ok(())
-            }
-            None => self.put(coupon),
+        if self.holds_with(coupon) {
+            self.put(coupon)
+        } else {
+            self.mode = self.next(coupon)?;
+            Ok(())
         }
     }
 
@@ -319,29 +319,44 @@ impl<A: Allocator + Clone> HllSketch<A> {
         }
     }
 
-    /// What takes over from a table once it has a coupon more, none if it stays as large as it is. Registers stay.
-    fn next(&self, coupon: Coupon) -> Result<Option<Mode<A>>, Error>
-        requires { 1 ≤ value_of coupon }
-        ensures stays { IfOk result (λ next. IfNone next (holds_with self.now.layout coupon ≡ true)) }
-        ensures goes { IfOk result (λ next. IfSome next (λ mode.
-            content_in (layout_of mode) ≡ content_with self.now.lg_k (content_in self.now.layout) (set_of (coupon ∷ [])))) }
-        ensures layout { IfOk result (λ next. IfSome next (λ mode. IsLayoutFor self.now.lg_k (layout_of mode))) }
-        ensures width { IfOk result (λ next. IfSome next (λ mode. width_of (layout_of mode) ≡ width_of self.now.layout)) }
+    /// Whether a table stays as large as it is with a coupon more. Registers always do.
+    fn holds_with(&self, coupon: Coupon) -> bool
+        ensures { result ≡ holds_with self.now.layout coupon }
+    {
+        match &self.mode {
+            Mode::List { list, .. } => {
+                let table = list.container();
+                let count = table.len() + usize::from(!list.contains(coupon));
+                holds(table.lg_size() as u8, count)
+            }
+            Mode::Set { set, .. } => {
+                let table = set.container();
+                let count = table.len() + usize::from(!set.contains(coupon));
+                holds(table.lg_size() as u8, count)
+            }
+            Mode::Array4(_) | Mode::Array6(_) | Mode::Array8(_) => true,
+        }
+    }
+
+    /// What takes over from a table that a coupon more doesn't leave as large as it is.
+    fn next(&self, coupon: Coupon) -> Result<Mode<A>, Error>
+        requires valued { 1 ≤ value_of coupon }
+        requires leaves { holds_with self.now.layout coupon ≡ false }
+        ensures content { IfOk result (λ mode.
+            content_in (layout_of mode) ≡ content_with self.now.lg_k (content_in self.now.layout) (set_of (coupon ∷ []))) }
+        ensures layout { IfOk result (λ mode. IsLayoutFor self.now.lg_k (layout_of mode)) }
+        ensures width { IfOk result (λ mode. width_of (layout_of mode) ≡ width_of self.now.layout) }
         ensures needed { OnErr result (NeedsMemory self.now.lg_k self.now.layout coupon) }
         ensures err { IfErr result (λ e. e ≡ Memory) }
     {
         match &self.mode {
             Mode::List { list, hll_type } => {
-                let table = list.container();
-                let count = table.len() + usize::from(!list.contains(coupon));
-                next_of(self.lg_config_k, *hll_type, table, count, coupon)
+                next_of(self.lg_config_k, *hll_type, list.container(), coupon)
             }
             Mode::Set { set, hll_type } => {
-                let table = set.container();
-                let count = table.len() + usize::from(!set.contains(coupon));
-                next_of(self.lg_config_k, *hll_type, table, count, coupon)
+                next_of(self.lg_config_k, *hll_type, set.container(), coupon)
             }
-            Mode::Array4(_) | Mode::Array6(_) | Mode::Array8(_) => Ok(None),
+            Mode::Array4(_) | Mode::Array6(_) | Mode::Array8(_) => unreachable!(),
         }
     }
 

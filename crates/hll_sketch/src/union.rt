@@ -1,5 +1,5 @@
 //! Unions of sketches (docs/MODEL.md, "Merging").
-ghost use Rattle.std.specs.Prelude.{◌≡◌, ◌≤◌, ◌⊎◌, ◌↔◌, IsTrue, All, List, map, [], ◌∷◌, ◌++◌, fold, IfOk, IfErr, OnOk, OnErr};
+ghost use Rattle.std.specs.Prelude.{◌≡◌, ◌≢◌, ◌≤◌, ◌⊎◌, ◌↔◌, true, IsTrue, All, List, map, [], ◌∷◌, ◌++◌, fold, IfOk, IfErr, OnOk, OnErr};
 ghost use Rattle.hll_base.specs.declared.error.Reason.TheVariants.{Memory};
 ghost use Rattle.hll_base.specs.declared.error.Reason.TheVariants as reasons;
 ghost use Rattle.hll_base.specs.Hash.{hash_of, initial_state, after_piece, default_seed};
@@ -13,7 +13,7 @@ ghost use Rattle.hll_sketch.specs.Layout.{sketch_of, NeedsMemory};
 ghost use Rattle.hll_sketch.specs.Joined.{least_lg_k, IsJoinOf};
 ghost use Rattle.hll_sketch.specs.Merging.{merge, merge_all, empty_union};
 ghost use Rattle.hll_sketch.specs.Union.{gadget_of, MergeNeedsMemory};
-ghost use Rattle.hll_sketch.specs.Value.{Sketch, IsLgK, is_empty, size_of};
+ghost use Rattle.hll_sketch.specs.Value.{Sketch, IsLgK, in_registers, is_empty, size_of};
 
 use crate::sketch::HllSketch;
 use hll_base::error::Error;
@@ -151,6 +151,18 @@ impl<A: Allocator + Clone> HllUnion<A> {
         ensures err { IfErr result (λ e. e ≡ Memory) }
     {
         self.gadget.at_width(hll_type)
+    }
+
+    /// The gadget at a width, as `to_sketch`, without a copy of what stays as it is.
+    ///
+    /// Fails with `Memory`, only for registers of four and six bits.
+    pub fn into_sketch(self, hll_type: HllType) -> Result<HllSketch<A>, Error>
+        ensures ok { IfOk result (λ s. sketch_of s ≡ record (gadget_of self) { width = hll_type }) }
+        ensures needed { OnErr result ((in_registers (gadget_of self).content ≡ true) × (hll_type ≢ Hll8)) }
+        ensures err { IfErr result (λ e. e ≡ Memory) }
+    {
+        let HllUnion { gadget, .. } = self;
+        gadget.into_width(hll_type)
     }
 
     /// Forgets all: an empty list at the bound.

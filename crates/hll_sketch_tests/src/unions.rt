@@ -44,6 +44,7 @@ fn widths_and_orders(rt: HostRuntime) -> Result<(), Fail> {
                     "{first} {second} {least}"
                 );
                 assert!(rt; turned.to_sketch(HllType::Hll8)? == wanted);
+                assert!(rt; turned.to_sketch(hll_type)? == turned.into_sketch(hll_type)?);
             }
         }
     }

@@ -28,6 +28,11 @@ module _ (p : ℕ → Bool) (xs : List ℕ) where
       let above : nat_lt (length xs) (length xs) ≡ false = grind (arith, nat_tests) in
       sym ((λ j. cond (nat_lt (at j) (length xs)) (Some (at j)) None) ∙ ap (λ b. cond b (Some (length xs)) None) above)
 
+  pub passes_at : (i : ℕ) → position p xs ≡ Some i → p (get_or xs i 0) ≡ true
+  passes_at i e =
+      let h = some_of _ _ i e in
+      subst (λ j. p (get_or xs j 0) ≡ true) h.1 (passes_at_first p xs 0 (ltb-true _ _ h.0))
+
   -- ---- the bytes from an index on
 
   module _ (n : ℕ) (before : NoneBefore n) where

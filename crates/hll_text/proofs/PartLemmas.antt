@@ -49,6 +49,9 @@ module _ (mark : ℕ) where
 pub words-some : (xs : List ℕ) (i : ℕ) → position (λ b. nat_eq b 32) xs ≡ Some i → words xs ≡ take i xs ∷ words (drop (i + 1) xs)
 words-some xs i e = (parts-some 32 xs i e).0
 
+pub words-within : (xs : List ℕ) (i : ℕ) → position (λ b. nat_eq b 32) xs ≡ Some i → i < length xs
+words-within xs i e = (parts-some 32 xs i e).1
+
 pub words-none : (xs : List ℕ) → position (λ b. nat_eq b 32) xs ≡ None → words xs ≡ xs ∷ []
 words-none = parts-none 32
 

@@ -1,12 +1,12 @@
 -- The text of a plan: its lines, its words, and what a line says (docs/PLAN.md, "The text").
 use Rattle.std.specs.Prelude as std
-use Rattle.std.specs.Prelude.{ℕ, ◌≡◌, ◌⊎◌, IfErr, ◌+◌, ◌-◌, ◌*◌, ◌^◌, min, Bool, false, ◌&&◌, ◌==◌, nat_lt, nat_le, nat_eq, if◌then◌else◌, List, [], ◌∷◌, length, Option, Some, None, Result, Ok, Err, codes}
+use Rattle.std.specs.Prelude.{ℕ, ◌≡◌, ◌⊎◌, IfErr, ◌+◌, ◌-◌, ◌*◌, ◌^◌, min, Bool, false, ◌&&◌, ◌==◌, nat_lt, nat_le, nat_eq, if◌then◌else◌, List, [], ◌∷◌, ◌++◌, length, Option, Some, None, Result, Ok, Err, codes}
 use Rattle.std.specs.List.{slice_split, list_all}
 use Rattle.std.specs.Result.{result_map_both}
 use Rattle.std.specs.Str.{bytes_eq}
 use Rattle.std.specs.Str.Lines.{strip_carriage_return}
 use Rattle.std.specs.Char.{is_ascii_digit}
-use Rattle.hex.specs.Hex.{decode_of}
+use Rattle.hex.specs.Hex.{decode_of, encode_lower}
 use Rattle.hll_coupons.specs.declared.hll_type.HllType.{HllType}
 use Rattle.hll_coupons.specs.declared.hll_type.HllType.TheVariants.{Hll4, Hll6, Hll8}
 use Rattle.hll_text.specs.declared.fault.Fault.{Fault}
@@ -69,6 +69,11 @@ is_number word = (nat_le 1 (length word) && nat_le (length word) 8) && list_all 
 
 abbrev pub number : List ℕ → Result ℕ Fault
 number word = if is_number word then Ok (decimal_value word) else Err Syntax
+
+-- the first of some words, as a number
+abbrev pub first_number : List (List ℕ) → Result ℕ Fault
+first_number [] = Err Syntax
+first_number (word ∷ more) = number word
 
 -- one word, which is a number
 abbrev pub one_number : List (List ℕ) → Result ℕ Fault
@@ -193,3 +198,9 @@ FaultsOfLines = (line : List ℕ) → IfErr (reading line) IsLineFault
 abbrev pub names_image : List (List ℕ) → Bool
 names_image [] = false
 names_image (first ∷ more) = bytes_eq first (codes "image")
+
+-- ---- the answer
+
+-- what is printed for the bytes of an image: lower-case hexadecimal and LF
+abbrev pub printed_line : List ℕ → List ℕ
+printed_line bytes = encode_lower bytes ++ 10 ∷ []

@@ -1,5 +1,5 @@
 //! Reading one line of a plan.
-ghost use Rattle.std.specs.Prelude.{◌≡◌, ◌⊎◌, ◌∷◌, true, Err, IfOk, IfSome};
+ghost use Rattle.std.specs.Prelude.{◌/◌, ◌<◌, ◌≡◌, ◌⊎◌, ◌∷◌, length, true, Err, IfOk, IfSome};
 ghost use Rattle.std.specs.Option.{option_copied};
 ghost use Rattle.hll_text.specs.declared.fault.Fault.TheVariants.{Memory};
 ghost use Rattle.hll_text.specs.Step.{step_reading_of, line_reading_of, image_of, step_of, ReadsAs, IsInRange, IfImage, IfStep};
@@ -70,12 +70,13 @@ fn read_words<'l, A: Allocator>(first: &[u8], rest: Option<&'l [u8]>) -> Result<
 /// The bytes of an image, from its digits, in a buffer that serves line after line.
 ///
 /// What the buffer held is lost; it grows to the longest image and keeps its size. `Hex` where the word is not an even
-/// number of hexadecimal digits, `Memory` where a larger buffer is refused.
+/// number of hexadecimal digits, `Memory` where a larger buffer is refused, never where the bytes have room.
 pub fn decode_into<'b, A: Allocator>(
     buffer: &'b mut Vec<u8, A>,
     digits: &[u8],
 ) -> Result<&'b [u8], Fault>
-    ensures { (image_of result ≡ plan.image_step digits.now) ⊎ (result ≡ Err Memory) }
+    ensures image { (image_of result ≡ plan.image_step digits.now) ⊎ (result ≡ Err Memory) }
+    ensures needed { result ≡ Err Memory → length buffer.old.items < length digits.now / 2 }
 {
     let size = digits.len() / 2;
     if buffer.len() < size {

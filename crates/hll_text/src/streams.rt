@@ -1,6 +1,8 @@
-//! Writing all of some bytes.
-ghost use Rattle.std.specs.Prelude.{◌≡◌, ◌<◌, ℕ, length, true, take, OnOk, IfErr};
+//! Writing all of some bytes, or what is printed for them.
+ghost use Rattle.std.specs.Prelude.{◌≡◌, ◌≤◌, ◌<◌, ℕ, length, true, take, OnOk, IfErr};
 ghost use Rattle.std.specs.Io.KnownBytes.{Appends};
+ghost use Rattle.hex.specs.Hex.{encode_lower};
+ghost use Rattle.hll_text.specs.Text.{printed_line};
 ghost use Rattle.hll_text.specs.declared.fault.Fault.TheVariants.{Write};
 
 use crate::fault::Fault;
@@ -21,4 +23,40 @@ pub fn write_all<W: io::Write>(writer: &mut Watched<W>, bytes: &[u8]) -> Result<
         sent += writer.write(&bytes[sent..])?;
     }
     Ok(())
+}
+
+/// How many bytes are written as digits at once.
+const PIECE: usize = 16384;
+
+/// Writes bytes as lower-case hexadecimal and LF, piece by piece through a buffer of its own.
+///
+/// `Write` where the writer fails: then it took only a prefix of the line, which may be empty. Takes no memory, apart
+/// from what the stream's own writes take.
+pub fn write_hex_line<W: io::Write>(writer: &mut Watched<W>, bytes: &[u8]) -> Result<(), Fault>
+    ensures ok { OnOk result (Appends (W.contents writer.old.inner) (W.contents writer.new.inner) (printed_line bytes.now) × (writer.new.failed ≡ writer.old.failed)) }
+    ensures err { IfErr result (λ e. (e ≡ Write) × (writer.new.failed ≡ true)
+        × (n : ℕ) × (n < length (printed_line bytes.now)) × Appends (W.contents writer.old.inner) (W.contents writer.new.inner) (take n (printed_line bytes.now))) }
+{
+    let mut shown = 0;
+    while shown < bytes.len() {
+        let size = PIECE.min(bytes.len() - shown);
+        write_digits(writer, &bytes[shown..shown + size])?;
+        shown += size;
+    }
+    write_all(writer, b"\n")
+}
+
+/// Writes at most a piece of bytes as digits.
+fn write_digits<W: io::Write>(writer: &mut Watched<W>, bytes: &[u8]) -> Result<(), Fault>
+    requires { length bytes.now ≤ 16384 }
+    ensures ok { OnOk result (Appends (W.contents writer.old.inner) (W.contents writer.new.inner) (encode_lower bytes.now) × (writer.new.failed ≡ writer.old.failed)) }
+    ensures err { IfErr result (λ e. (e ≡ Write) × (writer.new.failed ≡ true)
+        × (n : ℕ) × (n < length (encode_lower bytes.now)) × Appends (W.contents writer.old.inner) (W.contents writer.new.inner) (take n (encode_lower bytes.now))) }
+{
+    let mut buffer = [0u8; 2 * PIECE];
+    let digits = &mut buffer[..2 * bytes.len()];
+    match hex::encode_to_slice(bytes, digits) {
+        Ok(()) => write_all(writer, digits),
+        Err(_) => unreachable!(),
+    }
 }

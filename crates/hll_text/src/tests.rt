@@ -5,7 +5,7 @@ use crate::fault::{Fault, MergeError};
 use crate::lines::{line_end, lines_of_cuts, next_ended, without_return};
 use crate::reading::{decode_into, faults_of_lines, read_step};
 use crate::step::{ImageBytes, Step};
-use crate::streams::write_all;
+use crate::streams::{write_all, write_hex_line};
 use crate::watched::Watched;
 use hll_coupons::hll_type::HllType;
 use linked_list_allocator::LocalHeap;
@@ -164,6 +164,42 @@ fn refused_memory(rt: HostRuntime) -> Result<(), Fail> {
         decode_into(&mut Vec::new(&heap), &line[6..]),
         Err(Fault::Memory)
     );
+    Ok(())
+}
+
+/// Digits and LF, in pieces where they are many; a front of them where the stream has no room for more.
+#[test]
+fn hex_lines(rt: HostRuntime) -> Result<(), Fail> {
+    for count in [0usize, 1, 16383, 16384, 16385, 40000] {
+        let bytes = vec![in rt.alloc(); 0xa5u8; count]?;
+        for room in [0, 1, 2 * count, 2 * count + 1, 2 * count + 9] {
+            let mut taken = Vec::new(rt.alloc());
+            let mut writer = Watched::new(Narrow {
+                taken: &mut taken,
+                room,
+                fails: true,
+            });
+            let result = write_hex_line(&mut writer, &bytes);
+            drop(writer);
+            let (digits, end) = taken.split_at(taken.len().min(2 * count));
+            assert_eq!(rt;
+                result,
+                if room <= 2 * count {
+                    Err(Fault::Write)
+                } else {
+                    Ok(())
+                }
+            );
+            assert_eq!(rt; taken.len(), room.min(2 * count + 1));
+            assert!(rt;
+                digits
+                    .iter()
+                    .enumerate()
+                    .all(|(place, digit)| *digit == b"a5"[place % 2])
+            );
+            assert!(rt; b"\n".starts_with(end));
+        }
+    }
     Ok(())
 }
 

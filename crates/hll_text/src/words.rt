@@ -1,10 +1,10 @@
 //! The words of a line, and the numbers among them.
-ghost use Rattle.std.specs.Prelude.{◌≡◌, ◌∷◌, ◌==◌, [], true, position, MatchResult, Ok, Err};
+ghost use Rattle.std.specs.Prelude.{◌≡◌, ◌<◌, ◌≤◌, ◌∷◌, ◌==◌, [], ℕ, List, length, slice_index, take, true, false, position, MatchResult, Ok, Err};
 ghost use Rattle.std.specs.List.{list_all};
 ghost use Rattle.std.specs.Option.{option_copied};
 ghost use Rattle.std.specs.Char.{is_ascii_digit};
 ghost use Rattle.hll_text.specs.Text as plan;
-ghost use Rattle.hll_text.specs.Text.{words, words_after, decimal_value, number};
+ghost use Rattle.hll_text.specs.Text.{words, words_after, decimal_value, number, first_number};
 ghost use Rattle.hll_text.specs.Step.{word_of};
 ghost use Rattle.hll_text.specs.declared.fault.Fault.TheVariants.{Syntax};
 
@@ -21,25 +21,57 @@ pub(crate) fn split_word(line: &[u8]) -> (&[u8], Option<&[u8]>)
     }
 }
 
-/// The next word after a space, and what follows the space after it. `Syntax` where there is no space.
-fn next_word(rest: Option<&[u8]>) -> Result<(&[u8], Option<&[u8]>), Fault>
+/// The number after a space, which ends at the next space or with the line, and what follows that space. `Syntax` where
+/// there is no space, or no number after it.
+fn next_number(rest: Option<&[u8]>) -> Result<(u32, Option<&[u8]>), Fault>
     ensures { MatchResult result
-        (λ r. words_after (option_copied rest.entry) ≡ r.0.now ∷ words_after (option_copied r.1))
-        (λ e. (words_after (option_copied rest.entry) ≡ []) × (e ≡ Syntax)) }
+        (λ r. (word : List ℕ) × (words_after (option_copied rest.entry) ≡ word ∷ words_after (option_copied r.1)) × (number word ≡ Ok r.0))
+        (λ e. (first_number (words_after (option_copied rest.entry)) ≡ Err Syntax) × (e ≡ Syntax)) }
 {
-    match rest {
-        Some(line) => Ok(split_word(line)),
-        None => Err(Fault::Syntax),
+    let Some(text) = rest else {
+        return Err(Fault::Syntax);
+    };
+    let (value, digits) = leading_number(text);
+    if digits == 0 {
+        Err(Fault::Syntax)
+    } else if digits == text.len() {
+        Ok((value, None))
+    } else if text[digits] == b' ' {
+        Ok((value, Some(&text[digits + 1..])))
+    } else {
+        Err(Fault::Syntax)
     }
+}
+
+/// The value of the digits that a text begins with, at most eight, and how many these are.
+fn leading_number(text: &[u8]) -> (u32, usize)
+    ensures digits { list_all is_ascii_digit (take result.1 text.now) ≡ true }
+    ensures value { result.0 ≡ decimal_value (take result.1 text.now) }
+    ensures few { result.1 ≤ 8 }
+    ensures within { result.1 ≤ length text.now }
+    ensures ends { result.1 < 8 → result.1 < length text.now → is_ascii_digit (slice_index text.now result.1) ≡ false }
+{
+    let most = text.len().min(8);
+    let mut value: u32 = 0;
+    let mut count = 0;
+    while count < most {
+        let byte = text[count];
+        if !byte.is_ascii_digit() {
+            return (value, count);
+        }
+        value = 10 * value + u32::from(byte - b'0');
+        count += 1;
+    }
+    (value, count)
 }
 
 /// The number after a space. `Syntax` where there is not just one word, which is a number.
 pub(crate) fn one_number(rest: Option<&[u8]>) -> Result<u32, Fault>
     ensures { result ≡ plan.one_number (words_after (option_copied rest.entry)) }
 {
-    let (word, rest) = next_word(rest)?;
+    let (number, rest) = next_number(rest)?;
     match rest {
-        None => read_number(word),
+        None => Ok(number),
         Some(_) => Err(Fault::Syntax),
     }
 }
@@ -48,10 +80,10 @@ pub(crate) fn one_number(rest: Option<&[u8]>) -> Result<u32, Fault>
 pub(crate) fn two_numbers(rest: Option<&[u8]>) -> Result<(u32, u32), Fault>
     ensures { result ≡ plan.two_numbers (words_after (option_copied rest.entry)) }
 {
-    let (first, rest) = next_word(rest)?;
-    let (second, rest) = next_word(rest)?;
+    let (first, rest) = next_number(rest)?;
+    let (second, rest) = next_number(rest)?;
     match rest {
-        None => Ok((read_number(first)?, read_number(second)?)),
+        None => Ok((first, second)),
         Some(_) => Err(Fault::Syntax),
     }
 }
@@ -60,8 +92,7 @@ pub(crate) fn two_numbers(rest: Option<&[u8]>) -> Result<(u32, u32), Fault>
 pub(crate) fn three_numbers(rest: Option<&[u8]>) -> Result<(u32, u32, u32), Fault>
     ensures { result ≡ plan.three_numbers (words_after (option_copied rest.entry)) }
 {
-    let (word, rest) = next_word(rest)?;
-    let first = read_number(word)?;
+    let (first, rest) = next_number(rest)?;
     let (second, third) = two_numbers(rest)?;
     Ok((first, second, third))
 }
@@ -80,21 +111,4 @@ pub(crate) fn one_word(rest: Option<&[u8]>) -> Result<&[u8], Fault>
         None => Ok(word),
         Some(_) => Err(Fault::Syntax),
     }
-}
-
-/// The number that a word writes in 1 to 8 decimal digits, in one pass. `Syntax` for any other word.
-fn read_number(word: &[u8]) -> Result<u32, Fault>
-    ensures { result ≡ number word.now }
-{
-    if word.is_empty() || word.len() > 8 {
-        return Err(Fault::Syntax);
-    }
-    let mut value: u32 = 0;
-    for digit in word {
-        if !digit.is_ascii_digit() {
-            return Err(Fault::Syntax);
-        }
-        value = 10 * value + u32::from(*digit - b'0');
-    }
-    Ok(value)
 }

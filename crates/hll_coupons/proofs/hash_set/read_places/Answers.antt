@@ -1,18 +1,15 @@
-use Rattle.std.proofs.Common.{arith, ℕ, ◌≡◌, ◌≤◌, ◌∙◌, true, false, sym, ap, subst, inl, inr}
+use Rattle.std.proofs.Common.{arith, ℕ, ◌≡◌, ◌≤◌, ◌∙◌, true, false, sym, ap, subst}
 use Rattle.std.specs.FinSet.{contains, insert}
-use Rattle.std.proofs.lemmas.Bool.{cases_Bool, true≢false}
+use Rattle.std.proofs.lemmas.Bool.{true≢false}
 use Rattle.hll_coupons.specs.Coupons.{AreCoupons}
-use Rattle.hll_coupons.specs.Pair.{Pairs, value_of}
+use Rattle.hll_coupons.specs.Pair.{value_of}
 use Rattle.hll_coupons.specs.Probe.{Puts}
 use Rattle.hll_coupons.specs.Table.{coupons_of}
+use Rattle.hll_coupons.proofs.Members.{member_unless_lacking}
 use Rattle.hll_coupons.proofs.Reading.{no_value, twice}
 use Rattle.hll_coupons.proofs.SetReading.{read_none, read_over, read_word, read_more}
 use Rattle.hll_coupons.proofs.hash_set.read_places.Goals as goal
 use Rattle.hll_coupons.proofs.hash_set.read_places.Goals.{else-is_empty-via-then-is_empty+else-not-compact, else-is_empty-via-else-is_empty, then-value-eq0-via-then-value-eq0, then-value-eq0-via-else-value-eq0+then-not-insert}
-
--- what is not lacking is there
-held : (S : Pairs) (c : ℕ) → (contains S c ≡ false → ⊥) → contains S c ≡ true
-held S c h = elim (cases_Bool (contains S c)) [ inl t ↦ t | inr f ↦ absurd (h f) ]
 
 pub loop-init : goal.loop-init
 loop-init g c = read_none c.args.compact c.args.places c.args.set.now c.args.cursor c.requires.small c.requires.none c.requires.there
@@ -38,7 +35,7 @@ returns-then-value-eq0-clause-err g c =
       λ are. elim c.then-value-eq0.branch [
         | then-value-eq0-via-then-value-eq0 v ↦ no_value so.order _ w (ap value_of (sym same) ∙ sym c.value.ensures.value ∙ v.if-value-eq0.true) (subst AreCoupons all are)
         | then-value-eq0-via-else-value-eq0+then-not-insert v ↦
-            let there : contains (coupons_of c.loop.set) c.from_raw-coupon.result ≡ true = held (coupons_of c.loop.set) c.from_raw-coupon.result (λ none. true≢false (sym (v.insert.ensures.new.1 none) ∙ v.if-not-insert.true)) in
+            let there : contains (coupons_of c.loop.set) c.from_raw-coupon.result ≡ true = member_unless_lacking (coupons_of c.loop.set) c.from_raw-coupon.result (λ none. true≢false (sym (v.insert.ensures.new.1 none) ∙ v.if-not-insert.true)) in
             twice so.order _ w ((λ i. contains (sym so.members i) (sym same i)) ∙ there) (subst AreCoupons all are)
       ],
     )

@@ -5,10 +5,11 @@ use Rattle.std.proofs.lemmas.List.{length-append, length-drop}
 use Rattle.hll_coupons.specs.Pair.{value_of}
 use Rattle.hll_coupons.specs.Table.{Table, coupons_in, filled_from_front, empty_table, coupons_with, coupons_of}
 use Rattle.hll_coupons.specs.Coupons.{coupons_at, AreCoupons}
+use Rattle.hll_coupons.proofs.Members.{member_unless_lacking}
 use Rattle.hll_coupons.proofs.Places.{coupons_in-replicate}
 use Rattle.hll_coupons.proofs.Reading.{all_places, passed_over, no_value, twice, AreCoupons-push, AreCoupons-nil}
 use Rattle.hll_coupons.proofs.list.read_places.Goals as goal
-use Rattle.hll_coupons.proofs.list.read_places.Goals.{else-is_empty-via-then-is_empty+else-not-compact, else-is_empty-via-else-is_empty, then-value-eq0-via-then-value-eq0, then-value-eq0-via-else-value-eq0+then-contains}
+use Rattle.hll_coupons.proofs.list.read_places.Goals.{else-is_empty-via-then-is_empty+else-not-compact, else-is_empty-via-else-is_empty, then-value-eq0-via-then-value-eq0, then-value-eq0-via-else-value-eq0+then-not-insert}
 
 -- no coupon, filled from the front
 empty_filled : (lg : ℕ) → empty_table lg ≡ filled_from_front lg []
@@ -60,7 +61,9 @@ returns-then-value-eq0-clause-err g c =
       c.new.ensures,
       λ are. elim c.then-value-eq0.branch [
         | then-value-eq0-via-then-value-eq0 v ↦ no_value (coupons_in c.loop.list.places) rest w (ap value_of (sym same) ∙ sym c.value.ensures.value ∙ v.if-value-eq0.true) (subst AreCoupons all are)
-        | then-value-eq0-via-else-value-eq0+then-contains v ↦ twice (coupons_in c.loop.list.places) rest w (ap (contains (coupons_of c.loop.list)) (sym same) ∙ sym v.contains.ensures ∙ v.if-contains.true) (subst AreCoupons all are)
+        | then-value-eq0-via-else-value-eq0+then-not-insert v ↦
+            let there : contains (coupons_of c.loop.list) c.from_raw-coupon.result ≡ true = member_unless_lacking (coupons_of c.loop.list) c.from_raw-coupon.result (λ none. true≢false (sym (v.insert.ensures.new.1 none) ∙ v.if-not-insert.true)) in
+            twice (coupons_in c.loop.list.places) rest w (ap (contains (coupons_of c.loop.list)) (sym same) ∙ there) (subst AreCoupons all are)
       ],
     )
 
@@ -78,16 +81,16 @@ loop-preserved g c =
     let all : coupons_at c.args.compact c.args.places c.args.cursor ≡ order ++ w ∷ rest =
     all_places c.args.compact c.args.places c.loop.counter w c.loop.cursor c.read_u32_le.new.self (coupons_at c.args.compact c.args.places c.args.cursor) order c.loop-test.true inv.read word.1 word.2 filled in
     let same : c.from_raw-coupon.result ≡ w = c.from_raw-coupon.ensures in
-    let new : contains (coupons_of c.loop.list) c.from_raw-coupon.result ≡ false = sym c.contains.ensures ∙ c.if-contains.false in
+    let new : contains (coupons_of c.loop.list) c.from_raw-coupon.result ≡ false = c.insert.ensures.new.0 c.if-not-insert.false in
     let came : coupons_with order c.from_raw-coupon.result ≡ order ++ w ∷ [] =
     cond-false (contains (coupons_of c.loop.list) c.from_raw-coupon.result) order (order ++ c.from_raw-coupon.result ∷ []) new ∙ ap (λ z. order ++ z ∷ []) same in
-    let held_new : coupons_in c.update.new.self.places ≡ order ++ w ∷ [] = c.update.ensures.order ∙ came in
-    let lg : c.update.new.self.lg_size ≡ c.loop.list.lg_size = ap (λ (t : Table). t.lg_size) c.update.ensures.places in
+    let held_new : coupons_in c.insert.new.self.places ≡ order ++ w ∷ [] = c.insert.ensures.order ∙ came in
+    let lg : c.insert.new.self.lg_size ≡ c.loop.list.lg_size = ap (λ (t : Table). t.lg_size) c.insert.ensures.places in
     record {
       read = all ∙ sym (append_assoc order (w ∷ []) rest) ∙ ap (λ xs. xs ++ rest) (sym held_new);
       room = omega (arith, inv.room, ap length word.2, length-drop 4 c.loop.cursor, c.loop-test.true);
       size = lg ∙ inv.size;
       few = omega (arith, inv.few, ap length held_new, length-append order (w ∷ []));
-      front = c.update.ensures.places ∙ (λ i. filled_from_front (sym lg i) (sym c.update.ensures.order i));
+      front = c.insert.ensures.places ∙ (λ i. filled_from_front (sym lg i) (sym c.insert.ensures.order i));
       are = subst AreCoupons (sym held_new) (AreCoupons-push order w inv.are (let v : 1 ≤ value_of w = omega (arith, c.if-value-eq0.false, c.value.ensures.value, ap value_of same) in v) (ap (contains (coupons_of c.loop.list)) (sym same) ∙ new));
     }

@@ -1,5 +1,6 @@
 use Rattle.std.proofs.Common.{◌≡◌, ◌∙◌, inl, inr, sym, subst, refl}
 use Rattle.std.proofs.KnownBytes.{Keeps-refl}
+use Rattle.hll_text.specs.Text.{printed_line}
 use Rattle.hll_merge.specs.Run.{IsAnswer, IsRefused}
 use Rattle.hll_merge.proofs.FeedingLemmas.{Gone, gone}
 use Rattle.hll_merge.proofs.RunLemmas.{all_of, refused_with, fault_of_fed, Whole, whole_of, first_of_front}
@@ -30,12 +31,12 @@ returns-in_err-feed_all g c =
           }))
     ])
 
-pub returns-in_err-answer : goal.returns-in_err-answer
-returns-in_err-answer g c =
+pub returns-in_err-image : goal.returns-in_err-image
+returns-in_err-image g c =
     let reader : c.feed_all.new.reader.failed ≡ _ = sym c.failed.ensures ∙ c.if-failed.false in
     let fed = c.feed_all.ensures.fed in
     let ok = c.in_ok-feed_all.ensures.ok in
-    refused_with _ (IsRefused _) c.from_residual-in_err-answer.result c.in_err-answer.field-0.0 c.from_residual-in_err-answer.ensures.1 (elim (c.in_err-answer.ensures ok.0 fed.0 fed.2) [
+    refused_with _ (IsRefused _) c.from_residual-in_err-image.result c.in_err-image.field-0.0 c.from_residual-in_err-image.ensures.1 (elim (c.in_err-image.ensures ok.0 fed.0 fed.2) [
       | inl m ↦ inl (record { fault = m; writer = c.requires.writer_works; unwritten = Keeps-refl _ })
       | inr f ↦ inr (inl (record {
         reader = reader;
@@ -54,7 +55,7 @@ returns-in-Ok g c =
     let reader : c.feed_all.new.reader.failed ≡ _ = sym c.failed.ensures ∙ c.if-failed.false in
     let fed = c.feed_all.ensures.fed in
     let ok = c.in_ok-feed_all.ensures.ok in
-    let found = c.in_ok-answer.ensures ok.0 fed.0 fed.2 in
+    let found = c.in_ok-image.ensures ok.0 fed.0 fed.2 in
     let written = c.in-Ok.ensures.ok in
     record {
       reader = reader;
@@ -62,8 +63,8 @@ returns-in-Ok g c =
       text = fed.0;
       read = fed.1;
       whole = ok.1 reader;
-      line = c.as_bytes.result.now;
-      answer = subst (λ bytes. IsAnswer fed.0 bytes) (sym c.as_bytes.ensures.value) found.0;
+      line = printed_line c.deref.result.now;
+      answer = subst (λ bytes. IsAnswer fed.0 (printed_line bytes)) (sym c.deref.ensures.value) found.0;
       written = written.0;
     }
 
@@ -86,7 +87,7 @@ returns g c =
     let reader : c.feed_all.new.reader.failed ≡ _ = sym c.failed.ensures ∙ c.if-failed.false in
     let fed = c.feed_all.ensures.fed in
     let ok = c.in_ok-feed_all.ensures.ok in
-    let found = c.in_ok-answer.ensures ok.0 fed.0 fed.2 in
+    let found = c.in_ok-image.ensures ok.0 fed.0 fed.2 in
     let failed = c.in-Err.ensures.err in
     subst (IsRefused _) (sym c.at-in-Err.ensures) (inr (inr (inr (record {
       fault = failed.0;
@@ -96,8 +97,8 @@ returns g c =
       read = fed.1;
       whole = ok.1 reader;
       at = found.1;
-      line = c.as_bytes.result.now;
-      answer = subst (λ bytes. IsAnswer fed.0 bytes) (sym c.as_bytes.ensures.value) found.0;
+      line = printed_line c.deref.result.now;
+      answer = subst (λ bytes. IsAnswer fed.0 (printed_line bytes)) (sym c.deref.ensures.value) found.0;
       sent = failed.2;
       short = failed.3;
       written = failed.4;

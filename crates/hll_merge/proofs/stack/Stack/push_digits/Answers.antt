@@ -10,7 +10,7 @@ use Rattle.hll_merge.proofs.stack.Stack.push_digits.Goals as goal
 pub returns-in_err-sketch-clause-err : goal.returns-in_err-sketch-clause-err
 returns-in_err-sketch-clause-err g c =
     let bytes : List ℕ = c.in_ok-bytes.bytes.now in
-    let read : image_reading c.args.digits.now ≡ Ok (Some (image bytes)) = elim c.in_ok-bytes.ensures [ inl same ↦ ap as_reading (sym same) | inr full ↦ absurd (cc) ] in
+    let read : image_reading c.args.digits.now ≡ Ok (Some (image bytes)) = elim c.in_ok-bytes.ensures.image [ inl same ↦ ap as_reading (sym same) | inr full ↦ absurd (cc) ] in
     IfErr-passed _ c.from_residual-in_err-sketch.result (fault_of c.in_err-sketch.field-0.0) c.from_residual-in_err-sketch.ensures.1
     (faults-step image_reading c.args.self.now c.args.digits.now (image bytes) read (fault_of c.in_err-sketch.field-0.0)
     (λ ts h. elim c.in_err-sketch.ensures.order [ inl m ↦ inl (ap fault_of m) | inr f ↦ inr (fault_of-image ts bytes c.in_err-sketch.field-0.0 f) ]))
@@ -19,7 +19,7 @@ pub returns-clause-ok : goal.returns-clause-ok
 returns-clause-ok g c =
     let bytes : List ℕ = c.in_ok-bytes.bytes.now in
     let made : SketchLayout = c.in_ok-sketch.sketch in
-    let read : image_reading c.args.digits.now ≡ Ok (Some (image bytes)) = elim c.in_ok-bytes.ensures [ inl same ↦ ap as_reading (sym same) | inr full ↦ absurd (cc) ] in
+    let read : image_reading c.args.digits.now ≡ Ok (Some (image bytes)) = elim c.in_ok-bytes.ensures.image [ inl same ↦ ap as_reading (sym same) | inr full ↦ absurd (cc) ] in
     let is = c.in_ok-push.ensures.items ∙ ap (λ xs. xs ++ made ∷ []) c.self.view_is in
     gives-step image_reading c.args.self.now c.args.digits.now (image bytes) read c.push.new.self.items
     (subst (λ xs. StackCarries c.args.self.now (image bytes) xs) (sym is) (carries-image c.args.self.now bytes made c.in_ok-sketch.ensures.ok))
