@@ -24,7 +24,7 @@ SEED = 9001
 RUNS = 7
 OUT_OF_ORDER = 16
 LIST_HEADER = bytes([2, 1, 7, 10, 3, 8, 8, 8])
-COUPONS = [(5, 3), (0, 1), (67108863, 63), (12345, 42), (7, 7), (1000, 10), (99999, 21)]
+FEW_COUPONS = [(5, 3), (0, 1), (67108863, 63), (12345, 42), (7, 7), (1000, 10), (99999, 21)]
 
 
 def image_of(lg_k, flags, registers):
@@ -106,11 +106,32 @@ def union_of_lists(count):
     return "".join(lines) + "union %d 10 8\n" % count, None
 
 
-def coupon_lines(count):
-    """A plan of so many coupons for one sketch, and what it prints."""
-    lines = ["coupon %d %d\n" % coupon for coupon in COUPONS]
+def coupon_line(coupon):
+    return "coupon %d %d\n" % coupon
+
+
+def random_value(numbers):
+    """A value of 1 to 63, each half as likely as the one before."""
+    return 63 - numbers.getrandbits(62).bit_length()
+
+
+def random_coupons(count):
+    """A plan of so many random coupons for one sketch, and what it prints."""
+    numbers = random.Random(SEED)
+    registers = bytearray(1 << 12)
+    lines = ["new 12 8\n"]
+    for _ in range(count):
+        slot, value = numbers.randrange(1 << 26), random_value(numbers)
+        registers[slot % len(registers)] = max(registers[slot % len(registers)], value)
+        lines.append(coupon_line((slot, value)))
+    return "".join(lines), image_of(12, OUT_OF_ORDER, bytes(registers))
+
+
+def few_coupons(count):
+    """A plan of so many lines with the same few coupons for one sketch, and what it prints."""
+    lines = [coupon_line(coupon) for coupon in FEW_COUPONS]
     whole, rest = divmod(count, len(lines))
-    raws = sorted(value << 26 | slot for slot, value in COUPONS)
+    raws = sorted(value << 26 | slot for slot, value in FEW_COUPONS)
     image = bytes([2, 1, 7, 10, 3, 8, 7, 8]) + struct.pack("<7I", *raws)
     return "new 10 8\n" + "".join(lines) * whole + "".join(lines[:rest]), image
 
@@ -153,7 +174,8 @@ def main():
     measure(program, floor, "200,000 images of full lists, one union", union_of_lists(200000))
     measure(program, floor, "one image of lg_k 21 at 8 bits", union_of_registers(program, 1, 21, 8))
     for count in (1000, 1000000, 10000000):
-        measure(program, floor, "%s coupon lines" % format(count, ","), coupon_lines(count))
+        measure(program, floor, "%s random coupon lines" % format(count, ","), random_coupons(count))
+    measure(program, floor, "1,000,000 lines of seven coupons", few_coupons(1000000))
 
 
 if __name__ == "__main__":
