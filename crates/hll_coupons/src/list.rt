@@ -129,7 +129,7 @@ impl<A: Allocator> List<A> {
         ensures order { coupons_in self.new.places ≡ coupons_with (coupons_in self.old.places) coupon }
         ensures members { coupons_of self.new ≡ set.insert (coupons_of self.old) coupon }
     {
-        if self.container.contains(coupon) {
+        if self.contains(coupon) {
             return false;
         }
         let place = self.container.len();
@@ -137,11 +137,11 @@ impl<A: Allocator> List<A> {
         true
     }
 
-    /// Whether the list has the coupon. Looks at each place until it is found; takes no memory.
+    /// Whether the list has the coupon. Looks at each coupon until it is found; takes no memory.
     pub fn contains(&self, coupon: Coupon) -> bool
         ensures { result ≡ set.contains (coupons_of self.now) coupon }
     {
-        self.container.contains(coupon)
+        self.container.places()[..self.container.len()].contains(&coupon)
     }
 
     /// The places. Takes no memory.

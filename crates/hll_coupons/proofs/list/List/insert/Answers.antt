@@ -12,8 +12,8 @@ use Rattle.hll_coupons.proofs.list.List.insert.Goals as goal
 after : (g : Over) (c : goal.After-put g) → c.put.new.self ≡ filled_from_front c.args.self.now.lg_size (coupons_with (coupons_in c.args.self.now.places) c.args.coupon)
 after g c =
     let t : Table = c.self.inside.container in
-    let fresh : contains (coupons_of t) c.args.coupon ≡ false = sym c.contains.ensures ∙ c.if-contains.false in
-    let fresh_now : contains (coupons_of c.args.self.now) c.args.coupon ≡ false = ap (λ u. contains (coupons_of u) c.args.coupon) (sym c.self.view_is) ∙ fresh in
+    let fresh_now : contains (coupons_of c.args.self.now) c.args.coupon ≡ false = sym c.contains.ensures ∙ c.if-contains.false in
+    let fresh : contains (coupons_of t) c.args.coupon ≡ false = ap (λ u. contains (coupons_of u) c.args.coupon) c.self.view_is ∙ fresh_now in
     let room : length (coupons_in t.places) < 2 ^ t.lg_size = subst (λ (u : Table). length (coupons_in u.places) < 2 ^ u.lg_size) (sym c.self.view_is) (c.requires.room fresh_now) in
     c.put.ensures.places
     ∙ ap (λ n. record { lg_size = t.lg_size; places = slice_set t.places n c.args.coupon }) c.len-place.ensures.count
@@ -36,12 +36,12 @@ invariant_of-self g c =
 pub returns-then-contains-clause-new : goal.returns-then-contains-clause-new
 returns-then-contains-clause-new g c =
     let there : contains (coupons_of c.args.self.now) c.args.coupon ≡ true =
-    ap (λ t. contains (coupons_of t) c.args.coupon) (sym c.self.view_is) ∙ sym c.contains.ensures ∙ c.if-contains.true in
+    sym c.contains.ensures ∙ c.if-contains.true in
     (λ e. absurd (true≢false (sym e)), λ e. absurd (true≢false (sym there ∙ e)))
 
 pub returns-clause-new : goal.returns-clause-new
 returns-clause-new g c =
-    (λ e. ap (λ t. contains (coupons_of t) c.args.coupon) (sym c.self.view_is) ∙ sym c.contains.ensures ∙ c.if-contains.false, λ e. refl)
+    (λ e. sym c.contains.ensures ∙ c.if-contains.false, λ e. refl)
 
 pub returns-clause-places : goal.returns-clause-places
 returns-clause-places g c = after g c
@@ -55,5 +55,5 @@ returns-clause-members g c = ap set_of (order g c) ∙ set_of-coupons_with (coup
 pub returns-then-contains-clause-members : goal.returns-then-contains-clause-members
 returns-then-contains-clause-members g c =
     let member : contains (coupons_of c.args.self.now) c.args.coupon ≡ true =
-    ap (λ t. contains (coupons_of t) c.args.coupon) (sym c.self.view_is) ∙ sym c.contains.ensures ∙ c.if-contains.true in
+    sym c.contains.ensures ∙ c.if-contains.true in
     sym (insert-member (coupons_of c.args.self.now) c.args.coupon member)
