@@ -22,7 +22,7 @@ const READ_SIZE: usize = 65536;
 /// Neither stream may have failed before. What is said of bytes presupposes streams whose bytes are known.
 ///
 /// Each piece that the reader gives is carried out at once: memory is taken for the stack of sketches, for a line that is
-/// not whole in a piece, and for the bytes of one image. A refusal is `Memory` where memory was refused
+/// not whole in a piece, and for the bytes of an image that is read or written. A refusal is `Memory` where memory was refused
 /// (its line is free), the first fault of the text with its line, `Read` where the reader failed, or `Write` where the
 /// writer failed. Nothing is written on a refusal, but for a front of the answer with `Write`.
 pub fn run<A: Allocator + Clone, R: io::Read, W: io::Write>(

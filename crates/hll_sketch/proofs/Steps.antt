@@ -137,11 +137,6 @@ AtMost-with t c n table within room count =
       λ low. omega (arith, count, more, table.distinct, room low),
     )
 
--- the next size has room for them
-pub room_after : (k : ℕ) (t : Table) (c n : ℕ) → IsTable t → IsSize k t.lg_size → AtMost t.lg_size n → n ≡ len (insert (coupons_of t) c) →
-    length (coupons_in t.places) < 2 ^ size_after t.lg_size
-room_after k t c n table size few count = omega (arith, fewer k t.lg_size n size few, count, len-insert_ge (coupons_of t) c, table.distinct)
-
 pub one_step_suffices : OneStepSuffices
 one_step_suffices = record {
   stays = stage_stays;

@@ -10,13 +10,6 @@ use Rattle.hll_text.specs.Text.{words, decimal_value, is_number, number, first_n
 use Rattle.hll_text.proofs.ByteLemmas.{found, not_found, passes_at}
 use Rattle.hll_text.proofs.PartLemmas.{words-some, words-none, words-within}
 
--- one to eight digits are a number
-pub number_of_digits : (word : List ℕ) → 0 < length word → length word ≤ 8 → list_all is_ascii_digit word ≡ true → number word ≡ Ok (decimal_value word)
-number_of_digits word some few digits =
-    cond-true (is_number word) (Ok (decimal_value word)) (Err Syntax)
-    (and_from (nat_le 1 (length word) && nat_le (length word) 8) (list_all is_ascii_digit word)
-    (and_from (nat_le 1 (length word)) (nat_le (length word) 8) (le-leb 1 (length word) (omega arith)) (le-leb (length word) 8 few)) digits)
-
 -- a word that goes on after its first digits is none, if a byte that is no digit comes next, or a ninth one
 pub no_number : (word : List ℕ) (n : ℕ) → n < length word → n ≤ 8 → (n < 8 → is_ascii_digit (get_or word n 0) ≡ false) → number word ≡ Err Syntax
 no_number word n more few ends = cond-false (is_number word) (Ok (decimal_value word)) (Err Syntax) (elim (cases_lt n 8) [
@@ -40,6 +33,15 @@ module _ (xs : List ℕ) (n : ℕ) (within : n ≤ length xs) (digits : list_all
 
   no_space : (k : ℕ) → k < n → nat_eq (get_or xs k 0) 32 ≡ false
   no_space k h = digit_is_no_space (get_or xs k 0) (digit_at k h)
+
+  -- one to eight digits are a number
+  pub number_of_digits : 0 < n → n ≤ 8 → number (take n xs) ≡ Ok (decimal_value (take n xs))
+  number_of_digits some few =
+      let word : List ℕ = take n xs in
+      let long : length word ≡ n = length-take-le n xs within in
+      cond-true (is_number word) (Ok (decimal_value word)) (Err Syntax)
+      (and_from (nat_le 1 (length word) && nat_le (length word) 8) (list_all is_ascii_digit word)
+      (and_from (nat_le 1 (length word)) (nat_le (length word) 8) (le-leb 1 (length word) (omega (arith, long, some))) (le-leb (length word) 8 (omega (arith, long, few)))) digits)
 
   -- the digits are the whole text
   pub words_of_digits : n ≡ length xs → words xs ≡ take n xs ∷ []

@@ -1,14 +1,10 @@
 -- Lemmas on the numbers of a line.
-use Rattle.std.proofs.Common.{◌≡◌, ℕ, ◌+◌, ◌*◌, ◌<◌, ◌≤◌, ◌^◌, add-one, false, cond, nat_eq, List, [], ◌∷◌, length, get_or, Ok, Err, None, arith, refl, sym, ap}
+use Rattle.std.proofs.Common.{◌≡◌, ℕ, ◌<◌, ◌≤◌, ◌^◌, false, cond, nat_eq, List, [], ◌∷◌, length, get_or, Ok, Err, None, arith, refl, sym, ap}
 use Rattle.std.proofs.Math.Nat.{pow-le-pow_right}
 use Rattle.std.specs.Prelude.{◌≢◌}
 use Rattle.std.proofs.lemmas.Bool.{ne_eqb}
 use Rattle.hll_text.specs.declared.fault.Fault.TheVariants.{Syntax}
 use Rattle.hll_text.specs.Text.{as_reading, read_words, reading, words, one_number, two_numbers, one_word}
-
--- one more digit
-pub below_next : (v d k : ℕ) → v < 10 ^ k → d ≤ 9 → 10 * v + d < 10 ^ (k + 1)
-below_next v d k h e = rw add-one (omega arith)
 
 -- seven digits and one more fit 32 bits
 pub below_seven : (v k : ℕ) → v < 10 ^ k → k < 8 → v < 10000000

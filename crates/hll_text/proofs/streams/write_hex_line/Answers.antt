@@ -4,6 +4,7 @@ use Rattle.std.proofs.lemmas.List.{take_all}
 use Rattle.hex.specs.Hex.{encode_lower}
 use Rattle.hll_base.proofs.Errors.{IfErr-passed}
 use Rattle.hll_text.proofs.StreamLemmas.{Appends-nil, Appends-more, OnOk-map, IfErr-map, front_more, digits-none, digits-more, line-cut}
+use Rattle.hll_text.proofs.streams.write_hex_line.Given.{Over}
 use Rattle.hll_text.proofs.streams.write_hex_line.Goals as goal
 
 pub loop-shown-init : goal.loop-shown-init
@@ -53,25 +54,22 @@ returns-in_err-write_digits-clause-err g c =
       subst (λ whole. Appends old now (take front.0 whole)) (sym (line-cut s n bytes)) front.2,
     )
 
--- the LF is what is left
-pub returns-clause-ok : goal.returns-clause-ok
-returns-clause-ok g c =
-    let old = g.W.Write.contents c.args.writer.now.inner in
-    let mid = g.W.Write.contents c.loop-shown.writer.inner in
-    let now = g.W.Write.contents c.write_all.new.writer.inner in
+-- once the loop ends all digits are written, and the LF is what is left
+all_digits : (g : Over) (c : goal.After-write_all g) → Appends (g.W.Write.contents c.args.writer.now.inner) (g.W.Write.contents c.loop-shown.writer.inner) (encode_lower c.args.bytes.now)
+all_digits g c =
     let bytes : List ℕ = c.args.bytes.now in
     let all : take c.loop-shown.shown bytes ≡ bytes = take_all c.loop-shown.shown bytes (omega (arith, c.loop-shown-test.false)) in
-    let digits : Appends old mid (encode_lower bytes) = subst (λ xs. Appends old mid (encode_lower xs)) all c.loop-shown.invariant.written in
-    OnOk-map c.write_all.result _ _ (λ sent. (Appends-more old mid now (encode_lower bytes) (10 ∷ []) digits sent.0, sent.1 ∙ c.loop-shown.invariant.failed)) c.write_all.ensures.ok
+    subst (λ xs. Appends (g.W.Write.contents c.args.writer.now.inner) (g.W.Write.contents c.loop-shown.writer.inner) (encode_lower xs)) all c.loop-shown.invariant.written
+
+pub returns-clause-ok : goal.returns-clause-ok
+returns-clause-ok g c =
+    OnOk-map c.write_all.result _ _ (λ sent. (
+      Appends-more _ _ (g.W.Write.contents c.write_all.new.writer.inner) (encode_lower c.args.bytes.now) (10 ∷ []) (all_digits g c) sent.0,
+      sent.1 ∙ c.loop-shown.invariant.failed,
+    )) c.write_all.ensures.ok
 
 pub returns-clause-err : goal.returns-clause-err
 returns-clause-err g c =
-    let old = g.W.Write.contents c.args.writer.now.inner in
-    let mid = g.W.Write.contents c.loop-shown.writer.inner in
-    let now = g.W.Write.contents c.write_all.new.writer.inner in
-    let bytes : List ℕ = c.args.bytes.now in
-    let all : take c.loop-shown.shown bytes ≡ bytes = take_all c.loop-shown.shown bytes (omega (arith, c.loop-shown-test.false)) in
-    let digits : Appends old mid (encode_lower bytes) = subst (λ xs. Appends old mid (encode_lower xs)) all c.loop-shown.invariant.written in
     IfErr-map c.write_all.result _ _ (λ e failed.
-    let front = front_more old mid now (encode_lower bytes) (10 ∷ []) [] failed.2 digits failed.3 failed.4 in
+    let front = front_more _ _ (g.W.Write.contents c.write_all.new.writer.inner) (encode_lower c.args.bytes.now) (10 ∷ []) [] failed.2 (all_digits g c) failed.3 failed.4 in
     (failed.0, failed.1, front.0, front.1, front.2)) c.write_all.ensures.err

@@ -1,7 +1,6 @@
-use Rattle.std.proofs.Common.{◌≡◌, ◌<◌, ◌+◌, ℕ, List, ◌∷◌, length, take, Ok, sym, ap, refl, ◌∙◌, arith}
+use Rattle.std.proofs.Common.{◌<◌, ◌+◌, ℕ, List, ◌∷◌, length, take, Ok, sym, ap, refl, ◌∙◌, arith}
 use Rattle.std.specs.Option.{option_copied}
 use Rattle.std.proofs.lemmas.Bool.{ne_eqb}
-use Rattle.std.proofs.lemmas.List.{length-take-le}
 use Rattle.hll_text.specs.Text.{words, words_after, first_number}
 use Rattle.hll_text.proofs.LeadingLemmas.{number_of_digits, words_of_digits, words_of_front, first_is_no_number}
 use Rattle.hll_text.proofs.PartLemmas.{take-rest}
@@ -11,11 +10,10 @@ pub returns-then-digits-text : goal.returns-then-digits-text
 returns-then-digits-text c =
     let text : List ℕ = c.in-Some.text.now in
     let n : ℕ = c.leading_number-value.result.1 in
-    let read = c.leading_number-value.ensures in
-    let long : length (take n text) ≡ n = length-take-le n text read.within in (
+    let read = c.leading_number-value.ensures in (
       take n text,
       ap (λ o. words_after (option_copied o)) c.in-Some.is ∙ words_of_digits text n read.within read.digits c.if-digits-text.true,
-      number_of_digits (take n text) (omega (arith, long, c.if-digits-eq0.false)) (omega (arith, long, read.few)) read.digits ∙ ap (λ v. Ok v) (sym read.value),
+      number_of_digits text n read.within read.digits (omega (arith, c.if-digits-eq0.false)) read.few ∙ ap (λ v. Ok v) (sym read.value),
     )
 
 pub returns-then-text-digits-eq32 : goal.returns-then-text-digits-eq32
@@ -23,12 +21,11 @@ returns-then-text-digits-eq32 c =
     let text : List ℕ = c.in-Some.text.now in
     let n : ℕ = c.leading_number-value.result.1 in
     let read = c.leading_number-value.ensures in
-    let more : n < length text = omega (arith, read.within, c.if-digits-text.false) in
-    let long : length (take n text) ≡ n = length-take-le n text read.within in (
+    let more : n < length text = omega (arith, read.within, c.if-digits-text.false) in (
       take n text,
       ap (λ o. words_after (option_copied o)) c.in-Some.is ∙ words_of_front text n read.within read.digits more c.if-text-digits-eq32.true
           ∙ ap (λ rest. take n text ∷ words rest) (sym (take-rest (n + 1) text)),
-      number_of_digits (take n text) (omega (arith, long, c.if-digits-eq0.false)) (omega (arith, long, read.few)) read.digits ∙ ap (λ v. Ok v) (sym read.value),
+      number_of_digits text n read.within read.digits (omega (arith, c.if-digits-eq0.false)) read.few ∙ ap (λ v. Ok v) (sym read.value),
     )
 
 pub returns-else-text-digits-eq32 : goal.returns-else-text-digits-eq32
