@@ -256,6 +256,8 @@ impl<A: Allocator + Clone> Array4<A> {
         ensures ok { let h = shape_of_hll4 lg_config_k cur_min aux_format in
             IfOk result (λ a. IsHll4Payload h (take (hll4_size h cursor.entry) cursor.entry)
             × (a.stored ≡ record { lg_k = lg_config_k; registers = registers_of h (take (hll4_size h cursor.entry) cursor.entry); state = state_at ooo cursor.entry })) }
+        ensures whole { let h = shape_of_hll4 lg_config_k cur_min aux_format in
+            OnOk result (IsWhole h cursor.entry) }
         ensures err { let h = shape_of_hll4 lg_config_k cur_min aux_format in
             IfErr result (λ e. (e ≡ Memory) ⊎ Hll4Fault h cursor.entry e) }
         ensures order { let h = shape_of_hll4 lg_config_k cur_min aux_format in

@@ -31,9 +31,9 @@ use std::marker::Model;
 #[derive(Drop)]
 pub struct Array6<A: Allocator = Global> {
     lg_config_k: u8,
-    groups: Vec<[u8; 3], A>,
     /// How many registers are 0, where that is known.
     zero_count: Option<u32>,
+    groups: Vec<[u8; 3], A>,
     state: EstimateState,
 }
 

@@ -34,9 +34,9 @@ const MAX_VALUE: u8 = 63;
 #[derive(Drop)]
 pub struct Array8<A: Allocator = Global> {
     lg_config_k: u8,
-    registers: Vec<u8, A>,
     /// How many registers are 0, where that is known.
     zero_count: Option<u32>,
+    registers: Vec<u8, A>,
     state: EstimateState,
 }
 

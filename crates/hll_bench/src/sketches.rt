@@ -61,7 +61,7 @@ fn meaning_of(alloc: Global, sketch: &HllSketch) -> Result<Vec<u8>, Error> {
     match sketch.mode() {
         Mode::List { list, .. } => write_table(&mut bytes, list.container())?,
         Mode::Set { set, .. } => write_table(&mut bytes, set.container())?,
-        Mode::Array4(array) => write_registers(&mut bytes, array)?,
+        Mode::Array4(array) => write_registers(&mut bytes, array.as_ref())?,
         Mode::Array6(array) => write_registers(&mut bytes, array)?,
         Mode::Array8(array) => write_registers(&mut bytes, array)?,
     }

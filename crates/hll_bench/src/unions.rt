@@ -110,7 +110,7 @@ fn merged(alloc: Global, bound: u8, sketches: &[HllSketch]) -> Result<Array8, Er
 fn merge_mode(array: &mut Array8, mode: &Mode) {
     match mode {
         Mode::List { .. } | Mode::Set { .. } => {}
-        Mode::Array4(source) => merge_registers(array, source),
+        Mode::Array4(source) => merge_registers(array, source.as_ref()),
         Mode::Array6(source) => merge_registers(array, source),
         Mode::Array8(source) => merge_registers(array, source),
     }

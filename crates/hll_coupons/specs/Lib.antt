@@ -9,4 +9,5 @@ pub mod Pair
 pub mod Payload
 pub mod Probe
 pub mod Same
+pub mod Storage
 pub mod Table

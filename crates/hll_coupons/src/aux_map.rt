@@ -2,7 +2,6 @@
 ghost use Rattle.std.specs.Prelude.{◌≡◌, ◌≢◌, ◌+◌, ◌*◌, ◌^◌, ◌<◌, ◌≤◌, ◌↔◌, ◌==◌, ℕ, if◌then◌else◌, length, map, None, Some, IsOk, IsTrue, IfOk, IfErr, OnOk, OnErr, IfSome};
 ghost use Rattle.std.specs.FinSet as set;
 ghost use Rattle.std.specs.Iterator.{YieldsFirst, item_count};
-ghost use Rattle.std.specs.Vec.Iter.{into_iter_items};
 ghost use Rattle.hll_base.specs.declared.error.Reason.TheVariants.{Memory};
 ghost use Rattle.hll_coupons.specs.AuxMap as sizes;
 ghost use Rattle.hll_coupons.specs.AuxMap.{table_size, empty_map, entries_in, entry_of, value_in, with_value, Inserts, IsGrownFrom, IsMap};
@@ -18,7 +17,6 @@ use crate::search::{Key, put_all, put_entry, search};
 use hll_base::error::Error;
 use std::alloc::{Allocator, Global};
 use std::marker::Model;
-use std::vec;
 
 /// A map from slots below 2^`lg_config_k` to values of 1 to 63, in a table that is searched by slot. At most three
 /// quarters of the places are filled, and the table has the least such size, from the start size up (docs/FORMAT.md,
@@ -292,9 +290,7 @@ impl<A: Allocator> IntoIterator for AuxMap<A> {
     /// The entries in the order of their places, each once. Takes no memory.
     fn into_iter(self) -> AuxMapIter<A> {
         let AuxMap { table, .. } = self;
-        AuxMapIter {
-            places: table.into_places().into_iter(),
-        }
+        AuxMapIter { table, place: 0 }
     }
 }
 
@@ -330,18 +326,18 @@ impl<'a> Iterator for AuxMapRefIter<'a> {
 /// list of them.
 #[derive(Drop)]
 pub struct AuxMapIter<A: Allocator = Global> {
-    places: vec::IntoIter<Coupon, A>,
+    table: Container<A>,
+    place: usize,
 }
 
 impl<A: Allocator> Model for AuxMapIter<A> {
-    ghost use Rattle.std.specs.Prelude.{List, ℕ, map};
-    ghost use Rattle.std.specs.Vec.Iter.{into_iter_items};
+    ghost use Rattle.std.specs.Prelude.{List, ℕ, map, drop};
     ghost use Rattle.hll_coupons.specs.AuxMap.{entry_of};
     ghost use Rattle.hll_coupons.specs.Table.{coupons_in};
 
     ghost Value = { List (ℕ × ℕ) };
 
-    ghost view = { λ r. map entry_of (coupons_in (into_iter_items r.places)) };
+    ghost view = { λ r. map entry_of (coupons_in (drop r.place r.table.places)) };
 }
 
 impl<A: Allocator> Iterator for AuxMapIter<A> {
@@ -352,7 +348,8 @@ impl<A: Allocator> Iterator for AuxMapIter<A> {
     ghost remaining = { item_count (λ s. s) };
 
     fn next(&mut self) -> Option<(u32, u8)> {
-        while let Some(entry) = self.places.next() {
+        while let Some(entry) = self.table.places().get(self.place) {
+            self.place += 1;
             if !entry.is_empty() {
                 return Some((entry.slot(), entry.value()));
             }

@@ -1,5 +1,5 @@
 //! A table of places for coupons (docs/MODEL.md, "Tables").
-ghost use Rattle.std.specs.Prelude.{◌≡◌, ◌≢◌, ℕ, ◌*◌, ◌^◌, ◌<◌, ◌≤◌, ◌↔◌, ◌++◌, [], length, slice_set, slice_index, false, IsTrue, IfOk, IfErr, OnOk};
+ghost use Rattle.std.specs.Prelude.{◌≡◌, ◌≢◌, ℕ, ◌*◌, ◌^◌, ◌<◌, ◌≤◌, ◌↔◌, ◌++◌, [], length, slice_set, slice_index, false, IsTrue, IfOk, IfErr, OnOk, OnErr};
 ghost use Rattle.std.specs.Bool.{OnFalse};
 ghost use Rattle.std.specs.Iterator.{YieldsFirst, item_count};
 ghost use Rattle.std.specs.FinSet as set;
@@ -10,6 +10,7 @@ ghost use Rattle.hll_coupons.specs.Table.{coupons_in, coupons_of, empty_table, I
 ghost use Rattle.hll_coupons.specs.Coupons.{coupon_bytes, IsAscending};
 
 use crate::coupon::Coupon;
+use crate::storage::Storage;
 use hll_base::codec::SketchBytes;
 use hll_base::error::Error;
 use std::alloc::{AllocError, Allocator, Global};
@@ -21,34 +22,47 @@ use std::marker::Model;
 #[derive(Drop)]
 pub struct Container<A: Allocator = Global> {
     lg_size: usize,
-    coupons: Vec<Coupon, A>,
     len: usize,
+    places: Storage<A>,
 }
 
 impl<A: Allocator> Model for Container<A> {
     ghost use Rattle.std.specs.Prelude.{◌≡◌, length};
+    ghost use Rattle.hll_coupons.specs.Storage.{places_in};
     ghost use Rattle.hll_coupons.specs.Table.{Table, coupons_in, IsTable};
 
     ghost Value = { Table };
 
-    ghost view = { λ c. record { lg_size = c.lg_size; places = c.coupons.items } };
+    ghost view = { λ c. record { lg_size = c.lg_size; places = places_in c.places } };
 
-    ghost invariant = { λ c. IsTable (record { lg_size = c.lg_size; places = c.coupons.items }) × (c.len ≡ length (coupons_in c.coupons.items)) };
+    ghost invariant = { λ c. IsTable (record { lg_size = c.lg_size; places = places_in c.places }) × (c.len ≡ length (coupons_in (places_in c.places))) };
 }
 
 impl<A: Allocator> Container<A> {
-    /// 2^`lg_size` empty places, of four bytes each.
+    /// Eight empty places. Takes no memory.
+    pub(crate) fn eight(alloc: A) -> Container<A>
+        ensures { result ≡ empty_table 3 }
+    {
+        Container {
+            lg_size: 3,
+            len: 0,
+            places: Storage::eight(alloc),
+        }
+    }
+
+    /// 2^`lg_size` empty places, of four bytes each. Eight take no memory.
     ///
-    /// Fails with `Memory`.
+    /// Fails with `Memory`, only if they are not eight.
     pub fn new(alloc: A, lg_size: usize) -> Result<Container<A>, Error>
         requires { lg_size ≤ 26 }
         ensures ok { IfOk result (λ c. c ≡ empty_table lg_size) }
+        ensures needed { OnErr result (lg_size ≢ 3) }
         ensures err { IfErr result (λ e. e ≡ Memory) }
     {
         Ok(Container {
             lg_size,
-            coupons: vec![in alloc; Coupon::EMPTY; 1 << lg_size]?,
             len: 0,
+            places: Storage::new(alloc, lg_size)?,
         })
     }
 
@@ -63,8 +77,8 @@ impl<A: Allocator> Container<A> {
     {
         Container {
             lg_size,
-            coupons,
             len,
+            places: Storage::Allocated(coupons),
         }
     }
 
@@ -89,7 +103,7 @@ impl<A: Allocator> Container<A> {
         ensures full { IsTrue result ↔ (length (coupons_in self.now.places) ≡ 2 ^ self.now.lg_size) }
         ensures room { OnFalse result (length (coupons_in self.now.places) < 2 ^ self.now.lg_size) }
     {
-        self.len == self.coupons.len()
+        self.len == self.capacity()
     }
 
     /// The logarithm of the number of places, at most 26. Takes no memory.
@@ -104,21 +118,21 @@ impl<A: Allocator> Container<A> {
     pub fn capacity(&self) -> usize
         ensures { result ≡ 2 ^ self.now.lg_size }
     {
-        self.coupons.len()
+        places_of(self.lg_size)
     }
 
     /// The bytes of all places, four each. Takes no memory.
     pub fn estimated_size(&self) -> usize
         ensures { result ≡ 4 * 2 ^ self.now.lg_size }
     {
-        self.coupons.len() * 4
+        places_of(self.lg_size) * 4
     }
 
     /// Whether the coupon is in one of the places. Looks at each until it is found; takes no memory.
     pub fn contains(&self, coupon: Coupon) -> bool
         ensures { result ≡ set.contains (coupons_of self.now) coupon }
     {
-        !coupon.is_empty() && self.coupons.contains(&coupon)
+        !coupon.is_empty() && self.places.as_slice().contains(&coupon)
     }
 
     /// The coupons in the order of their places, each once. Takes no memory.
@@ -126,7 +140,7 @@ impl<A: Allocator> Container<A> {
         ensures { result ≡ coupons_in self.now.places }
     {
         ContainerIter {
-            places: &self.coupons,
+            places: self.places.as_slice(),
         }
     }
 
@@ -135,15 +149,7 @@ impl<A: Allocator> Container<A> {
         ensures places { result.now ≡ self.now.places }
         ensures table { IsTable self.now }
     {
-        &self.coupons
-    }
-
-    /// The places, taken out of the container.
-    pub(crate) fn into_places(self) -> Vec<Coupon, A>
-        ensures { result.items ≡ self.places }
-    {
-        let Container { coupons, .. } = self;
-        coupons
+        self.places.as_slice()
     }
 
     /// Puts a new coupon into an empty place.
@@ -156,7 +162,7 @@ impl<A: Allocator> Container<A> {
         ensures table { IsTable self.new }
     {
         prove!(1 <= coupon.value());
-        self.coupons[place] = coupon;
+        self.places.set(place, coupon);
         self.len += 1;
     }
 
@@ -171,7 +177,7 @@ impl<A: Allocator> Container<A> {
         ensures count { length (coupons_in self.new.places) ≡ length (coupons_in self.old.places) }
     {
         prove!(1 <= coupon.value());
-        self.coupons[place] = coupon;
+        self.places.set(place, coupon);
     }
 
     /// A copy of the coupons in the order of their places, in one request for memory.
@@ -223,14 +229,14 @@ impl<A: Allocator + Clone> Container<A> {
     {
         Ok(Container {
             lg_size: self.lg_size,
-            coupons: self.coupons.clone()?,
             len: self.len,
+            places: self.places.clone()?,
         })
     }
 
     /// A clone of the allocator. Fails where the allocator's own `clone` does.
     pub fn cloned_allocator(&self) -> Result<A, AllocError> {
-        self.coupons.allocator().clone()
+        self.places.cloned_allocator()
     }
 }
 

@@ -12,6 +12,7 @@ pub mod list;
 pub mod reference;
 mod search;
 pub mod serialization;
+mod storage;
 
 pub use aux_map::{AuxMap, AuxMapIter, AuxMapRefIter};
 pub use container::{Container, ContainerIter};

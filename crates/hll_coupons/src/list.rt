@@ -1,5 +1,5 @@
 //! A list of coupons in order of arrival (docs/MODEL.md, "Tables").
-ghost use Rattle.std.specs.Prelude.{◌≡◌, ◌^◌, ◌<◌, ◌≤◌, length, false, IfOk, IfErr, ◌*◌, ◌⊎◌, take, OnOk, Bool, IsTrue, ◌↔◌};
+ghost use Rattle.std.specs.Prelude.{◌≡◌, ◌≢◌, ◌^◌, ◌<◌, ◌≤◌, length, false, IfOk, IfErr, ◌*◌, ◌⊎◌, take, OnOk, OnErr, Bool, IsTrue, ◌↔◌};
 ghost use Rattle.std.specs.FinSet as set;
 ghost use Rattle.hll_base.specs.declared.error.Reason.TheVariants.{Memory};
 ghost use Rattle.hll_base.specs.declared.error.Reason.TheVariants as reasons;
@@ -23,7 +23,7 @@ use hll_base::family::Family;
 use std::alloc::{Allocator, Global};
 use std::marker::Model;
 
-/// The logarithm of the number of places where none is given, and in an image.
+/// The logarithm of the number of places in an image.
 const LG_DEFAULT_SIZE: usize = 3;
 
 /// A container whose places are filled from the front, in order of arrival. Contracts see what they
@@ -45,12 +45,13 @@ impl<A: Allocator> Model for List<A> {
 }
 
 impl<A: Allocator> List<A> {
-    /// No coupons, and 2^`lg_size` places of four bytes each.
+    /// No coupons, and 2^`lg_size` places of four bytes each. Eight take no memory.
     ///
-    /// Fails with `Memory`.
+    /// Fails with `Memory`, only if they are not eight.
     pub fn new(alloc: A, lg_size: usize) -> Result<List<A>, Error>
         requires { lg_size ≤ 26 }
         ensures ok { IfOk result (λ l. l ≡ empty_table lg_size) }
+        ensures needed { OnErr result (lg_size ≢ 3) }
         ensures err { IfErr result (λ e. e ≡ Memory) }
     {
         Ok(List {
@@ -58,14 +59,13 @@ impl<A: Allocator> List<A> {
         })
     }
 
-    /// No coupons, and eight places.
-    ///
-    /// Fails with `Memory`.
-    pub fn default_in(alloc: A) -> Result<List<A>, Error>
-        ensures ok { IfOk result (λ l. l ≡ empty_table 3) }
-        ensures err { IfErr result (λ e. e ≡ Memory) }
+    /// No coupons, and eight places. Takes no memory.
+    pub fn default_in(alloc: A) -> List<A>
+        ensures { result ≡ empty_table 3 }
     {
-        List::new(alloc, LG_DEFAULT_SIZE)
+        List {
+            container: Container::eight(alloc),
+        }
     }
 
     /// Reads what follows the header of a list's image (docs/FORMAT.md, "LIST"): 2^`lg_arr` places of

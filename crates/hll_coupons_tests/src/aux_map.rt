@@ -71,7 +71,7 @@ const THREE_PLACES: Places = (
     16,
 );
 
-/// A fourth makes the table grow.
+/// A fourth makes the table grow, to eight places.
 const FOUR: [(u32, u8); 4] = [(1, 15), (5, 16), (2, 17), (3, 63)];
 
 const FOUR_PLACES: Places = (
@@ -134,6 +134,20 @@ fn equal_by_entries(rt: HostRuntime) -> Result<(), Fail> {
     Ok(())
 }
 
+/// Six entries of a table of eight places, each at its own; a seventh makes the table grow.
+const SIX: [(u32, u8); 6] = [(1, 15), (2, 16), (3, 17), (4, 18), (5, 19), (6, 20)];
+
+const SIX_PLACES: Places = (
+    [
+        Some((1, 15)),
+        Some((2, 16)),
+        Some((3, 17)),
+        Some((4, 18)),
+        Some((5, 19)),
+    ],
+    32,
+);
+
 /// In heaps of several sizes: the first request is refused, the growth is refused and leaves the entries in their
 /// places, or nothing is.
 #[test]
@@ -143,19 +157,16 @@ fn refused_memory(rt: HostRuntime) -> Result<(), Fail> {
         let heap = LocalHeap::new(rt.alloc(), units * 8)?;
         let refused = AuxMap::new(&heap, 21).err().map(|e| e.reason());
         assert_eq!(rt; refused, Some(Reason::Memory));
-        let Ok(mut map) = map_of(&heap, 4, &THREE) else {
+        let Ok(mut map) = map_of(&heap, 4, &SIX) else {
             continue;
         };
-        match set(&mut map, 3, 63) {
+        match set(&mut map, 7, 63) {
             Ok(()) => {
-                assert_eq!(rt; places_of(&map), FOUR_PLACES);
+                assert_eq!(rt; places_of(&map), (SIX_PLACES.0, 64));
                 grown = grown.saturating_add(1);
             }
             Err(e) => {
-                assert_eq!(rt;
-                    (e.reason(), places_of(&map)),
-                    (Reason::Memory, THREE_PLACES)
-                );
+                assert_eq!(rt; (e.reason(), places_of(&map)), (Reason::Memory, SIX_PLACES));
                 small = small.saturating_add(1);
             }
         }

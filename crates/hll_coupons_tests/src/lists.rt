@@ -27,22 +27,22 @@ fn add<A: Allocator>(list: &mut List<A>)
 }
 
 /// A list with slot 5 and value 3, which came twice.
-fn list_in<A: Allocator>(alloc: A) -> Result<List<A>, Error>
-    ensures { IfOk result (λ l. l.lg_size ≡ 3) }
+fn list_in<A: Allocator>(alloc: A) -> List<A>
+    ensures { result.lg_size ≡ 3 }
 {
-    let mut list = List::default_in(alloc)?;
+    let mut list = List::default_in(alloc);
     add(&mut list);
     add(&mut list);
-    Ok(list)
+    list
 }
 
 #[test]
 fn images(rt: HostRuntime) -> Result<(), Fail> {
-    let empty = List::default_in(rt.alloc())?;
+    let empty = List::default_in(rt.alloc());
     let image = empty.serialize(10, HllType::Hll8)?;
     assert_eq!(rt; image.as_slice(), EMPTY_IMAGE.as_slice());
     assert_eq!(rt; image.capacity(), 8);
-    let list = list_in(rt.alloc())?;
+    let list = list_in(rt.alloc());
     let image = list.serialize(10, HllType::Hll8)?;
     assert_eq!(rt; image.as_slice(), IMAGE.as_slice());
     assert_eq!(rt; image.capacity(), 12);
@@ -80,7 +80,7 @@ fn containers(rt: HostRuntime) -> Result<(), Fail> {
 
 #[test]
 fn sizes_do_not_count(rt: HostRuntime) -> Result<(), Fail> {
-    let list = list_in(rt.alloc())?;
+    let list = list_in(rt.alloc());
     let mut larger = List::new(rt.alloc(), 4)?;
     assert!(rt; list != larger);
     add(&mut larger);
@@ -141,11 +141,11 @@ fn lists_are_read(rt: HostRuntime) -> Result<(), Fail> {
     Ok(())
 }
 
-/// Makes a list, copies of it and its image.
+/// Makes a larger list, copies of one and its image.
 fn make_all<A: Allocator + Clone>(list: &List<A>, alloc: A) -> Result<(), Error>
     requires { list.now.lg_size ≡ 3 }
 {
-    let _container = Container::new(alloc.clone()?, 3)?;
+    let _larger = List::new(alloc.clone()?, 4)?;
     let _copy = list.clone()?;
     let _copy_of_container = list.container().clone()?;
     let _image = list.serialize(10, HllType::Hll8)?;
@@ -153,20 +153,19 @@ fn make_all<A: Allocator + Clone>(list: &List<A>, alloc: A) -> Result<(), Error>
     Ok(())
 }
 
-/// In a heap of each size, until all values fit: a refusal names memory, and the list is as it was.
+/// In a heap of each size, until all values fit: a refusal names memory, and the list is as it was. A list of eight places
+/// is made in any heap.
 #[test]
 fn refused_memory(rt: HostRuntime) -> Result<(), Fail> {
-    let (mut without_list, mut cut_short, mut complete) = (0u32, 0u32, 0u32);
+    let (mut cut_short, mut complete) = (0u32, 0u32);
     for units in 1..20usize {
         let heap = LocalHeap::new(rt.alloc(), units * 16)?;
-        let list = match list_in(&heap) {
-            Ok(list) => list,
-            Err(e) => {
-                assert_eq!(rt; e.reason(), Reason::Memory);
-                without_list = without_list.saturating_add(1);
-                continue;
-            }
-        };
+        let list = list_in(&heap);
+        let places = (
+            Container::new(&heap, 3)?.capacity(),
+            list.clone()?.container().capacity(),
+        );
+        assert_eq!(rt; places, (8, 8));
         match make_all(&list, &heap) {
             Ok(()) => complete = complete.saturating_add(1),
             Err(e) => {
@@ -177,9 +176,6 @@ fn refused_memory(rt: HostRuntime) -> Result<(), Fail> {
         assert_eq!(rt; list.container().iter().next(), Some(Coupon::pack(5, 3)));
         assert_eq!(rt; list.container().len(), 1);
     }
-    assert!(rt;
-        0 < without_list && 0 < cut_short && 0 < complete,
-        "{without_list} {cut_short} {complete}"
-    );
+    assert!(rt; 0 < cut_short && 0 < complete, "{cut_short} {complete}");
     Ok(())
 }

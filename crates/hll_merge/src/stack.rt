@@ -70,7 +70,7 @@ impl<A: Allocator + Clone> Stack<A> {
         self.sketches.allocator().clone()
     }
 
-    /// Pushes an empty sketch. `Memory` where it, or a larger stack, is refused.
+    /// Pushes an empty sketch. `Memory` where a larger stack is refused.
     fn push_new(&mut self, lg_k: u8, hll_type: HllType) -> Result<(), Fault>
         requires { IsLgK lg_k }
         ensures ok { OnOk result (StackCarries self.old (new lg_k hll_type) self.new) }

@@ -1,18 +1,19 @@
 -- A table and a coupon more, in the words of the definitions.
-use Rattle.std.proofs.Common.{◌≡◌, ℕ, ◌+◌, ◌*◌, ◌^◌, ◌≤◌, ◌<◌, Bool, true, false, not, cond, eqb, leb, [], ◌∷◌, length, Some, Result, Ok, Err, IfOk, OnOk, OnErr, sym, ap, subst, ◌∙◌, arith}
+use Rattle.std.proofs.Common.{◌≡◌, ℕ, ◌+◌, ◌*◌, ◌&&◌, ◌^◌, ◌≤◌, ◌<◌, Bool, true, false, not, cond, eqb, leb, [], ◌∷◌, length, Result, Ok, Err, IfOk, OnOk, OnErr, sym, ap, ◌∙◌, arith}
 use mir.Val.{bool_byte}
 use Rattle.std.specs.Cmp.{nat_cmp_total}
-use Rattle.std.specs.FinSet.{contains, insert, len, len-insert}
+use Rattle.std.specs.FinSet.{contains, insert, union, len, len-insert}
 use Rattle.std.proofs.lemmas.Nat.{pow_pos}
-use Rattle.std.proofs.lemmas.Bool.{leb-true, cond-false}
+use Rattle.std.proofs.lemmas.Bool.{leb-true, cond-false, and_parts, true≢false}
 use Rattle.std.proofs.lemmas.Bool.Decides.{nat_tests}
 use Rattle.hll_coupons.specs.Pair.{Pairs, set_of}
 use Rattle.hll_coupons.specs.Table.{Table, coupons_in, coupons_of, IsTable}
+use Rattle.hll_coupons.proofs.Listed.{finds}
 use Rattle.hll_arrays.specs.Store.{Stored, update_with_pairs, update_with_coupon}
-use Rattle.hll_sketch.specs.Stage.{holds, stage}
+use Rattle.hll_sketch.specs.Stage.{holds, sizes, stage}
 use Rattle.hll_sketch.specs.Value.{coupons, registers}
 use Rattle.hll_sketch.specs.Adding.{content_for, content_with}
-use Rattle.hll_sketch.specs.Layout.{IsSize, TableChanges}
+use Rattle.hll_sketch.specs.Layout.{Layout, list, set, array, holds_with, IsSize, NeedsMemory, TableChanges}
 use Rattle.hll_sketch.proofs.Inserting.{insert-union}
 use Rattle.hll_sketch.proofs.Steps.{stage_stays}
 
@@ -40,11 +41,18 @@ content_for_as k t u c n e count =
 pub holds_as : (t u : Table) (c n : ℕ) → t ≡ u → n ≡ len (insert (coupons_of t) c) → holds t.lg_size n ≡ holds u.lg_size (len (insert (coupons_of u) c))
 holds_as t u c n e count = ap (holds t.lg_size) count ∙ ap (λ (v : Table). holds v.lg_size (len (insert (coupons_of v) c))) e
 
-pub changes_as : (k : ℕ) (t u : Table) (c n : ℕ) → t ≡ u → n ≡ len (insert (coupons_of t) c) → (stage k t.lg_size n ≡ Some t.lg_size → ⊥) → TableChanges k u c
-changes_as k t u c n e count other stays =
-    let same : stage k t.lg_size (len (insert (coupons_of t) c)) ≡ Some t.lg_size =
-    subst (λ (v : Table). stage k v.lg_size (len (insert (coupons_of v) c)) ≡ Some v.lg_size) (sym e) (ap (λ T. stage k u.lg_size (len T)) (insert-union (coupons_of u) c) ∙ stays) in
-    other (ap (stage k t.lg_size) count ∙ same)
+-- a table that doesn't hold its coupons and this one changes with it
+changes : (k : ℕ) (t : Table) (c : ℕ) → holds t.lg_size (len (insert (coupons_of t) c)) ≡ false → TableChanges k t c
+changes k t c leaves stays =
+    let n : ℕ = len (union (coupons_of t) (set_of (c ∷ []))) in
+    let found : (leb t.lg_size t.lg_size && holds t.lg_size n) ≡ true = (finds (λ size. leb t.lg_size size && holds size n) (sizes k) t.lg_size stays).1 in
+    true≢false (sym (and_parts (leb t.lg_size t.lg_size) (holds t.lg_size n) found).1 ∙ sym (ap (λ S. holds t.lg_size (len S)) (insert-union (coupons_of t) c)) ∙ leaves)
+
+-- so an update that puts something else in its place may need memory
+pub needs_memory : (k : ℕ) (l : Layout) (c : ℕ) → holds_with l c ≡ false → NeedsMemory k l c
+needs_memory k (list width t) c leaves = changes k t c leaves
+needs_memory k (set width t) c leaves = changes k t c leaves
+needs_memory k (array width x e) c leaves = absurd (true≢false leaves)
 
 -- what a table that holds its coupons becomes
 pub stays_as : (k : ℕ) (t : Table) (c : ℕ) (S : Pairs) (size : ℕ) → IsSize k t.lg_size → holds t.lg_size (len (insert (coupons_of t) c)) ≡ true →

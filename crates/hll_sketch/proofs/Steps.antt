@@ -108,19 +108,6 @@ pub from_five : (k p : ℕ) → IsSize k p → 5 ≤ size_after p
 from_five k p (inl three) = subst (λ p. 5 ≤ size_after p) (sym three) (let five : 5 ≤ 5 = omega arith in five)
 from_five k p (inr (low, high)) = omega (arith, after_set p low)
 
--- what is not coupons_in does not stay
-pub leaves : (k p n : ℕ) → IsSize k p → holds p n ≡ false → AtMost p n → stage k p n ≡ Some p → ⊥
-leaves k p n size many few e = elim (cases_lt k (size_after p + 3)) [
-  | inl last ↦ let z : Some p ≡ None = sym e ∙ stage_last k p n size many last in cc
-  | inr fit ↦ let z : Some p ≡ Some (size_after p) = sym e ∙ stage_next k p n (size_after p) size many few refl fit in
-      let same : p ≡ size_after p = cc in
-      other k p size same
-]
-  where
-    other : (k p : ℕ) → IsSize k p → p ≡ size_after p → ⊥
-    other k p (inl three) h = let five : 3 ≡ 5 = sym three ∙ h ∙ ap size_after three in omega (arith, five)
-    other k p (inr (low, high)) h = omega (arith, h, after_set p low)
-
 -- ---- a table and a coupon more
 
 pub len-insert_le : (S : Pairs) (c : ℕ) → len (insert S c) ≤ len S + 1

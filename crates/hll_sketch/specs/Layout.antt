@@ -23,7 +23,7 @@ pub data Layout : Type 0 where
 abbrev pub layout_of : {A : Type 0} → Mode A → Layout
 layout_of (List table width) = list width table
 layout_of (Set table width) = set width table
-layout_of (Array4 bits) = array Hll4 bits.stored bits.exceptions
+layout_of (Array4 bits) = array Hll4 bits.value.stored bits.value.exceptions
 layout_of (Array6 stored) = array Hll6 stored None
 layout_of (Array8 stored) = array Hll8 stored None
 

@@ -37,7 +37,7 @@ pub(crate) fn fold_of<A: Allocator + Clone>(mode: &Mode<A>, lg_k: u8) -> Result<
     match mode {
         Mode::List { list, .. } => registers_of_table(lg_k, list.container()),
         Mode::Set { set, .. } => registers_of_table(lg_k, set.container()),
-        Mode::Array4(array) => fold_of_registers(array.cloned_allocator()?, lg_k, array),
+        Mode::Array4(array) => fold_of_registers(array.cloned_allocator()?, lg_k, array.as_ref()),
         Mode::Array6(array) => fold_of_registers(array.cloned_allocator()?, lg_k, array),
         Mode::Array8(array) => fold_of_registers(array.cloned_allocator()?, lg_k, array),
     }
@@ -95,7 +95,7 @@ fn list_of<A: Allocator + Clone>(table: &Container<A>) -> Result<List<A>, Error>
     ensures err { IfErr result (λ e. e ≡ Memory) }
 {
     let _len = table.len();
-    let mut list = List::default_in(table.cloned_allocator()?)?;
+    let mut list = List::default_in(table.cloned_allocator()?);
     for coupon in table.iter() {
         let _len = list.container().len();
         list.update(coupon);
@@ -135,7 +135,7 @@ pub(crate) fn converted<A: Allocator + Clone>(
     ensures err { IfErr result (λ e. e ≡ Memory) }
 {
     match hll_type {
-        HllType::Hll4 => Ok(Mode::Array4(convert(array)?)),
+        HllType::Hll4 => Mode::of_four_bits(convert(array)?),
         HllType::Hll6 => Ok(Mode::Array6(convert(array)?)),
         HllType::Hll8 => Ok(Mode::Array8(array.clone()?)),
     }

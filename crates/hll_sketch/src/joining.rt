@@ -60,7 +60,7 @@ impl<A: Allocator + Clone> HllSketch<A> {
         match &sketch.mode {
             Mode::List { list, .. } => self.merge_coupons(sketch, list.container()),
             Mode::Set { set, .. } => self.merge_coupons(sketch, set.container()),
-            Mode::Array4(array) => self.merge_registers(bound, array),
+            Mode::Array4(array) => self.merge_registers(bound, array.as_ref()),
             Mode::Array6(array) => self.merge_registers(bound, array),
             Mode::Array8(array) => self.merge_bytes(bound, array),
         }

@@ -109,7 +109,7 @@ fn read_four<A: Allocator + Clone>(alloc: A, bytes: &[u8], header: Header) -> Re
         AuxFormat::from_header(header.compact, header.lg_arr),
         header.out_of_order,
     )?;
-    Ok(Mode::Array4(array))
+    Mode::of_four_bits(array)
 }
 
 fn read_six<A: Allocator>(alloc: A, bytes: &[u8], header: Header) -> Result<Mode<A>, Error>

@@ -1,5 +1,5 @@
 //! What takes over from a table that a coupon more doesn't leave as large as it is (docs/MODEL.md, "Stages").
-ghost use Rattle.std.specs.Prelude.{◌≡◌, ◌+◌, ◌^◌, ◌<◌, ◌≤◌, length, false, IfOk, IfErr, IfSome, IfNone, OnErr, Some};
+ghost use Rattle.std.specs.Prelude.{◌≡◌, ◌+◌, ◌^◌, ◌<◌, ◌≤◌, length, false, IfOk, IfErr, IfSome, IfNone};
 ghost use Rattle.std.specs.FinSet.{len, insert};
 ghost use Rattle.hll_base.specs.declared.error.Reason.TheVariants.{Memory};
 ghost use Rattle.hll_coupons.specs.Fold.{fold_to};
@@ -41,7 +41,6 @@ pub(crate) fn next_of<A: Allocator + Clone>(
         IfOk result (λ mode. content_in (layout_of mode) ≡ content_for lg_k pairs (stages.stage lg_k table.now.lg_size (len pairs))) }
     ensures layout { IfOk result (λ mode. IsLayoutFor lg_k (layout_of mode)) }
     ensures width { IfOk result (λ mode. width_of (layout_of mode) ≡ hll_type) }
-    ensures needed { OnErr result (stages.stage lg_k table.now.lg_size (len (insert (coupons_of table.now) coupon)) ≡ Some table.now.lg_size → ⊥) }
     ensures err { IfErr result (λ e. e ≡ Memory) }
 {
     let _len = table.len();
@@ -81,11 +80,11 @@ fn promoted<A: Allocator + Clone>(
     ensures width { IfOk result (λ m. width_of (layout_of m) ≡ hll_type) }
     ensures err { IfErr result (λ e. e ≡ Memory) }
 {
-    Ok(match hll_type {
-        HllType::Hll4 => Mode::Array4(registers_of::<Array4<A>, A>(lg_k, table, coupon)?),
-        HllType::Hll6 => Mode::Array6(registers_of::<Array6<A>, A>(lg_k, table, coupon)?),
-        HllType::Hll8 => Mode::Array8(registers_of::<Array8<A>, A>(lg_k, table, coupon)?),
-    })
+    match hll_type {
+        HllType::Hll4 => Mode::of_four_bits(registers_of(lg_k, table, coupon)?),
+        HllType::Hll6 => Ok(Mode::Array6(registers_of(lg_k, table, coupon)?)),
+        HllType::Hll8 => Ok(Mode::Array8(registers_of(lg_k, table, coupon)?)),
+    }
 }
 
 /// The registers of the coupons of a table and of one more.
@@ -117,11 +116,11 @@ pub(crate) fn mode_of_table<A: Allocator + Clone>(
     ensures width { IfOk result (λ m. width_of (layout_of m) ≡ hll_type) }
     ensures err { IfErr result (λ e. e ≡ Memory) }
 {
-    Ok(match hll_type {
-        HllType::Hll4 => Mode::Array4(registers_of_table::<Array4<A>, A>(lg_k, table)?),
-        HllType::Hll6 => Mode::Array6(registers_of_table::<Array6<A>, A>(lg_k, table)?),
-        HllType::Hll8 => Mode::Array8(registers_of_table::<Array8<A>, A>(lg_k, table)?),
-    })
+    match hll_type {
+        HllType::Hll4 => Mode::of_four_bits(registers_of_table(lg_k, table)?),
+        HllType::Hll6 => Ok(Mode::Array6(registers_of_table(lg_k, table)?)),
+        HllType::Hll8 => Ok(Mode::Array8(registers_of_table(lg_k, table)?)),
+    }
 }
 
 /// The registers of the coupons of a table, with the cleared state.

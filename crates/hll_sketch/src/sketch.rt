@@ -53,18 +53,17 @@ impl<A: Allocator> Model for HllSketch<A> {
 impl<A: Allocator> HllSketch<A> {
     /// An empty list, for registers of a width to come.
     ///
-    /// Fails with `Argument` if `lg_config_k` is not 4 to 21, or else with `Memory`.
+    /// Fails with `Argument` if `lg_config_k` is not 4 to 21. Takes no memory.
     pub fn new(alloc: A, lg_config_k: u8, hll_type: HllType) -> Result<HllSketch<A>, Error>
         ensures ok { IfOk result (λ s. sketch_of s ≡ empty_sketch lg_config_k hll_type) }
         ensures lg_k { OnOk result (IsLgK lg_config_k) }
-        ensures outside { IfErr result (λ e. e ≡ reasons.Argument → IsLgK lg_config_k → ⊥) }
-        ensures within { IfErr result (λ e. e ≡ Memory → IsLgK lg_config_k) }
-        ensures err { IfErr result (λ e. (e ≡ reasons.Argument) ⊎ (e ≡ Memory)) }
+        ensures outside { OnErr result (IsLgK lg_config_k → ⊥) }
+        ensures err { IfErr result (λ e. e ≡ reasons.Argument) }
     {
         if lg_config_k < 4 || lg_config_k > 21 {
             return Err(Error::new(Reason::Argument));
         }
-        let list = List::default_in(alloc)?;
+        let list = List::default_in(alloc);
         Ok(HllSketch {
             lg_config_k,
             mode: Mode::List { list, hll_type },
@@ -346,7 +345,6 @@ impl<A: Allocator + Clone> HllSketch<A> {
             content_in (layout_of mode) ≡ content_with self.now.lg_k (content_in self.now.layout) (set_of (coupon ∷ []))) }
         ensures layout { IfOk result (λ mode. IsLayoutFor self.now.lg_k (layout_of mode)) }
         ensures width { IfOk result (λ mode. width_of (layout_of mode) ≡ width_of self.now.layout) }
-        ensures needed { OnErr result (NeedsMemory self.now.lg_k self.now.layout coupon) }
         ensures err { IfErr result (λ e. e ≡ Memory) }
     {
         match &self.mode {

@@ -46,13 +46,12 @@ impl<A: Allocator> Model for HllUnion<A> {
 impl<A: Allocator> HllUnion<A> {
     /// A union of nothing: an empty list at the bound.
     ///
-    /// Fails with `Argument` if `lg_max_k` is not 4 to 21, or else with `Memory`.
+    /// Fails with `Argument` if `lg_max_k` is not 4 to 21. Takes no memory.
     pub fn new(alloc: A, lg_max_k: u8) -> Result<HllUnion<A>, Error>
         ensures ok { IfOk result (λ u. (u.lg_max_k ≡ lg_max_k) × (gadget_of u ≡ empty_union lg_max_k)) }
         ensures lg_k { OnOk result (IsLgK lg_max_k) }
-        ensures outside { IfErr result (λ e. e ≡ reasons.Argument → IsLgK lg_max_k → ⊥) }
-        ensures within { IfErr result (λ e. e ≡ Memory → IsLgK lg_max_k) }
-        ensures err { IfErr result (λ e. (e ≡ reasons.Argument) ⊎ (e ≡ Memory)) }
+        ensures outside { OnErr result (IsLgK lg_max_k → ⊥) }
+        ensures err { IfErr result (λ e. e ≡ reasons.Argument) }
     {
         Ok(HllUnion {
             lg_max_k,

@@ -45,7 +45,7 @@ fn values(rt: HostRuntime) -> Result<(), Fail> {
 fn fold_in(heap: &LocalHeap, hll_type: HllType, count: u32) -> Result<(), Error> {
     let sketch = filled(heap, 8, hll_type, count, 63)?;
     let _folded = sketch.folded(5)?;
-    let _registers = sketch.registers_at(4)?;
+    let _registers = sketch.registers_at(sketch.lg_config_k())?;
     Ok(())
 }
 

@@ -3,6 +3,7 @@ use Rattle.std.proofs.lemmas.List.{take_rest}
 use Rattle.hll_base.proofs.Errors.{IfErr-passed}
 use Rattle.hll_base.specs.declared.error.Reason.TheVariants.{Memory}
 use Rattle.hll_coupons.specs.declared.hll_type.HllType.TheVariants.{Hll4}
+use Rattle.hll_arrays.proofs.ReadingRegisters.{IfErr-always}
 use Rattle.hll_arrays.specs.Payload.{Hll4Shape, hll4_size, registers_of, shape_of_hll4, state_at, IsHll4Payload, IsWhole, Hll4Fault, FirstHll4Fault}
 use Rattle.hll_arrays.specs.declared.aux_format.AuxFormat.{AuxFormat}
 use Rattle.hll_arrays.specs.Store.{Stored}
@@ -10,9 +11,11 @@ use Rattle.hll_sketch.specs.Checks.{first_fault, size_fault}
 use Rattle.hll_sketch.specs.Fault.{Fault}
 use Rattle.hll_sketch.specs.Fault as fault
 use Rattle.hll_sketch.specs.Header.{header_of}
-use Rattle.hll_sketch.specs.Image.{lg_k_byte, is_flagged, hll4_shape, IsReadAs}
+use Rattle.hll_sketch.specs.Layout.{sketch_of}
+use Rattle.hll_sketch.specs.Image.{lg_k_byte, width_bits, is_flagged, hll4_shape, HasHeader, IsReadAs}
 use Rattle.hll_sketch.specs.Value.{registers}
 use Rattle.hll_sketch.specs.declared.header.Header.{Header}
+use Rattle.hll_sketch.proofs.Keeping.{IfOk-map}
 use Rattle.hll_sketch.proofs.FirstFailing.{four_first, four_asked}
 use Rattle.hll_sketch.proofs.FrontImages.{fault_as, first_as, whole_as, payload_as, read_as-four, registers_as, size_as}
 use Rattle.hll_sketch.proofs.mode_image.read_four.Goals as goal
@@ -65,16 +68,27 @@ returns-in_err-array-clause-order g c =
           (subst (λ t. FirstHll4Fault (shape_of_hll4 h.lg_k h.state_byte t) c.new.result e) c.from_header.ensures f)))))
     ])
 
+-- what the reader asks for is there
+asked_as : (b : List ℕ) (h : Header) (format : AuxFormat) (payload : List ℕ) → h ≡ header_of b → HasHeader b 2 → width_bits b ≡ 0 → payload ≡ drop 8 b → format ≡ cond h.compact AuxFormat.Compact (AuxFormat.Updatable h.lg_arr) →
+    IsWhole (shape_of_hll4 h.lg_k h.state_byte format) payload → size_fault b ≡ None
+asked_as b h format payload is has width rest from whole =
+    four_asked b has width
+    (subst (λ s. IsWhole s (drop 8 b)) (shape_is b h is)
+    (whole_as h.lg_k h.state_byte h.lg_arr h.compact (drop 8 b)
+    (subst (IsWhole (shape_of_hll4 h.lg_k h.state_byte (cond h.compact AuxFormat.Compact (AuxFormat.Updatable h.lg_arr)))) rest
+    (subst (λ t. IsWhole (shape_of_hll4 h.lg_k h.state_byte t) payload) from whole))))
+
 pub returns-in_err-array-clause-asked : goal.returns-in_err-array-clause-asked
 returns-in_err-array-clause-asked g c =
     let b : List ℕ = c.args.bytes.now in
-    let h : Header = c.args.header in
     IfErr-passed (λ r. r ≡ Memory → size_fault b ≡ None) c.from_residual.result c.in_err-array.field-0.0 c.from_residual.ensures.1
-    (λ full. four_asked b c.requires.has c.requires.width
-    (subst (λ s. IsWhole s (drop 8 b)) (shape_is b h c.requires.header)
-    (whole_as h.lg_k h.state_byte h.lg_arr h.compact (drop 8 b)
-    (subst (IsWhole (shape_of_hll4 h.lg_k h.state_byte (cond h.compact AuxFormat.Compact (AuxFormat.Updatable h.lg_arr)))) (c.new.ensures ∙ take_rest b 8)
-    (subst (λ t. IsWhole (shape_of_hll4 h.lg_k h.state_byte t) c.new.result) c.from_header.ensures (c.in_err-array.ensures.asked full))))))
+    (λ full. asked_as b c.args.header _ _ c.requires.header c.requires.has c.requires.width (c.new.ensures ∙ take_rest b 8) c.from_header.ensures (c.in_err-array.ensures.asked full))
+
+pub returns-clause-asked : goal.returns-clause-asked
+returns-clause-asked g c =
+    let b : List ℕ = c.args.bytes.now in
+    IfErr-always (λ r. r ≡ Memory → size_fault b ≡ None) c.of_four_bits.result
+    (λ e full. asked_as b c.args.header _ _ c.requires.header c.requires.has c.requires.width (c.new.ensures ∙ take_rest b 8) c.from_header.ensures c.in_ok-array.ensures.whole)
 
 pub returns-clause-ok : goal.returns-clause-ok
 returns-clause-ok g c =
@@ -85,5 +99,7 @@ returns-clause-ok g c =
     let there = subst (λ xs. Given (record { lg_k = h.lg_k; minimum = h.state_byte; compact = h.compact; lg_table = h.lg_arr }) h.lg_k h.out_of_order xs a) (c.new.ensures ∙ take_rest b 8) here in
     let same : Given (hll4_shape b) (lg_k_byte b) (is_flagged 16 b) (drop 8 b) a =
     subst (λ (x : Header). Given (record { lg_k = x.lg_k; minimum = x.state_byte; compact = x.compact; lg_table = x.lg_arr }) x.lg_k x.out_of_order (drop 8 b) a) c.requires.header there in
+    let read : IsReadAs b (record { lg_k = h.lg_k; width = Hll4; content = registers a.registers a.state }) =
     subst (λ k. IsReadAs b (record { lg_k = k; width = Hll4; content = registers a.registers a.state })) (ap (λ (h : Header). h.lg_k) (sym c.requires.header))
-    (read_as-four b a c.requires.has c.requires.width same.0 same.1)
+    (read_as-four b a c.requires.has c.requires.width same.0 same.1) in
+    IfOk-map c.of_four_bits.result _ _ (λ m is. subst (λ l. IsReadAs b (sketch_of (record { lg_k = h.lg_k; layout = l }))) (sym is) read) c.of_four_bits.ensures.ok

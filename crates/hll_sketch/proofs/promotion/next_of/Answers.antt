@@ -5,8 +5,8 @@ use Rattle.hll_coupons.specs.Table.{Table, coupons_in, coupons_of}
 use Rattle.hll_sketch.specs.Value.{coupons}
 use Rattle.hll_sketch.specs.Adding.{content_for}
 use Rattle.hll_sketch.specs.Layout.{AtMost, size_after}
-use Rattle.hll_sketch.proofs.Steps.{stage_next, stage_last, fewer, from_five, leaves, AtMost-with}
-use Rattle.hll_sketch.proofs.Keeping.{IfOk-map, OnErr-of}
+use Rattle.hll_sketch.proofs.Steps.{stage_next, stage_last, fewer, from_five, AtMost-with}
+use Rattle.hll_sketch.proofs.Keeping.{IfOk-map}
 use Rattle.hll_sketch.proofs.promotion.next_of.Goals as goal
 
 pub returns-in-None-clause-content : goal.returns-in-None-clause-content
@@ -15,20 +15,6 @@ returns-in-None-clause-content g c =
     let S : Pairs = insert (coupons_of t) c.args.coupon in
     let last : c.args.lg_k < size_after t.lg_size + 3 = subst (λ q. c.args.lg_k < size_after q + 3) c.lg_size.ensures.size c.in-None.ensures.none in
     IfOk-map c.promoted.result _ _ (λ m folded. folded ∙ ap (content_for c.args.lg_k S) (sym (stage_last c.args.lg_k t.lg_size (len S) c.requires.size c.requires.leaves last))) c.promoted.ensures.content
-
-pub returns-in-None-clause-needed : goal.returns-in-None-clause-needed
-returns-in-None-clause-needed g c =
-    let t : Table = c.args.table.now in
-    let n : ℕ = len (insert (coupons_of t) c.args.coupon) in
-    let few : AtMost t.lg_size n = AtMost-with t c.args.coupon n c.len-len.ensures.table (omega (arith, c.len-len.ensures.count, c.len-len.ensures.within)) c.requires.room refl in
-    OnErr-of c.promoted.result _ (leaves c.args.lg_k t.lg_size n c.requires.size c.requires.leaves few)
-
-pub returns-in_err-set_of_size-in-Some-clause-needed : goal.returns-in_err-set_of_size-in-Some-clause-needed
-returns-in_err-set_of_size-in-Some-clause-needed g c =
-    let t : Table = c.args.table.now in
-    let n : ℕ = len (insert (coupons_of t) c.args.coupon) in
-    let few : AtMost t.lg_size n = AtMost-with t c.args.coupon n c.len-len.ensures.table (omega (arith, c.len-len.ensures.count, c.len-len.ensures.within)) c.requires.room refl in
-    OnErr-of c.from_residual.result _ (leaves c.args.lg_k t.lg_size n c.requires.size c.requires.leaves few)
 
 pub returns-in_ok-set_of_size-in-Some-clause-content : goal.returns-in_ok-set_of_size-in-Some-clause-content
 returns-in_ok-set_of_size-in-Some-clause-content g c =

@@ -33,3 +33,6 @@ returns-clause-ok g c =
       parts.payload.1,
       λ i. record { lg_k = c.args.lg_config_k; registers = registers i; state = parts.state.0 i },
     )
+
+pub returns-clause-whole : goal.returns-clause-whole
+returns-clause-whole g c = c.in_ok-parts.ensures.payload.0

@@ -1,11 +1,10 @@
-use Rattle.std.proofs.Common.{◌≡◌, length}
-use Rattle.std.specs.Vec.Iter.{into_iter_items}
+use Rattle.std.proofs.Common.{◌≡◌, ◌-◌, length, drop}
 use Rattle.hll_coupons.specs.Table.{coupons_in}
 use Rattle.hll_coupons.proofs.aux_map.AuxMapIterIterator.next.Given as goal
 
 -- empty places are passed over
 abbrev pub invariant-loop-entry : goal.invariant-loop-entry
-invariant-loop-entry g l = coupons_in (into_iter_items l.self-inside.places) ≡ coupons_in (into_iter_items l.initial.self-inside.places)
+invariant-loop-entry g l = coupons_in (drop l.self-inside.place l.self-inside.table.places) ≡ coupons_in (drop l.initial.self-inside.place l.initial.self-inside.table.places)
 
 abbrev pub decreases-loop-entry : goal.decreases-loop-entry
-decreases-loop-entry g l = length (into_iter_items l.self-inside.places)
+decreases-loop-entry g l = length l.self-inside.table.places - l.self-inside.place

@@ -1,4 +1,4 @@
-use Rattle.std.proofs.Common.{arith, ℕ, ◌≡◌, ◌<◌, ◌^◌, ◌+◌, ◌∙◌, sym, ap, subst, length, slice_index, slice_set, false}
+use Rattle.std.proofs.Common.{arith, ℕ, ◌≡◌, ◌<◌, ◌^◌, ◌+◌, ◌∙◌, sym, ap, subst, List, length, slice_index, slice_set, false}
 use Rattle.std.specs.FinSet.{contains}
 use Rattle.hll_coupons.specs.Pair.{IsPair}
 use Rattle.hll_coupons.specs.Table.{Table, IsTable, coupons_in, coupons_of}
@@ -10,19 +10,24 @@ overflow_add-self g c =
     omega (arith, c.self.invariant.1, length-coupons_in-table _ c.self.invariant.0, c.self.invariant.0.size, small_places _ c.self.invariant.0)
 
 -- one more is held, in a table
-put_in : (t now : Table) (place coupon len : ℕ) → t ≡ now → IsTable t → len ≡ length (coupons_in t.places) → place < 2 ^ now.lg_size → slice_index now.places place ≡ 0 → IsPair coupon →
-    contains (coupons_of now) coupon ≡ false → IsTable (record { lg_size = t.lg_size; places = slice_set t.places place coupon }) × (len + 1 ≡ length (coupons_in (slice_set t.places place coupon)))
-put_in t now place coupon len same table count inside empty pair fresh =
+put_in : (t now : Table) (place coupon len : ℕ) (after : List ℕ) → after ≡ slice_set t.places place coupon → t ≡ now → IsTable t → len ≡ length (coupons_in t.places) → place < 2 ^ now.lg_size → slice_index now.places place ≡ 0 → IsPair coupon →
+    contains (coupons_of now) coupon ≡ false → IsTable (record { lg_size = t.lg_size; places = after }) × (len + 1 ≡ length (coupons_in after))
+put_in t now place coupon len after is same table count inside empty pair fresh =
     let put = IsTable-put t place coupon table (subst (λ (u : Table). place < 2 ^ u.lg_size) (sym same) inside) (ap (λ (u : Table). slice_index u.places place) same ∙ empty) pair
     (ap (λ u. contains (coupons_of u) coupon) same ∙ fresh) in
-    (put.0, ap (λ n. n + 1) count ∙ sym put.1)
+    (subst (λ ps. IsTable (record { lg_size = t.lg_size; places = ps })) (sym is) put.0, ap (λ n. n + 1) count ∙ sym put.1 ∙ ap (λ ps. length (coupons_in ps)) (sym is))
 
 pub invariant_of-self : goal.invariant_of-self
 invariant_of-self g c =
-    put_in _ _ c.args.place c.args.coupon c.self.inside.len c.self.view_is c.self.invariant.0 c.self.invariant.1 c.requires.inside c.requires.empty
+    put_in _ _ c.args.place c.args.coupon c.self.inside.len _ c.set.ensures c.self.view_is c.self.invariant.0 c.self.invariant.1 c.requires.inside c.requires.empty
     (record { valued = c.requires.valued; small = omega (arith, c.value.ensures.value, c.value.ensures.small) }) c.requires.fresh
 
 pub returns-clause-table : goal.returns-clause-table
 returns-clause-table g c =
-    (put_in _ _ c.args.place c.args.coupon c.self.inside.len c.self.view_is c.self.invariant.0 c.self.invariant.1 c.requires.inside c.requires.empty
+    (put_in _ _ c.args.place c.args.coupon c.self.inside.len _ c.set.ensures c.self.view_is c.self.invariant.0 c.self.invariant.1 c.requires.inside c.requires.empty
     (record { valued = c.requires.valued; small = omega (arith, c.value.ensures.value, c.value.ensures.small) }) c.requires.fresh).0
+
+pub set-requires-clause-small : goal.set-requires-clause-small
+set-requires-clause-small g c =
+    let within : c.args.place < 2 ^ c.self.inside.lg_size = subst (λ (t : Table). c.args.place < 2 ^ t.lg_size) (sym c.self.view_is) c.requires.inside in
+    omega (arith, within, c.self.invariant.0.size, small_places _ c.self.invariant.0)

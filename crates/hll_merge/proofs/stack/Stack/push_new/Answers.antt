@@ -1,4 +1,4 @@
-use Rattle.std.proofs.Common.{inl, inr, ◌∷◌, [], ◌++◌, ap, ◌∙◌, refl}
+use Rattle.std.proofs.Common.{◌∷◌, [], ◌++◌, ap, ◌∙◌, refl}
 use Rattle.hll_base.proofs.Errors.{IfErr-passed}
 use Rattle.hll_sketch.specs.Layout.{SketchLayout}
 use Rattle.hll_text.specs.Step.{fault_of}
@@ -9,7 +9,7 @@ use Rattle.hll_merge.proofs.stack.Stack.push_new.Goals as goal
 pub returns-in_err-sketch-clause-err : goal.returns-in_err-sketch-clause-err
 returns-in_err-sketch-clause-err g c =
     IfErr-passed _ c.from_residual-in_err-sketch.result (fault_of c.in_err-sketch.field-0.0) c.from_residual-in_err-sketch.ensures.1
-    (elim c.in_err-sketch.ensures.err [ inl outside ↦ absurd (c.in_err-sketch.ensures.outside outside c.requires) | inr m ↦ ap fault_of m ])
+    (absurd (c.in_err-sketch.ensures.outside c.requires))
 
 pub returns-clause-ok : goal.returns-clause-ok
 returns-clause-ok g c =

@@ -1,5 +1,6 @@
 use Rattle.std.proofs.Common.{◌≡◌, ℕ, None, sym, ap, subst, ◌∙◌}
 use Rattle.hll_coupons.specs.declared.hll_type.HllType.TheVariants.{Hll4, Hll6, Hll8}
+use Rattle.hll_arrays.specs.FourBits.{FourBits}
 use Rattle.hll_sketch.specs.Layout as layouts
 use Rattle.hll_sketch.specs.Layout.{SketchLayout, layout_of, content_in, sketch_of, IsLayoutFor}
 use Rattle.hll_sketch.proofs.Keeping.{OnOk-map, OnErr-map}
@@ -9,18 +10,20 @@ use Rattle.hll_sketch.proofs.sketch.HllSketch.merge_content.Goals as goal
 pub returns-in-Array4-clause-ok : goal.returns-in-Array4-clause-ok
 returns-in-Array4-clause-ok g c =
     let k : ℕ = c.sketch.inside.lg_config_k in
-    let x : SketchLayout = record { lg_k = k; layout = layouts.array Hll4 c.in-Array4.array.stored c.in-Array4.array.exceptions } in
-    let is : x ≡ c.args.sketch.now = (λ i. let y : SketchLayout = record { lg_k = k; layout = layout_of (sym c.in-Array4.is i) } in y) ∙ c.sketch.view_is in
-    let legal : IsLayoutFor k (layouts.array Hll4 c.in-Array4.array.stored c.in-Array4.array.exceptions) = subst (IsLayoutFor k) (ap layout_of c.in-Array4.is) c.sketch.invariant.1 in
-    OnOk-map c.merge_registers.result _ _ (λ e. e ∙ merged_as c.args.bound k (sketch_of c.args.self.now) c.args.sketch.now Hll4 c.in-Array4.array.stored c.in-Array4.array.exceptions is legal) c.merge_registers.ensures.ok
+    let a : FourBits = c.as_ref.result.now in
+    let kept : layouts.array Hll4 a.stored a.exceptions ≡ layout_of c.sketch.inside.mode = ap (λ (b : FourBits). layouts.array Hll4 b.stored b.exceptions) c.as_ref.ensures ∙ ap layout_of (sym c.in-Array4.is) in
+    let is : record { lg_k = k; layout = layouts.array Hll4 a.stored a.exceptions } ≡ c.args.sketch.now = (λ i. let y : SketchLayout = record { lg_k = k; layout = kept i } in y) ∙ c.sketch.view_is in
+    let legal : IsLayoutFor k (layouts.array Hll4 a.stored a.exceptions) = subst (IsLayoutFor k) (sym kept) c.sketch.invariant.1 in
+    OnOk-map c.merge_registers.result _ _ (λ e. e ∙ merged_as c.args.bound k (sketch_of c.args.self.now) c.args.sketch.now Hll4 a.stored a.exceptions is legal) c.merge_registers.ensures.ok
 
 pub returns-in-Array4-clause-needed : goal.returns-in-Array4-clause-needed
 returns-in-Array4-clause-needed g c =
     let k : ℕ = c.sketch.inside.lg_config_k in
-    let x : SketchLayout = record { lg_k = k; layout = layouts.array Hll4 c.in-Array4.array.stored c.in-Array4.array.exceptions } in
-    let is : x ≡ c.args.sketch.now = (λ i. let y : SketchLayout = record { lg_k = k; layout = layout_of (sym c.in-Array4.is i) } in y) ∙ c.sketch.view_is in
-    let legal : IsLayoutFor k (layouts.array Hll4 c.in-Array4.array.stored c.in-Array4.array.exceptions) = subst (IsLayoutFor k) (ap layout_of c.in-Array4.is) c.sketch.invariant.1 in
-    OnErr-map c.merge_registers.result _ _ (needed_as k (sketch_of c.args.self.now) (content_in c.args.self.now.layout) c.args.sketch.now Hll4 c.in-Array4.array.stored c.in-Array4.array.exceptions is legal) c.merge_registers.ensures.needed
+    let a : FourBits = c.as_ref.result.now in
+    let kept : layouts.array Hll4 a.stored a.exceptions ≡ layout_of c.sketch.inside.mode = ap (λ (b : FourBits). layouts.array Hll4 b.stored b.exceptions) c.as_ref.ensures ∙ ap layout_of (sym c.in-Array4.is) in
+    let is : record { lg_k = k; layout = layouts.array Hll4 a.stored a.exceptions } ≡ c.args.sketch.now = (λ i. let y : SketchLayout = record { lg_k = k; layout = kept i } in y) ∙ c.sketch.view_is in
+    let legal : IsLayoutFor k (layouts.array Hll4 a.stored a.exceptions) = subst (IsLayoutFor k) (sym kept) c.sketch.invariant.1 in
+    OnErr-map c.merge_registers.result _ _ (needed_as k (sketch_of c.args.self.now) (content_in c.args.self.now.layout) c.args.sketch.now Hll4 a.stored a.exceptions is legal) c.merge_registers.ensures.needed
 
 pub returns-in-Array6-clause-ok : goal.returns-in-Array6-clause-ok
 returns-in-Array6-clause-ok g c =

@@ -1,0 +1,103 @@
+//! Storage for coupons, in the value itself or in memory of their own.
+ghost use Rattle.std.specs.Prelude.{◌≡◌, ◌≢◌, ◌^◌, ◌<◌, ◌≤◌, length, replicate, slice_set, IfOk, IfErr, OnErr};
+ghost use Rattle.hll_base.specs.declared.error.Reason.TheVariants.{Memory};
+ghost use Rattle.hll_coupons.specs.Storage.{places_in};
+
+use crate::coupon::Coupon;
+use hll_base::error::Error;
+use std::alloc::{AllocError, Allocator, Global};
+use std::fmt;
+
+/// The logarithm of the number of places that stand in the value itself: the size of a sketch's list.
+const LG_IN_VALUE: usize = 3;
+
+/// 2^`lg_size` places, each empty or filled.
+#[derive(Drop)]
+pub(crate) enum Storage<A: Allocator = Global> {
+    /// Eight, which take no memory.
+    InValue { coupons: [Coupon; 8], alloc: A },
+    /// Any number.
+    Allocated(Vec<Coupon, A>),
+}
+
+impl<A: Allocator> Storage<A> {
+    /// Eight empty places.
+    pub(crate) fn eight(alloc: A) -> Storage<A>
+        ensures { places_in result ≡ replicate 8 0 }
+    {
+        Storage::InValue {
+            coupons: [Coupon::EMPTY; 8],
+            alloc,
+        }
+    }
+
+    /// 2^`lg_size` empty places.
+    ///
+    /// Fails with `Memory`, only if they are not eight.
+    pub(crate) fn new(alloc: A, lg_size: usize) -> Result<Storage<A>, Error>
+        requires { lg_size ≤ 26 }
+        ensures ok { IfOk result (λ p. places_in p ≡ replicate (2 ^ lg_size) 0) }
+        ensures needed { OnErr result (lg_size ≢ 3) }
+        ensures err { IfErr result (λ e. e ≡ Memory) }
+    {
+        if lg_size == LG_IN_VALUE {
+            return Ok(Storage::eight(alloc));
+        }
+        Ok(Storage::Allocated(vec![in alloc; Coupon::EMPTY; 1 << lg_size]?))
+    }
+
+    /// The places.
+    pub(crate) fn as_slice(&self) -> &[Coupon]
+        ensures { result.now ≡ places_in self.now }
+    {
+        match self {
+            Storage::InValue { coupons, .. } => coupons,
+            Storage::Allocated(coupons) => coupons,
+        }
+    }
+
+    /// Fills a place.
+    pub(crate) fn set(&mut self, place: usize, coupon: Coupon)
+        requires small { place < 2 ^ 26 }
+        requires within { place < length (places_in self.old) }
+        ensures { places_in self.new ≡ slice_set (places_in self.old) place coupon }
+    {
+        match self {
+            Storage::InValue { coupons, .. } => coupons[place] = coupon,
+            Storage::Allocated(coupons) => coupons[place] = coupon,
+        }
+    }
+}
+
+impl<A: Allocator + Clone> Storage<A> {
+    /// A copy.
+    ///
+    /// Fails with `Memory`.
+    pub(crate) fn clone(&self) -> Result<Storage<A>, Error>
+        ensures ok { IfOk result (λ p. places_in p ≡ places_in self.now) }
+        ensures err { IfErr result (λ e. e ≡ Memory) }
+    {
+        match self {
+            Storage::InValue { coupons, alloc } => Ok(Storage::InValue {
+                coupons: *coupons,
+                alloc: alloc.clone()?,
+            }),
+            Storage::Allocated(coupons) => Ok(Storage::Allocated(coupons.clone()?)),
+        }
+    }
+
+    /// A clone of the allocator. Fails where the allocator's own `clone` does.
+    pub(crate) fn cloned_allocator(&self) -> Result<A, AllocError> {
+        match self {
+            Storage::InValue { alloc, .. } => alloc.clone(),
+            Storage::Allocated(coupons) => coupons.allocator().clone(),
+        }
+    }
+}
+
+/// The places, as a list.
+impl<A: Allocator> fmt::Debug for Storage<A> {
+    fn fmt<W: fmt::Write>(&self, f: &mut fmt::Formatter<W>) -> fmt::Result {
+        self.as_slice().fmt(f)
+    }
+}
