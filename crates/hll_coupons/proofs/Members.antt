@@ -1,5 +1,5 @@
 -- The set of the coupons of a list or of places.
-use Rattle.std.proofs.Common.{◌≡◌, ℕ, ◌+◌, ◌<◌, Bool, true, false, cond, ◌||◌, ◌&&◌, List, [], ◌∷◌, ◌++◌, nat_lt, nat_eq, refl, inl, inr, sym, ◌∙◌, ap, arith, rules}
+use Rattle.std.proofs.Common.{◌≡◌, ℕ, ◌+◌, ◌<◌, ◌≤◌, max, Bool, true, false, cond, ◌||◌, ◌&&◌, List, [], ◌∷◌, ◌++◌, nat_lt, nat_eq, refl, inl, inr, sym, ◌∙◌, ap, arith, rules}
 use Rattle.std.specs.List.{list_any, list_all}
 use Rattle.std.specs.Ordering.{nat_cmp, eq_by_cmp}
 use Rattle.std.specs.Cmp.{nat_cmp_total, unsigned_tied}
@@ -104,3 +104,13 @@ is_subset-of_all s all xs e h = sym (ap (λ ys. is_subset (set_of ys) s) (e ∙ 
 
 pub is_subset-of_missing : (s : Pairs) (all xs ys : List ℕ) (c : ℕ) → all ≡ xs ++ c ∷ ys → contains s c ≡ false → false ≡ is_subset (set_of all) s
 is_subset-of_missing s all xs ys c e h = sym (ap (λ zs. is_subset (set_of zs) s) e ∙ is_subset-missing s xs ys c h)
+
+-- a bound of the members of a set and of one more
+pub insert-bound : (s : Pairs) (c m : ℕ) → ((q : ℕ) → contains s q ≡ true → q ≤ m) → (q : ℕ) → contains (insert s c) q ≡ true → q ≤ max m c
+insert-bound s c m low q member = of (nat_eq q c) refl
+  where
+    of : (b : Bool) → nat_eq q c ≡ b → q ≤ max m c
+    of true e = omega (arith, eqb-true q c e)
+    of false e =
+        let among : contains s q ≡ true = sym (contains-insert nat_cmp_total s c q ∙ ap (λ b. b || contains s q) (unsigned_tied q c ∙ e)) ∙ member in
+        omega (arith, low q among)

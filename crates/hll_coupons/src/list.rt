@@ -1,5 +1,5 @@
 //! A list of coupons in order of arrival (docs/MODEL.md, "Tables").
-ghost use Rattle.std.specs.Prelude.{◌≡◌, ◌≢◌, ◌^◌, ◌<◌, ◌≤◌, length, false, IfOk, IfErr, ◌*◌, ◌⊎◌, take, OnOk, OnErr, Bool, IsTrue, ◌↔◌};
+ghost use Rattle.std.specs.Prelude.{◌≡◌, ◌≢◌, ℕ, ◌^◌, ◌<◌, ◌≤◌, length, true, false, IfOk, IfErr, ◌*◌, ◌⊎◌, take, OnOk, OnErr, Bool, IsTrue, ◌↔◌};
 ghost use Rattle.std.specs.FinSet as set;
 ghost use Rattle.hll_base.specs.declared.error.Reason.TheVariants.{Memory};
 ghost use Rattle.hll_base.specs.declared.error.Reason.TheVariants as reasons;
@@ -117,24 +117,23 @@ impl<A: Allocator> List<A> {
         ensures order { coupons_in self.new.places ≡ coupons_with (coupons_in self.old.places) coupon }
         ensures members { coupons_of self.new ≡ set.insert (coupons_of self.old) coupon }
     {
-        self.insert(coupon);
+        let _len = self.container.len();
+        if !self.contains(coupon) {
+            self.push(coupon);
+        }
     }
 
-    /// The same. Says whether the coupon is new.
-    fn insert(&mut self, coupon: Coupon) -> bool
+    /// Puts a new coupon into the first empty place.
+    fn push(&mut self, coupon: Coupon)
         requires valued { 1 ≤ value_of coupon }
-        requires room { set.contains (coupons_of self.old) coupon ≡ false → length (coupons_in self.old.places) < 2 ^ self.old.lg_size }
-        ensures new { IsTrue result ↔ (set.contains (coupons_of self.old) coupon ≡ false) }
+        requires room { length (coupons_in self.old.places) < 2 ^ self.old.lg_size }
+        requires fresh { set.contains (coupons_of self.old) coupon ≡ false }
         ensures places { self.new ≡ filled_from_front self.old.lg_size (coupons_with (coupons_in self.old.places) coupon) }
         ensures order { coupons_in self.new.places ≡ coupons_with (coupons_in self.old.places) coupon }
         ensures members { coupons_of self.new ≡ set.insert (coupons_of self.old) coupon }
     {
-        if self.contains(coupon) {
-            return false;
-        }
         let place = self.container.len();
         self.container.put(place, coupon);
-        true
     }
 
     /// Whether the list has the coupon. Looks at each coupon until it is found; takes no memory.
@@ -142,6 +141,14 @@ impl<A: Allocator> List<A> {
         ensures { result ≡ set.contains (coupons_of self.now) coupon }
     {
         self.container.places()[..self.container.len()].contains(&coupon)
+    }
+
+    /// The same of a list without coupons above `greatest`. One above it is not sought.
+    fn contains_up_to(&self, coupon: Coupon, greatest: u32) -> bool
+        requires { (c : ℕ) → set.contains (coupons_of self.now) c ≡ true → c ≤ greatest }
+        ensures { result ≡ set.contains (coupons_of self.now) coupon }
+    {
+        coupon.raw() <= greatest && self.contains(coupon)
     }
 
     /// The places. Takes no memory.
@@ -234,7 +241,8 @@ fn places_to_read(lg_arr: usize, coupon_count: usize, empty: bool, compact: bool
     }
 }
 
-/// Reads places into an empty list. `Coupon` where one that has to be a coupon has no value, or comes twice.
+/// Reads places into an empty list. `Coupon` where one that has to be a coupon has no value, or comes twice. One above
+/// those before it is not sought among them, as in an image whose coupons ascend.
 fn read_places<A: Allocator>(
     list: &mut List<A>,
     mut cursor: SketchSlice<'_>,
@@ -247,14 +255,17 @@ fn read_places<A: Allocator>(
     ensures ok { OnOk result ((list.new ≡ filled_from_front list.old.lg_size (coupons_at compact places cursor.entry)) × AreCoupons (coupons_at compact places cursor.entry)) }
     ensures err { IfErr result (λ e. (e ≡ reasons.Coupon) × (AreCoupons (coupons_at compact places cursor.entry) → ⊥)) }
 {
+    let mut greatest = 0u32;
     for _ in 0..places {
         let coupon = Coupon::from_raw(cursor.read_u32_le()?);
         if coupon.is_empty() && !compact {
             continue;
         }
-        if coupon.value() == 0 || !list.insert(coupon) {
+        if coupon.value() == 0 || list.contains_up_to(coupon, greatest) {
             return Err(Error::new(Reason::Coupon));
         }
+        list.push(coupon);
+        greatest = greatest.max(coupon.raw());
     }
     Ok(())
 }

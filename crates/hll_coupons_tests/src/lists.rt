@@ -94,6 +94,9 @@ fn sizes_do_not_count(rt: HostRuntime) -> Result<(), Fail> {
 /// Two coupons, then an empty place and the second coupon's bytes once more.
 const PLACES: [u8; 16] = [5, 0, 0, 12, 6, 0, 0, 12, 0, 0, 0, 0, 6, 0, 0, 12];
 
+/// Two coupons in descending order, and the second once more.
+const DESCENDING: [u8; 12] = [6, 0, 0, 12, 5, 0, 0, 12, 5, 0, 0, 12];
+
 /// What is wrong with these places of a list with four places, or the number of its coupons.
 fn read_in<A: Allocator>(
     alloc: A,
@@ -110,7 +113,7 @@ fn read_in<A: Allocator>(
 
 /// Bytes behind a header, the count, the empty and the compact flag, and what is answered: the number of coupons, or
 /// what is wrong.
-const READINGS: [(&[u8], usize, bool, bool, Result<usize, Reason>); 10] = [
+const READINGS: [(&[u8], usize, bool, bool, Result<usize, Reason>); 12] = [
     (&[], 0, true, false, Ok(0)),
     (&[0; 16], 0, false, false, Err(Reason::Count)),
     (&PLACES, 5, false, true, Err(Reason::Count)),
@@ -118,6 +121,8 @@ const READINGS: [(&[u8], usize, bool, bool, Result<usize, Reason>); 10] = [
     (&PLACES, 2, false, true, Ok(2)),
     (&PLACES, 3, false, true, Err(Reason::Coupon)),
     (&PLACES, 3, false, false, Err(Reason::Coupon)),
+    (&DESCENDING, 2, false, true, Ok(2)),
+    (&DESCENDING, 3, false, true, Err(Reason::Coupon)),
     (&[5; 15], 4, false, true, Err(Reason::Truncated)),
     (&[0; 16], 1, false, false, Err(Reason::Count)),
     (&[255; 4], 1, false, true, Ok(1)),

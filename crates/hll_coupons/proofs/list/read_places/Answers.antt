@@ -1,15 +1,15 @@
-use Rattle.std.proofs.Common.{◌≡◌, ℕ, ◌+◌, ◌-◌, ◌^◌, ◌≤◌, Bool, true, false, List, [], ◌∷◌, ◌++◌, length, ap, sym, subst, refl, ◌∙◌, arith, append_assoc, replicate}
-use Rattle.std.specs.FinSet.{contains}
+use Rattle.std.proofs.Common.{◌≡◌, ℕ, ◌+◌, ◌-◌, ◌^◌, ◌≤◌, max, Bool, true, false, List, [], ◌∷◌, ◌++◌, length, ap, sym, subst, refl, ◌∙◌, arith, append_assoc, replicate}
+use Rattle.std.specs.FinSet.{contains, insert, contains-from_list_nat}
 use Rattle.std.proofs.lemmas.Bool.{cond-false, true≢false}
 use Rattle.std.proofs.lemmas.List.{length-append, length-drop}
-use Rattle.hll_coupons.specs.Pair.{value_of}
+use Rattle.hll_coupons.specs.Pair.{value_of, set_of}
 use Rattle.hll_coupons.specs.Table.{Table, coupons_in, filled_from_front, empty_table, coupons_with, coupons_of}
 use Rattle.hll_coupons.specs.Coupons.{coupons_at, AreCoupons}
-use Rattle.hll_coupons.proofs.Members.{member_unless_lacking}
+use Rattle.hll_coupons.proofs.Members.{insert-bound}
 use Rattle.hll_coupons.proofs.Places.{coupons_in-replicate}
 use Rattle.hll_coupons.proofs.Reading.{all_places, passed_over, no_value, twice, AreCoupons-push, AreCoupons-nil}
 use Rattle.hll_coupons.proofs.list.read_places.Goals as goal
-use Rattle.hll_coupons.proofs.list.read_places.Goals.{else-is_empty-via-then-is_empty+else-not-compact, else-is_empty-via-else-is_empty, then-value-eq0-via-then-value-eq0, then-value-eq0-via-else-value-eq0+then-not-insert}
+use Rattle.hll_coupons.proofs.list.read_places.Goals.{else-is_empty-via-then-is_empty+else-not-compact, else-is_empty-via-else-is_empty, then-value-eq0-via-then-value-eq0, then-value-eq0-via-else-value-eq0+then-contains_up_to}
 
 -- no coupon, filled from the front
 empty_filled : (lg : ℕ) → empty_table lg ≡ filled_from_front lg []
@@ -26,6 +26,7 @@ loop-init g c =
       few = omega (arith, ap length none);
       front = c.requires.none ∙ empty_filled c.args.list.now.lg_size ∙ ap (filled_from_front c.args.list.now.lg_size) (sym none);
       are = subst AreCoupons (sym none) AreCoupons-nil;
+      bound = λ q member. absurd (true≢false (sym member ∙ ap (λ xs. contains (set_of xs) q) none ∙ contains-from_list_nat [] q));
     }
 
 pub loop-preserved-then-not-compact : goal.loop-preserved-then-not-compact
@@ -43,6 +44,7 @@ loop-preserved-then-not-compact g c =
       few = omega (arith, inv.few);
       front = inv.front;
       are = inv.are;
+      bound = inv.bound;
     }
 
 pub returns-then-value-eq0-clause-err : goal.returns-then-value-eq0-clause-err
@@ -61,8 +63,8 @@ returns-then-value-eq0-clause-err g c =
       c.new.ensures,
       λ are. elim c.then-value-eq0.branch [
         | then-value-eq0-via-then-value-eq0 v ↦ no_value (coupons_in c.loop.list.places) rest w (ap value_of (sym same) ∙ sym c.value.ensures.value ∙ v.if-value-eq0.true) (subst AreCoupons all are)
-        | then-value-eq0-via-else-value-eq0+then-not-insert v ↦
-            let there : contains (coupons_of c.loop.list) c.from_raw-coupon.result ≡ true = member_unless_lacking (coupons_of c.loop.list) c.from_raw-coupon.result (λ none. true≢false (sym (v.insert.ensures.new.1 none) ∙ v.if-not-insert.true)) in
+        | then-value-eq0-via-else-value-eq0+then-contains_up_to v ↦
+            let there : contains (coupons_of c.loop.list) c.from_raw-coupon.result ≡ true = sym v.contains_up_to.ensures ∙ v.if-contains_up_to.true in
             twice (coupons_in c.loop.list.places) rest w (ap (contains (coupons_of c.loop.list)) (sym same) ∙ there) (subst AreCoupons all are)
       ],
     )
@@ -81,16 +83,20 @@ loop-preserved g c =
     let all : coupons_at c.args.compact c.args.places c.args.cursor ≡ order ++ w ∷ rest =
     all_places c.args.compact c.args.places c.loop.counter w c.loop.cursor c.read_u32_le.new.self (coupons_at c.args.compact c.args.places c.args.cursor) order c.loop-test.true inv.read word.1 word.2 filled in
     let same : c.from_raw-coupon.result ≡ w = c.from_raw-coupon.ensures in
-    let new : contains (coupons_of c.loop.list) c.from_raw-coupon.result ≡ false = c.insert.ensures.new.0 c.if-not-insert.false in
+    let new : contains (coupons_of c.loop.list) c.from_raw-coupon.result ≡ false = sym c.contains_up_to.ensures ∙ c.if-contains_up_to.false in
     let came : coupons_with order c.from_raw-coupon.result ≡ order ++ w ∷ [] =
     cond-false (contains (coupons_of c.loop.list) c.from_raw-coupon.result) order (order ++ c.from_raw-coupon.result ∷ []) new ∙ ap (λ z. order ++ z ∷ []) same in
-    let held_new : coupons_in c.insert.new.self.places ≡ order ++ w ∷ [] = c.insert.ensures.order ∙ came in
-    let lg : c.insert.new.self.lg_size ≡ c.loop.list.lg_size = ap (λ (t : Table). t.lg_size) c.insert.ensures.places in
+    let held_new : coupons_in c.push.new.self.places ≡ order ++ w ∷ [] = c.push.ensures.order ∙ came in
+    let lg : c.push.new.self.lg_size ≡ c.loop.list.lg_size = ap (λ (t : Table). t.lg_size) c.push.ensures.places in
     record {
       read = all ∙ sym (append_assoc order (w ∷ []) rest) ∙ ap (λ xs. xs ++ rest) (sym held_new);
       room = omega (arith, inv.room, ap length word.2, length-drop 4 c.loop.cursor, c.loop-test.true);
       size = lg ∙ inv.size;
       few = omega (arith, inv.few, ap length held_new, length-append order (w ∷ []));
-      front = c.insert.ensures.places ∙ (λ i. filled_from_front (sym lg i) (sym c.insert.ensures.order i));
+      front = c.push.ensures.places ∙ (λ i. filled_from_front (sym lg i) (sym c.push.ensures.order i));
       are = subst AreCoupons (sym held_new) (AreCoupons-push order w inv.are (let v : 1 ≤ value_of w = omega (arith, c.if-value-eq0.false, c.value.ensures.value, ap value_of same) in v) (ap (contains (coupons_of c.loop.list)) (sym same) ∙ new));
+      bound = λ q member.
+          let more : contains (insert (coupons_of c.loop.list) c.from_raw-coupon.result) q ≡ true = ap (λ s. contains s q) (sym c.push.ensures.members) ∙ member in
+          let low : q ≤ max c.loop.greatest c.from_raw-coupon.result = insert-bound (coupons_of c.loop.list) c.from_raw-coupon.result c.loop.greatest inv.bound q more in
+          omega (arith, low, c.max-greatest.ensures, c.raw.ensures);
     }

@@ -1,9 +1,10 @@
-use Rattle.std.proofs.Common.{◌≡◌, ◌-◌, ◌*◌, ◌≤◌, ◌++◌, length}
-use Rattle.hll_coupons.specs.Table.{coupons_in, filled_from_front}
+use Rattle.std.proofs.Common.{◌≡◌, ℕ, ◌-◌, ◌*◌, ◌≤◌, ◌++◌, length, true}
+use Rattle.std.specs.FinSet.{contains}
+use Rattle.hll_coupons.specs.Table.{coupons_in, coupons_of, filled_from_front}
 use Rattle.hll_coupons.specs.Coupons.{coupons_at, AreCoupons}
 use Rattle.hll_coupons.proofs.list.read_places.Given as goal
 
--- the coupons of the places so far are held, and the rest is to come
+-- the coupons of the places so far are held, none greater than the greatest, and the rest is to come
 abbrev pub invariant-loop : goal.invariant-loop
 invariant-loop g l = record {
   read : coupons_at l.compact l.fn.places l.fn.cursor ≡ coupons_in l.list.places ++ coupons_at l.compact (l.places - l.counter) l.cursor;
@@ -12,4 +13,5 @@ invariant-loop g l = record {
   few : length (coupons_in l.list.places) ≤ l.counter;
   front : l.list ≡ filled_from_front l.list.lg_size (coupons_in l.list.places);
   are : AreCoupons (coupons_in l.list.places);
+  bound : (c : ℕ) → contains (coupons_of l.list) c ≡ true → c ≤ l.greatest;
 }

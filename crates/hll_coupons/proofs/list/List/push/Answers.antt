@@ -1,20 +1,18 @@
-use Rattle.std.proofs.Common.{◌≡◌, ◌<◌, ◌^◌, ◌∙◌, sym, ap, subst, length, slice_set, false, true, refl}
+use Rattle.std.proofs.Common.{◌≡◌, ◌<◌, ◌^◌, ◌∙◌, sym, ap, subst, length, slice_set, false}
 use Rattle.std.specs.FinSet.{contains}
-use Rattle.std.proofs.lemmas.Bool.{true≢false}
 use Rattle.hll_coupons.specs.Pair.{set_of}
 use Rattle.hll_coupons.specs.Table.{Table, coupons_of, coupons_in, coupons_with, filled_from_front, IsFilledFromFront}
-use Rattle.hll_coupons.proofs.Members.{set_of-coupons_with, insert-member}
+use Rattle.hll_coupons.proofs.Members.{set_of-coupons_with}
 use Rattle.hll_coupons.proofs.TableLemmas.{places-put, coupons_in-coupons_with, coupons_in-filled_from_front, IsFilledFromFront-front, full_of_valued}
-use Rattle.hll_coupons.proofs.list.List.insert.Given.{Over}
-use Rattle.hll_coupons.proofs.list.List.insert.Goals as goal
+use Rattle.hll_coupons.proofs.list.List.push.Given.{Over}
+use Rattle.hll_coupons.proofs.list.List.push.Goals as goal
 
 -- the table that put leaves
 after : (g : Over) (c : goal.After-put g) → c.put.new.self ≡ filled_from_front c.args.self.now.lg_size (coupons_with (coupons_in c.args.self.now.places) c.args.coupon)
 after g c =
     let t : Table = c.self.inside.container in
-    let fresh_now : contains (coupons_of c.args.self.now) c.args.coupon ≡ false = sym c.contains.ensures ∙ c.if-contains.false in
-    let fresh : contains (coupons_of t) c.args.coupon ≡ false = ap (λ u. contains (coupons_of u) c.args.coupon) c.self.view_is ∙ fresh_now in
-    let room : length (coupons_in t.places) < 2 ^ t.lg_size = subst (λ (u : Table). length (coupons_in u.places) < 2 ^ u.lg_size) (sym c.self.view_is) (c.requires.room fresh_now) in
+    let fresh : contains (coupons_of t) c.args.coupon ≡ false = ap (λ u. contains (coupons_of u) c.args.coupon) c.self.view_is ∙ c.requires.fresh in
+    let room : length (coupons_in t.places) < 2 ^ t.lg_size = subst (λ (u : Table). length (coupons_in u.places) < 2 ^ u.lg_size) (sym c.self.view_is) c.requires.room in
     c.put.ensures.places
     ∙ ap (λ n. record { lg_size = t.lg_size; places = slice_set t.places n c.args.coupon }) c.len-place.ensures.count
     ∙ places-put t c.args.coupon c.self.invariant fresh room
@@ -33,16 +31,6 @@ invariant_of-self g c =
     subst IsFilledFromFront (sym (after g c))
     (IsFilledFromFront-front t.lg_size _ (coupons_in-coupons_with t.places c.args.coupon (full_of_valued c.args.coupon c.requires.valued)))
 
-pub returns-then-contains-clause-new : goal.returns-then-contains-clause-new
-returns-then-contains-clause-new g c =
-    let there : contains (coupons_of c.args.self.now) c.args.coupon ≡ true =
-    sym c.contains.ensures ∙ c.if-contains.true in
-    (λ e. absurd (true≢false (sym e)), λ e. absurd (true≢false (sym there ∙ e)))
-
-pub returns-clause-new : goal.returns-clause-new
-returns-clause-new g c =
-    (λ e. sym c.contains.ensures ∙ c.if-contains.false, λ e. refl)
-
 pub returns-clause-places : goal.returns-clause-places
 returns-clause-places g c = after g c
 
@@ -51,9 +39,3 @@ returns-clause-order g c = order g c
 
 pub returns-clause-members : goal.returns-clause-members
 returns-clause-members g c = ap set_of (order g c) ∙ set_of-coupons_with (coupons_in c.args.self.now.places) c.args.coupon
-
-pub returns-then-contains-clause-members : goal.returns-then-contains-clause-members
-returns-then-contains-clause-members g c =
-    let member : contains (coupons_of c.args.self.now) c.args.coupon ≡ true =
-    sym c.contains.ensures ∙ c.if-contains.true in
-    sym (insert-member (coupons_of c.args.self.now) c.args.coupon member)
