@@ -1,12 +1,13 @@
 -- Registers of four bits with a greater one at a slot.
 use Rattle.std.proofs.Common.{◌≡◌, ◌≢◌, ℕ, ◌+◌, ◌-◌, ◌*◌, ◌/◌, ◌%◌, ◌^◌, ◌<◌, ◌≤◌, ◌⊎◌, zero, suc, Bool, true, false, eqb, leb, cond, List, [], ◌∷◌, All, Option, Some, None, length, get_or, set, take, refl, sym, ap, subst, ◌∙◌, arith, inl, inr}
-use Rattle.std.specs.Prelude.{min, fold, count_by, nat_eq, OnOk, OnErr, Result, Ok, Err}
+use Rattle.std.specs.Prelude.{min, fold, count_by, nat_eq, OnOk, OnErr, Result}
 use mir.Val.{bool_byte}
 use Rattle.std.proofs.lemmas.Bool.{cases_eq, cases_lt, cond-true, cond-false, eq-eqb, le-leb, lt-leb, true≢false}
 use Rattle.std.proofs.lemmas.List.{length-set, get_or-set_same, get_or-set_other, get_or_default}
 use Rattle.std.proofs.lemmas.Nat.{pow_pos, mod_below}
 use Rattle.std.proofs.Math.Pow.{pow_mono}
 use Rattle.std.proofs.lemmas.List.Sums.{sum_by-cons, sum_by-set}
+use Rattle.std.proofs.lemmas.Result.{on_ok_weaker, on_err_weaker}
 use Rattle.hll_arrays.specs.FourBits.{exception_of, exception_in, kept_above, fallen, lowered_by, unpacked, with_register, has_exception, ExceptionsMove, FourBits, IsMapFor, IsPacked}
 use Rattle.hll_arrays.specs.Packed.{nibble, nibble_at, nibble_bytes_above, minimum, count_at_minimum, zero_nibbles}
 use Rattle.hll_arrays.specs.Store.{AreRegisters, Stored, update_with_coupon}
@@ -548,14 +549,6 @@ module _ (k m n : ℕ) (bytes : List ℕ) (e : Option ExceptionMap) (state : Est
 
 -- ---- a coupon
 
-OnOk-map : {X Y : Type 0} (r : Result X Y) (P Q : Type 0) → (P → Q) → OnOk r P → OnOk r Q
-OnOk-map (Ok x) P Q f h = f h
-OnOk-map (Err e) P Q f h = tt
-
-OnErr-map : {X Y : Type 0} (r : Result X Y) (P Q : Type 0) → (P → Q) → OnErr r P → OnErr r Q
-OnErr-map (Ok x) P Q f h = tt
-OnErr-map (Err e) P Q f h = f h
-
 module _ (k m n : ℕ) (bytes : List ℕ) (e : Option ExceptionMap) (state : EstimateState) (p : IsPacked k m n bytes e (unpacked k m bytes e)) (x : FourBits) (same : seen k m bytes e state ≡ x)
     (coupon slot size old value : ℕ) (at : slot ≡ slot_of coupon % size) (size_is : size ≡ 2 ^ k) (read : old ≡ get_or x.stored.registers slot 0) (value_is : value ≡ value_of coupon) where
   full_length : length x.stored.registers ≡ 2 ^ x.stored.lg_k
@@ -578,8 +571,8 @@ module _ (k m n : ℕ) (bytes : List ℕ) (e : Option ExceptionMap) (state : Est
       ∙ update_with_pairs-high x.stored.lg_k x.stored.registers coupon full_length x.stored.state (omega (arith, full_length, mod_below (slot_of coupon) (2 ^ x.stored.lg_k) (pow_pos x.stored.lg_k))) (omega (arith, high, value_is, register))
 
   pub update_more : {Y Z : Type 0} (r : Result Y Z) (new : Stored) → old < value → OnOk r (new ≡ with_register x.stored slot value) → OnOk r (new ≡ update_with_coupon x.stored coupon)
-  update_more r new high h = OnOk-map r _ _ (λ is. is ∙ written high) h
+  update_more r new high h = on_ok_weaker r (λ is. is ∙ written high) h
 
   pub update_needed : {Y Z : Type 0} (r : Result Y Z) → old < value → OnErr r (ExceptionsMove x.stored.lg_k x.stored.registers (set x.stored.registers slot value)) →
       OnErr r (ExceptionsMove x.stored.lg_k x.stored.registers (update_with_coupon x.stored coupon).registers)
-  update_needed r high h = OnErr-map r _ _ (subst (λ (y : Stored). ExceptionsMove x.stored.lg_k x.stored.registers y.registers) (written high)) h
+  update_needed r high h = on_err_weaker r (subst (λ (y : Stored). ExceptionsMove x.stored.lg_k x.stored.registers y.registers) (written high)) h

@@ -1,6 +1,6 @@
 -- Registers of four bits: what is kept is the packed form of the registers.
 use Rattle.std.proofs.Common.{◌≡◌, ◌≢◌, ℕ, ◌+◌, ◌-◌, ◌*◌, ◌/◌, ◌%◌, ◌^◌, ◌<◌, ◌≤◌, ◌⊎◌, zero, suc, Bool, true, false, eqb, leb, cond, ◌&&◌, List, [], ◌∷◌, ◌++◌, All, Option, Some, None, length, replicate, take, drop, get_or, refl, sym, ap, subst, ◌∙◌, arith, inl, inr}
-use Rattle.std.specs.Prelude.{min, fold, filter, count_by, OnErr, Result, Ok, Err}
+use Rattle.std.specs.Prelude.{min, fold, filter, count_by}
 use Rattle.std.specs.List.{list_all}
 use Rattle.std.specs.Cmp.{nat_cmp_total, both_ways}
 use Rattle.std.specs.FinSet.{same_set, nat_cmp-IsAntisymmetric}
@@ -264,11 +264,6 @@ kept_whole t m kept is h s = of (value_in t s) refl
             let both : Some v ≡ Some w = sym e ∙ o.0 in
             let same : v ≡ w = cc in
             absurd (omega (arith, low, same, o.1))
-
--- what holds anyway holds on a refusal
-pub OnErr-of : {X Y : Type 0} (r : Result X Y) (P : Type 0) → P → OnErr r P
-OnErr-of (Ok x) P p = tt
-OnErr-of (Err e) P p = p
 
 -- what a slot with an exception rules out is seen where there is none
 pub none_of_refused : (o : Option ℕ) → (o ≢ None → ⊥) → o ≡ None

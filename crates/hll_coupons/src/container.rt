@@ -10,7 +10,7 @@ ghost use Rattle.hll_coupons.specs.Table.{coupons_in, coupons_of, empty_table, I
 ghost use Rattle.hll_coupons.specs.Coupons.{coupon_bytes, IsAscending};
 
 use crate::coupon::Coupon;
-use crate::storage::Storage;
+use crate::storage::{LG_IN_VALUE, Storage};
 use hll_base::codec::SketchBytes;
 use hll_base::error::Error;
 use std::alloc::{AllocError, Allocator, Global};
@@ -44,7 +44,7 @@ impl<A: Allocator> Container<A> {
         ensures { result ≡ empty_table 3 }
     {
         Container {
-            lg_size: 3,
+            lg_size: LG_IN_VALUE,
             len: 0,
             places: Storage::eight(alloc),
         }

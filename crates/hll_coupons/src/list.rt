@@ -143,7 +143,7 @@ impl<A: Allocator> List<A> {
         self.container.places()[..self.container.len()].contains(&coupon)
     }
 
-    /// The same of a list without coupons above `greatest`. One above it is not sought.
+    /// Whether the list, which has no raw word above `greatest`, has the coupon. A greater one is not sought.
     fn contains_up_to(&self, coupon: Coupon, greatest: u32) -> bool
         requires { (c : ℕ) → set.contains (coupons_of self.now) c ≡ true → c ≤ greatest }
         ensures { result ≡ set.contains (coupons_of self.now) coupon }

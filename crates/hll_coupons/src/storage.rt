@@ -9,7 +9,7 @@ use std::alloc::{AllocError, Allocator, Global};
 use std::fmt;
 
 /// The logarithm of the number of places that stand in the value itself: the size of a sketch's list.
-const LG_IN_VALUE: usize = 3;
+pub(crate) const LG_IN_VALUE: usize = 3;
 
 /// 2^`lg_size` places, each empty or filled.
 #[derive(Drop)]

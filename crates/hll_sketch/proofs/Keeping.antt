@@ -1,5 +1,5 @@
 -- A table and a coupon more, in the words of the definitions.
-use Rattle.std.proofs.Common.{◌≡◌, ℕ, ◌+◌, ◌*◌, ◌&&◌, ◌^◌, ◌≤◌, ◌<◌, Bool, true, false, not, cond, eqb, leb, [], ◌∷◌, length, Result, Ok, Err, IfOk, OnOk, OnErr, sym, ap, ◌∙◌, arith}
+use Rattle.std.proofs.Common.{◌≡◌, ℕ, ◌+◌, ◌*◌, ◌&&◌, ◌^◌, ◌≤◌, ◌<◌, Bool, true, false, not, cond, eqb, leb, [], ◌∷◌, length, Result, Ok, Err, OnOk, OnErr, sym, ap, ◌∙◌, arith}
 use mir.Val.{bool_byte}
 use Rattle.std.specs.Cmp.{nat_cmp_total}
 use Rattle.std.specs.FinSet.{contains, insert, union, len, len-insert}
@@ -17,15 +17,7 @@ use Rattle.hll_sketch.specs.Layout.{Layout, list, set, array, holds_with, IsSize
 use Rattle.hll_sketch.proofs.Inserting.{insert-union}
 use Rattle.hll_sketch.proofs.Steps.{stage_stays}
 
-pub OnErr-of : {X E : Type 0} (r : Result X E) (P : Type 0) → P → OnErr r P
-OnErr-of (Ok x) P p = tt
-OnErr-of (Err e) P p = p
-
-pub OnErr-map : {X E : Type 0} (r : Result X E) (P Q : Type 0) → (P → Q) → OnErr r P → OnErr r Q
-OnErr-map (Ok x) P Q f h = tt
-OnErr-map (Err e) P Q f h = f h
-
--- one more, unless it is coupons_in
+-- one more, unless the set has it
 pub count_with : (S : Pairs) (c : ℕ) (b : Bool) → b ≡ contains S c → len S + bool_byte (not b) ≡ len (insert S c)
 count_with S c true e = let same : len (insert S c) ≡ len S = len-insert nat_cmp_total S c ∙ ap (λ b. cond b (len S) (len S + 1)) (sym e) in omega (arith, same)
 count_with S c false e = let same : len (insert S c) ≡ len S + 1 = len-insert nat_cmp_total S c ∙ ap (λ b. cond b (len S) (len S + 1)) (sym e) in omega (arith, same)
@@ -86,15 +78,7 @@ room_of_set p n low h =
     other : (p : ℕ) → 5 ≤ p → eqb p 3 ≡ false
     other p h = grind (arith, nat_tests)
 
-pub IfOk-map : {X E : Type 0} (r : Result X E) (P Q : X → Type 0) → ((x : X) → P x → Q x) → IfOk r P → IfOk r Q
-IfOk-map (Ok x) P Q f h = f x h
-IfOk-map (Err e) P Q f h = tt
-
 -- what follows from either outcome
 pub either_way : {X E : Type 0} (r : Result X E) (P Q T : Type 0) → OnOk r P → OnErr r Q → (P → T) → (Q → T) → T
 either_way (Ok x) P Q T p q f h = f p
 either_way (Err e) P Q T p q f h = h q
-
-pub OnOk-map : {X E : Type 0} (r : Result X E) (P Q : Type 0) → (P → Q) → OnOk r P → OnOk r Q
-OnOk-map (Ok x) P Q f h = f h
-OnOk-map (Err e) P Q f h = tt

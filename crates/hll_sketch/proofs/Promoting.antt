@@ -14,7 +14,7 @@ use Rattle.hll_arrays.proofs.States.{state_after-cleared_state}
 use Rattle.hll_sketch.proofs.Inserting.{insert-union, set_of-nil}
 use Rattle.hll_sketch.proofs.Sets.{same_members, contains_union}
 
--- registers of pairs, with the cleared_state state
+-- registers of pairs, with the cleared state
 abbrev pub folded : ℕ → Pairs → Stored
 folded k P = record { lg_k = k; registers = fold_to P k; state = cleared_state }
 

@@ -39,7 +39,7 @@ too_many p n many = and_right (leb p p) (holds p n) many
 past_three : (k p n : ℕ) → fits p n 3 ≡ false → stage k p n ≡ find (fits p n) (range_with_len 5 (k - 7))
 past_three k p n e = cond-false (fits p n 3) (Some 3) (find (fits p n) (range_with_len 5 (k - 7))) e
 
--- what is coupons_in stays in its table
+-- coupons that a table holds stay in it
 pub stage_stays : (k p n : ℕ) → IsSize k p → holds p n ≡ true → stage k p n ≡ Some p
 stage_stays k p n (inl e) = subst (λ q. holds q n ≡ true → stage k q n ≡ Some q) (sym e) list
   where
@@ -62,7 +62,7 @@ after_set p low = cond-false (eqb p 3) 5 (p + 1) (other p low)
     other : (p : ℕ) → 5 ≤ p → eqb p 3 ≡ false
     other p h = grind (arith, nat_tests)
 
--- what is not coupons_in goes to the next size
+-- coupons that it doesn't hold go to the next size
 pub stage_next : (k p n q : ℕ) → IsSize k p → holds p n ≡ false → AtMost p n → q ≡ size_after p → q + 3 ≤ k → stage k p n ≡ Some q
 stage_next k p n q (inl three) = subst (λ p. holds p n ≡ false → AtMost p n → q ≡ size_after p → q + 3 ≤ k → stage k p n ≡ Some q) (sym three) list
   where

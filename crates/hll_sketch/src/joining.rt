@@ -158,18 +158,13 @@ impl<A: Allocator + Clone> HllSketch<A> {
     fn has_room_for(&self, table: &Container<A>) -> bool
         ensures { result ≡ holds_all self.now.layout (coupons_of table.now) }
     {
-        match &self.mode {
-            Mode::List { list, .. } => {
-                let size = list.container().lg_size();
-                holds(size as u8, self.count_with_all(table))
-            }
-            Mode::Set { set, .. } => {
-                let size = set.container().lg_size();
-                holds(size as u8, self.count_with_all(table))
-            }
-            Mode::Array4(_) => false,
-            Mode::Array6(_) | Mode::Array8(_) => true,
-        }
+        let size = match &self.mode {
+            Mode::List { list, .. } => list.container().lg_size(),
+            Mode::Set { set, .. } => set.container().lg_size(),
+            Mode::Array4(_) => return false,
+            Mode::Array6(_) | Mode::Array8(_) => return true,
+        };
+        holds(size as u8, self.count_with_all(table))
     }
 
     /// How many coupons there are with those of a table.

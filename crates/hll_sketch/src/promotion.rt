@@ -1,6 +1,6 @@
 //! What takes over from a table that a coupon more doesn't leave as large as it is (docs/MODEL.md, "Stages").
-ghost use Rattle.std.specs.Prelude.{◌≡◌, ◌+◌, ◌^◌, ◌<◌, ◌≤◌, length, false, IfOk, IfErr, IfSome, IfNone};
-ghost use Rattle.std.specs.FinSet.{len, insert};
+ghost use Rattle.std.specs.Prelude.{◌≡◌, ℕ, ◌+◌, ◌^◌, ◌<◌, ◌≤◌, length, false, IfOk, IfErr, IfSome, IfNone};
+ghost use Rattle.std.specs.FinSet.{contains, len, insert};
 ghost use Rattle.hll_base.specs.declared.error.Reason.TheVariants.{Memory};
 ghost use Rattle.hll_coupons.specs.Fold.{fold_to};
 ghost use Rattle.hll_coupons.specs.Pair.{value_of};
@@ -12,6 +12,7 @@ ghost use Rattle.hll_sketch.specs.Stage as stages;
 ghost use Rattle.hll_sketch.specs.Value.{IsLgK, registers};
 
 use crate::mode::Mode;
+use crate::reference::holds;
 use hll_arrays::array4::Array4;
 use hll_arrays::array6::Array6;
 use hll_arrays::array8::Array8;
@@ -22,6 +23,13 @@ use hll_coupons::coupon::Coupon;
 use hll_coupons::hash_set::HashSet;
 use hll_coupons::hll_type::HllType;
 use std::alloc::Allocator;
+
+/// Whether a table stays as large as it is with a coupon more, which it may have already. Takes no memory.
+pub(crate) fn stays_with<A: Allocator>(table: &Container<A>, has: bool) -> bool
+    ensures { (c : ℕ) → has ≡ contains (coupons_of table.now) c → result ≡ stages.holds table.now.lg_size (len (insert (coupons_of table.now) c)) }
+{
+    holds(table.lg_size() as u8, table.len() + usize::from(!has))
+}
 
 /// What takes over from a table that a coupon more doesn't leave as large as it is.
 ///

@@ -20,8 +20,7 @@ use crate::folding::{fold_of, of_width, settled};
 use crate::header::Header;
 use crate::mode::Mode;
 use crate::mode_image::read_mode;
-use crate::promotion::next_of;
-use crate::reference::holds;
+use crate::promotion::{next_of, stays_with};
 use hll_base::error::{Error, Reason};
 use hll_coupons::coupon::Coupon;
 use hll_coupons::hll_type::HllType;
@@ -323,16 +322,8 @@ impl<A: Allocator + Clone> HllSketch<A> {
         ensures { result ≡ holds_with self.now.layout coupon }
     {
         match &self.mode {
-            Mode::List { list, .. } => {
-                let table = list.container();
-                let count = table.len() + usize::from(!list.contains(coupon));
-                holds(table.lg_size() as u8, count)
-            }
-            Mode::Set { set, .. } => {
-                let table = set.container();
-                let count = table.len() + usize::from(!set.contains(coupon));
-                holds(table.lg_size() as u8, count)
-            }
+            Mode::List { list, .. } => stays_with(list.container(), list.contains(coupon)),
+            Mode::Set { set, .. } => stays_with(set.container(), set.contains(coupon)),
             Mode::Array4(_) | Mode::Array6(_) | Mode::Array8(_) => true,
         }
     }

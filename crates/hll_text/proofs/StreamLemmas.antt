@@ -1,5 +1,5 @@
 -- Lemmas on bytes that are read or written in several pieces.
-use Rattle.std.proofs.Common.{◌≡◌, ℕ, ◌+◌, ◌/◌, ◌%◌, ◌≤◌, ◌<◌, List, [], ◌∷◌, ◌++◌, length, take, drop, refl, sym, subst, ◌∙◌, ap, Option, Some, None, append_assoc, slice_index, Result, Ok, Err, OnOk, IfErr, arith}
+use Rattle.std.proofs.Common.{◌≡◌, ℕ, ◌+◌, ◌/◌, ◌%◌, ◌≤◌, ◌<◌, List, [], ◌∷◌, ◌++◌, length, take, drop, refl, sym, subst, ◌∙◌, ap, Option, Some, None, append_assoc, slice_index, arith}
 use Rattle.std.specs.Io.KnownBytes.{Appends, Consumes}
 use Rattle.std.proofs.lemmas.List.{append-nil, length-append, take-append-drop, take-append-le}
 use Rattle.std.proofs.Math.Seq.{take-append-add}
@@ -37,14 +37,6 @@ front_more a b c xs ys zs n before short after = (
       (ap (λ ws. xs ++ ws) (sym (take-append-le n ys zs (omega arith))) ∙ sym (take-append-add xs (ys ++ zs) n))
       (Appends-more a b c xs (take n ys) before after),
 )
-
-pub OnOk-map : {X E : Type 0} (r : Result X E) (P Q : Type 0) → (P → Q) → OnOk r P → OnOk r Q
-OnOk-map (Ok x) P Q f h = f h
-OnOk-map (Err e) P Q f h = tt
-
-pub IfErr-map : {X E : Type 0} (r : Result X E) (P Q : E → Type 0) → ((e : E) → P e → Q e) → IfErr r P → IfErr r Q
-IfErr-map (Ok x) P Q f h = tt
-IfErr-map (Err e) P Q f h = f e h
 
 -- ---- digits
 

@@ -1,11 +1,12 @@
 use Rattle.std.proofs.Common.{◌^◌, ◌<◌, All, ◌∙◌, sym, subst}
 use Rattle.std.proofs.lemmas.List.{append-nil}
+use Rattle.hll_base.proofs.Errors.{OnErr-of}
 use Rattle.hll_coupons.specs.AuxMap.{entries_in}
 use Rattle.hll_coupons.proofs.Pairs.{IsEntryOf, entries_are}
 use Rattle.hll_coupons.proofs.Putting.{last_of_all}
 use Rattle.hll_coupons.proofs.Yielded.{given}
 use Rattle.hll_arrays.specs.FourBits.{IsMapFor}
-use Rattle.hll_arrays.proofs.FourBits.{KeptSoFar, kept_none, kept_more, kept_less, kept_whole, OnErr-of}
+use Rattle.hll_arrays.proofs.FourBits.{KeptSoFar, kept_none, kept_more, kept_less, kept_whole}
 use Rattle.hll_arrays.proofs.exception_map.kept_exceptions.Goals as goal
 
 pub loop-slot-init : goal.loop-slot-init

@@ -15,7 +15,7 @@ use Rattle.hll_sketch.specs.Layout.{sketch_of}
 use Rattle.hll_sketch.specs.Image.{lg_k_byte, width_bits, is_flagged, hll4_shape, HasHeader, IsReadAs}
 use Rattle.hll_sketch.specs.Value.{registers}
 use Rattle.hll_sketch.specs.declared.header.Header.{Header}
-use Rattle.hll_sketch.proofs.Keeping.{IfOk-map}
+use Rattle.std.proofs.lemmas.Result.{IfOk-weaker}
 use Rattle.hll_sketch.proofs.FirstFailing.{four_first, four_asked}
 use Rattle.hll_sketch.proofs.FrontImages.{fault_as, first_as, whole_as, payload_as, read_as-four, registers_as, size_as}
 use Rattle.hll_sketch.proofs.mode_image.read_four.Goals as goal
@@ -102,4 +102,4 @@ returns-clause-ok g c =
     let read : IsReadAs b (record { lg_k = h.lg_k; width = Hll4; content = registers a.registers a.state }) =
     subst (λ k. IsReadAs b (record { lg_k = k; width = Hll4; content = registers a.registers a.state })) (ap (λ (h : Header). h.lg_k) (sym c.requires.header))
     (read_as-four b a c.requires.has c.requires.width same.0 same.1) in
-    IfOk-map c.of_four_bits.result _ _ (λ m is. subst (λ l. IsReadAs b (sketch_of (record { lg_k = h.lg_k; layout = l }))) (sym is) read) c.of_four_bits.ensures.ok
+    IfOk-weaker c.of_four_bits.result _ _ (λ m is. subst (λ l. IsReadAs b (sketch_of (record { lg_k = h.lg_k; layout = l }))) (sym is) read) c.of_four_bits.ensures.ok

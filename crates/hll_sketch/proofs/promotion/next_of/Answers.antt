@@ -6,7 +6,7 @@ use Rattle.hll_sketch.specs.Value.{coupons}
 use Rattle.hll_sketch.specs.Adding.{content_for}
 use Rattle.hll_sketch.specs.Layout.{AtMost, size_after}
 use Rattle.hll_sketch.proofs.Steps.{stage_next, stage_last, fewer, from_five, AtMost-with}
-use Rattle.hll_sketch.proofs.Keeping.{IfOk-map}
+use Rattle.std.proofs.lemmas.Result.{IfOk-weaker}
 use Rattle.hll_sketch.proofs.promotion.next_of.Goals as goal
 
 pub returns-in-None-clause-content : goal.returns-in-None-clause-content
@@ -14,7 +14,7 @@ returns-in-None-clause-content g c =
     let t : Table = c.args.table.now in
     let S : Pairs = insert (coupons_of t) c.args.coupon in
     let last : c.args.lg_k < size_after t.lg_size + 3 = subst (λ q. c.args.lg_k < size_after q + 3) c.lg_size.ensures.size c.in-None.ensures.none in
-    IfOk-map c.promoted.result _ _ (λ m folded. folded ∙ ap (content_for c.args.lg_k S) (sym (stage_last c.args.lg_k t.lg_size (len S) c.requires.size c.requires.leaves last))) c.promoted.ensures.content
+    IfOk-weaker c.promoted.result _ _ (λ m folded. folded ∙ ap (content_for c.args.lg_k S) (sym (stage_last c.args.lg_k t.lg_size (len S) c.requires.size c.requires.leaves last))) c.promoted.ensures.content
 
 pub returns-in_ok-set_of_size-in-Some-clause-content : goal.returns-in_ok-set_of_size-in-Some-clause-content
 returns-in_ok-set_of_size-in-Some-clause-content g c =

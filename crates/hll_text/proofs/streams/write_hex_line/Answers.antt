@@ -2,8 +2,9 @@ use Rattle.std.proofs.Common.{◌≡◌, ◌<◌, ◌+◌, ◌-◌, ℕ, List, [
 use Rattle.std.specs.Io.KnownBytes.{Appends}
 use Rattle.std.proofs.lemmas.List.{take_all}
 use Rattle.hex.specs.Hex.{encode_lower}
+use Rattle.std.proofs.lemmas.Result.{IfErr-weaker, on_ok_weaker}
 use Rattle.hll_base.proofs.Errors.{IfErr-passed}
-use Rattle.hll_text.proofs.StreamLemmas.{Appends-nil, Appends-more, OnOk-map, IfErr-map, front_more, digits-none, digits-more, line-cut}
+use Rattle.hll_text.proofs.StreamLemmas.{Appends-nil, Appends-more, front_more, digits-none, digits-more, line-cut}
 use Rattle.hll_text.proofs.streams.write_hex_line.Given.{Over}
 use Rattle.hll_text.proofs.streams.write_hex_line.Goals as goal
 
@@ -63,13 +64,13 @@ all_digits g c =
 
 pub returns-clause-ok : goal.returns-clause-ok
 returns-clause-ok g c =
-    OnOk-map c.write_all.result _ _ (λ sent. (
+    on_ok_weaker c.write_all.result (λ sent. (
       Appends-more _ _ (g.W.Write.contents c.write_all.new.writer.inner) (encode_lower c.args.bytes.now) (10 ∷ []) (all_digits g c) sent.0,
       sent.1 ∙ c.loop-shown.invariant.failed,
     )) c.write_all.ensures.ok
 
 pub returns-clause-err : goal.returns-clause-err
 returns-clause-err g c =
-    IfErr-map c.write_all.result _ _ (λ e failed.
+    IfErr-weaker c.write_all.result _ _ (λ e failed.
     let front = front_more _ _ (g.W.Write.contents c.write_all.new.writer.inner) (encode_lower c.args.bytes.now) (10 ∷ []) [] failed.2 (all_digits g c) failed.3 failed.4 in
     (failed.0, failed.1, front.0, front.1, front.2)) c.write_all.ensures.err

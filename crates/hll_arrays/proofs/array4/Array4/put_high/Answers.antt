@@ -2,9 +2,10 @@ use Rattle.std.proofs.Common.{◌≡◌, ◌<◌, ◌∙◌, All, eqb, cond, set
 use Rattle.std.proofs.lemmas.Bool.{true≢false}
 use Rattle.std.proofs.lemmas.List.{with_items_is}
 use Rattle.std.specs.Vec.{with_items}
+use Rattle.hll_base.proofs.Errors.{OnErr-of}
 use Rattle.hll_arrays.specs.FourBits.{IsPacked, unpacked}
 use Rattle.hll_arrays.specs.Packed.{nibble_at}
-use Rattle.hll_arrays.proofs.FourBits.{packed_here, OnErr-of, none_of_refused}
+use Rattle.hll_arrays.proofs.FourBits.{packed_here, none_of_refused}
 use Rattle.hll_arrays.proofs.FourBitChanges.{high_moves, high_packed, seen_after}
 use Rattle.hll_arrays.proofs.States.{IsState-cleared}
 use Rattle.hll_arrays.proofs.array4.Array4.put_high.Given.{Over}

@@ -1,6 +1,6 @@
 use Rattle.std.proofs.Common.{arith, ◌∙◌, ap}
+use Rattle.hll_base.proofs.Errors.{OnErr-of}
 use Rattle.hll_arrays.specs.FourBits.{FourBits, exception_in}
-use Rattle.hll_arrays.proofs.FourBits.{OnErr-of}
 use Rattle.hll_arrays.proofs.FourBitChanges.{none_left, rise_value, rise_none, rise_moves}
 use Rattle.hll_arrays.proofs.array4.Array4.rise.Goals as goal
 

@@ -3,7 +3,7 @@ use Rattle.hll_coupons.specs.declared.hll_type.HllType.TheVariants.{Hll4, Hll6, 
 use Rattle.hll_arrays.specs.FourBits.{FourBits}
 use Rattle.hll_sketch.specs.Layout as layouts
 use Rattle.hll_sketch.specs.Layout.{SketchLayout, layout_of, content_in, sketch_of, IsLayoutFor}
-use Rattle.hll_sketch.proofs.Keeping.{OnOk-map, OnErr-map}
+use Rattle.std.proofs.lemmas.Result.{on_ok_weaker, on_err_weaker}
 use Rattle.hll_sketch.proofs.Merges.{merged_as, needed_as}
 use Rattle.hll_sketch.proofs.sketch.HllSketch.merge_content.Goals as goal
 
@@ -14,7 +14,7 @@ returns-in-Array4-clause-ok g c =
     let kept : layouts.array Hll4 a.stored a.exceptions ≡ layout_of c.sketch.inside.mode = ap (λ (b : FourBits). layouts.array Hll4 b.stored b.exceptions) c.as_ref.ensures ∙ ap layout_of (sym c.in-Array4.is) in
     let is : record { lg_k = k; layout = layouts.array Hll4 a.stored a.exceptions } ≡ c.args.sketch.now = (λ i. let y : SketchLayout = record { lg_k = k; layout = kept i } in y) ∙ c.sketch.view_is in
     let legal : IsLayoutFor k (layouts.array Hll4 a.stored a.exceptions) = subst (IsLayoutFor k) (sym kept) c.sketch.invariant.1 in
-    OnOk-map c.merge_registers.result _ _ (λ e. e ∙ merged_as c.args.bound k (sketch_of c.args.self.now) c.args.sketch.now Hll4 a.stored a.exceptions is legal) c.merge_registers.ensures.ok
+    on_ok_weaker c.merge_registers.result (λ e. e ∙ merged_as c.args.bound k (sketch_of c.args.self.now) c.args.sketch.now Hll4 a.stored a.exceptions is legal) c.merge_registers.ensures.ok
 
 pub returns-in-Array4-clause-needed : goal.returns-in-Array4-clause-needed
 returns-in-Array4-clause-needed g c =
@@ -23,7 +23,7 @@ returns-in-Array4-clause-needed g c =
     let kept : layouts.array Hll4 a.stored a.exceptions ≡ layout_of c.sketch.inside.mode = ap (λ (b : FourBits). layouts.array Hll4 b.stored b.exceptions) c.as_ref.ensures ∙ ap layout_of (sym c.in-Array4.is) in
     let is : record { lg_k = k; layout = layouts.array Hll4 a.stored a.exceptions } ≡ c.args.sketch.now = (λ i. let y : SketchLayout = record { lg_k = k; layout = kept i } in y) ∙ c.sketch.view_is in
     let legal : IsLayoutFor k (layouts.array Hll4 a.stored a.exceptions) = subst (IsLayoutFor k) (sym kept) c.sketch.invariant.1 in
-    OnErr-map c.merge_registers.result _ _ (needed_as k (sketch_of c.args.self.now) (content_in c.args.self.now.layout) c.args.sketch.now Hll4 a.stored a.exceptions is legal) c.merge_registers.ensures.needed
+    on_err_weaker c.merge_registers.result (needed_as k (sketch_of c.args.self.now) (content_in c.args.self.now.layout) c.args.sketch.now Hll4 a.stored a.exceptions is legal) c.merge_registers.ensures.needed
 
 pub returns-in-Array6-clause-ok : goal.returns-in-Array6-clause-ok
 returns-in-Array6-clause-ok g c =
@@ -31,7 +31,7 @@ returns-in-Array6-clause-ok g c =
     let x : SketchLayout = record { lg_k = k; layout = layouts.array Hll6 c.in-Array6.array None } in
     let is : x ≡ c.args.sketch.now = (λ i. let y : SketchLayout = record { lg_k = k; layout = layout_of (sym c.in-Array6.is i) } in y) ∙ c.sketch.view_is in
     let legal : IsLayoutFor k (layouts.array Hll6 c.in-Array6.array None) = subst (IsLayoutFor k) (ap layout_of c.in-Array6.is) c.sketch.invariant.1 in
-    OnOk-map c.merge_registers-in-Array6.result _ _ (λ e. e ∙ merged_as c.args.bound k (sketch_of c.args.self.now) c.args.sketch.now Hll6 c.in-Array6.array None is legal) c.merge_registers-in-Array6.ensures.ok
+    on_ok_weaker c.merge_registers-in-Array6.result (λ e. e ∙ merged_as c.args.bound k (sketch_of c.args.self.now) c.args.sketch.now Hll6 c.in-Array6.array None is legal) c.merge_registers-in-Array6.ensures.ok
 
 pub returns-in-Array6-clause-needed : goal.returns-in-Array6-clause-needed
 returns-in-Array6-clause-needed g c =
@@ -39,7 +39,7 @@ returns-in-Array6-clause-needed g c =
     let x : SketchLayout = record { lg_k = k; layout = layouts.array Hll6 c.in-Array6.array None } in
     let is : x ≡ c.args.sketch.now = (λ i. let y : SketchLayout = record { lg_k = k; layout = layout_of (sym c.in-Array6.is i) } in y) ∙ c.sketch.view_is in
     let legal : IsLayoutFor k (layouts.array Hll6 c.in-Array6.array None) = subst (IsLayoutFor k) (ap layout_of c.in-Array6.is) c.sketch.invariant.1 in
-    OnErr-map c.merge_registers-in-Array6.result _ _ (needed_as k (sketch_of c.args.self.now) (content_in c.args.self.now.layout) c.args.sketch.now Hll6 c.in-Array6.array None is legal) c.merge_registers-in-Array6.ensures.needed
+    on_err_weaker c.merge_registers-in-Array6.result (needed_as k (sketch_of c.args.self.now) (content_in c.args.self.now.layout) c.args.sketch.now Hll6 c.in-Array6.array None is legal) c.merge_registers-in-Array6.ensures.needed
 
 pub returns-in-Array8-clause-ok : goal.returns-in-Array8-clause-ok
 returns-in-Array8-clause-ok g c =
@@ -47,7 +47,7 @@ returns-in-Array8-clause-ok g c =
     let x : SketchLayout = record { lg_k = k; layout = layouts.array Hll8 c.in-Array8.array None } in
     let is : x ≡ c.args.sketch.now = (λ i. let y : SketchLayout = record { lg_k = k; layout = layout_of (sym c.in-Array8.is i) } in y) ∙ c.sketch.view_is in
     let legal : IsLayoutFor k (layouts.array Hll8 c.in-Array8.array None) = subst (IsLayoutFor k) (ap layout_of c.in-Array8.is) c.sketch.invariant.1 in
-    OnOk-map c.merge_bytes.result _ _ (λ e. e ∙ merged_as c.args.bound k (sketch_of c.args.self.now) c.args.sketch.now Hll8 c.in-Array8.array None is legal) c.merge_bytes.ensures.ok
+    on_ok_weaker c.merge_bytes.result (λ e. e ∙ merged_as c.args.bound k (sketch_of c.args.self.now) c.args.sketch.now Hll8 c.in-Array8.array None is legal) c.merge_bytes.ensures.ok
 
 pub returns-in-Array8-clause-needed : goal.returns-in-Array8-clause-needed
 returns-in-Array8-clause-needed g c =
@@ -55,4 +55,4 @@ returns-in-Array8-clause-needed g c =
     let x : SketchLayout = record { lg_k = k; layout = layouts.array Hll8 c.in-Array8.array None } in
     let is : x ≡ c.args.sketch.now = (λ i. let y : SketchLayout = record { lg_k = k; layout = layout_of (sym c.in-Array8.is i) } in y) ∙ c.sketch.view_is in
     let legal : IsLayoutFor k (layouts.array Hll8 c.in-Array8.array None) = subst (IsLayoutFor k) (ap layout_of c.in-Array8.is) c.sketch.invariant.1 in
-    OnErr-map c.merge_bytes.result _ _ (needed_as k (sketch_of c.args.self.now) (content_in c.args.self.now.layout) c.args.sketch.now Hll8 c.in-Array8.array None is legal) c.merge_bytes.ensures.needed
+    on_err_weaker c.merge_bytes.result (needed_as k (sketch_of c.args.self.now) (content_in c.args.self.now.layout) c.args.sketch.now Hll8 c.in-Array8.array None is legal) c.merge_bytes.ensures.needed

@@ -3,7 +3,8 @@ use Rattle.hll_coupons.specs.Table.{coupons_in}
 use Rattle.hll_sketch.specs.Layout.{SketchLayout, content_in, sketch_of}
 use Rattle.hll_sketch.specs.Laws.{add_in_turn}
 use Rattle.hll_sketch.specs.Value.{Sketch, is_empty}
-use Rattle.hll_sketch.proofs.Keeping.{OnErr-of, OnOk-map}
+use Rattle.std.proofs.lemmas.Result.{on_ok_weaker}
+use Rattle.hll_base.proofs.Errors.{OnErr-of}
 use Rattle.hll_sketch.proofs.Merges.{needs_whole, needs_larger, coupons_merged, other_size, other_empty}
 use Rattle.hll_sketch.proofs.sketch.HllSketch.merge_coupons.Goals as goal
 use Rattle.hll_sketch.proofs.sketch.HllSketch.merge_coupons.Goals.{else-is_empty-via-then-is_empty+else-self-sketch, else-is_empty-via-else-is_empty}
@@ -31,7 +32,7 @@ returns-then-has_room_for-clause-ok g c =
       | else-is_empty-via-then-is_empty+else-self-sketch w ↦ other_size (is_empty x) c.args.self.now.lg_k c.args.sketch.now.lg_k (λ e. w.if-self-sketch.false (ap (λ (y : SketchLayout). y.lg_k) c.self.view_is ∙ e ∙ sym (ap (λ (y : SketchLayout). y.lg_k) c.sketch.view_is)))
       | else-is_empty-via-else-is_empty w ↦ other_empty (is_empty x) c.args.self.now.lg_k c.args.sketch.now.lg_k (sym c.is_empty.ensures ∙ w.if-is_empty.false)
     ] in
-    OnOk-map c.add_each.result _ _ (coupons_merged x (sketch_of c.args.sketch.now) (sketch_of c.add_each.new.self) (coupons_in c.args.table.now.places) c.args.table.now.lg_size other c.requires.table c.requires.some) c.add_each.ensures.ok
+    on_ok_weaker c.add_each.result (coupons_merged x (sketch_of c.args.sketch.now) (sketch_of c.add_each.new.self) (coupons_in c.args.table.now.places) c.args.table.now.lg_size other c.requires.table c.requires.some) c.add_each.ensures.ok
 
 pub returns-in_ok-add_each-clause-ok : goal.returns-in_ok-add_each-clause-ok
 returns-in_ok-add_each-clause-ok g c =

@@ -5,7 +5,8 @@ use Rattle.hll_coupons.specs.Table.{Table, coupons_of}
 use Rattle.hll_sketch.specs.Adding.{content_with}
 use Rattle.hll_sketch.specs.Layout as layouts
 use Rattle.hll_sketch.specs.Layout.{SketchLayout, layout_of, content_in, holds_with}
-use Rattle.hll_sketch.proofs.Keeping.{content_for_as, holds_as, IfOk-map}
+use Rattle.std.proofs.lemmas.Result.{IfOk-weaker}
+use Rattle.hll_sketch.proofs.Keeping.{content_for_as, holds_as}
 use Rattle.hll_sketch.proofs.sketch.HllSketch.next.Goals as goal
 
 pub next_of-requires-clause-leaves : goal.next_of-requires-clause-leaves
@@ -22,7 +23,7 @@ returns-in-List-clause-content g c =
     let u : Table = c.in-List.list in
     let x : SketchLayout = record { lg_k = c.self.inside.lg_config_k; layout = layouts.list c.in-List.hll_type u } in
     let is : x ≡ c.args.self.now = (λ i. let y : SketchLayout = record { lg_k = c.self.inside.lg_config_k; layout = layout_of (sym c.in-List.is i) } in y) ∙ c.self.view_is in
-    IfOk-map c.next_of.result _ _ (λ m made. made
+    IfOk-weaker c.next_of.result _ _ (λ m made. made
     ∙ content_for_as c.self.inside.lg_config_k t u c.args.coupon (len (insert (coupons_of t) c.args.coupon)) c.container.ensures.same refl
     ∙ ap (λ y. content_with y.lg_k (content_in y.layout) (set_of (c.args.coupon ∷ []))) is) c.next_of.ensures.content
 
@@ -40,6 +41,6 @@ returns-in-Set-clause-content g c =
     let u : Table = c.in-Set.set in
     let x : SketchLayout = record { lg_k = c.self.inside.lg_config_k; layout = layouts.set c.in-Set.hll_type u } in
     let is : x ≡ c.args.self.now = (λ i. let y : SketchLayout = record { lg_k = c.self.inside.lg_config_k; layout = layout_of (sym c.in-Set.is i) } in y) ∙ c.self.view_is in
-    IfOk-map c.next_of-in-Set.result _ _ (λ m made. made
+    IfOk-weaker c.next_of-in-Set.result _ _ (λ m made. made
     ∙ content_for_as c.self.inside.lg_config_k t u c.args.coupon (len (insert (coupons_of t) c.args.coupon)) c.container-in-Set.ensures.same refl
     ∙ ap (λ y. content_with y.lg_k (content_in y.layout) (set_of (c.args.coupon ∷ []))) is) c.next_of-in-Set.ensures.content
