@@ -5,9 +5,14 @@
 #
 # Each group of FILES files (500) becomes one plan, with a union of bound BOUND (12) and WIDTH (8) bits; as many plans run
 # at a time as there are processors. What they print is the `image` lines of the last plan. docs/SCALE.md says why the
-# groups make no difference. Needs sh, find, sort, xargs, od and xxd.
+# groups make no difference. Where a file is no sketch, it says `FILE: ` and why on standard error, for one file of each
+# group; then nothing is written and the status is 1. Needs sh, find, sort, xargs, od and xxd.
 set -eu
 
+[ $# -ge 1 ] && [ -d "$1" ] || {
+    echo "usage: merge_folder.sh FOLDER [BOUND [WIDTH [FILES]]]" >&2
+    exit 2
+}
 folder=$1
 BOUND=${2:-12}
 WIDTH=${3:-8}
@@ -17,24 +22,42 @@ MERGE=$root/hll_merge
 WORK=$(mktemp -d)
 export BOUND WIDTH MERGE WORK
 trap 'rm -rf "$WORK"' EXIT
+mkdir "$WORK/groups"
 
 # built before many ask for it
 echo "new 4 8" | "$MERGE" >/dev/null
 
-find "$folder" -type f -print0 | sort -z | xargs -0 -n "$files" -P "$(nproc)" sh -c '
+find "$folder" -type f -print0 >"$WORK/files"
+
+sort -z "$WORK/files" | xargs -0 -n "$files" -P "$(nproc)" sh -c '
     set -eu
-    group=$(mktemp "$WORK/XXXXXXXX")
-    {
+    group=$(mktemp "$WORK/groups/XXXXXXXX")
+    if {
         for file in "$@"; do
             printf "image "
             od -An -v -tx1 "$file" | tr -d " \n"
             echo
         done
         echo "union $# $BOUND $WIDTH"
-    } | "$MERGE" >"$group"
-' merge_group
+    } | "$MERGE" >"$group" 2>"$group.refusal"; then
+        rm "$group.refusal"
+    else
+        # the number of the line is that of the file
+        refusal=$(cat "$group.refusal")
+        line=${refusal#line }
+        line=${line%%:*}
+        if [ "$line" -ge 1 ] 2>/dev/null && [ "$line" -le $# ]; then
+            shift $((line - 1))
+            echo "$1: ${refusal#*: }" >&2
+        else
+            echo "$refusal" >&2
+        fi
+        exit 1
+    fi
+' merge_group || exit 1
 
 {
-    sed 's/^/image /' "$WORK"/*
-    echo "union $(ls "$WORK" | wc -l) $BOUND $WIDTH"
-} | "$MERGE" | xxd -r -p
+    sed 's/^/image /' "$WORK"/groups/*
+    echo "union $(ls "$WORK/groups" | wc -l) $BOUND $WIDTH"
+} | "$MERGE" >"$WORK/merged"
+xxd -r -p "$WORK/merged"

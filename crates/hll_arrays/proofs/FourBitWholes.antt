@@ -24,7 +24,7 @@ fault_of_first h b e (payload.FirstHll4Fault.table w l f c n m) = payload.Hll4Fa
 fault_of_first h b e (payload.FirstHll4Fault.short l f n) = payload.Hll4Fault.short f n
 fault_of_first h b e (payload.FirstHll4Fault.coupon w n) = payload.Hll4Fault.coupon w.has_entries w.there n
 fault_of_first h b e (payload.FirstHll4Fault.number w d n) = payload.Hll4Fault.number w.has_entries w.there n
-fault_of_first h b e (payload.FirstHll4Fault.register w d m n) = payload.Hll4Fault.register w.has_entries w.there d n
+fault_of_first h b e (payload.FirstHll4Fault.register w d m n) = payload.Hll4Fault.register w.has_entries w.there d m n
 
 -- refused memory is no fault
 pub fault_not_memory : (h : Hll4Shape) (b : List ℕ) (e : Reason) → FirstHll4Fault h b e → e ≡ Memory → ⊥

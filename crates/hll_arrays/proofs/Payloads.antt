@@ -87,6 +87,6 @@ module _ (h : Hll4Shape) (a t b : List ℕ) (e : a ++ t ≡ b) (p : IsHll4Payloa
   hll4_fault_excludes r (payload.Hll4Fault.short f n) = omega (arith, p.size, places, front_le a t b e)
   hll4_fault_excludes r (payload.Hll4Fault.coupon f l n) = n (subst (AreEntries h.lg_k) entries p.are_entries)
   hll4_fault_excludes r (payload.Hll4Fault.number f l n) = n (ap length (sym entries) ∙ p.number ∙ counted)
-  hll4_fault_excludes r (payload.Hll4Fault.register f l d n) = n (λ s w.
+  hll4_fault_excludes r (payload.Hll4Fault.register f l d m n) = n (λ s w.
       let P : List ℕ → List ℕ → Type 0 = λ ns es. Agrees h.minimum (nibble_at ns s) (entry_at h.lg_k es s) in
       subst (λ ns. P ns (entries_of h b)) nibbles (subst (P (nibbles_of h a)) entries (p.agree s w)))

@@ -172,7 +172,8 @@ pub data Hll4Fault (h : Hll4Shape) (bytes : List ℕ) : Reason → Type 0 where
   short : HasEntries h bytes → length bytes < hll4_size h bytes → Hll4Fault h bytes Truncated
   coupon : HasEntries h bytes → hll4_size h bytes ≤ length bytes → (AreEntries h.lg_k (entries_of h bytes) → ⊥) → Hll4Fault h bytes Coupon
   number : HasEntries h bytes → hll4_size h bytes ≤ length bytes → length (entries_of h bytes) ≢ exception_count bytes → Hll4Fault h bytes Count
-  register : HasEntries h bytes → hll4_size h bytes ≤ length bytes → AreEntries h.lg_k (entries_of h bytes) → (AllAgree h bytes → ⊥) → Hll4Fault h bytes Register
+  register : HasEntries h bytes → hll4_size h bytes ≤ length bytes → AreEntries h.lg_k (entries_of h bytes) → length (entries_of h bytes) ≡ exception_count bytes
+      → (AllAgree h bytes → ⊥) → Hll4Fault h bytes Register
 
 -- the counts pass their checks, and all bytes that they ask for are there
 pub record IsWhole (h : Hll4Shape) (bytes : List ℕ) : Type 0 where

@@ -14,7 +14,7 @@ use crate::aux_format::AuxFormat;
 use crate::estimate_state::EstimateState;
 use crate::exception_map::{
     MARK, bytes_of_places, copied, count_exceptions, exception_at, exceptions_above, exceptions_of,
-    have_same_exceptions, put_exception, raise_by_exceptions, repack, stay, write_exceptions,
+    have_same_exceptions, put_exception, raise_by_exceptions, repack, stay, with_exceptions,
 };
 use crate::four_bit_payload::read_payload;
 use crate::kernels::least_of;
@@ -29,7 +29,7 @@ use hll_coupons::aux_map::AuxMap;
 use hll_coupons::coupon::Coupon;
 use hll_coupons::hll_type::HllType;
 use hll_coupons::serialization::{COMPACT_FLAG_MASK, COUPON_SIZE_BYTES, HLL_PREAMBLE_SIZE};
-use std::alloc::{AllocError, Allocator, Global};
+use std::alloc::{Allocator, Global};
 use std::marker::Model;
 
 /// 2^`lg_k` registers of 0 to 63, and their estimate state: two registers a byte, each as far above the least of all as
@@ -233,6 +233,11 @@ impl<A: Allocator> Array4<A> {
         }
         least
     }
+
+    /// The allocator that made them. Takes no memory.
+    pub fn allocator(&self) -> &A {
+        self.nibbles.allocator()
+    }
 }
 
 impl<A: Allocator + Clone> Array4<A> {
@@ -276,11 +281,6 @@ impl<A: Allocator + Clone> Array4<A> {
         })
     }
 
-    /// A clone of the allocator. Fails where the allocator's own `clone` does.
-    pub fn cloned_allocator(&self) -> Result<A, AllocError> {
-        self.nibbles.allocator().clone()
-    }
-
     /// A copy, with the same places of the map.
     ///
     /// Fails with `Memory`.
@@ -319,8 +319,8 @@ impl<A: Allocator + Clone> Array4<A> {
         preamble.write_header(&mut bytes, self.header(lg_config_k))?;
         preamble.write(&mut bytes)?;
         bytes.write(&self.nibbles)?;
-        write_exceptions(&self.exceptions, &self.nibbles, &mut bytes)?;
-        Ok(bytes.into_bytes())
+        let written = with_exceptions(bytes, &self.exceptions, &self.nibbles)?;
+        Ok(written.into_bytes())
     }
 
     /// Raises the register at the coupon's slot modulo 2^`lg_k` to the coupon's value. If it changes, the state is
@@ -546,7 +546,7 @@ impl<A: Allocator + Clone> RegisterStore<A> for Array4<A> {
         self.serialize(self.lg_config_k)
     }
 
-    /// Three passes, and an entry for each exception.
+    /// Two passes over the values, two over their nibbles, and an entry for each exception.
     fn from_values(alloc: A, lg_k: u8, values: &[u8]) -> Result<Array4<A>, Error> {
         let minimum = least_of(values);
         let nibbles = packed_nibbles(alloc, values, minimum)?;

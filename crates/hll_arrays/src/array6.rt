@@ -22,7 +22,7 @@ use hll_base::error::{Error, Reason};
 use hll_coupons::coupon::Coupon;
 use hll_coupons::hll_type::HllType;
 use hll_coupons::serialization::HLL_PREAMBLE_SIZE;
-use std::alloc::{AllocError, Allocator, Global};
+use std::alloc::{Allocator, Global};
 use std::marker::Model;
 
 /// 2^`lg_k` registers of 0 to 63, four of them in three bytes, and their estimate state. Contracts see the `lg_k`, the
@@ -96,10 +96,12 @@ impl<A: Allocator> Array6<A> {
         let Some(packed) = rest.remaining().get(..packed_size(lg_config_k)) else {
             return Err(Error::new(Reason::Truncated));
         };
+        // not what the header says: zeros are counted when asked
+        let zero_count = None;
         Ok(Array6 {
             lg_config_k,
             groups: groups_from_bytes(alloc, packed)?,
-            zero_count: None,
+            zero_count,
             state: preamble.state,
         })
     }
@@ -186,14 +188,14 @@ impl<A: Allocator> Array6<A> {
     {
         packed_size(self.lg_config_k)
     }
+
+    /// The allocator that made them. Takes no memory.
+    pub fn allocator(&self) -> &A {
+        self.groups.allocator()
+    }
 }
 
 impl<A: Allocator + Clone> Array6<A> {
-    /// A clone of the allocator. Fails where the allocator's own `clone` does.
-    pub fn cloned_allocator(&self) -> Result<A, AllocError> {
-        self.groups.allocator().clone()
-    }
-
     /// A copy.
     ///
     /// Fails with `Memory`.

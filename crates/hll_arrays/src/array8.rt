@@ -22,7 +22,7 @@ use hll_base::error::{Error, Reason};
 use hll_coupons::coupon::Coupon;
 use hll_coupons::hll_type::HllType;
 use hll_coupons::serialization::HLL_PREAMBLE_SIZE;
-use std::alloc::{AllocError, Allocator, Global};
+use std::alloc::{Allocator, Global};
 use std::marker::Model;
 
 /// The greatest value of a register.
@@ -101,10 +101,12 @@ impl<A: Allocator> Array8<A> {
         if !are_registers(registers) {
             return Err(Error::new(Reason::Register));
         }
+        // not what the header says: zeros are counted when asked
+        let zero_count = None;
         Ok(Array8 {
             lg_config_k,
             registers: Vec::from_slice(alloc, registers)?,
-            zero_count: None,
+            zero_count,
             state: preamble.state,
         })
     }
@@ -272,14 +274,29 @@ impl<A: Allocator> Array8<A> {
     {
         self.state = state;
     }
+
+    /// The allocator that made them. Takes no memory.
+    pub fn allocator(&self) -> &A {
+        self.registers.allocator()
+    }
+
+    /// A copy in memory of this allocator.
+    ///
+    /// Fails with `Memory`.
+    pub fn clone_in(&self, alloc: A) -> Result<Array8<A>, Error>
+        ensures ok { IfOk result (λ a. a ≡ self.now) }
+        ensures err { IfErr result (λ e. e ≡ Memory) }
+    {
+        Ok(Array8 {
+            lg_config_k: self.lg_config_k,
+            registers: Vec::from_slice(alloc, &self.registers)?,
+            zero_count: self.zero_count,
+            state: self.state,
+        })
+    }
 }
 
 impl<A: Allocator + Clone> Array8<A> {
-    /// A clone of the allocator. Fails where the allocator's own `clone` does.
-    pub fn cloned_allocator(&self) -> Result<A, AllocError> {
-        self.registers.allocator().clone()
-    }
-
     /// A copy.
     ///
     /// Fails with `Memory`.
@@ -287,12 +304,7 @@ impl<A: Allocator + Clone> Array8<A> {
         ensures ok { IfOk result (λ a. a ≡ self.now) }
         ensures err { IfErr result (λ e. e ≡ Memory) }
     {
-        Ok(Array8 {
-            lg_config_k: self.lg_config_k,
-            registers: Vec::from_slice(self.registers.allocator().clone()?, &self.registers)?,
-            zero_count: self.zero_count,
-            state: self.state,
-        })
+        self.clone_in(self.allocator().clone()?)
     }
 
     /// The image (docs/FORMAT.md, "What is written"): 40 bytes and one for each register, allocated in one request.

@@ -14,7 +14,7 @@ pub fn convert<S: RegisterStore<A>, A: Allocator + Clone>(src: &Array8<A>) -> Re
     ensures ok { IfOk result (λ s. S.stored s ≡ src.now) }
     ensures err { IfErr result (λ e. e ≡ Memory) }
 {
-    let mut made = S::from_values(src.cloned_allocator()?, src.lg_k(), src.values())?;
+    let mut made = S::from_values(src.allocator().clone()?, src.lg_k(), src.values())?;
     made.restore(src.estimate_state());
     Ok(made)
 }

@@ -13,7 +13,7 @@ use crate::nibbles::{are_at_most, lower_by, nibble_of, put_nibble};
 use hll_base::codec::SketchBytes;
 use hll_base::error::Error;
 use hll_coupons::aux_map::AuxMap;
-use hll_coupons::container::write_coupons;
+use hll_coupons::container::with_coupons;
 use std::alloc::Allocator;
 use std::simd::prelude::*;
 
@@ -81,23 +81,23 @@ pub(crate) fn have_same_exceptions<A: Allocator>(
     }
 }
 
-/// Appends the exceptions as coupons in ascending raw words.
+/// A buffer with the exceptions appended to it, as coupons in ascending raw words.
 ///
 /// Takes memory for a sorted copy, none where there is no map. Fails with `Memory`.
-pub(crate) fn write_exceptions<A: Allocator + Clone>(
+pub(crate) fn with_exceptions<A: Allocator + Clone>(
+    bytes: SketchBytes<A>,
     map: &Option<AuxMap<A>>,
     nibbles: &Vec<u8, A>,
-    bytes: &mut SketchBytes<A>,
-) -> Result<(), Error>
-    ensures ok { OnOk result (WritesAscending (λ order. bytes.old ++ coupon_bytes order) (exceptions_in map.now) bytes.new) }
+) -> Result<SketchBytes<A>, Error>
+    ensures ok { IfOk result (WritesAscending (λ order. bytes ++ coupon_bytes order) (exceptions_in map.now)) }
     ensures err { IfErr result (λ e. e ≡ Memory) }
 {
     match map {
         Some(map) => {
             let entries = map.ascending(nibbles.allocator().clone()?)?;
-            write_coupons(bytes, &entries)
+            with_coupons(bytes, &entries)
         }
-        None => Ok(()),
+        None => Ok(bytes),
     }
 }
 

@@ -1,5 +1,5 @@
 //! A growing buffer that image fields are appended to.
-ghost use Rattle.std.specs.Prelude.{◌≡◌, ℕ, ◌++◌, ◌∷◌, [], List, IfOk, OnOk, OnErr, IfErr};
+ghost use Rattle.std.specs.Prelude.{◌≡◌, ◌≢◌, ℕ, ◌++◌, ◌∷◌, [], List, IfOk, OnOk, OnErr, IfErr};
 ghost use Rattle.std.specs.Int.{to_le_bytes, w32, w64};
 ghost use Rattle.hll_base.specs.declared.error.Reason.TheVariants.{Memory};
 
@@ -22,11 +22,12 @@ impl<A: Allocator> Model for SketchBytes<A> {
 }
 
 impl<A: Allocator> SketchBytes<A> {
-    /// An empty buffer with room for `capacity` bytes, allocated in one request.
+    /// An empty buffer with room for `capacity` bytes, allocated in one request. No room takes no memory.
     ///
-    /// Fails with `Memory`.
+    /// Fails with `Memory`, only if the capacity is not 0.
     pub fn with_capacity(alloc: A, capacity: usize) -> Result<SketchBytes<A>, Error>
         ensures ok { IfOk result (λ bytes. bytes ≡ []) }
+        ensures needed { OnErr result (capacity ≢ 0) }
         ensures err { IfErr result (λ e. e ≡ Memory) }
     {
         Ok(SketchBytes {

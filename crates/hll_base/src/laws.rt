@@ -1,5 +1,5 @@
 //! Laws of the hash. Each is the contract of a function with an empty body, which a caller that needs it calls
-//! (docs/MODEL.md, "The hash").
+//! (docs/FORMAT.md, "The hash").
 ghost use Rattle.hll_base.specs.Hash.{PiecesAreOne, HashOfPiece};
 
 /// Writing two pieces is the same as writing their concatenation.

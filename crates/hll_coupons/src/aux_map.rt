@@ -253,7 +253,7 @@ fn put_growing<A: Allocator + Clone>(table: &mut Container<A>, entry: Coupon) ->
     ensures unchanged { OnErr result (table.new ≡ table.old) }
     ensures err { IfErr result (λ e. e ≡ Memory) }
 {
-    let mut larger = Container::new(table.cloned_allocator()?, table.lg_size() + 1)?;
+    let mut larger = Container::new(table.allocator().clone()?, table.lg_size() + 1)?;
     put_entry(table, Key::Slot, entry);
     put_all(&mut larger, Key::Slot, table);
     *table = larger;

@@ -13,7 +13,7 @@ use crate::coupon::Coupon;
 use crate::storage::{LG_IN_VALUE, Storage};
 use hll_base::codec::SketchBytes;
 use hll_base::error::Error;
-use std::alloc::{AllocError, Allocator, Global};
+use std::alloc::{Allocator, Global};
 use std::marker::Model;
 
 /// 2^`lg_size` places, each empty or a coupon of value 1 to 63, the coupons distinct. Contracts see
@@ -80,6 +80,25 @@ impl<A: Allocator> Container<A> {
             len,
             places: Storage::Allocated(coupons),
         }
+    }
+
+    /// The allocator that made it. Takes no memory.
+    pub fn allocator(&self) -> &A {
+        self.places.allocator()
+    }
+
+    /// A copy in memory of this allocator, with the same places.
+    ///
+    /// Fails with `Memory`.
+    pub fn clone_in(&self, alloc: A) -> Result<Container<A>, Error>
+        ensures ok { IfOk result (λ c. c ≡ self.now) }
+        ensures err { IfErr result (λ e. e ≡ Memory) }
+    {
+        Ok(Container {
+            lg_size: self.lg_size,
+            len: self.len,
+            places: self.places.clone_in(alloc)?,
+        })
     }
 
     /// How many coupons there are, at most the number of places. Takes no memory.
@@ -227,16 +246,7 @@ impl<A: Allocator + Clone> Container<A> {
         ensures ok { IfOk result (λ c. c ≡ self.now) }
         ensures err { IfErr result (λ e. e ≡ Memory) }
     {
-        Ok(Container {
-            lg_size: self.lg_size,
-            len: self.len,
-            places: self.places.clone()?,
-        })
-    }
-
-    /// A clone of the allocator. Fails where the allocator's own `clone` does.
-    pub fn cloned_allocator(&self) -> Result<A, AllocError> {
-        self.places.cloned_allocator()
+        self.clone_in(self.allocator().clone()?)
     }
 }
 
@@ -268,20 +278,20 @@ pub(crate) fn places_of(lg_size: usize) -> usize
     1 << lg_size
 }
 
-/// Appends coupons, four bytes each.
+/// A buffer with coupons appended to it, four bytes each.
 ///
 /// Takes memory where the buffer has no room. Fails with `Memory`.
-pub fn write_coupons<A: Allocator>(
-    bytes: &mut SketchBytes<A>,
+pub fn with_coupons<A: Allocator>(
+    mut bytes: SketchBytes<A>,
     coupons: &[Coupon],
-) -> Result<(), Error>
-    ensures ok { OnOk result (bytes.new ≡ bytes.old ++ coupon_bytes coupons.now) }
+) -> Result<SketchBytes<A>, Error>
+    ensures ok { IfOk result (λ new. new ≡ bytes ++ coupon_bytes coupons.now) }
     ensures err { IfErr result (λ e. e ≡ Memory) }
 {
     for coupon in coupons {
         bytes.write_u32_le(coupon.raw())?;
     }
-    Ok(())
+    Ok(bytes)
 }
 
 /// The coupons of a container that are left to give, in the order of their places. Contracts see the

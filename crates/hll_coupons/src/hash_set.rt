@@ -12,7 +12,7 @@ ghost use Rattle.hll_coupons.specs.Probe.{Puts, PutsEach};
 ghost use Rattle.hll_coupons.specs.Same.{have_same_coupons};
 ghost use Rattle.hll_coupons.specs.Table.{coupons_in, coupons_of, empty_table, IsTable};
 
-use crate::container::{Container, places_of, write_coupons};
+use crate::container::{Container, places_of, with_coupons};
 use crate::coupon::Coupon;
 use crate::hll_type::HllType;
 use crate::search::{Key, put_all, search};
@@ -200,6 +200,18 @@ impl<A: Allocator> HashSet<A> {
         }
         true
     }
+
+    /// A copy in memory of this allocator, with the same places.
+    ///
+    /// Fails with `Memory`.
+    pub fn clone_in(&self, alloc: A) -> Result<HashSet<A>, Error>
+        ensures ok { IfOk result (λ s. s ≡ self.now) }
+        ensures err { IfErr result (λ e. e ≡ Memory) }
+    {
+        Ok(HashSet {
+            container: self.container.clone_in(alloc)?,
+        })
+    }
 }
 
 impl<A: Allocator + Clone> HashSet<A> {
@@ -210,9 +222,7 @@ impl<A: Allocator + Clone> HashSet<A> {
         ensures ok { IfOk result (λ s. s ≡ self.now) }
         ensures err { IfErr result (λ e. e ≡ Memory) }
     {
-        Ok(HashSet {
-            container: self.container.clone()?,
-        })
+        self.clone_in(self.container.allocator().clone()?)
     }
 
     /// The compact image of a set (docs/FORMAT.md, "What is written"): twelve bytes, and four for each coupon, in
@@ -228,17 +238,15 @@ impl<A: Allocator + Clone> HashSet<A> {
         ensures ok { IfOk result (λ image. WritesAscending (set_bytes lg_config_k hll_type self.now.lg_size) (coupons_of self.now) image.items) }
         ensures err { IfErr result (λ e. e ≡ Memory) }
     {
-        let coupons = self
-            .container
-            .ascending(self.container.cloned_allocator()?)?;
+        let alloc = self.container.allocator();
+        let coupons = self.container.ascending(alloc.clone()?)?;
         let count = self.container.len();
         let needed = SET_PREAMBLE_SIZE + count * COUPON_SIZE_BYTES;
-        let mut bytes = SketchBytes::with_capacity(self.container.cloned_allocator()?, needed)?;
+        let mut bytes = SketchBytes::with_capacity(alloc.clone()?, needed)?;
         let lg_size = self.container.lg_size() as u8;
         bytes.write(&set_header(lg_config_k, hll_type, lg_size))?;
         bytes.write_u32_le(count as u32)?;
-        write_coupons(&mut bytes, &coupons)?;
-        Ok(bytes.into_bytes())
+        Ok(with_coupons(bytes, &coupons)?.into_bytes())
     }
 }
 

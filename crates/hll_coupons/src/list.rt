@@ -9,7 +9,7 @@ ghost use Rattle.hll_coupons.specs.Coupons.{WritesAscending, list_bytes, coupons
 ghost use Rattle.hll_coupons.specs.Payload.{shape_of_list, HasListCount, list_places, list_table, IsListPayload, ListFault};
 ghost use Rattle.hll_coupons.specs.Coupons as header;
 
-use crate::container::{Container, places_of, write_coupons};
+use crate::container::{Container, places_of, with_coupons};
 use crate::coupon::Coupon;
 use crate::hll_type::HllType;
 use crate::serialization::{
@@ -158,6 +158,18 @@ impl<A: Allocator> List<A> {
     {
         &self.container
     }
+
+    /// A copy in memory of this allocator, with the same places.
+    ///
+    /// Fails with `Memory`.
+    pub fn clone_in(&self, alloc: A) -> Result<List<A>, Error>
+        ensures ok { IfOk result (λ l. l ≡ self.now) }
+        ensures err { IfErr result (λ e. e ≡ Memory) }
+    {
+        Ok(List {
+            container: self.container.clone_in(alloc)?,
+        })
+    }
 }
 
 impl<A: Allocator + Clone> List<A> {
@@ -168,9 +180,7 @@ impl<A: Allocator + Clone> List<A> {
         ensures ok { IfOk result (λ l. l ≡ self.now) }
         ensures err { IfErr result (λ e. e ≡ Memory) }
     {
-        Ok(List {
-            container: self.container.clone()?,
-        })
+        self.clone_in(self.container.allocator().clone()?)
     }
 
     /// The compact image of a list of eight places (docs/FORMAT.md, "What is written"): eight bytes, and four for
@@ -185,15 +195,13 @@ impl<A: Allocator + Clone> List<A> {
         ensures ok { IfOk result (λ image. WritesAscending (list_bytes lg_config_k hll_type) (coupons_of self.now) image.items) }
         ensures err { IfErr result (λ e. e ≡ Memory) }
     {
-        let coupons = self
-            .container
-            .ascending(self.container.cloned_allocator()?)?;
+        let alloc = self.container.allocator();
+        let coupons = self.container.ascending(alloc.clone()?)?;
         let count = self.container.len();
         let needed = LIST_PREAMBLE_SIZE + count * COUPON_SIZE_BYTES;
-        let mut bytes = SketchBytes::with_capacity(self.container.cloned_allocator()?, needed)?;
+        let mut bytes = SketchBytes::with_capacity(alloc.clone()?, needed)?;
         bytes.write(&list_header(lg_config_k, hll_type, count))?;
-        write_coupons(&mut bytes, &coupons)?;
-        Ok(bytes.into_bytes())
+        Ok(with_coupons(bytes, &coupons)?.into_bytes())
     }
 }
 

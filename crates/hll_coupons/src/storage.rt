@@ -5,7 +5,7 @@ ghost use Rattle.hll_coupons.specs.Storage.{places_in};
 
 use crate::coupon::Coupon;
 use hll_base::error::Error;
-use std::alloc::{AllocError, Allocator, Global};
+use std::alloc::{Allocator, Global};
 use std::fmt;
 
 /// The logarithm of the number of places that stand in the value itself: the size of a sketch's list.
@@ -46,6 +46,32 @@ impl<A: Allocator> Storage<A> {
         Ok(Storage::Allocated(vec![in alloc; Coupon::EMPTY; 1 << lg_size]?))
     }
 
+    /// The allocator. Takes no memory.
+    pub(crate) fn allocator(&self) -> &A {
+        match self {
+            Storage::InValue { alloc, .. } => alloc,
+            Storage::Allocated(coupons) => coupons.allocator(),
+        }
+    }
+
+    /// A copy, in memory of another allocator.
+    ///
+    /// Fails with `Memory`, only if there are not eight places.
+    pub(crate) fn clone_in(&self, alloc: A) -> Result<Storage<A>, Error>
+        ensures ok { IfOk result (λ p. places_in p ≡ places_in self.now) }
+        ensures err { IfErr result (λ e. e ≡ Memory) }
+    {
+        match self {
+            Storage::InValue { coupons, .. } => Ok(Storage::InValue {
+                coupons: *coupons,
+                alloc,
+            }),
+            Storage::Allocated(coupons) => {
+                Ok(Storage::Allocated(Vec::from_slice(alloc, coupons)?))
+            }
+        }
+    }
+
     /// The places.
     pub(crate) fn as_slice(&self) -> &[Coupon]
         ensures { result.now ≡ places_in self.now }
@@ -65,32 +91,6 @@ impl<A: Allocator> Storage<A> {
         match self {
             Storage::InValue { coupons, .. } => coupons[place] = coupon,
             Storage::Allocated(coupons) => coupons[place] = coupon,
-        }
-    }
-}
-
-impl<A: Allocator + Clone> Storage<A> {
-    /// A copy.
-    ///
-    /// Fails with `Memory`.
-    pub(crate) fn clone(&self) -> Result<Storage<A>, Error>
-        ensures ok { IfOk result (λ p. places_in p ≡ places_in self.now) }
-        ensures err { IfErr result (λ e. e ≡ Memory) }
-    {
-        match self {
-            Storage::InValue { coupons, alloc } => Ok(Storage::InValue {
-                coupons: *coupons,
-                alloc: alloc.clone()?,
-            }),
-            Storage::Allocated(coupons) => Ok(Storage::Allocated(coupons.clone()?)),
-        }
-    }
-
-    /// A clone of the allocator. Fails where the allocator's own `clone` does.
-    pub(crate) fn cloned_allocator(&self) -> Result<A, AllocError> {
-        match self {
-            Storage::InValue { alloc, .. } => alloc.clone(),
-            Storage::Allocated(coupons) => coupons.allocator().clone(),
         }
     }
 }

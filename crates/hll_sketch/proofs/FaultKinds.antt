@@ -54,7 +54,7 @@ hll4_data h b r (arrays.Hll4Fault.table l n c e t) = refl
 hll4_data h b r (arrays.Hll4Fault.short n l) = refl
 hll4_data h b r (arrays.Hll4Fault.coupon n l a) = refl
 hll4_data h b r (arrays.Hll4Fault.number n l a) = refl
-hll4_data h b r (arrays.Hll4Fault.register n l a d) = refl
+hll4_data h b r (arrays.Hll4Fault.register n l a x d) = refl
 
 pub faults_are_of_data : FaultsAreOfData
 faults_are_of_data b r (fault.Fault.header f) = header_data b r f

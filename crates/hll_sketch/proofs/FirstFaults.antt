@@ -140,7 +140,7 @@ module _ (b : List ℕ) where
       decide R _ _ _ (Decides-eqb (length entries) (exception_count (drop 8 b)))
       (λ f. fault.Fault.hll4_payload h.whole h.stage_is width h.lg_k (arrays.Hll4Fault.number has there f)) (λ number.
       decide R _ _ _ (Decides-all_agree b)
-      (λ f. fault.Fault.hll4_payload h.whole h.stage_is width h.lg_k (arrays.Hll4Fault.register has there are f)) (λ agree.
+      (λ f. fault.Fault.hll4_payload h.whole h.stage_is width h.lg_k (arrays.Hll4Fault.register has there are number f)) (λ agree.
       (_, read_as-four b _ h width (is_hll4_payload (hll4_shape b) (drop 8 b) (record { low = counts.0; has_entries = has; there = there }) are number agree) refl))))))))
 
   by_kind : stage_bits b < 3 → HasHeader b (stage_bits b) → Gives (checks_behind b)

@@ -208,7 +208,7 @@ fault_as k m q true bytes r (payloads.Hll4Fault.table a l e x y) = absurd (true�
 fault_as k m q true bytes r (payloads.Hll4Fault.short h l) = payloads.Hll4Fault.short (entries_as k m q true bytes h) l
 fault_as k m q true bytes r (payloads.Hll4Fault.coupon h l n) = payloads.Hll4Fault.coupon (entries_as k m q true bytes h) l n
 fault_as k m q true bytes r (payloads.Hll4Fault.number h l n) = payloads.Hll4Fault.number (entries_as k m q true bytes h) l n
-fault_as k m q true bytes r (payloads.Hll4Fault.register h l e n) = payloads.Hll4Fault.register (entries_as k m q true bytes h) l e n
+fault_as k m q true bytes r (payloads.Hll4Fault.register h l e x n) = payloads.Hll4Fault.register (entries_as k m q true bytes h) l e x n
 fault_as k m q false bytes r f = f
 
 pub first_as : (k m q : ℕ) (c : Bool) (bytes : List ℕ) (r : Reason) → FirstHll4Fault (with_format k m c q) bytes r → FirstHll4Fault (with_flag k m c q) bytes r

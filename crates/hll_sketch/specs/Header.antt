@@ -1,4 +1,4 @@
--- What the header of an image says (docs/FORMAT.md, "Header").
+-- What the header of an image says (docs/FORMAT.md, "The image").
 use Rattle.std.specs.Prelude.{ℕ, ◌==◌, if◌then◌else◌, List}
 use Rattle.hll_sketch.specs.declared.header.Header.{Header}
 use Rattle.hll_sketch.specs.declared.header.Stage as stages

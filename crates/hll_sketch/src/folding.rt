@@ -27,19 +27,23 @@ use std::alloc::Allocator;
 
 /// The registers of eight bits that all pairs of a mode fold to, with the cleared state.
 ///
-/// `lg_k` is at most that of registers. One pass. Fails with `Memory`.
-pub(crate) fn fold_of<A: Allocator + Clone>(mode: &Mode<A>, lg_k: u8) -> Result<Array8<A>, Error>
+/// `lg_k` is at most that of registers. One pass. Takes memory of this allocator alone. Fails with `Memory`.
+pub(crate) fn fold_of<A: Allocator>(
+    alloc: A,
+    mode: &Mode<A>,
+    lg_k: u8,
+) -> Result<Array8<A>, Error>
     requires lg_k { IsLgK lg_k }
     requires within { IsWithin lg_k (layout_of mode.now) }
     ensures ok { IfOk result (λ a. a ≡ record { lg_k = lg_k; registers = fold_to (pairs_in (content_in (layout_of mode.now))) lg_k; state = cleared_state }) }
     ensures err { IfErr result (λ e. e ≡ Memory) }
 {
     match mode {
-        Mode::List { list, .. } => registers_of_table(lg_k, list.container()),
-        Mode::Set { set, .. } => registers_of_table(lg_k, set.container()),
-        Mode::Array4(array) => fold_of_registers(array.cloned_allocator()?, lg_k, array.as_ref()),
-        Mode::Array6(array) => fold_of_registers(array.cloned_allocator()?, lg_k, array),
-        Mode::Array8(array) => fold_of_registers(array.cloned_allocator()?, lg_k, array),
+        Mode::List { list, .. } => registers_of_table(alloc, lg_k, list.container()),
+        Mode::Set { set, .. } => registers_of_table(alloc, lg_k, set.container()),
+        Mode::Array4(array) => fold_of_registers(alloc, lg_k, array.as_ref()),
+        Mode::Array6(array) => fold_of_registers(alloc, lg_k, array),
+        Mode::Array8(array) => fold_of_registers(alloc, lg_k, array),
     }
 }
 
@@ -80,7 +84,7 @@ pub(crate) fn settled<A: Allocator + Clone>(
             hll_type,
         }),
         Some(size) => {
-            let alloc = table.cloned_allocator()?;
+            let alloc = table.allocator().clone()?;
             let set = HashSet::from_container(alloc, usize::from(size), table)?;
             Ok(Mode::Set { set, hll_type })
         }
@@ -95,7 +99,7 @@ fn list_of<A: Allocator + Clone>(table: &Container<A>) -> Result<List<A>, Error>
     ensures err { IfErr result (λ e. e ≡ Memory) }
 {
     let _len = table.len();
-    let mut list = List::default_in(table.cloned_allocator()?);
+    let mut list = List::default_in(table.allocator().clone()?);
     for coupon in table.iter() {
         let _len = list.container().len();
         list.update(coupon);

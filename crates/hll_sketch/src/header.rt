@@ -1,4 +1,4 @@
-//! The first eight bytes of an image (docs/FORMAT.md, "Header").
+//! The first eight bytes of an image (docs/FORMAT.md, "The image").
 ghost use Rattle.std.specs.Prelude.{◌≡◌, ◌<◌, ◌≤◌, ◌/◌, ◌%◌, ◌==◌, ◌↔◌, Some, IsOk, IfOk, IfErr, ◌*◌};
 ghost use Rattle.hll_base.specs.declared.error.Reason.TheVariants as reasons;
 ghost use Rattle.hll_sketch.specs.Value.{IsLgK};

@@ -23,7 +23,7 @@ use hll_base::error::Error;
 use hll_coupons::container::Container;
 use hll_coupons::coupon::Coupon;
 use hll_coupons::hll_type::HllType;
-use std::alloc::{AllocError, Allocator};
+use std::alloc::Allocator;
 
 impl<A: Allocator + Clone> HllSketch<A> {
     /// Merges a sketch into this gadget of a union with a bound.
@@ -78,7 +78,7 @@ impl<A: Allocator + Clone> HllSketch<A> {
         ensures err { IfErr result (λ e. e ≡ Memory) }
     {
         if self.is_empty() && self.lg_config_k == sketch.lg_config_k {
-            *self = sketch.at_width(HllType::Hll8)?;
+            *self = sketch.table_in(self.allocator().clone()?, HllType::Hll8)?;
             Ok(())
         } else if self.has_room_for(table) {
             self.add_each(table)
@@ -100,17 +100,33 @@ impl<A: Allocator + Clone> HllSketch<A> {
         ensures ok { IfOk result (λ s. sketch_of s ≡ record (sketch_of self.now) { width = hll_type }) }
         ensures err { IfErr result (λ e. e ≡ Memory) }
     {
+        match &self.mode {
+            Mode::Array8(array) => Ok(HllSketch {
+                lg_config_k: self.lg_config_k,
+                mode: converted(array, hll_type)?,
+            }),
+            _ => self.table_in(self.allocator().clone()?, hll_type),
+        }
+    }
+
+    /// A sketch of coupons at another width, in memory of this allocator: the coupons at the size of their table.
+    ///
+    /// Fails with `Memory`.
+    fn table_in(&self, alloc: A, hll_type: HllType) -> Result<HllSketch<A>, Error>
+        requires { in_registers (content_in self.now.layout) ≡ false }
+        ensures ok { IfOk result (λ s. sketch_of s ≡ record (sketch_of self.now) { width = hll_type }) }
+        ensures err { IfErr result (λ e. e ≡ Memory) }
+    {
         let mode = match &self.mode {
             Mode::List { list, .. } => Mode::List {
-                list: list.clone()?,
+                list: list.clone_in(alloc)?,
                 hll_type,
             },
             Mode::Set { set, .. } => Mode::Set {
-                set: set.clone()?,
+                set: set.clone_in(alloc)?,
                 hll_type,
             },
-            Mode::Array8(array) => converted(array, hll_type)?,
-            Mode::Array4(_) | Mode::Array6(_) => unreachable!(),
+            Mode::Array4(_) | Mode::Array6(_) | Mode::Array8(_) => unreachable!(),
         };
         Ok(HllSketch {
             lg_config_k: self.lg_config_k,
@@ -203,7 +219,7 @@ impl<A: Allocator + Clone> HllSketch<A> {
         ensures err { IfErr result (λ e. e ≡ Memory) }
     {
         if self.is_empty() && source.lg_k() <= bound {
-            let copy = source.clone()?;
+            let copy = source.clone_in(self.allocator().clone()?)?;
             *self = HllSketch {
                 lg_config_k: copy.lg_k(),
                 mode: Mode::Array8(copy),
@@ -243,7 +259,7 @@ impl<A: Allocator + Clone> HllSketch<A> {
         ensures err { IfErr result (λ e. e ≡ Memory) }
     {
         let lg_k = self.lg_config_k.min(source.lg_k());
-        let mut merged = fold_of(&self.mode, lg_k)?;
+        let mut merged = fold_of(self.allocator().clone()?, &self.mode, lg_k)?;
         merge_from(&mut merged, source);
         if self.is_empty() && source.lg_k() <= bound {
             merged.restore_estimate_state(source.estimate_state());
@@ -253,16 +269,5 @@ impl<A: Allocator + Clone> HllSketch<A> {
             mode: Mode::Array8(merged),
         };
         Ok(())
-    }
-
-    /// A clone of the allocator. Fails where the allocator's own `clone` does.
-    pub(crate) fn cloned_allocator(&self) -> Result<A, AllocError> {
-        match &self.mode {
-            Mode::List { list, .. } => list.container().cloned_allocator(),
-            Mode::Set { set, .. } => set.container().cloned_allocator(),
-            Mode::Array4(array) => array.cloned_allocator(),
-            Mode::Array6(array) => array.cloned_allocator(),
-            Mode::Array8(array) => array.cloned_allocator(),
-        }
     }
 }

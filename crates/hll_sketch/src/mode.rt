@@ -39,7 +39,7 @@ impl<A: Allocator + Clone> Mode<A> {
         ensures ok { IfOk result (λ m. layout_of m ≡ layouts.array Hll4 array.stored array.exceptions) }
         ensures err { IfErr result (λ e. e ≡ Memory) }
     {
-        Ok(Mode::Array4(Box::new(array.cloned_allocator()?, array)?))
+        Ok(Mode::Array4(Box::new(array.allocator().clone()?, array)?))
     }
 
     /// A copy, with the same places.

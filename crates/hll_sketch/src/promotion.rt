@@ -105,7 +105,7 @@ fn registers_of<S: RegisterStore<A>, A: Allocator + Clone>(
     ensures ok { IfOk result (λ s. S.stored s ≡ record { lg_k = lg_k; registers = fold_to (insert (coupons_of table.now) coupon) lg_k; state = cleared_state }) }
     ensures err { IfErr result (λ e. e ≡ Memory) }
 {
-    let mut registers: S = registers_of_table(lg_k, table)?;
+    let mut registers: S = registers_of_table(table.allocator().clone()?, lg_k, table)?;
     registers.put_coupon(coupon)?;
     Ok(registers)
 }
@@ -124,17 +124,19 @@ pub(crate) fn mode_of_table<A: Allocator + Clone>(
     ensures width { IfOk result (λ m. width_of (layout_of m) ≡ hll_type) }
     ensures err { IfErr result (λ e. e ≡ Memory) }
 {
+    let alloc = table.allocator().clone()?;
     match hll_type {
-        HllType::Hll4 => Mode::of_four_bits(registers_of_table(lg_k, table)?),
-        HllType::Hll6 => Ok(Mode::Array6(registers_of_table(lg_k, table)?)),
-        HllType::Hll8 => Ok(Mode::Array8(registers_of_table(lg_k, table)?)),
+        HllType::Hll4 => Mode::of_four_bits(registers_of_table(alloc, lg_k, table)?),
+        HllType::Hll6 => Ok(Mode::Array6(registers_of_table(alloc, lg_k, table)?)),
+        HllType::Hll8 => Ok(Mode::Array8(registers_of_table(alloc, lg_k, table)?)),
     }
 }
 
 /// The registers of the coupons of a table, with the cleared state.
 ///
 /// Fails with `Memory`.
-pub(crate) fn registers_of_table<S: RegisterStore<A>, A: Allocator + Clone>(
+pub(crate) fn registers_of_table<S: RegisterStore<A>, A: Allocator>(
+    alloc: A,
     lg_k: u8,
     table: &Container<A>,
 ) -> Result<S, Error>
@@ -142,7 +144,7 @@ pub(crate) fn registers_of_table<S: RegisterStore<A>, A: Allocator + Clone>(
     ensures ok { IfOk result (λ s. S.stored s ≡ record { lg_k = lg_k; registers = fold_to (coupons_of table.now) lg_k; state = cleared_state }) }
     ensures err { IfErr result (λ e. e ≡ Memory) }
 {
-    let mut registers = S::make(table.cloned_allocator()?, lg_k)?;
+    let mut registers = S::make(alloc, lg_k)?;
     for coupon in table.iter() {
         registers.put_coupon(coupon)?;
     }
@@ -163,7 +165,7 @@ fn set_of_size<A: Allocator + Clone>(
     ensures count { IfOk result (λ s. length (coupons_in s.places) ≡ len (insert (coupons_of table.now) coupon)) }
     ensures err { IfErr result (λ e. e ≡ Memory) }
 {
-    let mut set = HashSet::from_container(table.cloned_allocator()?, lg_size, table)?;
+    let mut set = HashSet::from_container(table.allocator().clone()?, lg_size, table)?;
     set.update(coupon);
     Ok(set)
 }

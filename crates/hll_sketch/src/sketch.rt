@@ -147,6 +147,17 @@ impl<A: Allocator> HllSketch<A> {
             Mode::Array8(array) => array.estimated_size(),
         }
     }
+
+    /// The allocator of its table or registers. Takes no memory.
+    pub(crate) fn allocator(&self) -> &A {
+        match &self.mode {
+            Mode::List { list, .. } => list.container().allocator(),
+            Mode::Set { set, .. } => set.container().allocator(),
+            Mode::Array4(array) => array.allocator(),
+            Mode::Array6(array) => array.allocator(),
+            Mode::Array8(array) => array.allocator(),
+        }
+    }
 }
 
 impl<A: Allocator + Clone> HllSketch<A> {
@@ -239,7 +250,17 @@ impl<A: Allocator + Clone> HllSketch<A> {
         ensures ok { IfOk result (λ values. values.items ≡ fold_to (pairs_of (sketch_of self.now)) lg_k) }
         ensures err { IfErr result (λ e. e ≡ Memory) }
     {
-        Ok(fold_of(&self.mode, lg_k)?.into_values())
+        self.registers_in(self.allocator().clone()?, lg_k)
+    }
+
+    /// As `registers_at`, in memory of this allocator.
+    pub(crate) fn registers_in(&self, alloc: A, lg_k: u8) -> Result<Vec<u8, A>, Error>
+        requires least { 4 ≤ lg_k }
+        requires most { lg_k ≤ self.now.lg_k }
+        ensures ok { IfOk result (λ values. values.items ≡ fold_to (pairs_of (sketch_of self.now)) lg_k) }
+        ensures err { IfErr result (λ e. e ≡ Memory) }
+    {
+        Ok(fold_of(alloc, &self.mode, lg_k)?.into_values())
     }
 
     /// The sketch folded to an `lg_k`, of the same width (docs/MODEL.md, "Folding"): coupons stay whole, and registers keep
@@ -313,7 +334,10 @@ impl<A: Allocator + Clone> HllSketch<A> {
         if lg_k == self.lg_config_k {
             self.mode.clone()
         } else {
-            of_width(fold_of(&self.mode, lg_k)?, self.target_type())
+            of_width(
+                fold_of(self.allocator().clone()?, &self.mode, lg_k)?,
+                self.target_type(),
+            )
         }
     }
 

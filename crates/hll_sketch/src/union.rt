@@ -25,6 +25,7 @@ use std::marker::Model;
 
 /// A union: a bound of the `lg_k`, and a gadget that sketches are merged into. The gadget is a sketch of eight bits, with
 /// coupons at the bound, or registers there or at a smaller `lg_k`. Contracts see the bound and the gadget.
+#[derive_where(Debug)]
 #[derive(Drop)]
 pub struct HllUnion<A: Allocator = Global> {
     lg_max_k: u8,
@@ -173,7 +174,7 @@ impl<A: Allocator + Clone> HllUnion<A> {
         ensures unchanged { OnErr result (self.new ≡ self.old) }
         ensures err { IfErr result (λ e. e ≡ Memory) }
     {
-        let alloc = self.gadget.cloned_allocator()?;
+        let alloc = self.gadget.allocator().clone()?;
         self.gadget = HllSketch::new(alloc, self.lg_max_k, HllType::Hll8)?;
         Ok(())
     }
@@ -226,5 +227,6 @@ pub fn agree<A: Allocator + Clone>(a: &HllSketch<A>, b: &HllSketch<A>) -> Result
     ensures err { IfErr result (λ e. e ≡ Memory) }
 {
     let lg_k = a.lg_config_k().min(b.lg_config_k());
-    Ok(a.registers_at(lg_k)?.as_slice() == b.registers_at(lg_k)?.as_slice())
+    let others = b.registers_in(a.allocator().clone()?, lg_k)?;
+    Ok(a.registers_at(lg_k)?.as_slice() == others.as_slice())
 }

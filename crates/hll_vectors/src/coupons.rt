@@ -1,8 +1,10 @@
 //! Coupons of words, of bytes and of values.
 use crate::hash::TEXT;
 use hll_base::hash::MurmurHash3X64128;
+use hll_coupons::aux_map::AuxMap;
 use hll_coupons::coupon::Coupon;
 use std::hash::{Hash, Hasher};
+use std::test::Fail;
 
 /// The two words of a hash, and the slot and value of their coupon.
 const WORDS: [(u64, u64, u32, u8); 8] = [
@@ -83,4 +85,39 @@ fn of_values(rt: HostRuntime) {
         Coupon::from_value(Piece { bytes: &TEXT[..15] })
             != Coupon::from_value(Piece { bytes: &TEXT[15..] })
     );
+}
+
+#[test]
+fn exceptions(rt: HostRuntime) -> Result<(), Fail> {
+    let mut map = AuxMap::new(rt.alloc(), 10)?;
+    map.insert(10, 20)?;
+    map.insert(50, 30)?;
+    map.insert(100, 40)?;
+    let values = (map.get(10), map.get(50), map.get(100), map.get(999));
+    assert_eq!(rt; values, (Some(20), Some(30), Some(40), None));
+    map.replace(50, 35);
+    assert_eq!(rt; map.get(50), Some(35));
+    let mut grown = AuxMap::new(rt.alloc(), 8)?;
+    grown.insert(1, 15)?;
+    grown.insert(2, 16)?;
+    grown.insert(3, 17)?;
+    grown.insert(4, 18)?;
+    let values = (grown.get(1), grown.get(2), grown.get(3), grown.get(4));
+    assert_eq!(rt; values, (Some(15), Some(16), Some(17), Some(18)));
+    assert_eq!(rt; grown.estimated_size(), 32);
+    Ok(())
+}
+
+/// The size in bytes of a map without entries, by `lg_k` from 4 on.
+const START_SIZES: [usize; 18] = [
+    16, 16, 16, 32, 32, 32, 64, 64, 128, 128, 256, 512, 1024, 2048, 4096, 8192, 16384, 32768,
+];
+
+#[test]
+fn start_sizes(rt: HostRuntime) -> Result<(), Fail> {
+    for lg_k in 4..22u8 {
+        let map = AuxMap::new(rt.alloc(), lg_k)?;
+        assert_eq!(rt; map.estimated_size(), START_SIZES[usize::from(lg_k) - 4], "{lg_k}");
+    }
+    Ok(())
 }

@@ -139,6 +139,14 @@ const TEXTS: [(u8, HllType, u32, &str); 3] = [
     ),
 ];
 
+/// Registers of eight bits whose state has no flag, and their text.
+const IN_ORDER: &str = "0a0107040000000a0100000000000000020000000000000003000000000000000f0000000000000005000000000000000000000000000000";
+
+const IN_ORDER_TEXT: &str = "HllSketch { lg_config_k: 4, target_type: Hll8, mode: \"Hll\", is_empty: false, estimator: \"HIP\" }";
+
+/// An empty union of bound 8.
+const UNION_TEXT: &str = "HllUnion { lg_max_k: 8, gadget: HllSketch { lg_config_k: 8, target_type: Hll8, mode: \"List\", is_empty: true } }";
+
 #[test]
 fn texts(rt: HostRuntime) -> Result<(), Fail> {
     for (lg_k, hll_type, count, text) in TEXTS {
@@ -147,6 +155,27 @@ fn texts(rt: HostRuntime) -> Result<(), Fail> {
             sketch.update_with_coupon(Coupon::pack(slot, 1))?;
         }
         assert_eq!(rt; format!(in rt.alloc(); "{sketch:?}")?.as_str(), text);
+    }
+    let read = HllSketch::deserialize(rt.alloc(), &hex::decode(rt.alloc(), IN_ORDER)?)?;
+    assert_eq!(rt; format!(in rt.alloc(); "{read:?}")?.as_str(), IN_ORDER_TEXT);
+    let union = HllUnion::new(rt.alloc(), 8)?;
+    assert_eq!(rt; format!(in rt.alloc(); "{union:?}")?.as_str(), UNION_TEXT);
+    Ok(())
+}
+
+/// Eight coupons give the same registers at each width.
+#[test]
+fn widths(rt: HostRuntime) -> Result<(), Fail> {
+    for hll_type in [HllType::Hll4, HllType::Hll6, HllType::Hll8] {
+        let mut sketch = HllSketch::new(rt.alloc(), 4, hll_type)?;
+        for slot in 0..8u32 {
+            sketch.update_with_coupon(Coupon::pack(slot, slot as u8 + 1))?;
+        }
+        let registers = sketch.registers_at(sketch.lg_config_k())?;
+        assert_eq!(rt;
+            registers.as_slice(),
+            [1, 2, 3, 4, 5, 6, 7, 8, 0, 0, 0, 0, 0, 0, 0, 0].as_slice()
+        );
     }
     Ok(())
 }

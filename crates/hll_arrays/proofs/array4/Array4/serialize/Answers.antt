@@ -39,7 +39,7 @@ returns-clause-ok g c =
     let third : c.write-2.new.self ≡ (H ++ N) ++ x.nibbles.items = c.in_ok-write-2.ensures.ok ∙ (λ i. second i ++ c.deref.ensures.value i) in
     let image : List ℕ = c.into_bytes.result.items in
     let written : WritesAscending (λ order. c.write-2.new.self ++ coupon_bytes order) (exceptions_in x.exceptions) image =
-    subst (WritesAscending (λ order. c.write-2.new.self ++ coupon_bytes order) (exceptions_in x.exceptions)) (sym c.into_bytes.ensures) c.in_ok-write_exceptions.ensures.ok in
+    subst (WritesAscending (λ order. c.write-2.new.self ++ coupon_bytes order) (exceptions_in x.exceptions)) (sym c.into_bytes.ensures) c.in_ok-written.ensures.ok in
     subst (λ k. WritesRegisters image k Hll4 c.args.self.now.stored.registers c.args.self.now.stored.state) (sym c.requires)
     (subst (λ (z : FourBits). WritesRegisters image z.stored.lg_k Hll4 z.stored.registers z.stored.state) view
     (image_is _ _ _ _ _ _ c.self.invariant.1 c.self.invariant.2 x.state count (c.count_exceptions-count.ensures.count x.lg_config_k c.self.invariant.2.map_for) c.write-2.new.self image third written))

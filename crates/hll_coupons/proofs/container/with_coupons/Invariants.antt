@@ -1,6 +1,6 @@
 use Rattle.std.proofs.Common.{◌≡◌, ◌++◌, take}
 use Rattle.hll_coupons.specs.Coupons.{coupon_bytes}
-use Rattle.hll_coupons.proofs.container.write_coupons.Given as goal
+use Rattle.hll_coupons.proofs.container.with_coupons.Given as goal
 
 -- the bytes of the coupons so far are appended
 abbrev pub invariant-loop-coupon : goal.invariant-loop-coupon
