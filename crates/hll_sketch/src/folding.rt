@@ -28,7 +28,7 @@ use std::alloc::Allocator;
 /// The registers of eight bits that all pairs of a mode fold to, with the cleared state.
 ///
 /// `lg_k` is at most that of registers. One pass. Takes memory of this allocator alone. Fails with `Memory`.
-pub(crate) fn fold_of<A: Allocator>(
+pub(crate) fn fold_of<A: Allocator + Clone>(
     alloc: A,
     mode: &Mode<A>,
     lg_k: u8,

@@ -1,0 +1,147 @@
+#!/usr/bin/env python3
+"""Refuses each request for memory of the program in turn, and fails each of its reads and writes, over all row plans.
+
+The plans, with what they print or the line of their fault, are those in the tables of `hll_vectors` and `hll_merge_tests`.
+A request that is refused has to end in `line .. memory` with nothing on standard output and status 1; a read in `read`, or
+in the fault of a line that ended before; a write in `write`, with a front of the answer. Where each call moves one byte,
+the answer is the same. Call it with the program's path; without one it is what the script hll_merge keeps, which is built
+if need be. It needs cc, ends after ten minutes at most, and says how many runs it made. The status is 1 if any was wrong.
+"""
+import concurrent.futures
+import os
+import pathlib
+import re
+import subprocess
+import sys
+import tempfile
+import time
+
+sys.dont_write_bytecode = True
+from plans import ROOT, built_program
+
+SECONDS = 600
+TABLES = ("crates/hll_vectors/src/*.rt", "crates/hll_merge_tests/src/*.rt")
+STRING = r'"((?:\\.|[^"\\])*)"'
+ROW = re.compile(r"\(\s*" + STRING + r"\s*,\s*(?:" + STRING + r"|(\d+))\s*,?", re.S)
+ESCAPES = {"n": "\n", "r": "\r", "t": "\t", "0": "\0", "\\": "\\", '"': '"'}
+PLAN = re.compile(r"(new|image|coupon|union|fold) ")
+ANSWER = re.compile(r"[0-9a-f]+\n\Z")
+
+
+def unescaped(text):
+    """The text of a string in a source."""
+    text = re.sub(r"\\\n\s*", "", text)
+    text = re.sub(r"\\u\{([0-9a-f]+)\}", lambda found: chr(int(found[1], 16)), text)
+    text = re.sub(r"\\x([0-9a-f]{2})", lambda found: chr(int(found[1], 16)), text)
+    return re.sub(r"\\(.)", lambda found: ESCAPES[found[1]], text)
+
+
+def rows():
+    """Each plan of the tables, with what it prints or the number of the line of its fault."""
+    found = {}
+    for pattern in TABLES:
+        for path in sorted(ROOT.glob(pattern)):
+            for text, printed, line in ROW.findall(path.read_text()):
+                plan, printed = unescaped(text), unescaped(printed)
+                if line and (PLAN.match(plan) or "\n" in plan or not plan):
+                    found[plan] = int(line)
+                elif PLAN.match(plan) and ANSWER.match(printed):
+                    found[plan] = printed
+    return found
+
+
+class Trial:
+    """Runs of one plan under the preloaded library."""
+
+    def __init__(self, program, library, plan, wanted):
+        self.program, self.library, self.wanted = program, library, wanted
+        self.plan = plan.encode()
+        self.runs, self.wrong = 0, []
+
+    def run(self, **numbers):
+        """What the program prints on both streams, and its status."""
+        settings = {"REFUSE_" + name.upper(): str(number) for name, number in numbers.items()}
+        ended = subprocess.run([self.program], input=self.plan, capture_output=True, timeout=60,
+                               env={**os.environ, "LD_PRELOAD": self.library, **settings})
+        self.runs += 1
+        return ended.stdout.decode(), ended.stderr.decode(), ended.returncode
+
+    def expect(self, is_right, what, seen):
+        if not is_right:
+            self.wrong.append("%s: %r for %r" % (what, seen, self.plan))
+
+    def whole(self):
+        """The plan with all calls served, and the numbers of calls."""
+        with tempfile.NamedTemporaryFile() as counts:
+            seen = self.run(counts=counts.name)
+            numbers = [int(number) for number in counts.read().split()]
+        printed, refusal, status = seen
+        if isinstance(self.wanted, str):
+            self.expect(seen == (self.wanted, "", 0), "as its row", seen)
+        else:
+            is_row = refusal.startswith("line %d: " % self.wanted)
+            self.expect(printed == "" and is_row and status == 1, "as its row", seen)
+        self.expect(self.run(short=1) == seen, "byte by byte", seen)
+        return seen, numbers
+
+    def refuse_memory(self, requests):
+        for number in range(1, requests + 1):
+            seen = self.run(memory=number)
+            is_memory = re.fullmatch(r"line \d+: memory\n", seen[1])
+            self.expect(seen[0] == "" and is_memory and seen[2] == 1, "request %d" % number, seen)
+
+    def fail_reads(self, reads, answer):
+        ended = self.plan.count(b"\n")
+        for number in range(1, reads + 1):
+            seen = self.run(read=number)
+            before = ended if number > 1 else 0
+            is_fault = answer[1] and int(answer[1].split()[1][:-1]) <= before
+            refusal = answer[1] if is_fault else "line %d: read\n" % before
+            self.expect(seen == ("", refusal, 1), "read %d" % number, seen)
+
+    def fail_writes(self, writes, answer):
+        for number in range(1, writes + 1):
+            printed, refusal, status = seen = self.run(write=number)
+            is_front = answer[0].startswith(printed) and printed != answer[0]
+            is_write = re.fullmatch(r"line \d+: write\n", refusal)
+            self.expect(is_front and is_write and status == 1, "write %d" % number, seen)
+
+    def all(self, deadline):
+        """Makes all runs, unless the time is over. The numbers of requests, reads and writes."""
+        if time.monotonic() > deadline:
+            return None
+        answer, (requests, reads, writes) = self.whole()
+        self.refuse_memory(requests)
+        self.fail_reads(reads, answer)
+        self.fail_writes(writes, answer)
+        return requests, reads, writes
+
+
+def built_library(folder):
+    library = str(pathlib.Path(folder) / "refuse.so")
+    source = str(ROOT / "bench" / "refuse.c")
+    subprocess.run(["cc", "-O2", "-shared", "-fPIC", "-o", library, source], check=True)
+    return library
+
+
+def main():
+    program = sys.argv[1] if len(sys.argv) > 1 else str(built_program())
+    deadline = time.monotonic() + SECONDS
+    with tempfile.TemporaryDirectory() as folder:
+        library = built_library(folder)
+        trials = [Trial(program, library, plan, wanted) for plan, wanted in rows().items()]
+        with concurrent.futures.ThreadPoolExecutor(os.cpu_count()) as pool:
+            counts = list(pool.map(lambda trial: trial.all(deadline), trials))
+    for trial in trials:
+        for wrong in trial.wrong:
+            print(wrong[:400])
+    done = [count for count in counts if count]
+    totals = [sum(column) for column in zip(*done)] or [0, 0, 0]
+    wrong = sum(len(trial.wrong) for trial in trials)
+    print("%d of %d plans, %d runs: %d requests refused, %d reads and %d writes failed; %d wrong"
+          % (len(done), len(trials), sum(trial.runs for trial in trials), *totals, wrong))
+    return 1 if wrong or len(done) < len(trials) or not totals[0] else 0
+
+
+if __name__ == "__main__":
+    sys.exit(main())
