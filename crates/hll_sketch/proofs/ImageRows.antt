@@ -96,7 +96,7 @@ no_exception = 10 ∷ 1 ∷ 7 ∷ 4 ∷ 0 ∷ 8 ∷ 0 ∷ 2 ∷ 0 ∷ 0 ∷ 0 �
 pub fault-no_exception : Fault no_exception Register
 fault-no_exception = hll4_payload (omega arith) refl refl (record { low = omega arith; high = omega arith })
     (payload.register (record { whole = omega arith; few = omega arith; table = λ c n. absurd (n refl) }) (omega arith)
-    (record { valued = λ i d l. absurd (omega (arith, l)); distinct = len-empty nat_cmp }) (λ agree. omega (arith, (agree 0 (omega arith)).0)))
+    (record { valued = λ i d l. absurd (omega (arith, l)); distinct = len-empty nat_cmp }) refl (λ agree. omega (arith, (agree 0 (omega arith)).0)))
 
 -- a set in 64 places, at an lg_k of 8
 abbrev set_of_size_6 : List ℕ

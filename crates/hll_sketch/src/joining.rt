@@ -78,7 +78,7 @@ impl<A: Allocator + Clone> HllSketch<A> {
         ensures err { IfErr result (λ e. e ≡ Memory) }
     {
         if self.is_empty() && self.lg_config_k == sketch.lg_config_k {
-            *self = sketch.table_in(self.allocator().clone()?, HllType::Hll8)?;
+            *self = sketch.table_in(self.allocator(), HllType::Hll8)?;
             Ok(())
         } else if self.has_room_for(table) {
             self.add_each(table)
@@ -105,25 +105,25 @@ impl<A: Allocator + Clone> HllSketch<A> {
                 lg_config_k: self.lg_config_k,
                 mode: converted(array, hll_type)?,
             }),
-            _ => self.table_in(self.allocator().clone()?, hll_type),
+            _ => self.table_in(self.allocator(), hll_type),
         }
     }
 
-    /// A sketch of coupons at another width, in memory of this allocator: the coupons at the size of their table.
+    /// A sketch of coupons at another width, in memory of a clone of this allocator: the coupons at the size of their table.
     ///
     /// Fails with `Memory`.
-    fn table_in(&self, alloc: A, hll_type: HllType) -> Result<HllSketch<A>, Error>
+    fn table_in(&self, alloc: &A, hll_type: HllType) -> Result<HllSketch<A>, Error>
         requires { in_registers (content_in self.now.layout) ≡ false }
         ensures ok { IfOk result (λ s. sketch_of s ≡ record (sketch_of self.now) { width = hll_type }) }
         ensures err { IfErr result (λ e. e ≡ Memory) }
     {
         let mode = match &self.mode {
             Mode::List { list, .. } => Mode::List {
-                list: list.clone_in(alloc)?,
+                list: list.clone_in(alloc.clone()?)?,
                 hll_type,
             },
             Mode::Set { set, .. } => Mode::Set {
-                set: set.clone_in(alloc)?,
+                set: set.clone_in(alloc.clone()?)?,
                 hll_type,
             },
             Mode::Array4(_) | Mode::Array6(_) | Mode::Array8(_) => unreachable!(),
