@@ -117,7 +117,11 @@ const START_SIZES: [usize; 18] = [
 fn start_sizes(rt: HostRuntime) -> Result<(), Fail> {
     for lg_k in 4..22u8 {
         let map = AuxMap::new(rt.alloc(), lg_k)?;
-        assert_eq!(rt; map.estimated_size(), START_SIZES[usize::from(lg_k) - 4], "{lg_k}");
+        assert_eq!(rt;
+            map.estimated_size(),
+            START_SIZES[usize::from(lg_k) - 4],
+            "{lg_k}"
+        );
     }
     Ok(())
 }

@@ -140,12 +140,15 @@ const TEXTS: [(u8, HllType, u32, &str); 3] = [
 ];
 
 /// Registers of eight bits whose state has no flag, and their text.
-const IN_ORDER: &str = "0a0107040000000a0100000000000000020000000000000003000000000000000f0000000000000005000000000000000000000000000000";
+const IN_ORDER: &str =
+    "0a0107040000000a0100000000000000020000000000000003000000000000000f0000000000000005000000000000000000000000000000";
 
-const IN_ORDER_TEXT: &str = "HllSketch { lg_config_k: 4, target_type: Hll8, mode: \"Hll\", is_empty: false, estimator: \"HIP\" }";
+const IN_ORDER_TEXT: &str =
+    "HllSketch { lg_config_k: 4, target_type: Hll8, mode: \"Hll\", is_empty: false, estimator: \"HIP\" }";
 
 /// An empty union of bound 8.
-const UNION_TEXT: &str = "HllUnion { lg_max_k: 8, gadget: HllSketch { lg_config_k: 8, target_type: Hll8, mode: \"List\", is_empty: true } }";
+const UNION_TEXT: &str =
+    "HllUnion { lg_max_k: 8, gadget: HllSketch { lg_config_k: 8, target_type: Hll8, mode: \"List\", is_empty: true } }";
 
 #[test]
 fn texts(rt: HostRuntime) -> Result<(), Fail> {
