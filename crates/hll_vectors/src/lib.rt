@@ -16,6 +16,8 @@ mod registers;
 #[cfg(test)]
 mod sketches;
 #[cfg(test)]
+mod streams;
+#[cfg(test)]
 mod trees;
 #[cfg(test)]
 mod unions;
