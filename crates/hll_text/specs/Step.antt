@@ -1,5 +1,5 @@
 -- What contracts see of a step: the plan's step, without its allocator (docs/PLAN.md, "The text").
-use Rattle.std.specs.Prelude.{◌≡◌, ◌⊎◌, ℕ, true, List, take, ◌<◌, ◌≤◌, ◌^◌, Option, Some, None, Result, Ok, Err}
+use Rattle.std.specs.Prelude.{◌≡◌, ◌⊎◌, ℕ, true, List, All, take, ◌<◌, ◌≤◌, ◌^◌, Option, Some, None, Result, Ok, Err}
 use denote.Ref.{Bor}
 use Rattle.hll_base.specs.declared.error.Reason.{Reason}
 use Rattle.hll_base.specs.declared.error.Reason.TheVariants as reasons
@@ -70,6 +70,18 @@ IsInRange (image bytes) = Unit {0}
 IsInRange (coupon s v) = (s < 2 ^ 26) × (1 ≤ v) × (v ≤ 63)
 IsInRange (union n m w) = (4 ≤ m) × (m ≤ 21)
 IsInRange (fold e) = (4 ≤ e) × (e ≤ 21)
+
+-- the bytes of an image are bytes
+abbrev pub HasBytes : PlanStep → Type 0
+HasBytes (new k w) = Unit {0}
+HasBytes (image bytes) = All (λ b. b < 2 ^ 8) bytes
+HasBytes (coupon s v) = Unit {0}
+HasBytes (union n m w) = Unit {0}
+HasBytes (fold e) = Unit {0}
+
+-- a step that a line or a list of steps may say
+abbrev pub IsWellFormed : PlanStep → Type 0
+IsWellFormed step = IsInRange step × HasBytes step
 
 -- the fault for an error of the crates below
 abbrev pub fault_of : Reason → Fault
