@@ -1,7 +1,7 @@
 //! A proved caller of the library: what CALLING.md shows.
 #![tactic(auto)]
 
-ghost use Rattle.std.specs.Prelude.{◌≡◌, ◌≤◌, ◌⊎◌, ◌++◌, [], All, map, Some, IfOk, IfErr};
+ghost use Rattle.std.specs.Prelude.{◌≡◌, ◌≤◌, ◌⊎◌, ◌++◌, All, map, IfOk, IfErr};
 ghost use Rattle.std.specs.FinSet.{union};
 ghost use Rattle.hll_base.specs.declared.error.Reason.TheVariants as reasons;
 ghost use Rattle.hll_base.specs.declared.error.Reason.TheVariants.{Memory};
@@ -11,7 +11,8 @@ ghost use Rattle.hll_arrays.specs.State.{cleared_state};
 ghost use Rattle.hll_sketch.specs.Grown.{IsGrown};
 ghost use Rattle.hll_sketch.specs.Joined.{IsJoinOf};
 ghost use Rattle.hll_sketch.specs.Layout.{sketch_of};
-ghost use Rattle.hll_merge.specs.Run.{IsAnswer, IsRefused, Streams};
+ghost use Rattle.hll_merge.specs.Accepting.{IsFirstFault};
+ghost use Rattle.hll_merge.specs.Run.{IsAnswer};
 ghost use Rattle.hll_text.specs.declared.fault.Fault.TheVariants as faults;
 
 use hll_arrays::array8::Array8;
@@ -91,11 +92,11 @@ pub fn union_of_shards<A: Allocator + Clone>(
 
 /// Runs a plan in memory: the line that the program would print for it.
 ///
-/// Fails with `Memory` or as `run` does. Takes memory for the text, the sketches and the line.
+/// Fails with `Memory`, or the first fault of the plan with its line. Takes memory for the sketches, the bytes of an image and
+/// the line.
 pub fn run_in_memory<A: Allocator + Clone>(alloc: A, plan: &[u8]) -> Result<Vec<u8, A>, MergeError>
     ensures ok { IfOk result (λ line. IsAnswer plan.now line.items) }
-    ensures err { IfErr result (λ e. (e.fault ≡ faults.Memory)
-        ⊎ ((streams : Streams) × (streams.before ≡ Some plan.now) × (streams.old ≡ Some []) × IsRefused streams e)) }
+    ensures err { IfErr result (λ e. (e.fault ≡ faults.Memory) ⊎ IsFirstFault plan.now e) }
 {
     let for_line = match alloc.clone() {
         Ok(for_line) => for_line,
@@ -103,6 +104,10 @@ pub fn run_in_memory<A: Allocator + Clone>(alloc: A, plan: &[u8]) -> Result<Vec<
     };
     let mut reader = Watched::new(plan);
     let mut writer = Watched::new(Vec::new(for_line));
-    run(alloc, &mut reader, &mut writer)?;
-    Ok(writer.into_inner())
+    match run(alloc, &mut reader, &mut writer) {
+        Ok(()) => Ok(writer.into_inner()),
+        // a stream in memory fails only where memory is refused
+        Err(e) if reader.failed() || writer.failed() => Err(Fault::Memory.at(e.line)),
+        Err(e) => Err(e),
+    }
 }

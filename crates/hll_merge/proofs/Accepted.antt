@@ -18,8 +18,7 @@ use Rattle.hll_text.specs.Text.{PlanStep, Reading, new, image, coupon, union, fo
 use Rattle.hll_text.proofs.FaultLemmas.{IfErr-reading}
 use Rattle.hll_merge.specs.Plan as plan
 use Rattle.hll_merge.specs.Plan.{Plan, plans_of, effective_lg_k}
-use Rattle.hll_merge.specs.Accepting.{Carries, IsFaultOfStep, Gives, IsFaultOfLine, Runs, FaultsFrom, AcceptsLines, IsFirstFaultOfLines, skipped, taken, unread, refused}
-use Rattle.hll_merge.specs.Evaluate.{itself}
+use Rattle.hll_merge.specs.Accepting.{Carries, IsFaultOfStep, Gives, IsFaultOfLine, Runs, FaultsFrom, AcceptsLines, IsFirstFaultOfLines, itself, skipped, taken, unread, refused}
 use Rattle.hll_merge.specs.Texts.{OnePlan, OneFirstFault, AcceptedIsFaultless, IsOwnFault, FirstFaultsAreOwn}
 
 -- ---- one outcome of a step
@@ -162,18 +161,30 @@ module _ {L : Type 0} (reads : L → Reading) where
       let fault : d.fault ≡ e.fault = f.fault ∙ sym g.fault in
       (λ i. record { line = line i; fault = fault i })
 
+  one_accepted : (all : List L) (t u : Plan) → AcceptsLines reads all t → AcceptsLines reads all u → t ≡ u
+  one_accepted all t u h g = let same : (t ∷ []) ≡ (u ∷ []) = one_run [] all (t ∷ []) (u ∷ []) h g in cc
+
   accepted_or_faulty : (all : List L) (t : Plan) (e : MergeError) → AcceptsLines reads all t → IsFirstFaultOfLines reads all e → ⊥
   accepted_or_faulty all t e h (inl f) = runs_or_faults [] 0 all (t ∷ []) e h f
   accepted_or_faulty all t e h (inr f) = f.left (ap length (one_run [] all f.stack (t ∷ []) f.runs h))
 
 pub one_plan : OnePlan
-one_plan text t u h g = let same : (t ∷ []) ≡ (u ∷ []) = one_run reading [] (lines text) (t ∷ []) (u ∷ []) h g in cc
+one_plan = record {
+  of_text = λ text t u h g. one_accepted reading (lines text) t u h g;
+  of_steps = one_accepted itself;
+}
 
 pub one_first_fault : OneFirstFault
-one_first_fault text d e f g = one_first_fault_of_lines reading (lines text) d e f g
+one_first_fault = record {
+  of_text = λ text d e f g. one_first_fault_of_lines reading (lines text) d e f g;
+  of_steps = one_first_fault_of_lines itself;
+}
 
 pub accepted_is_faultless : AcceptedIsFaultless
-accepted_is_faultless text t e = accepted_or_faulty reading (lines text) t e
+accepted_is_faultless = record {
+  of_text = λ text t e. accepted_or_faulty reading (lines text) t e;
+  of_steps = accepted_or_faulty itself;
+}
 
 -- ---- whose faults they are
 

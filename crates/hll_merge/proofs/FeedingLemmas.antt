@@ -5,14 +5,16 @@ use Rattle.std.specs.Str.Lines.{lines}
 use Rattle.std.proofs.lemmas.Bool.Decides.{nat_tests}
 use Rattle.std.proofs.lemmas.List.{length-append}
 use Rattle.hll_sketch.specs.Layout.{SketchLayout}
+use Rattle.hll_text.specs.declared.fault.Fault.TheVariants.{Stack}
 use Rattle.hll_text.specs.declared.fault.MergeError.{MergeError}
 use Rattle.hll_text.specs.Text.{ended_lines, open_line, line_of_rest, line_number, reading}
 use Rattle.hll_text.proofs.CutLemmas.{ended_lines-append, open_line-append, lines-ended}
 use Rattle.hll_merge.specs.Plan.{Plan}
-use Rattle.hll_merge.specs.Accepting.{Runs, FaultsFrom, FaultsAtLine}
-use Rattle.hll_merge.specs.Stack.{AllRepresent}
-use Rattle.hll_merge.specs.Feeding.{Feed, TakesPiece, RefusesPiece, IsFedBy, going, stopped, unfed, EndsIn, IsOutcomeOf}
-use Rattle.hll_merge.proofs.StackLemmas.{AllRepresent-one}
+use Rattle.hll_merge.specs.Accepting.{Runs, FaultsFrom, FaultsAtLine, Accepts}
+use Rattle.hll_merge.specs.Stack.{AllRepresent, StackRuns, StackStops, StackGives, StackFaults}
+use Rattle.hll_merge.specs.Feeding.{Feed, TakesPiece, RefusesPiece, Finishes, RefusesEnd, IsFedBy, going, stopped, unfed, IsOutcomeOf, StopsText}
+use Rattle.hll_merge.proofs.Headline.{text_holds}
+use Rattle.hll_merge.proofs.StackLemmas.{AllRepresent-one, length-AllRepresent}
 
 -- ---- lines in turn, and then more
 
@@ -96,13 +98,6 @@ Consumes-keeps (Some us) (Some bs) (Some cs) xs h k = h ∙ ap (λ zs. xs ++ zs)
 
 -- ---- the end of a text
 
-positive : (n : ℕ) → nat_eq (suc n) 0 ≡ false
-positive n = grind (arith, nat_tests)
-
-pub none-left : (xs : List ℕ) → nat_eq (length xs) 0 ≡ true → xs ≡ []
-none-left [] e = refl
-none-left (x ∷ xs) e = absurd (let same : true ≡ false = sym e ∙ positive (length xs) in cc)
-
 pub one-left : (xs : List ℕ) → nat_eq (length xs) 0 ≡ false → line_of_rest xs ≡ xs ∷ []
 one-left [] e = absurd (cc)
 one-left (x ∷ xs) e = refl
@@ -125,8 +120,75 @@ gone text s (going f p n ts r h) none = record {
 }
 gone text s (stopped e f p h) none = absurd (let same : None ≡ Some e = sym none ∙ f in cc)
 
+-- what is left of the text was carried out on the sketches of a feed
+pub ends-empty : (s : Feed) → s.pending ≡ [] → StackRuns s.stack (line_of_rest s.pending) s.stack
+ends-empty s none = subst (λ bytes. StackRuns s.stack (line_of_rest bytes) s.stack) (sym none) (λ ts h. (ts, refl, h))
+
+pub ends-line : (s : Feed) (new : List SketchLayout) → nat_eq (length s.pending) 0 ≡ false → StackGives reading s.stack s.pending new → StackRuns s.stack (line_of_rest s.pending) new
+ends-line s new some gives = subst (λ ls. StackRuns s.stack ls new) (sym (one-left s.pending some)) (λ ts h. let next = gives ts h in (next.0, (next.0, next.1, refl), next.2))
+
+pub ends-fault : (s : Feed) (e : MergeError) → nat_eq (length s.pending) 0 ≡ false → StackFaults reading s.stack s.pending e.fault → e.line ≡ line_number (s.count + 1) → StackStops s.stack s.count (line_of_rest s.pending) e
+ends-fault s e some faults at = subst (λ ls. StackStops s.stack s.count ls e) (sym (one-left s.pending some)) (λ ts h. elim (faults ts h) [
+  | inl m ↦ inl m
+  | inr f ↦ inr (record {
+    front = [];
+    line = s.pending;
+    rest = [];
+    is = refl;
+    stack = ts;
+    runs = refl;
+    fault = f;
+    at = let line : e.line ≡ line_number (s.count + 0 + 1) = omega (arith, at) in line;
+  })
+])
+
+-- not exactly one sketch is left
+pub ends-not_one : (s : Feed) (xs : List SketchLayout) (e : MergeError) → StackRuns s.stack (line_of_rest s.pending) xs → (length xs ≡ 1 → ⊥) → e.fault ≡ Stack → e.line ≡ line_number (s.count + length (line_of_rest s.pending)) → RefusesEnd s e
+ends-not_one s xs e runs other fault at = λ ts h. let run = runs ts h in inr (inr (record {
+  stack = run.0;
+  runs = run.1;
+  left = λ one. other (length-AllRepresent xs run.0 run.2 ∙ one);
+  fault = fault;
+  at = at;
+}))
+
+-- ---- the whole text
+
+-- what is left of the text was carried out after the lines that ended
+run-whole : (text : List ℕ) (s : Feed) (g : Gone text s) (us : List Plan) → Runs reading g.stack (line_of_rest s.pending) us → Runs reading [] (lines text) us
+run-whole text s g us run = subst (λ ls. Runs reading [] ls us) (sym g.lines) (Runs-append [] g.stack us (ended_lines text) (line_of_rest s.pending) g.runs run)
+
+-- the number of lines of the text
+pub lines-counted : (text : List ℕ) (s : Feed) (n : ℕ) → IsFedBy text s → s.fault ≡ None → n ≡ line_number (s.count + length (line_of_rest s.pending)) → n ≡ line_number (length (lines text))
+lines-counted text s n h none is =
+    let g : Gone text s = gone text s h none in
+    let all : n ≡ line_number (length (lines text)) = omega (arith, is, g.count, ap length g.lines, length-append (ended_lines text) (line_of_rest s.pending)) in
+    all
+
 -- the one sketch that is left is the outcome of the text's plan
-pub outcome_of : (text : List ℕ) (xs : List SketchLayout) (x : SketchLayout) → EndsIn text xs → xs ≡ x ∷ [] → IsOutcomeOf text x
-outcome_of text xs x r one =
-    let t = AllRepresent-one x xs r.plans one r.all in
-    record { plan = t.0; accepted = subst (Runs reading [] (lines text)) t.1 r.runs; value = t.2 }
+pub finishes-stream : (text : List ℕ) (s : Feed) (x : SketchLayout) → IsFedBy text s → s.fault ≡ None → Finishes s x → IsOutcomeOf text x
+finishes-stream text s x h none f =
+    let g : Gone text s = gone text s h none in
+    let run = f g.stack g.all in
+    let t = AllRepresent-one x (x ∷ []) run.0 refl run.2 in
+    let whole : Runs reading [] (lines text) run.0 = run-whole text s g run.0 run.1 in
+    let accepted : Accepts text t.0 = subst (Runs reading [] (lines text)) t.1 whole in
+    record { plan = t.0; accepted = accepted; holds = text_holds text t.0 accepted; value = t.2 }
+
+-- what refuses the end is the first fault of the text
+pub refuses_end-stream : (text : List ℕ) (s : Feed) (e : MergeError) → IsFedBy text s → s.fault ≡ None → RefusesEnd s e → StopsText text e
+refuses_end-stream text s e h none r =
+    let g : Gone text s = gone text s h none in
+    let before : List (List ℕ) = ended_lines text in
+    let last : List (List ℕ) = line_of_rest s.pending in
+    elim (r g.stack g.all) [
+      | inl m ↦ inl m
+      | inr (inl f) ↦ inr (inl (subst (λ ls. FaultsAtLine reading ls e) (sym g.lines) (FaultsFrom-after [] g.stack 0 s.count before last e g.runs (let k : s.count ≡ line_number (0 + length before) = omega (arith, g.count) in k) f)))
+      | inr (inr f) ↦ inr (inr (record {
+        stack = f.stack;
+        runs = run-whole text s g f.stack f.runs;
+        left = f.left;
+        fault = f.fault;
+        at = let line : e.line ≡ line_number (0 + length (lines text)) = omega (arith, f.at, g.count, ap length g.lines, length-append before last) in line;
+      }))
+    ]

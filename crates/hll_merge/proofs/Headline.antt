@@ -1,5 +1,5 @@
--- The plan of an accepted text is legal, and so its outcome is.
-use Rattle.std.proofs.Common.{◌≡◌, ℕ, zero, suc, ◌^◌, ◌<◌, ◌≤◌, inl, List, [], ◌∷◌, ◌++◌, length, get_or, take, Some, Ok, refl, sym, subst, arith}
+-- The plan of an accepted text or list of steps is legal, and so its outcome is.
+use Rattle.std.proofs.Common.{◌≡◌, All, ℕ, zero, suc, ◌^◌, ◌<◌, ◌≤◌, inl, List, [], ◌∷◌, ◌++◌, length, get_or, take, Some, Ok, refl, sym, subst, arith}
 use Rattle.std.specs.Str.Lines.{lines}
 use Rattle.std.specs.FinSet.{empty, from_list, len, len-empty}
 use Rattle.std.proofs.lemmas.List.Elements.{All-from_get_or, All-tail}
@@ -20,10 +20,11 @@ use Rattle.hll_sketch.specs.Written.{Written}
 use Rattle.hll_sketch.proofs.Written.{written_is_image, one_written}
 use Rattle.hll_merge.specs.Plan as plan
 use Rattle.hll_merge.specs.Plan.{Plan, Plans, no_plans, more_plans, plans_of, outcome, outcomes, IsLegalPlan, LeavesOfEach}
-use Rattle.hll_text.specs.Text.{PlanStep, reading, new, image, coupon, union, fold}
-use Rattle.hll_text.proofs.StepLemmas.{IsWellFormed, reading-well_formed}
-use Rattle.hll_merge.specs.Accepting.{Carries, Gives, Runs, skipped, taken}
-use Rattle.hll_merge.specs.Headline.{OutcomeIsLegal, AcceptedPlansHold, GrownPlansConvergeAnywhere}
+use Rattle.hll_text.specs.Step.{IsWellFormed}
+use Rattle.hll_text.specs.Text.{PlanStep, Reading, reading, new, image, coupon, union, fold}
+use Rattle.hll_text.proofs.StepLemmas.{reading-well_formed}
+use Rattle.hll_merge.specs.Accepting.{Carries, Gives, Runs, itself, Accepts, AcceptsSteps, skipped, taken}
+use Rattle.hll_merge.specs.Headline.{OutcomeIsLegal, Holds, AcceptedPlansHold, GrownPlansConvergeAnywhere}
 use Rattle.hll_merge.proofs.EffectiveLgK.{lg_k-outcome}
 use Rattle.hll_merge.proofs.Growing.{converges}
 use Rattle.hll_merge.proofs.Outcomes.{plans_have_meaning, same_inputs_agree}
@@ -49,30 +50,15 @@ mutual
   merged_each m g no_plans h l = h
   merged_each m g (more_plans t ts) h l = merged_each m (merge m g (outcome t)) ts (merge_is_legal m g (outcome t) h (outcome_is_legal t l.0)) l.1
 
--- ---- steps that were read
+-- ---- well-formed steps
 
--- the numbers are in their ranges, and the bytes of an image are bytes
-abbrev IsRight : PlanStep → Type 0
-IsRight (new k w) = IsLgK k
-IsRight (image bytes) = AreBytes bytes
-IsRight (coupon s v) = IsPair (pair s v)
-IsRight (union n m w) = IsLgK m
-IsRight (fold e) = IsLgK e
+lg_k_right : (k : ℕ) → (4 ≤ k) × (k ≤ 21) → IsLgK k
+lg_k_right k h = record { low = h.0; high = h.1 }
 
 pair_right : (s v : ℕ) → s < 2 ^ 26 → 1 ≤ v → v ≤ 63 → IsPair (pair s v)
 pair_right s v low least most =
     let is : value_of (pair s v) ≡ v = div-mul-add v (2 ^ 26) s low in
     record { valued = omega arith; small = omega arith }
-
-step_right : (l : List ℕ) (step : PlanStep) → reading l ≡ Ok (Some step) → IsRight step
-step_right l step e = right step (reading-well_formed l step e)
-  where
-    right : (step : PlanStep) → IsWellFormed step → IsRight step
-    right (new k w) h = record { low = h.0; high = h.1 }
-    right (image bytes) h = h
-    right (coupon s v) h = pair_right s v h.0 h.1 h.2
-    right (union n m w) h = record { low = h.0; high = h.1 }
-    right (fold e) h = record { low = h.0; high = h.1 }
 
 -- ---- the stack stays legal
 
@@ -105,26 +91,32 @@ AreBytes-take n b h = All-from_get_or (λ c. c < 256) (take n b) 0 (at n b h)
     at (suc n) (c ∷ b) h zero l = h 0 0 (omega arith)
     at (suc n) (c ∷ b) h (suc i) l = at n b (All-tail (λ c. c < 256) c b h) i (omega arith)
 
-carried_legal : (ts : List Plan) (step : PlanStep) (us : List Plan) → IsRight step → AreLegal ts → Carries ts step us → AreLegal us
-carried_legal ts (new k w) us r h c = subst AreLegal (sym c) (AreLegal-append ts _ h (r, tt))
-carried_legal ts (image bytes) us r h c = subst AreLegal (sym c.2) (AreLegal-append ts _ h ((image_is_legal (take c.1.size bytes) c.0 (AreBytes-take c.1.size bytes r) c.1.image, tt), tt))
+carried_legal : (ts : List Plan) (step : PlanStep) (us : List Plan) → IsWellFormed step → AreLegal ts → Carries ts step us → AreLegal us
+carried_legal ts (new k w) us r h c = subst AreLegal (sym c) (AreLegal-append ts _ h (lg_k_right k r.0, tt))
+carried_legal ts (image bytes) us r h c = subst AreLegal (sym c.2) (AreLegal-append ts _ h ((image_is_legal (take c.1.size bytes) c.0 (AreBytes-take c.1.size bytes r.1) c.1.image, tt), tt))
 carried_legal ts (coupon s v) us r h c =
     let all : AreLegal (c.0 ++ c.1 ∷ []) = subst AreLegal c.2 h in
-    subst AreLegal (sym c.3) (AreLegal-append c.0 _ (AreLegal-front c.0 _ all) (((AreLegal-back c.0 _ all).0, r), tt))
+    subst AreLegal (sym c.3) (AreLegal-append c.0 _ (AreLegal-front c.0 _ all) (((AreLegal-back c.0 _ all).0, pair_right s v r.0.0 r.0.1 r.0.2), tt))
 carried_legal ts (fold e) us r h c =
     let all : AreLegal (c.0 ++ c.1 ∷ []) = subst AreLegal c.2 h in
-    subst AreLegal (sym c.4) (AreLegal-append c.0 _ (AreLegal-front c.0 _ all) (((AreLegal-back c.0 _ all).0, record { low = r.low; high = c.3 }), tt))
+    subst AreLegal (sym c.4) (AreLegal-append c.0 _ (AreLegal-front c.0 _ all) (((AreLegal-back c.0 _ all).0, record { low = r.0.0; high = c.3 }), tt))
 carried_legal ts (union n m w) us r h c =
     let all : AreLegal (c.0 ++ c.1) = subst AreLegal c.2 h in
-    subst AreLegal (sym c.4) (AreLegal-append c.0 _ (AreLegal-front c.0 c.1 all) ((r, children_legal c.1 (AreLegal-back c.0 c.1 all)), tt))
+    subst AreLegal (sym c.4) (AreLegal-append c.0 _ (AreLegal-front c.0 c.1 all) ((lg_k_right m r.0, children_legal c.1 (AreLegal-back c.0 c.1 all)), tt))
 
-line_legal : (ts : List Plan) (l : List ℕ) (us : List Plan) → AreLegal ts → Gives reading ts l us → AreLegal us
-line_legal ts l us h (skipped r e) = subst AreLegal (sym e) h
-line_legal ts l us h (taken step r t) = carried_legal ts step us (step_right l step r) h t
+module _ {L : Type 0} (reads : L → Reading) where
+  -- the step that a line says, if it says one
+  abbrev SaysWellFormed : L → Type 0
+  SaysWellFormed l = (step : PlanStep) → reads l ≡ Ok (Some step) → IsWellFormed step
 
-run_legal : (ts : List Plan) (ls : List (List ℕ)) (us : List Plan) → AreLegal ts → Runs reading ts ls us → AreLegal us
-run_legal ts [] us h r = subst AreLegal (sym r) h
-run_legal ts (l ∷ ls) us h r = run_legal r.0 ls us (line_legal ts l r.0 h r.1) r.2
+  line_legal : (ts : List Plan) (l : L) (us : List Plan) → SaysWellFormed l → AreLegal ts → Gives reads ts l us → AreLegal us
+  line_legal ts l us r h (skipped says e) = subst AreLegal (sym e) h
+  line_legal ts l us r h (taken step says t) = carried_legal ts step us (r step says) h t
+
+  -- whatever way lines are read, they leave legal plans
+  run_legal : (ts : List Plan) (ls : List L) (us : List Plan) → All SaysWellFormed ls → AreLegal ts → Runs reads ts ls us → AreLegal us
+  run_legal ts [] us r h g = subst AreLegal (sym g) h
+  run_legal ts (l ∷ ls) us r h g = run_legal g.0 ls us (All-tail SaysWellFormed l ls r) (line_legal ts l g.0 (r 0 l (omega arith)) h g.1) g.2
 
 pub grown_plans_converge_anywhere : GrownPlansConvergeAnywhere
 grown_plans_converge_anywhere t h = record {
@@ -133,9 +125,8 @@ grown_plans_converge_anywhere t h = record {
   same_bytes = λ u a b k r v w. one_written (outcome t) a b v (subst (Written b) (sym (rearranged_plans_agree t u h k r)) w);
 }
 
-pub accepted_plans_hold : AcceptedPlansHold
-accepted_plans_hold text t h =
-    let legal : IsLegalPlan t = (run_legal [] (lines text) (t ∷ []) tt h).0 in
+pub legal_plans_hold : (t : Plan) → IsLegalPlan t → Holds t
+legal_plans_hold t legal =
     let sketch : IsLegal (outcome t) = outcome_is_legal t legal in
     record {
       legal_plan = legal;
@@ -145,3 +136,15 @@ accepted_plans_hold text t h =
       agrees = λ u k same. same_inputs_agree t u legal k (sym same);
       converges = grown_plans_converge_anywhere t;
     }
+
+pub text_holds : (text : List ℕ) (t : Plan) → Accepts text t → Holds t
+text_holds text t h = legal_plans_hold t (run_legal reading [] (lines text) (t ∷ []) (λ i d l. reading-well_formed (get_or (lines text) i d)) tt h).0
+
+pub steps_hold : (all : List PlanStep) (t : Plan) → All IsWellFormed all → AcceptsSteps all t → Holds t
+steps_hold all t w h = legal_plans_hold t (run_legal itself [] all (t ∷ []) right tt h).0
+  where
+    right : All (SaysWellFormed itself) all
+    right i d l step is = let same : get_or all i d ≡ step = cc in subst IsWellFormed same (w i d l)
+
+pub accepted_plans_hold : AcceptedPlansHold
+accepted_plans_hold = record { of_text = text_holds; of_steps = steps_hold }

@@ -14,13 +14,12 @@ use Rattle.hll_merge.specs.Accepting.{FaultsAtLine, IsFirstFault}
 use Rattle.hll_merge.specs.Feeding.{Feed, IsFedBy, going, stopped, IsOutcomeOf}
 use Rattle.hll_merge.specs.Run.{IsAnswer, IsAllOf}
 use Rattle.hll_merge.proofs.FeedingLemmas.{FaultsFrom-before}
-use Rattle.hll_merge.proofs.Headline.{accepted_plans_hold}
 
 pub answer : (text line bytes : List ℕ) (x : SketchLayout) → IsOutcomeOf text x → Written bytes (sketch_of x) → line ≡ printed_line bytes → IsAnswer text line
 answer text line bytes x o written shown = record {
   plan = o.plan;
   accepted = o.accepted;
-  holds = accepted_plans_hold text o.plan o.accepted;
+  holds = o.holds;
   bytes = bytes;
   written = subst (Written bytes) o.value written;
   shown = shown;

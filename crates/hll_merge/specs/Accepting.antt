@@ -72,13 +72,16 @@ module _ {L : Type 0} (reads : L → Reading) where
   abbrev pub FaultsAtLine : List L → MergeError → Type 0
   FaultsAtLine all e = FaultsFrom [] 0 all e
 
-  -- no line is at fault, and not exactly one plan is left
-  pub record FaultsAtEnd (all : List L) (e : MergeError) : Type 0 where
+  -- on these plans, and after n lines, no line is at fault, and not exactly one plan is left
+  pub record LeavesNotOne (ts : List Plan) (n : ℕ) (all : List L) (e : MergeError) : Type 0 where
     pub stack : List Plan
-    pub runs : Runs [] all stack
+    pub runs : Runs ts all stack
     pub left : length stack ≢ 1
     pub fault : e.fault ≡ faults.Stack
-    pub at : e.line ≡ line_number (length all)
+    pub at : e.line ≡ line_number (n + length all)
+
+  abbrev pub FaultsAtEnd : List L → MergeError → Type 0
+  FaultsAtEnd all e = LeavesNotOne [] 0 all e
 
   -- every line is carried out, and one plan is left
   abbrev pub AcceptsLines : List L → Plan → Type 0
@@ -86,6 +89,20 @@ module _ {L : Type 0} (reads : L → Reading) where
 
   abbrev pub IsFirstFaultOfLines : List L → MergeError → Type 0
   IsFirstFaultOfLines all e = FaultsAtLine all e ⊎ FaultsAtEnd all e
+
+-- ---- lists of steps
+
+-- a step is its own line
+abbrev pub itself : PlanStep → Reading
+itself step = Ok (Some step)
+
+-- the plan of a list of steps
+abbrev pub AcceptsSteps : List PlanStep → Plan → Type 0
+AcceptsSteps all t = AcceptsLines itself all t
+
+-- the first fault of a list of steps, with the step's number
+abbrev pub IsFirstFaultOfSteps : List PlanStep → MergeError → Type 0
+IsFirstFaultOfSteps all e = IsFirstFaultOfLines itself all e
 
 -- ---- texts
 

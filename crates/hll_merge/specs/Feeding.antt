@@ -1,12 +1,12 @@
 -- A plan that comes in pieces (docs/PLAN.md, "In pieces").
-use Rattle.std.specs.Prelude.{ℕ, ◌≡◌, ◌⊎◌, ◌+◌, List, [], ◌++◌, length, Option, Some, None}
-use Rattle.std.specs.Str.Lines.{lines}
+use Rattle.std.specs.Prelude.{ℕ, ◌≡◌, ◌⊎◌, ◌+◌, List, [], ◌∷◌, ◌++◌, length, Option, Some, None}
 use Rattle.hll_sketch.specs.Layout.{SketchLayout, sketch_of}
 use Rattle.hll_text.specs.declared.fault.Fault.TheVariants.{Memory}
 use Rattle.hll_text.specs.declared.fault.MergeError.{MergeError}
-use Rattle.hll_text.specs.Text.{ended_lines, open_line, line_number, reading}
+use Rattle.hll_text.specs.Text.{ended_lines, open_line, line_of_rest, line_number, reading}
 use Rattle.hll_merge.specs.Plan.{Plan, outcome}
-use Rattle.hll_merge.specs.Accepting.{Runs, FaultsAtLine, Accepts, IsFirstFault}
+use Rattle.hll_merge.specs.Accepting.{Runs, FaultsFrom, LeavesNotOne, FaultsAtLine, Accepts, IsFirstFault}
+use Rattle.hll_merge.specs.Headline.{Holds}
 use Rattle.hll_merge.specs.Stack.{AllRepresent, StackRuns, StackStops}
 
 -- sketches, the bytes after the last LF, the number of lines that ended, and the fault that stays
@@ -37,6 +37,15 @@ pub record RefusesPiece (old : Feed) (piece : List ℕ) (new : Feed) (e : MergeE
   pub pending : new.pending ≡ []
   pub first : StackStops old.stack old.count (ended_lines (text_with old piece)) e
 
+-- the line that has not ended, if it has bytes, was carried out on the sketches, and this one sketch is left
+abbrev pub Finishes : Feed → SketchLayout → Type 0
+Finishes s x = StackRuns s.stack (line_of_rest s.pending) (x ∷ [])
+
+-- memory was refused, or that line is at fault, or it isn't and not exactly one sketch is left
+abbrev pub RefusesEnd : Feed → MergeError → Type 0
+RefusesEnd s e = (ts : List Plan) → AllRepresent s.stack ts
+    → (e.fault ≡ Memory) ⊎ (FaultsFrom reading ts s.count (line_of_rest s.pending) e ⊎ LeavesNotOne reading ts s.count (line_of_rest s.pending) e)
+
 -- ---- streams
 
 -- what a feed keeps once this text came, however it was cut
@@ -46,17 +55,13 @@ pub data IsFedBy (text : List ℕ) (s : Feed) : Type 0 where
   stopped : (e : MergeError) → s.fault ≡ Some e → s.pending ≡ []
       → (e.fault ≡ Memory) ⊎ FaultsAtLine reading (ended_lines text) e → IsFedBy text s
 
--- the sketch is the outcome of the text's plan
+-- the sketch is the outcome of the text's plan: it is legal, means the plan's inputs, and agrees with that of every plan over
+-- the same inputs
 pub record IsOutcomeOf (text : List ℕ) (x : SketchLayout) : Type 0 where
   pub plan : Plan
   pub accepted : Accepts text plan
+  pub holds : Holds plan
   pub value : sketch_of x ≡ outcome plan
-
--- the lines of the text were carried out in turn, and the sketches are outcomes of the plans that are left
-pub record EndsIn (text : List ℕ) (xs : List SketchLayout) : Type 0 where
-  pub plans : List Plan
-  pub runs : Runs reading [] (lines text) plans
-  pub all : AllRepresent xs plans
 
 -- memory was refused, or this is the first fault of the text
 abbrev pub StopsText : List ℕ → MergeError → Type 0

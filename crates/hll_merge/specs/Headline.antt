@@ -1,5 +1,5 @@
--- What an accepted text promises of its image (docs/MODEL.md, "The meaning of a plan").
-use Rattle.std.specs.Prelude.{◌≡◌, ℕ, List}
+-- What an accepted plan promises of its outcome (docs/MODEL.md, "The meaning of a plan").
+use Rattle.std.specs.Prelude.{◌≡◌, ℕ, List, All}
 use Rattle.hll_sketch.specs.Grown.{IsGrown}
 use Rattle.hll_sketch.specs.Value.{IsLegal}
 use Rattle.hll_sketch.specs.Image.{Image}
@@ -8,7 +8,9 @@ use Rattle.hll_merge.specs.Plan.{Plan, inputs, outcome, Leaves, IsLegalPlan}
 use Rattle.hll_merge.specs.Grown.{Converges}
 use Rattle.hll_merge.specs.Rearrangement.{IsRearrangement}
 use Rattle.hll_merge.specs.Meaning.{HasMeaning, AgreeFolded}
-use Rattle.hll_merge.specs.Accepting.{Accepts}
+use Rattle.hll_text.specs.Step.{IsWellFormed}
+use Rattle.hll_text.specs.Text.{PlanStep}
+use Rattle.hll_merge.specs.Accepting.{Accepts, AcceptsSteps}
 
 -- the outcome of a legal plan is a legal sketch
 abbrev pub OutcomeIsLegal : Type 0
@@ -26,7 +28,7 @@ pub record ConvergesAnywhere (t : Plan) : Type 0 where
 abbrev pub GrownPlansConvergeAnywhere : Type 0
 GrownPlansConvergeAnywhere = (t : Plan) → Leaves IsGrown t → ConvergesAnywhere t
 
--- what holds of the plan of an accepted text
+-- what holds of the plan of an accepted text or list of steps
 pub record Holds (t : Plan) : Type 0 where
   pub legal_plan : IsLegalPlan t
   pub legal : IsLegal (outcome t)
@@ -39,5 +41,7 @@ pub record Holds (t : Plan) : Type 0 where
   -- where its images are grown, order, repetition and grouping show nowhere
   pub converges : Leaves IsGrown t → ConvergesAnywhere t
 
-abbrev pub AcceptedPlansHold : Type 0
-AcceptedPlansHold = (text : List ℕ) (t : Plan) → Accepts text t → Holds t
+-- the plan of a text, and that of a list of steps whose numbers and bytes are in their ranges
+pub record AcceptedPlansHold : Type 0 where
+  pub of_text : (text : List ℕ) (t : Plan) → Accepts text t → Holds t
+  pub of_steps : (all : List PlanStep) (t : Plan) → All IsWellFormed all → AcceptsSteps all t → Holds t

@@ -1,4 +1,4 @@
--- Laws of plan texts (docs/MODEL.md, "Plan texts").
+-- Laws of plan texts and of lists of steps (docs/MODEL.md, "Plan texts").
 use Rattle.std.specs.Prelude.{◌≡◌, ◌≢◌, ℕ, List}
 use Rattle.hll_base.specs.declared.error.Reason.{Reason}
 use Rattle.hll_base.specs.declared.error.ErrorKind.TheVariants.{InvalidData}
@@ -8,20 +8,22 @@ use Rattle.hll_text.specs.declared.fault.Fault.TheVariants as faults
 use Rattle.hll_text.specs.declared.fault.MergeError.{MergeError}
 use Rattle.hll_text.specs.Text.{PlanStep, reading}
 use Rattle.hll_merge.specs.Plan.{Plan}
-use Rattle.hll_merge.specs.Accepting.{Accepts, IsFirstFault, IsFirstFaultOfLines}
-use Rattle.hll_merge.specs.Evaluate.{IsFirstFaultOfSteps}
+use Rattle.hll_merge.specs.Accepting.{Accepts, AcceptsSteps, IsFirstFault, IsFirstFaultOfLines, IsFirstFaultOfSteps}
 
--- a text has one plan
-abbrev pub OnePlan : Type 0
-OnePlan = (text : List ℕ) (t u : Plan) → Accepts text t → Accepts text u → t ≡ u
+-- a text has one plan, and so has a list of steps
+pub record OnePlan : Type 0 where
+  pub of_text : (text : List ℕ) (t u : Plan) → Accepts text t → Accepts text u → t ≡ u
+  pub of_steps : (all : List PlanStep) (t u : Plan) → AcceptsSteps all t → AcceptsSteps all u → t ≡ u
 
--- a text has one first fault
-abbrev pub OneFirstFault : Type 0
-OneFirstFault = (text : List ℕ) (d e : MergeError) → IsFirstFault text d → IsFirstFault text e → d ≡ e
+-- a text has one first fault, and so has a list of steps
+pub record OneFirstFault : Type 0 where
+  pub of_text : (text : List ℕ) (d e : MergeError) → IsFirstFault text d → IsFirstFault text e → d ≡ e
+  pub of_steps : (all : List PlanStep) (d e : MergeError) → IsFirstFaultOfSteps all d → IsFirstFaultOfSteps all e → d ≡ e
 
--- an accepted text has no first fault
-abbrev pub AcceptedIsFaultless : Type 0
-AcceptedIsFaultless = (text : List ℕ) (t : Plan) (e : MergeError) → Accepts text t → IsFirstFault text e → ⊥
+-- a text that is accepted has no first fault, nor has such a list of steps
+pub record AcceptedIsFaultless : Type 0 where
+  pub of_text : (text : List ℕ) (t : Plan) (e : MergeError) → Accepts text t → IsFirstFault text e → ⊥
+  pub of_steps : (all : List PlanStep) (t : Plan) (e : MergeError) → AcceptsSteps all t → IsFirstFaultOfSteps all e → ⊥
 
 -- a fault of a text itself is none of memory or a stream, and that of an image is one of data
 pub record IsOwnFault (e : Fault) : Type 0 where

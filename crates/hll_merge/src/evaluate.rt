@@ -1,10 +1,10 @@
 //! Carrying out a list of steps, and comparing two (docs/MODEL.md, "Plan texts").
-ghost use Rattle.std.specs.Prelude.{◌≡◌, ◌⊎◌, map, MatchResult};
+ghost use Rattle.std.specs.Prelude.{◌≡◌, ◌<◌, ◌⊎◌, length, map, IfErr, MatchResult};
 ghost use Rattle.std.specs.List.{All};
 ghost use Rattle.hll_text.specs.Step.{step_of, IsInRange};
 ghost use Rattle.hll_text.specs.declared.fault.Fault.TheVariants.{Memory};
-ghost use Rattle.hll_merge.specs.Evaluate.{itself, IsOutcomeOfSteps, IsFirstFaultOfSteps, RunsSteps, Compared, Incomparable};
-ghost use Rattle.hll_merge.specs.Accepting.{FaultsAtLine};
+ghost use Rattle.hll_merge.specs.Accepting.{itself, FaultsAtLine, IsFirstFaultOfSteps};
+ghost use Rattle.hll_merge.specs.Evaluate.{IsOutcomeOfSteps, RunsSteps, Compared, Incomparable};
 
 use crate::stack::Stack;
 use hll_sketch::sketch::HllSketch;
@@ -17,15 +17,19 @@ use std::alloc::Allocator;
 ///
 /// The numbers of the steps are in their ranges (docs/PLAN.md, "The text"). A refusal is `Memory`, or the first fault of
 /// the steps: `Image`, `Stack` or `Fold` with the number of the step, from 1, or `Stack` with the number of steps where
-/// not exactly one sketch is left. Takes memory for the stack of sketches.
+/// not exactly one sketch is left. Takes memory for the stack of sketches, and none where there are no steps.
 pub fn evaluate<A: Allocator + Clone>(
     alloc: A,
     steps: &[Step<A>],
 ) -> Result<HllSketch<A>, MergeError>
     requires { All (λ step. IsInRange (step_of step)) steps.now }
-    ensures { MatchResult result (IsOutcomeOfSteps (map step_of steps.now))
+    ensures outcome { MatchResult result (IsOutcomeOfSteps (map step_of steps.now))
         (λ e. (e.fault ≡ Memory) ⊎ IsFirstFaultOfSteps (map step_of steps.now) e) }
+    ensures needed { IfErr result (λ e. e.fault ≡ Memory → 0 < length steps.now) }
 {
+    if steps.is_empty() {
+        return Err(Fault::Stack.at(0));
+    }
     let (stack, number) = carry_steps(alloc, steps)?;
     match stack.into_only() {
         Some(sketch) => Ok(sketch),

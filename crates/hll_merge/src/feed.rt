@@ -1,11 +1,9 @@
 //! A plan that comes in pieces (docs/PLAN.md, "In pieces").
-ghost use Rattle.std.specs.Prelude.{◌≡◌, ◌⊎◌, ◌+◌, ◌++◌, List, ℕ, length, None, MatchResult, MatchOption, IfOk, IfErr, IfSome};
-ghost use Rattle.std.specs.Str.Lines.{lines};
+ghost use Rattle.std.specs.Prelude.{◌≡◌, ◌≢◌, ◌+◌, ◌++◌, List, ℕ, length, Ok, None, MatchResult, MatchOption, IfOk, IfErr, IfSome};
 ghost use Rattle.hll_text.specs.declared.fault.Fault.TheVariants.{Memory};
 ghost use Rattle.hll_text.specs.Cuts.{IsOpen, Closes};
-ghost use Rattle.hll_text.specs.Text.{ended_lines, open_line, line_number, reading};
-ghost use Rattle.hll_merge.specs.Accepting.{FaultsAtLine};
-ghost use Rattle.hll_merge.specs.Feeding.{CutsAgree, TakesPiece, RefusesPiece, IsFedBy, EndsIn, IsOutcomeOf, StopsText, unfed};
+ghost use Rattle.hll_text.specs.Text.{ended_lines, open_line, line_of_rest, line_number, reading};
+ghost use Rattle.hll_merge.specs.Feeding.{CutsAgree, TakesPiece, RefusesPiece, Finishes, RefusesEnd, IsFedBy, IsOutcomeOf, StopsText, unfed};
 ghost use Rattle.hll_merge.specs.Stack.{StackRuns, StackStops};
 
 use crate::stack::Stack;
@@ -113,6 +111,7 @@ pub struct PlanFeed<A: Allocator = Global> {
 }
 
 impl<A: Allocator> Model for PlanFeed<A> {
+    ghost use Rattle.std.specs.Prelude.{◌<◌, ◌^◌};
     ghost use Rattle.hll_text.specs.Cuts.{IsOpen};
     ghost use Rattle.hll_merge.specs.Feeding.{Feed};
 
@@ -120,7 +119,7 @@ impl<A: Allocator> Model for PlanFeed<A> {
 
     ghost view = { λ f. record { stack = f.stack; pending = f.pending.items; count = f.count; fault = f.fault } };
 
-    ghost invariant = { λ f. IsOpen f.pending.items };
+    ghost invariant = { λ f. IsOpen f.pending.items × (f.count < 2 ^ 64) };
 }
 
 impl<A: Allocator> PlanFeed<A> {
@@ -193,10 +192,12 @@ impl<A: Allocator + Clone> PlanFeed<A> {
     /// Carries out the last line if it lacks an LF, and returns the one sketch that is left.
     ///
     /// A refusal is the fault that stays, `Memory`, or the first fault of the text: that of its last line, or `Stack` where
-    /// not exactly one sketch is left.
+    /// not exactly one sketch is left. Takes no memory where nothing is pending, or a line that is skipped.
     pub fn finish(self) -> Result<HllSketch<A>, MergeError>
         ensures stopped { IfSome self.fault (λ e. result ≡ Err e) }
-        ensures going { self.fault ≡ None → (text : List ℕ) → IsFedBy text self → MatchResult result (IsOutcomeOf text) (StopsText text) }
+        ensures end { self.fault ≡ None → MatchResult result (Finishes self) (RefusesEnd self) }
+        ensures stream { self.fault ≡ None → (text : List ℕ) → IsFedBy text self → MatchResult result (IsOutcomeOf text) (StopsText text) }
+        ensures needed { self.fault ≡ None → IfErr result (λ e. e.fault ≡ Memory → reading self.pending ≢ Ok None) }
     {
         match self.finished() {
             Ok((sketch, _)) => Ok(sketch),
@@ -207,8 +208,9 @@ impl<A: Allocator + Clone> PlanFeed<A> {
     /// As `finish`, and also returns the number of lines of the text.
     pub(crate) fn finished(self) -> Result<(HllSketch<A>, u64), MergeError>
         ensures stopped { IfSome self.fault (λ e. result ≡ Err e) }
-        ensures going { self.fault ≡ None → (text : List ℕ) → IsFedBy text self → MatchResult result
-            (λ r. IsOutcomeOf text r.0 × (r.1 ≡ line_number (length (lines text)))) (StopsText text) }
+        ensures end { self.fault ≡ None → MatchResult result
+            (λ r. Finishes self r.0 × (r.1 ≡ line_number (self.count + length (line_of_rest self.pending)))) (RefusesEnd self) }
+        ensures needed { self.fault ≡ None → IfErr result (λ e. e.fault ≡ Memory → reading self.pending ≢ Ok None) }
     {
         match self.ended() {
             Ok((stack, line)) => match stack.into_only() {
@@ -222,9 +224,10 @@ impl<A: Allocator + Clone> PlanFeed<A> {
     /// Carries out the last line if it lacks an LF. Returns the sketches that are left, and the number of lines.
     fn ended(self) -> Result<(Stack<A>, u64), MergeError>
         ensures stopped { IfSome self.fault (λ e. result ≡ Err e) }
-        ensures going { self.fault ≡ None → (text : List ℕ) → IsFedBy text self → MatchResult result
-            (λ r. EndsIn text r.0 × (r.1 ≡ line_number (length (lines text))))
-            (λ e. (e.fault ≡ Memory) ⊎ FaultsAtLine reading (lines text) e) }
+        ensures end { self.fault ≡ None → MatchResult result
+            (λ r. StackRuns self.stack (line_of_rest self.pending) r.0 × (r.1 ≡ line_number (self.count + length (line_of_rest self.pending))))
+            (StackStops self.stack self.count (line_of_rest self.pending)) }
+        ensures needed { self.fault ≡ None → IfErr result (λ e. e.fault ≡ Memory → reading self.pending ≢ Ok None) }
     {
         let PlanFeed {
             mut stack,

@@ -27,22 +27,22 @@ pub fn rearranged_plans_agree()
     ensures { RearrangedPlansAgree }
 {}
 
-/// A text has one plan at most.
+/// A text has one plan at most, and so has a list of steps.
 pub fn one_plan()
     ensures { OnePlan }
 {}
 
-/// A text has one first fault at most.
+/// A text has one first fault at most, and so has a list of steps.
 pub fn one_first_fault()
     ensures { OneFirstFault }
 {}
 
-/// An accepted text has no first fault.
+/// An accepted text has no first fault, nor has an accepted list of steps.
 pub fn accepted_is_faultless()
     ensures { AcceptedIsFaultless }
 {}
 
-/// A first fault of a text is never `Memory`, `Read` or `Write`, and an image is refused for its data alone.
+/// A first fault of a text or of a list of steps is never `Memory`, `Read` or `Write`, and an image is refused for its data alone.
 pub fn first_faults_are_own()
     ensures { FirstFaultsAreOwn }
 {}
@@ -52,7 +52,8 @@ pub fn outcome_is_legal()
     ensures { OutcomeIsLegal }
 {}
 
-/// The plan of an accepted text is legal and has its meaning, and what is written for its outcome is an image of it.
+/// The plan of an accepted text or list of steps is legal and has its meaning, and what is written for its outcome is an image
+/// of it.
 pub fn accepted_plans_hold()
     ensures { AcceptedPlansHold }
 {}

@@ -8,4 +8,4 @@ pub mod reference;
 pub mod run;
 mod stack;
 
-pub use hll_text::{Fault, ImageBytes, MergeError, Step, Watched, fault, reading, step, watched};
+pub use hll_text::{Fault, MergeError, Step, Watched, fault, reading, step, watched};

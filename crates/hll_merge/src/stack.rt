@@ -1,11 +1,11 @@
 //! The sketches of a plan while its lines are carried out, the last one on top.
-ghost use Rattle.std.specs.Prelude.{◌≡◌, ◌≤◌, ◌<◌, ◌⊎◌, ◌++◌, ◌∷◌, [], length, take, OnOk, OnErr, IfOk, IfErr, IfSome, IfNone};
+ghost use Rattle.std.specs.Prelude.{◌≡◌, ◌≢◌, ◌≤◌, ◌<◌, ◌⊎◌, ◌++◌, ◌∷◌, [], length, take, Ok, None, OnOk, OnErr, IfOk, IfErr, IfSome, IfNone};
 ghost use Rattle.hll_coupons.specs.Pair.{value_of, set_of};
 ghost use Rattle.hll_sketch.specs.Adding.{add};
 ghost use Rattle.hll_sketch.specs.Folding as folding;
 ghost use Rattle.hll_sketch.specs.Layout.{sketch_of};
 ghost use Rattle.hll_sketch.specs.Value.{IsLgK};
-ghost use Rattle.hll_text.specs.Step.{step_of, IsInRange};
+ghost use Rattle.hll_text.specs.Step.{step_of, IsInRange, HasBytes};
 ghost use Rattle.hll_text.specs.Text.{new, image, union, reading, image_reading};
 ghost use Rattle.hll_merge.specs.Stack.{ReplacesLast, IsAbove, StackCarries, StackRefuses, StackGives, StackFaults};
 ghost use Rattle.hll_text.specs.declared.fault.Fault.TheVariants.{Memory};
@@ -88,6 +88,7 @@ impl<A: Allocator + Clone> Stack<A> {
         ensures ok { OnOk result (StackCarries self.old (image bytes.now) self.new) }
         ensures err { IfErr result (λ e. StackRefuses self.old (image bytes.now) e) }
         ensures unchanged { OnErr result (self.new ≡ self.old) }
+        ensures bytes { HasBytes (image bytes.now) }
     {
         let sketch = HllSketch::deserialize(self.cloned_allocator()?, bytes)?;
         self.sketches.push(sketch)?;
@@ -164,6 +165,7 @@ impl<A: Allocator + Clone> Stack<A> {
         ensures ok { OnOk result (StackCarries self.old (step_of step.now) self.new) }
         ensures err { IfErr result (λ e. StackRefuses self.old (step_of step.now) e) }
         ensures unchanged { OnErr result (self.new ≡ self.old) }
+        ensures bytes { HasBytes (step_of step.now) }
     {
         match step {
             Step::New(lg_k, hll_type) => self.push_new(*lg_k, *hll_type),
@@ -184,17 +186,18 @@ impl<A: Allocator + Clone> Stack<A> {
         ensures unchanged { OnErr result (self.new ≡ self.old) }
     {
         let alloc = self.cloned_allocator()?;
-        let bytes = decode_into(&mut self.image, digits)?;
-        let sketch = HllSketch::deserialize(alloc, bytes)?;
+        let size = decode_into(&mut self.image, digits)?;
+        let sketch = HllSketch::deserialize(alloc, &self.image[..size])?;
         self.sketches.push(sketch)?;
         Ok(())
     }
 
-    /// Reads a line and carries it out. A refusal leaves the stack as it was.
+    /// Reads a line and carries it out. A refusal leaves the stack as it was; a line that is skipped is never refused.
     pub(crate) fn carry_line(&mut self, line: &[u8]) -> Result<(), Fault>
         ensures ok { OnOk result (StackGives reading self.old line.now self.new) }
         ensures err { IfErr result (λ e. StackFaults reading self.old line.now e) }
         ensures unchanged { OnErr result (self.new ≡ self.old) }
+        ensures skipped { OnErr result (reading line.now ≢ Ok None) }
     {
         match read_line(line)? {
             Line::Skipped => Ok(()),

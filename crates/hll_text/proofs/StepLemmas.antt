@@ -1,5 +1,5 @@
 -- What holds of each step that a line says.
-use Rattle.std.proofs.Common.{◌≡◌, ℕ, ◌%◌, ◌^◌, ◌<◌, ◌≤◌, Bool, true, false, cond, ◌&&◌, ◌==◌, leb, nat_lt, eqb, List, [], ◌∷◌, length, Some, None, Result, Ok, Err, refl, arith, All, Option}
+use Rattle.std.proofs.Common.{◌≡◌, ℕ, ◌%◌, ◌^◌, ◌<◌, ◌≤◌, Bool, true, false, cond, ◌&&◌, ◌==◌, leb, nat_lt, eqb, List, [], ◌∷◌, length, Some, None, Result, Ok, Err, refl, arith, Option}
 use Rattle.std.specs.Prelude.{codes, IfOk}
 use Rattle.std.specs.Result.{result_map_both}
 use Rattle.std.specs.Str.{bytes_eq}
@@ -13,15 +13,8 @@ use Rattle.hex.specs.declared.error.FromHexError.TheVariants.{OddLength}
 use Rattle.hex.proofs.HexLemmas.{decode_pairs-ok}
 use Rattle.hll_text.specs.declared.fault.Fault.{Fault}
 use Rattle.hll_text.specs.declared.fault.Fault.TheVariants.{Range, Hex}
-use Rattle.hll_text.specs.Text.{PlanStep, new, image, coupon, union, fold, ◌>>=◌, words, lg_k, width, one_number, two_numbers, three_numbers, one_word, new_step, image_step, coupon_step, union_step, fold_step, read_words, reading}
-
--- the numbers of a step are in their ranges, and the bytes of an image are bytes
-abbrev pub IsWellFormed : PlanStep → Type 0
-IsWellFormed (new k w) = (4 ≤ k) × (k ≤ 21)
-IsWellFormed (image bytes) = All (λ b. b < 256) bytes
-IsWellFormed (coupon s v) = (s < 2 ^ 26) × (1 ≤ v) × (v ≤ 63)
-IsWellFormed (union n m w) = (4 ≤ m) × (m ≤ 21)
-IsWellFormed (fold e) = (4 ≤ e) × (e ≤ 21)
+use Rattle.hll_text.specs.Step.{IsWellFormed}
+use Rattle.hll_text.specs.Text.{PlanStep, image, coupon, ◌>>=◌, words, lg_k, width, one_number, two_numbers, three_numbers, one_word, new_step, image_step, coupon_step, union_step, fold_step, read_words, reading}
 
 module _ {X : Type 0} (P : X → Type 0) where
   IfOk-cond : (b : Bool) (r s : Result X Fault) → (b ≡ true → IfOk r P) → IfOk s P → IfOk (cond b r s) P
@@ -46,15 +39,15 @@ IfOk-lg_k k = IfOk-cond (λ k. (4 ≤ k) × (k ≤ 21)) (leb 4 k && leb k 21) (O
 IfOk-new_step : (k bits : ℕ) → IfOk (new_step k bits) IsWellFormed
 IfOk-new_step k bits =
     IfOk-and_then IsWellFormed (λ k. (4 ≤ k) × (k ≤ 21)) (lg_k k) _ (IfOk-lg_k k) (λ k h.
-    IfOk-and_then IsWellFormed Any (width bits) _ (IfOk-any (width bits)) (λ w _. h))
+    IfOk-and_then IsWellFormed Any (width bits) _ (IfOk-any (width bits)) (λ w _. (h, tt)))
 
 IfOk-union_step : (n m bits : ℕ) → IfOk (union_step n m bits) IsWellFormed
 IfOk-union_step n m bits =
     IfOk-and_then IsWellFormed (λ k. (4 ≤ k) × (k ≤ 21)) (lg_k m) _ (IfOk-lg_k m) (λ m h.
-    IfOk-and_then IsWellFormed Any (width bits) _ (IfOk-any (width bits)) (λ w _. h))
+    IfOk-and_then IsWellFormed Any (width bits) _ (IfOk-any (width bits)) (λ w _. (h, tt)))
 
 IfOk-fold_step : (e : ℕ) → IfOk (fold_step e) IsWellFormed
-IfOk-fold_step e = IfOk-and_then IsWellFormed (λ k. (4 ≤ k) × (k ≤ 21)) (lg_k e) _ (IfOk-lg_k e) (λ e h. h)
+IfOk-fold_step e = IfOk-and_then IsWellFormed (λ k. (4 ≤ k) × (k ≤ 21)) (lg_k e) _ (IfOk-lg_k e) (λ e h. (h, tt))
 
 IfOk-coupon_step : (s v : ℕ) → IfOk (coupon_step s v) IsWellFormed
 IfOk-coupon_step s v =
@@ -62,14 +55,14 @@ IfOk-coupon_step s v =
     let p = and_parts (nat_lt s (2 ^ 26)) (leb 1 v && leb v 63) h in
     let q = and_parts (leb 1 v) (leb v 63) p.1 in
     let low : s < 2 ^ 26 = grind (arith, nat_tests, p.0) in
-    (low, leb-true 1 v q.0, leb-true v 63 q.1)) tt
+    ((low, leb-true 1 v q.0, leb-true v 63 q.1), tt)) tt
 
 IfOk-image_step : (digits : List ℕ) → IfOk (image_step digits) IsWellFormed
 IfOk-image_step digits = of (eqb (length digits % 2) 1)
   where
     decoded : (r : Result (List ℕ) FromHexError) → decode_pairs 0 digits ≡ r → IfOk (result_map_both image (λ _. Hex) r) IsWellFormed
     decoded (Err e) h = tt
-    decoded (Ok bytes) h = let b : IsBytes bytes = (decode_pairs-ok 0 digits bytes h).2 in All-from_get_or (λ c. c < 256) bytes 0 (λ i l. b i)
+    decoded (Ok bytes) h = let b : IsBytes bytes = (decode_pairs-ok 0 digits bytes h).2 in (tt, All-from_get_or (λ c. c < 2 ^ 8) bytes 0 (λ i l. b i))
 
     of : (odd : Bool) → IfOk (result_map_both image (λ _. Hex) (cond odd (Err OddLength) (decode_pairs 0 digits))) IsWellFormed
     of true = tt

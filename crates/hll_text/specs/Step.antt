@@ -1,5 +1,5 @@
 -- What contracts see of a step: the plan's step, without its allocator (docs/PLAN.md, "The text").
-use Rattle.std.specs.Prelude.{◌≡◌, ◌⊎◌, ℕ, true, List, ◌<◌, ◌≤◌, ◌^◌, Option, Some, None, Result, Ok, Err}
+use Rattle.std.specs.Prelude.{◌≡◌, ◌⊎◌, ℕ, true, List, All, take, ◌<◌, ◌≤◌, ◌^◌, Option, Some, None, Result, Ok, Err}
 use denote.Ref.{Bor}
 use Rattle.hll_base.specs.declared.error.Reason.{Reason}
 use Rattle.hll_base.specs.declared.error.Reason.TheVariants as reasons
@@ -14,7 +14,7 @@ use Rattle.hll_text.specs.Text.{PlanStep, Reading, names_image, image_reading, n
 -- the step of the plan
 abbrev pub step_of : {A : Type 0} → Step A → PlanStep
 step_of (steps.New k w) = new k w
-step_of (steps.Image bytes) = image bytes
+step_of (steps.Image bytes) = image bytes.items
 step_of (steps.Coupon s v) = coupon s v
 step_of (steps.Union n m w) = union n m w
 step_of (steps.Fold e) = fold e
@@ -37,10 +37,10 @@ line_reading_of (Ok lines.Skipped) = Ok None
 line_reading_of (Ok (lines.Image digits)) = image_reading digits.now
 line_reading_of (Ok (lines.Step step)) = Ok (Some (step_of step))
 
--- the plan's step or the fault, of what a reader of an image's digits returns
-abbrev pub image_of : Result (Bor (List ℕ)) Fault → Result PlanStep Fault
-image_of (Ok bytes) = Ok (image bytes.now)
-image_of (Err e) = Err e
+-- the plan's step or the fault, of what a reader of an image's digits leaves in a buffer and returns
+abbrev pub image_in : List ℕ → Result ℕ Fault → Result PlanStep Fault
+image_in buffer (Ok size) = Ok (image (take size buffer))
+image_in buffer (Err e) = Err e
 
 -- where a line says an image
 abbrev pub IfImage : {A : Type 0} → Line A → Type 0 → Type 0
@@ -70,6 +70,18 @@ IsInRange (image bytes) = Unit {0}
 IsInRange (coupon s v) = (s < 2 ^ 26) × (1 ≤ v) × (v ≤ 63)
 IsInRange (union n m w) = (4 ≤ m) × (m ≤ 21)
 IsInRange (fold e) = (4 ≤ e) × (e ≤ 21)
+
+-- the bytes of an image are bytes
+abbrev pub HasBytes : PlanStep → Type 0
+HasBytes (new k w) = Unit {0}
+HasBytes (image bytes) = All (λ b. b < 2 ^ 8) bytes
+HasBytes (coupon s v) = Unit {0}
+HasBytes (union n m w) = Unit {0}
+HasBytes (fold e) = Unit {0}
+
+-- a step that a line or a list of steps may say
+abbrev pub IsWellFormed : PlanStep → Type 0
+IsWellFormed step = IsInRange step × HasBytes step
 
 -- the fault for an error of the crates below
 abbrev pub fault_of : Reason → Fault

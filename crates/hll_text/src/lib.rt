@@ -15,5 +15,5 @@ pub mod watched;
 mod words;
 
 pub use fault::{Fault, MergeError};
-pub use step::{ImageBytes, Line, Step};
+pub use step::{Line, Step};
 pub use watched::Watched;

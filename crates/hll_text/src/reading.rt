@@ -1,13 +1,13 @@
 //! Reading one line of a plan.
-ghost use Rattle.std.specs.Prelude.{◌/◌, ◌<◌, ◌≡◌, ◌⊎◌, ◌∷◌, length, true, Err, IfOk, IfSome};
+ghost use Rattle.std.specs.Prelude.{◌/◌, ◌<◌, ◌≤◌, ◌≡◌, ◌⊎◌, [], ◌∷◌, length, take, true, Ok, Err, OnOk, IfOk, IfErr, IfSome};
 ghost use Rattle.std.specs.Option.{option_copied};
-ghost use Rattle.hll_text.specs.declared.fault.Fault.TheVariants.{Memory};
-ghost use Rattle.hll_text.specs.Step.{step_reading_of, line_reading_of, image_of, step_of, ReadsAs, IsInRange, IfImage, IfStep};
+ghost use Rattle.hll_text.specs.declared.fault.Fault.TheVariants.{Hex, Memory};
+ghost use Rattle.hll_text.specs.Step.{step_reading_of, line_reading_of, image_in, step_of, ReadsAs, IsInRange, IfImage, IfStep};
 ghost use Rattle.hll_text.specs.Text as plan;
 ghost use Rattle.hll_text.specs.Text.{as_reading, words, words_after, reading, names_image, width, lg_k, FaultsOfLines};
 
 use crate::fault::Fault;
-use crate::step::{ImageBytes, Line, Step};
+use crate::step::{Line, Step};
 use crate::words::{one_number, one_word, split_word, three_numbers, two_numbers};
 use hex::FromHexError;
 use hll_coupons::hll_type::HllType;
@@ -67,24 +67,41 @@ fn read_words<'l, A: Allocator>(first: &[u8], rest: Option<&'l [u8]>) -> Result<
     }
 }
 
-/// The bytes of an image, from its digits, in a buffer that serves line after line.
+/// Decodes the digits of an image into the front of a buffer, and returns how many bytes there are. The buffer serves line
+/// after line.
 ///
 /// What the buffer held is lost; it grows to the longest image and keeps its size. `Hex` where the word is not an even
-/// number of hexadecimal digits, `Memory` where a larger buffer is refused, never where the bytes have room.
-pub fn decode_into<'b, A: Allocator>(
-    buffer: &'b mut Vec<u8, A>,
-    digits: &[u8],
-) -> Result<&'b [u8], Fault>
-    ensures image { (image_of result ≡ plan.image_step digits.now) ⊎ (result ≡ Err Memory) }
+/// number of hexadecimal digits: the buffer is empty then. `Memory` where a larger buffer is refused, never where the bytes
+/// have room: the buffer is unchanged then.
+pub fn decode_into<A: Allocator>(buffer: &mut Vec<u8, A>, digits: &[u8]) -> Result<usize, Fault>
+    ensures image { (image_in buffer.new.items result ≡ plan.image_step digits.now) ⊎ (result ≡ Err Memory) }
+    ensures bound { IfOk result (λ n. n ≤ length buffer.new.items) }
     ensures needed { result ≡ Err Memory → length buffer.old.items < length digits.now / 2 }
+    ensures unchanged { result ≡ Err Memory → buffer.new.items ≡ buffer.old.items }
+    ensures emptied { result ≡ Err Hex → buffer.new.items ≡ [] }
 {
     let size = digits.len() / 2;
     if buffer.len() < size {
         buffer.resize(size, 0)?;
     }
-    let bytes = &mut buffer[..size];
-    match hex::decode_to_slice(digits, bytes) {
-        Ok(()) => Ok(bytes),
+    match decode_front(digits, buffer.as_mut_slice()) {
+        Ok(()) => Ok(size),
+        Err(fault) => {
+            buffer.clear();
+            Err(fault)
+        }
+    }
+}
+
+/// Decodes the digits of an image into the front of some bytes. `Hex` where they are not an even number of hexadecimal
+/// digits.
+fn decode_front(digits: &[u8], bytes: &mut [u8]) -> Result<(), Fault>
+    requires { length digits.now / 2 ≤ length bytes.old }
+    ensures ok { OnOk result (Ok (plan.image (take (length digits.now / 2) bytes.new)) ≡ plan.image_step digits.now) }
+    ensures err { IfErr result (λ e. (e ≡ Hex) × (plan.image_step digits.now ≡ Err Hex)) }
+{
+    match hex::decode_to_slice(digits, &mut bytes[..digits.len() / 2]) {
+        Ok(()) => Ok(()),
         Err(_) => Err(Fault::Hex),
     }
 }
@@ -103,7 +120,7 @@ fn image_step<A: Allocator>(alloc: A, digits: &[u8]) -> Result<Step<A>, Fault>
     ensures in_range { IfOk result (λ step. IsInRange (step_of step)) }
 {
     match hex::decode(alloc, digits) {
-        Ok(bytes) => Ok(Step::Image(ImageBytes::new(bytes))),
+        Ok(bytes) => Ok(Step::Image(bytes)),
         Err(FromHexError::OutOfMemory) => Err(Fault::Memory),
         Err(_) => Err(Fault::Hex),
     }

@@ -2,7 +2,7 @@
 use hll_coupons::hll_type::HllType;
 use hll_merge::evaluate::{compare, evaluate};
 use hll_text::fault::Fault;
-use hll_text::step::{ImageBytes, Step};
+use hll_text::step::Step;
 use std::test::Fail;
 
 /// The image of a set, read, joined and folded.
@@ -10,7 +10,7 @@ use std::test::Fail;
 fn images_and_folds(rt: HostRuntime) -> Result<(), Fail> {
     let image = hex::decode(rt.alloc(), "0301070a06080009010000000500000c")?;
     let steps = [
-        Step::Image(ImageBytes::new(image)),
+        Step::Image(image),
         Step::Union(1, 12, HllType::Hll4),
         Step::Fold(10),
     ];

@@ -3,8 +3,8 @@ use Rattle.std.proofs.lemmas.List.{take_all}
 use Rattle.hll_text.specs.declared.fault.Fault.TheVariants.{Memory}
 use Rattle.hll_text.specs.Step.{step_of, IsInRange}
 use Rattle.hll_text.specs.Text.{PlanStep}
-use Rattle.hll_merge.specs.Accepting.{FaultsAtLine}
-use Rattle.hll_merge.specs.Evaluate.{itself, RunsSteps}
+use Rattle.hll_merge.specs.Accepting.{itself, FaultsAtLine}
+use Rattle.hll_merge.specs.Evaluate.{RunsSteps}
 use Rattle.hll_merge.proofs.Evaluating.{map-next, map-parts, runs_none, runs_more, stops_at}
 use Rattle.hll_merge.proofs.evaluate.carry_steps.Goals as goal
 
@@ -28,10 +28,11 @@ returns-in-Err-carry_out g c =
 pub loop-step-preserved : goal.loop-step-preserved
 loop-step-preserved g c =
     let i : ℕ = c.loop-step.step-index in
+    let in_range : IsInRange (step_of c.step-item.result) = subst (λ s. IsInRange (step_of s)) (sym c.step-item.is) (c.requires i c.step-item.result c.loop-step-test.true) in
     subst (λ all. RunsSteps all c.carry_out.new.self c.saturating_add-number.result)
     (sym (map-next step_of c.args.steps.now i c.step-item.result c.loop-step-test.true ∙ ap (λ s. map step_of (take i c.args.steps.now) ++ step_of s ∷ []) (sym c.step-item.is)))
     (runs_more (map step_of (take i c.args.steps.now)) (step_of c.step-item.result) c.loop-step.stack c.carry_out.new.self c.loop-step.number c.saturating_add-number.result
-    c.loop-step.invariant c.in_default.ensures.ok c.saturating_add-number.ensures)
+    c.loop-step.invariant (in_range, c.carry_out.ensures.bytes) c.in_default.ensures.ok c.saturating_add-number.ensures)
 
 pub returns : goal.returns
 returns g c = subst (λ steps. RunsSteps (map step_of steps) c.loop-step.stack c.loop-step.number) (take_all c.loop-step.step-index c.args.steps.now c.loop-step-test.false) c.loop-step.invariant

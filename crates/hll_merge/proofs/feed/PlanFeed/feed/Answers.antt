@@ -1,4 +1,4 @@
-use Rattle.std.proofs.Common.{◌++◌, Some, sym, ap, subst, refl, ◌∙◌}
+use Rattle.std.proofs.Common.{◌<◌, ◌^◌, arith, ◌++◌, Some, sym, ap, subst, refl, ◌∙◌}
 use Rattle.hll_merge.specs.Feeding.{Feed, TakesPiece, RefusesPiece, IsFedBy}
 use Rattle.hll_text.specs.Cuts.{IsOpen}
 use Rattle.hll_merge.proofs.FeedingLemmas.{takes-stream, refuses-stream, stays-stream}
@@ -10,7 +10,9 @@ returns-in-Some-clause-stream g c = λ text h.
     stays-stream text c.args.piece.now c.args.self.now c.in-Some.fault h (sym (ap (λ (f : Feed). f.fault) c.self.view_is) ∙ c.in-Some.is)
 
 pub invariant_of-self : goal.invariant_of-self
-invariant_of-self g c = subst (λ bytes. IsOpen bytes) (sym c.in-Ok.ensures.0) (open_line-open (c.self.inside.pending.items ++ c.args.piece.now))
+invariant_of-self g c =
+    let small : c.in-Ok.count < 2 ^ 64 = omega (arith, c.in-Ok.ensures.1) in
+    (subst (λ bytes. IsOpen bytes) (sym c.in-Ok.ensures.0) (open_line-open (c.self.inside.pending.items ++ c.args.piece.now)), small)
 
 pub returns-in-Ok-clause-stream : goal.returns-in-Ok-clause-stream
 returns-in-Ok-clause-stream g c = λ text h.
