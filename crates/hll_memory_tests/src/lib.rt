@@ -4,6 +4,8 @@
 #[cfg(test)]
 mod base;
 #[cfg(test)]
+mod coupons;
+#[cfg(test)]
 mod harness;
 #[cfg(test)]
 mod refusing;
