@@ -33,7 +33,10 @@ impl<'h> Trial for BufferTrial<'h> {
     fn call(&self, bytes: &mut SketchBytes<&'h Heap>) -> Result<String, Fault> {
         match self.call {
             BufferCall::WithCapacity => {
-                return text(self.heap, &SketchBytes::with_capacity(self.heap, self.capacity)?);
+                return text(
+                    self.heap,
+                    &SketchBytes::with_capacity(self.heap, self.capacity)?,
+                );
             }
             BufferCall::WriteU8 => bytes.write_u8(2)?,
             BufferCall::WriteU32 => bytes.write_u32_le(0x0504_0302)?,

@@ -108,7 +108,10 @@ impl<'h> Trial for TableTrial<'h> {
             TableCall::SerializeList => text(heap, &list_image(list)?),
             TableCall::SerializeSet => text(heap, &set_image(set)?),
             TableCall::DeserializeList => {
-                text(heap, &List::deserialize(heap, listed, lg_size, 3, false, true)?)
+                text(
+                    heap,
+                    &List::deserialize(heap, listed, lg_size, 3, false, true)?,
+                )
             }
             TableCall::DeserializeSet => {
                 text(heap, &HashSet::deserialize(heap, counted, lg_size, true)?)

@@ -41,11 +41,7 @@ pub(crate) fn text<T: Debug>(heap: &Heap, value: &T) -> Result<String, Fault> {
 /// Refuses each request of a call in turn. A refusal is for memory, and leaves the subject as it was; the call made on it
 /// again, with memory, gives what it gives where none is refused, and leaves the subject as it does there. The number of
 /// requests.
-pub(crate) fn requests_of<T: Trial>(
-    rt: &impl Abort,
-    heap: &Heap,
-    trial: &T,
-) -> Result<u64, Fault> {
+pub(crate) fn requests_of<T: Trial>(rt: &impl Abort, heap: &Heap, trial: &T) -> Result<u64, Fault> {
     let mut twin = trial.make()?;
     let before = trial.show(&twin)?;
     let given = trial.call(&mut twin);

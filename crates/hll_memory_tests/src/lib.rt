@@ -2,10 +2,20 @@
 #![tactic(auto)]
 
 #[cfg(test)]
+mod arrays;
+#[cfg(test)]
 mod base;
+#[cfg(test)]
+mod callers;
 #[cfg(test)]
 mod coupons;
 #[cfg(test)]
 mod harness;
 #[cfg(test)]
+mod plans;
+#[cfg(test)]
 mod refusing;
+#[cfg(test)]
+mod sketches;
+#[cfg(test)]
+mod unions;
