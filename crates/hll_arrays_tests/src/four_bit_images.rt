@@ -7,7 +7,6 @@ use hll_arrays::{Array4, Array8, AuxFormat};
 use hll_base::cursor::SketchSlice;
 use hll_base::error::{Error, Reason};
 use hll_coupons::coupon::Coupon;
-use linked_list_allocator::LocalHeap;
 use std::alloc::{Allocator, Global};
 use std::process::Abort;
 use std::test::Fail;
@@ -511,28 +510,5 @@ fn sizes(rt: HostRuntime) -> Result<(), Fail> {
         )?;
         assert_packed(&rt, &read, eight.values());
     }
-    Ok(())
-}
-
-/// In heaps of growing size, images are refused for memory alone, or read. The map of exceptions grows three times, and
-/// the minimum is raised.
-#[test]
-fn refused_memory(rt: HostRuntime) -> Result<(), Fail> {
-    let bytes = payload_in(rt.alloc(), &EXCEPTIONS)?;
-    let (mut refused, mut served) = (0u8, 0u8);
-    for units in 1..40usize {
-        let heap = LocalHeap::new(rt.alloc(), units * 16)?;
-        match read_in(&heap, &EXCEPTIONS, &bytes) {
-            Ok(array) => {
-                served = served.saturating_add(1);
-                assert_packed(&rt, &array, &EXCEPTED);
-            }
-            Err(e) => {
-                refused = refused.saturating_add(1);
-                assert_eq!(rt; e.reason(), Reason::Memory);
-            }
-        }
-    }
-    assert!(rt; refused > 4 && served > 4, "{refused} {served}");
     Ok(())
 }

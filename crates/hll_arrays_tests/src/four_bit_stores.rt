@@ -3,17 +3,16 @@
 ghost use Rattle.std.specs.Prelude.{◌≤◌};
 ghost use Rattle.hll_arrays.specs.Store.{AreRegisters};
 
-use crate::fixtures::{READ, coupons_in, first_of, merge, refusal_of, store_of};
+use crate::fixtures::{READ, coupons_in, first_of, merge, store_of};
 use crate::four_bits::{assert_packed, one_in};
 use crate::images::compared_in;
 use crate::stores::{converted_in, folded_in, merged_in, updated};
 use hll_arrays::convert::convert;
 use hll_arrays::{Array4, Array8, EstimateState, RegisterStore, Registers};
-use hll_base::error::{Error, Reason};
+use hll_base::error::Error;
 use hll_coupons::coupon::Coupon;
 use hll_coupons::hll_type::HllType;
 use hll_coupons::reference::folded;
-use linked_list_allocator::LocalHeap;
 use std::alloc::{Allocator, Global};
 use std::process::Abort;
 use std::test::Fail;
@@ -294,75 +293,5 @@ fn folded_exceptions(rt: HostRuntime) -> Result<(), Fail> {
     expected[3] = 41;
     expected[12] = 15;
     assert_eq!(rt; merged.values(), expected.as_slice());
-    Ok(())
-}
-
-/// Why each call that allocates fails, beside registers that it leaves as they were.
-fn refusals_in<A: Allocator + Clone>(
-    rt: &impl Abort,
-    alloc: A,
-) -> Result<[Option<Reason>; 4], Error> {
-    let mut store: Array4<A> = RegisterStore::from_values(alloc.clone()?, 4, &[2; 16])?;
-    let values: Result<Array4<A>, Error> = RegisterStore::from_values(
-        alloc.clone()?,
-        4,
-        &[0, 9, 0, 0, 0, 0, 40, 0, 0, 0, 0, 0, 0, 0, 0, 0],
-    );
-    let new: Result<Array4<A>, Error> = RegisterStore::make(alloc, 4);
-    let written = refusal_of(store.write_image());
-    assert_eq!(rt;
-        (first_of(&store), store.estimate_state()),
-        ([2; 16], EstimateState::CLEARED)
-    );
-    let put = refusal_of(store.put_coupon(Coupon::pack(1, 17)));
-    assert_eq!(rt; store.get(1), if put.is_none() { 17 } else { 2 });
-    Ok([refusal_of(values), refusal_of(new), written, put])
-}
-
-/// In heaps of growing size, until all calls have room: each names memory where it is refused.
-#[test]
-fn refused_memory(rt: HostRuntime) -> Result<(), Fail> {
-    let (mut all, mut none) = (false, false);
-    for units in 1..20usize {
-        let heap = LocalHeap::new(rt.alloc(), units * 16)?;
-        let Ok(refusals) = refusals_in(&rt, &heap) else {
-            continue;
-        };
-        assert!(rt;
-            refusals
-                .iter()
-                .flatten()
-                .all(|reason| *reason == Reason::Memory)
-        );
-        all = all || refusals.iter().all(|r| r.is_some());
-        none = none || refusals.iter().all(|r| r.is_none());
-    }
-    assert!(rt; all && none);
-    Ok(())
-}
-
-/// An image with exceptions is refused where there is no room for its bytes, and where there is none for the sorted copy
-/// beside them.
-#[test]
-fn refused_images(rt: HostRuntime) -> Result<(), Fail> {
-    let (mut refused, mut served) = (0u32, false);
-    for units in 1..30usize {
-        let heap = LocalHeap::new(rt.alloc(), units * 16)?;
-        let Ok(array) = high_in(&heap) else {
-            continue;
-        };
-        match array.write_image() {
-            Ok(image) => {
-                served = true;
-                assert_eq!(rt; (image.as_slice(), image.capacity()), (HIGH.as_slice(), 52));
-            }
-            Err(e) => {
-                refused = refused.saturating_add(1);
-                assert_eq!(rt; e.reason(), Reason::Memory);
-            }
-        }
-        assert_eq!(rt; array.num_zeros(), 8);
-    }
-    assert!(rt; refused > 0 && served);
     Ok(())
 }

@@ -1,11 +1,10 @@
 //! Registers of four bits: the minimum, nibbles and exceptions, at values worked out by hand.
 ghost use Rattle.std.specs.Prelude.{◌≡◌, ◌+◌, ◌^◌, ◌<◌, ◌≤◌, IfOk, OnOk};
 
-use crate::fixtures::{READ, coupons_in, first_of, merge, refusal_of, store_of};
+use crate::fixtures::{READ, coupons_in, first_of, merge, store_of};
 use hll_arrays::{Array4, Array8, EstimateState, Registers};
-use hll_base::error::{Error, Reason};
+use hll_base::error::Error;
 use hll_coupons::coupon::Coupon;
-use linked_list_allocator::LocalHeap;
 use std::alloc::Allocator;
 use std::process::Abort;
 use std::test::Fail;
@@ -209,35 +208,5 @@ fn copies(rt: HostRuntime) -> Result<(), Fail> {
         (seen_at(&copy, 2), seen_at(&array, 2)),
         ((15, Some(60), 60), (15, Some(61), 61))
     );
-    Ok(())
-}
-
-/// In heaps of growing size: an update that makes a map of exceptions is refused and changes nothing, or is served.
-#[test]
-fn refused_memory(rt: HostRuntime) -> Result<(), Fail> {
-    let (mut refused, mut served) = (false, false);
-    for units in 1..20usize {
-        let heap = LocalHeap::new(rt.alloc(), units * 16)?;
-        let Ok(mut array) = Array4::new(&heap, 4) else {
-            continue;
-        };
-        array.update(Coupon::pack(1, 14))?;
-        array.restore_estimate_state(READ);
-        let before = all_of(&array);
-        match array.update(Coupon::pack(1, 15)) {
-            Ok(()) => {
-                served = true;
-                assert_eq!(rt; seen_at(&array, 1), (15, Some(15), 15));
-            }
-            Err(e) => {
-                refused = true;
-                assert_eq!(rt; (e.reason(), all_of(&array)), (Reason::Memory, before));
-            }
-        }
-        if refusal_of(array.clone()) == Some(Reason::Memory) {
-            assert!(rt; units < 19);
-        }
-    }
-    assert!(rt; refused && served);
     Ok(())
 }

@@ -1,15 +1,14 @@
-//! Registers of eight and six bits: images written and read back, changed and cut, copies, and failing allocations.
+//! Registers of eight and six bits: images written and read back, changed and cut, and copies.
 ghost use Rattle.std.specs.Prelude.{◌≤◌, length};
 
 use crate::eight_bits::{self, eight_in};
-use crate::fixtures::{Images, READ, first_of, refusal_of};
+use crate::fixtures::{Images, READ, first_of};
 use crate::six_bits::{self, three_in};
 use hll_arrays::kernels::count_zeros;
 use hll_arrays::{Array6, Array8, EstimateState, RegisterStore, Registers};
-use hll_base::error::{Error, Reason};
+use hll_base::error::Reason;
 use hll_coupons::coupon::Coupon;
-use linked_list_allocator::LocalHeap;
-use std::alloc::{Allocator, Global};
+use std::alloc::Global;
 use std::process::Abort;
 use std::test::Fail;
 
@@ -164,57 +163,4 @@ fn copies(rt: HostRuntime) -> Result<(), Fail> {
     compared_in(&rt, rt.alloc(), &eight, eight_in(rt.alloc())?)?;
     let six = copied_in(&rt, three_in(rt.alloc())?)?;
     compared_in(&rt, rt.alloc(), &six, three_in(rt.alloc())?)
-}
-
-/// Why each call that allocates fails, beside registers that it leaves as they were.
-fn refusals_in<S: Images<A>, A: Allocator + Clone>(
-    rt: &impl Abort,
-    alloc: A,
-    image: &[u8],
-) -> Result<[Option<Reason>; 5], Error> {
-    let store = S::from_values(alloc.clone()?, 4, &eight_bits::EIGHT)?;
-    let read: Result<S, Error> = S::read(alloc.clone()?, image, 4, true);
-    let values: Result<S, Error> = S::from_values(alloc.clone()?, 4, &eight_bits::EIGHT);
-    let new: Result<S, Error> = S::make(alloc, 4);
-    let refusals = [
-        refusal_of(read),
-        refusal_of(values),
-        refusal_of(new),
-        refusal_of(store.copied()),
-        refusal_of(store.write_image()),
-    ];
-    assert_eq!(rt;
-        (first_of(&store), store.estimate_state()),
-        (eight_bits::EIGHT, EstimateState::CLEARED)
-    );
-    Ok(refusals)
-}
-
-/// A failure names memory. Whether all calls failed in some heap, and whether none did.
-fn noted(rt: &impl Abort, seen: (bool, bool), refusals: &[Option<Reason>; 5]) -> (bool, bool) {
-    assert!(rt;
-        refusals
-            .iter()
-            .flatten()
-            .all(|reason| *reason == Reason::Memory)
-    );
-    (
-        seen.0 || refusals.iter().all(|r| r.is_some()),
-        seen.1 || refusals.iter().all(|r| r.is_none()),
-    )
-}
-
-/// In heaps of growing size, until all calls have room.
-#[test]
-fn refused_memory(rt: HostRuntime) -> Result<(), Fail> {
-    let (mut eight, mut six) = ((false, false), (false, false));
-    for units in 1..20usize {
-        let heap = LocalHeap::new(rt.alloc(), units * 16)?;
-        let refusals = refusals_in::<Array8<_>, _>(&rt, &heap, &eight_bits::IMAGE)?;
-        eight = noted(&rt, eight, &refusals);
-        let refusals = refusals_in::<Array6<_>, _>(&rt, &heap, &six_bits::IMAGE)?;
-        six = noted(&rt, six, &refusals);
-    }
-    assert_eq!(rt; (eight, six), ((true, true), (true, true)));
-    Ok(())
 }

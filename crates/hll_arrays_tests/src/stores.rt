@@ -6,11 +6,9 @@ use crate::array16::Array16;
 use crate::fixtures::{READ, coupons_in, first_of, merge, store_of};
 use hll_arrays::convert::convert;
 use hll_arrays::{Array6, Array8, EstimateState, RegisterStore, Registers};
-use hll_base::error::{Error, Reason};
 use hll_coupons::coupon::Coupon;
 use hll_coupons::hll_type::HllType;
 use hll_coupons::reference::{folded, joined};
-use linked_list_allocator::LocalHeap;
 use std::alloc::Global;
 use std::process::Abort;
 use std::test::Fail;
@@ -237,31 +235,5 @@ fn conversions(rt: HostRuntime) -> Result<(), Fail> {
         assert_eq!(rt; six.kxq_units(), array.kxq_units());
         widened_in(&rt, rt.alloc(), &array)?;
     }
-    Ok(())
-}
-
-/// In heaps of growing size: a conversion fails with memory until there is room for another copy.
-#[test]
-fn refused_conversions(rt: HostRuntime) -> Result<(), Fail> {
-    let (mut refused, mut served) = (false, false);
-    for units in 1..20usize {
-        let heap = LocalHeap::new(rt.alloc(), units * 16)?;
-        let Ok(array) = Array8::new(&heap, 6) else {
-            continue;
-        };
-        let converted: Result<Array8<_>, Error> = convert(&array);
-        match converted {
-            Ok(copy) => {
-                served = true;
-                assert!(rt; copy == array);
-            }
-            Err(e) => {
-                refused = true;
-                assert_eq!(rt; e.reason(), Reason::Memory);
-            }
-        }
-        assert_eq!(rt; array.num_zeros(), 64);
-    }
-    assert!(rt; refused && served);
     Ok(())
 }

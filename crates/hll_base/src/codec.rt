@@ -84,8 +84,6 @@ impl<A: Allocator> SketchBytes<A> {
 #[cfg(test)]
 mod tests {
     use super::*;
-    use crate::error::Reason;
-    use linked_list_allocator::LocalHeap;
     use std::test::Fail;
 
     /// Seven fields, 40 bytes.
@@ -108,44 +106,6 @@ mod tests {
         for (place, byte) in written.iter().enumerate() {
             assert_eq!(rt; usize::from(*byte), place + 1);
         }
-        Ok(())
-    }
-
-    /// In heaps of growing size, until all fields fit: a refused write keeps what was written before it.
-    #[test]
-    fn refused_memory(rt: HostRuntime) -> Result<(), Fail> {
-        let (mut without_room, mut cut_short, mut complete) = (0u32, 0u32, 0u32);
-        for units in 1..20usize {
-            let heap = LocalHeap::new(rt.alloc(), units * 16)?;
-            let mut bytes = match SketchBytes::with_capacity(&heap, 32) {
-                Ok(bytes) => bytes,
-                Err(e) => {
-                    assert_eq!(rt; e.reason(), Reason::Memory);
-                    without_room = without_room.saturating_add(1);
-                    continue;
-                }
-            };
-            let result = write_fields(&mut bytes);
-            let written = bytes.into_bytes();
-            match result {
-                Ok(()) => {
-                    assert_eq!(rt; written.len(), 40);
-                    complete = complete.saturating_add(1);
-                }
-                Err(e) => {
-                    assert_eq!(rt; e.reason(), Reason::Memory);
-                    assert!(rt; written.len() == 32);
-                    cut_short = cut_short.saturating_add(1);
-                }
-            }
-            for (place, byte) in written.iter().enumerate() {
-                assert_eq!(rt; usize::from(*byte), place + 1);
-            }
-        }
-        assert!(rt;
-            0 < without_room && 0 < cut_short && 0 < complete,
-            "{without_room} {cut_short} {complete}"
-        );
         Ok(())
     }
 }

@@ -1,9 +1,8 @@
-//! Maps of exceptions: what they hold, in which places, and what they do without memory.
+//! Maps of exceptions: what they hold, and in which places.
 ghost use Rattle.std.specs.Prelude.{◌≡◌, ◌^◌, ◌<◌, ◌≤◌, IfOk, OnOk};
 
-use hll_base::error::{Error, Reason};
+use hll_base::error::Error;
 use hll_coupons::aux_map::AuxMap;
-use linked_list_allocator::LocalHeap;
 use std::alloc::Allocator;
 use std::test::Fail;
 
@@ -131,46 +130,5 @@ fn equal_by_entries(rt: HostRuntime) -> Result<(), Fail> {
         assert!(rt; !same || places_of(&three) != places_of(&map));
     }
     assert!(rt; three != map_of(rt.alloc(), 5, &THREE)?);
-    Ok(())
-}
-
-/// Six entries of a table of eight places, each at its own; a seventh makes the table grow.
-const SIX: [(u32, u8); 6] = [(1, 15), (2, 16), (3, 17), (4, 18), (5, 19), (6, 20)];
-
-const SIX_PLACES: Places = (
-    [
-        Some((1, 15)),
-        Some((2, 16)),
-        Some((3, 17)),
-        Some((4, 18)),
-        Some((5, 19)),
-    ],
-    32,
-);
-
-/// In heaps of several sizes: the first request is refused, the growth is refused and leaves the entries in their
-/// places, or nothing is.
-#[test]
-fn refused_memory(rt: HostRuntime) -> Result<(), Fail> {
-    let (mut small, mut grown) = (0u32, 0u32);
-    for units in 1..12usize {
-        let heap = LocalHeap::new(rt.alloc(), units * 8)?;
-        let refused = AuxMap::new(&heap, 21).err().map(|e| e.reason());
-        assert_eq!(rt; refused, Some(Reason::Memory));
-        let Ok(mut map) = map_of(&heap, 4, &SIX) else {
-            continue;
-        };
-        match set(&mut map, 7, 63) {
-            Ok(()) => {
-                assert_eq!(rt; places_of(&map), (SIX_PLACES.0, 64));
-                grown = grown.saturating_add(1);
-            }
-            Err(e) => {
-                assert_eq!(rt; (e.reason(), places_of(&map)), (Reason::Memory, SIX_PLACES));
-                small = small.saturating_add(1);
-            }
-        }
-    }
-    assert!(rt; 0 < small && 0 < grown, "{small} {grown}");
     Ok(())
 }

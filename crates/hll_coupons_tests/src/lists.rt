@@ -1,13 +1,12 @@
-//! Containers and lists: each call that takes memory, with enough of it and without; what is written and read.
+//! Containers and lists: what they hold, what is written and read.
 ghost use Rattle.std.specs.Prelude.{◌≡◌, IfOk};
 
 use hll_base::cursor::SketchSlice;
-use hll_base::error::{Error, Reason};
+use hll_base::error::Reason;
 use hll_coupons::container::Container;
 use hll_coupons::coupon::Coupon;
 use hll_coupons::hll_type::HllType;
 use hll_coupons::list::List;
-use linked_list_allocator::LocalHeap;
 use std::alloc::Allocator;
 use std::test::Fail;
 
@@ -143,44 +142,5 @@ fn lists_are_read(rt: HostRuntime) -> Result<(), Fail> {
             "{count} {empty} {compact}"
         );
     }
-    Ok(())
-}
-
-/// Makes a larger list, copies of one and its image.
-fn make_all<A: Allocator + Clone>(list: &List<A>, alloc: A) -> Result<(), Error>
-    requires { list.now.lg_size ≡ 3 }
-{
-    let _larger = List::new(alloc.clone()?, 4)?;
-    let _copy = list.clone()?;
-    let _copy_of_container = list.container().clone()?;
-    let _image = list.serialize(10, HllType::Hll8)?;
-    let _read = List::deserialize(alloc, SketchSlice::new(&PLACES), 3, 2, false, true)?;
-    Ok(())
-}
-
-/// In a heap of each size, until all values fit: a refusal names memory, and the list is as it was. A list of eight places
-/// is made in any heap.
-#[test]
-fn refused_memory(rt: HostRuntime) -> Result<(), Fail> {
-    let (mut cut_short, mut complete) = (0u32, 0u32);
-    for units in 1..20usize {
-        let heap = LocalHeap::new(rt.alloc(), units * 16)?;
-        let list = list_in(&heap);
-        let places = (
-            Container::new(&heap, 3)?.capacity(),
-            list.clone()?.container().capacity(),
-        );
-        assert_eq!(rt; places, (8, 8));
-        match make_all(&list, &heap) {
-            Ok(()) => complete = complete.saturating_add(1),
-            Err(e) => {
-                assert_eq!(rt; e.reason(), Reason::Memory);
-                cut_short = cut_short.saturating_add(1);
-            }
-        }
-        assert_eq!(rt; list.container().iter().next(), Some(Coupon::pack(5, 3)));
-        assert_eq!(rt; list.container().len(), 1);
-    }
-    assert!(rt; 0 < cut_short && 0 < complete, "{cut_short} {complete}");
     Ok(())
 }

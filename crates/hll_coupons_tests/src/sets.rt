@@ -1,5 +1,4 @@
-//! Sets: places along the paths of searches, what is written and read, and each call that takes memory, with enough of
-//! it and without.
+//! Sets: places along the paths of searches, what is written and read, and memory that is asked for once bytes are there.
 ghost use Rattle.std.specs.Prelude.{◌≡◌, ◌≤◌};
 
 use hll_base::cursor::SketchSlice;
@@ -192,49 +191,5 @@ fn bytes_come_before_memory(rt: HostRuntime) -> Result<(), Fail> {
         let read = HashSet::deserialize(&heap, cursor, 26, compact);
         assert_eq!(rt; read.err().map(|e| e.reason()), Some(Reason::Truncated));
     }
-    Ok(())
-}
-
-/// Makes a copy of a set, its image, and a set that is read.
-fn make_all<A: Allocator + Clone>(set: &HashSet<A>, alloc: A) -> Result<(), Error>
-    requires { set.now.lg_size ≡ 5 }
-{
-    let _copy = set.clone()?;
-    if !set.container().is_full() {
-        let _image = set.serialize(12, HllType::Hll8)?;
-    }
-    let _read = HashSet::deserialize(alloc, SketchSlice::new(&CROWDED), 5, true)?;
-    Ok(())
-}
-
-/// In a heap of each size, until all values fit: a refusal names memory, and the set is as it was.
-#[test]
-fn refused_memory(rt: HostRuntime) -> Result<(), Fail> {
-    let (mut without_set, mut cut_short, mut complete) = (0u32, 0u32, 0u32);
-    for units in 1..50usize {
-        let heap = LocalHeap::new(rt.alloc(), units * 16)?;
-        let set = match set_of(&heap, 5, &four()) {
-            Ok(set) => set,
-            Err(e) => {
-                assert_eq!(rt; e.reason(), Reason::Memory);
-                without_set = without_set.saturating_add(1);
-                continue;
-            }
-        };
-        assert_eq!(rt; set.container().lg_size(), 5);
-        match make_all(&set, &heap) {
-            Ok(()) => complete = complete.saturating_add(1),
-            Err(e) => {
-                assert_eq!(rt; e.reason(), Reason::Memory);
-                cut_short = cut_short.saturating_add(1);
-            }
-        }
-        assert_eq!(rt; set.container().len(), 4);
-        assert_eq!(rt; set.container().iter().next(), Some(Coupon::pack(1, 2)));
-    }
-    assert!(rt;
-        0 < without_set && 0 < cut_short && 0 < complete,
-        "{without_set} {cut_short} {complete}"
-    );
     Ok(())
 }

@@ -6,8 +6,6 @@ mod fixtures;
 #[cfg(test)]
 mod images;
 #[cfg(test)]
-mod memory;
-#[cfg(test)]
 mod pieces;
 #[cfg(test)]
 mod plans;

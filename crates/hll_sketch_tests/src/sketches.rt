@@ -1,13 +1,11 @@
-//! Sketches of every width through their stages: what they keep, count and write, and refused memory.
+//! Sketches of every width through their stages: what they keep, count and write.
 ghost use Rattle.std.specs.Prelude.{◌≤◌};
 
 use crate::fixtures::{WIDTHS, filled};
 use hll_base::error::{Error, Reason};
-use hll_coupons::container::Container;
 use hll_coupons::coupon::Coupon;
 use hll_coupons::hll_type::HllType;
 use hll_sketch::{HllSketch, Mode};
-use linked_list_allocator::LocalHeap;
 use std::alloc::{Allocator, Global};
 use std::process::Abort;
 use std::test::Fail;
@@ -189,66 +187,5 @@ fn values(rt: HostRuntime) -> Result<(), Fail> {
     }
     assert!(rt; sketch == by_coupons);
     assert_eq!(rt; sketch.num_coupons(), Some(100));
-    Ok(())
-}
-
-/// Adds the raw words of a table's coupons, in the order of places.
-fn put_words(words: &mut Vec<u32>, table: &Container<&LocalHeap>) -> Result<(), Fail> {
-    for coupon in table.iter() {
-        words.push(coupon.raw())?;
-    }
-    Ok(())
-}
-
-/// The raw words of the coupons of a list or a set in the order of places, and the size in bytes.
-fn places_of(alloc: Global, sketch: &HllSketch<&LocalHeap>) -> Result<(Vec<u32>, usize), Fail> {
-    let mut words = Vec::new(alloc);
-    match sketch.mode() {
-        Mode::List { list, .. } => put_words(&mut words, list.container())?,
-        Mode::Set { set, .. } => put_words(&mut words, set.container())?,
-        Mode::Array4(_) | Mode::Array6(_) | Mode::Array8(_) => {}
-    }
-    Ok((words, sketch.estimated_size()))
-}
-
-/// Adds coupons until memory is refused. Then the sketch is as it was before, places included.
-fn fill(
-    rt: &impl Abort,
-    alloc: Global,
-    heap: &LocalHeap,
-    lg_k: u8,
-    hll_type: HllType,
-) -> Result<bool, Fail> {
-    let Ok(mut sketch) = HllSketch::new(heap, lg_k, hll_type) else {
-        return Ok(false);
-    };
-    for slot in 0..30u32 {
-        let before = places_of(alloc, &sketch)?;
-        if let Err(e) = add(&mut sketch, slot, 1 + 2 * slot as u8) {
-            assert_eq!(rt; e.reason(), Reason::Memory);
-            assert_eq!(rt; places_of(alloc, &sketch)?, before);
-            return Ok(false);
-        }
-    }
-    assert_eq!(rt; sketch.num_coupons(), None);
-    Ok(sketch.clone().is_ok() && sketch.serialize().is_ok())
-}
-
-#[test]
-fn refused_memory(rt: HostRuntime) -> Result<(), Fail> {
-    for lg_k in [4, 8] {
-        for hll_type in WIDTHS {
-            let (mut refused, mut complete) = (0u32, 0u32);
-            for units in 1..80usize {
-                let heap = LocalHeap::new(rt.alloc(), units * 16)?;
-                if fill(&rt, rt.alloc(), &heap, lg_k, hll_type)? {
-                    complete = complete.saturating_add(1);
-                } else {
-                    refused = refused.saturating_add(1);
-                }
-            }
-            assert!(rt; 0 < refused && 0 < complete, "{lg_k} {refused} {complete}");
-        }
-    }
     Ok(())
 }

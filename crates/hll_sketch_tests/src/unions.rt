@@ -1,13 +1,9 @@
-//! Unions: widths, orders and values that are merged into them, and refused memory.
+//! Unions: widths, orders and values that are merged into them.
 ghost use Rattle.std.specs.Prelude.{◌≤◌};
 
 use crate::fixtures::{WIDTHS, filled};
-use hll_base::error::{Error, Reason};
-use hll_coupons::coupon::Coupon;
 use hll_coupons::hll_type::HllType;
 use hll_sketch::{HllSketch, HllUnion, agree};
-use linked_list_allocator::LocalHeap;
-use std::process::Abort;
 use std::test::Fail;
 
 /// How many coupons, and the `lg_k`: a list, sets and registers of sizes below, at and above the bound of 8.
@@ -64,52 +60,5 @@ fn values(rt: HostRuntime) -> Result<(), Fail> {
             assert!(rt; union.clone()?.to_sketch(HllType::Hll6)? == sketch);
         }
     }
-    Ok(())
-}
-
-/// Merges a set of eight coupons into a list of seven others, in a heap that may be too small for it. Then the union is the
-/// list of seven.
-fn merge_in(rt: &impl Abort, heap: &LocalHeap) -> Result<bool, Fail> {
-    let Ok((mut union, sketch)) = seven_and_eight(heap) else {
-        return Ok(false);
-    };
-    let size = union.estimated_size();
-    match union.update(&sketch) {
-        Ok(()) => {
-            assert_eq!(rt; union.estimated_size(), 128usize);
-            Ok(true)
-        }
-        Err(e) => {
-            assert_eq!(rt; e.reason(), Reason::Memory);
-            assert_eq!(rt; (size, union.estimated_size()), (32usize, 32usize));
-            Ok(false)
-        }
-    }
-}
-
-fn seven_and_eight(
-    heap: &LocalHeap,
-) -> Result<(HllUnion<&LocalHeap>, HllSketch<&LocalHeap>), Error> {
-    let mut union = HllUnion::new(heap, 8)?;
-    union.update(&filled(heap, 8, HllType::Hll8, 7, 63)?)?;
-    let mut sketch = HllSketch::new(heap, 8, HllType::Hll8)?;
-    for slot in 100..108u32 {
-        sketch.update_with_coupon(Coupon::pack(slot, 1))?;
-    }
-    Ok((union, sketch))
-}
-
-#[test]
-fn refused_memory(rt: HostRuntime) -> Result<(), Fail> {
-    let (mut refused, mut complete) = (0u32, 0u32);
-    for units in 1..60usize {
-        let heap = LocalHeap::new(rt.alloc(), units * 16)?;
-        if merge_in(&rt, &heap)? {
-            complete = complete.saturating_add(1);
-        } else {
-            refused = refused.saturating_add(1);
-        }
-    }
-    assert!(rt; 0 < refused && 0 < complete);
     Ok(())
 }

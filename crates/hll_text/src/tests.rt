@@ -1,4 +1,4 @@
-//! Lines of plans, lines of texts, watched streams that work and that fail, and refused memory.
+//! Lines of plans, lines of texts, and watched streams that work and that fail.
 use crate::bytes::{first_of, first_one_by_one};
 use crate::fakes::{Failing, Narrow};
 use crate::fault::{Fault, MergeError};
@@ -8,8 +8,6 @@ use crate::step::Step;
 use crate::streams::{write_all, write_hex_line};
 use crate::watched::Watched;
 use hll_coupons::hll_type::HllType;
-use linked_list_allocator::LocalHeap;
-use std::alloc::Allocator;
 use std::process::Abort;
 use std::test::Fail;
 
@@ -130,39 +128,6 @@ fn watched_reads(rt: HostRuntime) -> Result<(), Fail> {
     let mut again = Watched::new(inner);
     assert_eq!(rt; again.read(&mut buffer), Ok(0));
     assert!(rt; !again.failed());
-    Ok(())
-}
-
-/// The bytes of an `image` step, none of another.
-fn image_of<A: Allocator>(found: &Option<Step<A>>) -> &[u8] {
-    match found {
-        Some(Step::Image(bytes)) => bytes.as_slice(),
-        _ => &[],
-    }
-}
-
-/// An image line read with a heap of each size: memory is refused until one is large enough.
-#[test]
-fn refused_memory(rt: HostRuntime) -> Result<(), Fail> {
-    let mut line = [b'0'; 606];
-    line[..6].copy_from_slice(b"image ");
-    let mut refused = 0u32;
-    for size in 1..60usize {
-        let heap = LocalHeap::new(rt.alloc(), size * 32)?;
-        match read_step(&heap, &line) {
-            Ok(found) => assert_eq!(rt; image_of(&found), [0u8; 300].as_slice()),
-            Err(fault) => {
-                assert_eq!(rt; fault, Fault::Memory);
-                refused = refused.saturating_add(1);
-            }
-        }
-    }
-    assert!(rt; 0 < refused && refused < 59, "{refused}");
-    let heap = LocalHeap::new(rt.alloc(), 256)?;
-    assert_eq!(rt;
-        decode_into(&mut Vec::new(&heap), &line[6..]),
-        Err(Fault::Memory)
-    );
     Ok(())
 }
 

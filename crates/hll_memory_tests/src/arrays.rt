@@ -1,0 +1,295 @@
+//! Registers of each width.
+use crate::harness::{Heap, Trial, requests_of, text};
+use hll_arrays::array4::Array4;
+use hll_arrays::array6::Array6;
+use hll_arrays::array8::Array8;
+use hll_arrays::aux_format::AuxFormat;
+use hll_arrays::convert::convert;
+use hll_arrays::estimate_state::EstimateState;
+use hll_arrays::merge::merge_from;
+use hll_arrays::register_store::RegisterStore;
+use hll_base::cursor::SketchSlice;
+use hll_coupons::coupon::Coupon;
+use hll_text::fault::Fault;
+use std::fmt::Debug;
+use std::marker::PhantomData;
+use std::process::Abort;
+use std::test::Fail;
+
+/// Registers with three exceptions of four bits, above a minimum of 0 and of 1.
+const LOW: [u8; 16] = [0, 0, 1, 2, 63, 0, 15, 0, 40, 0, 0, 0, 14, 0, 0, 0];
+
+const RAISED: [u8; 16] = [1, 1, 1, 2, 63, 1, 16, 1, 40, 1, 1, 1, 14, 1, 1, 1];
+
+/// Registers with these values, by updates.
+fn store_in<'h, S: RegisterStore<&'h Heap>>(heap: &'h Heap, values: &[u8; 16]) -> Result<S, Fault> {
+    let mut store = S::make(heap, 4)?;
+    for (slot, value) in (0u32..).zip(values) {
+        store.put_coupon(Coupon::pack(slot, (*value).min(63)))?;
+    }
+    Ok(store)
+}
+
+#[derive(Clone, Copy, Debug)]
+enum StoreCall {
+    Make,
+    WriteImage,
+    Convert,
+    PutCoupon,
+    Restore,
+}
+
+/// A call on registers of any width, beside the same registers of eight bits.
+#[derive(Drop)]
+struct StoreTrial<'h, S> {
+    heap: &'h Heap,
+    values: [u8; 16],
+    coupon: Coupon,
+    call: StoreCall,
+    store: PhantomData<S>,
+}
+
+impl<'h, S: RegisterStore<&'h Heap> + Debug> Trial for StoreTrial<'h, S> {
+    type Subject = (S, Array8<&'h Heap>);
+
+    fn make(&self) -> Result<(S, Array8<&'h Heap>), Fault> {
+        let store = store_in(self.heap, &self.values)?;
+        Ok((store, store_in(self.heap, &self.values)?))
+    }
+
+    fn call(&self, stores: &mut (S, Array8<&'h Heap>)) -> Result<String, Fault> {
+        let (store, eight) = stores;
+        match self.call {
+            StoreCall::Make => return text(self.heap, &S::make(self.heap, 4)?),
+            StoreCall::WriteImage => return text(self.heap, &store.write_image()?),
+            StoreCall::Convert => return text(self.heap, &convert::<S, _>(eight)?),
+            StoreCall::PutCoupon => store.put_coupon(self.coupon)?,
+            StoreCall::Restore => store.restore(EstimateState {
+                words: [1, 2, 3],
+                out_of_order: false,
+            }),
+        }
+        Ok(String::new(self.heap.inner()))
+    }
+
+    fn show(&self, stores: &(S, Array8<&'h Heap>)) -> Result<String, Fault> {
+        text(self.heap, stores)
+    }
+}
+
+/// The requests of a call on registers of one width.
+fn store_asks<'h, S: RegisterStore<&'h Heap> + Debug>(
+    rt: &impl Abort,
+    heap: &'h Heap,
+    values: [u8; 16],
+    coupon: Coupon,
+    call: StoreCall,
+) -> Result<u64, Fault> {
+    let trial: StoreTrial<'h, S> = StoreTrial {
+        heap,
+        values,
+        coupon,
+        call,
+        store: PhantomData,
+    };
+    requests_of(rt, heap, &trial)
+}
+
+/// The calls, and the requests of each on registers of four bits: empty ones, and the two above. Where there are exceptions
+/// they take a table, and their image a sorted copy. Other widths take one request for new registers and for an image.
+const STORE_CALLS: [(StoreCall, [u64; 3], u64); 5] = [
+    (StoreCall::Make, [1, 1, 1], 1),
+    (StoreCall::WriteImage, [1, 2, 2], 1),
+    (StoreCall::Convert, [1, 2, 2], 1),
+    (StoreCall::PutCoupon, [0, 0, 0], 0),
+    (StoreCall::Restore, [0, 0, 0], 0),
+];
+
+#[test]
+fn refused_stores(rt: HostRuntime) -> Result<(), Fail> {
+    let heap = Heap::new(rt.alloc());
+    let coupon = Coupon::pack(1, 9);
+    for (call, four_bits, others) in STORE_CALLS {
+        for (values, requests) in [[0; 16], LOW, RAISED].into_iter().zip(four_bits) {
+            let asked = [
+                store_asks::<Array4<&Heap>>(&rt, &heap, values, coupon, call),
+                store_asks::<Array6<&Heap>>(&rt, &heap, values, coupon, call),
+                store_asks::<Array8<&Heap>>(&rt, &heap, values, coupon, call),
+            ];
+            assert_eq!(rt; asked, [Ok(requests), Ok(others), Ok(others)], "{call:?}");
+        }
+    }
+    Ok(())
+}
+
+/// Registers of four bits, an update, and the requests that it makes.
+const UPDATES: [([u8; 16], u32, u8, u64); 12] = [
+    // a first exception, in a table of four places, and a value below that makes none
+    ([0; 16], 0, 20, 1),
+    ([0; 16], 0, 14, 0),
+    // another value for a slot that has an exception, and a value that is not greater
+    ([20, 0, 0, 0, 0, 0, 0, 0, 0, 0, 0, 0, 0, 0, 0, 0], 0, 21, 0),
+    ([20, 0, 0, 0, 0, 0, 0, 0, 0, 0, 0, 0, 0, 0, 0, 0], 0, 20, 0),
+    // a rise of the minimum that no exception outlives, that one of two outlives, and that both outlive
+    ([15, 1, 1, 1, 1, 1, 1, 1, 1, 1, 1, 1, 1, 1, 1, 0], 15, 1, 0),
+    ([15, 63, 1, 1, 1, 1, 1, 1, 1, 1, 1, 1, 1, 1, 1, 0], 15, 1, 1),
+    ([20, 63, 1, 1, 1, 1, 1, 1, 1, 1, 1, 1, 1, 1, 1, 0], 15, 1, 0),
+    // a rise whose own slot is an exception above it, alone and beside another
+    ([1, 1, 1, 1, 1, 1, 1, 1, 1, 1, 1, 1, 1, 1, 1, 0], 15, 63, 1),
+    ([20, 1, 1, 1, 1, 1, 1, 1, 1, 1, 1, 1, 1, 1, 1, 0], 15, 63, 1),
+    // fifteen exceptions, and a rise past all of them, past all but one, and past none
+    (
+        [
+            20, 20, 20, 20, 20, 20, 20, 20, 20, 20, 20, 20, 20, 20, 20, 0,
+        ],
+        15,
+        20,
+        0,
+    ),
+    (
+        [
+            63, 20, 20, 20, 20, 20, 20, 20, 20, 20, 20, 20, 20, 20, 20, 0,
+        ],
+        15,
+        20,
+        1,
+    ),
+    (
+        [
+            20, 20, 20, 20, 20, 20, 20, 20, 20, 20, 20, 20, 20, 20, 20, 0,
+        ],
+        15,
+        1,
+        0,
+    ),
+];
+
+/// The requests of each further exception, from the first to the thirteenth: for tables of 4, 16 and 32 places. Eight
+/// stand in the value.
+const EXCEPTIONS: [u64; 13] = [1, 0, 0, 0, 0, 0, 1, 0, 0, 0, 0, 0, 1];
+
+#[test]
+fn refused_updates(rt: HostRuntime) -> Result<(), Fail> {
+    let heap = Heap::new(rt.alloc());
+    let put = StoreCall::PutCoupon;
+    for (values, slot, value, requests) in UPDATES {
+        let coupon = Coupon::pack(slot, value.min(63));
+        let asked = store_asks::<Array4<&Heap>>(&rt, &heap, values, coupon, put);
+        assert_eq!(rt; asked, Ok(requests), "{values:?} {slot} {value}");
+    }
+    let mut values = [0; 16];
+    for (slot, requests) in EXCEPTIONS.into_iter().enumerate() {
+        let coupon = Coupon::pack(slot as u32, 20);
+        let asked = store_asks::<Array4<&Heap>>(&rt, &heap, values, coupon, put);
+        assert_eq!(rt; asked, Ok(requests), "{slot}");
+        values[slot] = 20;
+    }
+    Ok(())
+}
+
+#[derive(Clone, Copy, Debug)]
+enum ArrayCall {
+    Clone4,
+    Clone6,
+    Clone8,
+    Deserialize4,
+    Deserialize4InPlaces,
+    Deserialize6,
+    Deserialize8,
+    MergeFrom,
+}
+
+/// A call on registers of each width with three exceptions of four bits.
+#[derive(Drop)]
+struct ArrayTrial<'h> {
+    heap: &'h Heap,
+    call: ArrayCall,
+}
+
+/// Registers of each width.
+type Arrays<'h> = (Array4<&'h Heap>, Array6<&'h Heap>, Array8<&'h Heap>);
+
+/// What follows the header of an image of four bits: the words, the counts, nibbles, and a table of eight places.
+const PAYLOAD: [u8; 72] = [
+    0, 0, 0, 0, 0, 0, 0, 0, 0, 0, 0, 0, 0, 0, 0, 0, 0, 0, 0, 0, 0, 0, 0, 0, 13, 0, 0, 0, 2, 0, 0,
+    0, 0xff, 1, 0, 0, 0, 0, 0, 0, 0, 0, 0, 80, 1, 0, 0, 64, 0, 0, 0, 0, 0, 0, 0, 0, 0, 0, 0, 0, 0,
+    0, 0, 0, 0, 0, 0, 0, 0, 0, 0, 0,
+];
+
+/// What follows the header of images of six and of eight bits whose registers are 0.
+const ZEROS: [u8; 48] = [
+    0, 0, 0, 0, 0, 0, 0, 0, 0, 0, 0, 0, 0, 0, 0, 0, 0, 0, 0, 0, 0, 0, 0, 0, 16, 0, 0, 0, 0, 0, 0,
+    0, 0, 0, 0, 0, 0, 0, 0, 0, 0, 0, 0, 0, 0, 0, 0, 0,
+];
+
+impl<'h> Trial for ArrayTrial<'h> {
+    type Subject = Arrays<'h>;
+
+    fn make(&self) -> Result<Arrays<'h>, Fault> {
+        let four = store_in(self.heap, &LOW)?;
+        let six = store_in(self.heap, &LOW)?;
+        Ok((four, six, store_in(self.heap, &RAISED)?))
+    }
+
+    fn call(&self, arrays: &mut Arrays<'h>) -> Result<String, Fault> {
+        let heap = self.heap;
+        let (four, six, eight) = arrays;
+        let (bytes, zeros) = (SketchSlice::new(&PAYLOAD), SketchSlice::new(&ZEROS));
+        match self.call {
+            ArrayCall::Clone4 => text(heap, &four.clone()?),
+            ArrayCall::Clone6 => text(heap, &six.clone()?),
+            ArrayCall::Clone8 => text(heap, &eight.clone()?),
+            ArrayCall::Deserialize4 => {
+                text(
+                    heap,
+                    &Array4::deserialize(heap, bytes, 0, 4, AuxFormat::Compact, false)?,
+                )
+            }
+            ArrayCall::Deserialize4InPlaces => {
+                let places = AuxFormat::Updatable { lg_arr: 3 };
+                text(
+                    heap,
+                    &Array4::deserialize(heap, bytes, 0, 4, places, false)?,
+                )
+            }
+            ArrayCall::Deserialize6 => {
+                text(heap, &Array6::deserialize_registers(heap, zeros, 4, false)?)
+            }
+            ArrayCall::Deserialize8 => {
+                text(heap, &Array8::deserialize_registers(heap, zeros, 4, false)?)
+            }
+            ArrayCall::MergeFrom => {
+                if eight.lg_k() <= four.lg_k() {
+                    merge_from(eight, four);
+                }
+                Ok(String::new(heap.inner()))
+            }
+        }
+    }
+
+    fn show(&self, arrays: &Arrays<'h>) -> Result<String, Fault> {
+        text(self.heap, arrays)
+    }
+}
+
+const ARRAY_CALLS: [(ArrayCall, u64); 8] = [
+    (ArrayCall::Clone4, 2),
+    (ArrayCall::Clone6, 1),
+    (ArrayCall::Clone8, 1),
+    (ArrayCall::Deserialize4, 2),
+    (ArrayCall::Deserialize4InPlaces, 2),
+    (ArrayCall::Deserialize6, 1),
+    (ArrayCall::Deserialize8, 1),
+    (ArrayCall::MergeFrom, 0),
+];
+
+#[test]
+fn refused_arrays(rt: HostRuntime) -> Result<(), Fail> {
+    let heap = Heap::new(rt.alloc());
+    for (call, requests) in ARRAY_CALLS {
+        let trial = ArrayTrial { heap: &heap, call };
+        let asked = requests_of(&rt, &heap, &trial);
+        assert_eq!(rt; asked, Ok(requests), "{call:?}");
+    }
+    Ok(())
+}

@@ -1,0 +1,78 @@
+//! Buffers of image fields.
+use crate::harness::{Heap, Trial, requests_of, text};
+use hll_base::codec::SketchBytes;
+use hll_text::fault::Fault;
+use std::test::Fail;
+
+#[derive(Clone, Copy, Debug)]
+enum BufferCall {
+    WithCapacity,
+    WriteU8,
+    WriteU32,
+    WriteU64,
+    Write,
+}
+
+/// A call on a buffer with room for some bytes, one of them written.
+#[derive(Drop)]
+struct BufferTrial<'h> {
+    heap: &'h Heap,
+    capacity: usize,
+    call: BufferCall,
+}
+
+impl<'h> Trial for BufferTrial<'h> {
+    type Subject = SketchBytes<&'h Heap>;
+
+    fn make(&self) -> Result<SketchBytes<&'h Heap>, Fault> {
+        let mut bytes = SketchBytes::with_capacity(self.heap, self.capacity)?;
+        bytes.write_u8(1)?;
+        Ok(bytes)
+    }
+
+    fn call(&self, bytes: &mut SketchBytes<&'h Heap>) -> Result<String, Fault> {
+        match self.call {
+            BufferCall::WithCapacity => {
+                return text(
+                    self.heap,
+                    &SketchBytes::with_capacity(self.heap, self.capacity)?,
+                );
+            }
+            BufferCall::WriteU8 => bytes.write_u8(2)?,
+            BufferCall::WriteU32 => bytes.write_u32_le(0x0504_0302)?,
+            BufferCall::WriteU64 => bytes.write_u64_le(0x0908_0706_0504_0302)?,
+            BufferCall::Write => bytes.write(&[2, 3, 4])?,
+        }
+        Ok(String::new(self.heap.inner()))
+    }
+
+    fn show(&self, bytes: &SketchBytes<&'h Heap>) -> Result<String, Fault> {
+        text(self.heap, bytes)
+    }
+}
+
+/// The calls, and the requests of each on a full buffer, and on one with room.
+const BUFFERS: [(BufferCall, [u64; 2]); 5] = [
+    (BufferCall::WithCapacity, [1, 1]),
+    (BufferCall::WriteU8, [1, 0]),
+    (BufferCall::WriteU32, [1, 0]),
+    (BufferCall::WriteU64, [1, 0]),
+    (BufferCall::Write, [1, 0]),
+];
+
+#[test]
+fn refused_buffers(rt: HostRuntime) -> Result<(), Fail> {
+    let heap = Heap::new(rt.alloc());
+    for (call, requests) in BUFFERS {
+        for (capacity, requests) in [1, 48].into_iter().zip(requests) {
+            let trial = BufferTrial {
+                heap: &heap,
+                capacity,
+                call,
+            };
+            let asked = requests_of(&rt, &heap, &trial);
+            assert_eq!(rt; asked, Ok(requests), "{call:?} {capacity}");
+        }
+    }
+    Ok(())
+}

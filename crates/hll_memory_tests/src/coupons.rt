@@ -1,0 +1,244 @@
+//! Tables of coupons, and maps of exceptions.
+ghost use Rattle.std.specs.Prelude.{◌≤◌};
+
+use crate::harness::{Heap, Trial, requests_of, text};
+use hll_base::cursor::SketchSlice;
+use hll_coupons::aux_map::AuxMap;
+use hll_coupons::container::Container;
+use hll_coupons::coupon::Coupon;
+use hll_coupons::hash_set::HashSet;
+use hll_coupons::hll_type::HllType;
+use hll_coupons::list::List;
+use hll_text::fault::Fault;
+use std::test::Fail;
+
+/// What follows the header of images of a list and of a set: three coupons, those of the set behind their count.
+const LISTED: [u8; 12] = [5, 0, 0, 12, 6, 0, 0, 12, 7, 0, 0, 4];
+
+const COUNTED: [u8; 16] = [3, 0, 0, 0, 5, 0, 0, 12, 6, 0, 0, 12, 7, 0, 0, 4];
+
+#[derive(Clone, Copy, Debug)]
+enum TableCall {
+    NewContainer,
+    NewList,
+    NewSet,
+    DefaultSet,
+    CloneContainer,
+    CloneList,
+    CloneSet,
+    FromContainer,
+    SerializeList,
+    SerializeSet,
+    DeserializeList,
+    DeserializeSet,
+}
+
+/// A call on a list and a set of some size, with coupons at the slots from 0 on.
+#[derive(Drop)]
+struct TableTrial<'h> {
+    heap: &'h Heap,
+    lg_size: usize,
+    count: u32,
+    call: TableCall,
+}
+
+/// A set of 64 places with the coupons of a list of at most as many.
+fn set_of<'h>(heap: &'h Heap, list: &List<&'h Heap>) -> Result<HashSet<&'h Heap>, Fault> {
+    if list.container().len() > 64 {
+        return Err(Fault::Range);
+    }
+    Ok(HashSet::from_container(heap, 6, list.container())?)
+}
+
+/// The image of a list of eight places.
+fn list_image<'h>(list: &List<&'h Heap>) -> Result<Vec<u8, &'h Heap>, Fault> {
+    if list.container().lg_size() != 3 {
+        return Err(Fault::Range);
+    }
+    Ok(list.serialize(10, HllType::Hll8)?)
+}
+
+/// The image of a set of 32 places that is not full.
+fn set_image<'h>(set: &HashSet<&'h Heap>) -> Result<Vec<u8, &'h Heap>, Fault> {
+    if set.container().lg_size() != 5 || set.container().is_full() {
+        return Err(Fault::Range);
+    }
+    Ok(set.serialize(10, HllType::Hll8)?)
+}
+
+impl<'h> TableTrial<'h> {
+    /// The size, at most that of the largest table.
+    fn size(&self) -> usize
+        ensures { result ≤ 26 }
+    {
+        self.lg_size.min(26)
+    }
+}
+
+impl<'h> Trial for TableTrial<'h> {
+    type Subject = (List<&'h Heap>, HashSet<&'h Heap>);
+
+    fn make(&self) -> Result<(List<&'h Heap>, HashSet<&'h Heap>), Fault> {
+        let mut list = List::new(self.heap, self.size())?;
+        let mut set = HashSet::new(self.heap, self.size())?;
+        for slot in 0..self.count {
+            if !list.container().is_full() {
+                list.update(Coupon::pack(slot, 1));
+            }
+            if !set.container().is_full() {
+                set.update(Coupon::pack(slot, 1));
+            }
+        }
+        Ok((list, set))
+    }
+
+    fn call(&self, tables: &mut (List<&'h Heap>, HashSet<&'h Heap>)) -> Result<String, Fault> {
+        let (heap, lg_size) = (self.heap, self.size());
+        let (list, set) = tables;
+        let (listed, counted) = (SketchSlice::new(&LISTED), SketchSlice::new(&COUNTED));
+        match self.call {
+            TableCall::NewContainer => text(heap, &Container::new(heap, lg_size)?),
+            TableCall::NewList => text(heap, &List::new(heap, lg_size)?),
+            TableCall::NewSet => text(heap, &HashSet::new(heap, lg_size)?),
+            TableCall::DefaultSet => text(heap, &HashSet::default_in(heap)?),
+            TableCall::CloneContainer => text(heap, &list.container().clone()?),
+            TableCall::CloneList => text(heap, &list.clone()?),
+            TableCall::CloneSet => text(heap, &set.clone()?),
+            TableCall::FromContainer => text(heap, &set_of(heap, list)?),
+            TableCall::SerializeList => text(heap, &list_image(list)?),
+            TableCall::SerializeSet => text(heap, &set_image(set)?),
+            TableCall::DeserializeList => {
+                text(
+                    heap,
+                    &List::deserialize(heap, listed, lg_size, 3, false, true)?,
+                )
+            }
+            TableCall::DeserializeSet => {
+                text(heap, &HashSet::deserialize(heap, counted, lg_size, true)?)
+            }
+        }
+    }
+
+    fn show(&self, tables: &(List<&'h Heap>, HashSet<&'h Heap>)) -> Result<String, Fault> {
+        text(self.heap, tables)
+    }
+}
+
+/// Sizes and numbers of coupons. Eight places take no memory.
+const TABLES: [(usize, u32); 5] = [(2, 3), (3, 0), (3, 8), (4, 8), (5, 31)];
+
+/// The calls, and the requests of each on tables of these sizes: the image of a list is of eight places, that of a set of
+/// 32, in a sorted copy and the bytes.
+const TABLE_CALLS: [(TableCall, [u64; 5]); 12] = [
+    (TableCall::NewContainer, [1, 0, 0, 1, 1]),
+    (TableCall::NewList, [1, 0, 0, 1, 1]),
+    (TableCall::NewSet, [1, 0, 0, 1, 1]),
+    (TableCall::DefaultSet, [1, 1, 1, 1, 1]),
+    (TableCall::CloneContainer, [1, 0, 0, 1, 1]),
+    (TableCall::CloneList, [1, 0, 0, 1, 1]),
+    (TableCall::CloneSet, [1, 0, 0, 1, 1]),
+    (TableCall::FromContainer, [1, 1, 1, 1, 1]),
+    (TableCall::SerializeList, [0, 1, 2, 0, 0]),
+    (TableCall::SerializeSet, [0, 0, 0, 0, 2]),
+    (TableCall::DeserializeList, [1, 0, 0, 1, 1]),
+    (TableCall::DeserializeSet, [1, 0, 0, 1, 1]),
+];
+
+#[test]
+fn refused_tables(rt: HostRuntime) -> Result<(), Fail> {
+    let heap = Heap::new(rt.alloc());
+    for (call, requests) in TABLE_CALLS {
+        for ((lg_size, count), requests) in TABLES.into_iter().zip(requests) {
+            let trial = TableTrial {
+                heap: &heap,
+                lg_size,
+                count,
+                call,
+            };
+            let asked = requests_of(&rt, &heap, &trial);
+            assert_eq!(rt; asked, Ok(requests), "{call:?} {lg_size} {count}");
+        }
+    }
+    Ok(())
+}
+
+#[derive(Clone, Copy, Debug)]
+enum MapCall {
+    New,
+    Insert,
+    Clone,
+    Ascending,
+}
+
+/// A call on a map of sixteen slots, with values at the slots from 0 on.
+#[derive(Drop)]
+struct MapTrial<'h> {
+    heap: &'h Heap,
+    count: u32,
+    call: MapCall,
+}
+
+/// Gives a slot of sixteen a value, unless it has one.
+fn put(map: &mut AuxMap<&Heap>, slot: u32) -> Result<(), Fault> {
+    if map.lg_config_k() == 4 && slot < 16 && map.get(slot).is_none() {
+        map.insert(slot, 20)?;
+    }
+    Ok(())
+}
+
+impl<'h> Trial for MapTrial<'h> {
+    type Subject = AuxMap<&'h Heap>;
+
+    fn make(&self) -> Result<AuxMap<&'h Heap>, Fault> {
+        let mut map = AuxMap::new(self.heap, 4)?;
+        for slot in 0..self.count {
+            put(&mut map, slot)?;
+        }
+        Ok(map)
+    }
+
+    fn call(&self, map: &mut AuxMap<&'h Heap>) -> Result<String, Fault> {
+        match self.call {
+            MapCall::New => text(self.heap, &AuxMap::new(self.heap, 4)?),
+            MapCall::Clone => text(self.heap, &map.clone()?),
+            MapCall::Ascending => text(self.heap, &map.ascending(self.heap)?),
+            MapCall::Insert => {
+                put(map, self.count)?;
+                Ok(String::new(self.heap.inner()))
+            }
+        }
+    }
+
+    fn show(&self, map: &AuxMap<&'h Heap>) -> Result<String, Fault> {
+        text(self.heap, map)
+    }
+}
+
+/// Numbers of entries. Tables have 4, 8, 16 and 32 places, of which eight stand in the value; the fourth, the seventh and
+/// the thirteenth entry make them grow.
+const MAPS: [u32; 7] = [0, 2, 3, 5, 6, 7, 12];
+
+/// The calls, and the requests of each on maps of these numbers.
+const MAP_CALLS: [(MapCall, [u64; 7]); 4] = [
+    (MapCall::New, [1, 1, 1, 1, 1, 1, 1]),
+    (MapCall::Insert, [0, 0, 0, 0, 1, 0, 1]),
+    (MapCall::Clone, [1, 1, 1, 0, 0, 1, 1]),
+    (MapCall::Ascending, [0, 1, 1, 1, 1, 1, 1]),
+];
+
+#[test]
+fn refused_maps(rt: HostRuntime) -> Result<(), Fail> {
+    let heap = Heap::new(rt.alloc());
+    for (call, requests) in MAP_CALLS {
+        for (count, requests) in MAPS.into_iter().zip(requests) {
+            let trial = MapTrial {
+                heap: &heap,
+                count,
+                call,
+            };
+            let asked = requests_of(&rt, &heap, &trial);
+            assert_eq!(rt; asked, Ok(requests), "{call:?} {count}");
+        }
+    }
+    Ok(())
+}

@@ -1,0 +1,21 @@
+//! Calls whose requests for memory are refused, one after the other.
+#![tactic(auto)]
+
+#[cfg(test)]
+mod arrays;
+#[cfg(test)]
+mod base;
+#[cfg(test)]
+mod callers;
+#[cfg(test)]
+mod coupons;
+#[cfg(test)]
+mod harness;
+#[cfg(test)]
+mod plans;
+#[cfg(test)]
+mod refusing;
+#[cfg(test)]
+mod sketches;
+#[cfg(test)]
+mod unions;

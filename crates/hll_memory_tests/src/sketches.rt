@@ -1,0 +1,239 @@
+//! Sketches of each stage and width.
+ghost use Rattle.std.specs.Prelude.{◌≤◌};
+ghost use Rattle.hll_coupons.specs.Pair.{value_of};
+
+use crate::harness::{Heap, Trial, requests_of, text};
+use hll_coupons::coupon::Coupon;
+use hll_coupons::hll_type::HllType;
+use hll_sketch::HllSketch;
+use hll_text::fault::Fault;
+use std::alloc::Global;
+use std::test::Fail;
+
+/// All widths.
+pub(crate) const WIDTHS: [HllType; 3] = [HllType::Hll4, HllType::Hll6, HllType::Hll8];
+
+/// A coupon at a slot. The values go from 1 to 63, and again.
+pub(crate) fn coupon_at(slot: u32) -> Coupon
+    ensures { 1 ≤ value_of result }
+{
+    Coupon::pack(slot, 1 + (slot % 63) as u8)
+}
+
+/// The coupons of a sketch: its `lg_k`, the first slot, and how many.
+pub(crate) type Shape = (u8, u32, u32);
+
+/// A sketch with a coupon at each slot from the first on.
+pub(crate) fn sketch_in(
+    heap: &Heap,
+    hll_type: HllType,
+    shape: Shape,
+) -> Result<HllSketch<&Heap>, Fault> {
+    let (lg_k, first, count) = shape;
+    let mut sketch = HllSketch::new(heap, lg_k, hll_type)?;
+    for slot in first..first.saturating_add(count) {
+        sketch.update_with_coupon(coupon_at(slot))?;
+    }
+    Ok(sketch)
+}
+
+/// All of a sketch: its `lg_k`, and the places of its table or its registers and their state.
+pub(crate) fn sketch_text(heap: &Heap, sketch: &HllSketch<&Heap>) -> Result<String, Fault> {
+    text(heap, &(sketch.lg_config_k(), sketch.mode()))
+}
+
+/// The registers of a sketch at the least `lg_k`.
+fn least_registers<'h>(sketch: &HllSketch<&'h Heap>) -> Result<Vec<u8, &'h Heap>, Fault> {
+    let lg_k = sketch.lg_config_k().min(4);
+    Ok(sketch.registers_at(lg_k)?)
+}
+
+/// An image with all places of a table of 2^`lg_arr`, empty ones too, and so many bytes.
+fn with_places(alloc: Global, image: &[u8], lg_arr: u8, size: usize) -> Result<Vec<u8>, Fault> {
+    let mut bytes = Vec::from_slice(alloc, image)?;
+    if let Some(places) = bytes.get_mut(4) {
+        *places = lg_arr;
+    }
+    if let Some(flags) = bytes.get_mut(5) {
+        *flags &= 0xf7;
+    }
+    bytes.resize(size.max(bytes.len()), 0)?;
+    Ok(bytes)
+}
+
+#[derive(Clone, Copy, Debug)]
+enum SketchCall {
+    Clone,
+    CloneMode,
+    Serialize,
+    Folded,
+    RegistersAt,
+    Deserialize,
+    DeserializePlaces,
+    UpdateNew,
+    UpdateHeld,
+    UpdateValue,
+    Queries,
+}
+
+/// A call on a sketch, beside its image, and one with the size of a table of places and the bytes with it.
+#[derive(Drop)]
+struct SketchTrial<'h> {
+    heap: &'h Heap,
+    hll_type: HllType,
+    shape: Shape,
+    places: (u8, usize),
+    call: SketchCall,
+}
+
+impl<'h> Trial for SketchTrial<'h> {
+    type Subject = (HllSketch<&'h Heap>, Vec<u8>, Vec<u8>);
+
+    fn make(&self) -> Result<(HllSketch<&'h Heap>, Vec<u8>, Vec<u8>), Fault> {
+        let sketch = sketch_in(self.heap, self.hll_type, self.shape)?;
+        let image = Vec::from_slice(self.heap.inner(), &sketch.serialize()?)?;
+        let whole = with_places(self.heap.inner(), &image, self.places.0, self.places.1)?;
+        Ok((sketch, image, whole))
+    }
+
+    fn call(&self, subject: &mut (HllSketch<&'h Heap>, Vec<u8>, Vec<u8>)) -> Result<String, Fault> {
+        let heap = self.heap;
+        let (sketch, image, whole) = subject;
+        match self.call {
+            SketchCall::Clone => return sketch_text(heap, &sketch.clone()?),
+            SketchCall::CloneMode => return text(heap, &sketch.mode().clone()?),
+            SketchCall::Serialize => return text(heap, &sketch.serialize()?),
+            SketchCall::Folded => return sketch_text(heap, &sketch.folded(4)?),
+            SketchCall::RegistersAt => return text(heap, &least_registers(sketch)?),
+            SketchCall::Deserialize => {
+                return sketch_text(heap, &HllSketch::deserialize(heap, image)?);
+            }
+            SketchCall::DeserializePlaces => {
+                return sketch_text(heap, &HllSketch::deserialize(heap, whole)?);
+            }
+            SketchCall::Queries => {
+                let numbers = (
+                    sketch.num_coupons(),
+                    sketch.estimated_size(),
+                    sketch.is_empty(),
+                );
+                return text(heap, &(numbers, &*sketch == &*sketch));
+            }
+            SketchCall::UpdateNew => sketch.update_with_coupon(coupon_at(self.shape.2))?,
+            SketchCall::UpdateHeld => sketch.update_with_coupon(coupon_at(0))?,
+            SketchCall::UpdateValue => sketch.update(self.shape.2)?,
+        }
+        Ok(String::new(heap.inner()))
+    }
+
+    fn show(&self, subject: &(HllSketch<&'h Heap>, Vec<u8>, Vec<u8>)) -> Result<String, Fault> {
+        sketch_text(self.heap, &subject.0)
+    }
+}
+
+/// The `lg_k` and the number of coupons, from slot 0 on, with the size of a table in an image, and the bytes with it: lists,
+/// sets, and registers without an exception of four bits, with one after the next coupon, with one, and with many.
+const STAGES: [(u8, u32, u8, usize); 10] = [
+    (10, 0, 3, 40),
+    (4, 7, 3, 40),
+    (10, 7, 3, 40),
+    (10, 23, 5, 140),
+    (10, 24, 5, 140),
+    (8, 24, 5, 140),
+    (4, 8, 0, 48),
+    (4, 15, 2, 64),
+    (4, 16, 2, 64),
+    (8, 200, 8, 1192),
+];
+
+/// The calls, and the requests of each at these stages, for four bits, for six and for eight.
+const SKETCH_CALLS: [(SketchCall, [[u64; 10]; 3]); 11] = [
+    (
+        SketchCall::Clone,
+        [
+            [0, 0, 0, 1, 1, 1, 2, 3, 3, 3],
+            [0, 0, 0, 1, 1, 1, 1, 1, 1, 1],
+            [0, 0, 0, 1, 1, 1, 1, 1, 1, 1],
+        ],
+    ),
+    (
+        SketchCall::CloneMode,
+        [
+            [0, 0, 0, 1, 1, 1, 2, 3, 3, 3],
+            [0, 0, 0, 1, 1, 1, 1, 1, 1, 1],
+            [0, 0, 0, 1, 1, 1, 1, 1, 1, 1],
+        ],
+    ),
+    (
+        SketchCall::Serialize,
+        [
+            [1, 2, 2, 2, 2, 2, 1, 2, 2, 2],
+            [1, 2, 2, 2, 2, 2, 1, 1, 1, 1],
+            [1, 2, 2, 2, 2, 2, 1, 1, 1, 1],
+        ],
+    ),
+    (
+        SketchCall::Folded,
+        [
+            [0, 0, 0, 11, 12, 12, 2, 3, 3, 3],
+            [0, 0, 0, 1, 1, 1, 1, 1, 1, 2],
+            [0, 0, 0, 1, 1, 1, 1, 1, 1, 1],
+        ],
+    ),
+    (SketchCall::RegistersAt, [[1; 10]; 3]),
+    (
+        SketchCall::Deserialize,
+        [
+            [0, 0, 0, 1, 1, 1, 2, 3, 3, 7],
+            [0, 0, 0, 1, 1, 1, 1, 1, 1, 1],
+            [0, 0, 0, 1, 1, 1, 1, 1, 1, 1],
+        ],
+    ),
+    (
+        SketchCall::DeserializePlaces,
+        [
+            [0, 0, 0, 1, 1, 1, 2, 3, 3, 7],
+            [0, 0, 0, 1, 1, 1, 1, 1, 1, 1],
+            [0, 0, 0, 1, 1, 1, 1, 1, 1, 1],
+        ],
+    ),
+    (
+        SketchCall::UpdateNew,
+        [
+            [0, 2, 1, 0, 1, 3, 0, 1, 1, 0],
+            [0, 1, 1, 0, 1, 1, 0, 0, 0, 0],
+            [0, 1, 1, 0, 1, 1, 0, 0, 0, 0],
+        ],
+    ),
+    (SketchCall::UpdateHeld, [[0; 10]; 3]),
+    (
+        SketchCall::UpdateValue,
+        [
+            [0, 2, 1, 0, 1, 3, 0, 0, 0, 0],
+            [0, 1, 1, 0, 1, 1, 0, 0, 0, 0],
+            [0, 1, 1, 0, 1, 1, 0, 0, 0, 0],
+        ],
+    ),
+    (SketchCall::Queries, [[0; 10]; 3]),
+];
+
+#[test]
+fn refused_sketches(rt: HostRuntime) -> Result<(), Fail> {
+    let heap = Heap::new(rt.alloc());
+    for (call, requests) in SKETCH_CALLS {
+        for (hll_type, requests) in WIDTHS.into_iter().zip(requests) {
+            for ((lg_k, count, lg_arr, size), requests) in STAGES.into_iter().zip(requests) {
+                let trial = SketchTrial {
+                    heap: &heap,
+                    hll_type,
+                    shape: (lg_k, 0, count),
+                    places: (lg_arr, size),
+                    call,
+                };
+                let asked = requests_of(&rt, &heap, &trial);
+                assert_eq!(rt; asked, Ok(requests), "{call:?} {hll_type:?} {lg_k} {count}");
+            }
+        }
+    }
+    Ok(())
+}

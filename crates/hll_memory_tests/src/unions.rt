@@ -1,0 +1,199 @@
+//! Unions, and what is made of sketches together.
+use crate::harness::{Heap, Trial, requests_of, text};
+use crate::sketches::{Shape, WIDTHS, coupon_at, sketch_in, sketch_text};
+use hll_coupons::hll_type::HllType;
+use hll_sketch::{HllSketch, HllUnion, agree, union_of};
+use hll_text::fault::Fault;
+use std::mem;
+use std::test::Fail;
+
+#[derive(Clone, Copy, Debug)]
+enum UnionCall {
+    Clone,
+    ToSketch,
+    IntoSketch,
+    Reset,
+    Update,
+    UpdateNew,
+    UpdateValue,
+    UnionOf,
+    Agree,
+}
+
+/// A call on a union under a bound, of one sketch of eight bits, beside a sketch of some width.
+#[derive(Drop)]
+struct UnionTrial<'h> {
+    heap: &'h Heap,
+    lg_max_k: u8,
+    inside: Shape,
+    beside: Shape,
+    hll_type: HllType,
+    call: UnionCall,
+}
+
+/// A union, and two sketches: what is in it, and the one beside it.
+type Joined<'h> = (HllUnion<&'h Heap>, Vec<HllSketch<&'h Heap>>);
+
+/// All of a union that is used up: its bound and its gadget.
+pub(crate) fn union_text(heap: &Heap, union: HllUnion<&Heap>) -> Result<String, Fault> {
+    let gadget = (union.lg_max_k(), union.into_sketch(HllType::Hll8)?);
+    text(heap, &(gadget.0, gadget.1.lg_config_k(), gadget.1.mode()))
+}
+
+impl<'h> UnionTrial<'h> {
+    /// What a call gives that makes a value of two sketches.
+    fn made(&self, both: &[HllSketch<&'h Heap>]) -> Result<String, Fault> {
+        let heap = self.heap;
+        let [one, two] = both else {
+            return Err(Fault::Stack);
+        };
+        match self.call {
+            UnionCall::Agree => text(heap, &agree(one, two)?),
+            _ => union_text(heap, union_of(heap, self.lg_max_k, both)?),
+        }
+    }
+
+    /// What a call on the union does, and gives.
+    fn given(&self, union: &mut HllUnion<&'h Heap>) -> Result<String, Fault> {
+        let heap = self.heap;
+        let count = self.inside.2;
+        match self.call {
+            UnionCall::Clone => return union_text(heap, union.clone()?),
+            UnionCall::ToSketch => return sketch_text(heap, &union.to_sketch(self.hll_type)?),
+            UnionCall::IntoSketch => {
+                let union = mem::replace(union, HllUnion::new(heap, self.lg_max_k)?);
+                return sketch_text(heap, &union.into_sketch(self.hll_type)?);
+            }
+            UnionCall::Reset => union.reset()?,
+            UnionCall::UpdateNew => union.update_with_coupon(coupon_at(count))?,
+            _ => union.update_value(count)?,
+        }
+        Ok(String::new(heap.inner()))
+    }
+}
+
+impl<'h> Trial for UnionTrial<'h> {
+    type Subject = Joined<'h>;
+
+    fn make(&self) -> Result<Joined<'h>, Fault> {
+        let one = sketch_in(self.heap, HllType::Hll8, self.inside)?;
+        let mut union = HllUnion::new(self.heap, self.lg_max_k)?;
+        union.update(&one)?;
+        let mut both = Vec::new(self.heap.inner());
+        both.push(one)?;
+        both.push(sketch_in(self.heap, self.hll_type, self.beside)?)?;
+        Ok((union, both))
+    }
+
+    fn call(&self, joined: &mut Joined<'h>) -> Result<String, Fault> {
+        let (union, both) = joined;
+        match self.call {
+            UnionCall::Agree | UnionCall::UnionOf => self.made(both.as_slice()),
+            UnionCall::Update => {
+                if let Some(two) = both.get(1) {
+                    union.update(two)?;
+                }
+                Ok(String::new(self.heap.inner()))
+            }
+            _ => self.given(union),
+        }
+    }
+
+    fn show(&self, joined: &Joined<'h>) -> Result<String, Fault> {
+        union_text(self.heap, joined.0.clone()?)
+    }
+
+    fn spends(&self) -> bool {
+        matches!(self.call, UnionCall::IntoSketch)
+    }
+}
+
+/// A bound, the coupons in the union, and those of the sketch beside it.
+const UNIONS: [(u8, Shape, Shape); 13] = [
+    // an empty sketch beside a list
+    (8, (8, 0, 7), (8, 0, 0)),
+    // a set of eight, and lists, beside a list
+    (8, (8, 0, 7), (8, 100, 8)),
+    (8, (8, 0, 7), (8, 100, 1)),
+    (8, (8, 0, 6), (8, 100, 1)),
+    // a list, a set, and registers, beside an empty union
+    (8, (8, 0, 0), (8, 0, 7)),
+    (8, (8, 0, 0), (8, 0, 20)),
+    (8, (8, 0, 0), (10, 0, 600)),
+    // registers beside a set of 200 coupons
+    (12, (12, 0, 200), (10, 0, 600)),
+    (12, (12, 0, 200), (4, 0, 16)),
+    // coupons beside registers; registers beside registers of the same, a greater and a smaller `lg_k`
+    (12, (8, 0, 200), (8, 0, 20)),
+    (12, (8, 0, 200), (8, 0, 200)),
+    (12, (8, 0, 200), (10, 0, 600)),
+    (12, (8, 0, 200), (4, 0, 16)),
+];
+
+/// The calls, and the requests of each on these unions, for four bits, for six and for eight.
+const UNION_CALLS: [(UnionCall, [[u64; 13]; 3]); 9] = [
+    (
+        UnionCall::Clone,
+        [[0, 0, 0, 0, 0, 0, 0, 1, 1, 1, 1, 1, 1]; 3],
+    ),
+    (
+        UnionCall::ToSketch,
+        [
+            [0, 0, 0, 0, 0, 0, 0, 1, 1, 7, 7, 7, 7],
+            [0, 0, 0, 0, 0, 0, 0, 1, 1, 1, 1, 1, 1],
+            [0, 0, 0, 0, 0, 0, 0, 1, 1, 1, 1, 1, 1],
+        ],
+    ),
+    (
+        UnionCall::IntoSketch,
+        [
+            [0, 0, 0, 0, 0, 0, 0, 0, 0, 7, 7, 7, 7],
+            [0, 0, 0, 0, 0, 0, 0, 0, 0, 1, 1, 1, 1],
+            [0; 13],
+        ],
+    ),
+    (UnionCall::Reset, [[0; 13]; 3]),
+    (
+        UnionCall::Update,
+        [[0, 1, 1, 0, 0, 1, 1, 1, 1, 0, 0, 0, 1]; 3],
+    ),
+    (
+        UnionCall::UpdateNew,
+        [[1, 1, 1, 0, 0, 0, 0, 0, 0, 0, 0, 0, 0]; 3],
+    ),
+    (
+        UnionCall::UpdateValue,
+        [[1, 1, 1, 0, 0, 0, 0, 0, 0, 0, 0, 0, 0]; 3],
+    ),
+    (
+        UnionCall::UnionOf,
+        [[0, 1, 1, 0, 0, 1, 1, 2, 2, 1, 1, 1, 2]; 3],
+    ),
+    (UnionCall::Agree, [[2; 13]; 3]),
+];
+
+#[test]
+fn refused_unions(rt: HostRuntime) -> Result<(), Fail> {
+    let heap = Heap::new(rt.alloc());
+    for (call, requests) in UNION_CALLS {
+        for (hll_type, requests) in WIDTHS.into_iter().zip(requests) {
+            for ((lg_max_k, inside, beside), requests) in UNIONS.into_iter().zip(requests) {
+                let trial = UnionTrial {
+                    heap: &heap,
+                    lg_max_k,
+                    inside,
+                    beside,
+                    hll_type,
+                    call,
+                };
+                let asked = requests_of(&rt, &heap, &trial);
+                assert_eq!(rt;
+                    asked,
+                    Ok(requests),
+                    "{call:?} {hll_type:?} {inside:?} {beside:?}"
+                );
+            }
+        }
+    }
+    Ok(())
+}
