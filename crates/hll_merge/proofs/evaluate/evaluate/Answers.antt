@@ -1,4 +1,4 @@
-use Rattle.std.proofs.Common.{◌≡◌, ◌⊎◌, List, [], length, true, nat_eq, ◌∙◌, map, inl, inr, refl, sym, subst}
+use Rattle.std.proofs.Common.{◌≡◌, ◌⊎◌, List, [], ◌∙◌, map, inl, inr, refl, sym, subst}
 use Rattle.hll_text.specs.declared.fault.Fault.TheVariants.{Memory}
 use Rattle.hll_text.specs.Step.{step_of}
 use Rattle.hll_text.specs.Text.{PlanStep}
