@@ -85,20 +85,6 @@ const FOUR_PLACES: Places = (
 );
 
 #[test]
-fn values_are_the_maps(rt: HostRuntime) -> Result<(), Fail> {
-    let mut map = map_of(rt.alloc(), 10, &[(10, 20), (50, 30), (100, 40)])?;
-    let values = (map.get(10), map.get(50), map.get(100), map.get(999));
-    assert_eq!(rt; values, (Some(20), Some(30), Some(40), None));
-    set(&mut map, 50, 35)?;
-    assert_eq!(rt; (map.get(50), map.len()), (Some(35), 3));
-    let map = map_of(rt.alloc(), 8, &[(1, 15), (2, 16), (3, 17), (4, 18)])?;
-    let values = (map.get(1), map.get(2), map.get(3), map.get(4));
-    assert_eq!(rt; values, (Some(15), Some(16), Some(17), Some(18)));
-    assert_eq!(rt; map.estimated_size(), 32);
-    Ok(())
-}
-
-#[test]
 fn places(rt: HostRuntime) -> Result<(), Fail> {
     assert_eq!(rt; places_of(&map_of(rt.alloc(), 4, &THREE)?), THREE_PLACES);
     let map = map_of(rt.alloc(), 4, &FOUR)?;

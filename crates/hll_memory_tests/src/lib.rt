@@ -12,6 +12,8 @@ mod coupons;
 #[cfg(test)]
 mod harness;
 #[cfg(test)]
+mod heaps;
+#[cfg(test)]
 mod plans;
 #[cfg(test)]
 mod refusing;

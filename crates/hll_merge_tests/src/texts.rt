@@ -1,7 +1,7 @@
 //! Texts of plans over memory: what they print, long lines, and streams that fail.
 use crate::fixtures::run_over;
 use hll_merge::run::run;
-use hll_text::fakes::{Failing, Narrow};
+use hll_text::fakes::Failing;
 use hll_text::fault::{Fault, MergeError};
 use hll_text::watched::Watched;
 use std::test::Fail;
@@ -63,34 +63,4 @@ fn failing_reads(rt: HostRuntime) {
         assert_eq!(rt; reader.failed(), fault == Fault::Read);
         assert!(rt; writer.into_inner().is_empty());
     }
-}
-
-/// A writer that takes a byte at a time, and one that fails after so many.
-#[test]
-fn failing_writes(rt: HostRuntime) -> Result<(), Fail> {
-    let text: &[u8] = b"new 10 8";
-    let printed: &[u8] = b"0201070a030c0008\n";
-    for room in 0..printed.len().saturating_add(2) {
-        for fails in [false, true] {
-            let mut taken = Vec::new(rt.alloc());
-            let mut reader = Watched::new(text);
-            let mut writer = Watched::new(Narrow {
-                taken: &mut taken,
-                room,
-                fails,
-            });
-            let result = run(rt.alloc(), &mut reader, &mut writer);
-            let failed = writer.failed();
-            drop(writer);
-            assert_eq!(rt; failed, room < printed.len());
-            let refusal = MergeError {
-                line: 1,
-                fault: Fault::Write,
-            };
-            assert_eq!(rt; result, if failed { Err(refusal) } else { Ok(()) });
-            assert_eq!(rt; taken.len(), room.min(printed.len()));
-            assert!(rt; printed.starts_with(taken.as_slice()));
-        }
-    }
-    Ok(())
 }
