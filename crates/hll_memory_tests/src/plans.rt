@@ -36,11 +36,10 @@ struct TextTrial<'h> {
     call: TextCall,
 }
 
-/// Runs a plan in memory. The line is a stream too: one that is refused memory fails.
+/// Runs a plan in memory, the line's included.
 fn run_within<'h>(heap: &'h Heap, plan: &str) -> Result<Vec<u8, &'h Heap>, Fault> {
     match run_in_memory(heap, plan.as_bytes()) {
         Ok(line) => Ok(line),
-        Err(e) if e.fault == Fault::Write => Err(Fault::Memory),
         Err(e) => Err(e.fault),
     }
 }
