@@ -58,10 +58,10 @@ class Trial:
         self.plan = plan.encode()
         self.runs, self.wrong = 0, []
 
-    def run(self, **numbers):
-        """What the program prints on both streams, and its status."""
+    def run(self, more=b"", **numbers):
+        """What the program prints on both streams for the plan and more lines, and its status."""
         settings = {"REFUSE_" + name.upper(): str(number) for name, number in numbers.items()}
-        ended = subprocess.run([self.program], input=self.plan, capture_output=True, timeout=60,
+        ended = subprocess.run([self.program], input=self.plan + more, capture_output=True, timeout=60,
                                env={**os.environ, "LD_PRELOAD": self.library, **settings})
         self.runs += 1
         return ended.stdout.decode(), ended.stderr.decode(), ended.returncode
@@ -92,11 +92,13 @@ class Trial:
 
     def fail_reads(self, reads, answer):
         ended = self.plan.count(b"\n")
+        # the fault of a line stays with more lines, that of the end doesn't
+        is_of_line = answer[1] and self.run(b"\nnew 4 8\n") == answer
         for number in range(1, reads + 1):
             seen = self.run(read=number)
             before = ended if number > 1 else 0
-            is_fault = answer[1] and int(answer[1].split()[1][:-1]) <= before
-            refusal = answer[1] if is_fault else "line %d: read\n" % before
+            is_before = is_of_line and int(answer[1].split()[1][:-1]) <= before
+            refusal = answer[1] if is_before else "line %d: read\n" % before
             self.expect(seen == ("", refusal, 1), "read %d" % number, seen)
 
     def fail_writes(self, writes, answer):
