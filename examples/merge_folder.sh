@@ -48,6 +48,7 @@ sort -z "$WORK/files" | xargs -0 -n "$files" -P "$(nproc)" sh -c '
         line=${line%%:*}
         if [ "$line" -ge 1 ] 2>/dev/null && [ "$line" -le $# ]; then
             shift $((line - 1))
+            [ -s "$1" ] || refusal="line $line: image truncated"
             echo "$1: ${refusal#*: }" >&2
         else
             echo "$refusal" >&2
