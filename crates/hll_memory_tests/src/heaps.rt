@@ -1,53 +1,83 @@
 //! Two heaps, of which one is full: `agree` asks that of its first argument alone, and a union its own.
 use crate::harness::Heap;
-use crate::sketches::{WIDTHS, sketch_in};
+use crate::sketches::{Shape, WIDTHS, sketch_in};
 use hll_coupons::hll_type::HllType;
 use hll_sketch::{HllUnion, agree};
+use hll_text::fault::Fault;
 use std::test::Fail;
 
-/// An `lg_k` and a number of coupons: an empty list, lists, sets and registers.
-const SKETCHES: [(u8, u32); 7] = [
-    (12, 0),
-    (12, 7),
-    (6, 7),
-    (12, 20),
-    (10, 90),
-    (10, 600),
-    (4, 16),
+/// Sketches: an empty list, lists, sets and registers.
+const SKETCHES: [Shape; 7] = [
+    (12, 0, 0),
+    (12, 0, 7),
+    (6, 0, 7),
+    (12, 0, 20),
+    (10, 0, 90),
+    (10, 0, 600),
+    (4, 0, 16),
 ];
+
+/// The requests to each heap for whether a sketch of the first agrees with one of the other, which is full by then.
+fn agree_asks<'h>(
+    heap: &'h Heap,
+    full: &'h Heap,
+    hll_type: HllType,
+    shape: Shape,
+) -> Result<(u64, u64), Fault> {
+    full.admit();
+    let one = sketch_in(heap, hll_type, (10, 0, 90))?;
+    let other = sketch_in(full, hll_type, shape)?;
+    full.refuse_all();
+    heap.admit();
+    agree(&one, &other)?;
+    Ok((heap.asked(), full.asked()))
+}
 
 #[test]
 fn agree_asks_its_first_argument(rt: HostRuntime) -> Result<(), Fail> {
-    let (heap, full) = (Heap::new(rt.alloc()), Heap::new(rt.alloc()));
-    for (lg_k, count) in SKETCHES {
+    let heap = Heap::new(rt.alloc());
+    let full = Heap::new(rt.alloc());
+    for shape in SKETCHES {
         for hll_type in WIDTHS {
-            full.admit();
-            let one = sketch_in(&heap, hll_type, (10, 0, 90))?;
-            let other = sketch_in(&full, hll_type, (lg_k, 0, count))?;
-            full.refuse_all();
-            heap.admit();
-            assert!(rt; agree(&one, &other).is_ok(), "{lg_k} {count}");
-            assert_eq!(rt; (heap.asked(), full.asked()), (2, 0), "{lg_k} {count}");
+            let asked = agree_asks(&heap, &full, hll_type, shape);
+            assert_eq!(rt; asked, Ok((2, 0)), "{shape:?} {hll_type:?}");
         }
     }
     Ok(())
 }
 
-/// Unions of several bounds, with nothing, a list and registers in them, take each sketch of the full heap.
+/// The requests to the second heap, which is full by then, for merging a sketch of it into a union of the first. The bound of
+/// the union is the `lg_k` of what is in it.
+fn update_asks<'h>(
+    heap: &'h Heap,
+    full: &'h Heap,
+    inside: Shape,
+    hll_type: HllType,
+    beside: Shape,
+) -> Result<u64, Fault> {
+    let (lg_max_k, _, _) = inside;
+    full.admit();
+    let other = sketch_in(full, hll_type, beside)?;
+    let first = sketch_in(heap, HllType::Hll8, inside)?;
+    let mut union = HllUnion::new(heap, lg_max_k)?;
+    union.update(&first)?;
+    full.refuse_all();
+    union.update(&other)?;
+    Ok(full.asked())
+}
+
+/// Unions with nothing, a list and registers in them.
+const UNIONS: [Shape; 4] = [(12, 0, 0), (12, 0, 1), (4, 0, 16), (8, 0, 200)];
+
 #[test]
 fn unions_ask_their_own(rt: HostRuntime) -> Result<(), Fail> {
-    let (heap, full) = (Heap::new(rt.alloc()), Heap::new(rt.alloc()));
-    for (lg_k, count) in SKETCHES {
-        for hll_type in WIDTHS {
-            for (lg_max_k, coupons) in [(12, 0), (12, 1), (4, 16), (8, 200)] {
-                full.admit();
-                let other = sketch_in(&full, hll_type, (lg_k, 0, count))?;
-                let mut union = HllUnion::new(&heap, lg_max_k)?;
-                union.update(&sketch_in(&heap, HllType::Hll8, (lg_max_k, 0, coupons))?)?;
-                full.refuse_all();
-                heap.admit();
-                assert!(rt; union.update(&other).is_ok(), "{lg_k} {count}");
-                assert_eq!(rt; full.asked(), 0u64, "{lg_k} {count}");
+    let heap = Heap::new(rt.alloc());
+    let full = Heap::new(rt.alloc());
+    for inside in UNIONS {
+        for beside in SKETCHES {
+            for hll_type in WIDTHS {
+                let asked = update_asks(&heap, &full, inside, hll_type, beside);
+                assert_eq!(rt; asked, Ok(0), "{inside:?} {beside:?} {hll_type:?}");
             }
         }
     }
