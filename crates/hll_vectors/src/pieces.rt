@@ -1,5 +1,6 @@
-//! The plans of the tables, run whole and fed in pieces, and the fronts of their images.
+//! The plans of the tables, run whole, fed in pieces and over streams that fail, and the fronts of their images.
 use crate::plans::{ANSWERS, BEHIND, REFUSED};
+use crate::streams::{assert_reads, assert_refused, assert_writes};
 use hll_base::error::Reason;
 use hll_caller::run_in_memory;
 use hll_merge::feed::PlanFeed;
@@ -61,8 +62,10 @@ fn assert_answer(rt: &impl Abort, alloc: Global, text: &str, answer: &Answer) ->
     Ok(())
 }
 
-/// A plan prints this line.
+/// A plan prints this line, and only a front of it where a stream fails.
 fn assert_prints(rt: &impl Abort, alloc: Global, text: &str, line: &str) -> Result<(), Fail> {
+    assert_reads(rt, alloc, text)?;
+    assert_writes(rt, alloc, text, line);
     let line = Vec::from_slice(alloc, line.as_bytes())?;
     assert_answer(rt, alloc, text, &Ok(line))
 }
@@ -81,7 +84,10 @@ fn answers(rt: HostRuntime) -> Result<(), Fail> {
 #[test]
 fn refusals(rt: HostRuntime) -> Result<(), Fail> {
     for (text, line, fault) in REFUSED {
-        assert_answer(&rt, rt.alloc(), text, &Err(fault.at(line)))?;
+        let refusal = fault.at(line);
+        assert_reads(&rt, rt.alloc(), text)?;
+        assert_refused(&rt, rt.alloc(), text, refusal);
+        assert_answer(&rt, rt.alloc(), text, &Err(refusal))?;
     }
     Ok(())
 }

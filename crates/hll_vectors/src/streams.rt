@@ -1,5 +1,4 @@
-//! The plans of the tables over streams that fail, and that move one byte at a time.
-use crate::plans::{ANSWERS, BEHIND, REFUSED};
+//! Plans over streams that fail, and that move one byte at a time.
 use hll_merge::feed::PlanFeed;
 use hll_merge::run::run;
 use hll_text::fakes::{Failing, Narrow};
@@ -24,12 +23,12 @@ fn lines_ended(text: &[u8]) -> u64 {
 }
 
 /// A reader that gives a byte at a time and fails at each of its calls in turn: nothing is written.
-fn assert_reads(rt: &impl Abort, alloc: Global, text: &str) -> Result<(), Fail> {
+pub(crate) fn assert_reads(rt: &impl Abort, alloc: Global, text: &str) -> Result<(), Fail> {
     let text = text.as_bytes();
     for calls in 0..text.len().saturating_add(1) {
         let mut reader = Watched::new(Failing {
             text,
-            calls: calls as u32,
+            calls: u32::try_from(calls).unwrap_or(0),
         });
         let mut writer = Watched::new(Vec::new(alloc));
         let refusal = fault_of_front(alloc, &text[..calls])?;
@@ -67,7 +66,7 @@ fn run_narrow(
 }
 
 /// A writer that takes a byte at a time, and stops or fails after so many: what went out is a front of the line.
-fn assert_writes(rt: &impl Abort, alloc: Global, text: &str, line: &str) {
+pub(crate) fn assert_writes(rt: &impl Abort, alloc: Global, text: &str, line: &str) {
     let refusal = Err(Fault::Write.at(text.lines().count() as u64));
     for room in 0..line.len().saturating_add(1) {
         for fails in [false, true] {
@@ -79,31 +78,9 @@ fn assert_writes(rt: &impl Abort, alloc: Global, text: &str, line: &str) {
     }
 }
 
-#[test]
-fn failing_reads(rt: HostRuntime) -> Result<(), Fail> {
-    for (text, _) in ANSWERS {
-        assert_reads(&rt, rt.alloc(), text)?;
-    }
-    for (text, _) in BEHIND {
-        assert_reads(&rt, rt.alloc(), text)?;
-    }
-    for (text, _, _) in REFUSED {
-        assert_reads(&rt, rt.alloc(), text)?;
-    }
-    Ok(())
-}
-
-#[test]
-fn failing_writes(rt: HostRuntime) {
-    for (text, line) in ANSWERS {
-        assert_writes(&rt, rt.alloc(), text, line);
-    }
-    for (text, line) in BEHIND {
-        assert_writes(&rt, rt.alloc(), text, line);
-    }
-    for (text, line, fault) in REFUSED {
-        let (result, taken) = run_narrow(rt.alloc(), text.as_bytes(), 0, true);
-        assert_eq!(rt; result, Err(fault.at(line)), "{text}");
-        assert!(rt; taken.is_empty());
-    }
+/// A plan that is refused, read byte by byte, writes nothing: its fault comes, and not that of a writer that would fail.
+pub(crate) fn assert_refused(rt: &impl Abort, alloc: Global, text: &str, refusal: MergeError) {
+    let (result, taken) = run_narrow(alloc, text.as_bytes(), 0, true);
+    assert_eq!(rt; result, Err(refusal), "{text}");
+    assert!(rt; taken.is_empty());
 }
