@@ -54,9 +54,9 @@ impl<A: Allocator> Storage<A> {
         }
     }
 
-    /// A copy, in memory of another allocator.
+    /// A copy, in memory of this allocator.
     ///
-    /// Fails with `Memory`, only if there are not eight places.
+    /// Fails with `Memory`, only if the places have memory of their own.
     pub(crate) fn clone_in(&self, alloc: A) -> Result<Storage<A>, Error>
         ensures ok { IfOk result (λ p. places_in p ≡ places_in self.now) }
         ensures err { IfErr result (λ e. e ≡ Memory) }
