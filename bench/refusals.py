@@ -1,7 +1,7 @@
 #!/usr/bin/env python3
 """Refuses each request for memory of the program in turn, and fails each of its reads and writes, over all row plans.
 
-The plans, with what they print or the line of their fault, are those in the tables of `hll_vectors` and `hll_merge_tests`.
+The plans, with what they print or the line of their refusal, are the rows of `crates/hll_vectors/stdin`.
 A request that is refused has to end in `line .. memory` with nothing on standard output and status 1; a read in `read`, or
 in the fault of a line that ended before; a write in `write`, with a front of the answer. Where each call moves one byte,
 the answer is the same. Call it with the program's path; without one it is what the script hll_merge keeps, which is built
@@ -20,33 +20,19 @@ sys.dont_write_bytecode = True
 from plans import ROOT, built_program
 
 SECONDS = 600
-TABLES = ("crates/hll_vectors/src/*.rt", "crates/hll_merge_tests/src/*.rt")
-STRING = r'"((?:\\.|[^"\\])*)"'
-ROW = re.compile(r"\(\s*" + STRING + r"\s*,\s*(?:" + STRING + r"|(\d+))\s*,?", re.S)
-ESCAPES = {"n": "\n", "r": "\r", "t": "\t", "0": "\0", "\\": "\\", '"': '"'}
-PLAN = re.compile(r"(new|image|coupon|union|fold) ")
-ANSWER = re.compile(r"[0-9a-f]+\n\Z")
-
-
-def unescaped(text):
-    """The text of a string in a source."""
-    text = re.sub(r"\\\n\s*", "", text)
-    text = re.sub(r"\\u\{([0-9a-f]+)\}", lambda found: chr(int(found[1], 16)), text)
-    text = re.sub(r"\\x([0-9a-f]{2})", lambda found: chr(int(found[1], 16)), text)
-    return re.sub(r"\\(.)", lambda found: ESCAPES[found[1]], text)
+ROWS = ROOT / "crates" / "hll_vectors" / "stdin"
+ESCAPE = re.compile(rb"\\([0-9a-fA-F]{2})")
 
 
 def rows():
-    """Each plan of the tables, with what it prints or the number of the line of its fault."""
+    """Each plan of the rows, with what the program prints for it on both streams and its status (docs/PLAN.md, "Rows")."""
     found = {}
-    for pattern in TABLES:
-        for path in sorted(ROOT.glob(pattern)):
-            for text, printed, line in ROW.findall(path.read_text()):
-                plan, printed = unescaped(text), unescaped(printed)
-                if line and (PLAN.match(plan) or "\n" in plan or not plan):
-                    found[plan] = int(line)
-                elif PLAN.match(plan) and ANSWER.match(printed):
-                    found[plan] = printed
+    for block in ROWS.read_text().split("\n\n"):
+        lines = [line for line in block.split("\n") if line and not line.startswith("//")]
+        if lines:
+            plan = ESCAPE.sub(lambda escape: bytes.fromhex(escape[1].decode()), "\n".join(lines[:-1]).encode())
+            mark, printed = lines[-1][:2], lines[-1][2:] + "\n"
+            found[plan] = ("", printed, 1) if mark == "! " else (printed, "", 0)
     return found
 
 
@@ -55,7 +41,7 @@ class Trial:
 
     def __init__(self, program, library, plan, wanted):
         self.program, self.library, self.wanted = program, library, wanted
-        self.plan = plan.encode()
+        self.plan = plan
         self.runs, self.wrong = 0, []
 
     def run(self, more=b"", **numbers):
@@ -75,12 +61,7 @@ class Trial:
         with tempfile.NamedTemporaryFile() as counts:
             seen = self.run(counts=counts.name)
             numbers = [int(number) for number in counts.read().split()]
-        printed, refusal, status = seen
-        if isinstance(self.wanted, str):
-            self.expect(seen == (self.wanted, "", 0), "as its row", seen)
-        else:
-            is_row = refusal.startswith("line %d: " % self.wanted)
-            self.expect(printed == "" and is_row and status == 1, "as its row", seen)
+        self.expect(seen == self.wanted, "as its row", seen)
         self.expect(self.run(short=1) == seen, "byte by byte", seen)
         return seen, numbers
 

@@ -5,7 +5,7 @@ use Rattle.std.specs.Int.{w32, from_le_bytes}
 use Rattle.std.specs.FinSet.{contains, len, len-empty}
 use Rattle.std.specs.Option.{option_map, option_or}
 use Rattle.std.specs.Ordering.{nat_cmp}
-use Rattle.std.proofs.lemmas.Bool.{cases_Bool, cases_eq, cond-true, cond-false, eq-eqb, eqb-true}
+use Rattle.std.proofs.lemmas.Bool.{cases_Bool, cases_eq, cond-true, cond-false, eq-eqb, eqb-true, ne_eqb}
 use Rattle.std.proofs.lemmas.List.{append-nil, drop-drop, length-append, length-map, map-append}
 use Rattle.std.proofs.lemmas.List.Elements.{All-append, filter-append}
 use Rattle.std.proofs.lemmas.List.Folds.{find-append}
@@ -15,12 +15,11 @@ use Rattle.hll_coupons.specs.Coupons.{words, coupons_at}
 use Rattle.hll_coupons.specs.Pair.{set_of, slot_of, value_of}
 use Rattle.hll_coupons.specs.Table.{coupons_in}
 use Rattle.hll_coupons.proofs.Listed.{has, contains-has, finds, finds_none, has-map, has-from_map, From}
-use Rattle.hll_coupons.proofs.Maps.{differs}
 use Rattle.hll_coupons.proofs.Members.{len-between}
 use Rattle.hll_coupons.proofs.Putting.{last_of_all}
 use Rattle.hll_coupons.proofs.Reading.{next, next-empty, not_distinct}
-use Rattle.hll_arrays.specs.Payload.{AreEntries}
-use Rattle.hll_arrays.proofs.FourBits.{All-one}
+use Rattle.hll_registers.specs.Payload.{AreEntries}
+use Rattle.hll_registers.proofs.FourBits.{All-one}
 
 -- ---- places
 
@@ -128,9 +127,9 @@ module _ (k : ℕ) (order : List ℕ) (c : ℕ) where
           let found : find (λ d. eqb (slot_of d % 2 ^ k) s) (c ∷ []) ≡ Some c = cond-true (eqb slot s) (Some c) None (eq-eqb slot s (sym same)) in
           (λ i. option_map value_of (option_or (gone i) (found i))) ∙ sym (cond-true (eqb s slot) (Some (value_of c)) (entry_at k order s) (eq-eqb s slot same))
       | inr other ↦
-          let passed : find (λ d. eqb (slot_of d % 2 ^ k) s) (c ∷ []) ≡ None = cond-false (eqb slot s) (Some c) None (differs slot s (λ e. other (sym e))) in
+          let passed : find (λ d. eqb (slot_of d % 2 ^ k) s) (c ∷ []) ≡ None = cond-false (eqb slot s) (Some c) None (ne_eqb slot s (λ e. other (sym e))) in
           ap (λ o. option_map value_of (option_or (find (λ d. eqb (slot_of d % 2 ^ k) s) order) o)) passed ∙ ap (option_map value_of) (or_none (find (λ d. eqb (slot_of d % 2 ^ k) s) order))
-          ∙ sym (cond-false (eqb s slot) (Some (value_of c)) (entry_at k order s) (differs s slot other))
+          ∙ sym (cond-false (eqb s slot) (Some (value_of c)) (entry_at k order s) (ne_eqb s slot other))
     ]
       where
         or_none : (o : Option ℕ) → option_or o None ≡ o

@@ -8,10 +8,10 @@ use Rattle.hll_base.specs.declared.error.Reason.TheVariants.{Memory}
 use Rattle.hll_coupons.specs.AuxMap.{ExceptionMap, entry_at}
 use Rattle.hll_coupons.specs.Coupons.{coupons_at}
 use Rattle.hll_coupons.proofs.Payloads.{front_coupons, front_number, front_rest}
-use Rattle.hll_arrays.specs.FourBits.{exception_in, unpacked}
-use Rattle.hll_arrays.specs.Packed.{nibble_at}
-use Rattle.hll_arrays.specs.Payload.{num_at_cur_min, exception_count, Hll4Shape, exception_places, nibbles_of, entries_of, hll4_size, register_of, registers_of, Agrees, AllAgree, AreEntries, HasEntries, IsHll4Payload, IsWhole, Hll4Fault, FirstHll4Fault}
-use Rattle.hll_arrays.specs.Payload as payload
+use Rattle.hll_registers.specs.FourBits.{exception_in, unpacked}
+use Rattle.hll_kernels.specs.Packed.{nibble_at}
+use Rattle.hll_registers.specs.Payload.{num_at_cur_min, exception_count, Hll4Shape, exception_places, nibbles_of, entries_of, hll4_size, register_of, registers_of, Agrees, AllAgree, AreEntries, HasEntries, IsHll4Payload, IsWhole, Hll4Fault, FirstHll4Fault}
+use Rattle.hll_registers.specs.Payload as payload
 
 -- ---- faults
 

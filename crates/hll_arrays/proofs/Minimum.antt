@@ -4,15 +4,16 @@ use Rattle.std.specs.Prelude.{fold}
 use Rattle.std.proofs.lemmas.List.{length-replicate, get_or-replicate}
 use Rattle.std.proofs.lemmas.List.Sums.{fold-append}
 use Rattle.std.proofs.lemmas.Nat.{pow_pos}
-use Rattle.hll_coupons.specs.Fold.{fold_to, join}
+use Rattle.hll_coupons.specs.Fold.{fold_to}
+use Rattle.hll_base.specs.Join.{join}
 use Rattle.hll_coupons.specs.Pair.{set_of}
 use Rattle.hll_coupons.proofs.Folds.{length-fold_to}
-use Rattle.hll_coupons.proofs.Joins.{length-join, get_or-join}
-use Rattle.hll_arrays.specs.FourBits.{MinimumNeverFalls}
-use Rattle.hll_arrays.specs.Packed.{minimum}
-use Rattle.hll_arrays.specs.Store.{Stored, zero_registers, update_with_coupon}
-use Rattle.hll_arrays.proofs.FourBits.{minimum_ge, minimum_most}
-use Rattle.hll_arrays.proofs.Packing.{minimum_le}
+use Rattle.hll_base.proofs.Joins.{length-join, get_or-join}
+use Rattle.hll_registers.specs.FourBits.{MinimumNeverFalls}
+use Rattle.hll_kernels.specs.Packed.{minimum}
+use Rattle.hll_registers.specs.Store.{Stored, zero_registers, update_with_coupon}
+use Rattle.hll_registers.proofs.FourBits.{minimum_ge, minimum_most}
+use Rattle.hll_registers.proofs.Packing.{minimum_le}
 
 -- greater registers have no smaller minimum
 minimum_of_join : (R Q : List ℕ) → length R ≡ length Q → minimum R ≤ minimum (join R Q)

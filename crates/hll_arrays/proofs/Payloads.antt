@@ -5,10 +5,10 @@ use Rattle.std.specs.Int.{w64, from_le_bytes}
 use Rattle.hll_base.specs.declared.error.Reason.{Reason}
 use Rattle.hll_coupons.specs.Coupons.{coupons_at}
 use Rattle.hll_coupons.proofs.Payloads.{front_le, front_byte, front_rest, front_number, front_coupons, front_take, same_fronts}
-use Rattle.hll_arrays.specs.Packed.{nibble_at}
+use Rattle.hll_kernels.specs.Packed.{nibble_at}
 use Rattle.hll_coupons.specs.AuxMap.{entry_at}
-use Rattle.hll_arrays.specs.Payload.{state_at, num_at_cur_min, exception_count, IsHll8Payload, Hll8Fault, field_size, IsHll6Payload, Hll6Fault, Hll4Shape, exception_places, nibbles_of, entries_of, hll4_size, AreEntries, AllAgree, Agrees, HasEntries, IsHll4Payload, Hll4Fault}
-use Rattle.hll_arrays.specs.Payload as payload
+use Rattle.hll_registers.specs.Payload.{state_at, num_at_cur_min, exception_count, IsHll8Payload, Hll8Fault, field_size, IsHll6Payload, Hll6Fault, Hll4Shape, exception_places, nibbles_of, entries_of, hll4_size, AreEntries, AllAgree, Agrees, HasEntries, IsHll4Payload, Hll4Fault}
+use Rattle.hll_registers.specs.Payload as payload
 
 -- ---- the state
 

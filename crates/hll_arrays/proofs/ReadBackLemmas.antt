@@ -3,9 +3,9 @@ use Rattle.std.proofs.Common.{◌≡◌, ℕ, ◌+◌, ◌^◌, ◌-◌, ◌*◌
 use Rattle.std.proofs.lemmas.List.{length-drop, drop-append-le, take_at}
 use Rattle.hll_coupons.specs.Coupons.{coupon_bytes}
 use Rattle.hll_coupons.proofs.Payloads.{front_number}
-use Rattle.hll_arrays.specs.declared.aux_format.AuxFormat.TheVariants.{Compact}
-use Rattle.hll_arrays.specs.Packed.{zeros, fields, field_bytes, minimum, count_at_minimum, nibble_bytes}
-use Rattle.hll_arrays.specs.Payload.{number_bytes, exception_count, IsHll8Payload, field_size, IsHll6Payload, Hll4Shape, shape_of_hll4, hll4_size, registers_of, IsHll4Payload}
+use Rattle.hll_registers.specs.declared.aux_format.AuxFormat.TheVariants.{Compact}
+use Rattle.hll_kernels.specs.Packed.{zeros, fields, field_bytes, minimum, count_at_minimum, nibble_bytes}
+use Rattle.hll_registers.specs.Payload.{number_bytes, exception_count, IsHll8Payload, field_size, IsHll6Payload, Hll4Shape, shape_of_hll4, hll4_size, registers_of, IsHll4Payload}
 use Rattle.hll_arrays.specs.ReadBack.{Hll8ReadBack, Hll6ReadBack, Hll4ReadBack}
 use Rattle.hll_arrays.proofs.Payloads.{state_at-front}
 use Rattle.hll_arrays.proofs.Written.{written_hll8, state_hll8, registers_hll8, written_hll6, state_hll6, registers_hll6, written_hll4, state_hll4, registers_hll4}

@@ -7,7 +7,7 @@ use Rattle.std.proofs.lemmas.List.{length-take, drop-take, take-append-drop}
 use Rattle.std.proofs.lemmas.List.Elements.{All-weaker}
 use Rattle.std.proofs.lemmas.List.Sums.{AllPass-from_list_all, list_all-from_AllPass}
 use Rattle.hll_coupons.proofs.Payloads.{front_number}
-use Rattle.hll_arrays.specs.Payload.{num_at_cur_min, exception_count, field_size, IsHll8Payload, IsHll6Payload}
+use Rattle.hll_registers.specs.Payload.{num_at_cur_min, exception_count, field_size, IsHll8Payload, IsHll6Payload}
 
 -- what the test of bytes says
 pub small-from : (xs : List ℕ) → list_all (λ v. nat_le v 63) xs ≡ true → All (λ v. v ≤ 63) xs

@@ -3,10 +3,10 @@ use Rattle.std.proofs.Common.{ℕ, ◌+◌, List, [], ◌∷◌, ◌++◌, lengt
 use Rattle.std.proofs.lemmas.List.{append-nil}
 use Rattle.std.specs.FinSet.{empty}
 use Rattle.hll_coupons.specs.Coupons.{IsAscending, mode_byte}
-use Rattle.hll_coupons.specs.declared.hll_type.HllType.TheVariants.{Hll4, Hll6, Hll8}
-use Rattle.hll_arrays.specs.Packed.{zeros, minimum, count_at_minimum, field_bytes}
-use Rattle.hll_arrays.specs.Payload.{flag_of, number_bytes}
-use Rattle.hll_arrays.specs.Store.{PackedIsWritten}
+use Rattle.hll_base.specs.declared.hll_type.HllType.TheVariants.{Hll4, Hll6, Hll8}
+use Rattle.hll_kernels.specs.Packed.{zeros, minimum, count_at_minimum, field_bytes}
+use Rattle.hll_registers.specs.Payload.{flag_of, number_bytes}
+use Rattle.hll_registers.specs.Store.{PackedIsWritten}
 
 -- no exceptions
 none : IsAscending [] empty

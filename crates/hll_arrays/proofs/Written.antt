@@ -11,14 +11,15 @@ use Rattle.std.proofs.Math.Seq.{drop-append_seam}
 use Rattle.hll_coupons.specs.Pair.{set_of}
 use Rattle.hll_coupons.specs.Coupons.{words, coupon_bytes, IsAscending}
 use Rattle.hll_coupons.proofs.Payloads.{words-written, length-coupon_bytes}
-use Rattle.hll_arrays.specs.declared.estimate_state.EstimateState.{EstimateState}
-use Rattle.hll_arrays.specs.State.{IsState}
-use Rattle.hll_arrays.specs.Store.{AreRegisters}
-use Rattle.hll_arrays.specs.Packed.{zeros, fields, field_bytes, minimum, count_at_minimum, nibble_bytes, nibble_bytes_above, exceptions, nibble_at}
+use Rattle.hll_registers.specs.declared.estimate_state.EstimateState.{EstimateState}
+use Rattle.hll_registers.specs.State.{IsState}
+use Rattle.hll_kernels.specs.Packed.{AreRegisters}
+use Rattle.hll_kernels.specs.Packed.{zeros, fields, field_bytes, minimum, count_at_minimum, nibble_bytes, nibble_bytes_above, nibble_at}
+use Rattle.hll_registers.specs.Exceptions.{exceptions}
 use Rattle.hll_coupons.specs.AuxMap.{entry_at}
-use Rattle.hll_arrays.specs.Payload.{num_at_cur_min, exception_count, state_at, number_bytes, IsHll8Payload, IsHll6Payload, Hll4Shape, IsHll4Payload, AreEntries, entries_of, nibbles_of, registers_of, Agrees, register_of}
-use Rattle.hll_arrays.proofs.Packing.{fields_read_back, exceptions_read_back}
-use Rattle.hll_arrays.proofs.Grouping.{groups-pow}
+use Rattle.hll_registers.specs.Payload.{num_at_cur_min, exception_count, state_at, number_bytes, IsHll8Payload, IsHll6Payload, Hll4Shape, IsHll4Payload, AreEntries, entries_of, nibbles_of, registers_of, Agrees, register_of}
+use Rattle.hll_registers.proofs.Packing.{fields_read_back, exceptions_read_back}
+use Rattle.hll_kernels.proofs.Grouping.{groups-pow}
 use Rattle.hll_arrays.proofs.Entries.{entries_fit, entries_few, are_entries}
 
 -- ---- the numbers before the registers

@@ -4,8 +4,8 @@ use Rattle.std.specs.Prelude.{IfSome}
 use Rattle.std.proofs.Math.Nat.{mod-lt}
 use Rattle.std.proofs.lemmas.Nat.{pow_pos}
 use Rattle.std.proofs.lemmas.List.Folds.{sum_by-replicate}
-use Rattle.hll_arrays.specs.Packed.{zeros}
-use Rattle.hll_arrays.proofs.FourBitChanges.{count_some, left_over}
+use Rattle.hll_kernels.specs.Packed.{zeros}
+use Rattle.hll_registers.proofs.FourBitChanges.{count_some, left_over}
 
 -- of zeros alone
 pub zeros_all : (n : ℕ) → zeros (replicate n 0) ≡ n

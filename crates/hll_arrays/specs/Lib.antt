@@ -1,9 +1,2 @@
-pub mod FourBits
-pub mod Groups
-pub mod Lanes
-pub mod Packed
-pub mod Payload
 pub mod ReadBack
 pub mod Same
-pub mod State
-pub mod Store

@@ -7,8 +7,8 @@ use Rattle.std.specs.Cmp.{IsPartialEquivalence, IsEquivalence, both_ways, equiv}
 use Rattle.std.specs.Cmp.Lexicographic.{pointwise}
 use Rattle.std.specs.Ordering.{on, eq_of_both}
 use lib.Pointwise.{bytes_decides}
-use Rattle.hll_arrays.specs.FourBits.{FourBits}
-use Rattle.hll_arrays.specs.Store.{Stored}
+use Rattle.hll_registers.specs.FourBits.{FourBits}
+use Rattle.hll_registers.specs.Store.{Stored}
 
 -- the same lg_k, registers and state
 abbrev pub same_stored : Stored → Stored → Bool

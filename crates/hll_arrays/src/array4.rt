@@ -1,34 +1,27 @@
 //! Registers of four bits: nibbles above a minimum, and a map of exceptions (docs/MODEL.md, "Registers of four bits").
-ghost use Rattle.std.specs.Prelude.{◌≡◌, ◌≢◌, ◌+◌, ◌*◌, ◌^◌, ◌<◌, ◌≤◌, ◌==◌, ◌⊎◌, ℕ, take, if◌then◌else◌, count_by, nat_eq, slice_index, slice_set, IfOk, IfErr, IfSome, OnOk, OnErr, Some, None};
+ghost use Rattle.std.specs.Prelude.{◌≡◌, ◌+◌, ◌^◌, ◌<◌, ◌≤◌, ◌==◌, ◌⊎◌, take, nat_eq, slice_index, IfOk, IfErr, OnOk, OnErr, None};
 ghost use Rattle.std.specs.List.{list_all};
 ghost use Rattle.std.specs.Cmp.Lexicographic.{pointwise};
 ghost use Rattle.hll_base.specs.declared.error.Reason.TheVariants.{Memory};
-ghost use Rattle.hll_coupons.specs.declared.hll_type.HllType.TheVariants.{Hll4};
-ghost use Rattle.hll_arrays.specs.FourBits.{exception_in, exception_of, kept_above, with_register, ExceptionsMove, FourBits, IsMapFor};
-ghost use Rattle.hll_arrays.specs.Packed.{minimum, count_at_minimum, nibble, units, zeros, size_in_registers};
-ghost use Rattle.hll_arrays.specs.Payload.{shape_of_hll4, hll4_size, registers_of, state_at, FirstHll4Fault, Hll4Fault, IsHll4Payload, IsWhole, WritesRegisters};
-ghost use Rattle.hll_arrays.specs.State.{cleared_state};
-ghost use Rattle.hll_arrays.specs.Store.{zero_registers, update_with_coupon, IsStored};
+ghost use Rattle.hll_base.specs.declared.hll_type.HllType.TheVariants.{Hll4};
+ghost use Rattle.hll_kernels.specs.Packed.{minimum, count_at_minimum, nibble, units, zeros};
+ghost use Rattle.hll_registers.specs.FourBits.{exception_of, ExceptionsMove};
+ghost use Rattle.hll_registers.specs.Payload.{shape_of_hll4, hll4_size, registers_of, state_at, FirstHll4Fault, Hll4Fault, IsHll4Payload, IsWhole, WritesRegisters};
+ghost use Rattle.hll_registers.specs.Store.{size_in_registers, zero_registers, update_with_coupon, IsStored};
 
-use crate::aux_format::AuxFormat;
-use crate::estimate_state::EstimateState;
-use crate::exception_map::{
-    MARK, bytes_of_places, copied, count_exceptions, exception_at, exceptions_above, exceptions_of,
-    have_same_exceptions, put_exception, raise_by_exceptions, repack, stay, with_exceptions,
-};
-use crate::four_bit_payload::read_payload;
-use crate::kernels::least_of;
-use crate::nibbles::{count_zero_nibbles, nibble_of, packed_nibbles, put_nibble, raise_by_nibbles};
-use crate::preamble::{HllHeader, Preamble};
-use crate::register_store::RegisterStore;
-use crate::registers::{Registers, two_to, units_of};
+use crate::four_bit_payload::{Hll4Header, read_payload};
 use hll_base::codec::SketchBytes;
 use hll_base::cursor::SketchSlice;
 use hll_base::error::Error;
-use hll_coupons::aux_map::AuxMap;
+use hll_base::hll_type::HllType;
 use hll_coupons::coupon::Coupon;
-use hll_coupons::hll_type::HllType;
 use hll_coupons::serialization::{COMPACT_FLAG_MASK, COUPON_SIZE_BYTES, HLL_PREAMBLE_SIZE};
+use hll_registers::aux_format::AuxFormat;
+use hll_registers::estimate_state::EstimateState;
+use hll_registers::nibble_registers::NibbleRegisters;
+use hll_registers::preamble::{HllHeader, Preamble};
+use hll_registers::register_store::RegisterStore;
+use hll_registers::registers::{Registers, two_to, units_of};
 use std::alloc::{Allocator, Global};
 use std::marker::Model;
 
@@ -38,24 +31,19 @@ use std::marker::Model;
 #[derive_where(Debug)]
 #[derive(Drop)]
 pub struct Array4<A: Allocator = Global> {
-    lg_config_k: u8,
-    cur_min: u8,
-    num_at_cur_min: u32,
-    nibbles: Vec<u8, A>,
-    exceptions: Option<AuxMap<A>>,
+    registers: NibbleRegisters<A>,
     state: EstimateState,
 }
 
 impl<A: Allocator> Model for Array4<A> {
-    ghost use Rattle.std.specs.Prelude.{◌≤◌};
-    ghost use Rattle.hll_arrays.specs.FourBits.{FourBits, IsPacked, unpacked};
-    ghost use Rattle.hll_arrays.specs.State.{IsState};
+    ghost use Rattle.hll_registers.specs.FourBits.{FourBits};
+    ghost use Rattle.hll_registers.specs.State.{IsState};
 
     ghost Value = { FourBits };
 
-    ghost view = { λ a. record { stored = record { lg_k = a.lg_config_k; registers = unpacked a.lg_config_k a.cur_min a.nibbles.items a.exceptions; state = a.state }; exceptions = a.exceptions } };
+    ghost view = { λ a. record { stored = record { lg_k = a.registers.lg_k; registers = a.registers.registers; state = a.state }; exceptions = a.registers.exceptions } };
 
-    ghost invariant = { λ a. (4 ≤ a.lg_config_k) × (a.lg_config_k ≤ 21) × IsPacked a.lg_config_k a.cur_min a.num_at_cur_min a.nibbles.items a.exceptions (unpacked a.lg_config_k a.cur_min a.nibbles.items a.exceptions) × IsState a.state };
+    ghost invariant = { λ a. IsState a.state };
 }
 
 impl<A: Allocator> Array4<A> {
@@ -69,11 +57,7 @@ impl<A: Allocator> Array4<A> {
         ensures err { IfErr result (λ e. e ≡ Memory) }
     {
         Ok(Array4 {
-            lg_config_k,
-            cur_min: 0,
-            num_at_cur_min: two_to(lg_config_k) as u32,
-            nibbles: vec![in alloc; 0; two_to(lg_config_k - 1)]?,
-            exceptions: None,
+            registers: NibbleRegisters::new(alloc, lg_config_k)?,
             state: EstimateState::CLEARED,
         })
     }
@@ -83,28 +67,28 @@ impl<A: Allocator> Array4<A> {
         ensures lg_k { result ≡ self.now.stored.lg_k }
         ensures legal { IsStored self.now.stored }
     {
-        self.lg_config_k
+        self.registers.lg_k()
     }
 
     /// How many registers there are: 2^`lg_k`. Takes no memory.
     pub fn num_registers(&self) -> usize
         ensures { result ≡ 2 ^ self.now.stored.lg_k }
     {
-        two_to(self.lg_config_k)
+        two_to(self.registers.lg_k())
     }
 
     /// The least register. Takes no memory.
     pub fn cur_min(&self) -> u8
         ensures { result ≡ minimum self.now.stored.registers }
     {
-        self.cur_min
+        self.registers.minimum()
     }
 
     /// How many registers are at the least one. Takes no memory.
     pub fn num_at_cur_min(&self) -> u32
         ensures { result ≡ count_at_minimum self.now.stored.registers }
     {
-        self.num_at_cur_min
+        self.registers.count_at_minimum()
     }
 
     /// The nibble of a slot below 2^`lg_k`. Takes no memory.
@@ -112,7 +96,7 @@ impl<A: Allocator> Array4<A> {
         requires { slot < 2 ^ self.now.stored.lg_k }
         ensures { result ≡ nibble (minimum self.now.stored.registers) (slice_index self.now.stored.registers slot) }
     {
-        nibble_of(&self.nibbles, slot as usize)
+        self.registers.nibble(slot)
     }
 
     /// The exception of a slot below 2^`lg_k`, if it has one. Takes no memory.
@@ -120,7 +104,7 @@ impl<A: Allocator> Array4<A> {
         requires { slot < 2 ^ self.now.stored.lg_k }
         ensures { result ≡ exception_of (minimum self.now.stored.registers) (slice_index self.now.stored.registers slot) }
     {
-        exception_at(&self.exceptions, slot)
+        self.registers.exception(slot)
     }
 
     /// The register of a slot below 2^`lg_k`. Takes no memory.
@@ -129,32 +113,21 @@ impl<A: Allocator> Array4<A> {
         ensures register { result ≡ slice_index self.now.stored.registers slot }
         ensures small { result ≤ 63 }
     {
-        let nibble = nibble_of(&self.nibbles, slot as usize);
-        if nibble < MARK {
-            return self.cur_min + nibble;
-        }
-        match exception_at(&self.exceptions, slot) {
-            Some(value) => value,
-            None => unreachable!(),
-        }
+        self.registers.get(slot)
     }
 
     /// Whether all registers are 0. Takes no memory.
     pub fn is_empty(&self) -> bool
         ensures { result ≡ list_all (λ v. v == 0) self.now.stored.registers }
     {
-        self.num_zeros() as usize == two_to(self.lg_config_k)
+        self.num_zeros() as usize == two_to(self.lg_k())
     }
 
     /// How many registers are 0. Takes no memory.
     pub fn num_zeros(&self) -> u32
         ensures { result ≡ zeros self.now.stored.registers }
     {
-        if self.cur_min == 0 {
-            self.num_at_cur_min
-        } else {
-            0
-        }
+        self.registers.num_zeros()
     }
 
     /// The sum of 2^-v over the registers v, in units of 2^-63. One pass, and a search for each exception; takes no
@@ -185,7 +158,7 @@ impl<A: Allocator> Array4<A> {
     pub fn estimated_size(&self) -> usize
         ensures { result ≡ size_in_registers self.now.stored.lg_k Hll4 self.now.stored.registers }
     {
-        self.nibbles.len() + bytes_of_places(&self.exceptions)
+        self.registers.estimated_size()
     }
 
     /// What the header of the image says.
@@ -200,43 +173,9 @@ impl<A: Allocator> Array4<A> {
         }
     }
 
-    /// Whether the registers are the same as others of the same `lg_k`.
-    fn has_same_registers(&self, other: &Array4<A>) -> bool
-        requires { self.now.stored.lg_k ≡ other.now.stored.lg_k }
-        ensures { result ≡ pointwise nat_eq self.now.stored.registers other.now.stored.registers }
-    {
-        self.cur_min == other.cur_min
-            && self.nibbles.as_slice() == other.nibbles.as_slice()
-            && have_same_exceptions(&self.exceptions, &other.exceptions)
-    }
-
-    /// The least register when that of one slot has a greater value and none is left at the minimum. Stops at the first
-    /// that is one above it.
-    fn least_with(&self, slot: u32, value: u8) -> u8
-        requires within { slot < 2 ^ self.now.stored.lg_k }
-        requires more { slice_index self.now.stored.registers slot < value }
-        requires most { value ≤ 63 }
-        requires none { count_by (λ r. r == minimum self.now.stored.registers) (slice_set self.now.stored.registers slot value) ≡ 0 }
-        ensures { result ≡ minimum (slice_set self.now.stored.registers slot value) }
-    {
-        let mut least = 63u8;
-        for other in 0..two_to(self.lg_config_k) as u32 {
-            let register = if other == slot {
-                value
-            } else {
-                self.get(other)
-            };
-            least = least.min(register);
-            if least == self.cur_min + 1 {
-                return least;
-            }
-        }
-        least
-    }
-
     /// The allocator that made them. Takes no memory.
     pub fn allocator(&self) -> &A {
-        self.nibbles.allocator()
+        self.registers.allocator()
     }
 }
 
@@ -247,7 +186,8 @@ impl<A: Allocator + Clone> Array4<A> {
     ///
     /// `lg_config_k` is 4 to 21. Fails with the first fault in the order of checks (`Count`, `LgArr`, `Truncated`,
     /// `Coupon` or `Register`), or else with `Memory`. Takes memory only once the bytes are known to be there: the
-    /// nibbles in one request, then the map of exceptions as it grows, and where the minimum is raised another one.
+    /// nibbles in one request, then the map of exceptions as it grows, and where the minimum is below the least register
+    /// a byte for each register, and nibbles and a map anew.
     pub fn deserialize(
         alloc: A,
         cursor: SketchSlice<'_>,
@@ -270,15 +210,14 @@ impl<A: Allocator + Clone> Array4<A> {
         ensures asked { let h = shape_of_hll4 lg_config_k cur_min aux_format in
             IfErr result (λ e. e ≡ Memory → IsWhole h cursor.entry) }
     {
-        let (parts, state) = read_payload(alloc, cursor, cur_min, lg_config_k, aux_format, ooo)?;
-        Ok(Array4 {
+        let header = Hll4Header {
             lg_config_k,
-            cur_min: parts.cur_min,
-            num_at_cur_min: parts.num_at_cur_min,
-            nibbles: parts.nibbles,
-            exceptions: parts.exceptions,
-            state,
-        })
+            cur_min,
+            aux_format,
+            ooo,
+        };
+        let (registers, state) = read_payload(alloc, cursor, header)?;
+        Ok(Array4 { registers, state })
     }
 
     /// A copy, with the same places of the map.
@@ -289,11 +228,7 @@ impl<A: Allocator + Clone> Array4<A> {
         ensures err { IfErr result (λ e. e ≡ Memory) }
     {
         Ok(Array4 {
-            lg_config_k: self.lg_config_k,
-            cur_min: self.cur_min,
-            num_at_cur_min: self.num_at_cur_min,
-            nibbles: Vec::from_slice(self.nibbles.allocator().clone()?, &self.nibbles)?,
-            exceptions: copied(&self.exceptions)?,
+            registers: self.registers.clone()?,
             state: self.state,
         })
     }
@@ -308,18 +243,18 @@ impl<A: Allocator + Clone> Array4<A> {
         ensures ok { IfOk result (λ image. WritesRegisters image.items lg_config_k Hll4 self.now.stored.registers self.now.stored.state) }
         ensures err { IfErr result (λ e. e ≡ Memory) }
     {
-        let count = count_exceptions(&self.exceptions);
+        let count = self.registers.exception_count();
         let preamble = Preamble {
             state: self.estimate_state(),
-            num_at_cur_min: self.num_at_cur_min,
+            num_at_cur_min: self.num_at_cur_min(),
             exception_count: count as u32,
         };
-        let needed = HLL_PREAMBLE_SIZE + self.nibbles.len() + count * COUPON_SIZE_BYTES;
-        let mut bytes = SketchBytes::with_capacity(self.nibbles.allocator().clone()?, needed)?;
+        let packed = two_to(self.registers.lg_k() - 1) + count * COUPON_SIZE_BYTES;
+        let needed = HLL_PREAMBLE_SIZE + packed;
+        let mut bytes = SketchBytes::with_capacity(self.allocator().clone()?, needed)?;
         preamble.write_header(&mut bytes, self.header(lg_config_k))?;
         preamble.write(&mut bytes)?;
-        bytes.write(&self.nibbles)?;
-        let written = with_exceptions(bytes, &self.exceptions, &self.nibbles)?;
+        let written = self.registers.with_written(bytes)?;
         Ok(written.into_bytes())
     }
 
@@ -334,156 +269,13 @@ impl<A: Allocator + Clone> Array4<A> {
         ensures err { IfErr result (λ e. e ≡ Memory) }
         ensures needed { OnErr result (ExceptionsMove self.old.stored.lg_k self.old.stored.registers (update_with_coupon self.old.stored coupon).registers) }
     {
-        let slot = coupon.slot() % two_to(self.lg_config_k) as u32;
-        if coupon.value() <= self.get(slot) {
+        let slot = coupon.slot() % two_to(self.registers.lg_k()) as u32;
+        if coupon.value() <= self.registers.get(slot) {
             return Ok(());
         }
-        self.raise(slot, coupon.value())
-    }
-
-    /// Gives a slot a greater register.
-    fn raise(&mut self, slot: u32, value: u8) -> Result<(), Error>
-        requires within { slot < 2 ^ self.old.stored.lg_k }
-        requires more { slice_index self.old.stored.registers slot < value }
-        requires most { value ≤ 63 }
-        ensures ok { OnOk result (self.new.stored ≡ with_register self.old.stored slot value) }
-        ensures unchanged { OnErr result (self.new ≡ self.old) }
-        ensures err { IfErr result (λ e. e ≡ Memory) }
-        ensures needed { OnErr result (ExceptionsMove self.old.stored.lg_k self.old.stored.registers (slice_set self.old.stored.registers slot value)) }
-    {
-        let at_minimum = self.get(slot) == self.cur_min;
-        if self.num_at_cur_min == 1 && at_minimum {
-            return self.rise(slot, value);
-        }
-        let left = self.num_at_cur_min - u32::from(at_minimum);
-        if value >= self.cur_min + MARK {
-            return self.put_high(slot, value, left);
-        }
-        self.put_low(slot, value, left);
-        Ok(())
-    }
-
-    /// Gives a slot a greater register that is no exception. The minimum stays, with `left` registers at it.
-    fn put_low(&mut self, slot: u32, value: u8, left: u32)
-        requires within { slot < 2 ^ self.old.stored.lg_k }
-        requires more { slice_index self.old.stored.registers slot < value }
-        requires most { value ≤ 63 }
-        requires low { value < minimum self.old.stored.registers + 15 }
-        requires left { left ≡ count_by (λ r. r == minimum self.old.stored.registers) (slice_set self.old.stored.registers slot value) }
-        requires some { 0 < left }
-        ensures { self.new.stored ≡ with_register self.old.stored slot value }
-    {
-        put_nibble(&mut self.nibbles, slot as usize, value - self.cur_min);
-        self.num_at_cur_min = left;
-        self.state = EstimateState::CLEARED;
-    }
-
-    /// Gives a slot a greater register that is an exception. The minimum stays, with `left` registers at it.
-    #[inline(never)]
-    fn put_high(&mut self, slot: u32, value: u8, left: u32) -> Result<(), Error>
-        requires within { slot < 2 ^ self.old.stored.lg_k }
-        requires more { slice_index self.old.stored.registers slot < value }
-        requires most { value ≤ 63 }
-        requires high { minimum self.old.stored.registers + 15 ≤ value }
-        requires left { left ≡ count_by (λ r. r == minimum self.old.stored.registers) (slice_set self.old.stored.registers slot value) }
-        requires some { 0 < left }
-        ensures ok { OnOk result (self.new.stored ≡ with_register self.old.stored slot value) }
-        ensures unchanged { OnErr result (self.new ≡ self.old) }
-        ensures err { IfErr result (λ e. e ≡ Memory) }
-        ensures needed { OnErr result (ExceptionsMove self.old.stored.lg_k self.old.stored.registers (slice_set self.old.stored.registers slot value)) }
-    {
-        put_exception(
-            &mut self.exceptions,
-            &self.nibbles,
-            self.lg_config_k,
-            slot,
-            value,
-        )?;
-        put_nibble(&mut self.nibbles, slot as usize, MARK);
-        self.num_at_cur_min = left;
+        self.registers.raise(slot, coupon.value())?;
         self.state = EstimateState::CLEARED;
         Ok(())
-    }
-
-    /// Gives the only slot at the minimum a greater register: the minimum rises.
-    #[inline(never)]
-    fn rise(&mut self, slot: u32, value: u8) -> Result<(), Error>
-        requires within { slot < 2 ^ self.old.stored.lg_k }
-        requires more { slice_index self.old.stored.registers slot < value }
-        requires most { value ≤ 63 }
-        requires at { slice_index self.old.stored.registers slot ≡ minimum self.old.stored.registers }
-        requires only { count_at_minimum self.old.stored.registers ≡ 1 }
-        ensures ok { OnOk result (self.new.stored ≡ with_register self.old.stored slot value) }
-        ensures unchanged { OnErr result (self.new ≡ self.old) }
-        ensures err { IfErr result (λ e. e ≡ Memory) }
-        ensures needed { OnErr result (ExceptionsMove self.old.stored.lg_k self.old.stored.registers (slice_set self.old.stored.registers slot value)) }
-    {
-        let minimum = self.least_with(slot, value);
-        if stay(&self.exceptions, minimum, value) {
-            self.rise_to(minimum, slot, value);
-            return Ok(());
-        }
-        let exceptions = exceptions_above(
-            &self.exceptions,
-            &self.nibbles,
-            self.lg_config_k,
-            minimum,
-            slot,
-            value,
-        )?;
-        self.rise_with(exceptions, minimum, slot, value);
-        Ok(())
-    }
-
-    /// Gives the only slot at the minimum a greater register, where the exceptions stay as they are.
-    fn rise_to(&mut self, least: u8, slot: u32, value: u8)
-        requires within { slot < 2 ^ self.old.stored.lg_k }
-        requires more { slice_index self.old.stored.registers slot < value }
-        requires most { value ≤ 63 }
-        requires at { slice_index self.old.stored.registers slot ≡ minimum self.old.stored.registers }
-        requires least { least ≡ minimum (slice_set self.old.stored.registers slot value) }
-        requires low { value < least + 15 }
-        requires stay { (s v : ℕ) → exception_in self.old.exceptions s ≡ Some v → least + 15 ≤ v }
-        ensures { self.new.stored ≡ with_register self.old.stored slot value }
-    {
-        repack(
-            &mut self.nibbles,
-            &self.exceptions,
-            self.lg_config_k,
-            self.cur_min,
-            least,
-            slot,
-            value,
-        );
-        self.cur_min = least;
-        self.num_at_cur_min = count_zero_nibbles(&self.nibbles);
-        self.state = EstimateState::CLEARED;
-    }
-
-    /// Gives the only slot at the minimum a greater register, with the exceptions above the new one.
-    fn rise_with(&mut self, above: Option<AuxMap<A>>, least: u8, slot: u32, value: u8)
-        requires within { slot < 2 ^ self.old.stored.lg_k }
-        requires more { slice_index self.old.stored.registers slot < value }
-        requires most { value ≤ 63 }
-        requires at { slice_index self.old.stored.registers slot ≡ minimum self.old.stored.registers }
-        requires least { least ≡ minimum (slice_set self.old.stored.registers slot value) }
-        requires map { IsMapFor self.old.stored.lg_k above }
-        requires above { (s : ℕ) → exception_in above s ≡ (if s == slot then exception_of least value else kept_above least (exception_in self.old.exceptions s)) }
-        ensures { self.new.stored ≡ with_register self.old.stored slot value }
-    {
-        repack(
-            &mut self.nibbles,
-            &self.exceptions,
-            self.lg_config_k,
-            self.cur_min,
-            least,
-            slot,
-            value,
-        );
-        self.exceptions = above;
-        self.cur_min = least;
-        self.num_at_cur_min = count_zero_nibbles(&self.nibbles);
-        self.state = EstimateState::CLEARED;
     }
 }
 
@@ -508,18 +300,13 @@ impl<A: Allocator> Registers for Array4<A> {
 
     /// One pass, and a search for each exception.
     fn join_into(&self, first: u32, values: &mut [u8]) {
-        let start = first as usize / 2;
-        let nibbles = &self.nibbles[start..start + values.len() / 2];
-        raise_by_nibbles(values, nibbles, self.cur_min);
-        if let Some(map) = &self.exceptions {
-            raise_by_exceptions(values, nibbles, map, first);
-        }
+        self.registers.join_into(first, values);
     }
 }
 
 impl<A: Allocator + Clone> RegisterStore<A> for Array4<A> {
     ghost use Rattle.std.specs.Prelude.{false};
-    ghost use Rattle.hll_coupons.specs.declared.hll_type.HllType.TheVariants.{Hll4};
+    ghost use Rattle.hll_base.specs.declared.hll_type.HllType.TheVariants.{Hll4};
     ghost use Rattle.hll_arrays.specs.Same.{same_stored-from, same_stored-to};
 
     const WIDTH: HllType = HllType::Hll4;
@@ -543,20 +330,13 @@ impl<A: Allocator + Clone> RegisterStore<A> for Array4<A> {
     }
 
     fn write_image(&self) -> Result<Vec<u8, A>, Error> {
-        self.serialize(self.lg_config_k)
+        self.serialize(self.registers.lg_k())
     }
 
     /// Two passes over the values, two over their nibbles, and an entry for each exception.
     fn from_values(alloc: A, lg_k: u8, values: &[u8]) -> Result<Array4<A>, Error> {
-        let minimum = least_of(values);
-        let nibbles = packed_nibbles(alloc, values, minimum)?;
-        let exceptions = exceptions_of(&nibbles, lg_k, values, minimum)?;
         Ok(Array4 {
-            lg_config_k: lg_k,
-            cur_min: minimum,
-            num_at_cur_min: count_zero_nibbles(&nibbles),
-            nibbles,
-            exceptions,
+            registers: NibbleRegisters::from_values(alloc, lg_k, values)?,
             state: EstimateState::CLEARED,
         })
     }
@@ -573,8 +353,8 @@ impl<A: Allocator> PartialEq for Array4<A> {
     ghost laws = { same_four_bits-partial };
 
     fn eq(&self, other: &Array4<A>) -> bool {
-        self.lg_config_k == other.lg_config_k
-            && self.has_same_registers(other)
+        self.lg_k() == other.lg_k()
+            && self.registers.is_same(&other.registers)
             && self.state == other.state
     }
 }

@@ -2,26 +2,27 @@
 ghost use Rattle.std.specs.Prelude.{◌≡◌, ◌+◌, ◌^◌, ◌-◌, ◌<◌, ◌≤◌, ◌==◌, ◌⊎◌, take, drop, slice_index, IfOk, IfErr};
 ghost use Rattle.std.specs.List.{list_all};
 ghost use Rattle.hll_base.specs.declared.error.Reason.TheVariants.{Memory};
-ghost use Rattle.hll_coupons.specs.declared.hll_type.HllType.TheVariants.{Hll6};
-ghost use Rattle.hll_arrays.specs.Packed.{fields, zeros, units, size_in_registers};
-ghost use Rattle.hll_arrays.specs.Payload.{field_size, state_at, IsHll6Payload, FirstHll6Fault, Hll6Fault, hll6_bytes};
-ghost use Rattle.hll_arrays.specs.Store.{zero_registers, update_with_coupon, IsStored};
+ghost use Rattle.hll_base.specs.declared.hll_type.HllType.TheVariants.{Hll6};
+ghost use Rattle.hll_kernels.specs.Packed.{fields, zeros, units};
+ghost use Rattle.hll_registers.specs.Store.{size_in_registers};
+ghost use Rattle.hll_registers.specs.Payload.{field_size, state_at, IsHll6Payload, FirstHll6Fault, Hll6Fault, hll6_bytes};
+ghost use Rattle.hll_registers.specs.Store.{zero_registers, update_with_coupon, IsStored};
 
-use crate::estimate_state::EstimateState;
-use crate::groups::{
-    all_zero_in, count_zeros_in, groups_from_bytes, max_groups_into, pack_groups, put_register,
-    register_at, units_in,
-};
-use crate::kernels::count_zeros;
-use crate::preamble::{HllHeader, Preamble};
-use crate::register_store::RegisterStore;
-use crate::registers::{Registers, two_to, zeros_left};
 use hll_base::codec::SketchBytes;
 use hll_base::cursor::SketchSlice;
 use hll_base::error::{Error, Reason};
+use hll_base::hll_type::HllType;
 use hll_coupons::coupon::Coupon;
-use hll_coupons::hll_type::HllType;
 use hll_coupons::serialization::HLL_PREAMBLE_SIZE;
+use hll_kernels::groups::{
+    all_zero_in, count_zeros_in, groups_from_bytes, max_groups_into, pack_groups, put_register,
+    register_at, units_in,
+};
+use hll_kernels::kernels::count_zeros;
+use hll_registers::estimate_state::EstimateState;
+use hll_registers::preamble::{HllHeader, Preamble};
+use hll_registers::register_store::RegisterStore;
+use hll_registers::registers::{Registers, two_to, zeros_left};
 use std::alloc::{Allocator, Global};
 use std::marker::Model;
 
@@ -39,10 +40,10 @@ pub struct Array6<A: Allocator = Global> {
 
 impl<A: Allocator> Model for Array6<A> {
     ghost use Rattle.std.specs.Prelude.{◌≡◌, ◌≤◌, IfSome};
-    ghost use Rattle.hll_arrays.specs.Groups.{registers_in, AreGroups};
-    ghost use Rattle.hll_arrays.specs.Packed.{zeros};
-    ghost use Rattle.hll_arrays.specs.State.{IsState};
-    ghost use Rattle.hll_arrays.specs.Store.{Stored};
+    ghost use Rattle.hll_kernels.specs.Groups.{registers_in, AreGroups};
+    ghost use Rattle.hll_kernels.specs.Packed.{zeros};
+    ghost use Rattle.hll_registers.specs.State.{IsState};
+    ghost use Rattle.hll_registers.specs.Store.{Stored};
 
     ghost Value = { Stored };
 
@@ -265,7 +266,7 @@ impl<A: Allocator> Registers for Array6<A> {
 
 impl<A: Allocator + Clone> RegisterStore<A> for Array6<A> {
     ghost use Rattle.std.specs.Prelude.{true};
-    ghost use Rattle.hll_coupons.specs.declared.hll_type.HllType.TheVariants.{Hll6};
+    ghost use Rattle.hll_base.specs.declared.hll_type.HllType.TheVariants.{Hll6};
     ghost use Rattle.hll_arrays.specs.Same.{same_stored-from, same_stored-to};
 
     const WIDTH: HllType = HllType::Hll6;

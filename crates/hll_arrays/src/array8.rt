@@ -2,26 +2,28 @@
 ghost use Rattle.std.specs.Prelude.{◌≡◌, ◌+◌, ◌^◌, ◌<◌, ◌≤◌, ◌==◌, ◌⊎◌, nat_le, take, drop, slice_index, slice_set, IfOk, IfErr};
 ghost use Rattle.std.specs.List.{list_all};
 ghost use Rattle.hll_base.specs.declared.error.Reason.TheVariants.{Memory};
-ghost use Rattle.hll_coupons.specs.Fold.{join};
-ghost use Rattle.hll_arrays.specs.Packed as packed;
-ghost use Rattle.hll_arrays.specs.Packed.{zeros, size_in_registers};
-ghost use Rattle.hll_arrays.specs.Payload.{state_at, IsHll8Payload, FirstHll8Fault, Hll8Fault, hll8_bytes};
-ghost use Rattle.hll_arrays.specs.State.{cleared_state};
-ghost use Rattle.hll_coupons.specs.declared.hll_type.HllType.TheVariants.{Hll8};
-ghost use Rattle.hll_arrays.specs.Store.{zero_registers, update_with_coupon, merge_with, AreRegisters, IsStored};
+ghost use Rattle.hll_base.specs.Join.{join};
+ghost use Rattle.hll_kernels.specs.Packed as packed;
+ghost use Rattle.hll_kernels.specs.Packed.{zeros};
+ghost use Rattle.hll_registers.specs.Store.{size_in_registers};
+ghost use Rattle.hll_registers.specs.Payload.{state_at, IsHll8Payload, FirstHll8Fault, Hll8Fault, hll8_bytes};
+ghost use Rattle.hll_registers.specs.State.{cleared_state};
+ghost use Rattle.hll_base.specs.declared.hll_type.HllType.TheVariants.{Hll8};
+ghost use Rattle.hll_registers.specs.Store.{zero_registers, update_with_coupon, merge_with, IsStored};
+ghost use Rattle.hll_kernels.specs.Packed.{AreRegisters};
 
-use crate::estimate_state::EstimateState;
-use crate::kernels::{all_zero, count_zeros, greatest_of, max_into, units};
-use crate::preamble::{HllHeader, Preamble};
-use crate::register_slice::RegisterSlice;
-use crate::register_store::RegisterStore;
-use crate::registers::{Registers, join_folds, two_to, zeros_left};
 use hll_base::codec::SketchBytes;
 use hll_base::cursor::SketchSlice;
 use hll_base::error::{Error, Reason};
+use hll_base::hll_type::HllType;
 use hll_coupons::coupon::Coupon;
-use hll_coupons::hll_type::HllType;
 use hll_coupons::serialization::HLL_PREAMBLE_SIZE;
+use hll_kernels::kernels::{all_zero, count_zeros, greatest_of, max_into, units};
+use hll_registers::estimate_state::EstimateState;
+use hll_registers::preamble::{HllHeader, Preamble};
+use hll_registers::register_slice::RegisterSlice;
+use hll_registers::register_store::RegisterStore;
+use hll_registers::registers::{Registers, join_folds, two_to, zeros_left};
 use std::alloc::{Allocator, Global};
 use std::marker::Model;
 
@@ -42,9 +44,10 @@ pub struct Array8<A: Allocator = Global> {
 
 impl<A: Allocator> Model for Array8<A> {
     ghost use Rattle.std.specs.Prelude.{◌≡◌, ◌≤◌, IfSome};
-    ghost use Rattle.hll_arrays.specs.Packed.{zeros};
-    ghost use Rattle.hll_arrays.specs.State.{IsState};
-    ghost use Rattle.hll_arrays.specs.Store.{Stored, AreRegisters};
+    ghost use Rattle.hll_kernels.specs.Packed.{zeros};
+    ghost use Rattle.hll_registers.specs.State.{IsState};
+    ghost use Rattle.hll_registers.specs.Store.{Stored};
+    ghost use Rattle.hll_kernels.specs.Packed.{AreRegisters};
 
     ghost Value = { Stored };
 
@@ -357,7 +360,7 @@ impl<A: Allocator> Registers for Array8<A> {
 
 impl<A: Allocator + Clone> RegisterStore<A> for Array8<A> {
     ghost use Rattle.std.specs.Prelude.{true};
-    ghost use Rattle.hll_coupons.specs.declared.hll_type.HllType.TheVariants.{Hll8};
+    ghost use Rattle.hll_base.specs.declared.hll_type.HllType.TheVariants.{Hll8};
     ghost use Rattle.hll_arrays.specs.Same.{same_stored-from, same_stored-to};
 
     const WIDTH: HllType = HllType::Hll8;

@@ -3,8 +3,8 @@ ghost use Rattle.std.specs.Prelude.{◌≡◌, IfOk, IfErr};
 ghost use Rattle.hll_base.specs.declared.error.Reason.TheVariants.{Memory};
 
 use crate::array8::Array8;
-use crate::register_store::RegisterStore;
 use hll_base::error::Error;
+use hll_registers::register_store::RegisterStore;
 use std::alloc::Allocator;
 
 /// A copy of the registers and state in another representation.

@@ -1,39 +1,39 @@
 //! Reads registers of four bits from the part of an image that follows the header (docs/FORMAT.md, "HLL").
-ghost use Rattle.std.specs.Prelude.{◌≡◌, ◌≢◌, ◌+◌, ◌-◌, ◌*◌, ◌/◌, ◌%◌, ◌^◌, ◌<◌, ◌≤◌, ◌==◌, ◌⊎◌, ◌&&◌, nat_le, ℕ, if◌then◌else◌, length, take, drop, All, true, false, None, Some, IfOk, IfErr, OnOk};
-ghost use Rattle.std.specs.List.{list_all};
+ghost use Rattle.std.specs.Prelude.{◌≡◌, ◌≢◌, ◌+◌, ◌-◌, ◌*◌, ◌%◌, ◌^◌, ◌<◌, ◌≤◌, ◌==◌, ◌⊎◌, ℕ, if◌then◌else◌, length, take, drop, true, false, None, Some, IfOk, IfErr, OnOk};
 ghost use Rattle.hll_base.specs.declared.error.Reason.TheVariants.{Memory};
 ghost use Rattle.hll_base.specs.declared.error.Reason.TheVariants as reasons;
 ghost use Rattle.hll_coupons.specs.AuxMap.{entry_at, value_in, IsMap};
 ghost use Rattle.hll_coupons.specs.Coupons.{coupons_at};
 ghost use Rattle.hll_coupons.specs.Pair.{slot_of, value_of};
-ghost use Rattle.hll_arrays.specs.FourBits.{exception_in, fallen, lowered_by, unpacked, IsMapFor, IsPacked, IsSlotOf};
-ghost use Rattle.hll_arrays.specs.Packed.{minimum, nibble_at};
-ghost use Rattle.hll_arrays.specs.Payload.{state_at, exception_count, exception_places, hll4_size, is_compact, lg_table_of, nibbles_of, register_of, registers_of, shape_of_hll4, Agrees, AreEntries, FirstHll4Fault, IsHll4Payload, IsWhole};
-ghost use Rattle.hll_arrays.specs.State.{IsState};
+ghost use Rattle.hll_registers.specs.FourBits.{unboxed, exception_in, IsMapFor, IsSlotOf};
+ghost use Rattle.hll_kernels.specs.Packed.{nibble_at};
+ghost use Rattle.hll_registers.specs.Payload.{state_at, exception_count, exception_places, hll4_size, is_compact, lg_table_of, nibbles_of, registers_of, shape_of_hll4, Agrees, AreEntries, FirstHll4Fault, IsHll4Payload, IsWhole};
+ghost use Rattle.hll_registers.specs.State.{IsState};
 
-use crate::aux_format::AuxFormat;
-use crate::estimate_state::EstimateState;
-use crate::exception_map::{MARK, exception_at, fall, kept_of, put_exception};
-use crate::nibbles::{are_at_most, count_zero_nibbles, lower_by, nibble_of};
-use crate::preamble::Preamble;
-use crate::registers::two_to;
 use hll_base::cursor::SketchSlice;
 use hll_base::error::{Error, Reason};
 use hll_coupons::aux_map::AuxMap;
 use hll_coupons::coupon::Coupon;
 use hll_coupons::serialization::COUPON_SIZE_BYTES;
+use hll_kernels::nibbles::{are_at_most, nibble_of};
+use hll_registers::aux_format::AuxFormat;
+use hll_registers::estimate_state::EstimateState;
+use hll_registers::exception_map::{Exceptions, MARK, exception_at, put_exception};
+use hll_registers::nibble_registers::NibbleRegisters;
+use hll_registers::preamble::Preamble;
+use hll_registers::registers::two_to;
 use std::alloc::Allocator;
 
 /// The greatest register.
 const MOST: u8 = 63;
 
-/// Registers of four bits as they are kept: the least register, how many are at it, nibbles and exceptions above it.
-#[derive(Drop)]
-pub(crate) struct Parts<A: Allocator> {
+/// What the header of an image says of registers of four bits. Its minimum may be below the least register.
+#[derive(Clone, Copy)]
+pub(crate) struct Hll4Header {
+    pub(crate) lg_config_k: u8,
     pub(crate) cur_min: u8,
-    pub(crate) num_at_cur_min: u32,
-    pub(crate) nibbles: Vec<u8, A>,
-    pub(crate) exceptions: Option<AuxMap<A>>,
+    pub(crate) aux_format: AuxFormat,
+    pub(crate) ooo: bool,
 }
 
 // ---- the whole
@@ -44,38 +44,33 @@ pub(crate) struct Parts<A: Allocator> {
 pub(crate) fn read_payload<A: Allocator + Clone>(
     alloc: A,
     cursor: SketchSlice<'_>,
-    cur_min: u8,
-    lg_config_k: u8,
-    aux_format: AuxFormat,
-    ooo: bool,
-) -> Result<(Parts<A>, EstimateState), Error>
-    requires least { 4 ≤ lg_config_k }
-    requires most { lg_config_k ≤ 21 }
-    ensures state { IfOk result (λ r. (r.1 ≡ state_at ooo cursor.entry) × IsState r.1) }
-    ensures payload { let h = shape_of_hll4 lg_config_k cur_min aux_format in
+    header: Hll4Header,
+) -> Result<(NibbleRegisters<A>, EstimateState), Error>
+    requires least { 4 ≤ header.lg_config_k }
+    requires most { header.lg_config_k ≤ 21 }
+    ensures state { IfOk result (λ r. (r.1 ≡ state_at header.ooo cursor.entry) × IsState r.1) }
+    ensures payload { let h = shape_of_hll4 header.lg_config_k header.cur_min header.aux_format in
         IfOk result (λ r. IsWhole h cursor.entry × IsHll4Payload h (take (hll4_size h cursor.entry) cursor.entry)) }
-    ensures registers { let h = shape_of_hll4 lg_config_k cur_min aux_format in
-        IfOk result (λ r. IsPacked lg_config_k r.0.cur_min r.0.num_at_cur_min r.0.nibbles.items r.0.exceptions (registers_of h cursor.entry)) }
-    ensures err { let h = shape_of_hll4 lg_config_k cur_min aux_format in
+    ensures registers { let h = shape_of_hll4 header.lg_config_k header.cur_min header.aux_format in
+        IfOk result (λ r. (r.0.lg_k ≡ header.lg_config_k) × (r.0.registers ≡ registers_of h cursor.entry)) }
+    ensures err { let h = shape_of_hll4 header.lg_config_k header.cur_min header.aux_format in
         IfErr result (λ e. (e ≡ Memory) ⊎ FirstHll4Fault h cursor.entry e) }
-    ensures asked { let h = shape_of_hll4 lg_config_k cur_min aux_format in
+    ensures asked { let h = shape_of_hll4 header.lg_config_k header.cur_min header.aux_format in
         IfErr result (λ e. e ≡ Memory → IsWhole h cursor.entry) }
 {
-    let frame = frame_of(cursor, lg_config_k, aux_format, ooo)?;
+    let frame = frame_of(cursor, header)?;
     let nibbles = Vec::from_slice(alloc, frame.nibbles)?;
-    let exceptions = read_entries(
-        &nibbles,
-        SketchSlice::new(frame.entries),
-        lg_config_k,
-        frame.places,
-        frame.compact,
-        frame.preamble.exception_count,
-    )?;
-    if !agree(&nibbles, &exceptions, lg_config_k, cur_min) {
+    let exceptions = read_entries(nibbles.allocator(), header.lg_config_k, &frame)?;
+    if !agree(&nibbles, &exceptions, header.lg_config_k, header.cur_min) {
         return Err(Error::new(Reason::Register));
     }
-    let parts = settle(nibbles, exceptions, lg_config_k, cur_min)?;
-    Ok((parts, frame.preamble.state))
+    let registers = NibbleRegisters::from_parts(
+        header.lg_config_k,
+        header.cur_min,
+        nibbles,
+        exceptions,
+    )?;
+    Ok((registers, frame.preamble.state))
 }
 
 // ---- sizes
@@ -91,28 +86,26 @@ struct Frame<'a> {
 }
 
 /// Reads the counts, and checks them and the number of bytes. Takes no memory.
-fn frame_of<'a>(
-    cursor: SketchSlice<'a>,
-    lg_config_k: u8,
-    aux_format: AuxFormat,
-    ooo: bool,
-) -> Result<Frame<'a>, Error>
-    requires least { 4 ≤ lg_config_k }
-    requires most { lg_config_k ≤ 21 }
-    ensures ok { (m : ℕ) → let h = shape_of_hll4 lg_config_k m aux_format in
-        IfOk result (λ f. IsWhole h cursor.entry × (f.compact ≡ is_compact aux_format) × (f.places ≡ exception_places h cursor.entry)
-        × (f.nibbles.now ≡ nibbles_of h cursor.entry) × (f.entries.now ≡ drop (32 + 2 ^ (lg_config_k - 1)) cursor.entry)) }
-    ensures numbers { IfOk result (λ f. (f.preamble.state ≡ state_at ooo cursor.entry) × IsState f.preamble.state × (f.preamble.exception_count ≡ exception_count cursor.entry)) }
-    ensures err { (m : ℕ) → IfErr result (FirstHll4Fault (shape_of_hll4 lg_config_k m aux_format) cursor.entry) }
+fn frame_of<'a>(cursor: SketchSlice<'a>, header: Hll4Header) -> Result<Frame<'a>, Error>
+    requires least { 4 ≤ header.lg_config_k }
+    requires most { header.lg_config_k ≤ 21 }
+    ensures ok { (m : ℕ) → let h = shape_of_hll4 header.lg_config_k m header.aux_format in
+        IfOk result (λ f. IsWhole h cursor.entry × (f.compact ≡ is_compact header.aux_format) × (f.places ≡ exception_places h cursor.entry)
+        × (f.nibbles.now ≡ nibbles_of h cursor.entry) × (f.entries.now ≡ drop (32 + 2 ^ (header.lg_config_k - 1)) cursor.entry)) }
+    ensures numbers { IfOk result (λ f. (f.preamble.state ≡ state_at header.ooo cursor.entry) × IsState f.preamble.state × (f.preamble.exception_count ≡ exception_count cursor.entry)) }
+    ensures err { (m : ℕ) → IfErr result (FirstHll4Fault (shape_of_hll4 header.lg_config_k m header.aux_format) cursor.entry) }
 {
-    let (preamble, rest) = Preamble::read(cursor, ooo)?;
-    let size = two_to(lg_config_k);
+    let (preamble, rest) = Preamble::read(cursor, header.ooo)?;
+    let size = two_to(header.lg_config_k);
     let count = preamble.exception_count as usize;
     if preamble.num_at_cur_min as usize > size || count > size {
         return Err(Error::new(Reason::Count));
     }
-    let places = places_of(aux_format, count)?;
-    let Some((nibbles, entries)) = rest.remaining().split_at_checked(two_to(lg_config_k - 1)) else {
+    let places = places_of(header.aux_format, count)?;
+    let Some((nibbles, entries)) = rest
+        .remaining()
+        .split_at_checked(two_to(header.lg_config_k - 1))
+    else {
         return Err(Error::new(Reason::Truncated));
     };
     if entries.len() < places * COUPON_SIZE_BYTES {
@@ -120,7 +113,7 @@ fn frame_of<'a>(
     }
     Ok(Frame {
         preamble,
-        compact: is_without_gaps(aux_format),
+        compact: is_without_gaps(header.aux_format),
         places,
         nibbles,
         entries,
@@ -161,39 +154,37 @@ fn places_of(aux_format: AuxFormat, count: usize) -> Result<usize, Error>
 
 // ---- exceptions
 
-/// Reads the exceptions into a map by slots modulo 2^`lg_config_k`, by the allocator of the nibbles.
+/// Reads the exceptions into a map by slots modulo 2^`lg_config_k`, by this allocator.
 ///
 /// Fails with `Coupon`, `Count` or `Memory`.
 fn read_entries<A: Allocator + Clone>(
-    nibbles: &Vec<u8, A>,
-    mut cursor: SketchSlice<'_>,
+    alloc: &A,
     lg_config_k: u8,
-    places: usize,
-    compact: bool,
-    count: u32,
-) -> Result<Option<AuxMap<A>>, Error>
+    frame: &Frame<'_>,
+) -> Result<Exceptions<A>, Error>
     requires least { 4 ≤ lg_config_k }
     requires most { lg_config_k ≤ 21 }
-    requires there { 4 * places ≤ length cursor }
-    ensures map { IfOk result (λ map. IsMapFor lg_config_k map) }
-    ensures values { IfOk result (λ map. (s : ℕ) → exception_in map s ≡ entry_at lg_config_k (coupons_at compact places cursor.entry) s) }
-    ensures entries { IfOk result (λ map. AreEntries lg_config_k (coupons_at compact places cursor.entry)) }
-    ensures number { IfOk result (λ map. length (coupons_at compact places cursor.entry) ≡ count) }
-    ensures err { let entries = coupons_at compact places cursor.entry in
+    requires there { 4 * frame.now.places ≤ length frame.now.entries.now }
+    ensures map { IfOk result (λ map. IsMapFor lg_config_k (unboxed map)) }
+    ensures values { IfOk result (λ map. (s : ℕ) → exception_in (unboxed map) s ≡ entry_at lg_config_k (coupons_at frame.now.compact frame.now.places frame.now.entries.now) s) }
+    ensures entries { IfOk result (λ map. AreEntries lg_config_k (coupons_at frame.now.compact frame.now.places frame.now.entries.now)) }
+    ensures number { IfOk result (λ map. length (coupons_at frame.now.compact frame.now.places frame.now.entries.now) ≡ frame.now.preamble.exception_count) }
+    ensures err { let entries = coupons_at frame.now.compact frame.now.places frame.now.entries.now in
         IfErr result (λ e. (e ≡ Memory) ⊎ (((e ≡ reasons.Coupon) × (AreEntries lg_config_k entries → ⊥))
-        ⊎ ((e ≡ reasons.Count) × AreEntries lg_config_k entries × (length entries ≢ count)))) }
+        ⊎ ((e ≡ reasons.Count) × AreEntries lg_config_k entries × (length entries ≢ frame.now.preamble.exception_count)))) }
 {
+    let mut cursor = SketchSlice::new(frame.entries);
     let mut map = None;
     let mut filled = 0;
-    for _ in 0..places {
+    for _ in 0..frame.places {
         let entry = coupon_of(cursor.read_u32_le()?);
-        if entry.is_empty() && !compact {
+        if entry.is_empty() && !frame.compact {
             continue;
         }
-        put_entry(&mut map, nibbles, lg_config_k, entry)?;
+        put_entry(&mut map, alloc, lg_config_k, entry)?;
         filled += 1;
     }
-    if filled != count as usize {
+    if filled != frame.preamble.exception_count as usize {
         return Err(Error::new(Reason::Count));
     }
     Ok(map)
@@ -203,25 +194,25 @@ fn read_entries<A: Allocator + Clone>(
 ///
 /// Fails with `Coupon` if it has no value or its slot has an exception, and else with `Memory`.
 fn put_entry<A: Allocator + Clone>(
-    map: &mut Option<AuxMap<A>>,
-    nibbles: &Vec<u8, A>,
+    map: &mut Exceptions<A>,
+    alloc: &A,
     lg_config_k: u8,
     entry: Coupon,
 ) -> Result<(), Error>
     requires least { 4 ≤ lg_config_k }
     requires most { lg_config_k ≤ 21 }
-    requires map { IsMapFor lg_config_k map.old }
-    ensures map { OnOk result (IsMapFor lg_config_k map.new) }
-    ensures values { OnOk result ((s : ℕ) → exception_in map.new s ≡ (if s == slot_of entry % 2 ^ lg_config_k then Some (value_of entry) else exception_in map.old s)) }
+    requires map { IsMapFor lg_config_k (unboxed map.old) }
+    ensures map { OnOk result (IsMapFor lg_config_k (unboxed map.new)) }
+    ensures values { OnOk result ((s : ℕ) → exception_in (unboxed map.new) s ≡ (if s == slot_of entry % 2 ^ lg_config_k then Some (value_of entry) else exception_in (unboxed map.old) s)) }
     ensures valued { OnOk result (1 ≤ value_of entry) }
-    ensures new { OnOk result (exception_in map.old (slot_of entry % 2 ^ lg_config_k) ≡ None) }
-    ensures err { IfErr result (λ e. (e ≡ Memory) ⊎ ((e ≡ reasons.Coupon) × ((value_of entry ≡ 0) ⊎ (exception_in map.old (slot_of entry % 2 ^ lg_config_k) ≢ None)))) }
+    ensures new { OnOk result (exception_in (unboxed map.old) (slot_of entry % 2 ^ lg_config_k) ≡ None) }
+    ensures err { IfErr result (λ e. (e ≡ Memory) ⊎ ((e ≡ reasons.Coupon) × ((value_of entry ≡ 0) ⊎ (exception_in (unboxed map.old) (slot_of entry % 2 ^ lg_config_k) ≢ None)))) }
 {
     let slot = entry.slot() % two_to(lg_config_k) as u32;
     if entry.value() == 0 || exception_at(map, slot).is_some() {
         return Err(Error::new(Reason::Coupon));
     }
-    put_exception(map, nibbles, lg_config_k, slot, entry.value())
+    put_exception(map, alloc, lg_config_k, slot, entry.value())
 }
 
 /// The coupon of a raw word.
@@ -235,17 +226,12 @@ fn coupon_of(raw: u32) -> Coupon
 
 /// Whether each nibble of 15 has an exception of at least 15 above the minimum, each exception such a nibble, and each
 /// other register is at most 63.
-fn agree<A: Allocator>(
-    nibbles: &[u8],
-    map: &Option<AuxMap<A>>,
-    lg_config_k: u8,
-    cur_min: u8,
-) -> bool
+fn agree<A: Allocator>(nibbles: &[u8], map: &Exceptions<A>, lg_config_k: u8, cur_min: u8) -> bool
     requires most { lg_config_k ≤ 21 }
     requires size { 2 * length nibbles.now ≡ 2 ^ lg_config_k }
-    requires map { IsMapFor lg_config_k map.now }
-    ensures all { result ≡ true → (s : ℕ) → s < 2 ^ lg_config_k → Agrees cur_min (nibble_at nibbles.now s) (exception_in map.now s) }
-    ensures some { result ≡ false → ((s : ℕ) → s < 2 ^ lg_config_k → Agrees cur_min (nibble_at nibbles.now s) (exception_in map.now s)) → ⊥ }
+    requires map { IsMapFor lg_config_k (unboxed map.now) }
+    ensures all { result ≡ true → (s : ℕ) → s < 2 ^ lg_config_k → Agrees cur_min (nibble_at nibbles.now s) (exception_in (unboxed map.now) s) }
+    ensures some { result ≡ false → ((s : ℕ) → s < 2 ^ lg_config_k → Agrees cur_min (nibble_at nibbles.now s) (exception_in (unboxed map.now) s)) → ⊥ }
 {
     if cur_min > MOST {
         return false;
@@ -278,61 +264,51 @@ fn are_marked<A: Allocator>(nibbles: &[u8], map: &AuxMap<A>, cur_min: u8) -> boo
 /// Whether each slot without an exception has a nibble below 15, and a register of at most 63.
 fn others_agree<A: Allocator>(
     nibbles: &[u8],
-    map: &Option<AuxMap<A>>,
+    map: &Exceptions<A>,
     lg_config_k: u8,
     cur_min: u8,
 ) -> bool
     requires most { lg_config_k ≤ 21 }
     requires minimum { cur_min ≤ 63 }
     requires size { 2 * length nibbles.now ≡ 2 ^ lg_config_k }
-    requires map { IsMapFor lg_config_k map.now }
-    ensures all { result ≡ true → (s : ℕ) → s < 2 ^ lg_config_k → exception_in map.now s ≡ None → Agrees cur_min (nibble_at nibbles.now s) None }
-    ensures some { result ≡ false → (s : ℕ) × (s < 2 ^ lg_config_k) × (exception_in map.now s ≡ None) × (Agrees cur_min (nibble_at nibbles.now s) None → ⊥) }
+    requires map { IsMapFor lg_config_k (unboxed map.now) }
+    ensures all { result ≡ true → (s : ℕ) → s < 2 ^ lg_config_k → exception_in (unboxed map.now) s ≡ None → Agrees cur_min (nibble_at nibbles.now s) None }
+    ensures some { result ≡ false → (s : ℕ) × (s < 2 ^ lg_config_k) × (exception_in (unboxed map.now) s ≡ None) × (Agrees cur_min (nibble_at nibbles.now s) None → ⊥) }
 {
     let greatest = (MOST - cur_min).min(MARK - 1);
-    let (blocks, _) = nibbles.as_chunks::<32>();
+    let (blocks, rest) = nibbles.as_chunks::<32>();
     for place in 0..blocks.len() {
         if !are_at_most(&blocks[place], greatest)
             && !slots_agree(
-                nibbles,
+                &blocks[place],
+                64 * place as u32,
                 map,
                 lg_config_k,
                 greatest,
-                32 * place,
-                32 * place + 32,
             )
         {
             return false;
         }
     }
-    slots_agree(
-        nibbles,
-        map,
-        lg_config_k,
-        greatest,
-        32 * blocks.len(),
-        nibbles.len(),
-    )
+    slots_agree(rest, 64 * blocks.len() as u32, map, lg_config_k, greatest)
 }
 
-/// Whether each slot of the bytes from `from` up to `to` has an exception, or no greater nibble.
+/// Whether each slot of some bytes has an exception, or no greater nibble. The first slot is `first`.
 fn slots_agree<A: Allocator>(
     nibbles: &[u8],
-    map: &Option<AuxMap<A>>,
+    first: u32,
+    map: &Exceptions<A>,
     lg_config_k: u8,
     greatest: u8,
-    from: usize,
-    to: usize,
 ) -> bool
     requires most { lg_config_k ≤ 21 }
-    requires size { 2 * length nibbles.now ≡ 2 ^ lg_config_k }
-    requires map { IsMapFor lg_config_k map.now }
-    requires to { to ≤ length nibbles.now }
-    ensures all { result ≡ true → (s : ℕ) → 2 * from ≤ s → s < 2 * to → exception_in map.now s ≡ None → nibble_at nibbles.now s ≤ greatest }
-    ensures some { result ≡ false → (s : ℕ) × (s < 2 ^ lg_config_k) × (exception_in map.now s ≡ None) × (greatest < nibble_at nibbles.now s) }
+    requires map { IsMapFor lg_config_k (unboxed map.now) }
+    requires within { first + 2 * length nibbles.now ≤ 2 ^ lg_config_k }
+    ensures all { result ≡ true → (s : ℕ) → first ≤ s → s < first + 2 * length nibbles.now → exception_in (unboxed map.now) s ≡ None → nibble_at nibbles.now (s - first) ≤ greatest }
+    ensures some { result ≡ false → (i : ℕ) × (i < 2 * length nibbles.now) × (exception_in (unboxed map.now) (first + i) ≡ None) × (greatest < nibble_at nibbles.now i) }
 {
-    for place in from..to {
-        let slot = 2 * place as u32;
+    for place in 0..nibbles.len() {
+        let slot = first + 2 * place as u32;
         let byte = nibbles[place];
         if !slot_agrees(map, greatest, slot, byte % 16)
             || !slot_agrees(map, greatest, slot + 1, byte / 16)
@@ -344,136 +320,10 @@ fn slots_agree<A: Allocator>(
 }
 
 /// Whether a slot has an exception, or no greater nibble.
-fn slot_agrees<A: Allocator>(map: &Option<AuxMap<A>>, greatest: u8, slot: u32, nibble: u8) -> bool
-    requires { IsSlotOf map.now slot }
-    ensures all { result ≡ true → exception_in map.now slot ≡ None → nibble ≤ greatest }
-    ensures some { result ≡ false → (exception_in map.now slot ≡ None) × (greatest < nibble) }
+fn slot_agrees<A: Allocator>(map: &Exceptions<A>, greatest: u8, slot: u32, nibble: u8) -> bool
+    requires { IsSlotOf (unboxed map.now) slot }
+    ensures all { result ≡ true → exception_in (unboxed map.now) slot ≡ None → nibble ≤ greatest }
+    ensures some { result ≡ false → (exception_in (unboxed map.now) slot ≡ None) × (greatest < nibble) }
 {
     nibble <= greatest || exception_at(map, slot).is_some()
-}
-
-// ---- the minimum
-
-/// The registers above their least one, which may be above the minimum that they have here.
-///
-/// Fails with `Memory`.
-fn settle<A: Allocator + Clone>(
-    nibbles: Vec<u8, A>,
-    exceptions: Option<AuxMap<A>>,
-    lg_config_k: u8,
-    cur_min: u8,
-) -> Result<Parts<A>, Error>
-    requires most { lg_config_k ≤ 21 }
-    requires size { 2 * length nibbles.items ≡ 2 ^ lg_config_k }
-    requires map { IsMapFor lg_config_k exceptions }
-    requires agree { (s : ℕ) → s < 2 ^ lg_config_k → Agrees cur_min (nibble_at nibbles.items s) (exception_in exceptions s) }
-    ensures packed { IfOk result (λ p. IsPacked lg_config_k p.cur_min p.num_at_cur_min p.nibbles.items p.exceptions (unpacked lg_config_k cur_min nibbles.items exceptions)) }
-    ensures err { IfErr result (λ e. e ≡ Memory) }
-{
-    let num_at_cur_min = count_zero_nibbles(&nibbles);
-    if num_at_cur_min == 0 {
-        return raise_minimum(nibbles, exceptions, lg_config_k, cur_min);
-    }
-    Ok(Parts {
-        cur_min,
-        num_at_cur_min,
-        nibbles,
-        exceptions,
-    })
-}
-
-/// The registers above their least one. An exception that is none above it becomes a nibble.
-///
-/// Fails with `Memory`.
-fn raise_minimum<A: Allocator + Clone>(
-    mut nibbles: Vec<u8, A>,
-    exceptions: Option<AuxMap<A>>,
-    lg_config_k: u8,
-    cur_min: u8,
-) -> Result<Parts<A>, Error>
-    requires most { lg_config_k ≤ 21 }
-    requires size { 2 * length nibbles.items ≡ 2 ^ lg_config_k }
-    requires map { IsMapFor lg_config_k exceptions }
-    requires agree { (s : ℕ) → s < 2 ^ lg_config_k → Agrees cur_min (nibble_at nibbles.items s) (exception_in exceptions s) }
-    ensures packed { IfOk result (λ p. IsPacked lg_config_k p.cur_min p.num_at_cur_min p.nibbles.items p.exceptions (unpacked lg_config_k cur_min nibbles.items exceptions)) }
-    ensures err { IfErr result (λ e. e ≡ Memory) }
-{
-    let least = least_of(&nibbles, &exceptions, lg_config_k, cur_min);
-    let kept = kept_of(&exceptions, &nibbles, lg_config_k, least)?;
-    lower_to(&mut nibbles, &exceptions, lg_config_k, cur_min, least);
-    Ok(Parts {
-        cur_min: least,
-        num_at_cur_min: count_zero_nibbles(&nibbles),
-        nibbles,
-        exceptions: kept,
-    })
-}
-
-/// Writes the nibbles anew above a greater minimum.
-///
-/// Each nibble is 15, or at least the difference of the minima; no exception is below the new one.
-fn lower_to<A: Allocator>(
-    bytes: &mut [u8],
-    map: &Option<AuxMap<A>>,
-    lg_config_k: u8,
-    from: u8,
-    to: u8,
-)
-    requires few { length bytes.old ≤ 2 ^ 20 }
-    requires size { 2 * length bytes.old ≡ 2 ^ lg_config_k }
-    requires map { IsMapFor lg_config_k map.now }
-    requires from { from ≤ to }
-    requires to { to ≤ 63 }
-    requires high { (s : ℕ) → s < 2 * length bytes.old → (nibble_at bytes.old s ≡ 15) ⊎ (to - from ≤ nibble_at bytes.old s) }
-    requires above { (s v : ℕ) → exception_in map.now s ≡ Some v → to ≤ v }
-    ensures nibbles { (s : ℕ) → s < 2 * length bytes.old → nibble_at bytes.new s ≡ fallen to (exception_in map.now s) (lowered_by (to - from) (nibble_at bytes.old s)) }
-    ensures len { length bytes.new ≡ length bytes.old }
-    ensures fits { All (λ b. b < 256) bytes.new }
-{
-    lower_by(bytes, to - from);
-    fall(bytes, map, lg_config_k, to);
-}
-
-/// The least register.
-fn least_of<A: Allocator>(
-    nibbles: &[u8],
-    map: &Option<AuxMap<A>>,
-    lg_config_k: u8,
-    cur_min: u8,
-) -> u8
-    requires most { lg_config_k ≤ 21 }
-    requires size { 2 * length nibbles.now ≡ 2 ^ lg_config_k }
-    requires map { IsMapFor lg_config_k map.now }
-    requires agree { (s : ℕ) → s < 2 ^ lg_config_k → Agrees cur_min (nibble_at nibbles.now s) (exception_in map.now s) }
-    ensures { result ≡ minimum (unpacked lg_config_k cur_min nibbles.now map.now) }
-{
-    let mut least = MOST;
-    for slot in 0..two_to(lg_config_k) as u32 {
-        least = least.min(register_at(nibbles, map, lg_config_k, cur_min, slot));
-    }
-    least
-}
-
-/// The register of a slot.
-fn register_at<A: Allocator>(
-    nibbles: &[u8],
-    map: &Option<AuxMap<A>>,
-    lg_config_k: u8,
-    cur_min: u8,
-    slot: u32,
-) -> u8
-    requires within { slot < 2 ^ lg_config_k }
-    requires size { 2 * length nibbles.now ≡ 2 ^ lg_config_k }
-    requires map { IsMapFor lg_config_k map.now }
-    requires agree { Agrees cur_min (nibble_at nibbles.now slot) (exception_in map.now slot) }
-    ensures { result ≡ register_of cur_min (nibble_at nibbles.now slot) (exception_in map.now slot) }
-{
-    let nibble = nibble_of(nibbles, slot as usize);
-    if nibble < MARK {
-        return cur_min + nibble;
-    }
-    match exception_at(map, slot) {
-        Some(value) => value,
-        None => unreachable!(),
-    }
 }

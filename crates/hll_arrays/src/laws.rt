@@ -1,9 +1,9 @@
 //! Laws of packed registers. Each is the contract of a function with an empty body (docs/MODEL.md, "Packed forms").
-ghost use Rattle.hll_arrays.specs.FourBits.{MinimumNeverFalls, PackedIsOfRegisters};
-ghost use Rattle.hll_arrays.specs.Packed.{NibblesReadBack, FieldsReadBack};
-ghost use Rattle.hll_arrays.specs.Payload.{ExceptionsReadBack};
+ghost use Rattle.hll_registers.specs.FourBits.{MinimumNeverFalls, PackedIsOfRegisters};
+ghost use Rattle.hll_kernels.specs.Packed.{NibblesReadBack, FieldsReadBack};
+ghost use Rattle.hll_registers.specs.Payload.{ExceptionsReadBack};
 ghost use Rattle.hll_arrays.specs.ReadBack.{Hll8ReadBack, Hll6ReadBack, Hll4ReadBack};
-ghost use Rattle.hll_arrays.specs.Store.{PackedIsWritten};
+ghost use Rattle.hll_registers.specs.Store.{PackedIsWritten};
 
 /// Each nibble is read back.
 pub fn nibbles_read_back()

@@ -1,9 +1,9 @@
 //! Merges of registers from any source (docs/MODEL.md, "Merges and conversions").
 ghost use Rattle.std.specs.Prelude.{◌≡◌, ◌≤◌};
-ghost use Rattle.hll_arrays.specs.Store.{merge_with};
+ghost use Rattle.hll_registers.specs.Store.{merge_with};
 
 use crate::array8::Array8;
-use crate::registers::Registers;
+use hll_registers::registers::Registers;
 use std::alloc::Allocator;
 
 /// Raises each register to the greatest of itself and the source's registers that fold to it, and clears the state.

@@ -5,8 +5,8 @@ ghost use Rattle.hll_base.specs.declared.error.Reason.TheVariants.{Memory};
 use hll_arrays::merge::merge_from;
 use hll_arrays::{Array8, EstimateState, RegisterStore, Registers};
 use hll_base::error::Error;
+use hll_base::hll_type::HllType;
 use hll_coupons::coupon::Coupon;
-use hll_coupons::hll_type::HllType;
 use std::alloc::Allocator;
 use std::marker::Model;
 
@@ -28,8 +28,9 @@ pub(crate) struct Array16<A: Allocator> {
 
 impl<A: Allocator> Model for Array16<A> {
     ghost use Rattle.std.specs.Prelude.{◌≤◌};
-    ghost use Rattle.hll_arrays.specs.State.{IsState};
-    ghost use Rattle.hll_arrays.specs.Store.{Stored, AreRegisters};
+    ghost use Rattle.hll_registers.specs.State.{IsState};
+    ghost use Rattle.hll_registers.specs.Store.{Stored};
+    ghost use Rattle.hll_kernels.specs.Packed.{AreRegisters};
 
     ghost Value = { Stored };
 
@@ -87,7 +88,7 @@ impl<A: Allocator + Clone> Array16<A> {
 
 impl<A: Allocator + Clone> RegisterStore<A> for Array16<A> {
     ghost use Rattle.std.specs.Prelude.{true};
-    ghost use Rattle.hll_coupons.specs.declared.hll_type.HllType.TheVariants.{Hll8};
+    ghost use Rattle.hll_base.specs.declared.hll_type.HllType.TheVariants.{Hll8};
     ghost use Rattle.hll_arrays.specs.Same.{same_stored-from, same_stored-to};
 
     const WIDTH: HllType = HllType::Hll8;

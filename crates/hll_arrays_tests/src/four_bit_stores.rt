@@ -1,7 +1,7 @@
 //! Registers of four bits as a store: sizes, images, equality, values, conversions and merges, beside registers of eight
 //! bits and values worked out by hand.
 ghost use Rattle.std.specs.Prelude.{◌≤◌};
-ghost use Rattle.hll_arrays.specs.Store.{AreRegisters};
+ghost use Rattle.hll_kernels.specs.Packed.{AreRegisters};
 
 use crate::fixtures::{READ, coupons_in, first_of, merge, store_of};
 use crate::four_bits::{assert_packed, one_in};
@@ -10,8 +10,8 @@ use crate::stores::{converted_in, folded_in, merged_in, updated};
 use hll_arrays::convert::convert;
 use hll_arrays::{Array4, Array8, EstimateState, RegisterStore, Registers};
 use hll_base::error::Error;
+use hll_base::hll_type::HllType;
 use hll_coupons::coupon::Coupon;
-use hll_coupons::hll_type::HllType;
 use hll_coupons::reference::folded;
 use std::alloc::{Allocator, Global};
 use std::process::Abort;

@@ -1,6 +1,6 @@
 //! The loops over bytes, at values worked out by hand, and beside plain loops at every length up to 130.
 ghost use Rattle.std.specs.Prelude.{◌≡◌, ◌↔◌, ◌^◌, ◌<◌, ◌≤◌, length, All, IsTrue};
-ghost use Rattle.hll_arrays.specs.Packed.{zero_nibbles};
+ghost use Rattle.hll_kernels.specs.Packed.{zero_nibbles};
 
 use hll_arrays::kernels::{
     all_zero, count_zeros, lower_nibbles, max_into, pack_group, units, unpack_group,

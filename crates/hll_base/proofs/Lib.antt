@@ -1,3 +1,4 @@
 pub mod Errors
 pub mod Hashing
 pub mod HashVectors
+pub mod Joins

@@ -8,6 +8,7 @@ pub mod error;
 pub mod family;
 mod halves;
 pub mod hash;
+pub mod hll_type;
 pub mod laws;
 
 pub use codec::SketchBytes;
@@ -15,3 +16,4 @@ pub use cursor::SketchSlice;
 pub use error::{Error, ErrorKind, Reason};
 pub use family::Family;
 pub use hash::MurmurHash3X64128;
+pub use hll_type::HllType;

@@ -5,9 +5,9 @@
 ghost use Rattle.std.specs.Prelude.{◌≡◌, ◌/◌, ◌^◌, ◌≤◌, ◌==◌, length, map, All};
 ghost use Rattle.std.specs.List.{list_all};
 ghost use Rattle.hll_base.specs.Hash.{hash, default_seed};
-ghost use Rattle.hll_coupons.specs.Fold.{join};
-ghost use Rattle.hll_arrays.specs.Packed as packed;
-ghost use Rattle.hll_arrays.specs.Packed.{zeros, lowered_byte, zero_nibbles};
+ghost use Rattle.hll_base.specs.Join.{join};
+ghost use Rattle.hll_kernels.specs.Packed as packed;
+ghost use Rattle.hll_kernels.specs.Packed.{zeros, lowered_byte, zero_nibbles};
 
 mod images;
 mod registers;

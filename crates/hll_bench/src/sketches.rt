@@ -5,8 +5,8 @@ use crate::registers::{next, weight};
 use hll_arrays::registers::Registers;
 use hll_base::codec::SketchBytes;
 use hll_base::error::Error;
+use hll_base::hll_type::HllType;
 use hll_coupons::container::Container;
-use hll_coupons::hll_type::HllType;
 use hll_sketch::{HllSketch, Mode};
 use std::alloc::Global;
 
@@ -61,7 +61,7 @@ fn meaning_of(alloc: Global, sketch: &HllSketch) -> Result<Vec<u8>, Error> {
     match sketch.mode() {
         Mode::List { list, .. } => write_table(&mut bytes, list.container())?,
         Mode::Set { set, .. } => write_table(&mut bytes, set.container())?,
-        Mode::Array4(array) => write_registers(&mut bytes, array.as_ref())?,
+        Mode::Array4(array) => write_registers(&mut bytes, array)?,
         Mode::Array6(array) => write_registers(&mut bytes, array)?,
         Mode::Array8(array) => write_registers(&mut bytes, array)?,
     }

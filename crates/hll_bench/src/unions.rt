@@ -6,7 +6,7 @@ use hll_arrays::array8::Array8;
 use hll_arrays::merge::merge_from;
 use hll_arrays::registers::Registers;
 use hll_base::error::Error;
-use hll_coupons::hll_type::HllType;
+use hll_base::hll_type::HllType;
 use hll_sketch::{HllSketch, HllUnion, Mode, union_of};
 use std::alloc::Global;
 
@@ -110,7 +110,7 @@ fn merged(alloc: Global, bound: u8, sketches: &[HllSketch]) -> Result<Array8, Er
 fn merge_mode(array: &mut Array8, mode: &Mode) {
     match mode {
         Mode::List { .. } | Mode::Set { .. } => {}
-        Mode::Array4(source) => merge_registers(array, source.as_ref()),
+        Mode::Array4(source) => merge_registers(array, source),
         Mode::Array6(source) => merge_registers(array, source),
         Mode::Array8(source) => merge_registers(array, source),
     }

@@ -5,8 +5,9 @@ use Rattle.std.specs.FinSet.{items, union}
 use Rattle.std.proofs.lemmas.List.{ext_get_or}
 use Rattle.std.proofs.lemmas.List.FromFn.{length-map-range_with_len, get_or-map-range_with_len}
 use Rattle.hll_coupons.specs.Pair.{Pairs}
-use Rattle.hll_coupons.specs.Fold.{fold_to, greatest, value_at, join}
-use Rattle.hll_coupons.proofs.Joins.{length-join, get_or-join}
+use Rattle.hll_coupons.specs.Fold.{fold_to, greatest, value_at}
+use Rattle.hll_base.specs.Join.{join}
+use Rattle.hll_base.proofs.Joins.{length-join, get_or-join}
 use Rattle.hll_coupons.proofs.Greatest.{greatest-union}
 
 pub length-fold_to : (P : Pairs) (e : ℕ) → length (fold_to P e) ≡ 2 ^ e

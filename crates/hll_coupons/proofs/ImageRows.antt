@@ -2,7 +2,7 @@
 use Rattle.std.specs.Prelude.{◌≡◌, true, false, [], ◌∷◌, refl}
 use Rattle.hll_coupons.specs.Pair.{pair}
 use Rattle.hll_coupons.specs.Coupons.{list_bytes, set_bytes, mode_byte, coupons_at}
-use Rattle.hll_coupons.specs.declared.hll_type.HllType.TheVariants.{Hll4, Hll6, Hll8}
+use Rattle.hll_base.specs.declared.hll_type.HllType.TheVariants.{Hll4, Hll6, Hll8}
 
 -- a list with no coupon, and with one
 pub list_bytes-empty : list_bytes 10 Hll8 [] ≡ 2 ∷ 1 ∷ 7 ∷ 10 ∷ 3 ∷ 12 ∷ 0 ∷ 8 ∷ []

@@ -5,7 +5,7 @@ pub mod CouponRows
 pub mod Folds
 pub mod Greatest
 pub mod ImageRows
-pub mod Joins
+pub mod Insertions
 pub mod Listed
 pub mod MapChanges
 pub mod Maps

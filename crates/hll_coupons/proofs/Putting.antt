@@ -5,8 +5,8 @@ use Rattle.std.specs.FinSet.{contains, insert, len, contains-from_list_nat}
 use Rattle.std.proofs.lemmas.Bool.{cases_lt, cases_eq, cases_Bool, eqb-true, eq-eqb, true≢false}
 use Rattle.std.proofs.lemmas.List.{get_or_default, length-append, length-map, map-append}
 use Rattle.std.proofs.lemmas.List.Folds.{list_any_at, list_any-append}
-use Rattle.hll_coupons.specs.Pair.{IsPair, set_of}
-use Rattle.hll_coupons.specs.Table.{Table, IsTable, coupons_in, coupons_of}
+use Rattle.hll_coupons.specs.Pair.{set_of}
+use Rattle.hll_coupons.specs.Table.{coupons_in}
 use Rattle.hll_coupons.specs.Probe.{stride_of, Passes, EndsAt, IsAbsent, Puts, present, placed}
 use Rattle.hll_coupons.proofs.Listed.{has, contains-has, has-map}
 use Rattle.hll_coupons.proofs.Members.{contains-coupons_in, contains-zero, set_of-between, insert-member}
@@ -14,7 +14,6 @@ use Rattle.hll_coupons.proofs.Places.{coupons_in-full, Between, between}
 use Rattle.hll_coupons.proofs.Probing.{meets}
 use Rattle.hll_coupons.proofs.Reading.{len-set_of-le}
 use Rattle.hll_coupons.proofs.Searching.{odd-stride_of, place_of-path, place_of_below}
-use Rattle.hll_coupons.proofs.TableLemmas.{IsTable-put}
 
 -- ---- what places hold
 
@@ -106,13 +105,6 @@ pub members-put : (places : List ℕ) (c : ℕ) (new : List ℕ) → 0 < c → P
 members-put places c new some put =
     let b : Between places put.place c = between places put.place c put.within put.empty some in
     ap (λ xs. set_of (coupons_in xs)) put.is ∙ ap set_of b.new ∙ set_of-between b.before b.after c ∙ ap (λ xs. insert (set_of xs) c) (sym b.old)
-
--- and the table stays a table
-pub table-put : (t : Table) (c : ℕ) (new : List ℕ) → IsTable t → IsPair c → contains (coupons_of t) c ≡ false → PutAt t.places c new →
-    IsTable (record { lg_size = t.lg_size; places = new })
-table-put t c new table pair fresh put =
-    subst (λ places. IsTable (record { lg_size = t.lg_size; places = places })) (sym put.is)
-    (IsTable-put t put.place c table (omega (arith, put.within, table.size)) put.empty pair fresh).0
 
 -- ---- one after the other
 

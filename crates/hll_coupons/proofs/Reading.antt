@@ -20,9 +20,6 @@ use Rattle.hll_coupons.proofs.Members.{set_of-between, insert-member, len-betwee
 
 -- ---- one place more
 
-pub next-compact : (m : ℕ) (b : List ℕ) → coupons_at true (suc m) b ≡ from_le_bytes w32 b ∷ coupons_at true m (drop 4 b)
-next-compact m b = refl
-
 pub next-full : (m : ℕ) (b : List ℕ) → from_le_bytes w32 b ≢ 0 → coupons_at false (suc m) b ≡ from_le_bytes w32 b ∷ coupons_at false m (drop 4 b)
 next-full m b h = coupons_in-full (from_le_bytes w32 b) (words m (drop 4 b)) (positive (from_le_bytes w32 b) h)
   where

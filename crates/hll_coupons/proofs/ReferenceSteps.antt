@@ -8,10 +8,11 @@ use Rattle.std.specs.FinSet.{items, empty, len, len-empty, len-insert, contains-
 use Rattle.std.proofs.lemmas.List.{take_more, length-replicate, get_or-replicate, ext_get_or}
 use Rattle.std.proofs.lemmas.Bool.{true≢false, cond-true, cond-false, eq-eqb, ne_eqb}
 use Rattle.hll_coupons.specs.Pair.{set_of, slot_of, value_of, pair}
-use Rattle.hll_coupons.specs.Fold.{fold_to, join, greatest, value_at, words_from}
+use Rattle.hll_coupons.specs.Fold.{fold_to, greatest, value_at, words_from}
+use Rattle.hll_base.specs.Join.{join}
 use Rattle.hll_coupons.proofs.Greatest.{bounded}
 use Rattle.hll_coupons.proofs.Folds.{is_fold_to}
-use Rattle.hll_coupons.proofs.Joins.{length-join, get_or-join}
+use Rattle.hll_base.proofs.Joins.{length-join, get_or-join}
 use Rattle.hll_coupons.proofs.Registers.{fold_to-insert_low, fold_to-insert_high}
 
 set_of-take : (cs : List ℕ) (i : ℕ) → i < length cs → set_of (take (i + 1) cs) ≡ insert (set_of (take i cs)) (get_or cs i 0)
@@ -35,11 +36,6 @@ pub fold_to-empty : (e : ℕ) → replicate (2 ^ e) 0 ≡ fold_to empty e
 fold_to-empty e = is_fold_to (replicate (2 ^ e) 0) empty e (length-replicate (2 ^ e) 0) (λ s h.
     let none : greatest (value_at e s) (items empty) ≤ 0 = bounded (value_at e s) 0 empty (λ c t. absurd (true≢false (sym t ∙ contains-empty nat_cmp c))) in
     get_or-replicate (2 ^ e) s 0 0 h ∙ omega arith)
-
--- ---- joins
-
-pub is_join : (L R J : List ℕ) → length L ≡ length R → length J ≡ length L → ((k : ℕ) → k < length J → get_or J k 0 ≡ max (get_or L k 0) (get_or R k 0)) → J ≡ join L R
-is_join L R J same size each = ext_get_or 0 J (join L R) (size ∙ sym (length-join L R same)) (λ k h. each k h ∙ sym (get_or-join L R k))
 
 -- ---- pairs of registers
 

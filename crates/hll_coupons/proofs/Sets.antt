@@ -1,6 +1,7 @@
 -- Sets of coupons: what a search by raw words says of them.
-use Rattle.std.proofs.Common.{◌≡◌, ◌≢◌, ℕ, zero, suc, ◌^◌, ◌<◌, true, false, List, length, get_or, set, refl, sym, ap, ◌∙◌, arith}
+use Rattle.std.proofs.Common.{◌≡◌, ◌≢◌, ◌↔◌, ℕ, zero, suc, ◌^◌, ◌<◌, Bool, true, false, not, List, length, get_or, set, refl, sym, ap, ◌∙◌, arith, inl, inr}
 use Rattle.std.specs.FinSet.{contains, insert}
+use Rattle.std.proofs.lemmas.Bool.{cases_Bool, true≢false}
 use Rattle.hll_coupons.specs.Pair.{set_of}
 use Rattle.hll_coupons.specs.Probe.{EndsAt, IsAbsent, IsProbed, Passes, Puts, placed, present}
 use Rattle.hll_coupons.specs.Table.{Table, coupons_in, coupons_of}
@@ -47,6 +48,13 @@ module _ (t : Table) (word : ℕ) (p : IsProbed (λ c. c) t.lg_size t.places) wh
     pub lacking_end : entry ≡ 0 → contains (coupons_of t) word ≡ false
     lacking_end empty =
         lacking t.places word (absent_at_empty (λ c. c) t.lg_size t.places word is.ends.first.index p is.ends.first.passes (ap (λ q. get_or t.places q 0) is.ends.first.at ∙ is.read ∙ empty))
+
+    -- so a test of the end says whether the coupon is new
+    pub new_end : (b : Bool) → (b ≡ true) ↔ (entry ≡ 0) → b ≡ not (contains (coupons_of t) word)
+    new_end b test = elim (cases_Bool b) [
+      | inl empty ↦ empty ∙ ap not (sym (lacking_end (test.0 empty)))
+      | inr full ↦ full ∙ ap not (sym (found_end (λ z. true≢false (sym (test.1 z) ∙ full))))
+    ]
 
     -- where it is put
     pub puts_end : entry ≡ 0 → Puts (λ c. c) t.lg_size t.places word (set t.places place word)

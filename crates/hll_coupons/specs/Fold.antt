@@ -17,12 +17,6 @@ value_at e s c = if slot_of c % 2 ^ e == s then value_of c else 0
 abbrev pub fold_to : Pairs → ℕ → List ℕ
 fold_to P e = map (λ s. greatest (value_at e s) (items P)) (range_with_len 0 (2 ^ e))
 
--- the greater register at each slot
-abbrev pub join : List ℕ → List ℕ → List ℕ
-join [] Q = Q
-join (r ∷ R) [] = r ∷ R
-join (r ∷ R) (q ∷ Q) = max r q ∷ join R Q
-
 -- the pairs of registers, in ascending slots, the first of which is s
 abbrev pub words_from : ℕ → List ℕ → List ℕ
 words_from s [] = []

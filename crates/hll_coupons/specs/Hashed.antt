@@ -14,5 +14,5 @@ abbrev pub coupon_of_halves : Halves → ℕ
 coupon_of_halves words = coupon_of_words words.first words.second
 
 -- the raw word of the hash of bytes at the default seed
-abbrev pub coupon_of : List ℕ → ℕ
-coupon_of bytes = coupon_of_halves (hash default_seed bytes)
+abbrev pub coupon_of_bytes : List ℕ → ℕ
+coupon_of_bytes bytes = coupon_of_halves (hash default_seed bytes)

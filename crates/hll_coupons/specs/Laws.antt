@@ -3,7 +3,8 @@ use Rattle.std.specs.Prelude.{◌≡◌, ◌≢◌, ℕ, ◌%◌, ◌^◌, ◌<�
 use Rattle.std.specs.FinSet.{union}
 use Rattle.hll_coupons.specs.Pair.{Pairs}
 use Rattle.hll_coupons.specs.Coupons.{IsAscending}
-use Rattle.hll_coupons.specs.Fold.{fold_to, join, pairs}
+use Rattle.hll_coupons.specs.Fold.{fold_to, pairs}
+use Rattle.hll_base.specs.Join.{join}
 use Rattle.hll_coupons.specs.Probe.{path, place_of, Passes, IsProbed, IsAbsent}
 
 -- a set has one ascending order

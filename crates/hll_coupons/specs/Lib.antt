@@ -3,6 +3,7 @@ pub mod Coupons
 pub mod Fold
 pub mod Hashed
 pub mod HashSet
+pub mod Insertion
 pub mod Keys
 pub mod Laws
 pub mod Pair

@@ -1,5 +1,5 @@
 //! The exceptions of registers of four bits: a map from slots to values (docs/MODEL.md, "Maps of exceptions").
-ghost use Rattle.std.specs.Prelude.{◌≡◌, ◌≢◌, ◌+◌, ◌*◌, ◌^◌, ◌<◌, ◌≤◌, ◌↔◌, ◌==◌, ℕ, if◌then◌else◌, length, map, None, Some, IsOk, IsTrue, IfOk, IfErr, OnOk, OnErr, IfSome};
+ghost use Rattle.std.specs.Prelude.{◌≡◌, ◌≢◌, ◌+◌, ◌*◌, ◌^◌, ◌<◌, ◌≤◌, ◌==◌, ℕ, if◌then◌else◌, length, map, None, Some, IsOk, IfOk, IfErr, OnOk, OnErr, IfSome};
 ghost use Rattle.std.specs.FinSet as set;
 ghost use Rattle.std.specs.Iterator.{YieldsFirst, item_count};
 ghost use Rattle.hll_base.specs.declared.error.Reason.TheVariants.{Memory};
@@ -69,13 +69,6 @@ impl<A: Allocator> AuxMap<A> {
         ensures map { IsMap self.now }
     {
         self.table.len()
-    }
-
-    /// Whether there is no entry. Takes no memory.
-    pub fn is_empty(&self) -> bool
-        ensures { IsTrue result ↔ (length (coupons_in self.now.table.places) ≡ 0) }
-    {
-        self.table.len() == 0
     }
 
     /// The value of a slot below 2^`lg_config_k`, if it has one. Takes no memory.

@@ -10,11 +10,23 @@ ghost use Rattle.hll_coupons.specs.Table.{coupons_in, coupons_of, empty_table, I
 ghost use Rattle.hll_coupons.specs.Coupons.{coupon_bytes, IsAscending};
 
 use crate::coupon::Coupon;
-use crate::storage::{LG_IN_VALUE, Storage};
+use crate::serialization::LG_LIST_PLACES;
+use crate::storage::Storage;
 use hll_base::codec::SketchBytes;
 use hll_base::error::Error;
 use std::alloc::{Allocator, Global};
 use std::marker::Model;
+
+/// What a table did with a coupon that it may take up to some number of coupons.
+#[derive(Clone, Copy, Debug, PartialEq, Eq)]
+pub enum Insertion {
+    /// It didn't have the coupon, and has it now.
+    Added,
+    /// It had the coupon.
+    Held,
+    /// It would have more coupons than it may; nothing changed.
+    Refused,
+}
 
 /// 2^`lg_size` places, each empty or a coupon of value 1 to 63, the coupons distinct. Contracts see
 /// the size and the list of places; the coupons are a function of it.
@@ -44,7 +56,7 @@ impl<A: Allocator> Container<A> {
         ensures { result ≡ empty_table 3 }
     {
         Container {
-            lg_size: LG_IN_VALUE,
+            lg_size: usize::from(LG_LIST_PLACES),
             len: 0,
             places: Storage::eight(alloc),
         }
@@ -108,6 +120,15 @@ impl<A: Allocator> Container<A> {
         ensures table { IsTable self.now }
     {
         self.len
+    }
+
+    /// Says that the coupons are distinct, have values, and are no more than the places. Does nothing: a caller whose
+    /// proof needs the invariant calls it.
+    pub fn table_is_legal(&self)
+        ensures within { length (coupons_in self.now.places) ≤ 2 ^ self.now.lg_size }
+        ensures table { IsTable self.now }
+    {
+        let _len = self.len;
     }
 
     /// Whether there is no coupon. Takes no memory.

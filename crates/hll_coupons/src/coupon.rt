@@ -3,8 +3,9 @@ ghost use Rattle.std.specs.Prelude.{◌≡◌, ◌↔◌, ◌≤◌, ◌<◌, �
 ghost use Rattle.std.specs.Prelude.{fold};
 ghost use Rattle.hll_base.specs.Hash.{hash_of, initial_state, after_piece, default_seed};
 ghost use Rattle.hll_coupons.specs.Pair.{slot_of, value_of, pair, IsPair};
-ghost use Rattle.hll_coupons.specs.Hashed.{coupon_of_words, coupon_of_halves, coupon_of};
+ghost use Rattle.hll_coupons.specs.Hashed.{coupon_of_words, coupon_of_halves, coupon_of_bytes};
 
+use crate::serialization::MAX_VALUE;
 use hll_base::hash::MurmurHash3X64128;
 use std::hash::Hash;
 use std::marker::Model;
@@ -16,7 +17,7 @@ const SLOT_BITS: u32 = 26;
 const SLOT_MASK: u32 = 0x03ff_ffff;
 
 /// More leading zeros than this in the second word of a hash give no greater value.
-const MOST_ZEROS: u32 = 62;
+const MOST_ZEROS: u32 = MAX_VALUE as u32 - 1;
 
 /// A slot below 2^26 and a value up to 63, in one raw word: `value * 2^26 + slot`. Contracts see the
 /// raw word.
@@ -65,7 +66,7 @@ impl Coupon {
 
     /// The coupon of the hash of bytes at the default seed. Takes no memory.
     pub fn from_bytes(bytes: &[u8]) -> Coupon
-        ensures bytes { result ≡ coupon_of bytes.now }
+        ensures bytes { result ≡ coupon_of_bytes bytes.now }
         ensures pair { IsPair result }
     {
         let mut hash = MurmurHash3X64128::default();

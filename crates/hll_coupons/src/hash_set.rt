@@ -8,27 +8,25 @@ ghost use Rattle.hll_coupons.specs.Coupons as header;
 ghost use Rattle.hll_coupons.specs.Pair.{set_of, value_of};
 ghost use Rattle.hll_coupons.specs.Payload.{shape_of_set, HasSetCount, set_coupons, set_places, IsSetPayload, IsSetTable, SetFault};
 ghost use Rattle.hll_coupons.specs.HashSet.{IsHashSet};
+ghost use Rattle.hll_coupons.specs.Insertion.{IsInsertion, IfTaken, IfRefused};
 ghost use Rattle.hll_coupons.specs.Probe.{Puts, PutsEach};
 ghost use Rattle.hll_coupons.specs.Same.{have_same_coupons};
 ghost use Rattle.hll_coupons.specs.Table.{coupons_in, coupons_of, empty_table, IsTable};
 
-use crate::container::{Container, places_of, with_coupons};
+use crate::container::{Container, Insertion, places_of, with_coupons};
 use crate::coupon::Coupon;
-use crate::hll_type::HllType;
 use crate::search::{Key, put_all, search};
 use crate::serialization::{
-    COMPACT_FLAG_MASK, COUPON_SIZE_BYTES, CUR_MODE_SET, HASH_SET_PREINTS, SERIAL_VERSION,
-    SET_PREAMBLE_SIZE, encode_mode_byte,
+    COMPACT_FLAG_MASK, COUPON_SIZE_BYTES, CUR_MODE_SET, HASH_SET_PREINTS, LG_LEAST_SET_PLACES,
+    SERIAL_VERSION, SET_PREAMBLE_SIZE, encode_mode_byte,
 };
 use hll_base::codec::SketchBytes;
 use hll_base::cursor::SketchSlice;
 use hll_base::error::{Error, Reason};
 use hll_base::family::Family;
+use hll_base::hll_type::HllType;
 use std::alloc::{Allocator, Global};
 use std::marker::Model;
-
-/// The logarithm of the number of places where none is given.
-const LG_DEFAULT_SIZE: usize = 5;
 
 /// A container in which each coupon stands where a search for it comes to it. Contracts see what they
 /// see of the container.
@@ -70,7 +68,7 @@ impl<A: Allocator> HashSet<A> {
         ensures ok { IfOk result (λ s. s ≡ empty_table 5) }
         ensures err { IfErr result (λ e. e ≡ Memory) }
     {
-        HashSet::new(alloc, LG_DEFAULT_SIZE)
+        HashSet::new(alloc, usize::from(LG_LEAST_SET_PLACES))
     }
 
     /// The coupons of a container, put in the order of its places into 2^`lg_size` empty ones.
@@ -90,7 +88,7 @@ impl<A: Allocator> HashSet<A> {
         ensures set { IfOk result IsHashSet }
         ensures err { IfErr result (λ e. e ≡ Memory) }
     {
-        let _table = coupons.len();
+        coupons.table_is_legal();
         let mut container = Container::new(alloc, lg_size)?;
         put_all(&mut container, Key::Word, coupons);
         Ok(HashSet { container })
@@ -160,14 +158,43 @@ impl<A: Allocator> HashSet<A> {
         ensures members { coupons_of self.new ≡ set.insert (coupons_of self.old) coupon }
         ensures set { IsHashSet self.new }
     {
+        let most = self.container.capacity();
+        match self.update_within(coupon, most) {
+            Insertion::Added => true,
+            Insertion::Held => false,
+            Insertion::Refused => unreachable!(),
+        }
+    }
+
+    /// Puts a coupon where a search for it ends, unless the set has it, or would have more than `most` coupons. One
+    /// search; takes no memory.
+    ///
+    /// Its value is at least 1, and `most` is no more than there are places.
+    pub fn update_within(&mut self, coupon: Coupon, most: usize) -> Insertion
+        requires valued { 1 ≤ value_of coupon }
+        requires within { most ≤ 2 ^ self.old.lg_size }
+        ensures insertion { IsInsertion (coupons_of self.old) coupon most result }
+        ensures size { self.new.lg_size ≡ self.old.lg_size }
+        ensures places { IfTaken result (Puts (λ c. c) self.old.lg_size self.old.places coupon self.new.places) }
+        ensures members { IfTaken result (coupons_of self.new ≡ set.insert (coupons_of self.old) coupon) }
+        ensures unchanged { IfRefused result (self.new ≡ self.old) }
+        ensures set { IsHashSet self.new }
+    {
+        let count = self.container.len();
         let places = self.container.places();
         let found = search(Key::Word, self.container.lg_size(), places, coupon.raw());
-        let Some(place) = found else { unreachable!() };
+        let Some(place) = found else {
+            return Insertion::Refused;
+        };
         let is_new = places[place].is_empty();
-        if is_new {
-            self.container.put(place, coupon);
+        if count + usize::from(is_new) > most {
+            return Insertion::Refused;
         }
-        is_new
+        if !is_new {
+            return Insertion::Held;
+        }
+        self.container.put(place, coupon);
+        Insertion::Added
     }
 
     /// Whether the set has the coupon, by a search for it. Takes no memory.

@@ -6,7 +6,6 @@ pub mod aux_map;
 pub mod container;
 pub mod coupon;
 pub mod hash_set;
-pub mod hll_type;
 pub mod laws;
 pub mod list;
 pub mod reference;
@@ -15,8 +14,8 @@ pub mod serialization;
 mod storage;
 
 pub use aux_map::{AuxMap, AuxMapIter, AuxMapRefIter};
-pub use container::{Container, ContainerIter};
+pub use container::{Container, ContainerIter, Insertion};
 pub use coupon::Coupon;
 pub use hash_set::HashSet;
-pub use hll_type::HllType;
+pub use hll_base::hll_type::{self, HllType};
 pub use list::List;

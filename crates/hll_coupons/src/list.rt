@@ -3,28 +3,26 @@ ghost use Rattle.std.specs.Prelude.{◌≡◌, ◌≢◌, ℕ, ◌^◌, ◌<◌,
 ghost use Rattle.std.specs.FinSet as set;
 ghost use Rattle.hll_base.specs.declared.error.Reason.TheVariants.{Memory};
 ghost use Rattle.hll_base.specs.declared.error.Reason.TheVariants as reasons;
+ghost use Rattle.hll_coupons.specs.Insertion.{IsInsertion, IfTaken, IfRefused};
 ghost use Rattle.hll_coupons.specs.Pair.{value_of};
 ghost use Rattle.hll_coupons.specs.Table.{coupons_in, coupons_of, empty_table, filled_from_front, coupons_with, IsFilledFromFront};
 ghost use Rattle.hll_coupons.specs.Coupons.{WritesAscending, list_bytes, coupons_at, AreCoupons};
 ghost use Rattle.hll_coupons.specs.Payload.{shape_of_list, HasListCount, list_places, list_table, IsListPayload, ListFault};
 ghost use Rattle.hll_coupons.specs.Coupons as header;
 
-use crate::container::{Container, places_of, with_coupons};
+use crate::container::{Container, Insertion, places_of, with_coupons};
 use crate::coupon::Coupon;
-use crate::hll_type::HllType;
 use crate::serialization::{
-    COMPACT_FLAG_MASK, COUPON_SIZE_BYTES, CUR_MODE_LIST, EMPTY_FLAG_MASK, LIST_PREAMBLE_SIZE,
-    LIST_PREINTS, SERIAL_VERSION, encode_mode_byte,
+    COMPACT_FLAG_MASK, COUPON_SIZE_BYTES, CUR_MODE_LIST, EMPTY_FLAG_MASK, LG_LIST_PLACES,
+    LIST_PREAMBLE_SIZE, LIST_PREINTS, SERIAL_VERSION, encode_mode_byte,
 };
 use hll_base::codec::SketchBytes;
 use hll_base::cursor::SketchSlice;
 use hll_base::error::{Error, Reason};
 use hll_base::family::Family;
+use hll_base::hll_type::HllType;
 use std::alloc::{Allocator, Global};
 use std::marker::Model;
-
-/// The logarithm of the number of places in an image.
-const LG_DEFAULT_SIZE: usize = 3;
 
 /// A container whose places are filled from the front, in order of arrival. Contracts see what they
 /// see of the container.
@@ -117,10 +115,34 @@ impl<A: Allocator> List<A> {
         ensures order { coupons_in self.new.places ≡ coupons_with (coupons_in self.old.places) coupon }
         ensures members { coupons_of self.new ≡ set.insert (coupons_of self.old) coupon }
     {
-        let _len = self.container.len();
-        if !self.contains(coupon) {
-            self.push(coupon);
+        self.container.table_is_legal();
+        let most = self.container.capacity();
+        self.update_within(coupon, most);
+    }
+
+    /// Puts a coupon into the first empty place, unless the list has it, or would have more than `most` coupons. Looks at
+    /// each coupon until it is found; takes no memory.
+    ///
+    /// Its value is at least 1, and `most` is no more than there are places.
+    pub fn update_within(&mut self, coupon: Coupon, most: usize) -> Insertion
+        requires valued { 1 ≤ value_of coupon }
+        requires within { most ≤ 2 ^ self.old.lg_size }
+        ensures insertion { IsInsertion (coupons_of self.old) coupon most result }
+        ensures size { self.new.lg_size ≡ self.old.lg_size }
+        ensures places { IfTaken result (self.new ≡ filled_from_front self.old.lg_size (coupons_with (coupons_in self.old.places) coupon)) }
+        ensures order { IfTaken result (coupons_in self.new.places ≡ coupons_with (coupons_in self.old.places) coupon) }
+        ensures members { IfTaken result (coupons_of self.new ≡ set.insert (coupons_of self.old) coupon) }
+        ensures unchanged { IfRefused result (self.new ≡ self.old) }
+    {
+        let is_new = !self.contains(coupon);
+        if self.container.len() + usize::from(is_new) > most {
+            return Insertion::Refused;
         }
+        if !is_new {
+            return Insertion::Held;
+        }
+        self.push(coupon);
+        Insertion::Added
     }
 
     /// Puts a new coupon into the first empty place.
@@ -293,7 +315,7 @@ fn list_header(lg_config_k: u8, hll_type: HllType, count: usize) -> [u8; LIST_PR
         SERIAL_VERSION,
         Family::HLL.id,
         lg_config_k,
-        LG_DEFAULT_SIZE as u8,
+        LG_LIST_PLACES,
         flags,
         count as u8,
         encode_mode_byte(CUR_MODE_LIST, hll_type as u8),

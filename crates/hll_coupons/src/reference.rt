@@ -4,7 +4,8 @@ ghost use Rattle.std.specs.Prelude.{◌≡◌, ◌^◌, ◌≤◌, length, All, 
 ghost use Rattle.std.specs.FinSet.{len};
 ghost use Rattle.hll_base.specs.declared.error.Reason.TheVariants.{Memory};
 ghost use Rattle.hll_coupons.specs.Pair.{set_of};
-ghost use Rattle.hll_coupons.specs.Fold.{fold_to, join, words_from};
+ghost use Rattle.hll_coupons.specs.Fold.{fold_to, words_from};
+ghost use Rattle.hll_base.specs.Join.{join};
 
 use crate::coupon::Coupon;
 use hll_base::error::Error;

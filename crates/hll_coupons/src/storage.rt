@@ -4,14 +4,12 @@ ghost use Rattle.hll_base.specs.declared.error.Reason.TheVariants.{Memory};
 ghost use Rattle.hll_coupons.specs.Storage.{places_in};
 
 use crate::coupon::Coupon;
+use crate::serialization::LG_LIST_PLACES;
 use hll_base::error::Error;
 use std::alloc::{Allocator, Global};
 use std::fmt;
 
-/// The logarithm of the number of places that stand in the value itself: the size of a sketch's list.
-pub(crate) const LG_IN_VALUE: usize = 3;
-
-/// 2^`lg_size` places, each empty or filled.
+/// 2^`lg_size` places, each empty or filled. Those of a list stand in the value itself.
 #[derive(Drop)]
 pub(crate) enum Storage<A: Allocator = Global> {
     /// Eight, which take no memory.
@@ -40,7 +38,7 @@ impl<A: Allocator> Storage<A> {
         ensures needed { OnErr result (lg_size ≢ 3) }
         ensures err { IfErr result (λ e. e ≡ Memory) }
     {
-        if lg_size == LG_IN_VALUE {
+        if lg_size == usize::from(LG_LIST_PLACES) {
             return Ok(Storage::eight(alloc));
         }
         Ok(Storage::Allocated(vec![in alloc; Coupon::EMPTY; 1 << lg_size]?))

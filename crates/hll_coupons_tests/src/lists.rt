@@ -3,9 +3,9 @@ ghost use Rattle.std.specs.Prelude.{◌≡◌, IfOk};
 
 use hll_base::cursor::SketchSlice;
 use hll_base::error::Reason;
-use hll_coupons::container::Container;
+use hll_base::hll_type::HllType;
+use hll_coupons::container::{Container, Insertion};
 use hll_coupons::coupon::Coupon;
-use hll_coupons::hll_type::HllType;
 use hll_coupons::list::List;
 use std::alloc::Allocator;
 use std::test::Fail;
@@ -143,4 +143,18 @@ fn lists_are_read(rt: HostRuntime) -> Result<(), Fail> {
         );
     }
     Ok(())
+}
+
+/// A list takes a coupon up to a number of coupons, and a held one where it has no more already.
+#[test]
+fn insertions(rt: HostRuntime) {
+    let mut list = List::default_in(rt.alloc());
+    let (first, second) = (Coupon::pack(5, 3), Coupon::pack(6, 3));
+    assert_eq!(rt; list.update_within(first, 0), Insertion::Refused);
+    assert_eq!(rt; list.update_within(first, 1), Insertion::Added);
+    assert_eq!(rt; list.update_within(first, 1), Insertion::Held);
+    assert_eq!(rt; list.update_within(second, 1), Insertion::Refused);
+    assert_eq!(rt; list.update_within(second, 8), Insertion::Added);
+    assert_eq!(rt; list.update_within(first, 1), Insertion::Refused);
+    assert_eq!(rt; list.container().len(), 2);
 }

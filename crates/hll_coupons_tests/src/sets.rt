@@ -3,9 +3,10 @@ ghost use Rattle.std.specs.Prelude.{◌≡◌, ◌≤◌};
 
 use hll_base::cursor::SketchSlice;
 use hll_base::error::{Error, Reason};
+use hll_base::hll_type::HllType;
+use hll_coupons::container::Insertion;
 use hll_coupons::coupon::Coupon;
 use hll_coupons::hash_set::HashSet;
-use hll_coupons::hll_type::HllType;
 use linked_list_allocator::LocalHeap;
 use std::alloc::Allocator;
 use std::test::Fail;
@@ -191,5 +192,21 @@ fn bytes_come_before_memory(rt: HostRuntime) -> Result<(), Fail> {
         let read = HashSet::deserialize(&heap, cursor, 26, compact);
         assert_eq!(rt; read.err().map(|e| e.reason()), Some(Reason::Truncated));
     }
+    Ok(())
+}
+
+/// A full set takes no more coupons, but has those that it holds; with fewer allowed it refuses these too.
+#[test]
+fn insertions(rt: HostRuntime) -> Result<(), Fail> {
+    let mut set = HashSet::new(rt.alloc(), 1)?;
+    let (first, second, third) = (Coupon::pack(5, 3), Coupon::pack(6, 3), Coupon::pack(7, 3));
+    assert_eq!(rt; set.update_within(first, 0), Insertion::Refused);
+    assert_eq!(rt; set.update_within(first, 2), Insertion::Added);
+    assert_eq!(rt; set.update_within(second, 1), Insertion::Refused);
+    assert_eq!(rt; set.update_within(second, 2), Insertion::Added);
+    assert_eq!(rt; set.update_within(first, 2), Insertion::Held);
+    assert_eq!(rt; set.update_within(third, 2), Insertion::Refused);
+    assert_eq!(rt; set.update_within(first, 1), Insertion::Refused);
+    assert_eq!(rt; set.container().len(), 2);
     Ok(())
 }

@@ -96,11 +96,11 @@ fn store_asks<'h, S: RegisterStore<&'h Heap> + Debug>(
 }
 
 /// The calls, and the requests of each on registers of four bits: empty ones, and the two above. Where there are exceptions
-/// they take a table, and their image a sorted copy. Other widths take one request for new registers and for an image.
+/// they take a map and its table, and their image a sorted copy. Other widths take one request for new registers and for an image.
 const STORE_CALLS: [(StoreCall, [u64; 3], u64); 5] = [
     (StoreCall::Make, [1, 1, 1], 1),
     (StoreCall::WriteImage, [1, 2, 2], 1),
-    (StoreCall::Convert, [1, 2, 2], 1),
+    (StoreCall::Convert, [1, 3, 3], 1),
     (StoreCall::PutCoupon, [0, 0, 0], 0),
     (StoreCall::Restore, [0, 0, 0], 0),
 ];
@@ -124,19 +124,19 @@ fn refused_stores(rt: HostRuntime) -> Result<(), Fail> {
 
 /// Registers of four bits, an update, and the requests that it makes.
 const UPDATES: [([u8; 16], u32, u8, u64); 12] = [
-    // a first exception, in a table of four places, and a value below that makes none
-    ([0; 16], 0, 20, 1),
+    // a first exception, in a map with a table of four places, and a value below that makes none
+    ([0; 16], 0, 20, 2),
     ([0; 16], 0, 14, 0),
     // another value for a slot that has an exception, and a value that is not greater
     ([20, 0, 0, 0, 0, 0, 0, 0, 0, 0, 0, 0, 0, 0, 0, 0], 0, 21, 0),
     ([20, 0, 0, 0, 0, 0, 0, 0, 0, 0, 0, 0, 0, 0, 0, 0], 0, 20, 0),
     // a rise of the minimum that no exception outlives, that one of two outlives, and that both outlive
     ([15, 1, 1, 1, 1, 1, 1, 1, 1, 1, 1, 1, 1, 1, 1, 0], 15, 1, 0),
-    ([15, 63, 1, 1, 1, 1, 1, 1, 1, 1, 1, 1, 1, 1, 1, 0], 15, 1, 1),
+    ([15, 63, 1, 1, 1, 1, 1, 1, 1, 1, 1, 1, 1, 1, 1, 0], 15, 1, 2),
     ([20, 63, 1, 1, 1, 1, 1, 1, 1, 1, 1, 1, 1, 1, 1, 0], 15, 1, 0),
     // a rise whose own slot is an exception above it, alone and beside another
-    ([1, 1, 1, 1, 1, 1, 1, 1, 1, 1, 1, 1, 1, 1, 1, 0], 15, 63, 1),
-    ([20, 1, 1, 1, 1, 1, 1, 1, 1, 1, 1, 1, 1, 1, 1, 0], 15, 63, 1),
+    ([1, 1, 1, 1, 1, 1, 1, 1, 1, 1, 1, 1, 1, 1, 1, 0], 15, 63, 2),
+    ([20, 1, 1, 1, 1, 1, 1, 1, 1, 1, 1, 1, 1, 1, 1, 0], 15, 63, 2),
     // fifteen exceptions, and a rise past all of them, past all but one, and past none
     (
         [
@@ -152,7 +152,7 @@ const UPDATES: [([u8; 16], u32, u8, u64); 12] = [
         ],
         15,
         20,
-        1,
+        2,
     ),
     (
         [
@@ -166,7 +166,7 @@ const UPDATES: [([u8; 16], u32, u8, u64); 12] = [
 
 /// The requests of each further exception, from the first to the thirteenth: for tables of 4, 16 and 32 places. Eight
 /// stand in the value.
-const EXCEPTIONS: [u64; 13] = [1, 0, 0, 0, 0, 0, 1, 0, 0, 0, 0, 0, 1];
+const EXCEPTIONS: [u64; 13] = [2, 0, 0, 0, 0, 0, 1, 0, 0, 0, 0, 0, 1];
 
 #[test]
 fn refused_updates(rt: HostRuntime) -> Result<(), Fail> {
@@ -273,11 +273,11 @@ impl<'h> Trial for ArrayTrial<'h> {
 }
 
 const ARRAY_CALLS: [(ArrayCall, u64); 8] = [
-    (ArrayCall::Clone4, 2),
+    (ArrayCall::Clone4, 3),
     (ArrayCall::Clone6, 1),
     (ArrayCall::Clone8, 1),
-    (ArrayCall::Deserialize4, 2),
-    (ArrayCall::Deserialize4InPlaces, 2),
+    (ArrayCall::Deserialize4, 3),
+    (ArrayCall::Deserialize4InPlaces, 3),
     (ArrayCall::Deserialize6, 1),
     (ArrayCall::Deserialize8, 1),
     (ArrayCall::MergeFrom, 0),

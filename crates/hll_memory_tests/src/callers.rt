@@ -2,8 +2,8 @@
 use crate::harness::{Heap, Trial, requests_of, text};
 use crate::sketches::{Shape, WIDTHS, coupon_at, sketch_in, sketch_text};
 use crate::unions::union_text;
+use hll_base::hll_type::HllType;
 use hll_caller::{join_shards, union_of_shards};
-use hll_coupons::hll_type::HllType;
 use hll_sketch::HllSketch;
 use hll_text::fault::Fault;
 use std::test::Fail;

@@ -3,11 +3,11 @@ ghost use Rattle.std.specs.Prelude.{◌≤◌};
 
 use crate::harness::{Heap, Trial, requests_of, text};
 use hll_base::cursor::SketchSlice;
+use hll_base::hll_type::HllType;
 use hll_coupons::aux_map::AuxMap;
 use hll_coupons::container::Container;
 use hll_coupons::coupon::Coupon;
 use hll_coupons::hash_set::HashSet;
-use hll_coupons::hll_type::HllType;
 use hll_coupons::list::List;
 use hll_text::fault::Fault;
 use std::test::Fail;

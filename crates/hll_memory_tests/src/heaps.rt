@@ -1,7 +1,7 @@
 //! Two heaps, of which one is full: `agree` asks that of its first argument alone, and a union its own.
 use crate::harness::Heap;
 use crate::sketches::{Shape, WIDTHS, sketch_in};
-use hll_coupons::hll_type::HllType;
+use hll_base::hll_type::HllType;
 use hll_sketch::{HllUnion, agree};
 use hll_text::fault::Fault;
 use std::test::Fail;

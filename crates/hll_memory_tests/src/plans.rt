@@ -4,8 +4,8 @@ ghost use Rattle.hll_text.specs.Step.{step_of, IsInRange};
 
 use crate::harness::{Heap, Trial, requests_of, text};
 use crate::sketches::sketch_text;
+use hll_base::hll_type::HllType;
 use hll_caller::run_in_memory;
-use hll_coupons::hll_type::HllType;
 use hll_merge::evaluate::{compare, evaluate};
 use hll_merge::feed::PlanFeed;
 use hll_merge::run::run;

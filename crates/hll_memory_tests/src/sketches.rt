@@ -3,8 +3,8 @@ ghost use Rattle.std.specs.Prelude.{◌≤◌};
 ghost use Rattle.hll_coupons.specs.Pair.{value_of};
 
 use crate::harness::{Heap, Trial, requests_of, text};
+use hll_base::hll_type::HllType;
 use hll_coupons::coupon::Coupon;
-use hll_coupons::hll_type::HllType;
 use hll_sketch::HllSketch;
 use hll_text::fault::Fault;
 use std::alloc::Global;
@@ -151,7 +151,7 @@ const SKETCH_CALLS: [(SketchCall, [[u64; 10]; 3]); 11] = [
     (
         SketchCall::Clone,
         [
-            [0, 0, 0, 1, 1, 1, 2, 3, 3, 3],
+            [0, 0, 0, 1, 1, 1, 1, 3, 3, 3],
             [0, 0, 0, 1, 1, 1, 1, 1, 1, 1],
             [0, 0, 0, 1, 1, 1, 1, 1, 1, 1],
         ],
@@ -159,7 +159,7 @@ const SKETCH_CALLS: [(SketchCall, [[u64; 10]; 3]); 11] = [
     (
         SketchCall::CloneMode,
         [
-            [0, 0, 0, 1, 1, 1, 2, 3, 3, 3],
+            [0, 0, 0, 1, 1, 1, 1, 3, 3, 3],
             [0, 0, 0, 1, 1, 1, 1, 1, 1, 1],
             [0, 0, 0, 1, 1, 1, 1, 1, 1, 1],
         ],
@@ -175,7 +175,7 @@ const SKETCH_CALLS: [(SketchCall, [[u64; 10]; 3]); 11] = [
     (
         SketchCall::Folded,
         [
-            [0, 0, 0, 11, 12, 12, 2, 3, 3, 3],
+            [0, 0, 0, 19, 21, 21, 1, 3, 3, 2],
             [0, 0, 0, 1, 1, 1, 1, 1, 1, 2],
             [0, 0, 0, 1, 1, 1, 1, 1, 1, 1],
         ],
@@ -184,7 +184,7 @@ const SKETCH_CALLS: [(SketchCall, [[u64; 10]; 3]); 11] = [
     (
         SketchCall::Deserialize,
         [
-            [0, 0, 0, 1, 1, 1, 2, 3, 3, 7],
+            [0, 0, 0, 1, 1, 1, 1, 3, 3, 7],
             [0, 0, 0, 1, 1, 1, 1, 1, 1, 1],
             [0, 0, 0, 1, 1, 1, 1, 1, 1, 1],
         ],
@@ -192,7 +192,7 @@ const SKETCH_CALLS: [(SketchCall, [[u64; 10]; 3]); 11] = [
     (
         SketchCall::DeserializePlaces,
         [
-            [0, 0, 0, 1, 1, 1, 2, 3, 3, 7],
+            [0, 0, 0, 1, 1, 1, 1, 3, 3, 7],
             [0, 0, 0, 1, 1, 1, 1, 1, 1, 1],
             [0, 0, 0, 1, 1, 1, 1, 1, 1, 1],
         ],
@@ -200,7 +200,7 @@ const SKETCH_CALLS: [(SketchCall, [[u64; 10]; 3]); 11] = [
     (
         SketchCall::UpdateNew,
         [
-            [0, 2, 1, 0, 1, 3, 0, 1, 1, 0],
+            [0, 1, 1, 0, 1, 3, 0, 2, 2, 0],
             [0, 1, 1, 0, 1, 1, 0, 0, 0, 0],
             [0, 1, 1, 0, 1, 1, 0, 0, 0, 0],
         ],
@@ -209,7 +209,7 @@ const SKETCH_CALLS: [(SketchCall, [[u64; 10]; 3]); 11] = [
     (
         SketchCall::UpdateValue,
         [
-            [0, 2, 1, 0, 1, 3, 0, 0, 0, 0],
+            [0, 1, 1, 0, 1, 3, 0, 0, 0, 0],
             [0, 1, 1, 0, 1, 1, 0, 0, 0, 0],
             [0, 1, 1, 0, 1, 1, 0, 0, 0, 0],
         ],

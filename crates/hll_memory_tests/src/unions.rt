@@ -1,7 +1,7 @@
 //! Unions, and what is made of sketches together.
 use crate::harness::{Heap, Trial, requests_of, text};
 use crate::sketches::{Shape, WIDTHS, coupon_at, sketch_in, sketch_text};
-use hll_coupons::hll_type::HllType;
+use hll_base::hll_type::HllType;
 use hll_sketch::{HllSketch, HllUnion, agree, union_of};
 use hll_text::fault::Fault;
 use std::mem;

@@ -52,7 +52,7 @@ one_carry ts (coupon s v) us vs h g =
     h.3 ∙ (λ i. parts.0 i ++ plan.coupon (parts.1 i) (pair s v) ∷ []) ∙ sym g.3
 one_carry ts (union n m w) us vs h g =
     let parts = append_parts h.0 g.0 h.1 g.1 (h.3 ∙ sym g.3) (sym h.2 ∙ g.2) in
-    h.4 ∙ (λ i. parts.0 i ++ plan.union_of m w (plans_of (parts.1 i)) ∷ []) ∙ sym g.4
+    h.4 ∙ (λ i. parts.0 i ++ plan.union_plan m w (plans_of (parts.1 i)) ∷ []) ∙ sym g.4
 one_carry ts (fold e) us vs h g =
     let parts = last_parts h.0 g.0 h.1 g.1 (sym h.2 ∙ g.2) in
     h.4 ∙ (λ i. parts.0 i ++ plan.fold (parts.1 i) e ∷ []) ∙ sym g.4

@@ -5,8 +5,8 @@ use Rattle.std.specs.FinSet.{empty, from_list, len, len-empty}
 use Rattle.std.proofs.lemmas.List.Elements.{All-from_get_or, All-tail}
 use Rattle.std.proofs.lemmas.Nat.{div-mul-add}
 use Rattle.hll_coupons.specs.Pair.{IsPair, pair, value_of, set_of}
-use Rattle.hll_coupons.specs.declared.hll_type.HllType.{HllType}
-use Rattle.hll_coupons.specs.declared.hll_type.HllType.TheVariants.{Hll8}
+use Rattle.hll_base.specs.declared.hll_type.HllType.{HllType}
+use Rattle.hll_base.specs.declared.hll_type.HllType.TheVariants.{Hll8}
 use Rattle.hll_sketch.specs.Value.{Sketch, IsLgK, IsLegal, empty_sketch}
 use Rattle.hll_sketch.specs.Folding.{IsFoldLgK}
 use Rattle.hll_sketch.specs.Merging.{merge, merge_all, empty_union}
@@ -44,7 +44,7 @@ mutual
   outcome_is_legal (plan.image x) h = h.0
   outcome_is_legal (plan.coupon t c) h = add_is_legal (outcome t) (set_of (c ∷ [])) (outcome_is_legal t h.0) (ArePairs-one c h.1)
   outcome_is_legal (plan.fold t e) h = folded_is_legal (outcome t) e (outcome_is_legal t h.0) (subst (λ k. IsFoldLgK k e) (sym (lg_k-outcome t)) h.1)
-  outcome_is_legal (plan.union_of m w ts) h = legal_width (merge_all m (empty_union m) (outcomes ts)) w (merged_each m (empty_union m) ts (empty_legal m Hll8 h.0) h.1)
+  outcome_is_legal (plan.union_plan m w ts) h = legal_width (merge_all m (empty_union m) (outcomes ts)) w (merged_each m (empty_union m) ts (empty_legal m Hll8 h.0) h.1)
 
   merged_each : (m : ℕ) (g : Sketch) (ts : Plans) → IsLegal g → LeavesOfEach (λ _. Unit {0}) ts → IsLegal (merge_all m g (outcomes ts))
   merged_each m g no_plans h l = h

@@ -9,12 +9,12 @@ use Rattle.hll_coupons.specs.Fold.{fold_to, pairs, greatest, value_at}
 use Rattle.hll_coupons.proofs.Greatest.{bounded}
 use Rattle.hll_coupons.proofs.Folds.{length-fold_to, get_or-fold_to}
 use Rattle.hll_coupons.proofs.Registers.{StandsFor, pairs_only}
-use Rattle.hll_coupons.specs.declared.hll_type.HllType.{HllType}
-use Rattle.hll_sketch.specs.Value.{Content, coupons, registers, Sketch, pairs_in, pairs_of, is_empty, in_registers, has_registers, ArePairs}
+use Rattle.hll_base.specs.declared.hll_type.HllType.{HllType}
+use Rattle.hll_sketch.specs.Value.{Content, coupons, registers, Sketch, pairs_in, pairs_of, is_empty, in_registers, has_nonzero_registers, ArePairs}
 use Rattle.hll_sketch.specs.Adding.{content_with, add}
 use Rattle.hll_sketch.specs.Folding.{folded, folded_content}
 use Rattle.hll_sketch.specs.Merging.{merge, merge_content, merge_all, empty_union}
-use Rattle.hll_merge.specs.Plan.{Plan, Plans, new, image, coupon, union_of, fold, no_plans, more_plans, inputs, inputs_of_each, outcome, outcomes, effective_lg_k, least_of_each, Leaves, LeavesOfEach, IsImageOf, IsImageOfEach, IsLegalPlan}
+use Rattle.hll_merge.specs.Plan.{Plan, Plans, new, image, coupon, union_plan, fold, no_plans, more_plans, inputs, inputs_of_each, outcome, outcomes, effective_lg_k, least_of_each, Leaves, LeavesOfEach, IsImageOf, IsImageOfEach, IsLegalPlan}
 use Rattle.hll_merge.specs.Meaning.{PlansHaveMeaning, SameInputsAgree}
 use Rattle.hll_sketch.specs.Meaning.{Means}
 use Rattle.hll_sketch.proofs.Adding.{merge_of_empty, merge_of_some}
@@ -33,7 +33,7 @@ mutual
   good Q (fold t e) h =
       let g : MeansPairs (outcome t) (inputs t) = good Q t h.0 in
       MeansPairs-folded (outcome t) e (inputs t) (omega (arith, h.1.high, lg_k-outcome t)) g
-  good Q (union_of m w ts) h = MeansPairs-width (merge_all m (empty_union m) (outcomes ts)) w (inputs_of_each ts) (rw (← union-empty (inputs_of_each ts)) (good_each Q ts m (empty_union m) empty (MeansPairs-empty m _ h.0.high) h.1))
+  good Q (union_plan m w ts) h = MeansPairs-width (merge_all m (empty_union m) (outcomes ts)) w (inputs_of_each ts) (rw (← union-empty (inputs_of_each ts)) (good_each Q ts m (empty_union m) empty (MeansPairs-empty m _ h.0.high) h.1))
 
   pub good_each : (Q : Sketch → Type 0) (ts : Plans) (m : ℕ) (g : Sketch) (P : Pairs) → MeansPairs g P → LeavesOfEach Q ts → MeansPairs (merge_all m g (outcomes ts)) (union P (inputs_of_each ts))
   good_each Q no_plans m g P h leaves = rw (union_none P) h
@@ -46,11 +46,11 @@ record HasSome (x : Sketch) : Type 0 where
   inside : in_registers x.content ≡ true
   some : is_empty x ≡ false
 
-has_some : (x : Sketch) → has_registers x ≡ true → HasSome x
+has_some : (x : Sketch) → has_nonzero_registers x ≡ true → HasSome x
 has_some x h = let parts = and_parts (in_registers x.content) (not (is_empty x)) h in
     record { inside = parts.0; some = elim (cases_Bool (is_empty x)) [ inl t ↦ absurd (true≢false (sym parts.1 ∙ ap not t)) | inr f ↦ f ] }
 
-some_has : (x : Sketch) → HasSome x → has_registers x ≡ true
+some_has : (x : Sketch) → HasSome x → has_nonzero_registers x ≡ true
 some_has x h = and_from (in_registers x.content) (not (is_empty x)) h.inside (ap not h.some)
 
 -- a sketch of no pairs is empty
@@ -121,8 +121,8 @@ HasSome-from m g x P Q good other h = record {
 least_of_each_le : (ts : Plans) (k : ℕ) → least_of_each k ts ≤ k
 least_of_each_le no_plans k = omega arith
 least_of_each_le (more_plans t ts) k =
-    let l : ℕ = cond (has_registers (outcome t)) (min k (effective_lg_k t)) k in
-    let le : l ≤ k = elim (has_registers (outcome t)) as (λ b. cond b (min k (effective_lg_k t)) k ≤ k) [ true ↦ omega arith | false ↦ omega arith ] in
+    let l : ℕ = cond (has_nonzero_registers (outcome t)) (min k (effective_lg_k t)) k in
+    let le : l ≤ k = elim (has_nonzero_registers (outcome t)) as (λ b. cond b (min k (effective_lg_k t)) k ≤ k) [ true ↦ omega arith | false ↦ omega arith ] in
     omega (arith, least_of_each_le ts l)
 
 -- registers after the children, where the gadget or one of them has some
@@ -131,20 +131,20 @@ record Lowest (x : Sketch) (t : Plan) : Type 0 where
   pub low : effective_lg_k t ≤ x.lg_k
 
 mutual
-  lowest : (x : Sketch) (t : Plan) → IsLegalPlan t → has_registers x ≡ true → IsImageOf x t → Lowest x t
+  lowest : (x : Sketch) (t : Plan) → IsLegalPlan t → has_nonzero_registers x ≡ true → IsImageOf x t → Lowest x t
   lowest x (new k w) h r i = absurd i
-  lowest x (image y) h r i = record { some = has_some y (ap has_registers (sym i) ∙ r); low = omega (arith, ap (λ (s : Sketch). s.lg_k) i) }
+  lowest x (image y) h r i = record { some = has_some y (ap has_nonzero_registers (sym i) ∙ r); low = omega (arith, ap (λ (s : Sketch). s.lg_k) i) }
   lowest x (coupon t c) h r i =
       let before : Lowest x t = lowest x t h.0 r i in
       record { some = HasSome-add (outcome t) (inputs t) (from_list (c ∷ [])) (good _ t h.0) (ArePairs-one c h.1) before.some; low = before.low }
   lowest x (fold t e) h r i =
       let before : Lowest x t = lowest x t h.0 r i in
       record { some = HasSome-folded (outcome t) e (inputs t) (good _ t h.0) (good _ (fold t e) h) before.some; low = omega (arith, before.low, h.1.high) }
-  lowest x (union_of m w ts) h r i =
+  lowest x (union_plan m w ts) h r i =
       let all = lowest_of_each x ts m (empty_union m) empty m (MeansPairs-empty m _ h.0.high) h.1 r i in
       record { some = record { inside = all.0.inside; some = all.0.some }; low = all.1 }
 
-  lowest_of_each : (x : Sketch) (ts : Plans) (m : ℕ) (g : Sketch) (P : Pairs) (k : ℕ) → MeansPairs g P → LeavesOfEach (λ _. Unit {0}) ts → has_registers x ≡ true → IsImageOfEach x ts →
+  lowest_of_each : (x : Sketch) (ts : Plans) (m : ℕ) (g : Sketch) (P : Pairs) (k : ℕ) → MeansPairs g P → LeavesOfEach (λ _. Unit {0}) ts → has_nonzero_registers x ≡ true → IsImageOfEach x ts →
       HasSome (merge_all m g (outcomes ts)) × (least_of_each k ts ≤ x.lg_k)
   lowest_of_each x no_plans m g P k good' h r i = absurd i
   lowest_of_each x (more_plans t ts) m g P k good' h r i =
@@ -153,12 +153,12 @@ mutual
       elim i [
         | inl here ↦
             let found : Lowest x t = lowest x t h.0 r here in
-            let has : has_registers (outcome t) ≡ true = some_has (outcome t) found.some in (
+            let has : has_nonzero_registers (outcome t) ≡ true = some_has (outcome t) found.some in (
               kept ts m (merge m g (outcome t)) (union P (inputs t)) next h.1 (HasSome-from m g (outcome t) P (inputs t) good' one found.some),
-              let at : cond (has_registers (outcome t)) (min k (effective_lg_k t)) k ≡ min k (effective_lg_k t) = cond-true (has_registers (outcome t)) (min k (effective_lg_k t)) k has in
-                  omega (arith, least_of_each_le ts (cond (has_registers (outcome t)) (min k (effective_lg_k t)) k), found.low),
+              let at : cond (has_nonzero_registers (outcome t)) (min k (effective_lg_k t)) k ≡ min k (effective_lg_k t) = cond-true (has_nonzero_registers (outcome t)) (min k (effective_lg_k t)) k has in
+                  omega (arith, least_of_each_le ts (cond (has_nonzero_registers (outcome t)) (min k (effective_lg_k t)) k), found.low),
             )
-        | inr later ↦ lowest_of_each x ts m (merge m g (outcome t)) (union P (inputs t)) (cond (has_registers (outcome t)) (min k (effective_lg_k t)) k) next h.1 r later
+        | inr later ↦ lowest_of_each x ts m (merge m g (outcome t)) (union P (inputs t)) (cond (has_nonzero_registers (outcome t)) (min k (effective_lg_k t)) k) next h.1 r later
       ]
 
   kept : (ts : Plans) (m : ℕ) (g : Sketch) (P : Pairs) → MeansPairs g P → LeavesOfEach (λ _. Unit {0}) ts → HasSome g → HasSome (merge_all m g (outcomes ts))

@@ -2,13 +2,13 @@
 use Rattle.std.proofs.Common.{◌≡◌, ℕ, zero, suc, ◌<◌, List, [], ◌∷◌, ◌++◌, length, refl, sym, ap, ◌∙◌, arith, inl, inr}
 use Rattle.std.specs.List.{slice_index_or, Contains}
 use Rattle.hll_coupons.specs.Pair.{set_of}
-use Rattle.hll_coupons.specs.declared.hll_type.HllType.{HllType}
+use Rattle.hll_base.specs.declared.hll_type.HllType.{HllType}
 use Rattle.hll_sketch.specs.Value.{Sketch}
 use Rattle.hll_sketch.specs.Adding.{add}
 use Rattle.hll_sketch.specs.Merging.{merge_all, empty_union}
-use Rattle.hll_merge.specs.Plan.{Plan, Plans, union_of, no_plans, more_plans, outcome, outcomes, Leaves, LeavesOfEach}
+use Rattle.hll_merge.specs.Plan.{Plan, Plans, union_plan, no_plans, more_plans, outcome, outcomes, Leaves, LeavesOfEach}
 use Rattle.hll_sketch.specs.Grown.{IsGrown}
-use Rattle.hll_sketch.specs.Joined.{union_value}
+use Rattle.hll_sketch.specs.Joined.{join_value}
 use Rattle.hll_sketch.specs.Folding.{folded}
 use Rattle.hll_merge.specs.Rearrangement.{IsChild, both_plans, IsRearrangement, AreRearrangements, reordered, grouped, same, stored, flipped, chained, below_coupon, below_fold, below_union, none, more, RearrangedPlansAgree}
 use Rattle.hll_sketch.proofs.Joined.{merge_at_width}
@@ -41,7 +41,7 @@ outcomes-both no_plans us = refl
 outcomes-both (more_plans t ts) us = ap (λ xs. outcome t ∷ xs) (outcomes-both ts us)
 
 -- the join of the children
-union_is : (m : ℕ) (w : HllType) (ts : Plans) → Leaves IsGrown (union_of m w ts) → outcome (union_of m w ts) ≡ union_value m w (outcomes ts)
+union_is : (m : ℕ) (w : HllType) (ts : Plans) → Leaves IsGrown (union_plan m w ts) → outcome (union_plan m w ts) ≡ join_value m w (outcomes ts)
 union_is m w ts h = merge_at_width m w (outcomes ts) h.0.high (fits ts h.1)
 
 merged_as : (m : ℕ) (w : HllType) (xs ys : List Sketch) → xs ≡ ys → record (merge_all m (empty_union m) xs) { width = w } ≡ record (merge_all m (empty_union m) ys) { width = w }
@@ -54,10 +54,10 @@ mutual
   agree (reordered {m} {w} {ts} {us} s) h k =
       union_is m w ts h ∙ union_of_same m w (outcomes ts) (outcomes us) (members ts us s.there, members us ts s.back) ∙ sym (union_is m w us k)
   agree (grouped {m} {v} {w} {ts} {us}) h k =
-      union_is m w (more_plans (union_of m v ts) us) h
-      ∙ ap (λ x. union_value m w (x ∷ outcomes us)) (union_is m v ts h.1.0)
+      union_is m w (more_plans (union_plan m v ts) us) h
+      ∙ ap (λ x. join_value m w (x ∷ outcomes us)) (union_is m v ts h.1.0)
       ∙ union_of_union m v w (outcomes us) (outcomes ts) h.0.high (fits ts h.1.0.1)
-      ∙ ap (union_value m w) (sym (outcomes-both ts us))
+      ∙ ap (join_value m w) (sym (outcomes-both ts us))
       ∙ sym (union_is m w (both_plans ts us) k)
   agree same h k = refl
   agree (stored {t}) h k = refl

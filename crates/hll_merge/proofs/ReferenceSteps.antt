@@ -1,12 +1,12 @@
 -- Steps of the plain union of sketches.
 use Rattle.std.proofs.Common.{◌≡◌, ℕ, ◌+◌, ◌<◌, ◌≤◌, suc, List, [], ◌∷◌, map, length, get_or, drop, drop-cons, refl, sym, ap, ◌∙◌, arith}
 use Rattle.std.proofs.Math.ListN.{drop_of_length-le}
-use Rattle.hll_coupons.specs.declared.hll_type.HllType.{HllType}
+use Rattle.hll_base.specs.declared.hll_type.HllType.{HllType}
 use Rattle.hll_sketch.specs.declared.reference.ReferenceSketch.{ReferenceSketch}
 use Rattle.hll_sketch.specs.Value.{Sketch}
 use Rattle.hll_sketch.specs.Merging.{merge, merge_all, empty_union}
 use Rattle.hll_sketch.specs.Reference.{sketch_value}
-use Rattle.hll_merge.specs.Plan.{image, union_of, plans_of, outcome, outcomes}
+use Rattle.hll_merge.specs.Plan.{image, union_plan, plans_of, outcome, outcomes}
 
 -- the sketches from one on, merged in turn
 abbrev pub merged_from : {A : Type 0} → ℕ → Sketch → List (ReferenceSketch A) → ℕ → Sketch
@@ -32,6 +32,6 @@ outcomes-images (x ∷ xs) = ap (λ ys. sketch_value x ∷ ys) (outcomes-images 
 
 -- so a union of them is what merging in turn gives, at its width
 pub union_of_images : {A : Type 0} (m : ℕ) (w : HllType) (xs : List (ReferenceSketch A)) (g : Sketch) → g ≡ merged_from m (empty_union m) xs 0 →
-    (let x : Sketch = record g { width = w } in x) ≡ outcome (union_of m w (plans_of (map (λ x. image (sketch_value x)) xs)))
+    (let x : Sketch = record g { width = w } in x) ≡ outcome (union_plan m w (plans_of (map (λ x. image (sketch_value x)) xs)))
 union_of_images m w xs g is =
     ap (λ (y : Sketch). let x : Sketch = record y { width = w } in x) (is ∙ ap (merge_all m (empty_union m)) (sym (outcomes-images xs)))

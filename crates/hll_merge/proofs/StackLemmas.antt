@@ -12,7 +12,7 @@ use Rattle.hll_base.specs.declared.error.Reason.TheVariants as reasons
 use Rattle.hll_base.specs.declared.error.ErrorKind.TheVariants.{InvalidData}
 use Rattle.hll_base.specs.Reason.{kind_of}
 use Rattle.hll_coupons.specs.Pair.{pair, set_of}
-use Rattle.hll_coupons.specs.declared.hll_type.HllType.{HllType}
+use Rattle.hll_base.specs.declared.hll_type.HllType.{HllType}
 use Rattle.hll_sketch.specs.Adding.{add}
 use Rattle.hll_sketch.specs.Checks.{first_fault}
 use Rattle.hll_sketch.specs.Folding.{folded}
@@ -29,8 +29,8 @@ use Rattle.hll_text.specs.Text as text
 use Rattle.hll_text.specs.Text.{PlanStep, Reading}
 use Rattle.hll_merge.specs.Plan as plan
 use Rattle.hll_merge.specs.Plan.{Plan, outcome, outcomes, plans_of, effective_lg_k}
-use Rattle.hll_merge.specs.Accepting.{Gives, IsFaultOfLine, Runs, IsAboveLast, IsFaultOfStep, skipped, taken, unread, refused}
-use Rattle.hll_merge.specs.Stack.{Represents, AllRepresent, ReplacesLast, IsAbove, StackCarries, StackRefuses, StackGives, StackFaults}
+use Rattle.hll_merge.specs.Accepting.{Gives, IsFaultOfLine, Runs, LastPlanIsBelow, IsFaultOfStep, skipped, taken, unread, refused}
+use Rattle.hll_merge.specs.Stack.{Represents, AllRepresent, ReplacesLast, LastIsBelow, StackCarries, StackRefuses, StackGives, StackFaults}
 use Rattle.hll_merge.proofs.EffectiveLgK.{lg_k-outcome}
 
 -- ---- a stack and its plans
@@ -178,7 +178,7 @@ carries-fold xs ys e u = λ ts h.
       carries-push u.front ys l.below u.made (plan.fold l.top e) l.all (u.value.1 ∙ ap (λ z. folded z e) l.one) u.gives,
     )
 
-pub above-plans : (xs : List SketchLayout) (ts : List Plan) (e : ℕ) → AllRepresent xs ts → IsAbove xs e → IsAboveLast ts e
+pub above-plans : (xs : List SketchLayout) (ts : List Plan) (e : ℕ) → AllRepresent xs ts → LastIsBelow xs e → LastPlanIsBelow ts e
 above-plans xs ts e h a =
     let l : Last a.front a.last ts = AllRepresent-last a.front a.last ts (subst (λ zs. AllRepresent zs ts) a.is h) in
     (l.below, l.top, l.is, subst (λ k. k < e) (ap (λ (z : Sketch). z.lg_k) l.one ∙ lg_k-outcome l.top) a.below)
@@ -221,9 +221,9 @@ carries-union xs ys n at m w y enough is value gives = λ ts h.
     let whole : take (length xs - at) (drop at xs) ≡ drop at xs = take_all (length xs - at) (drop at xs) (omega (arith, length-drop at xs)) in
     let all : map sketch_of (take (length xs - at) (drop at xs)) ≡ outcomes (plans_of top) = ap (map sketch_of) whole ∙ AllRepresent-values (drop at xs) top high in
     let number : length top ≡ n = omega (arith, length-AllRepresent (drop at xs) top high, length-drop at xs, is, enough) in (
-      below ++ plan.union_of m w (plans_of top) ∷ [],
+      below ++ plan.union_plan m w (plans_of top) ∷ [],
       (below, top, sym (take-append-drop at ts), number, refl),
-      carries-push (take at xs) ys below y (plan.union_of m w (plans_of top)) (AllRepresent-take at xs ts h)
+      carries-push (take at xs) ys below y (plan.union_plan m w (plans_of top)) (AllRepresent-take at xs ts h)
           (value ∙ ap (λ zs. let z : Sketch = record (merge_all m (empty_union m) zs) { width = w } in z) all) gives,
     )
 

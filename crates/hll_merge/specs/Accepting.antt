@@ -21,12 +21,12 @@ abbrev pub Carries : List Plan → PlanStep → List Plan → Type 0
 Carries ts (new k w) us = us ≡ ts ++ plan.new k w ∷ []
 Carries ts (image bytes) us = (x : Sketch) × IsReadAs bytes x × (us ≡ ts ++ plan.image x ∷ [])
 Carries ts (coupon s v) us = (front : List Plan) × (t : Plan) × (ts ≡ front ++ t ∷ []) × (us ≡ front ++ plan.coupon t (pair s v) ∷ [])
-Carries ts (union n m w) us = (front xs : List Plan) × (ts ≡ front ++ xs) × (length xs ≡ n) × (us ≡ front ++ plan.union_of m w (plans_of xs) ∷ [])
+Carries ts (union n m w) us = (front xs : List Plan) × (ts ≡ front ++ xs) × (length xs ≡ n) × (us ≡ front ++ plan.union_plan m w (plans_of xs) ∷ [])
 Carries ts (fold e) us = (front : List Plan) × (t : Plan) × (ts ≡ front ++ t ∷ []) × (e ≤ effective_lg_k t) × (us ≡ front ++ plan.fold t e ∷ [])
 
 -- the last plan cannot be folded to an lg_k above its own
-abbrev pub IsAboveLast : List Plan → ℕ → Type 0
-IsAboveLast ts e = (front : List Plan) × (t : Plan) × (ts ≡ front ++ t ∷ []) × (effective_lg_k t < e)
+abbrev pub LastPlanIsBelow : List Plan → ℕ → Type 0
+LastPlanIsBelow ts e = (front : List Plan) × (t : Plan) × (ts ≡ front ++ t ∷ []) × (effective_lg_k t < e)
 
 -- the fault of a step: the first check that an image fails, too few plans, or a fold above the lg_k
 abbrev pub IsFaultOfStep : List Plan → PlanStep → Fault → Type 0
@@ -34,7 +34,7 @@ IsFaultOfStep ts (new k w) e = ⊥
 IsFaultOfStep ts (image bytes) e = (r : Reason) × (first_fault bytes ≡ Some r) × (e ≡ faults.Image r)
 IsFaultOfStep ts (coupon s v) e = (ts ≡ []) × (e ≡ faults.Stack)
 IsFaultOfStep ts (union n m w) e = (length ts < n) × (e ≡ faults.Stack)
-IsFaultOfStep ts (fold k) e = ((ts ≡ []) × (e ≡ faults.Stack)) ⊎ (IsAboveLast ts k × (e ≡ faults.Fold))
+IsFaultOfStep ts (fold k) e = ((ts ≡ []) × (e ≡ faults.Stack)) ⊎ (LastPlanIsBelow ts k × (e ≡ faults.Fold))
 
 -- a line is a list of bytes in a text, and a step in a list of steps; this is how it is read
 module _ {L : Type 0} (reads : L → Reading) where

@@ -1,8 +1,8 @@
 -- Plans over grown images (docs/MODEL.md, "Convergence").
 use Rattle.std.specs.Prelude.{◌≡◌}
 use Rattle.hll_sketch.specs.Grown.{IsGrown}
-use Rattle.hll_sketch.specs.Joined.{union_value}
-use Rattle.hll_merge.specs.Plan.{Plan, new, image, coupon, union_of, fold, outcome, outcomes, Leaves}
+use Rattle.hll_sketch.specs.Joined.{join_value}
+use Rattle.hll_merge.specs.Plan.{Plan, new, image, coupon, union_plan, fold, outcome, outcomes, Leaves}
 
 -- a union gives the join of its children
 abbrev pub JoinsChildren : Plan → Type 0
@@ -10,7 +10,7 @@ JoinsChildren (new k w) = Unit {0}
 JoinsChildren (image x) = Unit {0}
 JoinsChildren (coupon t c) = Unit {0}
 JoinsChildren (fold t e) = Unit {0}
-JoinsChildren (union_of m w ts) = outcome (union_of m w ts) ≡ union_value m w (outcomes ts)
+JoinsChildren (union_plan m w ts) = outcome (union_plan m w ts) ≡ join_value m w (outcomes ts)
 
 -- what holds of a plan whose images are grown
 pub record Converges (t : Plan) : Type 0 where

@@ -2,8 +2,8 @@
 use Rattle.std.specs.Prelude.{◌≡◌, ℕ, min, ◌⊎◌, if◌then◌else◌, List, [], ◌∷◌}
 use Rattle.std.specs.FinSet.{empty, union}
 use Rattle.hll_coupons.specs.Pair.{Pairs, IsPair, set_of}
-use Rattle.hll_coupons.specs.declared.hll_type.HllType.{HllType}
-use Rattle.hll_sketch.specs.Value.{Sketch, pairs_of, has_registers, empty_sketch, IsLgK, IsLegal}
+use Rattle.hll_base.specs.declared.hll_type.HllType.{HllType}
+use Rattle.hll_sketch.specs.Value.{Sketch, pairs_of, has_nonzero_registers, empty_sketch, IsLgK, IsLegal}
 use Rattle.hll_sketch.specs.Adding.{add}
 use Rattle.hll_sketch.specs.Folding.{folded, IsFoldLgK}
 use Rattle.hll_sketch.specs.Merging.{empty_union, merge_all}
@@ -14,7 +14,7 @@ mutual
     new : ℕ → HllType → Plan
     image : Sketch → Plan
     coupon : Plan → ℕ → Plan
-    union_of : ℕ → HllType → Plans → Plan
+    union_plan : ℕ → HllType → Plans → Plan
     fold : Plan → ℕ → Plan
 
   pub data Plans : Type 0 where
@@ -32,7 +32,7 @@ abbrev mutual
   inputs (new k w) = empty
   inputs (image x) = pairs_of x
   inputs (coupon t c) = union (inputs t) (set_of (c ∷ []))
-  inputs (union_of m w ts) = inputs_of_each ts
+  inputs (union_plan m w ts) = inputs_of_each ts
   inputs (fold t e) = inputs t
 
   pub inputs_of_each : Plans → Pairs
@@ -45,7 +45,7 @@ abbrev mutual
   outcome (new k w) = empty_sketch k w
   outcome (image x) = x
   outcome (coupon t c) = add (outcome t) (set_of (c ∷ []))
-  outcome (union_of m w ts) = record (merge_all m (empty_union m) (outcomes ts)) { width = w }
+  outcome (union_plan m w ts) = record (merge_all m (empty_union m) (outcomes ts)) { width = w }
   outcome (fold t e) = folded (outcome t) e
 
   pub outcomes : Plans → List Sketch
@@ -58,12 +58,12 @@ abbrev mutual
   effective_lg_k (new k w) = k
   effective_lg_k (image x) = x.lg_k
   effective_lg_k (coupon t c) = effective_lg_k t
-  effective_lg_k (union_of m w ts) = least_of_each m ts
+  effective_lg_k (union_plan m w ts) = least_of_each m ts
   effective_lg_k (fold t e) = e
 
   pub least_of_each : ℕ → Plans → ℕ
   least_of_each k no_plans = k
-  least_of_each k (more_plans t ts) = least_of_each (if has_registers (outcome t) then min k (effective_lg_k t) else k) ts
+  least_of_each k (more_plans t ts) = least_of_each (if has_nonzero_registers (outcome t) then min k (effective_lg_k t) else k) ts
 
 -- ---- leaves
 
@@ -73,7 +73,7 @@ abbrev mutual
   Leaves Q (new k w) = IsLgK k
   Leaves Q (image x) = IsLegal x × Q x
   Leaves Q (coupon t c) = Leaves Q t × IsPair c
-  Leaves Q (union_of m w ts) = IsLgK m × LeavesOfEach Q ts
+  Leaves Q (union_plan m w ts) = IsLgK m × LeavesOfEach Q ts
   Leaves Q (fold t e) = Leaves Q t × IsFoldLgK (effective_lg_k t) e
 
   pub LeavesOfEach : (Sketch → Type 0) → Plans → Type 0
@@ -90,7 +90,7 @@ abbrev mutual
   IsImageOf x (new k w) = ⊥
   IsImageOf x (image y) = x ≡ y
   IsImageOf x (coupon t c) = IsImageOf x t
-  IsImageOf x (union_of m w ts) = IsImageOfEach x ts
+  IsImageOf x (union_plan m w ts) = IsImageOfEach x ts
   IsImageOf x (fold t e) = IsImageOf x t
 
   pub IsImageOfEach : Sketch → Plans → Type 0

@@ -1,7 +1,7 @@
 -- Plans that differ in the order, repetition and grouping of children (docs/MODEL.md, "Convergence").
 use Rattle.std.specs.Prelude.{◌≡◌, ℕ, ◌⊎◌}
-use Rattle.hll_coupons.specs.declared.hll_type.HllType.{HllType}
-use Rattle.hll_merge.specs.Plan.{Plan, Plans, image, coupon, union_of, fold, no_plans, more_plans, outcome, Leaves}
+use Rattle.hll_base.specs.declared.hll_type.HllType.{HllType}
+use Rattle.hll_merge.specs.Plan.{Plan, Plans, image, coupon, union_plan, fold, no_plans, more_plans, outcome, Leaves}
 use Rattle.hll_sketch.specs.Grown.{IsGrown}
 
 -- the plan is one of the children
@@ -22,15 +22,15 @@ both_plans (more_plans t ts) us = more_plans t (both_plans ts us)
 -- A plan stored as its image and read again, children reordered or repeated, and some of them replaced by one union of the same bound at any width, anywhere in a plan.
 mutual
   pub data IsRearrangement : Plan → Plan → Type 0 where
-    reordered : {m : ℕ} {w : HllType} {ts us : Plans} → SameChildren ts us → IsRearrangement (union_of m w ts) (union_of m w us)
-    grouped : {m : ℕ} {v w : HllType} {ts us : Plans} → IsRearrangement (union_of m w (more_plans (union_of m v ts) us)) (union_of m w (both_plans ts us))
+    reordered : {m : ℕ} {w : HllType} {ts us : Plans} → SameChildren ts us → IsRearrangement (union_plan m w ts) (union_plan m w us)
+    grouped : {m : ℕ} {v w : HllType} {ts us : Plans} → IsRearrangement (union_plan m w (more_plans (union_plan m v ts) us)) (union_plan m w (both_plans ts us))
     same : {t : Plan} → IsRearrangement t t
     stored : {t : Plan} → IsRearrangement t (image (outcome t))
     flipped : {t u : Plan} → IsRearrangement u t → IsRearrangement t u
     chained : {t v : Plan} → (u : Plan) → Leaves IsGrown u → IsRearrangement t u → IsRearrangement u v → IsRearrangement t v
     below_coupon : {t u : Plan} {c : ℕ} → IsRearrangement t u → IsRearrangement (coupon t c) (coupon u c)
     below_fold : {t u : Plan} {e : ℕ} → IsRearrangement t u → IsRearrangement (fold t e) (fold u e)
-    below_union : {m : ℕ} {w : HllType} {ts us : Plans} → AreRearrangements ts us → IsRearrangement (union_of m w ts) (union_of m w us)
+    below_union : {m : ℕ} {w : HllType} {ts us : Plans} → AreRearrangements ts us → IsRearrangement (union_plan m w ts) (union_plan m w us)
 
   pub data AreRearrangements : Plans → Plans → Type 0 where
     none : AreRearrangements no_plans no_plans

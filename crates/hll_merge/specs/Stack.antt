@@ -30,7 +30,7 @@ pub record ReplacesLast (old : List SketchLayout) (IsFor : Sketch → Sketch →
   pub gives : new ≡ front ++ made ∷ []
 
 -- the last sketch is of an lg_k below
-pub record IsAbove (old : List SketchLayout) (e : ℕ) : Type 0 where
+pub record LastIsBelow (old : List SketchLayout) (e : ℕ) : Type 0 where
   pub front : List SketchLayout
   pub last : SketchLayout
   pub is : old ≡ front ++ last ∷ []

@@ -13,34 +13,6 @@ use hll_text::lines::{line_end, next_ended, without_return};
 use std::alloc::{AllocError, Allocator, Global};
 use std::marker::Model;
 
-/// Carries out the lines of a text that end in an LF, in turn, after `count` others. Returns what follows the last LF, and
-/// how many lines there were in all.
-fn carry_ended<'t, A: Allocator + Clone>(
-    stack: &mut Stack<A>,
-    count: u64,
-    text: &'t [u8],
-) -> Result<(&'t [u8], u64), MergeError>
-    ensures { MatchResult result
-        (λ r. (r.0.now ≡ open_line text.now) × (r.1 ≡ line_number (count + length (ended_lines text.now)))
-        × StackRuns stack.old (ended_lines text.now) stack.new)
-        (λ e. StackStops stack.old count (ended_lines text.now) e) }
-{
-    let mut number = count;
-    let mut rest = text;
-    'lines: loop {
-        match next_ended(rest) {
-            None => return Ok((rest, number)),
-            Some((line, more)) => {
-                number = number.saturating_add(1);
-                if let Err(fault) = stack.carry_line(line) {
-                    return Err(fault.at(number));
-                }
-                rest = more;
-            }
-        }
-    }
-}
-
 /// Carries out the line that is pending, if the piece has its LF, after `count` others. Returns what is left of the piece,
 /// and how many lines there were in all.
 fn close_line<'p, A: Allocator + Clone>(
@@ -89,14 +61,25 @@ fn take_piece<A: Allocator + Clone>(
         × StackRuns stack.old (ended_lines (pending.old.items ++ piece.now)) stack.new)
         (λ e. StackStops stack.old count (ended_lines (pending.old.items ++ piece.now)) e) }
 {
-    let (left, number) = close_line(stack, pending, count, piece)?;
-    let (rest, total) = match carry_ended(stack, number, left) {
-        Ok(found) => found,
-        Err(e) => return Err(e),
-    };
-    match pending.extend_from_slice(rest) {
-        Ok(()) => Ok(total),
-        Err(e) => Err(Fault::from(e).at(total)),
+    let (left, closed) = close_line(stack, pending, count, piece)?;
+    let mut number = closed;
+    let mut rest = left;
+    'lines: loop {
+        match next_ended(rest) {
+            None => {
+                return match pending.extend_from_slice(rest) {
+                    Ok(()) => Ok(number),
+                    Err(e) => Err(Fault::from(e).at(number)),
+                };
+            }
+            Some((line, more)) => {
+                number = number.saturating_add(1);
+                if let Err(fault) = stack.carry_line(line) {
+                    return Err(fault.at(number));
+                }
+                rest = more;
+            }
+        }
     }
 }
 

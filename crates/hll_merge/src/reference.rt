@@ -6,9 +6,9 @@ ghost use Rattle.hll_sketch.specs.Reference.{sketch_value, Fits};
 ghost use Rattle.hll_merge.specs.Plan as plans;
 
 use hll_base::error::Error;
+use hll_base::hll_type::HllType;
 use hll_coupons::coupon::Coupon;
-use hll_coupons::hll_type::HllType;
-use hll_sketch::reference::{ReferenceSketch, add, empty, fold, merge};
+use hll_sketch::reference::{ReferenceSketch, add, empty, merge};
 use std::alloc::Allocator;
 
 /// The outcome of a new plan (docs/MODEL.md, "Plans"). Takes no memory.
@@ -36,23 +36,6 @@ pub fn outcome_of_coupon<A: Allocator + Clone>(
     add(alloc, sketch, &[coupon])
 }
 
-/// The outcome of a plan folded to an `lg_k` (docs/MODEL.md, "Plans").
-///
-/// Takes memory for the coupons or registers several times over. Fails with `Memory`.
-pub fn outcome_of_fold<A: Allocator + Clone>(
-    alloc: A,
-    sketch: &ReferenceSketch<A>,
-    lg_k: u8,
-) -> Result<ReferenceSketch<A>, Error>
-    requires small { lg_k ≤ 21 }
-    requires fits { Fits (sketch_value sketch.now) }
-    ensures ok { IfOk result (λ new. sketch_value new ≡ plans.outcome (plans.fold (plans.image (sketch_value sketch.now)) lg_k)) }
-    ensures fits { IfOk result (λ new. Fits (sketch_value new)) }
-    ensures err { IfErr result (λ e. e ≡ Memory) }
-{
-    fold(alloc, sketch, lg_k)
-}
-
 /// The outcome of a union of plans, within a bound of `lg_k` and at a width (docs/MODEL.md, "Plans").
 ///
 /// Takes memory for the coupons or registers several times over. Fails with `Memory`.
@@ -64,7 +47,7 @@ pub fn outcome_of_union<A: Allocator + Clone>(
 ) -> Result<ReferenceSketch<A>, Error>
     requires small { bound ≤ 21 }
     requires fits { All (λ x. Fits (sketch_value x)) children.now }
-    ensures ok { IfOk result (λ new. sketch_value new ≡ plans.outcome (plans.union_of bound width (plans.plans_of (map (λ x. plans.image (sketch_value x)) children.now)))) }
+    ensures ok { IfOk result (λ new. sketch_value new ≡ plans.outcome (plans.union_plan bound width (plans.plans_of (map (λ x. plans.image (sketch_value x)) children.now)))) }
     ensures fits { IfOk result (λ new. Fits (sketch_value new)) }
     ensures err { IfErr result (λ e. e ≡ Memory) }
 {

@@ -7,12 +7,12 @@ ghost use Rattle.hll_sketch.specs.Layout.{sketch_of};
 ghost use Rattle.hll_sketch.specs.Value.{IsLgK};
 ghost use Rattle.hll_text.specs.Step.{step_of, IsInRange, HasBytes};
 ghost use Rattle.hll_text.specs.Text.{new, image, union, reading, image_reading};
-ghost use Rattle.hll_merge.specs.Stack.{ReplacesLast, IsAbove, StackCarries, StackRefuses, StackGives, StackFaults};
+ghost use Rattle.hll_merge.specs.Stack.{ReplacesLast, LastIsBelow, StackCarries, StackRefuses, StackGives, StackFaults};
 ghost use Rattle.hll_text.specs.declared.fault.Fault.TheVariants.{Memory};
 ghost use Rattle.hll_text.specs.declared.fault.Fault.TheVariants as faults;
 
+use hll_base::hll_type::HllType;
 use hll_coupons::coupon::Coupon;
-use hll_coupons::hll_type::HllType;
 use hll_sketch::sketch::HllSketch;
 use hll_sketch::union::union_of;
 use hll_text::fault::Fault;
@@ -143,7 +143,7 @@ impl<A: Allocator + Clone> Stack<A> {
     fn push_fold(&mut self, lg_k: u8) -> Result<(), Fault>
         requires { IsLgK lg_k }
         ensures ok { OnOk result (ReplacesLast self.old (λ x y. (lg_k ≤ x.lg_k) × (y ≡ folding.folded x lg_k)) self.new) }
-        ensures err { IfErr result (λ e. (e ≡ Memory) ⊎ (((self.old ≡ []) × (e ≡ faults.Stack)) ⊎ (IsAbove self.old lg_k × (e ≡ faults.Fold)))) }
+        ensures err { IfErr result (λ e. (e ≡ Memory) ⊎ (((self.old ≡ []) × (e ≡ faults.Stack)) ⊎ (LastIsBelow self.old lg_k × (e ≡ faults.Fold)))) }
         ensures unchanged { OnErr result (self.new ≡ self.old) }
     {
         let Some(last) = self.sketches.last_mut() else {

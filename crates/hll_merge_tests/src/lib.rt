@@ -8,11 +8,7 @@ mod images;
 #[cfg(test)]
 mod pieces;
 #[cfg(test)]
-mod plans;
-#[cfg(test)]
 mod reference;
-#[cfg(test)]
-mod registers;
 #[cfg(test)]
 mod texts;
 #[cfg(test)]

@@ -4,8 +4,8 @@ ghost use Rattle.hll_sketch.specs.Reference.{sketch_value, Fits};
 
 use hll_arrays::estimate_state::EstimateState;
 use hll_base::error::Error;
+use hll_base::hll_type::HllType;
 use hll_coupons::coupon::Coupon;
-use hll_coupons::hll_type::HllType;
 use hll_coupons::reference::folded;
 use hll_merge::reference::{outcome_of_coupon, outcome_of_new, outcome_of_union};
 use hll_sketch::reference::{ReferenceContent, ReferenceSketch, array_of, pairs_of};

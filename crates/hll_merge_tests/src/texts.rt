@@ -1,30 +1,10 @@
-//! Texts of plans over memory: what they print, long lines, and streams that fail.
+//! Texts of plans over memory: long lines, and readers that fail.
 use crate::fixtures::run_over;
 use hll_merge::run::run;
 use hll_text::fakes::Failing;
 use hll_text::fault::{Fault, MergeError};
 use hll_text::watched::Watched;
 use std::test::Fail;
-
-/// Plans and what they print.
-pub(crate) const ANSWERS: [(&str, &str); 7] = [
-    ("new 10 4\n", "0201070a030c0000\n"),
-    ("new 4 6", "02010704030c0004\n"),
-    ("new 21 8", "02010715030c0008\n"),
-    ("new 10 8\ncoupon 5 3\n", "0201070a030801080500000c\n"),
-    (
-        "# a plan\r\n\nnew 10 8\r\ncoupon 5 3\ncoupon 5 3\n",
-        "0201070a030801080500000c\n",
-    ),
-    (
-        "new 10 8\ncoupon 7 2\ncoupon 5 1\ncoupon 07 02",
-        "0201070a030802080500000407000008\n",
-    ),
-    (
-        "new 4 8\ncoupon 67108863 63\ncoupon 16 1",
-        "020107040308020810000004ffffffff\n",
-    ),
-];
 
 /// A line of ten million bytes is read like any other.
 #[test]

@@ -1,13 +1,9 @@
 //! Reads a plan on standard input, and prints the image of its sketch (docs/PLAN.md, "The program").
 #![tactic(auto)]
 
-mod refusal;
-#[cfg(test)]
-mod tests;
-
 use hll_merge::run::run;
 use hll_merge::watched::Watched;
-use refusal::write_refusal;
+use hll_text::refusal::write_refusal;
 use std::process::ExitCode;
 
 fn main(rt: HostRuntime) -> ExitCode {

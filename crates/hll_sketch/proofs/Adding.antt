@@ -5,15 +5,16 @@ use Rattle.std.specs.Cmp.Lexicographic.{pointwise}
 use Rattle.std.specs.FinSet.{union, len, from_list}
 use Rattle.std.proofs.lemmas.Bool.{cases_Bool, cond-true, cond-false}
 use Rattle.hll_coupons.specs.Pair.{Pairs}
-use Rattle.hll_coupons.specs.Fold.{fold_to, join, pairs}
-use Rattle.hll_coupons.specs.declared.hll_type.HllType.{HllType}
-use Rattle.hll_coupons.proofs.Joins.{join_comm, join_itself, join_assoc}
+use Rattle.hll_coupons.specs.Fold.{fold_to, pairs}
+use Rattle.hll_base.specs.Join.{join}
+use Rattle.hll_base.specs.declared.hll_type.HllType.{HllType}
+use Rattle.hll_base.proofs.Joins.{join_comm, join_itself, join_assoc}
 use Rattle.hll_coupons.proofs.Folds.{fold_to-union}
-use Rattle.hll_arrays.specs.declared.estimate_state.EstimateState.{EstimateState}
-use Rattle.hll_arrays.specs.State.{cleared_state, state_after}
-use Rattle.hll_arrays.proofs.States.{same_decides, state_after-same, state_after-other, state_after-cleared_state}
+use Rattle.hll_registers.specs.declared.estimate_state.EstimateState.{EstimateState}
+use Rattle.hll_registers.specs.State.{cleared_state, state_after}
+use Rattle.hll_registers.proofs.States.{same_decides, state_after-same, state_after-other, state_after-cleared_state}
 use Rattle.hll_sketch.specs.Stage.{stage}
-use Rattle.hll_sketch.specs.Value.{Content, coupons, registers, Sketch, is_empty, has_registers}
+use Rattle.hll_sketch.specs.Value.{Content, coupons, registers, Sketch, is_empty, has_nonzero_registers}
 use Rattle.hll_sketch.specs.Adding.{content_for, content_with, add}
 use Rattle.hll_sketch.specs.Merging.{merge, merge_content, merge_registers, empty_union}
 use Rattle.hll_sketch.specs.Laws.{AddOfAdd, AddEach, add_in_turn, UnionLgK, Event, of_sketch, of_pairs, gadget_after_all, merged_sketches}
@@ -73,7 +74,7 @@ add_each x c cs = each_from x (from_list (c ∷ [])) cs ∙ ap (add x) (sym (fro
 
 -- ---- the lg_k of a union
 
-pub lg_k-merge : (m : ℕ) (g x : Sketch) → (merge m g x).lg_k ≡ (if has_registers x then min g.lg_k x.lg_k else g.lg_k)
+pub lg_k-merge : (m : ℕ) (g x : Sketch) → (merge m g x).lg_k ≡ (if has_nonzero_registers x then min g.lg_k x.lg_k else g.lg_k)
 lg_k-merge m g x = of x.lg_k x.width x.content
   where
     choose : (b d : Bool) (x : Sketch) (S : Pairs) → (if b then g else (if d then record g { content = x.content } else add g S)).lg_k ≡ g.lg_k
@@ -85,20 +86,20 @@ lg_k-merge m g x = of x.lg_k x.width x.content
     pick true y = refl
     pick false y = refl
 
-    of : (l : ℕ) (w : HllType) (c : Content) → let x : Sketch = record { lg_k = l; width = w; content = c } in (merge m g x).lg_k ≡ (if has_registers x then min g.lg_k l else g.lg_k)
+    of : (l : ℕ) (w : HllType) (c : Content) → let x : Sketch = record { lg_k = l; width = w; content = c } in (merge m g x).lg_k ≡ (if has_nonzero_registers x then min g.lg_k l else g.lg_k)
     of l w (coupons S p) = choose (eqb (len S) 0) (is_empty g && nat_eq g.lg_k l) (record { lg_k = l; width = w; content = coupons S p }) S
     of l w (registers R s) = pick (eqb (len (pairs R)) 0) (merge_registers m g l R s)
 
 -- the lg_k after one more
 abbrev pub lowered : ℕ → Sketch → ℕ
-lowered e x = if has_registers x then min x.lg_k e else e
+lowered e x = if has_nonzero_registers x then min x.lg_k e else e
 
 pub least-lowered : (e : ℕ) (x : Sketch) (xs : List Sketch) → least_lg_k (lowered e x) xs ≡ lowered (least_lg_k e xs) x
 least-lowered e x [] = refl
-least-lowered e x (y ∷ xs) = ap (λ n. cond (has_registers y) (min y.lg_k n) n) (least-lowered e x xs)
-    ∙ (elim (has_registers x) as (λ b. cond (has_registers y) (min y.lg_k (cond b (min x.lg_k n) n)) (cond b (min x.lg_k n) n) ≡ cond b (min x.lg_k (cond (has_registers y) (min y.lg_k n) n)) (cond (has_registers y) (min y.lg_k n) n)) [
+least-lowered e x (y ∷ xs) = ap (λ n. cond (has_nonzero_registers y) (min y.lg_k n) n) (least-lowered e x xs)
+    ∙ (elim (has_nonzero_registers x) as (λ b. cond (has_nonzero_registers y) (min y.lg_k (cond b (min x.lg_k n) n)) (cond b (min x.lg_k n) n) ≡ cond b (min x.lg_k (cond (has_nonzero_registers y) (min y.lg_k n) n)) (cond (has_nonzero_registers y) (min y.lg_k n) n)) [
       | false ↦ refl
-      | true ↦ elim (has_registers y) as (λ d. cond d (min y.lg_k (min x.lg_k n)) (min x.lg_k n) ≡ min x.lg_k (cond d (min y.lg_k n) n)) [ true ↦ omega arith | false ↦ refl ]
+      | true ↦ elim (has_nonzero_registers y) as (λ d. cond d (min y.lg_k (min x.lg_k n)) (min x.lg_k n) ≡ min x.lg_k (cond d (min y.lg_k n) n)) [ true ↦ omega arith | false ↦ refl ]
     ])
   where
     n : ℕ
@@ -107,7 +108,7 @@ least-lowered e x (y ∷ xs) = ap (λ n. cond (has_registers y) (min y.lg_k n) n
 -- the lg_k of a gadget after one more, and then others
 pub least-merge : (bound : ℕ) (g x : Sketch) (xs : List Sketch) → least_lg_k (merge bound g x).lg_k xs ≡ least_lg_k g.lg_k (x ∷ xs)
 least-merge bound g x xs =
-    let next : (merge bound g x).lg_k ≡ lowered g.lg_k x = lg_k-merge bound g x ∙ elim (has_registers x) as (λ b. cond b (min g.lg_k x.lg_k) g.lg_k ≡ cond b (min x.lg_k g.lg_k) g.lg_k) [ true ↦ omega arith | false ↦ refl ] in
+    let next : (merge bound g x).lg_k ≡ lowered g.lg_k x = lg_k-merge bound g x ∙ elim (has_nonzero_registers x) as (λ b. cond b (min g.lg_k x.lg_k) g.lg_k ≡ cond b (min x.lg_k g.lg_k) g.lg_k) [ true ↦ omega arith | false ↦ refl ] in
     ap (λ k. least_lg_k k xs) next ∙ least-lowered g.lg_k x xs
 
 lg_k-gadget_after_all : (bound : ℕ) (g : Sketch) (es : List Event) → (gadget_after_all bound g es).lg_k ≡ least_lg_k g.lg_k (merged_sketches es)

@@ -11,8 +11,8 @@ use Rattle.hll_coupons.specs.AuxMap.{entry_at}
 use Rattle.hll_coupons.specs.Coupons.{AreCoupons}
 use Rattle.hll_coupons.specs.Pair.{set_of, value_of}
 use Rattle.hll_coupons.specs.Payload.{HasListCount}
-use Rattle.hll_arrays.specs.Packed.{nibble_at}
-use Rattle.hll_arrays.specs.Payload.{Agrees, AreEntries, AllAgree, num_at_cur_min, exception_count, nibbles_of, entries_of}
+use Rattle.hll_kernels.specs.Packed.{nibble_at}
+use Rattle.hll_registers.specs.Payload.{Agrees, AreEntries, AllAgree, num_at_cur_min, exception_count, nibbles_of, entries_of}
 use Rattle.hll_sketch.specs.Image.{byte, lg_k_byte, table_byte, state_byte, preamble_byte, preamble_words, stage_bits, width_bits, is_flagged, list_shape, hll4_shape, HasLgK, HasHeader, HasSetTable}
 use Rattle.hll_sketch.specs.Checks.{Check, first_failing, header_checks, are_coupons, are_entries, agrees, all_below}
 

@@ -10,6 +10,7 @@ use Rattle.std.proofs.lemmas.List.Elements.{All-head, All-tail}
 use Rattle.hll_coupons.specs.Pair.{Pairs, set_of}
 use Rattle.hll_coupons.specs.Table.{Table, coupons_in, coupons_of, IsTable}
 use Rattle.hll_coupons.proofs.Members.{set_of-between, len-between, insert-member}
+use Rattle.hll_coupons.proofs.Reading.{len-set_of-le}
 use Rattle.hll_sketch.proofs.Inserting.{insert-union, set_of-nil}
 use Rattle.hll_sketch.proofs.Sets.{contains_union, union_assoc, union_none}
 use Rattle.hll_sketch.proofs.Steps.{len-insert_ge, len-insert_le}
@@ -69,17 +70,13 @@ len-union_longer S xs (y ∷ ys) =
 pub len-union_with : (S : Pairs) (xs ys : List ℕ) (c : ℕ) → len (union S (set_of (xs ++ c ∷ []))) ≤ len (union S (set_of (xs ++ c ∷ ys)))
 len-union_with S xs ys c = rw (sym (append-between xs ys c)) (len-union_longer S (xs ++ c ∷ []) ys)
 
-len-set_le : (xs : List ℕ) → len (set_of xs) ≤ length xs
-len-set_le [] = let none : len (set_of []) ≡ 0 = ap len set_of-nil ∙ len-empty nat_cmp in omega (arith, none)
-len-set_le (x ∷ xs) = omega (arith, len-insert_le (set_of xs) x, len-set_le xs)
-
 -- in a list without repetition one is not among those before it
 pub new_between : (xs ys : List ℕ) (c : ℕ) → len (set_of (xs ++ c ∷ ys)) ≡ length (xs ++ c ∷ ys) → contains (set_of xs) c ≡ false
 new_between xs ys c distinct = elim (cases_Bool (contains (set_of xs) c)) [
   | inl t ↦
       let there : contains (set_of (xs ++ ys)) c ≡ true = contains-from_list_nat (xs ++ ys) c ∙ list_any-append (λ y. nat_eq y c) xs ys ∙ or_left _ _ (sym (contains-from_list_nat xs c) ∙ t) in
       let same : set_of (xs ++ c ∷ ys) ≡ set_of (xs ++ ys) = set_of-between xs ys c ∙ insert-member (set_of (xs ++ ys)) c there in
-      absurd (omega (arith, distinct, ap len same, len-set_le (xs ++ ys), length-between xs ys c))
+      absurd (omega (arith, distinct, ap len same, len-set_of-le (xs ++ ys), length-between xs ys c))
   | inr f ↦ f
 ]
   where

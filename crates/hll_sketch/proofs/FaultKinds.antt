@@ -6,8 +6,8 @@ use Rattle.hll_base.specs.declared.error.ErrorKind.TheVariants.{InvalidData, Out
 use Rattle.hll_base.specs.Reason.{kind_of}
 use Rattle.hll_coupons.specs.Payload.{ListShape, ListFault, SetShape, SetFault}
 use Rattle.hll_coupons.specs.Payload as coupons
-use Rattle.hll_arrays.specs.Payload.{Hll8Fault, Hll6Fault, Hll4Shape, Hll4Fault}
-use Rattle.hll_arrays.specs.Payload as arrays
+use Rattle.hll_registers.specs.Payload.{Hll8Fault, Hll6Fault, Hll4Shape, Hll4Fault}
+use Rattle.hll_registers.specs.Payload as arrays
 use Rattle.hll_sketch.specs.Fault.{HeaderFault, FaultsAreOfData}
 use Rattle.hll_sketch.specs.Fault as fault
 
@@ -57,16 +57,16 @@ hll4_data h b r (arrays.Hll4Fault.number n l a) = refl
 hll4_data h b r (arrays.Hll4Fault.register n l a x d) = refl
 
 pub faults_are_of_data : FaultsAreOfData
-faults_are_of_data b r (fault.Fault.header f) = header_data b r f
-faults_are_of_data b r (fault.Fault.list_table l s n) = refl
-faults_are_of_data b r (fault.Fault.list_payload l s f) = list_data _ _ r f
-faults_are_of_data b r (fault.Fault.set_table l s k n) = refl
-faults_are_of_data b r (fault.Fault.set_short l s n) = refl
-faults_are_of_data b r (fault.Fault.set_payload l s k c f) = set_data _ _ r f
-faults_are_of_data b r (fault.Fault.hll_short l s w n) = refl
-faults_are_of_data b r (fault.Fault.hll8_payload l s w k f) = hll8_data _ _ r f
-faults_are_of_data b r (fault.Fault.hll6_payload l s w k f) = hll6_data _ _ r f
-faults_are_of_data b r (fault.Fault.hll4_payload l s w k f) = hll4_data _ _ r f
+faults_are_of_data b r (fault.IsFault.header f) = header_data b r f
+faults_are_of_data b r (fault.IsFault.list_table l s n) = refl
+faults_are_of_data b r (fault.IsFault.list_payload l s f) = list_data _ _ r f
+faults_are_of_data b r (fault.IsFault.set_table l s k n) = refl
+faults_are_of_data b r (fault.IsFault.set_short l s n) = refl
+faults_are_of_data b r (fault.IsFault.set_payload l s k c f) = set_data _ _ r f
+faults_are_of_data b r (fault.IsFault.hll_short l s w n) = refl
+faults_are_of_data b r (fault.IsFault.hll8_payload l s w k f) = hll8_data _ _ r f
+faults_are_of_data b r (fault.IsFault.hll6_payload l s w k f) = hll6_data _ _ r f
+faults_are_of_data b r (fault.IsFault.hll4_payload l s w k f) = hll4_data _ _ r f
 
 -- a fault of the header is not of memory
 pub not_memory : (b : List ℕ) (r : Reason) → HeaderFault b r → r ≡ reasons.Memory → ⊥

@@ -9,8 +9,8 @@ use Rattle.hll_coupons.specs.Coupons.{AreCoupons}
 use Rattle.hll_coupons.specs.Payload.{HasListCount, ListFault, list_places, list_coupons, set_count, set_places, set_coupons, HasSetCount, SetFault}
 use Rattle.hll_coupons.specs.Payload as coupons
 use Rattle.hll_coupons.proofs.Payloads.{front_number}
-use Rattle.hll_arrays.specs.Payload.{num_at_cur_min, exception_count, field_size, hll4_size, entries_of, HasEntries, IsWhole, HasPlainCounts, IsHll8Payload, IsHll6Payload, FirstHll8Fault, FirstHll6Fault, FirstHll4Fault}
-use Rattle.hll_arrays.specs.Payload as arrays
+use Rattle.hll_registers.specs.Payload.{num_at_cur_min, exception_count, field_size, hll4_size, entries_of, HasEntries, IsWhole, HasPlainCounts, IsHll8Payload, IsHll6Payload, FirstHll8Fault, FirstHll6Fault, FirstHll4Fault}
+use Rattle.hll_registers.specs.Payload as arrays
 use Rattle.hll_sketch.specs.Image.{lg_k_byte, table_byte, state_byte, width_bits, is_flagged, list_shape, set_shape, hll4_shape, HasHeader, HasSetTable}
 use Rattle.hll_sketch.specs.Checks.{Check, Checks, check, first_failing, checks_behind, list_checks, set_checks, plain_checks, hll4_checks, hll6_checks, hll8_checks, size_fault, first_fault}
 use Rattle.hll_sketch.proofs.Checks.{passed, failed, header_passed, Decides-leb, Decides-list_count, Decides-set_table, Decides-coupons, Decides-entries, Decides-small, Decides-plain, Decides-counts, Decides-table, Decides-all_agree}

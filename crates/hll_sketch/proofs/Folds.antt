@@ -5,7 +5,7 @@ use Rattle.std.proofs.lemmas.Bool.{cond-true, eq-eqb}
 use Rattle.hll_coupons.specs.Pair.{Pairs}
 use Rattle.hll_coupons.specs.Fold.{fold_to, pairs}
 use Rattle.hll_coupons.proofs.Registers.{fold_to-pairs, fold_to-pairs-fold_to}
-use Rattle.hll_arrays.specs.State.{IsState, cleared_state}
+use Rattle.hll_registers.specs.State.{IsState, cleared_state}
 use Rattle.hll_sketch.specs.Adding.{content_for}
 use Rattle.hll_sketch.specs.Folding.{folded_content, FoldedIsLegal, FoldedIsGrown, FoldedHasSameFolds}
 use Rattle.hll_sketch.specs.Grown.{IsGrownContent}

@@ -5,16 +5,16 @@ use Rattle.hll_coupons.specs.Coupons.{AreCoupons}
 use Rattle.hll_coupons.specs.Pair.{set_of}
 use Rattle.hll_coupons.specs.Payload.{list_places, list_coupons, list_table, set_coupons, set_places, IsSetPayload}
 use Rattle.hll_coupons.specs.Table.{Table, coupons_in, coupons_of}
-use Rattle.hll_coupons.specs.declared.hll_type.HllType.TheVariants.{Hll4, Hll6, Hll8}
+use Rattle.hll_base.specs.declared.hll_type.HllType.TheVariants.{Hll4, Hll6, Hll8}
 use Rattle.hll_coupons.proofs.Payloads.{front_set_coupons, front_set_places}
 use Rattle.hll_coupons.proofs.Reading.{coupons_in-list_table, list_coupons-front}
-use Rattle.hll_arrays.specs.Packed.{fields}
-use Rattle.hll_arrays.specs.Payload.{state_at, field_size, IsHll8Payload, IsHll6Payload, Hll4Shape, hll4_size, registers_of, shape_of_hll4, HasEntries, IsHll4Payload, IsWhole, Hll4Fault, FirstHll4Fault}
-use Rattle.hll_arrays.specs.Payload as payloads
-use Rattle.hll_arrays.specs.declared.aux_format.AuxFormat.TheVariants.{Compact, Updatable}
+use Rattle.hll_kernels.specs.Packed.{fields}
+use Rattle.hll_registers.specs.Payload.{state_at, field_size, IsHll8Payload, IsHll6Payload, Hll4Shape, hll4_size, registers_of, shape_of_hll4, HasEntries, IsHll4Payload, IsWhole, Hll4Fault, FirstHll4Fault}
+use Rattle.hll_registers.specs.Payload as payloads
+use Rattle.hll_registers.specs.declared.aux_format.AuxFormat.TheVariants.{Compact, Updatable}
 use Rattle.hll_base.specs.declared.error.Reason.{Reason}
 use Rattle.std.proofs.lemmas.Bool.{true≢false}
-use Rattle.hll_arrays.specs.Store.{Stored}
+use Rattle.hll_registers.specs.Store.{Stored}
 use Rattle.hll_arrays.proofs.Payloads.{front_places, state_at-front}
 use Rattle.hll_sketch.specs.Value.{coupons, registers}
 use Rattle.hll_sketch.specs.Image as image

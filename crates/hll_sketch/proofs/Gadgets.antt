@@ -9,11 +9,12 @@ use Rattle.std.proofs.lemmas.List.Elements.{All-from_get_or}
 use Rattle.std.proofs.lemmas.Nat.{mod_below, pow_pos}
 use Rattle.std.proofs.Math.Nat.{zero-add}
 use Rattle.hll_coupons.specs.Pair.{Pairs, IsPair, set_of, slot_of, value_of, pair}
-use Rattle.hll_coupons.specs.Fold.{fold_to, join, pairs, greatest, value_at}
+use Rattle.hll_coupons.specs.Fold.{fold_to, pairs, greatest, value_at}
+use Rattle.hll_base.specs.Join.{join}
 use Rattle.hll_coupons.proofs.Greatest.{itself, reached}
 use Rattle.hll_coupons.proofs.Folds.{fold_to-union, length-fold_to, get_or-fold_to}
 use Rattle.hll_coupons.proofs.Registers.{fold_to-pairs, pairs_have, value_at_same}
-use Rattle.hll_arrays.specs.declared.estimate_state.EstimateState.{EstimateState}
+use Rattle.hll_registers.specs.declared.estimate_state.EstimateState.{EstimateState}
 use Rattle.hll_sketch.specs.Stage.{stage}
 use Rattle.hll_sketch.specs.Value.{Sketch, Content, coupons, registers, pairs_in, pairs_of, in_registers, is_empty, ArePairs, IsLegalContent, IsLegal}
 use Rattle.hll_sketch.specs.Adding.{content_for, content_with, add}

@@ -6,13 +6,13 @@ use Rattle.std.specs.Ordering.{nat_cmp}
 use Rattle.hll_base.specs.declared.error.Reason.TheVariants.{Family, LgArr, Count, Register}
 use Rattle.hll_coupons.specs.Pair.{pair}
 use Rattle.hll_coupons.specs.Payload.{list_coupons, set_count, set_coupons}
-use Rattle.hll_arrays.specs.declared.estimate_state.EstimateState.{EstimateState}
-use Rattle.hll_arrays.specs.State.{cleared_state}
-use Rattle.hll_arrays.specs.Payload.{registers_of, hll4_bytes, hll6_bytes}
-use Rattle.hll_arrays.specs.Payload as payload
+use Rattle.hll_registers.specs.declared.estimate_state.EstimateState.{EstimateState}
+use Rattle.hll_registers.specs.State.{cleared_state}
+use Rattle.hll_registers.specs.Payload.{registers_of, hll4_bytes, hll6_bytes}
+use Rattle.hll_registers.specs.Payload as payload
 use Rattle.hll_sketch.specs.Image.{list_shape, set_shape, hll4_shape}
 use Rattle.hll_sketch.specs.Checks.{first_fault}
-use Rattle.hll_sketch.specs.Fault.{Fault, set_table, hll8_payload, hll4_payload}
+use Rattle.hll_sketch.specs.Fault.{IsFault, set_table, hll8_payload, hll4_payload}
 
 -- ---- what images mean
 
@@ -86,14 +86,14 @@ written-exception = refl
 abbrev table_of_27 : List ℕ
 table_of_27 = 10 ∷ 1 ∷ 7 ∷ 4 ∷ 27 ∷ 0 ∷ 0 ∷ 2 ∷ 0 ∷ 0 ∷ 0 ∷ 0 ∷ 0 ∷ 0 ∷ 0 ∷ 0 ∷ 0 ∷ 0 ∷ 0 ∷ 0 ∷ 0 ∷ 0 ∷ 0 ∷ 0 ∷ 0 ∷ 0 ∷ 0 ∷ 0 ∷ 0 ∷ 0 ∷ 0 ∷ 0 ∷ 15 ∷ 0 ∷ 0 ∷ 0 ∷ 1 ∷ 0 ∷ 0 ∷ 0 ∷ []
 
-pub fault-table_of_27 : Fault table_of_27 LgArr
+pub fault-table_of_27 : IsFault table_of_27 LgArr
 fault-table_of_27 = hll4_payload (omega arith) refl refl (record { low = omega arith; high = omega arith }) (payload.table (omega arith) (omega arith) refl (λ e. cc) (omega arith))
 
 -- a nibble of 15 without its exception
 abbrev no_exception : List ℕ
 no_exception = 10 ∷ 1 ∷ 7 ∷ 4 ∷ 0 ∷ 8 ∷ 0 ∷ 2 ∷ 0 ∷ 0 ∷ 0 ∷ 0 ∷ 0 ∷ 0 ∷ 0 ∷ 0 ∷ 0 ∷ 0 ∷ 0 ∷ 0 ∷ 0 ∷ 0 ∷ 0 ∷ 0 ∷ 0 ∷ 0 ∷ 0 ∷ 0 ∷ 0 ∷ 0 ∷ 0 ∷ 0 ∷ 16 ∷ 0 ∷ 0 ∷ 0 ∷ 0 ∷ 0 ∷ 0 ∷ 0 ∷ 15 ∷ 0 ∷ 0 ∷ 0 ∷ 0 ∷ 0 ∷ 0 ∷ 0 ∷ []
 
-pub fault-no_exception : Fault no_exception Register
+pub fault-no_exception : IsFault no_exception Register
 fault-no_exception = hll4_payload (omega arith) refl refl (record { low = omega arith; high = omega arith })
     (payload.register (record { whole = omega arith; few = omega arith; table = λ c n. absurd (n refl) }) (omega arith)
     (record { valued = λ i d l. absurd (omega (arith, l)); distinct = len-empty nat_cmp }) refl (λ agree. omega (arith, (agree 0 (omega arith)).0)))
@@ -102,14 +102,14 @@ fault-no_exception = hll4_payload (omega arith) refl refl (record { low = omega 
 abbrev set_of_size_6 : List ℕ
 set_of_size_6 = 3 ∷ 1 ∷ 7 ∷ 8 ∷ 6 ∷ 8 ∷ 0 ∷ 9 ∷ 0 ∷ 0 ∷ 0 ∷ 0 ∷ []
 
-pub fault-set_of_size_6 : Fault set_of_size_6 LgArr
+pub fault-set_of_size_6 : IsFault set_of_size_6 LgArr
 fault-set_of_size_6 = set_table (omega arith) refl (record { low = omega arith; high = omega arith }) (λ t. omega (arith, t.high))
 
 -- more zeros counted than there are registers
 abbrev zeros_above : List ℕ
 zeros_above = 10 ∷ 1 ∷ 7 ∷ 4 ∷ 0 ∷ 0 ∷ 0 ∷ 10 ∷ 0 ∷ 0 ∷ 0 ∷ 0 ∷ 0 ∷ 0 ∷ 0 ∷ 0 ∷ 0 ∷ 0 ∷ 0 ∷ 0 ∷ 0 ∷ 0 ∷ 0 ∷ 0 ∷ 0 ∷ 0 ∷ 0 ∷ 0 ∷ 0 ∷ 0 ∷ 0 ∷ 0 ∷ 17 ∷ 0 ∷ 0 ∷ 0 ∷ 0 ∷ 0 ∷ 0 ∷ 0 ∷ 0 ∷ 0 ∷ 0 ∷ 0 ∷ 0 ∷ 0 ∷ 0 ∷ 0 ∷ 0 ∷ 0 ∷ 0 ∷ 0 ∷ 0 ∷ 0 ∷ 0 ∷ 0 ∷ []
 
-pub fault-zeros_above : Fault zeros_above Count
+pub fault-zeros_above : IsFault zeros_above Count
 fault-zeros_above = hll8_payload (omega arith) refl refl (record { low = omega arith; high = omega arith }) (payload.zero_count (omega arith) (omega arith))
 
 -- ---- first faults

@@ -3,7 +3,7 @@ use Rattle.std.proofs.Common.{◌≡◌, ◌≢◌, ℕ, ◌/◌, ◌%◌, ◌<�
 use Rattle.std.proofs.lemmas.List.{take-append-drop, take-append-le}
 use Rattle.hll_coupons.specs.Payload.{IsListPayload, IsSetPayload}
 use Rattle.hll_coupons.proofs.Payloads.{front_byte, front_rest, one_list, one_set}
-use Rattle.hll_arrays.specs.Payload.{IsHll8Payload, IsHll6Payload, IsHll4Payload}
+use Rattle.hll_registers.specs.Payload.{IsHll8Payload, IsHll6Payload, IsHll4Payload}
 use Rattle.hll_arrays.proofs.Payloads.{one_hll8, one_hll6, one_hll4}
 use Rattle.hll_sketch.specs.Image.{byte, stage_bits, width_bits, HasHeader, list_shape, set_shape, hll4_shape, list_value, set_value, hll8_value, hll6_value, hll4_value, IsListImage, IsSetImage, IsHll8Image, IsHll6Image, IsHll4Image, list, set, hll8, hll6, hll4, OneImage}
 

@@ -1,26 +1,23 @@
 -- A table and a coupon more, in the words of the definitions.
-use Rattle.std.proofs.Common.{◌≡◌, ℕ, ◌+◌, ◌*◌, ◌&&◌, ◌^◌, ◌≤◌, ◌<◌, Bool, true, false, not, cond, eqb, leb, [], ◌∷◌, length, Result, Ok, Err, OnOk, OnErr, sym, ap, ◌∙◌, arith}
-use mir.Val.{bool_byte}
+use Rattle.std.proofs.Common.{◌≡◌, ℕ, ◌+◌, ◌*◌, ◌&&◌, ◌^◌, ◌≤◌, ◌<◌, Bool, true, false, not, cond, eqb, leb, [], ◌∷◌, length, Result, Ok, Err, OnOk, OnErr, refl, sym, ap, ◌∙◌, arith}
 use Rattle.std.specs.Cmp.{nat_cmp_total}
 use Rattle.std.specs.FinSet.{contains, insert, union, len, len-insert}
 use Rattle.std.proofs.lemmas.Nat.{pow_pos}
-use Rattle.std.proofs.lemmas.Bool.{leb-true, cond-false, and_parts, true≢false}
+use Rattle.std.proofs.lemmas.Bool.{le-leb, lt-leb, leb-true, cond-false, and_parts, true≢false}
 use Rattle.std.proofs.lemmas.Bool.Decides.{nat_tests}
+use Rattle.hll_coupons.specs.Insertion.{IsInsertion, IfTaken}
+use Rattle.hll_coupons.specs.declared.container.Insertion.{Insertion}
+use Rattle.hll_coupons.specs.declared.container.Insertion.TheVariants.{Added, Held, Refused}
 use Rattle.hll_coupons.specs.Pair.{Pairs, set_of}
 use Rattle.hll_coupons.specs.Table.{Table, coupons_in, coupons_of, IsTable}
 use Rattle.hll_coupons.proofs.Listed.{finds}
-use Rattle.hll_arrays.specs.Store.{Stored, update_with_pairs, update_with_coupon}
-use Rattle.hll_sketch.specs.Stage.{holds, sizes, stage}
+use Rattle.hll_registers.specs.Store.{Stored, update_with_pairs, update_with_coupon}
+use Rattle.hll_sketch.specs.Stage.{can_hold, sizes, stage}
 use Rattle.hll_sketch.specs.Value.{coupons, registers}
 use Rattle.hll_sketch.specs.Adding.{content_for, content_with}
-use Rattle.hll_sketch.specs.Layout.{Layout, list, set, array, holds_with, IsSize, NeedsMemory, TableChanges}
+use Rattle.hll_sketch.specs.Layout.{Layout, list, set, array, can_hold_with, IsSize, NeedsMemory, TableChanges}
 use Rattle.hll_sketch.proofs.Inserting.{insert-union}
 use Rattle.hll_sketch.proofs.Steps.{stage_stays}
-
--- one more, unless the set has it
-pub count_with : (S : Pairs) (c : ℕ) (b : Bool) → b ≡ contains S c → len S + bool_byte (not b) ≡ len (insert S c)
-count_with S c true e = let same : len (insert S c) ≡ len S = len-insert nat_cmp_total S c ∙ ap (λ b. cond b (len S) (len S + 1)) (sym e) in omega (arith, same)
-count_with S c false e = let same : len (insert S c) ≡ len S + 1 = len-insert nat_cmp_total S c ∙ ap (λ b. cond b (len S) (len S + 1)) (sym e) in omega (arith, same)
 
 -- what a table that its coupons leave becomes
 pub content_for_as : (k : ℕ) (t u : Table) (c n : ℕ) → t ≡ u → n ≡ len (insert (coupons_of t) c) →
@@ -30,29 +27,43 @@ content_for_as k t u c n e count =
     ∙ ap (λ (v : Table). content_for k (insert (coupons_of v) c) (stage k v.lg_size (len (insert (coupons_of v) c)))) e
     ∙ ap (λ T. content_for k T (stage k u.lg_size (len T))) (insert-union (coupons_of u) c)
 
-pub holds_as : (t u : Table) (c n : ℕ) → t ≡ u → n ≡ len (insert (coupons_of t) c) → holds t.lg_size n ≡ holds u.lg_size (len (insert (coupons_of u) c))
-holds_as t u c n e count = ap (holds t.lg_size) count ∙ ap (λ (v : Table). holds v.lg_size (len (insert (coupons_of v) c))) e
+pub holds_as : (t u : Table) (c n : ℕ) → t ≡ u → n ≡ len (insert (coupons_of t) c) → can_hold t.lg_size n ≡ can_hold u.lg_size (len (insert (coupons_of u) c))
+holds_as t u c n e count = ap (can_hold t.lg_size) count ∙ ap (λ (v : Table). can_hold v.lg_size (len (insert (coupons_of v) c))) e
 
 -- a table that doesn't hold its coupons and this one changes with it
-changes : (k : ℕ) (t : Table) (c : ℕ) → holds t.lg_size (len (insert (coupons_of t) c)) ≡ false → TableChanges k t c
+changes : (k : ℕ) (t : Table) (c : ℕ) → can_hold t.lg_size (len (insert (coupons_of t) c)) ≡ false → TableChanges k t c
 changes k t c leaves stays =
     let n : ℕ = len (union (coupons_of t) (set_of (c ∷ []))) in
-    let found : (leb t.lg_size t.lg_size && holds t.lg_size n) ≡ true = (finds (λ size. leb t.lg_size size && holds size n) (sizes k) t.lg_size stays).1 in
-    true≢false (sym (and_parts (leb t.lg_size t.lg_size) (holds t.lg_size n) found).1 ∙ sym (ap (λ S. holds t.lg_size (len S)) (insert-union (coupons_of t) c)) ∙ leaves)
+    let found : (leb t.lg_size t.lg_size && can_hold t.lg_size n) ≡ true = (finds (λ size. leb t.lg_size size && can_hold size n) (sizes k) t.lg_size stays).1 in
+    true≢false (sym (and_parts (leb t.lg_size t.lg_size) (can_hold t.lg_size n) found).1 ∙ sym (ap (λ S. can_hold t.lg_size (len S)) (insert-union (coupons_of t) c)) ∙ leaves)
 
 -- so an update that puts something else in its place may need memory
-pub needs_memory : (k : ℕ) (l : Layout) (c : ℕ) → holds_with l c ≡ false → NeedsMemory k l c
+pub needs_memory : (k : ℕ) (l : Layout) (c : ℕ) → can_hold_with l c ≡ false → NeedsMemory k l c
 needs_memory k (list width t) c leaves = changes k t c leaves
 needs_memory k (set width t) c leaves = changes k t c leaves
 needs_memory k (array width x e) c leaves = absurd (true≢false leaves)
 
 -- what a table that holds its coupons becomes
-pub stays_as : (k : ℕ) (t : Table) (c : ℕ) (S : Pairs) (size : ℕ) → IsSize k t.lg_size → holds t.lg_size (len (insert (coupons_of t) c)) ≡ true →
+pub stays_as : (k : ℕ) (t : Table) (c : ℕ) (S : Pairs) (size : ℕ) → IsSize k t.lg_size → can_hold t.lg_size (len (insert (coupons_of t) c)) ≡ true →
     S ≡ insert (coupons_of t) c → size ≡ t.lg_size → coupons S size ≡ content_with k (coupons (coupons_of t) t.lg_size) (set_of (c ∷ []))
 stays_as k t c S size is holds' members same =
     (λ i. coupons (members i) (same i))
     ∙ ap (content_for k (insert (coupons_of t) c)) (sym (stage_stays k t.lg_size (len (insert (coupons_of t) c)) is holds'))
     ∙ ap (λ T. content_for k T (stage k t.lg_size (len T))) (insert-union (coupons_of t) c)
+
+-- what an update of a table with the most coupons that it can hold says
+pub taken_as : (k : ℕ) (t : Table) (c most : ℕ) (r : Insertion) (S : Pairs) (size : ℕ) → IsSize k t.lg_size → ((n : ℕ) → can_hold t.lg_size n ≡ leb n most) →
+    IsInsertion (coupons_of t) c most r → (r ≡ Refused → ⊥) → IfTaken r (S ≡ insert (coupons_of t) c) → size ≡ t.lg_size →
+    coupons S size ≡ content_with k (coupons (coupons_of t) t.lg_size) (set_of (c ∷ []))
+taken_as k t c most Added S size is bound few none members same = stays_as k t c S size is (bound _ ∙ le-leb _ most few.1) members same
+taken_as k t c most Held S size is bound few none members same = stays_as k t c S size is (bound _ ∙ le-leb _ most few.1) members same
+taken_as k t c most Refused S size is bound few none members same = absurd (none refl)
+
+pub refused_as : (t : Table) (c most : ℕ) (r : Insertion) → ((n : ℕ) → can_hold t.lg_size n ≡ leb n most) → IsInsertion (coupons_of t) c most r → r ≡ Refused →
+    can_hold t.lg_size (len (insert (coupons_of t) c)) ≡ false
+refused_as t c most Added bound few e = cc
+refused_as t c most Held bound few e = cc
+refused_as t c most Refused bound many e = bound _ ∙ lt-leb _ most many
 
 pub updated_as : (k : ℕ) (x y : Stored) (c : ℕ) → x.lg_k ≡ k → y ≡ update_with_coupon x c → registers y.registers y.state ≡ content_with k (registers x.registers x.state) (set_of (c ∷ []))
 updated_as k x y c same e =
@@ -60,23 +71,14 @@ updated_as k x y c same e =
     ∙ ap (λ m. let z : Stored = update_with_pairs (record { lg_k = m; registers = x.registers; state = x.state }) (set_of (c ∷ [])) in registers z.registers z.state) same
 
 -- a list that holds one more has a free place for it
-pub room_of_list : (t : Table) (c : ℕ) → IsTable t → t.lg_size ≡ 3 → holds t.lg_size (len (insert (coupons_of t) c)) ≡ true → contains (coupons_of t) c ≡ false →
+pub room_of_list : (t : Table) (c : ℕ) → IsTable t → t.lg_size ≡ 3 → can_hold t.lg_size (len (insert (coupons_of t) c)) ≡ true → contains (coupons_of t) c ≡ false →
     length (coupons_in t.places) < 2 ^ t.lg_size
 room_of_list t c table three holds' fresh =
-    let seven : holds 3 (len (insert (coupons_of t) c)) ≡ true = ap (λ q. holds q (len (insert (coupons_of t) c))) (sym three) ∙ holds' in
+    let seven : can_hold 3 (len (insert (coupons_of t) c)) ≡ true = ap (λ q. can_hold q (len (insert (coupons_of t) c))) (sym three) ∙ holds' in
     let few : len (insert (coupons_of t) c) ≤ 7 = leb-true _ 7 seven in
     let more : len (insert (coupons_of t) c) ≡ len (coupons_of t) + 1 = len-insert nat_cmp_total (coupons_of t) c ∙ ap (λ b. cond b (len (coupons_of t)) (len (coupons_of t) + 1)) fresh in
     let eight : 2 ^ t.lg_size ≡ 8 = ap (λ q. 2 ^ q) three in
     omega (arith, few, more, eight, table.distinct)
-
--- a set that holds so many has a free place
-pub room_of_set : (p n : ℕ) → 5 ≤ p → holds p n ≡ true → n < 2 ^ p
-room_of_set p n low h =
-    let few : 4 * n ≤ 3 * 2 ^ p = leb-true (4 * n) (3 * 2 ^ p) (sym (cond-false (eqb p 3) (leb n 7) (leb (4 * n) (3 * 2 ^ p)) (other p low)) ∙ h) in
-    omega (arith, few, pow_pos p)
-  where
-    other : (p : ℕ) → 5 ≤ p → eqb p 3 ≡ false
-    other p h = grind (arith, nat_tests)
 
 -- what follows from either outcome
 pub either_way : {X E : Type 0} (r : Result X E) (P Q T : Type 0) → OnOk r P → OnErr r Q → (P → T) → (Q → T) → T

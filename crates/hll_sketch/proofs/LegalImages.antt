@@ -15,12 +15,12 @@ use Rattle.hll_coupons.specs.Pair.{IsPair, set_of, slot_of, value_of}
 use Rattle.hll_coupons.specs.Coupons.{words, coupons_at}
 use Rattle.hll_coupons.proofs.Greatest.{same_word}
 use Rattle.hll_coupons.proofs.Listed.{has, finds}
-use Rattle.hll_arrays.specs.State.{IsState}
-use Rattle.hll_arrays.specs.Store.{AreRegisters}
-use Rattle.hll_arrays.specs.Packed.{fields, nibble_at}
+use Rattle.hll_registers.specs.State.{IsState}
+use Rattle.hll_kernels.specs.Packed.{AreRegisters}
+use Rattle.hll_kernels.specs.Packed.{fields, nibble_at}
 use Rattle.hll_coupons.specs.AuxMap.{entry_at}
-use Rattle.hll_arrays.specs.Payload.{state_at, Hll4Shape, IsHll4Payload, Agrees, register_of, entries_of, nibbles_of, exception_places, registers_of}
-use Rattle.hll_arrays.proofs.Grouping.{length-fields}
+use Rattle.hll_registers.specs.Payload.{state_at, Hll4Shape, IsHll4Payload, Agrees, register_of, entries_of, nibbles_of, exception_places, registers_of}
+use Rattle.hll_kernels.proofs.Grouping.{length-fields}
 use Rattle.hll_sketch.specs.Value.{ArePairs}
 use Rattle.hll_sketch.specs.Image.{AreBytes, list, set, hll8, hll6, hll4, list_shape, set_shape, hll4_shape, ImageIsLegal}
 

@@ -1,7 +1,7 @@
 -- What a sketch keeps is a legal sketch value.
 use Rattle.std.proofs.Common.{◌≡◌, ℕ, ◌≤◌, ◌^◌, length, ap, inl, inr, arith}
 use Rattle.hll_coupons.specs.Table.{Table, coupons_in, IsTable}
-use Rattle.hll_coupons.specs.declared.hll_type.HllType.{HllType}
+use Rattle.hll_base.specs.declared.hll_type.HllType.{HllType}
 use Rattle.hll_sketch.specs.Layout as layouts
 use Rattle.hll_sketch.specs.Layout.{SketchLayout, sketch_of, IsLayoutFor}
 use Rattle.hll_sketch.specs.Value.{IsLgK, IsLegal}

@@ -8,15 +8,16 @@ use Rattle.std.proofs.lemmas.Bool.{cases_Bool, cond-true, cond-false, and_parts,
 use Rattle.std.proofs.lemmas.List.Elements.{All-from_get_or}
 use Rattle.std.proofs.lemmas.Nat.{pow_pos, pow_below}
 use Rattle.hll_coupons.specs.Pair.{Pairs, value_of}
-use Rattle.hll_coupons.specs.Fold.{fold_to, join, pairs, greatest, value_at}
+use Rattle.hll_coupons.specs.Fold.{fold_to, pairs, greatest, value_at}
+use Rattle.hll_base.specs.Join.{join}
 use Rattle.hll_coupons.proofs.Greatest.{bounded}
 use Rattle.hll_coupons.proofs.Folds.{length-fold_to, get_or-fold_to}
-use Rattle.hll_coupons.proofs.Joins.{length-join, get_or-join}
+use Rattle.hll_base.proofs.Joins.{length-join, get_or-join}
 use Rattle.hll_coupons.proofs.Registers.{value_at_cases, StandsFor, pairs_only, value_of-pair}
-use Rattle.hll_arrays.specs.declared.estimate_state.EstimateState.{EstimateState}
-use Rattle.hll_arrays.specs.State.{IsState, cleared_state, state_after}
-use Rattle.hll_arrays.specs.Store.{AreRegisters}
-use Rattle.hll_sketch.specs.Stage.{stage, holds}
+use Rattle.hll_registers.specs.declared.estimate_state.EstimateState.{EstimateState}
+use Rattle.hll_registers.specs.State.{IsState, cleared_state, state_after}
+use Rattle.hll_kernels.specs.Packed.{AreRegisters}
+use Rattle.hll_sketch.specs.Stage.{stage, can_hold}
 use Rattle.hll_sketch.specs.Value.{Sketch, Content, coupons, registers, pairs_in, pairs_of, is_empty, ArePairs, IsLgK, IsTableFor, IsLegalContent, IsLegal}
 use Rattle.hll_sketch.specs.Adding.{content_for, content_with, add}
 use Rattle.hll_sketch.specs.Merging.{merge_coupons, merge_content, state_after_merge}
@@ -37,14 +38,14 @@ found_in_range f a (suc n) q e = elim (cases_Bool (f a)) [
 ]
 
 pub legal_size : (k from n q : ℕ) → stage k from n ≡ Some q → IsTableFor k n q
-legal_size k from n q e = elim (cases_Bool (leb from 3 && holds 3 n)) [
+legal_size k from n q e = elim (cases_Bool (leb from 3 && can_hold 3 n)) [
   | inl t ↦
-      let at : Some 3 ≡ Some q = sym (cond-true (leb from 3 && holds 3 n) (Some 3) _ t) ∙ e in
+      let at : Some 3 ≡ Some q = sym (cond-true (leb from 3 && can_hold 3 n) (Some 3) _ t) ∙ e in
       let same : q ≡ 3 = cc in
-      inl (same, omega (arith, leb-true n 7 (and_parts (leb from 3) (holds 3 n) t).1))
+      inl (same, omega (arith, leb-true n 7 (and_parts (leb from 3) (can_hold 3 n) t).1))
   | inr z ↦
-      let r = found_in_range (λ size. leb from size && holds size n) 5 (k - 7) q (sym (cond-false (leb from 3 && holds 3 n) (Some 3) _ z) ∙ e) in
-      let fits : holds q n ≡ true = (and_parts (leb from q) (holds q n) r.2).1 in
+      let r = found_in_range (λ size. leb from size && can_hold size n) 5 (k - 7) q (sym (cond-false (leb from 3 && can_hold 3 n) (Some 3) _ z) ∙ e) in
+      let fits : can_hold q n ≡ true = (and_parts (leb from q) (can_hold q n) r.2).1 in
       let other : eqb q 3 ≡ false = ne_eqb q 3 (λ s. omega (arith, r.0)) in
       let most : 4 * n ≤ 3 * 2 ^ q = leb-true (4 * n) (3 * 2 ^ q) (sym (cond-false (eqb q 3) (leb n 7) (leb (4 * n) (3 * 2 ^ q)) other) ∙ fits) in
       inr (r.0, omega (arith, r.1), omega (arith, pow_pos q))

@@ -25,7 +25,7 @@ pub mod Merges
 pub mod Promoting
 pub mod ReadBack
 pub mod ReferenceSteps
-pub mod RegisterImages
+pub mod Refusals
 pub mod Regrouping
 pub mod SameLemmas
 pub mod Sets

@@ -5,11 +5,12 @@ use Rattle.std.specs.Ordering.{nat_cmp}
 use Rattle.std.specs.FinSet.{empty, union, len, contains-empty, empty_of_len}
 use Rattle.std.proofs.lemmas.Bool.{cases_Bool, cond-true, cond-false, eqb-true, and_parts, true≢false}
 use Rattle.hll_coupons.specs.Pair.{Pairs}
-use Rattle.hll_coupons.specs.Fold.{fold_to, join, pairs}
+use Rattle.hll_coupons.specs.Fold.{fold_to, pairs}
+use Rattle.hll_base.specs.Join.{join}
 use Rattle.hll_coupons.proofs.Folds.{fold_to-union}
 use Rattle.hll_coupons.proofs.Registers.{fold_to-pairs-fold_to, fold_to-pairs}
-use Rattle.hll_coupons.specs.declared.hll_type.HllType.{HllType}
-use Rattle.hll_arrays.specs.declared.estimate_state.EstimateState.{EstimateState}
+use Rattle.hll_base.specs.declared.hll_type.HllType.{HllType}
+use Rattle.hll_registers.specs.declared.estimate_state.EstimateState.{EstimateState}
 use Rattle.hll_sketch.specs.Stage.{stage}
 use Rattle.hll_sketch.specs.Value.{Content, coupons, registers, Sketch, pairs_in, pairs_of, is_empty, empty_sketch, ArePairs, IsLegal}
 use Rattle.hll_sketch.specs.Meaning.{Means}

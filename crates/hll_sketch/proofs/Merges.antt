@@ -8,20 +8,21 @@ use Rattle.std.specs.Option.{unwrap_or}
 use Rattle.std.proofs.lemmas.Nat.{pow_below, pow_pos}
 use Rattle.hll_coupons.specs.AuxMap.{ExceptionMap}
 use Rattle.hll_coupons.specs.Pair.{Pairs, set_of}
-use Rattle.hll_coupons.specs.Fold.{fold_to, join, pairs}
+use Rattle.hll_coupons.specs.Fold.{fold_to, pairs}
+use Rattle.hll_base.specs.Join.{join}
 use Rattle.hll_coupons.proofs.Folds.{fold_to-union}
 use Rattle.hll_coupons.proofs.Registers.{fold_to-pairs}
-use Rattle.hll_coupons.specs.declared.hll_type.HllType.{HllType}
+use Rattle.hll_base.specs.declared.hll_type.HllType.{HllType}
 use Rattle.hll_coupons.specs.Table.{Table, coupons_of}
-use Rattle.hll_coupons.specs.declared.hll_type.HllType.TheVariants.{Hll4, Hll6, Hll8}
-use Rattle.hll_arrays.specs.declared.estimate_state.EstimateState.{EstimateState}
-use Rattle.hll_arrays.specs.State.{cleared_state}
-use Rattle.hll_arrays.specs.Store.{Stored, merge_with}
-use Rattle.hll_sketch.specs.Stage.{holds, stage}
+use Rattle.hll_base.specs.declared.hll_type.HllType.TheVariants.{Hll4, Hll6, Hll8}
+use Rattle.hll_registers.specs.declared.estimate_state.EstimateState.{EstimateState}
+use Rattle.hll_registers.specs.State.{cleared_state}
+use Rattle.hll_registers.specs.Store.{Stored, merge_with}
+use Rattle.hll_sketch.specs.Stage.{can_hold, stage}
 use Rattle.hll_sketch.specs.Value.{Sketch, Content, coupons, registers, pairs_in, pairs_of, is_empty, in_registers, IsTableFor, IsLgK, IsLegalContent, IsLegal}
 use Rattle.hll_sketch.specs.Adding.{add, content_for, content_with}
 use Rattle.hll_sketch.specs.Layout.{Layout, list, set, array, SketchLayout, content_in, count_in, width_of, sketch_of, IsSize, TableChanges, NeedsMemory}
-use Rattle.hll_sketch.specs.Union.{IsGadget, coupons_kept, holds_all, ContentNeedsMemory}
+use Rattle.hll_sketch.specs.Union.{IsGadget, coupons_kept, can_hold_all, ContentNeedsMemory}
 use Rattle.hll_sketch.specs.Joined.{least_lg_k}
 use Rattle.hll_sketch.specs.Laws.{add_in_turn}
 use Rattle.hll_sketch.specs.Merging.{merge, merge_all, merge_content, merge_coupons, merge_registers, state_after_merge}
@@ -84,15 +85,15 @@ in_turn g (c ∷ cs) some = add_each g c cs
 -- ---- room
 
 -- the size that a count stays at holds it
-pub stays_held : (k p q n : ℕ) → stage k p n ≡ Some q → holds q n ≡ true
-stays_held k p q n e = elim (cases_Bool (leb p 3 && holds 3 n)) [
+pub stays_held : (k p q n : ℕ) → stage k p n ≡ Some q → can_hold q n ≡ true
+stays_held k p q n e = elim (cases_Bool (leb p 3 && can_hold 3 n)) [
   | inl t ↦
-      let at : Some 3 ≡ Some q = sym (cond-true (leb p 3 && holds 3 n) (Some 3) _ t) ∙ e in
+      let at : Some 3 ≡ Some q = sym (cond-true (leb p 3 && can_hold 3 n) (Some 3) _ t) ∙ e in
       let same : 3 ≡ q = cc in
-      ap (λ m. holds m n) (sym same) ∙ (and_parts (leb p 3) (holds 3 n) t).1
+      ap (λ m. can_hold m n) (sym same) ∙ (and_parts (leb p 3) (can_hold 3 n) t).1
   | inr z ↦
-      let r = found_in_range (λ size. leb p size && holds size n) 5 (k - 7) q (sym (cond-false (leb p 3 && holds 3 n) (Some 3) _ z) ∙ e) in
-      (and_parts (leb p q) (holds q n) r.2).1
+      let r = found_in_range (λ size. leb p size && can_hold size n) 5 (k - 7) q (sym (cond-false (leb p 3 && can_hold 3 n) (Some 3) _ z) ∙ e) in
+      (and_parts (leb p q) (can_hold q n) r.2).1
 ]
 
 -- ---- coupons in turn, where there is room for all
@@ -118,7 +119,7 @@ registers_in_turn g (y ∷ ys) h = registers_in_turn (add g (set_of (y ∷ [])))
     stay (registers R s) h = refl
 
 -- the size stays
-in_turn_stays : (g : Sketch) (S : Pairs) (p : ℕ) (ys zs : List ℕ) → g.content ≡ coupons S p → IsSize g.lg_k p → holds p (len (union S (set_of (ys ++ zs)))) ≡ true →
+in_turn_stays : (g : Sketch) (S : Pairs) (p : ℕ) (ys zs : List ℕ) → g.content ≡ coupons S p → IsSize g.lg_k p → can_hold p (len (union S (set_of (ys ++ zs)))) ≡ true →
     (add_in_turn g ys).content ≡ coupons (union S (set_of ys)) p
 in_turn_stays g S p [] zs is size room = is ∙ ap (λ T. coupons T p) (sym (union_none S))
 in_turn_stays g S p (y ∷ ys) zs is size room =
@@ -131,23 +132,23 @@ size_of_legal k n p (inl few) = inl few.0
 size_of_legal k n p (inr large) = inr (large.0, large.1)
 
 -- so a table of this content has room for one more of them
-table_stays : (k p : ℕ) (S : Pairs) (t : Table) (ys zs : List ℕ) (c : ℕ) → IsSize k p → holds p (len (union S (set_of (ys ++ c ∷ zs)))) ≡ true →
+table_stays : (k p : ℕ) (S : Pairs) (t : Table) (ys zs : List ℕ) (c : ℕ) → IsSize k p → can_hold p (len (union S (set_of (ys ++ c ∷ zs)))) ≡ true →
     coupons (coupons_of t) t.lg_size ≡ coupons (union S (set_of ys)) p → TableChanges k t c → ⊥
 table_stays k p S t ys zs c size room is changes =
     let members : coupons_of t ≡ union S (set_of ys) = cc in
     let same : t.lg_size ≡ p = cc in
     let all : union (coupons_of t) (set_of (c ∷ [])) ≡ union S (set_of (ys ++ c ∷ [])) = ap (λ T. union T (set_of (c ∷ []))) members ∙ sym (insert-union (union S (set_of ys)) c) ∙ sym (union_behind S ys c) in
-    let fit : holds p (len (union S (set_of (ys ++ c ∷ [])))) ≡ true = holds_fewer p _ _ (len-union_with S ys zs c) room in
+    let fit : can_hold p (len (union S (set_of (ys ++ c ∷ [])))) ≡ true = holds_fewer p _ _ (len-union_with S ys zs c) room in
     let stays : stage k p (len (union S (set_of (ys ++ c ∷ [])))) ≡ Some p = stage_stays k p _ size fit in
     changes ((λ i. stage k (same i) (len (all i))) ∙ stays ∙ ap (λ q. Some q) (sym same))
 
 -- so no coupon of them needs memory
 pub room_suffices : (x y : SketchLayout) (ys zs : List ℕ) (c : ℕ) → IsLegal (sketch_of x) → sketch_of y ≡ add_in_turn (sketch_of x) ys →
-    holds_all x.layout (set_of (ys ++ c ∷ zs)) ≡ true → NeedsMemory y.lg_k y.layout c → ⊥
+    can_hold_all x.layout (set_of (ys ++ c ∷ zs)) ≡ true → NeedsMemory y.lg_k y.layout c → ⊥
 room_suffices x y ys zs c legal same room needs = of x.lg_k x.layout y.lg_k y.layout legal same room needs
   where
     of_table : (k : ℕ) (w : HllType) (t : Table) (j : ℕ) (m : Layout) → let g : Sketch = record { lg_k = k; width = w; content = coupons (coupons_of t) t.lg_size } in
-        IsSize k t.lg_size → sketch_of (record { lg_k = j; layout = m }) ≡ add_in_turn g ys → holds t.lg_size (len (union (coupons_of t) (set_of (ys ++ c ∷ zs)))) ≡ true → NeedsMemory j m c → ⊥
+        IsSize k t.lg_size → sketch_of (record { lg_k = j; layout = m }) ≡ add_in_turn g ys → can_hold t.lg_size (len (union (coupons_of t) (set_of (ys ++ c ∷ zs)))) ≡ true → NeedsMemory j m c → ⊥
     of_table k w t j m size same room needs = pick m (ap (λ (x : Sketch). x.lg_k) same ∙ lg_k-add_in_turn g ys) (ap (λ (x : Sketch). x.content) same ∙ in_turn_stays g (coupons_of t) t.lg_size ys (c ∷ zs) refl size room) needs
       where
         g : Sketch
@@ -166,7 +167,7 @@ room_suffices x y ys zs c legal same room needs = of x.lg_k x.layout y.lg_k y.la
     of_registers w j (array Hll8 z o) other is reg needs = needs
 
     of : (k : ℕ) (l : Layout) (j : ℕ) (m : Layout) → IsLegal (sketch_of (record { lg_k = k; layout = l })) →
-        sketch_of (record { lg_k = j; layout = m }) ≡ add_in_turn (sketch_of (record { lg_k = k; layout = l })) ys → holds_all l (set_of (ys ++ c ∷ zs)) ≡ true → NeedsMemory j m c → ⊥
+        sketch_of (record { lg_k = j; layout = m }) ≡ add_in_turn (sketch_of (record { lg_k = k; layout = l })) ys → can_hold_all l (set_of (ys ++ c ∷ zs)) ≡ true → NeedsMemory j m c → ⊥
     of k (list w t) j m legal same room needs = of_table k w t j m (size_of_legal k _ t.lg_size legal.content.1) same room needs
     of k (set w t) j m legal same room needs = of_table k w t j m (size_of_legal k _ t.lg_size legal.content.1) same room needs
     of k (array Hll4 z o) j m legal same room needs = absurd (cc)
@@ -231,11 +232,11 @@ needs_whole y k c T q is none same filled = rw is (of (content_in y.layout) (λ 
     of (coupons S p) bare = inl (ap (λ b. b && nat_eq y.lg_k k) none ∙ eq-eqb y.lg_k k same)
     of (registers R s) bare = absurd (bare refl)
 
-pub needs_larger : (y : SketchLayout) (k : ℕ) (c : Content) (T : Pairs) (q : ℕ) → c ≡ coupons T q → width_of y.layout ≡ Hll8 → holds_all y.layout T ≡ false →
+pub needs_larger : (y : SketchLayout) (k : ℕ) (c : Content) (T : Pairs) (q : ℕ) → c ≡ coupons T q → width_of y.layout ≡ Hll8 → can_hold_all y.layout T ≡ false →
     ContentNeedsMemory (sketch_of y) (content_in y.layout) k c
 needs_larger y k c T q is width room = rw is (of y.layout width room)
   where
-    of : (l : Layout) → width_of l ≡ Hll8 → holds_all l T ≡ false → ContentNeedsMemory (sketch_of y) (content_in l) k (coupons T q)
+    of : (l : Layout) → width_of l ≡ Hll8 → can_hold_all l T ≡ false → ContentNeedsMemory (sketch_of y) (content_in l) k (coupons T q)
     of (list w t) width room = inr (λ e. true≢false (sym (stays_held y.lg_k t.lg_size t.lg_size _ e) ∙ room))
     of (set w t) width room = inr (λ e. true≢false (sym (stays_held y.lg_k t.lg_size t.lg_size _ e) ∙ room))
     of (array Hll4 x e) width room = absurd (cc)

@@ -4,15 +4,16 @@ use Rattle.std.proofs.lemmas.List.{append-nil}
 use Rattle.std.specs.FinSet.{empty, insert, union, contains, contains-empty}
 use Rattle.std.specs.Ordering.{nat_cmp}
 use Rattle.hll_coupons.specs.Pair.{Pairs, set_of}
-use Rattle.hll_coupons.specs.Fold.{fold_to, join}
+use Rattle.hll_coupons.specs.Fold.{fold_to}
+use Rattle.hll_base.specs.Join.{join}
 use Rattle.hll_coupons.proofs.Folds.{fold_to-union}
 use Rattle.hll_coupons.proofs.Members.{set_of-between}
 use Rattle.hll_coupons.proofs.ReferenceSteps.{fold_to-empty}
-use Rattle.hll_arrays.specs.State.{cleared_state}
-use Rattle.hll_arrays.specs.Store.{Stored, zero_registers, update_with_coupon}
-use Rattle.hll_arrays.proofs.States.{state_after-cleared_state}
+use Rattle.hll_registers.specs.State.{cleared_state}
+use Rattle.hll_registers.specs.Store.{Stored, zero_registers, update_with_coupon}
+use Rattle.hll_registers.proofs.States.{state_after-cleared_state}
 use Rattle.hll_sketch.proofs.Inserting.{insert-union, set_of-nil}
-use Rattle.hll_sketch.proofs.Sets.{same_members, contains_union}
+use Rattle.hll_sketch.proofs.Sets.{union-empty}
 
 -- registers of pairs, with the cleared state
 abbrev pub folded : ℕ → Pairs → Stored
@@ -36,6 +37,3 @@ folded-behind k order c = folded-more k (set_of order) c ∙ ap (folded k) (sym 
 -- registers of 0 joined with the fold of pairs are that fold
 pub join-zeros : (k : ℕ) (P : Pairs) → join (replicate (2 ^ k) 0) (fold_to P k) ≡ fold_to P k
 join-zeros k P = ap (λ R. join R (fold_to P k)) (fold_to-empty k) ∙ sym (fold_to-union empty P k) ∙ ap (λ Q. fold_to Q k) (union-empty P)
-  where
-    union-empty : (P : Pairs) → union empty P ≡ P
-    union-empty P = same_members (union empty P) P (λ q. contains_union empty P q ∙ ap (λ b. b || contains P q) (contains-empty nat_cmp q))

@@ -11,7 +11,7 @@ use Rattle.std.proofs.Math.Pow.{pow_mono}
 use Rattle.hll_coupons.specs.Pair.{Pairs, set_of}
 use Rattle.hll_coupons.specs.Fold.{fold_to}
 use Rattle.hll_coupons.proofs.Folds.{length-fold_to}
-use Rattle.hll_arrays.specs.Store.{AreRegisters}
+use Rattle.hll_kernels.specs.Packed.{AreRegisters}
 use Rattle.hll_sketch.proofs.Sets.{same_members, contains_union}
 
 -- a size that does not pass is passed over

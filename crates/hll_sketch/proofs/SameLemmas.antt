@@ -1,7 +1,7 @@
 -- The boolean equality of sketches is the equality of their values.
 use Rattle.std.proofs.Common.{◌≡◌, ℕ, sym, ap, ◌∙◌, arith}
 use Rattle.hll_coupons.specs.Table.{coupons_of}
-use Rattle.hll_arrays.specs.Store.{Stored}
+use Rattle.hll_registers.specs.Store.{Stored}
 use Rattle.hll_sketch.specs.Value.{IsEqualContent}
 use Rattle.hll_sketch.specs.Layout.{Layout, list, set, array, IsLayoutFor, width_of, content_in}
 use Rattle.hll_sketch.specs.Same.{SameIsEqual, of_list, of_set, of_array, key, same_sketch-from, same_sketch-to}

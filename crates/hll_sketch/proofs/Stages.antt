@@ -3,10 +3,10 @@ use Rattle.std.proofs.Common.{◌≡◌, ℕ, ◌+◌, ◌-◌, ◌*◌, ◌^◌
 use Rattle.std.specs.Prelude.{find}
 use Rattle.std.specs.List.{range_with_len}
 use Rattle.std.proofs.lemmas.Bool.{leb-true, le-leb, lt-leb, cases_Bool, and_parts, and_from, and_left, cond-true, cond-false, false_from_ne_true, true≢false}
-use Rattle.hll_sketch.specs.Stage.{sizes, holds, stage}
+use Rattle.hll_sketch.specs.Stage.{sizes, can_hold, stage}
 
 -- what holds more holds less
-pub holds_fewer : (q n m : ℕ) → n ≤ m → holds q m ≡ true → holds q n ≡ true
+pub holds_fewer : (q n m : ℕ) → n ≤ m → can_hold q m ≡ true → can_hold q n ≡ true
 holds_fewer q n m le =
     elim (eqb q 3) as (λ b. cond b (leb m 7) (leb (4 * m) (3 * 2 ^ q)) ≡ true → cond b (leb n 7) (leb (4 * n) (3 * 2 ^ q)) ≡ true) [
       | true ↦ λ h. le-leb n 7 (omega (arith, leb-true m 7 h))
@@ -37,12 +37,12 @@ find_agree f g b [] r h = refl
 find_agree f g b (x ∷ xs) r h = λ i. cond (h x r.0 i) (Some x) (find_agree f g (x + 1) xs r.1 (λ y l. h y (omega (arith, r.0))) i)
 
 abbrev fits : ℕ → ℕ → ℕ → Bool
-fits p n q = leb p q && holds q n
+fits p n q = leb p q && can_hold q n
 
 fits_fewer : (p n m q : ℕ) → n ≤ m → fits p n q ≡ false → fits p m q ≡ false
 fits_fewer p n m q le none = false_from_ne_true (fits p m q) (λ yes'.
-    let parts = and_parts (leb p q) (holds q m) yes' in
-    true≢false (sym (and_from (leb p q) (holds q n) parts.0 (holds_fewer q n m le parts.1)) ∙ none))
+    let parts = and_parts (leb p q) (can_hold q m) yes' in
+    true≢false (sym (and_from (leb p q) (can_hold q n) parts.0 (holds_fewer q n m le parts.1)) ∙ none))
 
 again : (b p q n m : ℕ) (xs : List ℕ) → Rising b xs → n ≤ m → find (fits p n) xs ≡ Some q → find (fits q m) xs ≡ find (fits p m) xs
 again b p q n m [] r le e = refl
@@ -50,13 +50,13 @@ again b p q n m (x ∷ xs) r le e = elim (cases_Bool (fits p n x)) [
   | inl here ↦
       let found : Some x ≡ Some q = sym (cond-true (fits p n x) (Some x) (find (fits p n) xs) here) ∙ e in
       let same : x ≡ q = cc in
-      let start : p ≤ x = leb-true p x (and_parts (leb p x) (holds x n) here).0 in
+      let start : p ≤ x = leb-true p x (and_parts (leb p x) (can_hold x n) here).0 in
       find_agree (fits q m) (fits p m) x (x ∷ xs) (omega arith, r.1) (λ y l.
-      ap (λ t. t && holds y m) (le-leb q y (omega arith) ∙ sym (le-leb p y (omega arith))))
+      ap (λ t. t && can_hold y m) (le-leb q y (omega arith) ∙ sym (le-leb p y (omega arith))))
   | inr later ↦
       let rest : find (fits p n) xs ≡ Some q = sym (cond-false (fits p n x) (Some x) (find (fits p n) xs) later) ∙ e in
       let past : x + 1 ≤ q = find_from (fits p n) (x + 1) xs q r.1 rest in
-      cond-false (fits q m x) _ _ (and_left (leb q x) (holds x m) (lt-leb q x (omega arith)))
+      cond-false (fits q m x) _ _ (and_left (leb q x) (can_hold x m) (lt-leb q x (omega arith)))
       ∙ again (x + 1) p q n m xs r.1 le rest
       ∙ sym (cond-false (fits p m x) _ _ (fits_fewer p n m x le later))
 ]
@@ -78,30 +78,8 @@ stage_none k p n m le e = none_more p n m (sizes k) le e
 
 -- ---- from a list on
 
--- a list holds up to seven pairs
-pub stage_list : (k n : ℕ) → n ≤ 7 → stage k 3 n ≡ Some 3
-stage_list k n few = cond-true (leb n 7) (Some 3) _ (le-leb n 7 few)
-
-pub stage_three : (k n : ℕ) → stage k 3 n ≡ Some 3 → n ≤ 7
-stage_three k n e = elim (cases_Bool (leb n 7)) [
-  | inl few ↦ leb-true n 7 few
-  | inr many ↦
-      let more : find (fits 3 n) (range_with_len 5 (k - 7)) ≡ Some 3 = sym (cond-false (leb n 7) (Some 3) (find (fits 3 n) (range_with_len 5 (k - 7))) many) ∙ e in
-      absurd (omega (arith, find_from (fits 3 n) 5 (range_with_len 5 (k - 7)) 3 (Rising-range 5 5 (k - 7) (omega arith)) more))
-]
-
 -- below 8 there is no set
 pub stage_low : (k n : ℕ) → k ≤ 7 → 8 ≤ n → stage k 3 n ≡ None
 stage_low k n low many =
     cond-false (leb n 7) (Some 3) (find (fits 3 n) (range_with_len 5 (k - 7))) (lt-leb n 7 (omega arith))
     ∙ ap (λ m. find (fits 3 n) (range_with_len 5 m)) (let none : k - 7 ≡ 0 = omega arith in none)
-
--- from 8 on there is one for few pairs
-pub stage_high : (k n : ℕ) → 8 ≤ k → n ≤ 24 → stage k 3 n ≡ None → ⊥
-stage_high k n high few e = elim (leb n 7) as (λ b. cond b (Some 3) (find (fits 3 n) (range_with_len 5 (k - 7))) ≡ None → ⊥) [
-  | true ↦ λ f. cc
-  | false ↦ λ f. of (sym (ap (λ m. find (fits 3 n) (range_with_len 5 m)) (let some : k - 7 ≡ suc (k - 8) = omega arith in some)) ∙ f)
-] e
-  where
-    of : find (fits 3 n) (range_with_len 5 (suc (k - 8))) ≡ None → ⊥
-    of f = let five : find (fits 3 n) (range_with_len 5 (suc (k - 8))) ≡ Some 5 = cond-true (leb (4 * n) 96) (Some 5) _ (le-leb (4 * n) 96 (omega arith)) in cc

@@ -8,22 +8,14 @@ use Rattle.std.proofs.lemmas.Bool.{le-leb, lt-leb, cases_lt, cases_eq, and_from,
 use Rattle.std.proofs.lemmas.Bool.Decides.{nat_tests}
 use Rattle.std.specs.Cmp.{nat_cmp_total}
 use Rattle.std.specs.FinSet.{contains, insert, len, len-insert}
+use Rattle.hll_coupons.proofs.Sought.{find_least}
 use Rattle.hll_coupons.specs.Pair.{Pairs}
 use Rattle.hll_coupons.specs.Table.{Table, coupons_in, coupons_of, IsTable}
-use Rattle.hll_sketch.specs.Stage.{holds, stage}
+use Rattle.hll_sketch.specs.Stage.{can_hold, stage}
 use Rattle.hll_sketch.specs.Layout.{IsSize, AtMost, size_after, OneStepSuffices}
 
 abbrev fits : ℕ → ℕ → ℕ → Bool
-fits p n q = leb p q && holds q n
-
--- the first that passes is found
-found_at : (f : ℕ → Bool) (a c q : ℕ) → a ≤ q → q < a + c → ((y : ℕ) → a ≤ y → y < q → f y ≡ false) → f q ≡ true → find f (range_with_len a c) ≡ Some q
-found_at f a zero q low high before here = absurd (omega arith)
-found_at f a (suc c) q low high before here = elim (cases_eq a q) [
-  | inl e ↦ cond-true (f a) (Some a) (find f (range_with_len (a + 1) c)) (ap f e ∙ here) ∙ ap (λ m. Some m) e
-  | inr other ↦ cond-false (f a) (Some a) (find f (range_with_len (a + 1) c)) (before a (omega arith) (omega (arith, other)))
-      ∙ found_at f (a + 1) c q (omega (arith, other)) (omega arith) (λ y l h. before y (omega arith) h) here
-]
+fits p n q = leb p q && can_hold q n
 
 none_at : (f : ℕ → Bool) (a c : ℕ) → ((y : ℕ) → a ≤ y → y < a + c → f y ≡ false) → find f (range_with_len a c) ≡ None
 none_at f a zero before = refl
@@ -31,63 +23,60 @@ none_at f a (suc c) before = cond-false (f a) (Some a) (find f (range_with_len (
     ∙ none_at f (a + 1) c (λ y l h. before y (omega arith) (omega arith))
 
 smaller : (p n q : ℕ) → q < p → fits p n q ≡ false
-smaller p n q l = and_left (leb p q) (holds q n) (lt-leb p q l)
+smaller p n q l = and_left (leb p q) (can_hold q n) (lt-leb p q l)
 
-too_many : (p n : ℕ) → holds p n ≡ false → fits p n p ≡ false
-too_many p n many = and_right (leb p p) (holds p n) many
+too_many : (p n : ℕ) → can_hold p n ≡ false → fits p n p ≡ false
+too_many p n many = and_right (leb p p) (can_hold p n) many
 
 past_three : (k p n : ℕ) → fits p n 3 ≡ false → stage k p n ≡ find (fits p n) (range_with_len 5 (k - 7))
 past_three k p n e = cond-false (fits p n 3) (Some 3) (find (fits p n) (range_with_len 5 (k - 7))) e
 
 -- coupons that a table holds stay in it
-pub stage_stays : (k p n : ℕ) → IsSize k p → holds p n ≡ true → stage k p n ≡ Some p
-stage_stays k p n (inl e) = subst (λ q. holds q n ≡ true → stage k q n ≡ Some q) (sym e) list
+pub stage_stays : (k p n : ℕ) → IsSize k p → can_hold p n ≡ true → stage k p n ≡ Some p
+stage_stays k p n (inl e) = subst (λ q. can_hold q n ≡ true → stage k q n ≡ Some q) (sym e) list
   where
-    list : holds 3 n ≡ true → stage k 3 n ≡ Some 3
-    list h = cond-true (fits 3 n 3) (Some 3) (find (fits 3 n) (range_with_len 5 (k - 7))) (and_from (leb 3 3) (holds 3 n) refl h)
+    list : can_hold 3 n ≡ true → stage k 3 n ≡ Some 3
+    list h = cond-true (fits 3 n 3) (Some 3) (find (fits 3 n) (range_with_len 5 (k - 7))) (and_from (leb 3 3) (can_hold 3 n) refl h)
 stage_stays k p n (inr (low, high)) = λ h.
     past_three k p n (smaller p n 3 (omega arith))
-    ∙ found_at (fits p n) 5 (k - 7) p low (omega arith) (λ y l u. smaller p n y u) (and_from (leb p p) (holds p n) (le-leb p p (omega arith)) h)
+    ∙ find_least (fits p n) 5 (k - 7) p low (omega arith) (λ y l u. smaller p n y u) (and_from (leb p p) (can_hold p n) (le-leb p p (omega arith)) h)
+
+not_three : (q : ℕ) → 3 < q → eqb q 3 ≡ false
+not_three q h = grind (arith, nat_tests)
 
 -- the size above 3 holds three quarters of its places
-holds_quarters : (q n : ℕ) → 3 < q → 4 * n ≤ 3 * 2 ^ q → holds q n ≡ true
+holds_quarters : (q n : ℕ) → 3 < q → 4 * n ≤ 3 * 2 ^ q → can_hold q n ≡ true
 holds_quarters q n above few = cond-false (eqb q 3) (leb n 7) (leb (4 * n) (3 * 2 ^ q)) (not_three q above) ∙ le-leb (4 * n) (3 * 2 ^ q) few
-  where
-    not_three : (q : ℕ) → 3 < q → eqb q 3 ≡ false
-    not_three q h = grind (arith, nat_tests)
 
 after_set : (p : ℕ) → 5 ≤ p → size_after p ≡ p + 1
-after_set p low = cond-false (eqb p 3) 5 (p + 1) (other p low)
-  where
-    other : (p : ℕ) → 5 ≤ p → eqb p 3 ≡ false
-    other p h = grind (arith, nat_tests)
+after_set p low = cond-false (eqb p 3) 5 (p + 1) (not_three p (omega (arith, low)))
 
 -- coupons that it doesn't hold go to the next size
-pub stage_next : (k p n q : ℕ) → IsSize k p → holds p n ≡ false → AtMost p n → q ≡ size_after p → q + 3 ≤ k → stage k p n ≡ Some q
-stage_next k p n q (inl three) = subst (λ p. holds p n ≡ false → AtMost p n → q ≡ size_after p → q + 3 ≤ k → stage k p n ≡ Some q) (sym three) list
+pub stage_next : (k p n q : ℕ) → IsSize k p → can_hold p n ≡ false → AtMost p n → q ≡ size_after p → q + 3 ≤ k → stage k p n ≡ Some q
+stage_next k p n q (inl three) = subst (λ p. can_hold p n ≡ false → AtMost p n → q ≡ size_after p → q + 3 ≤ k → stage k p n ≡ Some q) (sym three) list
   where
-    list : holds 3 n ≡ false → AtMost 3 n → q ≡ 5 → q + 3 ≤ k → stage k 3 n ≡ Some q
+    list : can_hold 3 n ≡ false → AtMost 3 n → q ≡ 5 → q + 3 ≤ k → stage k 3 n ≡ Some q
     list many few e fit =
         past_three k 3 n (too_many 3 n many)
-        ∙ found_at (fits 3 n) 5 (k - 7) q (omega (arith, e)) (omega arith) (λ y l u. absurd (omega (arith, e)))
-        (ap (fits 3 n) e ∙ and_from (leb 3 5) (holds 5 n) refl (holds_quarters 5 n (omega arith) (omega (arith, few.0 refl))))
+        ∙ find_least (fits 3 n) 5 (k - 7) q (omega (arith, e)) (omega arith) (λ y l u. absurd (omega (arith, e)))
+        (ap (fits 3 n) e ∙ and_from (leb 3 5) (can_hold 5 n) refl (holds_quarters 5 n (omega arith) (omega (arith, few.0 refl))))
 stage_next k p n q (inr (low, high)) = λ many few e fit.
     let is : q ≡ p + 1 = e ∙ after_set p low in
     let twice : 2 ^ (p + 1) ≡ 2 * 2 ^ p = ap (λ m. 2 ^ m) (let s : p + 1 ≡ suc p = omega arith in s) ∙ omega (arith, pow-suc 2 p) in
-    let coupons_in : holds (p + 1) n ≡ true = holds_quarters (p + 1) n (omega arith) (omega (arith, few.1 low, twice)) in
+    let coupons_in : can_hold (p + 1) n ≡ true = holds_quarters (p + 1) n (omega arith) (omega (arith, few.1 low, twice)) in
     past_three k p n (smaller p n 3 (omega arith))
-    ∙ found_at (fits p n) 5 (k - 7) q (omega arith) (omega arith)
+    ∙ find_least (fits p n) 5 (k - 7) q (omega arith) (omega arith)
     (λ y l u. elim (cases_lt y p) [
       | inl below ↦ smaller p n y below
       | inr above ↦ let same : y ≡ p = omega arith in ap (fits p n) same ∙ too_many p n many
     ])
-    (ap (fits p n) is ∙ and_from (leb p (p + 1)) (holds (p + 1) n) (le-leb p (p + 1) (omega arith)) coupons_in)
+    (ap (fits p n) is ∙ and_from (leb p (p + 1)) (can_hold (p + 1) n) (le-leb p (p + 1) (omega arith)) coupons_in)
 
 -- and where there is none, to registers
-pub stage_last : (k p n : ℕ) → IsSize k p → holds p n ≡ false → k < size_after p + 3 → stage k p n ≡ None
-stage_last k p n (inl three) = subst (λ p. holds p n ≡ false → k < size_after p + 3 → stage k p n ≡ None) (sym three) list
+pub stage_last : (k p n : ℕ) → IsSize k p → can_hold p n ≡ false → k < size_after p + 3 → stage k p n ≡ None
+stage_last k p n (inl three) = subst (λ p. can_hold p n ≡ false → k < size_after p + 3 → stage k p n ≡ None) (sym three) list
   where
-    list : holds 3 n ≡ false → k < 8 → stage k 3 n ≡ None
+    list : can_hold 3 n ≡ false → k < 8 → stage k 3 n ≡ None
     list many last =
         past_three k 3 n (too_many 3 n many) ∙ ap (λ m. find (fits 3 n) (range_with_len 5 m)) (let none : k - 7 ≡ 0 = omega arith in none)
 stage_last k p n (inr (low, high)) = λ many last.

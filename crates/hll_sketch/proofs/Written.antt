@@ -12,16 +12,17 @@ use Rattle.hll_coupons.specs.Pair.{Pairs, IsPair, set_of, value_of}
 use Rattle.hll_coupons.specs.Coupons.{words, coupons_at, coupon_bytes, AreCoupons, IsAscending, mode_byte, list_bytes, set_bytes}
 use Rattle.hll_coupons.specs.Table.{filled_from_front}
 use Rattle.hll_coupons.specs.Payload.{list_places, list_coupons, set_count, set_coupons}
-use Rattle.hll_coupons.specs.declared.hll_type.HllType.{HllType}
-use Rattle.hll_coupons.specs.declared.hll_type.HllType.TheVariants.{Hll4, Hll6, Hll8}
+use Rattle.hll_base.specs.declared.hll_type.HllType.{HllType}
+use Rattle.hll_base.specs.declared.hll_type.HllType.TheVariants.{Hll4, Hll6, Hll8}
 use Rattle.hll_coupons.proofs.Ascending.{len-ascending, written_once}
 use Rattle.hll_coupons.proofs.Greatest.{itself}
 use Rattle.hll_coupons.proofs.Payloads.{words-written, length-coupon_bytes, front_coupons}
-use Rattle.hll_arrays.specs.declared.estimate_state.EstimateState.{EstimateState}
-use Rattle.hll_arrays.specs.State.{IsState}
-use Rattle.hll_arrays.specs.Store.{AreRegisters}
-use Rattle.hll_arrays.specs.Packed.{minimum, exceptions}
-use Rattle.hll_arrays.specs.Payload.{flag_of, hll4_bytes, WritesRegisters, IsHll4Payload, Hll4Shape, registers_of}
+use Rattle.hll_registers.specs.declared.estimate_state.EstimateState.{EstimateState}
+use Rattle.hll_registers.specs.State.{IsState}
+use Rattle.hll_kernels.specs.Packed.{AreRegisters}
+use Rattle.hll_kernels.specs.Packed.{minimum}
+use Rattle.hll_registers.specs.Exceptions.{exceptions}
+use Rattle.hll_registers.specs.Payload.{flag_of, hll4_bytes, WritesRegisters, IsHll4Payload, Hll4Shape, registers_of}
 use Rattle.hll_arrays.proofs.Written.{written_hll8, state_hll8, registers_hll8, written_hll6, state_hll6, registers_hll6, written_hll4, state_hll4, registers_hll4}
 use Rattle.hll_sketch.specs.Value.{Sketch, Content, coupons, registers, ArePairs, IsLgK, IsLegalContent, IsEqual, IsEqualContent}
 use Rattle.hll_sketch.specs.Image.{width_of_bits, list_shape, set_shape, IsListImage, Image, list, set, hll8, hll6, hll4}

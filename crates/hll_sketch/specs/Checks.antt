@@ -9,11 +9,11 @@ use Rattle.hll_base.specs.declared.error.Reason.TheVariants.{Truncated, Family, 
 use Rattle.hll_coupons.specs.AuxMap.{entry_at}
 use Rattle.hll_coupons.specs.Pair.{slot_of, value_of, set_of}
 use Rattle.hll_coupons.specs.Payload.{list_places, list_coupons, set_count, set_places, set_coupons}
-use Rattle.hll_arrays.specs.Packed.{nibble_at}
-use Rattle.hll_arrays.specs.Payload.{num_at_cur_min, exception_count, field_size, hll4_size, nibbles_of, entries_of}
+use Rattle.hll_kernels.specs.Packed.{nibble_at}
+use Rattle.hll_registers.specs.Payload.{num_at_cur_min, exception_count, field_size, hll4_size, nibbles_of, entries_of}
 use Rattle.hll_sketch.specs.Value.{Sketch}
 use Rattle.hll_sketch.specs.Image.{byte, preamble_byte, lg_k_byte, table_byte, state_byte, is_flagged, stage_bits, width_bits, preamble_words, list_shape, set_shape, hll4_shape, IsReadAs}
-use Rattle.hll_sketch.specs.Fault.{Fault}
+use Rattle.hll_sketch.specs.Fault.{IsFault}
 
 -- a test of an image, and the reason that is answered where it fails
 pub record Check : Type 0 where
@@ -151,7 +151,7 @@ first_fault b = first_failing (header_checks b ++ ((checks_behind b).size ++ (ch
 
 -- a first fault is a fault
 abbrev pub FirstFaultStands : Type 0
-FirstFaultStands = (b : List ℕ) (r : Reason) → first_fault b ≡ Some r → Fault b r
+FirstFaultStands = (b : List ℕ) (r : Reason) → first_fault b ≡ Some r → IsFault b r
 
 -- bytes without a first fault have an image in front, and no others do
 abbrev pub FaultlessIsImage : Type 0

@@ -5,7 +5,7 @@ use Rattle.hll_base.specs.declared.error.ErrorKind.TheVariants.{InvalidData}
 use Rattle.hll_base.specs.Reason.{kind_of}
 use Rattle.hll_base.specs.declared.error.Reason.TheVariants.{Truncated, Family, Version, LgK, Width, Stage, Preamble, LgArr}
 use Rattle.hll_coupons.specs.Payload.{ListFault, SetFault}
-use Rattle.hll_arrays.specs.Payload.{Hll8Fault, Hll6Fault, Hll4Fault}
+use Rattle.hll_registers.specs.Payload.{Hll8Fault, Hll6Fault, Hll4Fault}
 use Rattle.hll_sketch.specs.Value.{Sketch}
 use Rattle.hll_sketch.specs.Image.{byte, preamble_byte, lg_k_byte, table_byte, stage_bits, width_bits, preamble_words, HasLgK, HasHeader, HasSetTable, list_shape, set_shape, hll4_shape, Image}
 
@@ -20,20 +20,20 @@ pub data HeaderFault (b : List ℕ) : Reason → Type 0 where
   preamble : 8 ≤ length b → stage_bits b < 3 → preamble_byte b ≢ preamble_words (stage_bits b) → HeaderFault b Preamble
 
 -- A check of this reason fails, all that it reads is there, and what chooses or measures it passes its own check.
-pub data Fault (b : List ℕ) : Reason → Type 0 where
-  header : {r : Reason} → HeaderFault b r → Fault b r
+pub data IsFault (b : List ℕ) : Reason → Type 0 where
+  header : {r : Reason} → HeaderFault b r → IsFault b r
   -- a list
-  list_table : 8 ≤ length b → stage_bits b ≡ 0 → table_byte b ≢ 3 → Fault b LgArr
-  list_payload : {r : Reason} → 8 ≤ length b → stage_bits b ≡ 0 → ListFault (list_shape b) (drop 8 b) r → Fault b r
+  list_table : 8 ≤ length b → stage_bits b ≡ 0 → table_byte b ≢ 3 → IsFault b LgArr
+  list_payload : {r : Reason} → 8 ≤ length b → stage_bits b ≡ 0 → ListFault (list_shape b) (drop 8 b) r → IsFault b r
   -- a set
-  set_table : 8 ≤ length b → stage_bits b ≡ 1 → HasLgK b → (HasSetTable b → ⊥) → Fault b LgArr
-  set_short : 8 ≤ length b → stage_bits b ≡ 1 → length b < 12 → Fault b Truncated
-  set_payload : {r : Reason} → 8 ≤ length b → stage_bits b ≡ 1 → HasLgK b → HasSetTable b → SetFault (set_shape b) (drop 8 b) r → Fault b r
+  set_table : 8 ≤ length b → stage_bits b ≡ 1 → HasLgK b → (HasSetTable b → ⊥) → IsFault b LgArr
+  set_short : 8 ≤ length b → stage_bits b ≡ 1 → length b < 12 → IsFault b Truncated
+  set_payload : {r : Reason} → 8 ≤ length b → stage_bits b ≡ 1 → HasLgK b → HasSetTable b → SetFault (set_shape b) (drop 8 b) r → IsFault b r
   -- registers
-  hll_short : 8 ≤ length b → stage_bits b ≡ 2 → width_bits b < 3 → length b < 40 → Fault b Truncated
-  hll8_payload : {r : Reason} → 8 ≤ length b → stage_bits b ≡ 2 → width_bits b ≡ 2 → HasLgK b → Hll8Fault (lg_k_byte b) (drop 8 b) r → Fault b r
-  hll6_payload : {r : Reason} → 8 ≤ length b → stage_bits b ≡ 2 → width_bits b ≡ 1 → HasLgK b → Hll6Fault (lg_k_byte b) (drop 8 b) r → Fault b r
-  hll4_payload : {r : Reason} → 8 ≤ length b → stage_bits b ≡ 2 → width_bits b ≡ 0 → HasLgK b → Hll4Fault (hll4_shape b) (drop 8 b) r → Fault b r
+  hll_short : 8 ≤ length b → stage_bits b ≡ 2 → width_bits b < 3 → length b < 40 → IsFault b Truncated
+  hll8_payload : {r : Reason} → 8 ≤ length b → stage_bits b ≡ 2 → width_bits b ≡ 2 → HasLgK b → Hll8Fault (lg_k_byte b) (drop 8 b) r → IsFault b r
+  hll6_payload : {r : Reason} → 8 ≤ length b → stage_bits b ≡ 2 → width_bits b ≡ 1 → HasLgK b → Hll6Fault (lg_k_byte b) (drop 8 b) r → IsFault b r
+  hll4_payload : {r : Reason} → 8 ≤ length b → stage_bits b ≡ 2 → width_bits b ≡ 0 → HasLgK b → Hll4Fault (hll4_shape b) (drop 8 b) r → IsFault b r
 
 -- where a fault of the header stands, it is the header of no stage
 abbrev pub FaultExcludesHeader : Type 0
@@ -41,8 +41,8 @@ FaultExcludesHeader = (b : List ℕ) (r : Reason) (stage : ℕ) → stage < 3 �
 
 -- where a fault stands, no front of the bytes is an image
 abbrev pub FaultExcludesImage : Type 0
-FaultExcludesImage = (b : List ℕ) (r : Reason) → Fault b r → (n : ℕ) (x : Sketch) → Image (take n b) x → ⊥
+FaultExcludesImage = (b : List ℕ) (r : Reason) → IsFault b r → (n : ℕ) (x : Sketch) → Image (take n b) x → ⊥
 
 -- a fault of an image is one of data: never of an argument, nor of memory
 abbrev pub FaultsAreOfData : Type 0
-FaultsAreOfData = (b : List ℕ) (r : Reason) → Fault b r → kind_of r ≡ InvalidData
+FaultsAreOfData = (b : List ℕ) (r : Reason) → IsFault b r → kind_of r ≡ InvalidData

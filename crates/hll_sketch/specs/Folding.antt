@@ -2,7 +2,7 @@
 use Rattle.std.specs.Prelude.{◌≡◌, ℕ, ◌==◌, ◌≤◌, if◌then◌else◌}
 use Rattle.std.specs.FinSet.{len}
 use Rattle.hll_coupons.specs.Fold.{fold_to, pairs}
-use Rattle.hll_arrays.specs.State.{cleared_state}
+use Rattle.hll_registers.specs.State.{cleared_state}
 use Rattle.hll_sketch.specs.Adding.{content_for}
 use Rattle.hll_sketch.specs.Grown.{IsGrown}
 use Rattle.hll_sketch.specs.Stage.{stage}

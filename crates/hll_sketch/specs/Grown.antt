@@ -1,7 +1,7 @@
 -- Sketches that grew from the empty one (docs/MODEL.md, "Convergence").
 use Rattle.std.specs.Prelude.{◌≡◌, ℕ, Some}
 use Rattle.std.specs.FinSet.{len}
-use Rattle.hll_arrays.specs.State.{cleared_state}
+use Rattle.hll_registers.specs.State.{cleared_state}
 use Rattle.hll_sketch.specs.Stage.{stage}
 use Rattle.hll_sketch.specs.Value.{Sketch, Content, coupons, registers}
 

@@ -2,10 +2,10 @@
 use Rattle.std.specs.Prelude.{◌≡◌, ℕ, ◌+◌, ◌/◌, ◌%◌, ◌≤◌, ◌<◌, ◌==◌, Bool, if◌then◌else◌, List, length, take, drop, slice_index, All, ◌++◌}
 use Rattle.hll_coupons.specs.Pair.{set_of}
 use Rattle.hll_coupons.specs.Payload.{ListShape, shape_of_list, list_coupons, IsListPayload, SetShape, set_coupons, IsSetPayload}
-use Rattle.hll_coupons.specs.declared.hll_type.HllType.{HllType}
-use Rattle.hll_coupons.specs.declared.hll_type.HllType.TheVariants.{Hll4, Hll6, Hll8}
-use Rattle.hll_arrays.specs.Packed.{fields}
-use Rattle.hll_arrays.specs.Payload.{state_at, IsHll8Payload, IsHll6Payload, Hll4Shape, registers_of, IsHll4Payload}
+use Rattle.hll_base.specs.declared.hll_type.HllType.{HllType}
+use Rattle.hll_base.specs.declared.hll_type.HllType.TheVariants.{Hll4, Hll6, Hll8}
+use Rattle.hll_kernels.specs.Packed.{fields}
+use Rattle.hll_registers.specs.Payload.{state_at, IsHll8Payload, IsHll6Payload, Hll4Shape, registers_of, IsHll4Payload}
 use Rattle.hll_sketch.specs.Value.{Sketch, coupons, registers, IsLgK, IsLegal}
 
 -- ---- the header, eight bytes

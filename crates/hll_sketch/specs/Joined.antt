@@ -4,11 +4,11 @@ use Rattle.std.specs.List.{list_any, AllByRecursion}
 use Rattle.std.specs.FinSet.{empty, union, len}
 use Rattle.hll_coupons.specs.Pair.{Pairs}
 use Rattle.hll_coupons.specs.Fold.{fold_to}
-use Rattle.hll_coupons.specs.declared.hll_type.HllType.{HllType}
-use Rattle.hll_coupons.specs.declared.hll_type.HllType.TheVariants.{Hll8}
-use Rattle.hll_arrays.specs.State.{cleared_state}
+use Rattle.hll_base.specs.declared.hll_type.HllType.{HllType}
+use Rattle.hll_base.specs.declared.hll_type.HllType.TheVariants.{Hll8}
+use Rattle.hll_registers.specs.State.{cleared_state}
 use Rattle.hll_sketch.specs.Stage.{stage}
-use Rattle.hll_sketch.specs.Value.{Sketch, registers, pairs_of, has_registers, ArePairs}
+use Rattle.hll_sketch.specs.Value.{Sketch, registers, pairs_of, has_nonzero_registers, ArePairs}
 use Rattle.hll_sketch.specs.Adding.{content_for}
 use Rattle.hll_sketch.specs.Grown.{IsGrown}
 use Rattle.hll_sketch.specs.Merging.{merge_all, empty_union}
@@ -22,16 +22,16 @@ all_pairs (x ∷ xs) = union (pairs_of x) (all_pairs xs)
 -- the least of m and of the lg_k of those in registers that are not all 0
 abbrev pub least_lg_k : ℕ → List Sketch → ℕ
 least_lg_k m [] = m
-least_lg_k m (x ∷ xs) = if has_registers x then min x.lg_k (least_lg_k m xs) else least_lg_k m xs
+least_lg_k m (x ∷ xs) = if has_nonzero_registers x then min x.lg_k (least_lg_k m xs) else least_lg_k m xs
 
 -- pairs at m in the size that they need from the start, or as registers at e
-abbrev pub union_value_of_pairs : ℕ → HllType → ℕ → Pairs → Bool → Sketch
-union_value_of_pairs m w e P true = record { lg_k = e; width = w; content = registers (fold_to P e) cleared_state }
-union_value_of_pairs m w e P false = record { lg_k = m; width = w; content = content_for m P (stage m 3 (len P)) }
+abbrev pub join_value_of_pairs : ℕ → HllType → ℕ → Pairs → Bool → Sketch
+join_value_of_pairs m w e P true = record { lg_k = e; width = w; content = registers (fold_to P e) cleared_state }
+join_value_of_pairs m w e P false = record { lg_k = m; width = w; content = content_for m P (stage m 3 (len P)) }
 
 -- the join of sketches under a bound, by one count over all their pairs
-abbrev pub union_value : ℕ → HllType → List Sketch → Sketch
-union_value m w xs = union_value_of_pairs m w (least_lg_k m xs) (all_pairs xs) (list_any has_registers xs)
+abbrev pub join_value : ℕ → HllType → List Sketch → Sketch
+join_value m w xs = join_value_of_pairs m w (least_lg_k m xs) (all_pairs xs) (list_any has_nonzero_registers xs)
 
 -- ---- laws
 
@@ -43,7 +43,7 @@ pub record IsGrownOfPairs (x : Sketch) : Type 0 where
 
 -- grown sketches merged in turn into the empty union are their join
 abbrev pub MergeOfGrown : Type 0
-MergeOfGrown = (m : ℕ) (xs : List Sketch) → m ≤ 21 → AllByRecursion IsGrownOfPairs xs → merge_all m (empty_union m) xs ≡ union_value m Hll8 xs
+MergeOfGrown = (m : ℕ) (xs : List Sketch) → m ≤ 21 → AllByRecursion IsGrownOfPairs xs → merge_all m (empty_union m) xs ≡ join_value m Hll8 xs
 
 -- the lists have the same members
 abbrev pub SameMembers : List Sketch → List Sketch → Type 0
@@ -51,12 +51,12 @@ SameMembers xs ys = ((x : Sketch) → Contains xs x → Contains ys x) × ((x : 
 
 -- a join does not depend on order or repetition
 abbrev pub UnionOfSame : Type 0
-UnionOfSame = (m : ℕ) (w : HllType) (xs ys : List Sketch) → SameMembers xs ys → union_value m w xs ≡ union_value m w ys
+UnionOfSame = (m : ℕ) (w : HllType) (xs ys : List Sketch) → SameMembers xs ys → join_value m w xs ≡ join_value m w ys
 
 -- some may be joined first, under the same bound and at any width
 abbrev pub UnionOfUnion : Type 0
 UnionOfUnion = (m : ℕ) (v w : HllType) (xs ys : List Sketch) → m ≤ 21 → AllByRecursion IsGrownOfPairs ys →
-    union_value m w (union_value m v ys ∷ xs) ≡ union_value m w (ys ++ xs)
+    join_value m w (join_value m v ys ∷ xs) ≡ join_value m w (ys ++ xs)
 
 -- ---- unions
 
@@ -64,7 +64,7 @@ UnionOfUnion = (m : ℕ) (v w : HllType) (xs ys : List Sketch) → m ≤ 21 → 
 pub record IsJoinOf (xs : List Sketch) (u : UnionLayout) : Type 0 where
   pub small : u.lg_max_k ≤ 21
   pub merged : AllByRecursion IsGrownOfPairs xs
-  pub value : gadget_of u ≡ union_value u.lg_max_k Hll8 xs
+  pub value : gadget_of u ≡ join_value u.lg_max_k Hll8 xs
   pub grown : IsGrown (gadget_of u)
 
 -- unions of the same bound and the same sketches have equal gadgets, in whatever order and however often each was merged

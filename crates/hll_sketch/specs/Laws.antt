@@ -5,7 +5,7 @@ use Rattle.hll_coupons.specs.Pair.{Pairs, set_of}
 use Rattle.hll_sketch.specs.Value.{Sketch, is_empty, ArePairs, IsLegal}
 use Rattle.hll_base.specs.declared.error.Reason.{Reason}
 use Rattle.hll_sketch.specs.Adding.{add}
-use Rattle.hll_sketch.specs.Fault.{Fault}
+use Rattle.hll_sketch.specs.Fault.{IsFault}
 use Rattle.hll_sketch.specs.Image.{IsReadAs}
 use Rattle.hll_sketch.specs.Joined.{least_lg_k}
 use Rattle.hll_sketch.specs.Written.{Written}
@@ -68,7 +68,7 @@ MergeIsLegal = (bound : ℕ) (g x : Sketch) → IsLegal g → IsLegal x → IsLe
 pub record IsReadBackAs (written more : List ℕ) (x : Sketch) : Type 0 where
   pub is_read : IsReadAs (written ++ more) x
   pub no_other : (y : Sketch) → IsReadAs (written ++ more) y → y ≡ x
-  pub no_fault : (r : Reason) → Fault (written ++ more) r → ⊥
+  pub no_fault : (r : Reason) → IsFault (written ++ more) r → ⊥
 
 abbrev pub WrittenIsReadBack : Type 0
 WrittenIsReadBack = (bytes more : List ℕ) (x : Sketch) → IsLegal x → Written bytes x → IsReadBackAs bytes more x

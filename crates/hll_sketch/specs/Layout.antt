@@ -4,11 +4,11 @@ use Rattle.std.specs.FinSet.{insert, union, len}
 use Rattle.hll_coupons.specs.AuxMap.{ExceptionMap}
 use Rattle.hll_coupons.specs.Pair.{set_of}
 use Rattle.hll_coupons.specs.Table.{Table, coupons_in, coupons_of}
-use Rattle.hll_coupons.specs.declared.hll_type.HllType.{HllType}
-use Rattle.hll_coupons.specs.declared.hll_type.HllType.TheVariants.{Hll4, Hll6, Hll8}
-use Rattle.hll_arrays.specs.FourBits.{ExceptionsMove}
-use Rattle.hll_arrays.specs.Store.{Stored, update_with_coupon}
-use Rattle.hll_sketch.specs.Stage.{holds, stage}
+use Rattle.hll_base.specs.declared.hll_type.HllType.{HllType}
+use Rattle.hll_base.specs.declared.hll_type.HllType.TheVariants.{Hll4, Hll6, Hll8}
+use Rattle.hll_registers.specs.FourBits.{ExceptionsMove}
+use Rattle.hll_registers.specs.Store.{Stored, update_with_coupon}
+use Rattle.hll_sketch.specs.Stage.{can_hold, stage}
 use Rattle.hll_sketch.specs.Value.{Sketch, Content, coupons, registers}
 use Rattle.hll_sketch.specs.declared.mode.Mode.{Mode}
 use Rattle.hll_sketch.specs.declared.mode.Mode.TheVariants.{List, Set, Array4, Array6, Array8}
@@ -23,7 +23,7 @@ pub data Layout : Type 0 where
 abbrev pub layout_of : {A : Type 0} → Mode A → Layout
 layout_of (List table width) = list width table
 layout_of (Set table width) = set width table
-layout_of (Array4 bits) = array Hll4 bits.value.stored bits.value.exceptions
+layout_of (Array4 bits) = array Hll4 bits.stored bits.exceptions
 layout_of (Array6 stored) = array Hll6 stored None
 layout_of (Array8 stored) = array Hll8 stored None
 
@@ -77,15 +77,15 @@ AtMost p n = (p ≡ 3 → n ≤ 9) × (5 ≤ p → n ≤ 2 ^ p)
 
 -- one step suffices: a size that holds the coupons stays, else the next size holds them, or registers take over
 pub record OneStepSuffices : Type 0 where
-  pub stays : (k p n : ℕ) → IsSize k p → holds p n ≡ true → stage k p n ≡ Some p
-  pub next : (k p n : ℕ) → IsSize k p → holds p n ≡ false → AtMost p n → size_after p + 3 ≤ k → stage k p n ≡ Some (size_after p)
-  pub last : (k p n : ℕ) → IsSize k p → holds p n ≡ false → k < size_after p + 3 → stage k p n ≡ None
+  pub stays : (k p n : ℕ) → IsSize k p → can_hold p n ≡ true → stage k p n ≡ Some p
+  pub next : (k p n : ℕ) → IsSize k p → can_hold p n ≡ false → AtMost p n → size_after p + 3 ≤ k → stage k p n ≡ Some (size_after p)
+  pub last : (k p n : ℕ) → IsSize k p → can_hold p n ≡ false → k < size_after p + 3 → stage k p n ≡ None
 
 -- whether a table holds its coupons and this one; registers always do
-abbrev pub holds_with : Layout → ℕ → Bool
-holds_with (list width t) c = holds t.lg_size (len (insert (coupons_of t) c))
-holds_with (set width t) c = holds t.lg_size (len (insert (coupons_of t) c))
-holds_with (array width x e) c = true
+abbrev pub can_hold_with : Layout → ℕ → Bool
+can_hold_with (list width t) c = can_hold t.lg_size (len (insert (coupons_of t) c))
+can_hold_with (set width t) c = can_hold t.lg_size (len (insert (coupons_of t) c))
+can_hold_with (array width x e) c = true
 
 -- with one coupon more the table doesn't stay as large as it is
 abbrev pub TableChanges : ℕ → Table → ℕ → Type 0

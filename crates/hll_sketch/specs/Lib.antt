@@ -12,6 +12,7 @@ pub mod Layout
 pub mod Meaning
 pub mod Merging
 pub mod Reference
+pub mod Refusal
 pub mod Same
 pub mod Stage
 pub mod Union

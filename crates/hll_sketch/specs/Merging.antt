@@ -2,9 +2,9 @@
 use Rattle.std.specs.Prelude.{ℕ, ◌==◌, nat_le, min, ◌&&◌, if◌then◌else◌, List, [], ◌∷◌}
 use Rattle.std.specs.FinSet.{union}
 use Rattle.hll_coupons.specs.Fold.{fold_to, pairs}
-use Rattle.hll_coupons.specs.declared.hll_type.HllType.TheVariants.{Hll8}
-use Rattle.hll_arrays.specs.declared.estimate_state.EstimateState.{EstimateState}
-use Rattle.hll_arrays.specs.State.{cleared_state}
+use Rattle.hll_base.specs.declared.hll_type.HllType.TheVariants.{Hll8}
+use Rattle.hll_registers.specs.declared.estimate_state.EstimateState.{EstimateState}
+use Rattle.hll_registers.specs.State.{cleared_state}
 use Rattle.hll_sketch.specs.Value.{Sketch, Content, coupons, registers, pairs_of, is_empty, empty_sketch}
 use Rattle.hll_sketch.specs.Adding.{add}
 

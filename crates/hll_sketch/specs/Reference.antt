@@ -1,7 +1,7 @@
 -- Sketch values as the plain programs keep them (docs/MODEL.md, "Sketch values").
 use Rattle.std.specs.Prelude.{ℕ, ◌≤◌}
 use Rattle.hll_coupons.specs.Pair.{set_of}
-use Rattle.hll_arrays.specs.Store.{AreRegisters}
+use Rattle.hll_kernels.specs.Packed.{AreRegisters}
 use Rattle.hll_sketch.specs.declared.reference.ReferenceContent.{ReferenceContent}
 use Rattle.hll_sketch.specs.declared.reference.ReferenceContent.TheVariants.{Coupons, Registers}
 use Rattle.hll_sketch.specs.declared.reference.ReferenceSketch.{ReferenceSketch}

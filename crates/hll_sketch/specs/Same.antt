@@ -5,9 +5,9 @@ use Rattle.std.specs.Cmp.{IsPartialEquivalence, IsEquivalence, both_ways, equiv}
 use Rattle.hll_coupons.specs.Pair.{Pairs}
 use Rattle.hll_coupons.specs.Table.{coupons_of}
 use Rattle.hll_coupons.specs.Same.{have_same_coupons, same_coupons-from, same_coupons-to}
-use Rattle.hll_coupons.specs.declared.hll_type.HllType.{HllType}
-use Rattle.hll_coupons.specs.declared.hll_type.HllType.TheVariants.{Hll4, Hll6, Hll8}
-use Rattle.hll_arrays.specs.Store.{Stored}
+use Rattle.hll_base.specs.declared.hll_type.HllType.{HllType}
+use Rattle.hll_base.specs.declared.hll_type.HllType.TheVariants.{Hll4, Hll6, Hll8}
+use Rattle.hll_registers.specs.Store.{Stored}
 use Rattle.hll_arrays.specs.Same.{same_stored, same_stored-from, same_stored-to}
 use Rattle.hll_sketch.specs.Value.{IsEqual}
 use Rattle.hll_sketch.specs.Layout.{Layout, list, set, array, SketchLayout, IsLayoutFor, sketch_of}

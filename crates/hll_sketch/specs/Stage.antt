@@ -7,9 +7,9 @@ abbrev pub sizes : ℕ → List ℕ
 sizes k = 3 ∷ range_with_len 5 (k - 7)
 
 -- size 3 holds up to seven pairs, a larger one as many as three quarters of its places
-abbrev pub holds : ℕ → ℕ → Bool
-holds size n = if size == 3 then nat_le n 7 else nat_le (4 * n) (3 * 2 ^ size)
+abbrev pub can_hold : ℕ → ℕ → Bool
+can_hold size n = if size == 3 then nat_le n 7 else nat_le (4 * n) (3 * 2 ^ size)
 
 -- the least size from `from` up that holds n pairs, or none: then registers take over
 abbrev pub stage : ℕ → ℕ → ℕ → Option ℕ
-stage k from n = find (λ size. nat_le from size && holds size n) (sizes k)
+stage k from n = find (λ size. nat_le from size && can_hold size n) (sizes k)

@@ -2,10 +2,10 @@
 use Rattle.std.specs.Prelude.{◌≡◌, ◌≢◌, ℕ, ◌≤◌, ◌<◌, ◌==◌, ◌&&◌, ◌⊎◌, Bool, true, false, Some}
 use Rattle.std.specs.FinSet.{empty, union, len}
 use Rattle.hll_coupons.specs.Pair.{Pairs}
-use Rattle.hll_coupons.specs.declared.hll_type.HllType.TheVariants.{Hll4, Hll6, Hll8}
+use Rattle.hll_base.specs.declared.hll_type.HllType.TheVariants.{Hll4, Hll6, Hll8}
 use Rattle.hll_coupons.specs.Table.{coupons_of}
 use Rattle.hll_sketch.specs.Layout.{Layout, list, set, array, SketchLayout, sketch_of}
-use Rattle.hll_sketch.specs.Stage.{holds, stage}
+use Rattle.hll_sketch.specs.Stage.{can_hold, stage}
 use Rattle.hll_sketch.specs.Value.{Sketch, Content, coupons, registers, in_registers, is_empty}
 
 -- a bound, and a gadget with its places
@@ -31,12 +31,12 @@ coupons_kept (set width t) = coupons_of t
 coupons_kept (array width x e) = empty
 
 -- whether a table holds its coupons and others; registers of six and eight bits always do
-abbrev pub holds_all : Layout → Pairs → Bool
-holds_all (list width t) T = holds t.lg_size (len (union (coupons_of t) T))
-holds_all (set width t) T = holds t.lg_size (len (union (coupons_of t) T))
-holds_all (array Hll4 x e) T = false
-holds_all (array Hll6 x e) T = true
-holds_all (array Hll8 x e) T = true
+abbrev pub can_hold_all : Layout → Pairs → Bool
+can_hold_all (list width t) T = can_hold t.lg_size (len (union (coupons_of t) T))
+can_hold_all (set width t) T = can_hold t.lg_size (len (union (coupons_of t) T))
+can_hold_all (array Hll4 x e) T = false
+can_hold_all (array Hll6 x e) T = true
+can_hold_all (array Hll8 x e) T = true
 
 -- What a merge of a content into a gadget's may need memory for: coupons that are taken whole or that the table doesn't hold with its
 -- own, registers that take over from coupons, and registers at a smaller lg_k.

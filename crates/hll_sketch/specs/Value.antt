@@ -3,11 +3,11 @@ use Rattle.std.specs.Prelude.{◌≡◌, ℕ, ◌+◌, ◌*◌, ◌^◌, ◌≤�
 use Rattle.std.specs.FinSet.{empty, len, contains}
 use Rattle.hll_coupons.specs.Pair.{Pairs, IsPair}
 use Rattle.hll_coupons.specs.Fold.{pairs}
-use Rattle.hll_coupons.specs.declared.hll_type.HllType.{HllType}
-use Rattle.hll_arrays.specs.declared.estimate_state.EstimateState.{EstimateState}
-use Rattle.hll_arrays.specs.Packed.{size_in_registers}
-use Rattle.hll_arrays.specs.State.{IsState}
-use Rattle.hll_arrays.specs.Store.{AreRegisters}
+use Rattle.hll_base.specs.declared.hll_type.HllType.{HllType}
+use Rattle.hll_registers.specs.declared.estimate_state.EstimateState.{EstimateState}
+use Rattle.hll_registers.specs.Store.{size_in_registers}
+use Rattle.hll_registers.specs.State.{IsState}
+use Rattle.hll_kernels.specs.Packed.{AreRegisters}
 
 -- what a sketch keeps: a set of pairs in a table of 2^size places, or registers with an estimate state
 pub data Content : Type 0 where
@@ -36,8 +36,8 @@ in_registers (coupons S size) = false
 in_registers (registers R state) = true
 
 -- in registers that are not all 0
-abbrev pub has_registers : Sketch → Bool
-has_registers x = in_registers x.content && not (is_empty x)
+abbrev pub has_nonzero_registers : Sketch → Bool
+has_nonzero_registers x = in_registers x.content && not (is_empty x)
 
 -- the empty list, of eight places
 abbrev pub empty_sketch : ℕ → HllType → Sketch

@@ -5,8 +5,8 @@ use Rattle.hll_coupons.specs.Pair.{IsPair, set_of}
 use Rattle.hll_coupons.specs.Coupons.{WritesAscending, list_bytes, set_bytes}
 use Rattle.hll_coupons.specs.Payload.{list_places, list_table}
 use Rattle.hll_coupons.specs.Table.{filled_from_front}
-use Rattle.hll_coupons.specs.declared.hll_type.HllType.{HllType}
-use Rattle.hll_arrays.specs.Payload.{WritesRegisters}
+use Rattle.hll_base.specs.declared.hll_type.HllType.{HllType}
+use Rattle.hll_registers.specs.Payload.{WritesRegisters}
 use Rattle.hll_sketch.specs.Value.{Sketch, Content, coupons, registers, IsLgK, IsLegal, IsEqual}
 use Rattle.hll_sketch.specs.Image.{list_shape, IsListImage, Image}
 

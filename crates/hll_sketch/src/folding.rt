@@ -1,11 +1,10 @@
 //! What a mode becomes at a smaller `lg_k` (docs/MODEL.md, "Folding").
-ghost use Rattle.std.specs.Prelude.{◌≡◌, ◌≢◌, ◌≤◌, IfOk, IfErr, OnErr};
+ghost use Rattle.std.specs.Prelude.{◌≡◌, ◌≤◌, IfOk, IfErr};
 ghost use Rattle.std.specs.FinSet.{len};
 ghost use Rattle.hll_base.specs.declared.error.Reason.TheVariants.{Memory};
 ghost use Rattle.hll_coupons.specs.Fold.{fold_to, pairs};
 ghost use Rattle.hll_coupons.specs.Table.{coupons_of};
-ghost use Rattle.hll_coupons.specs.declared.hll_type.HllType.TheVariants.{Hll8};
-ghost use Rattle.hll_arrays.specs.State.{cleared_state};
+ghost use Rattle.hll_registers.specs.State.{cleared_state};
 ghost use Rattle.hll_sketch.specs.Adding.{content_for};
 ghost use Rattle.hll_sketch.specs.Layout.{layout_of, content_in, width_of, IsLayoutFor, IsWithin};
 ghost use Rattle.hll_sketch.specs.Stage as stages;
@@ -13,16 +12,16 @@ ghost use Rattle.hll_sketch.specs.Value.{IsLgK, pairs_in, registers};
 
 use crate::mode::Mode;
 use crate::promotion::{mode_of_table, registers_of_table};
-use crate::reference::stage;
+use crate::stage::stage;
 use hll_arrays::array8::Array8;
-use hll_arrays::convert::convert;
 use hll_arrays::merge::merge_from;
 use hll_arrays::registers::Registers;
 use hll_base::error::Error;
+use hll_base::hll_type::HllType;
 use hll_coupons::container::Container;
 use hll_coupons::hash_set::HashSet;
-use hll_coupons::hll_type::HllType;
 use hll_coupons::list::List;
+use hll_coupons::serialization::LG_LIST_PLACES;
 use std::alloc::Allocator;
 
 /// The registers of eight bits that all pairs of a mode fold to, with the cleared state.
@@ -41,7 +40,7 @@ pub(crate) fn fold_of<A: Allocator + Clone>(
     match mode {
         Mode::List { list, .. } => registers_of_table(alloc, lg_k, list.container()),
         Mode::Set { set, .. } => registers_of_table(alloc, lg_k, set.container()),
-        Mode::Array4(array) => fold_of_registers(alloc, lg_k, array.as_ref()),
+        Mode::Array4(array) => fold_of_registers(alloc, lg_k, array),
         Mode::Array6(array) => fold_of_registers(alloc, lg_k, array),
         Mode::Array8(array) => fold_of_registers(alloc, lg_k, array),
     }
@@ -66,7 +65,7 @@ fn fold_of_registers<R: Registers, A: Allocator>(
 /// The mode of the coupons of a table at an `lg_k`: at the size that they need from the start, or registers.
 ///
 /// Fails with `Memory`.
-pub(crate) fn settled<A: Allocator + Clone>(
+pub(crate) fn mode_of_coupons<A: Allocator + Clone>(
     lg_k: u8,
     hll_type: HllType,
     table: &Container<A>,
@@ -77,9 +76,9 @@ pub(crate) fn settled<A: Allocator + Clone>(
     ensures width { IfOk result (λ m. width_of (layout_of m) ≡ hll_type) }
     ensures err { IfErr result (λ e. e ≡ Memory) }
 {
-    match stage(lg_k, 3, table.len()) {
+    match stage(lg_k, LG_LIST_PLACES, table.len()) {
         None => mode_of_table(lg_k, hll_type, table),
-        Some(3) => Ok(Mode::List {
+        Some(LG_LIST_PLACES) => Ok(Mode::List {
             list: list_of(table)?,
             hll_type,
         }),
@@ -98,49 +97,11 @@ fn list_of<A: Allocator + Clone>(table: &Container<A>) -> Result<List<A>, Error>
     ensures members { IfOk result (λ l. coupons_of l ≡ coupons_of table.now) }
     ensures err { IfErr result (λ e. e ≡ Memory) }
 {
-    let _len = table.len();
+    table.table_is_legal();
     let mut list = List::default_in(table.allocator().clone()?);
     for coupon in table.iter() {
-        let _len = list.container().len();
+        list.container().table_is_legal();
         list.update(coupon);
     }
     Ok(list)
-}
-
-/// Registers of eight bits at a width, with their state.
-///
-/// Takes no memory at eight bits. Fails with `Memory`.
-pub(crate) fn of_width<A: Allocator + Clone>(
-    array: Array8<A>,
-    hll_type: HllType,
-) -> Result<Mode<A>, Error>
-    ensures content { IfOk result (λ m. content_in (layout_of m) ≡ registers array.registers array.state) }
-    ensures layout { IfOk result (λ m. IsLayoutFor array.lg_k (layout_of m)) }
-    ensures width { IfOk result (λ m. width_of (layout_of m) ≡ hll_type) }
-    ensures needed { OnErr result (hll_type ≢ Hll8) }
-    ensures err { IfErr result (λ e. e ≡ Memory) }
-{
-    match hll_type {
-        HllType::Hll8 => Ok(Mode::Array8(array)),
-        HllType::Hll4 | HllType::Hll6 => converted(&array, hll_type),
-    }
-}
-
-/// A copy of registers of eight bits at a width, with their state.
-///
-/// Fails with `Memory`.
-pub(crate) fn converted<A: Allocator + Clone>(
-    array: &Array8<A>,
-    hll_type: HllType,
-) -> Result<Mode<A>, Error>
-    ensures content { IfOk result (λ m. content_in (layout_of m) ≡ registers array.now.registers array.now.state) }
-    ensures layout { IfOk result (λ m. IsLayoutFor array.now.lg_k (layout_of m)) }
-    ensures width { IfOk result (λ m. width_of (layout_of m) ≡ hll_type) }
-    ensures err { IfErr result (λ e. e ≡ Memory) }
-{
-    match hll_type {
-        HllType::Hll4 => Mode::of_four_bits(convert(array)?),
-        HllType::Hll6 => Ok(Mode::Array6(convert(array)?)),
-        HllType::Hll8 => Ok(Mode::Array8(array.clone()?)),
-    }
 }

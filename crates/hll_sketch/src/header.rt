@@ -9,15 +9,15 @@ ghost use Rattle.hll_sketch.specs.Fault.{HeaderFault};
 
 use hll_base::error::{Error, Reason};
 use hll_base::family::Family;
-use hll_coupons::hll_type::HllType;
+use hll_base::hll_type::HllType;
 use hll_coupons::serialization::{
     COMPACT_FLAG_MASK, CUR_MODE_HLL, CUR_MODE_LIST, CUR_MODE_SET, EMPTY_FLAG_MASK,
-    HASH_SET_PREINTS, HLL_PREINTS, LIST_PREINTS, OUT_OF_ORDER_FLAG_MASK, SERIAL_VERSION, TGT_HLL4,
-    TGT_HLL6, TGT_HLL8, extract_cur_mode, extract_tgt_hll_type,
+    HASH_SET_PREINTS, HLL_PREINTS, LIST_PREINTS, MAX_LG_K, MIN_LG_K, OUT_OF_ORDER_FLAG_MASK,
+    SERIAL_VERSION, TGT_HLL4, TGT_HLL6, TGT_HLL8, extract_cur_mode, extract_tgt_hll_type,
 };
 
 /// The bytes of the header.
-pub const HEADER_SIZE: usize = 8;
+pub(crate) const HEADER_SIZE: usize = 8;
 
 /// The stage that an image is of.
 #[derive(Clone, Copy, Debug, PartialEq, Eq)]
@@ -32,7 +32,7 @@ pub enum Stage {
 
 /// What the header of an image says, its checks passed.
 #[derive(Clone, Copy, Debug, PartialEq, Eq)]
-pub struct Header {
+pub(crate) struct Header {
     /// The logarithm of the number of registers, 4 to 21.
     pub lg_k: u8,
     /// The width of registers.
@@ -56,7 +56,7 @@ impl Header {
     ///
     /// Fails, in this order, with `Truncated` where there are fewer than eight bytes, `Family`, `Version`, `LgK`,
     /// `Width`, `Stage`, or `Preamble` where the preamble words are not those of the stage.
-    pub fn read(bytes: &[u8]) -> Result<Header, Error>
+    pub(crate) fn read(bytes: &[u8]) -> Result<Header, Error>
         ensures ok { IfOk result (λ h. HasHeader bytes.now (stage_bits bytes.now) × (stage_bits bytes.now < 3) × (h ≡ header_of bytes.now)) }
         ensures err { IfErr result (λ e. HeaderFault bytes.now e) }
         ensures order { IfErr result (λ e. first_failing (header_checks bytes.now) ≡ Some e) }
@@ -111,7 +111,7 @@ fn check_lg_k(lg_k: u8) -> Result<(), Error>
     ensures ok { IsOk result ↔ IsLgK lg_k }
     ensures err { IfErr result (λ e. e ≡ reasons.LgK) }
 {
-    if 4 <= lg_k && lg_k <= 21 {
+    if MIN_LG_K <= lg_k && lg_k <= MAX_LG_K {
         Ok(())
     } else {
         Err(Error::new(Reason::LgK))

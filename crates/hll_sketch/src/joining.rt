@@ -1,28 +1,28 @@
 //! Merging a sketch into the gadget of a union (docs/MODEL.md, "Merging"). What needs memory is made aside, and then takes
 //! the place of what was there.
-ghost use Rattle.std.specs.Prelude.{◌≡◌, ◌≢◌, ◌≤◌, ◌<◌, true, false, IfOk, IfErr, OnOk, OnErr};
+ghost use Rattle.std.specs.Prelude.{◌≡◌, ◌<◌, true, false, IfErr, OnOk, OnErr};
 ghost use Rattle.std.specs.FinSet.{contains, len, union};
 ghost use Rattle.hll_base.specs.declared.error.Reason.TheVariants.{Memory};
 ghost use Rattle.hll_coupons.specs.Table.{coupons_in, coupons_of};
-ghost use Rattle.hll_coupons.specs.declared.hll_type.HllType.TheVariants.{Hll8};
-ghost use Rattle.hll_arrays.specs.Store.{IsStored};
-ghost use Rattle.hll_sketch.specs.Layout.{content_in, layout_of, sketch_of, width_of, IsLayoutFor};
+ghost use Rattle.hll_base.specs.declared.hll_type.HllType.TheVariants.{Hll8};
+ghost use Rattle.hll_registers.specs.Store.{IsStored};
+ghost use Rattle.hll_sketch.specs.Layout.{content_in, sketch_of, width_of};
 ghost use Rattle.hll_sketch.specs.Laws.{add_in_turn};
 ghost use Rattle.hll_sketch.specs.Merging as merging;
-ghost use Rattle.hll_sketch.specs.Union.{IsGadget, coupons_kept, holds_all, ContentNeedsMemory, MergeNeedsMemory};
+ghost use Rattle.hll_sketch.specs.Union.{IsGadget, coupons_kept, can_hold_all, ContentNeedsMemory, MergeNeedsMemory};
 ghost use Rattle.hll_sketch.specs.Value.{IsLegal, IsLgK, coupons, in_registers, is_empty, registers};
 
-use crate::folding::{converted, fold_of, of_width};
+use crate::folding::fold_of;
 use crate::mode::Mode;
-use crate::reference::holds;
 use crate::sketch::HllSketch;
+use crate::stage::most_kept;
 use hll_arrays::array8::Array8;
 use hll_arrays::merge::merge_from;
 use hll_arrays::registers::Registers;
 use hll_base::error::Error;
+use hll_base::hll_type::HllType;
 use hll_coupons::container::Container;
 use hll_coupons::coupon::Coupon;
-use hll_coupons::hll_type::HllType;
 use std::alloc::Allocator;
 
 impl<A: Allocator + Clone> HllSketch<A> {
@@ -60,7 +60,7 @@ impl<A: Allocator + Clone> HllSketch<A> {
         match &sketch.mode {
             Mode::List { list, .. } => self.merge_coupons(sketch, list.container()),
             Mode::Set { set, .. } => self.merge_coupons(sketch, set.container()),
-            Mode::Array4(array) => self.merge_registers(bound, array.as_ref()),
+            Mode::Array4(array) => self.merge_registers(bound, array),
             Mode::Array6(array) => self.merge_registers(bound, array),
             Mode::Array8(array) => self.merge_bytes(bound, array),
         }
@@ -89,79 +89,16 @@ impl<A: Allocator + Clone> HllSketch<A> {
             Ok(())
         }
     }
-}
-
-impl<A: Allocator + Clone> HllSketch<A> {
-    /// The sketch at another width: coupons at the size of their table, or registers with their state.
-    ///
-    /// Registers are of eight bits. Fails with `Memory`.
-    pub(crate) fn at_width(&self, hll_type: HllType) -> Result<HllSketch<A>, Error>
-        requires { in_registers (content_in self.now.layout) ≡ true → width_of self.now.layout ≡ Hll8 }
-        ensures ok { IfOk result (λ s. sketch_of s ≡ record (sketch_of self.now) { width = hll_type }) }
-        ensures err { IfErr result (λ e. e ≡ Memory) }
-    {
-        match &self.mode {
-            Mode::Array8(array) => Ok(HllSketch {
-                lg_config_k: self.lg_config_k,
-                mode: converted(array, hll_type)?,
-            }),
-            _ => self.table_in(self.allocator(), hll_type),
-        }
-    }
-
-    /// A sketch of coupons at another width, in memory of a clone of this allocator: the coupons at the size of their table.
-    ///
-    /// Fails with `Memory`.
-    fn table_in(&self, alloc: &A, hll_type: HllType) -> Result<HllSketch<A>, Error>
-        requires { in_registers (content_in self.now.layout) ≡ false }
-        ensures ok { IfOk result (λ s. sketch_of s ≡ record (sketch_of self.now) { width = hll_type }) }
-        ensures err { IfErr result (λ e. e ≡ Memory) }
-    {
-        let mode = match &self.mode {
-            Mode::List { list, .. } => Mode::List {
-                list: list.clone_in(alloc.clone()?)?,
-                hll_type,
-            },
-            Mode::Set { set, .. } => Mode::Set {
-                set: set.clone_in(alloc.clone()?)?,
-                hll_type,
-            },
-            Mode::Array4(_) | Mode::Array6(_) | Mode::Array8(_) => unreachable!(),
-        };
-        Ok(HllSketch {
-            lg_config_k: self.lg_config_k,
-            mode,
-        })
-    }
-
-    /// The sketch at another width, as `at_width`, without a copy of what stays as it is.
-    ///
-    /// Registers are of eight bits. Fails with `Memory`, only for registers of four and six bits to come.
-    pub(crate) fn into_width(self, hll_type: HllType) -> Result<HllSketch<A>, Error>
-        requires { in_registers (content_in self.layout) ≡ true → width_of self.layout ≡ Hll8 }
-        ensures ok { IfOk result (λ s. sketch_of s ≡ record (sketch_of self) { width = hll_type }) }
-        ensures needed { OnErr result ((in_registers (content_in self.layout) ≡ true) × (hll_type ≢ Hll8)) }
-        ensures err { IfErr result (λ e. e ≡ Memory) }
-    {
-        let HllSketch { lg_config_k, mode } = self;
-        let mode = match mode {
-            Mode::List { list, .. } => Mode::List { list, hll_type },
-            Mode::Set { set, .. } => Mode::Set { set, hll_type },
-            Mode::Array8(array) => of_width(array, hll_type)?,
-            Mode::Array4(_) | Mode::Array6(_) => unreachable!(),
-        };
-        Ok(HllSketch { lg_config_k, mode })
-    }
 
     /// Adds the coupons of a table in turn.
     ///
     /// Fails with `Memory`, only if there is no room for them, and may then have some of them.
     fn add_each(&mut self, table: &Container<A>) -> Result<(), Error>
         ensures ok { OnOk result (sketch_of self.new ≡ add_in_turn (sketch_of self.old) (coupons_in table.now.places)) }
-        ensures needed { OnErr result (holds_all self.old.layout (coupons_of table.now) ≡ false) }
+        ensures needed { OnErr result (can_hold_all self.old.layout (coupons_of table.now) ≡ false) }
         ensures err { IfErr result (λ e. e ≡ Memory) }
     {
-        let _len = table.len();
+        table.table_is_legal();
         self.value_is_legal();
         for coupon in table.iter() {
             self.update_with_coupon(coupon)?;
@@ -172,7 +109,7 @@ impl<A: Allocator + Clone> HllSketch<A> {
     /// Whether the table stays as large as it is with the coupons of another one, as registers of six and eight bits do.
     /// Takes no memory.
     fn has_room_for(&self, table: &Container<A>) -> bool
-        ensures { result ≡ holds_all self.now.layout (coupons_of table.now) }
+        ensures { result ≡ can_hold_all self.now.layout (coupons_of table.now) }
     {
         let size = match &self.mode {
             Mode::List { list, .. } => list.container().lg_size(),
@@ -180,14 +117,14 @@ impl<A: Allocator + Clone> HllSketch<A> {
             Mode::Array4(_) => return false,
             Mode::Array6(_) | Mode::Array8(_) => return true,
         };
-        holds(size as u8, self.count_with_all(table))
+        self.count_with_all(table) <= most_kept(size as u8)
     }
 
     /// How many coupons there are with those of a table.
     fn count_with_all(&self, table: &Container<A>) -> usize
         ensures { result ≡ len (union (coupons_kept self.now.layout) (coupons_of table.now)) }
     {
-        let _len = table.len();
+        table.table_is_legal();
         self.value_is_legal();
         let mut count = self.num_coupons().unwrap_or(0);
         for coupon in table.iter() {

@@ -2,19 +2,19 @@
 #![tactic(auto)]
 
 mod folding;
-pub mod header;
-pub mod hll8_image;
+mod header;
+mod image;
 mod joining;
 pub mod laws;
-pub mod list_image;
 pub mod mode;
-mod mode_image;
 mod promotion;
 pub mod reference;
 pub mod sketch;
+pub mod stage;
 pub mod union;
+mod width;
 
-pub use header::{Header, Stage};
+pub use header::Stage;
 pub use mode::Mode;
 pub use sketch::HllSketch;
 pub use union::{HllUnion, agree, union_of};

@@ -1,16 +1,14 @@
 //! What a sketch keeps (docs/MODEL.md, "Sketch values").
 ghost use Rattle.std.specs.Prelude.{◌≡◌, IfOk, IfErr};
 ghost use Rattle.hll_base.specs.declared.error.Reason.TheVariants.{Memory};
-ghost use Rattle.hll_coupons.specs.declared.hll_type.HllType.TheVariants.{Hll4};
-ghost use Rattle.hll_sketch.specs.Layout as layouts;
 ghost use Rattle.hll_sketch.specs.Layout.{layout_of};
 
 use hll_arrays::array4::Array4;
 use hll_arrays::array6::Array6;
 use hll_arrays::array8::Array8;
 use hll_base::error::Error;
+use hll_base::hll_type::HllType;
 use hll_coupons::hash_set::HashSet;
-use hll_coupons::hll_type::HllType;
 use hll_coupons::list::List;
 use std::alloc::{Allocator, Global};
 
@@ -22,9 +20,8 @@ pub enum Mode<A: Allocator = Global> {
     List { list: List<A>, hll_type: HllType },
     /// A set of 32 places or more.
     Set { set: HashSet<A>, hll_type: HllType },
-    /// Registers of four bits, in memory of their own: they are larger than the others, and a sketch is as large as its
-    /// largest mode.
-    Array4(Box<Array4<A>, A>),
+    /// Registers of four bits.
+    Array4(Array4<A>),
     /// Registers of six bits.
     Array6(Array6<A>),
     /// Registers of eight bits.
@@ -32,16 +29,6 @@ pub enum Mode<A: Allocator = Global> {
 }
 
 impl<A: Allocator + Clone> Mode<A> {
-    /// Registers of four bits as a mode.
-    ///
-    /// Fails with `Memory`.
-    pub(crate) fn of_four_bits(array: Array4<A>) -> Result<Mode<A>, Error>
-        ensures ok { IfOk result (λ m. layout_of m ≡ layouts.array Hll4 array.stored array.exceptions) }
-        ensures err { IfErr result (λ e. e ≡ Memory) }
-    {
-        Ok(Mode::Array4(Box::new(array.allocator().clone()?, array)?))
-    }
-
     /// A copy, with the same places.
     ///
     /// Fails with `Memory`.
@@ -58,7 +45,7 @@ impl<A: Allocator + Clone> Mode<A> {
                 set: set.clone()?,
                 hll_type: *hll_type,
             }),
-            Mode::Array4(array) => Mode::of_four_bits(array.as_ref().clone()?),
+            Mode::Array4(array) => Ok(Mode::Array4(array.clone()?)),
             Mode::Array6(array) => Ok(Mode::Array6(array.clone()?)),
             Mode::Array8(array) => Ok(Mode::Array8(array.clone()?)),
         }

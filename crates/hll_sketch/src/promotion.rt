@@ -1,40 +1,33 @@
-//! What takes over from a table that a coupon more doesn't leave as large as it is (docs/MODEL.md, "Stages").
-ghost use Rattle.std.specs.Prelude.{◌≡◌, ℕ, ◌+◌, ◌^◌, ◌<◌, ◌≤◌, length, false, IfOk, IfErr, IfSome, IfNone};
-ghost use Rattle.std.specs.FinSet.{contains, len, insert};
+//! The next stage, where a table overflows with one more coupon (docs/MODEL.md, "Stages").
+ghost use Rattle.std.specs.Prelude.{◌≡◌, ◌+◌, ◌^◌, ◌<◌, ◌≤◌, length, false, IfOk, IfErr, IfSome, IfNone};
+ghost use Rattle.std.specs.FinSet.{len, insert};
 ghost use Rattle.hll_base.specs.declared.error.Reason.TheVariants.{Memory};
 ghost use Rattle.hll_coupons.specs.Fold.{fold_to};
 ghost use Rattle.hll_coupons.specs.Pair.{value_of};
 ghost use Rattle.hll_coupons.specs.Table.{coupons_in, coupons_of};
-ghost use Rattle.hll_arrays.specs.State.{cleared_state};
+ghost use Rattle.hll_registers.specs.State.{cleared_state};
 ghost use Rattle.hll_sketch.specs.Adding.{content_for};
 ghost use Rattle.hll_sketch.specs.Layout.{layout_of, content_in, width_of, IsLayoutFor, IsSize, size_after};
 ghost use Rattle.hll_sketch.specs.Stage as stages;
 ghost use Rattle.hll_sketch.specs.Value.{IsLgK, registers};
 
 use crate::mode::Mode;
-use crate::reference::holds;
 use hll_arrays::array4::Array4;
 use hll_arrays::array6::Array6;
 use hll_arrays::array8::Array8;
 use hll_arrays::register_store::RegisterStore;
 use hll_base::error::Error;
+use hll_base::hll_type::HllType;
 use hll_coupons::container::Container;
 use hll_coupons::coupon::Coupon;
 use hll_coupons::hash_set::HashSet;
-use hll_coupons::hll_type::HllType;
+use hll_coupons::serialization::{LG_LEAST_SET_PLACES, LG_LIST_PLACES, LG_SET_BELOW_LG_K};
 use std::alloc::Allocator;
 
-/// Whether a table stays as large as it is with a coupon more, which it may have already. Takes no memory.
-pub(crate) fn stays_with<A: Allocator>(table: &Container<A>, has: bool) -> bool
-    ensures { (c : ℕ) → has ≡ contains (coupons_of table.now) c → result ≡ stages.holds table.now.lg_size (len (insert (coupons_of table.now) c)) }
-{
-    holds(table.lg_size() as u8, table.len() + usize::from(!has))
-}
-
-/// What takes over from a table that a coupon more doesn't leave as large as it is.
+/// The next stage of a table that overflows with one more coupon: a larger set, or registers.
 ///
 /// Fails with `Memory`.
-pub(crate) fn next_of<A: Allocator + Clone>(
+pub(crate) fn promoted_table<A: Allocator + Clone>(
     lg_k: u8,
     hll_type: HllType,
     table: &Container<A>,
@@ -44,16 +37,16 @@ pub(crate) fn next_of<A: Allocator + Clone>(
     requires size { IsSize lg_k table.now.lg_size }
     requires room { 5 ≤ table.now.lg_size → length (coupons_in table.now.places) < 2 ^ table.now.lg_size }
     requires valued { 1 ≤ value_of coupon }
-    requires leaves { stages.holds table.now.lg_size (len (insert (coupons_of table.now) coupon)) ≡ false }
+    requires overflows { stages.can_hold table.now.lg_size (len (insert (coupons_of table.now) coupon)) ≡ false }
     ensures content { let pairs = insert (coupons_of table.now) coupon in
         IfOk result (λ mode. content_in (layout_of mode) ≡ content_for lg_k pairs (stages.stage lg_k table.now.lg_size (len pairs))) }
     ensures layout { IfOk result (λ mode. IsLayoutFor lg_k (layout_of mode)) }
     ensures width { IfOk result (λ mode. width_of (layout_of mode) ≡ hll_type) }
     ensures err { IfErr result (λ e. e ≡ Memory) }
 {
-    let _len = table.len();
+    table.table_is_legal();
     match next_size(lg_k, table.lg_size()) {
-        None => promoted(lg_k, hll_type, table, coupon),
+        None => registers_with(lg_k, hll_type, table, coupon),
         Some(size) => Ok(Mode::Set {
             set: set_of_size(size, table, coupon)?,
             hll_type,
@@ -67,8 +60,12 @@ fn next_size(lg_k: u8, size: usize) -> Option<usize>
     ensures some { IfSome result (λ next. (next ≡ size_after size) × (next + 3 ≤ lg_k)) }
     ensures none { IfNone result (lg_k < size_after size + 3) }
 {
-    let next = if size == 3 { 5 } else { size + 1 };
-    if next + 3 <= usize::from(lg_k) {
+    let next = if size == usize::from(LG_LIST_PLACES) {
+        usize::from(LG_LEAST_SET_PLACES)
+    } else {
+        size + 1
+    };
+    if next + usize::from(LG_SET_BELOW_LG_K) <= usize::from(lg_k) {
         Some(next)
     } else {
         None
@@ -76,7 +73,7 @@ fn next_size(lg_k: u8, size: usize) -> Option<usize>
 }
 
 /// The registers of this width of the coupons of a table and of one more.
-fn promoted<A: Allocator + Clone>(
+fn registers_with<A: Allocator + Clone>(
     lg_k: u8,
     hll_type: HllType,
     table: &Container<A>,
@@ -89,7 +86,7 @@ fn promoted<A: Allocator + Clone>(
     ensures err { IfErr result (λ e. e ≡ Memory) }
 {
     match hll_type {
-        HllType::Hll4 => Mode::of_four_bits(registers_of(lg_k, table, coupon)?),
+        HllType::Hll4 => Ok(Mode::Array4(registers_of(lg_k, table, coupon)?)),
         HllType::Hll6 => Ok(Mode::Array6(registers_of(lg_k, table, coupon)?)),
         HllType::Hll8 => Ok(Mode::Array8(registers_of(lg_k, table, coupon)?)),
     }
@@ -126,7 +123,7 @@ pub(crate) fn mode_of_table<A: Allocator + Clone>(
 {
     let alloc = table.allocator().clone()?;
     match hll_type {
-        HllType::Hll4 => Mode::of_four_bits(registers_of_table(alloc, lg_k, table)?),
+        HllType::Hll4 => Ok(Mode::Array4(registers_of_table(alloc, lg_k, table)?)),
         HllType::Hll6 => Ok(Mode::Array6(registers_of_table(alloc, lg_k, table)?)),
         HllType::Hll8 => Ok(Mode::Array8(registers_of_table(alloc, lg_k, table)?)),
     }

@@ -1,11 +1,11 @@
-//! Stages, adding and merging as slow programs, each with its definition as its contract (docs/MODEL.md, "Stages",
-//! "Adding", "Folding" and "Merging"). They are for tests, and for a reader of the definitions.
+//! Adding, folding and merging as slow programs, each with its definition as its contract (docs/MODEL.md, "Adding",
+//! "Folding" and "Merging"). They are for tests, and for a reader of the definitions.
 ghost use Rattle.std.specs.Prelude.{◌≡◌, ◌≤◌, ◌++◌, IfOk, IfErr};
 ghost use Rattle.std.specs.FinSet.{len, union};
 ghost use Rattle.hll_base.specs.declared.error.Reason.TheVariants.{Memory};
 ghost use Rattle.hll_coupons.specs.Pair.{set_of};
 ghost use Rattle.hll_coupons.specs.Fold.{fold_to};
-ghost use Rattle.hll_arrays.specs.Store.{AreRegisters};
+ghost use Rattle.hll_kernels.specs.Packed.{AreRegisters};
 ghost use Rattle.hll_sketch.specs.Stage as stages;
 ghost use Rattle.hll_sketch.specs.Value as values;
 ghost use Rattle.hll_sketch.specs.Adding as adding;
@@ -13,11 +13,13 @@ ghost use Rattle.hll_sketch.specs.Folding as folding;
 ghost use Rattle.hll_sketch.specs.Merging as merging;
 ghost use Rattle.hll_sketch.specs.Reference.{content_value, sketch_value, ContentFits, Fits};
 
+use crate::stage::stage;
 use hll_arrays::estimate_state::EstimateState;
 use hll_base::error::Error;
+use hll_base::hll_type::HllType;
 use hll_coupons::coupon::Coupon;
-use hll_coupons::hll_type::HllType;
 use hll_coupons::reference::{count_distinct, folded, joined, pairs_of as pairs_of_registers};
+use hll_coupons::serialization::LG_LIST_PLACES;
 use std::alloc::{Allocator, Global};
 
 /// What a plain sketch keeps.
@@ -42,38 +44,6 @@ pub struct ReferenceSketch<A: Allocator = Global> {
     pub content: ReferenceContent<A>,
 }
 
-// ---- stages
-
-/// Whether a table of 2^`size` places, with `size` at most 26, holds this number of coupons: seven at size 3, else three
-/// quarters of its places (docs/MODEL.md, "Stages"). Takes no memory.
-pub fn holds(size: u8, count: usize) -> bool
-    requires { size ≤ 26 }
-    ensures { result ≡ stages.holds size count }
-{
-    if size == 3 {
-        count <= 7
-    } else {
-        count <= 3 * (1usize << size) / 4
-    }
-}
-
-/// The least size from `from` up that holds this number of coupons, or none: then registers take over
-/// (docs/MODEL.md, "Stages"). `lg_k` is at most 21. Takes no memory.
-pub fn stage(lg_k: u8, from: u8, count: usize) -> Option<u8>
-    requires { lg_k ≤ 21 }
-    ensures { result ≡ stages.stage lg_k from count }
-{
-    if from <= 3 && holds(3, count) {
-        return Some(3);
-    }
-    for size in 5..lg_k.saturating_sub(2).max(5) {
-        if from <= size && holds(size, count) {
-            return Some(size);
-        }
-    }
-    None
-}
-
 // ---- values
 
 /// The empty list of eight places. Takes no memory.
@@ -84,7 +54,7 @@ pub fn empty<A: Allocator>(alloc: A, lg_k: u8, width: HllType) -> ReferenceSketc
     ReferenceSketch {
         lg_k,
         width,
-        content: ReferenceContent::Coupons(Vec::new(alloc), 3),
+        content: ReferenceContent::Coupons(Vec::new(alloc), LG_LIST_PLACES),
     }
 }
 
@@ -312,7 +282,7 @@ pub fn fold<A: Allocator + Clone>(
     let content = match &sketch.content {
         ReferenceContent::Coupons(coupons, _) => {
             let kept = copied(alloc.clone()?, coupons)?;
-            content_for(alloc, lg_k, 3, kept)?
+            content_for(alloc, lg_k, LG_LIST_PLACES, kept)?
         }
         ReferenceContent::Registers(registers, state) => {
             registers_at(alloc, sketch.lg_k, lg_k, registers, *state)?

@@ -8,23 +8,27 @@ ghost use Rattle.hll_coupons.specs.Fold.{fold_to};
 ghost use Rattle.hll_coupons.specs.Pair.{value_of, set_of};
 ghost use Rattle.hll_sketch.specs.Adding.{add, content_with};
 ghost use Rattle.hll_sketch.specs.Checks.{first_fault, size_fault};
-ghost use Rattle.hll_sketch.specs.Fault.{Fault};
+ghost use Rattle.hll_sketch.specs.Fault.{IsFault};
 ghost use Rattle.hll_sketch.specs.Folding as folding;
 ghost use Rattle.hll_sketch.specs.Folding.{IsFoldLgK};
 ghost use Rattle.hll_sketch.specs.Image.{IsReadAs};
-ghost use Rattle.hll_sketch.specs.Layout.{layout_of, content_in, width_of, sketch_of, IsLayoutFor, holds_with, count_in, NeedsMemory};
+ghost use Rattle.hll_sketch.specs.Layout.{layout_of, content_in, width_of, sketch_of, IsLayoutFor, can_hold_with, count_in, NeedsMemory};
 ghost use Rattle.hll_sketch.specs.Value.{IsLgK, empty_sketch, in_registers, is_empty, pairs_of, size_of, IsLegal};
 ghost use Rattle.hll_sketch.specs.Written.{Written};
 
-use crate::folding::{fold_of, of_width, settled};
-use crate::header::Header;
+use crate::folding::{fold_of, mode_of_coupons};
+use crate::header::{Header, Stage};
+use crate::image::{read_eight, read_four, read_list, read_set, read_six};
 use crate::mode::Mode;
-use crate::mode_image::read_mode;
-use crate::promotion::{next_of, stays_with};
+use crate::promotion::promoted_table;
+use crate::stage::most_kept;
+use crate::width::array_into_mode;
 use hll_base::error::{Error, Reason};
+use hll_base::hll_type::HllType;
+use hll_coupons::container::Insertion;
 use hll_coupons::coupon::Coupon;
-use hll_coupons::hll_type::HllType;
 use hll_coupons::list::List;
+use hll_coupons::serialization::{MAX_LG_K, MIN_LG_K};
 use std::alloc::{Allocator, Global};
 use std::fmt;
 use std::hash::Hash;
@@ -50,7 +54,7 @@ impl<A: Allocator> Model for HllSketch<A> {
 }
 
 impl<A: Allocator> HllSketch<A> {
-    /// An empty list, for registers of a width to come.
+    /// An empty sketch: a list, which keeps the width that its registers are to have.
     ///
     /// Fails with `Argument` if `lg_config_k` is not 4 to 21. Takes no memory.
     pub fn new(alloc: A, lg_config_k: u8, hll_type: HllType) -> Result<HllSketch<A>, Error>
@@ -59,7 +63,7 @@ impl<A: Allocator> HllSketch<A> {
         ensures outside { OnErr result (IsLgK lg_config_k → ⊥) }
         ensures err { IfErr result (λ e. e ≡ reasons.Argument) }
     {
-        if lg_config_k < 4 || lg_config_k > 21 {
+        if lg_config_k < MIN_LG_K || lg_config_k > MAX_LG_K {
             return Err(Error::new(Reason::Argument));
         }
         let list = List::default_in(alloc);
@@ -168,15 +172,18 @@ impl<A: Allocator + Clone> HllSketch<A> {
     /// `Memory`. Takes memory only once the counts pass their checks and the bytes that they ask for are there.
     pub fn deserialize(alloc: A, bytes: &[u8]) -> Result<HllSketch<A>, Error>
         ensures ok { IfOk result (λ s. IsReadAs bytes.now (sketch_of s)) }
-        ensures err { IfErr result (λ e. (e ≡ Memory) ⊎ Fault bytes.now e) }
+        ensures err { IfErr result (λ e. (e ≡ Memory) ⊎ IsFault bytes.now e) }
         ensures order { IfErr result (λ e. (e ≡ Memory) ⊎ (first_fault bytes.now ≡ Some e)) }
         ensures asked { IfErr result (λ e. e ≡ Memory → size_fault bytes.now ≡ None) }
     {
         let header = Header::read(bytes)?;
-        Ok(HllSketch {
-            lg_config_k: header.lg_k,
-            mode: read_mode(alloc, bytes, header)?,
-        })
+        match (header.stage, header.hll_type) {
+            (Stage::List, _) => read_list(alloc, bytes, header),
+            (Stage::Set, _) => read_set(alloc, bytes, header),
+            (Stage::Hll, HllType::Hll4) => read_four(alloc, bytes, header),
+            (Stage::Hll, HllType::Hll6) => read_six(alloc, bytes, header),
+            (Stage::Hll, HllType::Hll8) => read_eight(alloc, bytes, header),
+        }
     }
 
     /// A copy, with the same places.
@@ -219,11 +226,31 @@ impl<A: Allocator + Clone> HllSketch<A> {
         ensures needed { OnErr result (NeedsMemory self.old.lg_k self.old.layout coupon) }
         ensures err { IfErr result (λ e. e ≡ Memory) }
     {
-        if self.holds_with(coupon) {
-            self.put(coupon)
-        } else {
-            self.mode = self.next(coupon)?;
-            Ok(())
+        let insertion = match &mut self.mode {
+            Mode::List { list, .. } => {
+                let most = most_kept(list.container().lg_size() as u8);
+                list.update_within(coupon, most)
+            }
+            Mode::Set { set, .. } => {
+                let most = most_kept(set.container().lg_size() as u8);
+                set.update_within(coupon, most)
+            }
+            Mode::Array4(array) => return array.update(coupon),
+            Mode::Array6(array) => {
+                array.update(coupon);
+                return Ok(());
+            }
+            Mode::Array8(array) => {
+                array.update(coupon);
+                return Ok(());
+            }
+        };
+        match insertion {
+            Insertion::Added | Insertion::Held => Ok(()),
+            Insertion::Refused => {
+                self.mode = self.promoted(coupon)?;
+                Ok(())
+            }
         }
     }
 
@@ -274,7 +301,7 @@ impl<A: Allocator + Clone> HllSketch<A> {
         ensures within { IfErr result (λ e. e ≡ Memory → IsFoldLgK self.now.lg_k lg_k) }
         ensures err { IfErr result (λ e. (e ≡ reasons.Argument) ⊎ (e ≡ Memory)) }
     {
-        if lg_k < 4 || self.lg_config_k < lg_k {
+        if lg_k < MIN_LG_K || self.lg_config_k < lg_k {
             return Err(Error::new(Reason::Argument));
         }
         Ok(HllSketch {
@@ -292,23 +319,20 @@ impl<A: Allocator + Clone> HllSketch<A> {
         ensures err { IfErr result (λ e. e ≡ Memory) }
     {
         match &self.mode {
-            Mode::List { list, hll_type } => settled(lg_k, *hll_type, list.container()),
-            Mode::Set { set, hll_type } => settled(lg_k, *hll_type, set.container()),
+            Mode::List { list, hll_type } => mode_of_coupons(lg_k, *hll_type, list.container()),
+            Mode::Set { set, hll_type } => mode_of_coupons(lg_k, *hll_type, set.container()),
             Mode::Array4(_) | Mode::Array6(_) | Mode::Array8(_) => self.folded_registers(lg_k),
         }
     }
 
-    /// Says that the sketch value is legal. Does nothing.
+    /// Says that the sketch value is legal. Does nothing: a caller whose proof needs the invariant calls it.
     pub(crate) fn value_is_legal(&self)
         ensures { IsLegal (sketch_of self.now) }
     {
         match &self.mode {
-            Mode::List { list, .. } => {
-                let _len = list.container().len();
-            }
-            Mode::Set { set, .. } => {
-                let _len = set.container().len();
-            }
+            Mode::List { list, .. } => list.container().table_is_legal(),
+            Mode::Set { set, .. } => set.container().table_is_legal(),
+            // their `lg_k` brings the invariant of registers
             Mode::Array4(array) => {
                 let _lg_k = array.lg_k();
             }
@@ -334,28 +358,17 @@ impl<A: Allocator + Clone> HllSketch<A> {
         if lg_k == self.lg_config_k {
             self.mode.clone()
         } else {
-            of_width(
+            array_into_mode(
                 fold_of(self.allocator().clone()?, &self.mode, lg_k)?,
                 self.target_type(),
             )
         }
     }
 
-    /// Whether a table stays as large as it is with a coupon more. Registers always do.
-    fn holds_with(&self, coupon: Coupon) -> bool
-        ensures { result ≡ holds_with self.now.layout coupon }
-    {
-        match &self.mode {
-            Mode::List { list, .. } => stays_with(list.container(), list.contains(coupon)),
-            Mode::Set { set, .. } => stays_with(set.container(), set.contains(coupon)),
-            Mode::Array4(_) | Mode::Array6(_) | Mode::Array8(_) => true,
-        }
-    }
-
-    /// What takes over from a table that a coupon more doesn't leave as large as it is.
-    fn next(&self, coupon: Coupon) -> Result<Mode<A>, Error>
+    /// The next stage of a sketch whose table overflows with one more coupon.
+    fn promoted(&self, coupon: Coupon) -> Result<Mode<A>, Error>
         requires valued { 1 ≤ value_of coupon }
-        requires leaves { holds_with self.now.layout coupon ≡ false }
+        requires overflows { can_hold_with self.now.layout coupon ≡ false }
         ensures content { IfOk result (λ mode.
             content_in (layout_of mode) ≡ content_with self.now.lg_k (content_in self.now.layout) (set_of (coupon ∷ []))) }
         ensures layout { IfOk result (λ mode. IsLayoutFor self.now.lg_k (layout_of mode)) }
@@ -364,35 +377,13 @@ impl<A: Allocator + Clone> HllSketch<A> {
     {
         match &self.mode {
             Mode::List { list, hll_type } => {
-                next_of(self.lg_config_k, *hll_type, list.container(), coupon)
+                promoted_table(self.lg_config_k, *hll_type, list.container(), coupon)
             }
             Mode::Set { set, hll_type } => {
-                next_of(self.lg_config_k, *hll_type, set.container(), coupon)
+                promoted_table(self.lg_config_k, *hll_type, set.container(), coupon)
             }
             Mode::Array4(_) | Mode::Array6(_) | Mode::Array8(_) => unreachable!(),
         }
-    }
-
-    /// Adds a coupon to a table that stays as large as it is, or to registers.
-    fn put(&mut self, coupon: Coupon) -> Result<(), Error>
-        requires valued { 1 ≤ value_of coupon }
-        requires holds { holds_with self.old.layout coupon ≡ true }
-        ensures ok { OnOk result (sketch_of self.new ≡ add (sketch_of self.old) (set_of (coupon ∷ []))) }
-        ensures unchanged { OnErr result (self.new ≡ self.old) }
-        ensures needed { OnErr result (NeedsMemory self.old.lg_k self.old.layout coupon) }
-        ensures err { IfErr result (λ e. e ≡ Memory) }
-    {
-        match &mut self.mode {
-            Mode::List { list, .. } => {
-                let _len = list.container().len();
-                list.update(coupon);
-            }
-            Mode::Set { set, .. } => set.update(coupon),
-            Mode::Array4(array) => return array.update(coupon),
-            Mode::Array6(array) => array.update(coupon),
-            Mode::Array8(array) => array.update(coupon),
-        }
-        Ok(())
     }
 }
 

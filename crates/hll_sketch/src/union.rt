@@ -5,7 +5,7 @@ ghost use Rattle.hll_base.specs.declared.error.Reason.TheVariants as reasons;
 ghost use Rattle.hll_base.specs.Hash.{hash_of, initial_state, after_piece, default_seed};
 ghost use Rattle.hll_coupons.specs.Hashed.{coupon_of_halves};
 ghost use Rattle.hll_coupons.specs.Pair.{value_of, set_of};
-ghost use Rattle.hll_coupons.specs.declared.hll_type.HllType.TheVariants.{Hll8};
+ghost use Rattle.hll_base.specs.declared.hll_type.HllType.TheVariants.{Hll8};
 ghost use Rattle.hll_sketch.specs.Adding.{add};
 ghost use Rattle.hll_sketch.specs.Agree.{Agree};
 ghost use Rattle.hll_sketch.specs.Grown.{IsGrown};
@@ -17,8 +17,8 @@ ghost use Rattle.hll_sketch.specs.Value.{Sketch, IsLgK, in_registers, is_empty, 
 
 use crate::sketch::HllSketch;
 use hll_base::error::Error;
+use hll_base::hll_type::HllType;
 use hll_coupons::coupon::Coupon;
-use hll_coupons::hll_type::HllType;
 use std::alloc::{Allocator, Global};
 use std::hash::Hash;
 use std::marker::Model;
@@ -150,7 +150,7 @@ impl<A: Allocator + Clone> HllUnion<A> {
         ensures ok { IfOk result (λ s. sketch_of s ≡ record (gadget_of self.now) { width = hll_type }) }
         ensures err { IfErr result (λ e. e ≡ Memory) }
     {
-        self.gadget.at_width(hll_type)
+        self.gadget.to_width(hll_type)
     }
 
     /// The gadget at a width, as `to_sketch`, without a copy of what stays as it is.

@@ -3,8 +3,8 @@ ghost use Rattle.std.specs.Prelude.{◌≤◌};
 
 use crate::fixtures::{WIDTHS, filled};
 use hll_base::error::Error;
+use hll_base::hll_type::HllType;
 use hll_coupons::coupon::Coupon;
-use hll_coupons::hll_type::HllType;
 use hll_sketch::HllSketch;
 use std::alloc::Global;
 use std::process::Abort;

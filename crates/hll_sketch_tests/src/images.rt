@@ -1,29 +1,23 @@
-//! Headers of images, and the lists and registers read from them.
-ghost use Rattle.std.specs.Prelude.{◌≡◌, IfOk};
-
-use hll_arrays::array8::Array8;
+//! Images of every stage and width, and the sketches read from them.
 use hll_arrays::estimate_state::EstimateState;
-use hll_base::error::{Error, Reason};
+use hll_base::error::Reason;
+use hll_base::hll_type::HllType;
 use hll_coupons::coupon::Coupon;
-use hll_coupons::hll_type::HllType;
-use hll_coupons::list::List;
-use hll_sketch::header::{Header, Stage};
-use hll_sketch::hll8_image::read_hll8;
-use hll_sketch::list_image::read_list;
+use hll_sketch::{HllSketch, Mode, Stage};
 use std::alloc::Allocator;
 use std::test::Fail;
 
-/// Headers of a list, a set and registers, by the mode byte with each width.
-const HEADERS: [([u8; 8], Stage, HllType); 9] = [
-    ([2, 1, 7, 4, 3, 8, 1, 0], Stage::List, HllType::Hll4),
-    ([2, 1, 7, 4, 3, 8, 1, 4], Stage::List, HllType::Hll6),
-    ([2, 1, 7, 4, 3, 8, 1, 8], Stage::List, HllType::Hll8),
-    ([3, 1, 7, 4, 3, 8, 1, 1], Stage::Set, HllType::Hll4),
-    ([3, 1, 7, 4, 3, 8, 1, 5], Stage::Set, HllType::Hll6),
-    ([3, 1, 7, 4, 3, 8, 1, 9], Stage::Set, HllType::Hll8),
-    ([10, 1, 7, 4, 3, 8, 1, 2], Stage::Hll, HllType::Hll4),
-    ([10, 1, 7, 4, 3, 8, 1, 6], Stage::Hll, HllType::Hll6),
-    ([10, 1, 7, 4, 3, 8, 1, 10], Stage::Hll, HllType::Hll8),
+/// The stages of images, with the sixteen bytes that one begins with; the mode byte is that of four bits. Zeros follow.
+const STAGES: [(Stage, [u8; 16]); 3] = [
+    (
+        Stage::List,
+        [2, 1, 7, 4, 3, 8, 1, 0, 5, 0, 0, 4, 0, 0, 0, 0],
+    ),
+    (Stage::Set, [3, 1, 7, 8, 5, 8, 0, 1, 1, 0, 0, 0, 5, 0, 0, 4]),
+    (
+        Stage::Hll,
+        [10, 1, 7, 4, 3, 8, 0, 2, 0, 0, 0, 0, 0, 0, 0, 0],
+    ),
 ];
 
 /// Headers with a fault, and its reason.
@@ -57,79 +51,90 @@ const REGISTERS: [u8; 57] = [
     0, 15, 0, 0, 0, 0, 0, 0, 0, 5, 0, 0, 0, 0, 0, 0, 0, 0, 0, 0, 0, 0, 0, 0, 0, 255,
 ];
 
-/// Why a header is refused.
-fn refusal_of(bytes: &[u8]) -> Option<Reason> {
-    match Header::read(bytes) {
+/// Why an image is refused.
+fn refusal_of<A: Allocator + Clone>(alloc: A, bytes: &[u8]) -> Option<Reason> {
+    match HllSketch::deserialize(alloc, bytes) {
         Ok(_) => None,
         Err(e) => Some(e.reason()),
     }
 }
 
-/// The list of an image, and `Stage` where it is of another stage.
-fn list_in<A: Allocator>(alloc: A, bytes: &[u8]) -> Result<List<A>, Error>
-    ensures { IfOk result (λ l. l.lg_size ≡ 3) }
-{
-    let header = Header::read(bytes)?;
-    match header.stage {
-        Stage::List => read_list(alloc, bytes, header),
-        Stage::Set | Stage::Hll => Err(Error::new(Reason::Stage)),
+/// The stage of a sketch.
+fn stage_of<A: Allocator>(sketch: &HllSketch<A>) -> Stage {
+    match sketch.mode() {
+        Mode::List { .. } => Stage::List,
+        Mode::Set { .. } => Stage::Set,
+        Mode::Array4(_) | Mode::Array6(_) | Mode::Array8(_) => Stage::Hll,
     }
 }
 
-/// Why there is no list of an image.
-fn no_list<A: Allocator>(alloc: A, bytes: &[u8]) -> Option<Reason> {
-    match list_in(alloc, bytes) {
-        Ok(_) => None,
-        Err(e) => Some(e.reason()),
+/// The first three coupons of a list, in the order of its places.
+fn coupons_in<A: Allocator>(sketch: &HllSketch<A>) -> [Option<Coupon>; 3] {
+    match sketch.mode() {
+        Mode::List { list, .. } => {
+            let mut coupons = list.container().iter();
+            [coupons.next(), coupons.next(), coupons.next()]
+        }
+        _ => [None; 3],
     }
 }
 
+/// The registers of eight bits of a sketch.
+fn values_in<A: Allocator>(sketch: &HllSketch<A>) -> &[u8] {
+    match sketch.mode() {
+        Mode::Array8(array) => array.values(),
+        _ => &[],
+    }
+}
+
+/// The estimate state of a sketch in registers of eight bits.
+fn state_in<A: Allocator>(sketch: &HllSketch<A>) -> Option<EstimateState> {
+    match sketch.mode() {
+        Mode::Array8(array) => Some(array.estimate_state()),
+        _ => None,
+    }
+}
+
+/// Each stage at each width, with other bits of the mode byte too.
 #[test]
-fn headers(rt: HostRuntime) -> Result<(), Fail> {
-    for (bytes, stage, hll_type) in HEADERS {
-        let read = Header {
-            lg_k: 4,
-            hll_type,
-            stage,
-            lg_arr: 3,
-            empty: false,
-            compact: true,
-            out_of_order: false,
-            state_byte: 1,
-        };
-        assert_eq!(rt; Header::read(&bytes)?, read);
-    }
-    for end in 0..8usize {
-        assert_eq!(rt; refusal_of(&PLACES[..end]), Some(Reason::Truncated));
-    }
-    for (bytes, reason) in REFUSED {
-        assert_eq!(rt; refusal_of(&bytes), Some(reason), "{bytes:?}");
+fn stages_and_widths(rt: HostRuntime) -> Result<(), Fail> {
+    for (stage, front) in STAGES {
+        for (bits, width) in [(0, HllType::Hll4), (4, HllType::Hll6), (248, HllType::Hll8)] {
+            let mut image = [0u8; 64];
+            image[..16].copy_from_slice(&front);
+            image[7] = front[7] | bits;
+            let sketch = HllSketch::deserialize(rt.alloc(), &image)?;
+            assert_eq!(rt; (stage_of(&sketch), sketch.target_type()), (stage, width));
+        }
     }
     Ok(())
 }
 
-/// Each flag by itself, other bits of the flags and the mode byte, and the greatest values of the other bytes.
+#[test]
+fn headers(rt: HostRuntime) {
+    for end in 0..8usize {
+        assert_eq!(rt;
+            refusal_of(rt.alloc(), &PLACES[..end]),
+            Some(Reason::Truncated)
+        );
+    }
+    for (bytes, reason) in REFUSED {
+        assert_eq!(rt; refusal_of(rt.alloc(), &bytes), Some(reason), "{bytes:?}");
+    }
+}
+
+/// The state of registers is out of order by one flag alone.
 #[test]
 fn flags(rt: HostRuntime) -> Result<(), Fail> {
-    for (flags, empty, compact, out_of_order) in [
-        (0, false, false, false),
-        (4, true, false, false),
-        (8, false, true, false),
-        (16, false, false, true),
-        (227, false, false, false),
-    ] {
-        let header = Header::read(&[3, 1, 7, 21, 255, flags, 254, 249])?;
-        let read = Header {
-            lg_k: 21,
-            hll_type: HllType::Hll8,
-            stage: Stage::Set,
-            lg_arr: 255,
-            empty,
-            compact,
+    for (flags, out_of_order) in [(0, false), (4, false), (8, false), (16, true), (227, false)] {
+        let mut image = REGISTERS;
+        image[5] = flags;
+        let state = state_in(&HllSketch::deserialize(rt.alloc(), &image)?);
+        let wanted = EstimateState {
+            words: [1, 2, 3],
             out_of_order,
-            state_byte: 254,
         };
-        assert_eq!(rt; header, read);
+        assert_eq!(rt; state, Some(wanted), "{flags}");
     }
     Ok(())
 }
@@ -137,83 +142,54 @@ fn flags(rt: HostRuntime) -> Result<(), Fail> {
 /// Gaps between filled places are closed, and what follows the places is not read.
 #[test]
 fn lists(rt: HostRuntime) -> Result<(), Fail> {
-    let list = list_in(rt.alloc(), &PLACES)?;
-    let mut coupons = list.container().iter();
-    assert_eq!(rt; coupons.next(), Some(Coupon::pack(7, 2)));
-    assert_eq!(rt; coupons.next(), Some(Coupon::pack(5, 1)));
-    assert_eq!(rt; coupons.next(), None);
-    assert!(rt; list == list_in(rt.alloc(), &PLACES[..40])?);
-    assert_eq!(rt; no_list(rt.alloc(), &PLACES[..39]), Some(Reason::Truncated));
+    let sketch = HllSketch::deserialize(rt.alloc(), &PLACES)?;
+    let wanted = [Some(Coupon::pack(7, 2)), Some(Coupon::pack(5, 1)), None];
+    assert_eq!(rt; coupons_in(&sketch), wanted);
+    assert!(rt; sketch == HllSketch::deserialize(rt.alloc(), &PLACES[..40])?);
+    assert_eq!(rt;
+        refusal_of(rt.alloc(), &PLACES[..39]),
+        Some(Reason::Truncated)
+    );
     let mut larger = PLACES;
     larger[4] = 4;
-    assert_eq!(rt; no_list(rt.alloc(), &larger), Some(Reason::LgArr));
+    assert_eq!(rt; refusal_of(rt.alloc(), &larger), Some(Reason::LgArr));
     Ok(())
 }
 
 /// An image that is written is read as an equal list, its coupons in ascending raw words, also with bytes behind it.
 #[test]
 fn written_lists(rt: HostRuntime) -> Result<(), Fail> {
-    let list = list_in(rt.alloc(), &PLACES)?;
-    let mut image = list.serialize(10, HllType::Hll8)?;
+    let sketch = HllSketch::deserialize(rt.alloc(), &PLACES)?;
+    let mut image = sketch.serialize()?;
     assert_eq!(rt; image.len(), 16);
-    assert!(rt; list == list_in(rt.alloc(), &image)?);
+    assert!(rt; sketch == HllSketch::deserialize(rt.alloc(), &image)?);
     image.extend_from_slice(&[255, 255])?;
-    let read = list_in(rt.alloc(), &image)?;
-    assert!(rt; list == read);
-    let mut coupons = read.container().iter();
-    assert_eq!(rt; coupons.next(), Some(Coupon::pack(5, 1)));
-    assert_eq!(rt; coupons.next(), Some(Coupon::pack(7, 2)));
+    let read = HllSketch::deserialize(rt.alloc(), &image)?;
+    assert!(rt; sketch == read);
+    let wanted = [Some(Coupon::pack(5, 1)), Some(Coupon::pack(7, 2)), None];
+    assert_eq!(rt; coupons_in(&read), wanted);
     Ok(())
-}
-
-/// The registers of an image, and `Width` where it is of another width or stage.
-fn registers_in<A: Allocator>(alloc: A, bytes: &[u8]) -> Result<Array8<A>, Error> {
-    let header = Header::read(bytes)?;
-    match header.stage {
-        Stage::Hll => match header.hll_type {
-            HllType::Hll8 => read_hll8(alloc, bytes, header),
-            HllType::Hll4 | HllType::Hll6 => Err(Error::new(Reason::Width)),
-        },
-        Stage::List | Stage::Set => Err(Error::new(Reason::Width)),
-    }
-}
-
-/// Why there are no registers of an image.
-fn no_registers<A: Allocator>(alloc: A, bytes: &[u8]) -> Option<Reason> {
-    match registers_in(alloc, bytes) {
-        Ok(_) => None,
-        Err(e) => Some(e.reason()),
-    }
 }
 
 /// What follows the registers is not read.
 #[test]
 fn registers(rt: HostRuntime) -> Result<(), Fail> {
-    let array = registers_in(rt.alloc(), &REGISTERS)?;
-    assert_eq!(rt; array.lg_k(), 4);
-    assert_eq!(rt; array.values(), &REGISTERS[40..56]);
-    let state = EstimateState {
-        words: [1, 2, 3],
-        out_of_order: true,
-    };
-    assert_eq!(rt; array.estimate_state(), state);
-    assert_eq!(rt; no_registers(rt.alloc(), &REGISTERS[..56]), None);
+    let sketch = HllSketch::deserialize(rt.alloc(), &REGISTERS)?;
+    assert_eq!(rt; sketch.lg_config_k(), 4);
+    assert_eq!(rt; values_in(&sketch), &REGISTERS[40..56]);
+    assert_eq!(rt; refusal_of(rt.alloc(), &REGISTERS[..56]), None);
     assert_eq!(rt;
-        no_registers(rt.alloc(), &REGISTERS[..55]),
+        refusal_of(rt.alloc(), &REGISTERS[..55]),
         Some(Reason::Truncated)
     );
     for (at, byte, reason) in [
         (32, 17, Reason::Count),
         (55, 64, Reason::Register),
-        (7, 6, Reason::Width),
+        (7, 14, Reason::Width),
     ] {
         let mut image = REGISTERS;
         image[at] = byte;
-        assert_eq!(rt;
-            no_registers(rt.alloc(), &image),
-            Some(reason),
-            "{reason:?}"
-        );
+        assert_eq!(rt; refusal_of(rt.alloc(), &image), Some(reason), "{reason:?}");
     }
     Ok(())
 }

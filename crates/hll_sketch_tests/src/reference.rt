@@ -1,11 +1,11 @@
-//! The definitions of stages, adding and merging at worked values, by the plain programs.
+//! The definitions of stages, adding and merging at worked values, by their own functions and the plain programs.
 use hll_arrays::estimate_state::EstimateState;
+use hll_base::hll_type::HllType;
 use hll_coupons::coupon::Coupon;
-use hll_coupons::hll_type::HllType;
 use hll_sketch::reference::{
-    ReferenceContent, ReferenceSketch, add, array_of, empty, holds, is_empty, merge, pairs_of,
-    stage,
+    ReferenceContent, ReferenceSketch, add, array_of, empty, is_empty, merge, pairs_of,
 };
+use hll_sketch::stage::{can_hold, most_kept, stage};
 use std::alloc::Allocator;
 use std::test::Fail;
 
@@ -52,7 +52,8 @@ fn stages(rt: HostRuntime) -> Result<(), Fail> {
     assert_eq!(rt; stage(8, 5, 24), Some(5));
     assert_eq!(rt; stage(8, 5, 25), None);
     assert_eq!(rt; stage(4, 3, 8), None);
-    assert!(rt; holds(6, 48) && !holds(6, 49));
+    assert!(rt; can_hold(6, 48) && !can_hold(6, 49));
+    assert_eq!(rt; (most_kept(3), most_kept(5)), (7, 24));
     Ok(())
 }
 

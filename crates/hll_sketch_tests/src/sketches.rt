@@ -3,8 +3,8 @@ ghost use Rattle.std.specs.Prelude.{◌≤◌};
 
 use crate::fixtures::{WIDTHS, filled};
 use hll_base::error::{Error, Reason};
+use hll_base::hll_type::HllType;
 use hll_coupons::coupon::Coupon;
-use hll_coupons::hll_type::HllType;
 use hll_sketch::{HllSketch, Mode};
 use std::alloc::{Allocator, Global};
 use std::process::Abort;

@@ -2,7 +2,7 @@
 ghost use Rattle.std.specs.Prelude.{◌≤◌};
 
 use crate::fixtures::{WIDTHS, filled};
-use hll_coupons::hll_type::HllType;
+use hll_base::hll_type::HllType;
 use hll_sketch::{HllSketch, HllUnion, agree};
 use std::test::Fail;
 

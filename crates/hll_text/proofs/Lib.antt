@@ -4,6 +4,7 @@ pub mod FaultLemmas
 pub mod LeadingLemmas
 pub mod NumberLemmas
 pub mod PartLemmas
+pub mod SendLemmas
 pub mod StepLemmas
 pub mod StreamLemmas
 mod TextRows

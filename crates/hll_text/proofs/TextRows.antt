@@ -2,7 +2,7 @@
 use Rattle.std.specs.Prelude.{◌≡◌, refl, [], ◌∷◌, ◌++◌, Some, None, Ok, Err, codes}
 use Rattle.std.specs.Str.Lines.{lines}
 use Rattle.hex.proofs.OnLiterals.{hex_on_literals}
-use Rattle.hll_coupons.specs.declared.hll_type.HllType.TheVariants.{Hll4, Hll8}
+use Rattle.hll_base.specs.declared.hll_type.HllType.TheVariants.{Hll4, Hll8}
 use Rattle.hll_text.specs.declared.fault.Fault.TheVariants.{Syntax, Range, Hex}
 use Rattle.hll_text.specs.Text.{reading, ended_lines, open_line, new, image, coupon, union, fold}
 

@@ -1,4 +1,5 @@
 pub mod Cuts
+pub mod Refusal
 pub mod Step
 pub mod Text
 pub mod Watching

@@ -7,6 +7,7 @@ pub mod fakes;
 pub mod fault;
 pub mod lines;
 pub mod reading;
+pub mod refusal;
 pub mod step;
 pub mod streams;
 #[cfg(test)]

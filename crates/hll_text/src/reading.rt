@@ -10,7 +10,7 @@ use crate::fault::Fault;
 use crate::step::{Line, Step};
 use crate::words::{one_number, one_word, split_word, three_numbers, two_numbers};
 use hex::FromHexError;
-use hll_coupons::hll_type::HllType;
+use hll_base::hll_type::HllType;
 use std::alloc::Allocator;
 
 /// What a line of a plan, without its end, says: `None` for one that is skipped, else a step (docs/PLAN.md, "The text").

@@ -1,5 +1,5 @@
 //! The steps of a plan.
-use hll_coupons::hll_type::HllType;
+use hll_base::hll_type::HllType;
 use std::alloc::{Allocator, Global};
 
 /// What one line of a plan does (docs/PLAN.md, "The text").

@@ -2,8 +2,8 @@
 use crate::coupons::Piece;
 use crate::hash::TEXT;
 use hll_base::error::{Error, ErrorKind, Reason};
+use hll_base::hll_type::HllType;
 use hll_coupons::coupon::Coupon;
-use hll_coupons::hll_type::HllType;
 use hll_sketch::{HllSketch, HllUnion, Mode, Stage};
 use linked_list_allocator::LocalHeap;
 use std::alloc::Global;

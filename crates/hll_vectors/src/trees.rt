@@ -1,5 +1,5 @@
 //! Lists of steps: what they give, their faults, and lists that are compared.
-use hll_coupons::hll_type::HllType;
+use hll_base::hll_type::HllType;
 use hll_merge::evaluate::{compare, evaluate};
 use hll_text::fault::Fault;
 use hll_text::step::Step;

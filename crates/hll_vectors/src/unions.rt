@@ -1,6 +1,6 @@
 //! Unions: their `lg_k`, the tables that they take, and sketches that agree.
+use hll_base::hll_type::HllType;
 use hll_coupons::coupon::Coupon;
-use hll_coupons::hll_type::HllType;
 use hll_sketch::{HllSketch, HllUnion, agree};
 use std::alloc::Global;
 use std::test::Fail;

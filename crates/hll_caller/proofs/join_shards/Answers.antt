@@ -1,9 +1,10 @@
 use Rattle.std.proofs.Common.{ap, sym, ◌∙◌, arith}
 use Rattle.hll_coupons.specs.Pair.{Pairs, set_of}
-use Rattle.hll_coupons.specs.Fold.{fold_to, join, pairs}
+use Rattle.hll_coupons.specs.Fold.{fold_to, pairs}
+use Rattle.hll_base.specs.Join.{join}
 use Rattle.hll_coupons.proofs.Folds.{fold_to-union}
 use Rattle.hll_coupons.proofs.Registers.{fold_to-pairs-fold_to}
-use Rattle.hll_arrays.specs.Store.{Stored}
+use Rattle.hll_registers.specs.Store.{Stored}
 use Rattle.hll_caller.proofs.join_shards.Goals as goal
 
 pub returns-clause-ok : goal.returns-clause-ok

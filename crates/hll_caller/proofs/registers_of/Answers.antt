@@ -1,7 +1,7 @@
 use Rattle.std.proofs.Common.{◌≡◌, ℕ, suc, ◌+◌, List, [], ◌∷◌, ◌++◌, take, sym, ap, ◌∙◌, arith}
 use Rattle.std.proofs.Math.Seq.{take-suc}
 use Rattle.hll_coupons.specs.Pair.{set_of}
-use Rattle.hll_arrays.specs.Store.{update_with_coupon}
+use Rattle.hll_registers.specs.Store.{update_with_coupon}
 use Rattle.hll_sketch.proofs.Promoting.{folded, folded-none, folded-behind}
 use Rattle.hll_caller.proofs.registers_of.Goals as goal
 

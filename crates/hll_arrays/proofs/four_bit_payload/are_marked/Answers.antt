@@ -5,9 +5,9 @@ use Rattle.hll_coupons.specs.AuxMap.{entries_in}
 use Rattle.hll_coupons.proofs.Pairs.{IsEntryOf, entries_are, of_value}
 use Rattle.hll_coupons.proofs.Putting.{last_of_all}
 use Rattle.hll_coupons.proofs.Yielded.{given}
-use Rattle.hll_arrays.specs.Packed.{nibble_at}
-use Rattle.hll_arrays.specs.Payload.{Agrees}
-use Rattle.hll_arrays.proofs.FourBits.{All-one}
+use Rattle.hll_kernels.specs.Packed.{nibble_at}
+use Rattle.hll_registers.specs.Payload.{Agrees}
+use Rattle.hll_registers.proofs.FourBits.{All-one}
 use Rattle.hll_arrays.proofs.four_bit_payload.are_marked.Goals as goal
 use Rattle.hll_arrays.proofs.four_bit_payload.are_marked.Goals.{then-value-cur_min-via-then-value-cur_min, then-value-cur_min-via-else-value-cur_min+then-nibble_of-ne-MARK}
 

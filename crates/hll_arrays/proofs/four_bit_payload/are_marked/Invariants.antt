@@ -1,6 +1,6 @@
 use Rattle.std.proofs.Common.{All, Some}
-use Rattle.hll_arrays.specs.Packed.{nibble_at}
-use Rattle.hll_arrays.specs.Payload.{Agrees}
+use Rattle.hll_kernels.specs.Packed.{nibble_at}
+use Rattle.hll_registers.specs.Payload.{Agrees}
 use Rattle.hll_arrays.proofs.four_bit_payload.are_marked.Given as goal
 
 -- each exception so far agrees

@@ -1,4 +1,4 @@
-use Rattle.hll_arrays.proofs.Packing.{fields_read_back}
+use Rattle.hll_registers.proofs.Packing.{fields_read_back}
 use Rattle.hll_arrays.proofs.laws.fields_read_back.Goals as goal
 
 pub returns : goal.returns

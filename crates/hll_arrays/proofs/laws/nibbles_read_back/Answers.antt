@@ -1,4 +1,4 @@
-use Rattle.hll_arrays.proofs.Packing.{nibbles_read_back}
+use Rattle.hll_registers.proofs.Packing.{nibbles_read_back}
 use Rattle.hll_arrays.proofs.laws.nibbles_read_back.Goals as goal
 
 pub returns : goal.returns

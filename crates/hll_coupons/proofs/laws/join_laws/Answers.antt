@@ -1,4 +1,4 @@
-use Rattle.hll_coupons.proofs.Joins.{join_comm, join_itself, join_assoc}
+use Rattle.hll_base.proofs.Joins.{join_comm, join_itself, join_assoc}
 use Rattle.hll_coupons.proofs.laws.join_laws.Goals as goal
 
 pub returns : goal.returns

@@ -1,5 +1,5 @@
 use Rattle.std.proofs.Common.{arith}
-use Rattle.hll_coupons.proofs.ReferenceSteps.{is_join}
+use Rattle.hll_base.proofs.Joins.{is_join}
 use Rattle.hll_coupons.proofs.reference.joined.Goals as goal
 
 pub returns-clause-ok : goal.returns-clause-ok

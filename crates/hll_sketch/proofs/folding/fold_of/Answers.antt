@@ -1,7 +1,7 @@
 use Rattle.std.proofs.Common.{◌≡◌, IfOk, sym, ap, subst, ◌∙◌}
 use Rattle.hll_coupons.specs.Fold.{fold_to}
 use Rattle.hll_coupons.specs.Table.{coupons_of}
-use Rattle.hll_arrays.specs.State.{cleared_state}
+use Rattle.hll_registers.specs.State.{cleared_state}
 use Rattle.hll_sketch.specs.Layout.{layout_of, content_in}
 use Rattle.hll_sketch.specs.Value.{pairs_in}
 use Rattle.hll_sketch.proofs.folding.fold_of.Goals as goal

@@ -1,7 +1,7 @@
 use Rattle.std.proofs.Common.{ap, ◌∙◌}
 use Rattle.hll_coupons.specs.Fold.{pairs}
-use Rattle.hll_arrays.specs.State.{cleared_state}
-use Rattle.hll_arrays.specs.Store.{Stored, merge_with}
+use Rattle.hll_registers.specs.State.{cleared_state}
+use Rattle.hll_registers.specs.Store.{Stored, merge_with}
 use Rattle.hll_sketch.proofs.Promoting.{join-zeros}
 use Rattle.hll_sketch.proofs.folding.fold_of_registers.Goals as goal
 

@@ -11,13 +11,13 @@ use Rattle.hll_sketch.proofs.folding.list_of.Goals as goal
 pub update-requires-clause-valued : goal.update-requires-clause-valued
 update-requires-clause-valued g c =
     let all = given _ _ _ _ _ (c.into_iter-coupon-iterator.ensures.into_iter_gives ∙ c.iter-coupon-items.ensures) c.loop-coupon.yielded_by c.in-Some.ensures.steps in
-    let pair : IsPair c.in-Some.coupon = All-between IsPair c.loop-coupon.yielded c.next.new.self c.in-Some.coupon (subst (All IsPair) all c.len-len.ensures.table.valued) in
+    let pair : IsPair c.in-Some.coupon = All-between IsPair c.loop-coupon.yielded c.next.new.self c.in-Some.coupon (subst (All IsPair) all c.table_is_legal.ensures.table.valued) in
     pair.valued
 
 pub update-requires-clause-room : goal.update-requires-clause-room
 update-requires-clause-room g c =
     let all = given _ _ _ _ _ (c.into_iter-coupon-iterator.ensures.into_iter_gives ∙ c.iter-coupon-items.ensures) c.loop-coupon.yielded_by c.in-Some.ensures.steps in
-    let table : IsTable c.loop-coupon.list = subst IsTable c.container.ensures.same c.len-len-in-loop-coupon.ensures.table in
+    let table : IsTable c.loop-coupon.list = subst IsTable c.container.ensures.same c.table_is_legal-in-loop-coupon.ensures.table in
     room_of_eight c.loop-coupon.list (coupons_in c.args.table.now.places) c.loop-coupon.yielded c.next.new.self c.in-Some.coupon table c.loop-coupon.invariant.0 c.loop-coupon.invariant.1 all c.requires
 
 pub loop-coupon-preserved : goal.loop-coupon-preserved

@@ -1,6 +1,6 @@
 use Rattle.std.proofs.Common.{ap, ◌∙◌}
 use Rattle.hll_coupons.specs.Table.{coupons_of}
-use Rattle.hll_arrays.specs.Store.{update_with_coupon}
+use Rattle.hll_registers.specs.Store.{update_with_coupon}
 use Rattle.hll_sketch.proofs.Promoting.{folded-more}
 use Rattle.hll_sketch.proofs.promotion.registers_of.Goals as goal
 

@@ -3,7 +3,7 @@ use Rattle.std.proofs.lemmas.List.{append-nil}
 use Rattle.hll_coupons.specs.Pair.{set_of}
 use Rattle.hll_coupons.specs.Table.{coupons_in}
 use Rattle.hll_coupons.proofs.Yielded.{given}
-use Rattle.hll_arrays.specs.Store.{update_with_coupon}
+use Rattle.hll_registers.specs.Store.{update_with_coupon}
 use Rattle.hll_sketch.proofs.Promoting.{folded, folded-none, folded-behind}
 use Rattle.hll_sketch.proofs.promotion.registers_of_table.Goals as goal
 

@@ -1,7 +1,7 @@
 use Rattle.std.proofs.Common.{length, All, ◌≤◌, sym, ap, subst, ◌∙◌}
 use Rattle.hll_coupons.specs.Pair.{set_of}
 use Rattle.hll_coupons.proofs.Folds.{length-fold_to}
-use Rattle.hll_arrays.proofs.Raising.{AreRegisters-join}
+use Rattle.hll_kernels.proofs.Registers.{AreRegisters-join}
 use Rattle.hll_sketch.proofs.reference.update_with_pairs.Goals as goal
 
 pub joined-requires : goal.joined-requires

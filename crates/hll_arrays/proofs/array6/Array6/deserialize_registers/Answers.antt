@@ -1,11 +1,11 @@
 use Rattle.std.proofs.Common.{◌≡◌, ◌⊎◌, ℕ, ◌+◌, ◌*◌, ◌-◌, ◌^◌, ◌<◌, ◌≤◌, List, length, take, drop, inl, inr, sym, ap, subst, ◌∙◌, arith}
 use Rattle.std.proofs.lemmas.List.{length-drop}
 use Rattle.hll_base.specs.declared.error.Reason.TheVariants.{Memory, Truncated}
-use Rattle.hll_arrays.specs.Packed.{fields}
-use Rattle.hll_arrays.specs.Payload.{num_at_cur_min, exception_count, field_size, HasPlainCounts, IsHll6Payload, Hll6Fault, FirstHll6Fault}
-use Rattle.hll_arrays.specs.Payload as payload
+use Rattle.hll_kernels.specs.Packed.{fields}
+use Rattle.hll_registers.specs.Payload.{num_at_cur_min, exception_count, field_size, HasPlainCounts, IsHll6Payload, Hll6Fault, FirstHll6Fault}
+use Rattle.hll_registers.specs.Payload as payload
 use Rattle.hll_base.proofs.Errors.{IfErr-passed}
-use Rattle.hll_arrays.proofs.Grouping.{groups-pow, length-fields, length-registers_in}
+use Rattle.hll_kernels.proofs.Grouping.{groups-pow, length-fields, length-registers_in}
 use Rattle.hll_arrays.proofs.ReadingRegisters.{is_hll6_payload, IfErr-always, slice_front}
 use Rattle.hll_arrays.proofs.array6.Array6.deserialize_registers.Goals as goal
 

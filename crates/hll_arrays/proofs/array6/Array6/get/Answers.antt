@@ -1,6 +1,6 @@
 use Rattle.std.proofs.Common.{◌≡◌, List, ℕ, ◌*◌, ◌^◌, length, ap, arith}
-use Rattle.hll_arrays.specs.Store.{Stored}
-use Rattle.hll_arrays.proofs.Grouping.{size-AreGroups}
+use Rattle.hll_registers.specs.Store.{Stored}
+use Rattle.hll_kernels.proofs.Grouping.{size-AreGroups}
 use Rattle.hll_arrays.proofs.array6.Array6.get.Goals as goal
 
 pub register_at-requires : goal.register_at-requires

@@ -1,5 +1,5 @@
 use Rattle.std.proofs.Common.{List, ℕ, length, ap, arith}
-use Rattle.hll_arrays.proofs.Grouping.{few-AreGroups}
+use Rattle.hll_kernels.proofs.Grouping.{few-AreGroups}
 use Rattle.hll_arrays.proofs.array6.Array6.kxq_units.Goals as goal
 
 pub units_in-requires : goal.units_in-requires

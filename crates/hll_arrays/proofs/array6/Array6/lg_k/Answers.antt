@@ -1,6 +1,6 @@
 use Rattle.std.proofs.Common.{subst, arith}
-use Rattle.hll_arrays.specs.Store.{IsStored}
-use Rattle.hll_arrays.proofs.Grouping.{AreRegisters-registers_in}
+use Rattle.hll_registers.specs.Store.{IsStored}
+use Rattle.hll_kernels.proofs.Grouping.{AreRegisters-registers_in}
 use Rattle.hll_arrays.proofs.array6.Array6.lg_k.Goals as goal
 
 pub returns-clause-legal : goal.returns-clause-legal

@@ -3,10 +3,10 @@ use Rattle.std.proofs.Math.Nat.{mod-eq_of_lt}
 use Rattle.std.proofs.lemmas.Nat.{pow_below}
 use Rattle.std.proofs.lemmas.List.{ext_get_or, length-replicate}
 use Rattle.std.proofs.lemmas.List.Elements.{All-replicate}
-use Rattle.hll_arrays.specs.State.{cleared_state}
-use Rattle.hll_arrays.specs.Groups.{registers_in, AreGroups, IsGroup}
-use Rattle.hll_arrays.proofs.Grouping.{groups-pow, registers_in-replicate}
-use Rattle.hll_arrays.specs.Packed.{zeros}
+use Rattle.hll_registers.specs.State.{cleared_state}
+use Rattle.hll_kernels.specs.Groups.{registers_in, AreGroups, IsGroup}
+use Rattle.hll_kernels.proofs.Grouping.{groups-pow, registers_in-replicate}
+use Rattle.hll_kernels.specs.Packed.{zeros}
 use Rattle.hll_arrays.proofs.ZeroCounts.{zeros_all}
 use Rattle.hll_arrays.proofs.array6.Array6.new.Goals as goal
 

@@ -1,5 +1,5 @@
 use Rattle.std.proofs.Common.{List, ℕ, length, ap, arith}
-use Rattle.hll_arrays.proofs.Grouping.{few-AreGroups}
+use Rattle.hll_kernels.proofs.Grouping.{few-AreGroups}
 use Rattle.hll_arrays.proofs.array6.Array6.num_zeros.Goals as goal
 
 pub count_zeros_in-requires : goal.count_zeros_in-requires

@@ -2,13 +2,13 @@ use Rattle.std.proofs.Common.{◌≡◌, ℕ, List, [], ◌∷◌, ◌++◌, ◌
 use Rattle.std.specs.List.{flat_map}
 use Rattle.std.proofs.Math.Nat.{zero-add}
 use Rattle.hll_coupons.specs.Coupons.{mode_byte}
-use Rattle.hll_arrays.specs.Groups.{registers_in}
-use Rattle.hll_arrays.specs.Packed.{zeros}
-use Rattle.hll_arrays.specs.Payload.{number_bytes, hll6_bytes, flag_of}
-use Rattle.hll_arrays.specs.Store.{Stored}
-use Rattle.hll_arrays.specs.declared.estimate_state.EstimateState.{EstimateState}
-use Rattle.hll_arrays.specs.declared.preamble.HllHeader.{HllHeader}
-use Rattle.hll_arrays.proofs.Grouping.{field_bytes-registers_in}
+use Rattle.hll_kernels.specs.Groups.{registers_in}
+use Rattle.hll_kernels.specs.Packed.{zeros}
+use Rattle.hll_registers.specs.Payload.{number_bytes, hll6_bytes, flag_of}
+use Rattle.hll_registers.specs.Store.{Stored}
+use Rattle.hll_registers.specs.declared.estimate_state.EstimateState.{EstimateState}
+use Rattle.hll_registers.specs.declared.preamble.HllHeader.{HllHeader}
+use Rattle.hll_kernels.proofs.Grouping.{field_bytes-registers_in}
 use Rattle.hll_arrays.proofs.array6.Array6.serialize.Goals as goal
 
 -- the bytes of a header

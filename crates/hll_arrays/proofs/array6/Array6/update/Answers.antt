@@ -5,13 +5,13 @@ use Rattle.std.proofs.lemmas.Nat.{pow_pos}
 use Rattle.std.proofs.lemmas.List.{with_items_is}
 use Rattle.std.specs.Vec.{with_items}
 use Rattle.hll_coupons.specs.Pair.{slot_of, value_of}
-use Rattle.hll_arrays.specs.Groups.{registers_in, IsGroup}
-use Rattle.hll_arrays.specs.State.{cleared_state}
-use Rattle.hll_arrays.specs.Store.{Stored, update_with_coupon}
-use Rattle.hll_arrays.proofs.Grouping.{size-AreGroups, length-registers_in}
-use Rattle.hll_arrays.proofs.Raising.{update_with_pairs-low, update_with_pairs-high}
+use Rattle.hll_kernels.specs.Groups.{registers_in, IsGroup}
+use Rattle.hll_registers.specs.State.{cleared_state}
+use Rattle.hll_registers.specs.Store.{Stored, update_with_coupon}
+use Rattle.hll_kernels.proofs.Grouping.{size-AreGroups, length-registers_in}
+use Rattle.hll_registers.proofs.Raising.{update_with_pairs-low, update_with_pairs-high}
 use Rattle.std.specs.Prelude.{IfSome}
-use Rattle.hll_arrays.specs.Packed.{zeros}
+use Rattle.hll_kernels.specs.Packed.{zeros}
 use Rattle.hll_arrays.proofs.ZeroCounts.{slot_within, some_zero, zeros_set}
 use Rattle.hll_arrays.proofs.array6.Array6.update.Goals as goal
 

@@ -3,10 +3,10 @@ use Rattle.std.specs.Prelude.{◌&&◌}
 use Rattle.std.specs.Bool.{beq}
 use Rattle.std.specs.Cmp.Lexicographic.{pointwise}
 use Rattle.std.proofs.lemmas.Bool.{eq-eqb, eqb-true}
-use Rattle.hll_arrays.specs.Groups.{registers_in}
+use Rattle.hll_kernels.specs.Groups.{registers_in}
 use Rattle.hll_arrays.specs.Same.{same_stored}
-use Rattle.hll_arrays.specs.Store.{Stored}
-use Rattle.hll_arrays.proofs.Grouping.{pointwise-registers_in}
+use Rattle.hll_registers.specs.Store.{Stored}
+use Rattle.hll_kernels.proofs.Grouping.{pointwise-registers_in}
 use Rattle.hll_arrays.proofs.array6.Array6PartialEq.eq.Goals as goal
 use Rattle.hll_arrays.proofs.array6.Array6PartialEq.eq.Goals.{then-self-other, else-self-other}
 

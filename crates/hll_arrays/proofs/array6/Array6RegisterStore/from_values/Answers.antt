@@ -1,6 +1,6 @@
 use Rattle.std.proofs.Common.{◌≡◌, ℕ, ◌*◌, List, length, sym, ap, ◌∙◌, arith, rules}
-use Rattle.hll_arrays.proofs.Grouping.{groups-pow, length-registers_in}
-use Rattle.hll_arrays.specs.Packed.{zeros}
+use Rattle.hll_kernels.proofs.Grouping.{groups-pow, length-registers_in}
+use Rattle.hll_kernels.specs.Packed.{zeros}
 use Rattle.hll_arrays.proofs.array6.Array6RegisterStore.from_values.Goals as goal
 
 pub pack_groups-requires-clause-whole : goal.pack_groups-requires-clause-whole

@@ -1,8 +1,8 @@
 use Rattle.std.proofs.Common.{◌≡◌, ℕ, ◌+◌, ◌*◌, ◌-◌, ◌/◌, ◌^◌, ◌≤◌, List, length, take, drop, sym, ap, ◌∙◌, arith, rules}
-use Rattle.hll_coupons.specs.Fold.{join}
-use Rattle.hll_arrays.specs.Groups.{registers_in}
-use Rattle.hll_arrays.specs.Store.{Stored}
-use Rattle.hll_arrays.proofs.Grouping.{size-AreGroups, take-registers_in, drop-registers_in}
+use Rattle.hll_base.specs.Join.{join}
+use Rattle.hll_kernels.specs.Groups.{registers_in}
+use Rattle.hll_registers.specs.Store.{Stored}
+use Rattle.hll_kernels.proofs.Grouping.{size-AreGroups, take-registers_in, drop-registers_in}
 use Rattle.hll_arrays.proofs.array6.Array6Registers.join_into.Goals as goal
 
 pub slice_bounds-groups-end : goal.slice_bounds-groups-end

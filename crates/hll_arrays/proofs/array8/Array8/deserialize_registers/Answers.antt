@@ -4,8 +4,8 @@ use Rattle.std.specs.List.{list_all}
 use Rattle.std.proofs.lemmas.Bool.{true≢false}
 use Rattle.std.proofs.lemmas.List.{length-drop}
 use Rattle.hll_base.specs.declared.error.Reason.TheVariants.{Memory, Truncated}
-use Rattle.hll_arrays.specs.Payload.{num_at_cur_min, exception_count, state_at, HasPlainCounts, IsHll8Payload, Hll8Fault, FirstHll8Fault}
-use Rattle.hll_arrays.specs.Payload as payload
+use Rattle.hll_registers.specs.Payload.{num_at_cur_min, exception_count, state_at, HasPlainCounts, IsHll8Payload, Hll8Fault, FirstHll8Fault}
+use Rattle.hll_registers.specs.Payload as payload
 use Rattle.hll_base.proofs.Errors.{IfErr-passed}
 use Rattle.hll_arrays.proofs.ReadingRegisters.{small-from, small-to, is_hll8_payload, IfErr-always, slice_front}
 use Rattle.hll_arrays.proofs.array8.Array8.deserialize_registers.Goals as goal

@@ -1,9 +1,9 @@
 use Rattle.std.proofs.Common.{◌≡◌, ℕ, ◌∙◌, ◌==◌, sym, subst, nat_eq, eqb, List, Option}
 use Rattle.std.specs.Prelude.{IfSome}
 use Rattle.std.specs.List.{list_all}
-use Rattle.hll_arrays.specs.Packed.{zeros}
-use Rattle.hll_arrays.specs.Store.{Stored}
-use Rattle.hll_arrays.proofs.FourBits.{all_by_count}
+use Rattle.hll_kernels.specs.Packed.{zeros}
+use Rattle.hll_registers.specs.Store.{Stored}
+use Rattle.hll_registers.proofs.FourBits.{all_by_count}
 use Rattle.hll_arrays.proofs.array8.Array8.is_empty.Goals as goal
 
 pub returns-in-Some : goal.returns-in-Some

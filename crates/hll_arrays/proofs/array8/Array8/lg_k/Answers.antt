@@ -1,5 +1,5 @@
 use Rattle.std.proofs.Common.{subst}
-use Rattle.hll_arrays.specs.Store.{IsStored}
+use Rattle.hll_registers.specs.Store.{IsStored}
 use Rattle.hll_arrays.proofs.array8.Array8.lg_k.Goals as goal
 
 pub returns-clause-legal : goal.returns-clause-legal

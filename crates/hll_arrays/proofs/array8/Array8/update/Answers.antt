@@ -2,9 +2,9 @@ use Rattle.std.proofs.Common.{◌≡◌, ℕ, ◌%◌, ◌^◌, ◌<◌, List, l
 use Rattle.std.proofs.Math.ListN.{set}
 use Rattle.std.proofs.lemmas.List.{get_or_default}
 use Rattle.hll_coupons.specs.Pair.{slot_of}
-use Rattle.hll_arrays.specs.State.{cleared_state}
-use Rattle.hll_arrays.specs.Store.{Stored, update_with_coupon}
-use Rattle.hll_arrays.proofs.Raising.{update_with_pairs-kept, update_with_pairs-written}
+use Rattle.hll_registers.specs.State.{cleared_state}
+use Rattle.hll_registers.specs.Store.{Stored, update_with_coupon}
+use Rattle.hll_registers.proofs.Raising.{update_with_pairs-kept, update_with_pairs-written}
 use Rattle.hll_arrays.proofs.ZeroCounts.{slot_within, some_zero, zeros_set}
 use Rattle.hll_arrays.proofs.array8.Array8.update.Goals as goal
 

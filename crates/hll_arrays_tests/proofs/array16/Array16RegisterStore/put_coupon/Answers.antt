@@ -1,9 +1,9 @@
 use Rattle.std.proofs.Common.{◌≡◌, ℕ, ◌%◌, ◌^◌, List, subst, arith, ◌∙◌}
 use Rattle.std.proofs.Math.ListN.{set}
 use Rattle.hll_coupons.specs.Pair.{slot_of}
-use Rattle.hll_arrays.specs.State.{cleared_state}
-use Rattle.hll_arrays.specs.Store.{Stored, update_with_coupon}
-use Rattle.hll_arrays.proofs.Raising.{update_with_pairs-kept, update_with_pairs-written}
+use Rattle.hll_registers.specs.State.{cleared_state}
+use Rattle.hll_registers.specs.Store.{Stored, update_with_coupon}
+use Rattle.hll_registers.proofs.Raising.{update_with_pairs-kept, update_with_pairs-written}
 use Rattle.hll_arrays_tests.proofs.array16.Array16RegisterStore.put_coupon.Goals as goal
 
 pub returns-then-from-index-clause-ok : goal.returns-then-from-index-clause-ok

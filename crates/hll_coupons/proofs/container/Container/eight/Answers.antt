@@ -1,4 +1,5 @@
 use Rattle.std.proofs.Common.{arith, ap, sym, subst, ◌∙◌, length}
+use Rattle.hll_coupons.specs.Storage.{places_in}
 use Rattle.hll_coupons.specs.Table.{coupons_in, IsTable}
 use Rattle.hll_coupons.proofs.Places.{coupons_in-replicate}
 use Rattle.hll_coupons.proofs.TableLemmas.{IsTable-empty}
@@ -6,6 +7,7 @@ use Rattle.hll_coupons.proofs.container.Container.eight.Goals as goal
 
 pub invariant_of-result : goal.invariant_of-result
 invariant_of-result g c = (
-  subst (λ places. IsTable (record { lg_size = 3; places = places })) (sym c.eight.ensures) (IsTable-empty 3 (omega arith)),
+  subst (λ n. IsTable (record { lg_size = n; places = places_in c.eight.result })) (sym c.from.ensures)
+      (subst (λ places. IsTable (record { lg_size = 3; places = places })) (sym c.eight.ensures) (IsTable-empty 3 (omega arith))),
   sym (ap (λ places. length (coupons_in places)) c.eight.ensures ∙ ap length (coupons_in-replicate 8)),
 )

@@ -7,7 +7,7 @@ use Rattle.hll_coupons.specs.Table.{Table, coupons_in}
 use Rattle.hll_coupons.proofs.hash_set.HashSet.from_container.Goals as goal
 
 pub put_all-requires-clause-distinct : goal.put_all-requires-clause-distinct
-put_all-requires-clause-distinct g c = ap (λ cs. len (set_of cs)) (map-id (coupons_in c.args.coupons.now.places)) ∙ c.len-table.ensures.table.distinct
+put_all-requires-clause-distinct g c = ap (λ cs. len (set_of cs)) (map-id (coupons_in c.args.coupons.now.places)) ∙ c.table_is_legal.ensures.table.distinct
 
 pub returns-clause-places : goal.returns-clause-places
 returns-clause-places g c =

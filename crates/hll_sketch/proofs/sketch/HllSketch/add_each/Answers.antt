@@ -7,7 +7,7 @@ use Rattle.hll_coupons.proofs.Yielded.{given}
 use Rattle.hll_sketch.specs.Adding.{add}
 use Rattle.hll_sketch.specs.Layout.{sketch_of}
 use Rattle.hll_sketch.specs.Laws.{add_in_turn}
-use Rattle.hll_sketch.specs.Union.{holds_all}
+use Rattle.hll_sketch.specs.Union.{can_hold_all}
 use Rattle.hll_sketch.proofs.Collecting.{All-between}
 use Rattle.hll_base.proofs.Errors.{OnErr-of}
 use Rattle.hll_sketch.proofs.Merges.{added_more, room_suffices}
@@ -19,7 +19,7 @@ loop-coupon-init g c = refl
 pub update_with_coupon-requires : goal.update_with_coupon-requires
 update_with_coupon-requires g c =
     let all = given _ _ _ _ _ (c.into_iter-coupon-iterator.ensures.into_iter_gives ∙ c.iter-coupon-items.ensures) c.loop-coupon.yielded_by c.in-Some.ensures.steps in
-    let pair : IsPair c.in-Some.coupon = All-between IsPair c.loop-coupon.yielded c.next.new.self c.in-Some.coupon (subst (All IsPair) all c.len-len.ensures.table.valued) in
+    let pair : IsPair c.in-Some.coupon = All-between IsPair c.loop-coupon.yielded c.next.new.self c.in-Some.coupon (subst (All IsPair) all c.table_is_legal.ensures.table.valued) in
     pair.valued
 
 pub loop-coupon-preserved : goal.loop-coupon-preserved
@@ -30,9 +30,9 @@ loop-coupon-preserved g c =
 pub returns-in_err-update_with_coupon-clause-needed : goal.returns-in_err-update_with_coupon-clause-needed
 returns-in_err-update_with_coupon-clause-needed g c =
     let all = given _ _ _ _ _ (c.into_iter-coupon-iterator.ensures.into_iter_gives ∙ c.iter-coupon-items.ensures) c.loop-coupon.yielded_by c.in-Some.ensures.steps in
-    OnErr-of c.from_residual.result _ (elim (cases_Bool (holds_all c.args.self.now.layout (coupons_of c.args.table.now))) [
+    OnErr-of c.from_residual.result _ (elim (cases_Bool (can_hold_all c.args.self.now.layout (coupons_of c.args.table.now))) [
       | inl room ↦ absurd (room_suffices c.args.self.now c.loop-coupon.self c.loop-coupon.yielded c.next.new.self c.in-Some.coupon c.value_is_legal.ensures c.loop-coupon.invariant
-          (subst (λ order. holds_all c.args.self.now.layout (set_of order) ≡ true) all room) c.in_err-update_with_coupon.ensures.needed)
+          (subst (λ order. can_hold_all c.args.self.now.layout (set_of order) ≡ true) all room) c.in_err-update_with_coupon.ensures.needed)
       | inr none ↦ none
     ])
 

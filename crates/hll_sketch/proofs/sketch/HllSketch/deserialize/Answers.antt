@@ -2,16 +2,17 @@ use Rattle.std.proofs.Common.{◌≡◌, ◌⊎◌, ◌++◌, List, ℕ, Some, N
 use Rattle.hll_base.proofs.Errors.{IfErr-passed}
 use Rattle.hll_base.specs.declared.error.Reason.TheVariants.{Memory}
 use Rattle.hll_sketch.specs.Checks.{header_checks, checks_behind, first_fault, size_fault}
-use Rattle.hll_sketch.specs.Fault.{Fault}
+use Rattle.hll_sketch.specs.Fault.{IsFault}
 use Rattle.hll_sketch.specs.Fault as fault
 use Rattle.hll_sketch.proofs.FaultKinds.{not_memory}
 use Rattle.hll_sketch.proofs.FirstFailing.{failing_before}
+use Rattle.hll_sketch.proofs.Refusals.{refusal-err}
 use Rattle.hll_sketch.proofs.sketch.HllSketch.deserialize.Goals as goal
 
 pub returns-in_err-header-clause-err : goal.returns-in_err-header-clause-err
 returns-in_err-header-clause-err g c =
-    IfErr-passed (λ r. (r ≡ Memory) ⊎ Fault c.args.bytes.now r) c.from_residual.result c.in_err-header.field-0.0 c.from_residual.ensures.1
-    (inr (fault.Fault.header c.in_err-header.ensures.err))
+    IfErr-passed (λ r. (r ≡ Memory) ⊎ IsFault c.args.bytes.now r) c.from_residual.result c.in_err-header.field-0.0 c.from_residual.ensures.1
+    (inr (fault.IsFault.header c.in_err-header.ensures.err))
 
 pub returns-in_err-header-clause-order : goal.returns-in_err-header-clause-order
 returns-in_err-header-clause-order g c =
@@ -25,3 +26,18 @@ returns-in_err-header-clause-asked g c =
     let b : List ℕ = c.args.bytes.now in
     IfErr-passed (λ r. r ≡ Memory → size_fault b ≡ None) c.from_residual.result c.in_err-header.field-0.0 c.from_residual.ensures.1
     (λ full. absurd (not_memory b c.in_err-header.field-0.0 c.in_err-header.ensures.err full))
+
+pub returns-in-List-default-clause-err : goal.returns-in-List-default-clause-err
+returns-in-List-default-clause-err g c = refusal-err c.args.bytes.now c.read_list.result c.read_list.ensures.err
+
+pub returns-in-Set-default-clause-err : goal.returns-in-Set-default-clause-err
+returns-in-Set-default-clause-err g c = refusal-err c.args.bytes.now c.read_set.result c.read_set.ensures.err
+
+pub returns-in-Hll-Hll4-clause-err : goal.returns-in-Hll-Hll4-clause-err
+returns-in-Hll-Hll4-clause-err g c = refusal-err c.args.bytes.now c.read_four.result c.read_four.ensures.err
+
+pub returns-in-Hll-Hll6-clause-err : goal.returns-in-Hll-Hll6-clause-err
+returns-in-Hll-Hll6-clause-err g c = refusal-err c.args.bytes.now c.read_six.result c.read_six.ensures.err
+
+pub returns-in-Hll-Hll8-clause-err : goal.returns-in-Hll-Hll8-clause-err
+returns-in-Hll-Hll8-clause-err g c = refusal-err c.args.bytes.now c.read_eight.result c.read_eight.ensures.err

@@ -1,7 +1,5 @@
-use Rattle.std.proofs.Common.{◌≡◌, ◌∙◌, None, sym, ap, nat_eq}
-use Rattle.std.specs.List.{list_all}
-use Rattle.hll_arrays.specs.FourBits.{FourBits}
-use Rattle.hll_coupons.specs.declared.hll_type.HllType.TheVariants.{Hll4, Hll6, Hll8}
+use Rattle.std.proofs.Common.{◌≡◌, ◌∙◌, None, sym, ap}
+use Rattle.hll_base.specs.declared.hll_type.HllType.TheVariants.{Hll4, Hll6, Hll8}
 use Rattle.hll_sketch.specs.Value.{is_empty}
 use Rattle.hll_sketch.specs.Layout as layouts
 use Rattle.hll_sketch.specs.Layout.{SketchLayout, layout_of, sketch_of}
@@ -10,9 +8,9 @@ use Rattle.hll_sketch.proofs.sketch.HllSketch.is_empty.Goals as goal
 
 pub returns-in-Array4 : goal.returns-in-Array4
 returns-in-Array4 g c =
-    let x : SketchLayout = record { lg_k = c.self.inside.lg_config_k; layout = layouts.array Hll4 c.in-Array4.array.value.stored c.in-Array4.array.value.exceptions } in
+    let x : SketchLayout = record { lg_k = c.self.inside.lg_config_k; layout = layouts.array Hll4 c.in-Array4.array.stored c.in-Array4.array.exceptions } in
     let is : x ≡ c.args.self.now = (λ i. let y : SketchLayout = record { lg_k = c.self.inside.lg_config_k; layout = layout_of (sym c.in-Array4.is i) } in y) ∙ c.self.view_is in
-    c.is_empty.ensures ∙ ap (λ (a : FourBits). list_all (λ v. nat_eq v 0) a.stored.registers) c.deref.ensures ∙ zeros-empty c.in-Array4.array.value.stored.registers ∙ ap (λ y. is_empty (sketch_of y)) is
+    c.is_empty.ensures ∙ zeros-empty c.in-Array4.array.stored.registers ∙ ap (λ y. is_empty (sketch_of y)) is
 
 pub returns-in-Array6 : goal.returns-in-Array6
 returns-in-Array6 g c =

@@ -1,6 +1,6 @@
 use Rattle.std.proofs.Common.{◌≡◌, sym, ap, ◌∙◌, arith}
-use Rattle.hll_arrays.specs.State.{cleared_state}
-use Rattle.hll_arrays.specs.Store.{Stored}
+use Rattle.hll_registers.specs.State.{cleared_state}
+use Rattle.hll_registers.specs.Store.{Stored}
 use Rattle.hll_sketch.specs.Layout.{SketchLayout, layout_of, sketch_of}
 use Rattle.hll_sketch.specs.Merging.{state_after_merge}
 use Rattle.hll_sketch.proofs.Merges.{aside_as, state_kept, state_gone, state_gone_above}

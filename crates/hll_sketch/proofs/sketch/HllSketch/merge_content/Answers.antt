@@ -1,6 +1,6 @@
 use Rattle.std.proofs.Common.{◌≡◌, ℕ, None, sym, ap, subst, ◌∙◌}
-use Rattle.hll_coupons.specs.declared.hll_type.HllType.TheVariants.{Hll4, Hll6, Hll8}
-use Rattle.hll_arrays.specs.FourBits.{FourBits}
+use Rattle.hll_base.specs.declared.hll_type.HllType.TheVariants.{Hll4, Hll6, Hll8}
+use Rattle.hll_registers.specs.FourBits.{FourBits}
 use Rattle.hll_sketch.specs.Layout as layouts
 use Rattle.hll_sketch.specs.Layout.{SketchLayout, layout_of, content_in, sketch_of, IsLayoutFor}
 use Rattle.std.proofs.lemmas.Result.{on_ok_weaker, on_err_weaker}
@@ -10,8 +10,8 @@ use Rattle.hll_sketch.proofs.sketch.HllSketch.merge_content.Goals as goal
 pub returns-in-Array4-clause-ok : goal.returns-in-Array4-clause-ok
 returns-in-Array4-clause-ok g c =
     let k : ℕ = c.sketch.inside.lg_config_k in
-    let a : FourBits = c.as_ref.result.now in
-    let kept : layouts.array Hll4 a.stored a.exceptions ≡ layout_of c.sketch.inside.mode = ap (λ (b : FourBits). layouts.array Hll4 b.stored b.exceptions) c.as_ref.ensures ∙ ap layout_of (sym c.in-Array4.is) in
+    let a : FourBits = c.in-Array4.array in
+    let kept : layouts.array Hll4 a.stored a.exceptions ≡ layout_of c.sketch.inside.mode = ap layout_of (sym c.in-Array4.is) in
     let is : record { lg_k = k; layout = layouts.array Hll4 a.stored a.exceptions } ≡ c.args.sketch.now = (λ i. let y : SketchLayout = record { lg_k = k; layout = kept i } in y) ∙ c.sketch.view_is in
     let legal : IsLayoutFor k (layouts.array Hll4 a.stored a.exceptions) = subst (IsLayoutFor k) (sym kept) c.sketch.invariant.1 in
     on_ok_weaker c.merge_registers.result (λ e. e ∙ merged_as c.args.bound k (sketch_of c.args.self.now) c.args.sketch.now Hll4 a.stored a.exceptions is legal) c.merge_registers.ensures.ok
@@ -19,8 +19,8 @@ returns-in-Array4-clause-ok g c =
 pub returns-in-Array4-clause-needed : goal.returns-in-Array4-clause-needed
 returns-in-Array4-clause-needed g c =
     let k : ℕ = c.sketch.inside.lg_config_k in
-    let a : FourBits = c.as_ref.result.now in
-    let kept : layouts.array Hll4 a.stored a.exceptions ≡ layout_of c.sketch.inside.mode = ap (λ (b : FourBits). layouts.array Hll4 b.stored b.exceptions) c.as_ref.ensures ∙ ap layout_of (sym c.in-Array4.is) in
+    let a : FourBits = c.in-Array4.array in
+    let kept : layouts.array Hll4 a.stored a.exceptions ≡ layout_of c.sketch.inside.mode = ap layout_of (sym c.in-Array4.is) in
     let is : record { lg_k = k; layout = layouts.array Hll4 a.stored a.exceptions } ≡ c.args.sketch.now = (λ i. let y : SketchLayout = record { lg_k = k; layout = kept i } in y) ∙ c.sketch.view_is in
     let legal : IsLayoutFor k (layouts.array Hll4 a.stored a.exceptions) = subst (IsLayoutFor k) (sym kept) c.sketch.invariant.1 in
     on_err_weaker c.merge_registers.result (needed_as k (sketch_of c.args.self.now) (content_in c.args.self.now.layout) c.args.sketch.now Hll4 a.stored a.exceptions is legal) c.merge_registers.ensures.needed

@@ -13,8 +13,8 @@ returns-in-List g c =
     let is : x ≡ c.args.self.now = (λ i. let y : SketchLayout = record { lg_k = k; layout = layout_of (sym c.in-List.is i) } in y) ∙ c.self.view_is in
     let legal : IsLayoutFor k (layouts.list c.in-List.hll_type c.in-List.list) = subst (IsLayoutFor k) (ap layout_of c.in-List.is) c.self.invariant.1 in
     subst (λ y. IsLegal (sketch_of y)) is
-    (list_legal k c.in-List.hll_type c.in-List.list c.self.invariant.0 legal (subst IsTable c.container.ensures.same c.len-len.ensures.table)
-    (subst (λ (t : Table). length (coupons_in t.places) ≤ 2 ^ t.lg_size) c.container.ensures.same (omega (arith, c.len-len.ensures.count, c.len-len.ensures.within))))
+    (list_legal k c.in-List.hll_type c.in-List.list c.self.invariant.0 legal (subst IsTable c.container.ensures.same c.table_is_legal.ensures.table)
+    (subst (λ (t : Table). length (coupons_in t.places) ≤ 2 ^ t.lg_size) c.container.ensures.same c.table_is_legal.ensures.within))
 
 pub returns-in-Set : goal.returns-in-Set
 returns-in-Set g c =
@@ -23,4 +23,4 @@ returns-in-Set g c =
     let is : x ≡ c.args.self.now = (λ i. let y : SketchLayout = record { lg_k = k; layout = layout_of (sym c.in-Set.is i) } in y) ∙ c.self.view_is in
     let legal : IsLayoutFor k (layouts.set c.in-Set.hll_type c.in-Set.set) = subst (IsLayoutFor k) (ap layout_of c.in-Set.is) c.self.invariant.1 in
     subst (λ y. IsLegal (sketch_of y)) is
-    (set_legal k c.in-Set.hll_type c.in-Set.set c.self.invariant.0 legal (subst IsTable c.container-in-Set.ensures.same c.len-len-in-Set.ensures.table))
+    (set_legal k c.in-Set.hll_type c.in-Set.set c.self.invariant.0 legal (subst IsTable c.container-in-Set.ensures.same c.table_is_legal-in-Set.ensures.table))

@@ -1,7 +1,0 @@
-use Rattle.std.proofs.Common.{◌∙◌, Some, eqb, cond, ap}
-use Rattle.hll_arrays.proofs.FourBits.{value_in-empty}
-use Rattle.hll_arrays.proofs.exception_map.one_entry.Goals as goal
-
-pub returns-clause-values : goal.returns-clause-values
-returns-clause-values g c s =
-    c.in_ok-set_value.ensures.values s ∙ ap (λ o. cond (eqb s c.args.slot) (Some c.args.value) o) (value_in-empty c.in_ok-map.map c.args.lg_k s c.in_ok-map.ensures.ok)

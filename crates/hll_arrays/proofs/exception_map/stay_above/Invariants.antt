@@ -1,6 +1,0 @@
-use Rattle.std.proofs.Common.{◌+◌, ◌≤◌, All}
-use Rattle.hll_arrays.proofs.exception_map.stay_above.Given as goal
-
--- each so far is above
-abbrev pub invariant-loop-value : goal.invariant-loop-value
-invariant-loop-value g l = All (λ p. l.minimum + 15 ≤ p.1) l.yielded

@@ -1,7 +1,0 @@
-use Rattle.std.proofs.Common.{◌≡◌, ◌*◌, take}
-use Rattle.hll_arrays.specs.Packed.{zeros, fields}
-use Rattle.hll_arrays.proofs.groups.zero_fields.Given as goal
-
--- the count so far
-abbrev pub invariant-loop-block : goal.invariant-loop-block
-invariant-loop-block l = l.count ≡ zeros (fields (take (l.block-index * 48) l.bytes))

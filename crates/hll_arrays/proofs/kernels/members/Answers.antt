@@ -1,5 +1,0 @@
-use Rattle.hll_arrays.proofs.Weights.{members_by_mask}
-use Rattle.hll_arrays.proofs.kernels.members.Goals as goal
-
-pub returns : goal.returns
-returns c = members_by_mask c.args.block.now c.args.half c.told-block

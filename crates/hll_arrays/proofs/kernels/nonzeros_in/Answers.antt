@@ -1,5 +1,0 @@
-use Rattle.hll_arrays.proofs.ZeroTests.{nonzeros_by_mask}
-use Rattle.hll_arrays.proofs.kernels.nonzeros_in.Goals as goal
-
-pub returns : goal.returns
-returns c = nonzeros_by_mask c.args.block.now c.told-block

@@ -1,7 +1,0 @@
-use Rattle.std.proofs.Common.{◌≡◌, take}
-use Rattle.hll_arrays.specs.Packed.{zero_nibbles}
-use Rattle.hll_arrays.proofs.nibbles.zero_nibbles_one_by_one.Given as goal
-
--- the count so far
-abbrev pub invariant-loop-byte : goal.invariant-loop-byte
-invariant-loop-byte l = l.count ≡ zero_nibbles (take l.byte-index l.bytes)

@@ -1,8 +1,0 @@
-use Rattle.std.proofs.Common.{◌≡◌, ◌*◌, ◌^◌}
-use Rattle.hll_coupons.specs.Fold.{join}
-use Rattle.hll_arrays.proofs.Folding.{folded}
-use Rattle.hll_arrays.proofs.registers.join_folds.Given as goal
-
--- the blocks so far are joined
-abbrev pub invariant-loop-block : goal.invariant-loop-block
-invariant-loop-block g l = l.values ≡ join l.initial.values (folded (g.R.Registers.stored l.src).registers l.lg_k (l.block * 2 ^ l.lg_k))

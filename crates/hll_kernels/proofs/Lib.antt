@@ -1,0 +1,11 @@
+pub mod Blocks
+pub mod Bounds
+pub mod FourBitLanes
+pub mod Grouping
+pub mod Lowering
+pub mod Parts
+pub mod Registers
+pub mod SingleNibbles
+pub mod SixBitLanes
+pub mod Weights
+pub mod ZeroTests

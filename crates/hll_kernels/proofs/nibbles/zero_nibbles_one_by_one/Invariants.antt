@@ -1,0 +1,7 @@
+use Rattle.std.proofs.Common.{◌≡◌, take}
+use Rattle.hll_kernels.specs.Packed.{zero_nibbles}
+use Rattle.hll_kernels.proofs.nibbles.zero_nibbles_one_by_one.Given as goal
+
+-- the count so far
+abbrev pub invariant-loop-byte : goal.invariant-loop-byte
+invariant-loop-byte l = l.count ≡ zero_nibbles (take l.byte-index l.bytes)

@@ -1,0 +1,3 @@
+pub mod Groups
+pub mod Lanes
+pub mod Packed

@@ -1,0 +1,90 @@
+-- The packed forms of registers, and their numbers (docs/FORMAT.md, "Packed registers"; docs/MODEL.md, "Packed forms").
+use Rattle.std.specs.Prelude.{◌≡◌, ℕ, ◌+◌, ◌-◌, ◌*◌, ◌/◌, ◌%◌, ◌^◌, ◌<◌, ◌≤◌, ◌==◌, if◌then◌else◌, min, List, [], ◌∷◌, ◌++◌, length, count_by, sum_by, slice_index, fold, All}
+use Rattle.hll_kernels.specs.Groups.{group_fields}
+
+-- ---- four bits
+
+-- the least register, of registers that are at most 63
+abbrev pub minimum : List ℕ → ℕ
+minimum R = fold min 63 R
+
+-- how many registers are at the minimum
+abbrev pub count_at_minimum : List ℕ → ℕ
+count_at_minimum R = count_by (λ r. r == minimum R) R
+
+-- how far a register is above the minimum, in four bits; 15 marks an exception
+abbrev pub nibble : ℕ → ℕ → ℕ
+nibble m r = min (r - m) 15
+
+-- two nibbles in each byte, the even slot in the low one
+abbrev pub nibble_bytes_above : ℕ → List ℕ → List ℕ
+nibble_bytes_above m [] = []
+nibble_bytes_above m (r ∷ []) = nibble m r ∷ []
+nibble_bytes_above m (r ∷ q ∷ R) = (nibble m r + 16 * nibble m q) ∷ nibble_bytes_above m R
+
+-- the nibbles of registers above their minimum
+abbrev pub nibble_bytes : List ℕ → List ℕ
+nibble_bytes R = nibble_bytes_above (minimum R) R
+
+-- the nibble of a slot
+abbrev pub nibble_at : List ℕ → ℕ → ℕ
+nibble_at bytes s = slice_index bytes (s / 2) / 16 ^ (s % 2) % 16
+
+-- a nibble above 0 made one less, but 15
+abbrev pub lowered_nibble : ℕ → ℕ
+lowered_nibble n = if n == 15 then 15 else (n - 1)
+
+-- a byte with both nibbles lowered
+abbrev pub lowered_byte : ℕ → ℕ
+lowered_byte b = lowered_nibble (b % 16) + 16 * lowered_nibble (b / 16)
+
+-- a nibble some steps lower, but 15
+abbrev pub lowered_by : ℕ → ℕ → ℕ
+lowered_by d n = if n == 15 then 15 else (n - d)
+
+-- how many nibbles of bytes are 0
+abbrev pub zero_nibbles : List ℕ → ℕ
+zero_nibbles bytes = count_by (λ b. b % 16 == 0) bytes + count_by (λ b. b / 16 == 0) bytes
+
+-- ---- six bits
+
+-- four registers in three bytes, the lowest bit first
+abbrev pub group_bytes : ℕ → ℕ → ℕ → ℕ → List ℕ
+group_bytes a b c d = let g = a + 64 * b + 4096 * c + 262144 * d in (g % 256) ∷ (g / 256 % 256) ∷ (g / 65536) ∷ []
+
+-- the fields of groups of four registers, and one zero byte
+abbrev pub field_bytes : List ℕ → List ℕ
+field_bytes (a ∷ b ∷ c ∷ d ∷ R) = group_bytes a b c d ++ field_bytes R
+field_bytes _ = 0 ∷ []
+
+-- the registers of groups of three bytes; a last byte holds none
+abbrev pub fields : List ℕ → List ℕ
+fields (a ∷ b ∷ c ∷ rest) = group_fields (a ∷ b ∷ c ∷ []) ++ fields rest
+fields _ = []
+
+-- ---- registers
+
+-- 2^lg_k values of at most 63
+pub record AreRegisters (k : ℕ) (R : List ℕ) : Type 0 where
+  pub size : length R ≡ 2 ^ k
+  pub small : All (λ v. v ≤ 63) R
+
+-- ---- numbers
+
+-- how many registers are 0
+abbrev pub zeros : List ℕ → ℕ
+zeros R = count_by (λ v. v == 0) R
+
+-- the sum of 2^(63 - v) over the registers
+abbrev pub units : List ℕ → ℕ
+units R = sum_by (λ v. 2 ^ (63 - v)) R
+
+-- ---- laws
+
+-- each nibble is read back
+abbrev pub NibblesReadBack : Type 0
+NibblesReadBack = (m : ℕ) (R : List ℕ) (s : ℕ) → s < length R → nibble_at (nibble_bytes_above m R) s ≡ nibble m (slice_index R s)
+
+-- each field is read back
+abbrev pub FieldsReadBack : Type 0
+FieldsReadBack = (groups : ℕ) (R : List ℕ) → length R ≡ 4 * groups → All (λ v. v ≤ 63) R → fields (field_bytes R) ≡ R

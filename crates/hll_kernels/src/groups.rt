@@ -1,0 +1,362 @@
+//! Registers of six bits: four of them in three bytes (docs/FORMAT.md, "Packed registers").
+ghost use Rattle.std.specs.Prelude.{◌≡◌, ℕ, ◌+◌, ◌*◌, ◌/◌, ◌%◌, ◌^◌, ◌<◌, ◌≤◌, ◌==◌, [], ◌∷◌, length, map, take, slice_index, slice_set, All, IfOk};
+ghost use Rattle.std.specs.List.{list_all};
+ghost use Rattle.std.specs.Simd.Lanes.{chunk, put_chunk};
+ghost use Rattle.hll_base.specs.Join.{join};
+ghost use Rattle.hll_kernels.specs.Groups.{IsGroup, group_fields, registers_in};
+ghost use Rattle.hll_kernels.specs.Lanes.{raise_at, words_of, bytes_of, fields_of, numbers_of, groups_of};
+ghost use Rattle.hll_kernels.specs.Packed as packed;
+ghost use Rattle.hll_kernels.specs.Packed.{fields, zeros};
+
+use crate::kernels::{all_zero, count_zeros, pack_group, raise_16, raise_one, units, unpack_group};
+use std::alloc::{AllocError, Allocator};
+use std::simd::prelude::*;
+
+/// The greatest byte before each one of a word whose bits of the register there are 0.
+const BELOW: [u8; 16] = [
+    255, 63, 15, 3, 255, 63, 15, 3, 255, 63, 15, 3, 255, 63, 15, 3,
+];
+
+/// The bits of each byte of a word that are lower ones of the register there.
+const LOWER: [u8; 16] = [63, 15, 3, 0, 63, 15, 3, 0, 63, 15, 3, 0, 63, 15, 3, 0];
+
+// ---- one register
+
+/// The register of a slot.
+pub fn register_at(groups: &[[u8; 3]], slot: usize) -> u8
+    requires { slot < 4 * length groups.now }
+    ensures { result ≡ slice_index (registers_in groups.now) slot }
+{
+    unpack_group(groups[slot / 4])[slot % 4]
+}
+
+/// Sets the register of a slot to a value of at most 63. The other registers are unchanged.
+pub fn put_register(groups: &mut [[u8; 3]], slot: usize, value: u8)
+    requires within { slot < 4 * length groups.old }
+    requires small { value ≤ 63 }
+    requires groups { All IsGroup groups.old }
+    ensures registers { registers_in groups.new ≡ slice_set (registers_in groups.old) slot value }
+    ensures groups { All IsGroup groups.new }
+    ensures len { length groups.new ≡ length groups.old }
+{
+    let mut registers = unpack_group(groups[slot / 4]);
+    registers[slot % 4] = value;
+    groups[slot / 4] = pack_group(registers);
+}
+
+// ---- packing
+
+/// The groups of registers. There are a multiple of four, each at most 63. Allocates in one request.
+pub fn pack_groups<A: Allocator>(alloc: A, registers: &[u8]) -> Result<Vec<[u8; 3], A>, AllocError>
+    requires small { All (λ v. v ≤ 63) registers.now }
+    requires whole { length registers.now % 4 ≡ 0 }
+    ensures registers { IfOk result (λ groups. registers_in groups.items ≡ registers.now) }
+    ensures groups { IfOk result (λ groups. All IsGroup groups.items) }
+{
+    let mut groups = vec![in alloc; [0; 3]; registers.len() / 4]?;
+    pack_groups_into(&mut groups, registers);
+    Ok(groups)
+}
+
+/// Writes the group of each four registers, sixteen registers at a time.
+fn pack_groups_into(groups: &mut [[u8; 3]], registers: &[u8])
+    requires size { 4 * length groups.old ≡ length registers.now }
+    requires small { All (λ v. v ≤ 63) registers.now }
+    ensures { groups.new ≡ groups_of registers.now }
+{
+    let (blocks, rest) = registers.as_chunks::<16>();
+    for place in 0..blocks.len() {
+        put_four_groups(groups, 4 * place, &blocks[place]);
+    }
+    pack_one_by_one(&mut groups[4 * blocks.len()..], rest);
+}
+
+/// Writes the group of each four registers, one after the other.
+fn pack_one_by_one(groups: &mut [[u8; 3]], registers: &[u8])
+    requires size { 4 * length groups.old ≡ length registers.now }
+    requires small { All (λ v. v ≤ 63) registers.now }
+    ensures { groups.new ≡ groups_of registers.now }
+{
+    let (fours, _) = registers.as_chunks::<4>();
+    for place in 0..fours.len() {
+        groups[place] = pack_group(fours[place]);
+    }
+}
+
+/// Writes the groups of sixteen registers from the group `at` on.
+fn put_four_groups(groups: &mut [[u8; 3]], at: usize, block: &[u8; 16])
+    requires room { at + 4 ≤ length groups.old }
+    requires small { All (λ v. v ≤ 63) block.now }
+    ensures { groups.new ≡ put_chunk at groups.old (groups_of block.now) }
+{
+    let [first, second, third, fourth] = numbers_in(block).to_array();
+    groups[at] = group_of(first);
+    groups[at + 1] = group_of(second);
+    groups[at + 2] = group_of(third);
+    groups[at + 3] = group_of(fourth);
+}
+
+/// The lower three bytes of a number.
+fn group_of(number: u32) -> [u8; 3]
+    ensures { result ≡ (number % 256) ∷ (number / 256 % 256) ∷ (number / 65536 % 256) ∷ [] }
+{
+    let [low, middle, high, _] = number.to_le_bytes();
+    [low, middle, high]
+}
+
+/// Each four registers as one number, the first in the lowest six bits.
+fn numbers_in(block: &[u8; 16]) -> u32x4
+    requires { All (λ v. v ≤ 63) block.now }
+    ensures { result ≡ numbers_of block.now }
+{
+    let words = words_in(u8x16::from_array(*block));
+    let low = field(words, 0) + (field(words, 8) << u32x4::splat(6));
+    let high = (field(words, 16) << u32x4::splat(12)) + (field(words, 24) << u32x4::splat(18));
+    low + high
+}
+
+// ---- lanes
+
+fn words_in(bytes: u8x16) -> u32x4
+    ensures { result ≡ words_of bytes }
+{
+    u32x4::from_le_bytes(bytes)
+}
+
+fn bytes_in(words: u32x4) -> u8x16
+    ensures { result ≡ bytes_of words }
+{
+    words.to_le_bytes()
+}
+
+/// The six bits of each word from a bit on.
+fn field(words: u32x4, from: u32) -> u32x4
+    requires { from ≤ 24 }
+    ensures { result ≡ map (λ w. w / 2 ^ from % 64) words }
+{
+    words >> u32x4::splat(from) & u32x4::splat(63)
+}
+
+// ---- maxima
+
+/// Raises each byte to the greater of itself and the register at the same index, in one pass.
+pub fn max_groups_into(dst: &mut [u8], groups: &[[u8; 3]])
+    requires { length dst.old ≡ 4 * length groups.now }
+    ensures { dst.new ≡ join dst.old (registers_in groups.now) }
+{
+    raise_by_fields(dst, groups.as_flattened());
+}
+
+/// The same of the bytes of groups, sixteen groups at a time.
+fn raise_by_fields(values: &mut [u8], bytes: &[u8])
+    requires { 3 * length values.old ≡ 4 * length bytes.now }
+    ensures { values.new ≡ join values.old (fields bytes.now) }
+{
+    let (blocks, rest) = bytes.as_chunks::<48>();
+    for place in 0..blocks.len() {
+        raise_by_block(values, 64 * place, &blocks[place]);
+    }
+    raise_one_by_one(&mut values[64 * blocks.len()..], rest);
+}
+
+/// The same, one group after the other.
+fn raise_one_by_one(values: &mut [u8], bytes: &[u8])
+    requires { 3 * length values.old ≡ 4 * length bytes.now }
+    ensures { values.new ≡ join values.old (fields bytes.now) }
+{
+    let (groups, _) = bytes.as_chunks::<3>();
+    for place in 0..groups.len() {
+        raise_by_group(values, 4 * place, groups[place]);
+    }
+}
+
+/// Raises the four bytes from `at` on to the registers of a group.
+fn raise_by_group(values: &mut [u8], at: usize, group: [u8; 3])
+    requires { at + 4 ≤ length values.old }
+    ensures { values.new ≡ raise_at at values.old (fields group) }
+{
+    let [first, second, third, fourth] = unpack_group(group);
+    raise_one(values, at, first);
+    raise_one(values, at + 1, second);
+    raise_one(values, at + 2, third);
+    raise_one(values, at + 3, fourth);
+}
+
+/// Raises the 64 bytes from `at` on to the registers of sixteen groups.
+fn raise_by_block(values: &mut [u8], at: usize, block: &[u8; 48])
+    requires { at + 64 ≤ length values.old }
+    ensures { values.new ≡ raise_at at values.old (fields block.now) }
+{
+    raise_16(values, at, fields_at(block, 0));
+    raise_16(values, at + 16, fields_at(block, 12));
+    raise_16(values, at + 32, fields_at(block, 24));
+    raise_16(values, at + 48, last_fields(block));
+}
+
+/// The registers of the four groups from byte `at` on.
+fn fields_at(block: &[u8; 48], at: usize) -> u8x16
+    requires { at ≤ 32 }
+    ensures { result ≡ fields (chunk at 12 block.now) }
+{
+    spread(words_at(block, at))
+}
+
+/// The registers of the last four groups.
+fn last_fields(block: &[u8; 48]) -> u8x16
+    ensures { result ≡ fields (chunk 36 12 block.now) }
+{
+    spread(last_words(block))
+}
+
+/// The four groups from byte `at` on, each with a fourth byte.
+fn words_at(block: &[u8; 48], at: usize) -> u8x16
+    requires { at ≤ 32 }
+    ensures { fields_of result ≡ fields (chunk at 12 block.now) }
+{
+    let bytes = u8x16::from_slice(&block[at..]);
+    bytes.swizzle([0, 1, 2, 2, 3, 4, 5, 5, 6, 7, 8, 8, 9, 10, 11, 11])
+}
+
+/// The last four groups, each with a fourth byte.
+fn last_words(block: &[u8; 48]) -> u8x16
+    ensures { fields_of result ≡ fields (chunk 36 12 block.now) }
+{
+    let bytes = u8x16::from_slice(&block[32..]);
+    bytes.swizzle([4, 5, 6, 6, 7, 8, 9, 9, 10, 11, 12, 12, 13, 14, 15, 15])
+}
+
+/// The registers in the first three of each four bytes. The fourth may be any byte.
+fn spread(bytes: u8x16) -> u8x16
+    ensures { result ≡ fields_of bytes }
+{
+    let words = words_in(bytes);
+    let low = field(words, 0) + (field(words, 6) << u32x4::splat(8));
+    let high = (field(words, 12) << u32x4::splat(16)) + (field(words, 18) << u32x4::splat(24));
+    bytes_in(low + high)
+}
+
+// ---- zeros and weights
+
+/// Whether all registers are 0.
+pub fn all_zero_in(groups: &[[u8; 3]]) -> bool
+    requires { All IsGroup groups.now }
+    ensures { result ≡ list_all (λ v. v == 0) (registers_in groups.now) }
+{
+    all_zero(groups.as_flattened())
+}
+
+/// How many registers are 0. One pass over at most 2^19 groups.
+pub fn count_zeros_in(groups: &[[u8; 3]]) -> usize
+    requires { length groups.now ≤ 2 ^ 19 }
+    ensures count { result ≡ zeros (registers_in groups.now) }
+    ensures bound { result ≤ 4 * length groups.now }
+{
+    zero_fields(groups.as_flattened())
+}
+
+/// How many registers in the bytes of groups are 0, sixteen groups at a time.
+fn zero_fields(bytes: &[u8]) -> usize
+    requires whole { length bytes.now % 3 ≡ 0 }
+    requires few { length bytes.now ≤ 3 * 2 ^ 19 }
+    ensures { result ≡ zeros (fields bytes.now) }
+{
+    let (blocks, rest) = bytes.as_chunks::<48>();
+    let mut count = 0;
+    for block in blocks {
+        count += zero_fields_in(block) as usize;
+    }
+    count + zero_fields_one_by_one(rest)
+}
+
+/// How many registers of less than sixteen groups are 0.
+fn zero_fields_one_by_one(bytes: &[u8]) -> usize
+    requires whole { length bytes.now % 3 ≡ 0 }
+    requires few { length bytes.now < 48 }
+    ensures count { result ≡ zeros (fields bytes.now) }
+    ensures bound { result ≤ 64 }
+{
+    let registers = unpacked(bytes);
+    count_zeros(&registers[..bytes.len() / 3 * 4])
+}
+
+/// How many registers of sixteen groups are 0.
+fn zero_fields_in(block: &[u8; 48]) -> u32
+    ensures count { result ≡ zeros (fields block.now) }
+    ensures bound { result ≤ 64 }
+{
+    zeros_in(words_at(block, 0))
+        + zeros_in(words_at(block, 12))
+        + zeros_in(words_at(block, 24))
+        + zeros_in(last_words(block))
+}
+
+/// How many of the registers in the first three of each four bytes are 0. The fourth may be any byte.
+///
+/// Each lane stands for one register: that is 0 where its lower bits are, in the byte of the lane, and its upper bits, in
+/// the byte before.
+fn zeros_in(bytes: u8x16) -> u32
+    ensures count { result ≡ zeros (fields_of bytes) }
+    ensures bound { result ≤ 16 }
+{
+    let before = bytes.rotate_elements_right::<1>();
+    let upper = before.simd_le(u8x16::from_array(BELOW));
+    let lower = (bytes & u8x16::from_array(LOWER)).simd_eq(u8x16::splat(0));
+    (upper & lower).to_bitmask().count_ones()
+}
+
+/// The sum of 2^-v over the registers v, in units of 2^-63. One pass over at most 2^19 groups.
+pub fn units_in(groups: &[[u8; 3]]) -> u128
+    requires { length groups.now ≤ 2 ^ 19 }
+    ensures units { result ≡ packed.units (registers_in groups.now) }
+    ensures bound { result ≤ 2 ^ 84 }
+{
+    field_units(groups.as_flattened())
+}
+
+/// The sum of the weights of the registers in the bytes of groups, 64 groups at a time.
+fn field_units(bytes: &[u8]) -> u128
+    requires whole { length bytes.now % 3 ≡ 0 }
+    requires few { length bytes.now ≤ 3 * 2 ^ 19 }
+    ensures { result ≡ packed.units (fields bytes.now) }
+{
+    let (blocks, rest) = bytes.as_chunks::<192>();
+    let mut sum = 0;
+    for block in blocks {
+        sum += field_units_in(block);
+    }
+    sum + field_units_in(rest)
+}
+
+/// The sum of the weights of the registers of at most 64 groups.
+fn field_units_in(bytes: &[u8]) -> u128
+    requires whole { length bytes.now % 3 ≡ 0 }
+    requires few { length bytes.now ≤ 192 }
+    ensures units { result ≡ packed.units (fields bytes.now) }
+    ensures bound { result ≤ 2 ^ 84 }
+{
+    let registers = unpacked(bytes);
+    units(&registers[..bytes.len() / 3 * 4])
+}
+
+/// The registers of at most 64 groups, with zeros behind them.
+fn unpacked(bytes: &[u8]) -> [u8; 256]
+    requires whole { length bytes.now % 3 ≡ 0 }
+    requires few { length bytes.now ≤ 192 }
+    ensures { take (length bytes.now / 3 * 4) result ≡ fields bytes.now }
+{
+    let mut registers = [0; 256];
+    raise_by_fields(&mut registers[..bytes.len() / 3 * 4], bytes);
+    registers
+}
+
+/// The groups that bytes hold. Up to two bytes at the end, which fill none, are left out. Allocates in one request.
+pub fn groups_from_bytes<A: Allocator>(
+    alloc: A,
+    bytes: &[u8],
+) -> Result<Vec<[u8; 3], A>, AllocError>
+    ensures registers { IfOk result (λ groups. registers_in groups.items ≡ packed.fields bytes.now) }
+    ensures groups { IfOk result (λ groups. All IsGroup groups.items) }
+{
+    let (groups, _) = bytes.as_chunks::<3>();
+    Vec::from_slice(alloc, groups)
+}

@@ -1,0 +1,241 @@
+//! Registers of four bits: how far each is above a minimum, two of them in a byte, where 15 marks a register that is kept
+//! elsewhere (docs/FORMAT.md, "Packed registers").
+ghost use Rattle.std.specs.Prelude.{◌≡◌, ℕ, ◌+◌, ◌-◌, ◌*◌, ◌/◌, ◌%◌, ◌^◌, ◌<◌, ◌≤◌, ◌==◌, ◌⊎◌, ◌&&◌, nat_le, if◌then◌else◌, [], ◌∷◌, ◌++◌, length, map, All, IfOk};
+ghost use Rattle.std.specs.List.{list_all};
+ghost use Rattle.std.specs.Simd.Lanes.{put_chunk, Each1};
+ghost use Rattle.hll_base.specs.Join.{join};
+ghost use Rattle.hll_kernels.specs.Lanes.{raise_at, nibble_values, nibble_pairs};
+ghost use Rattle.hll_kernels.specs.Packed.{nibble, nibble_at, nibble_bytes_above, zero_nibbles};
+ghost use Rattle.hll_kernels.specs.Packed.{lowered_by};
+
+use crate::kernels::{lower_nibbles, raise_16, raise_one, zeros_of};
+use std::alloc::{AllocError, Allocator};
+use std::simd::prelude::*;
+
+// ---- single nibbles
+
+/// The nibble of a slot.
+pub fn nibble_of(bytes: &[u8], slot: usize) -> u8
+    requires { slot < 2 * length bytes.now }
+    ensures nibble { result ≡ nibble_at bytes.now slot }
+    ensures small { result < 16 }
+{
+    let byte = bytes[slot / 2];
+    if slot % 2 == 0 { byte % 16 } else { byte / 16 }
+}
+
+/// Sets the nibble of a slot. The others are unchanged.
+pub fn put_nibble(bytes: &mut [u8], slot: usize, nibble: u8)
+    requires within { slot < 2 * length bytes.old }
+    requires small { nibble < 16 }
+    ensures nibbles { (s : ℕ) → nibble_at bytes.new s ≡ (if s == slot then nibble else nibble_at bytes.old s) }
+    ensures len { length bytes.new ≡ length bytes.old }
+    ensures fits { All (λ b. b < 256) bytes.old → All (λ b. b < 256) bytes.new }
+{
+    let byte = bytes[slot / 2];
+    bytes[slot / 2] = if slot % 2 == 0 {
+        byte / 16 * 16 + nibble
+    } else {
+        byte % 16 + nibble * 16
+    };
+}
+
+/// Whether no nibble of a block is greater than `greatest`, which is at most 15.
+pub fn are_at_most(block: &[u8; 32], greatest: u8) -> bool
+    requires { greatest ≤ 15 }
+    ensures { result ≡ list_all (λ b. nat_le (b % 16) greatest && nat_le (b / 16) greatest) block.now }
+{
+    let bytes = u8x32::from_array(*block);
+    let low = (bytes & u8x32::splat(15)).simd_gt(u8x32::splat(greatest));
+    let high = bytes.simd_gt(u8x32::splat(16 * greatest + 15));
+    (low | high).to_bitmask() == 0
+}
+
+/// How many nibbles are 0. One pass.
+pub fn count_zero_nibbles(bytes: &[u8]) -> u32
+    requires { length bytes.now ≤ 2 ^ 20 }
+    ensures { result ≡ zero_nibbles bytes.now }
+{
+    let (blocks, rest) = bytes.as_chunks::<64>();
+    let mut count = 0;
+    for block in blocks {
+        count += u32::from(zero_nibbles_in(block));
+    }
+    count + zero_nibbles_one_by_one(rest)
+}
+
+/// How many nibbles of a block are 0, which a byte can count.
+fn zero_nibbles_in(block: &[u8; 64]) -> u8
+    ensures count { result ≡ zero_nibbles block.now }
+    ensures bound { result ≤ 128 }
+{
+    let mut count = 0;
+    for byte in block {
+        count += zeros_of(*byte) as u8;
+    }
+    count
+}
+
+/// How many nibbles are 0, one byte after the other.
+fn zero_nibbles_one_by_one(bytes: &[u8]) -> u32
+    requires { length bytes.now ≤ 2 ^ 20 }
+    ensures { result ≡ zero_nibbles bytes.now }
+{
+    let mut count = 0;
+    for byte in bytes {
+        count += zeros_of(*byte);
+    }
+    count
+}
+
+/// Lowers each nibble below 15 by `steps`; 15 stays.
+///
+/// Each nibble is 15, or at least `steps`.
+pub fn lower_by(bytes: &mut [u8], steps: u8)
+    requires few { length bytes.old ≤ 2 ^ 20 }
+    requires fits { All (λ b. b < 256) bytes.old }
+    requires high { (s : ℕ) → s < 2 * length bytes.old → (nibble_at bytes.old s ≡ 15) ⊎ (steps ≤ nibble_at bytes.old s) }
+    ensures nibbles { (s : ℕ) → s < 2 * length bytes.old → nibble_at bytes.new s ≡ lowered_by steps (nibble_at bytes.old s) }
+    ensures len { length bytes.new ≡ length bytes.old }
+    ensures fits { All (λ b. b < 256) bytes.new }
+{
+    for _ in 0..steps {
+        lower_nibbles(bytes);
+    }
+}
+
+// ---- maxima
+
+/// Raises each value to the greater of itself and its nibble above the minimum, in one pass.
+///
+/// There are two values for each byte, and the minimum is at most 240. A nibble of 15 counts as 15 above the minimum,
+/// which is at most the register that it stands for.
+pub fn raise_by_nibbles(values: &mut [u8], bytes: &[u8], minimum: u8)
+    requires size { length values.old ≡ 2 * length bytes.now }
+    requires small { minimum ≤ 240 }
+    ensures { values.new ≡ join values.old (nibble_values minimum bytes.now) }
+{
+    let (blocks, rest) = bytes.as_chunks::<16>();
+    for place in 0..blocks.len() {
+        raise_by_block(values, 32 * place, &blocks[place], minimum);
+    }
+    raise_one_by_one(&mut values[32 * blocks.len()..], rest, minimum);
+}
+
+/// The same, one byte after the other.
+fn raise_one_by_one(values: &mut [u8], bytes: &[u8], minimum: u8)
+    requires size { length values.old ≡ 2 * length bytes.now }
+    requires small { minimum ≤ 240 }
+    ensures { values.new ≡ join values.old (nibble_values minimum bytes.now) }
+{
+    for place in 0..bytes.len() {
+        raise_one(values, 2 * place, minimum + bytes[place] % 16);
+        raise_one(values, 2 * place + 1, minimum + bytes[place] / 16);
+    }
+}
+
+/// Raises the 32 values from `at` on to the nibbles of a block.
+fn raise_by_block(values: &mut [u8], at: usize, block: &[u8; 16], minimum: u8)
+    requires room { at + 32 ≤ length values.old }
+    requires small { minimum ≤ 240 }
+    ensures { values.new ≡ raise_at at values.old (nibble_values minimum block.now) }
+{
+    let (first, second) = nibble_lanes(u8x16::from_array(*block), minimum);
+    raise_16(values, at, first);
+    raise_16(values, at + 16, second);
+}
+
+/// The nibbles of sixteen bytes above the minimum.
+fn nibble_lanes(bytes: u8x16, minimum: u8) -> (u8x16, u8x16)
+    requires { minimum ≤ 240 }
+    ensures nibbles { result.0 ++ result.1 ≡ nibble_values minimum bytes }
+    ensures len { length result.0 ≡ 16 }
+{
+    let low = (bytes & u8x16::splat(15)) + u8x16::splat(minimum);
+    let high = (bytes >> u8x16::splat(4)) + u8x16::splat(minimum);
+    low.interleave(high)
+}
+
+// ---- packing
+
+/// The nibbles of registers above the minimum. There are an even number. Allocates in one request.
+pub fn packed_nibbles<A: Allocator>(
+    alloc: A,
+    registers: &[u8],
+    minimum: u8,
+) -> Result<Vec<u8, A>, AllocError>
+    requires { length registers.now % 2 ≡ 0 }
+    ensures { IfOk result (λ nibbles. nibbles.items ≡ nibble_bytes_above minimum registers.now) }
+{
+    let mut nibbles = vec![in alloc; 0; registers.len() / 2]?;
+    pack_nibbles(&mut nibbles, registers, minimum);
+    Ok(nibbles)
+}
+
+/// Writes the nibbles of registers above the minimum, in one pass. A register below it counts as the minimum.
+///
+/// There are two registers for each byte.
+fn pack_nibbles(bytes: &mut [u8], registers: &[u8], minimum: u8)
+    requires { 2 * length bytes.old ≡ length registers.now }
+    ensures { bytes.new ≡ nibble_bytes_above minimum registers.now }
+{
+    let (blocks, rest) = registers.as_chunks::<32>();
+    for place in 0..blocks.len() {
+        put_16(bytes, 16 * place, packed_lanes(&blocks[place], minimum));
+    }
+    pack_one_by_one(&mut bytes[16 * blocks.len()..], rest, minimum);
+}
+
+/// The same, one byte after the other.
+fn pack_one_by_one(bytes: &mut [u8], registers: &[u8], minimum: u8)
+    requires { 2 * length bytes.old ≡ length registers.now }
+    ensures { bytes.new ≡ nibble_bytes_above minimum registers.now }
+{
+    let (pairs, _) = registers.as_chunks::<2>();
+    for place in 0..pairs.len() {
+        bytes[place] = packed_pair(pairs[place], minimum);
+    }
+}
+
+/// The byte of two registers.
+fn packed_pair(pair: [u8; 2], minimum: u8) -> u8
+    ensures { (result ∷ []) ≡ nibble_bytes_above minimum pair }
+{
+    let [low, high] = pair;
+    low.saturating_sub(minimum).min(15) + 16 * high.saturating_sub(minimum).min(15)
+}
+
+/// Writes the lanes from `at` on.
+fn put_16(bytes: &mut [u8], at: usize, lanes: u8x16)
+    requires { at + 16 ≤ length bytes.old }
+    ensures { bytes.new ≡ put_chunk at bytes.old lanes }
+{
+    lanes.copy_to_slice(&mut bytes[at..]);
+}
+
+/// The bytes of 32 registers.
+fn packed_lanes(block: &[u8; 32], minimum: u8) -> u8x16
+    ensures { result ≡ nibble_bytes_above minimum block.now }
+{
+    let first = nibbles_above(u8x16::from_slice(&block[..]), minimum);
+    let second = nibbles_above(u8x16::from_slice(&block[16..]), minimum);
+    paired(first, second)
+}
+
+/// How far each value is above the minimum, at most 15.
+fn nibbles_above(values: u8x16, minimum: u8) -> u8x16
+    ensures { result ≡ map (nibble minimum) values }
+{
+    values
+        .saturating_sub(u8x16::splat(minimum))
+        .simd_min(u8x16::splat(15))
+}
+
+/// Each two nibbles as a byte, the first in the low one.
+fn paired(first: u8x16, second: u8x16) -> u8x16
+    requires { Each1 (λ v. v ≤ 15) (first ++ second) }
+    ensures { result ≡ nibble_pairs (first ++ second) }
+{
+    let (low, high) = first.deinterleave(second);
+    low + (high << u8x16::splat(4))
+}

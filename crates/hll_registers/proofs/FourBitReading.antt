@@ -1,0 +1,176 @@
+-- Registers of four bits as they are read: nibbles above a minimum and exceptions that agree.
+use Rattle.std.proofs.Common.{◌≡◌, ℕ, zero, suc, ◌+◌, ◌-◌, ◌*◌, ◌/◌, ◌%◌, ◌^◌, ◌<◌, ◌≤◌, Bool, true, false, ◌&&◌, List, All, Option, Some, None, length, take, drop, get_or, refl, sym, ap, subst, ◌∙◌, arith, inl, inr}
+use Rattle.std.specs.Prelude.{count_by, nat_eq, nat_le, nat_lt}
+use Rattle.std.specs.List.{list_all}
+use Rattle.std.proofs.lemmas.Bool.{cases_lt, leb-true, ltb-true, true≢false}
+use Rattle.std.proofs.lemmas.List.Sums.{AllPass-from_list_all}
+use Rattle.std.proofs.lemmas.List.{get_or_default, get_or-drop, get_or-take, length-drop, length-take}
+use Rattle.std.proofs.lemmas.List.FromFn.{length-map-range_with_len, get_or-map-range_with_len}
+use Rattle.std.proofs.lemmas.Nat.{pow_pos, mod_below}
+use Rattle.std.proofs.Math.Nat.{zero-add}
+use Rattle.hll_coupons.specs.AuxMap.{ExceptionMap}
+use Rattle.hll_coupons.proofs.Pairs.{entries_are, of_value}
+use Rattle.hll_registers.specs.FourBits.{exception_in, exception_of, unpacked, IsMapFor, IsPacked, IsSlotOf}
+use Rattle.hll_kernels.specs.Packed.{minimum, nibble, nibble_at, zero_nibbles, AreRegisters}
+use Rattle.hll_registers.specs.Payload.{Agrees, register_of}
+use Rattle.hll_registers.proofs.FourBits.{exception_of-high, exception_of-low, minimum_is}
+use Rattle.hll_registers.proofs.FourBitChanges.{counted_zeros, packed_least}
+
+-- ---- registers of parts
+
+pub length-unpacked : (k m : ℕ) (bytes : List ℕ) (e : Option ExceptionMap) → length (unpacked k m bytes e) ≡ 2 ^ k
+length-unpacked k m bytes e = length-map-range_with_len _ 0 (2 ^ k)
+
+pub unpacked-at : (k m : ℕ) (bytes : List ℕ) (e : Option ExceptionMap) (s : ℕ) → s < 2 ^ k → get_or (unpacked k m bytes e) s 0 ≡ register_of m (nibble_at bytes s) (exception_in e s)
+unpacked-at k m bytes e s within = get_or-map-range_with_len (λ s. register_of m (nibble_at bytes s) (exception_in e s)) 0 (2 ^ k) s s 0 within (zero-add s)
+
+-- an exception is at most 63
+pub exception_small : (k : ℕ) (e : Option ExceptionMap) → IsMapFor k e → (s v : ℕ) → exception_in e s ≡ Some v → v ≤ 63
+exception_small k None u s v is = cc
+exception_small k (Some t) (map, lg, some) s v is = of_value t map (λ p. p.1 ≤ 63) (λ i d l. (entries_are t map i d l).most) s v is
+
+-- a nibble and an exception are those of their register
+record OfRegister (m n : ℕ) (o : Option ℕ) (r : ℕ) : Type 0 where
+  small : r ≤ 63
+  least : m ≤ r
+  nibble_is : n ≡ nibble m r
+  exception_is : o ≡ exception_of m r
+
+of_register : (m n : ℕ) (o : Option ℕ) → Agrees m n o → ((v : ℕ) → o ≡ Some v → v ≤ 63) → OfRegister m n o (register_of m n o)
+of_register m n None agrees small = record {
+  small = agrees.1;
+  least = omega arith;
+  nibble_is = omega (arith, agrees.0);
+  exception_is = sym (exception_of-low m (m + n) (omega (arith, agrees.0)));
+}
+of_register m n (Some v) agrees small = record {
+  small = small v refl;
+  least = omega (arith, agrees.1);
+  nibble_is = omega (arith, agrees.0, agrees.1);
+  exception_is = sym (exception_of-high m v agrees.1);
+}
+
+-- then the minimum is a register's bound
+pub minimum_small : (k m : ℕ) (bytes : List ℕ) (e : Option ExceptionMap) → IsMapFor k e → ((s : ℕ) → s < 2 ^ k → Agrees m (nibble_at bytes s) (exception_in e s)) → m ≤ 63
+minimum_small k m bytes e is agree =
+    let o = of_register m (nibble_at bytes 0) (exception_in e 0) (agree 0 (pow_pos k)) (exception_small k e is 0) in
+    omega (arith, o.least, o.small)
+
+-- a slot has an exception, or none
+pub agrees_either : (m n : ℕ) (o : Option ℕ) → ((v : ℕ) → o ≡ Some v → Agrees m n (Some v)) → (o ≡ None → Agrees m n None) → Agrees m n o
+agrees_either m n None some none = none refl
+agrees_either m n (Some v) some none = some v refl
+
+-- packed registers are read as nibble and exception say
+pub agrees-packed : (m r : ℕ) → m ≤ r → r ≤ 63 → Agrees m (nibble m r) (exception_of m r) × (register_of m (nibble m r) (exception_of m r) ≡ r)
+agrees-packed m r low small = elim (cases_lt r (m + 15)) [
+  | inl under ↦
+      let none : exception_of m r ≡ None = exception_of-low m r under in
+      let n : nibble m r ≡ r - m = omega (arith, under) in
+      subst (λ o. Agrees m (nibble m r) o × (register_of m (nibble m r) o ≡ r)) (sym none) ((omega (arith, n, under), omega (arith, n, low, small)), omega (arith, n, low))
+  | inr over ↦
+      let some : exception_of m r ≡ Some r = exception_of-high m r over in
+      let n : nibble m r ≡ 15 = omega (arith, over) in
+      subst (λ o. Agrees m (nibble m r) o × (register_of m (nibble m r) o ≡ r)) (sym some) ((n, over), refl)
+]
+
+-- a slot of the registers is one of the map's
+pub is_slot : (k : ℕ) (e : Option ExceptionMap) → IsMapFor k e → (s : ℕ) → s < 2 ^ k → IsSlotOf e s
+is_slot k None u s within = tt
+is_slot k (Some t) (map, lg, some) s within = subst (λ n. s < 2 ^ n) (sym lg) within
+
+-- ---- blocks
+
+-- the nibbles of a part of bytes
+pub nibble_at-drop : (bytes : List ℕ) (n s : ℕ) → 2 * n ≤ s → nibble_at (drop n bytes) (s - 2 * n) ≡ nibble_at bytes s
+nibble_at-drop bytes n s from =
+    let place : n + (s - 2 * n) / 2 ≡ s / 2 = omega (arith, from) in
+    let odd : (s - 2 * n) % 2 ≡ s % 2 = omega (arith, from) in
+    (λ i. (get_or-drop n bytes ((s - 2 * n) / 2) 0 ∙ ap (λ j. get_or bytes j 0) place) i / 16 ^ odd i % 16)
+
+pub nibble_at-take : (bytes : List ℕ) (n s : ℕ) → s < 2 * n → nibble_at (take n bytes) s ≡ nibble_at bytes s
+nibble_at-take bytes n s l = ap (λ b. b / 16 ^ (s % 2) % 16) (get_or-take n bytes (s / 2) 0 (omega (arith, l)))
+
+-- those of a block
+pub nibble_at-block : (bytes block : List ℕ) (place s : ℕ) → block ≡ take 32 (drop (place * 32) bytes) → 64 * place ≤ s → s < 64 * place + 64 → nibble_at block (s - 64 * place) ≡ nibble_at bytes s
+nibble_at-block bytes block place s is from to =
+    let same : s - 64 * place ≡ s - 2 * (place * 32) = omega arith in
+    ap (λ bs. nibble_at bs (s - 64 * place)) is ∙ nibble_at-take (drop (place * 32) bytes) 32 (s - 64 * place) (omega (arith, from, to))
+    ∙ ap (nibble_at (drop (place * 32) bytes)) same ∙ nibble_at-drop bytes (place * 32) s (omega (arith, from))
+
+both_true : (a b : Bool) → (a && b) ≡ true → (a ≡ true) × (b ≡ true)
+both_true true b h = (refl, h)
+both_true false b h = absurd (true≢false (sym h))
+
+-- a great nibble of a block is one of the bytes
+pub great_in_block : (bytes block : List ℕ) (place i g : ℕ) → block ≡ take 32 (drop (place * 32) bytes) → i < 64 → g < nibble_at block i → g < nibble_at bytes (64 * place + i)
+great_in_block bytes block place i g is l great =
+    let at : i ≡ 64 * place + i - 64 * place = omega arith in
+    let same : nibble_at block i ≡ nibble_at bytes (64 * place + i) = ap (nibble_at block) at ∙ nibble_at-block bytes block place (64 * place + i) is (omega arith) (omega (arith, l)) in
+    omega (arith, great, same)
+
+-- no register of a block is an exception
+pub no_exception_in_block : (m : ℕ) (R block : List ℕ) (place : ℕ) → block ≡ take 64 (drop (place * 64) R) → (place + 1) * 64 ≤ length R →
+    list_all (λ v. nat_lt v (m + 15)) block ≡ true → (s : ℕ) → 64 * place ≤ s → s < 64 * (place + 1) → exception_of m (get_or R s 0) ≡ None
+no_exception_in_block m R block place is room all s from to =
+    let i : ℕ = s - place * 64 in
+    let within : i < 64 = omega (arith, from, to) in
+    let long : length block ≡ 64 = omega (arith, ap length is, length-take 64 (drop (place * 64) R), length-drop (place * 64) R, room) in
+    let register : get_or block i 0 ≡ get_or R s 0 =
+    ap (λ ys. get_or ys i 0) is ∙ get_or-take 64 (drop (place * 64) R) i 0 within ∙ get_or-drop (place * 64) R i 0
+    ∙ ap (λ n. get_or R n 0) (let e : place * 64 + i ≡ s = omega (arith, from) in e) in
+    let below : get_or block i 0 < m + 15 = ltb-true (get_or block i 0) (m + 15) (AllPass-from_list_all (λ v. nat_lt v (m + 15)) block all i 0 (omega (arith, long, within))) in
+    exception_of-low m (get_or R s 0) (omega (arith, below, register))
+
+-- no nibble of a block of bytes is greater
+pub nibbles_at_most : (bytes block : List ℕ) (place g : ℕ) → block ≡ take 32 (drop (place * 32) bytes) → (place + 1) * 32 ≤ length bytes →
+    list_all (λ b. nat_le (b % 16) g && nat_le (b / 16) g) block ≡ true → (s : ℕ) → 64 * place ≤ s → s < 64 * (place + 1) → nibble_at bytes s ≤ g
+nibbles_at_most bytes block place g is room all s from to =
+    let i : ℕ = s / 2 - place * 32 in
+    let within : i < 32 = omega (arith, from, to) in
+    let long : length block ≡ 32 = omega (arith, ap length is, length-take 32 (drop (place * 32) bytes), length-drop (place * 32) bytes, room) in
+    let byte : get_or block i 0 ≡ get_or bytes (s / 2) 0 =
+    ap (λ ys. get_or ys i 0) is ∙ get_or-take 32 (drop (place * 32) bytes) i 0 within ∙ get_or-drop (place * 32) bytes i 0
+    ∙ ap (λ n. get_or bytes n 0) (let e : place * 32 + i ≡ s / 2 = omega (arith, from) in e) in
+    let parts = both_true _ _ (AllPass-from_list_all (λ b. nat_le (b % 16) g && nat_le (b / 16) g) block all i 0 (omega (arith, long, within))) in
+    let low : get_or bytes (s / 2) 0 % 16 ≤ g = omega (arith, leb-true (get_or block i 0 % 16) g parts.0, ap (λ b. b % 16) byte) in
+    let high : get_or bytes (s / 2) 0 / 16 ≤ g = omega (arith, leb-true (get_or block i 0 / 16) g parts.1, ap (λ b. b / 16) byte) in
+    one (get_or bytes (s / 2) 0) (s % 2) (mod_below s 2 (let some : 0 < 2 = omega arith in some)) low high
+  where
+    one : (b odd : ℕ) → odd < 2 → b % 16 ≤ g → b / 16 ≤ g → b / 16 ^ odd % 16 ≤ g
+    one b zero l low high = omega (arith, low)
+    one b (suc zero) l low high = omega (arith, high)
+    one b (suc (suc odd)) l low high = absurd (omega (arith, l))
+
+-- ---- parts that agree
+
+pub record AgreeAbove (k m : ℕ) (bytes : List ℕ) (e : Option ExceptionMap) : Type 0 where
+  pub size : 2 * length bytes ≡ 2 ^ k
+  pub fits : All (λ b. b < 256) bytes
+  pub map_for : IsMapFor k e
+  pub agree : (s : ℕ) → s < 2 ^ k → Agrees m (nibble_at bytes s) (exception_in e s)
+
+module _ {k m : ℕ} {bytes : List ℕ} {e : Option ExceptionMap} (parts : AgreeAbove k m bytes e) where
+  abbrev R : List ℕ
+  R = unpacked k m bytes e
+
+  at : (s : ℕ) → s < 2 ^ k → OfRegister m (nibble_at bytes s) (exception_in e s) (get_or R s 0)
+  at s l = subst (OfRegister m (nibble_at bytes s) (exception_in e s)) (sym (unpacked-at k m bytes e s l))
+      (of_register m (nibble_at bytes s) (exception_in e s) (parts.agree s l) (exception_small k e parts.map_for s))
+
+  pub legal : AreRegisters k R
+  legal = record {
+    size = length-unpacked k m bytes e;
+    small = λ i d l. omega (arith, get_or_default R i d 0 l, (at i (omega (arith, l, length-unpacked k m bytes e))).small);
+  }
+
+  low : (s : ℕ) → s < 2 ^ k → m ≤ get_or R s 0
+  low s l = (at s l).least
+
+  -- where a nibble is 0, they are packed
+  pub settled : (count : ℕ) → count ≡ zero_nibbles bytes → 0 < count → IsPacked k m count bytes e R
+  settled count zeros some =
+      let nibbles : (s : ℕ) → s < 2 ^ k → nibble_at bytes s ≡ nibble m (get_or R s 0) = λ s l. (at s l).nibble_is in
+      let counted : count ≡ count_by (λ r. nat_eq r m) R = zeros ∙ counted_zeros k m bytes R legal.size low parts.size parts.fits nibbles in
+      let least : m ≡ minimum R = minimum_is m R legal.small (λ s l. low s (omega (arith, l, legal.size))) (omega (arith, some, counted)) in
+      packed_least k m count bytes e R legal least parts.size parts.fits nibbles parts.map_for (λ s l. (at s l).exception_is) zeros

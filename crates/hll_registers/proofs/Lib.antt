@@ -1,0 +1,10 @@
+pub mod Exceptions
+pub mod Filling
+pub mod Folding
+pub mod FourBitChanges
+pub mod FourBitReading
+pub mod FourBitStores
+pub mod FourBits
+pub mod Packing
+pub mod Raising
+pub mod States

@@ -1,0 +1,7 @@
+use Rattle.std.proofs.Common.{◌≡◌, take, slice_set}
+use Rattle.std.specs.Prelude.{min, fold}
+use Rattle.hll_registers.proofs.nibble_registers.NibbleRegisters.minimum_with.Given as goal
+
+-- the least so far
+abbrev pub invariant-loop-other : goal.invariant-loop-other
+invariant-loop-other g l = l.least ≡ fold min 63 (take l.other (slice_set l.self.registers l.slot l.value))

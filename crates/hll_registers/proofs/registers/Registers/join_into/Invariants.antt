@@ -1,0 +1,11 @@
+use Rattle.std.proofs.Common.{◌≡◌, ℕ, ◌+◌, ◌<◌, ◌≤◌, length, get_or}
+use Rattle.std.specs.Prelude.{max}
+use Rattle.hll_registers.proofs.registers.Registers.join_into.Given as goal
+
+-- the values before the place are raised, and the others are as they were
+abbrev pub invariant-loop-place : goal.invariant-loop-place
+invariant-loop-place g l = record {
+  size : length l.values ≡ length l.initial.values;
+  done : (k : ℕ) → k < l.place → get_or l.values k 0 ≡ max (get_or l.initial.values k 0) (get_or (g.Self.Registers.stored l.self).registers (l.first + k) 0);
+  left : (k : ℕ) → l.place ≤ k → get_or l.values k 0 ≡ get_or l.initial.values k 0;
+}

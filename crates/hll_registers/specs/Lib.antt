@@ -1,0 +1,5 @@
+pub mod Exceptions
+pub mod FourBits
+pub mod Payload
+pub mod State
+pub mod Store

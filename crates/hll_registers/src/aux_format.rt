@@ -1,0 +1,28 @@
+//! How an image stores the exceptions of registers of four bits (docs/FORMAT.md, "HLL").
+ghost use Rattle.std.specs.Prelude.{◌≡◌, if◌then◌else◌};
+ghost use Rattle.hll_registers.specs.declared.aux_format.AuxFormat.TheVariants.{Compact, Updatable};
+
+/// How an image stores the exceptions of registers of four bits.
+#[derive(Clone, Copy)]
+pub enum AuxFormat {
+    /// The exceptions, one after another.
+    Compact,
+    /// The places of a table, some of them empty.
+    Updatable {
+        /// The table has 2^`lg_arr` places.
+        lg_arr: u8,
+    },
+}
+
+impl AuxFormat {
+    /// The format that a header names by its compact flag and its table size. Takes no memory.
+    pub fn from_header(compact: bool, lg_arr: u8) -> AuxFormat
+        ensures { result ≡ (if compact then Compact else Updatable lg_arr) }
+    {
+        if compact {
+            AuxFormat::Compact
+        } else {
+            AuxFormat::Updatable { lg_arr }
+        }
+    }
+}

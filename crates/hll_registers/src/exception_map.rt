@@ -1,0 +1,523 @@
+//! The exceptions of registers of four bits: a map, where there is one.
+ghost use Rattle.std.specs.Prelude.{◌≡◌, ◌≢◌, ◌+◌, ◌-◌, ◌*◌, ◌^◌, ◌++◌, ◌<◌, ◌≤◌, ◌==◌, ◌↔◌, ◌⊎◌, nat_lt, ℕ, if◌then◌else◌, length, max, slice_index, unwrap_or, All, true, false, None, Some, IsOk, IsTrue, IfOk, IfErr, IfSome, OnOk, OnErr};
+ghost use Rattle.hll_base.specs.declared.error.Reason.TheVariants.{Memory};
+ghost use Rattle.std.specs.FinSet.{len};
+ghost use Rattle.std.specs.List.{list_all};
+ghost use Rattle.hll_coupons.specs.AuxMap.{table_bytes, value_in, ExceptionMap, IsMap};
+ghost use Rattle.hll_coupons.specs.Coupons.{coupon_bytes, WritesAscending};
+ghost use Rattle.hll_registers.specs.FourBits.{unboxed, exception_in, exception_of, exceptions_in, fallen, kept_above, IsMapFor, IsSlotOf};
+ghost use Rattle.hll_registers.specs.Payload.{register_of, Agrees};
+ghost use Rattle.hll_kernels.specs.Packed.{lowered_by, nibble, nibble_at, AreRegisters};
+
+use hll_base::codec::SketchBytes;
+use hll_base::error::Error;
+use hll_coupons::aux_map::AuxMap;
+use hll_coupons::container::with_coupons;
+use hll_kernels::nibbles::{are_at_most, lower_by, nibble_of, put_nibble};
+use std::alloc::Allocator;
+use std::simd::prelude::*;
+
+/// How far above the minimum an exception is at least, and the nibble that marks one.
+pub const MARK: u8 = 15;
+
+/// A map of exceptions in memory of its own, where there are any.
+pub type Exceptions<A> = Option<Box<AuxMap<A>, A>>;
+
+/// The exception of a slot, if it has one.
+pub fn exception_at<A: Allocator>(map: &Exceptions<A>, slot: u32) -> Option<u8>
+    requires { IsSlotOf (unboxed map.now) slot }
+    ensures value { result ≡ exception_in (unboxed map.now) slot }
+    ensures small { IfSome result (λ v. (1 ≤ v) × (v ≤ 63)) }
+{
+    match map {
+        Some(map) => map.get(slot),
+        None => None,
+    }
+}
+
+/// A copy, with the same places, by this allocator.
+pub(crate) fn copied<A: Allocator + Clone>(
+    map: &Exceptions<A>,
+    alloc: &A,
+) -> Result<Exceptions<A>, Error>
+    ensures ok { IfOk result (λ copy. unboxed copy ≡ unboxed map.now) }
+    ensures err { IfErr result (λ e. e ≡ Memory) }
+{
+    match map {
+        Some(map) => Ok(Some(Box::new(alloc.clone()?, map.as_ref().clone()?)?)),
+        None => Ok(None),
+    }
+}
+
+/// The bytes of the map's places, 0 where there is no map.
+pub(crate) fn bytes_of_places<A: Allocator>(map: &Exceptions<A>) -> usize
+    ensures size { (k : ℕ) → IsMapFor k (unboxed map.now) → result ≡ table_bytes k (len (exceptions_in (unboxed map.now))) }
+    ensures bound { (k : ℕ) → IsMapFor k (unboxed map.now) → result ≤ 2 ^ 28 }
+{
+    match map {
+        Some(map) => map.estimated_size(),
+        None => 0,
+    }
+}
+
+/// How many exceptions there are.
+pub(crate) fn count_exceptions<A: Allocator>(map: &Exceptions<A>) -> usize
+    ensures count { (k : ℕ) → IsMapFor k (unboxed map.now) → result ≡ len (exceptions_in (unboxed map.now)) }
+    ensures bound { (k : ℕ) → IsMapFor k (unboxed map.now) → result ≤ 2 ^ 21 }
+{
+    match map {
+        Some(map) => map.len(),
+        None => 0,
+    }
+}
+
+/// Whether two maps for the same slots have the same entries. Places don't count.
+pub(crate) fn have_same_exceptions<A: Allocator>(map: &Exceptions<A>, other: &Exceptions<A>) -> bool
+    ensures { (k : ℕ) → IsMapFor k (unboxed map.now) → IsMapFor k (unboxed other.now) → IsTrue result ↔ (exceptions_in (unboxed map.now) ≡ exceptions_in (unboxed other.now)) }
+{
+    match (map, other) {
+        (Some(map), Some(other)) => *map == *other,
+        (None, None) => true,
+        _ => false,
+    }
+}
+
+/// A buffer with the exceptions appended to it, as coupons in ascending raw words.
+///
+/// Takes memory for a sorted copy, none where there is no map. Fails with `Memory`.
+pub(crate) fn with_exceptions<A: Allocator + Clone>(
+    bytes: SketchBytes<A>,
+    map: &Exceptions<A>,
+    alloc: &A,
+) -> Result<SketchBytes<A>, Error>
+    ensures ok { IfOk result (WritesAscending (λ order. bytes ++ coupon_bytes order) (exceptions_in (unboxed map.now))) }
+    ensures err { IfErr result (λ e. e ≡ Memory) }
+{
+    match map {
+        Some(map) => {
+            let entries = map.ascending(alloc.clone()?)?;
+            with_coupons(bytes, &entries)
+        }
+        None => Ok(bytes),
+    }
+}
+
+/// A map of one entry.
+fn one_entry<A: Allocator + Clone>(
+    alloc: A,
+    lg_k: u8,
+    slot: u32,
+    value: u8,
+) -> Result<AuxMap<A>, Error>
+    requires low { 4 ≤ lg_k }
+    requires high { lg_k ≤ 21 }
+    requires within { slot < 2 ^ lg_k }
+    requires least { 1 ≤ value }
+    requires most { value ≤ 63 }
+    ensures map { IfOk result (λ m. IsMapFor lg_k (Some m)) }
+    ensures values { IfOk result (λ m. (s : ℕ) → exception_in (Some m) s ≡ (if s == slot then Some value else None)) }
+    ensures err { IfErr result (λ e. e ≡ Memory) }
+{
+    let mut map = AuxMap::new(alloc, lg_k)?;
+    set_value(&mut map, slot, value)?;
+    Ok(map)
+}
+
+/// Gives a slot an exception, in a map that is made where there is none, by this allocator.
+///
+/// Fails with `Memory`, never if the slot has an exception, and then changes nothing.
+pub fn put_exception<A: Allocator + Clone>(
+    map: &mut Exceptions<A>,
+    alloc: &A,
+    lg_k: u8,
+    slot: u32,
+    value: u8,
+) -> Result<(), Error>
+    requires low { 4 ≤ lg_k }
+    requires high { lg_k ≤ 21 }
+    requires within { slot < 2 ^ lg_k }
+    requires least { 1 ≤ value }
+    requires most { value ≤ 63 }
+    requires map { IsMapFor lg_k (unboxed map.old) }
+    ensures map { OnOk result (IsMapFor lg_k (unboxed map.new)) }
+    ensures values { OnOk result ((s : ℕ) → exception_in (unboxed map.new) s ≡ (if s == slot then Some value else exception_in (unboxed map.old) s)) }
+    ensures unchanged { OnErr result ((unboxed map.new) ≡ (unboxed map.old)) }
+    ensures err { IfErr result (λ e. e ≡ Memory) }
+    ensures never { exception_in (unboxed map.old) slot ≢ None → IsOk result }
+{
+    match map {
+        Some(map) => set_value(map, slot, value),
+        None => {
+            let entry = one_entry(alloc.clone()?, lg_k, slot, value)?;
+            *map = Some(Box::new(alloc.clone()?, entry)?);
+            Ok(())
+        }
+    }
+}
+
+/// Gives a slot of a map a value, whether it has one or not.
+fn set_value<A: Allocator + Clone>(map: &mut AuxMap<A>, slot: u32, value: u8) -> Result<(), Error>
+    requires within { slot < 2 ^ map.old.lg_k }
+    requires least { 1 ≤ value }
+    requires most { value ≤ 63 }
+    ensures map { OnOk result (IsMapFor map.old.lg_k (Some map.new)) }
+    ensures values { OnOk result ((s : ℕ) → exception_in (Some map.new) s ≡ (if s == slot then Some value else exception_in (Some map.old) s)) }
+    ensures unchanged { OnErr result (map.new ≡ map.old) }
+    ensures err { IfErr result (λ e. e ≡ Memory) }
+    ensures never { exception_in (Some map.old) slot ≢ None → IsOk result }
+{
+    match map.get(slot) {
+        Some(_) => {
+            map.replace(slot, value);
+            Ok(())
+        }
+        None => map.insert(slot, value),
+    }
+}
+
+/// Whether each exception is one above a minimum.
+fn are_all_above<A: Allocator>(map: &AuxMap<A>, minimum: u8) -> bool
+    requires minimum { minimum ≤ 63 }
+    requires map { IsMap map.now }
+    ensures all { result ≡ true → (s v : ℕ) → value_in map.now s ≡ Some v → minimum + 15 ≤ v }
+    ensures some { result ≡ false → (s : ℕ) × (v : ℕ) × (value_in map.now s ≡ Some v) × (v < minimum + 15) }
+{
+    for (_, value) in map.iter() {
+        if value < minimum + MARK {
+            return false;
+        }
+    }
+    true
+}
+
+/// The exceptions that stay above a minimum, in a map of their own, by this allocator.
+///
+/// Fails with `Memory`, never if none stays.
+fn kept_entries<A: Allocator + Clone>(
+    map: &AuxMap<A>,
+    alloc: &A,
+    minimum: u8,
+) -> Result<Exceptions<A>, Error>
+    requires minimum { minimum ≤ 63 }
+    requires map { IsMap map.now }
+    ensures map { IfOk result (λ kept. IsMapFor map.now.lg_k (unboxed kept)) }
+    ensures values { IfOk result (λ kept. (s : ℕ) → exception_in (unboxed kept) s ≡ kept_above minimum (value_in map.now s)) }
+    ensures err { IfErr result (λ e. e ≡ Memory) }
+    ensures needed { OnErr result ((s : ℕ) × (v : ℕ) × (value_in map.now s ≡ Some v) × (minimum + 15 ≤ v)) }
+{
+    let mut kept = None;
+    for (slot, value) in map.iter() {
+        if value >= minimum + MARK {
+            put_exception(&mut kept, alloc, map.lg_config_k(), slot, value)?;
+        }
+    }
+    Ok(kept)
+}
+
+/// Sets the nibbles of the exceptions that are none above a minimum.
+///
+/// No exception is below the minimum, and there are two slots for each byte.
+fn put_fallen_entries<A: Allocator>(bytes: &mut [u8], map: &AuxMap<A>, minimum: u8)
+    requires minimum { minimum ≤ 63 }
+    requires map { IsMap map.now }
+    requires size { 2 * length bytes.old ≡ 2 ^ map.now.lg_k }
+    requires above { (s v : ℕ) → value_in map.now s ≡ Some v → minimum ≤ v }
+    ensures nibbles { (s : ℕ) → nibble_at bytes.new s ≡ fallen minimum (value_in map.now s) (nibble_at bytes.old s) }
+    ensures len { length bytes.new ≡ length bytes.old }
+    ensures fits { All (λ b. b < 256) bytes.old → All (λ b. b < 256) bytes.new }
+{
+    for (slot, value) in map.iter() {
+        if value < minimum + MARK {
+            put_nibble(bytes, slot as usize, value - minimum);
+        }
+    }
+}
+
+/// `kept_entries`, where there is a map.
+fn kept_exceptions<A: Allocator + Clone>(
+    map: &Exceptions<A>,
+    alloc: &A,
+    lg_k: u8,
+    minimum: u8,
+) -> Result<Exceptions<A>, Error>
+    requires minimum { minimum ≤ 63 }
+    requires map { IsMapFor lg_k (unboxed map.now) }
+    ensures map { IfOk result (λ kept. IsMapFor lg_k (unboxed kept)) }
+    ensures values { IfOk result (λ kept. (s : ℕ) → exception_in (unboxed kept) s ≡ kept_above minimum (exception_in (unboxed map.now) s)) }
+    ensures err { IfErr result (λ e. e ≡ Memory) }
+    ensures needed { OnErr result ((s : ℕ) × (v : ℕ) × (exception_in (unboxed map.now) s ≡ Some v) × (minimum + 15 ≤ v)) }
+{
+    match map {
+        Some(map) => kept_entries(map, alloc, minimum),
+        None => Ok(None),
+    }
+}
+
+// ---- the minimum rises
+
+/// The minimum rises as one slot, which alone was at it, gets a greater value.
+#[derive(Clone, Copy)]
+pub(crate) struct Rise {
+    pub(crate) from: u8,
+    pub(crate) to: u8,
+    pub(crate) slot: u32,
+    pub(crate) value: u8,
+}
+
+/// The exceptions after a rise: none of their own where they stay as they are, else a map by this allocator.
+///
+/// Fails with `Memory`, only if the exceptions change and some are left.
+pub(crate) fn exceptions_after<A: Allocator + Clone>(
+    map: &Exceptions<A>,
+    alloc: &A,
+    lg_k: u8,
+    rise: Rise,
+) -> Result<Option<Exceptions<A>>, Error>
+    requires low { 4 ≤ lg_k }
+    requires high { lg_k ≤ 21 }
+    requires minimum { rise.to ≤ 63 }
+    requires within { rise.slot < 2 ^ lg_k }
+    requires most { rise.value ≤ 63 }
+    requires map { IsMapFor lg_k (unboxed map.now) }
+    requires none { exception_in (unboxed map.now) rise.slot ≡ None }
+    ensures map { IfOk result (λ above. IsMapFor lg_k (unboxed (unwrap_or above map.now))) }
+    ensures values { IfOk result (λ above. (s : ℕ) → exception_in (unboxed (unwrap_or above map.now)) s ≡ (if s == rise.slot then exception_of rise.to rise.value else kept_above rise.to (exception_in (unboxed map.now) s))) }
+    ensures err { IfErr result (λ e. e ≡ Memory) }
+    ensures moved { OnErr result ((rise.to + 15 ≤ rise.value) ⊎ ((s : ℕ) × (v : ℕ) × (exception_in (unboxed map.now) s ≡ Some v) × (v < rise.to + 15))) }
+    ensures needed { OnErr result ((rise.to + 15 ≤ rise.value) ⊎ ((s : ℕ) × (v : ℕ) × (exception_in (unboxed map.now) s ≡ Some v) × (rise.to + 15 ≤ v))) }
+{
+    if keeps_all_exceptions(map, rise.to, rise.value) {
+        return Ok(None);
+    }
+    let mut above = kept_exceptions(map, alloc, lg_k, rise.to)?;
+    if rise.value >= rise.to + MARK {
+        put_exception(&mut above, alloc, lg_k, rise.slot, rise.value)?;
+    }
+    Ok(Some(above))
+}
+
+/// Puts the exceptions after a rise in the place of those before, where they change.
+pub(crate) fn replace_by<A: Allocator>(map: &mut Exceptions<A>, above: Option<Exceptions<A>>)
+    ensures { map.new ≡ unwrap_or above map.old }
+{
+    if let Some(above) = above {
+        *map = above;
+    }
+}
+
+/// Whether raising the minimum leaves the exceptions unchanged, as one slot, which has none, gets this value.
+fn keeps_all_exceptions<A: Allocator>(map: &Exceptions<A>, minimum: u8, value: u8) -> bool
+    requires minimum { minimum ≤ 63 }
+    requires map { (t : ExceptionMap) → (unboxed map.now) ≡ Some t → IsMap t }
+    ensures all { result ≡ true → (s v : ℕ) → exception_in (unboxed map.now) s ≡ Some v → minimum + 15 ≤ v }
+    ensures value { result ≡ true → value < minimum + 15 }
+    ensures some { result ≡ false → (minimum + 15 ≤ value) ⊎ ((s : ℕ) × (v : ℕ) × (exception_in (unboxed map.now) s ≡ Some v) × (v < minimum + 15)) }
+{
+    if value >= minimum + MARK {
+        return false;
+    }
+    match map {
+        Some(map) => are_all_above(map, minimum),
+        None => true,
+    }
+}
+
+/// Writes the nibbles anew after a rise.
+///
+/// Each nibble of another slot is 15, or at least the difference of the minima; no exception is below the new one.
+pub(crate) fn repack<A: Allocator>(bytes: &mut [u8], map: &Exceptions<A>, lg_k: u8, rise: Rise)
+    requires few { length bytes.old ≤ 2 ^ 20 }
+    requires size { 2 * length bytes.old ≡ 2 ^ lg_k }
+    requires fits { All (λ b. b < 256) bytes.old }
+    requires map { IsMapFor lg_k (unboxed map.now) }
+    requires within { rise.slot < 2 ^ lg_k }
+    requires from { rise.from ≤ rise.to }
+    requires to { rise.to ≤ rise.value }
+    requires most { rise.value ≤ 63 }
+    requires high { (s : ℕ) → s < 2 * length bytes.old → s ≢ rise.slot → (nibble_at bytes.old s ≡ 15) ⊎ (rise.to - rise.from ≤ nibble_at bytes.old s) }
+    requires above { (s v : ℕ) → exception_in (unboxed map.now) s ≡ Some v → rise.to ≤ v }
+    ensures nibbles { (s : ℕ) → s < 2 * length bytes.old → nibble_at bytes.new s ≡ (if s == rise.slot then nibble rise.to rise.value else fallen rise.to (exception_in (unboxed map.now) s) (lowered_by (rise.to - rise.from) (nibble_at bytes.old s))) }
+    ensures len { length bytes.new ≡ length bytes.old }
+    ensures fits { All (λ b. b < 256) bytes.new }
+{
+    put_nibble(bytes, rise.slot as usize, MARK);
+    lower_by(bytes, rise.to - rise.from);
+    put_fallen(bytes, map, lg_k, rise.to);
+    put_nibble(bytes, rise.slot as usize, (rise.value - rise.to).min(MARK));
+}
+
+/// `put_fallen_entries`, where there is a map.
+fn put_fallen<A: Allocator>(bytes: &mut [u8], map: &Exceptions<A>, lg_k: u8, minimum: u8)
+    requires minimum { minimum ≤ 63 }
+    requires size { 2 * length bytes.old ≡ 2 ^ lg_k }
+    requires map { IsMapFor lg_k (unboxed map.now) }
+    requires above { (s v : ℕ) → exception_in (unboxed map.now) s ≡ Some v → minimum ≤ v }
+    ensures nibbles { (s : ℕ) → nibble_at bytes.new s ≡ fallen minimum (exception_in (unboxed map.now) s) (nibble_at bytes.old s) }
+    ensures len { length bytes.new ≡ length bytes.old }
+    ensures fits { All (λ b. b < 256) bytes.old → All (λ b. b < 256) bytes.new }
+{
+    if let Some(map) = map {
+        put_fallen_entries(bytes, map, minimum);
+    }
+}
+
+// ---- exceptions of values
+
+/// Registers, and a minimum that they are seen above.
+#[derive(Clone, Copy)]
+struct Above<'a> {
+    lg_k: u8,
+    minimum: u8,
+    values: &'a [u8],
+}
+
+/// The exceptions of registers above a minimum: a map by this allocator, none where there are none.
+///
+/// Fails with `Memory`.
+pub(crate) fn exceptions_of<A: Allocator + Clone>(
+    alloc: &A,
+    lg_k: u8,
+    values: &[u8],
+    minimum: u8,
+) -> Result<Exceptions<A>, Error>
+    requires low { 4 ≤ lg_k }
+    requires high { lg_k ≤ 21 }
+    requires minimum { minimum ≤ 63 }
+    requires registers { AreRegisters lg_k values.now }
+    ensures map { IfOk result (λ map. IsMapFor lg_k (unboxed map)) }
+    ensures exceptions { IfOk result (λ map. (s : ℕ) → s < 2 ^ lg_k → exception_in (unboxed map) s ≡ exception_of minimum (slice_index values.now s)) }
+    ensures err { IfErr result (λ e. e ≡ Memory) }
+{
+    let registers = Above {
+        lg_k,
+        minimum,
+        values,
+    };
+    let mut map = None;
+    let (blocks, _) = values.as_chunks::<64>();
+    for place in 0..blocks.len() {
+        if !are_below(&blocks[place], minimum + MARK) {
+            put_exceptions_of(&mut map, alloc, &registers, 64 * place, 64 * place + 64)?;
+        }
+    }
+    put_exceptions_of(&mut map, alloc, &registers, 64 * blocks.len(), values.len())?;
+    Ok(map)
+}
+
+/// Whether each value of a block is below a bound.
+fn are_below(block: &[u8; 64], bound: u8) -> bool
+    ensures { result ≡ list_all (λ v. nat_lt v bound) block.now }
+{
+    u8x64::from_array(*block)
+        .simd_ge(u8x64::splat(bound))
+        .to_bitmask()
+        == 0
+}
+
+/// Puts the exceptions of the registers of the slots from `from` up to `to` into the map, which has none from there on.
+///
+/// Fails with `Memory`.
+fn put_exceptions_of<A: Allocator + Clone>(
+    map: &mut Exceptions<A>,
+    alloc: &A,
+    registers: &Above<'_>,
+    from: usize,
+    to: usize,
+) -> Result<(), Error>
+    requires low { 4 ≤ registers.now.lg_k }
+    requires high { registers.now.lg_k ≤ 21 }
+    requires minimum { registers.now.minimum ≤ 63 }
+    requires registers { AreRegisters registers.now.lg_k registers.now.values.now }
+    requires order { from ≤ to }
+    requires to { to ≤ length registers.now.values.now }
+    requires map { IsMapFor registers.now.lg_k (unboxed map.old) }
+    requires none { (s : ℕ) → from ≤ s → exception_in (unboxed map.old) s ≡ None }
+    ensures map { OnOk result (IsMapFor registers.now.lg_k (unboxed map.new)) }
+    ensures put { OnOk result ((s : ℕ) → from ≤ s → s < to → exception_in (unboxed map.new) s ≡ exception_of registers.now.minimum (slice_index registers.now.values.now s)) }
+    ensures before { OnOk result ((s : ℕ) → s < from → exception_in (unboxed map.new) s ≡ exception_in (unboxed map.old) s) }
+    ensures behind { OnOk result ((s : ℕ) → to ≤ s → exception_in (unboxed map.new) s ≡ None) }
+    ensures err { IfErr result (λ e. e ≡ Memory) }
+{
+    for slot in from..to {
+        let value = registers.values[slot];
+        if value >= registers.minimum + MARK {
+            put_exception(map, alloc, registers.lg_k, slot as u32, value)?;
+        }
+    }
+    Ok(())
+}
+
+// ---- registers of nibbles and exceptions
+
+/// The register of a slot: its nibble above a minimum, or its exception.
+pub(crate) fn register_at<A: Allocator>(
+    nibbles: &[u8],
+    map: &Exceptions<A>,
+    minimum: u8,
+    slot: u32,
+) -> u8
+    requires within { slot < 2 * length nibbles.now }
+    requires slot { IsSlotOf (unboxed map.now) slot }
+    requires agree { Agrees minimum (nibble_at nibbles.now slot) (exception_in (unboxed map.now) slot) }
+    ensures { result ≡ register_of minimum (nibble_at nibbles.now slot) (exception_in (unboxed map.now) slot) }
+{
+    let nibble = nibble_of(nibbles, slot as usize);
+    if nibble < MARK {
+        return minimum + nibble;
+    }
+    match exception_at(map, slot) {
+        Some(value) => value,
+        None => unreachable!(),
+    }
+}
+
+/// Raises each value to the exception of its slot, if it has one: `first + i` for value i. Searches where a nibble is 15,
+/// and passes over blocks of 64 where none is.
+///
+/// Each two values have a byte of nibbles, and a slot whose nibble isn't 15 has no exception.
+pub(crate) fn raise_by_exceptions<A: Allocator>(
+    values: &mut [u8],
+    nibbles: &[u8],
+    map: &AuxMap<A>,
+    first: u32,
+)
+    requires size { length values.old ≡ 2 * length nibbles.now }
+    requires within { first + length values.old ≤ 2 ^ map.now.lg_k }
+    requires map { IsMap map.now }
+    requires marked { (s : ℕ) → s < length values.old → nibble_at nibbles.now s ≢ 15 → value_in map.now (first + s) ≡ None }
+    ensures raised { (s : ℕ) → s < length values.old → slice_index values.new s ≡ max (slice_index values.old s) (unwrap_or (value_in map.now (first + s)) 0) }
+    ensures len { length values.new ≡ length values.old }
+{
+    let (blocks, rest) = nibbles.as_chunks::<32>();
+    for place in 0..blocks.len() {
+        if !are_at_most(&blocks[place], MARK - 1) {
+            raise_marked(values, 64 * place, &blocks[place], map, first);
+        }
+    }
+    raise_marked(values, 64 * blocks.len(), rest, map, first);
+}
+
+/// The same of the values from `at` on, two for each byte of nibbles. The others are unchanged.
+fn raise_marked<A: Allocator>(
+    values: &mut [u8],
+    at: usize,
+    nibbles: &[u8],
+    map: &AuxMap<A>,
+    first: u32,
+)
+    requires room { at + 2 * length nibbles.now ≤ length values.old }
+    requires within { first + length values.old ≤ 2 ^ map.now.lg_k }
+    requires map { IsMap map.now }
+    requires marked { (s : ℕ) → at ≤ s → s < at + 2 * length nibbles.now → nibble_at nibbles.now (s - at) ≢ 15 → value_in map.now (first + s) ≡ None }
+    ensures raised { (s : ℕ) → at ≤ s → s < at + 2 * length nibbles.now → slice_index values.new s ≡ max (slice_index values.old s) (unwrap_or (value_in map.now (first + s)) 0) }
+    ensures before { (s : ℕ) → s < at → slice_index values.new s ≡ slice_index values.old s }
+    ensures behind { (s : ℕ) → at + 2 * length nibbles.now ≤ s → slice_index values.new s ≡ slice_index values.old s }
+    ensures len { length values.new ≡ length values.old }
+{
+    for slot in at..at + 2 * nibbles.len() {
+        if nibble_of(nibbles, slot - at) == MARK {
+            let exception = map.get(first + slot as u32).unwrap_or(0);
+            values[slot] = values[slot].max(exception);
+        }
+    }
+}

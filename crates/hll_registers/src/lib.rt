@@ -1,0 +1,11 @@
+//! Registers that can be read and made, and those of four bits (docs/ARCHITECTURE.md, "Registers").
+#![tactic(auto)]
+
+pub mod aux_format;
+pub mod estimate_state;
+pub mod exception_map;
+pub mod nibble_registers;
+pub mod preamble;
+pub mod register_slice;
+pub mod register_store;
+pub mod registers;

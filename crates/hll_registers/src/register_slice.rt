@@ -1,0 +1,65 @@
+//! A slice of bytes as registers.
+ghost use Rattle.std.specs.Prelude.{◌≡◌, ◌≤◌};
+ghost use Rattle.hll_registers.specs.State.{cleared_state};
+ghost use Rattle.hll_kernels.specs.Packed.{AreRegisters};
+
+use crate::estimate_state::EstimateState;
+use crate::registers::Registers;
+use hll_kernels::kernels::max_into;
+use std::marker::Model;
+
+/// 2^`lg_k` borrowed registers, one byte each, with the cleared state.
+#[derive(Debug, Drop)]
+pub struct RegisterSlice<'a> {
+    lg_k: u8,
+    values: &'a [u8],
+}
+
+impl<'a> Model for RegisterSlice<'a> {
+    ghost use Rattle.std.specs.Prelude.{ℕ, List, ◌≤◌};
+    ghost use Rattle.hll_kernels.specs.Packed.{AreRegisters};
+
+    ghost Value = { ℕ × List ℕ };
+
+    ghost view = { λ l. (l.lg_k, l.values.now) };
+
+    ghost invariant = { λ l. (4 ≤ l.lg_k) × (l.lg_k ≤ 21) × AreRegisters l.lg_k l.values.now };
+}
+
+impl<'a> RegisterSlice<'a> {
+    /// 2^`lg_k` registers of at most 63, for an `lg_k` of 4 to 21.
+    pub fn new(lg_k: u8, values: &'a [u8]) -> RegisterSlice<'a>
+        requires least { 4 ≤ lg_k }
+        requires most { lg_k ≤ 21 }
+        requires registers { AreRegisters lg_k values.now }
+        ensures { result ≡ (lg_k, values.now) }
+    {
+        RegisterSlice { lg_k, values }
+    }
+}
+
+impl<'a> Registers for RegisterSlice<'a> {
+    ghost stored = { λ l. record { lg_k = l.0; registers = l.1; state = cleared_state } };
+
+    fn lg_k(&self) -> u8 {
+        self.lg_k
+    }
+
+    fn num_registers(&self) -> usize {
+        self.values.len()
+    }
+
+    fn get(&self, slot: u32) -> u8 {
+        self.values[slot as usize]
+    }
+
+    fn estimate_state(&self) -> EstimateState {
+        EstimateState::CLEARED
+    }
+
+    /// One pass.
+    fn join_into(&self, first: u32, values: &mut [u8]) {
+        let first = first as usize;
+        max_into(values, &self.values[first..first + values.len()]);
+    }
+}

@@ -1,0 +1,128 @@
+//! Registers that can be read, however they are stored (docs/MODEL.md, "Laws of a store").
+ghost use Rattle.std.specs.Prelude.{◌≡◌, ◌+◌, ◌%◌, ◌^◌, ◌<◌, ◌≤◌, ◌==◌, if◌then◌else◌, length, take, drop, slice_index, Some, None, IfSome};
+ghost use Rattle.hll_coupons.specs.Fold.{fold_to, pairs};
+ghost use Rattle.hll_base.specs.Join.{join};
+ghost use Rattle.hll_kernels.specs.Packed as packed;
+ghost use Rattle.hll_registers.specs.Store.{Stored, IsStored};
+ghost use Rattle.hll_kernels.specs.Packed.{AreRegisters};
+
+use crate::estimate_state::EstimateState;
+use hll_kernels::kernels::units;
+
+/// 2^`lg_k` registers of 0 to 63, and their estimate state. No call takes memory.
+pub trait Registers {
+    /// What contracts see: the `lg_k`, the list of registers, and the estimate state.
+    ghost stored: { Self → Stored };
+
+    /// The `lg_k`, 4 to 21.
+    fn lg_k(&self) -> u8
+        ensures lg_k { result ≡ (stored self.now).lg_k }
+        ensures legal { IsStored (stored self.now) };
+
+    /// How many registers there are: 2^`lg_k`.
+    fn num_registers(&self) -> usize
+        ensures { result ≡ 2 ^ (stored self.now).lg_k };
+
+    /// The register of a slot below 2^`lg_k`, 0 to 63.
+    fn get(&self, slot: u32) -> u8
+        requires { slot < 2 ^ (stored self.now).lg_k }
+        ensures { result ≡ slice_index (stored self.now).registers slot };
+
+    /// The estimate state.
+    fn estimate_state(&self) -> EstimateState
+        ensures { result ≡ (stored self.now).state };
+
+    /// Raises each value to the greater of itself and register `first + i`, for value i.
+    ///
+    /// These registers exist, and `first` and the number of values are multiples of four. That the registers are legal
+    /// is a clause of `lg_k`. An implementation may read them in groups of four; this body calls `get` for each.
+    fn join_into(&self, first: u32, values: &mut [u8])
+        requires within { first + length values.old ≤ 2 ^ (stored self.now).lg_k }
+        requires legal { IsStored (stored self.now) }
+        requires aligned { first % 4 ≡ 0 }
+        requires groups { length values.old % 4 ≡ 0 }
+        ensures { values.new ≡ join values.old (take (length values.old) (drop first (stored self.now).registers)) }
+    {
+        for place in 0..values.len() {
+            let register = self.get(first + place as u32);
+            values[place] = values[place].max(register);
+        }
+    }
+}
+
+/// 2^`lg_k`.
+pub fn two_to(lg_k: u8) -> usize
+    requires { lg_k ≤ 21 }
+    ensures { result ≡ 2 ^ lg_k }
+{
+    1 << lg_k
+}
+
+/// How many registers are 0 once this one of them is greater, where it is known how many there were before.
+pub fn zeros_left(zero_count: Option<u32>, register: u8) -> Option<u32>
+    requires some { register ≡ 0 → IfSome zero_count (λ n. 0 < n) }
+    ensures left { IfSome result (λ left. zero_count ≡ Some (if register == 0 then (left + 1) else left)) }
+    ensures known { result ≡ None → zero_count ≡ None }
+{
+    match zero_count {
+        Some(count) if register == 0 => Some(count - 1),
+        _ => zero_count,
+    }
+}
+
+/// Raises each of 2^`lg_k` values to the greatest of itself and the source's registers that fold to it: each block of
+/// 2^`lg_k` consecutive registers folds to all of the values.
+pub fn join_folds<R: Registers>(values: &mut [u8], lg_k: u8, src: &R)
+    requires least { 4 ≤ lg_k }
+    requires most { lg_k ≤ (R.stored src.now).lg_k }
+    requires size { length values.old ≡ 2 ^ lg_k }
+    ensures joined { values.new ≡ join values.old (fold_to (pairs (R.stored src.now).registers) lg_k) }
+    ensures registers { AreRegisters lg_k values.old → AreRegisters lg_k values.new }
+{
+    let size = values.len();
+    for block in 0..two_to(src.lg_k() - lg_k) {
+        src.join_into((block * size) as u32, values);
+    }
+}
+
+/// The sum of 2^-v over the registers v, in units of 2^-63. One pass, at most 256 registers at a time.
+pub fn units_of<R: Registers>(src: &R) -> u128
+    ensures units { result ≡ packed.units (R.stored src.now).registers }
+    ensures bound { result ≤ 2 ^ 84 }
+{
+    let lg_size = src.lg_k().min(8);
+    let size = two_to(lg_size);
+    let mut sum = 0;
+    for block in 0..two_to(src.lg_k() - lg_size) {
+        sum += units_at(src, block * size, size);
+    }
+    sum
+}
+
+/// The same of at most 256 registers from `first` on.
+fn units_at<R: Registers>(src: &R, first: usize, size: usize) -> u128
+    requires within { first + size ≤ 2 ^ (R.stored src.now).lg_k }
+    requires aligned { first % 4 ≡ 0 }
+    requires groups { size % 4 ≡ 0 }
+    requires few { size ≤ 256 }
+    requires legal { IsStored (R.stored src.now) }
+    ensures units { result ≡ packed.units (take size (drop first (R.stored src.now).registers)) }
+    ensures bound { result ≤ 2 ^ 84 }
+{
+    let registers = registers_at(src, first, size);
+    units(&registers[..size])
+}
+
+/// At most 256 registers from `first` on, with zeros behind them.
+fn registers_at<R: Registers>(src: &R, first: usize, size: usize) -> [u8; 256]
+    requires within { first + size ≤ 2 ^ (R.stored src.now).lg_k }
+    requires aligned { first % 4 ≡ 0 }
+    requires groups { size % 4 ≡ 0 }
+    requires few { size ≤ 256 }
+    requires legal { IsStored (R.stored src.now) }
+    ensures { take size result ≡ take size (drop first (R.stored src.now).registers) }
+{
+    let mut values = [0; 256];
+    src.join_into(first as u32, &mut values[..size]);
+    values
+}
