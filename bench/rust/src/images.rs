@@ -9,16 +9,11 @@ use std::hint::black_box;
 const COPIED_A_RUN: usize = 1 << 29;
 const PREAMBLE: usize = 40;
 
-// The exports of crates/hll_bench; a `Global` takes no argument.
+// The exports of crates/hll_bench; a `Global` takes no argument, and `width` counts bits.
 unsafe extern "C" {
-    fn hll_bench_read_8(lg_k: u8, rounds: u32) -> u64;
-    fn hll_bench_read_6(lg_k: u8, rounds: u32) -> u64;
-    fn hll_bench_read_4(lg_k: u8, rounds: u32) -> u64;
-    fn hll_bench_write_8(lg_k: u8, rounds: u32) -> u64;
-    fn hll_bench_write_6(lg_k: u8, rounds: u32) -> u64;
-    fn hll_bench_write_4(lg_k: u8, rounds: u32) -> u64;
-    fn hll_bench_rewrite_8(lg_k: u8, rounds: u32) -> u64;
-    fn hll_bench_rewrite_6(lg_k: u8, rounds: u32) -> u64;
+    fn hll_bench_read(width: u8, lg_k: u8, rounds: u32) -> u64;
+    fn hll_bench_write(width: u8, lg_k: u8, rounds: u32) -> u64;
+    fn hll_bench_rewrite(width: u8, lg_k: u8, rounds: u32) -> u64;
 }
 
 /// As many bytes as the image has, with those of the registers in their place.
@@ -78,13 +73,13 @@ fn main() {
     // SAFETY, of each call: the declarations above are those of crates/hll_bench, and `lg_k` is 4 to 21.
     for lg_k in LG_K {
         let rounds = (COPIED_A_RUN >> lg_k) as u32;
-        measure("read of eight", lg_k, rounds, |k, n| unsafe { hll_bench_read_8(k, n) }, copied_8);
-        measure("read of six", lg_k, rounds, |k, n| unsafe { hll_bench_read_6(k, n) }, copied_6);
-        measure("read of four", lg_k, rounds, |k, n| unsafe { hll_bench_read_4(k, n) }, copied_4);
-        measure("write of eight", lg_k, rounds, |k, n| unsafe { hll_bench_write_8(k, n) }, |k, n| summed(image_8(&filled(k)), n));
-        measure("write of six", lg_k, rounds, |k, n| unsafe { hll_bench_write_6(k, n) }, |k, n| summed(image_6(&filled(k)), n));
-        measure("write of four", lg_k, rounds, |k, n| unsafe { hll_bench_write_4(k, n) }, |k, n| summed(image_4(&filled(k)), n));
-        measure("write of eight, read before", lg_k, rounds, |k, n| unsafe { hll_bench_rewrite_8(k, n) }, |k, n| summed(image_8(&filled(k)), n));
-        measure("write of six, read before", lg_k, rounds, |k, n| unsafe { hll_bench_rewrite_6(k, n) }, |k, n| summed(image_6(&filled(k)), n));
+        measure("read of eight", lg_k, rounds, |k, n| unsafe { hll_bench_read(8, k, n) }, copied_8);
+        measure("read of six", lg_k, rounds, |k, n| unsafe { hll_bench_read(6, k, n) }, copied_6);
+        measure("read of four", lg_k, rounds, |k, n| unsafe { hll_bench_read(4, k, n) }, copied_4);
+        measure("write of eight", lg_k, rounds, |k, n| unsafe { hll_bench_write(8, k, n) }, |k, n| summed(image_8(&filled(k)), n));
+        measure("write of six", lg_k, rounds, |k, n| unsafe { hll_bench_write(6, k, n) }, |k, n| summed(image_6(&filled(k)), n));
+        measure("write of four", lg_k, rounds, |k, n| unsafe { hll_bench_write(4, k, n) }, |k, n| summed(image_4(&filled(k)), n));
+        measure("write of eight, read before", lg_k, rounds, |k, n| unsafe { hll_bench_rewrite(8, k, n) }, |k, n| summed(image_8(&filled(k)), n));
+        measure("write of six, read before", lg_k, rounds, |k, n| unsafe { hll_bench_rewrite(6, k, n) }, |k, n| summed(image_6(&filled(k)), n));
     }
 }

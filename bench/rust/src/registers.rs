@@ -10,23 +10,15 @@ use std::hint::black_box;
 const MERGED_A_RUN: usize = 1 << 29;
 const UPDATES_A_RUN: u32 = 1 << 24;
 
-// The exports of crates/hll_bench; a `Global` takes no argument.
+// The exports of crates/hll_bench; a `Global` takes no argument, and `width` counts bits.
 unsafe extern "C" {
-    fn hll_bench_merge_8(lg_k: u8, rounds: u32) -> u64;
-    fn hll_bench_merge_6(lg_k: u8, rounds: u32) -> u64;
-    fn hll_bench_merge_4(lg_k: u8, rounds: u32) -> u64;
+    fn hll_bench_merge(width: u8, lg_k: u8, rounds: u32) -> u64;
     fn hll_bench_downsample(lg_k: u8, rounds: u32) -> u64;
-    fn hll_bench_convert_6(lg_k: u8, rounds: u32) -> u64;
-    fn hll_bench_convert_4(lg_k: u8, rounds: u32) -> u64;
-    fn hll_bench_update_8(lg_k: u8, rounds: u32) -> u64;
-    fn hll_bench_update_6(lg_k: u8, rounds: u32) -> u64;
-    fn hll_bench_update_4(lg_k: u8, rounds: u32) -> u64;
-    fn hll_bench_is_empty_8(lg_k: u8, full: bool, rounds: u32) -> u64;
-    fn hll_bench_num_zeros_8(lg_k: u8, full: bool, rounds: u32) -> u64;
-    fn hll_bench_kxq_units_8(lg_k: u8, full: bool, rounds: u32) -> u64;
-    fn hll_bench_is_empty_6(lg_k: u8, full: bool, rounds: u32) -> u64;
-    fn hll_bench_num_zeros_6(lg_k: u8, full: bool, rounds: u32) -> u64;
-    fn hll_bench_kxq_units_6(lg_k: u8, full: bool, rounds: u32) -> u64;
+    fn hll_bench_convert(width: u8, lg_k: u8, rounds: u32) -> u64;
+    fn hll_bench_update(width: u8, lg_k: u8, rounds: u32) -> u64;
+    fn hll_bench_is_empty(width: u8, lg_k: u8, full: bool, rounds: u32) -> u64;
+    fn hll_bench_num_zeros(width: u8, lg_k: u8, full: bool, rounds: u32) -> u64;
+    fn hll_bench_kxq_units(width: u8, lg_k: u8, full: bool, rounds: u32) -> u64;
 }
 
 fn raise(registers: &mut [u8], others: &[u8]) {
@@ -161,34 +153,34 @@ fn main() {
     // SAFETY, of each call: the declarations above are those of crates/hll_bench, and `lg_k` is 4 to 21, or to 20.
     for lg_k in LG_K {
         let rounds = (MERGED_A_RUN >> lg_k) as u32;
-        measure("merge of eight into eight", lg_k, rounds, |k, n| unsafe { hll_bench_merge_8(k, n) }, merge_8);
-        measure("merge of six into eight", lg_k, rounds, |k, n| unsafe { hll_bench_merge_6(k, n) }, merge_6);
-        measure("merge of four into eight", lg_k, rounds, |k, n| unsafe { hll_bench_merge_4(k, n) }, merge_4);
+        measure("merge of eight into eight", lg_k, rounds, |k, n| unsafe { hll_bench_merge(8, k, n) }, merge_8);
+        measure("merge of six into eight", lg_k, rounds, |k, n| unsafe { hll_bench_merge(6, k, n) }, merge_6);
+        measure("merge of four into eight", lg_k, rounds, |k, n| unsafe { hll_bench_merge(4, k, n) }, merge_4);
         measure("fold from one more", lg_k - 1, rounds, |k, n| unsafe { hll_bench_downsample(k, n) }, downsample);
-        measure("conversion to six", lg_k, rounds, |k, n| unsafe { hll_bench_convert_6(k, n) }, convert_6);
-        measure("conversion to four", lg_k, rounds, |k, n| unsafe { hll_bench_convert_4(k, n) }, convert_4);
-        measure("update of eight", lg_k, UPDATES_A_RUN, |k, n| unsafe { hll_bench_update_8(k, n) }, update_8);
-        measure("update of six, beside eight", lg_k, UPDATES_A_RUN, |k, n| unsafe { hll_bench_update_6(k, n) }, update_8);
+        measure("conversion to six", lg_k, rounds, |k, n| unsafe { hll_bench_convert(6, k, n) }, convert_6);
+        measure("conversion to four", lg_k, rounds, |k, n| unsafe { hll_bench_convert(4, k, n) }, convert_4);
+        measure("update of eight", lg_k, UPDATES_A_RUN, |k, n| unsafe { hll_bench_update(8, k, n) }, update_8);
+        measure("update of six, beside eight", lg_k, UPDATES_A_RUN, |k, n| unsafe { hll_bench_update(6, k, n) }, update_8);
         let coupons = 16 << lg_k;
-        measure("update of four, beside eight", lg_k, coupons, |k, n| unsafe { hll_bench_update_4(k, n) }, update_8);
+        measure("update of four, beside eight", lg_k, coupons, |k, n| unsafe { hll_bench_update(4, k, n) }, update_8);
         measure(
             "the same, beside our eight",
             lg_k,
             coupons,
-            |k, n| unsafe { hll_bench_update_4(k, n) },
-            |k, n| unsafe { hll_bench_update_8(k, n) },
+            |k, n| unsafe { hll_bench_update(4, k, n) },
+            |k, n| unsafe { hll_bench_update(8, k, n) },
         );
-        measure("is_empty of eight, zeros", lg_k, rounds, |k, n| unsafe { hll_bench_is_empty_8(k, false, n) }, is_empty::<false>);
-        measure("is_empty of eight, filled", lg_k, UPDATES_A_RUN, |k, n| unsafe { hll_bench_is_empty_8(k, true, n) }, is_empty::<true>);
-        measure("num_zeros of eight, zeros", lg_k, rounds, |k, n| unsafe { hll_bench_num_zeros_8(k, false, n) }, num_zeros::<false>);
-        measure("num_zeros of eight, filled", lg_k, rounds, |k, n| unsafe { hll_bench_num_zeros_8(k, true, n) }, num_zeros::<true>);
-        measure("kxq_units of eight, zeros", lg_k, rounds, |k, n| unsafe { hll_bench_kxq_units_8(k, false, n) }, kxq_units::<false>);
-        measure("kxq_units of eight, filled", lg_k, rounds, |k, n| unsafe { hll_bench_kxq_units_8(k, true, n) }, kxq_units::<true>);
-        measure("is_empty of six, zeros", lg_k, rounds, |k, n| unsafe { hll_bench_is_empty_6(k, false, n) }, is_empty_6::<false>);
-        measure("is_empty of six, filled", lg_k, UPDATES_A_RUN, |k, n| unsafe { hll_bench_is_empty_6(k, true, n) }, is_empty_6::<true>);
-        measure("num_zeros of six, zeros", lg_k, rounds, |k, n| unsafe { hll_bench_num_zeros_6(k, false, n) }, num_zeros_6::<false>);
-        measure("num_zeros of six, filled", lg_k, rounds, |k, n| unsafe { hll_bench_num_zeros_6(k, true, n) }, num_zeros_6::<true>);
-        measure("kxq_units of six, zeros", lg_k, rounds, |k, n| unsafe { hll_bench_kxq_units_6(k, false, n) }, kxq_units_6::<false>);
-        measure("kxq_units of six, filled", lg_k, rounds, |k, n| unsafe { hll_bench_kxq_units_6(k, true, n) }, kxq_units_6::<true>);
+        measure("is_empty of eight, zeros", lg_k, rounds, |k, n| unsafe { hll_bench_is_empty(8, k, false, n) }, is_empty::<false>);
+        measure("is_empty of eight, filled", lg_k, UPDATES_A_RUN, |k, n| unsafe { hll_bench_is_empty(8, k, true, n) }, is_empty::<true>);
+        measure("num_zeros of eight, zeros", lg_k, rounds, |k, n| unsafe { hll_bench_num_zeros(8, k, false, n) }, num_zeros::<false>);
+        measure("num_zeros of eight, filled", lg_k, rounds, |k, n| unsafe { hll_bench_num_zeros(8, k, true, n) }, num_zeros::<true>);
+        measure("kxq_units of eight, zeros", lg_k, rounds, |k, n| unsafe { hll_bench_kxq_units(8, k, false, n) }, kxq_units::<false>);
+        measure("kxq_units of eight, filled", lg_k, rounds, |k, n| unsafe { hll_bench_kxq_units(8, k, true, n) }, kxq_units::<true>);
+        measure("is_empty of six, zeros", lg_k, rounds, |k, n| unsafe { hll_bench_is_empty(6, k, false, n) }, is_empty_6::<false>);
+        measure("is_empty of six, filled", lg_k, UPDATES_A_RUN, |k, n| unsafe { hll_bench_is_empty(6, k, true, n) }, is_empty_6::<true>);
+        measure("num_zeros of six, zeros", lg_k, rounds, |k, n| unsafe { hll_bench_num_zeros(6, k, false, n) }, num_zeros_6::<false>);
+        measure("num_zeros of six, filled", lg_k, rounds, |k, n| unsafe { hll_bench_num_zeros(6, k, true, n) }, num_zeros_6::<true>);
+        measure("kxq_units of six, zeros", lg_k, rounds, |k, n| unsafe { hll_bench_kxq_units(6, k, false, n) }, kxq_units_6::<false>);
+        measure("kxq_units of six, filled", lg_k, rounds, |k, n| unsafe { hll_bench_kxq_units(6, k, true, n) }, kxq_units_6::<true>);
     }
 }

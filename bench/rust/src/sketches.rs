@@ -132,9 +132,8 @@ fn summed<const WIDTH: u8, const COUPONS: u32>(lg_k: u8, rounds: u32) -> u64 {
 }
 
 fn measure_images<const WIDTH: u8, const COUPONS: u32>(stage: &str, rounds: u32) {
-    let bits = 4 + 2 * WIDTH;
-    measure(&format!("read of {stage}, {bits} bits"), LG_K, rounds, read::<WIDTH, COUPONS>, copied::<WIDTH, COUPONS>);
-    measure(&format!("write of {stage}, {bits} bits"), LG_K, rounds, write::<WIDTH, COUPONS>, summed::<WIDTH, COUPONS>);
+    measure(&format!("read of {stage}, {WIDTH} bits"), LG_K, rounds, read::<WIDTH, COUPONS>, copied::<WIDTH, COUPONS>);
+    measure(&format!("write of {stage}, {WIDTH} bits"), LG_K, rounds, write::<WIDTH, COUPONS>, summed::<WIDTH, COUPONS>);
 }
 
 fn measure_width<const WIDTH: u8>() {
@@ -144,11 +143,11 @@ fn measure_width<const WIDTH: u8>() {
 }
 
 fn main() {
-    measure("updates from empty, 4 bits", LG_K, UPDATED_SKETCHES, update::<0>, update_plainly);
-    measure("updates from empty, 6 bits", LG_K, UPDATED_SKETCHES, update::<1>, update_plainly);
-    measure("updates from empty, 8 bits", LG_K, UPDATED_SKETCHES, update::<2>, update_plainly);
+    measure("updates from empty, 4 bits", LG_K, UPDATED_SKETCHES, update::<4>, update_plainly);
+    measure("updates from empty, 6 bits", LG_K, UPDATED_SKETCHES, update::<6>, update_plainly);
+    measure("updates from empty, 8 bits", LG_K, UPDATED_SKETCHES, update::<8>, update_plainly);
     measure("a held coupon in a set", LG_K, 1 << 24, update_held, update_held_plainly);
-    measure_width::<0>();
-    measure_width::<1>();
-    measure_width::<2>();
+    measure_width::<4>();
+    measure_width::<6>();
+    measure_width::<8>();
 }

@@ -35,14 +35,14 @@ fn measure(name: &str, lg_k: u8, rounds: u32, work: [Work; 2]) {
 }
 
 fn measure_width<const WIDTH: u8>(lg_k: u8, rounds: u32) {
-    let name = format!("1,000 sketches, {} bits", 4 + 2 * WIDTH);
+    let name = format!("1,000 sketches, {WIDTH} bits");
     measure(&name, lg_k, rounds, [update::<WIDTH>, merge::<WIDTH>]);
 }
 
 fn main() {
     for (lg_k, rounds) in LG_K {
-        measure_width::<0>(lg_k, rounds);
-        measure_width::<1>(lg_k, rounds);
-        measure_width::<2>(lg_k, rounds);
+        measure_width::<4>(lg_k, rounds);
+        measure_width::<6>(lg_k, rounds);
+        measure_width::<8>(lg_k, rounds);
     }
 }

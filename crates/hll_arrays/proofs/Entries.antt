@@ -12,11 +12,11 @@ use Rattle.hll_coupons.specs.Coupons.{IsAscending}
 use Rattle.hll_coupons.proofs.Ascending.{len-ascending}
 use Rattle.hll_coupons.proofs.Listed.{has, has-at, Apart, len-map}
 use Rattle.hll_coupons.proofs.Reading.{len-set_of-le}
-use Rattle.hll_coupons.proofs.Registers.{StandsFor, in_words, slot_of-pair, value_of-pair}
+use Rattle.hll_coupons.proofs.Registers.{StandsFor, in_words, slot_of-pair, value_of-pair, slot_small}
 use Rattle.hll_kernels.specs.Packed.{minimum}
 use Rattle.hll_registers.specs.Exceptions.{exceptions}
 use Rattle.hll_registers.specs.Payload.{AreEntries}
-use Rattle.hll_registers.proofs.Exceptions.{kept, slot_small}
+use Rattle.hll_registers.proofs.Exceptions.{kept}
 
 length-words_from : (s : ℕ) (R : List ℕ) → length (words_from s R) ≤ length R
 length-words_from s [] = omega arith

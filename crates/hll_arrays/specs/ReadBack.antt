@@ -1,9 +1,9 @@
 -- What is written for registers is read back (docs/MODEL.md, "Packed forms").
-use Rattle.std.specs.Prelude.{◌≡◌, ℕ, ◌+◌, ◌*◌, ◌^◌, ◌<◌, ◌≤◌, List, ◌++◌, length, slice_index, take, drop, All}
+use Rattle.std.specs.Prelude.{◌≡◌, ℕ, ◌+◌, ◌^◌, List, ◌++◌, take, drop}
 use Rattle.hll_coupons.specs.Pair.{set_of}
 use Rattle.hll_coupons.specs.Coupons.{IsAscending}
 use Rattle.hll_registers.specs.declared.aux_format.AuxFormat.TheVariants.{Compact}
-use Rattle.hll_kernels.specs.Packed.{field_bytes, fields, minimum, nibble, nibble_at, nibble_bytes_above}
+use Rattle.hll_kernels.specs.Packed.{fields, minimum}
 use Rattle.hll_registers.specs.Exceptions.{exceptions}
 use Rattle.hll_registers.specs.Payload.{state_at, IsHll8Payload, hll8_bytes, field_size, IsHll6Payload, hll6_bytes, shape_of_hll4, hll4_size, registers_of, IsHll4Payload, hll4_bytes}
 use Rattle.hll_registers.specs.Store.{Stored, IsStored}

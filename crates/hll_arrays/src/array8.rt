@@ -12,6 +12,7 @@ ghost use Rattle.hll_base.specs.declared.hll_type.HllType.TheVariants.{Hll8};
 ghost use Rattle.hll_registers.specs.Store.{zero_registers, update_with_coupon, merge_with, IsStored};
 ghost use Rattle.hll_kernels.specs.Packed.{AreRegisters};
 
+use hll_base::bounds::MAX_VALUE;
 use hll_base::codec::SketchBytes;
 use hll_base::cursor::SketchSlice;
 use hll_base::error::{Error, Reason};
@@ -26,9 +27,6 @@ use hll_registers::register_store::RegisterStore;
 use hll_registers::registers::{Registers, join_folds, two_to, zeros_left};
 use std::alloc::{Allocator, Global};
 use std::marker::Model;
-
-/// The greatest value of a register.
-const MAX_VALUE: u8 = 63;
 
 /// 2^`lg_k` registers of 0 to 63, one byte each, and their estimate state. Contracts see the `lg_k`, the list of
 /// registers and the state.

@@ -10,6 +10,7 @@ ghost use Rattle.hll_kernels.specs.Packed.{nibble_at};
 ghost use Rattle.hll_registers.specs.Payload.{state_at, exception_count, exception_places, hll4_size, is_compact, lg_table_of, nibbles_of, registers_of, shape_of_hll4, Agrees, AreEntries, FirstHll4Fault, IsHll4Payload, IsWhole};
 ghost use Rattle.hll_registers.specs.State.{IsState};
 
+use hll_base::bounds::{MAX_VALUE, SLOT_BITS};
 use hll_base::cursor::SketchSlice;
 use hll_base::error::{Error, Reason};
 use hll_coupons::aux_map::AuxMap;
@@ -23,9 +24,6 @@ use hll_registers::nibble_registers::NibbleRegisters;
 use hll_registers::preamble::Preamble;
 use hll_registers::registers::two_to;
 use std::alloc::Allocator;
-
-/// The greatest register.
-const MOST: u8 = 63;
 
 /// What the header of an image says of registers of four bits. Its minimum may be below the least register.
 #[derive(Clone, Copy)]
@@ -219,7 +217,7 @@ fn put_entry<A: Allocator + Clone>(
 fn coupon_of(raw: u32) -> Coupon
     ensures { result ≡ raw }
 {
-    Coupon::pack(raw, (raw >> 26) as u8)
+    Coupon::pack(raw, (raw >> SLOT_BITS) as u8)
 }
 
 // ---- nibbles and exceptions
@@ -233,7 +231,7 @@ fn agree<A: Allocator>(nibbles: &[u8], map: &Exceptions<A>, lg_config_k: u8, cur
     ensures all { result ≡ true → (s : ℕ) → s < 2 ^ lg_config_k → Agrees cur_min (nibble_at nibbles.now s) (exception_in (unboxed map.now) s) }
     ensures some { result ≡ false → ((s : ℕ) → s < 2 ^ lg_config_k → Agrees cur_min (nibble_at nibbles.now s) (exception_in (unboxed map.now) s)) → ⊥ }
 {
-    if cur_min > MOST {
+    if cur_min > MAX_VALUE {
         return false;
     }
     match map {
@@ -275,7 +273,7 @@ fn others_agree<A: Allocator>(
     ensures all { result ≡ true → (s : ℕ) → s < 2 ^ lg_config_k → exception_in (unboxed map.now) s ≡ None → Agrees cur_min (nibble_at nibbles.now s) None }
     ensures some { result ≡ false → (s : ℕ) × (s < 2 ^ lg_config_k) × (exception_in (unboxed map.now) s ≡ None) × (Agrees cur_min (nibble_at nibbles.now s) None → ⊥) }
 {
-    let greatest = (MOST - cur_min).min(MARK - 1);
+    let greatest = (MAX_VALUE - cur_min).min(MARK - 1);
     let (blocks, rest) = nibbles.as_chunks::<32>();
     for place in 0..blocks.len() {
         if !are_at_most(&blocks[place], greatest)

@@ -2,6 +2,7 @@
 //! (docs/ARCHITECTURE.md, "The crates").
 #![tactic(auto)]
 
+pub mod bounds;
 pub mod codec;
 pub mod cursor;
 pub mod error;

@@ -2,11 +2,7 @@
 //! number that depends on the outcome.
 ghost use Rattle.std.specs.Prelude.{◌≤◌};
 
-use crate::registers::filled;
-use hll_arrays::array4::Array4;
-use hll_arrays::array6::Array6;
-use hll_arrays::array8::Array8;
-use hll_arrays::aux_format::AuxFormat;
+use crate::registers::{Measured, filled};
 use hll_arrays::convert::convert;
 use hll_arrays::register_store::RegisterStore;
 use hll_base::cursor::SketchSlice;
@@ -14,7 +10,7 @@ use hll_base::error::Error;
 use std::alloc::Global;
 
 /// The image of filled registers.
-fn image_of<S: RegisterStore<Global>>(alloc: Global, lg_k: u8) -> Result<Vec<u8>, Error>
+fn image_of<S: Measured>(alloc: Global, lg_k: u8) -> Result<Vec<u8>, Error>
     requires { (4 ≤ lg_k) × (lg_k ≤ 21) }
 {
     let array: S = convert(&filled(alloc, lg_k)?)?;
@@ -28,71 +24,40 @@ fn payload(image: &[u8]) -> Result<(SketchSlice<'_>, u8), Error> {
     Ok((cursor, (header >> 48 & 0xff) as u8))
 }
 
-pub(crate) fn read_8(alloc: Global, lg_k: u8, rounds: u32) -> Result<u64, Error>
+/// Registers that were read from their image.
+fn read_once<S: Measured>(alloc: Global, image: &[u8], lg_k: u8) -> Result<S, Error>
     requires { (4 ≤ lg_k) × (lg_k ≤ 21) }
 {
-    let image = image_of::<Array8>(alloc, lg_k)?;
-    let mut made = Array8::new(alloc, lg_k)?;
-    for _ in 0..rounds {
-        let (cursor, _) = payload(&image)?;
-        made = Array8::deserialize_registers(alloc, cursor, lg_k, false)?;
-    }
-    Ok(u64::from(made.num_zeros()))
+    let (cursor, state) = payload(image)?;
+    S::read(alloc, cursor, state, lg_k)
 }
 
-pub(crate) fn read_6(alloc: Global, lg_k: u8, rounds: u32) -> Result<u64, Error>
+/// Reads of an image of registers.
+pub(crate) fn read<S: Measured>(alloc: Global, lg_k: u8, rounds: u32) -> Result<u64, Error>
     requires { (4 ≤ lg_k) × (lg_k ≤ 21) }
 {
-    let image = image_of::<Array6>(alloc, lg_k)?;
-    let mut made = Array6::new(alloc, lg_k)?;
-    for _ in 0..rounds {
-        let (cursor, _) = payload(&image)?;
-        made = Array6::deserialize_registers(alloc, cursor, lg_k, false)?;
-    }
-    Ok(u64::from(made.num_zeros()))
-}
-
-pub(crate) fn read_4(alloc: Global, lg_k: u8, rounds: u32) -> Result<u64, Error>
-    requires { (4 ≤ lg_k) × (lg_k ≤ 21) }
-{
-    let image = image_of::<Array4>(alloc, lg_k)?;
-    let mut made = Array4::new(alloc, lg_k)?;
-    for _ in 0..rounds {
-        let (cursor, minimum) = payload(&image)?;
-        made = Array4::deserialize(alloc, cursor, minimum, lg_k, AuxFormat::Compact, false)?;
+    let image = image_of::<S>(alloc, lg_k)?;
+    let mut made: S = read_once(alloc, &image, lg_k)?;
+    for _ in 1..rounds {
+        made = read_once(alloc, &image, lg_k)?;
     }
     Ok(u64::from(made.num_zeros()))
 }
 
 /// Writes of images of new registers; the sum of their lengths and of the first byte of their registers.
-pub(crate) fn write<S: RegisterStore<Global>>(
-    alloc: Global,
-    lg_k: u8,
-    rounds: u32,
-) -> Result<u64, Error>
+pub(crate) fn write<S: Measured>(alloc: Global, lg_k: u8, rounds: u32) -> Result<u64, Error>
     requires { (4 ≤ lg_k) × (lg_k ≤ 21) }
 {
     let array: S = convert(&filled(alloc, lg_k)?)?;
     written(&array, rounds)
 }
 
-/// The same of registers of eight bits that were read.
-pub(crate) fn rewrite_8(alloc: Global, lg_k: u8, rounds: u32) -> Result<u64, Error>
+/// The same of registers that were read.
+pub(crate) fn rewrite<S: Measured>(alloc: Global, lg_k: u8, rounds: u32) -> Result<u64, Error>
     requires { (4 ≤ lg_k) × (lg_k ≤ 21) }
 {
-    let image = image_of::<Array8>(alloc, lg_k)?;
-    let (cursor, _) = payload(&image)?;
-    let array = Array8::deserialize_registers(alloc, cursor, lg_k, false)?;
-    written(&array, rounds)
-}
-
-/// The same of registers of six bits that were read.
-pub(crate) fn rewrite_6(alloc: Global, lg_k: u8, rounds: u32) -> Result<u64, Error>
-    requires { (4 ≤ lg_k) × (lg_k ≤ 21) }
-{
-    let image = image_of::<Array6>(alloc, lg_k)?;
-    let (cursor, _) = payload(&image)?;
-    let array = Array6::deserialize_registers(alloc, cursor, lg_k, false)?;
+    let image = image_of::<S>(alloc, lg_k)?;
+    let array: S = read_once(alloc, &image, lg_k)?;
     written(&array, rounds)
 }
 

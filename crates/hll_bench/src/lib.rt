@@ -1,5 +1,5 @@
 //! Exports over the public calls of the crates below, for the measurements of bench/rust (docs/ARCHITECTURE.md,
-//! "Measurements").
+//! "Measurements"). A width is 4, 6 or 8 bits; any other number stands for 8.
 #![tactic(auto)]
 
 ghost use Rattle.std.specs.Prelude.{◌≡◌, ◌/◌, ◌^◌, ◌≤◌, ◌==◌, length, map, All};
@@ -34,28 +34,17 @@ pub extern "C" fn hll_bench_hash(bytes: &[u8]) -> u64
     hash.finish128().0
 }
 
-/// Merges of registers of eight bits.
+/// Merges of registers of this many bits into registers of eight.
 #[unsafe(no_mangle)]
-pub extern "C" fn hll_bench_merge_8(alloc: Global, lg_k: u8, rounds: u32) -> u64
+pub extern "C" fn hll_bench_merge(alloc: Global, width: u8, lg_k: u8, rounds: u32) -> u64
     requires { (4 ≤ lg_k) × (lg_k ≤ 21) }
 {
-    registers::merge_8(alloc, lg_k, rounds).unwrap_or(REFUSED)
-}
-
-/// Merges of registers of six bits into registers of eight.
-#[unsafe(no_mangle)]
-pub extern "C" fn hll_bench_merge_6(alloc: Global, lg_k: u8, rounds: u32) -> u64
-    requires { (4 ≤ lg_k) × (lg_k ≤ 21) }
-{
-    registers::merge_6(alloc, lg_k, rounds).unwrap_or(REFUSED)
-}
-
-/// Merges of registers of four bits into registers of eight.
-#[unsafe(no_mangle)]
-pub extern "C" fn hll_bench_merge_4(alloc: Global, lg_k: u8, rounds: u32) -> u64
-    requires { (4 ≤ lg_k) × (lg_k ≤ 21) }
-{
-    registers::merge_4(alloc, lg_k, rounds).unwrap_or(REFUSED)
+    match width {
+        4 => registers::merge::<Array4>(alloc, lg_k, rounds),
+        6 => registers::merge::<Array6>(alloc, lg_k, rounds),
+        _ => registers::merge::<Array8>(alloc, lg_k, rounds),
+    }
+    .unwrap_or(REFUSED)
 }
 
 /// Merges of registers of eight bits into half as many.
@@ -66,156 +55,126 @@ pub extern "C" fn hll_bench_downsample(alloc: Global, lg_k: u8, rounds: u32) -> 
     registers::downsample(alloc, lg_k, rounds).unwrap_or(REFUSED)
 }
 
-/// Conversions of registers of eight bits to six.
+/// Conversions of registers of eight bits to this many.
 #[unsafe(no_mangle)]
-pub extern "C" fn hll_bench_convert_6(alloc: Global, lg_k: u8, rounds: u32) -> u64
+pub extern "C" fn hll_bench_convert(alloc: Global, width: u8, lg_k: u8, rounds: u32) -> u64
     requires { (4 ≤ lg_k) × (lg_k ≤ 21) }
 {
-    registers::convert_6(alloc, lg_k, rounds).unwrap_or(REFUSED)
+    match width {
+        4 => registers::convert_into::<Array4>(alloc, lg_k, rounds),
+        6 => registers::convert_into::<Array6>(alloc, lg_k, rounds),
+        _ => registers::convert_into::<Array8>(alloc, lg_k, rounds),
+    }
+    .unwrap_or(REFUSED)
 }
 
-/// Conversions of registers of eight bits to four.
+/// Updates of registers of this many bits.
 #[unsafe(no_mangle)]
-pub extern "C" fn hll_bench_convert_4(alloc: Global, lg_k: u8, rounds: u32) -> u64
+pub extern "C" fn hll_bench_update(alloc: Global, width: u8, lg_k: u8, rounds: u32) -> u64
     requires { (4 ≤ lg_k) × (lg_k ≤ 21) }
 {
-    registers::convert_4(alloc, lg_k, rounds).unwrap_or(REFUSED)
+    match width {
+        4 => registers::update::<Array4>(alloc, lg_k, rounds),
+        6 => registers::update::<Array6>(alloc, lg_k, rounds),
+        _ => registers::update::<Array8>(alloc, lg_k, rounds),
+    }
+    .unwrap_or(REFUSED)
 }
 
-/// Updates of registers of eight bits.
+/// Tests whether all registers of this many bits are 0.
 #[unsafe(no_mangle)]
-pub extern "C" fn hll_bench_update_8(alloc: Global, lg_k: u8, rounds: u32) -> u64
+pub extern "C" fn hll_bench_is_empty(
+    alloc: Global,
+    width: u8,
+    lg_k: u8,
+    full: bool,
+    rounds: u32,
+) -> u64
     requires { (4 ≤ lg_k) × (lg_k ≤ 21) }
 {
-    registers::update_8(alloc, lg_k, rounds).unwrap_or(REFUSED)
+    match width {
+        4 => registers::is_empty::<Array4>(alloc, lg_k, full, rounds),
+        6 => registers::is_empty::<Array6>(alloc, lg_k, full, rounds),
+        _ => registers::is_empty::<Array8>(alloc, lg_k, full, rounds),
+    }
+    .unwrap_or(REFUSED)
 }
 
-/// Updates of registers of six bits.
+/// Counts of the registers of this many bits that are 0.
 #[unsafe(no_mangle)]
-pub extern "C" fn hll_bench_update_6(alloc: Global, lg_k: u8, rounds: u32) -> u64
+pub extern "C" fn hll_bench_num_zeros(
+    alloc: Global,
+    width: u8,
+    lg_k: u8,
+    full: bool,
+    rounds: u32,
+) -> u64
     requires { (4 ≤ lg_k) × (lg_k ≤ 21) }
 {
-    registers::update_6(alloc, lg_k, rounds).unwrap_or(REFUSED)
+    match width {
+        4 => registers::num_zeros::<Array4>(alloc, lg_k, full, rounds),
+        6 => registers::num_zeros::<Array6>(alloc, lg_k, full, rounds),
+        _ => registers::num_zeros::<Array8>(alloc, lg_k, full, rounds),
+    }
+    .unwrap_or(REFUSED)
 }
 
-/// Updates of registers of four bits.
+/// Sums of the weights of registers of this many bits.
 #[unsafe(no_mangle)]
-pub extern "C" fn hll_bench_update_4(alloc: Global, lg_k: u8, rounds: u32) -> u64
+pub extern "C" fn hll_bench_kxq_units(
+    alloc: Global,
+    width: u8,
+    lg_k: u8,
+    full: bool,
+    rounds: u32,
+) -> u64
     requires { (4 ≤ lg_k) × (lg_k ≤ 21) }
 {
-    registers::update_4(alloc, lg_k, rounds).unwrap_or(REFUSED)
+    match width {
+        4 => registers::kxq_units::<Array4>(alloc, lg_k, full, rounds),
+        6 => registers::kxq_units::<Array6>(alloc, lg_k, full, rounds),
+        _ => registers::kxq_units::<Array8>(alloc, lg_k, full, rounds),
+    }
+    .unwrap_or(REFUSED)
 }
 
-/// Tests whether all registers of eight bits are 0.
+/// Reads of an image of registers of this many bits.
 #[unsafe(no_mangle)]
-pub extern "C" fn hll_bench_is_empty_8(alloc: Global, lg_k: u8, full: bool, rounds: u32) -> u64
+pub extern "C" fn hll_bench_read(alloc: Global, width: u8, lg_k: u8, rounds: u32) -> u64
     requires { (4 ≤ lg_k) × (lg_k ≤ 21) }
 {
-    registers::is_empty_8(alloc, lg_k, full, rounds).unwrap_or(REFUSED)
+    match width {
+        4 => images::read::<Array4>(alloc, lg_k, rounds),
+        6 => images::read::<Array6>(alloc, lg_k, rounds),
+        _ => images::read::<Array8>(alloc, lg_k, rounds),
+    }
+    .unwrap_or(REFUSED)
 }
 
-/// Counts of the registers of eight bits that are 0.
+/// Writes of images of registers of this many bits.
 #[unsafe(no_mangle)]
-pub extern "C" fn hll_bench_num_zeros_8(alloc: Global, lg_k: u8, full: bool, rounds: u32) -> u64
+pub extern "C" fn hll_bench_write(alloc: Global, width: u8, lg_k: u8, rounds: u32) -> u64
     requires { (4 ≤ lg_k) × (lg_k ≤ 21) }
 {
-    registers::num_zeros_8(alloc, lg_k, full, rounds).unwrap_or(REFUSED)
+    match width {
+        4 => images::write::<Array4>(alloc, lg_k, rounds),
+        6 => images::write::<Array6>(alloc, lg_k, rounds),
+        _ => images::write::<Array8>(alloc, lg_k, rounds),
+    }
+    .unwrap_or(REFUSED)
 }
 
-/// Sums of the weights of registers of eight bits.
+/// Writes of images of registers of this many bits that were read.
 #[unsafe(no_mangle)]
-pub extern "C" fn hll_bench_kxq_units_8(alloc: Global, lg_k: u8, full: bool, rounds: u32) -> u64
+pub extern "C" fn hll_bench_rewrite(alloc: Global, width: u8, lg_k: u8, rounds: u32) -> u64
     requires { (4 ≤ lg_k) × (lg_k ≤ 21) }
 {
-    registers::kxq_units_8(alloc, lg_k, full, rounds).unwrap_or(REFUSED)
-}
-
-/// Tests whether all registers of six bits are 0.
-#[unsafe(no_mangle)]
-pub extern "C" fn hll_bench_is_empty_6(alloc: Global, lg_k: u8, full: bool, rounds: u32) -> u64
-    requires { (4 ≤ lg_k) × (lg_k ≤ 21) }
-{
-    registers::is_empty_6(alloc, lg_k, full, rounds).unwrap_or(REFUSED)
-}
-
-/// Counts of the registers of six bits that are 0.
-#[unsafe(no_mangle)]
-pub extern "C" fn hll_bench_num_zeros_6(alloc: Global, lg_k: u8, full: bool, rounds: u32) -> u64
-    requires { (4 ≤ lg_k) × (lg_k ≤ 21) }
-{
-    registers::num_zeros_6(alloc, lg_k, full, rounds).unwrap_or(REFUSED)
-}
-
-/// Sums of the weights of registers of six bits.
-#[unsafe(no_mangle)]
-pub extern "C" fn hll_bench_kxq_units_6(alloc: Global, lg_k: u8, full: bool, rounds: u32) -> u64
-    requires { (4 ≤ lg_k) × (lg_k ≤ 21) }
-{
-    registers::kxq_units_6(alloc, lg_k, full, rounds).unwrap_or(REFUSED)
-}
-
-/// Reads of an image of registers of eight bits.
-#[unsafe(no_mangle)]
-pub extern "C" fn hll_bench_read_8(alloc: Global, lg_k: u8, rounds: u32) -> u64
-    requires { (4 ≤ lg_k) × (lg_k ≤ 21) }
-{
-    images::read_8(alloc, lg_k, rounds).unwrap_or(REFUSED)
-}
-
-/// Reads of an image of registers of six bits.
-#[unsafe(no_mangle)]
-pub extern "C" fn hll_bench_read_6(alloc: Global, lg_k: u8, rounds: u32) -> u64
-    requires { (4 ≤ lg_k) × (lg_k ≤ 21) }
-{
-    images::read_6(alloc, lg_k, rounds).unwrap_or(REFUSED)
-}
-
-/// Reads of an image of registers of four bits.
-#[unsafe(no_mangle)]
-pub extern "C" fn hll_bench_read_4(alloc: Global, lg_k: u8, rounds: u32) -> u64
-    requires { (4 ≤ lg_k) × (lg_k ≤ 21) }
-{
-    images::read_4(alloc, lg_k, rounds).unwrap_or(REFUSED)
-}
-
-/// Writes of images of registers of eight bits.
-#[unsafe(no_mangle)]
-pub extern "C" fn hll_bench_write_8(alloc: Global, lg_k: u8, rounds: u32) -> u64
-    requires { (4 ≤ lg_k) × (lg_k ≤ 21) }
-{
-    images::write::<Array8>(alloc, lg_k, rounds).unwrap_or(REFUSED)
-}
-
-/// Writes of images of registers of six bits.
-#[unsafe(no_mangle)]
-pub extern "C" fn hll_bench_write_6(alloc: Global, lg_k: u8, rounds: u32) -> u64
-    requires { (4 ≤ lg_k) × (lg_k ≤ 21) }
-{
-    images::write::<Array6>(alloc, lg_k, rounds).unwrap_or(REFUSED)
-}
-
-/// Writes of images of registers of eight bits that were read.
-#[unsafe(no_mangle)]
-pub extern "C" fn hll_bench_rewrite_8(alloc: Global, lg_k: u8, rounds: u32) -> u64
-    requires { (4 ≤ lg_k) × (lg_k ≤ 21) }
-{
-    images::rewrite_8(alloc, lg_k, rounds).unwrap_or(REFUSED)
-}
-
-/// Writes of images of registers of six bits that were read.
-#[unsafe(no_mangle)]
-pub extern "C" fn hll_bench_rewrite_6(alloc: Global, lg_k: u8, rounds: u32) -> u64
-    requires { (4 ≤ lg_k) × (lg_k ≤ 21) }
-{
-    images::rewrite_6(alloc, lg_k, rounds).unwrap_or(REFUSED)
-}
-
-/// Writes of images of registers of four bits.
-#[unsafe(no_mangle)]
-pub extern "C" fn hll_bench_write_4(alloc: Global, lg_k: u8, rounds: u32) -> u64
-    requires { (4 ≤ lg_k) × (lg_k ≤ 21) }
-{
-    images::write::<Array4>(alloc, lg_k, rounds).unwrap_or(REFUSED)
+    match width {
+        4 => images::rewrite::<Array4>(alloc, lg_k, rounds),
+        6 => images::rewrite::<Array6>(alloc, lg_k, rounds),
+        _ => images::rewrite::<Array8>(alloc, lg_k, rounds),
+    }
+    .unwrap_or(REFUSED)
 }
 
 /// Reads an image, writes it, and reads that again. What it means is put into `value` and what is written for it into
@@ -234,7 +193,7 @@ pub extern "C" fn hll_bench_read_image(
     }
 }
 
-/// Updates of sketches from empty; the width is 0, 1 and 2 for four, six and eight bits.
+/// Updates of sketches from empty.
 #[unsafe(no_mangle)]
 pub extern "C" fn hll_bench_sketch_update(
     alloc: Global,

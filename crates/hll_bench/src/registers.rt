@@ -6,11 +6,84 @@ ghost use Rattle.hll_coupons.specs.Pair.{value_of};
 use hll_arrays::array4::Array4;
 use hll_arrays::array6::Array6;
 use hll_arrays::array8::Array8;
+use hll_arrays::aux_format::AuxFormat;
 use hll_arrays::convert::convert;
 use hll_arrays::merge::merge_from;
+use hll_arrays::register_store::RegisterStore;
+use hll_base::cursor::SketchSlice;
 use hll_base::error::Error;
 use hll_coupons::coupon::Coupon;
 use std::alloc::Global;
+
+/// Registers of a width, with what they count and read by calls of their own.
+pub(crate) trait Measured: RegisterStore<Global> {
+    /// Whether all are 0.
+    fn is_empty(&self) -> bool;
+
+    /// How many are 0.
+    fn num_zeros(&self) -> u32;
+
+    /// The sum of their weights.
+    fn kxq_units(&self) -> u128;
+
+    /// Reads the part of a compact image that follows the header, whose state byte this is.
+    fn read(alloc: Global, cursor: SketchSlice, state: u8, lg_k: u8) -> Result<Self, Error>
+        requires { (4 ≤ lg_k) × (lg_k ≤ 21) };
+}
+
+impl Measured for Array4 {
+    fn is_empty(&self) -> bool {
+        Array4::is_empty(self)
+    }
+
+    fn num_zeros(&self) -> u32 {
+        Array4::num_zeros(self)
+    }
+
+    fn kxq_units(&self) -> u128 {
+        Array4::kxq_units(self)
+    }
+
+    fn read(alloc: Global, cursor: SketchSlice, state: u8, lg_k: u8) -> Result<Array4, Error> {
+        Array4::deserialize(alloc, cursor, state, lg_k, AuxFormat::Compact, false)
+    }
+}
+
+impl Measured for Array6 {
+    fn is_empty(&self) -> bool {
+        Array6::is_empty(self)
+    }
+
+    fn num_zeros(&self) -> u32 {
+        Array6::num_zeros(self)
+    }
+
+    fn kxq_units(&self) -> u128 {
+        Array6::kxq_units(self)
+    }
+
+    fn read(alloc: Global, cursor: SketchSlice, _state: u8, lg_k: u8) -> Result<Array6, Error> {
+        Array6::deserialize_registers(alloc, cursor, lg_k, false)
+    }
+}
+
+impl Measured for Array8 {
+    fn is_empty(&self) -> bool {
+        Array8::is_empty(self)
+    }
+
+    fn num_zeros(&self) -> u32 {
+        Array8::num_zeros(self)
+    }
+
+    fn kxq_units(&self) -> u128 {
+        Array8::kxq_units(self)
+    }
+
+    fn read(alloc: Global, cursor: SketchSlice, _state: u8, lg_k: u8) -> Result<Array8, Error> {
+        Array8::deserialize_registers(alloc, cursor, lg_k, false)
+    }
+}
 
 /// The coupon of a word, and the next word.
 pub(crate) fn next(word: u64) -> (Coupon, u64)
@@ -42,10 +115,11 @@ pub(crate) fn weight(units: u128) -> u64 {
     (units >> 60 & 0xffff_ffff) as u64
 }
 
-pub(crate) fn merge_8(alloc: Global, lg_k: u8, rounds: u32) -> Result<u64, Error>
+/// Merges of registers into registers of eight bits.
+pub(crate) fn merge<S: Measured>(alloc: Global, lg_k: u8, rounds: u32) -> Result<u64, Error>
     requires { (4 ≤ lg_k) × (lg_k ≤ 21) }
 {
-    let source = filled(alloc, lg_k)?;
+    let source: S = convert(&filled(alloc, lg_k)?)?;
     let mut array = Array8::new(alloc, lg_k)?;
     for _ in 0..rounds {
         merge_from(&mut array, &source);
@@ -53,28 +127,7 @@ pub(crate) fn merge_8(alloc: Global, lg_k: u8, rounds: u32) -> Result<u64, Error
     Ok(u64::from(array.num_zeros()))
 }
 
-pub(crate) fn merge_6(alloc: Global, lg_k: u8, rounds: u32) -> Result<u64, Error>
-    requires { (4 ≤ lg_k) × (lg_k ≤ 21) }
-{
-    let source: Array6 = convert(&filled(alloc, lg_k)?)?;
-    let mut array = Array8::new(alloc, lg_k)?;
-    for _ in 0..rounds {
-        merge_from(&mut array, &source);
-    }
-    Ok(u64::from(array.num_zeros()))
-}
-
-pub(crate) fn merge_4(alloc: Global, lg_k: u8, rounds: u32) -> Result<u64, Error>
-    requires { (4 ≤ lg_k) × (lg_k ≤ 21) }
-{
-    let source: Array4 = convert(&filled(alloc, lg_k)?)?;
-    let mut array = Array8::new(alloc, lg_k)?;
-    for _ in 0..rounds {
-        merge_from(&mut array, &source);
-    }
-    Ok(u64::from(array.num_zeros()))
-}
-
+/// Merges of registers of eight bits into half as many.
 pub(crate) fn downsample(alloc: Global, lg_k: u8, rounds: u32) -> Result<u64, Error>
     requires { (4 ≤ lg_k) × (lg_k ≤ 20) }
 {
@@ -86,83 +139,41 @@ pub(crate) fn downsample(alloc: Global, lg_k: u8, rounds: u32) -> Result<u64, Er
     Ok(u64::from(array.num_zeros()))
 }
 
-pub(crate) fn convert_6(alloc: Global, lg_k: u8, rounds: u32) -> Result<u64, Error>
+/// Conversions of registers of eight bits.
+pub(crate) fn convert_into<S: Measured>(alloc: Global, lg_k: u8, rounds: u32) -> Result<u64, Error>
     requires { (4 ≤ lg_k) × (lg_k ≤ 21) }
 {
     let source = filled(alloc, lg_k)?;
-    let mut made: Array6 = Array6::new(alloc, lg_k)?;
-    for _ in 0..rounds {
+    let mut made: S = convert(&source)?;
+    for _ in 1..rounds {
         made = convert(&source)?;
     }
     Ok(u64::from(made.num_zeros()))
 }
 
-pub(crate) fn convert_4(alloc: Global, lg_k: u8, rounds: u32) -> Result<u64, Error>
+/// Updates of registers that are 0 at first.
+pub(crate) fn update<S: Measured>(alloc: Global, lg_k: u8, rounds: u32) -> Result<u64, Error>
     requires { (4 ≤ lg_k) × (lg_k ≤ 21) }
 {
-    let source = filled(alloc, lg_k)?;
-    let mut made: Array4 = Array4::new(alloc, lg_k)?;
-    for _ in 0..rounds {
-        made = convert(&source)?;
-    }
-    Ok(u64::from(made.num_zeros()))
-}
-
-pub(crate) fn update_8(alloc: Global, lg_k: u8, rounds: u32) -> Result<u64, Error>
-    requires { (4 ≤ lg_k) × (lg_k ≤ 21) }
-{
-    let mut array = Array8::new(alloc, lg_k)?;
+    let mut array = S::make(alloc, lg_k)?;
     let mut word = 1;
     for _ in 0..rounds {
         let (coupon, after) = next(word);
-        array.update(coupon);
+        array.put_coupon(coupon)?;
         word = after;
     }
     Ok(weight(array.kxq_units()))
 }
 
-pub(crate) fn update_6(alloc: Global, lg_k: u8, rounds: u32) -> Result<u64, Error>
-    requires { (4 ≤ lg_k) × (lg_k ≤ 21) }
-{
-    let mut array = Array6::new(alloc, lg_k)?;
-    let mut word = 1;
-    for _ in 0..rounds {
-        let (coupon, after) = next(word);
-        array.update(coupon);
-        word = after;
-    }
-    Ok(weight(array.kxq_units()))
-}
-
-pub(crate) fn update_4(alloc: Global, lg_k: u8, rounds: u32) -> Result<u64, Error>
-    requires { (4 ≤ lg_k) × (lg_k ≤ 21) }
-{
-    let mut array = Array4::new(alloc, lg_k)?;
-    let mut word = 1;
-    for _ in 0..rounds {
-        let (coupon, after) = next(word);
-        array.update(coupon)?;
-        word = after;
-    }
-    Ok(weight(array.kxq_units()))
-}
-
-/// Registers of eight bits, all 0 or filled.
-fn array_8(alloc: Global, lg_k: u8, full: bool) -> Result<Array8, Error>
+/// Registers, all 0 or filled.
+fn made<S: Measured>(alloc: Global, lg_k: u8, full: bool) -> Result<S, Error>
     requires { (4 ≤ lg_k) × (lg_k ≤ 21) }
 {
     if full {
-        filled(alloc, lg_k)
+        convert(&filled(alloc, lg_k)?)
     } else {
-        Array8::new(alloc, lg_k)
+        S::make(alloc, lg_k)
     }
-}
-
-/// Registers of six bits, all 0 or filled.
-fn array_6(alloc: Global, lg_k: u8, full: bool) -> Result<Array6, Error>
-    requires { (4 ≤ lg_k) × (lg_k ≤ 21) }
-{
-    convert(&array_8(alloc, lg_k, full)?)
 }
 
 /// A coupon of value 0, which an optimizer does not know to be one, so that no round can be left out.
@@ -170,73 +181,55 @@ fn idle(rounds: u32) -> Coupon {
     Coupon::pack(0, (rounds >> 30) as u8)
 }
 
-pub(crate) fn is_empty_8(alloc: Global, lg_k: u8, full: bool, rounds: u32) -> Result<u64, Error>
+/// Tests whether all registers are 0.
+pub(crate) fn is_empty<S: Measured>(
+    alloc: Global,
+    lg_k: u8,
+    full: bool,
+    rounds: u32,
+) -> Result<u64, Error>
     requires { (4 ≤ lg_k) × (lg_k ≤ 21) }
 {
-    let mut array = array_8(alloc, lg_k, full)?;
+    let mut array: S = made(alloc, lg_k, full)?;
     let mut sum = 0u64;
     for _ in 0..rounds {
-        array.update(idle(rounds));
+        array.put_coupon(idle(rounds))?;
         sum = sum.wrapping_add(u64::from(array.is_empty()));
     }
     Ok(sum)
 }
 
-pub(crate) fn num_zeros_8(alloc: Global, lg_k: u8, full: bool, rounds: u32) -> Result<u64, Error>
+/// Counts of the registers that are 0.
+pub(crate) fn num_zeros<S: Measured>(
+    alloc: Global,
+    lg_k: u8,
+    full: bool,
+    rounds: u32,
+) -> Result<u64, Error>
     requires { (4 ≤ lg_k) × (lg_k ≤ 21) }
 {
-    let mut array = array_8(alloc, lg_k, full)?;
+    let mut array: S = made(alloc, lg_k, full)?;
     let mut sum = 0u64;
     for _ in 0..rounds {
-        array.update(idle(rounds));
+        array.put_coupon(idle(rounds))?;
         sum = sum.wrapping_add(u64::from(array.num_zeros()));
     }
     Ok(sum)
 }
 
-pub(crate) fn kxq_units_8(alloc: Global, lg_k: u8, full: bool, rounds: u32) -> Result<u64, Error>
+/// Sums of the weights of registers.
+pub(crate) fn kxq_units<S: Measured>(
+    alloc: Global,
+    lg_k: u8,
+    full: bool,
+    rounds: u32,
+) -> Result<u64, Error>
     requires { (4 ≤ lg_k) × (lg_k ≤ 21) }
 {
-    let mut array = array_8(alloc, lg_k, full)?;
+    let mut array: S = made(alloc, lg_k, full)?;
     let mut sum = 0u64;
     for _ in 0..rounds {
-        array.update(idle(rounds));
-        sum = sum.wrapping_add(weight(array.kxq_units()));
-    }
-    Ok(sum)
-}
-
-pub(crate) fn is_empty_6(alloc: Global, lg_k: u8, full: bool, rounds: u32) -> Result<u64, Error>
-    requires { (4 ≤ lg_k) × (lg_k ≤ 21) }
-{
-    let mut array = array_6(alloc, lg_k, full)?;
-    let mut sum = 0u64;
-    for _ in 0..rounds {
-        array.update(idle(rounds));
-        sum = sum.wrapping_add(u64::from(array.is_empty()));
-    }
-    Ok(sum)
-}
-
-pub(crate) fn num_zeros_6(alloc: Global, lg_k: u8, full: bool, rounds: u32) -> Result<u64, Error>
-    requires { (4 ≤ lg_k) × (lg_k ≤ 21) }
-{
-    let mut array = array_6(alloc, lg_k, full)?;
-    let mut sum = 0u64;
-    for _ in 0..rounds {
-        array.update(idle(rounds));
-        sum = sum.wrapping_add(u64::from(array.num_zeros()));
-    }
-    Ok(sum)
-}
-
-pub(crate) fn kxq_units_6(alloc: Global, lg_k: u8, full: bool, rounds: u32) -> Result<u64, Error>
-    requires { (4 ≤ lg_k) × (lg_k ≤ 21) }
-{
-    let mut array = array_6(alloc, lg_k, full)?;
-    let mut sum = 0u64;
-    for _ in 0..rounds {
-        array.update(idle(rounds));
+        array.put_coupon(idle(rounds))?;
         sum = sum.wrapping_add(weight(array.kxq_units()));
     }
     Ok(sum)

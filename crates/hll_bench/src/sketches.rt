@@ -16,11 +16,11 @@ const DIFFERENT: u64 = 255;
 /// The held coupons that are updated in turn.
 const HELD: u32 = 64;
 
-/// The width of a number: 0, 1 and 2 for four, six and eight bits.
-pub(crate) fn width_of(number: u8) -> HllType {
-    match number {
-        0 => HllType::Hll4,
-        1 => HllType::Hll6,
+/// The width of this many bits; 8 for a number that is none.
+pub(crate) fn width_of(bits: u8) -> HllType {
+    match bits {
+        4 => HllType::Hll4,
+        6 => HllType::Hll6,
         _ => HllType::Hll8,
     }
 }

@@ -1,5 +1,7 @@
 -- The set of the coupons of a list or of places.
-use Rattle.std.proofs.Common.{◌≡◌, ℕ, ◌+◌, ◌<◌, ◌≤◌, max, Bool, true, false, cond, ◌||◌, ◌&&◌, List, [], ◌∷◌, ◌++◌, nat_lt, nat_eq, refl, inl, inr, sym, ◌∙◌, ap, arith, rules}
+use Rattle.std.proofs.lemmas.Bool.{and_parts}
+use Rattle.std.proofs.Math.Bool.{or-true}
+use Rattle.std.proofs.Common.{◌≡◌, ℕ, ◌+◌, ◌<◌, ◌≤◌, max, Bool, true, false, cond, ◌||◌, List, [], ◌∷◌, ◌++◌, nat_lt, nat_eq, refl, inl, inr, sym, ◌∙◌, ap, arith, rules}
 use Rattle.std.specs.List.{list_any, list_all}
 use Rattle.std.specs.Ordering.{nat_cmp, eq_by_cmp}
 use Rattle.std.specs.Cmp.{nat_cmp_total, unsigned_tied}
@@ -42,10 +44,6 @@ contains-zero places =
     none : (k : ℕ) → nat_eq k 0 ≡ true → nat_lt 0 k ≡ false
     none k e = grind (arith, nat_tests)
 
-or-true : (b : Bool) → (b || true) ≡ true
-or-true true = refl
-or-true false = refl
-
 -- what a set doesn't lack is a member
 pub member_unless_lacking : (s : Pairs) (c : ℕ) → (contains s c ≡ false → ⊥) → contains s c ≡ true
 member_unless_lacking s c h = elim (cases_Bool (contains s c)) [ inl t ↦ t | inr f ↦ absurd (h f) ]
@@ -68,10 +66,6 @@ set_of-coupons_with order c = decide (contains (set_of order) c) refl
     decide true e = sym (insert-member (set_of order) c e)
     decide false e = from_list_push nat_cmp_total nat_cmp-IsAntisymmetric order c
 
-both : (a b : Bool) → (a && b) ≡ true → (a ≡ true) × (b ≡ true)
-both true b e = (refl, e)
-both false b e = absurd (cc)
-
 either : (a b : Bool) (P : Type 0) → (a || b) ≡ true → (a ≡ true → P) → (b ≡ true → P) → P
 either true b P e f g = f refl
 either false b P e f g = g e
@@ -79,7 +73,7 @@ either false b P e f g = g e
 found : (s : Pairs) (xs : List ℕ) (q : ℕ) → list_all (contains s) xs ≡ true → list_any (λ y. nat_eq y q) xs ≡ true → contains s q ≡ true
 found s [] q all any = absurd (cc)
 found s (x ∷ xs) q all any =
-    let h = both _ _ all in
+    let h = and_parts _ _ all in
     either _ _ (contains s q ≡ true) any (λ e. ap (contains s) (sym (eqb-true x q e)) ∙ h.0) (found s xs q h.1)
 
 -- a list of members is a part of the set

@@ -1,18 +1,16 @@
 -- Steps of the plain programs: one more coupon folded or counted, one more register joined or listed.
 use Rattle.std.proofs.Common.{◌≡◌, ℕ, ◌+◌, ◌%◌, ◌^◌, ◌<◌, ◌≤◌, suc, Bool, cond, List, [], ◌∷◌, ◌++◌, length, get_or, set, take, drop, drop-cons, replicate, append_assoc, eqb, sym, ap, ◌∙◌, arith}
-use Rattle.std.specs.Prelude.{max, nat_eq}
+use Rattle.std.specs.Prelude.{nat_eq}
 use Rattle.std.specs.List.{list_any}
 use Rattle.std.specs.Ordering.{nat_cmp}
 use Rattle.std.specs.Cmp.{nat_cmp_total}
 use Rattle.std.specs.FinSet.{items, empty, len, len-empty, len-insert, contains-from_list_nat, insert, from_list_push, nat_cmp-IsAntisymmetric, contains-empty}
-use Rattle.std.proofs.lemmas.List.{take_more, length-replicate, get_or-replicate, ext_get_or}
+use Rattle.std.proofs.lemmas.List.{take_more, length-replicate, get_or-replicate}
 use Rattle.std.proofs.lemmas.Bool.{true≢false, cond-true, cond-false, eq-eqb, ne_eqb}
 use Rattle.hll_coupons.specs.Pair.{set_of, slot_of, value_of, pair}
 use Rattle.hll_coupons.specs.Fold.{fold_to, greatest, value_at, words_from}
-use Rattle.hll_base.specs.Join.{join}
 use Rattle.hll_coupons.proofs.Greatest.{bounded}
 use Rattle.hll_coupons.proofs.Folds.{is_fold_to}
-use Rattle.hll_base.proofs.Joins.{length-join, get_or-join}
 use Rattle.hll_coupons.proofs.Registers.{fold_to-insert_low, fold_to-insert_high}
 
 set_of-take : (cs : List ℕ) (i : ℕ) → i < length cs → set_of (take (i + 1) cs) ≡ insert (set_of (take i cs)) (get_or cs i 0)

@@ -75,8 +75,9 @@ value_at_cases e s c = elim (cases_Bool (eqb (slot_of c % 2 ^ e) s)) [
 pub folds_again : (n k e : ℕ) → e ≤ k → n % 2 ^ k % 2 ^ e ≡ n % 2 ^ e
 folds_again n k e h = ap (λ m. n % 2 ^ m % 2 ^ e) (let s : k ≡ k - e + e = omega arith in s) ∙ mod-mod-pow n (k - e) e
 
-slot_below : (k s : ℕ) → k ≤ 21 → s < 2 ^ k → s < 2 ^ 26
-slot_below k s h l = omega (arith, pow_below k 26 (omega arith))
+-- a slot of registers fits a coupon
+pub slot_small : (k s : ℕ) → k ≤ 21 → s < 2 ^ k → s < 2 ^ 26
+slot_small k s h l = omega (arith, pow_below k 26 (omega arith))
 
 -- ---- the laws
 
@@ -103,7 +104,7 @@ greatest-pairs-fold_to P k e s le small =
       | inr h ↦
           let i : ℕ = found.0 in
           let within : i < 2 ^ k = omega (arith, found.1.within, length-fold_to P k) in
-          let small_i : i < 2 ^ 26 = slot_below k i small within in
+          let small_i : i < 2 ^ 26 = slot_small k i small within in
           let v : ℕ = get_or (fold_to P k) i 0 in
           let is : q ≡ pair i v = found.1.is ∙ ap (λ t. pair t v) (zero-add i) in
           let slot : slot_of q ≡ i = ap slot_of is ∙ slot_of-pair i v small_i in
@@ -117,7 +118,7 @@ greatest-pairs-fold_to P k e s le small =
       | inr h ↦
           let t : ℕ = slot_of c % 2 ^ k in
           let within : t < 2 ^ k = mod_below (slot_of c) (2 ^ k) (pow_pos k) in
-          let small_t : t < 2 ^ 26 = slot_below k t small within in
+          let small_t : t < 2 ^ 26 = slot_small k t small within in
           let v : ℕ = get_or (fold_to P k) t 0 in
           let at : v ≡ greatest (value_at k t) (items P) = get_or-fold_to P k t within in
           let most : value_at k t c ≤ greatest (value_at k t) (items P) = reached (value_at k t) c P e' in
@@ -141,7 +142,7 @@ fold_to-pairs-fold_to P k e le small = is_fold_to (fold_to (pairs (fold_to P k))
 pub fold_to-pairs : (R : List ℕ) (k : ℕ) → k ≤ 21 → length R ≡ 2 ^ k → fold_to (pairs R) k ≡ R
 fold_to-pairs R k small len = sym (is_fold_to R (pairs R) k len (λ s h.
     let v : ℕ = get_or R s 0 in
-    let small_s : s < 2 ^ 26 = slot_below k s small h in
+    let small_s : s < 2 ^ 26 = slot_small k s small h in
     let below : greatest (value_at k s) (items (pairs R)) ≤ v = bounded (value_at k s) v (pairs R) (λ q e'.
     let found : (i : ℕ) × StandsFor R 0 q i = pairs_only R q e' in
     elim (value_at_cases k s q) [
@@ -151,8 +152,8 @@ fold_to-pairs R k small len = sym (is_fold_to R (pairs R) k len (λ s h.
           let w : ℕ = get_or R i 0 in
           let within : i < 2 ^ k = omega (arith, found.1.within) in
           let is : q ≡ pair i w = found.1.is ∙ ap (λ t. pair t w) (zero-add i) in
-          let slot : slot_of q ≡ i = ap slot_of is ∙ slot_of-pair i w (slot_below k i small within) in
-          let value : value_of q ≡ w = ap value_of is ∙ value_of-pair i w (slot_below k i small within) in
+          let slot : slot_of q ≡ i = ap slot_of is ∙ slot_of-pair i w (slot_small k i small within) in
+          let value : value_of q ≡ w = ap value_of is ∙ value_of-pair i w (slot_small k i small within) in
           let same : i ≡ s = sym (mod-eq_of_lt within) ∙ ap (λ n. n % 2 ^ k) (sym slot) ∙ m.0 in
           omega (arith, m.1, ap (λ n. get_or R n 0) same)
     ]) in

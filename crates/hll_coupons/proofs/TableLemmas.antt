@@ -33,7 +33,7 @@ All-between : (P : ℕ → Type 0) (xs ys : List ℕ) (c : ℕ) → AllByRecursi
 All-between P [] ys c h p = (p, h)
 All-between P (x ∷ xs) ys c h p = (h.0, All-between P xs ys c h.1 p)
 
-length-between : (xs ys : List ℕ) (c : ℕ) → length (xs ++ c ∷ ys) ≡ length (xs ++ ys) + 1
+pub length-between : (xs ys : List ℕ) (c : ℕ) → length (xs ++ c ∷ ys) ≡ length (xs ++ ys) + 1
 length-between xs ys c = omega (arith, length-append xs (c ∷ ys), length-append xs ys)
 
 -- a coupon of a value is no empty place

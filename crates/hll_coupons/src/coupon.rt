@@ -5,13 +5,10 @@ ghost use Rattle.hll_base.specs.Hash.{hash_of, initial_state, after_piece, defau
 ghost use Rattle.hll_coupons.specs.Pair.{slot_of, value_of, pair, IsPair};
 ghost use Rattle.hll_coupons.specs.Hashed.{coupon_of_words, coupon_of_halves, coupon_of_bytes};
 
-use crate::serialization::MAX_VALUE;
+use hll_base::bounds::{MAX_VALUE, SLOT_BITS};
 use hll_base::hash::MurmurHash3X64128;
 use std::hash::Hash;
 use std::marker::Model;
-
-/// The bits of a raw word below the value.
-const SLOT_BITS: u32 = 26;
 
 /// The slot in a raw word.
 const SLOT_MASK: u32 = 0x03ff_ffff;

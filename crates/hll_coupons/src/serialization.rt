@@ -1,16 +1,7 @@
-//! The bounds of a sketch, the constants of an image, and its mode byte (docs/FORMAT.md, "The image"). Names that begin
+//! The constants of tables and of an image, and its mode byte (docs/FORMAT.md, "The image"). Names that begin
 //! with `LG` are logarithms of numbers of places, those that end in `PREINTS` count words of four bytes, those that end
 //! in `SIZE` or `BYTES` count bytes.
 ghost use Rattle.std.specs.Prelude.{◌≡◌, ◌+◌, ◌*◌, ◌/◌, ◌%◌};
-
-/// The least `lg_k` of a sketch.
-pub const MIN_LG_K: u8 = 4;
-
-/// The greatest `lg_k` of a sketch.
-pub const MAX_LG_K: u8 = 21;
-
-/// The greatest value of a coupon, and of a register.
-pub const MAX_VALUE: u8 = 63;
 
 /// The places of a list: eight.
 pub const LG_LIST_PLACES: u8 = 3;

@@ -1,4 +1,5 @@
 -- Lemmas on registers of four bits in lanes.
+use Rattle.hll_kernels.proofs.Parts.{greater}
 use Rattle.std.proofs.Common.{◌≡◌, ℕ, ◌+◌, ◌-◌, ◌*◌, ◌/◌, ◌%◌, ◌^◌, ◌<◌, ◌≤◌, zero, suc, List, [], ◌∷◌, ◌++◌, length, get_or, replicate, cond, bit_and, bit_or, nat_lt, max, Bool, true, false, refl, ap, subst, ◌∙◌, arith}
 use Rattle.std.specs.Prelude.{◌&&◌, ◌==◌, min, nat_le, not}
 use Rattle.std.specs.List.{flat_map, list_all}
@@ -82,9 +83,6 @@ at_most_by_mask n g xs e few =
     ap (λ ms. mask_l ms % 2 ^ 64 == 0) (greater_lanes n g xs e) ∙ ap (λ m. m == 0) (mask_l-mod (map (λ b. not (q b)) xs) 64 (omega (arith, length-map xs (λ b. not (q b)), e))) ∙ none_by_mask q xs
 
 -- ---- packing
-
-greater : (x m : ℕ) → cond (top 7 (cond (nat_lt x m) 255 0)) m x ≡ max x m
-greater x m = grind (arith, nat_tests)
 
 lesser : (s : ℕ) → cond (top 7 (cond (nat_lt s 15) 255 0)) s 15 ≡ min s 15
 lesser s = grind (arith, nat_tests)

@@ -54,7 +54,8 @@ raise_at-one zero (r ∷ R) q h = ap (λ S. max r q ∷ S) (sym (raise_none zero
 raise_at-one (suc at) [] q h = absurd (omega arith)
 raise_at-one (suc at) (r ∷ R) q h = ap (λ S. r ∷ S) (raise_at-one at R q (omega arith))
 
-greater : (x y : ℕ) → cond (top 7 (cond (nat_lt x y) 255 0)) y x ≡ max x y
+-- the greater of two lanes
+pub greater : (x y : ℕ) → cond (top 7 (cond (nat_lt x y) 255 0)) y x ≡ max x y
 greater x y = grind (arith, nat_tests)
 
 -- n lanes

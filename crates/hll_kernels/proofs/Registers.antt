@@ -1,5 +1,5 @@
 -- Lemmas on registers: their join, and the least of them.
-use Rattle.std.proofs.Common.{◌≡◌, ℕ, ◌+◌, ◌<◌, ◌≤◌, zero, suc, List, [], ◌∷◌, length, take, get_or, All, refl, ap, sym, ◌∙◌, arith}
+use Rattle.std.proofs.Common.{◌≡◌, ℕ, ◌+◌, ◌<◌, ◌≤◌, zero, suc, List, [], ◌∷◌, length, take, get_or, All, refl, ap, ◌∙◌, arith}
 use Rattle.std.specs.Prelude.{min, max, fold}
 use Rattle.std.proofs.lemmas.List.Elements.{All-from_get_or}
 use Rattle.hll_base.specs.Join.{join}

@@ -1,7 +1,7 @@
 //! Texts of plans over memory: long lines, and readers that fail.
 use crate::fixtures::run_over;
+use hll_fakes::Failing;
 use hll_merge::run::run;
-use hll_text::fakes::Failing;
 use hll_text::fault::{Fault, MergeError};
 use hll_text::watched::Watched;
 use std::test::Fail;

@@ -6,13 +6,12 @@ use Rattle.std.specs.Ordering.{nat_cmp, eq_by_cmp}
 use Rattle.std.specs.Cmp.{nat_cmp_total}
 use Rattle.std.specs.FinSet.{contains, contains-from_list}
 use Rattle.std.proofs.lemmas.Bool.{cases_Bool, cases_lt, eqb-true, eq-eqb, leb-true, le-leb, or_cases, or_left, or_right, cond-true, cond-false, true≢false}
-use Rattle.std.proofs.lemmas.Nat.{pow_below}
 use Rattle.std.proofs.Math.Nat.{mod-eq_of_lt, zero-add}
 use Rattle.hll_coupons.specs.Pair.{pair, slot_of, value_of, set_of}
 use Rattle.hll_coupons.specs.Fold.{words_from}
 use Rattle.hll_coupons.proofs.Greatest.{same_word}
 use Rattle.hll_coupons.proofs.Listed.{has, finds, finds_none}
-use Rattle.hll_coupons.proofs.Registers.{StandsFor, in_words, words_have, slot_of-pair, value_of-pair}
+use Rattle.hll_coupons.proofs.Registers.{StandsFor, in_words, words_have, slot_of-pair, value_of-pair, slot_small}
 use Rattle.hll_kernels.specs.Packed.{nibble}
 use Rattle.hll_registers.specs.Exceptions.{exceptions_above}
 use Rattle.hll_coupons.specs.AuxMap.{entry_at}
@@ -37,10 +36,6 @@ keeps p q (x ∷ xs) t h = elim (or_cases (eq_by_cmp nat_cmp q x) (has q xs) h) 
       let rest : has q (filter p xs) ≡ true = keeps p q xs t l in
       elim (p x) as (λ b. has q (cond b (x ∷ filter p xs) (filter p xs)) ≡ true) [ true ↦ or_right (eq_by_cmp nat_cmp q x) (has q (filter p xs)) rest | false ↦ rest ]
 ]
-
--- a slot of registers fits a coupon
-pub slot_small : (k i : ℕ) → k ≤ 21 → i < 2 ^ k → i < 2 ^ 26
-slot_small k i small h = omega (arith, pow_below k 26 (omega (arith, small)))
 
 module _ (k m : ℕ) (R o : List ℕ) (small : k ≤ 21) (len : length R ≡ 2 ^ k) (top : All (λ v. v ≤ 63) R) (lists : set_of o ≡ set_of (exceptions_above m R)) where
   same_has : (q : ℕ) → has q o ≡ has q (exceptions_above m R)

@@ -21,13 +21,13 @@ use Rattle.hll_coupons.proofs.Maps.{slot_below, value_found}
 use Rattle.hll_coupons.proofs.Pairs.{IsEntryOf, of_value}
 use Rattle.hll_coupons.proofs.Places.{coupons_in-replicate}
 use Rattle.hll_coupons.proofs.Putting.{last_of_all}
-use Rattle.hll_coupons.proofs.Registers.{StandsFor, in_words, words_have, slot_of-pair, value_of-pair}
+use Rattle.hll_coupons.proofs.Registers.{StandsFor, in_words, words_have, slot_of-pair, value_of-pair, slot_small}
 use Rattle.hll_registers.specs.FourBits.{exception_of, exception_in, exceptions_in, kept_above, fallen, unpacked, IsMapFor, IsPacked, PackedIsOfRegisters}
 use Rattle.hll_kernels.specs.Packed.{nibble, nibble_at, nibble_bytes_above, minimum}
 use Rattle.hll_registers.specs.Exceptions.{exceptions_above}
 use Rattle.hll_registers.specs.Payload.{register_of}
-use Rattle.hll_registers.proofs.Exceptions.{kept, keeps, slot_small}
-use Rattle.hll_registers.proofs.Packing.{minimum_le}
+use Rattle.hll_registers.proofs.Exceptions.{kept, keeps}
+use Rattle.hll_registers.proofs.Packing.{minimum_from_le, minimum_le}
 
 -- ---- the minimum
 
@@ -378,10 +378,6 @@ packed_zeros k low =
     none : (n : ℕ) → 0 / n % 16 ≡ 0
     none n = ap (λ m. m % 16) (zero-div n)
 
-fold_le : (a : ℕ) (xs : List ℕ) → fold min a xs ≤ a
-fold_le a [] = omega arith
-fold_le a (x ∷ xs) = omega (arith, fold_le (min a x) xs)
-
 counted : (b : Bool) (n : ℕ) → cond b 1 0 ≤ n → n ≡ 0 → b ≡ false
 counted true n h e = absurd (omega (arith, h, e))
 counted false n h e = refl
@@ -394,7 +390,7 @@ minimum_of_front m i R is all none =
     let other : eqb (get_or R s 0) m ≡ false = counted (eqb (get_or R s 0) m) _ (get_or-le-sum_by (λ r. cond (eqb r m) 1 0) R s 0 l) none in
     let above : get_or R s 0 ≢ m = λ e. true≢false (sym (eq-eqb (get_or R s 0) m e) ∙ other) in
     omega (arith, all s l, above) in
-    omega (arith, whole, fold_le (fold min 63 (take i R)) (drop i R), minimum_ge (m + 1) 63 R (omega (arith, is, fold_le 63 (take i R))) each)
+    omega (arith, whole, minimum_from_le (fold min 63 (take i R)) (drop i R), minimum_ge (m + 1) 63 R (omega (arith, is, minimum_from_le 63 (take i R))) each)
 
 -- ---- counts of zeros
 

@@ -37,7 +37,7 @@ fields_read_back (suc n) (a ∷ b ∷ c ∷ d ∷ R) e h =
     λ i. group_fields-group_bytes a b c d ha hb hc hd i ++ fields_read_back n R (omega arith) rest i
 
 -- the minimum is at most each register
-minimum_from_le : (m : ℕ) (R : List ℕ) → fold min m R ≤ m
+pub minimum_from_le : (m : ℕ) (R : List ℕ) → fold min m R ≤ m
 minimum_from_le m [] = omega arith
 minimum_from_le m (r ∷ R) = omega (arith, minimum_from_le (min m r) R)
 

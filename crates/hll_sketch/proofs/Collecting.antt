@@ -1,8 +1,8 @@
 -- Coupons of a list that come one after another.
+use Rattle.hll_coupons.proofs.TableLemmas.{length-between}
 use Rattle.std.proofs.Common.{◌≡◌, ℕ, ◌+◌, ◌≤◌, ◌<◌, ◌^◌, ◌||◌, nat_eq, true, false, cond, List, [], ◌∷◌, ◌++◌, length, All, refl, sym, ap, ◌∙◌, arith, inl, inr}
 use Rattle.std.specs.Cmp.{nat_cmp_total}
-use Rattle.std.specs.Ordering.{nat_cmp}
-use Rattle.std.specs.FinSet.{len, contains, insert, union, contains-from_list_nat, len-insert, len-empty}
+use Rattle.std.specs.FinSet.{len, contains, insert, union, contains-from_list_nat, len-insert}
 use Rattle.std.proofs.lemmas.Bool.{cases_Bool, or_left}
 use Rattle.std.proofs.lemmas.List.Folds.{list_any-append}
 use Rattle.std.proofs.lemmas.List.{append-nil}
@@ -11,7 +11,7 @@ use Rattle.hll_coupons.specs.Pair.{Pairs, set_of}
 use Rattle.hll_coupons.specs.Table.{Table, coupons_in, coupons_of, IsTable}
 use Rattle.hll_coupons.proofs.Members.{set_of-between, len-between, insert-member}
 use Rattle.hll_coupons.proofs.Reading.{len-set_of-le}
-use Rattle.hll_sketch.proofs.Inserting.{insert-union, set_of-nil}
+use Rattle.hll_sketch.proofs.Inserting.{insert-union}
 use Rattle.hll_sketch.proofs.Sets.{contains_union, union_assoc, union_none}
 use Rattle.hll_sketch.proofs.Steps.{len-insert_ge, len-insert_le}
 
@@ -79,10 +79,6 @@ new_between xs ys c distinct = elim (cases_Bool (contains (set_of xs) c)) [
       absurd (omega (arith, distinct, ap len same, len-set_of-le (xs ++ ys), length-between xs ys c))
   | inr f ↦ f
 ]
-  where
-    length-between : (xs ys : List ℕ) (c : ℕ) → length (xs ++ c ∷ ys) ≡ length (xs ++ ys) + 1
-    length-between [] ys c = omega arith
-    length-between (x ∷ xs) ys c = omega (arith, length-between xs ys c)
 
 -- how many there are beside those of a set: none yet, one that stands in neither, one that stands in the set
 pub len-union_none : (S : Pairs) → len (union S (set_of [])) ≡ len S

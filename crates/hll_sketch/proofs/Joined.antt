@@ -1,4 +1,5 @@
 -- Grown sketches merged in turn are joined, and stay grown.
+use Rattle.std.proofs.Math.Bool.{or-true}
 use Rattle.std.proofs.Common.{◌≡◌, ℕ, ◌+◌, ◌<◌, ◌++◌, length, take, get_or, ◌≤◌, Bool, true, false, cond, not, ◌&&◌, ◌||◌, nat_eq, eqb, leb, List, [], ◌∷◌, Some, None, refl, sym, ap, subst, ◌∙◌, arith, inl, inr, map, All}
 use Rattle.std.specs.Prelude.{min}
 use Rattle.std.specs.List.{list_any, AllByRecursion}
@@ -66,10 +67,6 @@ whole m w e l P S p false h grown bare same =
     let all : union P S ≡ S = ap (λ T. union T S) none ∙ union-empty S in
     let made : Content → Sketch = λ c. record { lg_k = m; width = w; content = c } in
     sym (ap (λ T. made (content_for m T (stage m 3 (len T)))) all ∙ ap (λ o. made (content_for m S o)) at)
-
-or-true : (a : Bool) → (a || true) ≡ true
-or-true true = refl
-or-true false = refl
 
 and-false : (a : Bool) → (a && false) ≡ false
 and-false true = refl

@@ -1,8 +1,7 @@
 -- Registers that take over from a table.
-use Rattle.std.proofs.Common.{◌≡◌, ℕ, ◌^◌, ◌||◌, List, [], ◌∷◌, ◌++◌, replicate, sym, ap, ◌∙◌}
+use Rattle.std.proofs.Common.{◌≡◌, ℕ, ◌^◌, List, [], ◌∷◌, ◌++◌, replicate, sym, ap, ◌∙◌}
 use Rattle.std.proofs.lemmas.List.{append-nil}
-use Rattle.std.specs.FinSet.{empty, insert, union, contains, contains-empty}
-use Rattle.std.specs.Ordering.{nat_cmp}
+use Rattle.std.specs.FinSet.{empty, insert}
 use Rattle.hll_coupons.specs.Pair.{Pairs, set_of}
 use Rattle.hll_coupons.specs.Fold.{fold_to}
 use Rattle.hll_base.specs.Join.{join}

@@ -1,4 +1,5 @@
 -- The value of a union depends on neither the order, nor the repetition, nor the grouping of the sketches.
+use Rattle.std.specs.Cmp.{both_ways}
 use Rattle.std.proofs.Common.{◌≡◌, ℕ, ◌<◌, ◌≤◌, zero, suc, Bool, true, false, cond, not, ◌||◌, eqb, List, [], ◌∷◌, ◌++◌, Option, Some, None, length, refl, sym, ap, ◌∙◌, arith, inl, inr}
 use Rattle.std.specs.Prelude.{min}
 use Rattle.std.specs.List.{list_any, AllByRecursion}
@@ -69,17 +70,12 @@ least_from m n (x ∷ xs) h f =
       | inr z ↦ omega (arith, cond-false (has_nonzero_registers x) (min x.lg_k (least_lg_k m xs)) (least_lg_k m xs) z)
     ]
 
-both_ways_same : (a b : Bool) → (a ≡ true → b ≡ true) → (b ≡ true → a ≡ true) → a ≡ b
-both_ways_same true b f g = sym (f refl)
-both_ways_same false true f g = g refl
-both_ways_same false false f g = refl
-
 pub union_of_same : UnionOfSame
 union_of_same m w xs ys same =
-    let pairs_same : all_pairs xs ≡ all_pairs ys = same_members (all_pairs xs) (all_pairs ys) (λ q. both_ways_same (contains (all_pairs xs) q) (contains (all_pairs ys) q)
+    let pairs_same : all_pairs xs ≡ all_pairs ys = same_members (all_pairs xs) (all_pairs ys) (λ q. both_ways (contains (all_pairs xs) q) (contains (all_pairs ys) q)
     (from_pairs xs q _ (λ x c d. let to = same.0 x c in reach_pairs ys x q to.0 to.1 to.2 d))
     (from_pairs ys q _ (λ x c d. let to = same.1 x c in reach_pairs xs x q to.0 to.1 to.2 d))) in
-    let any_same : list_any has_nonzero_registers xs ≡ list_any has_nonzero_registers ys = both_ways_same (list_any has_nonzero_registers xs) (list_any has_nonzero_registers ys)
+    let any_same : list_any has_nonzero_registers xs ≡ list_any has_nonzero_registers ys = both_ways (list_any has_nonzero_registers xs) (list_any has_nonzero_registers ys)
     (from_any xs _ (λ x c d. let to = same.0 x c in reach_any ys x to.0 to.1 to.2 d))
     (from_any ys _ (λ x c d. let to = same.1 x c in reach_any xs x to.0 to.1 to.2 d)) in
     let one : least_lg_k m xs ≤ least_lg_k m ys = least_from m (least_lg_k m xs) ys (least_bound m xs) (λ x c d. let to = same.1 x c in least_le m xs x to.0 to.1 to.2 d) in

@@ -7,12 +7,13 @@ ghost use Rattle.hll_sketch.specs.Header.{stage_of_bits, number_of_stage, header
 ghost use Rattle.hll_sketch.specs.Checks.{first_failing, header_checks};
 ghost use Rattle.hll_sketch.specs.Fault.{HeaderFault};
 
+use hll_base::bounds::{MAX_LG_K, MIN_LG_K};
 use hll_base::error::{Error, Reason};
 use hll_base::family::Family;
 use hll_base::hll_type::HllType;
 use hll_coupons::serialization::{
     COMPACT_FLAG_MASK, CUR_MODE_HLL, CUR_MODE_LIST, CUR_MODE_SET, EMPTY_FLAG_MASK,
-    HASH_SET_PREINTS, HLL_PREINTS, LIST_PREINTS, MAX_LG_K, MIN_LG_K, OUT_OF_ORDER_FLAG_MASK,
+    HASH_SET_PREINTS, HLL_PREINTS, LIST_PREINTS, OUT_OF_ORDER_FLAG_MASK,
     SERIAL_VERSION, TGT_HLL4, TGT_HLL6, TGT_HLL8, extract_cur_mode, extract_tgt_hll_type,
 };
 

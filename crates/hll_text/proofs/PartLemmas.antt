@@ -1,11 +1,9 @@
 -- Lemmas on the parts of a list between marks: words between spaces, lines between newlines.
-use Rattle.std.proofs.Common.{◌≡◌, ℕ, suc, ◌+◌, ◌-◌, ◌<◌, ◌≤◌, Bool, true, false, cond, nat_eq, List, [], ◌∷◌, ◌++◌, length, take, drop, refl, sym, ◌∙◌, ap, subst, arith, Some, None, length-drop}
+use Rattle.std.proofs.Common.{◌≡◌, ℕ, ◌+◌, ◌-◌, ◌<◌, ◌≤◌, Bool, true, false, cond, nat_eq, List, [], ◌∷◌, length, take, drop, refl, ◌∙◌, ap, subst, arith, Some, None, length-drop}
 use Rattle.std.specs.List.{slice_split, position, position_or_len}
-use Rattle.std.specs.Str.Lines.{lines, lines_of_parts, strip_carriage_return}
-use Rattle.std.proofs.lemmas.Bool.Decides.{nat_tests}
+use Rattle.std.specs.Str.Lines.{strip_carriage_return}
 use Rattle.std.proofs.lemmas.Bool.{ltb-true, ltb-false}
-use Rattle.std.proofs.lemmas.List.{take_all, length-take-le, take-append-drop}
-use Rattle.std.proofs.Math.Seq.{take-append-add}
+use Rattle.std.proofs.lemmas.List.{take_all}
 use Rattle.std.proofs.lemmas.List.Elements.{All-from_get_or}
 use Rattle.std.proofs.lemmas.List.Splits.{slice_split_first, slice_split_none, length-slice_split}
 use Rattle.std.proofs.lemmas.List.Sums.{fails_before_first}
@@ -60,25 +58,6 @@ length-words = length-parts 32
 
 -- ---- lines
 
--- the first of several parts is a line that has its LF
-lines_of_parts-cons : (x : List ℕ) (parts : List (List ℕ)) → 0 < length parts → lines_of_parts (x ∷ parts) ≡ strip_carriage_return x ∷ lines_of_parts parts
-lines_of_parts-cons x [] h = absurd (omega arith)
-lines_of_parts-cons x (y ∷ more) h = refl
-
-pub lines-some : (xs : List ℕ) (i : ℕ) → position (λ b. nat_eq b 10) xs ≡ Some i → lines xs ≡ strip_carriage_return (take i xs) ∷ lines (drop (i + 1) xs)
-lines-some xs i e = ap lines_of_parts (parts-some 10 xs i e).0 ∙ lines_of_parts-cons (take i xs) _ (length-parts 10 (drop (i + 1) xs))
-
-positive : (n : ℕ) → nat_eq (suc n) 0 ≡ false
-positive n = grind (arith, nat_tests)
-
--- what is left with no LF is the last line
-pub lines-none : (xs : List ℕ) → 0 < length xs → position (λ b. nat_eq b 10) xs ≡ None → lines xs ≡ xs ∷ []
-lines-none xs h e = ap lines_of_parts (parts-none 10 xs e) ∙ full xs h
-  where
-    full : (ys : List ℕ) → 0 < length ys → lines_of_parts (ys ∷ []) ≡ ys ∷ []
-    full [] h = absurd (omega arith)
-    full (y ∷ ys) h = ap (λ b. cond b [] ((y ∷ ys) ∷ [])) (positive (length ys))
-
 ended_parts-cons : (x : List ℕ) (parts : List (List ℕ)) → 0 < length parts → ended_parts (x ∷ parts) ≡ strip_carriage_return x ∷ ended_parts parts
 ended_parts-cons x [] h = absurd (omega arith)
 ended_parts-cons x (y ∷ more) h = refl
@@ -95,9 +74,3 @@ position-lt xs i e = (parts-some 10 xs i e).1
 -- a slice to the end is what is left
 pub take-rest : (n : ℕ) (xs : List ℕ) → take (length xs - n) (drop n xs) ≡ drop n xs
 take-rest n xs = take_all _ (drop n xs) (simp length-drop (omega arith))
-
--- a prefix in two pieces
-pub take-add : (s n : ℕ) (xs : List ℕ) → s ≤ length xs → take (s + n) xs ≡ take s xs ++ take n (drop s xs)
-take-add s n xs h =
-    ap (λ m. take (m + n) xs) (sym (length-take-le s xs h)) ∙ ap (take (length (take s xs) + n)) (sym (take-append-drop s xs))
-    ∙ take-append-add (take s xs) (drop s xs) n

@@ -1,10 +1,8 @@
 -- Lemmas on bytes that go out piece by piece.
-use Rattle.std.proofs.Common.{arith, ◌≡◌, ℕ, ◌≤◌, ◌<◌, List, [], ◌++◌, length, take, drop, sym, ◌∙◌, ap, append_assoc, take-append-drop, Option, Some, None, Result, Ok, Err}
-use Rattle.std.specs.Prelude.{IsErrAnd}
-use Rattle.std.specs.Result.{result_unwrap_or}
-use Rattle.std.specs.Io.{WritesAtMost}
-use Rattle.std.specs.Io.KnownBytes.{Appends, WriteAppends}
-use Rattle.std.proofs.lemmas.List.{append-nil, length-append, length-drop}
+use Rattle.std.proofs.Common.{arith, ◌≡◌, ℕ, ◌<◌, List, ◌++◌, length, take, drop, sym, ◌∙◌, ap, append_assoc, take-append-drop, Option, Result, Ok, Err}
+use Rattle.std.specs.Prelude.{IsErrAnd, OnOk, IfErr}
+use Rattle.std.specs.Io.KnownBytes.{Appends}
+use Rattle.std.proofs.lemmas.List.{length-append, length-drop}
 use Rattle.hll_text.specs.declared.fault.Fault.{Fault}
 use Rattle.hll_text.specs.declared.fault.Fault.TheVariants.{Write}
 use Rattle.hll_text.proofs.StreamLemmas.{Appends-more}
@@ -42,25 +40,19 @@ pub Sends-failed : {T : Type 0} (old new : Option (List ℕ)) (r : Result T Faul
 Sends-failed old new (Ok x) e xs ys h k = elim h [ ]
 Sends-failed old new (Err x) e xs ys h k = (h ∙ k.0, front-first old new xs ys k.1)
 
--- what a write took, where an error counts as nothing
-pub Appends-taken : {E : Type 0} (old new : Option (List ℕ)) (r : Result ℕ E) (bytes : List ℕ)
-    → WriteAppends old new r bytes → Appends old new (take (result_unwrap_or r 0) bytes)
-Appends-taken old new (Ok n) bytes h = h
-Appends-taken None new (Err e) bytes h = tt
-Appends-taken (Some us) None (Err e) bytes h = elim h [ ]
-Appends-taken (Some us) (Some vs) (Err e) bytes h = h ∙ sym (append-nil us)
-
--- nothing more goes out after a front
-pub front-at : (old mid new : Option (List ℕ)) (n : ℕ) (bytes : List ℕ) → n < length bytes → Appends old mid (take n bytes) → Appends mid new [] → AppendsFront old new bytes
-front-at old mid new n bytes few h k = record {
-  sent = take n bytes ++ [];
-  rest = drop n bytes;
-  parts = sym (ap (λ xs. xs ++ drop n bytes) (append-nil (take n bytes)) ∙ take-append-drop n bytes);
-  lacks = omega (arith, few, length-drop n bytes);
-  appended = Appends-more old mid new (take n bytes) [] h k;
-}
-
--- a write takes no more bytes than there are
-pub taken-le : {E : Type 0} (r : Result ℕ E) (bytes : List ℕ) → WritesAtMost r bytes → result_unwrap_or r 0 ≤ length bytes
-taken-le (Ok n) bytes h = h
-taken-le (Err e) bytes h = omega arith
+-- all bytes that `write_all` was given
+pub Sends-all : {T : Type 0} (P Q : Type 0) (old new : Option (List ℕ)) (r : Result T Fault) (bytes : List ℕ)
+    → OnOk r (Appends old new bytes × P)
+    → IfErr r (λ e. (e ≡ Write) × Q × (n : ℕ) × (n < length bytes) × Appends old new (take n bytes))
+    → Sends old new r bytes
+Sends-all P Q old new (Ok x) bytes h k = h.0
+Sends-all P Q old new (Err e) bytes h k = (
+  k.0,
+  record {
+    sent = take k.2 bytes;
+    rest = drop k.2 bytes;
+    parts = sym (take-append-drop k.2 bytes);
+    lacks = omega (arith, k.3, length-drop k.2 bytes);
+    appended = k.4;
+  },
+)

@@ -1,11 +1,10 @@
 -- Lemmas on bytes that are read or written in several pieces.
-use Rattle.std.proofs.Common.{◌≡◌, ℕ, ◌+◌, ◌/◌, ◌%◌, ◌≤◌, ◌<◌, List, [], ◌∷◌, ◌++◌, length, take, drop, refl, sym, subst, ◌∙◌, ap, Option, Some, None, append_assoc, slice_index, arith}
+use Rattle.std.proofs.Common.{◌≡◌, ℕ, ◌+◌, ◌/◌, ◌%◌, ◌<◌, List, [], ◌∷◌, ◌++◌, length, take, drop, refl, sym, subst, ◌∙◌, ap, Option, Some, None, append_assoc, slice_index, arith}
 use Rattle.std.specs.Io.KnownBytes.{Appends, Consumes}
 use Rattle.std.proofs.lemmas.List.{append-nil, length-append, take-append-drop, take-append-le}
-use Rattle.std.proofs.Math.Seq.{take-append-add}
+use Rattle.std.proofs.Math.Seq.{take-append-add, take-add}
 use Rattle.hex.specs.Hex.{encode_with, encode_lower, lower_digits}
 use Rattle.hll_text.specs.Text.{printed_line}
-use Rattle.hll_text.proofs.PartLemmas.{take-add}
 
 pub Consumes-nil : (o : Option (List ℕ)) → Consumes o o []
 Consumes-nil None = tt
@@ -50,8 +49,8 @@ digits-append table [] ys = refl
 digits-append table (b ∷ xs) ys = ap (λ ds. slice_index table (b / 16) ∷ slice_index table (b % 16) ∷ ds) (digits-append table xs ys)
 
 -- the digits of bytes in two pieces
-pub digits-more : (s n : ℕ) (bytes : List ℕ) → s ≤ length bytes → encode_lower (take (s + n) bytes) ≡ encode_lower (take s bytes) ++ encode_lower (take n (drop s bytes))
-digits-more s n bytes inside = ap encode_lower (take-add s n bytes inside) ∙ digits-append lower_digits (take s bytes) (take n (drop s bytes))
+pub digits-more : (s n : ℕ) (bytes : List ℕ) → encode_lower (take (s + n) bytes) ≡ encode_lower (take s bytes) ++ encode_lower (take n (drop s bytes))
+digits-more s n bytes = ap encode_lower (take-add s n bytes) ∙ digits-append lower_digits (take s bytes) (take n (drop s bytes))
 
 -- and what is printed, cut before and after the second one
 pub line-cut : (s n : ℕ) (bytes : List ℕ) → printed_line bytes ≡ encode_lower (take s bytes) ++ (encode_lower (take n (drop s bytes)) ++ (encode_lower (drop n (drop s bytes)) ++ 10 ∷ []))

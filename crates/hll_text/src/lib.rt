@@ -3,7 +3,6 @@
 #![tactic(auto)]
 
 mod bytes;
-pub mod fakes;
 pub mod fault;
 pub mod lines;
 pub mod reading;

@@ -10,6 +10,7 @@ use crate::fault::Fault;
 use crate::step::{Line, Step};
 use crate::words::{one_number, one_word, split_word, three_numbers, two_numbers};
 use hex::FromHexError;
+use hll_base::bounds::{MAX_LG_K, MAX_VALUE, MIN_LG_K, SLOT_BITS};
 use hll_base::hll_type::HllType;
 use std::alloc::Allocator;
 
@@ -131,7 +132,7 @@ fn coupon_step<A: Allocator>(slot: u32, value: u32) -> Result<Step<A>, Fault>
     ensures reading { step_reading_of result ≡ plan.coupon_step slot value }
     ensures in_range { IfOk result (λ step. IsInRange (step_of step)) }
 {
-    if slot < 0x0400_0000 && 1 <= value && value <= 63 {
+    if slot < 1 << SLOT_BITS && 1 <= value && value <= u32::from(MAX_VALUE) {
         Ok(Step::Coupon(slot, value as u8))
     } else {
         Err(Fault::Range)
@@ -158,7 +159,7 @@ fn fold_step<A: Allocator>(lg_k: u32) -> Result<Step<A>, Fault>
 fn lg_k_of(number: u32) -> Result<u8, Fault>
     ensures { result ≡ lg_k number }
 {
-    if 4 <= number && number <= 21 {
+    if u32::from(MIN_LG_K) <= number && number <= u32::from(MAX_LG_K) {
         Ok(number as u8)
     } else {
         Err(Fault::Range)

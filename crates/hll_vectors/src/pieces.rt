@@ -7,6 +7,7 @@ use hll_sketch::HllSketch;
 use hll_text::fault::{Fault, MergeError};
 use hll_text::lines::without_return;
 use hll_text::refusal::write_refusal;
+use hll_text::watched::Watched;
 use std::alloc::Global;
 
 /// The line that a plan prints, or its refusal.
@@ -31,16 +32,16 @@ pub(crate) fn run_whole(alloc: Global, row: &Row) -> Result<Printed, Wrong> {
 
 /// The line that the program prints, on either stream.
 fn line_of(alloc: Global, printed: &Printed) -> Result<Vec<u8>, Wrong> {
-    let mut line = Vec::new(alloc);
     match printed {
-        Ok(bytes) => line.extend_from_slice(bytes)?,
+        Ok(bytes) => Ok(bytes.clone()?),
         Err(refusal) => {
-            if write_refusal(&mut line, refusal).is_err() {
-                return Err(Wrong::Memory);
+            let mut writer = Watched::new(Vec::new(alloc));
+            match write_refusal(&mut writer, refusal) {
+                Ok(()) => Ok(writer.into_inner()),
+                Err(_) => Err(Wrong::Memory),
             }
         }
     }
-    Ok(line)
 }
 
 /// A plan gives one answer, however it is cut: byte by byte, in sevens, not at all, and between CR and LF.

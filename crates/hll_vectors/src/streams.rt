@@ -1,9 +1,9 @@
 //! Plans over streams that fail, and that move one byte at a time.
 use crate::pieces::Printed;
 use crate::wrong::Wrong;
+use hll_fakes::{Failing, Narrow};
 use hll_merge::feed::PlanFeed;
 use hll_merge::run::run;
-use hll_text::fakes::{Failing, Narrow};
 use hll_text::fault::{Fault, MergeError};
 use hll_text::watched::Watched;
 use std::alloc::Global;

@@ -6,8 +6,8 @@ use Rattle.hll_coupons.specs.AuxMap.{value_in}
 use Rattle.hll_registers.proofs.FourBitReading.{minimum_small, agrees_either}
 use Rattle.hll_arrays.proofs.four_bit_payload.agree.Goals as goal
 
-pub returns-then-cur_min-gt-MOST-clause-some : goal.returns-then-cur_min-gt-MOST-clause-some
-returns-then-cur_min-gt-MOST-clause-some g c = λ e agree. omega (arith, minimum_small c.args.lg_config_k c.args.cur_min c.args.nibbles.now (unboxed c.args.map.now) c.requires.map agree, c.if-cur_min-gt-MOST.true)
+pub returns-then-cur_min-gt-MAX_VALUE-clause-some : goal.returns-then-cur_min-gt-MAX_VALUE-clause-some
+returns-then-cur_min-gt-MAX_VALUE-clause-some g c = λ e agree. omega (arith, minimum_small c.args.lg_config_k c.args.cur_min c.args.nibbles.now (unboxed c.args.map.now) c.requires.map agree, c.if-cur_min-gt-MAX_VALUE.true)
 
 pub returns-then-are_marked-clause-all : goal.returns-then-are_marked-clause-all
 returns-then-are_marked-clause-all g c = λ e s l.

@@ -1,24 +1,18 @@
-use Rattle.std.proofs.Common.{◌≡◌, ◌⊎◌, Bool, List, ℕ, take, drop, cond, sym, ap, subst, ◌∙◌, Some, None, inl, inr}
+use Rattle.std.proofs.Common.{◌≡◌, Bool, List, ℕ, take, drop, cond, sym, ap, subst, ◌∙◌, None, inl, inr}
 use Rattle.std.proofs.lemmas.List.{take_rest}
 use Rattle.hll_base.proofs.Errors.{IfErr-passed}
-use Rattle.hll_base.specs.declared.error.Reason.TheVariants.{Memory}
 use Rattle.hll_base.specs.declared.hll_type.HllType.TheVariants.{Hll4}
-use Rattle.hll_arrays.proofs.ReadingRegisters.{IfErr-always}
-use Rattle.hll_registers.specs.Payload.{Hll4Shape, hll4_size, registers_of, shape_of_hll4, state_at, IsHll4Payload, IsWhole, Hll4Fault, FirstHll4Fault}
+use Rattle.hll_registers.specs.Payload.{Hll4Shape, hll4_size, registers_of, shape_of_hll4, state_at, IsHll4Payload, IsWhole, FirstHll4Fault}
 use Rattle.hll_registers.specs.declared.aux_format.AuxFormat.{AuxFormat}
 use Rattle.hll_registers.specs.Store.{Stored}
-use Rattle.hll_sketch.specs.Checks.{first_fault, size_fault}
-use Rattle.hll_sketch.specs.Fault.{IsFault}
-use Rattle.hll_sketch.specs.Fault as fault
+use Rattle.hll_sketch.specs.Checks.{size_fault}
 use Rattle.hll_sketch.specs.Header.{header_of}
-use Rattle.hll_sketch.specs.Layout.{sketch_of}
 use Rattle.hll_sketch.specs.Image.{lg_k_byte, width_bits, is_flagged, hll4_shape, HasHeader, IsReadAs}
 use Rattle.hll_sketch.specs.Refusal.{IsRefusal}
 use Rattle.hll_sketch.specs.Value.{registers}
 use Rattle.hll_sketch.specs.declared.header.Header.{Header}
-use Rattle.std.proofs.lemmas.Result.{IfOk-weaker}
 use Rattle.hll_sketch.proofs.FirstFailing.{four_first, four_asked}
-use Rattle.hll_sketch.proofs.FrontImages.{fault_as, first_as, whole_as, payload_as, read_as-four, registers_as, size_as}
+use Rattle.hll_sketch.proofs.FrontImages.{first_as, whole_as, payload_as, read_as-four, registers_as, size_as}
 use Rattle.hll_sketch.proofs.image.read_four.Goals as goal
 
 -- the registers that the reader of the payload gives

@@ -1,4 +1,4 @@
-use Rattle.std.proofs.Common.{arith, ◌≡◌, ◌+◌, ◌*◌, ◌≤◌, length, List, ℕ, take, drop, sym, ap, subst, ◌∙◌, Some, inl, inr}
+use Rattle.std.proofs.Common.{arith, ◌≡◌, ◌+◌, ◌*◌, ◌≤◌, length, List, ℕ, take, drop, sym, ap, subst, ◌∙◌, inl, inr}
 use Rattle.std.proofs.lemmas.List.{take_rest}
 use Rattle.hll_base.proofs.Errors.{IfErr-passed}
 use Rattle.hll_base.specs.declared.error.Reason.TheVariants.{Memory}
@@ -8,9 +8,6 @@ use Rattle.hll_coupons.specs.Coupons.{AreCoupons}
 use Rattle.hll_coupons.specs.Pair.{set_of}
 use Rattle.hll_coupons.specs.Payload.{SetShape, shape_of_set, set_coupons, set_places, IsSetPayload, HasSetCount, IsSetTable, SetFault}
 use Rattle.hll_coupons.specs.Table.{Table, coupons_of}
-use Rattle.hll_sketch.specs.Checks.{first_fault}
-use Rattle.hll_sketch.specs.Fault.{IsFault}
-use Rattle.hll_sketch.specs.Fault as fault
 use Rattle.hll_sketch.specs.Image.{set_shape, HasSetTable, IsReadAs}
 use Rattle.hll_sketch.specs.Header.{header_of}
 use Rattle.hll_sketch.specs.Refusal.{IsRefusal}

@@ -1,14 +1,10 @@
-use Rattle.std.proofs.Common.{◌≡◌, ◌+◌, ◌⊎◌, Bool, List, ℕ, take, drop, sym, ap, subst, ◌∙◌, Some, None, inl, inr}
+use Rattle.std.proofs.Common.{◌≡◌, ◌+◌, Bool, List, ℕ, take, drop, sym, ap, subst, ◌∙◌, inl, inr}
 use Rattle.std.proofs.lemmas.List.{take_rest}
 use Rattle.hll_base.proofs.Errors.{IfErr-passed}
-use Rattle.hll_base.specs.declared.error.Reason.TheVariants.{Memory}
 use Rattle.hll_base.specs.declared.hll_type.HllType.TheVariants.{Hll6}
 use Rattle.hll_kernels.specs.Packed.{fields}
-use Rattle.hll_registers.specs.Payload.{field_size, state_at, IsHll6Payload, FirstHll6Fault, Hll6Fault}
+use Rattle.hll_registers.specs.Payload.{field_size, state_at, IsHll6Payload, FirstHll6Fault}
 use Rattle.hll_registers.specs.Store.{Stored}
-use Rattle.hll_sketch.specs.Checks.{first_fault, size_fault}
-use Rattle.hll_sketch.specs.Fault.{IsFault}
-use Rattle.hll_sketch.specs.Fault as fault
 use Rattle.hll_sketch.specs.Image.{lg_k_byte, is_flagged, IsReadAs}
 use Rattle.hll_sketch.specs.Refusal.{IsRefusal}
 use Rattle.hll_sketch.specs.Value.{registers}

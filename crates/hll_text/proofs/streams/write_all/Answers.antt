@@ -1,7 +1,8 @@
 use Rattle.std.proofs.Common.{arith, ℕ, List, ◌≤◌, length-drop, length, take, drop, subst, sym, ◌∙◌, ap}
+use Rattle.std.proofs.Math.Seq.{take-add}
 use Rattle.std.specs.Io.KnownBytes.{Appends}
 use Rattle.hll_text.proofs.StreamLemmas.{Appends-more}
-use Rattle.hll_text.proofs.PartLemmas.{take-rest, take-add}
+use Rattle.hll_text.proofs.PartLemmas.{take-rest}
 use Rattle.hll_text.proofs.streams.write_all.Goals as goal
 
 pub loop-sent-preserved : goal.loop-sent-preserved
@@ -15,7 +16,7 @@ loop-sent-preserved g c =
     let inside : s ≤ length bytes = c.loop-sent.invariant.inside in
     record {
       inside = omega (arith, c.in_ok-sent.ensures.bound, ap length (take-rest s bytes), length-drop s bytes);
-      sent_so_far = subst (λ xs. Appends old now xs) (sym (take-add s n bytes inside))
+      sent_so_far = subst (λ xs. Appends old now xs) (sym (take-add s n bytes))
           (Appends-more old mid now (take s bytes) (take n (drop s bytes)) c.loop-sent.invariant.sent_so_far
           (subst (λ xs. Appends mid now (take n xs)) (take-rest s bytes) c.in_ok-sent.ensures.bytes));
       failed = c.in_ok-sent.ensures.failed ∙ c.loop-sent.invariant.failed;

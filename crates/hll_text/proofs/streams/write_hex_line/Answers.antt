@@ -28,7 +28,7 @@ loop-shown-preserved g c =
     let size : s + n - s ≡ n = omega arith in
     record {
       inside = omega (arith, c.loop-shown.invariant.inside, c.min-size.ensures);
-      written = subst (λ ds. Appends old now ds) (sym (digits-more s n bytes c.loop-shown.invariant.inside))
+      written = subst (λ ds. Appends old now ds) (sym (digits-more s n bytes))
           (Appends-more old mid now (encode_lower (take s bytes)) (encode_lower (take n (drop s bytes))) c.loop-shown.invariant.written
           (subst (λ m. Appends mid now (encode_lower (take m (drop s bytes)))) size c.in_ok-write_digits.ensures.ok.0));
       failed = c.in_ok-write_digits.ensures.ok.1 ∙ c.loop-shown.invariant.failed;

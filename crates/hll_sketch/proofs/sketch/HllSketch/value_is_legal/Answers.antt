@@ -1,4 +1,4 @@
-use Rattle.std.proofs.Common.{◌≡◌, ◌≤◌, ◌^◌, ℕ, length, sym, ap, subst, ◌∙◌, arith}
+use Rattle.std.proofs.Common.{◌≡◌, ◌≤◌, ◌^◌, ℕ, length, sym, ap, subst, ◌∙◌}
 use Rattle.hll_coupons.specs.Table.{Table, coupons_in, IsTable}
 use Rattle.hll_sketch.specs.Layout as layouts
 use Rattle.hll_sketch.specs.Layout.{SketchLayout, layout_of, sketch_of, IsLayoutFor}

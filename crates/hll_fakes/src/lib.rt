@@ -1,4 +1,6 @@
 //! Streams for tests: a reader and a writer that fail at a given call.
+#![tactic(auto)]
+
 use std::io;
 use std::io::{Read, Write};
 

@@ -1,0 +1,6 @@
+use Rattle.std.proofs.Common.{◌≡◌}
+use Rattle.hll_bench.proofs.registers.merge.Given as goal
+
+-- the size stays
+abbrev pub invariant-loop : goal.invariant-loop
+invariant-loop g l = l.array.lg_k ≡ l.initial.array.lg_k
