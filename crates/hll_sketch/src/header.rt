@@ -13,8 +13,8 @@ use hll_base::family::Family;
 use hll_base::hll_type::HllType;
 use hll_coupons::serialization::{
     COMPACT_FLAG_MASK, CUR_MODE_HLL, CUR_MODE_LIST, CUR_MODE_SET, EMPTY_FLAG_MASK,
-    HASH_SET_PREINTS, HLL_PREINTS, LIST_PREINTS, OUT_OF_ORDER_FLAG_MASK,
-    SERIAL_VERSION, TGT_HLL4, TGT_HLL6, TGT_HLL8, extract_cur_mode, extract_tgt_hll_type,
+    HASH_SET_PREINTS, HLL_PREINTS, LIST_PREINTS, OUT_OF_ORDER_FLAG_MASK, SERIAL_VERSION, TGT_HLL4,
+    TGT_HLL6, TGT_HLL8, extract_cur_mode, extract_tgt_hll_type,
 };
 
 /// The bytes of the header.
