@@ -1,5 +1,5 @@
 //! Registers of each width.
-use crate::harness::{Heap, Trial, requests_of, text};
+use crate::harness::{Heap, Trial, requests_of, shown, text};
 use hll_arrays::array4::Array4;
 use hll_arrays::array6::Array6;
 use hll_arrays::array8::Array8;
@@ -58,18 +58,21 @@ impl<'h, S: RegisterStore<&'h Heap> + Debug> Trial for StoreTrial<'h, S> {
     }
 
     fn call(&self, stores: &mut (S, Array8<&'h Heap>)) -> Result<String, Fault> {
+        let heap = self.heap;
         let (store, eight) = stores;
         match self.call {
-            StoreCall::Make => return text(self.heap, &S::make(self.heap, 4)?),
-            StoreCall::WriteImage => return text(self.heap, &store.write_image()?),
-            StoreCall::Convert => return text(self.heap, &convert::<S, _>(eight)?),
-            StoreCall::PutCoupon => store.put_coupon(self.coupon)?,
-            StoreCall::Restore => store.restore(EstimateState {
-                words: [1, 2, 3],
-                out_of_order: false,
-            }),
+            StoreCall::Make => shown(heap, S::make(heap, 4)),
+            StoreCall::WriteImage => shown(heap, store.write_image()),
+            StoreCall::Convert => shown(heap, convert::<S, _>(eight)),
+            StoreCall::PutCoupon => shown(heap, store.put_coupon(self.coupon)),
+            StoreCall::Restore => {
+                store.restore(EstimateState {
+                    words: [1, 2, 3],
+                    out_of_order: false,
+                });
+                Ok(String::new(heap.inner()))
+            }
         }
-        Ok(String::new(self.heap.inner()))
     }
 
     fn show(&self, stores: &(S, Array8<&'h Heap>)) -> Result<String, Fault> {
@@ -236,27 +239,22 @@ impl<'h> Trial for ArrayTrial<'h> {
         let (four, six, eight) = arrays;
         let (bytes, zeros) = (SketchSlice::new(&PAYLOAD), SketchSlice::new(&ZEROS));
         match self.call {
-            ArrayCall::Clone4 => text(heap, &four.clone()?),
-            ArrayCall::Clone6 => text(heap, &six.clone()?),
-            ArrayCall::Clone8 => text(heap, &eight.clone()?),
+            ArrayCall::Clone4 => shown(heap, four.clone()),
+            ArrayCall::Clone6 => shown(heap, six.clone()),
+            ArrayCall::Clone8 => shown(heap, eight.clone()),
             ArrayCall::Deserialize4 => {
-                text(
-                    heap,
-                    &Array4::deserialize(heap, bytes, 0, 4, AuxFormat::Compact, false)?,
-                )
+                let compact = AuxFormat::Compact;
+                shown(heap, Array4::deserialize(heap, bytes, 0, 4, compact, false))
             }
             ArrayCall::Deserialize4InPlaces => {
                 let places = AuxFormat::Updatable { lg_arr: 3 };
-                text(
-                    heap,
-                    &Array4::deserialize(heap, bytes, 0, 4, places, false)?,
-                )
+                shown(heap, Array4::deserialize(heap, bytes, 0, 4, places, false))
             }
             ArrayCall::Deserialize6 => {
-                text(heap, &Array6::deserialize_registers(heap, zeros, 4, false)?)
+                shown(heap, Array6::deserialize_registers(heap, zeros, 4, false))
             }
             ArrayCall::Deserialize8 => {
-                text(heap, &Array8::deserialize_registers(heap, zeros, 4, false)?)
+                shown(heap, Array8::deserialize_registers(heap, zeros, 4, false))
             }
             ArrayCall::MergeFrom => {
                 if eight.lg_k() <= four.lg_k() {

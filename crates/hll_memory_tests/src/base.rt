@@ -1,5 +1,5 @@
 //! Buffers of image fields.
-use crate::harness::{Heap, Trial, requests_of, text};
+use crate::harness::{Heap, Trial, requests_of, shown, text};
 use hll_base::codec::SketchBytes;
 use hll_text::fault::Fault;
 use std::test::Fail;
@@ -31,19 +31,16 @@ impl<'h> Trial for BufferTrial<'h> {
     }
 
     fn call(&self, bytes: &mut SketchBytes<&'h Heap>) -> Result<String, Fault> {
+        let heap = self.heap;
         match self.call {
             BufferCall::WithCapacity => {
-                return text(
-                    self.heap,
-                    &SketchBytes::with_capacity(self.heap, self.capacity)?,
-                );
+                shown(heap, SketchBytes::with_capacity(heap, self.capacity))
             }
-            BufferCall::WriteU8 => bytes.write_u8(2)?,
-            BufferCall::WriteU32 => bytes.write_u32_le(0x0504_0302)?,
-            BufferCall::WriteU64 => bytes.write_u64_le(0x0908_0706_0504_0302)?,
-            BufferCall::Write => bytes.write(&[2, 3, 4])?,
+            BufferCall::WriteU8 => shown(heap, bytes.write_u8(2)),
+            BufferCall::WriteU32 => shown(heap, bytes.write_u32_le(0x0504_0302)),
+            BufferCall::WriteU64 => shown(heap, bytes.write_u64_le(0x0908_0706_0504_0302)),
+            BufferCall::Write => shown(heap, bytes.write(&[2, 3, 4])),
         }
-        Ok(String::new(self.heap.inner()))
     }
 
     fn show(&self, bytes: &SketchBytes<&'h Heap>) -> Result<String, Fault> {

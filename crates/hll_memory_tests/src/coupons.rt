@@ -1,7 +1,7 @@
 //! Tables of coupons, and maps of exceptions.
 ghost use Rattle.std.specs.Prelude.{◌≤◌};
 
-use crate::harness::{Heap, Trial, requests_of, text};
+use crate::harness::{Heap, Trial, requests_of, shown, text};
 use hll_base::cursor::SketchSlice;
 use hll_base::hll_type::HllType;
 use hll_coupons::aux_map::AuxMap;
@@ -97,24 +97,24 @@ impl<'h> Trial for TableTrial<'h> {
         let (list, set) = tables;
         let (listed, counted) = (SketchSlice::new(&LISTED), SketchSlice::new(&COUNTED));
         match self.call {
-            TableCall::NewContainer => text(heap, &Container::new(heap, lg_size)?),
-            TableCall::NewList => text(heap, &List::new(heap, lg_size)?),
-            TableCall::NewSet => text(heap, &HashSet::new(heap, lg_size)?),
-            TableCall::DefaultSet => text(heap, &HashSet::default_in(heap)?),
-            TableCall::CloneContainer => text(heap, &list.container().clone()?),
-            TableCall::CloneList => text(heap, &list.clone()?),
-            TableCall::CloneSet => text(heap, &set.clone()?),
+            TableCall::NewContainer => shown(heap, Container::new(heap, lg_size)),
+            TableCall::NewList => shown(heap, List::new(heap, lg_size)),
+            TableCall::NewSet => shown(heap, HashSet::new(heap, lg_size)),
+            TableCall::DefaultSet => shown(heap, HashSet::default_in(heap)),
+            TableCall::CloneContainer => shown(heap, list.container().clone()),
+            TableCall::CloneList => shown(heap, list.clone()),
+            TableCall::CloneSet => shown(heap, set.clone()),
             TableCall::FromContainer => text(heap, &set_of(heap, list)?),
             TableCall::SerializeList => text(heap, &list_image(list)?),
             TableCall::SerializeSet => text(heap, &set_image(set)?),
             TableCall::DeserializeList => {
-                text(
+                shown(
                     heap,
-                    &List::deserialize(heap, listed, lg_size, 3, false, true)?,
+                    List::deserialize(heap, listed, lg_size, 3, false, true),
                 )
             }
             TableCall::DeserializeSet => {
-                text(heap, &HashSet::deserialize(heap, counted, lg_size, true)?)
+                shown(heap, HashSet::deserialize(heap, counted, lg_size, true))
             }
         }
     }
@@ -199,9 +199,9 @@ impl<'h> Trial for MapTrial<'h> {
 
     fn call(&self, map: &mut AuxMap<&'h Heap>) -> Result<String, Fault> {
         match self.call {
-            MapCall::New => text(self.heap, &AuxMap::new(self.heap, 4)?),
-            MapCall::Clone => text(self.heap, &map.clone()?),
-            MapCall::Ascending => text(self.heap, &map.ascending(self.heap)?),
+            MapCall::New => shown(self.heap, AuxMap::new(self.heap, 4)),
+            MapCall::Clone => shown(self.heap, map.clone()),
+            MapCall::Ascending => shown(self.heap, map.ascending(self.heap)),
             MapCall::Insert => {
                 put(map, self.count)?;
                 Ok(String::new(self.heap.inner()))

@@ -1,5 +1,6 @@
 //! A call made again and again, with one request for memory refused each time.
 use crate::refusing::Refusing;
+use hll_base::error::Error;
 use hll_text::fault::Fault;
 use std::alloc::Global;
 use std::fmt::Debug;
@@ -36,6 +37,11 @@ pub(crate) fn text<T: Debug>(heap: &Heap, value: &T) -> Result<String, Fault> {
         Ok(text) => Ok(text),
         Err(_) => Err(Fault::Write),
     }
+}
+
+/// What a call made, as text, or why it made nothing.
+pub(crate) fn shown<T: Debug + Drop>(heap: &Heap, made: Result<T, Error>) -> Result<String, Fault> {
+    text(heap, &made?)
 }
 
 /// Refuses each request of a call in turn. A refusal is for memory, and leaves the subject as it was; the call made on it

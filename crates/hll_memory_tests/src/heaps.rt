@@ -1,8 +1,9 @@
 //! Two heaps, of which one is full: `agree` asks that of its first argument alone, and a union its own.
 use crate::harness::Heap;
 use crate::sketches::{Shape, WIDTHS, sketch_in};
+use crate::unions::union_in;
 use hll_base::hll_type::HllType;
-use hll_sketch::{HllUnion, agree};
+use hll_sketch::agree;
 use hll_text::fault::Fault;
 use std::test::Fail;
 
@@ -55,12 +56,9 @@ fn update_asks<'h>(
     hll_type: HllType,
     beside: Shape,
 ) -> Result<u64, Fault> {
-    let (lg_max_k, _, _) = inside;
     full.admit();
     let other = sketch_in(full, hll_type, beside)?;
-    let first = sketch_in(heap, HllType::Hll8, inside)?;
-    let mut union = HllUnion::new(heap, lg_max_k)?;
-    union.update(&first)?;
+    let mut union = union_in(heap, inside)?;
     full.refuse_all();
     union.update(&other)?;
     Ok(full.asked())

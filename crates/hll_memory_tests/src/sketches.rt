@@ -2,7 +2,8 @@
 ghost use Rattle.std.specs.Prelude.{◌≤◌};
 ghost use Rattle.hll_coupons.specs.Pair.{value_of};
 
-use crate::harness::{Heap, Trial, requests_of, text};
+use crate::harness::{Heap, Trial, requests_of, shown, text};
+use hll_base::error::Error;
 use hll_base::hll_type::HllType;
 use hll_coupons::coupon::Coupon;
 use hll_sketch::HllSketch;
@@ -42,10 +43,18 @@ pub(crate) fn sketch_text(heap: &Heap, sketch: &HllSketch<&Heap>) -> Result<Stri
     text(heap, &(sketch.lg_config_k(), sketch.mode()))
 }
 
+/// All of the sketch that a call made, or why it made none.
+pub(crate) fn shown_sketch<'h>(
+    heap: &'h Heap,
+    made: Result<HllSketch<&'h Heap>, Error>,
+) -> Result<String, Fault> {
+    sketch_text(heap, &made?)
+}
+
 /// The registers of a sketch at the least `lg_k`.
-fn least_registers<'h>(sketch: &HllSketch<&'h Heap>) -> Result<Vec<u8, &'h Heap>, Fault> {
+fn least_registers<'h>(sketch: &HllSketch<&'h Heap>) -> Result<Vec<u8, &'h Heap>, Error> {
     let lg_k = sketch.lg_config_k().min(4);
-    Ok(sketch.registers_at(lg_k)?)
+    sketch.registers_at(lg_k)
 }
 
 /// An image with all places of a table of 2^`lg_arr`, empty ones too, and so many bytes.
@@ -100,16 +109,14 @@ impl<'h> Trial for SketchTrial<'h> {
         let heap = self.heap;
         let (sketch, image, whole) = subject;
         match self.call {
-            SketchCall::Clone => return sketch_text(heap, &sketch.clone()?),
-            SketchCall::CloneMode => return text(heap, &sketch.mode().clone()?),
-            SketchCall::Serialize => return text(heap, &sketch.serialize()?),
-            SketchCall::Folded => return sketch_text(heap, &sketch.folded(4)?),
-            SketchCall::RegistersAt => return text(heap, &least_registers(sketch)?),
-            SketchCall::Deserialize => {
-                return sketch_text(heap, &HllSketch::deserialize(heap, image)?);
-            }
+            SketchCall::Clone => shown_sketch(heap, sketch.clone()),
+            SketchCall::CloneMode => shown(heap, sketch.mode().clone()),
+            SketchCall::Serialize => shown(heap, sketch.serialize()),
+            SketchCall::Folded => shown_sketch(heap, sketch.folded(4)),
+            SketchCall::RegistersAt => shown(heap, least_registers(sketch)),
+            SketchCall::Deserialize => shown_sketch(heap, HllSketch::deserialize(heap, image)),
             SketchCall::DeserializePlaces => {
-                return sketch_text(heap, &HllSketch::deserialize(heap, whole)?);
+                shown_sketch(heap, HllSketch::deserialize(heap, whole))
             }
             SketchCall::Queries => {
                 let numbers = (
@@ -117,13 +124,14 @@ impl<'h> Trial for SketchTrial<'h> {
                     sketch.estimated_size(),
                     sketch.is_empty(),
                 );
-                return text(heap, &(numbers, &*sketch == &*sketch));
+                text(heap, &(numbers, &*sketch == &*sketch))
             }
-            SketchCall::UpdateNew => sketch.update_with_coupon(coupon_at(self.shape.2))?,
-            SketchCall::UpdateHeld => sketch.update_with_coupon(coupon_at(0))?,
-            SketchCall::UpdateValue => sketch.update(self.shape.2)?,
+            SketchCall::UpdateNew => {
+                shown(heap, sketch.update_with_coupon(coupon_at(self.shape.2)))
+            }
+            SketchCall::UpdateHeld => shown(heap, sketch.update_with_coupon(coupon_at(0))),
+            SketchCall::UpdateValue => shown(heap, sketch.update(self.shape.2)),
         }
-        Ok(String::new(heap.inner()))
     }
 
     fn show(&self, subject: &(HllSketch<&'h Heap>, Vec<u8>, Vec<u8>)) -> Result<String, Fault> {

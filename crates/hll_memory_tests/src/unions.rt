@@ -1,9 +1,11 @@
 //! Unions, and what is made of sketches together.
-use crate::harness::{Heap, Trial, requests_of, text};
-use crate::sketches::{Shape, WIDTHS, coupon_at, sketch_in, sketch_text};
+use crate::harness::{Heap, Trial, requests_of, shown, text};
+use crate::sketches::{Shape, WIDTHS, coupon_at, shown_sketch, sketch_in};
+use hll_base::error::Error;
 use hll_base::hll_type::HllType;
 use hll_sketch::{HllSketch, HllUnion, agree, union_of};
 use hll_text::fault::Fault;
+use std::alloc::Global;
 use std::mem;
 use std::test::Fail;
 
@@ -40,6 +42,53 @@ pub(crate) fn union_text(heap: &Heap, union: HllUnion<&Heap>) -> Result<String, 
     text(heap, &(gadget.0, gadget.1.lg_config_k(), gadget.1.mode()))
 }
 
+/// All of the union that a call made, or why it made none.
+fn shown_union<'h>(
+    heap: &'h Heap,
+    made: Result<HllUnion<&'h Heap>, Error>,
+) -> Result<String, Fault> {
+    union_text(heap, made?)
+}
+
+/// A union under a bound, of one sketch.
+fn union_with<'h>(
+    heap: &'h Heap,
+    lg_max_k: u8,
+    sketch: &HllSketch<&'h Heap>,
+) -> Result<HllUnion<&'h Heap>, Fault> {
+    let mut union = HllUnion::new(heap, lg_max_k)?;
+    union.update(sketch)?;
+    Ok(union)
+}
+
+/// A union of one sketch of eight bits, whose `lg_k` is the bound.
+pub(crate) fn union_in(heap: &Heap, inside: Shape) -> Result<HllUnion<&Heap>, Fault> {
+    let sketch = sketch_in(heap, HllType::Hll8, inside)?;
+    union_with(heap, inside.0, &sketch)
+}
+
+/// Two sketches, one behind the other.
+fn pair_of<'h>(
+    alloc: Global,
+    one: HllSketch<&'h Heap>,
+    two: HllSketch<&'h Heap>,
+) -> Result<Vec<HllSketch<&'h Heap>>, Fault> {
+    let mut both = Vec::new(alloc);
+    both.push(one)?;
+    both.push(two)?;
+    Ok(both)
+}
+
+/// The sketch of a union that takes the place of the one that was there.
+fn taken<'h>(
+    heap: &'h Heap,
+    union: &mut HllUnion<&'h Heap>,
+    hll_type: HllType,
+) -> Result<HllSketch<&'h Heap>, Error> {
+    let lg_max_k = union.lg_max_k();
+    mem::replace(union, HllUnion::new(heap, lg_max_k)?).into_sketch(hll_type)
+}
+
 impl<'h> UnionTrial<'h> {
     /// What a call gives that makes a value of two sketches.
     fn made(&self, both: &[HllSketch<&'h Heap>]) -> Result<String, Fault> {
@@ -48,8 +97,8 @@ impl<'h> UnionTrial<'h> {
             return Err(Fault::Stack);
         };
         match self.call {
-            UnionCall::Agree => text(heap, &agree(one, two)?),
-            _ => union_text(heap, union_of(heap, self.lg_max_k, both)?),
+            UnionCall::Agree => shown(heap, agree(one, two)),
+            _ => shown_union(heap, union_of(heap, self.lg_max_k, both)),
         }
     }
 
@@ -58,17 +107,13 @@ impl<'h> UnionTrial<'h> {
         let heap = self.heap;
         let count = self.inside.2;
         match self.call {
-            UnionCall::Clone => return union_text(heap, union.clone()?),
-            UnionCall::ToSketch => return sketch_text(heap, &union.to_sketch(self.hll_type)?),
-            UnionCall::IntoSketch => {
-                let union = mem::replace(union, HllUnion::new(heap, self.lg_max_k)?);
-                return sketch_text(heap, &union.into_sketch(self.hll_type)?);
-            }
-            UnionCall::Reset => union.reset()?,
-            UnionCall::UpdateNew => union.update_with_coupon(coupon_at(count))?,
-            _ => union.update_value(count)?,
+            UnionCall::Clone => shown_union(heap, union.clone()),
+            UnionCall::ToSketch => shown_sketch(heap, union.to_sketch(self.hll_type)),
+            UnionCall::IntoSketch => shown_sketch(heap, taken(heap, union, self.hll_type)),
+            UnionCall::Reset => shown(heap, union.reset()),
+            UnionCall::UpdateNew => shown(heap, union.update_with_coupon(coupon_at(count))),
+            _ => shown(heap, union.update_value(count)),
         }
-        Ok(String::new(heap.inner()))
     }
 }
 
@@ -77,24 +122,19 @@ impl<'h> Trial for UnionTrial<'h> {
 
     fn make(&self) -> Result<Joined<'h>, Fault> {
         let one = sketch_in(self.heap, HllType::Hll8, self.inside)?;
-        let mut union = HllUnion::new(self.heap, self.lg_max_k)?;
-        union.update(&one)?;
-        let mut both = Vec::new(self.heap.inner());
-        both.push(one)?;
-        both.push(sketch_in(self.heap, self.hll_type, self.beside)?)?;
-        Ok((union, both))
+        let union = union_with(self.heap, self.lg_max_k, &one)?;
+        let two = sketch_in(self.heap, self.hll_type, self.beside)?;
+        Ok((union, pair_of(self.heap.inner(), one, two)?))
     }
 
     fn call(&self, joined: &mut Joined<'h>) -> Result<String, Fault> {
         let (union, both) = joined;
         match self.call {
             UnionCall::Agree | UnionCall::UnionOf => self.made(both.as_slice()),
-            UnionCall::Update => {
-                if let Some(two) = both.get(1) {
-                    union.update(two)?;
-                }
-                Ok(String::new(self.heap.inner()))
-            }
+            UnionCall::Update => match both.get(1) {
+                Some(two) => shown(self.heap, union.update(two)),
+                None => Err(Fault::Stack),
+            },
             _ => self.given(union),
         }
     }

@@ -87,28 +87,46 @@ fn stages(rt: HostRuntime) -> Result<(), Fail> {
     Ok(())
 }
 
+/// A sketch with a coupon of value 1 at each slot below a number, in descending order.
+fn turned(alloc: Global, lg_k: u8, hll_type: HllType, count: u32) -> Result<HllSketch, Error> {
+    let mut sketch = HllSketch::new(alloc, lg_k, hll_type)?;
+    for slot in 0..count {
+        add(&mut sketch, (count - 1) - slot, 1)?;
+    }
+    Ok(sketch)
+}
+
+/// Adds a coupon of value 1 at each slot below a number.
+fn add_again(sketch: &mut HllSketch, count: u32) -> Result<(), Error> {
+    for slot in 0..count {
+        add(sketch, slot, 1)?;
+    }
+    Ok(())
+}
+
+/// Whether a sketch is what a call made.
+fn is_made(sketch: &HllSketch, made: Result<HllSketch, Error>) -> Result<bool, Error> {
+    Ok(*sketch == made?)
+}
+
 /// One set of coupons in two orders is one sketch, and so are its copy and one that had each coupon twice; another
 /// width, `lg_k`, kind or coupon is not.
 fn equal_in(rt: &impl Abort, alloc: Global, lg_k: u8, count: u32) -> Result<(), Fail> {
     for hll_type in WIDTHS {
         let sketch = filled(alloc, lg_k, hll_type, count, 1)?;
-        let mut turned = HllSketch::new(alloc, lg_k, hll_type)?;
-        for slot in 0..count {
-            add(&mut turned, (count - 1) - slot, 1)?;
-        }
-        assert!(rt; sketch == turned && sketch == sketch.clone()?);
-        for slot in 0..count {
-            add(&mut turned, slot, 1)?;
-        }
+        assert!(rt; is_made(&sketch, sketch.clone())?);
+        let mut turned = turned(alloc, lg_k, hll_type, count)?;
+        assert!(rt; sketch == turned);
+        add_again(&mut turned, count)?;
         assert!(rt; sketch == turned);
         add(&mut turned, 0, 2)?;
         assert!(rt; sketch != turned && turned != sketch);
         for other in WIDTHS {
-            let same = sketch == filled(alloc, lg_k, other, count, 1)?;
+            let same = is_made(&sketch, filled(alloc, lg_k, other, count, 1))?;
             assert_eq!(rt; same, hll_type == other);
         }
         if lg_k < 21 {
-            assert!(rt; sketch != filled(alloc, lg_k + 1, hll_type, count, 1)?);
+            assert!(rt; !is_made(&sketch, filled(alloc, lg_k + 1, hll_type, count, 1))?);
         }
     }
     Ok(())

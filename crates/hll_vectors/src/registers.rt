@@ -84,29 +84,41 @@ fn joins(rt: HostRuntime) -> Result<(), Fail> {
     Ok(())
 }
 
+/// Registers of an `lg_k` with these values at these slots.
+fn updated(alloc: Global, lg_k: u8, coupons: &[(u32, u8)]) -> Result<Array8, Error>
+    requires { (4 ≤ lg_k) × (lg_k ≤ 21) }
+    ensures { IfOk result (λ a. a.lg_k ≡ lg_k) }
+{
+    let mut array = Array8::new(alloc, lg_k)?;
+    for (slot, value) in coupons {
+        array.update(Coupon::pack(*slot, (*value).min(63)));
+    }
+    Ok(array)
+}
+
+/// Registers of `lg_k` 4 that are 0, with the one and then the other merged into them, and a state read in between.
+fn joined<R: Registers, S: Registers>(alloc: Global, one: &R, other: &S) -> Result<Array8, Error>
+    requires one { 4 ≤ (R.stored one.now).lg_k }
+    requires other { 4 ≤ (S.stored other.now).lg_k }
+{
+    let mut array = Array8::new(alloc, 4)?;
+    merge_from(&mut array, one);
+    array.restore_estimate_state(READ);
+    merge_from(&mut array, other);
+    Ok(array)
+}
+
 /// Two sizes are joined at the smaller, in either order, and the state is cleared, also where no register changes.
 #[test]
 fn joins_of_two_sizes(rt: HostRuntime) -> Result<(), Fail> {
     let wanted =
         "0a0107040010000a0000000000000000000000000000000000000000000000000e00000000000000191e0000000000000000000000000000";
-    let mut small = Array8::new(rt.alloc(), 4)?;
-    small.update(Coupon::pack(0, 10));
-    small.update(Coupon::pack(1, 20));
-    let mut large = Array8::new(rt.alloc(), 5)?;
-    large.update(Coupon::pack(0, 15));
-    large.update(Coupon::pack(16, 25));
-    large.update(Coupon::pack(1, 18));
-    large.update(Coupon::pack(17, 30));
-    let mut joined = Array8::new(rt.alloc(), 4)?;
-    merge_from(&mut joined, &small);
-    merge_from(&mut joined, &large);
-    let written = hex::encode(rt.alloc(), joined.serialize(4)?)?;
+    let mut small = updated(rt.alloc(), 4, &[(0, 10), (1, 20)])?;
+    let large = updated(rt.alloc(), 5, &[(0, 15), (16, 25), (1, 18), (17, 30)])?;
+    let written = image_of(rt.alloc(), &joined(rt.alloc(), &small, &large)?)?;
     assert_eq!(rt; written.as_str(), wanted);
-    let mut joined = Array8::new(rt.alloc(), 4)?;
-    merge_from(&mut joined, &large);
-    joined.restore_estimate_state(READ);
-    merge_from(&mut joined, &small);
-    assert_eq!(rt; image_of(rt.alloc(), &joined)?.as_str(), wanted);
+    let written = image_of(rt.alloc(), &joined(rt.alloc(), &large, &small)?)?;
+    assert_eq!(rt; written.as_str(), wanted);
     for _ in 0..2 {
         small.restore_estimate_state(READ);
         assert!(rt; small.lg_k() < large.lg_k());

@@ -1,12 +1,14 @@
 //! Sketches: stages, arguments, places, texts, values and folds.
 use crate::coupons::Piece;
 use crate::hash::TEXT;
+use crate::unions::digits_of;
 use hll_base::error::{Error, ErrorKind, Reason};
 use hll_base::hll_type::HllType;
 use hll_coupons::coupon::Coupon;
 use hll_sketch::{HllSketch, HllUnion, Mode, Stage};
 use linked_list_allocator::LocalHeap;
 use std::alloc::Global;
+use std::fmt::Debug;
 use std::test::Fail;
 
 /// How many coupons, and what keeps them: a list of 8 places, a set of 32, registers of four bits; the number of coupons, and
@@ -26,13 +28,24 @@ fn stage_of(sketch: &HllSketch) -> Stage {
     }
 }
 
+/// A sketch with a coupon of value 1 at each slot below a number.
+pub(crate) fn sketch_with(
+    alloc: Global,
+    lg_k: u8,
+    hll_type: HllType,
+    count: u32,
+) -> Result<HllSketch, Error> {
+    let mut sketch = HllSketch::new(alloc, lg_k, hll_type)?;
+    for slot in 0..count {
+        sketch.update_with_coupon(Coupon::pack(slot, 1))?;
+    }
+    Ok(sketch)
+}
+
 #[test]
 fn stages(rt: HostRuntime) -> Result<(), Fail> {
     for (count, stage, coupons, size) in STAGES {
-        let mut sketch = HllSketch::new(rt.alloc(), 8, HllType::Hll4)?;
-        for slot in 0..count {
-            sketch.update_with_coupon(Coupon::pack(slot, 1))?;
-        }
+        let sketch = sketch_with(rt.alloc(), 8, HllType::Hll4, count)?;
         assert_eq!(rt;
             (
                 stage_of(&sketch),
@@ -78,7 +91,7 @@ fn folds(rt: HostRuntime) -> Result<(), Fail> {
     for lg_k in 4..11u8 {
         assert_eq!(rt; folded(rt.alloc(), lg_k)?.lg_config_k(), lg_k);
     }
-    let written = hex::encode(rt.alloc(), folded(rt.alloc(), 4)?.serialize()?)?;
+    let written = digits_of(rt.alloc(), &folded(rt.alloc(), 4)?)?;
     assert_eq!(rt; written.as_str(), "02010704030801080500000c");
     Ok(())
 }
@@ -88,6 +101,15 @@ fn folds(rt: HostRuntime) -> Result<(), Fail> {
 const SLOTS: [u32; 8] = [0, 32, 64, 96, 128, 160, 192, 224];
 
 const PLACED: [u32; 8] = [0, 32, 64, 128, 96, 192, 160, 224];
+
+/// A sketch with a coupon at each of these slots.
+fn sketch_at(alloc: Global, slots: [u32; 8]) -> Result<HllSketch, Error> {
+    let mut sketch = HllSketch::new(alloc, 10, HllType::Hll8)?;
+    for slot in slots {
+        sketch.update_with_coupon(Coupon::pack(slot, 1))?;
+    }
+    Ok(sketch)
+}
 
 /// The slots of a set in the order of places, of anything else none.
 fn placed(alloc: Global, sketch: &HllSketch) -> Result<Vec<u32>, Fail> {
@@ -103,13 +125,12 @@ fn placed(alloc: Global, sketch: &HllSketch) -> Result<Vec<u32>, Fail> {
 /// The image has them in ascending raw words.
 #[test]
 fn places(rt: HostRuntime) -> Result<(), Fail> {
-    let mut sketch = HllSketch::new(rt.alloc(), 10, HllType::Hll8)?;
-    for slot in SLOTS {
-        sketch.update_with_coupon(Coupon::pack(slot, 1))?;
-    }
-    let slots = placed(rt.alloc(), &sketch)?;
+    let sketch = sketch_at(rt.alloc(), SLOTS)?;
+    let (slots, written) = (
+        placed(rt.alloc(), &sketch)?,
+        digits_of(rt.alloc(), &sketch)?,
+    );
     assert_eq!(rt; slots.as_slice(), PLACED.as_slice());
-    let written = hex::encode(rt.alloc(), sketch.serialize()?)?;
     assert_eq!(rt;
         written.as_str(),
         "0301070a05080009080000000000000420000004400000046000000480000004a0000004c0000004e0000004"
@@ -150,19 +171,28 @@ const IN_ORDER_TEXT: &str =
 const UNION_TEXT: &str =
     "HllUnion { lg_max_k: 8, gadget: HllSketch { lg_config_k: 8, target_type: Hll8, mode: \"List\", is_empty: true } }";
 
+/// The text for debugging of what a call made.
+fn text_of<T: Debug + Drop>(alloc: Global, made: Result<T, Error>) -> Result<String, Fail> {
+    let made = made?;
+    Ok(format!(in alloc; "{made:?}")?)
+}
+
 #[test]
 fn texts(rt: HostRuntime) -> Result<(), Fail> {
     for (lg_k, hll_type, count, text) in TEXTS {
-        let mut sketch = HllSketch::new(rt.alloc(), lg_k, hll_type)?;
-        for slot in 0..count {
-            sketch.update_with_coupon(Coupon::pack(slot, 1))?;
-        }
-        assert_eq!(rt; format!(in rt.alloc(); "{sketch:?}")?.as_str(), text);
+        let shown = text_of(rt.alloc(), sketch_with(rt.alloc(), lg_k, hll_type, count))?;
+        assert_eq!(rt; shown.as_str(), text);
     }
-    let read = HllSketch::deserialize(rt.alloc(), &hex::decode(rt.alloc(), IN_ORDER)?)?;
-    assert_eq!(rt; format!(in rt.alloc(); "{read:?}")?.as_str(), IN_ORDER_TEXT);
-    let union = HllUnion::new(rt.alloc(), 8)?;
-    assert_eq!(rt; format!(in rt.alloc(); "{union:?}")?.as_str(), UNION_TEXT);
+    let shown = text_of(rt.alloc(), HllUnion::new(rt.alloc(), 8))?;
+    assert_eq!(rt; shown.as_str(), UNION_TEXT);
+    Ok(())
+}
+
+#[test]
+fn text_in_order(rt: HostRuntime) -> Result<(), Fail> {
+    let image = hex::decode(rt.alloc(), IN_ORDER)?;
+    let shown = text_of(rt.alloc(), HllSketch::deserialize(rt.alloc(), &image))?;
+    assert_eq!(rt; shown.as_str(), IN_ORDER_TEXT);
     Ok(())
 }
 
@@ -183,19 +213,34 @@ fn widths(rt: HostRuntime) -> Result<(), Fail> {
     Ok(())
 }
 
+/// A sketch after the coupon of a value.
+fn after_coupon(alloc: Global, bytes: &[u8]) -> Result<HllSketch, Error> {
+    let mut sketch = HllSketch::new(alloc, 10, HllType::Hll8)?;
+    sketch.update_with_coupon(Coupon::from_bytes(bytes))?;
+    Ok(sketch)
+}
+
+/// A sketch after a value.
+fn after_value(alloc: Global, bytes: &[u8]) -> Result<HllSketch, Error> {
+    let mut sketch = HllSketch::new(alloc, 10, HllType::Hll8)?;
+    sketch.update(Piece { bytes })?;
+    Ok(sketch)
+}
+
+/// The sketch of a union after a value.
+fn of_union(alloc: Global, bytes: &[u8]) -> Result<HllSketch, Error> {
+    let mut union = HllUnion::new(alloc, 10)?;
+    union.update_value(Piece { bytes })?;
+    union.into_sketch(HllType::Hll8)
+}
+
 /// A value is added to a sketch and to a union as the coupon of its bytes.
 #[test]
 fn values(rt: HostRuntime) -> Result<(), Fail> {
     for bytes in [&TEXT[..0], &TEXT[..15], &TEXT[15..]] {
-        let coupon = Coupon::from_bytes(bytes);
-        let mut sketch = HllSketch::new(rt.alloc(), 10, HllType::Hll8)?;
-        sketch.update_with_coupon(coupon)?;
-        let mut by_value = HllSketch::new(rt.alloc(), 10, HllType::Hll8)?;
-        by_value.update(Piece { bytes })?;
-        assert!(rt; by_value == sketch, "{bytes:?}");
-        let mut union = HllUnion::new(rt.alloc(), 10)?;
-        union.update_value(Piece { bytes })?;
-        assert!(rt; union.to_sketch(HllType::Hll8)? == sketch, "{bytes:?}");
+        let sketch = after_coupon(rt.alloc(), bytes)?;
+        assert!(rt; after_value(rt.alloc(), bytes)? == sketch, "{bytes:?}");
+        assert!(rt; of_union(rt.alloc(), bytes)? == sketch, "{bytes:?}");
     }
     Ok(())
 }

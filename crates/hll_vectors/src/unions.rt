@@ -1,4 +1,6 @@
 //! Unions: their `lg_k`, the tables that they take, and sketches that agree.
+use crate::sketches::sketch_with;
+use hll_base::error::Error;
 use hll_base::hll_type::HllType;
 use hll_coupons::coupon::Coupon;
 use hll_sketch::{HllSketch, HllUnion, agree};
@@ -43,13 +45,19 @@ const STEPS: [(&str, u8); 5] = [
     (SMALL, 4),
 ];
 
+/// Merges the sketch of an image into a union.
+fn merge_image(alloc: Global, union: &mut HllUnion, digits: &str) -> Result<(), Fail> {
+    let sketch = sketch_of(alloc, digits)?;
+    Ok(union.update(&sketch)?)
+}
+
 /// The `lg_k` goes down to that of registers, and a reset brings the bound back.
 #[test]
 fn lg_k(rt: HostRuntime) -> Result<(), Fail> {
     let mut union = HllUnion::new(rt.alloc(), 12)?;
     assert_eq!(rt; (union.lg_config_k(), union.is_empty()), (12, true));
     for (digits, lg_k) in STEPS {
-        union.update(&sketch_of(rt.alloc(), digits)?)?;
+        merge_image(rt.alloc(), &mut union, digits)?;
         assert_eq!(rt;
             (union.lg_config_k(), union.lg_max_k(), union.is_empty()),
             (lg_k, 12, false)
@@ -62,18 +70,23 @@ fn lg_k(rt: HostRuntime) -> Result<(), Fail> {
 }
 
 /// What is written for a sketch, in hexadecimal.
-fn digits_of(alloc: Global, sketch: &HllSketch) -> Result<String, Fail> {
+pub(crate) fn digits_of(alloc: Global, sketch: &HllSketch) -> Result<String, Fail> {
     Ok(hex::encode(alloc, sketch.serialize()?)?)
+}
+
+/// The sketch of eight bits of a union of one sketch.
+fn merged(alloc: Global, lg_max_k: u8, sketch: &HllSketch) -> Result<HllSketch, Error> {
+    let mut union = HllUnion::new(alloc, lg_max_k)?;
+    union.update(sketch)?;
+    union.to_sketch(HllType::Hll8)
 }
 
 /// A coupon at `lg_k` 4 keeps its slot whole.
 #[test]
 fn slots_stay_whole(rt: HostRuntime) -> Result<(), Fail> {
-    let mut union = HllUnion::new(rt.alloc(), 12)?;
     let mut sketch = HllSketch::new(rt.alloc(), 4, HllType::Hll8)?;
     sketch.update_with_coupon(Coupon::pack(16, 1))?;
-    union.update(&sketch)?;
-    let written = digits_of(rt.alloc(), &union.to_sketch(HllType::Hll8)?)?;
+    let written = digits_of(rt.alloc(), &merged(rt.alloc(), 12, &sketch)?)?;
     assert_eq!(rt; written.as_str(), "0201070c0308010810000004");
     Ok(())
 }
@@ -81,13 +94,8 @@ fn slots_stay_whole(rt: HostRuntime) -> Result<(), Fail> {
 /// 25 coupons at the bound of an empty union keep their table of 64 places.
 #[test]
 fn tables_are_taken_whole(rt: HostRuntime) -> Result<(), Fail> {
-    let mut union = HllUnion::new(rt.alloc(), 10)?;
-    let mut sketch = HllSketch::new(rt.alloc(), 10, HllType::Hll6)?;
-    for slot in 0..25u32 {
-        sketch.update_with_coupon(Coupon::pack(slot, 1))?;
-    }
-    union.update(&sketch)?;
-    assert_eq!(rt; union.to_sketch(HllType::Hll8)?.estimated_size(), 256);
+    let sketch = sketch_with(rt.alloc(), 10, HllType::Hll6, 25)?;
+    assert_eq!(rt; merged(rt.alloc(), 10, &sketch)?.estimated_size(), 256);
     Ok(())
 }
 
@@ -99,12 +107,18 @@ const AGREEMENTS: [(&str, &str, bool); 4] = [
     (EMPTY, SMALL, false),
 ];
 
+/// Whether the sketches of two images agree, asked either way.
+fn agree_either_way(alloc: Global, first: &str, second: &str) -> Result<(bool, bool), Fail> {
+    let one = sketch_of(alloc, first)?;
+    let two = sketch_of(alloc, second)?;
+    Ok((agree(&one, &two)?, agree(&two, &one)?))
+}
+
 #[test]
 fn agreement(rt: HostRuntime) -> Result<(), Fail> {
     for (first, second, wanted) in AGREEMENTS {
-        let a = sketch_of(rt.alloc(), first)?;
-        let b = sketch_of(rt.alloc(), second)?;
-        assert_eq!(rt; (agree(&a, &b)?, agree(&b, &a)?), (wanted, wanted));
+        let agreed = agree_either_way(rt.alloc(), first, second)?;
+        assert_eq!(rt; agreed, (wanted, wanted));
     }
     Ok(())
 }

@@ -1,0 +1,6 @@
+use Rattle.std.proofs.Common.{◌≡◌}
+use Rattle.hll_vectors.proofs.registers.updated.Given as goal
+
+-- the array keeps its size
+abbrev pub invariant-loop-slot : goal.invariant-loop-slot
+invariant-loop-slot l = l.array.lg_k ≡ l.lg_k
