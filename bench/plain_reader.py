@@ -165,4 +165,5 @@ def main():
     sys.exit(1 if differing or not counts else 0)
 
 
-main()
+if __name__ == "__main__":
+    main()

@@ -14,15 +14,16 @@ use Rattle.hll_registers.specs.Store.{Stored}
 abbrev pub same_stored : Stored → Stored → Bool
 same_stored = eq_of_both (on (λ a. a.lg_k) nat_eq) (eq_of_both (on (λ a. a.registers) (pointwise nat_eq)) (eq_of_both (on (λ a. a.state.words) (pointwise nat_eq)) (on (λ a. a.state.out_of_order) beq)))
 
-left : (s t : Bool) → (s && t) ≡ true → s ≡ true
+-- both sides of a conjunction
+pub left : (s t : Bool) → (s && t) ≡ true → s ≡ true
 left true t h = refl
 left false t h = h
 
-right : (s t : Bool) → (s && t) ≡ true → t ≡ true
+pub right : (s t : Bool) → (s && t) ≡ true → t ≡ true
 right true t h = h
 right false t h = absurd (true≢false (sym h))
 
-both : (s t : Bool) → s ≡ true → t ≡ true → (s && t) ≡ true
+pub both : (s t : Bool) → s ≡ true → t ≡ true → (s && t) ≡ true
 both true t h k = k
 both false t h k = h
 

@@ -4,7 +4,7 @@ ghost use Rattle.std.specs.Prelude.{◌≡◌, IfOk};
 use crate::fixtures::{first_of, new_in};
 use crate::images::{largest_in, read_in, written_in};
 use hll_arrays::Array8;
-use hll_base::error::{Error, Reason};
+use hll_base::error::Error;
 use hll_coupons::coupon::Coupon;
 use std::alloc::Allocator;
 use std::test::Fail;
@@ -16,24 +16,6 @@ pub(crate) const EIGHT: [u8; 16] = [1, 2, 3, 4, 5, 6, 7, 8, 0, 0, 0, 0, 0, 0, 0,
 pub(crate) const IMAGE: [u8; 56] = [
     10, 1, 7, 4, 0, 16, 0, 10, 0, 0, 0, 0, 0, 0, 0, 0, 0, 0, 0, 0, 0, 0, 0, 0, 0, 0, 0, 0, 0, 0, 0,
     0, 8, 0, 0, 0, 0, 0, 0, 0, 1, 2, 3, 4, 5, 6, 7, 8, 0, 0, 0, 0, 0, 0, 0, 0,
-];
-
-/// A byte of this image changed, by its place: how many registers are 0, or why it is refused.
-pub(crate) const CHANGES: [(usize, u8, Result<usize, Reason>); 14] = [
-    (32, 0, Ok(8)),
-    (32, 16, Ok(8)),
-    (32, 17, Err(Reason::Count)),
-    (33, 1, Err(Reason::Count)),
-    (35, 128, Err(Reason::Count)),
-    (36, 1, Err(Reason::Count)),
-    (39, 128, Err(Reason::Count)),
-    (40, 63, Ok(8)),
-    (40, 64, Err(Reason::Register)),
-    (40, 0, Ok(9)),
-    (48, 63, Ok(7)),
-    (48, 255, Err(Reason::Register)),
-    (55, 63, Ok(7)),
-    (55, 64, Err(Reason::Register)),
 ];
 
 /// The registers of `EIGHT`, by updates.

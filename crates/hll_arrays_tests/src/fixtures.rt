@@ -4,7 +4,7 @@ ghost use Rattle.std.specs.Prelude.{◌≤◌};
 use hll_arrays::merge::merge_from;
 use hll_arrays::{Array6, Array8, EstimateState, RegisterStore, Registers};
 use hll_base::cursor::SketchSlice;
-use hll_base::error::{Error, Reason};
+use hll_base::error::Error;
 use hll_coupons::coupon::Coupon;
 use std::alloc::{Allocator, Global};
 use std::process::Abort;
@@ -124,12 +124,4 @@ pub(crate) fn first_of<R: Registers>(store: &R) -> [u8; 16] {
         }
     }
     registers
-}
-
-/// Why a call failed.
-pub(crate) fn refusal_of<T: Drop>(answer: Result<T, Error>) -> Option<Reason> {
-    match answer {
-        Ok(_) => None,
-        Err(e) => Some(e.reason()),
-    }
 }

@@ -1,18 +1,15 @@
-//! Registers of four bits as a store: sizes, images, equality, values, conversions and merges, beside registers of eight
-//! bits and values worked out by hand.
+//! Registers of four bits as a store: sizes, equality, values and weights, worked out by hand.
 ghost use Rattle.std.specs.Prelude.{◌≤◌};
 ghost use Rattle.hll_kernels.specs.Packed.{AreRegisters};
 
-use crate::fixtures::{READ, coupons_in, first_of, merge, store_of};
+use crate::fixtures::{READ, first_of};
 use crate::four_bits::{assert_packed, one_in};
 use crate::images::compared_in;
-use crate::stores::{converted_in, folded_in, merged_in, updated};
-use hll_arrays::convert::convert;
+use crate::stores::updated;
 use hll_arrays::{Array4, Array8, EstimateState, RegisterStore, Registers};
 use hll_base::error::Error;
 use hll_base::hll_type::HllType;
 use hll_coupons::coupon::Coupon;
-use hll_coupons::reference::folded;
 use std::alloc::{Allocator, Global};
 use std::process::Abort;
 use std::test::Fail;
@@ -54,32 +51,6 @@ fn updates(rt: HostRuntime) -> Result<(), Fail> {
     Ok(())
 }
 
-#[test]
-fn updates_are_folds(rt: HostRuntime) -> Result<(), Fail> {
-    for lg_k in 4..13u8 {
-        let coupons = coupons_in(rt.alloc(), 3usize << lg_k)?;
-        folded_in::<Array4>(&rt, rt.alloc(), lg_k, &coupons)?;
-    }
-    Ok(())
-}
-
-/// The exceptions of an image ascend by value and then by slot, and the words of the state are written.
-#[test]
-fn ascending_exceptions(rt: HostRuntime) -> Result<(), Fail> {
-    let mut array = three_in(rt.alloc(), [9, 1, 5])?;
-    array.restore_estimate_state(READ);
-    let written = array.write_image()?;
-    assert_eq!(rt;
-        written.get(48..),
-        Some([9u8, 0, 0, 0x50, 1, 0, 0, 0x54, 5, 0, 0, 0x58].as_slice())
-    );
-    assert_eq!(rt;
-        (written[5], written[8], written[16], written[24]),
-        (8, 1, 2, 3)
-    );
-    Ok(())
-}
-
 /// Exceptions whose search begins at one place stand in the order of their arrival. Arrays with the same registers are
 /// equal all the same, and their images are.
 #[test]
@@ -97,19 +68,6 @@ fn histories(rt: HostRuntime) -> Result<(), Fail> {
     }
     let at_once: Array4 = RegisterStore::from_values(rt.alloc(), 4, &values)?;
     assert!(rt; array == at_once);
-    Ok(())
-}
-
-/// Exceptions that came and went leave none: raised in turn, or at once.
-#[test]
-fn risen(rt: HostRuntime) -> Result<(), Fail> {
-    let mut array = three_in(rt.alloc(), [1, 5, 9])?;
-    for slot in 0..16u32 {
-        array.update(Coupon::pack(slot, 30))?;
-    }
-    let at_once: Array4 = RegisterStore::from_values(rt.alloc(), 4, &[30; 16])?;
-    assert!(rt; array == at_once);
-    assert_eq!(rt; (array.estimated_size(), at_once.estimated_size()), (8, 8));
     Ok(())
 }
 
@@ -201,97 +159,5 @@ fn joins(rt: HostRuntime) -> Result<(), Fail> {
     array.join_into(4, &mut greater);
     assert_eq!(rt; greater, [50, 50, 50, 50, 3, 3, 3, 3]);
     array.join_into(16, &mut []);
-    Ok(())
-}
-
-/// Exceptions at the ends of blocks of 32 registers, with blocks between them that have none.
-#[test]
-fn joined_blocks(rt: HostRuntime) -> Result<(), Fail> {
-    let mut array = Array4::new(rt.alloc(), 7)?;
-    let mut expected = [5u8; 128];
-    for (slot, value) in [
-        (0usize, 15u8),
-        (31, 16),
-        (96, 63),
-        (127, 14),
-        (126, 40),
-        (33, 4),
-    ] {
-        array.update(Coupon::pack(slot as u32, value))?;
-        expected[slot] = value.max(5);
-    }
-    array.lg_k();
-    assert!(rt; array.num_registers() == 128);
-    let mut all = [5u8; 128];
-    array.join_into(0, &mut all);
-    assert_eq!(rt; all, expected);
-    let mut end = [0u8; 36];
-    array.join_into(92, &mut end);
-    assert_eq!(rt; (end[4], end[34], end[35], end[3]), (63, 40, 14, 0));
-    Ok(())
-}
-
-/// To four bits and back, and to eight and back, keeps registers, state and weights.
-#[test]
-fn conversions(rt: HostRuntime) -> Result<(), Fail> {
-    for lg_k in 4..11u8 {
-        let coupons = coupons_in(rt.alloc(), 500)?;
-        let array: Array8 = store_of(rt.alloc(), lg_k, &coupons)?;
-        let four: Array4 = converted_in(&rt, rt.alloc(), &array)?;
-        assert_eq!(rt; four.kxq_units(), array.kxq_units());
-        let updated: Array4 = store_of(rt.alloc(), lg_k, &coupons)?;
-        assert!(rt; four == updated);
-        assert!(rt; four.write_image()? == updated.write_image()?);
-        let mut back = Array8::new(rt.alloc(), lg_k)?;
-        merge(&rt, &mut back, &four);
-        back.restore_estimate_state(four.estimate_state());
-        let again: Array4 = convert(&back)?;
-        assert!(rt; again == four);
-    }
-    Ok(())
-}
-
-/// Merged into registers of eight bits, of the same size and of fewer.
-#[test]
-fn folds(rt: HostRuntime) -> Result<(), Fail> {
-    for (lg_k, src_lg_k) in &[
-        (4u8, 4u8),
-        (4, 5),
-        (4, 8),
-        (5, 5),
-        (6, 12),
-        (11, 12),
-        (4, 16),
-    ] {
-        let lg_k = (*lg_k).clamp(4, 21);
-        let coupons = coupons_in(rt.alloc(), 1000)?;
-        let (left, right) = coupons.split_at(coupons.len() / 3);
-        let fold = folded(rt.alloc(), &coupons, lg_k)?;
-        let source: Array8 = store_of(rt.alloc(), (*src_lg_k).clamp(4, 21), right)?;
-        merged_in::<Array4>(&rt, rt.alloc(), lg_k, left, &source, &fold)?;
-    }
-    Ok(())
-}
-
-/// Exceptions at slots that fold to one: the greatest stays.
-#[test]
-fn folded_exceptions(rt: HostRuntime) -> Result<(), Fail> {
-    let mut source = Array4::new(rt.alloc(), 6)?;
-    for (slot, value) in [
-        (3u32, 20u8),
-        (19, 41),
-        (35, 40),
-        (51, 1),
-        (12, 14),
-        (60, 15),
-    ] {
-        source.update(Coupon::pack(slot, value))?;
-    }
-    let mut merged = Array8::new(rt.alloc(), 4)?;
-    merge(&rt, &mut merged, &source);
-    let mut expected = [0u8; 16];
-    expected[3] = 41;
-    expected[12] = 15;
-    assert_eq!(rt; merged.values(), expected.as_slice());
     Ok(())
 }

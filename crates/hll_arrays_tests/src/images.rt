@@ -1,12 +1,10 @@
-//! Registers of eight and six bits: images written and read back, changed and cut, and copies.
+//! Registers of eight and six bits: images written and read back, and copies.
 ghost use Rattle.std.specs.Prelude.{◌≤◌, length};
 
-use crate::eight_bits::{self, eight_in};
+use crate::eight_bits::eight_in;
 use crate::fixtures::{Images, READ, first_of};
-use crate::six_bits::{self, three_in};
-use hll_arrays::kernels::count_zeros;
-use hll_arrays::{Array6, Array8, EstimateState, RegisterStore, Registers};
-use hll_base::error::Reason;
+use crate::six_bits::three_in;
+use hll_arrays::{EstimateState, RegisterStore, Registers};
 use hll_coupons::coupon::Coupon;
 use std::alloc::Global;
 use std::process::Abort;
@@ -58,40 +56,6 @@ pub(crate) fn written_in<S: Images<Global>>(
     written.extend_from_slice(&[255, 255])?;
     assert!(rt; S::read(alloc, &written, 4, false)? == store);
     Ok(())
-}
-
-/// How many registers of an image of `lg_k` 4 are 0, or why it is refused.
-fn zeros_in<S: Images<Global>>(alloc: Global, image: &[u8]) -> Result<usize, Reason> {
-    match S::read(alloc, image, 4, true) {
-        Ok(store) => Ok(count_zeros(&first_of(&store))),
-        Err(e) => Err(e.reason()),
-    }
-}
-
-/// A byte of an image changed, by its place, and what is read then. Then the image cut at each place after its header.
-fn changed_in<S: Images<Global>>(
-    rt: &impl Abort,
-    alloc: Global,
-    image: &[u8],
-    rows: &[(usize, u8, Result<usize, Reason>)],
-) -> Result<(), Fail> {
-    for (place, byte, read) in rows {
-        let mut changed = Vec::from_slice(alloc, image)?;
-        assert!(rt; *place < changed.len());
-        changed[*place] = *byte;
-        assert_eq!(rt; zeros_in::<S>(alloc, &changed), *read, "{place} {byte}");
-    }
-    for end in 8..image.len() {
-        assert_eq!(rt; zeros_in::<S>(alloc, &image[..end]), Err(Reason::Truncated));
-    }
-    Ok(())
-}
-
-/// The zero count is at 32, the exception count at 36, registers are from 40 on.
-#[test]
-fn changed_images(rt: HostRuntime) -> Result<(), Fail> {
-    changed_in::<Array8>(&rt, rt.alloc(), &eight_bits::IMAGE, &eight_bits::CHANGES)?;
-    changed_in::<Array6>(&rt, rt.alloc(), &six_bits::IMAGE, &six_bits::CHANGES)
 }
 
 /// The last register of the largest store, written through a slot above it, and its image read back.

@@ -18,8 +18,6 @@ mod images;
 #[cfg(test)]
 mod kernels;
 #[cfg(test)]
-mod places;
-#[cfg(test)]
 mod six_bits;
 #[cfg(test)]
 mod stores;

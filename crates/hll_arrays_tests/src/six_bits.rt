@@ -1,10 +1,10 @@
 //! Registers of six bits: groups of four, at values worked out by hand.
-ghost use Rattle.std.specs.Prelude.{◌≡◌, ◌≤◌, IfOk};
+ghost use Rattle.std.specs.Prelude.{◌≡◌, IfOk};
 
 use crate::fixtures::{first_of, new_in};
 use crate::images::{largest_in, read_in, written_in};
 use hll_arrays::{Array6, RegisterStore, Registers};
-use hll_base::error::{Error, Reason};
+use hll_base::error::Error;
 use hll_coupons::coupon::Coupon;
 use std::alloc::Allocator;
 use std::test::Fail;
@@ -17,24 +17,6 @@ pub(crate) const IMAGE: [u8; 53] = [
     0x0a, 0x01, 0x07, 0x04, 0x00, 0x10, 0x00, 0x06, 0, 0, 0, 0, 0, 0, 0, 0, 0, 0, 0, 0, 0, 0, 0, 0,
     0, 0, 0, 0, 0, 0, 0, 0, 0x0d, 0, 0, 0, 0, 0, 0, 0, 0xc0, 0xaf, 0xce, 0, 0, 0, 0, 0, 0, 0, 0, 0,
     0,
-];
-
-/// A byte of this image changed, by its place: how many registers are 0, or why it is refused.
-pub(crate) const CHANGES: [(usize, u8, Result<usize, Reason>); 14] = [
-    (32, 0, Ok(13)),
-    (32, 16, Ok(13)),
-    (32, 17, Err(Reason::Count)),
-    (33, 1, Err(Reason::Count)),
-    (35, 128, Err(Reason::Count)),
-    (36, 1, Err(Reason::Count)),
-    (39, 128, Err(Reason::Count)),
-    (40, 0xc1, Ok(12)),
-    (40, 0, Ok(13)),
-    (42, 0, Ok(14)),
-    (43, 1, Ok(12)),
-    (51, 4, Ok(12)),
-    (51, 255, Ok(11)),
-    (52, 255, Ok(13)),
 ];
 
 /// The registers of `THREE`, by updates.
@@ -57,37 +39,6 @@ fn new_registers(rt: HostRuntime) -> Result<(), Fail> {
             (array.is_empty(), array.num_zeros(), array.kxq_units()),
             (true, 1u32 << lg_k, 1u128 << (63 + lg_k))
         );
-    }
-    Ok(())
-}
-
-/// One register at `lg_k` 4 beside others that are all the same, by updates.
-fn one_in<A: Allocator>(alloc: A, slot: u32, value: u8, others: u8) -> Result<Array6<A>, Error>
-    requires value { value ≤ 63 }
-    requires others { others ≤ 63 }
-{
-    let mut array = Array6::new(alloc, 4)?;
-    for other in 0..16u32 {
-        if other != slot {
-            array.update(Coupon::pack(other, others));
-        }
-    }
-    array.update(Coupon::pack(slot, value));
-    Ok(array)
-}
-
-/// Each value at each slot beside registers that are all 0 or all 63, which stay so.
-#[test]
-fn neighbours(rt: HostRuntime) -> Result<(), Fail> {
-    for value in 0..64u8 {
-        for slot in 0..16usize {
-            for others in [0u8, 63] {
-                let array = one_in(rt.alloc(), slot as u32, value, others)?;
-                let mut expected = [others; 16];
-                expected[slot] = value;
-                assert_eq!(rt; first_of(&array), expected, "{value} {slot}");
-            }
-        }
     }
     Ok(())
 }

@@ -1,11 +1,13 @@
-//! Registers of eight and six bits and of a representation that `hll_arrays` does not know: updates, merges and
-//! conversions, beside the reference functions.
+//! Registers of each width and of a representation that `hll_arrays` does not know: updates, merges and conversions, beside
+//! the reference functions.
 ghost use Rattle.std.specs.Prelude.{◌≤◌};
 
 use crate::array16::Array16;
 use crate::fixtures::{READ, coupons_in, first_of, merge, store_of};
 use hll_arrays::convert::convert;
-use hll_arrays::{Array6, Array8, EstimateState, RegisterStore, Registers};
+use hll_arrays::merge::merge_from;
+use hll_arrays::{Array4, Array6, Array8, EstimateState, RegisterStore, Registers};
+use hll_base::error::Error;
 use hll_base::hll_type::HllType;
 use hll_coupons::coupon::Coupon;
 use hll_coupons::reference::{folded, joined};
@@ -84,7 +86,7 @@ fn updates_of_six_bits(rt: HostRuntime) -> Result<(), Fail> {
 }
 
 /// Updates are the fold of their coupons.
-pub(crate) fn folded_in<S: RegisterStore<Global>>(
+fn folded_in<S: RegisterStore<Global>>(
     rt: &impl Abort,
     alloc: Global,
     lg_k: u8,
@@ -124,81 +126,76 @@ fn updates_are_folds(rt: HostRuntime) -> Result<(), Fail> {
         let coupons = coupons_in(rt.alloc(), 3usize << lg_k)?;
         folded_in::<Array8>(&rt, rt.alloc(), lg_k, &coupons)?;
         folded_in::<Array6>(&rt, rt.alloc(), lg_k, &coupons)?;
+        folded_in::<Array4>(&rt, rt.alloc(), lg_k, &coupons)?;
         folded_in::<Array16<_>>(&rt, rt.alloc(), lg_k, &coupons)?;
         joined_in(&rt, rt.alloc(), lg_k, &coupons)?;
     }
     Ok(())
 }
 
-/// The registers of coupons merged with a source in this representation are this fold, and the state is cleared.
-pub(crate) fn merged_in<S: RegisterStore<Global>>(
-    rt: &impl Abort,
+/// Whether the registers of coupons, merged with a source of no smaller `lg_k` in this representation, are a fold with the
+/// cleared state.
+fn merges_to<S: RegisterStore<Global>>(
     alloc: Global,
     lg_k: u8,
     coupons: &[Coupon],
     source: &Array8,
     fold: &[u8],
-) -> Result<(), Fail>
+) -> Result<bool, Error>
     requires least { 4 ≤ lg_k }
     requires most { lg_k ≤ 21 }
 {
     let source: S = convert(source)?;
     let mut array: Array8 = store_of(alloc, lg_k, coupons)?;
-    merge(rt, &mut array, &source);
-    assert_eq!(rt;
-        (array.values(), array.estimate_state()),
-        (fold, EstimateState::CLEARED)
-    );
-    Ok(())
+    if array.lg_k() <= source.lg_k() {
+        merge_from(&mut array, &source);
+    }
+    Ok(array.values() == fold && array.estimate_state() == EstimateState::CLEARED)
 }
 
-/// As `merged_in`, from a larger source.
-fn downsampled_in(
+/// A merge from a size and each representation gives the fold of all coupons.
+fn folds_from(
     rt: &impl Abort,
     alloc: Global,
     lg_k: u8,
+    src_lg_k: u8,
     coupons: &[Coupon],
-    source: &Array8,
-    fold: &[u8],
 ) -> Result<(), Fail>
-    requires least { 4 ≤ lg_k }
-    requires most { lg_k ≤ 21 }
+    requires lg_k { (4 ≤ lg_k) × (lg_k ≤ 21) }
+    requires src_lg_k { (4 ≤ src_lg_k) × (src_lg_k ≤ 21) }
 {
-    let mut array: Array8 = store_of(alloc, lg_k, coupons)?;
-    if array.lg_k() < source.lg_k() {
-        array.merge_array_with_downsample(source.values(), source.lg_k());
-        assert_eq!(rt; array.values(), fold);
-    }
+    let (left, right) = coupons.split_at(coupons.len() / 3);
+    let fold = folded(alloc, coupons, lg_k)?;
+    let source: Array8 = store_of(alloc, src_lg_k, right)?;
+    let eight = merges_to::<Array8>(alloc, lg_k, left, &source, &fold);
+    let six = merges_to::<Array6>(alloc, lg_k, left, &source, &fold);
+    let four = merges_to::<Array4>(alloc, lg_k, left, &source, &fold);
+    assert_eq!(rt; (eight, six, four), (Ok(true), Ok(true), Ok(true)));
+    let sixteen = merges_to::<Array16<_>>(alloc, lg_k, left, &source, &fold);
+    assert_eq!(rt; sixteen, Ok(true));
     Ok(())
 }
 
-/// A merge from each size and each representation gives the fold of all coupons.
 #[test]
 fn folds(rt: HostRuntime) -> Result<(), Fail> {
-    for (lg_k, src_lg_k) in &[
+    let coupons = coupons_in(rt.alloc(), 1000)?;
+    for (lg_k, src_lg_k) in [
         (4u8, 4u8),
         (4, 5),
         (4, 8),
         (5, 5),
         (6, 12),
         (11, 12),
-        (4, 21),
+        (4, 16),
     ] {
-        let lg_k = (*lg_k).clamp(4, 21);
-        let coupons = coupons_in(rt.alloc(), 1000)?;
-        let (left, right) = coupons.split_at(coupons.len() / 3);
-        let fold = folded(rt.alloc(), &coupons, lg_k)?;
-        let source: Array8 = store_of(rt.alloc(), (*src_lg_k).clamp(4, 21), right)?;
-        merged_in::<Array8>(&rt, rt.alloc(), lg_k, left, &source, &fold)?;
-        merged_in::<Array6>(&rt, rt.alloc(), lg_k, left, &source, &fold)?;
-        merged_in::<Array16<_>>(&rt, rt.alloc(), lg_k, left, &source, &fold)?;
-        downsampled_in(&rt, rt.alloc(), lg_k, left, &source, &fold)?;
+        let (lg_k, src_lg_k) = (lg_k.clamp(4, 21), src_lg_k.clamp(4, 21));
+        folds_from(&rt, rt.alloc(), lg_k, src_lg_k, &coupons)?;
     }
     Ok(())
 }
 
 /// A conversion keeps registers and state, there and back.
-pub(crate) fn converted_in<S: RegisterStore<Global>>(
+fn converted_in<S: RegisterStore<Global>>(
     rt: &impl Abort,
     alloc: Global,
     array: &Array8,
@@ -225,15 +222,31 @@ fn widened_in(rt: &impl Abort, alloc: Global, array: &Array8) -> Result<(), Fail
     Ok(())
 }
 
+/// The weights of registers converted to six bits.
+fn units_of_six(rt: &impl Abort, alloc: Global, array: &Array8) -> Result<u128, Fail> {
+    let six: Array6 = converted_in(rt, alloc, array)?;
+    Ok(six.kxq_units())
+}
+
+/// The weights of registers converted to four bits.
+fn units_of_four(rt: &impl Abort, alloc: Global, array: &Array8) -> Result<u128, Fail> {
+    let four: Array4 = converted_in(rt, alloc, array)?;
+    Ok(four.kxq_units())
+}
+
+/// Registers of coupons, converted to each representation and back.
+fn convert_each(rt: &impl Abort, alloc: Global, array: &Array8) -> Result<(), Fail> {
+    assert_eq!(rt; units_of_six(rt, alloc, array)?, array.kxq_units());
+    assert_eq!(rt; units_of_four(rt, alloc, array)?, array.kxq_units());
+    widened_in(rt, alloc, array)
+}
+
 #[test]
 fn conversions(rt: HostRuntime) -> Result<(), Fail> {
+    let coupons = coupons_in(rt.alloc(), 500)?;
     for lg_k in 4..11u8 {
-        let coupons = coupons_in(rt.alloc(), 500)?;
         let array: Array8 = store_of(rt.alloc(), lg_k, &coupons)?;
-        assert!(rt; converted_in::<Array8>(&rt, rt.alloc(), &array)? == array);
-        let six: Array6 = converted_in(&rt, rt.alloc(), &array)?;
-        assert_eq!(rt; six.kxq_units(), array.kxq_units());
-        widened_in(&rt, rt.alloc(), &array)?;
+        convert_each(&rt, rt.alloc(), &array)?;
     }
     Ok(())
 }

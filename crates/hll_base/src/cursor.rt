@@ -92,23 +92,3 @@ impl<'a> SketchSlice<'a> {
         }
     }
 }
-
-#[cfg(test)]
-mod tests {
-    use super::*;
-    use std::test::Fail;
-
-    /// A byte and three more; then too few are left for three.
-    #[test]
-    fn reads(rt: HostRuntime) -> Result<(), Fail> {
-        let mut cursor = SketchSlice::new(&[1, 2, 3, 4, 5, 6]);
-        assert_eq!(rt; cursor.read_u8()?, 1);
-        let mut buffer = [0; 3];
-        cursor.read_exact(&mut buffer)?;
-        assert_eq!(rt; buffer, [2, 3, 4]);
-        assert!(rt; cursor.read_exact(&mut buffer).is_err());
-        assert_eq!(rt; buffer, [2, 3, 4]);
-        assert_eq!(rt; cursor.remaining(), [5, 6].as_slice());
-        Ok(())
-    }
-}

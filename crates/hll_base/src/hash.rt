@@ -139,6 +139,3 @@ impl Hasher for MurmurHash3X64128 {
         self.write(bytes);
     }
 }
-
-#[cfg(test)]
-mod tests;

@@ -3,8 +3,7 @@ ghost use Rattle.std.specs.Prelude.{◌≡◌, ◌^◌, ◌<◌, ◌≤◌, IfOk
 
 use hll_base::error::Error;
 use hll_coupons::aux_map::AuxMap;
-use std::alloc::Allocator;
-use std::test::Fail;
+use std::alloc::{Allocator, Global};
 
 /// How many slots there are.
 fn slots(lg_k: u8) -> u32
@@ -84,17 +83,31 @@ const FOUR_PLACES: Places = (
     32,
 );
 
+/// The places of a map to which these entries came, and those of its copy.
+fn placed(alloc: Global, entries: &[(u32, u8)]) -> Result<(Places, Places), Error> {
+    let map = map_of(alloc, 4, entries)?;
+    let places = places_of(&map);
+    Ok((places, places_of(&map.clone()?)))
+}
+
+/// The first five entries that a map gives which is used up.
+fn given(alloc: Global, entries: &[(u32, u8)]) -> Result<[Option<(u32, u8)>; 5], Error> {
+    let mut entries = map_of(alloc, 4, entries)?.into_iter();
+    Ok([
+        entries.next(),
+        entries.next(),
+        entries.next(),
+        entries.next(),
+        entries.next(),
+    ])
+}
+
 #[test]
-fn places(rt: HostRuntime) -> Result<(), Fail> {
-    assert_eq!(rt; places_of(&map_of(rt.alloc(), 4, &THREE)?), THREE_PLACES);
-    let map = map_of(rt.alloc(), 4, &FOUR)?;
-    assert_eq!(rt; places_of(&map), FOUR_PLACES);
-    assert_eq!(rt; places_of(&map.clone()?), FOUR_PLACES);
-    let mut entries = map.into_iter();
-    for entry in FOUR_PLACES.0 {
-        assert_eq!(rt; entries.next(), entry);
+fn places(rt: HostRuntime) {
+    for (entries, places) in [(THREE.as_slice(), THREE_PLACES), (&FOUR, FOUR_PLACES)] {
+        assert_eq!(rt; placed(rt.alloc(), entries), Ok((places, places)));
+        assert_eq!(rt; given(rt.alloc(), entries), Ok(places.0));
     }
-    Ok(())
 }
 
 /// Entries at `lg_k` 4, and whether their map is the one of three entries.
@@ -106,15 +119,25 @@ const COMPARED: [(&[(u32, u8)], bool); 5] = [
     (&FOUR, false),
 ];
 
+/// Whether a map of three entries at `lg_k` 4 is that of these at another, asked either way.
+fn equals_three(alloc: Global, lg_k: u8, entries: &[(u32, u8)]) -> Result<(bool, bool), Error>
+    requires least { 4 ≤ lg_k }
+    requires most { lg_k ≤ 21 }
+{
+    let three = map_of(alloc, 4, &THREE)?;
+    let map = map_of(alloc, lg_k, entries)?;
+    Ok((three == map, map == three))
+}
+
 /// Places don't count, `lg_k`, slots and values do.
 #[test]
-fn equal_by_entries(rt: HostRuntime) -> Result<(), Fail> {
-    let three = map_of(rt.alloc(), 4, &THREE)?;
+fn equal_by_entries(rt: HostRuntime) {
     for (entries, same) in COMPARED {
-        let map = map_of(rt.alloc(), 4, entries)?;
-        assert_eq!(rt; (three == map, map == three), (same, same));
-        assert!(rt; !same || places_of(&three) != places_of(&map));
+        assert_eq!(rt;
+            equals_three(rt.alloc(), 4, entries),
+            Ok((same, same)),
+            "{entries:?}"
+        );
     }
-    assert!(rt; three != map_of(rt.alloc(), 5, &THREE)?);
-    Ok(())
+    assert_eq!(rt; equals_three(rt.alloc(), 5, &THREE), Ok((false, false)));
 }

@@ -2,12 +2,12 @@
 ghost use Rattle.std.specs.Prelude.{◌≡◌, IfOk};
 
 use hll_base::cursor::SketchSlice;
-use hll_base::error::Reason;
+use hll_base::error::{Error, Reason};
 use hll_base::hll_type::HllType;
 use hll_coupons::container::{Container, Insertion};
 use hll_coupons::coupon::Coupon;
 use hll_coupons::list::List;
-use std::alloc::Allocator;
+use std::alloc::{Allocator, Global};
 use std::test::Fail;
 
 /// The images at `lg_k` 10 and eight bits of a list with no coupon, and with slot 5 and value 3.
@@ -26,7 +26,7 @@ fn add<A: Allocator>(list: &mut List<A>)
 }
 
 /// A list with slot 5 and value 3, which came twice.
-fn list_in<A: Allocator>(alloc: A) -> List<A>
+fn list_in(alloc: Global) -> List
     ensures { result.lg_size ≡ 3 }
 {
     let mut list = List::default_in(alloc);
@@ -35,36 +35,47 @@ fn list_in<A: Allocator>(alloc: A) -> List<A>
     list
 }
 
+/// Whether a list is written as these bytes at `lg_k` 10 and eight bits, in memory for just as many.
+fn is_written(list: List, image: &[u8]) -> Result<bool, Error>
+    requires { list.lg_size ≡ 3 }
+{
+    let written = list.serialize(10, HllType::Hll8)?;
+    Ok(written.as_slice() == image && written.capacity() == image.len())
+}
+
 #[test]
-fn images(rt: HostRuntime) -> Result<(), Fail> {
-    let empty = List::default_in(rt.alloc());
-    let image = empty.serialize(10, HllType::Hll8)?;
-    assert_eq!(rt; image.as_slice(), EMPTY_IMAGE.as_slice());
-    assert_eq!(rt; image.capacity(), 8);
-    let list = list_in(rt.alloc());
-    let image = list.serialize(10, HllType::Hll8)?;
-    assert_eq!(rt; image.as_slice(), IMAGE.as_slice());
-    assert_eq!(rt; image.capacity(), 12);
-    Ok(())
+fn images(rt: HostRuntime) {
+    assert_eq!(rt;
+        is_written(List::default_in(rt.alloc()), &EMPTY_IMAGE),
+        Ok(true)
+    );
+    assert_eq!(rt; is_written(list_in(rt.alloc()), &IMAGE), Ok(true));
 }
 
 /// A list of two coupons in descending order, and one that has them the other way round, have one image; their places
 /// stay as they are.
 const TWO_IMAGE: [u8; 16] = [2, 1, 7, 10, 3, 8, 2, 8, 5, 0, 0, 4, 7, 0, 0, 8];
 
+/// The first coupon of a list of two, if it is written as `TWO_IMAGE`.
+fn first_of_two(alloc: Global, bytes: &[u8]) -> Result<Option<Coupon>, Error> {
+    let list = List::deserialize(alloc, SketchSlice::new(bytes), 3, 2, false, true)?;
+    let first = list.container().iter().next();
+    Ok(if is_written(list, &TWO_IMAGE)? {
+        first
+    } else {
+        None
+    })
+}
+
 #[test]
-fn written_in_ascending_order(rt: HostRuntime) -> Result<(), Fail> {
+fn written_in_ascending_order(rt: HostRuntime) {
     let descending = [7, 0, 0, 8, 5, 0, 0, 4];
     for (bytes, first) in [
         (descending.as_slice(), Coupon::pack(7, 2)),
         (&TWO_IMAGE[8..], Coupon::pack(5, 1)),
     ] {
-        let list = List::deserialize(rt.alloc(), SketchSlice::new(bytes), 3, 2, false, true)?;
-        let image = list.serialize(10, HllType::Hll8)?;
-        assert_eq!(rt; image.as_slice(), TWO_IMAGE.as_slice());
-        assert_eq!(rt; list.container().iter().next(), Some(first));
+        assert_eq!(rt; first_of_two(rt.alloc(), bytes), Ok(Some(first)));
     }
-    Ok(())
 }
 
 /// A container of one empty place.
@@ -77,17 +88,33 @@ fn containers(rt: HostRuntime) -> Result<(), Fail> {
     Ok(())
 }
 
+/// Whether a list is what a call made, asked either way.
+fn equals(list: &List, made: Result<List, Error>) -> Result<(bool, bool), Error> {
+    let other = made?;
+    Ok((*list == other, other == *list))
+}
+
+/// A list with sixteen places, and the coupon of `add` as often.
+fn larger(alloc: Global, times: u8) -> Result<List, Error> {
+    let mut list = List::new(alloc, 4)?;
+    for _ in 0..times {
+        add(&mut list);
+    }
+    Ok(list)
+}
+
+/// Whether the container of a list is equal to its copy.
+fn is_copied(list: &List) -> Result<bool, Error> {
+    Ok(*list.container() == list.container().clone()?)
+}
+
 #[test]
-fn sizes_do_not_count(rt: HostRuntime) -> Result<(), Fail> {
+fn sizes_do_not_count(rt: HostRuntime) {
     let list = list_in(rt.alloc());
-    let mut larger = List::new(rt.alloc(), 4)?;
-    assert!(rt; list != larger);
-    add(&mut larger);
-    assert!(rt; list == larger);
-    assert!(rt; list == list.clone()?);
-    assert!(rt; *list.container() == list.container().clone()?);
-    assert!(rt; Container::new(rt.alloc(), 0)?.is_empty());
-    Ok(())
+    assert_eq!(rt; equals(&list, larger(rt.alloc(), 0)), Ok((false, false)));
+    assert_eq!(rt; equals(&list, larger(rt.alloc(), 1)), Ok((true, true)));
+    assert_eq!(rt; equals(&list, list.clone()), Ok((true, true)));
+    assert_eq!(rt; is_copied(&list), Ok(true));
 }
 
 /// Two coupons, then an empty place and the second coupon's bytes once more.
@@ -145,16 +172,36 @@ fn lists_are_read(rt: HostRuntime) -> Result<(), Fail> {
     Ok(())
 }
 
+/// What a list does with a coupon of value 3, up to a number of coupons.
+fn insertion(list: &mut List, slot: u32, most: usize) -> Option<Insertion> {
+    let coupon = Coupon::pack(slot, 3);
+    let most = most.min(list.container().capacity());
+    if coupon.value() == 0 {
+        return None;
+    }
+    Some(list.update_within(coupon, most))
+}
+
+/// Slots, numbers of coupons, and what a list does with the coupon.
+const INSERTIONS: [(u32, usize, Insertion); 6] = [
+    (5, 0, Insertion::Refused),
+    (5, 1, Insertion::Added),
+    (5, 1, Insertion::Held),
+    (6, 1, Insertion::Refused),
+    (6, 8, Insertion::Added),
+    (5, 1, Insertion::Refused),
+];
+
 /// A list takes a coupon up to a number of coupons, and a held one where it has no more already.
 #[test]
 fn insertions(rt: HostRuntime) {
     let mut list = List::default_in(rt.alloc());
-    let (first, second) = (Coupon::pack(5, 3), Coupon::pack(6, 3));
-    assert_eq!(rt; list.update_within(first, 0), Insertion::Refused);
-    assert_eq!(rt; list.update_within(first, 1), Insertion::Added);
-    assert_eq!(rt; list.update_within(first, 1), Insertion::Held);
-    assert_eq!(rt; list.update_within(second, 1), Insertion::Refused);
-    assert_eq!(rt; list.update_within(second, 8), Insertion::Added);
-    assert_eq!(rt; list.update_within(first, 1), Insertion::Refused);
+    for (slot, most, wanted) in INSERTIONS {
+        assert_eq!(rt;
+            insertion(&mut list, slot, most),
+            Some(wanted),
+            "{slot} {most}"
+        );
+    }
     assert_eq!(rt; list.container().len(), 2);
 }

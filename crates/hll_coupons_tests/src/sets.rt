@@ -8,7 +8,7 @@ use hll_coupons::container::Insertion;
 use hll_coupons::coupon::Coupon;
 use hll_coupons::hash_set::HashSet;
 use linked_list_allocator::LocalHeap;
-use std::alloc::Allocator;
+use std::alloc::{Allocator, Global};
 use std::test::Fail;
 
 /// A coupon, where it has a value, and a place is free or it is there.
@@ -65,20 +65,41 @@ fn places(rt: HostRuntime) -> Result<(), Fail> {
     Ok(())
 }
 
+/// Whether the set of `four` is the set of these coupons in 2^`lg_size` places, asked either way.
+fn equals_four(alloc: Global, lg_size: usize, coupons: &[Coupon]) -> Result<(bool, bool), Error>
+    requires { lg_size ≤ 26 }
+{
+    let set = set_of(alloc, 2, &four())?;
+    let other = set_of(alloc, lg_size, coupons)?;
+    Ok((set == other, other == set))
+}
+
+/// Whether a set is equal to its copy.
+fn is_copied(alloc: Global) -> Result<bool, Error> {
+    let set = set_of(alloc, 2, &four())?;
+    Ok(set == set.clone()?)
+}
+
+/// Whether a new set is equal to one of one place.
+fn new_sets_are_equal(alloc: Global) -> Result<bool, Error> {
+    let set = HashSet::default_in(alloc)?;
+    Ok(set == HashSet::new(alloc, 0)?)
+}
+
 #[test]
-fn sizes_and_places_do_not_count(rt: HostRuntime) -> Result<(), Fail> {
+fn sizes_and_places_do_not_count(rt: HostRuntime) {
     let [first, second, third, fourth] = four();
-    let set = set_of(rt.alloc(), 2, &four())?;
     let turned = [fourth, third, second, first, fourth];
-    assert!(rt; set == set_of(rt.alloc(), 2, &turned)?);
-    assert!(rt; set == set_of(rt.alloc(), 5, &turned)?);
-    assert!(rt; set == set.clone()?);
-    assert!(rt; set != set_of(rt.alloc(), 2, &[second, third, fourth])?);
-    assert!(rt; set_of(rt.alloc(), 2, &[second, third, fourth])? != set);
+    assert_eq!(rt; equals_four(rt.alloc(), 2, &turned), Ok((true, true)));
+    assert_eq!(rt; equals_four(rt.alloc(), 5, &turned), Ok((true, true)));
+    assert_eq!(rt;
+        equals_four(rt.alloc(), 2, &turned[..3]),
+        Ok((false, false))
+    );
     let other = [first, second, third, Coupon::pack(9, 6)];
-    assert!(rt; set != set_of(rt.alloc(), 2, &other)?);
-    assert!(rt; HashSet::default_in(rt.alloc())? == HashSet::new(rt.alloc(), 0)?);
-    Ok(())
+    assert_eq!(rt; equals_four(rt.alloc(), 2, &other), Ok((false, false)));
+    assert_eq!(rt; is_copied(rt.alloc()), Ok(true));
+    assert_eq!(rt; new_sets_are_equal(rt.alloc()), Ok(true));
 }
 
 /// The image at `lg_k` 12 and eight bits of slots 16 to 23 with values 1 to 8, in 32 places.
@@ -87,19 +108,42 @@ const EIGHT_IMAGE: [u8; 44] = [
     0, 0, 20, 21, 0, 0, 24, 22, 0, 0, 28, 23, 0, 0, 32,
 ];
 
-#[test]
-fn images(rt: HostRuntime) -> Result<(), Fail> {
-    let mut set = HashSet::default_in(rt.alloc())?;
+/// The set of this image, its coupons in another order.
+fn eight_in(alloc: Global) -> Result<HashSet, Error> {
+    let mut set = HashSet::default_in(alloc)?;
     for value in [3, 1, 2, 8, 7, 6, 5, 4] {
         add(&mut set, Coupon::pack(15 + value as u32, value));
     }
-    assert_eq!(rt; set.container().lg_size(), 5);
-    assert!(rt; !set.container().is_full());
-    let image = set.serialize(12, HllType::Hll8)?;
-    assert_eq!(rt; image.as_slice(), EIGHT_IMAGE.as_slice());
-    assert_eq!(rt; image.capacity(), 44);
-    let cursor = SketchSlice::new(&EIGHT_IMAGE[8..]);
-    assert!(rt; HashSet::deserialize(rt.alloc(), cursor, 5, true)? == set);
+    Ok(set)
+}
+
+/// The image of a set of 32 places, none where there are other places or no empty one.
+fn image_of(set: &HashSet) -> Result<Option<Vec<u8>>, Error> {
+    if set.container().lg_size() != 5 || set.container().is_full() {
+        return Ok(None);
+    }
+    Ok(Some(set.serialize(12, HllType::Hll8)?))
+}
+
+/// Whether a set is written as an image, in memory for just as many bytes.
+fn is_written(set: &HashSet, image: &[u8]) -> Result<bool, Error> {
+    match image_of(set)? {
+        Some(written) => Ok(written.as_slice() == image && written.capacity() == image.len()),
+        None => Ok(false),
+    }
+}
+
+/// Whether a set is read from an image.
+fn is_read(set: &HashSet, alloc: Global, image: &[u8; 44]) -> Result<bool, Error> {
+    let cursor = SketchSlice::new(&image[8..]);
+    Ok(HashSet::deserialize(alloc, cursor, 5, true)? == *set)
+}
+
+#[test]
+fn images(rt: HostRuntime) -> Result<(), Fail> {
+    let set = eight_in(rt.alloc())?;
+    assert_eq!(rt; is_written(&set, &EIGHT_IMAGE), Ok(true));
+    assert_eq!(rt; is_read(&set, rt.alloc(), &EIGHT_IMAGE), Ok(true));
     Ok(())
 }
 
@@ -195,18 +239,38 @@ fn bytes_come_before_memory(rt: HostRuntime) -> Result<(), Fail> {
     Ok(())
 }
 
+/// What a set does with a coupon of value 3, up to a number of coupons.
+fn insertion(set: &mut HashSet, slot: u32, most: usize) -> Option<Insertion> {
+    let coupon = Coupon::pack(slot, 3);
+    let most = most.min(set.container().capacity());
+    if coupon.value() == 0 {
+        return None;
+    }
+    Some(set.update_within(coupon, most))
+}
+
+/// Slots, numbers of coupons, and what a set of two places does with the coupon.
+const INSERTIONS: [(u32, usize, Insertion); 7] = [
+    (5, 0, Insertion::Refused),
+    (5, 2, Insertion::Added),
+    (6, 1, Insertion::Refused),
+    (6, 2, Insertion::Added),
+    (5, 2, Insertion::Held),
+    (7, 2, Insertion::Refused),
+    (5, 1, Insertion::Refused),
+];
+
 /// A full set takes no more coupons, but has those that it holds; with fewer allowed it refuses these too.
 #[test]
 fn insertions(rt: HostRuntime) -> Result<(), Fail> {
     let mut set = HashSet::new(rt.alloc(), 1)?;
-    let (first, second, third) = (Coupon::pack(5, 3), Coupon::pack(6, 3), Coupon::pack(7, 3));
-    assert_eq!(rt; set.update_within(first, 0), Insertion::Refused);
-    assert_eq!(rt; set.update_within(first, 2), Insertion::Added);
-    assert_eq!(rt; set.update_within(second, 1), Insertion::Refused);
-    assert_eq!(rt; set.update_within(second, 2), Insertion::Added);
-    assert_eq!(rt; set.update_within(first, 2), Insertion::Held);
-    assert_eq!(rt; set.update_within(third, 2), Insertion::Refused);
-    assert_eq!(rt; set.update_within(first, 1), Insertion::Refused);
+    for (slot, most, wanted) in INSERTIONS {
+        assert_eq!(rt;
+            insertion(&mut set, slot, most),
+            Some(wanted),
+            "{slot} {most}"
+        );
+    }
     assert_eq!(rt; set.container().len(), 2);
     Ok(())
 }

@@ -3,7 +3,7 @@ use crate::harness::Heap;
 use crate::sketches::{Shape, WIDTHS, sketch_in};
 use crate::unions::union_in;
 use hll_base::hll_type::HllType;
-use hll_sketch::agree;
+use hll_sketch::{HllSketch, agree};
 use hll_text::fault::Fault;
 use std::test::Fail;
 
@@ -26,12 +26,21 @@ fn agree_asks<'h>(
     shape: Shape,
 ) -> Result<(u64, u64), Fault> {
     full.admit();
-    let one = sketch_in(heap, hll_type, (10, 0, 90))?;
     let other = sketch_in(full, hll_type, shape)?;
     full.refuse_all();
-    heap.admit();
-    agree(&one, &other)?;
+    agree_with(heap, hll_type, &other)?;
     Ok((heap.asked(), full.asked()))
+}
+
+/// Asks whether a sketch of this heap agrees with another one, and counts the requests to this heap for that.
+fn agree_with<'h>(
+    heap: &'h Heap,
+    hll_type: HllType,
+    other: &HllSketch<&'h Heap>,
+) -> Result<bool, Fault> {
+    let one = sketch_in(heap, hll_type, (10, 0, 90))?;
+    heap.admit();
+    Ok(agree(&one, other)?)
 }
 
 #[test]
@@ -58,10 +67,15 @@ fn update_asks<'h>(
 ) -> Result<u64, Fault> {
     full.admit();
     let other = sketch_in(full, hll_type, beside)?;
-    let mut union = union_in(heap, inside)?;
     full.refuse_all();
-    union.update(&other)?;
+    merge_into(heap, inside, &other)?;
     Ok(full.asked())
+}
+
+/// Merges a sketch into a union of this heap.
+fn merge_into<'h>(heap: &'h Heap, inside: Shape, other: &HllSketch<&'h Heap>) -> Result<(), Fault> {
+    let mut union = union_in(heap, inside)?;
+    Ok(union.update(other)?)
 }
 
 /// Unions with nothing, a list and registers in them.

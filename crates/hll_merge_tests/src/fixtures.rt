@@ -1,6 +1,6 @@
 //! Plans run over memory.
 use hll_merge::run::run;
-use hll_text::fault::{Fault, MergeError};
+use hll_text::fault::MergeError;
 use hll_text::watched::Watched;
 use std::test::Fail;
 
@@ -16,12 +16,6 @@ pub(crate) fn run_over(rt: &HostRuntime, text: &[u8]) -> (Result<(), MergeError>
 pub(crate) fn prints(rt: &HostRuntime, text: &str, printed: &str) -> bool {
     let (result, written) = run_over(rt, text.as_bytes());
     result == Ok(()) && written.as_slice() == printed.as_bytes()
-}
-
-/// Whether a text is refused with this fault at this line, and nothing is written.
-pub(crate) fn refuses(rt: &HostRuntime, text: &str, line: u64, fault: Fault) -> bool {
-    let (result, written) = run_over(rt, text.as_bytes());
-    result == Err(MergeError { line, fault }) && written.is_empty()
 }
 
 /// The line of an image.

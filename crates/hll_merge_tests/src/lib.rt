@@ -10,8 +10,6 @@ mod pieces;
 #[cfg(test)]
 mod reference;
 #[cfg(test)]
-mod streams;
-#[cfg(test)]
 mod texts;
 #[cfg(test)]
 mod unions;

@@ -8,7 +8,7 @@ use Rattle.hll_coupons.specs.Same.{have_same_coupons, same_coupons-from, same_co
 use Rattle.hll_base.specs.declared.hll_type.HllType.{HllType}
 use Rattle.hll_base.specs.declared.hll_type.HllType.TheVariants.{Hll4, Hll6, Hll8}
 use Rattle.hll_registers.specs.Store.{Stored}
-use Rattle.hll_arrays.specs.Same.{same_stored, same_stored-from, same_stored-to}
+use Rattle.hll_arrays.specs.Same.{both, left, right, same_stored, same_stored-from, same_stored-to}
 use Rattle.hll_sketch.specs.Value.{IsEqual}
 use Rattle.hll_sketch.specs.Layout.{Layout, list, set, array, SketchLayout, IsLayoutFor, sketch_of}
 
@@ -43,18 +43,6 @@ abbrev pub key : Layout → Key
 key (list w t) = of_list w (coupons_of t)
 key (set w t) = of_set w (coupons_of t)
 key (array w x m) = of_array w x
-
-left : (s t : Bool) → (s && t) ≡ true → s ≡ true
-left true t h = refl
-left false t h = h
-
-right : (s t : Bool) → (s && t) ≡ true → t ≡ true
-right true t h = h
-right false t h = cc
-
-both : (s t : Bool) → s ≡ true → t ≡ true → (s && t) ≡ true
-both true t h k = k
-both false t h k = h
 
 pub same_width-from : (w v : HllType) → same_width w v ≡ true → w ≡ v
 same_width-from Hll4 Hll4 h = refl

@@ -81,28 +81,49 @@ fn widths_and_orders(rt: HostRuntime) -> Result<(), Fail> {
     Ok(())
 }
 
-/// Whether a union gives this sketch of six bits.
-fn gives(union: &HllUnion, sketch: &HllSketch) -> Result<bool, Error> {
-    Ok(union.to_sketch(HllType::Hll6)? == *sketch)
+/// A sketch of six bits after the values below a number.
+fn sketch_of_values(alloc: Global, count: u64) -> Result<HllSketch, Error> {
+    let mut sketch = HllSketch::new(alloc, 11, HllType::Hll6)?;
+    for value in 0..count {
+        sketch.update(value)?;
+    }
+    Ok(sketch)
 }
 
-/// Whether the copy of a union gives this sketch of six bits.
-fn copy_gives(union: &HllUnion, sketch: &HllSketch) -> Result<bool, Error> {
-    gives(&union.clone()?, sketch)
+/// A union after the same values.
+fn union_of_values(alloc: Global, count: u64) -> Result<HllUnion, Error> {
+    let mut union = HllUnion::new(alloc, 11)?;
+    for value in 0..count {
+        union.update_value(value)?;
+    }
+    Ok(union)
+}
+
+/// Whether what a call made gives this sketch of six bits.
+fn gives(made: Result<HllUnion, Error>, sketch: &HllSketch) -> Result<bool, Error> {
+    let union = made?;
+    Ok(union.into_sketch(HllType::Hll6)? == *sketch)
+}
+
+/// Whether the copy of what a call made gives this sketch of six bits.
+fn copy_gives(made: Result<HllUnion, Error>, sketch: &HllSketch) -> Result<bool, Error> {
+    let union = made?;
+    gives(union.clone(), sketch)
 }
 
 /// A value is added as its coupon, as to a sketch.
 #[test]
 fn values(rt: HostRuntime) -> Result<(), Fail> {
-    let mut union = HllUnion::new(rt.alloc(), 11)?;
-    let mut sketch = HllSketch::new(rt.alloc(), 11, HllType::Hll6)?;
-    for value in 0..300u64 {
-        union.update_value(value)?;
-        sketch.update(value)?;
-        if value % 50 == 0 {
-            assert!(rt; gives(&union, &sketch)?);
-            assert!(rt; copy_gives(&union, &sketch)?);
-        }
+    for count in [0u64, 1, 51, 101, 151, 201, 251, 300] {
+        let sketch = sketch_of_values(rt.alloc(), count)?;
+        assert_eq!(rt;
+            gives(union_of_values(rt.alloc(), count), &sketch),
+            Ok(true)
+        );
+        assert_eq!(rt;
+            copy_gives(union_of_values(rt.alloc(), count), &sketch),
+            Ok(true)
+        );
     }
     Ok(())
 }

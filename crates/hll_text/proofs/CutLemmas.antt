@@ -7,7 +7,7 @@ use Rattle.std.proofs.lemmas.List.Splits.{slice_split-cons_no}
 use Rattle.std.proofs.lemmas.List.Elements.{All-head, All-tail, All-nil, All-cons}
 use Rattle.hll_text.specs.Text.{ended_parts, ended_lines, last_part, open_line, line_of_rest}
 use Rattle.hll_text.specs.Cuts.{IsOpen, Closes, LinesOfCuts}
-use Rattle.hll_text.proofs.PartLemmas.{length-parts, parts-some, parts-none}
+use Rattle.hll_text.proofs.PartLemmas.{ended_parts-cons, length-parts, parts-some, parts-none}
 
 -- the parts but the last one
 abbrev front_parts : List (List ℕ) → List (List ℕ)
@@ -46,10 +46,6 @@ parts-append (x ∷ a) b = by_mark (parts-append a b) (nat_eq x 10) refl
         ∙ ap (onto_first x) more
         ∙ onto_front x (parts a) b e
         ∙ ap (λ t. front_parts (cond t ([] ∷ parts a) (onto_first x (parts a))) ++ parts (last_part (cond t ([] ∷ parts a) (onto_first x (parts a))) ++ b)) (sym e)
-
-ended_parts-cons : (x : List ℕ) (ps : List (List ℕ)) → 0 < length ps → ended_parts (x ∷ ps) ≡ strip_carriage_return x ∷ ended_parts ps
-ended_parts-cons x [] h = absurd (omega arith)
-ended_parts-cons x (y ∷ more) h = refl
 
 last_part-cons : (x : List ℕ) (ps : List (List ℕ)) → 0 < length ps → last_part (x ∷ ps) ≡ last_part ps
 last_part-cons x [] h = absurd (omega arith)

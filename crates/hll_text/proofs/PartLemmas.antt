@@ -58,7 +58,7 @@ length-words = length-parts 32
 
 -- ---- lines
 
-ended_parts-cons : (x : List ℕ) (parts : List (List ℕ)) → 0 < length parts → ended_parts (x ∷ parts) ≡ strip_carriage_return x ∷ ended_parts parts
+pub ended_parts-cons : (x : List ℕ) (parts : List (List ℕ)) → 0 < length parts → ended_parts (x ∷ parts) ≡ strip_carriage_return x ∷ ended_parts parts
 ended_parts-cons x [] h = absurd (omega arith)
 ended_parts-cons x (y ∷ more) h = refl
 

@@ -9,8 +9,6 @@ pub mod reading;
 pub mod refusal;
 pub mod step;
 pub mod streams;
-#[cfg(test)]
-mod tests;
 pub mod watched;
 mod words;
 

@@ -1,5 +1,5 @@
 //! The hash: vectors at several seeds, and the same bytes cut differently.
-use crate::hash::MurmurHash3X64128;
+use hll_base::hash::MurmurHash3X64128;
 
 /// The bytes 0 to 69.
 const BYTES: [u8; 70] = [

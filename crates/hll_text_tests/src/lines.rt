@@ -1,10 +1,9 @@
 //! Lines of plans and of texts, and the bytes of images.
-use crate::bytes::{first_of, first_one_by_one};
-use crate::fault::{Fault, MergeError};
-use crate::lines::{line_end, lines_of_cuts, next_ended, without_return};
-use crate::reading::{decode_into, faults_of_lines, read_step};
-use crate::step::Step;
 use hll_base::hll_type::HllType;
+use hll_text::fault::{Fault, MergeError};
+use hll_text::lines::{line_end, lines_of_cuts, next_ended, without_return};
+use hll_text::reading::{decode_into, faults_of_lines, read_step};
+use hll_text::step::Step;
 use std::test::Fail;
 
 /// Lines that are no step, and their faults.
@@ -69,17 +68,16 @@ fn first_lines(rt: HostRuntime) {
     lines_of_cuts();
 }
 
-/// A byte at each place of texts round two blocks, and twice, and a text that lacks it.
+/// An LF at each place of texts round two blocks, and others behind it, and a text that lacks it.
 #[test]
-fn first_bytes(rt: HostRuntime) {
+fn first_ends(rt: HostRuntime) {
     for len in 0..150usize {
         let mut text = [b'a'; 150];
         let text = &mut text[..len];
-        assert_eq!(rt; first_of(b'\n', text), None);
+        assert_eq!(rt; line_end(text), None);
         for at in (0..len).rev() {
             text[at] = b'\n';
-            assert_eq!(rt; first_of(b'\n', text), Some(at));
-            assert_eq!(rt; first_one_by_one(b'\n', text), Some(at));
+            assert_eq!(rt; line_end(text), Some(at));
         }
     }
 }
