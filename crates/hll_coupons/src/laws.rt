@@ -1,53 +1,33 @@
-//! The laws of folding, registers and probing, each the contract of a function that does nothing:
-//! a caller that needs one calls it (docs/MODEL.md, "Laws of folding and probing").
+//! The laws of folding, registers and probing, each a clause of a function that does nothing: a caller that needs one calls
+//! it (docs/MODEL.md, "Laws of folding and probing").
 ghost use Rattle.hll_coupons.specs.Laws.{OneAscendingOrder, FoldOfFold, FoldOfUnion, JoinLaws, FoldOfRegisters, MeetsEachPlaceOnce, FoundAfterInsert, AbsentAtEmpty, AbsentFromFull, KeysAreDistinct};
 
-/// A set has one ascending order: so what is written in it is a function of the set.
-pub fn one_ascending_order()
-    ensures { OneAscendingOrder }
+/// Laws of sets, folds and registers:
+///
+/// - `one_ascending_order`: a set has one ascending order: so what is written in it is a function of the set.
+/// - `fold_of_fold`: folding to k and then to a smaller e is folding to e.
+/// - `fold_of_union`: the fold of a union is the join of both folds.
+/// - `join_laws`: the join of registers does not depend on order, grouping or repetition.
+/// - `fold_of_registers`: registers are the fold of their pairs.
+pub fn folding()
+    ensures one_ascending_order { OneAscendingOrder }
+    ensures fold_of_fold { FoldOfFold }
+    ensures fold_of_union { FoldOfUnion }
+    ensures join_laws { JoinLaws }
+    ensures fold_of_registers { FoldOfRegisters }
 {}
 
-/// Folding to k and then to a smaller e is folding to e.
-pub fn fold_of_fold()
-    ensures { FoldOfFold }
-{}
-
-/// The fold of a union is the join of both folds.
-pub fn fold_of_union()
-    ensures { FoldOfUnion }
-{}
-
-/// The join of registers does not depend on order, grouping or repetition.
-pub fn join_laws()
-    ensures { JoinLaws }
-{}
-
-/// Registers are the fold of their pairs.
-pub fn fold_of_registers()
-    ensures { FoldOfRegisters }
-{}
-
-/// A path with an odd stride meets each place of a table at one index and no other.
-pub fn meets_each_place_once()
-    ensures { MeetsEachPlaceOnce }
-{}
-
-/// An entry put into the empty place that its search met leaves each entry to be found.
-pub fn found_after_insert()
-    ensures { FoundAfterInsert }
-{}
-
-/// A search that meets an empty place shows that its key is absent.
-pub fn absent_at_empty()
-    ensures { AbsentAtEmpty }
-{}
-
-/// A search that went through a whole table shows that its key is absent.
-pub fn absent_from_full()
-    ensures { AbsentFromFull }
-{}
-
-/// In a table whose entries are found no key comes twice.
-pub fn keys_are_distinct()
-    ensures { KeysAreDistinct }
+/// Laws of paths and searches:
+///
+/// - `meets_each_place_once`: a path with an odd stride meets each place of a table at one index and no other.
+/// - `found_after_insert`: an entry put into the empty place that its search met leaves each entry to be found.
+/// - `absent_at_empty`: a search that meets an empty place shows that its key is absent.
+/// - `absent_from_full`: a search that went through a whole table shows that its key is absent.
+/// - `keys_are_distinct`: in a table whose entries are found no key comes twice.
+pub fn probing()
+    ensures meets_each_place_once { MeetsEachPlaceOnce }
+    ensures found_after_insert { FoundAfterInsert }
+    ensures absent_at_empty { AbsentAtEmpty }
+    ensures absent_from_full { AbsentFromFull }
+    ensures keys_are_distinct { KeysAreDistinct }
 {}

@@ -17,7 +17,7 @@ use hll_coupons::serialization::{
 use std::alloc::Allocator;
 
 /// The estimate state and two counts.
-#[derive(Clone, Copy, Debug, PartialEq, Eq)]
+#[derive(Clone, Copy)]
 pub struct Preamble {
     pub state: EstimateState,
     /// The number of registers that are 0; of four bits, that are at the minimum.

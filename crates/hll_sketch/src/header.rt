@@ -32,7 +32,7 @@ pub enum Stage {
 }
 
 /// What the header of an image says, its checks passed.
-#[derive(Clone, Copy, Debug, PartialEq, Eq)]
+#[derive(Clone, Copy)]
 pub(crate) struct Header {
     /// The logarithm of the number of registers, 4 to 21.
     pub lg_k: u8,

@@ -1,5 +1,5 @@
-//! The laws of adding, merging and images, each the contract of a function that does nothing
-//! (docs/MODEL.md, "Laws of adding and merging" and "Images").
+//! The laws of adding, merging and images, each a clause of a function that does nothing (docs/MODEL.md, "Laws of adding
+//! and merging" and "Images").
 ghost use Rattle.hll_sketch.specs.Laws.{AddOfAdd, AddEach, MergeOfEmpty, UnionLgK, AddIsLegal, MergeIsLegal, WrittenIsReadBack};
 ghost use Rattle.hll_sketch.specs.Layout.{OneStepSuffices};
 ghost use Rattle.hll_sketch.specs.Joined.{MergeOfGrown, UnionOfSame, UnionOfUnion, JoinsOfSame, JoinOfJoin};
@@ -10,138 +10,89 @@ ghost use Rattle.hll_sketch.specs.Checks.{FirstFaultStands, FaultlessIsImage};
 ghost use Rattle.hll_sketch.specs.Fault.{FaultExcludesHeader, FaultExcludesImage, FaultsAreOfData};
 ghost use Rattle.hll_sketch.specs.Written.{WrittenIsImage, SameBytes, ListIsReadBack};
 
-/// To add pairs twice is to add their union.
-pub fn add_of_add()
-    ensures { AddOfAdd }
+/// Laws of adding, and of equality:
+///
+/// - `add_of_add`: to add pairs twice is to add their union.
+/// - `add_each`: after a list of updates a sketch depends on the set of their coupons alone: content, table size and
+///   state.
+/// - `one_step_suffices`: after one coupon more a table stays as large as it is, the next size holds its coupons, or
+///   registers take over.
+/// - `same_is_equal`: sketches are equal exactly if their values are.
+/// - `add_is_legal`: a legal sketch stays legal when pairs are added.
+pub fn adding()
+    ensures add_of_add { AddOfAdd }
+    ensures add_each { AddEach }
+    ensures one_step_suffices { OneStepSuffices }
+    ensures same_is_equal { SameIsEqual }
+    ensures add_is_legal { AddIsLegal }
 {}
 
-/// After a list of updates a sketch depends on the set of their coupons alone: content, table size and state.
-pub fn add_each()
-    ensures { AddEach }
+/// Laws of merging:
+///
+/// - `merge_of_empty`: an empty sketch merged changes nothing.
+/// - `union_lg_k`: the lg_k of a union is the least of its bound and of the merged sketches in registers that are not
+///   all 0.
+/// - `merge_of_grown`: grown sketches merged in turn into the empty union are their join.
+/// - `union_of_same`: a join does not depend on order or repetition.
+/// - `union_of_union`: some sketches may be joined first, under the same bound and at any width.
+/// - `joins_of_same`: unions of the same bound and the same grown sketches have equal gadgets, whatever the order and
+///   however often each was merged.
+/// - `join_of_join`: merging what a union of the same bound gives, at any width, is merging the grown sketches that
+///   went into it.
+/// - `merge_is_legal`: a legal gadget stays legal when a legal sketch is merged.
+pub fn merging()
+    ensures merge_of_empty { MergeOfEmpty }
+    ensures union_lg_k { UnionLgK }
+    ensures merge_of_grown { MergeOfGrown }
+    ensures union_of_same { UnionOfSame }
+    ensures union_of_union { UnionOfUnion }
+    ensures joins_of_same { JoinsOfSame }
+    ensures join_of_join { JoinOfJoin }
+    ensures merge_is_legal { MergeIsLegal }
 {}
 
-/// After one coupon more a table stays as large as it is, the next size holds its coupons, or registers take over.
-pub fn one_step_suffices()
-    ensures { OneStepSuffices }
+/// Laws of folding:
+///
+/// - `folded_is_legal`: a legal sketch folded to an lg_k of 4 to its own stays legal.
+/// - `folded_is_grown`: a grown sketch stays grown when it is folded.
+/// - `folded_has_same_folds`: at each lg_k up to the one that a sketch is folded to, the sketch and its fold have the
+///   same registers.
+pub fn folding()
+    ensures folded_is_legal { FoldedIsLegal }
+    ensures folded_is_grown { FoldedIsGrown }
+    ensures folded_has_same_folds { FoldedHasSameFolds }
 {}
 
-/// Sketches are equal exactly if their values are.
-pub fn same_is_equal()
-    ensures { SameIsEqual }
+/// Laws of images and their faults:
+///
+/// - `one_image`: no image begins another, and the bytes of an image have one meaning.
+/// - `fault_excludes_header`: where a fault of the header stands, the bytes have the header of no stage.
+/// - `fault_excludes_image`: where bytes have a fault, no front of them is an image.
+/// - `first_fault_stands`: the first check that an image fails is a fault of it.
+/// - `faultless_is_image`: bytes that pass every check have an image in front, and no others have.
+/// - `faults_are_of_data`: a fault of an image is one of data, never of an argument or of memory.
+/// - `image_is_legal`: an image means a legal sketch.
+pub fn images()
+    ensures one_image { OneImage }
+    ensures fault_excludes_header { FaultExcludesHeader }
+    ensures fault_excludes_image { FaultExcludesImage }
+    ensures first_fault_stands { FirstFaultStands }
+    ensures faultless_is_image { FaultlessIsImage }
+    ensures faults_are_of_data { FaultsAreOfData }
+    ensures image_is_legal { ImageIsLegal }
 {}
 
-/// An empty sketch merged changes nothing.
-pub fn merge_of_empty()
-    ensures { MergeOfEmpty }
-{}
-
-/// The lg_k of a union is the least of its bound and of the merged sketches in registers that are not all 0.
-pub fn union_lg_k()
-    ensures { UnionLgK }
-{}
-
-/// Grown sketches merged in turn into the empty union are their join.
-pub fn merge_of_grown()
-    ensures { MergeOfGrown }
-{}
-
-/// A join does not depend on order or repetition.
-pub fn union_of_same()
-    ensures { UnionOfSame }
-{}
-
-/// Some sketches may be joined first, under the same bound and at any width.
-pub fn union_of_union()
-    ensures { UnionOfUnion }
-{}
-
-/// Unions of the same bound and the same grown sketches have equal gadgets, whatever the order and however often each was
-/// merged.
-pub fn joins_of_same()
-    ensures { JoinsOfSame }
-{}
-
-/// Merging what a union of the same bound gives, at any width, is merging the grown sketches that went into it.
-pub fn join_of_join()
-    ensures { JoinOfJoin }
-{}
-
-/// No image begins another, and the bytes of an image have one meaning.
-pub fn one_image()
-    ensures { OneImage }
-{}
-
-/// Where a fault of the header stands, the bytes have the header of no stage.
-pub fn fault_excludes_header()
-    ensures { FaultExcludesHeader }
-{}
-
-/// Where bytes have a fault, no front of them is an image.
-pub fn fault_excludes_image()
-    ensures { FaultExcludesImage }
-{}
-
-/// The first check that an image fails is a fault of it.
-pub fn first_fault_stands()
-    ensures { FirstFaultStands }
-{}
-
-/// Bytes that pass every check have an image in front, and no others have.
-pub fn faultless_is_image()
-    ensures { FaultlessIsImage }
-{}
-
-/// A fault of an image is one of data, never of an argument or of memory.
-pub fn faults_are_of_data()
-    ensures { FaultsAreOfData }
-{}
-
-/// What is written for a legal sketch is read as that sketch and no other, and has no fault, whatever follows.
-pub fn written_is_read_back()
-    ensures { WrittenIsReadBack }
-{}
-
-/// What is written for a legal sketch is an image of it.
-pub fn written_is_image()
-    ensures { WrittenIsImage }
-{}
-
-/// The bytes written for two legal sketches are the same exactly if the sketches are equal, tables of two sizes aside.
-pub fn same_bytes()
-    ensures { SameBytes }
-{}
-
-/// An image of a list, and then any bytes, are read as a list with the coupons in their order.
-pub fn list_is_read_back()
-    ensures { ListIsReadBack }
-{}
-
-/// An image means a legal sketch.
-pub fn image_is_legal()
-    ensures { ImageIsLegal }
-{}
-
-/// A legal sketch stays legal when pairs are added.
-pub fn add_is_legal()
-    ensures { AddIsLegal }
-{}
-
-/// A legal gadget stays legal when a legal sketch is merged.
-pub fn merge_is_legal()
-    ensures { MergeIsLegal }
-{}
-
-/// A legal sketch folded to an lg_k of 4 to its own stays legal.
-pub fn folded_is_legal()
-    ensures { FoldedIsLegal }
-{}
-
-/// A grown sketch stays grown when it is folded.
-pub fn folded_is_grown()
-    ensures { FoldedIsGrown }
-{}
-
-/// At each lg_k up to the one that a sketch is folded to, the sketch and its fold have the same registers.
-pub fn folded_has_same_folds()
-    ensures { FoldedHasSameFolds }
+/// Laws of what is written:
+///
+/// - `written_is_read_back`: what is written for a legal sketch is read as that sketch and no other, and has no fault,
+///   whatever follows.
+/// - `written_is_image`: what is written for a legal sketch is an image of it.
+/// - `same_bytes`: the bytes written for two legal sketches are the same exactly if the sketches are equal, tables of
+///   two sizes aside.
+/// - `list_is_read_back`: an image of a list, and then any bytes, are read as a list with the coupons in their order.
+pub fn writing()
+    ensures written_is_read_back { WrittenIsReadBack }
+    ensures written_is_image { WrittenIsImage }
+    ensures same_bytes { SameBytes }
+    ensures list_is_read_back { ListIsReadBack }
 {}

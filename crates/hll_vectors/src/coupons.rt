@@ -1,8 +1,12 @@
 //! Coupons of words, of bytes and of values.
+ghost use Rattle.std.specs.Prelude.{◌≡◌, ◌^◌, ◌<◌, ◌≤◌, OnOk};
+
 use crate::hash::TEXT;
+use hll_base::error::Error;
 use hll_base::hash::MurmurHash3X64128;
 use hll_coupons::aux_map::AuxMap;
 use hll_coupons::coupon::Coupon;
+use std::alloc::Global;
 use std::hash::{Hash, Hasher};
 use std::test::Fail;
 
@@ -87,30 +91,56 @@ fn of_values(rt: HostRuntime) {
     );
 }
 
-#[test]
-fn exceptions(rt: HostRuntime) -> Result<(), Fail> {
-    let mut map = AuxMap::new(rt.alloc(), 10)?;
-    map.insert(10, 20)?;
-    map.insert(50, 30)?;
-    map.insert(100, 40)?;
-    let values = (map.get(10), map.get(50), map.get(100), map.get(999));
-    assert_eq!(rt; values, (Some(20), Some(30), Some(40), None));
-    map.replace(50, 35);
-    assert_eq!(rt; map.get(50), Some(35));
-    Ok(())
+/// Gives a slot a value, whether it has one or not.
+fn set(map: &mut AuxMap, slot: u32, value: u8) -> Result<(), Error>
+    requires within { slot < 2 ^ map.old.lg_k }
+    requires least { 1 ≤ value }
+    requires most { value ≤ 63 }
+    ensures { OnOk result (map.new.lg_k ≡ map.old.lg_k) }
+{
+    if map.get(slot).is_some() {
+        map.replace(slot, value);
+        return Ok(());
+    }
+    map.insert(slot, value)
+}
+
+/// The values of some slots, and the size in bytes.
+type Seen = ([Option<u8>; 4], usize);
+
+/// Three slots with values, one of them with another value than at first, and a slot without one.
+fn three_at_10(alloc: Global, last: u8) -> Result<Seen, Error>
+    requires least { 1 ≤ last }
+    requires most { last ≤ 63 }
+{
+    let mut map = AuxMap::new(alloc, 10)?;
+    set(&mut map, 10, 20)?;
+    set(&mut map, 50, 30)?;
+    set(&mut map, 100, 40)?;
+    set(&mut map, 50, last)?;
+    let values = [map.get(10), map.get(50), map.get(100), map.get(999)];
+    Ok((values, map.estimated_size()))
+}
+
+/// Four slots with values.
+fn four_at_8(alloc: Global) -> Result<Seen, Error> {
+    let mut map = AuxMap::new(alloc, 8)?;
+    set(&mut map, 1, 15)?;
+    set(&mut map, 2, 16)?;
+    set(&mut map, 3, 17)?;
+    set(&mut map, 4, 18)?;
+    let values = [map.get(1), map.get(2), map.get(3), map.get(4)];
+    Ok((values, map.estimated_size()))
 }
 
 #[test]
-fn four_exceptions(rt: HostRuntime) -> Result<(), Fail> {
-    let mut map = AuxMap::new(rt.alloc(), 8)?;
-    map.insert(1, 15)?;
-    map.insert(2, 16)?;
-    map.insert(3, 17)?;
-    map.insert(4, 18)?;
-    let values = (map.get(1), map.get(2), map.get(3), map.get(4));
-    assert_eq!(rt; values, (Some(15), Some(16), Some(17), Some(18)));
-    assert_eq!(rt; map.estimated_size(), 32);
-    Ok(())
+fn exceptions(rt: HostRuntime) {
+    let seen = ([Some(20), Some(30), Some(40), None], 64);
+    assert_eq!(rt; three_at_10(rt.alloc(), 30), Ok(seen));
+    let seen = ([Some(20), Some(35), Some(40), None], 64);
+    assert_eq!(rt; three_at_10(rt.alloc(), 35), Ok(seen));
+    let seen = ([Some(15), Some(16), Some(17), Some(18)], 32);
+    assert_eq!(rt; four_at_8(rt.alloc()), Ok(seen));
 }
 
 /// The size in bytes of a map without entries, by `lg_k` from 4 on.

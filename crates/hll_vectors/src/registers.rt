@@ -6,7 +6,7 @@ use hll_arrays::merge::merge_from;
 use hll_arrays::{Array4, Array6, Array8, EstimateState, RegisterStore, Registers};
 use hll_base::error::Error;
 use hll_coupons::coupon::Coupon;
-use std::alloc::{Allocator, Global};
+use std::alloc::Global;
 use std::test::Fail;
 
 /// A state that was read.
@@ -174,73 +174,116 @@ fn six_bits(rt: HostRuntime) -> Result<(), Fail> {
     Ok(())
 }
 
-/// Raises registers of sixteen, from a slot on, to a value.
-fn raise(array: &mut Array4, from: u32, value: u8) -> Result<(), Error>
-    requires { value ≤ 63 }
-{
-    for slot in from..16u32 {
-        array.update(Coupon::pack(slot, value))?;
-    }
-    Ok(())
-}
-
 /// What is seen of a slot: its nibble, its exception, and its register.
 type Seen = (u8, Option<u8>, u8);
 
-/// The minimum, how many registers are at it, and what is seen of slot 0.
-fn first_of(array: &Array4) -> (u8, u32, Seen) {
+/// The minimum, how many registers are at it, what is seen of slot 0, and the size in bytes.
+type First = (u8, u32, Seen, usize);
+
+fn first_of(array: &Array4) -> First {
     array.lg_k();
     (
         array.cur_min(),
         array.num_at_cur_min(),
         (array.nibble(0), array.exception(0), array.get(0)),
+        array.estimated_size(),
     )
+}
+
+/// Sixteen registers of four bits after some coupons.
+fn raised(alloc: Global, coupons: &[(u32, u8)]) -> Result<Array4, Error> {
+    let mut array = Array4::new(alloc, 4)?;
+    for (slot, value) in coupons {
+        array.update(Coupon::pack(*slot, (*value).min(63)))?;
+    }
+    Ok(array)
+}
+
+/// What is seen of registers after some coupons.
+fn seen_after(alloc: Global, coupons: &[(u32, u8)]) -> Result<First, Error> {
+    Ok(first_of(&raised(alloc, coupons)?))
+}
+
+/// The image of registers after some coupons.
+fn written_after(alloc: Global, coupons: &[(u32, u8)]) -> Result<String, Fail> {
+    image_of(alloc, &raised(alloc, coupons)?)
+}
+
+/// A coupon of a value at each of sixteen slots.
+fn each_slot(value: u8) -> [(u32, u8); 16] {
+    [0, 1, 2, 3, 4, 5, 6, 7, 8, 9, 10, 11, 12, 13, 14, 15].map(|slot| (slot, value))
 }
 
 /// A register of 15 among others of 1 is no exception: it was one while the minimum was 0.
 #[test]
 fn fifteen_among_ones(rt: HostRuntime) -> Result<(), Fail> {
-    let mut array = Array4::new(rt.alloc(), 4)?;
-    array.update(Coupon::pack(0, 15))?;
-    assert_eq!(rt; first_of(&array), (0, 15, (15, Some(15), 15)));
-    raise(&mut array, 1, 1)?;
-    assert_eq!(rt; first_of(&array), (1, 15, (14, None, 15)));
+    let mut coupons = each_slot(1);
+    coupons[0] = (0, 15);
+    let seen = (0, 15, (15, Some(15), 15), 24);
+    assert_eq!(rt; seen_after(rt.alloc(), &coupons[..1]), Ok(seen));
+    let seen = (1, 15, (14, None, 15), 8);
+    assert_eq!(rt; seen_after(rt.alloc(), &coupons), Ok(seen));
     assert_eq!(rt;
-        image_of(rt.alloc(), &array)?.as_str(),
+        written_after(rt.alloc(), &coupons)?.as_str(),
         "0a010704001801020000000000000000000000000000000000000000000000000f000000000000000e00000000000000"
     );
     Ok(())
 }
 
+/// The coupons that bring sixteen registers to 1 and then, one after another, to 20.
+fn to_twenty() -> [(u32, u8); 32] {
+    let mut coupons = [(0, 0); 32];
+    coupons[..16].copy_from_slice(&each_slot(1));
+    coupons[16..].copy_from_slice(&each_slot(20));
+    coupons
+}
+
 /// Sixteen registers go from 1 to 20: the minimum rises by 19 at the last, and no exception is left.
 #[test]
 fn one_to_twenty(rt: HostRuntime) -> Result<(), Fail> {
-    let mut array = Array4::new(rt.alloc(), 4)?;
-    raise(&mut array, 0, 1)?;
-    assert_eq!(rt; first_of(&array), (1, 16, (0, None, 1)));
-    for slot in 0..15u32 {
-        array.update(Coupon::pack(slot, 20))?;
-        assert_eq!(rt; first_of(&array), (1, 15 - slot, (15, Some(20), 20)));
+    let coupons = to_twenty();
+    let seen = (1, 16, (0, None, 1), 8);
+    assert_eq!(rt; seen_after(rt.alloc(), &coupons[..16]), Ok(seen));
+    for (count, size) in [
+        (1usize, 24),
+        (3, 24),
+        (4, 40),
+        (6, 40),
+        (7, 72),
+        (12, 72),
+        (13, 136),
+        (15, 136),
+    ] {
+        let seen = (1, 16 - count as u32, (15, Some(20), 20), size);
+        assert_eq!(rt;
+            seen_after(rt.alloc(), &coupons[..16 + count]),
+            Ok(seen),
+            "{count}"
+        );
     }
-    array.update(Coupon::pack(15, 20))?;
-    assert_eq!(rt; first_of(&array), (20, 16, (0, None, 20)));
-    assert_eq!(rt; array.estimated_size(), 8);
+    let seen = (20, 16, (0, None, 20), 8);
+    assert_eq!(rt; seen_after(rt.alloc(), &coupons), Ok(seen));
     assert_eq!(rt;
-        image_of(rt.alloc(), &array)?.as_str(),
+        written_after(rt.alloc(), &coupons)?.as_str(),
         "0a0107040018140200000000000000000000000000000000000000000000000010000000000000000000000000000000"
     );
     Ok(())
 }
 
+/// The size in bytes of new registers.
+fn size_of_new(alloc: Global, lg_k: u8) -> Result<usize, Error>
+    requires { (4 ≤ lg_k) × (lg_k ≤ 21) }
+{
+    Ok(Array4::new(alloc, lg_k)?.estimated_size())
+}
+
 /// 8 bytes for sixteen registers, 16 for up to three exceptions, 32 for the fourth.
 #[test]
-fn sizes(rt: HostRuntime) -> Result<(), Fail> {
-    let mut array = Array4::new(rt.alloc(), 4)?;
-    assert_eq!(rt; array.estimated_size(), 8);
-    for (slot, size) in [(3u32, 24usize), (4, 24), (5, 24), (9, 40)] {
-        array.update(Coupon::pack(slot, 15))?;
-        assert_eq!(rt; array.estimated_size(), size, "{slot}");
+fn sizes(rt: HostRuntime) {
+    let coupons = [(3, 15), (4, 15), (5, 15), (9, 15)];
+    for (count, size) in [(0usize, 8), (1, 24), (2, 24), (3, 24), (4, 40)] {
+        let seen = seen_after(rt.alloc(), &coupons[..count]);
+        assert_eq!(rt; seen.map(|first| first.3), Ok(size), "{count}");
     }
-    assert_eq!(rt; Array4::new(rt.alloc(), 21)?.estimated_size(), 1048576);
-    Ok(())
+    assert_eq!(rt; size_of_new(rt.alloc(), 21), Ok(1048576));
 }

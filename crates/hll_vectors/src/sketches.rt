@@ -7,7 +7,7 @@ use hll_base::hll_type::HllType;
 use hll_coupons::coupon::Coupon;
 use hll_sketch::{HllSketch, HllUnion, Mode, Stage};
 use linked_list_allocator::LocalHeap;
-use std::alloc::Global;
+use std::alloc::{AllocError, Global};
 use std::fmt::Debug;
 use std::test::Fail;
 
@@ -111,8 +111,8 @@ fn sketch_at(alloc: Global, slots: [u32; 8]) -> Result<HllSketch, Error> {
     Ok(sketch)
 }
 
-/// The slots of a set in the order of places, of anything else none.
-fn placed(alloc: Global, sketch: &HllSketch) -> Result<Vec<u32>, Fail> {
+/// The slots of the set in the order of places, of anything else none.
+fn placed(alloc: Global, sketch: &HllSketch) -> Result<Vec<u32>, AllocError> {
     let mut slots = Vec::new(alloc);
     if let Mode::Set { set, .. } = sketch.mode() {
         for coupon in set.container().iter() {
@@ -122,17 +122,19 @@ fn placed(alloc: Global, sketch: &HllSketch) -> Result<Vec<u32>, Fail> {
     Ok(slots)
 }
 
+/// What is written for a sketch with a coupon at each of these slots.
+fn written_at(alloc: Global, slots: [u32; 8]) -> Result<String, Fail> {
+    digits_of(alloc, &sketch_at(alloc, slots)?)
+}
+
 /// The image has them in ascending raw words.
 #[test]
 fn places(rt: HostRuntime) -> Result<(), Fail> {
     let sketch = sketch_at(rt.alloc(), SLOTS)?;
-    let (slots, written) = (
-        placed(rt.alloc(), &sketch)?,
-        digits_of(rt.alloc(), &sketch)?,
-    );
+    let slots = placed(rt.alloc(), &sketch)?;
     assert_eq!(rt; slots.as_slice(), PLACED.as_slice());
     assert_eq!(rt;
-        written.as_str(),
+        written_at(rt.alloc(), SLOTS)?.as_str(),
         "0301070a05080009080000000000000420000004400000046000000480000004a0000004c0000004e0000004"
     );
     Ok(())
@@ -234,15 +236,22 @@ fn of_union(alloc: Global, bytes: &[u8]) -> Result<HllSketch, Error> {
     union.into_sketch(HllType::Hll8)
 }
 
+/// Whether two calls made the same sketch.
+fn make_one(one: Result<HllSketch, Error>, other: Result<HllSketch, Error>) -> Result<bool, Error> {
+    let sketch = one?;
+    Ok(sketch == other?)
+}
+
 /// A value is added to a sketch and to a union as the coupon of its bytes.
 #[test]
-fn values(rt: HostRuntime) -> Result<(), Fail> {
+fn values(rt: HostRuntime) {
+    let alloc = rt.alloc();
     for bytes in [&TEXT[..0], &TEXT[..15], &TEXT[15..]] {
-        let sketch = after_coupon(rt.alloc(), bytes)?;
-        assert!(rt; after_value(rt.alloc(), bytes)? == sketch, "{bytes:?}");
-        assert!(rt; of_union(rt.alloc(), bytes)? == sketch, "{bytes:?}");
+        let same = make_one(after_coupon(alloc, bytes), after_value(alloc, bytes));
+        assert_eq!(rt; same, Ok(true), "{bytes:?}");
+        let same = make_one(after_coupon(alloc, bytes), of_union(alloc, bytes));
+        assert_eq!(rt; same, Ok(true), "{bytes:?}");
     }
-    Ok(())
 }
 
 /// The size of a table that is not there is refused without a request for its memory.
