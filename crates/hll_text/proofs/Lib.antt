@@ -1,6 +1,7 @@
 pub mod ByteLemmas
 pub mod CutLemmas
 pub mod FaultLemmas
+pub mod LaneLemmas
 pub mod LeadingLemmas
 pub mod NumberLemmas
 pub mod PartLemmas

@@ -37,23 +37,27 @@ pub fn write_hex_line<W: io::Write>(writer: &mut Watched<W>, bytes: &[u8]) -> Re
     ensures err { IfErr result (λ e. (e ≡ Write) × (writer.new.failed ≡ true)
         × (n : ℕ) × (n < length (printed_line bytes.now)) × Appends (W.contents writer.old.inner) (W.contents writer.new.inner) (take n (printed_line bytes.now))) }
 {
+    let mut buffer = [0u8; 2 * PIECE];
     let mut shown = 0;
     while shown < bytes.len() {
         let size = PIECE.min(bytes.len() - shown);
-        write_digits(writer, &bytes[shown..shown + size])?;
+        write_digits(writer, &mut buffer, &bytes[shown..shown + size])?;
         shown += size;
     }
     write_all(writer, b"\n")
 }
 
-/// Writes at most a piece of bytes as digits.
-fn write_digits<W: io::Write>(writer: &mut Watched<W>, bytes: &[u8]) -> Result<(), Fault>
+/// Writes at most a piece of bytes as digits, through a buffer whose bytes are lost.
+fn write_digits<W: io::Write>(
+    writer: &mut Watched<W>,
+    buffer: &mut [u8; 2 * PIECE],
+    bytes: &[u8],
+) -> Result<(), Fault>
     requires { length bytes.now ≤ 16384 }
     ensures ok { OnOk result (Appends (W.contents writer.old.inner) (W.contents writer.new.inner) (encode_lower bytes.now) × (writer.new.failed ≡ writer.old.failed)) }
     ensures err { IfErr result (λ e. (e ≡ Write) × (writer.new.failed ≡ true)
         × (n : ℕ) × (n < length (encode_lower bytes.now)) × Appends (W.contents writer.old.inner) (W.contents writer.new.inner) (take n (encode_lower bytes.now))) }
 {
-    let mut buffer = [0u8; 2 * PIECE];
     let digits = &mut buffer[..2 * bytes.len()];
     match hex::encode_to_slice(bytes, digits) {
         Ok(()) => write_all(writer, digits),

@@ -1,6 +1,7 @@
 //! The words of a line, and the numbers among them.
-ghost use Rattle.std.specs.Prelude.{◌≡◌, ◌<◌, ◌≤◌, ◌∷◌, ◌==◌, [], ℕ, List, length, slice_index, take, true, false, position, MatchResult, Ok, Err};
+ghost use Rattle.std.specs.Prelude.{◌≡◌, ◌<◌, ◌≤◌, ◌∷◌, ◌==◌, [], ℕ, List, length, map, slice_index, take, true, false, not, position, MatchResult, Ok, Err};
 ghost use Rattle.std.specs.List.{list_all};
+ghost use Rattle.std.specs.Simd.Lanes.{chunk, mask_l};
 ghost use Rattle.std.specs.Option.{option_copied};
 ghost use Rattle.std.specs.Char.{is_ascii_digit};
 ghost use Rattle.hll_text.specs.Text as plan;
@@ -10,6 +11,7 @@ ghost use Rattle.hll_text.specs.declared.fault.Fault.TheVariants.{Syntax};
 
 use crate::bytes::{first_of, first_one_by_one};
 use crate::fault::Fault;
+use std::simd::prelude::*;
 
 /// The first word of a line, which is short, and what follows the space after it.
 pub(crate) fn split_word(line: &[u8]) -> (&[u8], Option<&[u8]>)
@@ -43,7 +45,8 @@ fn next_number(rest: Option<&[u8]>) -> Result<(u32, Option<&[u8]>), Fault>
     }
 }
 
-/// The value of the digits that a text begins with, at most eight, and how many these are.
+/// The value of the digits that a text begins with, at most eight, and how many these are: by lanes, and digit by digit where
+/// fewer than eight bytes are left.
 fn leading_number(text: &[u8]) -> (u32, usize)
     ensures digits { list_all is_ascii_digit (take result.1 text.now) ≡ true }
     ensures value { result.0 ≡ decimal_value (take result.1 text.now) }
@@ -51,10 +54,64 @@ fn leading_number(text: &[u8]) -> (u32, usize)
     ensures within { result.1 ≤ length text.now }
     ensures ends { result.1 < 8 → result.1 < length text.now → is_ascii_digit (slice_index text.now result.1) ≡ false }
 {
-    let most = text.len().min(8);
+    if text.len() < 8 {
+        return short_number(text);
+    }
+    let count = digits_of_eight(text);
+    (value_of_eight(text, count), count)
+}
+
+/// How many of the first eight bytes of a text are digits, up to the first that is none.
+fn digits_of_eight(text: &[u8]) -> usize
+    requires { 8 ≤ length text.now }
+    ensures digits { list_all is_ascii_digit (take result text.now) ≡ true }
+    ensures few { result ≤ 8 }
+    ensures ends { result < 8 → is_ascii_digit (slice_index text.now result) ≡ false }
+{
+    let marks = other_marks(text);
+    if marks == 0 {
+        8
+    } else {
+        marks.trailing_zeros() as usize
+    }
+}
+
+/// A bit for each of the first eight bytes of a text, set where it is no digit.
+fn other_marks(text: &[u8]) -> u64
+    requires { 8 ≤ length text.now }
+    ensures { result ≡ mask_l (map (λ b. not (is_ascii_digit b)) (chunk 0 8 text.now)) }
+{
+    let from_zero = u8x8::from_slice(text) - u8x8::splat(b'0');
+    from_zero.simd_gt(u8x8::splat(9)).to_bitmask()
+}
+
+/// The powers of ten that up to eight digits stand for, and zeros for the bytes behind these.
+const POWERS: [u32; 16] = [
+    10_000_000, 1_000_000, 100_000, 10_000, 1000, 100, 10, 1, 0, 0, 0, 0, 0, 0, 0, 0,
+];
+
+/// The value of the first bytes of a text, at most eight, as digits: all eight by lanes, each by its power of ten or by zero.
+fn value_of_eight(text: &[u8], count: usize) -> u32
+    requires long { 8 ≤ length text.now }
+    requires few { count ≤ 8 }
+    ensures { result ≡ decimal_value (take count text.now) }
+{
+    let digits = u8x8::from_slice(text).saturating_sub(u8x8::splat(b'0'));
+    let powers = u32x8::from_slice(&POWERS[8 - count..]);
+    digits.cast::<u32>().strict_mul(powers).strict_reduce_sum()
+}
+
+/// The value of the digits that a text of fewer than eight bytes begins with, and how many these are.
+fn short_number(text: &[u8]) -> (u32, usize)
+    requires { length text.now < 8 }
+    ensures digits { list_all is_ascii_digit (take result.1 text.now) ≡ true }
+    ensures value { result.0 ≡ decimal_value (take result.1 text.now) }
+    ensures within { result.1 ≤ length text.now }
+    ensures ends { result.1 < length text.now → is_ascii_digit (slice_index text.now result.1) ≡ false }
+{
     let mut value: u32 = 0;
     let mut count = 0;
-    while count < most {
+    while count < text.len() {
         let byte = text[count];
         if !byte.is_ascii_digit() {
             return (value, count);
