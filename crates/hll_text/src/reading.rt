@@ -1,5 +1,5 @@
 //! Reading one line of a plan.
-ghost use Rattle.std.specs.Prelude.{◌/◌, ◌<◌, ◌≤◌, ◌≡◌, ◌⊎◌, [], ◌∷◌, length, take, true, Ok, Err, OnOk, IfOk, IfErr, IfSome};
+ghost use Rattle.std.specs.Prelude.{◌/◌, ◌<◌, ◌≤◌, ◌≡◌, ◌⊎◌, [], ◌∷◌, length, take, true, codes, Ok, Err, OnOk, IfOk, IfErr, IfSome};
 ghost use Rattle.std.specs.Option.{option_copied};
 ghost use Rattle.hll_text.specs.declared.fault.Fault.TheVariants.{Hex, Memory};
 ghost use Rattle.hll_text.specs.Step.{step_reading_of, line_reading_of, image_in, step_of, ReadsAs, IsInRange, IfImage, IfStep};
@@ -40,6 +40,12 @@ pub fn read_line<A: Allocator>(line: &[u8]) -> Result<Line<'_, A>, Fault>
     if line.is_empty() || line[0] == b'#' {
         return Ok(Line::Skipped);
     }
+    if let Some(numbers) = line.strip_prefix(b"coupon ".as_slice()) {
+        return coupon_line(Some(numbers));
+    }
+    if let Some(word) = line.strip_prefix(b"image ".as_slice()) {
+        return image_line(Some(word));
+    }
     let (first, rest) = split_word(line);
     read_words(first, rest)
 }
@@ -54,10 +60,9 @@ fn read_words<'l, A: Allocator>(first: &[u8], rest: Option<&'l [u8]>) -> Result<
         let (lg_k, bits) = two_numbers(rest)?;
         Ok(Line::Step(new_step(lg_k, bits)?))
     } else if first == b"image".as_slice() {
-        Ok(Line::Image(one_word(rest)?))
+        image_line(rest)
     } else if first == b"coupon".as_slice() {
-        let (slot, value) = two_numbers(rest)?;
-        Ok(Line::Step(coupon_step(slot, value)?))
+        coupon_line(rest)
     } else if first == b"union".as_slice() {
         let (count, lg_max_k, bits) = three_numbers(rest)?;
         Ok(Line::Step(union_step(count, lg_max_k, bits)?))
@@ -66,6 +71,24 @@ fn read_words<'l, A: Allocator>(first: &[u8], rest: Option<&'l [u8]>) -> Result<
     } else {
         Err(Fault::Syntax)
     }
+}
+
+/// What a line says whose first word is `image`, from what follows the space after it.
+fn image_line<'l, A: Allocator>(rest: Option<&'l [u8]>) -> Result<Line<'l, A>, Fault>
+    ensures reading { line_reading_of result ≡ as_reading (plan.read_words (codes "image" ∷ words_after (option_copied rest.entry))) }
+    ensures in_range { IfOk result (λ said. IfStep said (λ step. IsInRange (step_of step))) }
+{
+    Ok(Line::Image(one_word(rest)?))
+}
+
+/// What a line says whose first word is `coupon`, from what follows the space after it.
+fn coupon_line<'l, A: Allocator>(rest: Option<&[u8]>) -> Result<Line<'l, A>, Fault>
+    ensures reading { line_reading_of result ≡ as_reading (plan.read_words (codes "coupon" ∷ words_after (option_copied rest.entry))) }
+    ensures image { IfOk result (λ said. IfImage said ⊥) }
+    ensures in_range { IfOk result (λ said. IfStep said (λ step. IsInRange (step_of step))) }
+{
+    let (slot, value) = two_numbers(rest)?;
+    Ok(Line::Step(coupon_step(slot, value)?))
 }
 
 /// Decodes the digits of an image into the front of a buffer, and returns how many bytes there are. The buffer serves line
