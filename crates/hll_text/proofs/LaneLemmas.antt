@@ -1,10 +1,10 @@
 -- Lemmas on the digits among eight bytes in lanes.
-use Rattle.std.proofs.Common.{◌≡◌, ℕ, ◌+◌, ◌-◌, ◌*◌, ◌%◌, ◌^◌, ◌<◌, ◌≤◌, zero, suc, Bool, true, false, cond, nat_lt, max, List, [], ◌∷◌, length, take, drop, get_or, map, replicate, refl, sym, ap, subst, ◌∙◌, arith, w8, w32, w64, Fits}
+use Rattle.std.proofs.Common.{◌≡◌, ℕ, ◌+◌, ◌-◌, ◌*◌, ◌%◌, ◌^◌, ◌<◌, ◌≤◌, zero, suc, Bool, true, false, cond, nat_lt, List, [], ◌∷◌, length, take, drop, get_or, map, replicate, refl, sym, ap, subst, ◌∙◌, arith, w8, w32, w64, Fits}
 use Rattle.std.specs.Prelude.{not, fold, ◌&&◌}
 use Rattle.std.specs.Char.{is_ascii_digit}
 use Rattle.std.specs.Int.{trailing_zeros}
 use Rattle.std.specs.List.{list_all, prefix_len}
-use Rattle.std.specs.Simd.Lanes.{zip2, sel_l, mask_l, top, pick_l, chunk, sum_l, fold_l, products, Each1, Each2, Steps}
+use Rattle.std.specs.Simd.Lanes.{zip2, sel_l, mask_l, top, chunk, sum_l, fold_l, products, Each1, Each2, Steps}
 use Rattle.std.proofs.lemmas.Bool.Decides.{nat_tests}
 use Rattle.std.proofs.lemmas.List.{length-map, take-take}
 use Rattle.std.proofs.lemmas.List.Folds.{list_all_more}
