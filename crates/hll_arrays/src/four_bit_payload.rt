@@ -19,7 +19,7 @@ use hll_coupons::serialization::COUPON_SIZE_BYTES;
 use hll_kernels::nibbles::{are_at_most, nibble_of};
 use hll_registers::aux_format::AuxFormat;
 use hll_registers::estimate_state::EstimateState;
-use hll_registers::exception_map::{Exceptions, MARK, exception_at, put_exception};
+use hll_registers::exception_map::{Exceptions, MARK, add_exception, exception_at};
 use hll_registers::nibble_registers::NibbleRegisters;
 use hll_registers::preamble::Preamble;
 use hll_registers::registers::two_to;
@@ -210,7 +210,7 @@ fn put_entry<A: Allocator + Clone>(
     if entry.value() == 0 || exception_at(map, slot).is_some() {
         return Err(Error::new(Reason::Coupon));
     }
-    put_exception(map, alloc, lg_config_k, slot, entry.value())
+    add_exception(map, alloc, lg_config_k, slot, entry.value())
 }
 
 /// The coupon of a raw word.

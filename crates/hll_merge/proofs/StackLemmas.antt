@@ -1,9 +1,10 @@
 -- Lemmas on carrying out steps: the sketches of a stack are outcomes of the plans.
-use Rattle.std.proofs.Common.{◌≡◌, ℕ, zero, suc, ◌+◌, ◌-◌, ◌<◌, ◌≤◌, inl, inr, List, [], ◌∷◌, ◌++◌, length, take, drop, get_or, Some, Ok, Err, ◌⊎◌, refl, sym, ◌∙◌, ap, subst, arith, map, option_to_list, Option, None}
+use Rattle.std.proofs.Common.{◌≡◌, ℕ, zero, suc, Bool, true, false, ◌&&◌, nat_eq, if◌then◌else◌, ◌+◌, ◌-◌, ◌<◌, ◌≤◌, inl, inr, List, [], ◌∷◌, ◌++◌, length, take, drop, get_or, Some, Ok, Err, ◌⊎◌, refl, sym, ◌∙◌, ap, subst, arith, map, option_to_list, Option, None}
 use Rattle.std.proofs.Math.ListN.{set}
 use Rattle.std.proofs.Math.Nat.{eq-or-lt_of_le}
 use Rattle.std.proofs.Math.Seq.{take-suc, get_or-append_seam}
 use Rattle.std.proofs.lemmas.List.{set_split, take_all, take-append-drop, take-append-le, take-set, take-set-le, take_more_set, length-append, length-drop, length-set}
+use Rattle.std.proofs.lemmas.Bool.{cases_Bool, cond-true, cond-false}
 use Rattle.std.proofs.lemmas.List.Edits.{swap_is}
 use Rattle.std.specs.List.{swap}
 use Rattle.std.specs.Prelude.{IsSome, IfSome, IfNone}
@@ -13,13 +14,14 @@ use Rattle.hll_base.specs.declared.error.ErrorKind.TheVariants.{InvalidData}
 use Rattle.hll_base.specs.Reason.{kind_of}
 use Rattle.hll_coupons.specs.Pair.{pair, set_of}
 use Rattle.hll_base.specs.declared.hll_type.HllType.{HllType}
+use Rattle.hll_base.specs.declared.hll_type.HllType.TheVariants.{Hll8}
 use Rattle.hll_sketch.specs.Adding.{add}
 use Rattle.hll_sketch.specs.Checks.{first_fault}
 use Rattle.hll_sketch.specs.Folding.{folded}
 use Rattle.hll_sketch.specs.Image.{IsReadAs}
 use Rattle.hll_sketch.specs.Layout.{SketchLayout, sketch_of}
-use Rattle.hll_sketch.specs.Merging.{merge_all, empty_union}
-use Rattle.hll_sketch.specs.Value.{Sketch}
+use Rattle.hll_sketch.specs.Merging.{merge, merge_all, merge_content, empty_union}
+use Rattle.hll_sketch.specs.Value.{Sketch, Content, coupons, registers, is_empty, pairs_of}
 use Rattle.hll_sketch.proofs.FaultKinds.{faults_are_of_data}
 use Rattle.hll_sketch.proofs.FirstFaults.{first_fault_stands}
 use Rattle.hll_text.specs.declared.fault.Fault.{Fault}
@@ -30,7 +32,7 @@ use Rattle.hll_text.specs.Text.{PlanStep, Reading}
 use Rattle.hll_merge.specs.Plan as plan
 use Rattle.hll_merge.specs.Plan.{Plan, outcome, outcomes, plans_of, effective_lg_k}
 use Rattle.hll_merge.specs.Accepting.{Gives, IsFaultOfLine, Runs, LastPlanIsBelow, IsFaultOfStep, skipped, taken, unread, refused}
-use Rattle.hll_merge.specs.Stack.{Represents, AllRepresent, ReplacesLast, LastIsBelow, StackCarries, StackRefuses, StackGives, StackFaults}
+use Rattle.hll_merge.specs.Stack.{Represents, AllRepresent, ReplacesLast, UnitesFrom, LastIsBelow, StackCarries, StackRefuses, StackGives, StackFaults}
 use Rattle.hll_merge.proofs.EffectiveLgK.{lg_k-outcome}
 
 -- ---- a stack and its plans
@@ -211,21 +213,46 @@ image-read digits buffer bytes size is (inr full) = absurd (cc)
 pub carries-image : (xs : List SketchLayout) (bytes : List ℕ) (x : SketchLayout) → IsReadAs bytes (sketch_of x) → StackCarries xs (text.image bytes) (xs ++ x ∷ [])
 carries-image xs bytes x r = λ ts h. (ts ++ plan.image (sketch_of x) ∷ [], (sketch_of x, r, refl), AllRepresent-push xs ts x (plan.image (sketch_of x)) h refl)
 
-pub carries-union : (xs ys : List SketchLayout) (n at m : ℕ) (w : HllType) (y : SketchLayout) → n ≤ length xs → at ≡ length xs - n
-    → sketch_of y ≡ record (merge_all m (empty_union m) (map sketch_of (take (length xs - at) (drop at xs)))) { width = w } → ys ≡ take at xs ++ y ∷ []
-    → StackCarries xs (text.union n m w) ys
-carries-union xs ys n at m w y enough is value gives = λ ts h.
+pub carries-union : (xs ys : List SketchLayout) (n at m : ℕ) (w : HllType) → n ≤ length xs → at ≡ length xs - n → UnitesFrom at m w xs ys → StackCarries xs (text.union n m w) ys
+carries-union xs ys n at m w enough is united = λ ts h.
     let below : List Plan = take at ts in
     let top : List Plan = drop at ts in
     let high : AllRepresent (drop at xs) top = AllRepresent-drop at xs ts h in
-    let whole : take (length xs - at) (drop at xs) ≡ drop at xs = take_all (length xs - at) (drop at xs) (omega (arith, length-drop at xs)) in
-    let all : map sketch_of (take (length xs - at) (drop at xs)) ≡ outcomes (plans_of top) = ap (map sketch_of) whole ∙ AllRepresent-values (drop at xs) top high in
+    let all : map sketch_of (drop at xs) ≡ outcomes (plans_of top) = AllRepresent-values (drop at xs) top high in
     let number : length top ≡ n = omega (arith, length-AllRepresent (drop at xs) top high, length-drop at xs, is, enough) in (
       below ++ plan.union_plan m w (plans_of top) ∷ [],
       (below, top, sym (take-append-drop at ts), number, refl),
-      carries-push (take at xs) ys below y (plan.union_plan m w (plans_of top)) (AllRepresent-take at xs ts h)
-          (value ∙ ap (λ zs. let z : Sketch = record (merge_all m (empty_union m) zs) { width = w } in z) all) gives,
+      carries-push (take at xs) ys below united.made (plan.union_plan m w (plans_of top)) (AllRepresent-take at xs ts h)
+          (united.value ∙ ap (λ zs. let z : Sketch = record (merge_all m (empty_union m) zs) { width = w } in z) all) united.gives,
     )
+
+-- the width of a gadget stays
+width-merge : (m : ℕ) (g x : Sketch) → (merge m g x).width ≡ g.width
+width-merge m g x = elim (cases_Bool (is_empty x)) [
+  | inl t ↦ ap (λ (y : Sketch). y.width) (cond-true (is_empty x) g (merge_content m g x x.content) t)
+  | inr f ↦ ap (λ (y : Sketch). y.width) (cond-false (is_empty x) g (merge_content m g x x.content) f) ∙ of x.content
+]
+  where
+    choose : (b : Bool) → (if b then record g { content = x.content } else add g (pairs_of x)).width ≡ g.width
+    choose true = refl
+    choose false = refl
+
+    of : (c : Content) → (merge_content m g x c).width ≡ g.width
+    of (coupons S p) = choose (is_empty g && nat_eq g.lg_k x.lg_k)
+    of (registers R s) = refl
+
+width-merge_all : (m : ℕ) (g : Sketch) (xs : List Sketch) → (merge_all m g xs).width ≡ g.width
+width-merge_all m g [] = refl
+width-merge_all m g (x ∷ xs) = width-merge_all m (merge m g x) xs ∙ width-merge m g x
+
+-- a union in the place of the first sketch, those behind it dropped
+pub united_in_place : (xs ys : List SketchLayout) (at m : ℕ) (w : HllType) (x : SketchLayout) → w ≡ Hll8 → take (at + 1) ys ≡ take at xs ++ x ∷ [] →
+    sketch_of x ≡ merge_all m (empty_union m) (map sketch_of (drop at xs)) → UnitesFrom at m w xs (take (at + 1) ys)
+united_in_place xs ys at m w x eight gives value = record {
+  made = x;
+  value = value ∙ (let g : Sketch = merge_all m (empty_union m) (map sketch_of (drop at xs)) in λ i. record g { width = (width-merge_all m (empty_union m) (map sketch_of (drop at xs)) ∙ sym eight) i });
+  gives = gives;
+}
 
 -- ---- lines
 

@@ -1,6 +1,8 @@
 -- The sketches of a run, and the plans that they are outcomes of (docs/ARCHITECTURE.md, "A run").
-use Rattle.std.specs.Prelude.{◌≡◌, ◌<◌, ◌⊎◌, ℕ, List, [], ◌∷◌, ◌++◌}
+use Rattle.std.specs.Prelude.{◌≡◌, ◌<◌, ◌⊎◌, ℕ, List, [], ◌∷◌, ◌++◌, map, take, drop}
+use Rattle.hll_base.specs.declared.hll_type.HllType.{HllType}
 use Rattle.hll_sketch.specs.Layout.{SketchLayout, sketch_of}
+use Rattle.hll_sketch.specs.Merging.{merge_all, empty_union}
 use Rattle.hll_sketch.specs.Value.{Sketch}
 use Rattle.hll_text.specs.declared.fault.Fault.{Fault}
 use Rattle.hll_text.specs.declared.fault.Fault.TheVariants.{Memory}
@@ -35,6 +37,12 @@ pub record LastIsBelow (old : List SketchLayout) (e : ℕ) : Type 0 where
   pub last : SketchLayout
   pub is : old ≡ front ++ last ∷ []
   pub below : (sketch_of last).lg_k < e
+
+-- the sketches from an index on were replaced by their union under a bound, at a width, and those before it stayed
+pub record UnitesFrom (at bound : ℕ) (width : HllType) (old new : List SketchLayout) : Type 0 where
+  pub made : SketchLayout
+  pub value : sketch_of made ≡ record (merge_all bound (empty_union bound) (map sketch_of (drop at old))) { width = width }
+  pub gives : new ≡ take at old ++ made ∷ []
 
 -- ---- steps and lines, whatever plans the old sketches are outcomes of
 

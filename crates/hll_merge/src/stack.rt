@@ -1,20 +1,21 @@
 //! The sketches of a plan while its lines are carried out, the last one on top.
-ghost use Rattle.std.specs.Prelude.{◌≡◌, ◌≢◌, ◌≤◌, ◌<◌, ◌⊎◌, ◌++◌, ◌∷◌, [], length, take, Ok, None, OnOk, OnErr, IfOk, IfErr, IfSome, IfNone};
+ghost use Rattle.std.specs.Prelude.{◌≡◌, ◌≢◌, ◌+◌, ◌≤◌, ◌<◌, ◌⊎◌, ◌++◌, ◌∷◌, [], length, map, take, drop, true, false, Ok, None, OnOk, OnErr, IfOk, IfErr, IfSome, IfNone};
 ghost use Rattle.hll_coupons.specs.Pair.{value_of, set_of};
 ghost use Rattle.hll_sketch.specs.Adding.{add};
 ghost use Rattle.hll_sketch.specs.Folding as folding;
-ghost use Rattle.hll_sketch.specs.Layout.{sketch_of};
+ghost use Rattle.hll_sketch.specs.Layout.{SketchLayout, sketch_of};
+ghost use Rattle.hll_sketch.specs.Merging.{merge_all, empty_union};
 ghost use Rattle.hll_sketch.specs.Value.{IsLgK};
 ghost use Rattle.hll_text.specs.Step.{step_of, IsInRange, HasBytes};
 ghost use Rattle.hll_text.specs.Text.{new, image, union, reading, image_reading};
-ghost use Rattle.hll_merge.specs.Stack.{ReplacesLast, LastIsBelow, StackCarries, StackRefuses, StackGives, StackFaults};
+ghost use Rattle.hll_merge.specs.Stack.{ReplacesLast, UnitesFrom, LastIsBelow, StackCarries, StackRefuses, StackGives, StackFaults};
 ghost use Rattle.hll_text.specs.declared.fault.Fault.TheVariants.{Memory};
 ghost use Rattle.hll_text.specs.declared.fault.Fault.TheVariants as faults;
 
 use hll_base::hll_type::HllType;
 use hll_coupons::coupon::Coupon;
 use hll_sketch::sketch::HllSketch;
-use hll_sketch::union::union_of;
+use hll_sketch::union::{union_in_place, union_of};
 use hll_text::fault::Fault;
 use hll_text::reading::{decode_into, read_line};
 use hll_text::step::{Line, Step};
@@ -106,6 +107,39 @@ impl<A: Allocator + Clone> Stack<A> {
         let Some(at) = self.sketches.len().checked_sub(count as usize) else {
             return Err(Fault::Stack);
         };
+        if self.unite_in_place(at, lg_max_k, hll_type) {
+            return Ok(());
+        }
+        self.unite_aside(at, lg_max_k, hll_type)
+    }
+
+    /// Puts the union of the sketches from an index on in their place, where the first of them can take in the others
+    /// without memory, and answers whether it did. Otherwise nothing changes.
+    fn unite_in_place(&mut self, at: usize, lg_max_k: u8, hll_type: HllType) -> bool
+        requires bound { IsLgK lg_max_k }
+        requires within { at ≤ length self.old }
+        ensures united { result ≡ true → UnitesFrom at lg_max_k hll_type self.old self.new }
+        ensures unchanged { result ≡ false → self.new ≡ self.old }
+    {
+        match hll_type {
+            HllType::Hll8 => {}
+            HllType::Hll4 | HllType::Hll6 => return false,
+        }
+        if !unite_from(&mut self.sketches, at, lg_max_k) {
+            return false;
+        }
+        self.sketches.truncate(at + 1);
+        true
+    }
+
+    /// Puts the union of the sketches from an index on in their place. `Memory` where it, or a larger stack, is refused.
+    fn unite_aside(&mut self, at: usize, lg_max_k: u8, hll_type: HllType) -> Result<(), Fault>
+        requires bound { IsLgK lg_max_k }
+        requires within { at ≤ length self.old }
+        ensures ok { OnOk result (UnitesFrom at lg_max_k hll_type self.old self.new) }
+        ensures err { IfErr result (λ e. e ≡ Memory) }
+        ensures unchanged { OnErr result (self.new ≡ self.old) }
+    {
         let union = union_of(self.cloned_allocator()?, lg_max_k, &self.sketches[at..])?;
         let sketch = union.into_sketch(hll_type)?;
         self.replace_from(at, sketch)
@@ -205,4 +239,20 @@ impl<A: Allocator + Clone> Stack<A> {
             Line::Step(step) => self.carry_out(&step),
         }
     }
+}
+
+/// Makes the sketch at an index the union of those from there on, at eight bits, where that takes no memory, and answers
+/// whether it did. The others stay as they are, and where it didn't, so does this one.
+fn unite_from<A: Allocator + Clone>(sketches: &mut [HllSketch<A>], at: usize, lg_max_k: u8) -> bool
+    requires bound { IsLgK lg_max_k }
+    requires within { at ≤ length sketches.old }
+    ensures united { result ≡ true → (x : SketchLayout) × (take (at + 1) sketches.new ≡ take at sketches.old ++ x ∷ []) × (sketch_of x ≡ merge_all lg_max_k (empty_union lg_max_k) (map sketch_of (drop at sketches.old))) }
+    ensures unchanged { result ≡ false → sketches.new ≡ sketches.old }
+    ensures len { length sketches.new ≡ length sketches.old }
+{
+    let (_, last) = sketches.split_at_mut(at);
+    let Some((first, others)) = last.split_first_mut() else {
+        return false;
+    };
+    union_in_place(lg_max_k, first, others)
 }

@@ -119,14 +119,14 @@ fn one_entry<A: Allocator + Clone>(
     ensures err { IfErr result (λ e. e ≡ Memory) }
 {
     let mut map = AuxMap::new(alloc, lg_k)?;
-    set_value(&mut map, slot, value)?;
+    add_value(&mut map, slot, value)?;
     Ok(map)
 }
 
-/// Gives a slot an exception, in a map that is made where there is none, by this allocator.
+/// Gives a slot an exception, whether it has one or not, in a map that is made where there is none, by this allocator.
 ///
 /// Fails with `Memory`, never if the slot has an exception, and then changes nothing.
-pub fn put_exception<A: Allocator + Clone>(
+pub(crate) fn put_exception<A: Allocator + Clone>(
     map: &mut Exceptions<A>,
     alloc: &A,
     lg_k: u8,
@@ -147,11 +147,7 @@ pub fn put_exception<A: Allocator + Clone>(
 {
     match map {
         Some(map) => set_value(map, slot, value),
-        None => {
-            let entry = one_entry(alloc.clone()?, lg_k, slot, value)?;
-            *map = Some(Box::new(alloc.clone()?, entry)?);
-            Ok(())
-        }
+        None => add_exception(map, alloc, lg_k, slot, value),
     }
 }
 
@@ -173,6 +169,52 @@ fn set_value<A: Allocator + Clone>(map: &mut AuxMap<A>, slot: u32, value: u8) ->
         }
         None => map.insert(slot, value),
     }
+}
+
+/// Gives a slot that has no exception one, in a map that is made where there is none, by this allocator. One search.
+///
+/// Fails with `Memory`, and then changes nothing.
+pub fn add_exception<A: Allocator + Clone>(
+    map: &mut Exceptions<A>,
+    alloc: &A,
+    lg_k: u8,
+    slot: u32,
+    value: u8,
+) -> Result<(), Error>
+    requires low { 4 ≤ lg_k }
+    requires high { lg_k ≤ 21 }
+    requires within { slot < 2 ^ lg_k }
+    requires least { 1 ≤ value }
+    requires most { value ≤ 63 }
+    requires map { IsMapFor lg_k (unboxed map.old) }
+    requires none { exception_in (unboxed map.old) slot ≡ None }
+    ensures map { OnOk result (IsMapFor lg_k (unboxed map.new)) }
+    ensures values { OnOk result ((s : ℕ) → exception_in (unboxed map.new) s ≡ (if s == slot then Some value else exception_in (unboxed map.old) s)) }
+    ensures unchanged { OnErr result ((unboxed map.new) ≡ (unboxed map.old)) }
+    ensures err { IfErr result (λ e. e ≡ Memory) }
+{
+    match map {
+        Some(map) => add_value(map, slot, value),
+        None => {
+            let entry = one_entry(alloc.clone()?, lg_k, slot, value)?;
+            *map = Some(Box::new(alloc.clone()?, entry)?);
+            Ok(())
+        }
+    }
+}
+
+/// Gives a slot of a map that has no value one.
+fn add_value<A: Allocator + Clone>(map: &mut AuxMap<A>, slot: u32, value: u8) -> Result<(), Error>
+    requires within { slot < 2 ^ map.old.lg_k }
+    requires least { 1 ≤ value }
+    requires most { value ≤ 63 }
+    requires none { exception_in (Some map.old) slot ≡ None }
+    ensures map { OnOk result (IsMapFor map.old.lg_k (Some map.new)) }
+    ensures values { OnOk result ((s : ℕ) → exception_in (Some map.new) s ≡ (if s == slot then Some value else exception_in (Some map.old) s)) }
+    ensures unchanged { OnErr result (map.new ≡ map.old) }
+    ensures err { IfErr result (λ e. e ≡ Memory) }
+{
+    map.insert(slot, value)
 }
 
 /// Whether each exception is one above a minimum.
@@ -441,7 +483,7 @@ fn put_exceptions_of<A: Allocator + Clone>(
     for slot in from..to {
         let value = registers.values[slot];
         if value >= registers.minimum + MARK {
-            put_exception(map, alloc, registers.lg_k, slot as u32, value)?;
+            add_exception(map, alloc, registers.lg_k, slot as u32, value)?;
         }
     }
     Ok(())

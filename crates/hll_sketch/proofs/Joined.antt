@@ -1,13 +1,12 @@
 -- Grown sketches merged in turn are joined, and stay grown.
 use Rattle.std.proofs.Math.Bool.{or-true}
-use Rattle.std.proofs.Common.{◌≡◌, ℕ, ◌+◌, ◌<◌, ◌++◌, length, take, get_or, ◌≤◌, Bool, true, false, cond, not, ◌&&◌, ◌||◌, nat_eq, eqb, leb, List, [], ◌∷◌, Some, None, refl, sym, ap, subst, ◌∙◌, arith, inl, inr, map, All}
+use Rattle.std.proofs.Common.{◌≡◌, ℕ, ◌++◌, ◌≤◌, Bool, true, false, cond, not, ◌&&◌, ◌||◌, nat_eq, eqb, leb, List, [], ◌∷◌, Some, None, refl, sym, ap, subst, ◌∙◌, arith, inl, inr, map, All}
 use Rattle.std.specs.Prelude.{min}
 use Rattle.std.specs.List.{list_any, AllByRecursion}
 use Rattle.std.specs.Ordering.{nat_cmp}
 use Rattle.std.specs.FinSet.{empty, union, len, len-empty, empty_of_len}
 use Rattle.std.proofs.lemmas.Bool.{cases_Bool, cond-true, cond-false, and_parts, or_parts, or_cases, true≢false, eqb-true, eq-eqb}
-use Rattle.std.proofs.lemmas.List.{take_more}
-use Rattle.std.proofs.lemmas.List.Elements.{All-head, All-tail, All-nil, All-cons, All-append}
+use Rattle.std.proofs.lemmas.List.Elements.{All-head, All-tail}
 use Rattle.hll_coupons.specs.Pair.{Pairs}
 use Rattle.hll_coupons.specs.Fold.{fold_to, pairs}
 use Rattle.hll_base.specs.Join.{join}
@@ -204,13 +203,6 @@ grown_each (x ∷ xs) legal grown = (
   legal_grown (sketch_of x) (All-head (λ x. IsLegal (sketch_of x)) x xs legal) (All-head IsGrown (sketch_of x) (map sketch_of xs) grown),
   grown_each xs (All-tail (λ x. IsLegal (sketch_of x)) x xs legal) (All-tail IsGrown (sketch_of x) (map sketch_of xs) grown),
 )
-
--- one more of a list, behind others
-pub legal_more : (xs : List SketchLayout) (i : ℕ) (d : SketchLayout) → i < length xs → All (λ x. IsLegal (sketch_of x)) (take i xs) → IsLegal (sketch_of (get_or xs i d)) →
-    All (λ x. IsLegal (sketch_of x)) (take (i + 1) xs)
-legal_more xs i d h before one =
-    let P : SketchLayout → Type 0 = λ x. IsLegal (sketch_of x) in
-    subst (All P) (sym (take_more xs i d h)) (All-append P (take i xs) (get_or xs i d ∷ []) before (All-cons P (get_or xs i d) [] one (All-nil P)))
 
 -- ---- unions
 

@@ -13,6 +13,7 @@ pub mod Gadgets
 pub mod Headers
 mod ImageRows
 pub mod Images
+pub mod InPlace
 pub mod Inserting
 pub mod Joined
 pub mod Keeping

@@ -4,6 +4,7 @@ use Rattle.std.specs.FinSet.{empty, union, len}
 use Rattle.hll_coupons.specs.Pair.{Pairs}
 use Rattle.hll_base.specs.declared.hll_type.HllType.TheVariants.{Hll4, Hll6, Hll8}
 use Rattle.hll_coupons.specs.Table.{coupons_of}
+use Rattle.hll_registers.specs.Store.{Stored}
 use Rattle.hll_sketch.specs.Layout.{Layout, list, set, array, SketchLayout, sketch_of}
 use Rattle.hll_sketch.specs.Stage.{can_hold, stage}
 use Rattle.hll_sketch.specs.Value.{Sketch, Content, coupons, registers, in_registers, is_empty}
@@ -16,6 +17,10 @@ pub record UnionLayout : Type 0 where
 -- the gadget's sketch value
 abbrev pub gadget_of : UnionLayout → Sketch
 gadget_of u = sketch_of u.gadget
+
+-- registers of eight bits as a sketch value
+abbrev pub sketch_of_registers : Stored → Sketch
+sketch_of_registers x = record { lg_k = x.lg_k; width = Hll8; content = registers x.registers x.state }
 
 -- a gadget is of eight bits; its coupons are at the bound, its registers there or lower, and not all 0
 pub record IsGadget (bound : ℕ) (g : Sketch) : Type 0 where

@@ -9,7 +9,7 @@ ghost use Rattle.hll_registers.specs.Store.{IsStored};
 ghost use Rattle.hll_sketch.specs.Layout.{content_in, sketch_of, width_of};
 ghost use Rattle.hll_sketch.specs.Laws.{add_in_turn};
 ghost use Rattle.hll_sketch.specs.Merging as merging;
-ghost use Rattle.hll_sketch.specs.Union.{IsGadget, coupons_kept, can_hold_all, ContentNeedsMemory, MergeNeedsMemory};
+ghost use Rattle.hll_sketch.specs.Union.{IsGadget, sketch_of_registers, coupons_kept, can_hold_all, ContentNeedsMemory, MergeNeedsMemory};
 ghost use Rattle.hll_sketch.specs.Value.{IsLegal, IsLgK, coupons, in_registers, is_empty, registers};
 
 use crate::folding::fold_of;
@@ -26,6 +26,17 @@ use hll_coupons::coupon::Coupon;
 use std::alloc::Allocator;
 
 impl<A: Allocator + Clone> HllSketch<A> {
+    /// Whether this is a gadget of a union with a bound, in registers.
+    pub(crate) fn is_gadget_of_registers(&self, bound: u8) -> bool
+        ensures gadget { result ≡ true → IsGadget bound (sketch_of self.now) }
+        ensures registers { result ≡ true → in_registers (content_in self.now.layout) ≡ true }
+    {
+        match &self.mode {
+            Mode::Array8(_) => self.lg_config_k <= bound && !self.is_empty(),
+            _ => false,
+        }
+    }
+
     /// Merges a sketch into this gadget of a union with a bound.
     ///
     /// Fails with `Memory`, and then changes nothing.
@@ -94,6 +105,21 @@ impl<A: Allocator + Clone> HllSketch<A> {
     ///
     /// Fails with `Memory`, only if there is no room for them, and may then have some of them.
     fn add_each(&mut self, table: &Container<A>) -> Result<(), Error>
+        ensures ok { OnOk result (sketch_of self.new ≡ add_in_turn (sketch_of self.old) (coupons_in table.now.places)) }
+        ensures needed { OnErr result (can_hold_all self.old.layout (coupons_of table.now) ≡ false) }
+        ensures err { IfErr result (λ e. e ≡ Memory) }
+    {
+        match &mut self.mode {
+            Mode::Array8(array) => {
+                raise_by_each(array, table);
+                Ok(())
+            }
+            _ => self.update_with_each(table),
+        }
+    }
+
+    /// As `add_each`, by one update after the other.
+    fn update_with_each(&mut self, table: &Container<A>) -> Result<(), Error>
         ensures ok { OnOk result (sketch_of self.new ≡ add_in_turn (sketch_of self.old) (coupons_in table.now.places)) }
         ensures needed { OnErr result (can_hold_all self.old.layout (coupons_of table.now) ≡ false) }
         ensures err { IfErr result (λ e. e ≡ Memory) }
@@ -206,5 +232,15 @@ impl<A: Allocator + Clone> HllSketch<A> {
             mode: Mode::Array8(merged),
         };
         Ok(())
+    }
+}
+
+/// Raises registers of eight bits by the coupons of a table in turn.
+fn raise_by_each<A: Allocator>(array: &mut Array8<A>, table: &Container<A>)
+    ensures added { sketch_of_registers array.new ≡ add_in_turn (sketch_of_registers array.old) (coupons_in table.now.places) }
+    ensures lg_k { array.new.lg_k ≡ array.old.lg_k }
+{
+    for coupon in table.iter() {
+        array.update(coupon);
     }
 }

@@ -1,5 +1,5 @@
 //! Unions of sketches (docs/MODEL.md, "Merging").
-ghost use Rattle.std.specs.Prelude.{◌≡◌, ◌≢◌, ◌≤◌, ◌⊎◌, ◌↔◌, true, IsTrue, All, List, map, [], ◌∷◌, ◌++◌, fold, IfOk, IfErr, OnOk, OnErr};
+ghost use Rattle.std.specs.Prelude.{◌≡◌, ◌≢◌, ◌≤◌, ◌⊎◌, ◌↔◌, true, false, IsTrue, All, List, map, [], ◌∷◌, ◌++◌, fold, IfOk, IfErr, OnOk, OnErr};
 ghost use Rattle.hll_base.specs.declared.error.Reason.TheVariants.{Memory};
 ghost use Rattle.hll_base.specs.declared.error.Reason.TheVariants as reasons;
 ghost use Rattle.hll_base.specs.Hash.{hash_of, initial_state, after_piece, default_seed};
@@ -217,6 +217,45 @@ pub fn union_of<A: Allocator + Clone>(
         union.update(sketch)?;
     }
     Ok(union)
+}
+
+/// Makes the first of some sketches their union under a bound, where that takes no memory, and answers whether it did:
+/// where the first has registers of eight bits that are not all 0, at an `lg_k` up to the bound and up to that of each
+/// other sketch. Otherwise nothing changes.
+///
+/// `lg_max_k` is 4 to 21. Takes no memory.
+pub fn union_in_place<A: Allocator + Clone>(
+    lg_max_k: u8,
+    first: &mut HllSketch<A>,
+    others: &[HllSketch<A>],
+) -> bool
+    requires { IsLgK lg_max_k }
+    ensures merged { result ≡ true → sketch_of first.new ≡ merge_all lg_max_k (empty_union lg_max_k) (sketch_of first.old ∷ map sketch_of others.now) }
+    ensures unchanged { result ≡ false → first.new ≡ first.old }
+{
+    if !first.is_gadget_of_registers(lg_max_k) || !are_at_least(first.lg_config_k(), others) {
+        return false;
+    }
+    first.value_is_legal();
+    for sketch in others {
+        match first.merge(lg_max_k, sketch) {
+            Ok(()) => {}
+            Err(_) => unreachable!(),
+        }
+    }
+    true
+}
+
+/// Whether the `lg_k` of each sketch is at least this one.
+fn are_at_least<A: Allocator>(lg_k: u8, sketches: &[HllSketch<A>]) -> bool
+    ensures { result ≡ true → All (λ x. lg_k ≤ x.lg_k) sketches.now }
+{
+    for sketch in sketches {
+        if sketch.lg_config_k() < lg_k {
+            return false;
+        }
+    }
+    true
 }
 
 /// Whether two sketches fold to the same registers at the smaller `lg_k` of both. Takes two bytes a register there.

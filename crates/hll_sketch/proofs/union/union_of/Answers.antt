@@ -1,9 +1,10 @@
 use Rattle.std.proofs.Common.{map, ap, subst, ◌∙◌, All}
 use Rattle.std.proofs.lemmas.List.{take_all}
+use Rattle.std.proofs.lemmas.List.Elements.{All-more}
 use Rattle.hll_sketch.specs.Layout.{sketch_of}
 use Rattle.hll_sketch.specs.Merging.{merge, merge_all, empty_union}
 use Rattle.hll_sketch.specs.Value.{Sketch, IsLegal}
-use Rattle.hll_sketch.proofs.Joined.{legal_more, joined_list}
+use Rattle.hll_sketch.proofs.Joined.{joined_list}
 use Rattle.hll_sketch.proofs.Merges.{merged_more, lg_k-merge_all}
 use Rattle.hll_sketch.proofs.union.union_of.Goals as goal
 
@@ -13,7 +14,7 @@ loop-sketch-preserved g c = (
   c.in_ok-update.ensures.ok
       ∙ (λ i. merge (c.loop-sketch.invariant.0 i) (c.loop-sketch.invariant.1 i) (sketch_of (c.sketch-item.is i)))
       ∙ merged_more c.args.lg_max_k (empty_union c.args.lg_max_k) c.args.sketches.now c.loop-sketch.sketch-index c.sketch-item.result c.loop-sketch-test.true,
-  legal_more c.args.sketches.now c.loop-sketch.sketch-index c.sketch-item.result c.loop-sketch-test.true c.loop-sketch.invariant.2
+  All-more (λ x. IsLegal (sketch_of x)) c.args.sketches.now c.loop-sketch.sketch-index c.sketch-item.result c.loop-sketch-test.true c.loop-sketch.invariant.2
       (subst (λ x. IsLegal (sketch_of x)) c.sketch-item.is c.value_is_legal.ensures),
 )
 

@@ -11,7 +11,7 @@ use Rattle.hll_sketch.specs.Union.{can_hold_all}
 use Rattle.hll_sketch.proofs.Collecting.{All-between}
 use Rattle.hll_base.proofs.Errors.{OnErr-of}
 use Rattle.hll_sketch.proofs.Merges.{added_more, room_suffices}
-use Rattle.hll_sketch.proofs.sketch.HllSketch.add_each.Goals as goal
+use Rattle.hll_sketch.proofs.sketch.HllSketch.update_with_each.Goals as goal
 
 pub loop-coupon-init : goal.loop-coupon-init
 loop-coupon-init g c = refl

@@ -1,0 +1,48 @@
+use Rattle.std.proofs.Common.{◌≤◌, All, map, ap, sym, subst, ◌∙◌, refl, arith}
+use Rattle.std.proofs.lemmas.List.{take_all}
+use Rattle.std.proofs.lemmas.List.Elements.{All-get_or}
+use Rattle.hll_sketch.specs.Layout.{SketchLayout, sketch_of}
+use Rattle.hll_sketch.specs.Merging.{merge, merge_all, empty_union}
+use Rattle.hll_sketch.specs.Value.{Sketch, in_registers}
+use Rattle.hll_sketch.proofs.InPlace.{merge-first, in_registers-merge, lg_k-merge_within, no_memory_needed}
+use Rattle.hll_sketch.proofs.Merges.{merged_more}
+use Rattle.hll_sketch.proofs.union.union_in_place.Goals as goal
+
+pub loop-sketch-init : goal.loop-sketch-init
+loop-sketch-init g c =
+    let gadget = c.is_gadget_of_registers.ensures.gadget c.if-not-is_gadget_of_registers.false in
+    let inside = c.is_gadget_of_registers.ensures.registers c.if-not-is_gadget_of_registers.false in
+    record {
+      merged = sym (merge-first c.args.lg_max_k (sketch_of c.args.first.now) gadget inside c.value_is_legal.ensures);
+      gadget = gadget;
+      inside = inside;
+      lg_k = refl;
+    }
+
+pub unreachable-requires : goal.unreachable-requires
+unreachable-requires g c =
+    let other : c.args.first.now.lg_k ≤ c.sketch-item.result.lg_k = subst (λ (x : SketchLayout). c.args.first.now.lg_k ≤ x.lg_k) (sym c.sketch-item.is)
+    (All-get_or (λ (x : SketchLayout). c.args.first.now.lg_k ≤ x.lg_k) c.args.others.now c.loop-sketch.sketch-index c.sketch-item.result c.loop-sketch-test.true
+    (subst (λ k. All (λ (x : SketchLayout). k ≤ x.lg_k) c.args.others.now) c.lg_config_k.ensures.lg_k (c.are_at_least.ensures c.if-not-are_at_least.false))) in
+    no_memory_needed (sketch_of c.loop-sketch.first) (sketch_of c.sketch-item.result) c.loop-sketch.invariant.inside (omega (arith, other, c.loop-sketch.invariant.lg_k)) c.in-Err.ensures.needed
+
+pub loop-sketch-preserved : goal.loop-sketch-preserved
+loop-sketch-preserved g c =
+    let m = c.args.lg_max_k in
+    let first = sketch_of c.loop-sketch.first in
+    let other : c.args.first.now.lg_k ≤ c.sketch-item.result.lg_k = subst (λ (x : SketchLayout). c.args.first.now.lg_k ≤ x.lg_k) (sym c.sketch-item.is)
+    (All-get_or (λ (x : SketchLayout). c.args.first.now.lg_k ≤ x.lg_k) c.args.others.now c.loop-sketch.sketch-index c.sketch-item.result c.loop-sketch-test.true
+    (subst (λ k. All (λ (x : SketchLayout). k ≤ x.lg_k) c.args.others.now) c.lg_config_k.ensures.lg_k (c.are_at_least.ensures c.if-not-are_at_least.false))) in
+    record {
+      merged = c.in-Ok.ensures.ok ∙ (λ i. merge m (c.loop-sketch.invariant.merged i) (sketch_of (c.sketch-item.is i)))
+          ∙ merged_more m (merge m (empty_union m) (sketch_of c.args.first.now)) c.args.others.now c.loop-sketch.sketch-index c.sketch-item.result c.loop-sketch-test.true;
+      gadget = c.merge.ensures.gadget;
+      inside = ap (λ (y : Sketch). in_registers y.content) c.in-Ok.ensures.ok
+          ∙ in_registers-merge m first (sketch_of c.sketch-item.result) c.loop-sketch.invariant.inside (c.loop-sketch.invariant.gadget.registers c.loop-sketch.invariant.inside);
+      lg_k = ap (λ (y : Sketch). y.lg_k) c.in-Ok.ensures.ok ∙ lg_k-merge_within m first (sketch_of c.sketch-item.result) (omega (arith, other, c.loop-sketch.invariant.lg_k)) ∙ c.loop-sketch.invariant.lg_k;
+    }
+
+pub returns-clause-merged : goal.returns-clause-merged
+returns-clause-merged g c _ =
+    let m = c.args.lg_max_k in
+    c.loop-sketch.invariant.merged ∙ ap (λ xs. merge_all m (merge m (empty_union m) (sketch_of c.args.first.now)) (map sketch_of xs)) (take_all c.loop-sketch.sketch-index c.args.others.now c.loop-sketch-test.false)
