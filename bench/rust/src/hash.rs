@@ -1,12 +1,14 @@
 //! Measures the hash: nanoseconds for 8, 32 and 1,024 bytes, beside the same hash written plainly here. Both answers are
 //! compared for every length up to 1,024 first.
+#[allow(dead_code)]
+mod common;
+
+use common::{TURNS, medians, timed};
 use std::hint::black_box;
-use std::time::Instant;
 
 const SEED: u64 = 9001;
 const LENGTHS: [usize; 3] = [8, 32, 1024];
 const BYTES_A_RUN: usize = 1 << 26;
-const RUNS: usize = 7;
 
 // `hll_bench_hash(bytes: &[u8]) -> u64` in crates/hll_bench: a slice crosses as a pointer and a length.
 unsafe extern "C" {
@@ -64,17 +66,11 @@ fn bytes_of(length: usize) -> Vec<u8> {
     (0..length).map(|i| (i * 7 + i / 256) as u8).collect()
 }
 
-/// The least nanoseconds a call over some runs.
+/// The nanoseconds a call.
 fn nanoseconds(hash: fn(&[u8]) -> u64, bytes: &[u8]) -> f64 {
     let calls = BYTES_A_RUN / (bytes.len() + 64);
-    let run = || {
-        let start = Instant::now();
-        for _ in 0..calls {
-            black_box(hash(black_box(bytes)));
-        }
-        start.elapsed().as_nanos() as f64 / calls as f64
-    };
-    (0..RUNS).map(|_| run()).fold(f64::INFINITY, f64::min)
+    let (time, _) = timed(|| (0..calls).fold(0, |_, _| black_box(hash(black_box(bytes)))));
+    time / calls as f64
 }
 
 fn main() {
@@ -84,7 +80,8 @@ fn main() {
     }
     for length in LENGTHS {
         let bytes = bytes_of(length);
-        let (ours, theirs) = (nanoseconds(proved, &bytes), nanoseconds(plain, &bytes));
-        println!("{length:5} bytes: {ours:.1} ns, plainly {theirs:.1} ns, ratio {:.2}", ours / theirs);
+        let pairs: Vec<[f64; 2]> = (0..TURNS).map(|_| [proved, plain].map(|hash| nanoseconds(hash, &bytes))).collect();
+        let both = medians(&pairs);
+        println!("{length:5} bytes: {:.1} ns, plainly {:.1} ns, ratio {:.2}", both.ours, both.theirs, both.ratio);
     }
 }
