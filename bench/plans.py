@@ -13,15 +13,13 @@ import argparse
 import math
 import pathlib
 import random
-import resource
-import subprocess
 import sys
 from dataclasses import dataclass
 from typing import Callable
 
 sys.dont_write_bytecode = True
 from shared import (built_floor, built_program, check_printed, coupon_line, has_callgrind, image_line, image_of, instructions,
-                    list_image, machine, medians, plan_file, run, set_image)
+                    least_space, list_image, machine, medians, plan_file, run, set_image)
 
 SEED = 9001
 PAIRS = 11
@@ -132,30 +130,6 @@ ROWS = [
     Row("1,000,000 lines of seven coupons in turn", 1000000, 100000, few_coupons),
     Row("190,000 random coupon lines into a set", 190000, 190000, coupons_into_a_set),
 ]
-
-
-# ---- memory
-
-
-def carries_out(program, path, kilobytes):
-    """Whether so much address space is enough for a plan."""
-    size = 1024 * kilobytes
-    with open(path, "rb") as plan:
-        done = subprocess.run([program], stdin=plan, stdout=subprocess.DEVNULL, stderr=subprocess.DEVNULL,
-                              preexec_fn=lambda: resource.setrlimit(resource.RLIMIT_AS, (size, size)))
-    return done.returncode == 0
-
-
-def least_space(program, path):
-    """The least kilobytes of address space that are enough for a plan, to within 64."""
-    refused, enough = 0, 1 << 20
-    while enough - refused > 64:
-        middle = (refused + enough) // 2
-        if carries_out(program, path, middle):
-            enough = middle
-        else:
-            refused = middle
-    return enough
 
 
 # ---- rows

@@ -3,6 +3,7 @@ import datetime
 import os
 import pathlib
 import re
+import resource
 import shutil
 import statistics
 import struct
@@ -121,6 +122,27 @@ def instructions(program, path):
 
 def has_callgrind():
     return shutil.which("valgrind") is not None
+
+
+def carries_out(program, path, kilobytes):
+    """Whether so much address space is enough for a plan."""
+    size = 1024 * kilobytes
+    with open(path, "rb") as plan:
+        done = subprocess.run([program], stdin=plan, stdout=subprocess.DEVNULL, stderr=subprocess.DEVNULL,
+                              preexec_fn=lambda: resource.setrlimit(resource.RLIMIT_AS, (size, size)))
+    return done.returncode == 0
+
+
+def least_space(program, path):
+    """The least kilobytes of address space that are enough for a plan, to within 64."""
+    refused, enough = 0, 1 << 21
+    while enough - refused > 64:
+        middle = (refused + enough) // 2
+        if carries_out(program, path, middle):
+            enough = middle
+        else:
+            refused = middle
+    return enough
 
 
 def machine():

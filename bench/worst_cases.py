@@ -1,11 +1,14 @@
 #!/usr/bin/env python3
-"""Runs the program on images whose coupons share one probe path, and on random ones of the same size.
+"""Runs the program on plans that take the most time and memory for their size.
 
 The paths of a table are part of the format (docs/FORMAT.md, "Probing"), so whoever writes an image can choose coupons
 that all search the same places. Tables are filled to three quarters, the most that updates leave. Each row is a plan: one
 image, and lines behind it that search its table again. Printed are the seconds of processor time of both plans and their
-ratio; what the program prints is compared with the image that it has to be. Without the program's path it is built if
-need be. The rows whose names end in `(largest)` take a minute or more each, and run with `--largest` alone.
+ratio; what the program prints is compared with the image that it has to be. The rows whose names end in `(largest)` take
+a minute or more each, and run with `--largest` alone.
+
+A second table has the least address space that is enough for plans of many bytes a line, the program itself included.
+Without the program's path it is built if need be.
 """
 import argparse
 import pathlib
@@ -16,7 +19,8 @@ from dataclasses import dataclass
 from typing import Callable
 
 sys.dont_write_bytecode = True
-from shared import (built_program, check_printed, coupon_line, image_line, image_of, machine, plan_file, run, set_image)
+from shared import (built_program, check_printed, coupon_line, image_line, image_of, least_space, machine, plan_file, run,
+                    set_image)
 
 SEED = 9001
 SLOTS = 1 << 26
@@ -27,7 +31,7 @@ LINES = 4
 
 @dataclass(frozen=True)
 class Row:
-    """Two plans: `text` gives one over coupons on one path or over random ones, and the image that is printed for it."""
+    """Two plans: `text` gives the one over coupons on one path or over random ones, and the image that is printed."""
     name: str
     text: Callable
 
@@ -142,6 +146,26 @@ ROWS = [
     Row("exceptions at lg_k 17, 4 lines `coupon`", lambda is_path: rising_plan(17, is_path)),
 ]
 
+EMPTY_SET = image_line(set_image(21, 18, []))
+
+
+def registers_lines(width, count):
+    """Lines of so many images of registers of lg_k 21, and of their union."""
+    line = image_line(image_of(21, width, bytes(1 << 21)))
+    return count * line + "union %d 21 8\n" % count
+
+
+SPACES = {
+    "one line `new 4 8`": lambda: "new 4 8\n",
+    "100,000 lines `new 21 8`": lambda: 100000 * "new 21 8\n" + "union 100000 21 8\n",
+    "100 sets of no coupon in 2^18 places": lambda: 100 * EMPTY_SET + "union 100 21 8\n",
+    "a comment of 10,000,000 bytes": lambda: "new 4 8\n#" + 9999999 * " " + "\n",
+    "one image of lg_k 21 at 8 bits": lambda: registers_lines(8, 1),
+    "one image of lg_k 21 at 4 bits": lambda: registers_lines(4, 1),
+    "ten images of lg_k 21 at 8 bits": lambda: registers_lines(8, 10),
+    "ten images of lg_k 21 at 4 bits": lambda: registers_lines(4, 10),
+}
+
 
 # ---- rows
 
@@ -166,8 +190,15 @@ def measure(program, row, runs):
     print("%-46s %9d %9.3f %9.3f %8.1f" % (row.name, len(plan), path, usual, path / usual), flush=True)
 
 
+def measure_space(program, name, text):
+    with plan_file() as file:
+        file.write(text)
+        file.flush()
+        print("%-46s %9d %9d" % (name, len(text), least_space(program, file.name)), flush=True)
+
+
 def arguments():
-    parser = argparse.ArgumentParser(description="Runs the program on images whose coupons share one probe path.")
+    parser = argparse.ArgumentParser(description="Runs the program on plans that take the most time and memory.")
     parser.add_argument("program", nargs="?", type=pathlib.Path, help="the program hll_merge")
     parser.add_argument("--only", default="", metavar="WORDS", help="the rows whose names have these words")
     parser.add_argument("--runs", type=int, default=1, help="how often each plan runs")
@@ -183,6 +214,10 @@ def main():
     for row in ROWS:
         if given.only in row.name and (given.largest or "(largest)" not in row.name):
             measure(program, row, given.runs)
+    print("\n%-46s %9s %9s" % ("plan", "bytes", "kilobytes"))
+    for name, text in SPACES.items():
+        if given.only in name:
+            measure_space(program, name, text())
 
 
 if __name__ == "__main__":

@@ -3,6 +3,11 @@
 //! Two pieces of work run in turn, and what is told of them is the median of the ratios of their pairs, with the medians of
 //! both times. Where the work has to make something first, each turn also makes it alone, and the time of the work is the
 //! median of the differences of such pairs.
+//! With the word `instructions` those of a round are told too, of the rows of the smaller registers (counting.rs).
+#[path = "counting.rs"]
+mod counting;
+
+use counting::{instructions, is_for_another};
 use std::hint::black_box;
 
 pub const LG_K: [u8; 2] = [12, 21];
@@ -136,15 +141,44 @@ pub fn assert_same(name: &str, lg_k: u8, rounds: u32, [ours, theirs]: [Work; 2])
 
 /// Prints the medians of the differences of two pieces of work, and of their ratios.
 pub fn measure(name: &str, lg_k: u8, rounds: u32, ours: Work, theirs: Work) {
+    let row = format!("{name:28} lg_k {lg_k}");
+    if is_for_another(&row, [&mut |rounds| ours(lg_k, rounds), &mut |rounds| theirs(lg_k, rounds)]) {
+        return;
+    }
     assert_same(name, lg_k, rounds, [ours, theirs]);
     let round = |work| {
         let [whole, made] = whole_and_made(work, lg_k, rounds);
         (whole - made) / f64::from(rounds)
     };
     let pairs: Vec<[f64; 2]> = (0..TURNS).map(|_| [round(ours), round(theirs)]).collect();
-    print_medians(&format!("{name:28} lg_k {lg_k}"), medians(&pairs));
+    print_row(&row, lg_k, rounds, medians(&pairs));
 }
 
-pub fn print_medians(name: &str, Medians { ours, theirs, ratio }: Medians) {
-    println!("{name}: {ours:12.1} ns, plainly {theirs:12.1} ns, ratio {ratio:.2}");
+/// Prints what is told of a row.
+pub fn print_row(row: &str, lg_k: u8, rounds: u32, both: Medians) {
+    let Medians { ours, theirs, ratio } = both;
+    let counts = if lg_k == LG_K[0] { instructions(row, rounds, ours.max(theirs)) } else { None };
+    let counted = match counts {
+        Some([ours, theirs]) => format!("; {ours:10.1} instructions, plainly {theirs:10.1}, ratio {:.2}", ours / theirs),
+        None => String::new(),
+    };
+    println!("{row}: {ours:12.1} ns, plainly {theirs:12.1} ns, ratio {ratio:.2}{counted}");
+}
+
+/// Times and prints a row of two pieces of work that need nothing made: each does so many rounds, and gives its last answer.
+pub fn measure_calls(row: &str, lg_k: u8, rounds: u32, mut ours: impl FnMut() -> u64, mut theirs: impl FnMut() -> u64) {
+    fn repeat(rounds: u32, work: &mut dyn FnMut() -> u64) -> u64 {
+        (0..rounds).fold(0, |_, _| black_box(work()))
+    }
+    if is_for_another(row, [&mut |rounds| repeat(rounds, &mut ours), &mut |rounds| repeat(rounds, &mut theirs)]) {
+        return;
+    }
+    let mut pair = || {
+        let (time, out) = timed(|| repeat(rounds, &mut ours));
+        let (plain_time, plain_out) = timed(|| repeat(rounds, &mut theirs));
+        assert_eq!(out, plain_out, "{row}");
+        [time, plain_time].map(|time| time / f64::from(rounds))
+    };
+    let pairs: Vec<[f64; 2]> = (0..TURNS).map(|_| pair()).collect();
+    print_row(row, lg_k, rounds, medians(&pairs));
 }

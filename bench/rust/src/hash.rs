@@ -3,7 +3,7 @@
 #[allow(dead_code)]
 mod common;
 
-use common::{TURNS, medians, timed};
+use common::{LG_K, measure_calls};
 use std::hint::black_box;
 
 const SEED: u64 = 9001;
@@ -66,13 +66,6 @@ fn bytes_of(length: usize) -> Vec<u8> {
     (0..length).map(|i| (i * 7 + i / 256) as u8).collect()
 }
 
-/// The nanoseconds a call.
-fn nanoseconds(hash: fn(&[u8]) -> u64, bytes: &[u8]) -> f64 {
-    let calls = BYTES_A_RUN / (bytes.len() + 64);
-    let (time, _) = timed(|| (0..calls).fold(0, |_, _| black_box(hash(black_box(bytes)))));
-    time / calls as f64
-}
-
 fn main() {
     for length in 0..=1024 {
         let bytes = bytes_of(length);
@@ -80,8 +73,7 @@ fn main() {
     }
     for length in LENGTHS {
         let bytes = bytes_of(length);
-        let pairs: Vec<[f64; 2]> = (0..TURNS).map(|_| [proved, plain].map(|hash| nanoseconds(hash, &bytes))).collect();
-        let both = medians(&pairs);
-        println!("{length:5} bytes: {:.1} ns, plainly {:.1} ns, ratio {:.2}", both.ours, both.theirs, both.ratio);
+        let rounds = (BYTES_A_RUN / (length + 64)) as u32;
+        measure_calls(&format!("{length:5} bytes"), LG_K[0], rounds, || proved(black_box(&bytes)), || plain(black_box(&bytes)));
     }
 }

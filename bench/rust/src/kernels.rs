@@ -4,10 +4,10 @@
 #[allow(dead_code)]
 mod common;
 
-use common::{LG_K, TURNS, medians, print_medians, timed};
+use common::{LG_K, measure_calls};
 use std::hint::black_box;
 
-const REGISTERS_A_RUN: usize = 1 << 26;
+const REGISTERS_A_RUN: u32 = 1 << 26;
 
 // The exports of crates/hll_bench: a slice crosses as a pointer and a length.
 unsafe extern "C" {
@@ -66,23 +66,9 @@ fn lower_nibbles(bytes: &mut [u8]) -> u32 {
     zeros
 }
 
-/// The nanoseconds of a call, and what the last one answered.
-fn timed_calls(calls: usize, work: &mut dyn FnMut() -> u64) -> (f64, u64) {
-    let (time, out) = timed(|| (0..calls).fold(0, |_, _| black_box(work())));
-    (time / calls as f64, out)
-}
-
 /// Prints the medians of both, which run in turn.
-fn measure(name: &str, lg_k: u8, mut ours: impl FnMut() -> u64, mut theirs: impl FnMut() -> u64) {
-    let calls = REGISTERS_A_RUN >> lg_k;
-    let mut pair = || {
-        let (time, out) = timed_calls(calls, &mut ours);
-        let (plain_time, plain_out) = timed_calls(calls, &mut theirs);
-        assert_eq!(out, plain_out, "{name} at lg_k {lg_k}");
-        [time, plain_time]
-    };
-    let pairs: Vec<[f64; 2]> = (0..TURNS).map(|_| pair()).collect();
-    print_medians(&format!("{name:28} lg_k {lg_k}"), medians(&pairs));
+fn measure(name: &str, lg_k: u8, ours: impl FnMut() -> u64, theirs: impl FnMut() -> u64) {
+    measure_calls(&format!("{name:28} lg_k {lg_k}"), lg_k, REGISTERS_A_RUN >> lg_k, ours, theirs);
 }
 
 fn main() {
