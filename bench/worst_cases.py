@@ -7,8 +7,8 @@ image, and lines behind it that search its table again. Printed are the seconds 
 ratio; what the program prints is compared with the image that it has to be. The rows whose names end in `(largest)` take
 a minute or more each, and run with `--largest` alone.
 
-A second table has the least address space that is enough for plans of many bytes a line, the program itself included.
-Without the program's path it is built if need be.
+A second table has the seconds and the least address space, the program itself included, of plans that make much of few
+bytes. Without the program's path it is built if need be.
 """
 import argparse
 import pathlib
@@ -149,10 +149,10 @@ ROWS = [
 EMPTY_SET = image_line(set_image(21, 18, []))
 
 
-def registers_lines(width, count):
-    """Lines of so many images of registers of lg_k 21, and of their union."""
-    line = image_line(image_of(21, width, bytes(1 << 21)))
-    return count * line + "union %d 21 8\n" % count
+def registers_lines(width, count, unions=1):
+    """Lines of so many images of registers of lg_k 21, of their union, and of further unions of that alone."""
+    line = image_line(image_of(21, width, registers_with(21, [], 0, 1)))
+    return count * line + "union %d 21 8\n" % count + (unions - 1) * "union 1 21 8\n"
 
 
 SPACES = {
@@ -164,6 +164,7 @@ SPACES = {
     "one image of lg_k 21 at 4 bits": lambda: registers_lines(4, 1),
     "ten images of lg_k 21 at 8 bits": lambda: registers_lines(8, 10),
     "ten images of lg_k 21 at 4 bits": lambda: registers_lines(4, 10),
+    "one image of lg_k 21, 1,000 lines `union 1 21 8`": lambda: registers_lines(8, 1, 1000),
 }
 
 
@@ -187,14 +188,15 @@ def measure(program, row, runs):
     plan, image = row.text(True)
     path = seconds(row.name, program, plan, image, runs)
     usual = seconds(row.name, program, *row.text(False), runs)
-    print("%-46s %9d %9.3f %9.3f %8.1f" % (row.name, len(plan), path, usual, path / usual), flush=True)
+    print("%-48s %9d %9.3f %9.3f %8.1f" % (row.name, len(plan), path, usual, path / usual), flush=True)
 
 
 def measure_space(program, name, text):
     with plan_file() as file:
         file.write(text)
         file.flush()
-        print("%-46s %9d %9d" % (name, len(text), least_space(program, file.name)), flush=True)
+        _, took = run(program, file.name)
+        print("%-48s %9d %9.3f %9d" % (name, len(text), took, least_space(program, file.name)), flush=True)
 
 
 def arguments():
@@ -210,11 +212,11 @@ def main():
     given = arguments()
     program = (given.program or built_program()).resolve()
     print(machine())
-    print("%-46s %9s %9s %9s %8s" % ("plan", "bytes", "one path", "random", "ratio"))
+    print("%-48s %9s %9s %9s %8s" % ("plan", "bytes", "one path", "random", "ratio"))
     for row in ROWS:
         if given.only in row.name and (given.largest or "(largest)" not in row.name):
             measure(program, row, given.runs)
-    print("\n%-46s %9s %9s" % ("plan", "bytes", "kilobytes"))
+    print("\n%-48s %9s %9s %9s" % ("plan", "bytes", "seconds", "kilobytes"))
     for name, text in SPACES.items():
         if given.only in name:
             measure_space(program, name, text())
