@@ -60,11 +60,11 @@ def packed(registers, width, least):
     return bytes(low | high << 4 for low, high in zip(nibbles[::2], nibbles[1::2]))
 
 
-def image_of(lg_k, width, registers):
-    """The image of registers, with the flag of merged ones and words of 0."""
+def image_of(lg_k, width, registers, minimum=None):
+    """The image of registers, with the flag of merged ones and words of 0; at four bits above the least, or a lower minimum."""
     least, exceptions = 0, []
     if width == 4:
-        least = min(registers)
+        least = min(registers) if minimum is None else minimum
         exceptions = [value << 26 | slot for slot, value in enumerate(registers) if value >= least + 15]
     flags = OUT_OF_ORDER + 8 * (width == 4)
     header = bytes([10, 1, 7, lg_k, 0, flags, least, 2 * width - 6])

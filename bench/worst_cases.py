@@ -24,6 +24,7 @@ from shared import (built_program, check_printed, coupon_line, image_line, image
 
 SEED = 9001
 SLOTS = 1 << 26
+LARGEST = " (largest)"
 # How many coupons have one start place and one stride: those of each value, and of two slots.
 KINDS = 126
 LINES = 4
@@ -115,6 +116,12 @@ def exceptions_plan(lg_k, is_path):
     return image_line(image), image
 
 
+def lowered_plan(lg_k, is_path):
+    """The same above a minimum that is lower than they are, so that they are packed anew."""
+    registers = registers_with(lg_k, slots_of(lg_k, is_path), 40, 1)
+    return image_line(image_of(lg_k, 4, registers, 0)), image_of(lg_k, 4, registers)
+
+
 def converted_plan(lg_k, is_path):
     """Registers of eight bits, and lines that convert them to four."""
     registers = registers_with(lg_k, slots_of(lg_k, is_path), 40)
@@ -135,17 +142,24 @@ def rising_plan(lg_k, is_path):
     return text, image_of(lg_k, 4, registers)
 
 
+def set_row(lg_size):
+    return Row("a set of 2^%d places" % lg_size, lambda is_path: set_plan(lg_size, is_path))
+
+
+def exceptions_row(lg_k):
+    return Row("exceptions at lg_k %d" % lg_k + LARGEST * (lg_k > 18), lambda is_path: exceptions_plan(lg_k, is_path))
+
+
 ROWS = [
-    *(Row("a set of 2^%d places" % size, lambda is_path, size=size: set_plan(size, is_path)) for size in (9, 11, 13, 16, 17, 18)),
-    *(Row("exceptions at lg_k %d" % lg_k, lambda is_path, lg_k=lg_k: exceptions_plan(lg_k, is_path)) for lg_k in (12, 14, 16, 17, 18)),
-    Row("exceptions at lg_k 19 (largest)", lambda is_path: exceptions_plan(19, is_path)),
+    *map(set_row, (9, 11, 13, 16, 17, 18)),
+    *map(exceptions_row, (12, 14, 16, 17, 18, 19)),
+    Row("exceptions at lg_k 17, the minimum too low", lambda is_path: lowered_plan(17, is_path)),
     Row("a set of 2^16 places, 4 lines `fold 19`", lambda is_path: set_plan(16, is_path, LINES * "fold 19\n")),
     Row("a set of 2^16 places, 1,000 lines `coupon`", lambda is_path: held_plan(16, is_path)),
     Row("a set of 2^16 places twice, `union 2 19 8`", lambda is_path: joined_plan(16, is_path)),
     Row("registers of lg_k 17, 4 lines `union 1 17 4`", lambda is_path: converted_plan(17, is_path)),
     Row("exceptions at lg_k 17, 4 lines `coupon`", lambda is_path: rising_plan(17, is_path)),
 ]
-
 EMPTY_SET = image_line(set_image(21, 18, []))
 
 
@@ -214,7 +228,7 @@ def main():
     print(machine())
     print("%-48s %9s %9s %9s %8s" % ("plan", "bytes", "one path", "random", "ratio"))
     for row in ROWS:
-        if given.only in row.name and (given.largest or "(largest)" not in row.name):
+        if given.only in row.name and (given.largest or LARGEST not in row.name):
             measure(program, row, given.runs)
     print("\n%-48s %9s %9s %9s" % ("plan", "bytes", "seconds", "kilobytes"))
     for name, text in SPACES.items():
