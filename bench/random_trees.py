@@ -15,7 +15,7 @@ import sys
 from dataclasses import dataclass, replace
 
 sys.dont_write_bytecode = True
-from plans import built_program
+from shared import built_program
 
 WIDTHS = (4, 6, 8)
 SIZES = (0, 1, 7, 8, 9, 24, 25, 60, 200)

@@ -17,7 +17,7 @@ import tempfile
 import time
 
 sys.dont_write_bytecode = True
-from plans import ROOT, built_program
+from shared import ROOT, built_program
 
 SECONDS = 600
 ROWS = ROOT / "crates" / "hll_vectors" / "stdin"

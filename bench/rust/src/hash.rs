@@ -1,12 +1,14 @@
 //! Measures the hash: nanoseconds for 8, 32 and 1,024 bytes, beside the same hash written plainly here. Both answers are
 //! compared for every length up to 1,024 first.
+#[allow(dead_code)]
+mod common;
+
+use common::{LG_K, measure_calls};
 use std::hint::black_box;
-use std::time::Instant;
 
 const SEED: u64 = 9001;
 const LENGTHS: [usize; 3] = [8, 32, 1024];
 const BYTES_A_RUN: usize = 1 << 26;
-const RUNS: usize = 7;
 
 // `hll_bench_hash(bytes: &[u8]) -> u64` in crates/hll_bench: a slice crosses as a pointer and a length.
 unsafe extern "C" {
@@ -64,19 +66,6 @@ fn bytes_of(length: usize) -> Vec<u8> {
     (0..length).map(|i| (i * 7 + i / 256) as u8).collect()
 }
 
-/// The least nanoseconds a call over some runs.
-fn nanoseconds(hash: fn(&[u8]) -> u64, bytes: &[u8]) -> f64 {
-    let calls = BYTES_A_RUN / (bytes.len() + 64);
-    let run = || {
-        let start = Instant::now();
-        for _ in 0..calls {
-            black_box(hash(black_box(bytes)));
-        }
-        start.elapsed().as_nanos() as f64 / calls as f64
-    };
-    (0..RUNS).map(|_| run()).fold(f64::INFINITY, f64::min)
-}
-
 fn main() {
     for length in 0..=1024 {
         let bytes = bytes_of(length);
@@ -84,7 +73,7 @@ fn main() {
     }
     for length in LENGTHS {
         let bytes = bytes_of(length);
-        let (ours, theirs) = (nanoseconds(proved, &bytes), nanoseconds(plain, &bytes));
-        println!("{length:5} bytes: {ours:.1} ns, plainly {theirs:.1} ns, ratio {:.2}", ours / theirs);
+        let rounds = (BYTES_A_RUN / (length + 64)) as u32;
+        measure_calls(&format!("{length:5} bytes"), LG_K[0], rounds, || proved(black_box(&bytes)), || plain(black_box(&bytes)));
     }
 }

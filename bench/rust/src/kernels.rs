@@ -1,12 +1,13 @@
 //! Measures the kernels over slices of bytes at `lg_k` 12 and 21: the maximum of two, the count of zeros, the test for all
 //! zeros, the sum of weights, and nibbles that are lowered, beside the same loops written plainly here. The two of each
 //! pair have to agree.
-use std::hint::black_box;
-use std::time::Instant;
+#[allow(dead_code)]
+mod common;
 
-const LG_K: [u32; 2] = [12, 21];
-const REGISTERS_A_RUN: usize = 1 << 26;
-const RUNS: usize = 7;
+use common::{LG_K, measure_calls};
+use std::hint::black_box;
+
+const REGISTERS_A_RUN: u32 = 1 << 26;
 
 // The exports of crates/hll_bench: a slice crosses as a pointer and a length.
 unsafe extern "C" {
@@ -65,28 +66,9 @@ fn lower_nibbles(bytes: &mut [u8]) -> u32 {
     zeros
 }
 
-/// The nanoseconds of a call, and what it answered.
-fn timed(calls: usize, work: &mut dyn FnMut() -> u64) -> (f64, u64) {
-    let start = Instant::now();
-    let mut out = 0;
-    for _ in 0..calls {
-        out = black_box(work());
-    }
-    (start.elapsed().as_nanos() as f64 / calls as f64, out)
-}
-
-/// Prints the least nanoseconds of both over some runs in turn.
-fn measure(name: &str, lg_k: u32, mut ours: impl FnMut() -> u64, mut theirs: impl FnMut() -> u64) {
-    let calls = REGISTERS_A_RUN >> lg_k;
-    let mut least = [f64::INFINITY; 2];
-    for _ in 0..RUNS {
-        let (time, out) = timed(calls, &mut ours);
-        let (plain_time, plain_out) = timed(calls, &mut theirs);
-        assert_eq!(out, plain_out, "{name} at lg_k {lg_k}");
-        least = [least[0].min(time), least[1].min(plain_time)];
-    }
-    let [ours, theirs] = least;
-    println!("{name:16} lg_k {lg_k}: {ours:12.1} ns, plainly {theirs:12.1} ns, ratio {:.2}", ours / theirs);
+/// Prints the medians of both, which run in turn.
+fn measure(name: &str, lg_k: u8, ours: impl FnMut() -> u64, theirs: impl FnMut() -> u64) {
+    measure_calls(&format!("{name:28} lg_k {lg_k}"), lg_k, REGISTERS_A_RUN >> lg_k, ours, theirs);
 }
 
 fn main() {

@@ -2,6 +2,8 @@
 //! conversions to six and four bits, updates, and `is_empty`, `num_zeros` and `kxq_units` on zeros and on filled registers,
 //! beside the same loops over plain slices of bytes here. Updates of four bits stand beside those of eight bits of the same
 //! library too. The two of each pair have to agree.
+// Calls that need nothing made are for `kernels` and `hash`.
+#[allow(dead_code)]
 mod common;
 
 use common::{LG_K, exceptions, filled, least, measure, nibbles, packed, unpacked, updated, zeros};

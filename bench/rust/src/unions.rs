@@ -4,7 +4,7 @@
 #[allow(dead_code)]
 mod common;
 
-use common::{Work, assert_same, least_in_turn};
+use common::{TURNS, Work, assert_same, median, medians, whole_and_made};
 
 const BOUND: u8 = 12;
 const LG_K: [(u8, u32); 3] = [(12, 1000), (13, 500), (15, 200)];
@@ -28,10 +28,14 @@ fn merge<const WIDTH: u8>(lg_k: u8, rounds: u32) -> u64 {
 /// Nothing is subtracted: the line says what part of the time it takes to make the sketches.
 fn measure(name: &str, lg_k: u8, rounds: u32, work: [Work; 2]) {
     assert_same(name, lg_k, rounds, work);
-    let [[whole, _], [alone, made]] = least_in_turn(work, lg_k, rounds);
-    let [round, alone_round] = [whole, alone].map(|time| time / f64::from(rounds));
-    let part = 100.0 * made / alone;
-    println!("{name:28} lg_k {lg_k}: {round:12.1} ns, registers alone {alone_round:12.1} ns, ratio {:.2} (made in {part:.1} %)", whole / alone);
+    let turns: Vec<[[f64; 2]; 2]> = (0..TURNS).map(|_| work.map(|work| whole_and_made(work, lg_k, rounds))).collect();
+    let wholes: Vec<[f64; 2]> = turns.iter().map(|turn| turn.map(|[whole, _]| whole / f64::from(rounds))).collect();
+    let part = 100.0 * median(turns.iter().map(|[_, [whole, made]]| made / whole).collect());
+    let both = medians(&wholes);
+    println!(
+        "{name:28} lg_k {lg_k}: {:12.1} ns, registers alone {:12.1} ns, ratio {:.2} (made in {part:.1} %)",
+        both.ours, both.theirs, both.ratio
+    );
 }
 
 fn measure_width<const WIDTH: u8>(lg_k: u8, rounds: u32) {

@@ -1,0 +1,240 @@
+#!/usr/bin/env python3
+"""Runs the program on plans that take the most time and memory for their size.
+
+The paths of a table are part of the format (docs/FORMAT.md, "Probing"), so whoever writes an image can choose coupons
+that all search the same places. Tables are filled to three quarters, the most that updates leave. Each row is a plan: one
+image, and lines behind it that search its table again. Printed are the seconds of processor time of both plans and their
+ratio; what the program prints is compared with the image that it has to be. The rows whose names end in `(largest)` take
+a minute or more each, and run with `--largest` alone.
+
+A second table has the seconds and the least address space, the program itself included, of plans that make much of few
+bytes. Without the program's path it is built if need be.
+"""
+import argparse
+import pathlib
+import random
+import statistics
+import sys
+from dataclasses import dataclass
+from typing import Callable
+
+sys.dont_write_bytecode = True
+from shared import (built_program, check_printed, coupon_line, image_line, image_of, least_space, machine, plan_file, run,
+                    set_image)
+
+SEED = 9001
+SLOTS = 1 << 26
+LARGEST = " (largest)"
+# How many coupons have one start place and one stride: those of each value, and of two slots.
+KINDS = 126
+LINES = 4
+
+
+@dataclass(frozen=True)
+class Row:
+    """Two plans: `text` gives the one over coupons on one path or over random ones, and the image that is printed."""
+    name: str
+    text: Callable
+
+
+# ---- coupons
+
+
+def filled(lg_size):
+    """Three quarters of the places of a table."""
+    return 3 << lg_size >> 2
+
+
+def path_coupons(lg_size):
+    """Coupons on one path of a table that is searched by raw word: the start places follow one another by the stride."""
+    stride = (SLOTS - 1) >> lg_size
+    places = 1 << lg_size
+    coupons = []
+    for number in range(filled(lg_size)):
+        step, kind = divmod(number, KINDS)
+        high = stride - kind % 2
+        coupons.append((kind // 2 + 1) * SLOTS + (high << lg_size) + step * stride % places)
+    return coupons
+
+
+def random_coupons(lg_size):
+    numbers = random.Random(SEED)
+    coupons = set()
+    while len(coupons) < filled(lg_size):
+        coupons.add(numbers.randint(1, 63) * SLOTS + numbers.randrange(SLOTS))
+    return list(coupons)
+
+
+def path_slots(lg_k):
+    """Slots on one path of the table of exceptions of half as many places as there are registers."""
+    half = 1 << (lg_k - 1)
+    return [place + side for place in range(filled(lg_k - 1) // 2) for side in (0, half)]
+
+
+def random_slots(lg_k):
+    return random.Random(SEED).sample(range(1 << lg_k), filled(lg_k - 1))
+
+
+def registers_with(lg_k, slots, value, others=0):
+    """Registers of one value at these slots, and of another elsewhere."""
+    registers = bytearray([others]) * (1 << lg_k)
+    for slot in slots:
+        registers[slot] = value
+    return registers
+
+
+# ---- plans
+
+
+def set_plan(lg_size, is_path, more=""):
+    """A set in a table of a size, and lines that leave it as it is."""
+    coupons = path_coupons(lg_size) if is_path else random_coupons(lg_size)
+    image = set_image(lg_size + 3, lg_size, coupons)
+    return image_line(image) + more, image
+
+
+def held_plan(lg_size, is_path):
+    """A set, and lines of a coupon that it has: on one path, of one that starts first and is placed among the last."""
+    coupons = path_coupons(lg_size) if is_path else random_coupons(lg_size)
+    image = set_image(lg_size + 3, lg_size, coupons)
+    return image_line(image) + 1000 * coupon_line(coupons[KINDS - 2]), image
+
+
+def joined_plan(lg_size, is_path):
+    """A set and the same once more, in one union."""
+    text, image = set_plan(lg_size, is_path)
+    return text + text + "union 2 %d 8\n" % (lg_size + 3), image
+
+
+def slots_of(lg_k, is_path):
+    return path_slots(lg_k) if is_path else random_slots(lg_k)
+
+
+def exceptions_plan(lg_k, is_path):
+    """Registers of four bits with exceptions."""
+    image = image_of(lg_k, 4, registers_with(lg_k, slots_of(lg_k, is_path), 40))
+    return image_line(image), image
+
+
+def lowered_plan(lg_k, is_path):
+    """The same above a minimum that is lower than they are, so that they are packed anew."""
+    registers = registers_with(lg_k, slots_of(lg_k, is_path), 40, 1)
+    return image_line(image_of(lg_k, 4, registers, 0)), image_of(lg_k, 4, registers)
+
+
+def converted_plan(lg_k, is_path):
+    """Registers of eight bits, and lines that convert them to four."""
+    registers = registers_with(lg_k, slots_of(lg_k, is_path), 40)
+    text = image_line(image_of(lg_k, 8, registers)) + LINES * ("union 1 %d 4\n" % lg_k)
+    return text, image_of(lg_k, 4, registers)
+
+
+def rising_plan(lg_k, is_path):
+    """Registers of four bits, one each at the values from 0 on, and lines that raise the least of them."""
+    slots = slots_of(lg_k, is_path)
+    registers = registers_with(lg_k, slots, 63, 14)
+    low = sorted(set(range(1 << lg_k)) - set(slots))[-LINES:]
+    for value, slot in enumerate(low):
+        registers[slot] = value
+    text = image_line(image_of(lg_k, 4, registers)) + "".join(coupon_line(63 * SLOTS + slot) for slot in low)
+    for slot in low:
+        registers[slot] = 63
+    return text, image_of(lg_k, 4, registers)
+
+
+def set_row(lg_size):
+    return Row("a set of 2^%d places" % lg_size, lambda is_path: set_plan(lg_size, is_path))
+
+
+def exceptions_row(lg_k):
+    return Row("exceptions at lg_k %d" % lg_k + LARGEST * (lg_k > 18), lambda is_path: exceptions_plan(lg_k, is_path))
+
+
+ROWS = [
+    *map(set_row, (9, 11, 13, 16, 17, 18)),
+    *map(exceptions_row, (12, 14, 16, 17, 18, 19)),
+    Row("exceptions at lg_k 17, the minimum too low", lambda is_path: lowered_plan(17, is_path)),
+    Row("a set of 2^16 places, 4 lines `fold 19`", lambda is_path: set_plan(16, is_path, LINES * "fold 19\n")),
+    Row("a set of 2^16 places, 1,000 lines `coupon`", lambda is_path: held_plan(16, is_path)),
+    Row("a set of 2^16 places twice, `union 2 19 8`", lambda is_path: joined_plan(16, is_path)),
+    Row("registers of lg_k 17, 4 lines `union 1 17 4`", lambda is_path: converted_plan(17, is_path)),
+    Row("exceptions at lg_k 17, 4 lines `coupon`", lambda is_path: rising_plan(17, is_path)),
+]
+EMPTY_SET = image_line(set_image(21, 18, []))
+
+
+def registers_lines(width, count, unions=1):
+    """Lines of so many images of registers of lg_k 21, of their union, and of further unions of that alone."""
+    line = image_line(image_of(21, width, registers_with(21, [], 0, 1)))
+    return count * line + "union %d 21 8\n" % count + (unions - 1) * "union 1 21 8\n"
+
+
+SPACES = {
+    "one line `new 4 8`": lambda: "new 4 8\n",
+    "100,000 lines `new 21 8`": lambda: 100000 * "new 21 8\n" + "union 100000 21 8\n",
+    "100 sets of no coupon in 2^18 places": lambda: 100 * EMPTY_SET + "union 100 21 8\n",
+    "a comment of 10,000,000 bytes": lambda: "new 4 8\n#" + 9999999 * " " + "\n",
+    "one image of lg_k 21 at 8 bits": lambda: registers_lines(8, 1),
+    "one image of lg_k 21 at 4 bits": lambda: registers_lines(4, 1),
+    "ten images of lg_k 21 at 8 bits": lambda: registers_lines(8, 10),
+    "ten images of lg_k 21 at 4 bits": lambda: registers_lines(4, 10),
+    "one image of lg_k 21, 1,000 lines `union 1 21 8`": lambda: registers_lines(8, 1, 1000),
+}
+
+
+# ---- rows
+
+
+def seconds(name, program, text, image, runs):
+    """The median of the seconds of some runs."""
+    with plan_file() as file:
+        file.write(text)
+        file.flush()
+        times = []
+        for _ in range(runs):
+            printed, took = run(program, file.name)
+            check_printed(name, printed, image)
+            times.append(took)
+    return statistics.median(times)
+
+
+def measure(program, row, runs):
+    plan, image = row.text(True)
+    path = seconds(row.name, program, plan, image, runs)
+    usual = seconds(row.name, program, *row.text(False), runs)
+    print("%-48s %9d %9.3f %9.3f %8.1f" % (row.name, len(plan), path, usual, path / usual), flush=True)
+
+
+def measure_space(program, name, text):
+    with plan_file() as file:
+        file.write(text)
+        file.flush()
+        _, took = run(program, file.name)
+        print("%-48s %9d %9.3f %9d" % (name, len(text), took, least_space(program, file.name)), flush=True)
+
+
+def arguments():
+    parser = argparse.ArgumentParser(description="Runs the program on plans that take the most time and memory.")
+    parser.add_argument("program", nargs="?", type=pathlib.Path, help="the program hll_merge")
+    parser.add_argument("--only", default="", metavar="WORDS", help="the rows whose names have these words")
+    parser.add_argument("--runs", type=int, default=1, help="how often each plan runs")
+    parser.add_argument("--largest", action="store_true", help="the rows that take a minute or more, too")
+    return parser.parse_args()
+
+
+def main():
+    given = arguments()
+    program = (given.program or built_program()).resolve()
+    print(machine())
+    print("%-48s %9s %9s %9s %8s" % ("plan", "bytes", "one path", "random", "ratio"))
+    for row in ROWS:
+        if given.only in row.name and (given.largest or LARGEST not in row.name):
+            measure(program, row, given.runs)
+    print("\n%-48s %9s %9s %9s" % ("plan", "bytes", "seconds", "kilobytes"))
+    for name, text in SPACES.items():
+        if given.only in name:
+            measure_space(program, name, text())
+
+
+if __name__ == "__main__":
+    main()
