@@ -40,14 +40,14 @@ pub fn read_line<A: Allocator>(line: &[u8]) -> Result<Line<'_, A>, Fault>
     if line.is_empty() || line[0] == b'#' {
         return Ok(Line::Skipped);
     }
-    match line {
-        [b'c', b'o', b'u', b'p', b'o', b'n', b' ', numbers @ ..] => coupon_line(Some(numbers)),
-        [b'i', b'm', b'a', b'g', b'e', b' ', word @ ..] => image_line(Some(word)),
-        _ => {
-            let (first, rest) = split_word(line);
-            read_words(first, rest)
-        }
+    if let Some(numbers) = line.strip_prefix(b"coupon ".as_slice()) {
+        return coupon_line(Some(numbers));
     }
+    if let Some(word) = line.strip_prefix(b"image ".as_slice()) {
+        return image_line(Some(word));
+    }
+    let (first, rest) = split_word(line);
+    read_words(first, rest)
 }
 
 /// What a line that is not skipped says, from its first word and what follows the space after it.
