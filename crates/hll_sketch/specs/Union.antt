@@ -1,11 +1,11 @@
 -- What a union keeps, as contracts see it (docs/MODEL.md, "Merging").
-use Rattle.std.specs.Prelude.{◌≡◌, ◌≢◌, ℕ, ◌≤◌, ◌<◌, ◌==◌, ◌&&◌, ◌⊎◌, Bool, true, false, Some}
+use Rattle.std.specs.Prelude.{◌≡◌, ◌≢◌, ℕ, ◌≤◌, ◌<◌, ◌==◌, ◌&&◌, ◌⊎◌, Bool, true, false, Some, List, All}
 use Rattle.std.specs.FinSet.{empty, union, len}
 use Rattle.hll_coupons.specs.Pair.{Pairs}
 use Rattle.hll_base.specs.declared.hll_type.HllType.TheVariants.{Hll4, Hll6, Hll8}
 use Rattle.hll_coupons.specs.Table.{coupons_of}
 use Rattle.hll_registers.specs.Store.{Stored}
-use Rattle.hll_sketch.specs.Layout.{Layout, list, set, array, SketchLayout, sketch_of}
+use Rattle.hll_sketch.specs.Layout.{Layout, list, set, array, SketchLayout, content_in, sketch_of}
 use Rattle.hll_sketch.specs.Stage.{can_hold, stage}
 use Rattle.hll_sketch.specs.Value.{Sketch, Content, coupons, registers, in_registers, is_empty}
 
@@ -28,6 +28,13 @@ pub record IsGadget (bound : ℕ) (g : Sketch) : Type 0 where
   pub lg_k : g.lg_k ≤ bound
   pub coupons : in_registers g.content ≡ false → g.lg_k ≡ bound
   pub registers : in_registers g.content ≡ true → is_empty g ≡ false
+
+-- A sketch can be the gadget that takes in others without memory: it has registers of eight bits, not all 0, within the bound, and no
+-- other sketch is at a smaller lg_k.
+pub record CanTakeIn (bound : ℕ) (first : SketchLayout) (others : List SketchLayout) : Type 0 where
+  pub gadget : IsGadget bound (sketch_of first)
+  pub inside : in_registers (content_in first.layout) ≡ true
+  pub within : All (λ (x : SketchLayout). first.lg_k ≤ x.lg_k) others
 
 -- the coupons of a table; registers have none
 abbrev pub coupons_kept : Layout → Pairs

@@ -30,6 +30,7 @@ impl<A: Allocator + Clone> HllSketch<A> {
     pub(crate) fn is_gadget_of_registers(&self, bound: u8) -> bool
         ensures gadget { result ≡ true → IsGadget bound (sketch_of self.now) }
         ensures registers { result ≡ true → in_registers (content_in self.now.layout) ≡ true }
+        ensures other { result ≡ false → IsGadget bound (sketch_of self.now) → in_registers (content_in self.now.layout) ≡ true → ⊥ }
     {
         match &self.mode {
             Mode::Array8(_) => self.lg_config_k <= bound && !self.is_empty(),

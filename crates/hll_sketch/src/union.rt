@@ -12,7 +12,7 @@ ghost use Rattle.hll_sketch.specs.Grown.{IsGrown};
 ghost use Rattle.hll_sketch.specs.Layout.{sketch_of, NeedsMemory};
 ghost use Rattle.hll_sketch.specs.Joined.{least_lg_k, IsJoinOf};
 ghost use Rattle.hll_sketch.specs.Merging.{merge, merge_all, empty_union};
-ghost use Rattle.hll_sketch.specs.Union.{gadget_of, MergeNeedsMemory};
+ghost use Rattle.hll_sketch.specs.Union.{gadget_of, CanTakeIn, MergeNeedsMemory};
 ghost use Rattle.hll_sketch.specs.Value.{Sketch, IsLgK, in_registers, is_empty, size_of};
 
 use crate::sketch::HllSketch;
@@ -230,6 +230,8 @@ pub fn union_in_place<A: Allocator + Clone>(
     others: &[HllSketch<A>],
 ) -> bool
     requires { IsLgK lg_max_k }
+    ensures can { result ≡ true → CanTakeIn lg_max_k first.old others.now }
+    ensures cannot { result ≡ false → CanTakeIn lg_max_k first.old others.now → ⊥ }
     ensures merged { result ≡ true → sketch_of first.new ≡ merge_all lg_max_k (empty_union lg_max_k) (sketch_of first.old ∷ map sketch_of others.now) }
     ensures unchanged { result ≡ false → first.new ≡ first.old }
 {
@@ -248,7 +250,8 @@ pub fn union_in_place<A: Allocator + Clone>(
 
 /// Whether the `lg_k` of each sketch is at least this one.
 fn are_at_least<A: Allocator>(lg_k: u8, sketches: &[HllSketch<A>]) -> bool
-    ensures { result ≡ true → All (λ x. lg_k ≤ x.lg_k) sketches.now }
+    ensures all { result ≡ true → All (λ x. lg_k ≤ x.lg_k) sketches.now }
+    ensures some { result ≡ false → All (λ x. lg_k ≤ x.lg_k) sketches.now → ⊥ }
 {
     for sketch in sketches {
         if sketch.lg_config_k() < lg_k {

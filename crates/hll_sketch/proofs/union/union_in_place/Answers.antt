@@ -7,6 +7,7 @@ use Rattle.hll_sketch.specs.Value.{Sketch, in_registers}
 use Rattle.hll_sketch.proofs.InPlace.{merge-first, in_registers-merge, lg_k-merge_within, no_memory_needed}
 use Rattle.hll_sketch.proofs.Merges.{merged_more}
 use Rattle.hll_sketch.proofs.union.union_in_place.Goals as goal
+use Rattle.hll_sketch.proofs.union.union_in_place.Goals.{then-not-is_gadget_of_registers-via-then-not-is_gadget_of_registers, then-not-is_gadget_of_registers-via-else-not-is_gadget_of_registers+then-not-are_at_least}
 
 pub loop-sketch-init : goal.loop-sketch-init
 loop-sketch-init g c =
@@ -23,7 +24,7 @@ pub unreachable-requires : goal.unreachable-requires
 unreachable-requires g c =
     let other : c.args.first.now.lg_k ≤ c.sketch-item.result.lg_k = subst (λ (x : SketchLayout). c.args.first.now.lg_k ≤ x.lg_k) (sym c.sketch-item.is)
     (All-get_or (λ (x : SketchLayout). c.args.first.now.lg_k ≤ x.lg_k) c.args.others.now c.loop-sketch.sketch-index c.sketch-item.result c.loop-sketch-test.true
-    (subst (λ k. All (λ (x : SketchLayout). k ≤ x.lg_k) c.args.others.now) c.lg_config_k.ensures.lg_k (c.are_at_least.ensures c.if-not-are_at_least.false))) in
+    (subst (λ k. All (λ (x : SketchLayout). k ≤ x.lg_k) c.args.others.now) c.lg_config_k.ensures.lg_k (c.are_at_least.ensures.all c.if-not-are_at_least.false))) in
     no_memory_needed (sketch_of c.loop-sketch.first) (sketch_of c.sketch-item.result) c.loop-sketch.invariant.inside (omega (arith, other, c.loop-sketch.invariant.lg_k)) c.in-Err.ensures.needed
 
 pub loop-sketch-preserved : goal.loop-sketch-preserved
@@ -32,7 +33,7 @@ loop-sketch-preserved g c =
     let first = sketch_of c.loop-sketch.first in
     let other : c.args.first.now.lg_k ≤ c.sketch-item.result.lg_k = subst (λ (x : SketchLayout). c.args.first.now.lg_k ≤ x.lg_k) (sym c.sketch-item.is)
     (All-get_or (λ (x : SketchLayout). c.args.first.now.lg_k ≤ x.lg_k) c.args.others.now c.loop-sketch.sketch-index c.sketch-item.result c.loop-sketch-test.true
-    (subst (λ k. All (λ (x : SketchLayout). k ≤ x.lg_k) c.args.others.now) c.lg_config_k.ensures.lg_k (c.are_at_least.ensures c.if-not-are_at_least.false))) in
+    (subst (λ k. All (λ (x : SketchLayout). k ≤ x.lg_k) c.args.others.now) c.lg_config_k.ensures.lg_k (c.are_at_least.ensures.all c.if-not-are_at_least.false))) in
     record {
       merged = c.in-Ok.ensures.ok ∙ (λ i. merge m (c.loop-sketch.invariant.merged i) (sketch_of (c.sketch-item.is i)))
           ∙ merged_more m (merge m (empty_union m) (sketch_of c.args.first.now)) c.args.others.now c.loop-sketch.sketch-index c.sketch-item.result c.loop-sketch-test.true;
@@ -41,6 +42,20 @@ loop-sketch-preserved g c =
           ∙ in_registers-merge m first (sketch_of c.sketch-item.result) c.loop-sketch.invariant.inside (c.loop-sketch.invariant.gadget.registers c.loop-sketch.invariant.inside);
       lg_k = ap (λ (y : Sketch). y.lg_k) c.in-Ok.ensures.ok ∙ lg_k-merge_within m first (sketch_of c.sketch-item.result) (omega (arith, other, c.loop-sketch.invariant.lg_k)) ∙ c.loop-sketch.invariant.lg_k;
     }
+
+pub returns-then-not-is_gadget_of_registers-clause-cannot : goal.returns-then-not-is_gadget_of_registers-clause-cannot
+returns-then-not-is_gadget_of_registers-clause-cannot g c _ can = elim c.then-not-is_gadget_of_registers.branch [
+  | then-not-is_gadget_of_registers-via-then-not-is_gadget_of_registers w ↦ c.is_gadget_of_registers.ensures.other w.if-not-is_gadget_of_registers.true can.gadget can.inside
+  | then-not-is_gadget_of_registers-via-else-not-is_gadget_of_registers+then-not-are_at_least w ↦ w.are_at_least.ensures.some w.if-not-are_at_least.true
+      (subst (λ k. All (λ (x : SketchLayout). k ≤ x.lg_k) c.args.others.now) (sym w.lg_config_k.ensures.lg_k) can.within)
+]
+
+pub returns-clause-can : goal.returns-clause-can
+returns-clause-can g c _ = record {
+  gadget = c.is_gadget_of_registers.ensures.gadget c.if-not-is_gadget_of_registers.false;
+  inside = c.is_gadget_of_registers.ensures.registers c.if-not-is_gadget_of_registers.false;
+  within = subst (λ k. All (λ (x : SketchLayout). k ≤ x.lg_k) c.args.others.now) c.lg_config_k.ensures.lg_k (c.are_at_least.ensures.all c.if-not-are_at_least.false);
+}
 
 pub returns-clause-merged : goal.returns-clause-merged
 returns-clause-merged g c _ =
