@@ -9,12 +9,12 @@ use Rattle.std.proofs.lemmas.List.Sums.{AllPass-from_list_all, list_all-from_All
 use Rattle.hll_coupons.proofs.Payloads.{front_number}
 use Rattle.hll_registers.specs.Payload.{num_at_cur_min, exception_count, field_size, IsHll8Payload, IsHll6Payload}
 
--- what the greatest of bytes says of them all
-pub small-from : (xs : List ℕ) (g : ℕ) → ((bound : ℕ) → list_all (λ v. nat_le v bound) xs ≡ nat_le g bound) → g ≤ 63 → All (λ v. v ≤ 63) xs
-small-from xs g greatest low = All-weaker (λ v. nat_le v 63 ≡ true) (λ v. v ≤ 63) (λ v t. leb-true v 63 t) xs (AllPass-from_list_all (λ v. nat_le v 63) xs (greatest 63 ∙ le-leb g 63 low))
+-- what the test of bytes says
+pub small-from : (xs : List ℕ) → list_all (λ v. nat_le v 63) xs ≡ true → All (λ v. v ≤ 63) xs
+small-from xs h = All-weaker (λ v. nat_le v 63 ≡ true) (λ v. v ≤ 63) (λ v t. leb-true v 63 t) xs (AllPass-from_list_all (λ v. nat_le v 63) xs h)
 
-pub small-to : (xs : List ℕ) (g : ℕ) → ((bound : ℕ) → list_all (λ v. nat_le v bound) xs ≡ nat_le g bound) → All (λ v. v ≤ 63) xs → g ≤ 63
-small-to xs g greatest small = leb-true g 63 (sym (greatest 63) ∙ list_all-from_AllPass (λ v. nat_le v 63) xs (All-weaker (λ v. v ≤ 63) (λ v. nat_le v 63 ≡ true) (λ v l. le-leb v 63 l) xs small))
+pub small-to : (xs : List ℕ) → All (λ v. v ≤ 63) xs → list_all (λ v. nat_le v 63) xs ≡ true
+small-to xs h = list_all-from_AllPass (λ v. nat_le v 63) xs (All-weaker (λ v. v ≤ 63) (λ v. nat_le v 63 ≡ true) (λ v l. le-leb v 63 l) xs h)
 
 -- numbers and registers that are right are a payload of eight bits
 pub is_hll8_payload : (k : ℕ) (b : List ℕ) → 32 + 2 ^ k ≤ length b → num_at_cur_min b ≤ 2 ^ k → exception_count b ≡ 0 → All (λ v. v ≤ 63) (take (2 ^ k) (drop 32 b))

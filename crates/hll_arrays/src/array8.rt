@@ -19,7 +19,7 @@ use hll_base::error::{Error, Reason};
 use hll_base::hll_type::HllType;
 use hll_coupons::coupon::Coupon;
 use hll_coupons::serialization::HLL_PREAMBLE_SIZE;
-use hll_kernels::kernels::{all_zero, count_zeros, greatest_and_zeros, max_into, units};
+use hll_kernels::kernels::{all_zero, count_zeros, greatest_of, max_into, units};
 use hll_registers::estimate_state::EstimateState;
 use hll_registers::preamble::{HllHeader, Preamble};
 use hll_registers::register_slice::RegisterSlice;
@@ -73,7 +73,7 @@ impl<A: Allocator> Array8<A> {
     }
 
     /// Reads the part of an image of eight-bit registers that follows the header (docs/FORMAT.md, "HLL").
-    /// The zero count is checked against its bound, and not used: zeros are counted as the registers are checked.
+    /// The zero count is checked against its bound, and not used.
     ///
     /// `lg_config_k` is 4 to 21. Fails with `Truncated`, `Count`, `Register` or `Memory`. Allocates the registers
     /// only after the bytes are known to be a payload, and copies them once.
@@ -99,15 +99,15 @@ impl<A: Allocator> Array8<A> {
         let Some(registers) = rest.remaining().get(..size) else {
             return Err(Error::new(Reason::Truncated));
         };
-        // zeros are counted in the same pass, and not taken from the header
-        let (greatest, zeros) = greatest_and_zeros(registers);
-        if greatest > MAX_VALUE {
+        if !are_registers(registers) {
             return Err(Error::new(Reason::Register));
         }
+        // not what the header says: zeros are counted when asked
+        let zero_count = None;
         Ok(Array8 {
             lg_config_k,
-            zero_count: Some(zeros as u32),
             registers: Vec::from_slice(alloc, registers)?,
+            zero_count,
             state: preamble.state,
         })
     }
@@ -244,7 +244,7 @@ impl<A: Allocator> Array8<A> {
         all_zero(&self.registers)
     }
 
-    /// How many registers are 0. One pass where they were merged or set, otherwise none; takes no memory.
+    /// How many registers are 0. One pass where they were read from an image, merged or set, otherwise none; takes no memory.
     pub fn num_zeros(&self) -> u32
         ensures { result ≡ zeros self.now.registers }
     {
@@ -418,4 +418,11 @@ impl<A: Allocator> Eq for Array8<A> {
     ghost use Rattle.hll_arrays.specs.Same.{same_stored-equivalence};
 
     ghost laws = { same_stored-equivalence };
+}
+
+/// Whether each byte is at most 63. One pass.
+fn are_registers(bytes: &[u8]) -> bool
+    ensures { result ≡ list_all (λ v. nat_le v 63) bytes.now }
+{
+    greatest_of(bytes) <= MAX_VALUE
 }

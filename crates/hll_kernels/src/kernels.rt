@@ -115,21 +115,16 @@ pub fn least_of(values: &[u8]) -> u8
     least
 }
 
-/// The greatest of bytes, 0 where there are none, and how many of them are 0. One pass.
-pub fn greatest_and_zeros(bytes: &[u8]) -> (u8, usize)
-    ensures greatest { (bound : ℕ) → list_all (λ b. nat_le b bound) bytes.now ≡ nat_le result.0 bound }
-    ensures zeros { result.1 ≡ zeros bytes.now }
-    ensures bound { result.1 ≤ length bytes.now }
+/// The greatest of bytes, 0 where there are none. One pass.
+pub fn greatest_of(bytes: &[u8]) -> u8
+    ensures { (bound : ℕ) → list_all (λ b. nat_le b bound) bytes.now ≡ nat_le result bound }
 {
     let (blocks, rest) = bytes.as_chunks::<64>();
     let mut lanes = u8x64::splat(0);
-    let mut count = 0;
     for block in blocks {
         lanes = lanes.simd_max(u8x64::from_array(*block));
-        count += zeros_in(block);
     }
-    let greatest = greatest_one_by_one(&lanes.to_array()).max(greatest_one_by_one(rest));
-    (greatest, count + zeros_one_by_one(rest))
+    greatest_one_by_one(&lanes.to_array()).max(greatest_one_by_one(rest))
 }
 
 /// The greatest of bytes, compared one after the other.

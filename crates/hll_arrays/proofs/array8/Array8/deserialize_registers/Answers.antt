@@ -1,9 +1,11 @@
 use Rattle.std.proofs.Common.{◌≡◌, ◌⊎◌, ℕ, ◌+◌, ◌^◌, ◌<◌, ◌≤◌, length, take, drop, All, inl, inr, sym, ap, subst, ◌∙◌, arith}
+use Rattle.std.specs.Prelude.{nat_le}
+use Rattle.std.specs.List.{list_all}
+use Rattle.std.proofs.lemmas.Bool.{true≢false}
 use Rattle.std.proofs.lemmas.List.{length-drop}
 use Rattle.hll_base.specs.declared.error.Reason.TheVariants.{Memory, Truncated}
 use Rattle.hll_registers.specs.Payload.{num_at_cur_min, exception_count, state_at, HasPlainCounts, IsHll8Payload, Hll8Fault, FirstHll8Fault}
 use Rattle.hll_registers.specs.Payload as payload
-use Rattle.hll_kernels.specs.Packed.{zeros}
 use Rattle.hll_base.proofs.Errors.{IfErr-passed}
 use Rattle.hll_arrays.proofs.ReadingRegisters.{small-from, small-to, is_hll8_payload, IfErr-always, slice_front}
 use Rattle.hll_arrays.proofs.array8.Array8.deserialize_registers.Goals as goal
@@ -59,8 +61,8 @@ returns-in_default-clause-order g c =
     inr (subst (FirstHll8Fault k c.args.cursor) (sym c.new-in_default.ensures)
     (payload.FirstHll8Fault.short counts (omega (arith, short, left, length-drop 32 c.args.cursor, c.two_to-size.ensures, read.0))))
 
-pub returns-then-greatest-gt-MAX_VALUE-clause-order : goal.returns-then-greatest-gt-MAX_VALUE-clause-order
-returns-then-greatest-gt-MAX_VALUE-clause-order g c =
+pub returns-then-not-are_registers-clause-order : goal.returns-then-not-are_registers-clause-order
+returns-then-not-are_registers-clause-order g c =
     let k : ℕ = c.args.lg_config_k in
     let read = c.in_ok-preamble.ensures.ok in
     let found = c.in-Some.ensures.lookup.0 in
@@ -68,19 +70,19 @@ returns-then-greatest-gt-MAX_VALUE-clause-order g c =
     let are : c.in-Some.registers.now ≡ take (2 ^ k) (drop 32 c.args.cursor) = found.2 ∙ slice_front c.two_to-size.result (2 ^ k) c.remaining.result.now (drop 32 c.args.cursor) c.two_to-size.ensures rest in
     let there : 32 + 2 ^ k ≤ length c.args.cursor = omega (arith, found.1, ap length rest, length-drop 32 c.args.cursor, c.two_to-size.ensures, read.0) in
     let counts : HasPlainCounts k c.args.cursor = record { whole = read.0; zero_count = omega (arith, c.if-preamble-size.false, c.two_to-size.ensures, read.2); no_exceptions = sym read.3 ∙ c.if-preamble-ne0.false } in
-    inr (subst (FirstHll8Fault k c.args.cursor) (sym c.new-then-greatest-gt-MAX_VALUE.ensures)
-    (payload.FirstHll8Fault.register counts there (λ small. absurd (let low = small-to c.in-Some.registers.now c.greatest_and_zeros-greatest.result.0 c.greatest_and_zeros-greatest.ensures.greatest (subst (All (λ v. v ≤ 63)) (sym are) small) in omega (arith, low, c.if-greatest-gt-MAX_VALUE.true)))))
+    inr (subst (FirstHll8Fault k c.args.cursor) (sym c.new-then-not-are_registers.ensures)
+    (payload.FirstHll8Fault.register counts there (λ small. true≢false (sym (small-to _ small) ∙ sym (ap (list_all (λ v. nat_le v 63)) are) ∙ sym c.are_registers.ensures ∙ c.if-not-are_registers.true))))
 
 -- the registers that were found
-pub returns-then-greatest-gt-MAX_VALUE-clause-err : goal.returns-then-greatest-gt-MAX_VALUE-clause-err
-returns-then-greatest-gt-MAX_VALUE-clause-err g c =
+pub returns-then-not-are_registers-clause-err : goal.returns-then-not-are_registers-clause-err
+returns-then-not-are_registers-clause-err g c =
     let read = c.in_ok-preamble.ensures.ok in
     let found = c.in-Some.ensures.lookup.0 in
     let rest : c.remaining.result.now ≡ drop 32 c.args.cursor = c.remaining.ensures ∙ read.4 in
     let are : c.in-Some.registers.now ≡ take (2 ^ c.args.lg_config_k) (drop 32 c.args.cursor) = found.2 ∙ slice_front c.two_to-size.result (2 ^ c.args.lg_config_k) c.remaining.result.now (drop 32 c.args.cursor) c.two_to-size.ensures rest in
     let there : 32 + 2 ^ c.args.lg_config_k ≤ length c.args.cursor = omega (arith, found.1, ap length rest, length-drop 32 c.args.cursor, c.two_to-size.ensures, read.0) in
-    inr (subst (Hll8Fault c.args.lg_config_k c.args.cursor) (sym c.new-then-greatest-gt-MAX_VALUE.ensures)
-    (payload.Hll8Fault.register there (λ small. absurd (let low = small-to c.in-Some.registers.now c.greatest_and_zeros-greatest.result.0 c.greatest_and_zeros-greatest.ensures.greatest (subst (All (λ v. v ≤ 63)) (sym are) small) in omega (arith, low, c.if-greatest-gt-MAX_VALUE.true)))))
+    inr (subst (Hll8Fault c.args.lg_config_k c.args.cursor) (sym c.new-then-not-are_registers.ensures)
+    (payload.Hll8Fault.register there (λ small. true≢false (sym (small-to _ small) ∙ sym (ap (list_all (λ v. nat_le v 63)) are) ∙ sym c.are_registers.ensures ∙ c.if-not-are_registers.true))))
 
 -- the bytes are a payload, so memory is asked for
 pub returns-in_err-from_slice-clause-asked : goal.returns-in_err-from_slice-clause-asked
@@ -93,7 +95,7 @@ returns-in_err-from_slice-clause-asked g c =
     let there : 32 + 2 ^ k ≤ length c.args.cursor = omega (arith, found.1, ap length rest, length-drop 32 c.args.cursor, c.two_to-size.ensures, read.0) in
     let low : num_at_cur_min c.args.cursor ≤ 2 ^ k = omega (arith, c.if-preamble-size.false, c.two_to-size.ensures, read.2) in
     let none : exception_count c.args.cursor ≡ 0 = sym read.3 ∙ c.if-preamble-ne0.false in
-    let small : All (λ v. v ≤ 63) (take (2 ^ k) (drop 32 c.args.cursor)) = subst (All (λ v. v ≤ 63)) are (small-from c.in-Some.registers.now c.greatest_and_zeros-greatest.result.0 c.greatest_and_zeros-greatest.ensures.greatest c.if-greatest-gt-MAX_VALUE.false) in
+    let small : All (λ v. v ≤ 63) (take (2 ^ k) (drop 32 c.args.cursor)) = subst (All (λ v. v ≤ 63)) are (small-from c.in-Some.registers.now (sym c.are_registers.ensures ∙ c.if-not-are_registers.false)) in
     IfErr-always (λ e. e ≡ Memory → IsHll8Payload k (take (32 + 2 ^ k) c.args.cursor)) c.from_residual-in_err-from_slice.result (λ e memory. is_hll8_payload k c.args.cursor there low none small)
 
 pub invariant_of-result : goal.invariant_of-result
@@ -104,10 +106,10 @@ invariant_of-result g c =
       c.requires.most,
       record {
         size = ap length items ∙ (let n : length c.in-Some.registers.now ≡ c.two_to-size.result = omega (arith, found.3) in n) ∙ c.two_to-size.ensures;
-        small = subst (All (λ v. v ≤ 63)) (sym items) (small-from c.in-Some.registers.now c.greatest_and_zeros-greatest.result.0 c.greatest_and_zeros-greatest.ensures.greatest c.if-greatest-gt-MAX_VALUE.false);
+        small = subst (All (λ v. v ≤ 63)) (sym items) (small-from c.in-Some.registers.now (sym c.are_registers.ensures ∙ c.if-not-are_registers.false));
       },
       c.in_ok-preamble.ensures.legal,
-      c.greatest_and_zeros-greatest.ensures.zeros ∙ ap zeros (sym items),
+      tt,
     )
 
 pub returns-clause-ok : goal.returns-clause-ok
@@ -120,6 +122,6 @@ returns-clause-ok g c =
     let there : 32 + 2 ^ k ≤ length c.args.cursor = omega (arith, found.1, ap length rest, length-drop 32 c.args.cursor, c.two_to-size.ensures, read.0) in
     let low : num_at_cur_min c.args.cursor ≤ 2 ^ k = omega (arith, c.if-preamble-size.false, c.two_to-size.ensures, read.2) in
     let none : exception_count c.args.cursor ≡ 0 = sym read.3 ∙ c.if-preamble-ne0.false in (
-      is_hll8_payload k c.args.cursor there low none (subst (All (λ v. v ≤ 63)) are (small-from c.in-Some.registers.now c.greatest_and_zeros-greatest.result.0 c.greatest_and_zeros-greatest.ensures.greatest c.if-greatest-gt-MAX_VALUE.false)),
+      is_hll8_payload k c.args.cursor there low none (subst (All (λ v. v ≤ 63)) are (small-from c.in-Some.registers.now (sym c.are_registers.ensures ∙ c.if-not-are_registers.false))),
       λ i. record { lg_k = k; registers = (c.in_ok-from_slice.ensures.items ∙ are) i; state = read.1 i },
     )
