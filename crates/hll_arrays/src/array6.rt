@@ -16,13 +16,13 @@ use hll_coupons::coupon::Coupon;
 use hll_coupons::serialization::HLL_PREAMBLE_SIZE;
 use hll_kernels::groups::{
     all_zero_in, count_zeros_in, groups_from_bytes, max_groups_into, pack_groups, put_register,
-    register_at, units_in,
+    register_at, weight_sums_in,
 };
-use hll_kernels::kernels::count_zeros;
+use hll_kernels::kernels::{WeightSums, count_zeros};
 use hll_registers::estimate_state::EstimateState;
 use hll_registers::preamble::{HllHeader, Preamble};
 use hll_registers::register_store::RegisterStore;
-use hll_registers::registers::{Registers, two_to, zeros_left};
+use hll_registers::registers::{Registers, two_to, units_of, zeros_left};
 use std::alloc::{Allocator, Global};
 use std::marker::Model;
 
@@ -166,7 +166,7 @@ impl<A: Allocator> Array6<A> {
         ensures units { result ≡ units self.now.registers }
         ensures bound { result ≤ 2 ^ 84 }
     {
-        units_in(&self.groups)
+        units_of(self)
     }
 
     /// The estimate state. Takes no memory.
@@ -253,6 +253,11 @@ impl<A: Allocator> Registers for Array6<A> {
 
     fn estimate_state(&self) -> EstimateState {
         Array6::estimate_state(self)
+    }
+
+    /// One pass.
+    fn weight_sums(&self) -> WeightSums {
+        weight_sums_in(&self.groups)
     }
 
     /// One pass, by groups.

@@ -19,7 +19,9 @@ use hll_base::error::{Error, Reason};
 use hll_base::hll_type::HllType;
 use hll_coupons::coupon::Coupon;
 use hll_coupons::serialization::HLL_PREAMBLE_SIZE;
-use hll_kernels::kernels::{all_zero, count_zeros, greatest_of, max_into, units};
+use hll_kernels::kernels::{
+    WeightSums, all_zero, count_zeros, greatest_of, max_into, units, weight_sums,
+};
 use hll_registers::estimate_state::EstimateState;
 use hll_registers::preamble::{HllHeader, Preamble};
 use hll_registers::register_slice::RegisterSlice;
@@ -347,6 +349,11 @@ impl<A: Allocator> Registers for Array8<A> {
 
     fn estimate_state(&self) -> EstimateState {
         Array8::estimate_state(self)
+    }
+
+    /// Two passes.
+    fn weight_sums(&self) -> WeightSums {
+        weight_sums(&self.registers)
     }
 
     /// One pass.

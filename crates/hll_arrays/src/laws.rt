@@ -1,9 +1,17 @@
 //! Laws of packed registers, each a clause of a function that does nothing (docs/MODEL.md, "Packed forms").
+ghost use Rattle.hll_registers.specs.EstimatorWords.{OneEstimatorState};
 ghost use Rattle.hll_registers.specs.FourBits.{MinimumNeverFalls, PackedIsOfRegisters};
 ghost use Rattle.hll_kernels.specs.Packed.{NibblesReadBack, FieldsReadBack};
 ghost use Rattle.hll_registers.specs.Payload.{ExceptionsReadBack};
 ghost use Rattle.hll_arrays.specs.ReadBack.{Hll8ReadBack, Hll6ReadBack, Hll4ReadBack};
 ghost use Rattle.hll_registers.specs.Store.{PackedIsWritten};
+
+/// A law of the words that a composite estimator reads:
+///
+/// - `one_state`: registers have one state from which a composite estimator computes.
+pub fn estimator_words()
+    ensures one_state { OneEstimatorState }
+{}
 
 /// Laws of packed registers:
 ///

@@ -7,5 +7,6 @@ pub mod Parts
 pub mod Registers
 pub mod SingleNibbles
 pub mod SixBitLanes
+pub mod WeightParts
 pub mod Weights
 pub mod ZeroTests

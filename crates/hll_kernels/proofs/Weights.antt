@@ -23,13 +23,13 @@ use mathlib.Core.List.{map}
 abbrev class_weight : ℕ → ℕ → ℕ
 class_weight k v = if v / 8 == k then (2 ^ (7 - v % 8)) else 0
 
-abbrev half_weight : ℕ → ℕ → ℕ
+abbrev pub half_weight : ℕ → ℕ → ℕ
 half_weight h v = if v / 32 == h then (2 ^ (31 - v % 32)) else 0
 
 -- ---- one value
 
 -- a test that all numbers below n pass
-below : (p : ℕ → Bool) (n : ℕ) → list_all p (range_with_len 0 n) ≡ true → (v : ℕ) → v < n → p v ≡ true
+pub below : (p : ℕ → Bool) (n : ℕ) → list_all p (range_with_len 0 n) ≡ true → (v : ℕ) → v < n → p v ≡ true
 below p n t v h =
     let at : get_or (range_with_len 0 n) v 0 ≡ v = omega (arith, get_or-range_with_len 0 n v 0 h) in
     subst (λ w. p w ≡ true) at (AllPass-from_list_all p (range_with_len 0 n) t v 0 (omega (arith, length-range_with_len 0 n)))

@@ -1,3 +1,4 @@
 pub mod Groups
 pub mod Lanes
 pub mod Packed
+pub mod WeightSums

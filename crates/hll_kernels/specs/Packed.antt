@@ -1,5 +1,5 @@
 -- The packed forms of registers, and their numbers (docs/FORMAT.md, "Packed registers"; docs/MODEL.md, "Packed forms").
-use Rattle.std.specs.Prelude.{◌≡◌, ℕ, ◌+◌, ◌-◌, ◌*◌, ◌/◌, ◌%◌, ◌^◌, ◌<◌, ◌≤◌, ◌==◌, if◌then◌else◌, min, List, [], ◌∷◌, ◌++◌, length, count_by, sum_by, slice_index, fold, All}
+use Rattle.std.specs.Prelude.{◌≡◌, ℕ, ◌+◌, ◌-◌, ◌*◌, ◌/◌, ◌%◌, ◌^◌, ◌<◌, ◌≤◌, ◌==◌, if◌then◌else◌, nat_lt, min, List, [], ◌∷◌, ◌++◌, length, count_by, sum_by, slice_index, fold, All}
 use Rattle.hll_kernels.specs.Groups.{group_fields}
 
 -- ---- four bits
@@ -78,6 +78,14 @@ zeros R = count_by (λ v. v == 0) R
 -- the sum of 2^(63 - v) over the registers
 abbrev pub units : List ℕ → ℕ
 units R = sum_by (λ v. 2 ^ (63 - v)) R
+
+-- the sum of 2^(31 - v) over the registers below 32
+abbrev pub low_units : List ℕ → ℕ
+low_units R = sum_by (λ v. if nat_lt v 32 then (2 ^ (31 - v)) else 0) R
+
+-- the sum of 2^(63 - v) over the registers from 32 on
+abbrev pub high_units : List ℕ → ℕ
+high_units R = sum_by (λ v. if nat_lt v 32 then 0 else (2 ^ (63 - v))) R
 
 -- ---- laws
 

@@ -7,8 +7,11 @@ ghost use Rattle.hll_kernels.specs.Groups.{IsGroup, group_fields, registers_in};
 ghost use Rattle.hll_kernels.specs.Lanes.{raise_at, words_of, bytes_of, fields_of, numbers_of, groups_of};
 ghost use Rattle.hll_kernels.specs.Packed as packed;
 ghost use Rattle.hll_kernels.specs.Packed.{fields, zeros};
+ghost use Rattle.hll_kernels.specs.WeightSums.{AreSumsOf};
 
-use crate::kernels::{all_zero, count_zeros, pack_group, raise_16, raise_one, units, unpack_group};
+use crate::kernels::{
+    WeightSums, all_zero, count_zeros, pack_group, raise_16, raise_one, unpack_group, weight_sums,
+};
 use std::alloc::{AllocError, Allocator};
 use std::simd::prelude::*;
 
@@ -304,38 +307,36 @@ fn zeros_in(bytes: u8x16) -> u32
     (upper & lower).to_bitmask().count_ones()
 }
 
-/// The sum of 2^-v over the registers v, in units of 2^-63. One pass over at most 2^19 groups.
-pub fn units_in(groups: &[[u8; 3]]) -> u128
+/// The sums of 2^-v over the registers v. One pass over at most 2^19 groups.
+pub fn weight_sums_in(groups: &[[u8; 3]]) -> WeightSums
     requires { length groups.now ≤ 2 ^ 19 }
-    ensures units { result ≡ packed.units (registers_in groups.now) }
-    ensures bound { result ≤ 2 ^ 84 }
+    ensures { AreSumsOf result (registers_in groups.now) }
 {
-    field_units(groups.as_flattened())
+    field_sums(groups.as_flattened())
 }
 
-/// The sum of the weights of the registers in the bytes of groups, 64 groups at a time.
-fn field_units(bytes: &[u8]) -> u128
+/// The sums of the weights of the registers in the bytes of groups, 64 groups at a time.
+fn field_sums(bytes: &[u8]) -> WeightSums
     requires whole { length bytes.now % 3 ≡ 0 }
     requires few { length bytes.now ≤ 3 * 2 ^ 19 }
-    ensures { result ≡ packed.units (fields bytes.now) }
+    ensures { AreSumsOf result (fields bytes.now) }
 {
     let (blocks, rest) = bytes.as_chunks::<192>();
-    let mut sum = 0;
+    let mut sums = WeightSums { low: 0, high: 0 };
     for block in blocks {
-        sum += field_units_in(block);
+        sums = sums.plus(field_sums_in(block));
     }
-    sum + field_units_in(rest)
+    sums.plus(field_sums_in(rest))
 }
 
-/// The sum of the weights of the registers of at most 64 groups.
-fn field_units_in(bytes: &[u8]) -> u128
+/// The sums of the weights of the registers of at most 64 groups.
+fn field_sums_in(bytes: &[u8]) -> WeightSums
     requires whole { length bytes.now % 3 ≡ 0 }
     requires few { length bytes.now ≤ 192 }
-    ensures units { result ≡ packed.units (fields bytes.now) }
-    ensures bound { result ≤ 2 ^ 84 }
+    ensures { AreSumsOf result (fields bytes.now) }
 {
     let registers = unpacked(bytes);
-    units(&registers[..bytes.len() / 3 * 4])
+    weight_sums(&registers[..bytes.len() / 3 * 4])
 }
 
 /// The registers of at most 64 groups, with zeros behind them.

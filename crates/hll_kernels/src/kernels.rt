@@ -9,6 +9,7 @@ ghost use Rattle.hll_kernels.specs.Lanes.{raise_at, class_sum, half_sum};
 ghost use Rattle.hll_kernels.specs.Packed as packed;
 ghost use Rattle.hll_kernels.specs.Packed.{group_bytes, zeros, lowered_byte, zero_nibbles};
 ghost use Rattle.hll_kernels.specs.Packed.{AreRegisters};
+ghost use Rattle.hll_kernels.specs.WeightSums.{AreSumsOf};
 
 use std::simd::prelude::*;
 
@@ -167,19 +168,61 @@ fn nonzeros_in(block: &[u8; 64]) -> u64
         .to_bitmask()
 }
 
+/// The sum of 2^-v over registers v, in two parts. Over 2^21 registers each part is at most 2^52.
+#[derive(Clone, Copy, Debug, PartialEq, Eq)]
+pub struct WeightSums {
+    /// Over the registers below 32, in units of 2^-31.
+    pub low: u64,
+    /// Over the registers from 32 on, in units of 2^-63.
+    pub high: u64,
+}
+
+impl WeightSums {
+    /// The sum of both parts, in units of 2^-63.
+    pub fn units(self) -> u128
+        ensures { result ≡ 2 ^ 32 * self.low + self.high }
+    {
+        (u128::from(self.low) << 32) + u128::from(self.high)
+    }
+
+    /// The sums over these registers and others.
+    pub fn plus(self, others: WeightSums) -> WeightSums
+        requires low { self.low + others.low < 2 ^ 64 }
+        requires high { self.high + others.high < 2 ^ 64 }
+        ensures low { result.low ≡ self.low + others.low }
+        ensures high { result.high ≡ self.high + others.high }
+    {
+        WeightSums {
+            low: self.low + others.low,
+            high: self.high + others.high,
+        }
+    }
+}
+
+/// The sums of 2^-v over the bytes v.
+///
+/// There are at most 2^21 bytes, each at most 63. Two passes, one for each part; takes no memory.
+pub fn weight_sums(bytes: &[u8]) -> WeightSums
+    requires small { All (λ v. v ≤ 63) bytes.now }
+    requires few { length bytes.now ≤ 2 ^ 21 }
+    ensures { AreSumsOf result bytes.now }
+{
+    WeightSums {
+        low: half_units(bytes, 0),
+        high: half_units(bytes, 1),
+    }
+}
+
 /// The sum of 2^-v over the bytes v, in units of 2^-63.
 ///
-/// There are at most 2^21 bytes, each at most 63. Two passes, for the upper and the lower 32 bits of each weight, whose
-/// sums are at most 2^52; takes no memory.
+/// There are at most 2^21 bytes, each at most 63. Two passes; takes no memory.
 pub fn units(bytes: &[u8]) -> u128
     requires small { All (λ v. v ≤ 63) bytes.now }
     requires few { length bytes.now ≤ 2 ^ 21 }
     ensures units { result ≡ packed.units bytes.now }
     ensures bound { result ≤ 2 ^ 84 }
 {
-    let upper = half_units(bytes, 0);
-    let lower = half_units(bytes, 1);
-    (u128::from(upper) << 32) + u128::from(lower)
+    weight_sums(bytes).units()
 }
 
 /// The sum of 2^(31 - v % 32) over the values v of one half: 0 to 31, or 32 to 63.

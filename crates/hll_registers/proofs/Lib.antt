@@ -1,3 +1,4 @@
+pub mod Binary64
 pub mod Exceptions
 pub mod Filling
 pub mod Folding

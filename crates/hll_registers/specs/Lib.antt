@@ -1,3 +1,4 @@
+pub mod EstimatorWords
 pub mod Exceptions
 pub mod FourBits
 pub mod Payload

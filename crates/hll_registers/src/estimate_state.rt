@@ -1,4 +1,9 @@
 //! The state that other implementations' estimators keep beside registers.
+ghost use Rattle.std.specs.Prelude.{◌≡◌, ℕ, ◌^◌, ◌<◌, ◌≤◌, List};
+ghost use Rattle.hll_kernels.specs.WeightSums.{AreSumsOf};
+ghost use Rattle.hll_registers.specs.EstimatorWords.{AreEstimatorWords, IsBinary64};
+
+use hll_kernels::kernels::WeightSums;
 
 /// Three raw 64-bit words and a flag, which are stored and never interpreted.
 #[derive(Clone, Copy, Debug, PartialEq, Eq)]
@@ -15,4 +20,34 @@ impl EstimateState {
         words: [0; 3],
         out_of_order: true,
     };
+
+    /// The state from which a composite estimator computes, of registers with these sums (docs/FORMAT.md, "Estimator
+    /// words"): 0 and the two sums as binary64 numbers, with the flag set.
+    ///
+    /// Each sum is below 2^53, so no number is rounded. Takes no memory.
+    pub fn of_sums(sums: WeightSums) -> EstimateState
+        requires low { sums.low < 2 ^ 53 }
+        requires high { sums.high < 2 ^ 53 }
+        ensures { (R : List ℕ) → AreSumsOf sums R → AreEstimatorWords R result }
+    {
+        EstimateState {
+            words: [0, binary64_of(sums.low, 31), binary64_of(sums.high, 63)],
+            out_of_order: true,
+        }
+    }
+}
+
+/// The word of the binary64 number n / 2^`shift`, which is exact.
+fn binary64_of(n: u64, shift: u32) -> u64
+    requires small { n < 2 ^ 53 }
+    requires shift { shift ≤ 63 }
+    ensures { IsBinary64 result n shift }
+{
+    if n == 0 {
+        return 0;
+    }
+    // the highest bit of n goes to bit 52
+    let up = n.leading_zeros() - 11;
+    let fraction = (n << up) - (1 << 52);
+    (u64::from(1075 - up - shift) << 52) + fraction
 }

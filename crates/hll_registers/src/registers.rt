@@ -5,9 +5,11 @@ ghost use Rattle.hll_base.specs.Join.{join};
 ghost use Rattle.hll_kernels.specs.Packed as packed;
 ghost use Rattle.hll_registers.specs.Store.{Stored, IsStored};
 ghost use Rattle.hll_kernels.specs.Packed.{AreRegisters};
+ghost use Rattle.hll_kernels.specs.WeightSums.{AreSumsOf};
+ghost use Rattle.hll_registers.specs.EstimatorWords.{AreEstimatorWords};
 
 use crate::estimate_state::EstimateState;
-use hll_kernels::kernels::units;
+use hll_kernels::kernels::{WeightSums, weight_sums};
 
 /// 2^`lg_k` registers of 0 to 63, and their estimate state. No call takes memory.
 pub trait Registers {
@@ -31,6 +33,46 @@ pub trait Registers {
     /// The estimate state.
     fn estimate_state(&self) -> EstimateState
         ensures { result ≡ (stored self.now).state };
+
+    /// The sums of 2^-v over the registers v. One pass. An implementation may go over its own bytes; this body takes at
+    /// most 256 registers at a time.
+    fn weight_sums(&self) -> WeightSums
+        ensures { AreSumsOf result (stored self.now).registers }
+    {
+        let lg_size = self.lg_k().min(8);
+        let size = two_to(lg_size);
+        let mut sums = WeightSums { low: 0, high: 0 };
+        for block in 0..two_to(self.lg_k() - lg_size) {
+            sums = sums.plus(self.weight_sums_at(block * size, size));
+        }
+        sums
+    }
+
+    /// The sums of 2^-v over at most 256 registers v from `first` on.
+    ///
+    /// These registers exist, and `first` and their number are multiples of four.
+    fn weight_sums_at(&self, first: usize, size: usize) -> WeightSums
+        requires within { first + size ≤ 2 ^ (stored self.now).lg_k }
+        requires aligned { first % 4 ≡ 0 }
+        requires groups { size % 4 ≡ 0 }
+        requires few { size ≤ 256 }
+        requires legal { IsStored (stored self.now) }
+        ensures { AreSumsOf result (take size (drop first (stored self.now).registers)) }
+    {
+        let mut registers = [0; 256];
+        self.join_into(first as u32, &mut registers[..size]);
+        weight_sums(&registers[..size])
+    }
+
+    /// The state from which a composite estimator computes (docs/FORMAT.md, "Estimator words"): exact numbers of the
+    /// registers. One pass.
+    fn estimator_words(&self) -> EstimateState
+        ensures { AreEstimatorWords (stored self.now).registers result }
+    {
+        // brings that the registers are legal
+        let _lg_k = self.lg_k();
+        EstimateState::of_sums(self.weight_sums())
+    }
 
     /// Raises each value to the greater of itself and register `first + i`, for value i.
     ///
@@ -85,44 +127,12 @@ pub fn join_folds<R: Registers>(values: &mut [u8], lg_k: u8, src: &R)
     }
 }
 
-/// The sum of 2^-v over the registers v, in units of 2^-63. One pass, at most 256 registers at a time.
+/// The sum of 2^-v over the registers v, in units of 2^-63. One pass.
 pub fn units_of<R: Registers>(src: &R) -> u128
     ensures units { result ≡ packed.units (R.stored src.now).registers }
     ensures bound { result ≤ 2 ^ 84 }
 {
-    let lg_size = src.lg_k().min(8);
-    let size = two_to(lg_size);
-    let mut sum = 0;
-    for block in 0..two_to(src.lg_k() - lg_size) {
-        sum += units_at(src, block * size, size);
-    }
-    sum
-}
-
-/// The same of at most 256 registers from `first` on.
-fn units_at<R: Registers>(src: &R, first: usize, size: usize) -> u128
-    requires within { first + size ≤ 2 ^ (R.stored src.now).lg_k }
-    requires aligned { first % 4 ≡ 0 }
-    requires groups { size % 4 ≡ 0 }
-    requires few { size ≤ 256 }
-    requires legal { IsStored (R.stored src.now) }
-    ensures units { result ≡ packed.units (take size (drop first (R.stored src.now).registers)) }
-    ensures bound { result ≤ 2 ^ 84 }
-{
-    let registers = registers_at(src, first, size);
-    units(&registers[..size])
-}
-
-/// At most 256 registers from `first` on, with zeros behind them.
-fn registers_at<R: Registers>(src: &R, first: usize, size: usize) -> [u8; 256]
-    requires within { first + size ≤ 2 ^ (R.stored src.now).lg_k }
-    requires aligned { first % 4 ≡ 0 }
-    requires groups { size % 4 ≡ 0 }
-    requires few { size ≤ 256 }
-    requires legal { IsStored (R.stored src.now) }
-    ensures { take size result ≡ take size (drop first (R.stored src.now).registers) }
-{
-    let mut values = [0; 256];
-    src.join_into(first as u32, &mut values[..size]);
-    values
+    // brings that the registers are legal
+    let _lg_k = src.lg_k();
+    src.weight_sums().units()
 }

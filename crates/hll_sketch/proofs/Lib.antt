@@ -29,6 +29,7 @@ pub mod ReferenceSteps
 pub mod Refusals
 pub mod Regrouping
 pub mod SameLemmas
+pub mod SetWords
 pub mod Sets
 pub mod Stages
 pub mod Steps

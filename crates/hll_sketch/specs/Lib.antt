@@ -1,6 +1,7 @@
 pub mod Adding
 pub mod Agree
 pub mod Checks
+pub mod EstimatorWords
 pub mod Fault
 pub mod Folding
 pub mod Grown

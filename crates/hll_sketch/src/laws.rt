@@ -3,6 +3,7 @@
 ghost use Rattle.hll_sketch.specs.Laws.{AddOfAdd, AddEach, MergeOfEmpty, UnionLgK, AddIsLegal, MergeIsLegal, WrittenIsReadBack};
 ghost use Rattle.hll_sketch.specs.Layout.{OneStepSuffices};
 ghost use Rattle.hll_sketch.specs.Joined.{MergeOfGrown, UnionOfSame, UnionOfUnion, JoinsOfSame, JoinOfJoin};
+ghost use Rattle.hll_sketch.specs.EstimatorWords.{WordsKeep, WordsTwice, SameRegistersSameBytes};
 ghost use Rattle.hll_sketch.specs.Folding.{FoldedIsLegal, FoldedIsGrown, FoldedHasSameFolds};
 ghost use Rattle.hll_sketch.specs.Same.{SameIsEqual};
 ghost use Rattle.hll_sketch.specs.Image.{OneImage, ImageIsLegal};
@@ -95,4 +96,16 @@ pub fn writing()
     ensures written_is_image { WrittenIsImage }
     ensures same_bytes { SameBytes }
     ensures list_is_read_back { ListIsReadBack }
+{}
+
+/// Laws of the words that a composite estimator reads:
+///
+/// - `words_keep`: setting them keeps pairs and size, and a legal sketch legal.
+/// - `words_twice`: to set them twice is to set them once.
+/// - `same_registers_same_bytes`: sketches of one `lg_k` and width with the same registers, whatever their states, have
+///   the same bytes once their words are set.
+pub fn estimator_words()
+    ensures words_keep { WordsKeep }
+    ensures words_twice { WordsTwice }
+    ensures same_registers_same_bytes { SameRegistersSameBytes }
 {}

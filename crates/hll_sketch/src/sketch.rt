@@ -8,6 +8,8 @@ ghost use Rattle.hll_coupons.specs.Fold.{fold_to};
 ghost use Rattle.hll_coupons.specs.Pair.{value_of, set_of};
 ghost use Rattle.hll_sketch.specs.Adding.{add, content_with};
 ghost use Rattle.hll_sketch.specs.Checks.{first_fault, size_fault};
+ghost use Rattle.hll_registers.specs.declared.estimate_state.EstimateState.{EstimateState};
+ghost use Rattle.hll_sketch.specs.EstimatorWords.{SetsWords, AreWordsIn, with_state};
 ghost use Rattle.hll_sketch.specs.Fault.{IsFault};
 ghost use Rattle.hll_sketch.specs.Folding as folding;
 ghost use Rattle.hll_sketch.specs.Folding.{IsFoldLgK};
@@ -23,6 +25,8 @@ use crate::mode::Mode;
 use crate::promotion::promoted_table;
 use crate::stage::most_kept;
 use crate::width::array_into_mode;
+use hll_arrays::estimate_state::EstimateState;
+use hll_arrays::registers::Registers;
 use hll_base::bounds::{MAX_LG_K, MIN_LG_K};
 use hll_base::error::{Error, Reason};
 use hll_base::hll_type::HllType;
@@ -136,6 +140,43 @@ impl<A: Allocator> HllSketch<A> {
             Some("Composite")
         } else {
             Some("HIP")
+        }
+    }
+
+    /// Sets the words of registers from which a composite estimator computes, and the out-of-order flag (docs/FORMAT.md,
+    /// "Estimator words"). A list or a set stays as it is.
+    ///
+    /// Registers, places and size stay. One pass over registers. Takes no memory.
+    pub fn set_estimator_words(&mut self)
+        ensures words { SetsWords (sketch_of self.old) (sketch_of self.new) }
+        ensures rest { (s : EstimateState) × (self.new ≡ record self.old { layout = with_state self.old.layout s }) }
+    {
+        if let Some(words) = self.estimator_words() {
+            self.restore_estimate_state(words);
+        }
+    }
+
+    /// The state of registers from which a composite estimator computes, none of coupons.
+    fn estimator_words(&self) -> Option<EstimateState>
+        ensures { AreWordsIn (content_in self.now.layout) result }
+    {
+        match &self.mode {
+            Mode::List { .. } | Mode::Set { .. } => None,
+            Mode::Array4(array) => Some(array.estimator_words()),
+            Mode::Array6(array) => Some(array.estimator_words()),
+            Mode::Array8(array) => Some(array.estimator_words()),
+        }
+    }
+
+    /// Sets the state of registers; a list or a set has none.
+    fn restore_estimate_state(&mut self, state: EstimateState)
+        ensures { self.new ≡ record self.old { layout = with_state self.old.layout state } }
+    {
+        match &mut self.mode {
+            Mode::List { .. } | Mode::Set { .. } => {}
+            Mode::Array4(array) => array.restore_estimate_state(state),
+            Mode::Array6(array) => array.restore_estimate_state(state),
+            Mode::Array8(array) => array.restore_estimate_state(state),
         }
     }
 

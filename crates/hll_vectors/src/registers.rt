@@ -1,5 +1,6 @@
 //! Registers of eight, six and four bits: weights, images, merges, states, and exceptions.
 ghost use Rattle.std.specs.Prelude.{◌≡◌, ◌≤◌, IfOk};
+ghost use Rattle.hll_kernels.specs.Packed.{AreRegisters};
 
 use hll_arrays::convert::convert;
 use hll_arrays::merge::merge_from;
@@ -7,6 +8,7 @@ use hll_arrays::{Array4, Array6, Array8, EstimateState, RegisterStore, Registers
 use hll_base::error::Error;
 use hll_coupons::coupon::Coupon;
 use std::alloc::Global;
+use std::process::Abort;
 use std::test::Fail;
 
 /// A state that was read.
@@ -42,6 +44,73 @@ fn weights(rt: HostRuntime) -> Result<(), Fail> {
         array.update(Coupon::pack(u32::from(value) - 1, value));
     }
     assert_eq!(rt; array.kxq_units(), 82974319534674018304);
+    Ok(())
+}
+
+/// Sixteen registers, and the sums of 2^-v over those below 32 and over the others, as binary64 numbers.
+const WORDS: [([u8; 16], u64, u64); 5] = [
+    // 12 + 2^-1 + 2^-31, and 2^-32 + 2^-63
+    (
+        [1, 31, 32, 63, 0, 0, 0, 0, 0, 0, 0, 0, 0, 0, 0, 0],
+        0x4029000000040000,
+        0x3df0000000200000,
+    ),
+    // 2^4
+    ([0; 16], 0x4030000000000000, 0),
+    // 2^(4 - 31)
+    ([31; 16], 0x3e40000000000000, 0),
+    // 2^(4 - 32)
+    ([32; 16], 0, 0x3e30000000000000),
+    // 2^(4 - 63)
+    ([63; 16], 0, 0x3c40000000000000),
+];
+
+/// A value that all of 2^21 registers have, and the sums.
+const WORDS_OF_ALL: [(u8, u64, u64); 4] = [
+    // 2^21
+    (0, 0x4140000000000000, 0),
+    // 2^(21 - 31)
+    (31, 0x3f50000000000000, 0),
+    // 2^(21 - 32)
+    (32, 0, 0x3f40000000000000),
+    // 2^(21 - 63)
+    (63, 0, 0x3d50000000000000),
+];
+
+/// The words of registers, converted to a width, whatever state they had.
+fn words_at<S: RegisterStore<Global>>(array: &Array8) -> Result<EstimateState, Error> {
+    let converted: S = convert(array)?;
+    Ok(converted.estimator_words())
+}
+
+/// Registers of each width have these words.
+fn assert_words(rt: &impl Abort, array: &Array8, low: u64, high: u64) {
+    let wanted = EstimateState {
+        words: [0, low, high],
+        out_of_order: true,
+    };
+    assert_eq!(rt; array.estimator_words(), wanted);
+    assert_eq!(rt; words_at::<Array6>(array), Ok(wanted));
+    assert_eq!(rt; words_at::<Array4>(array), Ok(wanted));
+}
+
+/// Registers of `lg_k` 21 that all have a value.
+fn all_of(alloc: Global, value: u8) -> Result<Array8, Error> {
+    let mut array = Array8::new(alloc, 21)?;
+    for slot in 0..array.num_registers() {
+        array.set_register(slot, value.min(63));
+    }
+    Ok(array)
+}
+
+#[test]
+fn estimator_words(rt: HostRuntime) -> Result<(), Fail> {
+    for (values, low, high) in WORDS {
+        assert_words(&rt, &set_in(rt.alloc(), values)?, low, high);
+    }
+    for (value, low, high) in WORDS_OF_ALL {
+        assert_words(&rt, &all_of(rt.alloc(), value)?, low, high);
+    }
     Ok(())
 }
 

@@ -1,7 +1,7 @@
 //! Sketches: stages, arguments, places, texts, values and folds.
 use crate::coupons::Piece;
 use crate::hash::TEXT;
-use crate::unions::digits_of;
+use crate::unions::{digits_of, sketch_of};
 use hll_base::error::{Error, ErrorKind, Reason};
 use hll_base::hll_type::HllType;
 use hll_coupons::coupon::Coupon;
@@ -264,5 +264,41 @@ fn missing_tables(rt: HostRuntime) -> Result<(), Fail> {
     let heap = LocalHeap::new(rt.alloc(), 64)?;
     let read = HllSketch::deserialize(&heap, &image);
     assert_eq!(rt; read.err().map(|e| e.reason()), Some(Reason::Truncated));
+    Ok(())
+}
+
+/// Images, and what they are with the words of an estimator set: slot 0 is 5 and fifteen are 0, which is 15 + 2^-5, at
+/// eight, six and four bits with words that were read; a list and a set, which stay as they are.
+const WORDS_SET: [(&str, &str); 5] = [
+    (
+        "0a0107040000000a0100000000000000020000000000000003000000000000000f0000000000000005000000000000000000000000000000",
+        "0a0107040010000a00000000000000000000000000102e4000000000000000000f0000000000000005000000000000000000000000000000",
+    ),
+    (
+        "0a010704000000060100000000000000020000000000000003000000000000000f0000000000000005000000000000000000000000",
+        "0a0107040010000600000000000000000000000000102e4000000000000000000f0000000000000005000000000000000000000000",
+    ),
+    (
+        "0a010704000800020100000000000000020000000000000003000000000000000f000000000000000500000000000000",
+        "0a0107040018000200000000000000000000000000102e4000000000000000000f000000000000000500000000000000",
+    ),
+    ("02010704030801080500000c", "02010704030801080500000c"),
+    (
+        "0301070a05080009010000000500000c",
+        "0301070a05080009010000000500000c",
+    ),
+];
+
+/// Set twice, the words are the same.
+#[test]
+fn estimator_words(rt: HostRuntime) -> Result<(), Fail> {
+    for (image, wanted) in WORDS_SET {
+        let mut sketch = sketch_of(rt.alloc(), image)?;
+        for _ in 0..2 {
+            sketch.set_estimator_words();
+            let written = digits_of(rt.alloc(), &sketch)?;
+            assert_eq!(rt; written.as_str(), wanted);
+        }
+    }
     Ok(())
 }

@@ -27,7 +27,7 @@ const JOINED: &str =
 const EMPTY: &str = "0201070c030c0008";
 
 /// The sketch of an image in hexadecimal.
-fn sketch_of(alloc: Global, digits: &str) -> Result<HllSketch, Fail> {
+pub(crate) fn sketch_of(alloc: Global, digits: &str) -> Result<HllSketch, Fail> {
     let image = hex::decode(alloc, digits)?;
     Ok(HllSketch::deserialize(alloc, &image)?)
 }

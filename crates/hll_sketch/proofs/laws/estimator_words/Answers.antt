@@ -1,0 +1,11 @@
+use Rattle.hll_sketch.proofs.SetWords.{words_keep, words_twice, same_registers_same_bytes}
+use Rattle.hll_sketch.proofs.laws.estimator_words.Goals as goal
+
+pub returns-clause-words_keep : goal.returns-clause-words_keep
+returns-clause-words_keep c = words_keep
+
+pub returns-clause-words_twice : goal.returns-clause-words_twice
+returns-clause-words_twice c = words_twice
+
+pub returns-clause-same_registers_same_bytes : goal.returns-clause-same_registers_same_bytes
+returns-clause-same_registers_same_bytes c = same_registers_same_bytes

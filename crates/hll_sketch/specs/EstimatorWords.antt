@@ -1,0 +1,53 @@
+-- Sketches with the words that a composite estimator reads (docs/MODEL.md, "Estimator words").
+use Rattle.std.specs.Prelude.{◌≡◌, ℕ, List, Option, Some, None}
+use Rattle.hll_registers.specs.declared.estimate_state.EstimateState.{EstimateState}
+use Rattle.hll_registers.specs.EstimatorWords.{AreEstimatorWords}
+use Rattle.hll_sketch.specs.Layout.{Layout, list, set, array}
+use Rattle.hll_sketch.specs.Value.{Sketch, Content, coupons, registers, IsLegal, pairs_of, size_of}
+use Rattle.hll_sketch.specs.Written.{Written}
+
+-- registers keep their values and have the state from which a composite estimator computes; coupons have none
+abbrev pub SetsWordsIn : Content → Content → Type 0
+SetsWordsIn (coupons S size) new = new ≡ coupons S size
+SetsWordsIn (registers R s) new = (t : EstimateState) × AreEstimatorWords R t × (new ≡ registers R t)
+
+-- the state of registers from which a composite estimator computes; coupons have none
+abbrev pub AreWordsIn : Content → Option EstimateState → Type 0
+AreWordsIn (coupons S size) state = state ≡ None
+AreWordsIn (registers R s) state = (t : EstimateState) × AreEstimatorWords R t × (state ≡ Some t)
+
+-- the new sketch is the old one with its words set
+pub record SetsWords (old new : Sketch) : Type 0 where
+  pub lg_k : new.lg_k ≡ old.lg_k
+  pub width : new.width ≡ old.width
+  pub content : SetsWordsIn old.content new.content
+
+-- the layout with this estimate state, places included; tables have none
+abbrev pub with_state : Layout → EstimateState → Layout
+with_state (list width t) s = list width t
+with_state (set width t) s = set width t
+with_state (array width x e) s = array width (record x { state = s }) e
+
+-- ---- laws
+
+-- pairs and size stay, and a legal sketch stays legal
+pub record WordsKeep : Type 0 where
+  pub pairs : (x y : Sketch) → SetsWords x y → pairs_of y ≡ pairs_of x
+  pub size : (x y : Sketch) → SetsWords x y → size_of y ≡ size_of x
+  pub legal : (x y : Sketch) → SetsWords x y → IsLegal x → IsLegal y
+
+-- done twice is done once
+abbrev pub WordsTwice : Type 0
+WordsTwice = (x y z : Sketch) → SetsWords x y → SetsWords y z → z ≡ y
+
+-- both are in registers, which are the same
+abbrev pub HaveSameRegisters : Content → Content → Type 0
+HaveSameRegisters (registers R s) (registers Q t) = R ≡ Q
+HaveSameRegisters (registers R s) (coupons T q) = ⊥
+HaveSameRegisters (coupons S p) (registers Q t) = ⊥
+HaveSameRegisters (coupons S p) (coupons T q) = ⊥
+
+-- sketches of one lg_k and width with the same registers, whatever their states, have the same bytes with their words set
+abbrev pub SameRegistersSameBytes : Type 0
+SameRegistersSameBytes = (x y p q : Sketch) (a b : List ℕ) → IsLegal x → IsLegal y → x.lg_k ≡ y.lg_k → x.width ≡ y.width → HaveSameRegisters x.content y.content →
+    SetsWords x p → SetsWords y q → Written a p → Written b q → a ≡ b

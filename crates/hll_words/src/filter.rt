@@ -1,0 +1,152 @@
+//! Lines of images, passed on with their words set.
+ghost use Rattle.std.specs.Prelude.{◌≡◌, ◌⊎◌, ◌++◌, ◌∷◌, [], ℕ, List, false, Some, MatchResult, IfOk, IfErr};
+ghost use Rattle.std.specs.Io.KnownBytes.{Appends};
+ghost use Rattle.std.specs.Str.Lines.{strip_carriage_return};
+ghost use Rattle.hll_base.specs.declared.error.Reason.TheVariants as reasons;
+ghost use Rattle.hll_sketch.specs.Checks.{first_fault};
+ghost use Rattle.hll_text.specs.Cuts.{IsOpen};
+ghost use Rattle.hll_text.specs.Text.{ended_lines, open_line, line_of_rest};
+ghost use Rattle.hll_words.specs.Passing.{IsWithWords, IsPassed, Passes, Stops, StopsLine};
+
+use hll_base::error::Error;
+use hll_sketch::sketch::HllSketch;
+use hll_text::fault::{Fault, MergeError};
+use hll_text::lines::{line_end, without_return};
+use hll_text::reading::decode_into;
+use hll_text::streams::write_hex_line;
+use hll_text::watched::Watched;
+use std::alloc::{AllocError, Allocator};
+use std::io;
+
+/// The image of bytes with the words of an estimator set. The reason of the first check that the bytes fail, or `Memory`.
+fn with_words<A: Allocator + Clone>(alloc: A, bytes: &[u8]) -> Result<Vec<u8, A>, Error>
+    ensures ok { IfOk result (λ new. IsWithWords bytes.now new.items) }
+    ensures err { IfErr result (λ e. (e ≡ reasons.Memory) ⊎ (first_fault bytes.now ≡ Some e)) }
+{
+    let mut sketch = HllSketch::deserialize(alloc, bytes)?;
+    sketch.set_estimator_words();
+    sketch.serialize()
+}
+
+/// Passes a line on. `Hex`, or `Image` with the reason of the first check that its bytes fail, or `Memory`: then nothing
+/// of it is written. `Write` where the writer fails.
+///
+/// The buffer is for the bytes of the image, and keeps its size.
+fn pass_line<A: Allocator + Clone, W: io::Write>(
+    buffer: &mut Vec<u8, A>,
+    line: &[u8],
+    writer: &mut Watched<W>,
+) -> Result<(), Fault>
+    requires { writer.old.failed ≡ false }
+    ensures { MatchResult result
+        (λ _. (writer.new.failed ≡ false) × (printed : List ℕ) × IsPassed line.now printed × Appends (W.contents writer.old.inner) (W.contents writer.new.inner) printed)
+        (λ e. StopsLine line.now (W.contents writer.old.inner) (W.contents writer.new.inner) writer.new.failed e) }
+{
+    let size = decode_into(buffer, line)?;
+    let alloc = buffer.allocator().clone()?;
+    let image = with_words(alloc, &buffer[..size])?;
+    write_hex_line(writer, &image)
+}
+
+/// A filter of lines: the bytes of the line that has not ended, and how many lines ended so far.
+#[derive(Drop)]
+pub(crate) struct Filter<A: Allocator> {
+    pub(crate) pending: Vec<u8, A>,
+    pub(crate) count: u64,
+    /// For the bytes of an image.
+    buffer: Vec<u8, A>,
+}
+
+impl<A: Allocator + Clone> Filter<A> {
+    /// No line yet. Fails where a clone of the allocator does.
+    pub(crate) fn new(alloc: A) -> Result<Filter<A>, AllocError>
+        ensures { IfOk result (λ f. (f.pending.items ≡ []) × (f.count ≡ 0)) }
+    {
+        let for_pending = alloc.clone()?;
+        Ok(Filter {
+            pending: Vec::new(for_pending),
+            count: 0,
+            buffer: Vec::new(alloc),
+        })
+    }
+
+    /// Passes on every line that ends in what is pending and a piece, until one is refused. What follows the last LF is
+    /// pending then.
+    pub(crate) fn pass_piece<W: io::Write>(
+        &mut self,
+        piece: &[u8],
+        writer: &mut Watched<W>,
+    ) -> Result<(), MergeError>
+        requires open { IsOpen self.old.pending.items }
+        requires works { writer.old.failed ≡ false }
+        ensures { let ls : List (List ℕ) = ended_lines (self.old.pending.items ++ piece.now) in MatchResult result
+            (λ _. (self.new.pending.items ≡ open_line (self.old.pending.items ++ piece.now))
+            × Passes self.old.count ls self.new.count (W.contents writer.old.inner) (W.contents writer.new.inner) writer.new.failed)
+            (λ e. Stops self.old.count ls (W.contents writer.old.inner) (W.contents writer.new.inner) writer.new.failed e) }
+    {
+        let mut rest = piece;
+        'lines: loop {
+            match line_end(rest) {
+                None => {
+                    return match self.pending.extend_from_slice(rest) {
+                        Ok(()) => Ok(()),
+                        Err(e) => Err(Fault::from(e).at(self.count)),
+                    };
+                }
+                Some(at) => {
+                    if let Err(e) = self.end_line(&rest[..at], writer) {
+                        return Err(e);
+                    }
+                    rest = &rest[at + 1..];
+                }
+            }
+        }
+    }
+
+    /// Passes on the line that is pending, with these bytes before its LF. Nothing is pending then.
+    fn end_line<W: io::Write>(
+        &mut self,
+        bytes: &[u8],
+        writer: &mut Watched<W>,
+    ) -> Result<(), MergeError>
+        requires { writer.old.failed ≡ false }
+        ensures { let ls : List (List ℕ) = strip_carriage_return (self.old.pending.items ++ bytes.now) ∷ [] in MatchResult result
+            (λ _. (self.new.pending.items ≡ [])
+            × Passes self.old.count ls self.new.count (W.contents writer.old.inner) (W.contents writer.new.inner) writer.new.failed)
+            (λ e. Stops self.old.count ls (W.contents writer.old.inner) (W.contents writer.new.inner) writer.new.failed e) }
+    {
+        if let Err(e) = self.pending.extend_from_slice(bytes) {
+            return Err(Fault::from(e).at(self.count));
+        }
+        self.count = self.count.saturating_add(1);
+        let line = without_return(self.pending.as_slice());
+        match pass_line(&mut self.buffer, line, writer) {
+            Ok(()) => {
+                self.pending.clear();
+                Ok(())
+            }
+            Err(fault) => Err(fault.at(self.count)),
+        }
+    }
+
+    /// Passes on the last line, if it lacks its LF.
+    pub(crate) fn pass_rest<W: io::Write>(
+        mut self,
+        writer: &mut Watched<W>,
+    ) -> Result<(), MergeError>
+        requires { writer.old.failed ≡ false }
+        ensures { let ls : List (List ℕ) = line_of_rest self.pending.items in MatchResult result
+            (λ _. (after : ℕ) × Passes self.count ls after (W.contents writer.old.inner) (W.contents writer.new.inner) writer.new.failed)
+            (λ e. Stops self.count ls (W.contents writer.old.inner) (W.contents writer.new.inner) writer.new.failed e) }
+    {
+        let last = self.pending.as_slice();
+        if last.is_empty() {
+            return Ok(());
+        }
+        let number = self.count.saturating_add(1);
+        match pass_line(&mut self.buffer, last, writer) {
+            Ok(()) => Ok(()),
+            Err(fault) => Err(fault.at(number)),
+        }
+    }
+}

@@ -1,0 +1,5 @@
+//! A filter that sets the words of an estimator in images, line by line (docs/PLAN.md, "Estimator words").
+#![tactic(auto)]
+
+mod filter;
+pub mod run;
