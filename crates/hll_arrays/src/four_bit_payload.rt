@@ -10,16 +10,14 @@ ghost use Rattle.hll_kernels.specs.Packed.{nibble_at};
 ghost use Rattle.hll_registers.specs.Payload.{state_at, exception_count, exception_places, hll4_size, is_compact, lg_table_of, nibbles_of, registers_of, shape_of_hll4, Agrees, AreEntries, FirstHll4Fault, IsHll4Payload, IsWhole};
 ghost use Rattle.hll_registers.specs.State.{IsState};
 
-use hll_base::bounds::{MAX_VALUE, SLOT_BITS};
+use hll_base::bounds::SLOT_BITS;
 use hll_base::cursor::SketchSlice;
 use hll_base::error::{Error, Reason};
-use hll_coupons::aux_map::AuxMap;
 use hll_coupons::coupon::Coupon;
 use hll_coupons::serialization::COUPON_SIZE_BYTES;
-use hll_kernels::nibbles::{are_at_most, nibble_of};
 use hll_registers::aux_format::AuxFormat;
 use hll_registers::estimate_state::EstimateState;
-use hll_registers::exception_map::{Exceptions, MARK, add_exception, exception_at};
+use hll_registers::exception_map::{Exceptions, add_exception, exception_at};
 use hll_registers::nibble_registers::NibbleRegisters;
 use hll_registers::preamble::Preamble;
 use hll_registers::registers::two_to;
@@ -59,9 +57,6 @@ pub(crate) fn read_payload<A: Allocator + Clone>(
     let frame = frame_of(cursor, header)?;
     let nibbles = Vec::from_slice(alloc, frame.nibbles)?;
     let exceptions = read_entries(nibbles.allocator(), header.lg_config_k, &frame)?;
-    if !agree(&nibbles, &exceptions, header.lg_config_k, header.cur_min) {
-        return Err(Error::new(Reason::Register));
-    }
     let registers = NibbleRegisters::from_parts(
         header.lg_config_k,
         header.cur_min,
@@ -218,110 +213,4 @@ fn coupon_of(raw: u32) -> Coupon
     ensures { result ≡ raw }
 {
     Coupon::pack(raw, (raw >> SLOT_BITS) as u8)
-}
-
-// ---- nibbles and exceptions
-
-/// Whether each nibble of 15 has an exception of at least 15 above the minimum, each exception such a nibble, and each
-/// other register is at most 63.
-fn agree<A: Allocator>(nibbles: &[u8], map: &Exceptions<A>, lg_config_k: u8, cur_min: u8) -> bool
-    requires most { lg_config_k ≤ 21 }
-    requires size { 2 * length nibbles.now ≡ 2 ^ lg_config_k }
-    requires map { IsMapFor lg_config_k (unboxed map.now) }
-    ensures all { result ≡ true → (s : ℕ) → s < 2 ^ lg_config_k → Agrees cur_min (nibble_at nibbles.now s) (exception_in (unboxed map.now) s) }
-    ensures some { result ≡ false → ((s : ℕ) → s < 2 ^ lg_config_k → Agrees cur_min (nibble_at nibbles.now s) (exception_in (unboxed map.now) s)) → ⊥ }
-{
-    if cur_min > MAX_VALUE {
-        return false;
-    }
-    match map {
-        Some(entries) => {
-            are_marked(nibbles, entries, cur_min)
-                && others_agree(nibbles, map, lg_config_k, cur_min)
-        }
-        None => others_agree(nibbles, map, lg_config_k, cur_min),
-    }
-}
-
-/// Whether each exception is at least 15 above the minimum, and has a nibble of 15.
-fn are_marked<A: Allocator>(nibbles: &[u8], map: &AuxMap<A>, cur_min: u8) -> bool
-    requires minimum { cur_min ≤ 63 }
-    requires size { 2 * length nibbles.now ≡ 2 ^ map.now.lg_k }
-    requires map { IsMap map.now }
-    ensures all { result ≡ true → (s v : ℕ) → value_in map.now s ≡ Some v → Agrees cur_min (nibble_at nibbles.now s) (Some v) }
-    ensures some { result ≡ false → (s : ℕ) × (v : ℕ) × (s < 2 ^ map.now.lg_k) × (value_in map.now s ≡ Some v) × (Agrees cur_min (nibble_at nibbles.now s) (Some v) → ⊥) }
-{
-    for (slot, value) in map.iter() {
-        if value < cur_min + MARK || nibble_of(nibbles, slot as usize) != MARK {
-            return false;
-        }
-    }
-    true
-}
-
-/// Whether each slot without an exception has a nibble below 15, and a register of at most 63.
-fn others_agree<A: Allocator>(
-    nibbles: &[u8],
-    map: &Exceptions<A>,
-    lg_config_k: u8,
-    cur_min: u8,
-) -> bool
-    requires most { lg_config_k ≤ 21 }
-    requires minimum { cur_min ≤ 63 }
-    requires size { 2 * length nibbles.now ≡ 2 ^ lg_config_k }
-    requires map { IsMapFor lg_config_k (unboxed map.now) }
-    ensures all { result ≡ true → (s : ℕ) → s < 2 ^ lg_config_k → exception_in (unboxed map.now) s ≡ None → Agrees cur_min (nibble_at nibbles.now s) None }
-    ensures some { result ≡ false → (s : ℕ) × (s < 2 ^ lg_config_k) × (exception_in (unboxed map.now) s ≡ None) × (Agrees cur_min (nibble_at nibbles.now s) None → ⊥) }
-{
-    let greatest = (MAX_VALUE - cur_min).min(MARK - 1);
-    let (blocks, rest) = nibbles.as_chunks::<32>();
-    for place in 0..blocks.len() {
-        if !are_at_most(&blocks[place], greatest)
-            && !slots_agree(
-                &blocks[place],
-                64 * place as u32,
-                map,
-                lg_config_k,
-                greatest,
-            )
-        {
-            return false;
-        }
-    }
-    slots_agree(rest, 64 * blocks.len() as u32, map, lg_config_k, greatest)
-}
-
-/// Whether each slot of some bytes has an exception, or no greater nibble. The first slot is `first`.
-fn slots_agree<A: Allocator>(
-    nibbles: &[u8],
-    first: u32,
-    map: &Exceptions<A>,
-    lg_config_k: u8,
-    greatest: u8,
-) -> bool
-    requires most { lg_config_k ≤ 21 }
-    requires map { IsMapFor lg_config_k (unboxed map.now) }
-    requires within { first + 2 * length nibbles.now ≤ 2 ^ lg_config_k }
-    ensures all { result ≡ true → (s : ℕ) → first ≤ s → s < first + 2 * length nibbles.now → exception_in (unboxed map.now) s ≡ None → nibble_at nibbles.now (s - first) ≤ greatest }
-    ensures some { result ≡ false → (i : ℕ) × (i < 2 * length nibbles.now) × (exception_in (unboxed map.now) (first + i) ≡ None) × (greatest < nibble_at nibbles.now i) }
-{
-    for place in 0..nibbles.len() {
-        let slot = first + 2 * place as u32;
-        let byte = nibbles[place];
-        if !slot_agrees(map, greatest, slot, byte % 16)
-            || !slot_agrees(map, greatest, slot + 1, byte / 16)
-        {
-            return false;
-        }
-    }
-    true
-}
-
-/// Whether a slot has an exception, or no greater nibble.
-fn slot_agrees<A: Allocator>(map: &Exceptions<A>, greatest: u8, slot: u32, nibble: u8) -> bool
-    requires { IsSlotOf (unboxed map.now) slot }
-    ensures all { result ≡ true → exception_in (unboxed map.now) slot ≡ None → nibble ≤ greatest }
-    ensures some { result ≡ false → (exception_in (unboxed map.now) slot ≡ None) × (greatest < nibble) }
-{
-    nibble <= greatest || exception_at(map, slot).is_some()
 }

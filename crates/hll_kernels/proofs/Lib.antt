@@ -3,6 +3,7 @@ pub mod Bounds
 pub mod FourBitLanes
 pub mod Grouping
 pub mod Lowering
+pub mod Marks
 pub mod Parts
 pub mod Registers
 pub mod SingleNibbles

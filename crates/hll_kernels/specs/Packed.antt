@@ -46,6 +46,10 @@ lowered_by d n = if n == 15 then 15 else (n - d)
 abbrev pub zero_nibbles : List ℕ → ℕ
 zero_nibbles bytes = count_by (λ b. b % 16 == 0) bytes + count_by (λ b. b / 16 == 0) bytes
 
+-- how many nibbles of bytes are 15
+abbrev pub mark_nibbles : List ℕ → ℕ
+mark_nibbles bytes = count_by (λ b. b % 16 == 15) bytes + count_by (λ b. b / 16 == 15) bytes
+
 -- ---- six bits
 
 -- four registers in three bytes, the lowest bit first

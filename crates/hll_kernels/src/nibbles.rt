@@ -5,7 +5,7 @@ ghost use Rattle.std.specs.List.{list_all};
 ghost use Rattle.std.specs.Simd.Lanes.{put_chunk, Each1};
 ghost use Rattle.hll_base.specs.Join.{join};
 ghost use Rattle.hll_kernels.specs.Lanes.{raise_at, nibble_values, nibble_pairs};
-ghost use Rattle.hll_kernels.specs.Packed.{nibble, nibble_at, nibble_bytes_above, zero_nibbles};
+ghost use Rattle.hll_kernels.specs.Packed.{nibble, nibble_at, nibble_bytes_above, mark_nibbles, zero_nibbles};
 ghost use Rattle.hll_kernels.specs.Packed.{lowered_by};
 
 use crate::kernels::{lower_nibbles, raise_16, raise_one, zeros_of};
@@ -64,6 +64,25 @@ pub fn count_zero_nibbles(bytes: &[u8]) -> u32
     count + zero_nibbles_one_by_one(rest)
 }
 
+/// How many nibbles are 0, and how many are 15. One pass.
+pub fn count_zeros_and_marks(bytes: &[u8]) -> (u32, u32)
+    requires { length bytes.now ≤ 2 ^ 20 }
+    ensures zeros { result.0 ≡ zero_nibbles bytes.now }
+    ensures marks { result.1 ≡ mark_nibbles bytes.now }
+{
+    let (blocks, rest) = bytes.as_chunks::<64>();
+    let mut zeros = 0;
+    let mut marks = 0;
+    for block in blocks {
+        zeros += u32::from(zero_nibbles_in(block));
+        marks += u32::from(mark_nibbles_in(block));
+    }
+    (
+        zeros + zero_nibbles_one_by_one(rest),
+        marks + mark_nibbles_one_by_one(rest),
+    )
+}
+
 /// How many nibbles of a block are 0, which a byte can count.
 fn zero_nibbles_in(block: &[u8; 64]) -> u8
     ensures count { result ≡ zero_nibbles block.now }
@@ -86,6 +105,48 @@ fn zero_nibbles_one_by_one(bytes: &[u8]) -> u32
         count += zeros_of(*byte);
     }
     count
+}
+
+/// How many nibbles of a block are 15, which a byte can count.
+fn mark_nibbles_in(block: &[u8; 64]) -> u8
+    ensures count { result ≡ mark_nibbles block.now }
+    ensures bound { result ≤ 128 }
+{
+    let mut count = 0;
+    for byte in block {
+        count += marks_of(*byte);
+    }
+    count
+}
+
+/// How many nibbles are 15, one byte after the other.
+fn mark_nibbles_one_by_one(bytes: &[u8]) -> u32
+    requires { length bytes.now ≤ 2 ^ 20 }
+    ensures { result ≡ mark_nibbles bytes.now }
+{
+    let mut count = 0;
+    for byte in bytes {
+        count += u32::from(marks_of(*byte));
+    }
+    count
+}
+
+/// How many nibbles of a byte are 15.
+fn marks_of(byte: u8) -> u8
+    ensures count { result ≡ mark_nibbles (byte ∷ []) }
+    ensures bound { result ≤ 2 }
+{
+    u8::from(byte % 16 == 15) + u8::from(byte / 16 == 15)
+}
+
+/// Whether no nibble is greater than `greatest`, which is at most 15.
+pub fn all_at_most(bytes: &[u8], greatest: u8) -> bool
+    requires { greatest ≤ 15 }
+    ensures { result ≡ list_all (λ b. nat_le (b % 16) greatest && nat_le (b / 16) greatest) bytes.now }
+{
+    bytes
+        .iter()
+        .all(|byte| *byte % 16 <= greatest && *byte / 16 <= greatest)
 }
 
 /// Lowers each nibble below 15 by `steps`; 15 stays.

@@ -6,11 +6,11 @@ use Rattle.std.proofs.lemmas.Bool.{cases_lt, leb-true, ltb-true, true≢false}
 use Rattle.std.proofs.lemmas.List.Sums.{AllPass-from_list_all}
 use Rattle.std.proofs.lemmas.List.{get_or_default, get_or-drop, get_or-take, length-drop, length-take}
 use Rattle.std.proofs.lemmas.List.FromFn.{length-map-range_with_len, get_or-map-range_with_len}
-use Rattle.std.proofs.lemmas.Nat.{pow_pos, mod_below}
+use Rattle.std.proofs.lemmas.Nat.{mod_below}
 use Rattle.std.proofs.Math.Nat.{zero-add}
 use Rattle.hll_coupons.specs.AuxMap.{ExceptionMap}
 use Rattle.hll_coupons.proofs.Pairs.{entries_are, of_value}
-use Rattle.hll_registers.specs.FourBits.{exception_in, exception_of, unpacked, IsMapFor, IsPacked, IsSlotOf}
+use Rattle.hll_registers.specs.FourBits.{exception_in, exception_of, unpacked, IsMapFor, IsPacked}
 use Rattle.hll_kernels.specs.Packed.{minimum, nibble, nibble_at, zero_nibbles, AreRegisters}
 use Rattle.hll_registers.specs.Payload.{Agrees, register_of}
 use Rattle.hll_registers.proofs.FourBits.{exception_of-high, exception_of-low, minimum_is}
@@ -50,12 +50,6 @@ of_register m n (Some v) agrees small = record {
   exception_is = sym (exception_of-high m v agrees.1);
 }
 
--- then the minimum is a register's bound
-pub minimum_small : (k m : ℕ) (bytes : List ℕ) (e : Option ExceptionMap) → IsMapFor k e → ((s : ℕ) → s < 2 ^ k → Agrees m (nibble_at bytes s) (exception_in e s)) → m ≤ 63
-minimum_small k m bytes e is agree =
-    let o = of_register m (nibble_at bytes 0) (exception_in e 0) (agree 0 (pow_pos k)) (exception_small k e is 0) in
-    omega (arith, o.least, o.small)
-
 -- a slot has an exception, or none
 pub agrees_either : (m n : ℕ) (o : Option ℕ) → ((v : ℕ) → o ≡ Some v → Agrees m n (Some v)) → (o ≡ None → Agrees m n None) → Agrees m n o
 agrees_either m n None some none = none refl
@@ -73,11 +67,6 @@ agrees-packed m r low small = elim (cases_lt r (m + 15)) [
       let n : nibble m r ≡ 15 = omega (arith, over) in
       subst (λ o. Agrees m (nibble m r) o × (register_of m (nibble m r) o ≡ r)) (sym some) ((n, over), refl)
 ]
-
--- a slot of the registers is one of the map's
-pub is_slot : (k : ℕ) (e : Option ExceptionMap) → IsMapFor k e → (s : ℕ) → s < 2 ^ k → IsSlotOf e s
-is_slot k None u s within = tt
-is_slot k (Some t) (map, lg, some) s within = subst (λ n. s < 2 ^ n) (sym lg) within
 
 -- ---- blocks
 
@@ -98,16 +87,9 @@ nibble_at-block bytes block place s is from to =
     ap (λ bs. nibble_at bs (s - 64 * place)) is ∙ nibble_at-take (drop (place * 32) bytes) 32 (s - 64 * place) (omega (arith, from, to))
     ∙ ap (nibble_at (drop (place * 32) bytes)) same ∙ nibble_at-drop bytes (place * 32) s (omega (arith, from))
 
-both_true : (a b : Bool) → (a && b) ≡ true → (a ≡ true) × (b ≡ true)
+pub both_true : (a b : Bool) → (a && b) ≡ true → (a ≡ true) × (b ≡ true)
 both_true true b h = (refl, h)
 both_true false b h = absurd (true≢false (sym h))
-
--- a great nibble of a block is one of the bytes
-pub great_in_block : (bytes block : List ℕ) (place i g : ℕ) → block ≡ take 32 (drop (place * 32) bytes) → i < 64 → g < nibble_at block i → g < nibble_at bytes (64 * place + i)
-great_in_block bytes block place i g is l great =
-    let at : i ≡ 64 * place + i - 64 * place = omega arith in
-    let same : nibble_at block i ≡ nibble_at bytes (64 * place + i) = ap (nibble_at block) at ∙ nibble_at-block bytes block place (64 * place + i) is (omega arith) (omega (arith, l)) in
-    omega (arith, great, same)
 
 -- no register of a block is an exception
 pub no_exception_in_block : (m : ℕ) (R block : List ℕ) (place : ℕ) → block ≡ take 64 (drop (place * 64) R) → (place + 1) * 64 ≤ length R →

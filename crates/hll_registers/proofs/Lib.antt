@@ -6,6 +6,7 @@ pub mod FourBitChanges
 pub mod FourBitReading
 pub mod FourBitStores
 pub mod FourBits
+pub mod Marked
 pub mod Packing
 pub mod Raising
 pub mod States

@@ -1,6 +1,7 @@
 //! Registers that can be read and made, and those of four bits (docs/ARCHITECTURE.md, "Registers").
 #![tactic(auto)]
 
+mod agreement;
 pub mod aux_format;
 pub mod estimate_state;
 pub mod exception_map;

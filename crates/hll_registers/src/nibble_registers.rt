@@ -1,9 +1,9 @@
 //! Registers as nibbles above the least of them, with a map of exceptions (docs/MODEL.md, "Registers of four bits").
-ghost use Rattle.std.specs.Prelude.{◌≡◌, ◌≢◌, ◌+◌, ◌*◌, ◌^◌, ◌<◌, ◌≤◌, ◌==◌, ◌%◌, ◌++◌, ℕ, take, drop, length, count_by, nat_eq, slice_index, slice_set, IfOk, IfErr, OnOk, OnErr, Some, None};
+ghost use Rattle.std.specs.Prelude.{◌≡◌, ◌≢◌, ◌+◌, ◌*◌, ◌^◌, ◌<◌, ◌≤◌, ◌==◌, ◌%◌, ◌++◌, ◌⊎◌, ℕ, take, drop, length, count_by, nat_eq, slice_index, slice_set, IfOk, IfErr, OnOk, OnErr, Some, None};
 ghost use Rattle.std.specs.Cmp.Lexicographic.{pointwise};
 ghost use Rattle.std.specs.FinSet.{len};
 ghost use Rattle.hll_base.specs.Join.{join};
-ghost use Rattle.hll_base.specs.declared.error.Reason.TheVariants.{Memory};
+ghost use Rattle.hll_base.specs.declared.error.Reason.TheVariants.{Memory, Register};
 ghost use Rattle.hll_base.specs.declared.hll_type.HllType.TheVariants.{Hll4};
 ghost use Rattle.hll_coupons.specs.Coupons.{coupon_bytes, WritesAscending};
 ghost use Rattle.hll_coupons.specs.Pair.{set_of};
@@ -13,6 +13,7 @@ ghost use Rattle.hll_registers.specs.FourBits.{exception_in, exception_of, unbox
 ghost use Rattle.hll_registers.specs.Payload.{register_of, Agrees};
 ghost use Rattle.hll_registers.specs.Store.{size_in_registers, zero_registers};
 
+use crate::agreement::agree;
 use crate::exception_map::{
     Exceptions, MARK, Rise, bytes_of_places, copied, count_exceptions, exception_at,
     exceptions_after, exceptions_of, have_same_exceptions, put_exception, raise_by_exceptions,
@@ -20,10 +21,11 @@ use crate::exception_map::{
 };
 use crate::registers::two_to;
 use hll_base::codec::SketchBytes;
-use hll_base::error::Error;
+use hll_base::error::{Error, Reason};
 use hll_kernels::kernels::least_of;
 use hll_kernels::nibbles::{
-    count_zero_nibbles, nibble_of, packed_nibbles, put_nibble, raise_by_nibbles,
+    count_zero_nibbles, count_zeros_and_marks, nibble_of, packed_nibbles, put_nibble,
+    raise_by_nibbles,
 };
 use std::alloc::Allocator;
 use std::marker::Model;
@@ -205,8 +207,10 @@ impl<A: Allocator + Clone> NibbleRegisters<A> {
         })
     }
 
-    /// The registers of nibbles above a minimum, and exceptions by the same allocator. The minimum may be below the least
-    /// register: then they are packed anew. Fails with `Memory`.
+    /// The registers of nibbles above a minimum, and exceptions by the same allocator, if they agree. The minimum may be
+    /// below the least register: then they are packed anew. One pass over the nibbles, where the minimum is at most 49.
+    ///
+    /// Fails with `Register` if they don't agree, or else with `Memory`.
     pub fn from_parts(
         lg_k: u8,
         minimum: u8,
@@ -217,19 +221,22 @@ impl<A: Allocator + Clone> NibbleRegisters<A> {
         requires most { lg_k ≤ 21 }
         requires size { 2 * length nibbles.items ≡ 2 ^ lg_k }
         requires map { IsMapFor lg_k (unboxed exceptions) }
-        requires agree { (s : ℕ) → s < 2 ^ lg_k → Agrees minimum (nibble_at nibbles.items s) (exception_in (unboxed exceptions) s) }
         ensures ok { IfOk result (λ r. (r.lg_k ≡ lg_k) × (r.registers ≡ unpacked lg_k minimum nibbles.items (unboxed exceptions))) }
-        ensures err { IfErr result (λ e. e ≡ Memory) }
+        ensures agree { IfOk result (λ r. (s : ℕ) → s < 2 ^ lg_k → Agrees minimum (nibble_at nibbles.items s) (exception_in (unboxed exceptions) s)) }
+        ensures err { IfErr result (λ e. (e ≡ Memory) ⊎ ((e ≡ Register) × (((s : ℕ) → s < 2 ^ lg_k → Agrees minimum (nibble_at nibbles.items s) (exception_in (unboxed exceptions) s)) → ⊥))) }
     {
-        let count_at_minimum = count_zero_nibbles(&nibbles);
-        if count_at_minimum == 0 {
+        let (zeros, marks) = count_zeros_and_marks(&nibbles);
+        if !agree(&nibbles, &exceptions, lg_k, minimum, marks) {
+            return Err(Error::new(Reason::Register));
+        }
+        if zeros == 0 {
             let values = values_of(nibbles.allocator(), &nibbles, &exceptions, lg_k, minimum)?;
             return NibbleRegisters::from_values(nibbles.allocator().clone()?, lg_k, &values);
         }
         Ok(NibbleRegisters {
             lg_k,
             minimum,
-            count_at_minimum,
+            count_at_minimum: zeros,
             nibbles,
             exceptions,
         })

@@ -8,8 +8,8 @@ use Rattle.hll_coupons.proofs.Yielded.{given}
 use Rattle.hll_kernels.specs.Packed.{nibble_at}
 use Rattle.hll_registers.specs.Payload.{Agrees}
 use Rattle.hll_registers.proofs.FourBits.{All-one}
-use Rattle.hll_arrays.proofs.four_bit_payload.are_marked.Goals as goal
-use Rattle.hll_arrays.proofs.four_bit_payload.are_marked.Goals.{then-value-cur_min-via-then-value-cur_min, then-value-cur_min-via-else-value-cur_min+then-nibble_of-ne-MARK}
+use Rattle.hll_registers.proofs.agreement.are_marked.Goals as goal
+use Rattle.hll_registers.proofs.agreement.are_marked.Goals.{then-value-minimum-via-then-value-minimum, then-value-minimum-via-else-value-minimum+then-nibble_of-ne-MARK}
 
 pub loop-slot-init : goal.loop-slot-init
 loop-slot-init g c i d l = absurd (omega (arith, l))
@@ -20,26 +20,26 @@ nibble_of-requires g c =
     let entry : IsEntryOf c.args.map.now (c.in-Some.slot, c.in-Some.value) = last_of_all (IsEntryOf c.args.map.now) (entries_in c.args.map.now) _ _ _ parts (entries_are c.args.map.now c.requires.map) in
     omega (arith, entry.slot, c.requires.size)
 
-pub returns-then-value-cur_min-clause-some : goal.returns-then-value-cur_min-clause-some
-returns-then-value-cur_min-clause-some g c e =
+pub returns-then-value-minimum-clause-some : goal.returns-then-value-minimum-clause-some
+returns-then-value-minimum-clause-some g c e =
     let parts = given _ _ _ _ _ (c.into_iter-slot-iterator.ensures.into_iter_gives ∙ c.iter-slot-items.ensures) c.loop-slot.yielded_by c.in-Some.ensures.steps in
     let entry : IsEntryOf c.args.map.now (c.in-Some.slot, c.in-Some.value) = last_of_all (IsEntryOf c.args.map.now) (entries_in c.args.map.now) _ _ _ parts (entries_are c.args.map.now c.requires.map) in (
       c.in-Some.slot,
       c.in-Some.value,
       entry.slot,
       entry.value,
-      λ a. elim c.then-value-cur_min.branch [
-        | then-value-cur_min-via-then-value-cur_min w ↦ omega (arith, a.1, w.if-value-cur_min.true)
-        | then-value-cur_min-via-else-value-cur_min+then-nibble_of-ne-MARK w ↦ w.if-nibble_of-ne-MARK.true (w.nibble_of.ensures.nibble ∙ a.0)
+      λ a. elim c.then-value-minimum.branch [
+        | then-value-minimum-via-then-value-minimum w ↦ omega (arith, a.1, w.if-value-minimum.true)
+        | then-value-minimum-via-else-value-minimum+then-nibble_of-ne-MARK w ↦ w.if-nibble_of-ne-MARK.true (w.nibble_of.ensures.nibble ∙ a.0)
       ],
     )
 
 pub loop-slot-preserved : goal.loop-slot-preserved
 loop-slot-preserved g c =
-    All-append (λ p. Agrees c.args.cur_min (nibble_at c.args.nibbles.now p.0) (Some p.1)) c.loop-slot.yielded (_ ∷ []) c.loop-slot.invariant
-    (All-one (λ p. Agrees c.args.cur_min (nibble_at c.args.nibbles.now p.0) (Some p.1)) _ (sym c.nibble_of.ensures.nibble ∙ c.if-nibble_of-ne-MARK.false, c.if-value-cur_min.false))
+    All-append (λ p. Agrees c.args.minimum (nibble_at c.args.nibbles.now p.0) (Some p.1)) c.loop-slot.yielded (_ ∷ []) c.loop-slot.invariant
+    (All-one (λ p. Agrees c.args.minimum (nibble_at c.args.nibbles.now p.0) (Some p.1)) _ (sym c.nibble_of.ensures.nibble ∙ c.if-nibble_of-ne-MARK.false, c.if-value-minimum.false))
 
 pub returns-clause-all : goal.returns-clause-all
 returns-clause-all g c e s v is =
     let whole = given _ _ _ _ _ (c.into_iter-slot-iterator.ensures.into_iter_gives ∙ c.iter-slot-items.ensures) c.loop-slot.yielded_by c.in-None.ensures.steps.0 ∙ append-nil c.loop-slot.yielded in
-    of_value c.args.map.now c.requires.map (λ p. Agrees c.args.cur_min (nibble_at c.args.nibbles.now p.0) (Some p.1)) (subst (All (λ p. Agrees c.args.cur_min (nibble_at c.args.nibbles.now p.0) (Some p.1))) (sym whole) c.loop-slot.invariant) s v is
+    of_value c.args.map.now c.requires.map (λ p. Agrees c.args.minimum (nibble_at c.args.nibbles.now p.0) (Some p.1)) (subst (All (λ p. Agrees c.args.minimum (nibble_at c.args.nibbles.now p.0) (Some p.1))) (sym whole) c.loop-slot.invariant) s v is
