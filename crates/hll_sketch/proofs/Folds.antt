@@ -7,10 +7,10 @@ use Rattle.hll_coupons.specs.Fold.{fold_to, pairs}
 use Rattle.hll_coupons.proofs.Registers.{fold_to-pairs, fold_to-pairs-fold_to}
 use Rattle.hll_registers.specs.State.{IsState, cleared_state}
 use Rattle.hll_sketch.specs.Adding.{content_for}
-use Rattle.hll_sketch.specs.Folding.{folded_content, FoldedIsLegal, FoldedIsGrown, FoldedHasSameFolds}
+use Rattle.hll_sketch.specs.Folding.{folded, folded_content, FoldedIsLegal, FoldedIsGrown, FoldedHasSameFolds}
 use Rattle.hll_sketch.specs.Grown.{IsGrownContent}
 use Rattle.hll_sketch.specs.Stage.{stage}
-use Rattle.hll_sketch.specs.Value.{Content, coupons, registers, pairs_in, in_registers, IsLegalContent}
+use Rattle.hll_sketch.specs.Value.{Sketch, Content, coupons, registers, pairs_in, in_registers, IsLegal, IsLegalContent}
 use Rattle.hll_sketch.proofs.LegalSketches.{settled_legal, fold_are_registers, ArePairs-pairs, IsState-cleared_state}
 
 -- registers folded to their own lg_k are as they were
@@ -18,6 +18,11 @@ pub folded_at_own : (k e : ℕ) (c : Content) → e ≡ k → k ≤ 21 → IsLeg
 folded_at_own k e (coupons S p) same small legal is = absurd (cc)
 folded_at_own k e (registers R s) same small legal is =
     sym (λ i. registers ((ap (fold_to (pairs R)) same ∙ fold_to-pairs R k small legal.0.size) i) (cond-true (eqb e k) s cleared_state (eq-eqb e k same) i))
+
+-- so a sketch of registers at its own lg_k is its own fold
+pub own_fold_of_registers : (x : Sketch) (e : ℕ) → x.lg_k ≡ e → IsLegal x → in_registers x.content ≡ true → folded x e ≡ x
+own_fold_of_registers x e same legal is =
+    λ i. record { lg_k = sym same i; width = x.width; content = sym (folded_at_own x.lg_k e x.content (sym same) legal.lg_k.high legal.content is) i }
 
 -- ---- laws
 

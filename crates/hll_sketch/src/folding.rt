@@ -1,5 +1,5 @@
 //! What a mode becomes at a smaller `lg_k` (docs/MODEL.md, "Folding").
-ghost use Rattle.std.specs.Prelude.{◌≡◌, ◌≤◌, IfOk, IfErr};
+ghost use Rattle.std.specs.Prelude.{◌≡◌, ◌≤◌, ◌↔◌, IsTrue, Some, IfOk, IfErr};
 ghost use Rattle.std.specs.FinSet.{len};
 ghost use Rattle.hll_base.specs.declared.error.Reason.TheVariants.{Memory};
 ghost use Rattle.hll_coupons.specs.Fold.{fold_to, pairs};
@@ -60,6 +60,14 @@ fn fold_of_registers<R: Registers, A: Allocator>(
     let mut made = Array8::new(alloc, lg_k)?;
     merge_from(&mut made, source);
     Ok(made)
+}
+
+/// Whether a table has the size that its coupons need from the start at an `lg_k`. Takes no memory.
+pub(crate) fn has_least_size<A: Allocator>(lg_k: u8, table: &Container<A>) -> bool
+    requires { IsLgK lg_k }
+    ensures { IsTrue result ↔ (stages.stage lg_k 3 (len (coupons_of table.now)) ≡ Some table.now.lg_size) }
+{
+    stage(lg_k, LG_LIST_PLACES, table.len()) == Some(table.lg_size() as u8)
 }
 
 /// The mode of the coupons of a table at an `lg_k`: at the size that they need from the start, or registers.

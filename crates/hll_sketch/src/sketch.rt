@@ -1,5 +1,5 @@
 //! Sketches (docs/MODEL.md, "Sketch values" and "Adding").
-ghost use Rattle.std.specs.Prelude.{◌≡◌, ◌≤◌, ◌⊎◌, [], ◌∷◌, true, false, fold, Some, None, IfOk, IfErr, IfSome, IfNone, OnOk, OnErr};
+ghost use Rattle.std.specs.Prelude.{◌≡◌, ◌≤◌, ◌⊎◌, ◌↔◌, [], ◌∷◌, true, false, IsTrue, fold, Some, None, IfOk, IfErr, IfSome, IfNone, OnOk, OnErr};
 ghost use Rattle.hll_base.specs.declared.error.Reason.TheVariants.{Memory};
 ghost use Rattle.hll_base.specs.declared.error.Reason.TheVariants as reasons;
 ghost use Rattle.hll_base.specs.Hash.{hash_of, initial_state, after_piece, default_seed};
@@ -18,7 +18,7 @@ ghost use Rattle.hll_sketch.specs.Layout.{layout_of, content_in, width_of, sketc
 ghost use Rattle.hll_sketch.specs.Value.{IsLgK, empty_sketch, in_registers, is_empty, pairs_of, size_of, IsLegal};
 ghost use Rattle.hll_sketch.specs.Written.{Written};
 
-use crate::folding::{fold_of, mode_of_coupons};
+use crate::folding::{fold_of, has_least_size, mode_of_coupons};
 use crate::header::{Header, Stage};
 use crate::image::{read_eight, read_four, read_list, read_set, read_six};
 use crate::mode::Mode;
@@ -349,6 +349,22 @@ impl<A: Allocator + Clone> HllSketch<A> {
             lg_config_k: lg_k,
             mode: self.folded_mode(lg_k)?,
         })
+    }
+
+    /// Whether the sketch is its own fold to an `lg_k`, so that `folded` would make a copy: at its own `lg_k`, registers, or
+    /// coupons in a table of the size that they need from the start. Takes no memory.
+    pub fn is_own_fold(&self, lg_k: u8) -> bool
+        ensures { IsTrue result ↔ (folding.folded (sketch_of self.now) lg_k ≡ sketch_of self.now) }
+    {
+        self.value_is_legal();
+        if self.lg_config_k != lg_k {
+            return false;
+        }
+        match &self.mode {
+            Mode::List { list, .. } => has_least_size(lg_k, list.container()),
+            Mode::Set { set, .. } => has_least_size(lg_k, set.container()),
+            Mode::Array4(_) | Mode::Array6(_) | Mode::Array8(_) => true,
+        }
     }
 
     /// The mode at an `lg_k`.
