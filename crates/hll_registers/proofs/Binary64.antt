@@ -1,13 +1,12 @@
 -- Lemmas on words of binary64.
-use Rattle.std.proofs.Common.{◌≡◌, ℕ, ◌+◌, ◌-◌, ◌*◌, ◌/◌, ◌%◌, ◌^◌, ◌<◌, ◌≤◌, suc, List, [], ◌∷◌, get_or, inl, inr, sym, ap, ◌∙◌, arith}
+use Rattle.std.proofs.Common.{◌≡◌, ℕ, ◌+◌, ◌-◌, ◌*◌, ◌/◌, ◌%◌, ◌^◌, ◌<◌, ◌≤◌, suc, [], ◌∷◌, get_or, inl, inr, sym, ap, ◌∙◌, arith}
 use Rattle.std.specs.Int.Count.{count_leading_zeros}
 use Rattle.std.proofs.Math.Nat.{le_of_mul-le-mul_right, mul-le-mul_right, mul_assoc}
 use Rattle.std.proofs.Math.Pow.{pow_mono}
 use Rattle.std.proofs.lemmas.Bool.{cases_lt}
 use Rattle.std.proofs.lemmas.Nat.{leading_top, pow-add, pow_pos}
 use Rattle.hll_kernels.proofs.Grouping.{three}
-use Rattle.hll_registers.specs.declared.estimate_state.EstimateState.{EstimateState}
-use Rattle.hll_registers.specs.EstimatorWords.{IsNormal, IsBinary64, AreEstimatorWords, OneEstimatorState}
+use Rattle.hll_registers.specs.EstimatorWords.{IsNormal, IsBinary64, OneEstimatorState}
 
 -- a number below 2^53, shifted so that its highest bit is bit 52
 pub record IsShifted (n z : ℕ) : Type 0 where
@@ -45,10 +44,10 @@ normal_word n s up E f word sum least most small fraction is =
       least = omega (arith, exponent);
       most = omega (arith, exponent);
       value =
-        (λ i. (2 ^ 52 + rest i) * 2 ^ (exponent i + s))
-        ∙ ap (λ m. m * 2 ^ (E + s)) fraction
-        ∙ mul_assoc n (2 ^ up) (2 ^ (E + s))
-        ∙ ap (λ p. n * p) (sym (pow-add 2 up (E + s)) ∙ ap (λ k. 2 ^ k) sum);
+          (λ i. (2 ^ 52 + rest i) * 2 ^ (exponent i + s))
+          ∙ ap (λ m. m * 2 ^ (E + s)) fraction
+          ∙ mul_assoc n (2 ^ up) (2 ^ (E + s))
+          ∙ ap (λ p. n * p) (sym (pow-add 2 up (E + s)) ∙ ap (λ k. 2 ^ k) sum);
     }
 
 -- ---- one word, and one state

@@ -1,5 +1,4 @@
-use Rattle.std.proofs.Common.{List, ℕ, subst, ap, sym, ◌∙◌}
-use Rattle.hll_kernels.specs.Groups.{registers_in}
+use Rattle.std.proofs.Common.{subst, ap, ◌∙◌}
 use Rattle.hll_kernels.specs.Packed.{fields}
 use Rattle.hll_kernels.specs.WeightSums.{AreSumsOf}
 use Rattle.hll_kernels.proofs.SixBitLanes.{fields-flat_map}

@@ -1,4 +1,4 @@
-use Rattle.std.proofs.Common.{◌≡◌, ◌≢◌, ◌+◌, ◌-◌, ◌*◌, ◌^◌, ◌<◌, ◌≤◌, ℕ, arith}
+use Rattle.std.proofs.Common.{◌≡◌, ◌-◌, ◌*◌, ◌^◌, ◌<◌, ℕ, arith}
 use Rattle.std.specs.Int.Count.{count_leading_zeros}
 use Rattle.hll_registers.proofs.Binary64.{IsShifted, shifted_top, normal_word}
 use Rattle.hll_registers.proofs.estimate_state.binary64_of.Goals as goal
