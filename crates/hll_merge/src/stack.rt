@@ -173,7 +173,8 @@ impl<A: Allocator + Clone> Stack<A> {
         Ok(())
     }
 
-    /// Folds the last sketch to an `lg_k`. `Stack` where there is none, `Fold` where its own is below, or `Memory`.
+    /// Folds the last sketch to an `lg_k`, in place where it stays as it is. `Stack` where there is none, `Fold` where its own
+    /// is below, or `Memory`.
     fn push_fold(&mut self, lg_k: u8) -> Result<(), Fault>
         requires { IsLgK lg_k }
         ensures ok { OnOk result (ReplacesLast self.old (λ x y. (lg_k ≤ x.lg_k) × (y ≡ folding.folded x lg_k)) self.new) }
@@ -185,6 +186,9 @@ impl<A: Allocator + Clone> Stack<A> {
         };
         if last.lg_config_k() < lg_k {
             return Err(Fault::Fold);
+        }
+        if last.is_own_fold(lg_k) {
+            return Ok(());
         }
         *last = last.folded(lg_k)?;
         Ok(())

@@ -1,6 +1,6 @@
 //! Merging a sketch into the gadget of a union (docs/MODEL.md, "Merging"). What needs memory is made aside, and then takes
 //! the place of what was there.
-ghost use Rattle.std.specs.Prelude.{◌≡◌, ◌<◌, true, false, IfErr, OnOk, OnErr};
+ghost use Rattle.std.specs.Prelude.{◌≡◌, ◌<◌, nat_le, true, false, IfErr, OnOk, OnErr};
 ghost use Rattle.std.specs.FinSet.{contains, len, union};
 ghost use Rattle.hll_base.specs.declared.error.Reason.TheVariants.{Memory};
 ghost use Rattle.hll_coupons.specs.Table.{coupons_in, coupons_of};
@@ -144,7 +144,17 @@ impl<A: Allocator + Clone> HllSketch<A> {
             Mode::Array4(_) => return false,
             Mode::Array6(_) | Mode::Array8(_) => return true,
         };
-        self.count_with_all(table) <= most_kept(size as u8)
+        self.are_at_most(most_kept(size as u8), table)
+    }
+
+    /// Whether there are at most so many coupons with those of a table. Counts them only where both together are more.
+    fn are_at_most(&self, most: usize, table: &Container<A>) -> bool
+        ensures { result ≡ nat_le (len (union (coupons_kept self.now.layout) (coupons_of table.now))) most }
+    {
+        table.table_is_legal();
+        self.value_is_legal();
+        let both = self.num_coupons().unwrap_or(0) + table.len();
+        both <= most || self.count_with_all(table) <= most
     }
 
     /// How many coupons there are with those of a table.
