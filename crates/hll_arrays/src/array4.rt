@@ -1,10 +1,9 @@
 //! Registers of four bits: nibbles above a minimum, and a map of exceptions (docs/MODEL.md, "Registers of four bits").
-ghost use Rattle.std.specs.Prelude.{◌≡◌, ◌+◌, ◌%◌, ◌^◌, ◌<◌, ◌≤◌, ◌==◌, ◌⊎◌, take, nat_eq, slice_index, IfOk, IfErr, OnOk, OnErr, None};
+ghost use Rattle.std.specs.Prelude.{◌≡◌, ◌+◌, ◌^◌, ◌<◌, ◌≤◌, ◌==◌, ◌⊎◌, take, nat_eq, slice_index, IfOk, IfErr, OnOk, OnErr, None};
 ghost use Rattle.std.specs.List.{list_all};
 ghost use Rattle.std.specs.Cmp.Lexicographic.{pointwise};
 ghost use Rattle.hll_base.specs.declared.error.Reason.TheVariants.{Memory};
 ghost use Rattle.hll_base.specs.declared.hll_type.HllType.TheVariants.{Hll4};
-ghost use Rattle.hll_coupons.specs.Pair.{slot_of};
 ghost use Rattle.hll_kernels.specs.Packed.{minimum, count_at_minimum, nibble, units, zeros};
 ghost use Rattle.hll_registers.specs.FourBits.{exception_of, ExceptionsMove};
 ghost use Rattle.hll_registers.specs.Payload.{shape_of_hll4, hll4_size, registers_of, state_at, FirstHll4Fault, Hll4Fault, IsHll4Payload, IsWhole, WritesRegisters};
@@ -271,23 +270,6 @@ impl<A: Allocator + Clone> Array4<A> {
         ensures needed { OnErr result (ExceptionsMove self.old.stored.lg_k self.old.stored.registers (update_with_coupon self.old.stored coupon).registers) }
     {
         let slot = coupon.slot() % two_to(self.registers.lg_k()) as u32;
-        if coupon.value() <= self.registers.minimum() + self.registers.nibble(slot) {
-            return Ok(());
-        }
-        self.update_slot(slot, coupon)
-    }
-
-    /// The same where the slot is known. It stands alone, so that `update` is short: most updates change nothing, as the
-    /// minimum and the nibble tell, which a register is at least.
-    #[inline(never)]
-    fn update_slot(&mut self, slot: u32, coupon: Coupon) -> Result<(), Error>
-        requires slot { slot ≡ slot_of coupon % 2 ^ self.old.stored.lg_k }
-        requires legal { IsStored self.old.stored }
-        ensures ok { OnOk result (self.new.stored ≡ update_with_coupon self.old.stored coupon) }
-        ensures unchanged { OnErr result (self.new ≡ self.old) }
-        ensures err { IfErr result (λ e. e ≡ Memory) }
-        ensures needed { OnErr result (ExceptionsMove self.old.stored.lg_k self.old.stored.registers (update_with_coupon self.old.stored coupon).registers) }
-    {
         if coupon.value() <= self.registers.get(slot) {
             return Ok(());
         }

@@ -1,25 +1,50 @@
-use Rattle.std.proofs.Common.{◌≡◌, ◌<◌, ◌≤◌, ◌+◌, ◌%◌, ◌^◌, ◌∙◌, ℕ, List, length, get_or, arith, ap, subst}
+use Rattle.std.proofs.Common.{◌≡◌, ◌<◌, ◌%◌, ◌^◌, ◌∙◌, ℕ, List, length, get_or, set, arith, ap, subst}
 use Rattle.std.proofs.lemmas.Nat.{mod_below, pow_pos}
-use Rattle.hll_coupons.specs.Pair.{slot_of}
-use Rattle.hll_kernels.specs.Packed.{minimum, nibble}
-use Rattle.hll_registers.specs.FourBits.{FourBits}
-use Rattle.hll_registers.specs.Store.{update_with_coupon}
-use Rattle.hll_registers.proofs.Packing.{minimum_le}
-use Rattle.hll_registers.proofs.Raising.{update_with_pairs-low}
+use Rattle.hll_base.proofs.Errors.{OnErr-of}
+use Rattle.hll_coupons.specs.Pair.{slot_of, value_of}
+use Rattle.hll_registers.specs.FourBits.{FourBits, ExceptionsMove}
+use Rattle.hll_registers.specs.declared.estimate_state.EstimateState.{EstimateState}
+use Rattle.hll_registers.specs.State.{cleared_state}
+use Rattle.hll_registers.specs.Store.{Stored, update_with_coupon}
+use Rattle.hll_registers.proofs.Raising.{update_with_pairs-low, update_with_pairs-high}
 use Rattle.hll_arrays.proofs.array4.Array4.update.Goals as goal
 
--- a register is at least its nibble above the minimum
-plain : (R : List ℕ) (s n m value : ℕ) → s < length R → n ≡ nibble (minimum R) (get_or R s 0) → m ≡ minimum R → value ≤ m + n → value ≤ get_or R s 0
-plain R s n m value l nibble_is least le = omega (arith, nibble_is, least, le, minimum_le R s l)
-
-pub returns-then-value-minimum-clause-ok : goal.returns-then-value-minimum-clause-ok
-returns-then-value-minimum-clause-ok g c =
+pub returns-then-value-get-clause-ok : goal.returns-then-value-get-clause-ok
+returns-then-value-get-clause-ok g c =
     let x = c.self.inside in
     let k : ℕ = x.registers.lg_k in
     let R : List ℕ = x.registers.registers in
-    let s : ℕ = c.slot.result % c.two_to.result in
-    let at : s ≡ slot_of c.args.coupon % 2 ^ k = λ i. c.slot.ensures.slot i % (c.two_to.ensures ∙ ap (λ n. 2 ^ n) c.lg_k.ensures.lg_k) i in
-    let within : s < length R = omega (arith, at, mod_below (slot_of c.args.coupon) (2 ^ k) (pow_pos k), c.lg_k.ensures.registers.size) in
-    let low : c.value.result ≤ get_or R s 0 = plain R s c.nibble.result c.minimum.result c.value.result within c.nibble.ensures c.minimum.ensures c.if-value-minimum.true in
+    let at : c.slot.result % c.two_to.result ≡ slot_of c.args.coupon % 2 ^ k = λ i. c.slot.ensures.slot i % (c.two_to.ensures ∙ ap (λ n. 2 ^ n) c.lg_k.ensures.lg_k) i in
+    let read : c.get.result ≡ get_or R (slot_of c.args.coupon % 2 ^ k) 0 = c.get.ensures.register ∙ ap (λ s. get_or R s 0) at in
     subst (λ (z : FourBits). z.stored ≡ update_with_coupon z.stored c.args.coupon) c.self.view_is
-    (update_with_pairs-low k R c.args.coupon c.lg_k.ensures.registers.size x.state (omega (arith, low, c.value.ensures.value, ap (λ q. get_or R q 0) at)))
+    (update_with_pairs-low k R c.args.coupon c.lg_k.ensures.registers.size x.state (omega (arith, c.if-value-get.true, c.value.ensures.value, read)))
+
+-- a greater value is written
+written : (k : ℕ) (R : List ℕ) (state : EstimateState) (coupon slot size old value : ℕ) → slot ≡ slot_of coupon % size → size ≡ 2 ^ k → length R ≡ 2 ^ k → old ≡ get_or R slot 0 → value ≡ value_of coupon → old < value →
+    let x : Stored = record { lg_k = k; registers = R; state = state } in
+    let y : Stored = record { lg_k = k; registers = set R slot value; state = cleared_state } in y ≡ update_with_coupon x coupon
+written k R state coupon slot size old value at size_is many read value_is high =
+    let here : slot ≡ slot_of coupon % 2 ^ k = at ∙ ap (λ n. slot_of coupon % n) size_is in
+    let register : old ≡ get_or R (slot_of coupon % 2 ^ k) 0 = read ∙ ap (λ s. get_or R s 0) here in
+    (λ i. record { lg_k = k; registers = set R (here i) (value_is i); state = cleared_state })
+    ∙ update_with_pairs-high k R coupon many state (omega (arith, many, mod_below (slot_of coupon) (2 ^ k) (pow_pos k))) (omega (arith, high, register, value_is))
+
+pub returns-in_err-raise-clause-needed : goal.returns-in_err-raise-clause-needed
+returns-in_err-raise-clause-needed g c =
+    let x = c.self.inside in
+    let k : ℕ = x.registers.lg_k in
+    let R : List ℕ = x.registers.registers in
+    let is = written k R x.state c.args.coupon (c.slot.result % c.two_to.result) c.two_to.result c.get.result c.value-2.result (ap (λ s. s % c.two_to.result) c.slot.ensures.slot)
+    (c.two_to.ensures ∙ ap (λ n. 2 ^ n) c.lg_k.ensures.lg_k) c.lg_k.ensures.registers.size c.get.ensures.register c.value-2.ensures.value (omega (arith, c.if-value-get.false, c.value.ensures.value, c.value-2.ensures.value)) in
+    OnErr-of c.from_residual.result _ (subst (λ (z : FourBits). ExceptionsMove z.stored.lg_k z.stored.registers (update_with_coupon z.stored c.args.coupon).registers) c.self.view_is
+    (subst (λ (y : Stored). ExceptionsMove k R y.registers) is c.in_err-raise.ensures.needed))
+
+pub returns-clause-ok : goal.returns-clause-ok
+returns-clause-ok g c =
+    let x = c.self.inside in
+    let k : ℕ = x.registers.lg_k in
+    let R : List ℕ = x.registers.registers in
+    let is = written k R x.state c.args.coupon (c.slot.result % c.two_to.result) c.two_to.result c.get.result c.value-2.result (ap (λ s. s % c.two_to.result) c.slot.ensures.slot)
+    (c.two_to.ensures ∙ ap (λ n. 2 ^ n) c.lg_k.ensures.lg_k) c.lg_k.ensures.registers.size c.get.ensures.register c.value-2.ensures.value (omega (arith, c.if-value-get.false, c.value.ensures.value, c.value-2.ensures.value)) in
+    subst (λ (z : FourBits). ◌≡◌ {A = Stored} (record { lg_k = c.raise.new.self.lg_k; registers = c.raise.new.self.registers; state = cleared_state }) (update_with_coupon z.stored c.args.coupon)) c.self.view_is
+    ((λ i. record { lg_k = c.in_ok-raise.ensures.lg_k i; registers = c.in_ok-raise.ensures.ok i; state = cleared_state }) ∙ is)
