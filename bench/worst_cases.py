@@ -93,6 +93,13 @@ def set_plan(lg_size, is_path, more=""):
     return image_line(image) + more, image
 
 
+def folded_plan(lg_size, is_path):
+    """A set of a greater lg_k than its table needs, and lines that fold it down to that."""
+    coupons = path_coupons(lg_size) if is_path else random_coupons(lg_size)
+    text = image_line(set_image(lg_size + 5, lg_size, coupons)) + "fold %d\nfold %d\n" % (lg_size + 4, lg_size + 3)
+    return text, set_image(lg_size + 3, lg_size, coupons)
+
+
 def held_plan(lg_size, is_path):
     """A set, and lines of a coupon that it has: on one path, of one that starts first and is placed among the last."""
     coupons = path_coupons(lg_size) if is_path else random_coupons(lg_size)
@@ -155,6 +162,7 @@ ROWS = [
     *map(exceptions_row, (12, 14, 16, 17, 18, 19)),
     Row("exceptions at lg_k 17, the minimum too low", lambda is_path: lowered_plan(17, is_path)),
     Row("a set of 2^16 places, 4 lines `fold 19`", lambda is_path: set_plan(16, is_path, LINES * "fold 19\n")),
+    Row("a set of 2^16 places, `fold 20`, `fold 19`", lambda is_path: folded_plan(16, is_path)),
     Row("a set of 2^16 places, 1,000 lines `coupon`", lambda is_path: held_plan(16, is_path)),
     Row("a set of 2^16 places twice, `union 2 19 8`", lambda is_path: joined_plan(16, is_path)),
     Row("registers of lg_k 17, 4 lines `union 1 17 4`", lambda is_path: converted_plan(17, is_path)),
