@@ -1,1 +1,2 @@
 pub mod PassingLemmas
+pub mod RunLemmas

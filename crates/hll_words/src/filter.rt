@@ -1,5 +1,5 @@
 //! Lines of images, passed on with their words set.
-ghost use Rattle.std.specs.Prelude.{◌≡◌, ◌⊎◌, ◌++◌, ◌∷◌, [], ℕ, List, false, Some, MatchResult, IfOk, IfErr};
+ghost use Rattle.std.specs.Prelude.{◌≡◌, ◌⊎◌, ◌+◌, ◌^◌, ◌<◌, ◌==◌, ◌++◌, ◌∷◌, [], ℕ, List, length, take, drop, position, false, Some, None, MatchOption, MatchResult, IfOk, IfErr, IfSome};
 ghost use Rattle.std.specs.Io.KnownBytes.{Appends};
 ghost use Rattle.std.specs.Str.Lines.{strip_carriage_return};
 ghost use Rattle.hll_base.specs.declared.error.Reason.TheVariants as reasons;
@@ -48,6 +48,18 @@ fn pass_line<A: Allocator + Clone, W: io::Write>(
     write_hex_line(writer, &image)
 }
 
+/// What stands before the first LF of a text, and what follows it; `None` where there is no LF.
+fn split_line(text: &[u8]) -> Option<(&[u8], &[u8])>
+    ensures cut { MatchOption result (position (λ b. b == 10) text.now ≡ None)
+        (λ r. (at : ℕ) × (position (λ b. b == 10) text.now ≡ Some at) × (r.0.now ≡ take at text.now) × (r.1.now ≡ drop (at + 1) text.now)) }
+    ensures shorter { IfSome result (λ r. length r.1.now < length text.now) }
+{
+    match line_end(text) {
+        None => None,
+        Some(at) => Some((&text[..at], &text[at + 1..])),
+    }
+}
+
 /// A filter of lines: the bytes of the line that has not ended, and how many lines ended so far.
 #[derive(Drop)]
 pub(crate) struct Filter<A: Allocator> {
@@ -55,6 +67,7 @@ pub(crate) struct Filter<A: Allocator> {
     pub(crate) count: u64,
     /// For the bytes of an image.
     buffer: Vec<u8, A>,
+    ghost small: { count < 2 ^ 64 },
 }
 
 impl<A: Allocator + Clone> Filter<A> {
@@ -86,18 +99,18 @@ impl<A: Allocator + Clone> Filter<A> {
     {
         let mut rest = piece;
         'lines: loop {
-            match line_end(rest) {
+            match split_line(rest) {
                 None => {
                     return match self.pending.extend_from_slice(rest) {
                         Ok(()) => Ok(()),
                         Err(e) => Err(Fault::from(e).at(self.count)),
                     };
                 }
-                Some(at) => {
-                    if let Err(e) = self.end_line(&rest[..at], writer) {
+                Some((bytes, more)) => {
+                    if let Err(e) = self.end_line(bytes, writer) {
                         return Err(e);
                     }
-                    rest = &rest[at + 1..];
+                    rest = more;
                 }
             }
         }
@@ -130,21 +143,24 @@ impl<A: Allocator + Clone> Filter<A> {
     }
 
     /// Passes on the last line, if it lacks its LF.
-    pub(crate) fn pass_rest<W: io::Write>(
-        mut self,
-        writer: &mut Watched<W>,
-    ) -> Result<(), MergeError>
+    pub(crate) fn pass_rest<W: io::Write>(self, writer: &mut Watched<W>) -> Result<(), MergeError>
         requires { writer.old.failed ≡ false }
         ensures { let ls : List (List ℕ) = line_of_rest self.pending.items in MatchResult result
             (λ _. (after : ℕ) × Passes self.count ls after (W.contents writer.old.inner) (W.contents writer.new.inner) writer.new.failed)
             (λ e. Stops self.count ls (W.contents writer.old.inner) (W.contents writer.new.inner) writer.new.failed e) }
     {
-        let last = self.pending.as_slice();
+        let Filter {
+            pending,
+            count,
+            mut buffer,
+            ..
+        } = self;
+        let last = pending.as_slice();
         if last.is_empty() {
             return Ok(());
         }
-        let number = self.count.saturating_add(1);
-        match pass_line(&mut self.buffer, last, writer) {
+        let number = count.saturating_add(1);
+        match pass_line(&mut buffer, last, writer) {
             Ok(()) => Ok(()),
             Err(fault) => Err(fault.at(number)),
         }
