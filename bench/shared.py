@@ -19,10 +19,18 @@ OUT_OF_ORDER = 16
 # ---- the programs
 
 
+def built(name, text):
+    """The program that the script of this name keeps, up to date, which is tried on a text."""
+    subprocess.run([ROOT / name], input=text, stdout=subprocess.DEVNULL, check=True)
+    return ROOT / ("." + name) / name
+
+
 def built_program():
-    """The program that the script hll_merge keeps, up to date."""
-    subprocess.run([ROOT / "hll_merge"], input=b"new 10 8\n", stdout=subprocess.DEVNULL, check=True)
-    return ROOT / ".hll_merge" / "hll_merge"
+    return built("hll_merge", b"new 10 8\n")
+
+
+def built_filter():
+    return built("hll_words", b"")
 
 
 def built_floor():

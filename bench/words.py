@@ -14,7 +14,7 @@ import sys
 from fractions import Fraction
 
 sys.dont_write_bytecode = True
-from shared import OUT_OF_ORDER, built, image_of
+from shared import OUT_OF_ORDER, built_filter, image_of
 
 IMAGES = 10000
 
@@ -62,7 +62,7 @@ def pair(source):
 
 def main():
     count = int(sys.argv[1]) if len(sys.argv) > 1 else IMAGES
-    program = pathlib.Path(sys.argv[2]) if len(sys.argv) > 2 else built("hll_words")
+    program = pathlib.Path(sys.argv[2]) if len(sys.argv) > 2 else built_filter()
     source = random.Random(1)
     pairs = [pair(source) for _ in range(count)]
     lines = "".join("%s\n" % given.hex() for given, _ in pairs)
