@@ -4,8 +4,8 @@
 #     examples/merge_folder.sh FOLDER [BOUND [WIDTH [FILES]]] > merged.bin
 #
 # Each group of FILES files (500) becomes one plan, with a union of bound BOUND (12) and WIDTH (8) bits; as many plans run
-# at a time as there are processors. What they print is the `image` lines of the last plan. docs/SCALE.md says why the
-# groups make no difference. Where a file is no sketch, it says `FILE: ` and why on standard error, for one file of each
+# at a time as there are processors. What they print is the `image` lines of the last plan, whose image gets the words from
+# which other libraries estimate. docs/SCALE.md says why the groups make no difference. Where a file is no sketch, it says `FILE: ` and why on standard error, for one file of each
 # group; then nothing is written and the status is 1. Needs sh, find, sort, xargs, od and xxd.
 set -eu
 
@@ -26,6 +26,7 @@ mkdir "$WORK/groups"
 
 # built before many ask for it
 echo "new 4 8" | "$MERGE" >/dev/null
+"$root/hll_words" </dev/null
 
 find "$folder" -type f -print0 >"$WORK/files"
 
@@ -61,4 +62,5 @@ sort -z "$WORK/files" | xargs -0 -n "$files" -P "$(nproc)" sh -c '
     sed 's/^/image /' "$WORK"/groups/*
     echo "union $(ls "$WORK/groups" | wc -l) $BOUND $WIDTH"
 } | "$MERGE" >"$WORK/merged"
-xxd -r -p "$WORK/merged"
+"$root/hll_words" <"$WORK/merged" >"$WORK/words"
+xxd -r -p "$WORK/words"
