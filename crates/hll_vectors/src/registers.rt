@@ -1,6 +1,5 @@
 //! Registers of eight, six and four bits: weights, images, merges, states, and exceptions.
 ghost use Rattle.std.specs.Prelude.{◌≡◌, ◌≤◌, IfOk};
-ghost use Rattle.hll_kernels.specs.Packed.{AreRegisters};
 
 use hll_arrays::convert::convert;
 use hll_arrays::merge::merge_from;
