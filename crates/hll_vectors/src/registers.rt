@@ -96,8 +96,8 @@ fn assert_words(rt: &impl Abort, array: &Array8, low: u64, high: u64) {
 /// Registers of `lg_k` 21 that all have a value.
 fn all_of(alloc: Global, value: u8) -> Result<Array8, Error> {
     let mut array = Array8::new(alloc, 21)?;
-    for slot in 0..array.num_registers() {
-        array.set_register(slot, value.min(63));
+    for slot in 0..1 << 21 {
+        array.update(Coupon::pack(slot, value.min(63)));
     }
     Ok(array)
 }
