@@ -13,11 +13,11 @@ program=$kept/$name
 case $name in
 hll_merge)
     crate=hll_program
-    shares='hll_base 4 hll_coupons 15 hll_kernels 7 hll_registers 12 hll_arrays 13 hll_text 5 hll_sketch 24 hll_merge 20'
+    shares='hll_base 4 hll_text 5 hll_kernels 7 hll_coupons 15 hll_registers 12 hll_arrays 13 hll_sketch 24 hll_merge 20'
     ;;
 hll_words)
     crate=hll_words_program
-    shares='hll_base 5 hll_coupons 18 hll_kernels 8 hll_registers 14 hll_arrays 16 hll_text 6 hll_sketch 29 hll_words 4'
+    shares='hll_base 5 hll_text 6 hll_kernels 8 hll_coupons 18 hll_registers 14 hll_arrays 16 hll_sketch 29 hll_words 4'
     ;;
 *)
     echo "usage: program.sh hll_merge|hll_words" >&2
@@ -32,15 +32,17 @@ is_stale() {
     [ -n "$newer" ]
 }
 
-# How many hundredths of the work are done, by what `rt run` has said so far.
+# How many hundredths of the work are done, by what `rt run` has said so far: it names the functions of a library once all are
+# proved, and tells before how many of the next one are.
 hundredths() {
     awk -v shares="$shares" '
-        BEGIN {
-            n = split(shares, words, " ")
-            for (i = 1; i < n; i += 2) { before[words[i]] = sum; share[words[i]] = words[i + 1]; sum += words[i + 1] }
+        BEGIN { n = split(shares, words, " "); for (i = 1; i < n; i += 2) share[words[i]] = words[i + 1] }
+        $NF == "proved" { split($2, path, "::"); if (path[1] in share && !(path[1] in proved)) { proved[path[1]] = 1; done += share[path[1]]; part = 0 } }
+        $1 == "so" && $2 == "far:" { part = $3 / $5 }
+        END {
+            for (i = 1; i < n && words[i] in proved; i += 2);
+            print int(done + (i < n ? share[words[i]] * part : 0))
         }
-        $1 == "checked" && $(NF - 1) == "of" { split($2, path, "::"); if (path[1] in share) done = before[path[1]] + share[path[1]] * $(NF - 2) / $NF }
-        END { printf "%d\n", done }
     ' "$kept/log"
 }
 

@@ -47,7 +47,7 @@ pub(crate) fn fold_of<A: Allocator + Clone>(
 }
 
 /// The fold of registers.
-fn fold_of_registers<R: Registers, A: Allocator>(
+pub(crate) fn fold_of_registers<R: Registers, A: Allocator>(
     alloc: A,
     lg_k: u8,
     source: &R,

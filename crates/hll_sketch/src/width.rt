@@ -5,10 +5,12 @@ ghost use Rattle.hll_base.specs.declared.hll_type.HllType.TheVariants.{Hll8};
 ghost use Rattle.hll_sketch.specs.Layout.{content_in, layout_of, sketch_of, width_of, IsLayoutFor};
 ghost use Rattle.hll_sketch.specs.Value.{in_registers, registers};
 
+use crate::folding::fold_of_registers;
 use crate::mode::Mode;
 use crate::sketch::HllSketch;
 use hll_arrays::array8::Array8;
 use hll_arrays::convert::convert;
+use hll_arrays::registers::Registers;
 use hll_base::error::Error;
 use hll_base::hll_type::HllType;
 use std::alloc::Allocator;
@@ -56,24 +58,47 @@ impl<A: Allocator + Clone> HllSketch<A> {
         })
     }
 
-    /// The sketch at another width, as `to_width`, without a copy of what stays as it is.
+    /// The sketch at a width: coupons at the size of their table, or registers with their state. What stays as it is isn't
+    /// copied.
     ///
-    /// Registers are of eight bits. Fails with `Memory`, only for registers of four and six bits to come.
-    pub(crate) fn into_width(self, hll_type: HllType) -> Result<HllSketch<A>, Error>
-        requires { in_registers (content_in self.layout) ≡ true → width_of self.layout ≡ Hll8 }
+    /// Fails with `Memory`, only for registers at another width than theirs.
+    pub fn into_width(self, hll_type: HllType) -> Result<HllSketch<A>, Error>
         ensures ok { IfOk result (λ s. sketch_of s ≡ record (sketch_of self) { width = hll_type }) }
-        ensures needed { OnErr result ((in_registers (content_in self.layout) ≡ true) × (hll_type ≢ Hll8)) }
+        ensures needed { OnErr result ((in_registers (content_in self.layout) ≡ true) × (hll_type ≢ width_of self.layout)) }
         ensures err { IfErr result (λ e. e ≡ Memory) }
     {
+        self.value_is_legal();
+        if hll_type == self.target_type() {
+            return Ok(self);
+        }
         let HllSketch { lg_config_k, mode } = self;
         let mode = match mode {
             Mode::List { list, .. } => Mode::List { list, hll_type },
             Mode::Set { set, .. } => Mode::Set { set, hll_type },
+            Mode::Array4(array) => {
+                let alloc = array.allocator().clone()?;
+                array_into_mode(eight_bits_of(alloc, &array)?, hll_type)?
+            }
+            Mode::Array6(array) => {
+                let alloc = array.allocator().clone()?;
+                array_into_mode(eight_bits_of(alloc, &array)?, hll_type)?
+            }
             Mode::Array8(array) => array_into_mode(array, hll_type)?,
-            Mode::Array4(_) | Mode::Array6(_) => unreachable!(),
         };
         Ok(HllSketch { lg_config_k, mode })
     }
+}
+
+/// A copy of registers with their state, at eight bits.
+///
+/// Takes memory of this allocator alone. Fails with `Memory`.
+fn eight_bits_of<R: Registers, A: Allocator>(alloc: A, source: &R) -> Result<Array8<A>, Error>
+    ensures ok { IfOk result (λ a. a ≡ R.stored source.now) }
+    ensures err { IfErr result (λ e. e ≡ Memory) }
+{
+    let mut made = fold_of_registers(alloc, source.lg_k(), source)?;
+    made.restore_estimate_state(source.estimate_state());
+    Ok(made)
 }
 
 /// Registers of eight bits as a mode of another width, with their state.

@@ -1,0 +1,113 @@
+-- Lemmas on the answers of calls.
+use Rattle.std.proofs.Common.{◌≡◌, ℕ, ◌<◌, ◌≤◌, List, ◌++◌, length, drop, Result, Ok, Err, refl, subst, sym}
+use Rattle.std.specs.Result.{MatchResult, IfOk, IfErr}
+use Rattle.hll_base.specs.Reason.{number_of}
+use Rattle.hll_base.specs.declared.error.Reason.{Reason}
+use Rattle.hll_base.specs.declared.error.Reason.TheVariants.{Memory}
+use Rattle.hll_sketch.specs.Layout.{SketchLayout, sketch_of}
+use Rattle.hll_sketch.specs.Value.{Sketch}
+use Rattle.hll_sketch.specs.Written.{Written}
+use Rattle.hll_c.specs.Answers.{Answers, wrote, too_small, refused, Tells, told, untold, Tests, passed, failed, ok_code, buffer_code}
+
+-- the sketch that was made, and why none was, or why no image of it is written
+abbrev pub IsOf : Result SketchLayout Reason → Sketch → Type 0
+IsOf made y = MatchResult made (λ s. y ≡ sketch_of s) (λ _. ⊥)
+
+abbrev pub IsFor : Result SketchLayout Reason → Reason → Type 0
+IsFor made r = MatchResult made (λ _. r ≡ Memory) (λ e. r ≡ e)
+
+module _ (IsMade : Sketch → Type 0) (Refuses : Reason → Type 0) (memory : (y : Sketch) → IsMade y → Refuses Memory) where
+  made_of : (made : Result SketchLayout Reason) (y : Sketch) → IfOk made (λ s. IsMade (sketch_of s)) → IsOf made y → IsMade y
+  made_of (Ok s) y ok same = subst IsMade (sym same) ok
+  made_of (Err e) y ok same = absurd same
+
+  refused_of : (made : Result SketchLayout Reason) (r : Reason) → IfOk made (λ s. IsMade (sketch_of s)) → IfErr made Refuses → IsFor made r → Refuses r
+  refused_of (Ok s) r ok err same = subst Refuses (sym same) (memory (sketch_of s) ok)
+  refused_of (Err e) r ok err same = subst Refuses (sym same) err
+
+  -- the answer that puts the image of what was made is one of the call
+  pub answers_of : (made : Result SketchLayout Reason) (old new : List ℕ) (size_old size_new code : ℕ)
+      → IfOk made (λ s. IsMade (sketch_of s)) → IfErr made Refuses → Answers (λ y. IsOf made y) (λ r. IsFor made r) old new size_old size_new code
+      → Answers IsMade Refuses old new size_old size_new code
+  answers_of made old new so sn _ ok err (wrote y bytes from written fits is size) = wrote y bytes (made_of made y ok from) written fits is size
+  answers_of made old new so sn _ ok err (too_small y bytes from written short is size) = too_small y bytes (made_of made y ok from) written short is size
+  answers_of made old new so sn _ ok err (refused r from is size) = refused r (refused_of made r ok err from) is size
+
+module _ {X : Type 0} (Says : X → Type 0) (Refuses : Reason → Type 0) where
+  said : (found : Result X Reason) (x : X) → IfOk found Says → MatchResult found (λ y. x ≡ y) (λ _. ⊥) → Says x
+  said (Ok y) x ok same = subst Says (sym same) ok
+  said (Err e) x ok same = absurd same
+
+  denied : (found : Result X Reason) (r : Reason) → IfErr found Refuses → MatchResult found (λ _. ⊥) (λ e. e ≡ r) → Refuses r
+  denied (Ok y) r err same = absurd same
+  denied (Err e) r err same = subst Refuses same err
+
+  -- the answer that tells what was found is one of the call
+  pub tells_of : (found : Result X Reason) (old new : X) (code : ℕ) → IfOk found Says → IfErr found Refuses
+      → Tells X (λ x. MatchResult found (λ y. x ≡ y) (λ _. ⊥)) (λ r. MatchResult found (λ _. ⊥) (λ e. e ≡ r)) old new code → Tells X Says Refuses old new code
+  tells_of found old new _ ok err (told from) = told (said found new ok from)
+  tells_of found old new _ ok err (untold r from is) = untold r (denied found r err from) is
+
+-- ---- the image of what was made, put into a buffer
+
+module _ (made : Result SketchLayout Reason) (bytes old : List ℕ) (size_old : ℕ) (written : MatchResult made (λ s. Written bytes (sketch_of s)) (λ _. ⊥)) where
+  pub puts : (new : List ℕ) (size_new : ℕ) → length bytes ≤ length old → new ≡ bytes ++ drop (length bytes) old → size_new ≡ length bytes
+      → Answers (λ y. IsOf made y) (λ r. IsFor made r) old new size_old size_new ok_code
+  puts new size_new fits is size = of made written
+    where
+      of : (m : Result SketchLayout Reason) → MatchResult m (λ s. Written bytes (sketch_of s)) (λ _. ⊥) → Answers (λ y. IsOf m y) (λ r. IsFor m r) old new size_old size_new ok_code
+      of (Ok s) w = wrote (sketch_of s) bytes refl w fits is size
+      of (Err e) w = absurd w
+
+  pub wants : (size_new : ℕ) → length old < length bytes → size_new ≡ length bytes → Answers (λ y. IsOf made y) (λ r. IsFor made r) old old size_old size_new buffer_code
+  wants size_new short size = of made written
+    where
+      of : (m : Result SketchLayout Reason) → MatchResult m (λ s. Written bytes (sketch_of s)) (λ _. ⊥) → Answers (λ y. IsOf m y) (λ r. IsFor m r) old old size_old size_new buffer_code
+      of (Ok s) w = too_small (sketch_of s) bytes refl w short refl size
+      of (Err e) w = absurd w
+
+pub puts_nothing : (made : Result SketchLayout Reason) (r : Reason) (old : List ℕ) (size code : ℕ) → IsFor made r → code ≡ number_of r
+    → Answers (λ y. IsOf made y) (λ r. IsFor made r) old old size size code
+puts_nothing made r old size code for is = subst (Answers (λ y. IsOf made y) (λ r. IsFor made r) old old size size) (sym is) (refused r for refl refl)
+
+-- ---- codes alone, and what is told
+
+module _ {X : Type 0} where
+  pub tells_value : (found : Result X Reason) (value old : X) → found ≡ Ok value
+      → Tells X (λ x. MatchResult found (λ y. x ≡ y) (λ _. ⊥)) (λ r. MatchResult found (λ _. ⊥) (λ e. e ≡ r)) old value ok_code
+  tells_value found value old is = told (subst (λ f. MatchResult f (λ y. value ≡ y) (λ _. ⊥)) (sym is) refl)
+
+  pub tells_nothing : (found : Result X Reason) (e : Reason) (old : X) (code : ℕ) → found ≡ Err e → code ≡ number_of e
+      → Tells X (λ x. MatchResult found (λ y. x ≡ y) (λ _. ⊥)) (λ r. MatchResult found (λ _. ⊥) (λ e. e ≡ r)) old old code
+  tells_nothing found e old code is number =
+      subst (Tells X (λ x. MatchResult found (λ y. x ≡ y) (λ _. ⊥)) (λ r. MatchResult found (λ _. ⊥) (λ e. e ≡ r)) old old) (sym number)
+      (untold e (subst (λ f. MatchResult f (λ _. ⊥) (λ d. d ≡ e)) (sym is) refl) refl)
+
+pub tests_passed : (answer : Result (Unit {0}) Reason) (u : Unit {0}) → answer ≡ Ok u → Tests (MatchResult answer (λ _. Unit {0}) (λ _. ⊥)) (λ r. MatchResult answer (λ _. ⊥) (λ e. e ≡ r)) ok_code
+tests_passed answer u is = passed (subst (λ f. MatchResult f (λ _. Unit {0}) (λ _. ⊥)) (sym is) tt)
+
+pub tests_failed : (answer : Result (Unit {0}) Reason) (e : Reason) (code : ℕ) → answer ≡ Err e → code ≡ number_of e
+    → Tests (MatchResult answer (λ _. Unit {0}) (λ _. ⊥)) (λ r. MatchResult answer (λ _. ⊥) (λ e. e ≡ r)) code
+tests_failed answer e code is number =
+    subst (Tests (MatchResult answer (λ _. Unit {0}) (λ _. ⊥)) (λ r. MatchResult answer (λ _. ⊥) (λ e. e ≡ r))) (sym number)
+    (failed e (subst (λ f. MatchResult f (λ _. ⊥) (λ d. d ≡ e)) (sym is) refl))
+
+-- a test of something that holds or is refused
+pub tests_of : (Passes : Type 0) (Refuses : Reason → Type 0) (answer : Result (Unit {0}) Reason) (code : ℕ) → IfOk answer (λ _. Passes) → IfErr answer Refuses
+    → Tests (MatchResult answer (λ _. Unit {0}) (λ _. ⊥)) (λ r. MatchResult answer (λ _. ⊥) (λ e. e ≡ r)) code → Tests Passes Refuses code
+tests_of Passes Refuses (Ok u) _ ok err (passed p) = passed ok
+tests_of Passes Refuses (Ok u) _ ok err (failed r from) = absurd from
+tests_of Passes Refuses (Err e) _ ok err (passed p) = absurd p
+tests_of Passes Refuses (Err e) _ ok err (failed r from) = failed r (subst Refuses from err)
+
+-- ---- results
+
+-- what two clauses say of a value
+pub IfOk-with : {T E : Type 0} (r : Result T E) (P Q S : T → Type 0) → ((x : T) → P x → Q x → S x) → IfOk r P → IfOk r Q → IfOk r S
+IfOk-with (Ok x) P Q S h p q = h x p q
+IfOk-with (Err e) P Q S h p q = tt
+
+-- what two clauses say of an error
+pub IfErr-with : {T E : Type 0} (r : Result T E) (P Q S : E → Type 0) → ((e : E) → P e → Q e → S e) → IfErr r P → IfErr r Q → IfErr r S
+IfErr-with (Ok x) P Q S h p q = tt
+IfErr-with (Err e) P Q S h p q = h e p q

@@ -1,0 +1,182 @@
+-- Lemmas on byte strings that are told by their ends: what is left of them from an index on.
+use Rattle.std.proofs.Common.{◌≡◌, ◌⊎◌, ◌↔◌, arith, Bool, true, false, ℕ, suc, ◌+◌, ◌-◌, ◌<◌, ◌≤◌, List, [], ◌∷◌, ◌++◌, length, take, drop, get_or, set, map, inl, inr, refl, sym, ◌∙◌, ap, subst, append_assoc}
+use Rattle.std.proofs.lemmas.List.{drop_more, drop_all, take_more_set, length-set, drop-set-lt, take-append-drop}
+use Rattle.std.specs.Bool.{IsTrue}
+use Rattle.hll_base.specs.declared.error.Reason.{Reason}
+use Rattle.hll_sketch.specs.Value.{Sketch}
+use Rattle.hll_coupons.specs.Hashed.{coupon_of_bytes}
+use Rattle.hll_coupons.specs.Pair.{set_of}
+use Rattle.hll_sketch.specs.Adding.{add}
+use Rattle.hll_sketch.specs.Laws.{add_in_turn}
+use Rattle.hll_sketch.specs.Merging.{merge, merge_all, empty_union}
+use Rattle.hll_sketch.specs.Union.{UnionLayout, gadget_of}
+use Rattle.hll_c.specs.Batches.{AreEndsFrom, AreEnds, strings_from, strings, AreReadAs, IsFirstFaulty}
+use Rattle.hll_c.specs.Steps.{TakesIn, TakesInAll, IsRefusedAt, FailsToTakeIn}
+use Rattle.hll_c.specs.Answers.{RefusesImages, images_fault}
+use Rattle.hll_c.specs.Calls.{AreUnionArguments, IsUnionOf}
+use Rattle.hll_c.proofs.Images.{no_fault, refuses_more_memory}
+
+-- what is tested and isn't so
+pub not_so : (b : Bool) (W : Type 0) → b ≡ false → (IsTrue b ↔ W) → W → ⊥
+not_so b W fails is w = absurd (let same : true ≡ false = sym (is.1 w) ∙ fails in cc)
+
+-- ---- ends
+
+module _ (size : ℕ) (ends : List ℕ) (i d : ℕ) (inside : i < length ends) where
+  pub ends_here : (start : ℕ) → AreEndsFrom start size (drop i ends)
+      → (start ≤ get_or ends i d) × (get_or ends i d ≤ size) × AreEndsFrom (get_or ends i d) size (drop (i + 1) ends)
+  ends_here start are = subst (AreEndsFrom start size) (drop_more ends i d inside) are
+
+  -- an end that ascends, within the size
+  pub ends_further : (W : Type 0) (start : ℕ) → (AreEndsFrom start size (drop i ends) ↔ W) → start ≤ get_or ends i d → get_or ends i d ≤ size
+      → AreEndsFrom (get_or ends i d) size (drop (i + 1) ends) ↔ W
+  ends_further W start is low high =
+      (λ rest. is.0 (subst (AreEndsFrom start size) (sym (drop_more ends i d inside)) (low, high, rest)), λ w. (ends_here start (is.1 w)).2)
+
+  -- one that doesn't
+  pub ends_broken : (W : Type 0) (start : ℕ) → (AreEndsFrom start size (drop i ends) ↔ W) → (get_or ends i d < start) ⊎ (size < get_or ends i d) → W → ⊥
+  ends_broken W start is (inl low) w = let ends = ends_here start (is.1 w) in let no : ⊥ = omega (arith, low, ends.0) in no
+  ends_broken W start is (inr high) w = let ends = ends_here start (is.1 w) in let no : ⊥ = omega (arith, high, ends.1) in no
+
+pub ends_end : (W : Type 0) (start size : ℕ) (ends : List ℕ) (i : ℕ) → length ends ≤ i → (AreEndsFrom start size (drop i ends) ↔ W) → W
+ends_end W start size ends i all is = is.0 (subst (AreEndsFrom start size) (sym (drop_all i ends all)) tt)
+
+-- ---- strings
+
+pub strings_here : (start : ℕ) (bytes ends : List ℕ) (i d : ℕ) → i < length ends
+    → strings_from start bytes (drop i ends) ≡ take (get_or ends i d - start) (drop start bytes) ∷ strings_from (get_or ends i d) bytes (drop (i + 1) ends)
+strings_here start bytes ends i d inside = ap (strings_from start bytes) (drop_more ends i d inside)
+
+pub strings_end : (start : ℕ) (bytes ends : List ℕ) (i : ℕ) → length ends ≤ i → strings_from start bytes (drop i ends) ≡ []
+strings_end start bytes ends i all = ap (strings_from start bytes) (drop_all i ends all)
+
+-- the string that stands up to an end
+abbrev pub string_at : ℕ → List ℕ → ℕ → List ℕ
+string_at start bytes end = take (end - start) (drop start bytes)
+
+-- ---- values, added in turn
+
+-- what is left to add makes of the sketch now what all make of the one before
+pub record AddsRest (x now : Sketch) (values ends : List ℕ) (start i : ℕ) : Type 0 where
+  pub are : AreEndsFrom start (length values) (drop i ends)
+  pub same : add_in_turn now (map coupon_of_bytes (strings_from start values (drop i ends))) ≡ add_in_turn x (map coupon_of_bytes (strings values ends))
+
+pub adds_more : (x now next : Sketch) (values ends : List ℕ) (start i : ℕ) → i < length ends → AddsRest x now values ends start i
+    → next ≡ add now (set_of (coupon_of_bytes (string_at start values (get_or ends i 0)) ∷ [])) → AddsRest x next values ends (get_or ends i 0) (i + 1)
+adds_more x now next values ends start i inside left is = record {
+  are = (ends_here (length values) ends i 0 inside start left.are).2;
+  same =
+      ap (λ y. add_in_turn y (map coupon_of_bytes (strings_from (get_or ends i 0) values (drop (i + 1) ends)))) is
+      ∙ ap (λ s. add_in_turn now (map coupon_of_bytes s)) (sym (strings_here start values ends i 0 inside)) ∙ left.same;
+}
+
+pub added_all : (x now : Sketch) (values ends : List ℕ) (start i : ℕ) → length ends ≤ i → AddsRest x now values ends start i
+    → now ≡ add_in_turn x (map coupon_of_bytes (strings values ends))
+added_all x now values ends start i all left = ap (λ s. add_in_turn now (map coupon_of_bytes s)) (sym (strings_end start values ends i all)) ∙ left.same
+
+-- ---- coupons, put in turn
+
+-- the coupons so far and those that are left
+pub record PutsRest (old now values ends : List ℕ) (start i : ℕ) : Type 0 where
+  pub are : AreEndsFrom start (length values) (drop i ends)
+  pub size : length now ≡ length old
+  pub same : take i now ++ (map coupon_of_bytes (strings_from start values (drop i ends)) ++ drop (length ends) now) ≡ map coupon_of_bytes (strings values ends) ++ drop (length ends) old
+
+pub puts_more : (old now values ends : List ℕ) (start i c : ℕ) → length ends ≤ length old → i < length ends → PutsRest old now values ends start i
+    → c ≡ coupon_of_bytes (string_at start values (get_or ends i 0)) → PutsRest old (set now i c) values ends (get_or ends i 0) (i + 1)
+puts_more old now values ends start i c room inside left is =
+    let within : i < length now = omega (arith, room, inside, left.size) in
+    let rest = map coupon_of_bytes (strings_from (get_or ends i 0) values (drop (i + 1) ends)) in
+    record {
+      are = (ends_here (length values) ends i 0 inside start left.are).2;
+      size = length-set now i c ∙ left.size;
+      same =
+          (λ j. take_more_set now i c within j ++ (rest ++ drop-set-lt (length ends) now i c inside j)) ∙ append_assoc (take i now) (c ∷ []) (rest ++ drop (length ends) now)
+          ∙ ap (λ d. take i now ++ (d ∷ rest ++ drop (length ends) now)) is
+          ∙ ap (λ s. take i now ++ (map coupon_of_bytes s ++ drop (length ends) now)) (sym (strings_here start values ends i 0 inside)) ∙ left.same;
+    }
+
+pub put_all : (old now values ends : List ℕ) (start i : ℕ) → i ≡ length ends → PutsRest old now values ends start i → now ≡ map coupon_of_bytes (strings values ends) ++ drop (length ends) old
+put_all old now values ends start i all left =
+    let end : length ends ≤ i = omega (arith, all) in
+    sym (take-append-drop (length ends) now)
+    ∙ ap (λ n. take n now ++ drop (length ends) now) (sym all)
+    ∙ ap (λ s. take i now ++ (map coupon_of_bytes s ++ drop (length ends) now)) (sym (strings_end start values ends i end))
+    ∙ left.same
+
+-- ---- images, taken in in turn
+
+pub record TakesInRest (before now : UnionLayout) (images ends : List ℕ) (failed_old failed_now start i : ℕ) : Type 0 where
+  pub are : AreEndsFrom start (length images) (drop i ends)
+  pub bound : now.lg_max_k ≡ before.lg_max_k
+  pub untold : failed_now ≡ failed_old
+  pub rest : (ys : List Sketch) → AreReadAs (strings_from start images (drop i ends)) ys
+      → (xs : List Sketch) × AreReadAs (strings images ends) xs × (merge_all before.lg_max_k (gadget_of now) ys ≡ merge_all before.lg_max_k (gadget_of before) xs)
+  pub faulty : (n : ℕ) (r : Reason) → IsFirstFaulty (strings_from start images (drop i ends)) n r → IsFirstFaulty (strings images ends) (i + n) r
+
+pub takes_none : (before : UnionLayout) (images ends : List ℕ) (failed : ℕ) → AreEnds (length images) ends → TakesInRest before before images ends failed failed 0 0
+takes_none before images ends failed are = record { are = are; bound = refl; untold = refl; rest = λ ys read. (ys, read, refl); faulty = λ n r f. subst (λ m. IsFirstFaulty (strings images ends) m r) (let none : n ≡ 0 + n = omega arith in none) f }
+
+module _ (before now : UnionLayout) (images ends : List ℕ) (failed_old failed_now start i : ℕ) (left : TakesInRest before now images ends failed_old failed_now start i) where
+  module _ (inside : i < length ends) where
+    pub takes_more : (next : UnionLayout) (failed_next : ℕ) → TakesIn now next (string_at start images (get_or ends i 0)) → failed_next ≡ failed_now
+        → TakesInRest before next images ends failed_old failed_next (get_or ends i 0) (i + 1)
+    takes_more next failed_next one same = record {
+      are = (ends_here (length images) ends i 0 inside start left.are).2;
+      bound = one.bound ∙ left.bound;
+      untold = same ∙ left.untold;
+      rest = λ ys read.
+          let found = left.rest (one.sketch ∷ ys) (subst (λ s. AreReadAs s (one.sketch ∷ ys)) (sym (strings_here start images ends i 0 inside)) (one.read, read)) in
+          (found.0, found.1, ap (λ g. merge_all before.lg_max_k g ys) (one.gadget ∙ ap (λ k. merge k (gadget_of now) one.sketch) left.bound) ∙ found.2);
+      faulty = λ n r f.
+          subst (λ m. IsFirstFaulty (strings images ends) m r) (let next : i + suc n ≡ i + 1 + n = omega arith in next)
+          (left.faulty (suc n) r (subst (λ s. IsFirstFaulty s (suc n) r) (sym (strings_here start images ends i 0 inside)) (no_fault _ one.sketch one.read, f)));
+    }
+
+    pub fails_here : (failed_next : ℕ) (e : Reason) → IsRefusedAt (string_at start images (get_or ends i 0)) i failed_now failed_next e
+        → FailsToTakeIn (strings images ends) failed_old failed_next e
+    fails_here failed_next e (inl m) = inl (m.0, m.1 ∙ left.untold)
+    fails_here failed_next e (inr f) =
+        let here : i + 0 ≡ failed_next = omega (arith, f.1) in
+        inr (subst (λ n. IsFirstFaulty (strings images ends) n e) here (left.faulty 0 e (subst (λ s. IsFirstFaulty s 0 e) (sym (strings_here start images ends i 0 inside)) f.0)))
+
+  pub takes_all : length ends ≤ i → TakesInAll before now (strings images ends)
+  takes_all all =
+      let found = left.rest [] (subst (λ s. AreReadAs s []) (sym (strings_end start images ends i all)) tt) in
+      record { sketches = found.0; read = found.1; gadget = found.2 }
+
+-- ---- the union of what was taken in
+
+-- the sketches that images are read as, and a gadget that is their union
+pub record IsUnited (k : ℕ) (images : List (List ℕ)) (gadget : Sketch) : Type 0 where
+  pub sketches : List Sketch
+  pub read : AreReadAs images sketches
+  pub is : gadget ≡ merge_all k (empty_union k) sketches
+
+module _ (k : ℕ) (u : UnionLayout) (bound : u.lg_max_k ≡ k) (empty : gadget_of u ≡ empty_union k) where
+  pub united_two : (v w : UnionLayout) (left right : List ℕ) → TakesIn u v left → TakesIn v w right → IsUnited k (left ∷ right ∷ []) (gadget_of w)
+  united_two v w left right one two = record {
+    sketches = one.sketch ∷ two.sketch ∷ [];
+    read = (one.read, (two.read, tt));
+    is = two.gadget ∙ (λ i. merge ((one.bound ∙ bound) i) ((one.gadget ∙ (λ j. merge (bound j) (empty j) one.sketch)) i) two.sketch);
+  }
+
+  pub united_all : (w : UnionLayout) (images : List (List ℕ)) → TakesInAll u w images → IsUnited k images (gadget_of w)
+  united_all w images taken = record { sketches = taken.sketches; read = taken.read; is = taken.gadget ∙ (λ i. merge_all (bound i) (empty i) taken.sketches) }
+
+pub is_union : (k bits : ℕ) (images : List (List ℕ)) (failed_old failed_new : ℕ) (gadget y : Sketch) (are : AreUnionArguments k bits) → IsUnited k images gadget
+    → y ≡ record gadget { width = are.width_is.width } → failed_new ≡ failed_old → IsUnionOf k bits images failed_old failed_new y
+is_union k bits images fo fn gadget y are united is same = record {
+  arguments = are;
+  sketches = united.sketches;
+  read = united.read;
+  is = is ∙ ap (λ (g : Sketch). let z : Sketch = record g { width = are.width_is.width } in z) united.is;
+  untold = same;
+}
+
+-- ---- a batch that is refused
+
+pub refuses_batch : (InRange : Type 0) (images : List (List ℕ)) (failed_old failed_new : ℕ) (e : Reason) → InRange → FailsToTakeIn images failed_old failed_new e
+    → RefusesImages InRange images failed_old failed_new e
+refuses_batch InRange images fo fn e are (inl m) = refuses_more_memory InRange images fo fn e m.0 are m.1
+refuses_batch InRange images fo fn e are (inr f) = images_fault are f

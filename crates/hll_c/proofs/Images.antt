@@ -1,0 +1,111 @@
+-- Lemmas on images that are read, and on what refuses them.
+use Rattle.std.proofs.Common.{arith, ◌≡◌, ◌⊎◌, ℕ, ◌<◌, ◌≤◌, Bool, true, false, cond, List, [], ◌∷◌, ◌++◌, length, Some, None, inl, inr, refl, sym, ◌∙◌, ap, subst, append_assoc}
+use Rattle.std.proofs.lemmas.Bool.{cases_lt}
+use Rattle.hll_base.specs.declared.error.Reason.{Reason}
+use Rattle.hll_base.specs.declared.error.Reason.TheVariants.{Argument, Memory}
+use Rattle.hll_sketch.specs.Checks.{Check, first_failing, header_checks, checks_behind, first_fault, size_fault}
+use Rattle.hll_sketch.specs.Folding.{IsFoldLgK}
+use Rattle.hll_sketch.specs.Image.{IsReadAs}
+use Rattle.hll_sketch.specs.Value.{Sketch, IsLgK}
+use Rattle.hll_sketch.proofs.FirstFaults.{faultless_is_image}
+use Rattle.hll_c.specs.Answers.{RefusesArguments, argument, memory, RefusesImage, image_fault, image_memory, RefusesWith, argument_with_image, image_refused, RefusesImages, argument_with_images, images_fault, images_memory}
+use Rattle.hll_c.specs.Batches.{IsFirstFaulty, strings}
+use Rattle.hll_c.specs.Calls.{AreNewArguments, IsEmptyAt, IsMadeOf, IsFoldOf, RefusesFold, above, with, AreUnionArguments, IsUnionOf, AreBatchArguments, IsUnionOfBatch}
+use Rattle.hll_c.specs.Steps.{IsRefusedAt}
+
+-- ---- reading
+
+-- checks of which none fails
+none_before : (cs ds : List Check) → first_failing (cs ++ ds) ≡ None → first_failing cs ≡ None
+none_before [] ds e = refl
+none_before (c ∷ cs) ds e = of c.passes (none_before cs ds) e
+  where
+    of : (t : Bool) → (first_failing (cs ++ ds) ≡ None → first_failing cs ≡ None) → cond t (first_failing (cs ++ ds)) (Some c.reason) ≡ None
+        → cond t (first_failing cs) (Some c.reason) ≡ None
+    of true further n = further n
+    of false further n = n
+
+-- an image that is read has no fault
+pub no_fault : (image : List ℕ) (x : Sketch) → IsReadAs image x → first_fault image ≡ None
+no_fault image x read = (faultless_is_image image).1 (x, read)
+
+pub no_size_fault : (image : List ℕ) (x : Sketch) → IsReadAs image x → size_fault image ≡ None
+no_size_fault image x read =
+    none_before (header_checks image ++ (checks_behind image).size) (checks_behind image).content
+    (ap first_failing (append_assoc (header_checks image) (checks_behind image).size (checks_behind image).content) ∙ no_fault image x read)
+
+-- a read that is refused
+pub refuses_image : (image : List ℕ) (e : Reason) → (e ≡ Memory) ⊎ (first_fault image ≡ Some e) → (e ≡ Memory → size_fault image ≡ None) → RefusesImage image e
+refuses_image image e (inl m) asked = subst (RefusesImage image) (sym m) (image_memory (asked m))
+refuses_image image e (inr f) asked = image_fault f
+
+-- memory that is refused once an image is read
+pub refuses_memory : (image : List ℕ) (x : Sketch) (e : Reason) → IsReadAs image x → e ≡ Memory → RefusesImage image e
+refuses_memory image x e read m = subst (RefusesImage image) (sym m) (image_memory (no_size_fault image x read))
+
+-- ---- arguments
+
+pub refuses_new : (InRange : Type 0) (e : Reason) → e ≡ Argument → (InRange → ⊥) → RefusesArguments InRange e
+refuses_new InRange e is not = subst (RefusesArguments InRange) (sym is) (argument not)
+
+pub refuses_argument : (InRange : Type 0) (image : List ℕ) (e : Reason) → e ≡ Argument → (InRange → ⊥) → RefusesWith InRange image e
+refuses_argument InRange image e is not = subst (RefusesWith InRange image) (sym is) (argument_with_image not)
+
+pub no_lg_k : (k : ℕ) → (k < 4) ⊎ (21 < k) → IsLgK k → ⊥
+no_lg_k k (inl low) is = let no : ⊥ = omega (arith, low, is.low) in no
+no_lg_k k (inr high) is = let no : ⊥ = omega (arith, high, is.high) in no
+
+-- a fold that is refused once the image is read
+pub refuses_fold : (image : List ℕ) (x : Sketch) (k : ℕ) (e : Reason) → IsLgK k → IsReadAs image x → (e ≡ Argument) ⊎ (e ≡ Memory) → (e ≡ Argument → IsFoldLgK x.lg_k k → ⊥)
+    → RefusesFold k image e
+refuses_fold image x k e is read (inl a) outside = subst (RefusesFold k image) (sym a) (above x read (greater (cases_lt x.lg_k k)))
+  where
+    greater : (x.lg_k < k) ⊎ (k ≤ x.lg_k) → x.lg_k < k
+    greater (inl lt) = lt
+    greater (inr le) = absurd (outside a (record { low = is.low; high = le }))
+refuses_fold image x k e is read (inr m) outside = with (image_refused is (refuses_memory image x e read m))
+
+-- ---- several images
+
+module _ (InRange : Type 0) (images : List (List ℕ)) (failed_old failed_new : ℕ) (e : Reason) where
+  pub refuses_arguments : e ≡ Argument → (InRange → ⊥) → failed_new ≡ failed_old → RefusesImages InRange images failed_old failed_new e
+  refuses_arguments is not same = subst (RefusesImages InRange images failed_old failed_new) (sym is) (argument_with_images not same)
+
+  pub refuses_more_memory : e ≡ Memory → InRange → failed_new ≡ failed_old → RefusesImages InRange images failed_old failed_new e
+  refuses_more_memory is are same = subst (RefusesImages InRange images failed_old failed_new) (sym is) (images_memory are same)
+
+  -- the first image is refused
+  pub refuses_first : (image : List ℕ) (more : List (List ℕ)) → images ≡ image ∷ more → InRange → IsRefusedAt image 0 failed_old failed_new e
+      → RefusesImages InRange images failed_old failed_new e
+  refuses_first image more is are (inl m) = refuses_more_memory m.0 are m.1
+  refuses_first image more is are (inr f) = images_fault are (subst (λ xs. IsFirstFaulty xs failed_new e) (sym is) (subst (λ n. IsFirstFaulty (image ∷ more) n e) (sym f.1) f.0))
+
+  -- the second one is
+  pub refuses_second : (image next : List ℕ) (x : Sketch) (failed : ℕ) → images ≡ image ∷ next ∷ [] → InRange → IsReadAs image x → failed ≡ failed_old → IsRefusedAt next 1 failed failed_new e
+      → RefusesImages InRange images failed_old failed_new e
+  refuses_second image next x failed is are read same (inl m) = refuses_more_memory m.0 are (m.1 ∙ same)
+  refuses_second image next x failed is are read same (inr f) =
+      images_fault are (subst (λ xs. IsFirstFaulty xs failed_new e) (sym is) (subst (λ n. IsFirstFaulty (image ∷ next ∷ []) n e) (sym f.1) (no_fault image x read, f.0)))
+
+-- ---- memory that is refused for what was made
+
+pub no_memory_new : (k bits : ℕ) (y : Sketch) → IsEmptyAt k bits y → RefusesArguments (AreNewArguments k bits) Memory
+no_memory_new k bits y made = memory made.arguments
+
+module _ (image : List ℕ) (IsMade : Sketch → Sketch → Type 0) (y : Sketch) (made : IsMadeOf image IsMade y) where
+  pub no_memory_for : RefusesImage image Memory
+  no_memory_for = image_memory (no_size_fault image made.sketch made.read)
+
+  pub no_memory_with : (InRange : Type 0) → ((x z : Sketch) → IsMade x z → InRange) → RefusesWith InRange image Memory
+  no_memory_with InRange in_range = image_refused (in_range made.sketch y made.is_made) no_memory_for
+
+pub no_memory_to_fold : (image : List ℕ) (k : ℕ) (y : Sketch) → IsMadeOf image (IsFoldOf k) y → RefusesFold k image Memory
+no_memory_to_fold image k y made = with (no_memory_with image (IsFoldOf k) y made (IsLgK k) (λ x z fold. fold.lg_k_is))
+
+pub no_memory_to_unite : (k bits : ℕ) (images : List (List ℕ)) (failed_old failed_new : ℕ) (y : Sketch) → IsUnionOf k bits images failed_old failed_new y
+    → RefusesImages (AreUnionArguments k bits) images failed_old failed_new Memory
+no_memory_to_unite k bits images fo fn y made = images_memory made.arguments made.untold
+
+pub no_memory_to_unite_batch : (k bits : ℕ) (images ends : List ℕ) (failed_old failed_new : ℕ) (y : Sketch) → IsUnionOfBatch k bits images ends failed_old failed_new y
+    → RefusesImages (AreBatchArguments k bits (length images) ends) (strings images ends) failed_old failed_new Memory
+no_memory_to_unite_batch k bits images ends fo fn y made = images_memory (record { union = made.is.arguments; are = made.are }) made.is.untold

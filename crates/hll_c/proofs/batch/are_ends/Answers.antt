@@ -1,0 +1,4 @@
+use Rattle.hll_c.proofs.batch.are_ends.Goals as goal
+
+pub loop-end-init : goal.loop-end-init
+loop-end-init c = (λ are. are, λ are. are)

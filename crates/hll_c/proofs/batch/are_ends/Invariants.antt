@@ -1,0 +1,7 @@
+use Rattle.std.proofs.Common.{◌↔◌, drop}
+use Rattle.hll_c.specs.Batches.{AreEnds, AreEndsFrom}
+use Rattle.hll_c.proofs.batch.are_ends.Given as goal
+
+-- the ends that are left ascend from the start exactly if all do from 0
+abbrev pub invariant-loop-end : goal.invariant-loop-end
+invariant-loop-end l = AreEndsFrom l.start l.size (drop l.end-index l.ends) ↔ AreEnds l.size l.ends

@@ -1,0 +1,71 @@
+use Rattle.std.proofs.Common.{length, refl}
+use Rattle.std.proofs.lemmas.Result.{IfOk-weaker, IfErr-weaker}
+use Rattle.hll_base.proofs.Errors.{IfErr-passed}
+use Rattle.hll_sketch.specs.Layout.{sketch_of}
+use Rattle.hll_sketch.specs.Union.{gadget_of}
+use Rattle.hll_c.specs.Answers.{RefusesImages}
+use Rattle.hll_c.specs.Batches.{AreEnds, strings}
+use Rattle.hll_c.specs.Calls.{AreUnionArguments, AreBatchArguments, IsUnionOfBatch}
+use Rattle.hll_c.proofs.Batches.{not_so, united_all, is_union, refuses_batch}
+use Rattle.hll_c.proofs.Images.{refuses_arguments, refuses_more_memory}
+use Rattle.hll_c.proofs.image.united.Goals as goal
+
+pub returns-in_err-width-clause-err : goal.returns-in_err-width-clause-err
+returns-in_err-width-clause-err c =
+    let all = strings c.args.images.now c.args.ends.now in
+    let e = c.in_err-width in
+    let Are = AreBatchArguments c.args.lg_max_k c.args.width (length c.args.images.now) c.args.ends.now in
+    IfErr-passed (RefusesImages Are all c.args.failed.now c.args.failed.now) c.from_residual.result e.field-0.0 c.from_residual.ensures.1
+    (refuses_arguments Are all c.args.failed.now c.args.failed.now e.field-0.0 e.ensures.outside.0 (λ are. e.ensures.outside.1 are.union.width_is) refl)
+
+pub returns-in_err-union-clause-err : goal.returns-in_err-union-clause-err
+returns-in_err-union-clause-err c =
+    let all = strings c.args.images.now c.args.ends.now in
+    let e = c.in_err-union in
+    let Are = AreBatchArguments c.args.lg_max_k c.args.width (length c.args.images.now) c.args.ends.now in
+    IfErr-passed (RefusesImages Are all c.args.failed.now c.args.failed.now) c.from_residual-in_err-union.result e.field-0.0 c.from_residual-in_err-union.ensures.1
+    (refuses_arguments Are all c.args.failed.now c.args.failed.now e.field-0.0 e.ensures.err (λ are. e.ensures.outside are.union.lg_max_k_is) refl)
+
+pub returns-then-not-are_ends-clause-err : goal.returns-then-not-are_ends-clause-err
+returns-then-not-are_ends-clause-err c =
+    let all = strings c.args.images.now c.args.ends.now in
+    let Are = AreBatchArguments c.args.lg_max_k c.args.width (length c.args.images.now) c.args.ends.now in
+    refuses_arguments Are all c.args.failed.now c.args.failed.now c.new-then-not-are_ends.result c.new-then-not-are_ends.ensures
+    (λ are. not_so c.are_ends.result (AreEnds (length c.args.images.now) c.args.ends.now) c.if-not-are_ends.true c.are_ends.ensures are.are) refl
+
+pub returns-in_err-take_in_all-clause-err : goal.returns-in_err-take_in_all-clause-err
+returns-in_err-take_in_all-clause-err c =
+    let all = strings c.args.images.now c.args.ends.now in
+    let e = c.in_err-take_in_all in
+    let Are = AreBatchArguments c.args.lg_max_k c.args.width (length c.args.images.now) c.args.ends.now in
+    let are : Are = record {
+      union = record { lg_max_k_is = c.in_ok-union.ensures.lg_k; width_is = record { width = c.in_ok-width.width; is = c.in_ok-width.ensures.ok } };
+      are = c.are_ends.ensures.0 c.if-not-are_ends.false;
+    } in
+    IfErr-passed (RefusesImages Are all c.args.failed.now c.take_in_all.new.failed) c.from_residual-in_err-take_in_all.result e.field-0.0 c.from_residual-in_err-take_in_all.ensures.1
+    (refuses_batch Are all c.args.failed.now c.take_in_all.new.failed e.field-0.0 are e.ensures.err)
+
+pub returns-clause-ok : goal.returns-clause-ok
+returns-clause-ok c =
+    let all = strings c.args.images.now c.args.ends.now in
+    let are : AreUnionArguments c.args.lg_max_k c.args.width = record { lg_max_k_is = c.in_ok-union.ensures.lg_k; width_is = record { width = c.in_ok-width.width; is = c.in_ok-width.ensures.ok } } in
+    let taken = c.in_ok-take_in_all.ensures.ok in
+    let united = united_all c.args.lg_max_k c.in_ok-union.union c.in_ok-union.ensures.ok.0 c.in_ok-union.ensures.ok.1 c.take_in_all.new.union all taken.0 in
+    IfOk-weaker c.into_sketch.result _ (λ s. IsUnionOfBatch c.args.lg_max_k c.args.width c.args.images.now c.args.ends.now c.args.failed.now c.take_in_all.new.failed (sketch_of s))
+    (λ s is. record {
+      are = c.are_ends.ensures.0 c.if-not-are_ends.false;
+      is = is_union c.args.lg_max_k c.args.width all c.args.failed.now c.take_in_all.new.failed (gadget_of c.take_in_all.new.union) (sketch_of s) are united is taken.1;
+    })
+    c.into_sketch.ensures.ok
+
+pub returns-clause-err : goal.returns-clause-err
+returns-clause-err c =
+    let all = strings c.args.images.now c.args.ends.now in
+    let Are = AreBatchArguments c.args.lg_max_k c.args.width (length c.args.images.now) c.args.ends.now in
+    let are : Are = record {
+      union = record { lg_max_k_is = c.in_ok-union.ensures.lg_k; width_is = record { width = c.in_ok-width.width; is = c.in_ok-width.ensures.ok } };
+      are = c.are_ends.ensures.0 c.if-not-are_ends.false;
+    } in
+    IfErr-weaker c.into_sketch.result _ (RefusesImages Are all c.args.failed.now c.take_in_all.new.failed)
+    (λ e memory. refuses_more_memory Are all c.args.failed.now c.take_in_all.new.failed e memory are c.in_ok-take_in_all.ensures.ok.1)
+    c.into_sketch.ensures.err

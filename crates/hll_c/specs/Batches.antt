@@ -1,0 +1,35 @@
+-- Byte strings that stand one after another, told by their ends (docs/MODEL.md, "Calls over images").
+use Rattle.std.specs.Prelude.{◌≡◌, ℕ, zero, suc, ◌-◌, ◌≤◌, List, [], ◌∷◌, take, drop, Some, None}
+use Rattle.hll_base.specs.declared.error.Reason.{Reason}
+use Rattle.hll_sketch.specs.Checks.{first_fault}
+use Rattle.hll_sketch.specs.Image.{IsReadAs}
+use Rattle.hll_sketch.specs.Value.{Sketch}
+
+-- ends ascend from a start, and none is past the size; two may be the same
+abbrev pub AreEndsFrom : ℕ → ℕ → List ℕ → Type 0
+AreEndsFrom start size [] = Unit {0}
+AreEndsFrom start size (end ∷ ends) = (start ≤ end) × (end ≤ size) × AreEndsFrom end size ends
+
+abbrev pub AreEnds : ℕ → List ℕ → Type 0
+AreEnds size ends = AreEndsFrom 0 size ends
+
+-- the strings, each from the end before it, or from a start, to its own end
+abbrev pub strings_from : ℕ → List ℕ → List ℕ → List (List ℕ)
+strings_from start bytes [] = []
+strings_from start bytes (end ∷ ends) = take (end - start) (drop start bytes) ∷ strings_from end bytes ends
+
+abbrev pub strings : List ℕ → List ℕ → List (List ℕ)
+strings bytes ends = strings_from 0 bytes ends
+
+-- images and the sketches that they are read as
+abbrev pub AreReadAs : List (List ℕ) → List Sketch → Type 0
+AreReadAs [] [] = Unit {0}
+AreReadAs [] (x ∷ xs) = ⊥
+AreReadAs (image ∷ images) [] = ⊥
+AreReadAs (image ∷ images) (x ∷ xs) = IsReadAs image x × AreReadAs images xs
+
+-- the image of this number, counted from 0, is the first that fails a check, and fails one of this reason first
+abbrev pub IsFirstFaulty : List (List ℕ) → ℕ → Reason → Type 0
+IsFirstFaulty [] n r = ⊥
+IsFirstFaulty (image ∷ images) zero r = first_fault image ≡ Some r
+IsFirstFaulty (image ∷ images) (suc n) r = (first_fault image ≡ None) × IsFirstFaulty images n r

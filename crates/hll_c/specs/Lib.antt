@@ -1,0 +1,5 @@
+pub mod Answers
+pub mod Batches
+pub mod Calls
+pub mod Info
+pub mod Steps

@@ -1,0 +1,63 @@
+//! The codes of answers, and how an image gets into a buffer.
+ghost use Rattle.std.specs.Prelude.{◌≡◌, MatchResult, IfOk, IfErr};
+ghost use Rattle.hll_base.specs.declared.error.Reason.TheVariants.{Memory};
+ghost use Rattle.hll_sketch.specs.Layout.{sketch_of};
+ghost use Rattle.hll_sketch.specs.Written.{Written};
+ghost use Rattle.hll_c.specs.Answers.{Answers, Tells, Tests};
+
+use hll_base::error::Error;
+use hll_sketch::HllSketch;
+
+/// The call did what was asked.
+pub(crate) const OK: u8 = 0;
+
+/// The buffer is smaller than what is to be written.
+pub(crate) const BUFFER: u8 = 14;
+
+/// The code of a call that answers nothing else.
+pub(crate) fn code_of(answer: Result<(), Error>) -> u8
+    ensures { Tests (MatchResult answer (λ _. Unit {0}) (λ _. ⊥)) (λ r. MatchResult answer (λ _. ⊥) (λ e. e ≡ r)) result }
+{
+    match answer {
+        Ok(()) => OK,
+        Err(e) => e.reason().number(),
+    }
+}
+
+/// Puts what was found into its place.
+pub(crate) fn tell<T: Copy>(found: Result<T, Error>, place: &mut T) -> u8
+    ensures { Tells T (λ x. MatchResult found (λ y. x ≡ y) (λ _. ⊥)) (λ r. MatchResult found (λ _. ⊥) (λ e. e ≡ r)) place.old place.new result }
+{
+    match found {
+        Ok(value) => {
+            *place = value;
+            OK
+        }
+        Err(e) => e.reason().number(),
+    }
+}
+
+/// Puts the image of what was made at the front of a buffer, if that is large enough, and says how large the image is.
+pub(crate) fn put_image(made: Result<HllSketch, Error>, out: &mut [u8], size: &mut usize) -> u8
+    ensures { Answers (λ y. MatchResult made (λ s. y ≡ sketch_of s) (λ _. ⊥)) (λ r. MatchResult made (λ _. r ≡ Memory) (λ e. r ≡ e)) out.old out.new size.old size.new result }
+{
+    match image_of(made) {
+        Ok(image) => {
+            *size = image.len();
+            if image.len() > out.len() {
+                return BUFFER;
+            }
+            out[..image.len()].copy_from_slice(&image);
+            OK
+        }
+        Err(e) => e.reason().number(),
+    }
+}
+
+/// The image of what was made.
+fn image_of(made: Result<HllSketch, Error>) -> Result<Vec<u8>, Error>
+    ensures ok { IfOk result (λ image. MatchResult made (λ s. Written image.items (sketch_of s)) (λ _. ⊥)) }
+    ensures err { IfErr result (λ e. MatchResult made (λ _. e ≡ Memory) (λ f. e ≡ f)) }
+{
+    made?.serialize()
+}

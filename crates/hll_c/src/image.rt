@@ -1,0 +1,252 @@
+//! What the calls make of images.
+ghost use Rattle.std.specs.Prelude.{◌≡◌, ◌↔◌, ◌∷◌, [], Bool, true, length, map, IsTrue, IfOk, IfErr, OnOk};
+ghost use Rattle.hll_base.specs.declared.error.Reason.TheVariants as reasons;
+ghost use Rattle.hll_coupons.specs.Hashed.{coupon_of_bytes};
+ghost use Rattle.hll_sketch.specs.Agree.{Agree};
+ghost use Rattle.hll_sketch.specs.EstimatorWords.{SetsWords};
+ghost use Rattle.hll_sketch.specs.Image.{IsReadAs};
+ghost use Rattle.hll_sketch.specs.Laws.{add_in_turn};
+ghost use Rattle.hll_sketch.specs.Layout.{sketch_of};
+ghost use Rattle.hll_sketch.specs.Value.{Sketch};
+ghost use Rattle.hll_c.specs.Answers.{RefusesArguments, RefusesImage, RefusesWith, RefusesImages};
+ghost use Rattle.hll_c.specs.Batches.{AreEnds, strings};
+ghost use Rattle.hll_c.specs.Calls.{bit, bits_of, IsWidth, AreNewArguments, IsEmptyAt, IsMadeOf, IsFoldOf, RefusesFold, IsAtWidth, AreOfCoupon, HasCoupon, HasValues, AreUnionArguments, IsUnionOf, AreBatchArguments, IsUnionOfBatch, SaysAgreement};
+ghost use Rattle.hll_c.specs.Steps.{TakesIn, TakesInAll, IsRefusedAt, FailsToTakeIn};
+
+use crate::batch::are_ends;
+use hll_base::bounds::{MAX_LG_K, MAX_VALUE, MIN_LG_K, SLOT_BITS};
+use hll_base::error::{Error, Reason};
+use hll_base::hll_type::HllType;
+use hll_coupons::coupon::Coupon;
+use hll_sketch::{HllSketch, HllUnion};
+use std::alloc::Global;
+
+/// The width of a number of bits. `Argument` where it is not 4, 6 or 8.
+fn width_of(bits: u8) -> Result<HllType, Error>
+    ensures ok { IfOk result (λ w. bits_of w ≡ bits) }
+    ensures outside { IfErr result (λ e. (e ≡ reasons.Argument) × (IsWidth bits → ⊥)) }
+{
+    match bits {
+        4 => Ok(HllType::Hll4),
+        6 => Ok(HllType::Hll6),
+        8 => Ok(HllType::Hll8),
+        _ => Err(Error::new(Reason::Argument)),
+    }
+}
+
+/// Reads the image with this number. Where it is refused by a check, `failed` is its number.
+fn read(alloc: Global, image: &[u8], number: usize, failed: &mut usize) -> Result<HllSketch, Error>
+    ensures ok { IfOk result (λ s. IsReadAs image.now (sketch_of s) × (failed.new ≡ failed.old)) }
+    ensures err { IfErr result (λ e. IsRefusedAt image.now number failed.old failed.new e) }
+{
+    match HllSketch::deserialize(alloc, image) {
+        Ok(sketch) => Ok(sketch),
+        Err(e) => {
+            if e.reason() != Reason::Memory {
+                *failed = number;
+            }
+            Err(e)
+        }
+    }
+}
+
+/// Whether the bytes begin with an image.
+pub(crate) fn check(alloc: Global, image: &[u8]) -> Result<(), Error>
+    ensures ok { OnOk result ((x : Sketch) × IsReadAs image.now x) }
+    ensures err { IfErr result (λ e. RefusesImage image.now e) }
+{
+    let _sketch = HllSketch::deserialize(alloc, image)?;
+    Ok(())
+}
+
+/// The empty sketch.
+pub(crate) fn empty(alloc: Global, lg_k: u8, width: u8) -> Result<HllSketch, Error>
+    ensures ok { IfOk result (λ s. IsEmptyAt lg_k width (sketch_of s)) }
+    ensures err { IfErr result (λ e. RefusesArguments (AreNewArguments lg_k width) e) }
+{
+    HllSketch::new(alloc, lg_k, width_of(width)?)
+}
+
+/// The sketch with a coupon.
+pub(crate) fn with_coupon(
+    alloc: Global,
+    image: &[u8],
+    slot: u32,
+    value: u8,
+) -> Result<HllSketch, Error>
+    ensures ok { IfOk result (λ s. IsMadeOf image.now (HasCoupon slot value) (sketch_of s)) }
+    ensures err { IfErr result (λ e. RefusesWith (AreOfCoupon slot value) image.now e) }
+{
+    if !are_of_coupon(slot, value) {
+        return Err(Error::new(Reason::Argument));
+    }
+    let mut sketch = HllSketch::deserialize(alloc, image)?;
+    sketch.update_with_coupon(Coupon::pack(slot, value))?;
+    Ok(sketch)
+}
+
+/// Whether a coupon may have this slot and value.
+fn are_of_coupon(slot: u32, value: u8) -> bool
+    ensures { IsTrue result ↔ AreOfCoupon slot value }
+{
+    slot < 1 << SLOT_BITS && 0 < value && value <= MAX_VALUE
+}
+
+/// The sketch with the coupons of the byte strings that end at `ends`.
+pub(crate) fn with_values(
+    alloc: Global,
+    image: &[u8],
+    values: &[u8],
+    ends: &[usize],
+) -> Result<HllSketch, Error>
+    ensures ok { IfOk result (λ s. IsMadeOf image.now (HasValues values.now ends.now) (sketch_of s)) }
+    ensures err { IfErr result (λ e. RefusesWith (AreEnds (length values.now) ends.now) image.now e) }
+{
+    if !are_ends(ends, values.len()) {
+        return Err(Error::new(Reason::Argument));
+    }
+    let mut sketch = HllSketch::deserialize(alloc, image)?;
+    add_values(&mut sketch, values, ends)?;
+    Ok(sketch)
+}
+
+/// Adds the coupons of byte strings in turn.
+fn add_values(sketch: &mut HllSketch, values: &[u8], ends: &[usize]) -> Result<(), Error>
+    requires { AreEnds (length values.now) ends.now }
+    ensures ok { OnOk result (sketch_of sketch.new ≡ add_in_turn (sketch_of sketch.old) (map coupon_of_bytes (strings values.now ends.now))) }
+    ensures err { IfErr result (λ e. e ≡ reasons.Memory) }
+{
+    let mut start = 0;
+    for end in ends {
+        sketch.update_with_coupon(Coupon::from_bytes(&values[start..*end]))?;
+        start = *end;
+    }
+    Ok(())
+}
+
+/// The union of two images.
+pub(crate) fn merged(
+    alloc: Global,
+    lg_max_k: u8,
+    width: u8,
+    left: &[u8],
+    right: &[u8],
+    failed: &mut usize,
+) -> Result<HllSketch, Error>
+    ensures ok { IfOk result (λ s. IsUnionOf lg_max_k width (left.now ∷ right.now ∷ []) failed.old failed.new (sketch_of s)) }
+    ensures err { IfErr result (λ e. RefusesImages (AreUnionArguments lg_max_k width) (left.now ∷ right.now ∷ []) failed.old failed.new e) }
+{
+    let width = width_of(width)?;
+    let mut union = HllUnion::new(alloc, lg_max_k)?;
+    take_in(alloc, &mut union, left, 0, failed)?;
+    take_in(alloc, &mut union, right, 1, failed)?;
+    union.into_sketch(width)
+}
+
+/// The union of the images that end at `ends`.
+pub(crate) fn united(
+    alloc: Global,
+    lg_max_k: u8,
+    width: u8,
+    images: &[u8],
+    ends: &[usize],
+    failed: &mut usize,
+) -> Result<HllSketch, Error>
+    ensures ok { IfOk result (λ s. IsUnionOfBatch lg_max_k width images.now ends.now failed.old failed.new (sketch_of s)) }
+    ensures err { IfErr result (λ e. RefusesImages (AreBatchArguments lg_max_k width (length images.now) ends.now) (strings images.now ends.now) failed.old failed.new e) }
+{
+    let width = width_of(width)?;
+    let mut union = HllUnion::new(alloc, lg_max_k)?;
+    if !are_ends(ends, images.len()) {
+        return Err(Error::new(Reason::Argument));
+    }
+    take_in_all(alloc, &mut union, images, ends, failed)?;
+    union.into_sketch(width)
+}
+
+/// Merges images in turn into a union.
+fn take_in_all(
+    alloc: Global,
+    union: &mut HllUnion,
+    images: &[u8],
+    ends: &[usize],
+    failed: &mut usize,
+) -> Result<(), Error>
+    requires { AreEnds (length images.now) ends.now }
+    ensures ok { OnOk result (TakesInAll union.old union.new (strings images.now ends.now) × (failed.new ≡ failed.old)) }
+    ensures err { IfErr result (λ e. FailsToTakeIn (strings images.now ends.now) failed.old failed.new e) }
+{
+    let mut start = 0;
+    for (number, end) in ends.iter().enumerate() {
+        take_in(alloc, union, &images[start..*end], number, failed)?;
+        start = *end;
+    }
+    Ok(())
+}
+
+/// Merges the image with this number into a union.
+fn take_in(
+    alloc: Global,
+    union: &mut HllUnion,
+    image: &[u8],
+    number: usize,
+    failed: &mut usize,
+) -> Result<(), Error>
+    ensures ok { OnOk result (TakesIn union.old union.new image.now × (failed.new ≡ failed.old)) }
+    ensures err { IfErr result (λ e. IsRefusedAt image.now number failed.old failed.new e) }
+{
+    union.update(&read(alloc, image, number, failed)?)
+}
+
+/// The sketch folded to an `lg_k`.
+pub(crate) fn folded(alloc: Global, image: &[u8], lg_k: u8) -> Result<HllSketch, Error>
+    ensures ok { IfOk result (λ s. IsMadeOf image.now (IsFoldOf lg_k) (sketch_of s)) }
+    ensures err { IfErr result (λ e. RefusesFold lg_k image.now e) }
+{
+    if lg_k < MIN_LG_K || MAX_LG_K < lg_k {
+        return Err(Error::new(Reason::Argument));
+    }
+    HllSketch::deserialize(alloc, image)?.folded(lg_k)
+}
+
+/// The sketch at a width.
+pub(crate) fn converted(alloc: Global, image: &[u8], width: u8) -> Result<HllSketch, Error>
+    ensures ok { IfOk result (λ s. IsMadeOf image.now (IsAtWidth width) (sketch_of s)) }
+    ensures err { IfErr result (λ e. RefusesWith (IsWidth width) image.now e) }
+{
+    let width = width_of(width)?;
+    HllSketch::deserialize(alloc, image)?.into_width(width)
+}
+
+/// The sketch with the words from which a composite estimator computes.
+pub(crate) fn with_estimator_words(alloc: Global, image: &[u8]) -> Result<HllSketch, Error>
+    ensures ok { IfOk result (λ s. IsMadeOf image.now SetsWords (sketch_of s)) }
+    ensures err { IfErr result (λ e. RefusesImage image.now e) }
+{
+    let mut sketch = HllSketch::deserialize(alloc, image)?;
+    sketch.set_estimator_words();
+    Ok(sketch)
+}
+
+/// Whether two images fold to the same registers at the smaller `lg_k` of both: 1 if they do, else 0.
+pub(crate) fn agree(
+    alloc: Global,
+    left: &[u8],
+    right: &[u8],
+    failed: &mut usize,
+) -> Result<u8, Error>
+    ensures ok { IfOk result (λ same. SaysAgreement left.now right.now failed.old failed.new same) }
+    ensures err { IfErr result (λ e. RefusesImages (Unit {0}) (left.now ∷ right.now ∷ []) failed.old failed.new e) }
+{
+    let left = read(alloc, left, 0, failed)?;
+    let right = read(alloc, right, 1, failed)?;
+    agreement(&left, &right)
+}
+
+/// 1 where two sketches agree, else 0.
+fn agreement(left: &HllSketch, right: &HllSketch) -> Result<u8, Error>
+    ensures ok { IfOk result (λ same. (answer : Bool) × (same ≡ bit answer) × ((answer ≡ true) ↔ Agree (sketch_of left.now) (sketch_of right.now))) }
+    ensures err { IfErr result (λ e. e ≡ reasons.Memory) }
+{
+    Ok(u8::from(hll_sketch::agree(left, right)?))
+}

@@ -1,0 +1,169 @@
+//! What an image says.
+ghost use Rattle.std.specs.Prelude.{◌≡◌, ◌^◌, ◌<◌, length, IfOk, IfErr};
+ghost use Rattle.hll_coupons.specs.Pair.{Pairs};
+ghost use Rattle.hll_kernels.specs.Packed as packed;
+ghost use Rattle.hll_sketch.specs.Layout.{content_in, sketch_of};
+ghost use Rattle.hll_sketch.specs.Value as values;
+ghost use Rattle.hll_c.specs.Answers.{RefusesImage};
+ghost use Rattle.hll_c.specs.Calls as calls;
+ghost use Rattle.hll_c.specs.Info.{IsInfoOf, SaysInfo, AreCountsOf, SaysHistogram};
+
+use hll_arrays::registers::Registers;
+use hll_base::error::Error;
+use hll_base::hll_type::HllType;
+use hll_coupons::serialization::LG_LIST_PLACES;
+use hll_sketch::{HllSketch, Mode};
+use std::alloc::Global;
+
+/// The stage of a list.
+const LIST: u8 = 0;
+/// The stage of a set.
+const SET: u8 = 1;
+/// The stage of registers.
+const REGISTERS: u8 = 2;
+
+/// What an image says. What its stage doesn't have is 0.
+#[repr(C)]
+#[derive(Clone, Copy)]
+pub struct HllInfo {
+    /// Of a list or a set: how many coupons.
+    pub coupons: u64,
+    /// Of registers: how many are 0.
+    pub zeros: u64,
+    /// Of registers: the sum of 2^(63 - value), its bits from the 64th on.
+    pub units_high: u64,
+    /// The lower 64 bits of that sum.
+    pub units_low: u64,
+    /// Of registers: the words of an estimator, binary64.
+    pub hip: u64,
+    pub kxq0: u64,
+    pub kxq1: u64,
+    pub lg_k: u8,
+    /// 4, 6 or 8 bits.
+    pub width: u8,
+    /// 0, 1 and 2: a list, a set, registers.
+    pub stage: u8,
+    /// 1 where there is no coupon, and each register is 0.
+    pub is_empty: u8,
+    /// 1 where registers have the out-of-order flag.
+    pub out_of_order: u8,
+}
+
+/// How many registers have each value.
+#[repr(C)]
+#[derive(Clone, Copy)]
+pub struct HllHistogram {
+    pub counts: [u64; 64],
+}
+
+/// The bits of a width.
+fn bits_of(width: HllType) -> u8
+    ensures { result ≡ calls.bits_of width }
+{
+    match width {
+        HllType::Hll4 => 4,
+        HllType::Hll6 => 6,
+        HllType::Hll8 => 8,
+    }
+}
+
+/// What coupons in a table of this size say.
+fn info_of_coupons(sketch: &HllSketch, lg_size: usize) -> HllInfo
+    requires { (S : Pairs) × (content_in sketch.now.layout ≡ values.coupons S lg_size) }
+    ensures { IsInfoOf (sketch_of sketch.now) result }
+{
+    HllInfo {
+        coupons: sketch.num_coupons().unwrap_or(0) as u64,
+        zeros: 0,
+        units_high: 0,
+        units_low: 0,
+        hip: 0,
+        kxq0: 0,
+        kxq1: 0,
+        lg_k: sketch.lg_config_k(),
+        width: bits_of(sketch.target_type()),
+        stage: if lg_size == LG_LIST_PLACES as usize {
+            LIST
+        } else {
+            SET
+        },
+        is_empty: u8::from(sketch.is_empty()),
+        out_of_order: 0,
+    }
+}
+
+/// What registers say, of which so many are 0, with this sum of weights.
+fn info_of_registers<R: Registers>(
+    sketch: &HllSketch,
+    array: &R,
+    zeros: u32,
+    units: u128,
+) -> HllInfo
+    requires content { content_in sketch.now.layout ≡ values.registers (R.stored array.now).registers (R.stored array.now).state }
+    requires zeros { zeros ≡ packed.zeros (R.stored array.now).registers }
+    requires units { units ≡ packed.units (R.stored array.now).registers }
+    ensures { IsInfoOf (sketch_of sketch.now) result }
+{
+    let state = array.estimate_state();
+    HllInfo {
+        coupons: 0,
+        zeros: u64::from(zeros),
+        units_high: (units >> 64) as u64,
+        units_low: (units & 0xffff_ffff_ffff_ffff) as u64,
+        hip: state.words[0],
+        kxq0: state.words[1],
+        kxq1: state.words[2],
+        lg_k: sketch.lg_config_k(),
+        width: bits_of(sketch.target_type()),
+        stage: REGISTERS,
+        is_empty: u8::from(sketch.is_empty()),
+        out_of_order: u8::from(state.out_of_order),
+    }
+}
+
+/// What a sketch says.
+fn info_of_sketch(sketch: &HllSketch) -> HllInfo
+    ensures { IsInfoOf (sketch_of sketch.now) result }
+{
+    match sketch.mode() {
+        Mode::List { list, .. } => info_of_coupons(sketch, list.container().lg_size()),
+        Mode::Set { set, .. } => info_of_coupons(sketch, set.container().lg_size()),
+        Mode::Array4(a) => info_of_registers(sketch, a, a.num_zeros(), a.kxq_units()),
+        Mode::Array6(a) => info_of_registers(sketch, a, a.num_zeros(), a.kxq_units()),
+        Mode::Array8(a) => info_of_registers(sketch, a, a.num_zeros(), a.kxq_units()),
+    }
+}
+
+/// What an image says.
+pub(crate) fn info_of(alloc: Global, image: &[u8]) -> Result<HllInfo, Error>
+    ensures ok { IfOk result (λ i. SaysInfo image.now i) }
+    ensures err { IfErr result (λ e. RefusesImage image.now e) }
+{
+    Ok(info_of_sketch(&HllSketch::deserialize(alloc, image)?))
+}
+
+/// How many registers have each value from 0 to 63.
+fn counts_of(registers: &[u8]) -> [u64; 64]
+    requires { length registers.now < 2 ^ 64 }
+    ensures { AreCountsOf registers.now result }
+{
+    let mut counts = [0u64; 64];
+    for value in registers {
+        if *value < 64 {
+            counts[usize::from(*value)] += 1;
+        }
+    }
+    counts
+}
+
+/// How many registers of an image have each value.
+pub(crate) fn histogram_of(alloc: Global, image: &[u8]) -> Result<HllHistogram, Error>
+    ensures ok { IfOk result (λ h. SaysHistogram image.now h) }
+    ensures err { IfErr result (λ e. RefusesImage image.now e) }
+{
+    let sketch = HllSketch::deserialize(alloc, image)?;
+    let registers = sketch.registers_at(sketch.lg_config_k())?;
+    Ok(HllHistogram {
+        counts: counts_of(&registers),
+    })
+}

@@ -1,0 +1,210 @@
+//! The library for C: calls over images, which keep nothing. bindings/c/hll.h says what each call owes its caller.
+#![tactic(auto)]
+
+ghost use Rattle.std.specs.Prelude.{◌≡◌, ◌∷◌, [], ℕ, length};
+ghost use Rattle.hll_coupons.specs.Hashed.{coupon_of_bytes};
+ghost use Rattle.hll_sketch.specs.EstimatorWords.{SetsWords};
+ghost use Rattle.hll_sketch.specs.Image.{IsReadAs};
+ghost use Rattle.hll_sketch.specs.Value.{Sketch};
+ghost use Rattle.hll_c.specs.Answers.{Answers, Tells, Tests, RefusesArguments, RefusesImage, RefusesWith, RefusesImages};
+ghost use Rattle.hll_c.specs.Batches.{AreEnds, strings};
+ghost use Rattle.hll_c.specs.Calls.{AreNewArguments, IsEmptyAt, IsMadeOf, IsFoldOf, RefusesFold, IsWidth, IsAtWidth, AreOfCoupon, HasCoupon, HasValues, AreUnionArguments, IsUnionOf, AreBatchArguments, IsUnionOfBatch, SaysAgreement, PutsCoupons};
+ghost use Rattle.hll_c.specs.Info.{SaysInfo, SaysHistogram};
+ghost use Rattle.hll_c.specs.declared.info.HllInfo.{HllInfo};
+ghost use Rattle.hll_c.specs.declared.info.HllHistogram.{HllHistogram};
+
+mod answer;
+mod batch;
+mod image;
+mod info;
+
+use crate::answer::{code_of, put_image, tell};
+use crate::batch::put_coupons;
+use crate::info::{HllHistogram, HllInfo};
+use hll_coupons::coupon::Coupon;
+use std::alloc::Global;
+
+/// What an image says.
+#[unsafe(no_mangle)]
+pub extern "C" fn hll_image_info(alloc: Global, image: &[u8], info: &mut HllInfo) -> u8
+    ensures { Tells HllInfo (SaysInfo image.now) (RefusesImage image.now) info.old info.new result }
+{
+    tell(info::info_of(alloc, image), info)
+}
+
+/// Whether bytes begin with an image; else the reason of the first check that they fail.
+#[unsafe(no_mangle)]
+pub extern "C" fn hll_image_check(alloc: Global, image: &[u8]) -> u8
+    ensures { Tests ((x : Sketch) × IsReadAs image.now x) (RefusesImage image.now) result }
+{
+    code_of(image::check(alloc, image))
+}
+
+/// How many registers have each value.
+#[unsafe(no_mangle)]
+pub extern "C" fn hll_image_histogram(
+    alloc: Global,
+    image: &[u8],
+    histogram: &mut HllHistogram,
+) -> u8
+    ensures { Tells HllHistogram (SaysHistogram image.now) (RefusesImage image.now) histogram.old histogram.new result }
+{
+    tell(info::histogram_of(alloc, image), histogram)
+}
+
+/// The image of an empty sketch.
+#[unsafe(no_mangle)]
+pub extern "C" fn hll_image_new(
+    alloc: Global,
+    lg_k: u8,
+    width: u8,
+    out: &mut [u8],
+    size: &mut usize,
+) -> u8
+    ensures { Answers (IsEmptyAt lg_k width) (RefusesArguments (AreNewArguments lg_k width)) out.old out.new size.old size.new result }
+{
+    put_image(image::empty(alloc, lg_k, width), out, size)
+}
+
+/// The image with the values that stand in `values` up to each of `ends`.
+#[unsafe(no_mangle)]
+pub extern "C" fn hll_image_add(
+    alloc: Global,
+    image: &[u8],
+    values: &[u8],
+    ends: &[usize],
+    out: &mut [u8],
+    size: &mut usize,
+) -> u8
+    ensures { Answers (IsMadeOf image.now (HasValues values.now ends.now)) (RefusesWith (AreEnds (length values.now) ends.now) image.now) out.old out.new size.old size.new result }
+{
+    put_image(image::with_values(alloc, image, values, ends), out, size)
+}
+
+/// The image with a coupon.
+#[unsafe(no_mangle)]
+pub extern "C" fn hll_image_add_coupon(
+    alloc: Global,
+    image: &[u8],
+    slot: u32,
+    value: u8,
+    out: &mut [u8],
+    size: &mut usize,
+) -> u8
+    ensures { Answers (IsMadeOf image.now (HasCoupon slot value)) (RefusesWith (AreOfCoupon slot value) image.now) out.old out.new size.old size.new result }
+{
+    put_image(image::with_coupon(alloc, image, slot, value), out, size)
+}
+
+/// The image of the union of two images under a bound, at a width.
+#[unsafe(no_mangle)]
+pub extern "C" fn hll_image_merge(
+    alloc: Global,
+    lg_max_k: u8,
+    width: u8,
+    left: &[u8],
+    right: &[u8],
+    out: &mut [u8],
+    size: &mut usize,
+    failed: &mut usize,
+) -> u8
+    ensures { Answers (IsUnionOf lg_max_k width (left.now ∷ right.now ∷ []) failed.old failed.new) (RefusesImages (AreUnionArguments lg_max_k width) (left.now ∷ right.now ∷ []) failed.old failed.new) out.old out.new size.old size.new result }
+{
+    put_image(
+        image::merged(alloc, lg_max_k, width, left, right, failed),
+        out,
+        size,
+    )
+}
+
+/// The image of the union, under a bound and at a width, of the images that stand in `images` up to each of `ends`.
+#[unsafe(no_mangle)]
+pub extern "C" fn hll_images_union(
+    alloc: Global,
+    lg_max_k: u8,
+    width: u8,
+    images: &[u8],
+    ends: &[usize],
+    out: &mut [u8],
+    size: &mut usize,
+    failed: &mut usize,
+) -> u8
+    ensures { Answers (IsUnionOfBatch lg_max_k width images.now ends.now failed.old failed.new) (RefusesImages (AreBatchArguments lg_max_k width (length images.now) ends.now) (strings images.now ends.now) failed.old failed.new) out.old out.new size.old size.new result }
+{
+    put_image(
+        image::united(alloc, lg_max_k, width, images, ends, failed),
+        out,
+        size,
+    )
+}
+
+/// The image folded to an `lg_k`.
+#[unsafe(no_mangle)]
+pub extern "C" fn hll_image_fold(
+    alloc: Global,
+    image: &[u8],
+    lg_k: u8,
+    out: &mut [u8],
+    size: &mut usize,
+) -> u8
+    ensures { Answers (IsMadeOf image.now (IsFoldOf lg_k)) (RefusesFold lg_k image.now) out.old out.new size.old size.new result }
+{
+    put_image(image::folded(alloc, image, lg_k), out, size)
+}
+
+/// The image at a width.
+#[unsafe(no_mangle)]
+pub extern "C" fn hll_image_convert(
+    alloc: Global,
+    image: &[u8],
+    width: u8,
+    out: &mut [u8],
+    size: &mut usize,
+) -> u8
+    ensures { Answers (IsMadeOf image.now (IsAtWidth width)) (RefusesWith (IsWidth width) image.now) out.old out.new size.old size.new result }
+{
+    put_image(image::converted(alloc, image, width), out, size)
+}
+
+/// The image with the words set from which a composite estimator computes.
+#[unsafe(no_mangle)]
+pub extern "C" fn hll_image_set_estimator_words(
+    alloc: Global,
+    image: &[u8],
+    out: &mut [u8],
+    size: &mut usize,
+) -> u8
+    ensures { Answers (IsMadeOf image.now SetsWords) (RefusesImage image.now) out.old out.new size.old size.new result }
+{
+    put_image(image::with_estimator_words(alloc, image), out, size)
+}
+
+/// Whether two images fold to the same registers at the smaller `lg_k` of both: 1 if they do, else 0.
+#[unsafe(no_mangle)]
+pub extern "C" fn hll_images_agree(
+    alloc: Global,
+    left: &[u8],
+    right: &[u8],
+    same: &mut u8,
+    failed: &mut usize,
+) -> u8
+    ensures { Tells ℕ (SaysAgreement left.now right.now failed.old failed.new) (RefusesImages (Unit {0}) (left.now ∷ right.now ∷ []) failed.old failed.new) same.old same.new result }
+{
+    tell(image::agree(alloc, left, right, failed), same)
+}
+
+/// The coupon of a value: its raw word.
+#[unsafe(no_mangle)]
+pub extern "C" fn hll_coupon(value: &[u8]) -> u32
+    ensures { result ≡ coupon_of_bytes value.now }
+{
+    Coupon::from_bytes(value).raw()
+}
+
+/// The coupons of the values that stand in `values` up to each of `ends`.
+#[unsafe(no_mangle)]
+pub extern "C" fn hll_coupons(values: &[u8], ends: &[usize], coupons: &mut [u32]) -> u8
+    ensures { PutsCoupons values.now ends.now coupons.old coupons.new result }
+{
+    put_coupons(values, ends, coupons)
+}
