@@ -1,0 +1,157 @@
+/* SPDX-License-Identifier: Apache-2.0 */
+/*
+ * The estimator of bindings/c/estimate.c on random streams. bench/estimates.py compiles it, and calls it with the
+ * number of the first stream and how many there are. A stream is a million distinct values of eight bytes, which the
+ * library hashes; each of its fronts of 1, 2, 5, 10 .. values is estimated at each lg_k, from coupons as long as the library
+ * keeps them, and then from registers.
+ *
+ * For each lg_k and number of values a line is printed: both, the number of streams, the sums of the relative errors,
+ * of their squares, and of the squares of the standard errors that were told, and how often the bounds at 1, 2 and 3
+ * deviations had the number within.
+ */
+#define hll_estimate estimate_of_image
+#include "../bindings/c/estimate.c"
+
+#include <stdio.h>
+#include <stdlib.h>
+#include <string.h>
+
+#define LARGEST 14
+#define VALUES 1000000
+#define BATCH 10000
+#define TABLE 8192
+
+static const int lg_ks[] = {4, 8, 12, 14};
+static const long fronts[] = {1,    2,    5,     10,    20,    50,     100,    200,    500,    1000,
+                              2000, 5000, 10000, 20000, 50000, 100000, 200000, 500000, 1000000};
+
+#define LG_KS (int)(sizeof lg_ks / sizeof lg_ks[0])
+#define FRONTS (int)(sizeof fronts / sizeof fronts[0])
+
+static struct sums {
+    long streams, within[3];
+    double errors, squares, told;
+} sums[LG_KS][FRONTS];
+
+/* ---- a stream: its registers, and its distinct coupons while they are few ---- */
+
+static uint8_t registers[1 << LARGEST];
+static uint32_t table[TABLE];
+static long distinct;
+
+static void begin(void)
+{
+    memset(registers, 0, sizeof registers);
+    memset(table, 0, sizeof table);
+    distinct = 0;
+}
+
+/* More coupons than a table may have are not counted: no lg_k keeps so many. */
+static void count_coupon(uint32_t coupon)
+{
+    uint32_t place = coupon * UINT32_C(2654435761) >> 19;
+    if (distinct > TABLE / 2)
+        return;
+    while (table[place] != 0 && table[place] != coupon)
+        place = (place + 1) % TABLE;
+    distinct += table[place] == 0;
+    table[place] = coupon;
+}
+
+static void add(uint32_t coupon)
+{
+    uint8_t *at = &registers[HLL_COUPON_SLOT(coupon) % (1 << LARGEST)];
+    uint8_t value = HLL_COUPON_VALUE(coupon);
+    if (value > *at)
+        *at = value;
+    count_coupon(coupon);
+}
+
+/* Whether the library keeps so many coupons in a list or a set. */
+static int are_coupons(int lg_k, long count)
+{
+    return count <= 7 || (lg_k >= 8 && 4 * count <= 3L << (lg_k - 3));
+}
+
+/* ---- estimates ---- */
+
+static hll_estimation estimation_at(int lg_k)
+{
+    uint8_t folded[1 << LARGEST] = {0};
+    uint64_t counts[64] = {0};
+    int slot;
+    if (are_coupons(lg_k, distinct))
+        return estimation_of_coupons((uint64_t)distinct);
+    for (slot = 0; slot < 1 << LARGEST; slot++) {
+        uint8_t *at = &folded[slot % (1 << lg_k)];
+        if (registers[slot] > *at)
+            *at = registers[slot];
+    }
+    for (slot = 0; slot < 1 << lg_k; slot++)
+        counts[folded[slot]]++;
+    return estimation_of_counts(counts);
+}
+
+static void take(struct sums *to, hll_estimation found, double values)
+{
+    double error = found.estimate / values - 1;
+    int d;
+    to->streams++;
+    to->errors += error;
+    to->squares += error * error;
+    to->told += found.relative_standard_error * found.relative_standard_error;
+    for (d = 0; d < 3; d++)
+        to->within[d] += found.lower[d] <= values && values <= found.upper[d];
+}
+
+/* ---- streams ---- */
+
+/* The coupons of the values of a stream from a number on, by the library's hash. */
+static void hash(uint64_t stream, long from, uint32_t *coupons)
+{
+    static uint8_t values[8 * BATCH];
+    static size_t ends[BATCH];
+    long i;
+    int byte;
+    for (i = 0; i < BATCH; i++) {
+        uint64_t value = (stream << 32) + (uint64_t)(from + i);
+        for (byte = 0; byte < 8; byte++)
+            values[8 * i + byte] = (uint8_t)(value >> (8 * byte));
+        ends[i] = 8 * (size_t)(i + 1);
+    }
+    if (hll_coupons(values, sizeof values, ends, BATCH, coupons, BATCH) != HLL_OK)
+        exit(1);
+}
+
+static void run(uint64_t stream)
+{
+    static uint32_t coupons[BATCH];
+    long value;
+    int front = 0, k;
+    begin();
+    for (value = 0; value < VALUES; value++) {
+        if (value % BATCH == 0)
+            hash(stream, value, coupons);
+        add(coupons[value % BATCH]);
+        if (value + 1 == fronts[front]) {
+            for (k = 0; k < LG_KS; k++)
+                take(&sums[k][front], estimation_at(lg_ks[k]), (double)fronts[front]);
+            front++;
+        }
+    }
+}
+
+int main(int argc, char **argv)
+{
+    uint64_t first = argc > 2 ? strtoull(argv[1], NULL, 10) : 0, count = argc > 2 ? strtoull(argv[2], NULL, 10) : 0, i;
+    int k, front;
+    for (i = 0; i < count; i++)
+        run(first + i);
+    for (k = 0; k < LG_KS; k++)
+        for (front = 0; front < FRONTS; front++) {
+            struct sums *is = &sums[k][front];
+            printf("%d %ld %ld %.17g %.17g %.17g %ld %ld %ld\n", lg_ks[k], fronts[front], is->streams, is->errors,
+                   is->squares, is->told, is->within[0], is->within[1], is->within[2]);
+        }
+    return 0;
+}

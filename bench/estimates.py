@@ -1,0 +1,220 @@
+#!/usr/bin/env python3
+"""Measures the estimates of bindings/c/estimate.c on random streams: how far they are off, how much
+they scatter, and how often their bounds hold.
+
+It compiles bench/estimates.c, runs it on 4,000 streams of a million values by two processes, prints
+the tables of docs/ESTIMATES.md, and draws docs/estimates.svg. Call it with another number of
+streams for a shorter run, which draws nothing; with --write the tables go into docs/ESTIMATES.md
+too. It needs a C compiler, and the library: bindings/c/build, which `make` in bindings/c makes, or
+the folder that HLL_BUILD names.
+"""
+import argparse
+import math
+import os
+import pathlib
+import subprocess
+import sys
+import tempfile
+
+ROOT = pathlib.Path(__file__).resolve().parent.parent
+BUILD = pathlib.Path(os.environ.get("HLL_BUILD", ROOT / "bindings" / "c" / "build"))
+PAGE, PICTURE = ROOT / "docs" / "ESTIMATES.md", ROOT / "docs" / "estimates.svg"
+STREAMS, PROCESSES = 4000, 2
+BEGIN, END = "<!-- tables -->", "<!-- end of tables -->"
+COLORS = {4: "#b5352c", 8: "#b07a12", 12: "#2b6cb0", 14: "#2f855a"}
+
+
+# ---- measuring
+
+
+def compiled(folder):
+    """The program, compiled into a folder."""
+    program = pathlib.Path(folder) / "estimates"
+    source = ROOT / "bench" / "estimates.c"
+    command = [os.environ.get("CC", "cc"), "-std=c99", "-O2", "-o", program, source]
+    subprocess.run([*command, BUILD / "libhll.so", f"-Wl,-rpath,{BUILD}"], check=True)
+    return program
+
+
+def measured(streams):
+    """For each lg_k and number of values the sums that the program prints."""
+    with tempfile.TemporaryDirectory() as folder:
+        program = compiled(folder)
+        cuts = [streams * part // PROCESSES for part in range(PROCESSES + 1)]
+        processes = []
+        for first, last in zip(cuts, cuts[1:]):
+            command = ["nice", "-n", "10", program, str(first), str(last - first)]
+            processes.append(subprocess.Popen(command, stdout=subprocess.PIPE, text=True))
+        printed = [process.communicate()[0] for process in processes]
+        if any(process.returncode for process in processes):
+            sys.exit("the program failed")
+    sums = {}
+    for line in "".join(printed).splitlines():
+        lg_k, values, *numbers = line.split()
+        before = sums.get((int(lg_k), int(values)), [0] * len(numbers))
+        sums[int(lg_k), int(values)] = [one + float(other) for one, other in zip(before, numbers)]
+    return sums
+
+
+class Row:
+    """What is told of one lg_k and number of values."""
+
+    def __init__(self, streams, errors, squares, told, *within):
+        mean = errors / streams
+        self.bias = mean
+        self.scatter = math.sqrt(max(squares / streams - mean * mean, 0.0))
+        self.told = math.sqrt(told / streams)
+        self.off = mean / self.told if self.told else 0.0
+        self.chance = self.scatter / math.sqrt(streams) / self.told if self.told else 0.0
+        self.within = [100 * count / streams for count in within]
+
+
+# ---- tables
+
+
+def percent(part):
+    """Digits enough to see a small part."""
+    if part < 5e-7:
+        return "0"
+    return f"{100 * part:.2f} %" if part >= 1e-4 else f"{100 * part:.4f} %"
+
+
+def table(rows, lg_k):
+    """The lines of the table of an lg_k."""
+    lines = [
+        f"### lg_k {lg_k}",
+        "",
+        "| values | bias, in standard errors | scatter | standard error told"
+        " | within 1 | within 2 | within 3 |",
+        "|---|---|---|---|---|---|---|",
+    ]
+    for (own, values), row in sorted(rows.items()):
+        if own == lg_k:
+            cells = [f"{values:,}", f"{row.off:+.3f} ± {row.chance:.3f}"]
+            cells += [percent(row.scatter), percent(row.told)]
+            cells += [f"{share:.1f} %" for share in row.within]
+            lines.append("| " + " | ".join(cells) + " |")
+    return [*lines, ""]
+
+
+def summary(rows):
+    """The worst of what was measured, from 100 values on."""
+    from_registers = [row for (lg_k, values), row in rows.items() if values >= 100]
+    worst = max(abs(row.off) for row in from_registers)
+    widest = max(row.scatter / row.told for row in from_registers if row.told > 1e-3)
+    shares = [min(row.within[d] for row in from_registers) for d in range(3)]
+    return (
+        f"From 100 values on the bias is at most {worst:.3f} of the standard error, the scatter at"
+        f" most {widest:.2f} of the standard error that is told, and bounds at 1, 2 and 3"
+        f" deviations hold in at least {shares[0]:.1f}, {shares[1]:.1f} and {shares[2]:.1f} % of"
+        " the streams."
+    )
+
+
+def tables(rows, streams):
+    lines = [f"{streams:,} streams. {summary(rows)}", ""]
+    for lg_k in sorted({lg_k for lg_k, _ in rows}):
+        lines += table(rows, lg_k)
+    return "\n".join(lines)
+
+
+# ---- the picture
+
+
+class Chart:
+    """A chart in a picture: its place, and its axes, of which that of values is logarithmic."""
+
+    WIDTH, HEIGHT, LEFT = 640, 220, 70
+
+    def __init__(self, top, title, low, high, ticks):
+        self.top, self.title, self.low, self.high, self.ticks = top, title, low, high, ticks
+
+    def x(self, values):
+        return self.LEFT + self.WIDTH * math.log10(values) / 6
+
+    def y(self, number):
+        number = min(max(number, self.low), self.high)
+        return self.top + self.HEIGHT * (self.high - number) / (self.high - self.low)
+
+    def frame(self):
+        """The title, the axes and their numbers."""
+        right, bottom = self.LEFT + self.WIDTH, self.top + self.HEIGHT
+        yield f'<text x="{self.LEFT}" y="{self.top - 12}" class="title">{self.title}</text>'
+        for number in self.ticks:
+            y = self.y(number)
+            yield f'<line x1="{self.LEFT}" y1="{y:.1f}" x2="{right}" y2="{y:.1f}" class="grid"/>'
+            yield f'<text x="{self.LEFT - 8}" y="{y + 4:.1f}" class="right">{number:g}</text>'
+        for power in range(7):
+            x = self.x(10**power)
+            yield f'<line x1="{x:.1f}" y1="{self.top}" x2="{x:.1f}" y2="{bottom}" class="grid"/>'
+            yield f'<text x="{x:.1f}" y="{bottom + 18}" class="middle">{10**power:,}</text>'
+
+    def band(self, low, high):
+        y, height = self.y(high), self.y(low) - self.y(high)
+        place = f'x="{self.LEFT}" y="{y:.1f}" width="{self.WIDTH}" height="{height:.1f}"'
+        return f'<rect {place} class="band"/>'
+
+    def line(self, points, color):
+        joined = " ".join(f"{self.x(values):.1f},{self.y(number):.1f}" for values, number in points)
+        return f'<polyline points="{joined}" stroke="{color}"/>'
+
+    def dots(self, points, color):
+        for values, number in points:
+            x, y = self.x(values), self.y(number)
+            yield f'<circle cx="{x:.1f}" cy="{y:.1f}" r="2.5" fill="{color}"/>'
+
+
+STYLE = (
+    "<style>text{font:12px sans-serif;fill:#333}.title{font-weight:bold}.right{text-anchor:end}"
+    ".middle{text-anchor:middle}.grid{stroke:#ddd}.band{fill:#cfe8cf;opacity:.6}"
+    "polyline{fill:none;stroke-width:1.5}</style>"
+)
+BIAS = "Bias of the estimate, in standard errors (green: a tenth)"
+SCATTER = "Scatter of the estimate times √2^lg_k (dots), and the standard error told (lines)"
+
+
+def picture(rows):
+    """The picture as text: bias above, scatter below, both over the number of values."""
+    bias = Chart(40, BIAS, -0.3, 0.3, (-0.3, -0.2, -0.1, 0, 0.1, 0.2, 0.3))
+    scatter = Chart(330, SCATTER, 0, 1.2, (0, 0.2, 0.4, 0.6, 0.8, 1, 1.2))
+    parts = [*bias.frame(), bias.band(-0.1, 0.1), *scatter.frame()]
+    for place, lg_k in enumerate(sorted(COLORS)):
+        color, root = COLORS[lg_k], math.sqrt(2**lg_k)
+        own = [(values, row) for (other, values), row in sorted(rows.items()) if other == lg_k]
+        parts.append(bias.line([(values, row.off) for values, row in own], color))
+        parts += bias.dots([(values, row.off) for values, row in own], color)
+        parts.append(scatter.line([(values, row.told * root) for values, row in own], color))
+        parts += scatter.dots([(values, row.scatter * root) for values, row in own], color)
+        y = 60 + 20 * place
+        parts.append(f'<text x="725" y="{y}" style="fill:{color}">lg_k {lg_k}</text>')
+    parts.append('<text x="390" y="590" class="middle">distinct values</text>')
+    size = 'width="800" height="600" viewBox="0 0 800 600"'
+    head = f'<svg xmlns="http://www.w3.org/2000/svg" {size}>{STYLE}'
+    background = '<rect width="800" height="600" fill="white"/>'
+    return "\n".join([head, background, *parts, "</svg>", ""])
+
+
+def write(text):
+    """Puts the tables between the marks of the page."""
+    page = PAGE.read_text("utf-8")
+    before, rest = page.split(BEGIN)
+    after = rest.split(END)[1]
+    PAGE.write_text(f"{before}{BEGIN}\n{text}\n{END}{after}", "utf-8")
+
+
+def main():
+    parser = argparse.ArgumentParser(description="Measures the estimates on random streams.")
+    parser.add_argument("streams", nargs="?", type=int, default=STREAMS)
+    parser.add_argument("--write", action="store_true", help="put the tables into the page")
+    chosen = parser.parse_args()
+    rows = {key: Row(*numbers) for key, numbers in measured(chosen.streams).items()}
+    text = tables(rows, chosen.streams)
+    print(text)
+    if chosen.streams >= STREAMS or chosen.write:
+        PICTURE.write_text(picture(rows), "utf-8")
+    if chosen.write:
+        write(text)
+
+
+if __name__ == "__main__":
+    main()

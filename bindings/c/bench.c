@@ -1,0 +1,205 @@
+/* SPDX-License-Identifier: Apache-2.0 */
+/* Times the calls at lg_k 12, and prints a table: of this thread's processor time. The calls run in turn, so that a
+ * change of load changes all alike; of times, and of their ratios in a turn, the median of the turns is told. */
+#define _POSIX_C_SOURCE 199309L
+#include "hll.h"
+
+#include <stdio.h>
+#include <stdlib.h>
+#include <string.h>
+#include <time.h>
+
+#define LG_K 12
+#define IMAGES 1000
+#define VALUES 1000
+#define TURNS 31
+
+static uint8_t image[2][HLL_IMAGE_MAX(LG_K)], out[HLL_IMAGE_MAX(LG_K)], *joined;
+static size_t len[2], ends[IMAGES], value_ends[VALUES], joined_len, size, failed;
+static uint8_t values[8 * VALUES], width;
+static uint32_t coupons[VALUES];
+
+static void need(hll_status status)
+{
+    if (status != HLL_OK) {
+        fprintf(stderr, "bench: %s\n", hll_reason(status));
+        exit(1);
+    }
+}
+
+/* ---- what is timed ---- */
+
+static void run_union(void)
+{
+    need(hll_images_union(LG_K, width, joined, joined_len, ends, IMAGES, out, sizeof out, &size, &failed));
+}
+
+static void run_merge(void)
+{
+    need(hll_image_merge(LG_K, width, image[0], len[0], image[1], len[1], out, sizeof out, &size, &failed));
+}
+
+static void run_read(void)
+{
+    need(hll_image_check(image[0], len[0]));
+}
+
+static void run_read_write(void)
+{
+    need(hll_image_convert(image[0], len[0], width, out, sizeof out, &size));
+}
+
+static void run_add(void)
+{
+    need(hll_image_add(image[0], len[0], values, sizeof values, value_ends, VALUES, out, sizeof out, &size));
+}
+
+static void run_add_none(void)
+{
+    need(hll_image_add(image[0], len[0], values, sizeof values, value_ends, 0, out, sizeof out, &size));
+}
+
+static void run_hash(void)
+{
+    need(hll_coupons(values, sizeof values, value_ends, VALUES, coupons, VALUES));
+}
+
+static void run_estimate(void)
+{
+    hll_estimation found;
+    need(hll_estimate(image[0], len[0], &found));
+}
+
+/* ---- times ---- */
+
+static double now(void)
+{
+    struct timespec time;
+    clock_gettime(CLOCK_THREAD_CPUTIME_ID, &time);
+    return (double)time.tv_sec * 1e9 + (double)time.tv_nsec;
+}
+
+static int compare(const void *left, const void *right)
+{
+    double a = *(const double *)left, b = *(const double *)right;
+    return (a > b) - (a < b);
+}
+
+static double median(const double *of)
+{
+    double sorted[TURNS];
+    memcpy(sorted, of, sizeof sorted);
+    qsort(sorted, TURNS, sizeof sorted[0], compare);
+    return sorted[TURNS / 2];
+}
+
+/* The nanoseconds of a call, from so many. */
+static double timed(void (*call)(void), int rounds)
+{
+    double start = now();
+    int round;
+    for (round = 0; round < rounds; round++)
+        call();
+    return (now() - start) / rounds;
+}
+
+enum { UNION, MERGE, READ, READ_WRITE, ADD, ADD_NONE, HASH, ESTIMATE, CALLS };
+enum { OF_MERGE = CALLS, OF_ADD, OF_ADD_ALONE, ROWS };
+
+static const struct {
+    const char *name;
+    void (*call)(void);
+    int rounds;
+} rows[ROWS] = {
+    {"union of 1,000 images, each", run_union, 2},
+    {"merge of two", run_merge, 400},
+    {"read (check)", run_read, 800},
+    {"read and write (convert)", run_read_write, 400},
+    {"add 1,000 values", run_add, 40},
+    {"add none", run_add_none, 400},
+    {"hash 1,000 values (coupons)", run_hash, 40},
+    {"estimate", run_estimate, 100},
+    {"merge / (two reads and a write)", NULL, 0},
+    {"add / hash", NULL, 0},
+    {"(add - add none) / hash", NULL, 0},
+};
+
+/* Times all calls in each turn; the medians go into a column. */
+static void time_calls(double *column)
+{
+    static double of[ROWS][TURNS];
+    int turn, row;
+    for (turn = 0; turn < TURNS; turn++) {
+        for (row = 0; row < CALLS; row++)
+            of[row][turn] = timed(rows[row].call, rows[row].rounds);
+        of[UNION][turn] /= IMAGES;
+        of[OF_MERGE][turn] = of[MERGE][turn] / (of[READ][turn] + of[READ_WRITE][turn]);
+        of[OF_ADD][turn] = of[ADD][turn] / of[HASH][turn];
+        of[OF_ADD_ALONE][turn] = (of[ADD][turn] - of[ADD_NONE][turn]) / of[HASH][turn];
+    }
+    for (row = 0; row < ROWS; row++)
+        column[row] = median(of[row]);
+}
+
+/* ---- images ---- */
+
+/* Values of eight bytes from a number on. */
+static void make_values(uint64_t from)
+{
+    size_t i, byte;
+    for (i = 0; i < VALUES; i++) {
+        for (byte = 0; byte < 8; byte++)
+            values[8 * i + byte] = (uint8_t)((from + i) >> (8 * byte));
+        value_ends[i] = 8 * (i + 1);
+    }
+}
+
+/* An image of so many thousand values. */
+static size_t make_image(uint8_t *to, uint64_t from, int thousands)
+{
+    uint8_t before[HLL_IMAGE_MAX(LG_K)];
+    size_t before_len, made = 0;
+    need(hll_image_new(LG_K, width, before, sizeof before, &before_len));
+    while (thousands-- > 0) {
+        make_values(from += VALUES);
+        need(hll_image_add(before, before_len, values, sizeof values, value_ends, VALUES, to, sizeof before, &made));
+        memcpy(before, to, before_len = made);
+    }
+    return made;
+}
+
+/* A thousand images, each of twenty thousand values of its own. */
+static void make_joined(void)
+{
+    size_t i;
+    joined_len = 0;
+    joined = malloc(IMAGES * sizeof out);
+    if (joined == NULL)
+        need(HLL_MEMORY);
+    for (i = 0; i < IMAGES; i++)
+        ends[i] = joined_len += make_image(joined + joined_len, i * 20000, 20);
+}
+
+int main(void)
+{
+    double columns[3][ROWS];
+    int i, row;
+    for (i = 0; i < 3; i++) {
+        width = (uint8_t)(8 - 2 * i);
+        len[0] = make_image(image[0], 1000000, 20);
+        len[1] = make_image(image[1], 2000000, 20);
+        make_joined();
+        make_values(5000000);
+        time_calls(columns[i]);
+        free(joined);
+    }
+    printf("| lg_k 12; times in ns | 8 bits | 6 bits | 4 bits |\n|---|---|---|---|\n");
+    for (row = 0; row < ROWS; row++) {
+        const char *form = row < CALLS ? " %.0f |" : " %.2f |";
+        printf("| %s |", rows[row].name);
+        for (i = 0; i < 3; i++)
+            printf(form, columns[i][row]);
+        putchar('\n');
+    }
+    return 0;
+}

@@ -1,0 +1,177 @@
+/* SPDX-License-Identifier: Apache-2.0 */
+/*
+ * An estimate of the number of distinct values of an image, with bounds. Plain C, not proved; docs/ESTIMATES.md says
+ * where the formulas come from, and how far they are off.
+ */
+#include "hll.h"
+
+/* 1 / (2 ln 2), by which the estimator is multiplied for many registers. */
+#define ALPHA 0.72134752044448170368
+
+/* The relative variance of one register: 3 ln 2 - 1. */
+#define REGISTER_VARIANCE 1.07944154167983593
+
+/* Of each coupon a slot of 2^26 is one part in so many. */
+#define SLOTS 67108864.0
+
+/* The square root of a number from 0 to 1, by Newton's steps from above. */
+static double square_root(double x)
+{
+    double root = 1.0, before;
+    if (x <= 0.0)
+        return 0.0;
+    do {
+        before = root;
+        root = 0.5 * (root + x / root);
+    } while (root < before);
+    return before;
+}
+
+/* x + the sum of x^(2^i) * 2^(i - 1) over i from 1; infinite for 1. */
+static double sigma(double x)
+{
+    double power = 1.0, sum = x, before;
+    do {
+        x *= x;
+        before = sum;
+        sum += x * power;
+        power += power;
+    } while (sum != before);
+    return sum;
+}
+
+/* (1 - x - the sum of (1 - x^(2^-i))^2 * 2^-i over i from 1) / 3; 0 for 0 and for 1. */
+static double tau(double x)
+{
+    double power = 1.0, sum = 1.0 - x, before;
+    if (x <= 0.0 || x >= 1.0)
+        return 0.0;
+    do {
+        x = square_root(x);
+        before = sum;
+        power *= 0.5;
+        sum -= (1.0 - x) * (1.0 - x) * power;
+    } while (sum != before);
+    return sum / 3.0;
+}
+
+/* ---- from registers ---- */
+
+/* By how much the estimator is too high, as a part of 1 / registers, where a part of the registers is 0: from 0.5 for
+ * few values to 1.08 for many. */
+static double excess(double zeros)
+{
+    return 0.5 + 0.58 * (1.0 - zeros) * (1.0 - zeros);
+}
+
+/* Ertl's improved estimator over the histogram of so many registers, less its excess. Each value counts half as much as
+ * the one below; sigma stands for the registers of 0, tau for those of 63, which may have been more. */
+static double estimate_of_counts(const uint64_t counts[64], double registers)
+{
+    double zeros = (double)counts[0] / registers;
+    double sum = registers * tau(1.0 - (double)counts[63] / registers);
+    int value;
+    if (counts[0] > 0 && zeros >= 1.0)
+        return 0.0;
+    for (value = 62; value >= 1; value--)
+        sum = 0.5 * (sum + (double)counts[value]);
+    sum += registers * sigma(zeros);
+    return ALPHA * registers * registers / sum / (1.0 + excess(zeros) / registers);
+}
+
+/* The relative standard error of an estimate from so many registers: sqrt(0.5 / registers) for few values, 1.04 /
+ * sqrt(registers) for many, and a little more where registers are few. Between, it is fitted to what was measured. */
+static double error_of_registers(double estimate, double registers)
+{
+    double few = 1.0 / (1.0 + estimate / registers / 16.0);
+    double limit = REGISTER_VARIANCE * (1.0 + 2.0 / registers);
+    double variance = limit - (limit - 0.5) * few * few * few * few;
+    return square_root(variance / registers);
+}
+
+/* ---- from coupons ---- */
+
+/* How many distinct coupons so many values are expected to have. Coupons of value v come with probability 2^-v at each
+ * slot, so j values share a coupon with probability 1 / ((2^j - 1) * SLOTS^(j - 1)). */
+static double expected_coupons(double values)
+{
+    double sum = values, term = values, power = 2.0;
+    int j;
+    for (j = 2; j <= 8; j++) {
+        power += power;
+        term *= -(values - (double)(j - 1)) / (double)j / SLOTS;
+        sum += term / (power - 1.0);
+    }
+    return sum;
+}
+
+/* The number of values that are expected to have so many coupons. */
+static double estimate_of_coupons(double coupons)
+{
+    double values = coupons;
+    int step;
+    for (step = 0; step < 16; step++)
+        values += coupons - expected_coupons(values);
+    return values;
+}
+
+/* The relative standard error of that: as many values are lost as pairs share a coupon, which scatters like chance. */
+static double error_of_coupons(double values)
+{
+    return values > 1.0 ? square_root((values - 1.0) / values / 6.0 / SLOTS) : 0.0;
+}
+
+/* ---- bounds ---- */
+
+/* An estimate of values of which at least some were seen for certain. */
+static hll_estimation with_bounds(double estimate, double error, double least)
+{
+    hll_estimation found;
+    int d;
+    found.estimate = estimate < least ? least : estimate;
+    found.relative_standard_error = error;
+    for (d = 1; d <= 3; d++) {
+        double lower = found.estimate / (1.0 + d * error);
+        found.lower[d - 1] = lower < least ? least : lower;
+        found.upper[d - 1] = found.estimate / (1.0 - d * error);
+    }
+    return found;
+}
+
+/* The estimation of a histogram of registers. */
+static hll_estimation estimation_of_counts(const uint64_t counts[64])
+{
+    uint64_t registers = 0;
+    double estimate;
+    int value;
+    for (value = 0; value < 64; value++)
+        registers += counts[value];
+    if (counts[0] == registers)
+        return with_bounds(0.0, 0.0, 0.0);
+    estimate = estimate_of_counts(counts, (double)registers);
+    return with_bounds(estimate, error_of_registers(estimate, (double)registers), (double)(registers - counts[0]));
+}
+
+/* The estimation of a list or a set of so many coupons. */
+static hll_estimation estimation_of_coupons(uint64_t coupons)
+{
+    double estimate = estimate_of_coupons((double)coupons);
+    return with_bounds(estimate, error_of_coupons(estimate), (double)coupons);
+}
+
+hll_status hll_estimate(const uint8_t *image, size_t len, hll_estimation *estimation)
+{
+    hll_histogram histogram;
+    hll_info info;
+    hll_status status = hll_image_info(image, len, &info);
+    if (status != HLL_OK)
+        return status;
+    if (info.stage != HLL_REGISTERS) {
+        *estimation = estimation_of_coupons(info.coupons);
+        return HLL_OK;
+    }
+    status = hll_image_histogram(image, len, &histogram);
+    if (status == HLL_OK)
+        *estimation = estimation_of_counts(histogram.counts);
+    return status;
+}

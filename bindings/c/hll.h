@@ -1,0 +1,246 @@
+/* SPDX-License-Identifier: Apache-2.0 */
+/*
+ * HyperLogLog sketches as images: the bytes of a DataSketches HLL sketch, serial version 1.
+ *
+ * The calls keep nothing. Each takes images (or values) as bytes, and what it makes is an image again, which it puts
+ * into the caller's buffer. So an image is the sketch: keep it in memory, in a file, in a column of a table.
+ *
+ *     uint8_t empty[HLL_IMAGE_MAX(12)], image[HLL_IMAGE_MAX(12)];
+ *     size_t empty_size, size, end = 5;
+ *     hll_estimation found;
+ *     hll_image_new(12, 8, empty, sizeof empty, &empty_size);
+ *     hll_image_add(empty, empty_size, (const uint8_t *)"hello", 5, &end, 1, image, sizeof image, &size);
+ *     hll_estimate(image, size, &found);
+ *
+ * A sketch has 2^lg_k registers of 4, 6 or 8 bits (its width) once it has many values. Before, it is a list or a set
+ * of coupons: a coupon is what is kept of a value, a slot below 2^26 and a number from 1 to 63. The width changes the
+ * size of an image, and nothing else that it says.
+ *
+ * Answers
+ *     HLL_OK (0) where the call did what was asked. On every other status the output is as it was: the buffer, *info,
+ *     *histogram, *same, *estimation, and *size but where the status is HLL_BUFFER.
+ *     HLL_TRUNCATED to HLL_REGISTER (1 to 11): an image is refused, for the first check that it fails.
+ *     HLL_ARGUMENT: an argument is out of its range. This comes first, whatever the images are; only a fold above the
+ *     lg_k of the image is found once that is read.
+ *     HLL_MEMORY: malloc answered NULL. The same call can be made again.
+ *     HLL_BUFFER: the buffer is too small; *size is the number of bytes that are needed.
+ *
+ * Arguments
+ *     lg_k, lg_max_k   4 to 21: the logarithm of the number of registers.
+ *     width            4, 6 or 8: the bits of a register.
+ *     image, len       the bytes of an image. Others may follow it within len; they are not read. Every image is
+ *                      checked whole, so the bytes may come from anywhere. (An image that is chosen to be slow, of a
+ *                      large set, can take seconds to read: bound the len of strangers' images.)
+ *     out, room, size  a buffer of room bytes, and where the size of the image is put. The bytes behind the image
+ *                      stay as they were. HLL_IMAGE_MAX(lg_k) bytes are enough for each answer of that lg_k or less.
+ *     ends, n          of n byte strings that stand one after another in the bytes before this argument: string i
+ *                      goes from ends[i - 1] (from 0 for the first) to ends[i]. Ends ascend. Two may be the same:
+ *                      an empty string is a string like any other. Ends that descend, or go past the bytes, are
+ *                      HLL_ARGUMENT. Bytes behind the last end are not looked at.
+ *     failed           where images are refused (1 to 11), the number of the first one that is, from 0; else it is
+ *                      left as it was.
+ *
+ * What is written has its coupons in ascending order, so the same sketch has the same bytes.
+ *
+ * What the caller owes, which no call can test
+ *     - A pointer is not NULL, even where its length is 0, and leads to as many bytes (or elements) as its length says.
+ *     - out, size, failed, info, histogram, same, coupons and estimation overlap nothing else that is passed. (Inputs
+ *       may overlap one another: an image can be merged with itself.)
+ *     - malloc, realloc and free belong to one allocator, and align to 16 bytes.
+ *     - No call is made from a signal handler, as calls use malloc.
+ *
+ * Memory
+ *     A call takes memory by malloc while it runs, and gives all of it back. Reading an image takes about the bytes of
+ *     its registers or of its table; each call says what it takes beside.
+ *
+ * Threads
+ *     Calls share nothing and keep nothing, so any number of threads may call at once, also with the same inputs.
+ *
+ * What is proved
+ *     The calls from hll_image_info to hll_coupons are proved to answer and to write what is said here, for all inputs;
+ *     what is said of memory and of threads is not. hll_estimate and what this header defines itself are plain C,
+ *     tested and not proved.
+ */
+#ifndef HLL_H
+#define HLL_H
+
+#include <stddef.h>
+#include <stdint.h>
+
+#ifdef __cplusplus
+extern "C" {
+#endif
+
+#define HLL_VERSION_MAJOR 0
+#define HLL_VERSION_MINOR 1
+#define HLL_VERSION_PATCH 0
+
+typedef uint8_t hll_status;
+
+enum {
+    HLL_OK = 0,
+    /* An image is refused; the words say what its bytes are not. */
+    HLL_TRUNCATED = 1,      /* the bytes end inside what the header asks for */
+    HLL_FAMILY = 2,         /* the family byte is not 7 */
+    HLL_SERIAL_VERSION = 3, /* the serial version is not 1 */
+    HLL_LG_K = 4,           /* lg_k is outside 4 to 21 */
+    HLL_WIDTH = 5,          /* the width bits are 3 */
+    HLL_STAGE = 6,          /* the stage bits are 3 */
+    HLL_PREAMBLE = 7,       /* the preamble words don't fit the stage */
+    HLL_LG_ARR = 8,         /* the size of a table is outside its range */
+    HLL_COUNT = 9,          /* a count is above its bound, or not that of the filled places */
+    HLL_COUPON = 10,        /* a coupon of value 0 where one is needed, or a coupon twice */
+    HLL_REGISTER = 11,      /* a register above 63, or nibbles and exceptions that don't agree */
+    /* The call is refused. */
+    HLL_ARGUMENT = 12,      /* an argument is out of its range */
+    HLL_MEMORY = 13,        /* malloc answered NULL */
+    HLL_BUFFER = 14         /* the buffer is too small; *size is the size needed */
+};
+
+/* The stage of a sketch. */
+enum { HLL_LIST = 0, HLL_SET = 1, HLL_REGISTERS = 2 };
+
+/* So many bytes are enough for an image of this lg_k, or of a smaller one, at each width: 40 of a header, one for each
+ * register, and four for each exception of four bits. */
+#define HLL_IMAGE_MAX(lg_k) ((size_t)40 + ((size_t)5 << (lg_k)))
+
+/* The raw word of a coupon is its value * 2^26 + its slot. */
+#define HLL_COUPON_SLOT(coupon) ((uint32_t)(coupon) & UINT32_C(0x3ffffff))
+#define HLL_COUPON_VALUE(coupon) ((uint8_t)((uint32_t)(coupon) >> 26))
+
+/* What an image says of its sketch. What the stage doesn't have is 0. */
+typedef struct hll_info {
+    uint64_t coupons;       /* of a list or a set: how many coupons */
+    uint64_t zeros;         /* of registers: how many are 0 */
+    uint64_t units_high;    /* of registers: the sum of 2^(63 - register), a number of 128 bits: its upper half */
+    uint64_t units_low;     /* and its lower half */
+    uint64_t hip;           /* of registers: the three words from which DataSketches estimates, as bits of binary64 */
+    uint64_t kxq0;
+    uint64_t kxq1;
+    uint8_t lg_k;           /* 4 to 21 */
+    uint8_t width;          /* 4, 6 or 8 */
+    uint8_t stage;          /* HLL_LIST, HLL_SET or HLL_REGISTERS */
+    uint8_t is_empty;       /* 1 where there is no coupon and no register above 0, else 0 */
+    uint8_t out_of_order;   /* of registers: 1 where the image has the out-of-order flag, else 0 */
+} hll_info;
+
+/* How many registers have each value, 0 to 63. The sum of all is 2^lg_k. */
+typedef struct hll_histogram {
+    uint64_t counts[64];
+} hll_histogram;
+
+/* An estimate of the number of distinct values, and bounds at 1, 2 and 3 standard deviations. */
+typedef struct hll_estimation {
+    double estimate;
+    double relative_standard_error;     /* the standard deviation of the estimate, divided by the number of values */
+    double lower[3];                    /* lower[d - 1] and upper[d - 1] are the bounds at d deviations */
+    double upper[3];
+} hll_estimation;
+
+/* ---- what an image says ---- */
+
+/* Tells what the image says of its sketch.
+ * Answers HLL_OK, 1 to 11, or HLL_MEMORY. Takes the memory of reading. */
+hll_status hll_image_info(const uint8_t *image, size_t len, hll_info *info);
+
+/* Whether the bytes begin with an image (HLL_OK), else why not.
+ * Answers HLL_OK, 1 to 11, or HLL_MEMORY. Takes the memory of reading. */
+hll_status hll_image_check(const uint8_t *image, size_t len);
+
+/* Counts the registers of each value, at the lg_k of the image; the coupons of a list or a set are folded to it.
+ * Answers HLL_OK, 1 to 11, or HLL_MEMORY. Takes the memory of reading, and 2^lg_k bytes. */
+hll_status hll_image_histogram(const uint8_t *image, size_t len, hll_histogram *histogram);
+
+/* ---- making an image ---- */
+
+/* The image of an empty sketch. It takes eight bytes.
+ * Answers HLL_OK, HLL_ARGUMENT, HLL_MEMORY or HLL_BUFFER. Takes no more memory than the image. */
+hll_status hll_image_new(uint8_t lg_k, uint8_t width, uint8_t *out, size_t room, size_t *size);
+
+/* The image with n more values: byte strings, told by their ends. A value that the sketch has already changes nothing.
+ * Pass many values at once: each call reads the image and writes it.
+ * Answers HLL_OK, 1 to 11, HLL_ARGUMENT, HLL_MEMORY or HLL_BUFFER. Takes the memory of reading, and the image's. */
+hll_status hll_image_add(const uint8_t *image, size_t len, const uint8_t *values, size_t values_len,
+                         const size_t *ends, size_t n, uint8_t *out, size_t room, size_t *size);
+
+/* The image with a coupon more, of a slot below 2^26 and a value of 1 to 63.
+ * Answers HLL_OK, 1 to 11, HLL_ARGUMENT, HLL_MEMORY or HLL_BUFFER. Takes the memory of reading, and the image's. */
+hll_status hll_image_add_coupon(const uint8_t *image, size_t len, uint32_t slot, uint8_t value, uint8_t *out,
+                                size_t room, size_t *size);
+
+/* ---- unions ---- */
+
+/* The image, at this width, of the union of two images: the sketch of all values that either of them has. Its lg_k is
+ * lg_max_k, or the least one of the register images among both, where that is smaller.
+ * Answers HLL_OK, 1 to 11 (*failed is 0 for the left image, 1 for the right), HLL_ARGUMENT, HLL_MEMORY or HLL_BUFFER.
+ * Takes the memory of reading both, 2^lg_k bytes, and the image's. */
+hll_status hll_image_merge(uint8_t lg_max_k, uint8_t width, const uint8_t *left, size_t left_len, const uint8_t *right,
+                           size_t right_len, uint8_t *out, size_t room, size_t *size, size_t *failed);
+
+/* The image, at this width, of the union of n images, told by their ends. Order, repetition and grouping make no
+ * difference to what it says. The union of no images is the empty sketch of lg_max_k.
+ * Answers HLL_OK, 1 to 11 (*failed is the number of the image), HLL_ARGUMENT, HLL_MEMORY or HLL_BUFFER.
+ * Takes the memory of reading one image at a time, 2^lg_k bytes, and the image's. */
+hll_status hll_images_union(uint8_t lg_max_k, uint8_t width, const uint8_t *images, size_t images_len,
+                            const size_t *ends, size_t n, uint8_t *out, size_t room, size_t *size, size_t *failed);
+
+/* ---- one image from another ---- */
+
+/* The image at a smaller lg_k (or the same): what the sketch would be, had it been made with it.
+ * Answers HLL_OK, 1 to 11, HLL_ARGUMENT (also where lg_k is above the image's), HLL_MEMORY or HLL_BUFFER. Takes the
+ * memory of reading, 2^lg_k bytes, and the image's. */
+hll_status hll_image_fold(const uint8_t *image, size_t len, uint8_t lg_k, uint8_t *out, size_t room, size_t *size);
+
+/* The image at a width. At its own width it is the image as this library writes it: compact, and in ascending order.
+ * Answers HLL_OK, 1 to 11, HLL_ARGUMENT, HLL_MEMORY or HLL_BUFFER. Takes the memory of reading, 2^lg_k bytes, and the
+ * image's. */
+hll_status hll_image_convert(const uint8_t *image, size_t len, uint8_t width, uint8_t *out, size_t room, size_t *size);
+
+/* The image with the three words and the flag set from which a DataSketches library estimates. An image of merged
+ * registers has zeros there, by which others can't estimate: call this before the image goes to them. Lists and sets
+ * have no words, and come out as they are.
+ * Answers HLL_OK, 1 to 11, HLL_MEMORY or HLL_BUFFER. Takes the memory of reading, and the image's. */
+hll_status hll_image_set_estimator_words(const uint8_t *image, size_t len, uint8_t *out, size_t room, size_t *size);
+
+/* ---- comparing ---- */
+
+/* Whether both images have the same registers (*same is 1) or not (0), once both are folded to the smaller lg_k.
+ * Answers HLL_OK, 1 to 11 (*failed is 0 for the left image, 1 for the right), or HLL_MEMORY. Takes the memory of
+ * reading both, and twice 2^lg_k bytes. */
+hll_status hll_images_agree(const uint8_t *left, size_t left_len, const uint8_t *right, size_t right_len,
+                            uint8_t *same, size_t *failed);
+
+/* ---- coupons ---- */
+
+/* The coupon of a value: its raw word, from the MurmurHash3 (x64, 128 bits, seed 9001) of the bytes. No bytes are a
+ * value like any other. Takes no memory. */
+uint32_t hll_coupon(const uint8_t *value, size_t len);
+
+/* The coupons of n values, told by their ends, into room places.
+ * Answers HLL_OK, HLL_ARGUMENT, or HLL_BUFFER where room is less than n (n is what is needed). Takes no memory. */
+hll_status hll_coupons(const uint8_t *values, size_t values_len, const size_t *ends, size_t n, uint32_t *coupons,
+                       size_t room);
+
+/* ---- estimates ---- */
+
+/* Estimates the number of distinct values; not proved. From registers it is Ertl's improved estimator, with a relative
+ * standard error of 1.04 / sqrt(2^lg_k); from a list or a set it is the number of coupons, corrected for coupons that
+ * values share, and nearly exact. A lower bound is never below the number of coupons, or of registers above 0: there
+ * were at least so many values. Where every register is 63 the estimate is infinite.
+ * Answers HLL_OK, 1 to 11, or HLL_MEMORY. Takes the memory of hll_image_histogram. */
+hll_status hll_estimate(const uint8_t *image, size_t len, hll_estimation *estimation);
+
+/* The word of a status: "ok", "truncated", "family" and so on; "unknown" for a number that is none. */
+static inline const char *hll_reason(hll_status status)
+{
+    static const char *const words[] = {"ok",       "truncated", "family",   "version",  "lgk",
+                                        "width",    "stage",     "preamble", "lgarr",    "count",
+                                        "coupon",   "register",  "argument", "memory",   "buffer"};
+    return status <= HLL_BUFFER ? words[status] : "unknown";
+}
+
+#ifdef __cplusplus
+}
+#endif
+
+#endif

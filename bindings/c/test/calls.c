@@ -1,0 +1,288 @@
+/* SPDX-License-Identifier: Apache-2.0 */
+/* Each call with each of its codes, and what it answers for small inputs that are known. */
+#include "test.h"
+
+/* An image for each reason. */
+static const char *const faulty[] = {
+    NULL,
+    "0201070a030c00",                                                           /* truncated */
+    "0201060a030c0008",                                                         /* family */
+    "0202070a030c0008",                                                         /* version */
+    "02010703030c0008",                                                         /* lgk */
+    "0201070a030c000c",                                                         /* width */
+    "0201070a030c000b",                                                         /* stage */
+    "0301070a030c0008",                                                         /* preamble */
+    "0201070a040c0008",                                                         /* lgarr */
+    "0201070a030809080000000000000000",                                         /* count */
+    "0201070a030801080500000000000000",                                         /* coupon */
+    "0a0107040000000a" "000000000000000000000000000000000000000000000000" "1000000000000000"
+    "40000000000000000000000000000000",                                         /* register */
+};
+
+static void test_reasons(void)
+{
+    static const char *const words[] = {"ok", "truncated", "family", "version", "lgk", "width", "stage", "preamble",
+                                        "lgarr", "count", "coupon", "register", "argument", "memory", "buffer"};
+    int status;
+    for (status = 0; status < 256; status++)
+        CHECK(strcmp(hll_reason((hll_status)status), status < 15 ? words[status] : "unknown") == 0, "%d", status);
+}
+
+/* Each call refuses each faulty image for its reason, and leaves its output as it was. */
+static void test_faulty_images(void)
+{
+    uint8_t out[4200], before[4200];
+    answer told, told_before;
+    size_t i, reason, size;
+    memset(before, 0xa5, sizeof before);
+    memset(&told_before, 0xa5, sizeof told_before);
+    for (reason = 1; reason <= 11; reason++) {
+        bytes image = of_hex(faulty[reason]);
+        for (i = 0; i < WRITERS; i++) {
+            if (!writers[i].reads)
+                continue;
+            memcpy(out, before, sizeof out);
+            size = 4711;
+            hll_status status = writers[i].call(image.at, image.len, out, sizeof out, &size);
+            CHECK(status == reason, "%s: %d for a fault of %d", writers[i].name, status, (int)reason);
+            CHECK(size == 4711 && memcmp(out, before, sizeof out) == 0, "%s wrote", writers[i].name);
+        }
+        for (i = 0; i < TELLERS; i++) {
+            memcpy(&told, &told_before, sizeof told);
+            hll_status status = tellers[i].call(image.at, image.len, &told);
+            CHECK(status == reason, "%s: %d for a fault of %d", tellers[i].name, status, (int)reason);
+            CHECK(memcmp(&told, &told_before, sizeof told) == 0, "%s wrote", tellers[i].name);
+        }
+        free(image.at);
+    }
+}
+
+/* Of n images the one that is refused is told by its number, wherever it stands; of several the first. */
+static void test_failed(void)
+{
+    uint8_t images[8 * 9], out[64];
+    size_t ends[9], size, failed, i, bad;
+    for (bad = 0; bad < 9; bad++) {
+        for (i = 0; i < 9; i++) {
+            memcpy(images + 8 * i, "\2\1\7\12\3\14\0\10", 8);
+            ends[i] = 8 * (i + 1);
+        }
+        images[8 * bad + 2] = 6;
+        images[8 * 8 + 1] ^= bad % 2 ? 0 : 4;
+        failed = 99;
+        CHECK(hll_images_union(10, 8, images, sizeof images, ends, 9, out, sizeof out, &size, &failed)
+                  == HLL_FAMILY, "a bad image %d", (int)bad);
+        CHECK(failed == bad, "%d told for %d", (int)failed, (int)bad);
+        CHECK(hll_images_union(10, 8, images, sizeof images, ends, bad, out, sizeof out, &size, &failed) == HLL_OK,
+              "the images before %d", (int)bad);
+        CHECK(failed == bad, "failed is written on success");
+    }
+}
+
+/* Calls that are refused for an argument, though the image is bad too: the argument comes first. */
+static void test_arguments(void)
+{
+    static const uint8_t bad[] = {2, 1, 6, 10, 3, 12, 0, 8};
+    static const uint8_t outside[] = {0, 1, 2, 3, 22, 23, 64, 128, 255}, widths[] = {0, 1, 2, 3, 5, 7, 9, 12, 255};
+    static const size_t good_ends[] = {2, 2, 8}, descend[] = {2, 1}, past[] = {2, 9}, huge[] = {(size_t)-1};
+    static const size_t no_ends[] = {0};
+    static const struct { const size_t *ends; size_t n; } wrong[] = {{descend, 2}, {past, 2}, {huge, 1}};
+    uint8_t out[64] = {0}, before[64] = {0};
+    uint32_t coupons[4];
+    size_t size = 4711, failed = 77, i;
+    for (i = 0; i < 9; i++) {
+        CHECK(hll_image_new(outside[i], 8, out, 64, &size) == HLL_ARGUMENT, "new, lg_k %d", outside[i]);
+        CHECK(hll_image_new(10, widths[i], out, 64, &size) == HLL_ARGUMENT, "new, width %d", widths[i]);
+        CHECK(hll_image_merge(outside[i], 8, bad, 8, bad, 8, out, 64, &size, &failed) == HLL_ARGUMENT, "merge");
+        CHECK(hll_image_merge(10, widths[i], bad, 8, bad, 8, out, 64, &size, &failed) == HLL_ARGUMENT, "merge");
+        CHECK(hll_images_union(outside[i], 8, bad, 8, good_ends, 3, out, 64, &size, &failed) == HLL_ARGUMENT, "union");
+        CHECK(hll_images_union(10, widths[i], bad, 8, good_ends, 3, out, 64, &size, &failed) == HLL_ARGUMENT, "union");
+        CHECK(hll_image_fold(bad, 8, outside[i], out, 64, &size) == HLL_ARGUMENT, "fold to %d", outside[i]);
+        CHECK(hll_image_convert(bad, 8, widths[i], out, 64, &size) == HLL_ARGUMENT, "convert to %d", widths[i]);
+    }
+    for (i = 0; i < 3; i++) {
+        CHECK(hll_image_add(bad, 8, bad, 8, wrong[i].ends, wrong[i].n, out, 64, &size) == HLL_ARGUMENT, "add");
+        CHECK(hll_images_union(10, 8, bad, 8, wrong[i].ends, wrong[i].n, out, 64, &size, &failed) == HLL_ARGUMENT,
+              "union");
+        CHECK(hll_coupons(bad, 8, wrong[i].ends, wrong[i].n, coupons, 0) == HLL_ARGUMENT, "coupons");
+    }
+    CHECK(hll_image_add_coupon(bad, 8, 67108864, 1, out, 64, &size) == HLL_ARGUMENT, "slot");
+    CHECK(hll_image_add_coupon(bad, 8, UINT32_MAX, 1, out, 64, &size) == HLL_ARGUMENT, "slot");
+    CHECK(hll_image_add_coupon(bad, 8, 5, 0, out, 64, &size) == HLL_ARGUMENT, "value 0");
+    CHECK(hll_image_add_coupon(bad, 8, 5, 64, out, 64, &size) == HLL_ARGUMENT, "value 64");
+    CHECK(hll_image_fold((const uint8_t *)"\2\1\7\12\3\14\0\10", 8, 11, out, 64, &size) == HLL_ARGUMENT, "fold up");
+    CHECK(hll_image_fold((const uint8_t *)"\2\1\7\12\3\14\0\10", 8, 10, out, 64, &size) == HLL_OK, "fold to the same");
+    CHECK(size == 8, "size of an empty list");
+    memset(out, 0, sizeof out);
+    CHECK(hll_image_add((const uint8_t *)"\2\1\7\12\3\14\0\10", 8, bad, 0, no_ends, 0, out, 64, &size) == HLL_OK,
+          "no values");
+    CHECK(memcmp(out, "\2\1\7\12\3\14\0\10", 8) == 0 && memcmp(out + 8, before, 56) == 0, "no values change nothing");
+    CHECK(failed == 77, "failed is written for an argument");
+}
+
+/* Whether a call answers HLL_OK and writes these bytes. */
+#define EXPECT(what, call, out, size, digits)                                                   \
+    do {                                                                                        \
+        bytes wanted = of_hex(digits);                                                          \
+        hll_status status = call;                                                               \
+        CHECK(status == HLL_OK, "%s: %s", what, hll_reason(status));                            \
+        CHECK(size == wanted.len && memcmp(out, wanted.at, size) == 0, "%s: other bytes", what); \
+        free(wanted.at);                                                                        \
+    } while (0)
+
+static void test_small_images(void)
+{
+    uint8_t out[64], more[64];
+    size_t size = 0, more_size = 0, failed, end = 0;
+    static const size_t none[] = {0};
+    EXPECT("new", hll_image_new(10, 8, out, sizeof out, &size), out, size, "0201070a030c0008");
+    EXPECT("a coupon", hll_image_add_coupon(out, size, 5, 3, more, sizeof more, &more_size), more, more_size,
+           "0201070a030801080500000c");
+    EXPECT("to 4 bits", hll_image_convert(more, more_size, 4, out, sizeof out, &size), out, size,
+           "0201070a030801000500000c");
+    EXPECT("a union", hll_image_merge(12, 6, more, more_size, out, size, out + 32, 32, &size, &failed), out + 32, size,
+           "0201070c030801040500000c");
+    EXPECT("of none", hll_images_union(12, 4, out, 0, none, 0, out, sizeof out, &size, &failed), out, size,
+           "0201070c030c0000");
+    /* The empty string is a value like any other. */
+    CHECK(hll_image_add(out, size, out, 0, &end, 1, more, sizeof more, &more_size) == HLL_OK, "the empty string");
+    CHECK(more_size == 12 && more[6] == 1, "the empty string is no value");
+}
+
+/* hll_coupon beside coupons of another implementation of the hash. */
+static void test_coupons(void)
+{
+    static const size_t ends[] = {0, 1, 44, 44};
+    static const char text[] = "aThe quick brown fox jumps over the lazy dog";
+    uint32_t coupons[5] = {9, 9, 9, 9, 9};
+    CHECK(hll_coupons((const uint8_t *)text, 44, ends, 4, coupons, 3) == HLL_BUFFER, "room for three");
+    CHECK(coupons[0] == 9 && coupons[2] == 9, "no room, but written");
+    CHECK(hll_coupons((const uint8_t *)text, 44, ends, 4, coupons, 5) == HLL_OK, "room for five");
+    CHECK(coupons[0] == hll_coupon((const uint8_t *)text, 0) && coupons[0] == coupons[3], "of no bytes");
+    CHECK(coupons[1] == hll_coupon((const uint8_t *)text, 1), "of one byte");
+    CHECK(coupons[2] == hll_coupon((const uint8_t *)text + 1, 43), "of 43 bytes");
+    CHECK(coupons[4] == 9, "behind the last");
+    CHECK(HLL_COUPON_SLOT(UINT32_C(201326597)) == 5 && HLL_COUPON_VALUE(UINT32_C(201326597)) == 3, "slot and value");
+}
+
+/* What info, histogram, and agree tell of images of each stage and width. */
+static void test_telling(void)
+{
+    size_t stage, failed = 0;
+    unsigned width, value;
+    for (stage = 0; stage < 3; stage++)
+        for (width = 4; width <= 8; width += 2) {
+            bytes image = image_of_values(12, (uint8_t)width, 0, values_of_stage[stage]);
+            bytes other = image_of_values(12, 8, 1000000, values_of_stage[stage]);
+            hll_info info;
+            hll_histogram histogram;
+            uint64_t sum = 0, low = 0;
+            uint8_t same = 7;
+            CHECK(hll_image_info(image.at, image.len, &info) == HLL_OK, "info");
+            CHECK(info.lg_k == 12 && info.width == width && info.stage == stage && !info.is_empty, "info of stage");
+            CHECK(info.coupons == (stage < 2 ? values_of_stage[stage] : 0), "%d coupons", (int)info.coupons);
+            CHECK(info.out_of_order == (stage == 2) && info.hip == 0 && info.kxq0 == 0 && info.kxq1 == 0, "words");
+            CHECK(hll_image_histogram(image.at, image.len, &histogram) == HLL_OK, "histogram");
+            for (value = 0; value < 64; value++) {
+                sum += histogram.counts[value];
+                low += value >= 1 ? histogram.counts[value] << (63 - value) : 0;
+            }
+            CHECK(sum == 4096, "a histogram of %d", (int)sum);
+            low += histogram.counts[0] << 63;
+            CHECK(stage < 2 || (info.zeros == histogram.counts[0] && info.units_low == low), "zeros and units");
+            CHECK(hll_images_agree(image.at, image.len, image.at, image.len, &same, &failed) == HLL_OK && same == 1,
+                  "an image agrees with itself");
+            CHECK(hll_images_agree(image.at, image.len, other.at, other.len, &same, &failed) == HLL_OK && same == 0,
+                  "an image agrees with another");
+            free(image.at);
+            free(other.at);
+        }
+}
+
+/* Images of each stage and width merged, in either order, and united: the image of all their values. */
+static void test_merges(void)
+{
+    static uint8_t merged[HLL_IMAGE_MAX(12)], united[HLL_IMAGE_MAX(12)], both[2 * HLL_IMAGE_MAX(12)];
+    size_t i, j, size = 0, united_size = 0, failed = 0, ends[2];
+    for (i = 0; i < 9; i++)
+        for (j = 0; j < 9; j++) {
+            size_t values = values_of_stage[i / 3], more = values_of_stage[j / 3];
+            uint8_t width = (uint8_t)(4 + (i + j) % 3 * 2);
+            bytes left = image_of_values(12, (uint8_t)(4 + i % 3 * 2), 0, values);
+            bytes right = image_of_values(12, (uint8_t)(4 + j % 3 * 2), values, more);
+            bytes all = image_of_values(12, width, 0, values + more);
+            hll_status status = hll_image_merge(12, width, left.at, left.len, right.at, right.len, merged,
+                                                sizeof merged, &size, &failed);
+            CHECK(status == HLL_OK && size == all.len && memcmp(merged, all.at, size) == 0, "%d, %d", (int)i, (int)j);
+            status = hll_image_merge(12, width, right.at, right.len, left.at, left.len, merged, sizeof merged, &size,
+                                     &failed);
+            CHECK(status == HLL_OK && size == all.len && memcmp(merged, all.at, size) == 0, "%d, %d", (int)j, (int)i);
+            memcpy(both, left.at, ends[0] = left.len);
+            memcpy(both + left.len, right.at, right.len);
+            ends[1] = left.len + right.len;
+            status = hll_images_union(12, width, both, ends[1], ends, 2, united, sizeof united, &united_size, &failed);
+            CHECK(status == HLL_OK && united_size == size && memcmp(united, all.at, size) == 0, "union");
+            free(left.at);
+            free(right.at);
+            free(all.at);
+        }
+}
+
+/* Images folded to each lg_k: the image of the same values at that one. */
+static void test_folds(void)
+{
+    static uint8_t out[HLL_IMAGE_MAX(12)];
+    size_t i, size = 0;
+    uint8_t lg_k;
+    for (i = 0; i < 9; i++)
+        for (lg_k = 4; lg_k <= 12; lg_k++) {
+            uint8_t width = (uint8_t)(4 + i % 3 * 2);
+            bytes whole = image_of_values(12, width, 5, values_of_stage[i / 3]);
+            bytes folded = image_of_values(lg_k, width, 5, values_of_stage[i / 3]);
+            hll_status status = hll_image_fold(whole.at, whole.len, lg_k, out, sizeof out, &size);
+            CHECK(status == HLL_OK && size == folded.len && memcmp(out, folded.at, size) == 0, "fold to %d", lg_k);
+            free(whole.at);
+            free(folded.at);
+        }
+}
+
+/* Registers of 63 are counted. */
+static void test_histogram_of_63(void)
+{
+    bytes image = of_hex("0a0107040010000a" "000000000000000000000000000000000000000000000000" "0d00000000000000"
+                         "3f0000000000000000003e000000003f");
+    hll_histogram histogram;
+    CHECK(hll_image_histogram(image.at, image.len, &histogram) == HLL_OK, "histogram");
+    CHECK(histogram.counts[63] == 2 && histogram.counts[62] == 1 && histogram.counts[0] == 13, "%d of 63",
+          (int)histogram.counts[63]);
+    free(image.at);
+}
+
+/* The words of registers, as docs/FORMAT.md has them. */
+static void test_words(void)
+{
+    bytes image = of_hex("0a0107040000000a" "111111111111111122222222222222223333333333333333" "0c00000000000000"
+                         "011f203f000000000000000000000000");
+    uint8_t out[64];
+    size_t size = 0;
+    EXPECT("words", hll_image_set_estimator_words(image.at, image.len, out, sizeof out, &size), out, size,
+           "0a0107040010000a" "0000000000000000" "0000040000002940" "000020000000f03d" "0c00000000000000"
+           "011f203f000000000000000000000000");
+    free(image.at);
+}
+
+int main(void)
+{
+    test_reasons();
+    test_faulty_images();
+    test_failed();
+    test_arguments();
+    test_small_images();
+    test_coupons();
+    test_telling();
+    test_merges();
+    test_folds();
+    test_histogram_of_63();
+    test_words();
+    return finish("calls, each with its codes");
+}

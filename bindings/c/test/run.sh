@@ -1,0 +1,216 @@
+#!/bin/sh
+# SPDX-License-Identifier: Apache-2.0
+# Builds and runs all tests of the C library, where `make` has built it: run.sh BUILD, in the folder of hll.h. `make
+# check` calls it. Each test prints what it ran and 'N passed, M failed'; the last line sums them, and the status is 1
+# if one failed. What can't be run here, for want of a program, is named.
+set -u
+
+build=$1
+tests=$build/test
+CC=${CC:-cc}
+CXX=${CXX:-c++}
+strict='-Wall -Wextra -pedantic -Werror'
+test_flags="$strict -Wno-unused-function -O1 -g -std=c99"
+wraps='-Wl,--wrap=malloc,--wrap=calloc,--wrap=realloc,--wrap=aligned_alloc,--wrap=posix_memalign,--wrap=free'
+rows=../../crates/hll_vectors/stdin
+passed=0
+failed=0
+mkdir -p "$tests" || exit 1
+
+# Adds what a test printed last to the sums; a test that printed no counts, or ended badly, has failed.
+count() {
+    status=$1
+    last=$(tail -n 1 "$tests/log")
+    good=$(printf '%s\n' "$last" | sed -n 's/^.*: \([0-9][0-9]*\) passed, \([0-9][0-9]*\) failed$/\1/p')
+    bad=$(printf '%s\n' "$last" | sed -n 's/^.*: \([0-9][0-9]*\) passed, \([0-9][0-9]*\) failed$/\2/p')
+    if [ -z "$good" ]; then
+        good=0
+        bad=1
+    elif [ "$status" -ne 0 ] && [ "$bad" -eq 0 ]; then
+        bad=1
+    fi
+    passed=$((passed + good))
+    failed=$((failed + bad))
+}
+
+# A program that prints its counts.
+run() {
+    name=$1
+    shift
+    "$@" >"$tests/log" 2>&1
+    status=$?
+    count "$status"
+    sed "s/^/$name: /" "$tests/log"
+    [ "$status" -eq 0 ] || echo "$name: ended with status $status"
+}
+
+# A command that has to succeed; it counts as one test.
+expect() {
+    name=$1
+    shift
+    if "$@" >"$tests/log" 2>&1; then
+        passed=$((passed + 1))
+        echo "$name: 1 passed, 0 failed"
+    else
+        failed=$((failed + 1))
+        cat "$tests/log"
+        echo "$name: 0 passed, 1 failed"
+    fi
+}
+
+has() {
+    command -v "$1" >/dev/null 2>&1
+}
+
+skip() {
+    echo "$1: skipped, as $2 is not here"
+}
+
+# ---- the header, and what the libraries show
+
+test_header() {
+    for standard in c99 c11 c17; do
+        expect "header as $standard" $CC $strict -std=$standard -x c -fsyntax-only hll.h
+    done
+    expect "estimate.c as c99" $CC $strict -std=c99 -c -o "$tests/estimate.o" estimate.c
+    expect "example.c as c99" $CC $strict -std=c99 -c -o "$tests/example.o" example.c
+    if ! has "$CXX"; then
+        skip 'header as C++' "$CXX"
+        return
+    fi
+    for standard in c++11 c++17; do
+        expect "header as $standard" $CXX $strict -std=$standard -x c++ -fsyntax-only hll.h
+    done
+    expect 'a program in C++' $CXX $strict -std=c++11 -o "$tests/header" test/header.cpp "$build/libhll.a"
+    run 'C++' "$tests/header"
+}
+
+# The calls that the header declares, and the names that a library shows.
+declared() {
+    sed -n 's/^\(hll_status\|uint32_t\) \(hll_[a-z_]*\)(.*/\2/p' hll.h | sort
+}
+
+shown() {
+    nm "$@" | sed -n 's/^[0-9a-f]* [A-TV-Za-tv-z] \([^@]*\).*$/\1/p' | grep -v '^HLL_0$' | sort
+}
+
+test_names() {
+    declared >"$tests/declared"
+    expect 'fifteen calls are declared' test "$(wc -l <"$tests/declared")" -eq 15
+    shown -D --defined-only "$build/libhll.so" >"$tests/shown"
+    expect 'names of the shared library' diff "$tests/declared" "$tests/shown"
+    shown -g --defined-only "$build/libhll.a" >"$tests/shown"
+    expect 'names of the archive' diff "$tests/declared" "$tests/shown"
+    sed -n 's/^ *\(hll_[a-z_]*\);$/\1/p' hll.map | sort >"$tests/shown"
+    expect 'names of the map' diff "$tests/declared" "$tests/shown"
+}
+
+# ---- the calls
+
+compile() {
+    name=$1
+    shift
+    expect "test of $name compiles" $CC $test_flags -o "$tests/$name" "test/${name%%-*}.c" "$@"
+}
+
+test_calls() {
+    for name in calls buffers estimates rows; do
+        compile "$name" "$build/libhll.a"
+    done
+    compile threads "$build/libhll.a" -pthread
+    compile refusals "$build/libhll.a" "$wraps"
+    compile calls-shared -L"$build" -lhll -Wl,-rpath,"$build"
+    run calls "$tests/calls"
+    run 'calls, shared library' env LD_LIBRARY_PATH="$build" "$tests/calls-shared"
+    run buffers "$tests/buffers"
+    run refusals "$tests/refusals"
+    run threads "$tests/threads"
+    run estimates "$tests/estimates"
+    run rows "$tests/rows" "$rows"
+}
+
+test_memory() {
+    if ! has valgrind; then
+        skip 'valgrind' valgrind
+        return
+    fi
+    kinds='definite,possible'
+    clean="valgrind --quiet --error-exitcode=9 --leak-check=full"
+    clean="$clean --show-leak-kinds=$kinds --errors-for-leak-kinds=$kinds"
+    run 'calls in valgrind' $clean "$tests/calls"
+    run 'buffers in valgrind' $clean "$tests/buffers" small
+    run 'refusals in valgrind' $clean "$tests/refusals"
+    run 'estimates in valgrind' $clean "$tests/estimates"
+    run 'rows in valgrind' $clean "$tests/rows" "$rows"
+}
+
+# The tests and estimate.c, with checks of gcc for each access and each sum.
+test_sanitized() {
+    flags='-fsanitize=address,undefined -fno-sanitize-recover=all -Dhll_estimate=sanitized_estimate'
+    if ! echo 'int main(void) { return 0; }' | $CC $flags -x c -o "$tests/probe" - 2>/dev/null || ! "$tests/probe"; then
+        skip 'sanitizers' "their library"
+        return
+    fi
+    for name in calls buffers estimates rows threads; do
+        compile "$name-sanitized" $flags estimate.c "$build/libhll.a" -pthread
+    done
+    # What leaks is seen by valgrind and by the test of refusals; here it takes rights that not each machine gives.
+    ASAN_OPTIONS=detect_leaks=0
+    export ASAN_OPTIONS
+    run 'calls, sanitized' "$tests/calls-sanitized"
+    run 'buffers, sanitized' "$tests/buffers-sanitized" small
+    run 'estimates, sanitized' "$tests/estimates-sanitized"
+    run 'rows, sanitized' "$tests/rows-sanitized" "$rows"
+    run 'threads, sanitized' "$tests/threads-sanitized"
+}
+
+# ---- the example, and an installed library
+
+# The program merges two files into one, and refuses a file that is no image.
+try_example() {
+    program=$1
+    printf '\002\001\007\014\003\010\001\010\005\000\000\014' >"$tests/one.hll"
+    printf '\002\001\007\014\003\010\001\010\007\000\000\010' >"$tests/two.hll"
+    printf '\002\001\007\014\003\010\002\010\007\000\000\010\005\000\000\014' >"$tests/both.hll"
+    echo 'no image at all' >"$tests/none.hll"
+    "$program" "$tests/out.hll" "$tests/one.hll" "$tests/two.hll" "$tests/one.hll" >"$tests/said" || return 1
+    cmp "$tests/out.hll" "$tests/both.hll" || return 1
+    grep '^2 distinct values' "$tests/said" || return 1
+    ! "$program" "$tests/out.hll" "$tests/one.hll" "$tests/none.hll" 2>"$tests/said" || return 1
+    grep 'none.hll: family$' "$tests/said" || return 1
+    ! "$program" 2>/dev/null
+}
+
+# Installs below a folder, builds the example by the flags of the file for pkg-config, and takes all away again.
+try_install() {
+    place=$(pwd)/$tests/installed
+    rm -rf "$place"
+    make -s install DESTDIR="$place" PREFIX=/opt/hll || return 1
+    for file in include/hll.h lib/libhll.a lib/libhll.so lib/libhll.so.0 lib/libhll.so.0.1.0 lib/pkgconfig/hll.pc; do
+        [ -f "$place/opt/hll/$file" ] || { echo "$file is missing"; return 1; }
+    done
+    flags="-I$place/opt/hll/include -L$place/opt/hll/lib -lhll"
+    if has pkg-config; then
+        said=$(PKG_CONFIG_SYSROOT_DIR=$place PKG_CONFIG_PATH=$place/opt/hll/lib/pkgconfig \
+            pkg-config --cflags --libs hll) || return 1
+        [ "$(echo $said)" = "$flags" ] || { echo "pkg-config says $said"; return 1; }
+    fi
+    compiled="$CC $strict -std=c99 -I$place/opt/hll/include"
+    $compiled -o "$tests/installed-shared" example.c $flags || return 1
+    LD_LIBRARY_PATH=$place/opt/hll/lib try_example "$tests/installed-shared" || return 1
+    $compiled -o "$tests/installed-static" example.c "$place/opt/hll/lib/libhll.a" || return 1
+    try_example "$tests/installed-static" || return 1
+    make -s uninstall DESTDIR="$place" PREFIX=/opt/hll || return 1
+    [ -z "$(find "$place" ! -type d)" ]
+}
+
+test_header
+test_names
+test_calls
+test_memory
+test_sanitized
+expect 'the example' try_example "$build/example"
+expect 'install and uninstall' try_install
+
+echo "$passed passed, $failed failed"
+[ "$failed" -eq 0 ] && [ "$passed" -gt 0 ]

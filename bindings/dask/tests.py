@@ -1,0 +1,231 @@
+# SPDX-License-Identifier: Apache-2.0
+"""The tests of hll_sketches.dask, on a cluster of three worker processes; `check` runs them by a Python that has Dask."""
+import functools
+import logging
+import os
+import pathlib
+import pickle
+import random
+import signal
+import subprocess
+import sys
+import tempfile
+import time
+
+import dask.bag
+import dask.dataframe
+import pandas
+from distributed import Client, LocalCluster
+
+from hll_sketches import ArgumentError, Sketch
+from hll_sketches.dask import PlacedImageError, union_by_key, union_of_bag, union_of_files
+from images import built_program, random_image
+from slow import SlowPath, opened
+
+FILES = 2000 if "--quick" in sys.argv else 10000
+counts = {"passed": 0, "failed": 0}
+
+
+def check(name, is_right, found=""):
+    counts["passed" if is_right else "failed"] += 1
+    if not is_right:
+        print("FAILED %s%s" % (name, ": %.600s" % (found,) if found != "" else ""), flush=True)
+
+
+def equal(name, found, wanted):
+    check(name, found == wanted, "%.200r in place of %.200r" % (found, wanted))
+
+
+# ---- images and files
+
+
+def random_images(count, lg_k=None):
+    """Images, of which 500 differ."""
+    numbers = random.Random(9001)
+    few = [random_image(numbers, lg_k) for _ in range(min(count, 500))]
+    return [few[n] if n < len(few) else numbers.choice(few) for n in range(count)]
+
+
+def write_files(folder, images, name="image"):
+    paths = []
+    for number, image in enumerate(images):
+        path = folder / ("%s %05d.bin" % (name, number))
+        path.write_bytes(image)
+        paths.append(str(path))
+    return paths
+
+
+@functools.lru_cache(None)
+def program():
+    return os.environ.get("HLL_MERGE") or built_program()
+
+
+def union_by_program(images, lg_max_k=12, width=8):
+    """The image of a union, as the program prints it."""
+    plan = ["image " + image.hex() for image in images] + ["union %d %d %d" % (len(images), lg_max_k, width)]
+    done = subprocess.run([program()], input="\n".join(plan).encode(), stdout=subprocess.PIPE, check=True)
+    return bytes.fromhex(done.stdout.decode())
+
+
+def image_by(lazy):
+    """The image of what is to be computed."""
+    return lazy.compute().to_bytes()
+
+
+def error_of(lazy):
+    """How it is refused: reason, number and place; None where it isn't."""
+    try:
+        lazy.compute()
+    except PlacedImageError as error:
+        again = pickle.loads(pickle.dumps(error))
+        equal("a pickled error", (again.reason, again.number, str(again)), (error.reason, error.number, str(error)))
+        equal("the words of an error", str(error), "%s: image is refused: %s" % (error.place, error.reason))
+        return error.reason, error.number, error.place
+    return None
+
+
+# ---- parts
+
+
+def files(client, folder, images, paths):
+    """Any grouping, order and repetition, bound and width."""
+    wanted = union_by_program(images)
+    equal("files", image_by(union_of_files(paths)), wanted)
+    twice = [pathlib.Path(path) for path in paths[::-1] + paths]
+    equal("files backwards and twice", image_by(union_of_files(twice)), wanted)
+    equal("bound and width", image_by(union_of_files(iter(paths), 10, 4)), union_by_program(images, 10, 4))
+    some = union_of_files(paths[:2000], files_per_task=7, split_every=3)
+    equal("files in small tasks", image_by(some), union_by_program(images[:2000]))
+    for count in (0, 1, 8, 9, 64, 65):
+        found = image_by(union_of_files(paths[:count], files_per_task=1))
+        equal("%d files" % count, found, union_by_program(images[:count]))
+    larger = random_images(100, 14)
+    found = image_by(union_of_files(write_files(folder, larger, "larger"), 13, files_per_task=9, split_every=2))
+    equal("larger sketches", found, union_by_program(larger, 13, 8))
+    equal("lg_k of larger sketches", found[3], 13)
+
+
+def refused_files(client, folder, images, paths):
+    """A corrupt image among all by its file, its number and its reason; and a file that is missing."""
+    number = len(paths) * 3 // 4 + 5
+    good = images[number]
+    for name, image, reason in (("cut", good[:5], "truncated"), ("empty", b"", "truncated"),
+                                ("other", good[:2] + b"\x03" + good[3:], "family")):
+        bad = folder / ("bad %s.bin" % name)
+        bad.write_bytes(image)
+        changed = paths[:number] + [str(bad)] + paths[number + 1:]
+        equal("refused file, " + name, error_of(union_of_files(changed)), (reason, number, str(bad)))
+    missing = str(folder / "missing")
+    try:
+        union_of_files(paths[:300] + [missing]).compute()
+        check("missing file", False)
+    except FileNotFoundError as error:
+        equal("missing file", error.filename, missing)
+
+
+def arguments(client, folder, images, paths):
+    for some in ((3,), (22,), (12, 5)):
+        try:
+            union_of_files(paths, *some)
+            check("arguments %s" % (some,), False)
+        except ArgumentError:
+            check("arguments", True)
+
+
+def bags(client, folder, images, paths):
+    some = images[:2000]
+    bag = dask.bag.from_sequence(some, npartitions=20)
+    equal("bag", image_by(union_of_bag(bag)), union_by_program(some))
+    equal("bag of sketches", image_by(union_of_bag(bag.map(Sketch.from_bytes), 11, 6)), union_by_program(some, 11, 6))
+    bad = dask.bag.from_sequence(some[:1234] + [b"\x02\x01\x07\x0a"] + some[1235:], partition_size=100)
+    equal("refused item", error_of(union_of_bag(bad)), ("truncated", 34, "partition 12, item 34"))
+
+
+def keys(client, folder, images, paths):
+    """By one key and by two; rows without a key or an image are passed over."""
+    numbers, some = random.Random(5), images[:2000]
+    frame = pandas.DataFrame({"day": [numbers.randrange(12) for _ in some], "page": [numbers.choice("abc") for _ in some],
+                              "image": some})
+    frame.loc[77, "image"] = None
+    frame.loc[99, "page"] = None
+    parts = dask.dataframe.from_pandas(frame, npartitions=17)
+
+    wanted = {key: union_by_program(list(rows.dropna()), 12, 4) for key, rows in frame.groupby("day")["image"]}
+    found = union_by_key(parts, "day", "image", width=4).compute()
+    equal("by key", found.to_dict(), wanted)
+    equal("names and order", (found.index.name, found.name, list(found.index)), ("day", "image", sorted(wanted)))
+
+    wanted = {key: union_by_program(list(rows.dropna())) for key, rows in frame.groupby(["page", "day"])["image"]}
+    found = union_by_key(parts, ["page", "day"], "image", split_every=2).compute()
+    equal("by two keys", (found.to_dict(), list(found.index.names)), (wanted, ["page", "day"]))
+
+    none = dask.dataframe.from_pandas(frame[:0], npartitions=1)
+    equal("no rows", len(union_by_key(none, ["page", "day"], "image").compute()), 0)
+    arrow(frame[:1000])
+    frame.loc[1537, "image"] = frame["image"][1537][:7]
+    bad = dask.dataframe.from_pandas(frame, chunksize=100, sort=False)
+    equal("refused row", error_of(union_by_key(bad, "day", "image")), ("truncated", 37, "partition 15, row 37"))
+
+
+def arrow(frame):
+    """A column of Arrow is that of pandas."""
+    try:
+        import pyarrow
+    except ImportError:
+        print("skipped: a column of Arrow, as no pyarrow is here")
+        return
+    frames = [frame, frame.assign(image=pandas.array(frame["image"], dtype=pandas.ArrowDtype(pyarrow.binary())))]
+    first, second = (union_by_key(dask.dataframe.from_pandas(one, npartitions=5), "day", "image").compute() for one in frames)
+    equal("Arrow", second.to_dict(), first.to_dict())
+
+
+def lost_worker(client, folder, images, paths):
+    """A worker is killed in the middle: its tasks are run again, and the union is the same."""
+    log = folder / "opened"
+    log.mkdir()
+    slow = [SlowPath(path, str(log), 0.0005) for path in paths]
+    wanted = union_by_program(images)
+    future = client.compute(union_of_files(slow, files_per_task=20, split_every=4))
+    while sum(opened(log).values()) < len(paths) // 3:
+        time.sleep(0.01)
+    victim, is_early = max(opened(log), key=opened(log).get), not future.done()
+    os.kill(victim, signal.SIGKILL)
+    equal("a worker killed", future.result(timeout=120).to_bytes(), wanted)
+    times = opened(log)
+    check("the worker was killed in the middle", is_early and victim not in client.run(os.getpid).values(), times)
+    check("its tasks were run again", sum(times.values()) > len(paths), times)
+    check("three workers had their part", len(times) >= 3, times)
+    print("  %d files, opened %d times, by %d processes" % (len(paths), sum(times.values()), len(times)))
+
+
+PARTS = [files, refused_files, arguments, bags, keys, lost_worker]
+
+
+def run(part, *arguments_of_all):
+    """Runs a part. One that breaks off is a failure, and the others go on."""
+    started = time.monotonic()
+    try:
+        part(*arguments_of_all)
+    except Exception as fault:
+        check(part.__name__, False, "%s: %s" % (type(fault).__name__, fault))
+    print("%s: %.1f s" % (part.__name__, time.monotonic() - started), flush=True)
+
+
+def main():
+    logging.disable(logging.ERROR)
+    images = random_images(FILES)
+    with tempfile.TemporaryDirectory(prefix="hll-") as name:
+        folder = pathlib.Path(name)
+        paths = write_files(folder, images)
+        # what workers say when one of them is killed, and when they end
+        os.dup2(os.open(folder / "log", os.O_WRONLY | os.O_CREAT), 2)
+        options = {"threads_per_worker": 1, "processes": True, "dashboard_address": None, "local_directory": name}
+        with LocalCluster(n_workers=3, **options) as cluster, Client(cluster) as client:
+            for part in PARTS:
+                run(part, client, folder, images, paths)
+    print("%(passed)d passed, %(failed)d failed" % counts)
+    return 1 if counts["failed"] else 0
+
+
+if __name__ == "__main__":
+    sys.exit(main())

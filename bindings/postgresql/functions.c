@@ -1,0 +1,223 @@
+/* SPDX-License-Identifier: Apache-2.0 */
+/*
+ * Functions of one image or two. Each is one call of the library.
+ */
+#include "hll_pg.h"
+
+#include "access/htup_details.h"
+#include "funcapi.h"
+#include "utils/builtins.h"
+
+PG_MODULE_MAGIC;
+
+/* A guess at what an image needs that changes its width or lg_k: only many exceptions of four bits need more. */
+#define CHANGED_ROOM(image) (2 * LENGTH(image) + 64)
+
+PG_FUNCTION_INFO_V1(hll_pg_empty);
+
+Datum
+hll_pg_empty(PG_FUNCTION_ARGS)
+{
+	uint8		lg_k = checked_lg_k("lg_k", PG_GETARG_INT32(0));
+	uint8		width = checked_width(PG_GETARG_INT32(1));
+	hll_status	status;
+	Output		out;
+
+	start_output(&out, 64);
+	do
+		status = hll_image_new(lg_k, width, OUTPUT(out));
+	while (grow_output(&out, status));
+	check_status(status);
+	PG_RETURN_BYTEA_P(end_output(&out));
+}
+
+/* The lg_k that the header names; where the bytes are no image, any that is in range: reading them refuses them. */
+static uint8
+named_lg_k(bytea *image)
+{
+	uint8		lg_k = LENGTH(image) < 8 ? 4 : BYTES(image)[3];
+
+	return lg_k < 4 || lg_k > 21 ? 4 : lg_k;
+}
+
+/* The width that the header names, likewise. */
+static uint8
+named_width(bytea *image)
+{
+	uint8		bits = LENGTH(image) < 8 ? 0 : (BYTES(image)[7] >> 2) & 3;
+
+	return bits == 3 ? 8 : 4 + 2 * bits;
+}
+
+PG_FUNCTION_INFO_V1(hll_pg_merge);
+
+/* The smaller lg_k and the greater width of both, so that merges may be grouped and ordered in any way. */
+Datum
+hll_pg_merge(PG_FUNCTION_ARGS)
+{
+	bytea	   *left = PG_GETARG_BYTEA_PP(0);
+	bytea	   *right = PG_GETARG_BYTEA_PP(1);
+	uint8		lg_k = Min(named_lg_k(left), named_lg_k(right));
+	uint8		width = Max(named_width(left), named_width(right));
+	size_t		failed = 0;
+	hll_status	status;
+	Output		out;
+
+	start_output(&out, Min(LENGTH(left) + LENGTH(right), (size_t) 1 << lg_k) + 64);
+	do
+		status = hll_image_merge(lg_k, width, IMAGE(left), IMAGE(right), OUTPUT(out), &failed);
+	while (grow_output(&out, status));
+	check_argument_status(status, failed);
+	PG_RETURN_BYTEA_P(end_output(&out));
+}
+
+PG_FUNCTION_INFO_V1(hll_pg_fold);
+
+Datum
+hll_pg_fold(PG_FUNCTION_ARGS)
+{
+	bytea	   *image = PG_GETARG_BYTEA_PP(0);
+	uint8		lg_k = checked_lg_k("lg_k", PG_GETARG_INT32(1));
+	hll_status	status;
+	Output		out;
+
+	start_output(&out, CHANGED_ROOM(image));
+	do
+		status = hll_image_fold(IMAGE(image), lg_k, OUTPUT(out));
+	while (grow_output(&out, status));
+	if (status == HLL_ARGUMENT)
+		ereport(ERROR,
+				(errcode(ERRCODE_INVALID_PARAMETER_VALUE),
+				 errmsg("lg_k must be at most that of the image, not %d", lg_k)));
+	check_status(status);
+	PG_RETURN_BYTEA_P(end_output(&out));
+}
+
+PG_FUNCTION_INFO_V1(hll_pg_convert);
+
+Datum
+hll_pg_convert(PG_FUNCTION_ARGS)
+{
+	bytea	   *image = PG_GETARG_BYTEA_PP(0);
+	uint8		width = checked_width(PG_GETARG_INT32(1));
+	hll_status	status;
+	Output		out;
+
+	start_output(&out, CHANGED_ROOM(image));
+	do
+		status = hll_image_convert(IMAGE(image), width, OUTPUT(out));
+	while (grow_output(&out, status));
+	check_status(status);
+	PG_RETURN_BYTEA_P(end_output(&out));
+}
+
+PG_FUNCTION_INFO_V1(hll_pg_words);
+
+Datum
+hll_pg_words(PG_FUNCTION_ARGS)
+{
+	bytea	   *image = PG_GETARG_BYTEA_PP(0);
+	hll_status	status;
+	Output		out;
+
+	start_output(&out, LENGTH(image) + 64);
+	do
+		status = hll_image_set_estimator_words(IMAGE(image), OUTPUT(out));
+	while (grow_output(&out, status));
+	check_status(status);
+	PG_RETURN_BYTEA_P(end_output(&out));
+}
+
+PG_FUNCTION_INFO_V1(hll_pg_agree);
+
+Datum
+hll_pg_agree(PG_FUNCTION_ARGS)
+{
+	bytea	   *left = PG_GETARG_BYTEA_PP(0);
+	bytea	   *right = PG_GETARG_BYTEA_PP(1);
+	uint8		same = 0;
+	size_t		failed = 0;
+	hll_status	status = hll_images_agree(IMAGE(left), IMAGE(right), &same, &failed);
+
+	check_argument_status(status, failed);
+	PG_RETURN_BOOL(same != 0);
+}
+
+PG_FUNCTION_INFO_V1(hll_pg_check);
+
+/* The word of the reason why the bytes are no image, or NULL. */
+Datum
+hll_pg_check(PG_FUNCTION_ARGS)
+{
+	bytea	   *image = PG_GETARG_BYTEA_PP(0);
+	hll_status	status = hll_image_check(IMAGE(image));
+
+	if (status == HLL_OK)
+		PG_RETURN_NULL();
+	if (status > HLL_REGISTER)
+		check_status(status);
+	PG_RETURN_TEXT_P(cstring_to_text(hll_reason(status)));
+}
+
+/* The row that the function answers, of values that are not NULL. */
+static Datum
+row_of(FunctionCallInfo fcinfo, Datum *values)
+{
+	bool		nulls[8] = {false};
+	TupleDesc	columns;
+
+	if (get_call_result_type(fcinfo, NULL, &columns) != TYPEFUNC_COMPOSITE)
+		elog(ERROR, "the function answers a row");
+	return HeapTupleGetDatum(heap_form_tuple(BlessTupleDesc(columns), values, nulls));
+}
+
+PG_FUNCTION_INFO_V1(hll_pg_info);
+
+Datum
+hll_pg_info(PG_FUNCTION_ARGS)
+{
+	static const char *const stages[] = {"list", "set", "registers"};
+	bytea	   *image = PG_GETARG_BYTEA_PP(0);
+	hll_info	info;
+	Datum		values[5];
+
+	check_status(hll_image_info(IMAGE(image), &info));
+	values[0] = Int32GetDatum(info.lg_k);
+	values[1] = Int32GetDatum(info.width);
+	values[2] = CStringGetTextDatum(stages[info.stage]);
+	values[3] = Int64GetDatum((int64) info.coupons);
+	values[4] = Int64GetDatum((int64) info.zeros);
+	return row_of(fcinfo, values);
+}
+
+PG_FUNCTION_INFO_V1(hll_pg_estimate);
+
+Datum
+hll_pg_estimate(PG_FUNCTION_ARGS)
+{
+	bytea	   *image = PG_GETARG_BYTEA_PP(0);
+	hll_estimation found;
+
+	check_status(hll_estimate(IMAGE(image), &found));
+	PG_RETURN_FLOAT8(found.estimate);
+}
+
+PG_FUNCTION_INFO_V1(hll_pg_estimate_bounds);
+
+Datum
+hll_pg_estimate_bounds(PG_FUNCTION_ARGS)
+{
+	bytea	   *image = PG_GETARG_BYTEA_PP(0);
+	int32		deviations = PG_GETARG_INT32(1);
+	hll_estimation found;
+	Datum		values[2];
+
+	if (deviations < 1 || deviations > 3)
+		ereport(ERROR,
+				(errcode(ERRCODE_INVALID_PARAMETER_VALUE),
+				 errmsg("deviations must be 1, 2 or 3, not %d", deviations)));
+	check_status(hll_estimate(IMAGE(image), &found));
+	values[0] = Float8GetDatum(found.lower[deviations - 1]);
+	values[1] = Float8GetDatum(found.upper[deviations - 1]);
+	return row_of(fcinfo, values);
+}

@@ -1,0 +1,54 @@
+/* SPDX-License-Identifier: Apache-2.0 */
+/*
+ * What the files of the extension share: the bytes of a bytea, refusals as errors, and room for an image.
+ *
+ * A call of the library returns before any ereport, and has given back its memory by then. Buffers are palloc'd. So an
+ * error, a cancelled query or a timeout leaves nothing behind.
+ */
+#ifndef HLL_PG_H
+#define HLL_PG_H
+
+#include "postgres.h"
+#include "fmgr.h"
+#if PG_VERSION_NUM >= 160000
+#include "varatt.h"
+#endif
+
+#include "hll.h"
+
+#define BYTES(varlena) ((const uint8 *) VARDATA_ANY(varlena))
+#define LENGTH(varlena) ((size_t) VARSIZE_ANY_EXHDR(varlena))
+
+/* bytes and their length, as the library takes them */
+#define IMAGE(varlena) BYTES(varlena), LENGTH(varlena)
+
+/*
+ * The bytea that a call writes an image into. The first room is a guess; where the call says that it is too small,
+ * grow_output makes it as large as is needed, and the call is made again:
+ *
+ *     start_output(&out, room);
+ *     do
+ *         status = hll_image_convert(IMAGE(image), width, OUTPUT(out));
+ *     while (grow_output(&out, status));
+ */
+typedef struct Output
+{
+	bytea	   *bytes;
+	size_t		room;
+	size_t		size;
+} Output;
+
+#define OUTPUT(out) (uint8 *) VARDATA((out).bytes), (out).room, &(out).size
+
+extern void start_output(Output *out, size_t room);
+extern bool grow_output(Output *out, hll_status status);
+extern bytea *end_output(Output *out);
+
+/* Each raises an error unless the status is HLL_OK, or the number is in range. */
+extern void check_status(hll_status status);
+extern void check_argument_status(hll_status status, size_t argument);
+extern void check_row_status(hll_status status, int64 row);
+extern uint8 checked_lg_k(const char *name, int32 lg_k);
+extern uint8 checked_width(int32 width);
+
+#endif

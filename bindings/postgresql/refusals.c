@@ -1,0 +1,116 @@
+/* SPDX-License-Identifier: Apache-2.0 */
+/*
+ * Refusals of the library as errors of PostgreSQL, and the room for what it writes.
+ *
+ * An image that is refused is 22P03 (invalid_binary_representation), a number out of its range is 22023
+ * (invalid_parameter_value), memory that was refused is 53200 (out_of_memory).
+ */
+#include "hll_pg.h"
+
+/* What is wrong with an image, by the number of the reason. */
+static const char *
+detail_of(hll_status status)
+{
+	static const char *const details[] = {
+		"",
+		"The bytes end inside what the header asks for.",
+		"The family byte is not 7.",
+		"The serial version is not 1.",
+		"The lg_k byte is outside 4 to 21.",
+		"The width bits are 3.",
+		"The stage bits are 3.",
+		"The preamble words do not fit the stage.",
+		"The size of a table is outside its range.",
+		"A count is above its bound, or not the number of filled places.",
+		"A coupon has the value 0 where a coupon is needed, or comes twice.",
+		"A register is above 63, or nibbles and exceptions do not agree."
+	};
+
+	return details[status];
+}
+
+/* Raises an error; `place` says which image was refused, where there are several. */
+static void
+refuse(hll_status status, const char *place)
+{
+	if (status == HLL_MEMORY)
+		ereport(ERROR,
+				(errcode(ERRCODE_OUT_OF_MEMORY),
+				 errmsg("out of memory"),
+				 errdetail("Memory for an HLL sketch was refused.")));
+	if (status < HLL_TRUNCATED || status > HLL_REGISTER)
+		elog(ERROR, "unexpected answer of the HLL library: %s", hll_reason(status));
+	ereport(ERROR,
+			(errcode(ERRCODE_INVALID_BINARY_REPRESENTATION),
+			 errmsg("invalid HLL image%s: %s", place, hll_reason(status)),
+			 errdetail("%s", detail_of(status))));
+}
+
+void
+check_status(hll_status status)
+{
+	if (status != HLL_OK)
+		refuse(status, "");
+}
+
+/* Of a call with several images: the number of the one at fault, from 0. */
+void
+check_argument_status(hll_status status, size_t argument)
+{
+	if (status != HLL_OK)
+		refuse(status, psprintf(" in argument %d", (int) argument + 1));
+}
+
+/* Of an aggregate: the number of the row, from 1; 0 where there is none. */
+void
+check_row_status(hll_status status, int64 row)
+{
+	if (status != HLL_OK)
+		refuse(status, row == 0 ? "" : psprintf(" in row " INT64_FORMAT, row));
+}
+
+uint8
+checked_lg_k(const char *name, int32 lg_k)
+{
+	if (lg_k < 4 || lg_k > 21)
+		ereport(ERROR,
+				(errcode(ERRCODE_INVALID_PARAMETER_VALUE),
+				 errmsg("%s must be between 4 and 21, not %d", name, lg_k)));
+	return (uint8) lg_k;
+}
+
+uint8
+checked_width(int32 width)
+{
+	if (width != 4 && width != 6 && width != 8)
+		ereport(ERROR,
+				(errcode(ERRCODE_INVALID_PARAMETER_VALUE),
+				 errmsg("width must be 4, 6 or 8, not %d", width)));
+	return (uint8) width;
+}
+
+void
+start_output(Output *out, size_t room)
+{
+	out->room = room;
+	out->size = 0;
+	out->bytes = palloc(VARHDRSZ + room);
+}
+
+/* Whether the room was too small: then there is enough, and the call is to be made again. */
+bool
+grow_output(Output *out, hll_status status)
+{
+	if (status != HLL_BUFFER)
+		return false;
+	pfree(out->bytes);
+	start_output(out, out->size);
+	return true;
+}
+
+bytea *
+end_output(Output *out)
+{
+	SET_VARSIZE(out->bytes, VARHDRSZ + out->size);
+	return out->bytes;
+}

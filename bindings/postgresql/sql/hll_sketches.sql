@@ -1,0 +1,24 @@
+CREATE EXTENSION hll_sketches;
+-- sketches of values
+SELECT hll_image_add_agg(v) FROM unnest(ARRAY['a', 'b', 'a', NULL]) v;
+SELECT hll_image_add_agg(x, 10, 4) FROM generate_series(1, 3) x;
+SELECT hll_image_add_agg('\x61'::bytea) = hll_image_add_agg('a') AS same_bytes;
+SELECT hll_image_add_agg(v) IS NULL AS is_null FROM unnest(ARRAY[NULL]::text[]) v;
+-- unions
+CREATE TABLE shards AS SELECT n, hll_image_add_agg(x) AS image FROM generate_series(1, 4) n, generate_series(n * 1000, n * 1000 + 1999) x GROUP BY n;
+SELECT hll_info(hll_image_union_agg(image)), hll_image_union_agg(image) = (SELECT hll_image_add_agg(x) FROM generate_series(1000, 5999) x) AS is_of_all FROM shards;
+SELECT hll_image_union_agg(image, 10) = hll_fold(hll_image_union_agg(image), 10) AS folds FROM shards;
+SELECT hll_merge(a.image, b.image) = hll_merge(b.image, a.image) AS commutes FROM shards a, shards b WHERE a.n = 1 AND b.n = 2;
+SELECT hll_agree(image, hll_convert(image, 4)) AS agree, hll_agree(image, hll_image_empty()) AS agrees_with_none FROM shards WHERE n = 1;
+-- estimates
+SELECT n, hll_estimate(image) BETWEEN b.lower AND b.upper AS is_between, 2000 BETWEEN b.lower AND b.upper AS is_near FROM shards, hll_estimate_bounds(image, 3) b ORDER BY n;
+-- refusals
+SELECT hll_check('\x0201070a030801080500000c') AS image, hll_check('\x0201070a') AS cut, hll_check('\x0201080a00000000') AS other;
+\set VERBOSITY terse
+SELECT hll_fold('\x0201070a', 4);
+SELECT hll_fold(hll_image_empty(10), 11);
+SELECT hll_image_union_agg(i) FROM (VALUES (hll_image_empty()), (NULL), ('\x0301070c04080009')) x(i);
+SELECT hll_image_add_agg('a', 22);
+SELECT '\x00'::bytea::hll_image;
+DROP TABLE shards;
+DROP EXTENSION hll_sketches;

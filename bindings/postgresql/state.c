@@ -1,0 +1,195 @@
+/* SPDX-License-Identifier: Apache-2.0 */
+#include "state.h"
+
+#include "miscadmin.h"
+#include "utils/memutils.h"
+
+#define BATCH_SIZE ((size_t) 8 * 1024)
+#define BATCH_COUNT 1024
+
+/* Registers of eight bits, and their header. A list or a set is smaller than the registers in its place. */
+#define MOST_ROOM(lg_k) (((size_t) 1 << (lg_k)) + 64)
+
+State *
+new_state(MemoryContext context, uint8 lg_k, uint8 width)
+{
+	State	   *state = MemoryContextAllocZero(context, sizeof(State));
+
+	state->context = context;
+	state->lg_k = lg_k;
+	state->width = width;
+	return state;
+}
+
+/* Whether neither an image nor a value has come. */
+bool
+is_vacant(const State *state)
+{
+	return state->image_size == 0 && state->n == 0;
+}
+
+/* An array of the state with room for `count` elements, which keeps what it has. */
+static void *
+resized(State *state, void *array, size_t count, size_t element)
+{
+	if (array == NULL)
+		return MemoryContextAllocHuge(state->context, count * element);
+	return repalloc_huge(array, count * element);
+}
+
+/* How many bytes may wait. */
+static size_t
+batch_size(const State *state)
+{
+	return Max(BATCH_SIZE, 2 * state->image_size);
+}
+
+/* Makes room for so many bytes, and for one that waits. The room doubles, up to that of the image and a batch. */
+static void
+make_room(State *state, size_t size)
+{
+	size_t		needed = state->used + size;
+
+	if (needed > state->room)
+	{
+		size_t		room = Min(2 * state->room, state->image_size + batch_size(state));
+
+		state->room = Max(Max(room, needed), 64);
+		state->bytes = resized(state, state->bytes, state->room, 1);
+	}
+	if (state->n + 1 >= state->n_room)
+	{
+		int			n_room = Max(2 * state->n_room, 4);
+
+		state->ends = resized(state, state->ends, n_room, sizeof(size_t));
+		state->rows_of = resized(state, state->rows_of, n_room, sizeof(int64));
+		state->n_room = n_room;
+	}
+}
+
+/* Puts an image of the library's in the place of all that there is. */
+void
+set_image(State *state, const uint8 *image, size_t size)
+{
+	state->used = 0;
+	state->n = 0;
+	make_room(state, size);
+	memcpy(state->bytes, image, size);
+	state->used = size;
+	state->image_size = size;
+	state->ends[0] = size;
+	state->rows_of[0] = 0;
+}
+
+/* Puts bytes behind what waits. */
+static void
+append(State *state, const uint8 *bytes, size_t size, int64 row)
+{
+	make_room(state, size);
+	memcpy(state->bytes + state->used, bytes, size);
+	state->used += size;
+	state->n++;
+	state->ends[state->n] = state->used - (state->has_values ? state->image_size : 0);
+	state->rows_of[state->n] = row;
+}
+
+/* Whether a batch with so many bytes more would be too large. */
+static bool
+is_full(const State *state, size_t size)
+{
+	size_t		most = Max(BATCH_COUNT, state->image_size / 32);
+
+	return state->n > 0 && (state->used - state->image_size + size > batch_size(state) || (size_t) state->n >= most);
+}
+
+static hll_status
+add_values(State *state, Output *out)
+{
+	return hll_image_add(state->bytes, state->image_size, state->bytes + state->image_size,
+						 state->used - state->image_size, state->ends + 1, state->n, OUTPUT(*out));
+}
+
+static hll_status
+join_images(State *state, uint8 width, Output *out, size_t *failed)
+{
+	int			first = state->image_size == 0 ? 1 : 0;
+	hll_status	status = hll_images_union(state->lg_k, width, state->bytes, state->used, state->ends + first,
+										  state->n + 1 - first, OUTPUT(*out), failed);
+
+	*failed += first;
+	return status;
+}
+
+/* The image with what waits joined to it, at a width (of values: at eight bits), in the current context. */
+static bytea *
+joined(State *state, uint8 width)
+{
+	hll_status	status;
+	size_t		failed;
+	Output		out;
+
+	CHECK_FOR_INTERRUPTS();
+	start_output(&out, Min(MOST_ROOM(state->lg_k), Max(2 * state->used, BATCH_SIZE)));
+	do
+	{
+		failed = 0;
+		status = state->has_values ? add_values(state, &out) : join_images(state, width, &out, &failed);
+	} while (grow_output(&out, status));
+	check_row_status(status, state->rows_of[failed]);
+	return end_output(&out);
+}
+
+/* Joins what waits to the image. */
+void
+settle(State *state)
+{
+	bytea	   *image;
+
+	if (state->n == 0)
+		return;
+	image = joined(state, 8);
+	set_image(state, (uint8 *) VARDATA(image), VARSIZE(image) - VARHDRSZ);
+	pfree(image);
+}
+
+void
+take_image(State *state, const uint8 *image, size_t size, int64 row)
+{
+	if (state->has_values || is_full(state, size))
+		settle(state);
+	state->has_values = false;
+	append(state, image, size, row);
+}
+
+static void
+set_empty_image(State *state)
+{
+	uint8		image[64];
+	size_t		size;
+
+	check_status(hll_image_new(state->lg_k, 8, image, sizeof(image), &size));
+	set_image(state, image, size);
+}
+
+void
+take_value(State *state, const uint8 *value, size_t size)
+{
+	if (!state->has_values || is_full(state, size))
+		settle(state);
+	state->has_values = true;
+	if (state->image_size == 0)
+		set_empty_image(state);
+	append(state, value, size, 0);
+}
+
+/* The answer, in the current context. Of values the batch is joined before, as their call keeps the width. */
+bytea *
+answer_of(State *state)
+{
+	if (state->has_values)
+	{
+		settle(state);
+		state->has_values = false;
+	}
+	return joined(state, state->width);
+}

@@ -1,0 +1,35 @@
+# SPDX-License-Identifier: Apache-2.0
+"""HyperLogLog sketches in the DataSketches format.
+
+A sketch counts distinct values in a few kilobytes, within a per cent or two, and sketches merge
+into that of all their values.
+
+    >>> from hll_sketches import Sketch, union_of
+    >>> monday, tuesday = Sketch(), Sketch()
+    >>> monday.update_many(["ann", "bob", "cid"])
+    >>> tuesday.update_many(["bob", "dan"])
+    >>> round(union_of([monday, tuesday]).estimate())
+    4
+
+Sketches, and their images as bytes, are read, made and merged by a shared library that is proved.
+Estimates, and this package itself, are tested and not proved.
+"""
+from ._errors import ArgumentError, HllError, ImageError
+from ._values import Value, coupon, coupons
+from .sketch import Sketch, check
+from .union import Union, union_of
+
+__version__ = "0.1.0"
+
+__all__ = [
+    "ArgumentError",
+    "HllError",
+    "ImageError",
+    "Sketch",
+    "Union",
+    "Value",
+    "check",
+    "coupon",
+    "coupons",
+    "union_of",
+]

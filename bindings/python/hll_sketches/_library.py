@@ -1,0 +1,350 @@
+# SPDX-License-Identifier: Apache-2.0
+"""The shared library: where it is, and its calls over bytes.
+
+Bytes are passed as they are, without a copy, and no call keeps a pointer. While a call runs, other
+threads of Python run too.
+"""
+from __future__ import annotations
+
+import ctypes
+import os
+import pathlib
+from array import array
+from ctypes import POINTER, byref, c_char_p, c_double, c_size_t, c_void_p
+from ctypes import c_uint8, c_uint32, c_uint64
+from itertools import accumulate
+from typing import Callable, List, Optional, Sequence, Tuple
+
+from ._errors import ArgumentError, ImageError
+
+WORDS = (
+    "ok",
+    "truncated",
+    "family",
+    "version",
+    "lgk",
+    "width",
+    "stage",
+    "preamble",
+    "lgarr",
+    "count",
+    "coupon",
+    "register",
+    "argument",
+    "memory",
+    "buffer",
+)
+OK, ARGUMENT, MEMORY, BUFFER = 0, 12, 13, 14
+LEAST_LG_K, MOST_LG_K = 4, 21
+
+
+class Info(ctypes.Structure):
+    """``hll_info`` of hll.h."""
+
+    _fields_ = [
+        ("coupons", c_uint64),
+        ("zeros", c_uint64),
+        ("units_high", c_uint64),
+        ("units_low", c_uint64),
+        ("hip", c_uint64),
+        ("kxq0", c_uint64),
+        ("kxq1", c_uint64),
+        ("lg_k", c_uint8),
+        ("width", c_uint8),
+        ("stage", c_uint8),
+        ("is_empty", c_uint8),
+        ("out_of_order", c_uint8),
+    ]
+
+
+class Histogram(ctypes.Structure):
+    """``hll_histogram`` of hll.h."""
+
+    _fields_ = [("counts", c_uint64 * 64)]
+
+
+class Estimation(ctypes.Structure):
+    """``hll_estimation`` of hll.h."""
+
+    _fields_ = [
+        ("estimate", c_double),
+        ("relative_standard_error", c_double),
+        ("lower", c_double * 3),
+        ("upper", c_double * 3),
+    ]
+
+
+_IMAGE = [c_char_p, c_size_t]
+_ENDS = [c_void_p, c_size_t]
+_OUT = [c_void_p, c_size_t, c_void_p]
+_CALLS = {
+    "hll_image_info": _IMAGE + [POINTER(Info)],
+    "hll_image_check": _IMAGE,
+    "hll_image_histogram": _IMAGE + [POINTER(Histogram)],
+    "hll_image_new": [c_uint8, c_uint8] + _OUT,
+    "hll_image_add": _IMAGE + _IMAGE + _ENDS + _OUT,
+    "hll_image_add_coupon": _IMAGE + [c_uint32, c_uint8] + _OUT,
+    "hll_image_merge": [c_uint8, c_uint8] + _IMAGE + _IMAGE + _OUT + [c_void_p],
+    "hll_images_union": [c_uint8, c_uint8] + _IMAGE + _ENDS + _OUT + [c_void_p],
+    "hll_image_fold": _IMAGE + [c_uint8] + _OUT,
+    "hll_image_convert": _IMAGE + [c_uint8] + _OUT,
+    "hll_image_set_estimator_words": _IMAGE + _OUT,
+    "hll_images_agree": _IMAGE + _IMAGE + [POINTER(c_uint8), c_void_p],
+    "hll_coupons": _IMAGE + _ENDS + [c_void_p, c_size_t],
+    "hll_estimate": _IMAGE + [POINTER(Estimation)],
+}
+
+
+def _places() -> List[str]:
+    """Where the library may be, in the order in which it is sought."""
+    named = os.environ.get("HLL_SKETCHES_LIBRARY")
+    if named:
+        return [named]
+    package = pathlib.Path(__file__).resolve().parent
+    near = [
+        package / "libhll.so",
+        package / "libhll.so.0",
+        package.parent.parent / "c" / "build" / "libhll.so",
+    ]
+    found = [str(place) for place in near if place.exists()]
+    if not found:
+        from ctypes.util import find_library
+
+        installed = find_library("hll")
+        found = [installed] if installed else []
+    return found
+
+
+def _load() -> ctypes.CDLL:
+    """The library with the types of its calls."""
+    places = _places()
+    if not places:
+        raise ImportError(
+            "hll_sketches needs the shared library libhll.so: build it by `make` in bindings/c, or"
+            " install it, or name it in the environment variable HLL_SKETCHES_LIBRARY"
+        )
+    try:
+        library = ctypes.CDLL(places[0])
+        for name, types in _CALLS.items():
+            call = getattr(library, name)
+            call.argtypes, call.restype = types, c_uint8
+        library.hll_coupon.argtypes, library.hll_coupon.restype = _IMAGE, c_uint32
+    except (OSError, AttributeError) as error:
+        raise ImportError(f"hll_sketches can't use the library {places[0]}: {error}") from error
+    return library
+
+
+_library = _load()
+
+# ---- batches
+
+_END = next(code for code in "LQI" if array(code).itemsize == ctypes.sizeof(c_size_t))
+_COUPON = next(code for code in "IL" if array(code).itemsize == 4)
+
+
+def ends_of(pieces: Sequence[bytes]) -> array:
+    """Where each of the byte strings ends, if they stand one after another."""
+    return array(_END, accumulate(map(len, pieces)))
+
+
+def ends_of_eights(count: int) -> array:
+    """The ends of so many strings of eight bytes."""
+    return array(_END, range(8, 8 * count + 1, 8))
+
+
+def _address(numbers: array) -> int:
+    """Where the numbers are; never NULL."""
+    if not numbers:
+        numbers.append(0)
+    return numbers.buffer_info()[0]
+
+
+# ---- answers
+
+
+def _refusal(status: int, number: Optional[int] = None) -> Exception:
+    """What is raised for a status."""
+    if status == ARGUMENT:
+        return ArgumentError("an argument is out of its range")
+    if status == MEMORY:
+        return MemoryError("memory was refused")
+    return ImageError(WORDS[status], number)
+
+
+def _written(call: Callable[..., int], room: int, *arguments: object) -> bytes:
+    """The image that a call writes; it is asked again where it needs more room."""
+    size = c_size_t()
+    while True:
+        out = bytearray(room)
+        status = call(*arguments, byref(c_uint8.from_buffer(out)), room, byref(size))
+        if status == OK:
+            return bytes(memoryview(out)[: size.value])
+        if status != BUFFER:
+            raise _refusal(status)
+        room = size.value
+
+
+def room_for(lg_k: int) -> int:
+    """Bytes that are enough for nearly each image of this ``lg_k``."""
+    return 64 + (1 << lg_k)
+
+
+# ---- the calls
+
+
+def new(lg_k: int, width: int) -> bytes:
+    """The image of an empty sketch."""
+    return _written(_library.hll_image_new, 64, lg_k, width)
+
+
+def info(image: bytes) -> Info:
+    """What an image says."""
+    found = Info()
+    status = _library.hll_image_info(image, len(image), byref(found))
+    if status != OK:
+        raise _refusal(status)
+    return found
+
+
+def check(image: bytes) -> int:
+    """The status of the bytes, which is not that of memory."""
+    status = _library.hll_image_check(image, len(image))
+    if status == MEMORY:
+        raise _refusal(status)
+    return status
+
+
+def histogram(image: bytes) -> List[int]:
+    """How many registers have each value."""
+    found = Histogram()
+    status = _library.hll_image_histogram(image, len(image), byref(found))
+    if status != OK:
+        raise _refusal(status)
+    return list(found.counts)
+
+
+def estimation(image: bytes) -> Estimation:
+    """An estimate with its bounds."""
+    found = Estimation()
+    status = _library.hll_estimate(image, len(image), byref(found))
+    if status != OK:
+        raise _refusal(status)
+    return found
+
+
+def add(image: bytes, values: bytes, ends: array) -> bytes:
+    """The image with values, told by their ends."""
+    count = len(ends)
+    room = room_for(image[3])
+    return _written(
+        _library.hll_image_add, room, image, len(image), values, len(values), _address(ends), count
+    )
+
+
+def add_coupon(image: bytes, slot: int, value: int) -> bytes:
+    """The image with a coupon."""
+    return _written(
+        _library.hll_image_add_coupon, room_for(image[3]), image, len(image), slot, value
+    )
+
+
+def merge(lg_max_k: int, width: int, left: bytes, right: bytes) -> bytes:
+    """The image of the union of two images."""
+    size, failed, room = c_size_t(), c_size_t(), room_for(lg_max_k)
+    while True:
+        out = bytearray(room)
+        status = _library.hll_image_merge(
+            lg_max_k,
+            width,
+            left,
+            len(left),
+            right,
+            len(right),
+            byref(c_uint8.from_buffer(out)),
+            room,
+            byref(size),
+            byref(failed),
+        )
+        if status == OK:
+            return bytes(memoryview(out)[: size.value])
+        if status != BUFFER:
+            raise _refusal(status, failed.value)
+        room = size.value
+
+
+def union(lg_max_k: int, width: int, images: Sequence[bytes]) -> bytes:
+    """The image of the union; an ``ImageError`` has the number of the image."""
+    joined, ends = b"".join(images), ends_of(images)
+    count, size, failed = len(ends), c_size_t(), c_size_t()
+    address, room = _address(ends), room_for(lg_max_k)
+    while True:
+        out = bytearray(room)
+        status = _library.hll_images_union(
+            lg_max_k,
+            width,
+            joined,
+            len(joined),
+            address,
+            count,
+            byref(c_uint8.from_buffer(out)),
+            room,
+            byref(size),
+            byref(failed),
+        )
+        if status == OK:
+            return bytes(memoryview(out)[: size.value])
+        if status != BUFFER:
+            raise _refusal(status, failed.value)
+        room = size.value
+
+
+def fold(image: bytes, lg_k: int) -> bytes:
+    """The image at a smaller ``lg_k``."""
+    return _written(_library.hll_image_fold, room_for(lg_k), image, len(image), lg_k)
+
+
+def convert(image: bytes, width: int) -> bytes:
+    """The image at a width."""
+    lg_k = image[3] if len(image) > 3 and image[3] <= MOST_LG_K else LEAST_LG_K
+    return _written(_library.hll_image_convert, room_for(lg_k), image, len(image), width)
+
+
+def set_estimator_words(image: bytes) -> bytes:
+    """The image with the words from which others estimate."""
+    return _written(
+        _library.hll_image_set_estimator_words, room_for(image[3]), image, len(image)
+    )
+
+
+def agree(left: bytes, right: bytes) -> bool:
+    """Whether two images have the same registers at the smaller ``lg_k``."""
+    same, failed = c_uint8(), c_size_t()
+    status = _library.hll_images_agree(
+        left, len(left), right, len(right), byref(same), byref(failed)
+    )
+    if status != OK:
+        raise _refusal(status, failed.value)
+    return same.value == 1
+
+
+def coupon(value: bytes) -> int:
+    """The raw word of the coupon of a value."""
+    return _library.hll_coupon(value, len(value))
+
+
+def coupons(values: bytes, ends: array) -> array:
+    """The raw words of the coupons of values, told by their ends."""
+    made = array(_COUPON, bytes(4 * len(ends)))
+    if made:
+        count = len(ends)
+        status = _library.hll_coupons(
+            values, len(values), _address(ends), count, made.buffer_info()[0], count
+        )
+        if status != OK:
+            raise _refusal(status)
+    return made
+
+
+def width_in(image: bytes) -> int:
+    """The width that the header says; 8 where there is none."""
+    return (4, 6, 8, 8)[image[7] >> 2 & 3] if len(image) > 7 else 8

@@ -1,0 +1,385 @@
+# SPDX-License-Identifier: Apache-2.0
+"""Sketches of distinct values."""
+from __future__ import annotations
+
+import threading
+from operator import index
+from typing import Iterable, List, Optional, Tuple, Type, TypeVar, Union
+
+from . import _library
+from ._errors import ArgumentError
+from ._values import Value, batches, bytes_of
+
+_S = TypeVar("_S", bound="Sketch")
+
+_STAGES = ("list", "set", "registers")
+
+PENDING_VALUES, PENDING_BYTES = 4096, 1 << 20
+
+
+def checked_lg_k(lg_k: int) -> int:
+    """An ``lg_k`` that is in its range."""
+    lg_k = index(lg_k)
+    if not _library.LEAST_LG_K <= lg_k <= _library.MOST_LG_K:
+        raise ArgumentError(f"an lg_k is 4 to 21, not {lg_k}")
+    return lg_k
+
+
+def checked_width(width: int) -> int:
+    """A width that is one."""
+    width = index(width)
+    if width not in (4, 6, 8):
+        raise ArgumentError(f"a width is 4, 6 or 8 bits, not {width}")
+    return width
+
+
+def data_in(source: Union[bytes, bytearray, memoryview]) -> bytes:
+    """The bytes of what holds bytes."""
+    if isinstance(source, bytes):
+        return source
+    if isinstance(source, (bytearray, memoryview)):
+        return bytes(source)
+    raise TypeError(f"the bytes of a sketch, not {type(source).__name__}")
+
+
+def image_in(source: Union["Sketch", bytes, bytearray, memoryview]) -> bytes:
+    """The image of a sketch, or bytes that may be one."""
+    return source.to_bytes() if isinstance(source, Sketch) else data_in(source)
+
+
+def check(image: Union[bytes, bytearray, memoryview]) -> Optional[str]:
+    """Whether bytes begin with the image of a sketch.
+
+    Parameters
+    ----------
+    image : bytes, bytearray or memoryview
+        Bytes behind the image are not looked at.
+
+    Returns
+    -------
+    str or None
+        None if they do; else the word of the first check that they fail, as in
+        ``ImageError.reason``.
+    """
+    status = _library.check(data_in(image))
+    return None if status == _library.OK else _library.WORDS[status]
+
+
+class Sketch:
+    """A HyperLogLog sketch: it counts distinct values.
+
+    A sketch begins as a list of what it keeps of each value (a coupon), becomes a set of coupons,
+    and then ``2**lg_k`` registers. While it is a list or a set its estimate is nearly exact; then
+    the relative standard error is about ``1.04 / sqrt(2**lg_k)``, which is 1.6 % for 12.
+
+    ``update``, ``update_many``, ``add_coupon``, ``merge`` and ``|=`` change a sketch; all else
+    leaves it as it is. Any number of threads may use a sketch at once, and change it.
+
+    Parameters
+    ----------
+    lg_k : int
+        The logarithm of the number of registers, 4 to 21.
+    width : int
+        The bits of a register, 4, 6 or 8. Registers of 8 bits are the fastest; those of 6 and 4
+        take three quarters and half of the memory, and say the same.
+
+    Raises
+    ------
+    ArgumentError
+        If ``lg_k`` or ``width`` is out of its range.
+    """
+
+    __slots__ = ("_image", "_pending", "_pending_bytes", "_lock", "__weakref__")
+    __hash__ = None  # type: ignore[assignment]
+
+    def __init__(self, lg_k: int = 12, width: int = 8) -> None:
+        self._set(_library.new(checked_lg_k(lg_k), checked_width(width)))
+
+    def _set(self, image: bytes) -> None:
+        """Begins with an image as the library writes it."""
+        self._image = image
+        self._pending: List[bytes] = []
+        self._pending_bytes = 0
+        self._lock = threading.RLock()
+
+    @classmethod
+    def _of(cls: Type[_S], image: bytes) -> _S:
+        made = cls.__new__(cls)
+        made._set(image)
+        return made
+
+    # ---- images
+
+    @classmethod
+    def from_bytes(cls: Type[_S], image: Union[bytes, bytearray, memoryview]) -> _S:
+        """Read the image of a sketch, which any DataSketches library may have written.
+
+        Parameters
+        ----------
+        image : bytes, bytearray or memoryview
+            The image; bytes behind it are not looked at.
+
+        Raises
+        ------
+        ImageError
+            If the bytes are no image.
+        """
+        data = data_in(image)
+        return cls._of(_library.convert(data, _library.width_in(data)))
+
+    def to_bytes(self) -> bytes:
+        """Return the image: compact, with coupons in ascending order.
+
+        Equal sketches have equal images, but for sets that were read in tables of two sizes.
+        """
+        if self._pending:
+            self._apply()
+        return self._image
+
+    __bytes__ = to_bytes
+
+    # ---- changes
+
+    def update(self, value: Value) -> None:
+        """Count a value. One that was counted before changes nothing.
+
+        Values are kept and hashed together: once there are 4,096 of them, or a megabyte, or the
+        sketch is asked for anything. So memory may be refused by the call that asks.
+
+        Parameters
+        ----------
+        value : bytes, bytearray, memoryview, str, int or float
+            Hashed as bytes: of ``str`` its UTF-8, of ``int`` eight bytes, little-endian (in two's
+            complement if it is negative), of ``float`` its binary64, little-endian, with -0.0 as
+            0.0 and one NaN for all. The other DataSketches libraries hash the same bytes, but they
+            pass over an empty string, which is a value like any other here. So ``1``, ``1.0`` and
+            ``"1"`` are three values, and ``-1`` is the same as ``2**64 - 1``.
+
+        Raises
+        ------
+        TypeError
+            If it is of another type.
+        OverflowError
+            If it is an ``int`` outside ``-2**63`` to ``2**64 - 1``.
+        """
+        data = bytes_of(value)
+        self._pending.append(data)
+        self._pending_bytes += len(data)
+        if len(self._pending) >= PENDING_VALUES or self._pending_bytes >= PENDING_BYTES:
+            self._apply()
+
+    def update_many(self, values: Iterable[Value]) -> None:
+        """Count many values, which is faster than one at a time.
+
+        Parameters
+        ----------
+        values : iterable
+            Of what ``update`` takes. One ``str`` or ``bytes`` is no iterable of values. Where a
+            value is refused, some of those before it have been counted.
+        """
+        for data, ends in batches(values):
+            with self._lock:
+                self._image = _library.add(self.to_bytes(), data, ends)
+
+    def add_coupon(self, slot: int, value: int) -> None:
+        """Add a coupon itself: what a hash made of a value.
+
+        Parameters
+        ----------
+        slot : int
+            0 to ``2**26 - 1``.
+        value : int
+            1 to 63.
+
+        Raises
+        ------
+        ArgumentError
+            If one is out of its range.
+        """
+        slot, value = index(slot), index(value)
+        if not 0 <= slot < 1 << 26:
+            raise ArgumentError(f"a slot is 0 to 2^26 - 1, not {slot}")
+        if not 1 <= value <= 63:
+            raise ArgumentError(f"the value of a coupon is 1 to 63, not {value}")
+        with self._lock:
+            self._image = _library.add_coupon(self.to_bytes(), slot, value)
+
+    def merge(self, other: "Sketch") -> None:
+        """Take in the values of another sketch.
+
+        This sketch keeps its width, and its ``lg_k``, unless the other is in registers of a smaller
+        ``lg_k``: then it gets that one.
+
+        Parameters
+        ----------
+        other : Sketch
+            It stays as it is.
+        """
+        if not isinstance(other, Sketch):
+            raise TypeError(f"a Sketch, not {type(other).__name__}")
+        image = other.to_bytes()
+        with self._lock:
+            self._image = self._merged(image)
+
+    def _merged(self, image: bytes) -> bytes:
+        mine = self.to_bytes()
+        return _library.merge(mine[3], _library.width_in(mine), mine, image)
+
+    def __or__(self: _S, other: "Sketch") -> _S:
+        """Return the union of both, with the width of the left one and at most its ``lg_k``."""
+        if not isinstance(other, Sketch):
+            return NotImplemented
+        return self._of(self._merged(other.to_bytes()))
+
+    def __ior__(self: _S, other: "Sketch") -> _S:
+        """Take in the values of another sketch, as ``merge`` does."""
+        if not isinstance(other, Sketch):
+            return NotImplemented
+        self.merge(other)
+        return self
+
+    def _apply(self) -> None:
+        """Applies the values that are kept; they stay where memory is refused."""
+        with self._lock:
+            count = len(self._pending)
+            if count:
+                kept = self._pending[:count]
+                data = b"".join(kept)
+                self._image = _library.add(self._image, data, _library.ends_of(kept))
+                del self._pending[:count]
+                self._pending_bytes = sum(map(len, self._pending))
+
+    # ---- other sketches of the same values
+
+    def fold(self: _S, lg_k: int) -> _S:
+        """Return the sketch of the same values at a smaller ``lg_k``, or the same.
+
+        Raises
+        ------
+        ArgumentError
+            If ``lg_k`` is below 4, or above that of this sketch.
+        """
+        image, lg_k = self.to_bytes(), checked_lg_k(lg_k)
+        if lg_k > image[3]:
+            raise ArgumentError(f"a fold is to an lg_k of at most {image[3]}, not {lg_k}")
+        return self._of(_library.fold(image, lg_k))
+
+    def convert(self: _S, width: int) -> _S:
+        """Return the same sketch in registers of 4, 6 or 8 bits.
+
+        Raises
+        ------
+        ArgumentError
+            If ``width`` is another number.
+        """
+        return self._of(_library.convert(self.to_bytes(), checked_width(width)))
+
+    def with_estimator_words(self: _S) -> _S:
+        """Return the same sketch with the words from which other DataSketches libraries estimate.
+
+        Call it before the image goes to one of them.
+        """
+        return self._of(_library.set_estimator_words(self.to_bytes()))
+
+    # ---- what it is
+
+    @property
+    def lg_k(self) -> int:
+        """The logarithm of the number of registers."""
+        return self._image[3]
+
+    @property
+    def width(self) -> int:
+        """The bits of a register: 4, 6 or 8."""
+        return _library.width_in(self._image)
+
+    @property
+    def stage(self) -> str:
+        """``"list"``, ``"set"`` or ``"registers"``."""
+        return _STAGES[self.to_bytes()[7] & 3]
+
+    @property
+    def is_empty(self) -> bool:
+        """Whether no value was counted."""
+        return _library.info(self.to_bytes()).is_empty == 1
+
+    @property
+    def num_coupons(self) -> int:
+        """How many coupons a list or a set has; 0 for registers."""
+        return _library.info(self.to_bytes()).coupons
+
+    @property
+    def num_zeros(self) -> int:
+        """How many registers are 0; 0 for a list or a set."""
+        return _library.info(self.to_bytes()).zeros
+
+    def histogram(self) -> List[int]:
+        """Return how many registers have each value from 0 to 63; coupons count as in registers."""
+        return _library.histogram(self.to_bytes())
+
+    # ---- estimates
+
+    def estimate(self) -> float:
+        """Return an estimate of how many distinct values were counted. It is not proved."""
+        return _library.estimation(self.to_bytes()).estimate
+
+    def bounds(self, deviations: int = 2) -> Tuple[float, float]:
+        """Return a lower and an upper bound of how many distinct values were counted.
+
+        Parameters
+        ----------
+        deviations : int
+            1, 2 or 3 standard deviations: the number is within in about 68, 95 and 99.7 of 100
+            sketches.
+
+        Raises
+        ------
+        ArgumentError
+            If ``deviations`` is another number.
+        """
+        if deviations not in (1, 2, 3):
+            raise ArgumentError(f"bounds are at 1, 2 or 3 deviations, not {deviations}")
+        found = _library.estimation(self.to_bytes())
+        return found.lower[deviations - 1], found.upper[deviations - 1]
+
+    def relative_standard_error(self) -> float:
+        """Return the standard deviation of the estimate, as a part of the number of values."""
+        return _library.estimation(self.to_bytes()).relative_standard_error
+
+    # ---- comparing
+
+    def agrees_with(self, other: "Sketch") -> bool:
+        """Return whether both have the same registers, once folded to the smaller ``lg_k``."""
+        if not isinstance(other, Sketch):
+            raise TypeError(f"a Sketch, not {type(other).__name__}")
+        return _library.agree(self.to_bytes(), other.to_bytes())
+
+    def __eq__(self, other: object) -> bool:
+        """Return whether both have the same image."""
+        if not isinstance(other, Sketch):
+            return NotImplemented
+        return self.to_bytes() == other.to_bytes()
+
+    def __repr__(self) -> str:
+        found = _library.info(self.to_bytes())
+        if found.stage == 2:
+            content = f"about {self.estimate():,.0f} values"
+        else:
+            content = f"{found.coupons} coupons"
+        name = type(self).__name__
+        return f"<{name} lg_k={found.lg_k} width={found.width}: {_STAGES[found.stage]}, {content}>"
+
+    # ---- copies
+
+    def copy(self: _S) -> _S:
+        """Return a sketch of the same values that changes for itself."""
+        return self._of(self.to_bytes())
+
+    def __copy__(self: _S) -> _S:
+        return self.copy()
+
+    def __deepcopy__(self: _S, memo: object) -> _S:
+        return self.copy()
+
+    def __reduce__(self) -> Tuple[object, Tuple[bytes]]:
+        return type(self).from_bytes, (self.to_bytes(),)

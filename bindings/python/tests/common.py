@@ -1,0 +1,27 @@
+# SPDX-License-Identifier: Apache-2.0
+"""What the tests share: the package, the plain reader, and the program."""
+import os
+import pathlib
+import shutil
+import subprocess
+import sys
+
+sys.dont_write_bytecode = True
+PACKAGE = pathlib.Path(__file__).resolve().parent.parent
+ROOT = PACKAGE.parent.parent
+ROWS = ROOT / "crates" / "hll_vectors" / "stdin"
+sys.path[:0] = [str(PACKAGE), str(ROOT / "bench")]
+
+
+def program():
+    """The program hll_merge: the one that HLL_MERGE names, or what the script of the checkout
+    builds; None if neither is here."""
+    named = os.environ.get("HLL_MERGE")
+    if named:
+        return named
+    kept = ROOT / ".hll_merge" / "hll_merge"
+    if shutil.which("rt") is None and not kept.exists():
+        return None
+    plan = b"new 4 8\n"
+    done = subprocess.run([ROOT / "hll_merge"], input=plan, stdout=subprocess.DEVNULL)
+    return kept if done.returncode == 0 else None

@@ -1,0 +1,559 @@
+# SPDX-License-Identifier: Apache-2.0
+"""What each call of the package gives, and what it refuses."""
+import copy
+import os
+import pickle
+import random
+import struct
+import subprocess
+import sys
+import threading
+import unittest
+from unittest import mock
+
+import common
+import hll_sketches
+from hll_sketches import ArgumentError, HllError, ImageError, Sketch, Union, _library
+from hll_sketches import check, coupon, coupons, union_of
+
+EMPTY = bytes.fromhex("0201070a030c0008")
+ONE = bytes.fromhex("0201070a030801080500000c")
+OUTSIDE = (-1, 0, 3, 22, 255, 256 + 12, 2**64)
+
+
+def murmur(data, seed=9001):
+    """MurmurHash3, x64, 128 bits, as docs/FORMAT.md has it."""
+    mask, c1, c2 = 2**64 - 1, 0x87C37B91114253D5, 0x4CF5AD432745937F
+
+    def rotated(x, n):
+        return (x << n | x >> (64 - n)) & mask
+
+    def first(k):
+        return rotated(k * c1 & mask, 31) * c2 & mask
+
+    def second(k):
+        return rotated(k * c2 & mask, 33) * c1 & mask
+
+    def mixed(x):
+        for factor in (0xFF51AFD7ED558CCD, 0xC4CEB9FE1A85EC53):
+            x = (x ^ x >> 33) * factor & mask
+        return x ^ x >> 33
+
+    h1 = h2 = seed
+    full = len(data) // 16 * 16
+    for at in range(0, full, 16):
+        k1, k2 = struct.unpack_from("<QQ", data, at)
+        h1 = ((rotated(h1 ^ first(k1), 27) + h2) * 5 + 0x52DCE729) & mask
+        h2 = ((rotated(h2 ^ second(k2), 31) + h1) * 5 + 0x38495AB5) & mask
+    k1, k2 = struct.unpack("<QQ", data[full:].ljust(16, b"\0"))
+    h1, h2 = h1 ^ first(k1) ^ len(data), h2 ^ second(k2) ^ len(data)
+    h1 = (h1 + h2) & mask
+    h2 = (h2 + h1) & mask
+    h1, h2 = mixed(h1), mixed(h2)
+    h1 = (h1 + h2) & mask
+    return h1, (h2 + h1) & mask
+
+
+def plain_coupon(data):
+    low, high = murmur(data)
+    return min(64 - high.bit_length(), 62) + 1 << 26 | low % 2**26
+
+
+class ValuesTest(unittest.TestCase):
+    def test_known_hashes(self):
+        self.assertEqual(murmur(b"", 0), (0, 0))
+        fox = b"The quick brown fox jumps over the lazy dog"
+        self.assertEqual(murmur(fox, 0), (0xE34BBC7BBC071B6C, 0x7A433CA9C49A9347))
+
+    def test_coupons_of_bytes(self):
+        source = random.Random(3)
+        values = [source.randbytes(length) for length in range(100)]
+        wanted = [plain_coupon(value) for value in values]
+        self.assertEqual([coupon(value) for value in values], wanted)
+        self.assertEqual(list(coupons(values)), wanted)
+        self.assertEqual(list(coupons([])), [])
+
+    def test_bytes_of_each_type(self):
+        rows = [
+            (b"", b""), ("", b""), ("a", b"a"), ("\u00e9\u4e2d", "\u00e9\u4e2d".encode()),
+            (bytearray(b"xy"), b"xy"), (memoryview(b"xy"), b"xy"), (0, bytes(8)),
+            (1, b"\1" + bytes(7)), (-1, b"\xff" * 8), (True, b"\1" + bytes(7)),
+            (2**63, bytes(7) + b"\x80"), (-(2**63), bytes(7) + b"\x80"), (2**64 - 1, b"\xff" * 8),
+            (1.5, struct.pack("<d", 1.5)), (0.0, bytes(8)), (-0.0, bytes(8)),
+            (float("inf"), struct.pack("<d", float("inf"))),
+            (float("nan"), bytes(6) + b"\xf8\x7f"), (-float("nan"), bytes(6) + b"\xf8\x7f"),
+        ]
+        for value, data in rows:
+            with self.subTest(value=value):
+                self.assertEqual(coupon(value), plain_coupon(data))
+                self.assertEqual(list(coupons([value])), [plain_coupon(data)])
+                one, many, mixed = Sketch(), Sketch(), Sketch()
+                one.update(value)
+                many.update_many([value])
+                mixed.update_many([value, b"other", 7, value])
+                self.assertEqual(one, many)
+                self.assertEqual(one.num_coupons, 1)
+                self.assertEqual(mixed.num_coupons, 3)
+
+    def test_many_of_one_type(self):
+        source = random.Random(4)
+        kinds = [
+            [source.getrandbits(63) - 2**62 for _ in range(70000)],
+            [source.getrandbits(64) for _ in range(5000)],
+            [source.random() for _ in range(5000)],
+            [str(number) for number in range(5000)],
+            [source.randbytes(number % 40) for number in range(5000)],
+            [(number, str(number), float(number))[number % 3] for number in range(5000)],
+        ]
+        for values in kinds:
+            one, many = Sketch(), Sketch()
+            for value in values:
+                one.update(value)
+            many.update_many(iter(values))
+            self.assertEqual(one, many)
+            self.assertEqual(list(coupons(values)), [coupon(value) for value in values])
+
+    def test_wrong_values(self):
+        calls = (
+            Sketch().update,
+            coupon,
+            lambda one: Sketch().update_many([one]),
+            lambda one: coupons([one]),
+        )
+        for value in (None, [1], (1,), {}, object(), 1j):
+            for call in calls:
+                with self.assertRaises(TypeError):
+                    call(value)
+        for value in (2**64, -(2**63) - 1, 2**70):
+            for call in calls:
+                with self.assertRaises(OverflowError):
+                    call(value)
+
+    def test_one_value_is_not_many(self):
+        for value in ("abc", b"abc", bytearray(b"abc"), 5):
+            for call in (Sketch().update_many, coupons):
+                with self.assertRaises(TypeError):
+                    call(value)
+
+    def test_wrong_value_changes_nothing(self):
+        sketch = Sketch(10)
+        with self.assertRaises(TypeError):
+            sketch.update(None)
+        self.assertEqual(sketch.to_bytes(), EMPTY)
+
+
+class SketchTest(unittest.TestCase):
+    def filled(self, lg_k=12, width=8, count=20000):
+        sketch = Sketch(lg_k, width)
+        sketch.update_many(range(count))
+        return sketch
+
+    def test_small(self):
+        sketch = Sketch(10)
+        self.assertEqual((sketch.to_bytes(), bytes(sketch)), (EMPTY, EMPTY))
+        self.assertTrue(sketch.is_empty)
+        sketch.add_coupon(5, 3)
+        self.assertEqual(sketch.to_bytes(), ONE)
+        self.assertEqual((sketch.lg_k, sketch.width, sketch.stage), (10, 8, "list"))
+        self.assertEqual((sketch.is_empty, sketch.num_coupons, sketch.num_zeros), (False, 1, 0))
+        self.assertEqual(sketch.histogram(), [1023, 0, 0, 1] + [0] * 60)
+        self.assertEqual(sketch.convert(4).to_bytes(), bytes.fromhex("0201070a030801000500000c"))
+        self.assertEqual(Sketch().lg_k, 12)
+
+    def test_stages(self):
+        stages = [self.filled(count=count).stage for count in (7, 8, 300, 400)]
+        self.assertEqual(stages, ["list", "set", "set", "registers"])
+        sketch = self.filled()
+        self.assertEqual(sketch.num_zeros, sketch.histogram()[0])
+        self.assertEqual(sum(sketch.histogram()), 4096)
+        self.assertEqual(sketch.num_coupons, 0)
+        sketch.add_coupon(7, 63)
+        self.assertEqual(sketch.histogram()[63], 1)
+
+    def test_arguments(self):
+        for lg_k in OUTSIDE:
+            for call in (Sketch, Union, lambda k: union_of([], k), Sketch(21).fold):
+                with self.assertRaises(ArgumentError):
+                    call(lg_k)
+        for width in (-4, 0, 3, 5, 7, 9, 256 + 8):
+            calls = (
+                lambda bits: Sketch(12, bits),
+                lambda bits: Union(12, bits),
+                lambda bits: union_of([], 12, bits),
+                Sketch().convert,
+            )
+            for call in calls:
+                with self.assertRaises(ArgumentError):
+                    call(width)
+        outside = ((-1, 1), (2**26, 1), (2**32 + 1, 1), (1, 0), (1, 64), (1, 257), (1, -1))
+        for slot, value in outside:
+            with self.assertRaises(ArgumentError):
+                Sketch().add_coupon(slot, value)
+        with self.assertRaises(ArgumentError):
+            Sketch(10).fold(11)
+        for deviations in (0, 4, -1):
+            with self.assertRaises(ArgumentError):
+                Sketch().bounds(deviations)
+        calls = (
+            lambda: Sketch("12"),
+            lambda: Sketch(12, 8.0),
+            lambda: Sketch().add_coupon(1.0, 1),
+            lambda: Sketch().merge(EMPTY),
+            lambda: Sketch().agrees_with(EMPTY),
+            lambda: Sketch.from_bytes(5),
+            lambda: check(5),
+            lambda: union_of([5]),
+            lambda: Union().update("x"),
+            lambda: Sketch() | EMPTY,
+        )
+        for call in calls:
+            with self.assertRaises(TypeError):
+                call()
+
+    def test_updates_are_kept_and_applied(self):
+        sketch, many = Sketch(), Sketch()
+        for value in range(10000):
+            sketch.update(value)
+            self.assertLess(len(sketch._pending), 4096)
+        many.update_many(range(10000))
+        self.assertEqual(sketch, many)
+        large = Sketch()
+        for number in range(5):
+            large.update(bytes([number]) * 600_000)
+            self.assertLess(large._pending_bytes, 1 << 20)
+        self.assertEqual(large.num_coupons, 5)
+        one = Sketch()
+        one.update("x")
+        pickled = pickle.loads(pickle.dumps(one))
+        for asked in (one.copy(), pickled, one | Sketch(), Sketch() | one, one.fold(8)):
+            self.assertEqual(asked.num_coupons, 1)
+
+    def test_merge(self):
+        left, right, both = Sketch(12, 6), Sketch(12, 8), Sketch(12, 6)
+        left.update_many(range(5000))
+        right.update_many(range(4000, 9000))
+        both.update_many(range(9000))
+        self.assertEqual(left | right, both)
+        self.assertEqual((right | left).convert(6), both)
+        before = right.copy()
+        left.merge(right)
+        self.assertEqual((left, right), (both, before))
+        right |= left
+        self.assertEqual((right, right.width), (both.convert(8), 8))
+        self.assertEqual(both | both, both)
+        self.assertEqual(both | Sketch(4), both)
+
+    def test_merge_of_other_sizes(self):
+        large, small, few = self.filled(12), self.filled(9), self.filled(9, count=10)
+        self.assertEqual((large | small).lg_k, 9)
+        self.assertEqual((small | large).lg_k, 9)
+        self.assertEqual((large | few).lg_k, 12)
+        large.merge(small)
+        self.assertEqual(large, small)
+
+    def test_fold_and_agree(self):
+        for width in (4, 6, 8):
+            large, small = self.filled(12, width), self.filled(8, width)
+            self.assertEqual(large.fold(8), small)
+            self.assertEqual(large.fold(12), large)
+            self.assertTrue(large.agrees_with(small))
+            self.assertFalse(large.agrees_with(self.filled(8, width, 40000)))
+        self.assertFalse(self.filled(count=10).agrees_with(self.filled(count=11)))
+
+    def test_estimator_words(self):
+        image = self.filled(8).with_estimator_words().to_bytes()
+        registers = image[40:]
+        low = sum(2.0**-value for value in registers if value < 32)
+        self.assertEqual(struct.unpack("<3d", image[8:32]), (0.0, low, 0.0))
+        self.assertEqual(self.filled(8).to_bytes()[8:32], bytes(24))
+        few = self.filled(8, count=5)
+        self.assertEqual(few.with_estimator_words(), few)
+
+    def test_images(self):
+        places = "0201070a030002080000000007000008000000000500000c" + "00" * 16
+        sketch = Sketch.from_bytes(bytearray.fromhex(places))
+        self.assertEqual(sketch.to_bytes(), bytes.fromhex("0201070a03080208070000080500000c"))
+        self.assertEqual(Sketch.from_bytes(memoryview(ONE + b"behind")).to_bytes(), ONE)
+        for width in (4, 6, 8):
+            for count in (0, 5, 100, 20000):
+                sketch = self.filled(12, width, count)
+                again = Sketch.from_bytes(sketch.to_bytes())
+                self.assertEqual((again, again.width), (sketch, width))
+                self.assertIsNone(check(sketch.to_bytes()))
+
+    def test_equality(self):
+        self.assertEqual(Sketch(10), Sketch(10))
+        self.assertNotEqual(Sketch(10), Sketch(11))
+        self.assertNotEqual(Sketch(10), EMPTY)
+        with self.assertRaises(TypeError):
+            hash(Sketch())
+
+    def test_copies(self):
+        for sketch in (Sketch(), self.filled(count=100), self.filled(12, 4)):
+            copies = [sketch.copy(), copy.copy(sketch), copy.deepcopy(sketch)]
+            for protocol in range(2, pickle.HIGHEST_PROTOCOL + 1):
+                copies.append(pickle.loads(pickle.dumps(sketch, protocol)))
+            for made in copies:
+                self.assertEqual(made, sketch)
+                made.add_coupon(1, 63)
+                self.assertNotEqual(made, sketch)
+
+    def test_subclass(self):
+        class Mine(Sketch):
+            pass
+
+        mine = Mine(10)
+        self.assertIs(type(mine | Sketch(10)), Mine)
+        self.assertIs(type(mine.fold(8)), Mine)
+        self.assertIs(type(Mine.from_bytes(ONE)), Mine)
+
+    def test_repr(self):
+        self.assertEqual(repr(Sketch(10)), "<Sketch lg_k=10 width=8: list, 0 coupons>")
+        about = r"^<Sketch lg_k=12 width=8: registers, about (19|20),\d\d\d values>$"
+        self.assertRegex(repr(self.filled()), about)
+        inner = "<Sketch lg_k=9 width=4: list, 0 coupons>"
+        self.assertEqual(repr(Union(9, 4)), f"<Union lg_max_k=9 width=4: {inner}>")
+
+    def test_largest(self):
+        for width in (4, 6, 8):
+            sketch = self.filled(21, width, 300_000)
+            self.assertEqual(sketch.stage, "registers")
+            self.assertEqual(union_of([sketch, sketch], 21, width), sketch)
+            self.assertEqual(sketch.fold(12), self.filled(12, width, 300_000))
+
+
+class UnionTest(unittest.TestCase):
+    def setUp(self):
+        source = random.Random(5)
+        self.sketches = []
+        for number in range(700):
+            sketch = Sketch(source.choice((11, 12, 12, 13)), source.choice((4, 6, 8)))
+            count = source.choice((0, 3, 50, 3000 if number % 5 == 0 else 0))
+            sketch.update_many(source.getrandbits(40) for _ in range(count))
+            self.sketches.append(sketch)
+
+    def test_ways(self):
+        for lg_max_k, width in ((12, 8), (10, 4), (21, 6)):
+            wanted = union_of(self.sketches, lg_max_k, width)
+            self.assertEqual(wanted.lg_k, min(lg_max_k, 11))
+            made = Union(lg_max_k, width)
+            self.assertEqual((made.lg_max_k, made.width), (lg_max_k, width))
+            for sketch in self.sketches:
+                made.update(sketch)
+            self.assertEqual(made.sketch(), wanted)
+            with mock.patch.object(hll_sketches.union, "BATCH_BYTES", 10_000):
+                made = Union(lg_max_k, width)
+                for sketch in self.sketches:
+                    made.update(sketch)
+                    self.assertLess(made._pending_bytes, 10_000)
+            self.assertEqual(made.sketch(), wanted)
+            made.update_many(self.sketches[::-1])
+            self.assertEqual(made.sketch(), wanted)
+            images = (bytes(sketch) for sketch in self.sketches[::-1])
+            self.assertEqual(union_of(images, lg_max_k, width), wanted)
+            even, odd = self.sketches[::2], self.sketches[1::2]
+            halves = [union_of(even, lg_max_k), union_of(odd, lg_max_k, 4)]
+            self.assertEqual(union_of(halves, lg_max_k, width), wanted)
+
+    def test_of_none(self):
+        self.assertEqual(union_of([], 10), Sketch(10))
+        self.assertEqual(Union(10).sketch(), Sketch(10))
+        made = Union(10)
+        made.update_many([])
+        self.assertEqual(made.sketch(), Sketch(10))
+
+    def test_number_of_a_bad_image(self):
+        images = [sketch.to_bytes() for sketch in self.sketches]
+        for number in (0, 1, 7, 8, 9, 63, 64, 65, 350, 699):
+            bad = [*images[:number], images[number][:6], *images[number + 1 :]]
+            made = Union()
+            made.update(images[0])
+            before = made.sketch()
+            for call in (union_of, made.update_many):
+                with self.assertRaises(ImageError) as caught:
+                    call(bad)
+                error = caught.exception
+                self.assertEqual((error.reason, error.number), ("truncated", number))
+            self.assertEqual(made.sketch(), before)
+
+    def test_bad_update(self):
+        made = Union()
+        with self.assertRaises(ImageError) as caught:
+            made.update(EMPTY[:7])
+        self.assertEqual((caught.exception.reason, caught.exception.number), ("truncated", None))
+        made.update(ONE)
+        self.assertEqual(made.sketch().num_coupons, 1)
+
+
+class ErrorsTest(unittest.TestCase):
+    def test_kinds(self):
+        for kind in (ImageError, ArgumentError):
+            self.assertTrue(issubclass(kind, HllError) and issubclass(kind, ValueError))
+        self.assertFalse(issubclass(HllError, ValueError))
+
+    def test_words(self):
+        rows = {
+            "": "truncated", "02010a0a030c0008": "family", "0202070a030c0008": "version",
+            "02010703030c0008": "lgk", "0201070a030c000c": "width", "0201070a030c000b": "stage",
+            "0301070a030c0008": "preamble",
+            "0201070a040c0008": "lgarr", "0201070a030809080000000000000000": "count",
+            "0201070a030801080500000000000000": "coupon",
+            "0a0107040000000a" + "00" * 32 + "40" + "00" * 15: "register",
+        }
+        for digits, word in rows.items():
+            data = bytes.fromhex(digits)
+            self.assertEqual(check(data), word)
+            with self.assertRaises(ImageError) as caught:
+                Sketch.from_bytes(data)
+            self.assertEqual(caught.exception.reason, word)
+        self.assertIsNone(check(ONE))
+
+    def test_pickles(self):
+        images = ImageError("count"), ImageError("count", 7)
+        for error in (*images, ArgumentError("an lg_k"), HllError("x")):
+            again = pickle.loads(pickle.dumps(error))
+            self.assertIs(type(again), type(error))
+            self.assertEqual((str(again), vars(again)), (str(error), vars(error)))
+        self.assertEqual(str(ImageError("count", 7)), "image 7 is refused: count")
+        self.assertEqual(str(ImageError("count")), "image is refused: count")
+
+    def test_memory(self):
+        """A process with little memory is refused some, and can go on."""
+        code = (
+            "import resource, sys; sys.path.insert(0, sys.argv[1])\n"
+            "from hll_sketches import Sketch\n"
+            "sketch = Sketch(21); sketch.update_many(range(400000)); image = bytes(sketch)\n"
+            "used = int(open('/proc/self/statm').read().split()[0]) * resource.getpagesize()\n"
+            "resource.setrlimit(resource.RLIMIT_AS, (used + 9_000_000, used + 9_000_000))\n"
+            "kept = []\n"
+            "try:\n    while True: kept.append(Sketch.from_bytes(image))\n"
+            "except MemoryError:\n    print('refused')\n"
+            "del kept[:]\n"
+            "sketch = Sketch(10); sketch.update('x'); print(sketch.num_coupons)\n"
+        )
+        command = [sys.executable, "-c", code, str(common.PACKAGE)]
+        done = subprocess.run(command, capture_output=True, text=True)
+        self.assertEqual((done.stdout, done.returncode), ("refused\n1\n", 0), done.stderr)
+
+    def test_refused_memory_loses_nothing(self):
+        sketch, union = Sketch(), Union()
+        sketch.update("x")
+        union.update(sketch)
+        with mock.patch.object(_library, "add", side_effect=MemoryError):
+            for call in (sketch.to_bytes, sketch.estimate, lambda: sketch.update_many(["y"])):
+                sketch.update("z")
+                with self.assertRaises(MemoryError):
+                    call()
+        self.assertEqual(sketch.num_coupons, 2)
+        with mock.patch.object(_library, "union", side_effect=MemoryError):
+            with self.assertRaises(MemoryError):
+                union.sketch()
+        self.assertEqual(union.sketch().num_coupons, 1)
+
+    def test_no_library(self):
+        code = "import sys; sys.path.insert(0, sys.argv[1])\nimport hll_sketches"
+        for place in ("/nowhere/libhll.so", os.devnull):
+            environment = {**os.environ, "HLL_SKETCHES_LIBRARY": place}
+            command = [sys.executable, "-c", code, str(common.PACKAGE)]
+            done = subprocess.run(command, capture_output=True, text=True, env=environment)
+            self.assertNotEqual(done.returncode, 0)
+            self.assertIn("ImportError: hll_sketches can't use the library " + place, done.stderr)
+
+
+class EstimateTest(unittest.TestCase):
+    def test_estimates(self):
+        for lg_k in (8, 12, 14):
+            for count in (0, 1, 5, 100, 10_000, 200_000):
+                sketch = Sketch(lg_k)
+                sketch.update_many(range(count))
+                estimate, error = sketch.estimate(), sketch.relative_standard_error()
+                self.assertLessEqual(abs(estimate - count), 4 * error * count + 1e-9 * count)
+                lowers, uppers = zip(*(sketch.bounds(deviations) for deviations in (1, 2, 3)))
+                ordered = [*lowers[::-1], estimate, *uppers]
+                self.assertEqual(ordered, sorted(ordered))
+                if sketch.stage == "registers":
+                    self.assertEqual(len(set(ordered)), 7)
+                self.assertLess(error, 1.1 / 2 ** (lg_k / 2))
+                self.assertEqual(sketch.bounds(), sketch.bounds(2))
+
+    def test_near_exact(self):
+        sketch = Sketch(21)
+        sketch.update_many(range(100_000))
+        self.assertEqual(sketch.stage, "set")
+        self.assertLess(abs(sketch.estimate() - 100_000), 20)
+        self.assertGreater(sketch.bounds(1)[0], sketch.num_coupons - 1)
+
+
+class ThreadsTest(unittest.TestCase):
+    def run_all(self, calls):
+        """Runs the calls at once, each in a thread; what they raised."""
+        raised = []
+
+        def run(call):
+            try:
+                call()
+            except BaseException as error:  # noqa: B902
+                raised.append(error)
+
+        threads = [threading.Thread(target=run, args=(call,)) for call in calls]
+        for thread in threads:
+            thread.start()
+        for thread in threads:
+            thread.join()
+        self.assertEqual(raised, [])
+
+    def test_one_sketch(self):
+        """Eight threads update one sketch, and read it; no value is lost."""
+        sketch, wanted = Sketch(), Sketch()
+        wanted.update_many(range(16000))
+
+        def update(thread):
+            for value in range(thread * 2000, thread * 2000 + 1900):
+                sketch.update(value)
+                if value % 20 == 0:
+                    self.assertIn(sketch.stage, ("list", "set", "registers"))
+            sketch.update_many(range(thread * 2000 + 1900, thread * 2000 + 2000))
+
+        self.run_all([lambda thread=thread: update(thread) for thread in range(8)])
+        self.assertEqual(sketch, wanted)
+
+    def test_merges(self):
+        """Eight threads merge into one sketch, and into each other."""
+        parts = []
+        for thread in range(8):
+            part = Sketch()
+            part.update_many(range(thread * 1000, thread * 1000 + 1000))
+            parts.append(part)
+        wanted, made, union = union_of(parts), Sketch(), Union()
+
+        def merge(thread):
+            for part in parts:
+                made.merge(part)
+                union.update(part)
+                parts[thread].merge(part)
+
+        self.run_all([lambda thread=thread: merge(thread) for thread in range(8)])
+        self.assertEqual((made, union.sketch(), union_of(parts)), (wanted, wanted, wanted))
+
+
+class PackageTest(unittest.TestCase):
+    def test_names(self):
+        for name in hll_sketches.__all__:
+            self.assertTrue(hasattr(hll_sketches, name), name)
+            self.assertTrue(name == "Value" or getattr(hll_sketches, name).__doc__, name)
+        for kind in (Sketch, Union):
+            for name in vars(kind):
+                if not name.startswith("_"):
+                    self.assertTrue(getattr(kind, name).__doc__, name)
+
+    def test_version(self):
+        text = (common.PACKAGE / "pyproject.toml").read_text("utf-8")
+        self.assertIn(f'version = "{hll_sketches.__version__}"', text)
+        header = (common.ROOT / "bindings" / "c" / "hll.h").read_text("utf-8")
+        major, minor, patch = hll_sketches.__version__.split(".")
+        for name, number in (("MAJOR", major), ("MINOR", minor), ("PATCH", patch)):
+            self.assertIn(f"#define HLL_VERSION_{name} {number}\n", header)
+
+
+if __name__ == "__main__":
+    unittest.main()

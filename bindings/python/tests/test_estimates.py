@@ -1,0 +1,89 @@
+# SPDX-License-Identifier: Apache-2.0
+"""Estimates and bounds beside the formulas of docs/ESTIMATES.md, computed by Python's own functions."""
+import math
+import random
+import unittest
+
+import common  # noqa: F401, for the path
+from hll_sketches import Sketch
+from shared import image_of
+
+
+def sigma(x):
+    return x + sum(x ** (2**i) * 2 ** (i - 1) for i in range(1, 60))
+
+
+def tau(x):
+    if x in (0, 1):
+        return 0.0
+    return (1 - x - sum((1 - x ** (2.0**-i)) ** 2 * 2.0**-i for i in range(1, 60))) / 3
+
+
+def of_registers(counts):
+    """The estimate and the relative standard error of a histogram."""
+    m = sum(counts)
+    zeros = counts[0] / m
+    z = m * sigma(zeros) + sum(counts[v] * 2.0**-v for v in range(1, 63))
+    z += m * tau(1 - counts[63] / m) * 2.0**-62
+    estimate = m * m / (2 * math.log(2) * z * (1 + (0.5 + 0.58 * (1 - zeros) ** 2) / m))
+    limit = (3 * math.log(2) - 1) * (1 + 2 / m)
+    s = limit - (limit - 0.5) / (1 + estimate / (16 * m)) ** 4
+    return estimate, math.sqrt(s / m)
+
+
+def expected_coupons(values):
+    """How many distinct coupons so many values have on average: each value's slots, one by one."""
+    parts = [2.0**-v for v in range(1, 63)] + [2.0**-62]
+    return -sum(2**26 * math.expm1(values * math.log1p(-part / 2**26)) for part in parts)
+
+
+class EstimatesTest(unittest.TestCase):
+    def check_bounds(self, sketch, estimate, error, least):
+        self.assertAlmostEqual(sketch.estimate() / max(estimate, least), 1, 9)
+        self.assertAlmostEqual(sketch.relative_standard_error() / error, 1, 9)
+        for d in (1, 2, 3):
+            lower, upper = sketch.bounds(d)
+            self.assertAlmostEqual(lower / max(least, sketch.estimate() / (1 + d * error)), 1, 9)
+            self.assertAlmostEqual(upper / (sketch.estimate() / (1 - d * error)), 1, 9)
+
+    def test_registers(self):
+        source = random.Random(8)
+        for case in range(300):
+            lg_k = source.randint(4, 10)
+            most = source.choice((1, 3, 14, 40, 62, 63))
+            least = source.randint(0, most) if case % 3 else 0
+            registers = [source.randint(least, most) for _ in range(2**lg_k)]
+            registers[0] = 1
+            sketch = Sketch.from_bytes(image_of(lg_k, source.choice((4, 6, 8)), registers))
+            counts = [registers.count(value) for value in range(64)]
+            self.assertEqual(sketch.histogram(), counts)
+            estimate, error = of_registers(counts)
+            self.check_bounds(sketch, estimate, error, len(registers) - counts[0])
+
+    def test_coupons(self):
+        source = random.Random(9)
+        for count in (2, 3, 7, 100, 3000, 190_000):
+            sketch = Sketch(21)
+            sketch.update_many(source.getrandbits(64) for _ in range(count))
+            coupons = sketch.num_coupons
+            self.assertNotEqual(sketch.stage, "registers")
+            estimate = sketch.estimate()
+            self.assertLess(abs(expected_coupons(estimate) - coupons), 1e-9 * coupons)
+            error = math.sqrt((estimate - 1) / estimate / 6 / 2**26)
+            self.check_bounds(sketch, estimate, error, coupons)
+
+    def test_one_and_none(self):
+        sketch = Sketch()
+        numbers = sketch.estimate(), sketch.relative_standard_error(), sketch.bounds(3)
+        self.assertEqual(numbers, (0, 0, (0, 0)))
+        sketch.update("x")
+        numbers = sketch.estimate(), sketch.relative_standard_error(), sketch.bounds(3)
+        self.assertEqual(numbers, (1, 0, (1, 1)))
+
+    def test_full(self):
+        full = Sketch.from_bytes(image_of(4, 8, [63] * 16))
+        self.assertEqual(full.estimate(), math.inf)
+
+
+if __name__ == "__main__":
+    unittest.main()

@@ -1,0 +1,65 @@
+# SPDX-License-Identifier: Apache-2.0
+"""Mutated images: `check` answers as a plain reader and as the program do."""
+import collections
+import subprocess
+import unittest
+
+import common
+from hll_sketches import ImageError, Sketch, check
+from mutants import KINDS, Mutants
+from plain_reader import answer, read
+
+READ_PLAINLY, BY_PROGRAM = 2500, 250
+
+
+def program_answer(program, image):
+    """The word of the program, and the image that it prints."""
+    plan = b"image %s\n" % image.hex().encode()
+    done = subprocess.run([program], input=plan, capture_output=True)
+    if done.returncode == 0:
+        return "accepted", bytes.fromhex(done.stdout.decode())
+    return done.stderr.decode().strip().replace("line 1: image ", ""), b""
+
+
+class MutantsTest(unittest.TestCase):
+    def test_plain_reader(self):
+        words = collections.Counter()
+        for number, kind in enumerate(KINDS):
+            mutants = Mutants(kind, number)
+            for _ in range(READ_PLAINLY):
+                image = mutants.image()
+                word, value = answer(image)
+                words[word] += 1
+                self.assertEqual(check(image) or "accepted", word, image.hex())
+                if word == "accepted":
+                    self.assertEqual(read(Sketch.from_bytes(image).to_bytes()), value, image.hex())
+                else:
+                    with self.assertRaises(ImageError) as caught:
+                        Sketch.from_bytes(image)
+                    error = caught.exception
+                    self.assertEqual((error.reason, error.number), (word, None))
+        print(f"{sum(words.values())} mutants read plainly:", dict(words.most_common()))
+        self.assertEqual(len(words), 12, "each answer")
+
+    def test_program(self):
+        program = common.program()
+        if program is None:
+            self.skipTest("the program hll_merge is not built")
+        ran = 0
+        for number, kind in enumerate(KINDS):
+            mutants = Mutants(kind, 100 + number)
+            for _ in range(BY_PROGRAM):
+                image = mutants.image()
+                if not image:
+                    continue
+                word, printed = program_answer(program, image)
+                self.assertEqual(check(image) or "accepted", word, image.hex())
+                if word == "accepted":
+                    self.assertEqual(Sketch.from_bytes(image).to_bytes(), printed, image.hex())
+                ran += 1
+        print(f"{ran} mutants answered by the program")
+        self.assertGreater(ran, 2000)
+
+
+if __name__ == "__main__":
+    unittest.main()

@@ -1,0 +1,26 @@
+# SPDX-License-Identifier: Apache-2.0
+"""The worked rows of plans, carried out by calls of the package alone (docs/PLAN.md, "Rows")."""
+import unittest
+
+import common
+import row_plans
+
+
+class RowsTest(unittest.TestCase):
+    def test_rows(self):
+        ran, passed_over = 0, 0
+        for plan, wanted in row_plans.rows(common.ROWS):
+            answer = row_plans.answer(plan, wanted)
+            if answer is None:
+                passed_over += 1
+                continue
+            ran += 1
+            with self.subTest(plan=plan[:200]):
+                self.assertEqual(answer, wanted.replace("+", "=", 1))
+        print(f"{ran} rows were run, {passed_over} of the text alone were passed over")
+        self.assertGreater(ran, 1000)
+        self.assertLess(passed_over, 100)
+
+
+if __name__ == "__main__":
+    unittest.main()
