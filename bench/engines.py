@@ -214,8 +214,8 @@ def fill_peer(server, count, path):
         ALTER TABLE peer ALTER image SET STORAGE PLAIN;
         INSERT INTO peer SELECT k, image::hll FROM loaded;
         DROP TABLE loaded""" % path)
-    server.ask("""CREATE TABLE peer_small (k int, image hll);
-        INSERT INTO peer_small SELECT n %% %d, hll_add_agg(hll_hash_bigint(x), 12, 5) FROM %s""" % (GROUPS, SMALL % (20 * count - 1)))
+    server.ask("""CREATE TABLE peer_small (k int, image hll); INSERT INTO peer_small
+        SELECT n %% %d, hll_add_agg(hll_hash_bigint(x), 12, 5) FROM %s""" % (GROUPS, SMALL % (20 * count - 1)))
 
 
 def kinds(has_peer):

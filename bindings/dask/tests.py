@@ -185,7 +185,7 @@ def lost_worker(client, folder, images, paths):
     log.mkdir()
     slow = [SlowPath(path, str(log), 0.0005) for path in paths]
     wanted = union_by_program(images)
-    future = client.compute(union_of_files(slow, files_per_task=20, split_every=4))
+    future = client.compute(union_of_files(slow, files_per_task=20, split_every=64))
     while sum(opened(log).values()) < len(paths) // 3:
         time.sleep(0.01)
     victim, is_early = max(opened(log), key=opened(log).get), not future.done()

@@ -65,9 +65,9 @@ def short_names(server):
         for value in values:
             found = server.ask("SELECT hll_image_%s_agg(%s) = hll_%s_agg(%s) FROM t" % (name, value, name, value), "short")
             equal("short name of %s(%s)" % (name, value), found, "t")
-    found = server.ask("""SELECT count(*) FILTER (WHERE proname ~ '^hll_image_'), count(*) FILTER (WHERE proname !~ '^hll_image_')
-        FROM pg_proc WHERE prokind = 'a' AND proname ~ '^hll_'""", "short")
-    equal("as many short names", found, "12|12")
+    found = server.ask("SELECT proname ~ '^hll_image_', count(*) FROM pg_proc WHERE prokind = 'a' AND proname ~ '^hll_' "
+                       "GROUP BY 1 ORDER BY 1", "short")
+    equal("as many short names", found, "f|12\nt|12")
 
 
 # ---- names and marks
