@@ -57,12 +57,8 @@ def lay_out(folder, count):
             (folder / "sketches" / ("%05d.bin" % number)).write_bytes(image)
             lines.write("image %s\n" % image.hex())
     shutil.copytree(ROOT / "examples", folder / "examples")
-    link(folder, "hll_merge", os.environ.get("HLL_MERGE") or built_program())
-    link(folder, "hll_words", os.environ.get("HLL_WORDS") or built_filter())
-
-
-def link(folder, name, program):
-    (folder / name).symlink_to(program)
+    (folder / "hll_merge").symlink_to(os.path.abspath(os.environ.get("HLL_MERGE") or built_program()))
+    (folder / "hll_words").symlink_to(os.path.abspath(os.environ.get("HLL_WORDS") or built_filter()))
 
 
 # ---- the page

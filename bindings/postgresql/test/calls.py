@@ -133,6 +133,11 @@ def pairs(server, images):
         equal("hll_merge", union, union_of([a, b], lg_k, width))
         folded = [greatest(pairs_of(sketch_of(image)), lg_k) for image in (a, b)]
         equal("hll_agree", same, "t" if folded[0] == folded[1] else "f")
+    found = server.ask("""SELECT count(*), count(*) FILTER (WHERE hll_merge(a, b) <> hll_merge(b, a)),
+        count(*) FILTER (WHERE hll_merge(hll_merge(a, b), c) <> hll_merge(a, hll_merge(b, c)))
+        FROM (SELECT image, lead(image) OVER w, lead(image, 2) OVER w FROM sketches WINDOW w AS (ORDER BY n)) x(a, b, c)
+        WHERE c IS NOT NULL""")
+    equal("merges in other orders and groups", found, "%d|0|0" % (len(images) - 2))
 
 
 def words(server, images):

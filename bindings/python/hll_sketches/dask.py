@@ -1,8 +1,8 @@
 # SPDX-License-Identifier: Apache-2.0
 """Unions of many images over a Dask cluster.
 
-Each function builds a tree of tasks and returns it as a ``dask.delayed.Delayed``; ``compute()`` runs
-it, on the cluster of the current ``distributed.Client`` if there is one.
+Each function builds a tree of tasks and returns it as a ``dask.delayed.Delayed``; ``compute()``
+runs it, on the cluster of the current ``distributed.Client`` if there is one.
 
     >>> from distributed import Client
     >>> from hll_sketches.dask import union_of_files
@@ -19,7 +19,8 @@ from __future__ import annotations
 
 import os
 from functools import partial
-from typing import Any, Callable, Dict, Hashable, Iterable, List, Optional, Sequence, Tuple, Union as Either
+from typing import Any, Callable, Dict, Hashable, Iterable, List, Optional, Sequence, Tuple
+from typing import Union as Either
 
 from dask import delayed
 
@@ -71,7 +72,7 @@ def _image_of(images: Iterable[Source], lg_max_k: int) -> bytes:
 def _placed(
     images: Iterable[Source], lg_max_k: int, place_of: Callable[[int], Tuple[int, str]]
 ) -> bytes:
-    """The image of a union; where one is refused, its number gives its number and place for the error."""
+    """The image of a union. Of one that is refused, ``place_of`` gives number and place."""
     try:
         return _image_of(images, lg_max_k)
     except ImageError as error:
@@ -94,12 +95,15 @@ def _union_of_items(items: Iterable[Source], partition: int, lg_max_k: int) -> b
     return _placed(items, lg_max_k, lambda n: (n, f"partition {partition}, item {n}"))
 
 
-def _union_by_key(frame: Any, key: Key, image: str, partition: int, lg_max_k: int) -> Dict[Hashable, bytes]:
+def _union_by_key(
+    frame: Any, key: Key, image: str, partition: int, lg_max_k: int
+) -> Dict[Hashable, bytes]:
     """The image of the union of each key's images in a pandas data frame."""
     columns = [key] if isinstance(key, str) else list(key)
     missing = frame[columns + [image]].isna().any(axis=1)
     keys = frame[key] if isinstance(key, str) else zip(*(frame[column] for column in columns))
-    images, rows = list(frame[image]), {}  # type: List[Source], Dict[Hashable, List[int]]
+    images: List[Source] = list(frame[image])
+    rows: Dict[Hashable, List[int]] = {}
     for row, (one, is_missing) in enumerate(zip(keys, missing)):
         if not is_missing:
             rows.setdefault(one, []).append(row)
@@ -138,13 +142,17 @@ def _series_of(
 ) -> Any:
     import pandas
 
-    images = {one: union_of(of_key, lg_max_k, width).to_bytes() for one, of_key in _collected(parts).items()}
+    images = {
+        one: union_of(of_key, lg_max_k, width).to_bytes()
+        for one, of_key in _collected(parts).items()
+    }
     if isinstance(key, str):
         index = pandas.Index(list(images), name=key)
     else:
         columns = list(zip(*images)) or [[] for _ in key]
         index = pandas.MultiIndex.from_arrays(columns, names=list(key))
-    return pandas.Series(list(images.values()), index=index, name=image, dtype=object).sort_index()
+    series = pandas.Series(list(images.values()), index=index, name=image, dtype=object)
+    return series.sort_index()
 
 
 # ---- trees
@@ -165,7 +173,9 @@ def _files_per_task(count: int) -> int:
     return min(max(-(-count // (TASKS_PER_THREAD * _threads())), LEAST_FILES), MOST_FILES)
 
 
-def _tree(parts: List[Any], join: Callable[..., Any], finish: Callable[..., Any], split_every: int) -> Any:
+def _tree(
+    parts: List[Any], join: Callable[..., Any], finish: Callable[..., Any], split_every: int
+) -> Any:
     """Parts joined, so many at a time, until one task can finish the rest."""
     if split_every < 2:
         raise ValueError(f"split_every is 2 or more, not {split_every}")
@@ -194,16 +204,16 @@ def union_of_files(
     width : int
         The bits of a register of the union, 4, 6 or 8.
     files_per_task : int, optional
-        How many files a task reads. By default there are two tasks for each thread of the cluster, of
-        64 to 4,096 files.
+        How many files a task reads. By default there are two tasks for each thread of the cluster,
+        of 64 to 4,096 files.
     split_every : int
         How many images a task joins.
 
     Returns
     -------
     dask.delayed.Delayed
-        Of a ``Sketch``. Its ``compute`` raises ``PlacedImageError`` where a file is no image: ``place``
-        is its path and ``number`` its number among the paths.
+        Of a ``Sketch``. Its ``compute`` raises ``PlacedImageError`` where a file is no image:
+        ``place`` is its path and ``number`` its number among the paths.
     """
     lg_max_k, width, paths = checked_lg_k(lg_max_k), checked_width(width), list(paths)
     if files_per_task is None:
@@ -221,7 +231,9 @@ def union_of_files(
     )
 
 
-def union_of_bag(bag: Any, lg_max_k: int = 12, width: int = 8, *, split_every: int = SPLIT_EVERY) -> Any:
+def union_of_bag(
+    bag: Any, lg_max_k: int = 12, width: int = 8, *, split_every: int = SPLIT_EVERY
+) -> Any:
     """Return the union of the images in a bag.
 
     Parameters
@@ -234,8 +246,8 @@ def union_of_bag(bag: Any, lg_max_k: int = 12, width: int = 8, *, split_every: i
     Returns
     -------
     dask.delayed.Delayed
-        Of a ``Sketch``. Its ``compute`` raises ``PlacedImageError`` where an item is no image: ``place``
-        has the numbers of the partition and of the item in it.
+        Of a ``Sketch``. Its ``compute`` raises ``PlacedImageError`` where an item is no image:
+        ``place`` has the numbers of the partition and of the item in it.
     """
     lg_max_k, width = checked_lg_k(lg_max_k), checked_width(width)
     union = delayed(partial(_union_of_items, lg_max_k=lg_max_k), pure=False)
@@ -259,7 +271,8 @@ def union_by_key(
 ) -> Any:
     """Return the union of the images of each key.
 
-    Rows without a key or an image are passed over. All unions have to fit in the memory of one worker.
+    Rows without a key or an image are passed over. All unions have to fit in the memory of one
+    worker.
 
     Parameters
     ----------
@@ -276,8 +289,8 @@ def union_by_key(
     -------
     dask.delayed.Delayed
         Of a ``pandas.Series`` of images as bytes, with the keys as its index, in their order. Its
-        ``compute`` raises ``PlacedImageError`` where a row has no image: ``place`` has the numbers of
-        the partition and of the row in it.
+        ``compute`` raises ``PlacedImageError`` where a row has no image: ``place`` has the numbers
+        of the partition and of the row in it.
     """
     lg_max_k, width = checked_lg_k(lg_max_k), checked_width(width)
     union = delayed(partial(_union_by_key, key=key, image=image, lg_max_k=lg_max_k), pure=False)

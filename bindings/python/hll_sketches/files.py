@@ -1,0 +1,283 @@
+# SPDX-License-Identifier: Apache-2.0
+"""Files of images: how they are found, read and written."""
+from __future__ import annotations
+
+import os
+import stat
+import sys
+from typing import Callable, Iterable, Iterator, Optional
+
+from . import _library
+from .layout import size_of
+
+STANDARD = "-"
+"""The name of standard input, or of standard output."""
+
+PIECE = 1 << 16
+REFUSED, UNUSABLE = 1, 2
+
+
+class Trouble(Exception):
+    """What is told of a file, and the status that a command ends with.
+
+    Attributes
+    ----------
+    name : str
+        The file.
+    words : str
+        What is wrong.
+    status : int
+        ``REFUSED`` where it was read and is no image, or doesn't fit; ``UNUSABLE`` where it can't
+        be read or written.
+    """
+
+    def __init__(self, name: str, words: str, status: int = REFUSED) -> None:
+        super().__init__(name, words, status)
+        self.name, self.words, self.status = name, words, status
+
+    def __str__(self) -> str:
+        return f"{self.name}: {self.words}"
+
+
+def unusable(name: str, error: OSError) -> Trouble:
+    """The trouble of a file that can't be read or written."""
+    return Trouble(name, error.strerror or str(error), UNUSABLE)
+
+
+def image_trouble(name: str, reason: str) -> Trouble:
+    """The trouble of a file that is no image."""
+    return Trouble(name, f"image {reason}")
+
+
+# ---- reading
+
+
+def _read_up_to(place: int, most: int) -> bytes:
+    """So many bytes, or fewer where the file ends."""
+    first = os.read(place, most)
+    pieces, rest = [first], most - len(first)
+    while rest and pieces[-1]:
+        pieces.append(os.read(place, rest))
+        rest -= len(pieces[-1])
+    return first if len(pieces) == 1 else b"".join(pieces)
+
+
+def _read_image(place: int) -> bytes:
+    """The bytes of an image, and perhaps some behind it, but never many."""
+    data = _read_up_to(place, PIECE)
+    if len(data) < PIECE:
+        return data
+    more = size_of(data) - PIECE
+    return data + _read_up_to(place, more) if more > 0 else data
+
+
+def bytes_of_file(name: str) -> bytes:
+    """The bytes of a file as far as an image can go, unchecked; ``-`` is standard input.
+
+    A file of any size takes no more memory than the image that its first bytes promise.
+
+    Raises
+    ------
+    Trouble
+        If the file can't be read.
+    """
+    try:
+        if name == STANDARD:
+            return _read_image(0)
+        place = os.open(name, os.O_RDONLY | getattr(os, "O_CLOEXEC", 0))
+        try:
+            return _read_image(place)
+        finally:
+            os.close(place)
+    except OSError as error:
+        raise unusable(name, error) from None
+    except ValueError:
+        raise Trouble(name, "no name of a file", UNUSABLE) from None
+
+
+def image_of_file(name: str) -> bytes:
+    """The image of a file, checked, with nothing behind it.
+
+    Raises
+    ------
+    Trouble
+        If the file can't be read, or is no image.
+    """
+    data = bytes_of_file(name)
+    status = _library.check(data)
+    if status != _library.OK:
+        raise image_trouble(name, _library.WORDS[status])
+    return data[: size_of(data)]
+
+
+# ---- finding
+
+
+def _walk(folder: str) -> Iterator[str]:
+    """The files below a folder in the order of their names, but those whose name has a dot first."""
+
+    def failed(error: OSError) -> None:
+        raise unusable(error.filename, error)
+
+    for place, folders, names in os.walk(folder, onerror=failed):
+        folders[:] = sorted(name for name in folders if not name.startswith("."))
+        for name in sorted(names):
+            path = os.path.join(place, name)
+            if not name.startswith(".") and os.path.isfile(path):
+                yield path
+
+
+def found(names: Iterable[str]) -> Iterator[str]:
+    """The files that are named, and in place of a folder those below it.
+
+    Raises
+    ------
+    Trouble
+        If a folder can't be read, or has no file.
+    """
+    for name in names:
+        if name == STANDARD or not os.path.isdir(name):
+            yield name
+            continue
+        none = True
+        for path in _walk(name):
+            none = False
+            yield path
+        if none:
+            raise Trouble(name, "no files in this folder", UNUSABLE)
+
+
+def names_in(name: str, ends_with_nul: bool) -> Iterator[str]:
+    """The names that a file has, each on a line or ended by NUL; ``-`` is standard input.
+
+    Raises
+    ------
+    Trouble
+        If the file can't be read.
+    """
+    end = b"\0" if ends_with_nul else b"\n"
+    rest = b""
+    try:
+        source = os.dup(0) if name == STANDARD else os.open(name, os.O_RDONLY)
+        with open(source, "rb", buffering=0) as stream:
+            for piece in iter(lambda: stream.read(PIECE), b""):
+                *whole, rest = (rest + piece).split(end)
+                yield from map(os.fsdecode, filter(None, whole))
+    except OSError as error:
+        raise unusable(name, error) from None
+    if rest:
+        yield os.fsdecode(rest)
+
+
+# ---- writing
+
+
+def _write_all(place: int, data: bytes) -> None:
+    """Writes all bytes."""
+    rest = memoryview(data)
+    while rest:
+        rest = rest[os.write(place, rest) :]
+
+
+def _write_standard(data: bytes) -> None:
+    """Writes to standard output, behind what was printed."""
+    try:
+        if sys.stdout is not None:
+            sys.stdout.flush()
+        _write_all(1, data)
+    except OSError as error:
+        raise unusable("standard output", error) from None
+
+
+def _mode_of(path: str) -> Optional[int]:
+    """The mode of a file; None if it isn't there."""
+    try:
+        return os.stat(path).st_mode
+    except FileNotFoundError:
+        return None
+
+
+def _beside(path: str) -> str:
+    """A name in the same folder, which walks pass over."""
+    folder, name = os.path.split(path)
+    return os.path.join(folder, f".{name[:200]}.{os.getpid()}.{os.urandom(4).hex()}")
+
+
+def _replace(path: str, data: bytes, mode: Optional[int]) -> None:
+    """Writes a file beside, and gives it the name once it is whole."""
+    beside = _beside(path)
+    place = os.open(beside, os.O_WRONLY | os.O_CREAT | os.O_EXCL, 0o666)
+    try:
+        try:
+            if mode is not None:
+                os.fchmod(place, stat.S_IMODE(mode))
+            _write_all(place, data)
+            os.fsync(place)
+        finally:
+            os.close(place)
+        os.replace(beside, path)
+    except BaseException:
+        os.unlink(beside)
+        raise
+
+
+def _write_into(path: str, data: bytes) -> None:
+    """Writes into what is no plain file: a pipe or a device."""
+    place = os.open(path, os.O_WRONLY)
+    try:
+        _write_all(place, data)
+    finally:
+        os.close(place)
+
+
+def _to_path(name: str, call: Callable[[str, Optional[int]], None]) -> None:
+    """Calls with where a name leads, and the mode of what is there."""
+    try:
+        path = os.path.realpath(name)
+        call(path, _mode_of(path))
+    except OSError as error:
+        raise unusable(name, error) from None
+    except ValueError:
+        raise Trouble(name, "no name of a file", UNUSABLE) from None
+
+
+def write_file(name: str, data: bytes) -> None:
+    """Writes a file as a whole, or leaves it as it was; ``-`` is standard output.
+
+    Raises
+    ------
+    Trouble
+        If it can't be written.
+    """
+
+    def write(path: str, mode: Optional[int]) -> None:
+        if mode is None or stat.S_ISREG(mode):
+            _replace(path, data, mode)
+        else:
+            _write_into(path, data)
+
+    if name == STANDARD:
+        _write_standard(data)
+    else:
+        _to_path(name, write)
+
+
+def check_output(name: str) -> None:
+    """Finds out before the work whether a file can be written, as far as that can be told.
+
+    Raises
+    ------
+    Trouble
+        If it can't.
+    """
+
+    def check(path: str, mode: Optional[int]) -> None:
+        if mode is not None and stat.S_ISDIR(mode):
+            raise Trouble(name, "Is a directory", UNUSABLE)
+        folder = os.path.dirname(path)
+        os.stat(folder)
+        if (mode is None or stat.S_ISREG(mode)) and not os.access(folder, os.W_OK | os.X_OK):
+            raise Trouble(name, "Permission denied", UNUSABLE)
+
+    if name != STANDARD:
+        _to_path(name, check)

@@ -1,0 +1,86 @@
+# SPDX-License-Identifier: Apache-2.0
+"""Where things are in the bytes of an image (docs/FORMAT.md, "The image")."""
+from __future__ import annotations
+
+import struct
+from typing import List
+
+from . import _library
+
+STAGES = ("list", "set", "registers")
+HEADER = 40
+"""The bytes of a header with its words and counts; those of a list or a set are shorter."""
+
+_FLAGS = ((4, "empty"), (8, "compact"), (16, "out of order"))
+_MOST_COUPONS = 1 << 18
+
+
+def _list_size(image: bytes) -> int:
+    """The bytes of a list: none behind the header where it is empty."""
+    if image[5] & 4:
+        return 8
+    return 8 + 4 * (min(image[6], 8) if image[5] & 8 else 8)
+
+
+def _set_size(image: bytes) -> int:
+    """The bytes of a set, by its count or by its table."""
+    count = min(int.from_bytes(image[8:12], "little"), _MOST_COUPONS)
+    return 12 + 4 * (count if image[5] & 8 else 1 << min(image[4], 18))
+
+
+def _registers_size(image: bytes) -> int:
+    """The bytes of registers, with the exceptions of those of four bits."""
+    number = 1 << image[3]
+    width = _library.width_in(image)
+    if width != 4:
+        return HEADER + (number if width == 8 else 3 * number // 4 + 1)
+    count = min(int.from_bytes(image[36:40], "little"), number)
+    places = count if image[5] & 8 or not count else 1 << min(image[4], 26)
+    return HEADER + number // 2 + 4 * places
+
+
+def size_of(image: bytes) -> int:
+    """How many bytes the image takes, as its first ``HEADER`` bytes say.
+
+    Where they are refused, so many bytes are refused for the same reason. The others behind them
+    are not looked at by any call.
+    """
+    if len(image) < 8 or not _library.LEAST_LG_K <= image[3] <= _library.MOST_LG_K:
+        return HEADER
+    stage = image[7] & 3
+    if stage == 0:
+        return _list_size(image)
+    return _set_size(image) if stage == 1 else _registers_size(image)
+
+
+def flags_of(image: bytes) -> List[str]:
+    """The names of the flags that are set."""
+    return [name for bit, name in _FLAGS if image[5] & bit]
+
+
+def words_of(image: bytes) -> str:
+    """What the estimator words of an image are.
+
+    ``"none"`` for a list or a set, ``"zero"``, ``"set"`` where they are the sums of the registers,
+    and ``"other"`` where another program put its own there.
+    """
+    if image[7] & 3 != 2:
+        return "none"
+    if not any(image[8:32]):
+        return "zero"
+    summed = _library.set_estimator_words(image)
+    return "set" if image[8:32] == summed[8:32] and image[5] & 16 else "other"
+
+
+def registers_of(image: bytes, lg_k: int) -> bytes:
+    """The value of each register at an ``lg_k``, which is the image's or smaller, a byte each."""
+    made = _library.convert(_library.fold(image, lg_k), 8)
+    stage = made[7] & 3
+    if stage == 2:
+        return made[HEADER : HEADER + (1 << lg_k)]
+    coupons = made[12:] if stage == 1 else made[8:]
+    registers = bytearray(1 << lg_k)
+    for word in struct.unpack(f"<{len(coupons) // 4}I", coupons):
+        slot, value = word & (1 << lg_k) - 1, word >> 26
+        registers[slot] = max(registers[slot], value)
+    return bytes(registers)

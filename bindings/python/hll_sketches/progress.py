@@ -1,0 +1,42 @@
+# SPDX-License-Identifier: Apache-2.0
+"""A bar on standard error, where that is a terminal, ``tqdm`` is installed and work takes long."""
+from __future__ import annotations
+
+import sys
+from typing import Optional
+
+
+class Bar:
+    """Shows how much is done, once a second has passed.
+
+    Parameters
+    ----------
+    unit : str
+        What is counted.
+    total : int, optional
+        How many there are, if that is known.
+    """
+
+    def __init__(self, unit: str, total: Optional[int] = None) -> None:
+        self._bar = None
+        if sys.stderr is None or not sys.stderr.isatty():
+            return
+        try:
+            from tqdm import tqdm
+        except ImportError:
+            return
+        self._bar = tqdm(
+            total=total, unit=unit, unit_scale=True, delay=1, leave=False, file=sys.stderr
+        )
+
+    def more(self, count: int) -> None:
+        """So many more are done."""
+        if self._bar is not None:
+            self._bar.update(count)
+
+    def __enter__(self) -> "Bar":
+        return self
+
+    def __exit__(self, *_: object) -> None:
+        if self._bar is not None:
+            self._bar.close()
