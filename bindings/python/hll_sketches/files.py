@@ -5,6 +5,7 @@ from __future__ import annotations
 import os
 import stat
 import sys
+from contextlib import suppress
 from typing import Callable, Iterable, Iterator, Optional
 
 from . import _library
@@ -37,6 +38,13 @@ class Trouble(Exception):
 
     def __str__(self) -> str:
         return f"{self.name}: {self.words}"
+
+
+class OutputTrouble(Trouble):
+    """Standard output can't be written, so that it makes no sense to go on."""
+
+    def __init__(self, error: OSError) -> None:
+        super().__init__("standard output", error.strerror or str(error), UNUSABLE)
 
 
 def unusable(name: str, error: OSError) -> Trouble:
@@ -186,7 +194,7 @@ def _write_standard(data: bytes) -> None:
             sys.stdout.flush()
         _write_all(1, data)
     except OSError as error:
-        raise unusable("standard output", error) from None
+        raise OutputTrouble(error) from None
 
 
 def _mode_of(path: str) -> Optional[int]:
@@ -217,7 +225,8 @@ def _replace(path: str, data: bytes, mode: Optional[int]) -> None:
             os.close(place)
         os.replace(beside, path)
     except BaseException:
-        os.unlink(beside)
+        with suppress(FileNotFoundError):
+            os.unlink(beside)
         raise
 
 

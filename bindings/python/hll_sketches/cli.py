@@ -1,0 +1,295 @@
+# SPDX-License-Identifier: Apache-2.0
+# PYTHON_ARGCOMPLETE_OK
+"""The command ``hll``: its arguments, and how it ends."""
+from __future__ import annotations
+
+import argparse
+import os
+import signal
+import sys
+import textwrap
+from typing import Any, Callable, List, Optional
+
+from . import __version__, commands
+from .files import STANDARD, UNUSABLE, OutputTrouble, Trouble
+
+_ABOUT = "HyperLogLog sketches in the DataSketches format: make, merge, compare and look at them."
+_NOTES = """\
+A file is the image of one sketch, and - is standard input or standard output.
+
+status: 0, or 1 where an image is refused or sketches differ, or 2 for a wrong command line or a
+file that can't be read or written.
+
+  hll new day.hll
+  cut -f2 log | hll add day.hll
+  hll merge days -o year.hll
+  hll estimate year.hll
+"""
+
+
+# ---- kinds of argument
+
+
+def _number(least: int, most: float, what: str) -> Callable[[str], int]:
+    """A kind of argument: a number in a range."""
+
+    def number(text: str) -> int:
+        if not (text.isascii() and text.isdigit() and least <= int(text) <= most):
+            raise argparse.ArgumentTypeError(f"{what}, not {text!r}")
+        return int(text)
+
+    return number
+
+
+_lg_k = _number(4, 21, "an lg_k is 4 to 21")
+_jobs = _number(1, 1024, "the number of jobs is 1 to 1024")
+_most = _number(0, float("inf"), "a number of slots")
+
+
+# ---- arguments of several commands
+
+
+def _with_lg_k(parser: argparse.ArgumentParser, what: str, **more: Any) -> None:
+    parser.add_argument("--lg-k", type=_lg_k, metavar="K", help=what, **more)
+
+
+def _with_width(parser: argparse.ArgumentParser, **more: Any) -> None:
+    help_ = "bits of a register: 4, 6 or 8" + (" (8)" if "default" in more else "")
+    parser.add_argument("--width", type=int, choices=(4, 6, 8), help=help_, **more)
+
+
+def _with_json(parser: argparse.ArgumentParser) -> None:
+    parser.add_argument("--json", action="store_true", help="tell about it as one JSON document")
+
+
+def _with_output(parser: argparse.ArgumentParser, **more: Any) -> None:
+    _with_json(parser)
+    help_ = more.pop("help", "the file to write; - is standard output")
+    parser.add_argument("-o", "--output", metavar="OUT", help=help_, **more)
+
+
+def _with_plain(parser: argparse.ArgumentParser) -> None:
+    help_ = "leave the words from which other libraries estimate at zero, as hll_merge does"
+    parser.add_argument("--plain", action="store_true", help=help_)
+
+
+def _with_files(parser: argparse.ArgumentParser, nargs: str, what: str) -> None:
+    parser.add_argument("files", nargs=nargs, metavar="FILE", help=what)
+
+
+def _with_folders(parser: argparse.ArgumentParser) -> None:
+    what = "a file, a folder (all files below it, but names that begin with a dot), or -"
+    _with_files(parser, "*", what)
+    help_ = "read names of more files from LIST, one a line; - is standard input"
+    parser.add_argument("--files-from", metavar="LIST", help=help_)
+    help_ = "names in LIST are ended by NUL, as find -print0 does"
+    parser.add_argument("-0", "--null", action="store_true", help=help_)
+
+
+def _with_deviations(parser: argparse.ArgumentParser) -> None:
+    help_ = "bounds at 1, 2 or 3 standard deviations (2)"
+    choices = dict(type=int, choices=(1, 2, 3), default=2)
+    parser.add_argument("--deviations", help=help_, **choices)
+
+
+# ---- commands
+
+
+def _merge(parser: argparse.ArgumentParser) -> None:
+    _with_folders(parser)
+    _with_output(parser, required=True)
+    _with_lg_k(parser, "the largest lg_k of the answer, 4 to 21 (12)", default=12)
+    _with_width(parser, default=8)
+    parser.add_argument("--jobs", type=_jobs, metavar="N", help="processes (one a processor)")
+    help_ = "leave out files that are no images, tell which on standard error, and go on"
+    parser.add_argument("--skip-bad", action="store_true", help=help_)
+    _with_plain(parser)
+
+
+def _info(parser: argparse.ArgumentParser) -> None:
+    _with_files(parser, "+", "a file, or -")
+    _with_deviations(parser)
+    _with_json(parser)
+
+
+def _check(parser: argparse.ArgumentParser) -> None:
+    _with_folders(parser)
+    _with_json(parser)
+
+
+def _fold(parser: argparse.ArgumentParser) -> None:
+    parser.add_argument("file", metavar="FILE", help="a file, or -")
+    _with_lg_k(parser, "the lg_k of the answer, 4 to that of the file", required=True)
+    _with_output(parser, required=True)
+    _with_plain(parser)
+
+
+def _convert(parser: argparse.ArgumentParser) -> None:
+    parser.add_argument("file", metavar="FILE", help="a file, or -")
+    _with_width(parser, required=True)
+    _with_output(parser, required=True)
+    _with_plain(parser)
+
+
+def _diff(parser: argparse.ArgumentParser) -> None:
+    parser.add_argument("left", metavar="A", help="a file, or -")
+    parser.add_argument("right", metavar="B", help="a file, or -")
+    help_ = "show so many slots that differ (10)"
+    parser.add_argument("--most", type=_most, metavar="N", default=10, help=help_)
+    parser.add_argument("-q", "--quiet", action="store_true", help="only the status tells")
+    _with_json(parser)
+
+
+def _plot(parser: argparse.ArgumentParser) -> None:
+    parser.add_argument("file", metavar="FILE", help="a file, or -")
+    help_ = "the picture to write; - is standard output"
+    parser.add_argument("-o", "--output", metavar="OUT", required=True, help=help_)
+    parser.add_argument("--title", help="what stands above (the name of the file)")
+
+
+def _new(parser: argparse.ArgumentParser) -> None:
+    parser.add_argument("output", metavar="FILE", help="the file to write, or -")
+    _with_lg_k(parser, "the logarithm of the number of registers, 4 to 21 (12)", default=12)
+    _with_width(parser, default=8)
+    parser.add_argument("--force", action="store_true", help="replace a file that is there")
+    _with_json(parser)
+
+
+def _add(parser: argparse.ArgumentParser) -> None:
+    parser.add_argument("file", metavar="FILE", help="the file of a sketch")
+    _with_output(parser, help="the file to write (FILE itself); - is standard output")
+    _with_plain(parser)
+
+
+_COMMANDS = (
+    ("merge", _merge, "merge any number of files", "hll merge days -o year.hll"),
+    ("info", _info, "tell what files say of their sketches", "hll info year.hll"),
+    ("estimate", _info, "tell how many distinct values there were", "hll estimate *.hll"),
+    ("check", _check, "tell the files that are no images, and why", "hll check days"),
+    ("fold", _fold, "make a sketch smaller, to a smaller lg_k", "hll fold a.hll --lg-k 10 -o b.hll"),
+    ("convert", _convert, "write a sketch at another width", "hll convert a.hll --width 4 -o b.hll"),
+    ("diff", _diff, "tell whether two sketches agree, and where not", "hll diff a.hll b.hll"),
+    ("plot", _plot, "draw the registers beside the theory", "hll plot year.hll -o year.svg"),
+    ("new", _new, "make an empty sketch", "hll new day.hll --lg-k 14"),
+    ("add", _add, "add lines of standard input, each a value", "cut -f2 log | hll add day.hll"),
+)
+_MORE = {
+    "merge": "Each file that is refused is named; then nothing is written, but with --skip-bad.",
+    "estimate": "The number of one file stands alone; that of several has the name behind it.",
+    "check": "A file that is a sketch is passed over in silence.",
+    "diff": "Status 0: they agree, once folded to the smaller lg_k. 1: they differ. 2: trouble.",
+    "new": "Values are counted into it by `hll add`.",
+    "add": "A value is the bytes of a line without the LF; an empty line is a value too.",
+}
+
+
+def make_parser() -> argparse.ArgumentParser:
+    """The parser of all commands."""
+    raw = argparse.RawDescriptionHelpFormatter
+    parser = argparse.ArgumentParser("hll", None, _ABOUT, _NOTES, formatter_class=raw)
+    parser.add_argument("--version", action="version", version=f"hll {__version__}")
+    several = parser.add_subparsers(dest="command", metavar="COMMAND", required=True)
+    for name, arguments, what, example in _COMMANDS:
+        about = textwrap.fill(f"{what[0].upper()}{what[1:]}. {_MORE.get(name, '')}", 78)
+        epilog = f"example:\n  {example}\n"
+        one = several.add_parser(
+            name, help=what, description=about, epilog=epilog, formatter_class=raw
+        )
+        arguments(one)
+        one.set_defaults(call=getattr(commands, name))
+    return parser
+
+
+def _completed(parser: argparse.ArgumentParser) -> None:
+    """Answers a shell that asks for completions, if ``argcomplete`` is installed."""
+    if "_ARGCOMPLETE" in os.environ:
+        try:
+            import argcomplete
+        except ImportError:
+            return
+        argcomplete.autocomplete(parser)
+
+
+def _chosen(parser: argparse.ArgumentParser, arguments: Optional[List[str]]) -> argparse.Namespace:
+    """The arguments, if they go together."""
+    options = parser.parse_args(arguments)
+    if getattr(options, "json", False) and getattr(options, "output", None) == STANDARD:
+        parser.error("--json and an image on standard output don't go together")
+    if options.command == "add" and options.file == STANDARD:
+        parser.error("standard input has the lines, so FILE can't be -")
+    if getattr(options, "null", False) and options.files_from is None:
+        parser.error("-0 goes with --files-from")
+    return options
+
+
+# ---- how it ends
+
+
+def _settled() -> None:
+    """Streams and signals as other commands have them."""
+    for stream in (sys.stdout, sys.stderr):
+        if stream is not None:
+            stream.reconfigure(errors="surrogateescape")
+    if hasattr(signal, "SIGPIPE"):
+        signal.signal(signal.SIGPIPE, signal.SIG_DFL)
+
+
+def _flushed() -> None:
+    """Writes what was printed; where that can't be, nothing is tried again at the end."""
+    if sys.stdout is None:
+        return
+    try:
+        sys.stdout.flush()
+    except OSError as error:
+        raise OutputTrouble(error) from None
+
+
+def _run(arguments: Optional[List[str]]) -> int:
+    """Carries out a command, and gives its status."""
+    parser = make_parser()
+    _completed(parser)
+    options = _chosen(parser, arguments)
+    try:
+        status = options.call(options)
+        _flushed()
+        return status
+    except OutputTrouble as trouble:
+        os.dup2(os.open(os.devnull, os.O_WRONLY), 1)
+        commands.say(trouble)
+        return trouble.status
+    except Trouble as trouble:
+        _flushed()
+        commands.say(trouble)
+        return trouble.status
+    except MemoryError:
+        commands.say("memory was refused")
+        return 1
+    except OSError as error:
+        commands.say(error.strerror or error)
+        return UNUSABLE
+
+
+def _interrupted() -> int:
+    """Ends as a process that was interrupted, which a shell tells as 130."""
+    signal.signal(signal.SIGINT, signal.SIG_DFL)
+    os.kill(os.getpid(), signal.SIGINT)
+    return 130
+
+
+def main(arguments: Optional[List[str]] = None) -> int:
+    """Runs the command, and gives its status.
+
+    Parameters
+    ----------
+    arguments : list of str, optional
+        In place of those of the process.
+    """
+    try:
+        _settled()
+        return _run(arguments)
+    except KeyboardInterrupt:
+        return _interrupted()
+
+
+if __name__ == "__main__":
+    sys.exit(main())

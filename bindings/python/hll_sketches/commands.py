@@ -1,0 +1,322 @@
+# SPDX-License-Identifier: Apache-2.0
+"""What each command of ``hll`` does. Each answers the status that the program ends with."""
+from __future__ import annotations
+
+import json
+import math
+import os
+import struct
+import sys
+from argparse import Namespace
+from typing import Any, Callable, Dict, Iterator, List, Optional, Tuple
+
+from . import _library
+from .files import STANDARD, UNUSABLE, OutputTrouble, Trouble, bytes_of_file, check_output
+from .files import found, image_of_file, image_trouble, names_in, write_file
+from .layout import STAGES, flags_of, registers_of, size_of, words_of
+from .progress import Bar
+
+OK, DIFFER = 0, 1
+
+Record = Dict[str, Any]
+
+
+def say(words: object) -> None:
+    """Writes a line to standard error."""
+    if sys.stderr is not None:
+        print(f"hll: {words}", file=sys.stderr, flush=True)
+
+
+def tell(text: str) -> None:
+    """Writes text and a line end to standard output."""
+    try:
+        print(text)
+    except OSError as error:
+        raise OutputTrouble(error) from None
+
+
+def show(document: object) -> None:
+    """Writes one JSON document to standard output."""
+    tell(json.dumps(document, indent=2))
+
+
+def finite(number: float) -> Optional[float]:
+    """A number as JSON can have it."""
+    return number if math.isfinite(number) else None
+
+
+def each(names: List[str], call: Callable[[str], None]) -> int:
+    """Calls with each file; tells those that are refused, and gives the worst status."""
+    worst = OK
+    for name in names:
+        try:
+            call(name)
+        except OutputTrouble:
+            raise
+        except Trouble as trouble:
+            say(trouble)
+            worst = max(worst, trouble.status)
+    return worst
+
+
+# ---- what is written
+
+
+def finished(image: bytes, plain: bool) -> bytes:
+    """The image as it is written: other libraries can estimate from it, unless it is to be plain.
+
+    Words that another library put there are kept.
+    """
+    return image if plain or words_of(image) != "zero" else _library.set_estimator_words(image)
+
+
+def put(options: Namespace, image: bytes, **more: object) -> int:
+    """Writes an image to the output; tells about it where that is asked for."""
+    write_file(options.output, image)
+    if options.json:
+        show({"output": options.output, **more, **summary(image)})
+    return OK
+
+
+# ---- info and estimate
+
+
+def summary(image: bytes, deviations: int = 2) -> Record:
+    """What is told of a legal image."""
+    told, found_ = _library.info(image), _library.estimation(image)
+    record: Record = {
+        "stage": STAGES[told.stage],
+        "lg_k": told.lg_k,
+        "width": told.width,
+        "bytes": size_of(image),
+        "flags": flags_of(image),
+        "estimate": finite(found_.estimate),
+        "lower": finite(found_.lower[deviations - 1]),
+        "upper": finite(found_.upper[deviations - 1]),
+        "deviations": deviations,
+    }
+    if told.stage != 2:
+        return {**record, "coupons": told.coupons}
+    bits = struct.pack("<3Q", told.hip, told.kxq0, told.kxq1)
+    numbers = map(finite, struct.unpack("<3d", bits))
+    named = dict(zip(("hip", "kxq0", "kxq1"), numbers))
+    return {**record, "zeros": told.zeros, "words": words_of(image), **named}
+
+
+def rounded(number: Optional[float]) -> str:
+    """A number for people."""
+    return "infinite" if number is None else f"{number:,.0f}"
+
+
+_WORDS = {
+    "zero": "zero: other libraries can't estimate from it",
+    "set": "set: the sums of the registers",
+    "other": "those of another program",
+}
+
+
+def described(name: str, told: Record) -> str:
+    """Some lines about an image."""
+    bounds = f"{rounded(told['lower'])} to {rounded(told['upper'])}"
+    number = 1 << told["lg_k"]
+    rows = [
+        ("stage", told["stage"]),
+        ("lg_k", f"{told['lg_k']}, so {number:,} registers"),
+        ("width", f"{told['width']} bits"),
+        ("estimate", rounded(told["estimate"])),
+        ("bounds", f"{bounds}, at {told['deviations']} standard deviations"),
+    ]
+    if "coupons" in told:
+        rows.append(("coupons", f"{told['coupons']:,}"))
+    else:
+        rows += [("zeros", f"{told['zeros']:,}"), ("words", _WORDS[told["words"]])]
+    rows.append(("flags", ", ".join(told["flags"]) or "none"))
+    rows.append(("bytes", f"{told['bytes']:,}"))
+    return "\n".join([f"{name}:", *(f"  {key:<9} {value}" for key, value in rows)])
+
+
+def info(options: Namespace) -> int:
+    """Tells what images say of their sketches."""
+    records: List[Record] = []
+
+    def one(name: str) -> None:
+        told = summary(image_of_file(name), options.deviations)
+        records.append({"file": name, **told})
+        if not options.json:
+            tell(described(name, told))
+
+    status = each(options.files, one)
+    if options.json:
+        show(records)
+    return status
+
+
+def estimate(options: Namespace) -> int:
+    """Tells the estimates of images."""
+    records: List[Record] = []
+
+    def one(name: str) -> None:
+        told = summary(image_of_file(name), options.deviations)
+        keys = ("estimate", "lower", "upper", "deviations")
+        records.append({"file": name, **{key: told[key] for key in keys}})
+        if not options.json:
+            number = "inf" if told["estimate"] is None else f"{told['estimate']:.0f}"
+            tell(number if len(options.files) == 1 else f"{number}\t{name}")
+
+    status = each(options.files, one)
+    if options.json:
+        show(records)
+    return status
+
+
+# ---- files and folders
+
+
+def named_files(options: Namespace) -> Iterator[str]:
+    """The files of the command line, those below its folders, and those that a file names."""
+    if not options.files and options.files_from is None:
+        raise Trouble(options.command, "no files are named", UNUSABLE)
+    yield from found(options.files)
+    if options.files_from is not None:
+        yield from found(names_in(options.files_from, options.null))
+
+
+def check(options: Namespace) -> int:
+    """Tells each file that is no image, and why."""
+    checked, refused, worst = 0, [], OK
+    with Bar("file") as bar:
+        for name in named_files(options):
+            checked += 1
+            bar.more(1)
+            try:
+                status = _library.check(bytes_of_file(name))
+            except Trouble as trouble:
+                say(trouble)
+                worst = max(worst, trouble.status)
+                continue
+            if status == _library.OK:
+                continue
+            worst, reason = max(worst, DIFFER), _library.WORDS[status]
+            refused.append({"file": name, "reason": reason})
+            if not options.json:
+                tell(image_trouble(name, reason))
+    if options.json:
+        show({"checked": checked, "refused": refused})
+    return worst
+
+
+def merge(options: Namespace) -> int:
+    """Merges any number of files."""
+    from .merging import processors, union_of_files
+
+    check_output(options.output)
+    left_out: List[Trouble] = []
+
+    def refuse(trouble: Trouble) -> None:
+        say(f"{trouble} (left out)" if options.skip_bad else trouble)
+        left_out.append(trouble)
+
+    with Bar("file") as bar:
+        jobs = options.jobs or processors()
+        names = named_files(options)
+        image, count = union_of_files(
+            names, options.lg_k, options.width, jobs, refuse, bar.more
+        )
+    if left_out and not options.skip_bad:
+        return max(trouble.status for trouble in left_out)
+    if not count:
+        raise Trouble("merge", "no image is left to merge", max([1, *map(_status, left_out)]))
+    if not options.plain:
+        image = _library.set_estimator_words(image)
+    skipped = [{"file": trouble.name, "reason": trouble.words} for trouble in left_out]
+    return put(options, image, merged=count, left_out=skipped)
+
+
+def _status(trouble: Trouble) -> int:
+    return trouble.status
+
+
+# ---- one image from another
+
+
+def fold(options: Namespace) -> int:
+    """Writes an image at a smaller ``lg_k``."""
+    image = image_of_file(options.file)
+    if options.lg_k > image[3]:
+        words = f"its lg_k is {image[3]}, and a fold goes no higher"
+        raise Trouble(options.file, words)
+    return put(options, finished(_library.fold(image, options.lg_k), options.plain))
+
+
+def convert(options: Namespace) -> int:
+    """Writes an image at a width."""
+    image = _library.convert(image_of_file(options.file), options.width)
+    return put(options, finished(image, options.plain))
+
+
+def new(options: Namespace) -> int:
+    """Writes an empty sketch; a file that is there already stays."""
+    exists = options.output != STANDARD and os.path.lexists(options.output)
+    if exists and not options.force:
+        raise Trouble(options.output, "File exists (--force replaces it)", UNUSABLE)
+    return put(options, _library.new(options.lg_k, options.width))
+
+
+def add(options: Namespace) -> int:
+    """Adds the lines of standard input to a sketch."""
+    from .adding import add_lines
+
+    image = image_of_file(options.file)
+    options.output = options.output or options.file
+    check_output(options.output)
+    try:
+        with open(os.dup(0), "rb") as stream, Bar("line") as bar:
+            image, count = add_lines(image, stream, bar.more)
+    except OSError as error:
+        raise Trouble("standard input", error.strerror or str(error), UNUSABLE) from None
+    return put(options, finished(image, options.plain), lines=count)
+
+
+# ---- comparing
+
+
+def _differing(left: bytes, right: bytes, lg_k: int) -> List[Tuple[int, int, int]]:
+    """The slots that differ at an ``lg_k``, each with both values."""
+    pairs = zip(registers_of(left, lg_k), registers_of(right, lg_k))
+    return [(slot, one, two) for slot, (one, two) in enumerate(pairs) if one != two]
+
+
+def diff(options: Namespace) -> int:
+    """Compares two sketches, at the smaller ``lg_k`` of both; any trouble has status 2."""
+    try:
+        left, right = image_of_file(options.left), image_of_file(options.right)
+    except Trouble as trouble:
+        raise Trouble(trouble.name, trouble.words, UNUSABLE) from None
+    lg_k = min(left[3], right[3])
+    agree = _library.agree(left, right)
+    slots = [] if agree else _differing(left, right, lg_k)
+    shown = slots[: options.most]
+    if options.json:
+        rows = [dict(zip(("slot", "left", "right"), slot)) for slot in shown]
+        show({"agree": agree, "lg_k": lg_k, "differing": len(slots), "slots": rows})
+    elif not options.quiet:
+        number = f"{len(slots):,} of {1 << lg_k:,} slots"
+        tell(f"agree at lg_k {lg_k}" if agree else f"differ at lg_k {lg_k}, in {number}")
+        for slot, one, two in shown:
+            tell(f"slot {slot}: {one} and {two}")
+        if len(shown) < len(slots):
+            tell(f"and {len(slots) - len(shown):,} slots more")
+    return OK if agree else DIFFER
+
+
+# ---- pictures
+
+
+def plot(options: Namespace) -> int:
+    """Draws the histogram of the registers beside the theory."""
+    from .plot import histogram_svg
+
+    image = image_of_file(options.file)
+    name = "standard input" if options.file == STANDARD else os.path.basename(options.file)
+    write_file(options.output, histogram_svg(image, options.title or name).encode("utf-8"))
+    return OK

@@ -1,0 +1,164 @@
+# SPDX-License-Identifier: Apache-2.0
+"""A picture of the registers of a sketch beside the theory for its estimate, as SVG.
+
+Of n values, each goes to one of m registers, and has a number above v with the chance of 2^-v. So a
+register is v or less with the chance of (1 - 2^-v / m)^n.
+"""
+from __future__ import annotations
+
+import math
+from typing import Iterator, List
+from xml.sax.saxutils import escape
+
+from . import _library
+from .layout import STAGES
+
+WIDTH, HEIGHT = 720, 400
+LEFT, RIGHT, TOP, BOTTOM = 70, 20, 70, 60
+STYLE = (
+    "<style>text{font:13px sans-serif;fill:#222}.title{font-size:16px;font-weight:bold}"
+    ".right{text-anchor:end}.middle{text-anchor:middle}.grid{stroke:#ddd}.bar{fill:#7fa8d8}"
+    ".theory{stroke:#b03a2e;stroke-width:1.5;fill:none}.dot{fill:#b03a2e}</style>"
+)
+
+
+# ---- theory
+
+
+def _at_most(value: int, registers: int, values: float) -> float:
+    """The chance that a register is at most a value, of so many values."""
+    if value >= 63:
+        return 1.0
+    if math.isinf(values):
+        return 0.0
+    return math.exp(values * math.log1p(-(0.5**value) / registers))
+
+
+def expected(values: float, lg_k: int) -> List[float]:
+    """How many registers are expected to have each number from 0 to 63.
+
+    Parameters
+    ----------
+    values : float
+        The number of distinct values.
+    lg_k : int
+        The logarithm of the number of registers.
+    """
+    registers = 1 << lg_k
+    chances = [_at_most(value, registers, values) for value in range(64)]
+    steps = [chances[0], *(high - low for low, high in zip(chances, chances[1:]))]
+    return [registers * step for step in steps]
+
+
+def deviation(count: float, registers: int) -> float:
+    """The standard deviation of how many registers have a number, about."""
+    return math.sqrt(max(count * (1 - count / registers), 0.0))
+
+
+# ---- pictures
+
+
+def document(width: int, height: int, style: str, parts: List[str]) -> str:
+    """A picture on a white ground."""
+    size = f'width="{width}" height="{height}" viewBox="0 0 {width} {height}"'
+    head = f'<svg xmlns="http://www.w3.org/2000/svg" {size}>{style}'
+    ground = f'<rect width="{width}" height="{height}" fill="white"/>'
+    return "\n".join([head, ground, *parts, "</svg>", ""])
+
+
+def words(x: float, y: float, text: str, kind: str = "") -> str:
+    """A text at a place."""
+    shown = "".join(letter if letter.isprintable() else "?" for letter in text)
+    named = f' class="{kind}"' if kind else ""
+    return f'<text x="{x:.1f}" y="{y:.1f}"{named}>{escape(shown)}</text>'
+
+
+def step_of(most: float) -> int:
+    """A round distance of the lines of a grid, of which about five are below a number."""
+    power = 10 ** max(int(math.log10(max(most, 1))), 0)
+    for step in (power // 5, power // 2, power, 2 * power):
+        if step and most / step <= 6:
+            return step
+    return 2 * power
+
+
+class _Chart:
+    """Bars of a histogram from one value of registers to another, beside the theory."""
+
+    def __init__(self, counts: List[int], theory: List[float], lg_k: int) -> None:
+        self.counts, self.theory, self.registers = counts, theory, 1 << lg_k
+        shown = [value for value in range(64) if counts[value] or theory[value] >= 0.5]
+        self.first = max(shown[0] - 1, 0)
+        self.last = min(max(shown[-1] + 1, self.first + 5), 63)
+        highs = [count + 2 * deviation(count, self.registers) for count in theory]
+        self.most = 1.05 * max(*counts, *highs, 1)
+        self.step = (WIDTH - LEFT - RIGHT) / (self.last - self.first + 1)
+
+    def x(self, value: float) -> float:
+        """Where the middle of a value is."""
+        return LEFT + (value - self.first + 0.5) * self.step
+
+    def y(self, count: float) -> float:
+        """Where a count is."""
+        part = min(max(count, 0.0) / self.most, 1.0)
+        return HEIGHT - BOTTOM - part * (HEIGHT - TOP - BOTTOM)
+
+    def grid(self) -> Iterator[str]:
+        """The lines of counts, and the values below."""
+        step = step_of(self.most)
+        for count in range(0, int(self.most) + 1, step):
+            y = self.y(count)
+            ends = f'x1="{LEFT}" y1="{y:.1f}" x2="{WIDTH - RIGHT}" y2="{y:.1f}"'
+            yield f'<line {ends} class="grid"/>'
+            yield words(LEFT - 8, y + 4, f"{count:,}", "right")
+        every = (self.last - self.first) // 32 + 1
+        for value in range(self.first, self.last + 1, every):
+            yield words(self.x(value), HEIGHT - BOTTOM + 18, str(value), "middle")
+        yield words((LEFT + WIDTH - RIGHT) / 2, HEIGHT - 16, "value of a register", "middle")
+
+    def bars(self) -> Iterator[str]:
+        """A bar for each value."""
+        wide = 0.8 * self.step
+        for value in range(self.first, self.last + 1):
+            if self.counts[value]:
+                x, y = self.x(value) - wide / 2, self.y(self.counts[value])
+                size = f'width="{wide:.1f}" height="{HEIGHT - BOTTOM - y:.1f}"'
+                yield f'<rect x="{x:.1f}" y="{y:.1f}" {size} class="bar"/>'
+
+    def dots(self) -> Iterator[str]:
+        """A dot for each value, and a line of two deviations up and down."""
+        for value in range(self.first, self.last + 1):
+            count = self.theory[value]
+            x, spread = self.x(value), 2 * deviation(count, self.registers)
+            low, high = self.y(count - spread), self.y(count + spread)
+            yield f'<path d="M{x:.1f} {low:.1f}V{high:.1f}" class="theory"/>'
+            yield f'<circle cx="{x:.1f}" cy="{self.y(count):.1f}" r="3.5" class="dot"/>'
+
+
+def _legend() -> Iterator[str]:
+    """What bars and dots are."""
+    yield f'<rect x="{LEFT}" y="44" width="14" height="12" class="bar"/>'
+    yield words(LEFT + 20, 54, "registers of this sketch")
+    x = LEFT + 220
+    yield f'<path d="M{x} 42V58" class="theory"/><circle cx="{x}" cy="50" r="3.5" class="dot"/>'
+    yield words(x + 12, 54, "theory for the estimate, with two standard deviations")
+
+
+def histogram_svg(image: bytes, title: str) -> str:
+    """The histogram of the registers of an image beside the theory, as SVG.
+
+    Parameters
+    ----------
+    image : bytes
+        A legal image. The coupons of a list or a set are shown as registers.
+    title : str
+        What stands above, before the numbers.
+    """
+    lg_k, estimate = image[3], _library.estimation(image).estimate
+    chart = _Chart(_library.histogram(image), expected(estimate, lg_k), lg_k)
+    about = "more values than can be told" if math.isinf(estimate) else f"{estimate:,.0f} values"
+    kind = "registers" if STAGES[image[7] & 3] == "registers" else "slots of coupons"
+    heading = f"{title}: {1 << lg_k:,} {kind}, about {about}"
+    parts = [words(LEFT, 28, heading, "title"), *_legend()]
+    parts += [*chart.grid(), *chart.bars(), *chart.dots()]
+    return document(WIDTH, HEIGHT, STYLE, parts)
