@@ -11,7 +11,7 @@ import textwrap
 from typing import Any, Callable, List, Optional
 
 from . import __version__, commands
-from .files import STANDARD, UNUSABLE, OutputTrouble, Trouble
+from .files import REFUSED, STANDARD, UNUSABLE, OutputTrouble, Trouble
 
 _ABOUT = "HyperLogLog sketches in the DataSketches format: make, merge, compare and look at them."
 _NOTES = """\
@@ -235,7 +235,7 @@ def _settled() -> None:
 
 
 def _flushed() -> None:
-    """Writes what was printed; where that can't be, nothing is tried again at the end."""
+    """Writes what was printed."""
     if sys.stdout is None:
         return
     try:
@@ -244,29 +244,36 @@ def _flushed() -> None:
         raise OutputTrouble(error) from None
 
 
+def _carried_out(options: argparse.Namespace) -> int:
+    """Carries out a command, and tells what goes wrong."""
+    try:
+        return options.call(options)
+    except OutputTrouble:
+        raise
+    except Trouble as trouble:
+        commands.say(trouble)
+        return trouble.status
+    except MemoryError:
+        commands.say("memory was refused")
+        return REFUSED
+    except OSError as error:
+        commands.say(error.strerror or error)
+        return UNUSABLE
+
+
 def _run(arguments: Optional[List[str]]) -> int:
-    """Carries out a command, and gives its status."""
+    """Carries out a command line, and gives its status."""
     parser = make_parser()
     _completed(parser)
     options = _chosen(parser, arguments)
     try:
-        status = options.call(options)
+        status = _carried_out(options)
         _flushed()
         return status
     except OutputTrouble as trouble:
         os.dup2(os.open(os.devnull, os.O_WRONLY), 1)
         commands.say(trouble)
         return trouble.status
-    except Trouble as trouble:
-        _flushed()
-        commands.say(trouble)
-        return trouble.status
-    except MemoryError:
-        commands.say("memory was refused")
-        return 1
-    except OSError as error:
-        commands.say(error.strerror or error)
-        return UNUSABLE
 
 
 def _interrupted() -> int:

@@ -123,16 +123,16 @@ def image_of_file(name: str) -> bytes:
 
 def _walk(folder: str) -> Iterator[str]:
     """The files below a folder in the order of their names, but those whose name has a dot first."""
-
-    def failed(error: OSError) -> None:
-        raise unusable(error.filename, error)
-
-    for place, folders, names in os.walk(folder, onerror=failed):
-        folders[:] = sorted(name for name in folders if not name.startswith("."))
-        for name in sorted(names):
-            path = os.path.join(place, name)
-            if not name.startswith(".") and os.path.isfile(path):
-                yield path
+    try:
+        with os.scandir(folder) as entries:
+            seen = [entry for entry in entries if not entry.name.startswith(".")]
+    except OSError as error:
+        raise unusable(folder, error) from None
+    for entry in sorted(seen, key=lambda entry: entry.name):
+        if entry.is_dir(follow_symlinks=False):
+            yield from _walk(entry.path)
+        elif entry.is_file():
+            yield entry.path
 
 
 def found(names: Iterable[str]) -> Iterator[str]:

@@ -1,0 +1,58 @@
+# SPDX-License-Identifier: Apache-2.0
+"""The command `hll` as a process, for tests."""
+import os
+import pathlib
+import shutil
+import subprocess
+import sys
+import tempfile
+import unittest
+
+import common
+
+COMMAND = [sys.executable, "-m", "hll_sketches"]
+
+
+def environment(**more):
+    """The environment of a run."""
+    path = os.pathsep.join([str(common.PACKAGE), os.environ.get("PYTHONPATH", "")])
+    return dict(os.environ, PYTHONPATH=path, PYTHONDONTWRITEBYTECODE="1", **more)
+
+
+class CommandTest(unittest.TestCase):
+    """A test in a folder of its own, in which the command runs."""
+
+    def setUp(self):
+        self.folder = pathlib.Path(tempfile.mkdtemp(prefix="hll-"))
+        self.addCleanup(shutil.rmtree, self.folder)
+
+    def run_hll(self, *words, given=b"", **more):
+        """The status, and what is written to standard output and standard error."""
+        done = subprocess.run(
+            [*COMMAND, *map(str, words)], input=given, capture_output=True, cwd=self.folder,
+            env=environment(), **more,
+        )
+        return done.returncode, done.stdout, done.stderr.decode("utf-8", "surrogateescape")
+
+    def succeeds(self, *words, given=b""):
+        """What is written to standard output by a command that tells of no trouble."""
+        status, out, err = self.run_hll(*words, given=given)
+        self.assertEqual((status, err), (0, ""), words)
+        return out
+
+    def fails(self, status, err, *words, given=b""):
+        """A command ends with a status, says so much, and writes nothing to standard output."""
+        lines = "".join(f"hll: {line}\n" for line in err)
+        self.assertEqual(self.run_hll(*words, given=given), (status, b"", lines), words)
+
+    def write(self, name, data):
+        path = self.folder / name
+        path.parent.mkdir(parents=True, exist_ok=True)
+        path.write_bytes(data)
+        return path
+
+    def read(self, name):
+        return (self.folder / name).read_bytes()
+
+    def listed(self):
+        return sorted(os.listdir(self.folder))

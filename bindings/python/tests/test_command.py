@@ -1,0 +1,447 @@
+# SPDX-License-Identifier: Apache-2.0
+"""The commands of `hll`: what they write, what they refuse, and how they end."""
+import io
+import json
+import os
+import random
+import resource
+import signal
+import stat
+import struct
+import subprocess
+import unittest
+from unittest import mock
+
+import common  # noqa: F401, for the path
+from command import COMMAND, CommandTest, environment
+from hll_sketches import Sketch, adding, check, files, layout
+from mutants import KINDS, Mutants
+
+NAMES = "merge info estimate check fold convert diff plot new add".split()
+
+
+def sketch_of(values, lg_k=12, width=8):
+    made = Sketch(lg_k, width)
+    made.update_many(values)
+    return made
+
+
+def image_of(values, lg_k=12, width=8):
+    """An image as the command writes it."""
+    return sketch_of(values, lg_k, width).with_estimator_words().to_bytes()
+
+
+def foreign(image):
+    """An image of registers with words as another program puts them there, in order."""
+    changed = bytearray(image)
+    changed[5] &= ~16
+    changed[8:32] = struct.pack("<3d", 123.0, 4.5, 0.25)
+    return bytes(changed)
+
+
+class HelpTest(CommandTest):
+    def test_help_has_an_example(self):
+        self.assertIn(b"hll merge days -o year.hll", self.succeeds("--help"))
+        for name in NAMES:
+            out = self.succeeds(name, "--help").decode()
+            self.assertIn(f"usage: hll {name}", out)
+            self.assertRegex(out, rf"example:\n  .*hll {name} ")
+
+    def test_version(self):
+        version = common.PACKAGE.joinpath("pyproject.toml").read_text().split('version = "')[1]
+        self.assertEqual(self.succeeds("--version"), f"hll {version.split(chr(34))[0]}\n".encode())
+
+    def test_wrong_command_lines(self):
+        self.write("a.hll", image_of(["abc"]))
+        rows = [
+            [], ["nothing"], ["merge", "a.hll"], ["merge", "a.hll", "-o", "x", "--lg-k", "3"],
+            ["merge", "a.hll", "-o", "x", "--lg-k", "22"], ["merge", "a.hll", "-o", "x", "--jobs", "0"],
+            ["merge", "a.hll", "-o", "x", "--width", "5"], ["fold", "a.hll", "-o", "x"],
+            ["info"], ["diff", "a.hll"], ["add", "-"], ["new", "-", "--json"], ["check", "-0", "a.hll"],
+            ["convert", "a.hll", "--width", "8", "-o", "-", "--json"], ["new", "x", "--lg-k", "1_0"],
+        ]
+        for words in rows:
+            with self.subTest(words=words):
+                status, out, err = self.run_hll(*words)
+                self.assertEqual((status, out), (2, b""))
+                self.assertRegex(err, r"^usage: hll(.|\n)*\nhll.*: error: .*\n$")
+        self.assertEqual(self.listed(), ["a.hll"])
+
+
+class NewTest(CommandTest):
+    def test_new(self):
+        for lg_k, width in ((12, 8), (4, 4), (21, 6)):
+            self.succeeds("new", "a.hll", "--lg-k", lg_k, "--width", width, "--force")
+            self.assertEqual(self.read("a.hll"), Sketch(lg_k, width).to_bytes())
+        self.assertEqual(self.succeeds("new", "-"), Sketch().to_bytes())
+        told = json.loads(self.succeeds("new", "b.hll", "--json"))
+        self.assertEqual((told["output"], told["lg_k"], told["coupons"]), ("b.hll", 12, 0))
+
+    def test_a_file_that_is_there_stays(self):
+        self.write("a.hll", b"kept")
+        self.fails(2, ["a.hll: File exists (--force replaces it)"], "new", "a.hll")
+        self.assertEqual(self.read("a.hll"), b"kept")
+        self.fails(2, ["none/a.hll: No such file or directory"], "new", "none/a.hll")
+
+
+def in_blocks(data, size, image=None):
+    with mock.patch.object(adding, "BLOCK", size):
+        return adding.add_lines(image or Sketch().to_bytes(), io.BytesIO(data))
+
+
+class AddTest(CommandTest):
+    def test_lines_are_values(self):
+        numbers = random.Random(5)
+        texts = [b"", b"\n", b"\n\n", b"a", b"a\n", b"a\n\nb", b"a\r\nb\r\n", b"\na", b"\0\n\xff\n"]
+        texts += [numbers.randbytes(3000).replace(b"\1", b"\n\n") for _ in range(5)]
+        for text in texts:
+            lines = text.split(b"\n")
+            if not lines[-1]:
+                lines.pop()
+            wanted = Sketch()
+            for line in lines:
+                wanted.update(line)
+            for size in (1, 2, 3, 7, 1 << 20):
+                image, count = in_blocks(text, size)
+                self.assertEqual((image, count), (wanted.to_bytes(), len(lines)), (text, size))
+
+    def test_long_lines_of_many_blocks(self):
+        text = b"x" * 3_000_000 + b"\n" + b"y" * 10 + b"\n" + b"z" * 2_500_000
+        told = []
+        image, count = adding.add_lines(Sketch().to_bytes(), io.BytesIO(text), told.append)
+        self.assertEqual((image, count), (sketch_of(text.split(b"\n")).to_bytes(), 3))
+        self.assertEqual(told, [2])
+
+    def test_command(self):
+        lines = [b"%d" % number for number in range(300_000)]
+        self.succeeds("new", "a.hll", "--width", 6)
+        os.chmod(self.folder / "a.hll", 0o640)
+        (self.folder / "link.hll").symlink_to("a.hll")
+        self.assertEqual(self.succeeds("add", "link.hll", given=b"\n".join(lines)), b"")
+        self.assertEqual(self.read("a.hll"), image_of(lines, width=6))
+        self.assertEqual(stat.S_IMODE(os.stat(self.folder / "a.hll").st_mode), 0o640)
+        self.assertTrue((self.folder / "link.hll").is_symlink())
+        self.assertEqual(self.listed(), ["a.hll", "link.hll"])
+
+    def test_outputs(self):
+        self.succeeds("new", "a.hll", "--lg-k", 4)
+        given = b"".join(b"%d\n" % number for number in range(100))
+        wanted = sketch_of(given.split(), 4)
+        out = self.succeeds("add", "a.hll", "-o", "b.hll", "--plain", "--json", given=given)
+        self.assertEqual(json.loads(out)["lines"], 100)
+        self.assertEqual(self.read("b.hll"), wanted.to_bytes())
+        out = self.succeeds("add", "a.hll", "-o", "-", given=given)
+        self.assertEqual(out, wanted.with_estimator_words().to_bytes())
+        self.assertEqual(self.read("a.hll"), Sketch(4).to_bytes())
+        self.assertNotEqual(wanted, wanted.with_estimator_words())
+
+    def test_refusals(self):
+        self.write("bad.hll", b"\x02\x01")
+        self.fails(1, ["bad.hll: image truncated"], "add", "bad.hll", given=b"a\n")
+        self.fails(2, ["none.hll: No such file or directory"], "add", "none.hll", given=b"a\n")
+        self.assertEqual((self.read("bad.hll"), self.listed()), (b"\x02\x01", ["bad.hll"]))
+
+    def test_interrupt(self):
+        before = self.write("a.hll", Sketch().to_bytes()).read_bytes()
+        running = subprocess.Popen(
+            [*COMMAND, "add", "a.hll"], stdin=subprocess.PIPE, stdout=subprocess.PIPE,
+            stderr=subprocess.PIPE, cwd=self.folder, env=environment(),
+        )
+        running.stdin.write(b"line\n" * 1_000_000)
+        running.stdin.flush()
+        running.send_signal(signal.SIGINT)
+        out, err = running.communicate()
+        self.assertEqual((running.returncode, out, err), (-signal.SIGINT, b"", b""))
+        self.assertEqual((self.read("a.hll"), self.listed()), (before, ["a.hll"]))
+
+
+class InfoTest(CommandTest):
+    def test_each_stage_and_width(self):
+        wanted = []
+        for count in (0, 5, 50, 30_000):
+            for width in (4, 6, 8):
+                made = sketch_of(range(count), 12, width)
+                name = f"{count}-{width}.hll"
+                self.write(name, made.with_estimator_words().to_bytes() + b"behind")
+                wanted.append((name, made))
+        records = json.loads(self.succeeds("info", "--json", *(name for name, _ in wanted)))
+        self.assertEqual(len(records), len(wanted))
+        for told, (name, made) in zip(records, wanted):
+            with self.subTest(name=name):
+                self.compare(told, name, made)
+
+    def compare(self, told, name, made):
+        self.assertEqual(told["file"], name)
+        self.assertEqual((told["stage"], told["lg_k"]), (made.stage, 12))
+        self.assertEqual((told["width"], told["bytes"]), (made.width, len(made.to_bytes())))
+        self.assertEqual((told["lower"], told["upper"]), made.bounds(2))
+        self.assertEqual((told["estimate"], told["deviations"]), (made.estimate(), 2))
+        if made.stage == "registers":
+            self.assertEqual((told["zeros"], told["words"]), (made.num_zeros, "set"))
+            self.assertIn("out of order", told["flags"])
+            sums = [0.5**value * count for value, count in enumerate(made.histogram())]
+            self.assertEqual((told["kxq0"], told["hip"]), (sum(sums[:32]), 0))
+        else:
+            self.assertEqual((told["coupons"], "words" in told), (made.num_coupons, False))
+            self.assertEqual("empty" in told["flags"], made.is_empty)
+
+    def test_text(self):
+        self.write("a.hll", image_of(range(30_000)))
+        lines = self.succeeds("info", "a.hll", "--deviations", 1).decode().split("\n")
+        low, high = sketch_of(range(30_000)).bounds(1)
+        rows = dict(line.strip().split(None, 1) for line in lines[1:-1])
+        self.assertEqual((lines[0], rows["stage"], rows["width"]), ("a.hll:", "registers", "8 bits"))
+        self.assertEqual(rows["bounds"], f"{low:,.0f} to {high:,.0f}, at 1 standard deviations")
+        self.assertEqual((rows["lg_k"], rows["bytes"]), ("12, so 4,096 registers", "4,136"))
+        self.assertEqual((rows["flags"], rows["words"][:4]), ("out of order", "set:"))
+
+    def test_words(self):
+        image = sketch_of(range(30_000)).to_bytes()
+        pairs = ((image, "zero"), (foreign(image), "other"), (image_of(range(30_000)), "set"))
+        for data, word in pairs:
+            self.assertEqual(layout.words_of(data), word)
+        self.assertEqual(layout.words_of(Sketch().to_bytes()), "none")
+
+    def test_estimates(self):
+        self.write("a.hll", image_of(range(1000)))
+        self.write("b.hll", image_of(range(50)))
+        number = f"{sketch_of(range(1000)).estimate():.0f}"
+        self.assertEqual(self.succeeds("estimate", "a.hll").decode(), f"{number}\n")
+        out = self.succeeds("estimate", "a.hll", "b.hll").decode()
+        self.assertEqual(out, f"{number}\ta.hll\n50\tb.hll\n")
+        told = json.loads(self.succeeds("estimate", "--json", "-", given=self.read("b.hll")))
+        self.assertEqual([round(one["estimate"]) for one in told], [50])
+        full = bytes.fromhex("0a01070400000008") + bytes(32) + b"\x3f" * 16
+        full = full[:7] + b"\x0a" + full[8:]
+        self.assertEqual(self.succeeds("estimate", "-", given=full), b"inf\n")
+        self.assertIsNone(json.loads(self.succeeds("info", "--json", "-", given=full))[0]["estimate"])
+
+    def test_troubles_are_told_and_the_rest_is_shown(self):
+        self.write("a.hll", image_of(range(50)))
+        self.write("bad.hll", self.read("a.hll")[:-1])
+        status, out, err = self.run_hll("estimate", "bad.hll", "a.hll")
+        self.assertEqual((status, out, err), (1, b"50\ta.hll\n", "hll: bad.hll: image truncated\n"))
+        status, out, err = self.run_hll("info", "--json", "bad.hll", "none", ".")
+        self.assertEqual((status, json.loads(out)), (2, []))
+        wanted = ["bad.hll: image truncated", "none: No such file or directory", ".: Is a directory"]
+        self.assertEqual(err, "".join(f"hll: {line}\n" for line in wanted))
+
+
+class CheckTest(CommandTest):
+    def test_folder(self):
+        wanted = []
+        for kind in KINDS:
+            mutants = Mutants(kind, 7)
+            for number in range(30):
+                name = f"{kind[0]}{kind[1]}/{number:03}"
+                reason = check(self.write(f"all/{name}", mutants.image()).read_bytes())
+                wanted += [(f"all/{name}", reason)] if reason else []
+        self.assertGreater(len({reason for _, reason in wanted}), 8)
+        status, out, err = self.run_hll("check", "all")
+        lines = "".join(f"{name}: image {reason}\n" for name, reason in wanted)
+        self.assertEqual((status, out.decode(), err), (1, lines, ""))
+        status, out, _ = self.run_hll("check", "all", "--json")
+        told = json.loads(out)
+        self.assertEqual((status, told["checked"]), (1, 30 * len(KINDS)))
+        self.assertEqual([(one["file"], one["reason"]) for one in told["refused"]], wanted)
+
+    def test_none_is_refused(self):
+        self.write("all/a", image_of(["abc"]))
+        self.write("all/.hidden", b"no image")
+        self.write("all/.folder/b", b"no image")
+        self.write("all/c/d", image_of(["abc"]))
+        (self.folder / "all" / "socket").symlink_to("/dev/null")
+        self.assertEqual(self.succeeds("check", "all"), b"")
+        told = json.loads(self.succeeds("check", "--json", "all", "-", given=self.read("all/a")))
+        self.assertEqual(told, {"checked": 3, "refused": []})
+
+    def test_troubles(self):
+        self.write("a", b"")
+        (self.folder / "empty").mkdir()
+        status, out, err = self.run_hll("check", "none", "a")
+        wanted = (2, b"a: image truncated\n", "hll: none: No such file or directory\n")
+        self.assertEqual((status, out, err), wanted)
+        self.fails(2, ["empty: no files in this folder"], "check", "empty")
+        self.fails(2, ["check: no files are named"], "check")
+
+    def test_names_of_any_bytes(self):
+        name = b"a\xff\nb"
+        with open(os.path.join(os.fsencode(self.folder), name), "wb") as file:
+            file.write(b"no")
+        status, out, _ = self.run_hll("check", ".")
+        self.assertEqual((status, out), (1, b"./" + name + b": image truncated\n"))
+        status, out, _ = self.run_hll("check", "--files-from", "-", "-0", given=name + b"\0")
+        self.assertEqual((status, out), (1, name + b": image truncated\n"))
+        json.loads(self.run_hll("check", ".", "--json")[1])
+
+
+class OneFromAnotherTest(CommandTest):
+    def test_fold_and_convert(self):
+        for count in (3, 40, 30_000):
+            made = sketch_of(range(count))
+            self.write("a.hll", made.to_bytes())
+            self.succeeds("fold", "a.hll", "--lg-k", 7, "-o", "b.hll", "--plain")
+            self.assertEqual(self.read("b.hll"), made.fold(7).to_bytes())
+            out = self.succeeds("fold", "-", "--lg-k", 12, "-o", "-", given=self.read("a.hll"))
+            self.assertEqual(out, made.with_estimator_words().to_bytes())
+            for width in (4, 6, 8):
+                self.succeeds("convert", "a.hll", "--width", width, "-o", "c.hll")
+                wanted = made.convert(width).with_estimator_words()
+                self.assertEqual(self.read("c.hll"), wanted.to_bytes())
+
+    def test_words_of_others_are_kept(self):
+        image = foreign(sketch_of(range(30_000)).to_bytes())
+        self.write("a.hll", image)
+        self.succeeds("convert", "a.hll", "--width", 6, "-o", "b.hll")
+        self.assertEqual(self.read("b.hll")[8:32], image[8:32])
+        self.assertEqual(self.read("b.hll"), Sketch.from_bytes(image).convert(6).to_bytes())
+
+    def test_refusals(self):
+        self.write("a.hll", image_of(["abc"]))
+        words = "a.hll: its lg_k is 12, and a fold goes no higher"
+        self.fails(1, [words], "fold", "a.hll", "--lg-k", 13, "-o", "b.hll")
+        self.write("c.hll", b"\0" * 50)
+        self.fails(1, ["c.hll: image family"], "convert", "c.hll", "--width", 4, "-o", "b.hll")
+        self.assertEqual(self.listed(), ["a.hll", "c.hll"])
+
+
+class DiffTest(CommandTest):
+    def test_agree(self):
+        self.write("a.hll", image_of(range(30_000), 12, 4))
+        self.write("b.hll", image_of(range(30_000), 9, 8))
+        self.write("c.hll", image_of(range(60), 12, 6))
+        self.write("d.hll", image_of(range(60), 4, 8))
+        self.assertEqual(self.succeeds("diff", "a.hll", "b.hll"), b"agree at lg_k 9\n")
+        self.assertEqual(self.succeeds("diff", "c.hll", "d.hll"), b"agree at lg_k 4\n")
+        self.assertEqual(self.succeeds("diff", "-q", "a.hll", "b.hll"), b"")
+        told = json.loads(self.succeeds("diff", "--json", "a.hll", "a.hll"))
+        self.assertEqual(told, {"agree": True, "lg_k": 12, "differing": 0, "slots": []})
+
+    def test_differ(self):
+        one, two = Sketch(10, 8), Sketch(8, 4)
+        for slot, value in ((5, 3), (256 + 5, 9), (1000, 7), (70, 2)):
+            one.add_coupon(slot, value)
+        for slot, value in ((5, 8), (1000 % 256, 7), (70, 2), (80, 1)):
+            two.add_coupon(slot, value)
+        self.write("a.hll", one.to_bytes())
+        self.write("b.hll", two.to_bytes())
+        status, out, err = self.run_hll("diff", "a.hll", "b.hll")
+        text = "differ at lg_k 8, in 2 of 256 slots\nslot 5: 9 and 8\nslot 80: 0 and 1\n"
+        self.assertEqual((status, out.decode(), err), (1, text, ""))
+        status, out, _ = self.run_hll("diff", "b.hll", "a.hll", "--most", 1)
+        text = "differ at lg_k 8, in 2 of 256 slots\nslot 5: 8 and 9\nand 1 slots more\n"
+        self.assertEqual((status, out.decode()), (1, text))
+        status, out, _ = self.run_hll("diff", "--json", "--most", 1, "a.hll", "b.hll")
+        wanted = {"agree": False, "lg_k": 8, "differing": 2}
+        wanted["slots"] = [{"slot": 5, "left": 9, "right": 8}]
+        self.assertEqual((status, json.loads(out)), (1, wanted))
+        self.assertEqual(self.run_hll("diff", "-q", "a.hll", "b.hll"), (1, b"", ""))
+
+    def test_trouble(self):
+        self.write("a.hll", image_of(["abc"]))
+        self.write("b.hll", b"")
+        self.fails(2, ["b.hll: image truncated"], "diff", "a.hll", "b.hll")
+        self.fails(2, ["none: No such file or directory"], "diff", "none", "a.hll")
+
+
+class LayoutTest(unittest.TestCase):
+    def test_sizes(self):
+        """An image ends where its size says, and what is behind it changes no answer."""
+        accepted = refused = 0
+        for number, kind in enumerate(KINDS):
+            mutants = Mutants(kind, 100 + number)
+            for _ in range(1000):
+                image = mutants.image()
+                size, reason = layout.size_of(image[: layout.HEADER]), check(image)
+                longer = image + bytes(1 << 12)
+                self.assertEqual(check(longer[:size]), check(longer), image.hex())
+                if reason is None:
+                    self.assertEqual(check(image[: size - 1]), "truncated", image.hex())
+                accepted, refused = accepted + (reason is None), refused + (reason is not None)
+        self.assertGreater(min(accepted, refused), 1000)
+
+    def test_registers(self):
+        numbers = random.Random(8)
+        for count in (0, 7, 100, 5000):
+            for width in (4, 6, 8):
+                made, wanted = Sketch(11, width), [0] * 512
+                for _ in range(count):
+                    slot, value = numbers.getrandbits(26), numbers.randint(1, 63)
+                    made.add_coupon(slot, value)
+                    wanted[slot % 512] = max(wanted[slot % 512], value)
+                self.assertEqual(list(layout.registers_of(made.to_bytes(), 9)), wanted)
+
+
+class StreamsTest(CommandTest):
+    def test_full_disk(self):
+        self.write("a.hll", image_of(range(30_000)))
+        words = "hll: standard output: No space left on device\n"
+        for command in (["info", "a.hll"], ["info", "--json", "a.hll"], ["diff", "a.hll", "a.hll"],
+                        ["convert", "a.hll", "--width", "4", "-o", "-"]):
+            with self.subTest(command=command), open("/dev/full", "wb") as full:
+                done = subprocess.run(
+                    [*COMMAND, *command], stdout=full, stderr=subprocess.PIPE, cwd=self.folder,
+                    env=environment(),
+                )
+                self.assertEqual((done.returncode, done.stderr.decode()), (2, words))
+        words = ["/dev/full: No space left on device"]
+        self.fails(2, words, "convert", "a.hll", "--width", 4, "-o", "/dev/full")
+
+    def test_devices_stay_devices(self):
+        self.succeeds("new", "/dev/null", "--force")
+        self.assertTrue(stat.S_ISCHR(os.stat("/dev/null").st_mode))
+
+    def test_closed_pipe(self):
+        self.write("a.hll", image_of(["abc"]))
+        read, write = os.pipe()
+        os.close(read)
+        done = subprocess.run(
+            [*COMMAND, "info", "a.hll"], stdout=write, stderr=subprocess.PIPE, cwd=self.folder,
+            env=environment(),
+        )
+        os.close(write)
+        self.assertEqual((done.returncode, done.stderr), (-signal.SIGPIPE, b""))
+
+    def test_a_write_that_fails_leaves_the_file(self):
+        self.write("a.hll", image_of(range(30_000), 14))
+        before = self.write("b.hll", b"as it was").read_bytes()
+
+        def limited():
+            resource.setrlimit(resource.RLIMIT_FSIZE, (4096, 4096))
+
+        words = ["convert", "a.hll", "--width", "4", "-o", "b.hll"]
+        found = self.run_hll(*words, preexec_fn=limited)
+        self.assertEqual(found, (2, b"", "hll: b.hll: File too large\n"))
+        self.assertEqual((self.read("b.hll"), self.listed()), (before, ["a.hll", "b.hll"]))
+
+    def test_few_bytes_of_a_large_file_are_read(self):
+        image = image_of(range(300_000), 17)
+        path = self.write("a.hll", image + bytes(3_000_000))
+        data = files.bytes_of_file(str(path))
+        self.assertEqual((data, len(data) > files.PIECE), (image, True))
+        self.assertEqual(len(files.bytes_of_file("/dev/zero")), files.PIECE)
+
+    def test_progress(self):
+        """A bar is shown where standard error is a terminal and tqdm is there, else none."""
+        stub = "import sys\nclass tqdm:\n    def __init__(self, **more):\n        self.n, self.more = 0, more\n"
+        stub += "    def update(self, n):\n        self.n += n\n    def close(self):\n"
+        stub += "        sys.stderr.write(f'BAR {self.n} {self.more[\"delay\"]}\\n')\n"
+        self.write("stub/tqdm.py", stub.encode())
+        self.write("all/a", image_of(["abc"]))
+        self.write("all/b", image_of(["def"]))
+        path = os.pathsep.join([str(self.folder / "stub"), str(common.PACKAGE)])
+        own = dict(environment(), PYTHONPATH=path)
+        for command in ("check", "merge"):
+            words = [*COMMAND, command, "all"] + (["-o", "x"] if command == "merge" else [])
+            leader, terminal = os.openpty()
+            done = subprocess.run(words, stderr=terminal, cwd=self.folder, env=own)
+            os.close(terminal)
+            shown = os.read(leader, 1000)
+            os.close(leader)
+            self.assertEqual((done.returncode, shown), (0, b"BAR 2 1\r\n"))
+            quiet = subprocess.run(words, stderr=subprocess.PIPE, cwd=self.folder, env=own)
+            self.assertEqual((quiet.returncode, quiet.stderr), (0, b""))
+
+
+if __name__ == "__main__":
+    unittest.main()
