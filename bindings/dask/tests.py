@@ -93,6 +93,8 @@ def files(client, folder, images, paths):
     equal("files", image_by(union_of_files(paths)), wanted)
     twice = [pathlib.Path(path) for path in paths[::-1] + paths]
     equal("files backwards and twice", image_by(union_of_files(twice)), wanted)
+    urls = ["file://" + path for path in paths[:300]]
+    equal("URLs", image_by(union_of_files(urls)), union_by_program(images[:300]))
     equal("bound and width", image_by(union_of_files(iter(paths), 10, 4)), union_by_program(images, 10, 4))
     some = union_of_files(paths[:2000], files_per_task=7, split_every=3)
     equal("files in small tasks", image_by(some), union_by_program(images[:2000]))

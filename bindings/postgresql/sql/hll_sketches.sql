@@ -1,3 +1,4 @@
+-- SPDX-License-Identifier: Apache-2.0
 CREATE EXTENSION hll_sketches;
 -- sketches of values
 SELECT hll_image_add_agg(v) FROM unnest(ARRAY['a', 'b', 'a', NULL]) v;

@@ -118,6 +118,8 @@ def orders(server):
     for order in ("image", "image DESC", "md5(image)"):
         equal("by " + order, server.ask(query % (" ORDER BY " + order, "many")), first)
     equal("twice", server.ask(query % ("", "(SELECT image FROM many UNION ALL SELECT image FROM many) x")), first)
+    found = server.ask("SELECT hll_agree(hll_image_union_agg(hll_words(image)), hll_image_union_agg(image)) FROM many")
+    equal("with the words of other libraries", found, "t")
     server.ask("CREATE TABLE few AS SELECT row_number() OVER () n, image FROM (SELECT image FROM many LIMIT 200) x")
     found = server.ask("""SELECT bool_and(u = w), count(*) FROM (SELECT hll_image_union_agg(image) OVER (ORDER BY n) u,
         (SELECT hll_image_union_agg(image) FROM few b WHERE b.n <= a.n) w FROM few a) x""")

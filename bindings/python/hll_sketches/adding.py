@@ -2,7 +2,7 @@
 """Lines of a stream as values of a sketch."""
 from __future__ import annotations
 
-from typing import BinaryIO, Callable, List, Optional, Tuple
+from typing import BinaryIO, Callable, Optional, Tuple
 
 from . import _library
 
@@ -10,9 +10,10 @@ BLOCK = 1 << 20
 """So many bytes are read at a time."""
 
 
-def _with_lines(image: bytes, lines: List[bytes]) -> bytes:
-    """The image with lines, which have no ends."""
-    return _library.add(image, b"".join(lines), _library.ends_of(lines))
+def _with_lines(image: bytes, text: bytes) -> Tuple[bytes, int]:
+    """The image with the lines of a text, which has no LF at its end; and how many these are."""
+    lines = text.split(b"\n")
+    return _library.add(image, text.replace(b"\n", b""), _library.ends_of(lines)), len(lines)
 
 
 def add_lines(
@@ -34,17 +35,15 @@ def add_lines(
     """
     count, begun = 0, []
     for block in iter(lambda: stream.read(BLOCK), b""):
-        lines = block.split(b"\n")
-        begun.append(lines[0])
-        if len(lines) == 1:
+        end = block.rfind(b"\n")
+        if end < 0:
+            begun.append(block)
             continue
-        lines[0] = b"".join(begun)
-        begun = [lines.pop()]
-        image = _with_lines(image, lines)
-        count += len(lines)
+        image, number = _with_lines(image, b"".join([*begun, block[:end]]))
+        begun, count = [block[end + 1 :]], count + number
         if more is not None:
-            more(len(lines))
+            more(number)
     last = b"".join(begun)
     if last:
-        image, count = _with_lines(image, [last]), count + 1
+        image, count = _with_lines(image, last)[0], count + 1
     return image, count

@@ -205,6 +205,11 @@ def check(options: Namespace) -> int:
     return worst
 
 
+def _worst(troubles: List[Trouble]) -> int:
+    """The worst status; where nothing was named at all, that of a wrong command line."""
+    return max((trouble.status for trouble in troubles), default=UNUSABLE)
+
+
 def merge(options: Namespace) -> int:
     """Merges any number of files."""
     from .merging import processors, union_of_files
@@ -223,17 +228,13 @@ def merge(options: Namespace) -> int:
             names, options.lg_k, options.width, jobs, refuse, bar.more
         )
     if left_out and not options.skip_bad:
-        return max(trouble.status for trouble in left_out)
+        return _worst(left_out)
     if not count:
-        raise Trouble("merge", "no image is left to merge", max([1, *map(_status, left_out)]))
+        raise Trouble("merge", "no image is left to merge", _worst(left_out))
     if not options.plain:
         image = _library.set_estimator_words(image)
     skipped = [{"file": trouble.name, "reason": trouble.words} for trouble in left_out]
     return put(options, image, merged=count, left_out=skipped)
-
-
-def _status(trouble: Trouble) -> int:
-    return trouble.status
 
 
 # ---- one image from another

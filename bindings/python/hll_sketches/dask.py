@@ -81,7 +81,13 @@ def _placed(
 
 
 def _bytes_of_file(path: Path) -> bytes:
-    with open(path, "rb") as file:
+    name = os.fspath(path)
+    if "://" in name:
+        import fsspec
+
+        with fsspec.open(name, "rb") as file:
+            return file.read()
+    with open(name, "rb") as file:
         return file.read()
 
 
@@ -198,7 +204,7 @@ def union_of_files(
     Parameters
     ----------
     paths : iterable of str or path
-        The files, as the workers see them.
+        The files, as the workers see them. A text with ``://`` is a URL, which ``fsspec`` opens.
     lg_max_k : int
         The largest ``lg_k`` of the union, 4 to 21.
     width : int

@@ -9,12 +9,18 @@ from __future__ import annotations
 
 import os
 import signal
+import threading
+from collections import deque
 from itertools import islice
-from typing import Callable, Iterable, Iterator, List, NamedTuple, Optional, Tuple
+from typing import TYPE_CHECKING, Callable, Deque, Iterable, Iterator, List, NamedTuple, Optional
+from typing import Tuple
 
 from . import _library
 from ._errors import ImageError
 from .files import STANDARD, Trouble, bytes_of_file, image_trouble
+
+if TYPE_CHECKING:
+    from concurrent.futures import Future, ProcessPoolExecutor
 
 GROUP = 512
 """How many files a task has."""
@@ -118,24 +124,40 @@ def _groups(names: Iterable[str]) -> Iterator[Group]:
         yield from ([name] for name in group if name == STANDARD)
 
 
-def _ignore_interrupt() -> None:
-    """Lets the parent alone answer an interrupt."""
-    signal.signal(signal.SIGINT, signal.SIG_IGN)
+def _end_with_parent() -> None:
+    """Ends this process once its parent is gone, however that ended."""
+    from multiprocessing import connection, parent_process
+
+    def wait(place: int) -> None:
+        connection.wait([place])
+        os._exit(1)
+
+    parent = parent_process()
+    if parent is not None:
+        threading.Thread(target=wait, args=(parent.sentinel,), daemon=True).start()
+
+
+def _submitted(pool: "ProcessPoolExecutor", lg_k: int, group: Group) -> "Future[Part]":
+    """Hands a task over. Processes that this starts see no interrupt: it is the parent's."""
+    before = signal.pthread_sigmask(signal.SIG_BLOCK, [signal.SIGINT])
+    try:
+        return pool.submit(union_of_group, lg_k, group)
+    finally:
+        signal.pthread_sigmask(signal.SIG_SETMASK, before)
 
 
 def _over_processes(lg_k: int, groups: Iterable[Group], jobs: int) -> Parts:
     """Tasks over so many processes, in the order of their groups; few are under way at a time."""
-    from collections import deque
     from concurrent.futures import ProcessPoolExecutor
 
-    pool = ProcessPoolExecutor(jobs, initializer=_ignore_interrupt)
-    waiting = deque()
+    pool = ProcessPoolExecutor(jobs, initializer=_end_with_parent)
+    waiting: Deque[Future[Part]] = deque()
     try:
         for group in groups:
             if group == [STANDARD]:
                 yield union_of_group(lg_k, group)
                 continue
-            waiting.append(pool.submit(union_of_group, lg_k, group))
+            waiting.append(_submitted(pool, lg_k, group))
             if len(waiting) > 2 * jobs:
                 yield waiting.popleft().result()
         while waiting:

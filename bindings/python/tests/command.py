@@ -3,6 +3,7 @@
 import os
 import pathlib
 import shutil
+import signal
 import subprocess
 import sys
 import tempfile
@@ -17,6 +18,11 @@ def environment(**more):
     """The environment of a run."""
     path = os.pathsep.join([str(common.PACKAGE), os.environ.get("PYTHONPATH", "")])
     return dict(os.environ, PYTHONPATH=path, PYTHONDONTWRITEBYTECODE="1", **more)
+
+
+def interruptible():
+    """Lets a process that is about to start be interrupted, also where this one is not."""
+    signal.signal(signal.SIGINT, signal.SIG_DFL)
 
 
 class CommandTest(unittest.TestCase):

@@ -1,0 +1,231 @@
+# SPDX-License-Identifier: Apache-2.0
+"""`hll merge`: its answer is that of the program, and what is refused is named."""
+import json
+import os
+import random
+import shutil
+import signal
+import subprocess
+import time
+import unittest
+from unittest import mock
+
+import common
+from command import COMMAND, CommandTest, environment, interruptible
+from hll_sketches import Sketch, merging, union_of
+
+FILES = 300
+COUNTS = (0, 1, 8, 9, 40, 3000, 20_000)
+
+
+def images():
+    """Images of every stage and width, and of lg_k from 8 to 14."""
+    numbers, made = random.Random(11), []
+    for number in range(FILES):
+        sketch = Sketch(8 + number % 7, (4, 6, 8)[number % 3])
+        first = numbers.randrange(100_000)
+        sketch.update_many(range(first, first + COUNTS[number // 7 % 7]))
+        made.append(sketch.to_bytes())
+    return made
+
+
+IMAGES = images()
+KINDS = {(one.stage, one.width) for one in map(Sketch.from_bytes, IMAGES)}
+
+
+def program_union(program, made, lg_k, width):
+    """What the program answers for a plan of one union."""
+    lines = ["image " + image.hex() for image in made] + [f"union {len(made)} {lg_k} {width}"]
+    plan = "\n".join(lines).encode()
+    done = subprocess.run([program], input=plan, stdout=subprocess.PIPE, check=True)
+    return bytes.fromhex(done.stdout.decode())
+
+
+class LaidOut(CommandTest):
+    def lay_out(self, made=IMAGES):
+        """The images as files in folders; their names in order."""
+        names = [f"all/{number % 4}/{number:04}.hll" for number in range(len(made))]
+        for name, image in zip(names, made):
+            self.write(name, image)
+        return names
+
+
+class MergeTest(LaidOut):
+    def test_as_the_program_answers(self):
+        program = common.program()
+        if program is None:
+            self.skipTest("the program hll_merge is not here")
+        self.assertEqual(len(KINDS), 9)
+        self.lay_out()
+        for jobs, lg_k, width in ((1, 12, 8), (3, 12, 8), (3, 9, 4), (1, 7, 6)):
+            options = ["--jobs", jobs, "--lg-k", lg_k, "--width", width]
+            wanted = program_union(program, IMAGES, lg_k, width)
+            with self.subTest(options=options):
+                out = self.succeeds("merge", "all", "-o", "one.hll", "--plain", *options)
+                self.assertEqual((out, self.read("one.hll")), (b"", wanted))
+                with_words = Sketch.from_bytes(wanted).with_estimator_words().to_bytes()
+                self.assertEqual(self.succeeds("merge", "all", "-o", "-", *options), with_words)
+                self.assertNotEqual(with_words, wanted)
+
+    def test_of_coupons_alone(self):
+        made = [image for image in IMAGES if image[7] & 3 != 2][:40]
+        small = [Sketch(12).to_bytes(), *made]
+        self.lay_out(small)
+        wanted = union_of(small, 21, 4)
+        self.assertEqual(wanted.stage, "set")
+        self.succeeds("merge", "all", "-o", "one.hll", "--lg-k", 21, "--width", 4)
+        self.assertEqual(self.read("one.hll"), wanted.to_bytes())
+
+    def test_groups_over_processes_make_no_difference(self):
+        names = [str(self.folder / name) for name in self.lay_out()]
+        wanted = union_of(IMAGES, 11, 6).to_bytes()
+        for group, batch, jobs in ((1, 1, 2), (7, 5000, 3), (299, 1 << 30, 3), (50, 1, 1)):
+            told = []
+            with mock.patch.object(merging, "GROUP", group), \
+                    mock.patch.object(merging, "BATCH_BYTES", batch):
+                found = merging.union_of_files(names, 11, 6, jobs, self.fail, told.append)
+            self.assertEqual(found, (wanted, FILES))
+            self.assertEqual((sum(told), len(told)), (FILES, -(-FILES // group)))
+
+    def test_processes_have_the_work(self):
+        """More than a group of files, with standard input among them, and refusals in order."""
+        names = self.lay_out() * 5
+        self.write("bad", b"no")
+        self.write("list", "".join(f"{name}\n" for name in [*names, "bad"]).encode())
+        wanted = union_of(IMAGES).with_estimator_words().to_bytes()
+        extra = Sketch()
+        extra.update_many(range(10**9, 10**9 + 9999))
+        words = ["merge", "-", "--files-from", "list", "-o", "one.hll", "--jobs", 3, "--skip-bad"]
+        status, out, err = self.run_hll(*words, "--json", given=extra.to_bytes())
+        self.assertEqual((status, err), (0, "hll: bad: image truncated (left out)\n"))
+        told = json.loads(out)
+        self.assertEqual((told["merged"], len(told["left_out"])), (5 * FILES + 1, 1))
+        both = union_of([*IMAGES, extra]).with_estimator_words().to_bytes()
+        self.assertEqual(self.read("one.hll"), both)
+        self.assertNotEqual(both, wanted)
+
+    def test_lists_of_names(self):
+        names = self.lay_out(IMAGES[:20])
+        wanted = union_of(IMAGES[:20]).with_estimator_words().to_bytes()
+        for end, more in (("\n", []), ("\0", ["-0"])):
+            given = end.join(names).encode()
+            out = self.succeeds("merge", "--files-from", "-", *more, "-o", "-", given=given)
+            self.assertEqual(out, wanted)
+        words = ["none: No such file or directory"]
+        self.fails(2, words, "merge", "--files-from", "none", "-o", "x")
+
+
+class RefusalsTest(LaidOut):
+    BAD = [b"", b"no", b"\2\1\3" + bytes(40), IMAGES[-1][:-1], b"text that is no image\n" * 9]
+
+    def lay_out_bad(self):
+        """Files of which some are bad; the lines that tell of these."""
+        good = IMAGES[:60]
+        self.lay_out(good)
+        reasons = ("truncated", "truncated", "family", "truncated", "family")
+        lines = []
+        for number, (data, reason) in enumerate(zip(self.BAD, reasons)):
+            self.write(f"all/1/bad{number}", data)
+            lines.append(f"all/1/bad{number}: image {reason}")
+        return lines, union_of(good).with_estimator_words().to_bytes()
+
+    def test_all_bad_files_are_named(self):
+        lines, _ = self.lay_out_bad()
+        self.write("one.hll", b"as it was")
+        for jobs in (1, 3):
+            self.fails(1, lines, "merge", "all", "-o", "one.hll", "--jobs", jobs)
+        self.assertEqual((self.read("one.hll"), self.listed()), (b"as it was", ["all", "one.hll"]))
+        lines.insert(0, "none: No such file or directory")
+        self.fails(2, lines, "merge", "none", "all", "-o", "one.hll")
+        self.assertEqual(self.read("one.hll"), b"as it was")
+
+    def test_skip_bad(self):
+        lines, wanted = self.lay_out_bad()
+        lines = ["none: No such file or directory", *lines]
+        left = [f"{line} (left out)" for line in lines]
+        words = ["merge", "none", "all", "--skip-bad", "-o"]
+        err = "".join(f"hll: {line}\n" for line in left)
+        self.assertEqual(self.run_hll(*words, "one.hll"), (0, b"", err))
+        self.assertEqual(self.read("one.hll"), wanted)
+        status, out, _ = self.run_hll(*words, "two.hll", "--json")
+        told = json.loads(out)
+        self.assertEqual((status, told["merged"], told["bytes"]), (0, 60, len(wanted)))
+        found = [f"{one['file']}: {one['reason']}" for one in told["left_out"]]
+        self.assertEqual(found, lines)
+
+    def test_nothing_to_merge(self):
+        self.write("bad", b"no")
+        (self.folder / "empty").mkdir()
+        words = ["bad: image truncated (left out)", "merge: no image is left to merge"]
+        self.fails(1, words, "merge", "bad", "--skip-bad", "-o", "one.hll")
+        self.fails(2, ["empty: no files in this folder"], "merge", "empty", "-o", "one.hll")
+        self.fails(2, ["merge: no files are named"], "merge", "-o", "one.hll")
+        self.fails(2, ["merge: no image is left to merge"], "merge", "--files-from", "-", "-o", "x")
+        self.assertEqual(self.listed(), ["bad", "empty"])
+
+    def test_outputs_that_cannot_be_written(self):
+        self.write("a.hll", IMAGES[0])
+        (self.folder / "folder").mkdir()
+        self.fails(2, ["folder: Is a directory"], "merge", "a.hll", "-o", "folder")
+        self.fails(2, ["none/x: No such file or directory"], "merge", "a.hll", "-o", "none/x")
+        self.assertEqual(self.listed(), ["a.hll", "folder"])
+        self.assertEqual(os.listdir(self.folder / "folder"), [])
+
+    def started(self):
+        """A merge over processes, in a group of its own, which waits for more names."""
+        names = self.lay_out()
+        self.write("one.hll", b"as it was")
+        command = [*COMMAND, "merge", "--files-from", "-", "--jobs", "3", "-o", "one.hll"]
+        running = subprocess.Popen(
+            command, stdin=subprocess.PIPE, stdout=subprocess.PIPE, stderr=subprocess.PIPE,
+            cwd=self.folder, env=environment(), start_new_session=True, preexec_fn=interruptible,
+        )
+        running.stdin.write("".join(f"{name}\n" for name in names * 20).encode())
+        running.stdin.flush()
+        return running
+
+    def ended(self, running, status):
+        """Nothing is said or written, and no process is left."""
+        out, err = running.communicate()
+        self.assertEqual((running.returncode, out, err), (status, b"", b""))
+        self.assertEqual((self.read("one.hll"), self.listed()), (b"as it was", ["all", "one.hll"]))
+        end = time.monotonic() + 20
+        while time.monotonic() < end:
+            try:
+                os.killpg(running.pid, 0)
+            except ProcessLookupError:
+                return
+            time.sleep(0.01)
+        self.fail("a process is left")
+
+    def test_interrupt(self):
+        running = self.started()
+        os.killpg(running.pid, signal.SIGINT)
+        self.ended(running, -signal.SIGINT)
+
+    def test_end_of_the_parent(self):
+        for end in (signal.SIGTERM, signal.SIGKILL):
+            running = self.started()
+            running.send_signal(end)
+            self.ended(running, -end)
+
+
+class ScriptTest(LaidOut):
+    def test_as_the_script_answers(self):
+        """examples/merge_folder.sh gives the same file; its last step, the words, is left out."""
+        program = common.program()
+        if program is None or shutil.which("xxd") is None:
+            self.skipTest("the program hll_merge, or xxd, is not here")
+        self.lay_out()
+        shutil.copytree(common.ROOT / "examples", self.folder / "examples")
+        (self.folder / "hll_merge").symlink_to(program)
+        self.write("hll_words", b"#!/bin/sh\nexec cat\n").chmod(0o755)
+        script = ["examples/merge_folder.sh", "all", "13", "6", "100"]
+        done = subprocess.run(script, cwd=self.folder, stdout=subprocess.PIPE)
+        self.assertEqual(done.returncode, 0)
+        options = ["--plain", "--lg-k", 13, "--width", 6]
+        self.assertEqual(self.succeeds("merge", "all", "-o", "-", *options), done.stdout)
+
+
+if __name__ == "__main__":
+    unittest.main()

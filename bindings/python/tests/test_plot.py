@@ -1,0 +1,94 @@
+# SPDX-License-Identifier: Apache-2.0
+"""`hll plot`: a well-formed picture of the histogram, and a theory that sketches follow."""
+import math
+import unittest
+import xml.etree.ElementTree as ElementTree
+
+import common  # noqa: F401, for the path
+from command import CommandTest
+from hll_sketches import Sketch, plot
+
+SVG = "{http://www.w3.org/2000/svg}"
+
+
+def parts(data, tag, kind):
+    """The elements of a picture with this tag and class."""
+    root = ElementTree.fromstring(data)
+    return [one for one in root.iter(SVG + tag) if one.get("class") == kind]
+
+
+class PictureTest(CommandTest):
+    def test_bars_are_the_histogram(self):
+        for count in (0, 6, 60, 30_000):
+            for width in (4, 8):
+                made = Sketch(10, width)
+                made.update_many(range(count))
+                self.write("a.hll", made.to_bytes())
+                self.succeeds("plot", "a.hll", "-o", "a.svg")
+                self.compare(self.read("a.svg"), made)
+
+    def compare(self, data, made):
+        bars = [one for one in parts(data, "rect", "bar") if one.get("y") != "44"]
+        counts = [count for count in made.histogram() if count]
+        self.assertEqual(len(bars), len(counts))
+        heights = [float(bar.get("height")) for bar in bars]
+        for height, count in zip(heights, counts):
+            self.assertAlmostEqual(height / max(heights), count / max(counts), 2)
+        ground = ElementTree.fromstring(data).find(SVG + "rect")
+        self.assertEqual((ground.get("fill"), ground.get("width")), ("white", str(plot.WIDTH)))
+        self.assertIn(f"{made.estimate():,.0f} values", data.decode())
+
+    def test_names(self):
+        image = Sketch().to_bytes()
+        name = b"a<b&\"\x01\xff\xc3\xa9.hll"
+        self.write("a.hll", image)
+        (self.folder / "a.hll").rename(self.folder / name.decode("utf-8", "surrogateescape"))
+        data = self.succeeds("plot", name.decode("utf-8", "surrogateescape"), "-o", "-")
+        heading = parts(data, "text", "title")[0].text
+        self.assertTrue(heading.startswith('a<b&"??\u00e9.hll: 4,096 slots of coupons'), heading)
+        data = self.succeeds("plot", "-", "-o", "-", "--title", "One & two", given=image)
+        self.assertIn("One & two: ", parts(data, "text", "title")[0].text)
+
+    def test_full_registers(self):
+        made = Sketch(4)
+        for slot in range(16):
+            made.add_coupon(slot, 63)
+        self.assertEqual(made.estimate(), math.inf)
+        data = plot.histogram_svg(made.to_bytes(), "full").encode()
+        self.assertIn("more values than can be told", parts(data, "text", "title")[0].text)
+
+    def test_refusals(self):
+        self.write("a.hll", b"no")
+        self.fails(1, ["a.hll: image truncated"], "plot", "a.hll", "-o", "a.svg")
+        self.assertEqual(self.listed(), ["a.hll"])
+
+
+class TheoryTest(unittest.TestCase):
+    def test_ends(self):
+        self.assertEqual(plot.expected(0, 5), [32, *[0] * 63])
+        self.assertEqual(plot.expected(math.inf, 5), [*[0] * 63, 32])
+        one = plot.expected(1, 4)
+        self.assertAlmostEqual(one[0], 15)
+        self.assertAlmostEqual(one[1], 0.5)
+        self.assertAlmostEqual(one[5], 1 / 32)
+        for values in (3, 1000, 1e9, 1e18):
+            self.assertAlmostEqual(sum(plot.expected(values, 12)), 4096, 6)
+
+    def test_sketches_follow_it(self):
+        for values in (2000, 20_000, 200_000):
+            made = Sketch(12)
+            made.update_many(range(values))
+            theory = plot.expected(values, 12)
+            for count, wanted in zip(made.histogram(), theory):
+                spread = plot.deviation(wanted, 4096)
+                self.assertLessEqual(abs(count - wanted), 5 * spread + 2)
+
+    def test_steps_of_a_grid(self):
+        for most in range(1, 5000):
+            step = plot.step_of(most)
+            self.assertTrue(1 <= most / step <= 10, (most, step))
+            self.assertIn(int(str(step).rstrip("0")), (1, 2, 5))
+
+
+if __name__ == "__main__":
+    unittest.main()

@@ -1,0 +1,66 @@
+# SPDX-License-Identifier: Apache-2.0
+"""The commands of README.md are run as they stand, and print what it shows."""
+import os
+import re
+import shlex
+import subprocess
+import sys
+import unittest
+
+import common
+from command import COMMAND, CommandTest, environment
+
+README = common.PACKAGE / "README.md"
+
+
+def transcript():
+    """Each command of the README, and the lines that are shown below it."""
+    block = re.search(r"```console\n(.*?)```", README.read_text("utf-8"), re.S)[1]
+    for part in re.split(r"^\$ ", block, flags=re.M)[1:]:
+        command, _, shown = part.partition("\n")
+        yield command, shown
+
+
+class ReadmeTest(CommandTest):
+    def setUp(self):
+        super().setUp()
+        script = f"#!/bin/sh\nexec {shlex.join(COMMAND)} \"$@\"\n"
+        self.write(".bin/hll", script.encode()).chmod(0o755)
+        path = os.pathsep.join([str(self.folder / ".bin"), os.environ["PATH"]])
+        self.environment = dict(environment(), PATH=path, LC_ALL="C")
+
+    def shown_by(self, command):
+        """What a terminal shows of a command."""
+        done = subprocess.run(
+            ["sh", "-c", command], stdout=subprocess.PIPE, stderr=subprocess.STDOUT,
+            cwd=self.folder, env=self.environment,
+        )
+        return done.stdout.decode()
+
+    def test_transcript(self):
+        pairs = list(transcript())
+        self.assertGreater(len(pairs), 10)
+        for command, shown in pairs:
+            with self.subTest(command=command):
+                self.assertEqual(self.shown_by(command), shown)
+
+    def test_python(self):
+        code = re.search(r"```python\n(.*?)```", README.read_text("utf-8"), re.S)[1]
+        done = subprocess.run(
+            [sys.executable, "-c", code], cwd=self.folder, env=environment(), capture_output=True
+        )
+        self.assertEqual((done.returncode, done.stderr), (0, b""))
+        self.assertEqual(self.listed(), [".bin", "both.hll"])
+
+
+class PicturesTest(unittest.TestCase):
+    def test_pictures_are_those_of_the_script(self):
+        script = common.ROOT / "bench" / "pictures.py"
+        if not script.exists():
+            self.skipTest("bench/pictures.py is not here")
+        done = subprocess.run([sys.executable, script, "--check"], capture_output=True)
+        self.assertEqual((done.returncode, done.stdout, done.stderr), (0, b"", b""))
+
+
+if __name__ == "__main__":
+    unittest.main()
