@@ -122,7 +122,7 @@ def image_of_file(name: str) -> bytes:
 
 
 def _walk(folder: str) -> Iterator[str]:
-    """The files below a folder in the order of their names; a name with a dot first is none."""
+    """The files below a folder, in order; names that begin with a dot are passed over."""
     try:
         with os.scandir(folder) as entries:
             seen = [entry for entry in entries if not entry.name.startswith(".")]

@@ -81,6 +81,6 @@ def registers_of(image: bytes, lg_k: int) -> bytes:
     coupons = made[12:] if stage == 1 else made[8:]
     registers = bytearray(1 << lg_k)
     for word in struct.unpack(f"<{len(coupons) // 4}I", coupons):
-        slot, value = word & (1 << lg_k) - 1, word >> 26
-        registers[slot] = max(registers[slot], value)
+        # they ascend by value, so the last one of a slot has the greatest
+        registers[word & (1 << lg_k) - 1] = word >> 26
     return bytes(registers)

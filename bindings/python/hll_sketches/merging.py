@@ -149,6 +149,7 @@ def _submitted(pool: "ProcessPoolExecutor", lg_k: int, group: Group) -> "Future[
 def _over_processes(lg_k: int, groups: Iterable[Group], jobs: int) -> Parts:
     """Tasks over so many processes, in the order of their groups; few are under way at a time."""
     from concurrent.futures import ProcessPoolExecutor
+    from concurrent.futures.process import BrokenProcessPool
 
     pool = ProcessPoolExecutor(jobs, initializer=_end_with_parent)
     waiting: Deque[Future[Part]] = deque()
@@ -162,6 +163,8 @@ def _over_processes(lg_k: int, groups: Iterable[Group], jobs: int) -> Parts:
                 yield waiting.popleft().result()
         while waiting:
             yield waiting.popleft().result()
+    except BrokenProcessPool:
+        raise Trouble("merge", "a process ended before its work was done") from None
     finally:
         for future in waiting:
             future.cancel()

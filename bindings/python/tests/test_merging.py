@@ -12,7 +12,7 @@ from unittest import mock
 
 import common
 from command import COMMAND, CommandTest, environment, interruptible
-from hll_sketches import Sketch, merging, union_of
+from hll_sketches import Sketch, files, merging, union_of
 
 FILES = 300
 COUNTS = (0, 1, 8, 9, 40, 3000, 20_000)
@@ -103,6 +103,15 @@ class MergeTest(LaidOut):
         both = union_of([*IMAGES, extra]).with_estimator_words().to_bytes()
         self.assertEqual(self.read("one.hll"), both)
         self.assertNotEqual(both, wanted)
+
+    def test_a_process_that_is_lost(self):
+        names = [str(self.folder / name) for name in self.lay_out(IMAGES[:9])]
+        with mock.patch.object(merging, "GROUP", 1), \
+                mock.patch.object(merging, "_Joined", lambda lg_k: os._exit(3)), \
+                self.assertRaises(files.Trouble) as caught:
+            merging.union_of_files(names, 12, 8, 2, self.fail)
+        words = "merge: a process ended before its work was done"
+        self.assertEqual((str(caught.exception), caught.exception.status), (words, 1))
 
     def test_lists_of_names(self):
         names = self.lay_out(IMAGES[:20])
