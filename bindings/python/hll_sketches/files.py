@@ -104,7 +104,7 @@ def bytes_of_file(name: str) -> bytes:
 
 
 def image_of_file(name: str) -> bytes:
-    """The image of a file, checked, with nothing behind it.
+    """The image of a file, checked; a few bytes may be behind it.
 
     Raises
     ------
@@ -115,7 +115,7 @@ def image_of_file(name: str) -> bytes:
     status = _library.check(data)
     if status != _library.OK:
         raise image_trouble(name, _library.WORDS[status])
-    return data[: size_of(data)]
+    return data
 
 
 # ---- finding

@@ -15,6 +15,9 @@ from .layout import STAGES
 
 WIDTH, HEIGHT = 720, 400
 LEFT, RIGHT, TOP, BOTTOM = 70, 20, 70, 60
+TITLE = 32
+"""A title has at most so many letters."""
+
 STYLE = (
     "<style>text{font:13px sans-serif;fill:#222}.title{font-size:16px;font-weight:bold}"
     ".right{text-anchor:end}.middle{text-anchor:middle}.grid{stroke:#ddd}.bar{fill:#7fa8d8}"
@@ -158,7 +161,8 @@ def histogram_svg(image: bytes, title: str) -> str:
     chart = _Chart(_library.histogram(image), expected(estimate, lg_k), lg_k)
     about = "more values than can be told" if math.isinf(estimate) else f"{estimate:,.0f} values"
     kind = "registers" if STAGES[image[7] & 3] == "registers" else "slots of coupons"
-    heading = f"{title}: {1 << lg_k:,} {kind}, about {about}"
+    short = title if len(title) <= TITLE else title[: TITLE - 1] + "\u2026"
+    heading = f"{short}: {1 << lg_k:,} {kind}, about {about}"
     parts = [words(LEFT, 28, heading, "title"), *_legend()]
     parts += [*chart.grid(), *chart.bars(), *chart.dots()]
     return document(WIDTH, HEIGHT, STYLE, parts)

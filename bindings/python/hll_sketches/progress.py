@@ -25,6 +25,7 @@ class Bar:
             from tqdm import tqdm
         except ImportError:
             return
+        tqdm.monitor_interval = 0  # without its thread, as processes may be started
         self._bar = tqdm(
             total=total, unit=unit, unit_scale=True, delay=1, leave=False, file=sys.stderr
         )

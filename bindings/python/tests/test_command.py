@@ -272,10 +272,12 @@ class CheckTest(CommandTest):
         self.write("all/.hidden", b"no image")
         self.write("all/.folder/b", b"no image")
         self.write("all/c/d", image_of(["abc"]))
-        (self.folder / "all" / "socket").symlink_to("/dev/null")
+        os.mkfifo(self.folder / "all" / "pipe")
+        (self.folder / "all" / "round").symlink_to("..")
+        (self.folder / "all" / "link").symlink_to("a")
         self.assertEqual(self.succeeds("check", "all"), b"")
         told = json.loads(self.succeeds("check", "--json", "all", "-", given=self.read("all/a")))
-        self.assertEqual(told, {"checked": 3, "refused": []})
+        self.assertEqual(told, {"checked": 4, "refused": []})
 
     def test_troubles(self):
         self.write("a", b"")
@@ -384,7 +386,7 @@ class LayoutTest(unittest.TestCase):
 
     def test_registers(self):
         numbers = random.Random(8)
-        for count in (0, 7, 100, 5000):
+        for count in (0, 7, 20, 100, 5000):
             for width in (4, 6, 8):
                 made, wanted = Sketch(11, width), [0] * 512
                 for _ in range(count):
@@ -418,12 +420,16 @@ class StreamsTest(CommandTest):
                     env=environment(),
                 )
                 self.assertEqual((done.returncode, done.stderr.decode()), (2, words))
-        words = ["/dev/full: No space left on device"]
-        self.fails(2, words, "convert", "a.hll", "--width", 4, "-o", "/dev/full")
 
-    def test_devices_stay_devices(self):
-        self.succeeds("new", "/dev/null", "--force")
-        self.assertTrue(stat.S_ISCHR(os.stat("/dev/null").st_mode))
+    def test_a_pipe_stays_a_pipe(self):
+        """What is no plain file is written into, and not replaced."""
+        os.mkfifo(self.folder / "pipe")
+        place = os.open(self.folder / "pipe", os.O_RDWR)
+        self.addCleanup(os.close, place)
+        self.succeeds("new", "pipe", "--force", "--lg-k", 7)
+        self.assertTrue(stat.S_ISFIFO(os.stat(self.folder / "pipe").st_mode))
+        os.set_blocking(place, False)
+        self.assertEqual(os.read(place, 100), Sketch(7).to_bytes())
 
     def test_closed_pipe(self):
         self.write("a.hll", image_of(["abc"]))

@@ -48,6 +48,8 @@ class PictureTest(CommandTest):
         self.assertTrue(heading.startswith('a<b&"??\u00e9.hll: 4,096 slots of coupons'), heading)
         data = self.succeeds("plot", "-", "-o", "-", "--title", "One & two", given=image)
         self.assertIn("One & two: ", parts(data, "text", "title")[0].text)
+        data = plot.histogram_svg(image, "x" * 33).encode()
+        self.assertTrue(parts(data, "text", "title")[0].text.startswith("x" * 31 + "\u2026: "))
 
     def test_full_registers(self):
         made = Sketch(4)
