@@ -1,11 +1,12 @@
 #!/usr/bin/env python3
 # SPDX-License-Identifier: Apache-2.0
-"""Checks the documents: files and sections that they name are there, names in backticks are in the sources, and the commands
-of README.md run as they stand and print what it says. The last line is 'N passed, M failed'.
+"""Checks the documents: files and sections that they name are there, names in backticks are in the sources, the commands of
+README.md and CALLING.md run as they stand and print what these say, and the plans of docs/FAULTS.md have the answers told
+there. The last line is 'N passed, M failed'.
 
-    scripts/documents.py [names | commands]
+    scripts/documents.py [names] [commands] [plans]
 
-The commands need the library of bindings/c and the programs, which are built where they are not up to date.
+Commands and plans need the library of bindings/c and the programs, which are built where they are not up to date.
 """
 import os
 import pathlib
@@ -182,8 +183,37 @@ def check_commands():
     return passed, failed
 
 
+# ---- plans
+
+
+def plans_of_faults():
+    """Pairs of a plan of docs/FAULTS.md and what the program answers."""
+    plan, plans = [], []
+    for line in (ROOT / "docs" / "FAULTS.md").read_text().splitlines():
+        if line.startswith("    "):
+            plan.append(line[4:] + "\n")
+            continue
+        told = re.match(r"- Here: `([^`]*)`", line)
+        if told:
+            plans.append(("".join(plan), told.group(1)))
+            plan = []
+    return plans
+
+
+def check_plans():
+    """One test for each plan: the program answers as the page says."""
+    failed = 0
+    for plan, told in plans_of_faults():
+        ran = subprocess.run([ROOT / "hll_merge"], input=plan, capture_output=True, text=True)
+        answer = (ran.stdout + ran.stderr).strip()
+        if answer != told:
+            failed += 1
+            print(f"docs/FAULTS.md: {plan}answered {answer}, not {told}")
+    return len(plans_of_faults()) - failed, failed
+
+
 def main():
-    parts = {"names": check_names, "commands": check_commands}
+    parts = {"names": check_names, "commands": check_commands, "plans": check_plans}
     passed = failed = 0
     for part in sys.argv[1:] or parts:
         more_passed, more_failed = parts[part]()

@@ -87,6 +87,21 @@ class MergeTest(LaidOut):
             self.assertEqual(found, (wanted, FILES))
             self.assertEqual((sum(told), len(told)), (FILES, -(-FILES // group)))
 
+    def test_memory_is_bounded(self):
+        """No call gets more bytes than a batch and two images."""
+        names, sizes = [str(self.folder / name) for name in self.lay_out()], []
+        union = merging._library.union
+
+        def measured(lg_k, width, images):
+            sizes.append(sum(map(len, images)))
+            return union(lg_k, width, images)
+
+        with mock.patch.object(merging, "BATCH_BYTES", 30_000), \
+                mock.patch.object(merging._library, "union", measured):
+            merging.union_of_files(names, 12, 8, 1, self.fail)
+        self.assertGreater(sum(sizes), 300_000)
+        self.assertLess(max(sizes), 30_000 + max(map(len, IMAGES)) + 4200)
+
     def test_processes_have_the_work(self):
         """More than a group of files, with standard input among them, and refusals in order."""
         names = self.lay_out() * 5
@@ -175,8 +190,9 @@ class RefusalsTest(LaidOut):
     def test_outputs_that_cannot_be_written(self):
         self.write("a.hll", IMAGES[0])
         (self.folder / "folder").mkdir()
-        self.fails(2, ["folder: Is a directory"], "merge", "a.hll", "-o", "folder")
-        self.fails(2, ["none/x: No such file or directory"], "merge", "a.hll", "-o", "none/x")
+        for name in ("a.hll", "gone.hll"):
+            self.fails(2, ["folder: Is a directory"], "merge", name, "-o", "folder")
+            self.fails(2, ["none/x: No such file or directory"], "merge", name, "-o", "none/x")
         self.assertEqual(self.listed(), ["a.hll", "folder"])
         self.assertEqual(os.listdir(self.folder / "folder"), [])
 
