@@ -2,6 +2,7 @@
 """`hll merge`: its answer is that of the program, and what is refused is named."""
 import json
 import os
+import pathlib
 import random
 import shutil
 import signal
@@ -207,6 +208,11 @@ class RefusalsTest(LaidOut):
         )
         running.stdin.write("".join(f"{name}\n" for name in names * 20).encode())
         running.stdin.flush()
+        children = pathlib.Path(f"/proc/{running.pid}/task/{running.pid}/children")
+        end = time.monotonic() + 20
+        while len(children.read_text().split()) < 3 and time.monotonic() < end:
+            time.sleep(0.001)
+        self.assertEqual(len(children.read_text().split()), 3)
         return running
 
     def ended(self, running, status):
