@@ -32,8 +32,6 @@ def _at_most(value: int, registers: int, values: float) -> float:
     """The chance that a register is at most a value, of so many values."""
     if value >= 63:
         return 1.0
-    if math.isinf(values):
-        return 0.0
     return math.exp(values * math.log1p(-(0.5**value) / registers))
 
 

@@ -36,7 +36,7 @@ class CommandTest(unittest.TestCase):
         """The status, and what is written to standard output and standard error."""
         done = subprocess.run(
             [*COMMAND, *map(str, words)], input=given, capture_output=True, cwd=self.folder,
-            env=environment(), **more,
+            env=environment(), timeout=60, **more,
         )
         return done.returncode, done.stdout, done.stderr.decode("utf-8", "surrogateescape")
 

@@ -11,6 +11,7 @@ import struct
 import subprocess
 import unittest
 from contextlib import redirect_stderr, redirect_stdout
+from itertools import product
 from unittest import mock
 
 import common  # noqa: F401, for the path
@@ -410,14 +411,16 @@ class tqdm:
 
 class StreamsTest(CommandTest):
     def test_full_disk(self):
+        """Told once, whether what is printed is kept until the end or not."""
         self.write("a.hll", image_of(range(30_000)))
         words = "hll: standard output: No space left on device\n"
-        for command in (["info", "a.hll"], ["info", "--json", "a.hll"], ["diff", "a.hll", "a.hll"],
-                        ["convert", "a.hll", "--width", "4", "-o", "-"]):
+        commands = [["info", "a.hll", "a.hll"], ["info", "--json", "a.hll"],
+                    ["convert", "a.hll", "--width", "4", "-o", "-"]]
+        for command, unbuffered in product(commands, ("", "1")):
             with self.subTest(command=command), open("/dev/full", "wb") as full:
                 done = subprocess.run(
                     [*COMMAND, *command], stdout=full, stderr=subprocess.PIPE, cwd=self.folder,
-                    env=environment(),
+                    env=environment(PYTHONUNBUFFERED=unbuffered),
                 )
                 self.assertEqual((done.returncode, done.stderr.decode()), (2, words))
 

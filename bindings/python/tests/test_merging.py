@@ -178,6 +178,21 @@ class RefusalsTest(LaidOut):
         found = [f"{one['file']}: {one['reason']}" for one in told["left_out"]]
         self.assertEqual(found, lines)
 
+    def test_ten_bad_files_of_five_thousand(self):
+        made = [IMAGES[number % FILES] for number in range(5000)]
+        bad = range(250, 5000, 500)
+        for number in bad:
+            made[number] = made[number][:7]
+        names = self.lay_out(made)
+        lines = [f"{name}: image truncated" for name in sorted(names[number] for number in bad)]
+        self.fails(1, lines, "merge", "all", "-o", "one.hll")
+        self.assertEqual(self.listed(), ["all"])
+        err = "".join(f"hll: {line} (left out)\n" for line in lines)
+        for jobs in (1, 4):
+            words = ("merge", "all", "--skip-bad", "-o", "one.hll", "--jobs", jobs)
+            self.assertEqual(self.run_hll(*words), (0, b"", err))
+            self.assertEqual(self.read("one.hll"), union_of(IMAGES).with_estimator_words().to_bytes())
+
     def test_nothing_to_merge(self):
         self.write("bad", b"no")
         (self.folder / "empty").mkdir()
@@ -217,7 +232,11 @@ class RefusalsTest(LaidOut):
 
     def ended(self, running, status):
         """Nothing is said or written, and no process is left."""
-        out, err = running.communicate()
+        try:
+            out, err = running.communicate(timeout=60)
+        except subprocess.TimeoutExpired:
+            os.killpg(running.pid, signal.SIGKILL)
+            raise
         self.assertEqual((running.returncode, out, err), (status, b"", b""))
         self.assertEqual((self.read("one.hll"), self.listed()), (b"as it was", ["all", "one.hll"]))
         end = time.monotonic() + 20
