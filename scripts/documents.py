@@ -122,7 +122,8 @@ def check_names():
 
 
 def indented_blocks(text):
-    """Blocks of indented lines, without the indent."""
+    """Blocks of indented lines, without the indent; none between fences."""
+    text = re.sub(r"^```.*?^```$", "", text, flags=re.M | re.S)
     block = []
     for line in text.splitlines() + ["end"]:
         if line.startswith("    "):
