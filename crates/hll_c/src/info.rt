@@ -34,10 +34,11 @@ pub struct HllInfo {
     pub units_high: u64,
     /// The lower 64 bits of that sum.
     pub units_low: u64,
-    /// Of registers: the words of an estimator, binary64.
+    /// Of registers: the three words of an estimator, as the bits of binary64.
     pub hip: u64,
     pub kxq0: u64,
     pub kxq1: u64,
+    /// The logarithm of the number of registers, 4 to 21.
     pub lg_k: u8,
     /// 4, 6 or 8 bits.
     pub width: u8,
@@ -53,6 +54,7 @@ pub struct HllInfo {
 #[repr(C)]
 #[derive(Clone, Copy)]
 pub struct HllHistogram {
+    /// By value, 0 to 63; all together 2^`lg_k`.
     pub counts: [u64; 64],
 }
 

@@ -1,4 +1,11 @@
-//! The library for C: calls over images, which keep nothing. bindings/c/hll.h says what each call owes its caller.
+//! The library for C: calls over images, which keep nothing. bindings/c/hll.h says what each call owes its caller, and
+//! docs/MODEL.md, "Calls over images", what the contracts say.
+//!
+//! Each answers 0, the number of a reason (docs/FORMAT.md, "Reasons"), or 14 where a buffer is too small; then `size` is the
+//! size needed. On every code but 0 what was lent is as it was, but for that `size` and for `failed`, which is the number of
+//! the image that failed a check, from 0. An `lg_k` is 4 to 21, a width 4, 6 or 8 bits. Arguments out of range are
+//! `Argument`, before any image is read. Memory is taken by `malloc` while a call runs, for the sketches of its images and
+//! for the answer; where it is refused the reason is `Memory`.
 #![tactic(auto)]
 
 ghost use Rattle.std.specs.Prelude.{◌≡◌, ◌∷◌, [], ℕ, length};
@@ -24,7 +31,9 @@ use crate::info::{HllHistogram, HllInfo};
 use hll_coupons::coupon::Coupon;
 use std::alloc::Global;
 
-/// What an image says.
+/// What an image says: `lg_k`, width, stage, its coupons, or the sums and words of its registers.
+///
+/// Answers the reason of the first check that the bytes fail, or `Memory`. Takes memory for its sketch.
 #[unsafe(no_mangle)]
 pub extern "C" fn hll_image_info(alloc: Global, image: &[u8], info: &mut HllInfo) -> u8
     ensures { Tells HllInfo (SaysInfo image.now) (RefusesImage image.now) info.old info.new result }
@@ -32,7 +41,9 @@ pub extern "C" fn hll_image_info(alloc: Global, image: &[u8], info: &mut HllInfo
     tell(info::info_of(alloc, image), info)
 }
 
-/// Whether bytes begin with an image; else the reason of the first check that they fail.
+/// Whether bytes begin with an image; else the reason of the first check that they fail (docs/FORMAT.md, "Order of checks").
+///
+/// Takes memory for its sketch. Answers `Memory` too.
 #[unsafe(no_mangle)]
 pub extern "C" fn hll_image_check(alloc: Global, image: &[u8]) -> u8
     ensures { Tests ((x : Sketch) × IsReadAs image.now x) (RefusesImage image.now) result }
@@ -40,7 +51,9 @@ pub extern "C" fn hll_image_check(alloc: Global, image: &[u8]) -> u8
     code_of(image::check(alloc, image))
 }
 
-/// How many registers have each value.
+/// How many registers have each value from 0 to 63, at the image's `lg_k`; coupons count as the registers they fold to.
+///
+/// Answers the reason of the first check that the bytes fail, or `Memory`. Takes memory for its sketch, and a byte a register.
 #[unsafe(no_mangle)]
 pub extern "C" fn hll_image_histogram(
     alloc: Global,
@@ -52,7 +65,9 @@ pub extern "C" fn hll_image_histogram(
     tell(info::histogram_of(alloc, image), histogram)
 }
 
-/// The image of an empty sketch.
+/// The image of an empty sketch, which has the width of the registers to come.
+///
+/// Answers `Argument` for an `lg_k` or a width out of range, or `Memory`.
 #[unsafe(no_mangle)]
 pub extern "C" fn hll_image_new(
     alloc: Global,
@@ -66,7 +81,10 @@ pub extern "C" fn hll_image_new(
     put_image(image::empty(alloc, lg_k, width), out, size)
 }
 
-/// The image with the values that stand in `values` up to each of `ends`.
+/// The image with the values that stand in `values` up to each of `ends`; an empty one is a value like any other.
+///
+/// Answers `Argument` for ends that descend or go past the values, the reason of the first check that the image fails, or
+/// `Memory`. Takes memory for its sketch and the answer.
 #[unsafe(no_mangle)]
 pub extern "C" fn hll_image_add(
     alloc: Global,
@@ -81,7 +99,10 @@ pub extern "C" fn hll_image_add(
     put_image(image::with_values(alloc, image, values, ends), out, size)
 }
 
-/// The image with a coupon.
+/// The image with a coupon of a slot below 2^26 and a value of 1 to 63.
+///
+/// Answers `Argument` for others, the reason of the first check that the image fails, or `Memory`. Takes memory for its
+/// sketch and the answer.
 #[unsafe(no_mangle)]
 pub extern "C" fn hll_image_add_coupon(
     alloc: Global,
@@ -96,7 +117,10 @@ pub extern "C" fn hll_image_add_coupon(
     put_image(image::with_coupon(alloc, image, slot, value), out, size)
 }
 
-/// The image of the union of two images under a bound, at a width.
+/// The image of the union of two images under a bound of the `lg_k`, at a width.
+///
+/// Answers `Argument` for a bound or a width out of range, the reason of the first check that the first faulty image fails,
+/// with its number in `failed`, or `Memory`. Takes memory for one of their sketches, the union and the answer.
 #[unsafe(no_mangle)]
 pub extern "C" fn hll_image_merge(
     alloc: Global,
@@ -117,7 +141,11 @@ pub extern "C" fn hll_image_merge(
     )
 }
 
-/// The image of the union, under a bound and at a width, of the images that stand in `images` up to each of `ends`.
+/// The image of the union, under a bound of the `lg_k` and at a width, of the images that stand in `images` up to each of
+/// `ends`; of none the empty sketch.
+///
+/// Answers as `hll_image_merge`, and `Argument` also for ends that descend or go past the images. Takes memory for one sketch
+/// at a time, the union and the answer.
 #[unsafe(no_mangle)]
 pub extern "C" fn hll_images_union(
     alloc: Global,
@@ -138,7 +166,10 @@ pub extern "C" fn hll_images_union(
     )
 }
 
-/// The image folded to an `lg_k`.
+/// The image folded to an `lg_k` of 4 to its own (docs/MODEL.md, "Folding").
+///
+/// Answers `Argument` for another, the reason of the first check that the image fails, or `Memory`. Takes memory for its
+/// sketch, the fold and the answer.
 #[unsafe(no_mangle)]
 pub extern "C" fn hll_image_fold(
     alloc: Global,
@@ -152,7 +183,10 @@ pub extern "C" fn hll_image_fold(
     put_image(image::folded(alloc, image, lg_k), out, size)
 }
 
-/// The image at a width.
+/// The image at a width, with the state of its registers.
+///
+/// Answers `Argument` for a width that is none, the reason of the first check that the image fails, or `Memory`. Takes memory
+/// for its sketch, at another width for one of that, and for the answer.
 #[unsafe(no_mangle)]
 pub extern "C" fn hll_image_convert(
     alloc: Global,
@@ -166,7 +200,10 @@ pub extern "C" fn hll_image_convert(
     put_image(image::converted(alloc, image, width), out, size)
 }
 
-/// The image with the words set from which a composite estimator computes.
+/// The image with the words set from which a composite estimator computes (docs/FORMAT.md, "Estimator words"); a list or a
+/// set stays as it is.
+///
+/// Answers the reason of the first check that the image fails, or `Memory`. Takes memory for its sketch and the answer.
 #[unsafe(no_mangle)]
 pub extern "C" fn hll_image_set_estimator_words(
     alloc: Global,
@@ -180,6 +217,9 @@ pub extern "C" fn hll_image_set_estimator_words(
 }
 
 /// Whether two images fold to the same registers at the smaller `lg_k` of both: 1 if they do, else 0.
+///
+/// Answers the reason of the first check that the first faulty image fails, with its number in `failed`, or `Memory`. Takes
+/// memory for both sketches, and two bytes a register at that `lg_k`.
 #[unsafe(no_mangle)]
 pub extern "C" fn hll_images_agree(
     alloc: Global,
@@ -193,7 +233,7 @@ pub extern "C" fn hll_images_agree(
     tell(image::agree(alloc, left, right, failed), same)
 }
 
-/// The coupon of a value: its raw word.
+/// The coupon of a value: its raw word, value * 2^26 + slot (docs/FORMAT.md, "Coupons"). Takes no memory.
 #[unsafe(no_mangle)]
 pub extern "C" fn hll_coupon(value: &[u8]) -> u32
     ensures { result ≡ coupon_of_bytes value.now }
@@ -201,7 +241,10 @@ pub extern "C" fn hll_coupon(value: &[u8]) -> u32
     Coupon::from_bytes(value).raw()
 }
 
-/// The coupons of the values that stand in `values` up to each of `ends`.
+/// The coupons of the values that stand in `values` up to each of `ends`, at the front of `coupons`.
+///
+/// Answers `Argument` for ends that descend or go past the values, or 14 where there are more of them than `coupons` has room
+/// for. Takes no memory.
 #[unsafe(no_mangle)]
 pub extern "C" fn hll_coupons(values: &[u8], ends: &[usize], coupons: &mut [u32]) -> u8
     ensures { PutsCoupons values.now ends.now coupons.old coupons.new result }
