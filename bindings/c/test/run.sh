@@ -185,22 +185,22 @@ try_example() {
 try_install() {
     place=$(pwd)/$tests/installed
     rm -rf "$place"
-    make -s install DESTDIR="$place" PREFIX=/opt/hll || return 1
+    make -s install DESTDIR="$place" PREFIX=/usr || return 1
     for file in include/hll.h lib/libhll.a lib/libhll.so lib/libhll.so.0 lib/libhll.so.0.1.0 lib/pkgconfig/hll.pc; do
-        [ -f "$place/opt/hll/$file" ] || { echo "$file is missing"; return 1; }
+        [ -f "$place/usr/$file" ] || { echo "$file is missing"; return 1; }
     done
-    flags="-I$place/opt/hll/include -L$place/opt/hll/lib -lhll"
+    flags="-I$place/usr/include -L$place/usr/lib -lhll"
     if has pkg-config; then
-        said=$(PKG_CONFIG_SYSROOT_DIR=$place PKG_CONFIG_PATH=$place/opt/hll/lib/pkgconfig \
+        said=$(PKG_CONFIG_SYSROOT_DIR=$place PKG_CONFIG_PATH=$place/usr/lib/pkgconfig \
             pkg-config --cflags --libs hll) || return 1
         [ "$(echo $said)" = "$flags" ] || { echo "pkg-config says $said"; return 1; }
     fi
-    compiled="$CC $strict -std=c99 -I$place/opt/hll/include"
+    compiled="$CC $strict -std=c99 -I$place/usr/include"
     $compiled -o "$tests/installed-shared" example.c $flags || return 1
-    LD_LIBRARY_PATH=$place/opt/hll/lib try_example "$tests/installed-shared" || return 1
-    $compiled -o "$tests/installed-static" example.c "$place/opt/hll/lib/libhll.a" || return 1
+    LD_LIBRARY_PATH=$place/usr/lib try_example "$tests/installed-shared" || return 1
+    $compiled -o "$tests/installed-static" example.c "$place/usr/lib/libhll.a" || return 1
     try_example "$tests/installed-static" || return 1
-    make -s uninstall DESTDIR="$place" PREFIX=/opt/hll || return 1
+    make -s uninstall DESTDIR="$place" PREFIX=/usr || return 1
     [ -z "$(find "$place" ! -type d)" ]
 }
 

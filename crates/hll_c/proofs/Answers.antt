@@ -106,8 +106,3 @@ tests_of Passes Refuses (Err e) _ ok err (failed r from) = failed r (subst Refus
 pub IfOk-with : {T E : Type 0} (r : Result T E) (P Q S : T → Type 0) → ((x : T) → P x → Q x → S x) → IfOk r P → IfOk r Q → IfOk r S
 IfOk-with (Ok x) P Q S h p q = h x p q
 IfOk-with (Err e) P Q S h p q = tt
-
--- what two clauses say of an error
-pub IfErr-with : {T E : Type 0} (r : Result T E) (P Q S : E → Type 0) → ((e : E) → P e → Q e → S e) → IfErr r P → IfErr r Q → IfErr r S
-IfErr-with (Ok x) P Q S h p q = tt
-IfErr-with (Err e) P Q S h p q = h e p q

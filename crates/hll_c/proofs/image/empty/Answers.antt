@@ -1,8 +1,9 @@
 use Rattle.hll_base.proofs.Errors.{IfErr-passed}
 use Rattle.hll_sketch.specs.Layout.{sketch_of}
+use Rattle.hll_sketch.proofs.FirstFailing.{IfErr-with}
 use Rattle.hll_c.specs.Answers.{RefusesArguments}
 use Rattle.hll_c.specs.Calls.{AreNewArguments, IsEmptyAt}
-use Rattle.hll_c.proofs.Answers.{IfOk-with, IfErr-with}
+use Rattle.hll_c.proofs.Answers.{IfOk-with}
 use Rattle.hll_c.proofs.Images.{refuses_new}
 use Rattle.hll_c.proofs.image.empty.Goals as goal
 

@@ -2,9 +2,9 @@ use Rattle.std.proofs.Common.{arith, inl, inr}
 use Rattle.hll_base.proofs.Errors.{IfErr-passed}
 use Rattle.hll_sketch.specs.Layout.{sketch_of}
 use Rattle.hll_sketch.specs.Value.{IsLgK}
+use Rattle.hll_sketch.proofs.FirstFailing.{IfErr-with}
 use Rattle.hll_c.specs.Answers.{image_refused}
 use Rattle.hll_c.specs.Calls.{RefusesFold, with}
-use Rattle.hll_c.proofs.Answers.{IfErr-with}
 use Rattle.hll_c.proofs.Images.{refuses_argument, refuses_image, refuses_fold, no_lg_k}
 use Rattle.hll_c.proofs.image.folded.Goals as goal
 
