@@ -116,7 +116,8 @@ def dump(server):
 
 
 def readme(server):
-    """The queries of README.md, in their order: none fails, and each prints the lines that stand behind `-->`."""
+    """The queries of README.md, in their order: none fails, and each prints the lines that stand behind `-->`. The query of the
+    README at the top is run on their table."""
     blocks = re.findall(r"^```sql\n(.*?)^```$", (HERE / "README.md").read_text(), re.S | re.M)
     check("README has queries", len(blocks) >= 7, len(blocks))
     server.ask("CREATE DATABASE metrics; CREATE DATABASE metrics_eu")
@@ -126,6 +127,11 @@ def readme(server):
         check(name, "ERROR" not in said, said)
         for wanted in re.findall(r"^--> (.*)$", block, re.M):
             check("%s: %s" % (name, wanted), wanted in lines, said)
+    front, = re.findall(r"^```sql\n(.*?)^```$", (HERE.parent.parent / "README.md").read_text(), re.S | re.M)
+    days = server.ask("SELECT count(DISTINCT day) FROM daily", "metrics")
+    said = server.run(front, "metrics").split("\n")
+    shown = [line for line in said if re.fullmatch(r"2026-11-\d\d\|\d+(\.\d+)?", line)]
+    equal("README at the top: a line a day", (str(len(shown)), len(said)), (days, len(shown)))
     plan = server.ask("EXPLAIN (VERBOSE, COSTS OFF) SELECT hll_image_union_agg(image) FROM daily_eu", "metrics")
     check("README: the other server makes the union", "Remote SQL: SELECT public.hll_image_union_agg(image)" in plan, plan)
 

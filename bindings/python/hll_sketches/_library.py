@@ -13,7 +13,7 @@ from array import array
 from ctypes import POINTER, byref, c_char_p, c_double, c_size_t, c_void_p
 from ctypes import c_uint8, c_uint32, c_uint64
 from itertools import accumulate
-from typing import Callable, List, Optional, Sequence, Tuple
+from typing import Callable, Dict, List, Optional, Sequence
 
 from ._errors import ArgumentError, ImageError
 
@@ -90,9 +90,11 @@ _CALLS = {
     "hll_image_convert": _IMAGE + [c_uint8] + _OUT,
     "hll_image_set_estimator_words": _IMAGE + _OUT,
     "hll_images_agree": _IMAGE + _IMAGE + [POINTER(c_uint8), c_void_p],
+    "hll_coupon": _IMAGE,
     "hll_coupons": _IMAGE + _ENDS + [c_void_p, c_size_t],
     "hll_estimate": _IMAGE + [POINTER(Estimation)],
 }
+_ANSWERS = {"hll_coupon": c_uint32}
 
 
 def _places() -> List[str]:
@@ -115,26 +117,33 @@ def _places() -> List[str]:
     return found
 
 
-def _load() -> ctypes.CDLL:
-    """The library with the types of its calls."""
+def _load() -> Dict[str, Callable[..., int]]:
+    """The calls of the library by their names."""
     places = _places()
     if not places:
         raise ImportError(
-            "hll_sketches needs the shared library libhll.so: build it by `make` in bindings/c, or"
-            " install it, or name it in the environment variable HLL_SKETCHES_LIBRARY"
+            "the shared library libhll.so is not here: build it by `make` in bindings/c, or install"
+            " it, or name it in the environment variable HLL_SKETCHES_LIBRARY"
         )
     try:
         library = ctypes.CDLL(places[0])
-        for name, types in _CALLS.items():
-            call = getattr(library, name)
-            call.argtypes, call.restype = types, c_uint8
-        library.hll_coupon.argtypes, library.hll_coupon.restype = _IMAGE, c_uint32
+        calls = {name: getattr(library, name) for name in _CALLS}
     except (OSError, AttributeError) as error:
-        raise ImportError(f"hll_sketches can't use the library {places[0]}: {error}") from error
-    return library
+        raise ImportError(f"the library {places[0]} can't be used: {error}") from error
+    for name, call in calls.items():
+        call.argtypes, call.restype = _CALLS[name], _ANSWERS.get(name, c_uint8)
+    return calls
 
 
-_library = _load()
+class _Calls:
+    """The calls of the library, which is loaded when one is first made."""
+
+    def __getattr__(self, name: str) -> Callable[..., int]:
+        vars(self).update(_load())
+        return vars(self)[name]
+
+
+_library = _Calls()
 
 # ---- batches
 

@@ -257,6 +257,9 @@ def _carried_out(options: argparse.Namespace) -> int:
     except MemoryError:
         commands.say("memory was refused")
         return REFUSED
+    except ImportError as error:
+        commands.say(error)
+        return UNUSABLE
     except OSError as error:
         commands.say(error.strerror or error)
         return UNUSABLE

@@ -451,13 +451,25 @@ class ErrorsTest(unittest.TestCase):
         self.assertEqual(union.sketch().num_coupons, 1)
 
     def test_no_library(self):
-        code = "import sys; sys.path.insert(0, sys.argv[1])\nimport hll_sketches"
+        code = """
+import sys
+sys.path.insert(0, sys.argv[1])
+from hll_sketches import Sketch, coupon
+for call in (Sketch, lambda: coupon("ann"), Sketch):
+    try:
+        call()
+    except ImportError as error:
+        print(error)
+"""
         for place in ("/nowhere/libhll.so", os.devnull):
             environment = {**os.environ, "HLL_SKETCHES_LIBRARY": place}
             command = [sys.executable, "-c", code, str(common.PACKAGE)]
             done = subprocess.run(command, capture_output=True, text=True, env=environment)
-            self.assertNotEqual(done.returncode, 0)
-            self.assertIn("ImportError: hll_sketches can't use the library " + place, done.stderr)
+            self.assertEqual((done.returncode, done.stderr), (0, ""))
+            lines = done.stdout.splitlines()
+            self.assertEqual(len(lines), 3)
+            for line in lines:
+                self.assertTrue(line.startswith(f"the library {place} can't be used: "), line)
 
 
 class EstimateTest(unittest.TestCase):

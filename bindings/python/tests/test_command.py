@@ -5,12 +5,14 @@ import json
 import os
 import random
 import resource
+import shutil
 import signal
 import stat
 import struct
 import subprocess
 import unittest
 from contextlib import redirect_stderr, redirect_stdout
+from ctypes.util import find_library
 from itertools import product
 from unittest import mock
 
@@ -86,6 +88,43 @@ class HelpTest(CommandTest):
                 self.assertEqual((status, out), (2, ""))
                 self.assertRegex(err, r"^usage: hll(.|\n)*\nhll.*: error: .*\n$")
         self.assertEqual(self.listed(), ["a.hll"])
+
+
+class LibraryTest(CommandTest):
+    """Where the shared library is missing or is another one, a command says so."""
+
+    def copied(self, *words, library=None):
+        """Runs a copy of the package, which is far from any build of the library."""
+        shutil.copytree(common.PACKAGE / "hll_sketches", self.folder / "copy" / "hll_sketches")
+        path = {"PYTHONPATH": str(self.folder / "copy"), "HLL_SKETCHES_LIBRARY": library or ""}
+        done = subprocess.run(
+            [*COMMAND, *words], input=b"", capture_output=True, cwd=self.folder,
+            env=dict(environment(), **path), timeout=60,
+        )
+        shutil.rmtree(self.folder / "copy")
+        return done.returncode, done.stdout, done.stderr.decode()
+
+    def test_none(self):
+        if find_library("hll"):
+            self.skipTest("a libhll.so is installed")
+        status, out, err = self.copied("new", "a.hll")
+        self.assertEqual((status, out, self.listed()), (2, b"", []))
+        self.assertRegex(err, r"\Ahll: the shared library libhll\.so is not here: build .*\n\Z")
+
+    def test_another(self):
+        self.write("a.hll", Sketch().to_bytes())
+        self.write("libhll.so", b"no library")
+        for library in ("none.so", "./libhll.so", find_library("c")):
+            for words in (["merge", "a.hll", "-o", "b"], ["estimate", "a.hll"], ["add", "a.hll"]):
+                status, out, err = self.copied(*words, library=library)
+                self.assertEqual((status, out), (2, b""))
+                self.assertRegex(err, rf"\Ahll: the library {library} can't be used: .*\n\Z")
+        self.assertEqual(self.listed(), ["a.hll", "libhll.so"])
+
+    def test_without_a_call(self):
+        for word in ("--version", "--help"):
+            status, out, err = self.copied(word, library="none.so")
+            self.assertEqual((status, out, err), (0, self.succeeds(word), ""))
 
 
 class NewTest(CommandTest):

@@ -10,6 +10,8 @@ mod callers;
 #[cfg(test)]
 mod coupons;
 #[cfg(test)]
+mod filter;
+#[cfg(test)]
 mod harness;
 #[cfg(test)]
 mod heaps;

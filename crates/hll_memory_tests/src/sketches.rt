@@ -9,6 +9,7 @@ use hll_coupons::coupon::Coupon;
 use hll_sketch::HllSketch;
 use hll_text::fault::Fault;
 use std::alloc::Global;
+use std::mem;
 use std::test::Fail;
 
 /// All widths.
@@ -57,6 +58,14 @@ fn least_registers<'h>(sketch: &HllSketch<&'h Heap>) -> Result<Vec<u8, &'h Heap>
     sketch.registers_at(lg_k)
 }
 
+/// The sketch; an empty one is left in its place.
+fn taken<'h>(
+    heap: &'h Heap,
+    sketch: &mut HllSketch<&'h Heap>,
+) -> Result<HllSketch<&'h Heap>, Error> {
+    Ok(mem::replace(sketch, HllSketch::new(heap, 4, HllType::Hll8)?))
+}
+
 /// An image with all places of a table of 2^`lg_arr`, empty ones too, and so many bytes.
 fn with_places(alloc: Global, image: &[u8], lg_arr: u8, size: usize) -> Result<Vec<u8>, Fault> {
     let mut bytes = Vec::from_slice(alloc, image)?;
@@ -77,6 +86,7 @@ enum SketchCall {
     Serialize,
     Folded,
     RegistersAt,
+    IntoWidth(HllType),
     Deserialize,
     DeserializePlaces,
     UpdateNew,
@@ -114,6 +124,9 @@ impl<'h> Trial for SketchTrial<'h> {
             SketchCall::Serialize => shown(heap, sketch.serialize()),
             SketchCall::Folded => shown_sketch(heap, sketch.folded(4)),
             SketchCall::RegistersAt => shown(heap, least_registers(sketch)),
+            SketchCall::IntoWidth(hll_type) => {
+                shown_sketch(heap, taken(heap, sketch)?.into_width(hll_type))
+            }
             SketchCall::Deserialize => shown_sketch(heap, HllSketch::deserialize(heap, image)),
             SketchCall::DeserializePlaces => {
                 shown_sketch(heap, HllSketch::deserialize(heap, whole))
@@ -137,6 +150,10 @@ impl<'h> Trial for SketchTrial<'h> {
     fn show(&self, subject: &(HllSketch<&'h Heap>, Vec<u8>, Vec<u8>)) -> Result<String, Fault> {
         sketch_text(self.heap, &subject.0)
     }
+
+    fn spends(&self) -> bool {
+        matches!(self.call, SketchCall::IntoWidth(_))
+    }
 }
 
 /// The `lg_k` and the number of coupons, from slot 0 on, with the size of a table in an image, and the bytes with it: lists,
@@ -155,7 +172,7 @@ const STAGES: [(u8, u32, u8, usize); 10] = [
 ];
 
 /// The calls, and the requests of each at these stages, for four bits, for six and for eight.
-const SKETCH_CALLS: [(SketchCall, [[u64; 10]; 3]); 11] = [
+const SKETCH_CALLS: [(SketchCall, [[u64; 10]; 3]); 13] = [
     (
         SketchCall::Clone,
         [
@@ -189,6 +206,22 @@ const SKETCH_CALLS: [(SketchCall, [[u64; 10]; 3]); 11] = [
         ],
     ),
     (SketchCall::RegistersAt, [[1; 10]; 3]),
+    (
+        SketchCall::IntoWidth(HllType::Hll4),
+        [
+            [0; 10],
+            [0, 0, 0, 0, 0, 0, 2, 4, 4, 8],
+            [0, 0, 0, 0, 0, 0, 1, 3, 3, 7],
+        ],
+    ),
+    (
+        SketchCall::IntoWidth(HllType::Hll6),
+        [
+            [0, 0, 0, 0, 0, 0, 2, 2, 2, 2],
+            [0; 10],
+            [0, 0, 0, 0, 0, 0, 1, 1, 1, 1],
+        ],
+    ),
     (
         SketchCall::Deserialize,
         [
