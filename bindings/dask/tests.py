@@ -20,20 +20,10 @@ from distributed import Client, LocalCluster
 from hll_sketches import ArgumentError, Sketch
 from hll_sketches.dask import PlacedImageError, union_by_key, union_of_bag, union_of_files
 from images import built_program, random_image
+from report import check, counts, equal
 from slow import SlowPath, opened
 
 FILES = 2000 if "--quick" in sys.argv else 10000
-counts = {"passed": 0, "failed": 0}
-
-
-def check(name, is_right, found=""):
-    counts["passed" if is_right else "failed"] += 1
-    if not is_right:
-        print("FAILED %s%s" % (name, ": %.600s" % (found,) if found != "" else ""), flush=True)
-
-
-def equal(name, found, wanted):
-    check(name, found == wanted, "%.200r in place of %.200r" % (found, wanted))
 
 
 # ---- images and files

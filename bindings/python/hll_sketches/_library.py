@@ -180,16 +180,21 @@ def _refusal(status: int, number: Optional[int] = None) -> Exception:
     return ImageError(WORDS[status], number)
 
 
-def _written(call: Callable[..., int], room: int, *arguments: object) -> bytes:
-    """The image that a call writes; it is asked again where it needs more room."""
+def _written(
+    call: Callable[..., int], room: int, *arguments: object, number: Optional[c_size_t] = None
+) -> bytes:
+    """The image that a call writes; it is asked again where it needs more room. A call over several
+    images tells the number of one that it refuses."""
     size = c_size_t()
+    more = () if number is None else (byref(number),)
     while True:
         out = bytearray(room)
-        status = call(*arguments, byref(c_uint8.from_buffer(out)), room, byref(size))
+        place = byref(c_uint8.from_buffer(out))
+        status = call(*arguments, place, room, byref(size), *more)
         if status == OK:
             return bytes(memoryview(out)[: size.value])
         if status != BUFFER:
-            raise _refusal(status)
+            raise _refusal(status, None if number is None else number.value)
         room = size.value
 
 
@@ -258,53 +263,20 @@ def add_coupon(image: bytes, slot: int, value: int) -> bytes:
 
 
 def merge(lg_max_k: int, width: int, left: bytes, right: bytes) -> bytes:
-    """The image of the union of two images."""
-    size, failed, room = c_size_t(), c_size_t(), room_for(lg_max_k)
-    while True:
-        out = bytearray(room)
-        status = _library.hll_image_merge(
-            lg_max_k,
-            width,
-            left,
-            len(left),
-            right,
-            len(right),
-            byref(c_uint8.from_buffer(out)),
-            room,
-            byref(size),
-            byref(failed),
-        )
-        if status == OK:
-            return bytes(memoryview(out)[: size.value])
-        if status != BUFFER:
-            raise _refusal(status, failed.value)
-        room = size.value
+    """The image of the union of two images; an ``ImageError`` has the number of the image."""
+    both = left, len(left), right, len(right)
+    return _written(
+        _library.hll_image_merge, room_for(lg_max_k), lg_max_k, width, *both, number=c_size_t()
+    )
 
 
 def union(lg_max_k: int, width: int, images: Sequence[bytes]) -> bytes:
     """The image of the union; an ``ImageError`` has the number of the image."""
-    joined, ends = b"".join(images), ends_of(images)
-    count, size, failed = len(ends), c_size_t(), c_size_t()
-    address, room = _address(ends), room_for(lg_max_k)
-    while True:
-        out = bytearray(room)
-        status = _library.hll_images_union(
-            lg_max_k,
-            width,
-            joined,
-            len(joined),
-            address,
-            count,
-            byref(c_uint8.from_buffer(out)),
-            room,
-            byref(size),
-            byref(failed),
-        )
-        if status == OK:
-            return bytes(memoryview(out)[: size.value])
-        if status != BUFFER:
-            raise _refusal(status, failed.value)
-        room = size.value
+    joined, ends, count = b"".join(images), ends_of(images), len(images)
+    all_ = joined, len(joined), _address(ends), count
+    return _written(
+        _library.hll_images_union, room_for(lg_max_k), lg_max_k, width, *all_, number=c_size_t()
+    )
 
 
 def fold(image: bytes, lg_k: int) -> bytes:

@@ -11,7 +11,8 @@ use Rattle.hll_sketch.specs.Laws.{add_in_turn}
 use Rattle.hll_sketch.specs.Merging.{merge, merge_all, empty_union}
 use Rattle.hll_sketch.specs.Union.{UnionLayout, gadget_of}
 use Rattle.hll_c.specs.Batches.{AreEndsFrom, AreEnds, strings_from, strings, AreReadAs, IsFirstFaulty}
-use Rattle.hll_c.specs.Steps.{TakesIn, TakesInAll, IsRefusedAt, FailsToTakeIn}
+use Rattle.hll_sketch.specs.TakenIn.{TakesIn}
+use Rattle.hll_c.specs.Steps.{TakesInAll, IsRefusedAt, FailsToTakeIn}
 use Rattle.hll_c.specs.Answers.{RefusesImages, images_fault}
 use Rattle.hll_c.specs.Calls.{AreUnionArguments, IsUnionOf}
 use Rattle.hll_c.proofs.Images.{no_fault, refuses_more_memory}

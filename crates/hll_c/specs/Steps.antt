@@ -3,20 +3,12 @@ use Rattle.std.specs.Prelude.{◌≡◌, ℕ, List, ◌⊎◌, Some}
 use Rattle.hll_base.specs.declared.error.Reason.{Reason}
 use Rattle.hll_base.specs.declared.error.Reason.TheVariants.{Memory}
 use Rattle.hll_sketch.specs.Checks.{first_fault}
-use Rattle.hll_sketch.specs.Image.{IsReadAs}
-use Rattle.hll_sketch.specs.Merging.{merge, merge_all}
+use Rattle.hll_sketch.specs.Merging.{merge_all}
 use Rattle.hll_sketch.specs.Union.{UnionLayout, gadget_of}
 use Rattle.hll_sketch.specs.Value.{Sketch}
 use Rattle.hll_c.specs.Batches.{AreReadAs, IsFirstFaulty}
 
--- a union took in the sketch that an image is read as
-pub record TakesIn (before after : UnionLayout) (image : List ℕ) : Type 0 where
-  pub sketch : Sketch
-  pub read : IsReadAs image sketch
-  pub gadget : gadget_of after ≡ merge before.lg_max_k (gadget_of before) sketch
-  pub bound : after.lg_max_k ≡ before.lg_max_k
-
--- it took in those of several images in turn
+-- a union took in several images in turn
 pub record TakesInAll (before after : UnionLayout) (images : List (List ℕ)) : Type 0 where
   pub sketches : List Sketch
   pub read : AreReadAs images sketches

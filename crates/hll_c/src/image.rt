@@ -1,5 +1,5 @@
 //! What the calls make of images.
-ghost use Rattle.std.specs.Prelude.{◌≡◌, ◌↔◌, ◌∷◌, [], Bool, true, length, map, IsTrue, IfOk, IfErr, OnOk};
+ghost use Rattle.std.specs.Prelude.{◌≡◌, ◌≢◌, ◌⊎◌, ◌↔◌, ◌∷◌, [], Bool, true, length, map, IsTrue, IfOk, IfErr, OnOk};
 ghost use Rattle.hll_base.specs.declared.error.Reason.TheVariants as reasons;
 ghost use Rattle.hll_coupons.specs.Hashed.{coupon_of_bytes};
 ghost use Rattle.hll_sketch.specs.Agree.{Agree};
@@ -11,7 +11,8 @@ ghost use Rattle.hll_sketch.specs.Value.{Sketch};
 ghost use Rattle.hll_c.specs.Answers.{RefusesArguments, RefusesImage, RefusesWith, RefusesImages};
 ghost use Rattle.hll_c.specs.Batches.{AreEnds, strings};
 ghost use Rattle.hll_c.specs.Calls.{bit, bits_of, IsWidth, AreNewArguments, IsEmptyAt, IsMadeOf, IsFoldOf, RefusesFold, IsAtWidth, AreOfCoupon, HasCoupon, HasValues, AreUnionArguments, IsUnionOf, AreBatchArguments, IsUnionOfBatch, SaysAgreement};
-ghost use Rattle.hll_c.specs.Steps.{TakesIn, TakesInAll, IsRefusedAt, FailsToTakeIn};
+ghost use Rattle.hll_sketch.specs.TakenIn.{TakesIn};
+ghost use Rattle.hll_c.specs.Steps.{TakesInAll, IsRefusedAt, FailsToTakeIn};
 
 use crate::batch::are_ends;
 use hll_base::bounds::{MAX_LG_K, MAX_VALUE, MIN_LG_K, SLOT_BITS};
@@ -41,13 +42,19 @@ fn read(alloc: Global, image: &[u8], number: usize, failed: &mut usize) -> Resul
 {
     match HllSketch::deserialize(alloc, image) {
         Ok(sketch) => Ok(sketch),
-        Err(e) => {
-            if e.reason() != Reason::Memory {
-                *failed = number;
-            }
-            Err(e)
-        }
+        Err(e) => Err(refused_at(e, number, failed)),
     }
+}
+
+/// The error. Where it is one of the image with this number, and not want of memory, `failed` is that number.
+fn refused_at(e: Error, number: usize, failed: &mut usize) -> Error
+    ensures same { result ≡ e }
+    ensures told { ((e ≡ reasons.Memory) × (failed.new ≡ failed.old)) ⊎ ((e ≢ reasons.Memory) × (failed.new ≡ number)) }
+{
+    if e.reason() != Reason::Memory {
+        *failed = number;
+    }
+    e
 }
 
 /// Whether the bytes begin with an image.
@@ -138,8 +145,8 @@ pub(crate) fn merged(
 {
     let width = width_of(width)?;
     let mut union = HllUnion::new(alloc, lg_max_k)?;
-    take_in(alloc, &mut union, left, 0, failed)?;
-    take_in(alloc, &mut union, right, 1, failed)?;
+    take_in(&mut union, left, 0, failed)?;
+    take_in(&mut union, right, 1, failed)?;
     union.into_sketch(width)
 }
 
@@ -160,13 +167,12 @@ pub(crate) fn united(
     if !are_ends(ends, images.len()) {
         return Err(Error::new(Reason::Argument));
     }
-    take_in_all(alloc, &mut union, images, ends, failed)?;
+    take_in_all(&mut union, images, ends, failed)?;
     union.into_sketch(width)
 }
 
 /// Merges images in turn into a union.
 fn take_in_all(
-    alloc: Global,
     union: &mut HllUnion,
     images: &[u8],
     ends: &[usize],
@@ -178,7 +184,7 @@ fn take_in_all(
 {
     let mut start = 0;
     for (number, end) in ends.iter().enumerate() {
-        take_in(alloc, union, &images[start..*end], number, failed)?;
+        take_in(union, &images[start..*end], number, failed)?;
         start = *end;
     }
     Ok(())
@@ -186,7 +192,6 @@ fn take_in_all(
 
 /// Merges the image with this number into a union.
 fn take_in(
-    alloc: Global,
     union: &mut HllUnion,
     image: &[u8],
     number: usize,
@@ -195,7 +200,10 @@ fn take_in(
     ensures ok { OnOk result (TakesIn union.old union.new image.now × (failed.new ≡ failed.old)) }
     ensures err { IfErr result (λ e. IsRefusedAt image.now number failed.old failed.new e) }
 {
-    union.update(&read(alloc, image, number, failed)?)
+    match union.update_with_image(image) {
+        Ok(()) => Ok(()),
+        Err(e) => Err(refused_at(e, number, failed)),
+    }
 }
 
 /// The sketch folded to an `lg_k`.

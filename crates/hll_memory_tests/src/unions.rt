@@ -16,6 +16,7 @@ enum UnionCall {
     IntoSketch,
     Reset,
     Update,
+    UpdateImage,
     UpdateNew,
     UpdateValue,
     UnionOf,
@@ -33,8 +34,8 @@ struct UnionTrial<'h> {
     call: UnionCall,
 }
 
-/// A union, and two sketches: what is in it, and the one beside it.
-type Joined<'h> = (HllUnion<&'h Heap>, Vec<HllSketch<&'h Heap>>);
+/// A union, two sketches (what is in it, and the one beside it), and the image of the one beside it.
+type Joined<'h> = (HllUnion<&'h Heap>, Vec<HllSketch<&'h Heap>>, Vec<u8>);
 
 /// All of a union that is used up: its bound and its gadget.
 pub(crate) fn union_text(heap: &Heap, union: HllUnion<&Heap>) -> Result<String, Fault> {
@@ -124,17 +125,19 @@ impl<'h> Trial for UnionTrial<'h> {
         let one = sketch_in(self.heap, HllType::Hll8, self.inside)?;
         let union = union_with(self.heap, self.lg_max_k, &one)?;
         let two = sketch_in(self.heap, self.hll_type, self.beside)?;
-        Ok((union, pair_of(self.heap.inner(), one, two)?))
+        let image = Vec::from_slice(self.heap.inner(), &two.serialize()?)?;
+        Ok((union, pair_of(self.heap.inner(), one, two)?, image))
     }
 
     fn call(&self, joined: &mut Joined<'h>) -> Result<String, Fault> {
-        let (union, both) = joined;
+        let (union, both, image) = joined;
         match self.call {
             UnionCall::Agree | UnionCall::UnionOf => self.made(both.as_slice()),
             UnionCall::Update => match both.get(1) {
                 Some(two) => shown(self.heap, union.update(two)),
                 None => Err(Fault::Stack),
             },
+            UnionCall::UpdateImage => shown(self.heap, union.update_with_image(image)),
             _ => self.given(union),
         }
     }
@@ -171,7 +174,7 @@ const UNIONS: [(u8, Shape, Shape); 13] = [
 ];
 
 /// The calls, and the requests of each on these unions, for four bits, for six and for eight.
-const UNION_CALLS: [(UnionCall, [[u64; 13]; 3]); 9] = [
+const UNION_CALLS: [(UnionCall, [[u64; 13]; 3]); 10] = [
     (
         UnionCall::Clone,
         [[0, 0, 0, 0, 0, 0, 0, 1, 1, 1, 1, 1, 1]; 3],
@@ -196,6 +199,14 @@ const UNION_CALLS: [(UnionCall, [[u64; 13]; 3]); 9] = [
     (
         UnionCall::Update,
         [[0, 1, 1, 0, 0, 1, 1, 1, 1, 0, 0, 0, 1]; 3],
+    ),
+    (
+        UnionCall::UpdateImage,
+        [
+            [0, 2, 1, 0, 0, 2, 10, 10, 4, 0, 7, 9, 4],
+            [0, 2, 1, 0, 0, 2, 2, 2, 2, 0, 1, 1, 2],
+            [0, 2, 1, 0, 0, 2, 2, 2, 2, 0, 1, 1, 2],
+        ],
     ),
     (
         UnionCall::UpdateNew,

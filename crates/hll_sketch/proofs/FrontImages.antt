@@ -131,10 +131,9 @@ read_as-four b x h width payload is =
 
 -- ---- coupons
 
-pub read_as-set : (b : List ℕ) (t : Table) → HasHeader b 1 → HasSetTable b → let n = 4 + 4 * set_places (set_shape b) (drop 8 b) in IsSetPayload (set_shape b) (take n (drop 8 b)) →
-    t.lg_size ≡ table_byte b → coupons_of t ≡ set_of (set_coupons (set_shape b) (drop 8 b)) →
-    IsReadAs b (record { lg_k = lg_k_byte b; width = width_of_bits (width_bits b); content = coupons (coupons_of t) t.lg_size })
-read_as-set b t h table payload lg members =
+pub set_is_read : (b : List ℕ) → HasHeader b 1 → HasSetTable b → let n = 4 + 4 * set_places (set_shape b) (drop 8 b) in IsSetPayload (set_shape b) (take n (drop 8 b)) →
+    IsReadAs b (record { lg_k = lg_k_byte b; width = width_of_bits (width_bits b); content = coupons (set_of (set_coupons (set_shape b) (drop 8 b))) (table_byte b) })
+set_is_read b h table payload =
     let n : ℕ = 4 + 4 * set_places (set_shape b) (drop 8 b) in
     let size : length (take n (drop 8 b)) ≡ n =
     payload.size ∙ ap (λ m. 4 + 4 * m) (front_set_places (set_shape b) (take n (drop 8 b)) (drop n (drop 8 b)) (drop 8 b) (take-append-drop n (drop 8 b)) payload) in
@@ -155,30 +154,45 @@ read_as-set b t h table payload lg members =
       }) (λ i. record {
         lg_k = sym k i;
         width = width_of_bits (sym (width_is b n there) i);
-        content = coupons ((members ∙ ap set_of (sym same)) i) ((lg ∙ sym places) i);
+        content = coupons (set_of (sym same i)) (sym places i);
+      });
+    }
+
+pub read_as-set : (b : List ℕ) (t : Table) → HasHeader b 1 → HasSetTable b → let n = 4 + 4 * set_places (set_shape b) (drop 8 b) in IsSetPayload (set_shape b) (take n (drop 8 b)) →
+    t.lg_size ≡ table_byte b → coupons_of t ≡ set_of (set_coupons (set_shape b) (drop 8 b)) →
+    IsReadAs b (record { lg_k = lg_k_byte b; width = width_of_bits (width_bits b); content = coupons (coupons_of t) t.lg_size })
+read_as-set b t h table payload lg members =
+    subst (λ c. IsReadAs b (record { lg_k = lg_k_byte b; width = width_of_bits (width_bits b); content = c })) (λ i. coupons (sym members i) (sym lg i)) (set_is_read b h table payload)
+
+-- the coupons of a list are those of the front that is its image
+front_list_coupons : (b : List ℕ) → let a = take (8 + 4 * list_places (list_shape b)) b in IsListImage a → list_coupons (list_shape a) (drop 8 a) ≡ list_coupons (list_shape b) (drop 8 b)
+front_list_coupons b is =
+    let m : ℕ = 4 * list_places (list_shape b) in
+    let a : List ℕ = take (8 + m) b in
+    let shape : list_shape a ≡ list_shape b = same_list_shape a (drop (8 + m) b) b (take-append-drop (8 + m) b) is.header.whole in
+    let there : m ≤ length (drop 8 b) = omega (arith, is.payload.size, ap (λ z. list_places z) shape, ap length (drop-take 8 m b), length-take m (drop 8 b)) in
+    ap (λ z. list_coupons z (drop 8 a)) shape ∙ ap (list_coupons (list_shape b)) (drop-take 8 m b) ∙ list_coupons-front (list_shape b) (drop 8 b) there
+
+pub list_is_read : (b : List ℕ) → IsListImage (take (8 + 4 * list_places (list_shape b)) b) →
+    IsReadAs b (record { lg_k = lg_k_byte b; width = width_of_bits (width_bits b); content = coupons (set_of (list_coupons (list_shape b) (drop 8 b))) 3 })
+list_is_read b is =
+    let n : ℕ = 8 + 4 * list_places (list_shape b) in
+    let e = take-append-drop n b in
+    record {
+      size = n;
+      image = image.list is (λ i. record {
+        lg_k = sym (at (take n b) (drop n b) b e is.header.whole 3 (omega arith)) i;
+        width = width_of_bits (sym (same_width (take n b) (drop n b) b e is.header.whole) i);
+        content = coupons (set_of (sym (front_list_coupons b is) i)) 3;
       });
     }
 
 pub read_as-list : (b : List ℕ) (t : Table) → IsListImage (take (8 + 4 * list_places (list_shape b)) b) → t ≡ list_table (list_shape b) (drop 8 b) →
     IsReadAs b (record { lg_k = lg_k_byte b; width = width_of_bits (width_bits b); content = coupons (coupons_of t) t.lg_size })
 read_as-list b t is table =
-    let m : ℕ = 4 * list_places (list_shape b) in
-    let a : List ℕ = take (8 + m) b in
-    let e = take-append-drop (8 + m) b in
-    let shape : list_shape a ≡ list_shape b = same_list_shape a (drop (8 + m) b) b e is.header.whole in
-    let there : m ≤ length (drop 8 b) = omega (arith, is.payload.size, ap (λ z. list_places z) shape, ap length (drop-take 8 m b), length-take m (drop 8 b)) in
-    let same : list_coupons (list_shape a) (drop 8 a) ≡ list_coupons (list_shape b) (drop 8 b) =
-    ap (λ z. list_coupons z (drop 8 a)) shape ∙ ap (list_coupons (list_shape b)) (drop-take 8 m b) ∙ list_coupons-front (list_shape b) (drop 8 b) there in
-    let order : coupons_in t.places ≡ list_coupons (list_shape a) (drop 8 a) =
-    ap (λ (u : Table). coupons_in u.places) table ∙ coupons_in-list_table (list_shape b) (drop 8 b) (subst AreCoupons same is.payload.are_coupons) ∙ sym same in
-    record {
-      size = 8 + m;
-      image = image.list is (λ i. record {
-        lg_k = sym (at a (drop (8 + m) b) b e is.header.whole 3 (omega arith)) i;
-        width = width_of_bits (sym (same_width a (drop (8 + m) b) b e is.header.whole) i);
-        content = coupons (set_of (order i)) (ap (λ (u : Table). u.lg_size) table i);
-      });
-    }
+    let order : list_coupons (list_shape b) (drop 8 b) ≡ coupons_in t.places =
+    sym (ap (λ (u : Table). coupons_in u.places) table ∙ coupons_in-list_table (list_shape b) (drop 8 b) (subst AreCoupons (front_list_coupons b is) is.payload.are_coupons)) in
+    subst (λ c. IsReadAs b (record { lg_k = lg_k_byte b; width = width_of_bits (width_bits b); content = c })) (λ i. coupons (set_of (order i)) (ap (λ (u : Table). u.lg_size) (sym table) i)) (list_is_read b is)
 
 -- ---- the shape of registers of four bits: where the exceptions follow one another, the size of a table doesn't count
 

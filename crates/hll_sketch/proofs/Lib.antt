@@ -1,5 +1,6 @@
 mod StageRows
 pub mod Adding
+pub mod AscendingImages
 pub mod Checks
 pub mod Collecting
 pub mod Emptiness
@@ -22,6 +23,7 @@ pub mod LegalLayouts
 pub mod LegalSketches
 pub mod ListImages
 pub mod Meanings
+pub mod MergedImages
 pub mod Merges
 pub mod Promoting
 pub mod ReadBack

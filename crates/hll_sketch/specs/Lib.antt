@@ -16,6 +16,7 @@ pub mod Reference
 pub mod Refusal
 pub mod Same
 pub mod Stage
+pub mod TakenIn
 pub mod Union
 pub mod Value
 pub mod Written

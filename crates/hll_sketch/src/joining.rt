@@ -9,9 +9,11 @@ ghost use Rattle.hll_registers.specs.Store.{IsStored};
 ghost use Rattle.hll_sketch.specs.Layout.{content_in, sketch_of, width_of};
 ghost use Rattle.hll_sketch.specs.Laws.{add_in_turn};
 ghost use Rattle.hll_sketch.specs.Merging as merging;
+ghost use Rattle.hll_sketch.specs.TakenIn.{MergesImage};
 ghost use Rattle.hll_sketch.specs.Union.{IsGadget, sketch_of_registers, coupons_kept, can_hold_all, ContentNeedsMemory, MergeNeedsMemory};
 ghost use Rattle.hll_sketch.specs.Value.{IsLegal, IsLgK, coupons, in_registers, is_empty, registers};
 
+use crate::ascending::ascending_coupons;
 use crate::folding::fold_of;
 use crate::mode::Mode;
 use crate::sketch::HllSketch;
@@ -100,6 +102,26 @@ impl<A: Allocator + Clone> HllSketch<A> {
             *self = larger;
             Ok(())
         }
+    }
+
+    /// Merges an image of coupons that ascend into a gadget in registers, without a table. Whether it did; else nothing has
+    /// changed. Takes no memory.
+    pub(crate) fn merge_ascending(&mut self, bound: u8, image: &[u8]) -> bool
+        requires bound { IsLgK bound }
+        requires gadget { IsGadget bound (sketch_of self.old) }
+        ensures merged { result ≡ true → MergesImage bound (sketch_of self.old) (sketch_of self.new) image.now }
+        ensures gadget { IsGadget bound (sketch_of self.new) }
+        ensures other { result ≡ false → self.new ≡ self.old }
+    {
+        self.value_is_legal();
+        let Mode::Array8(array) = &mut self.mode else {
+            return false;
+        };
+        let Some(coupons) = ascending_coupons(image) else {
+            return false;
+        };
+        coupons.raise(array);
+        true
     }
 
     /// Adds the coupons of a table in turn.

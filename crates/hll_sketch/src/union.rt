@@ -1,5 +1,5 @@
 //! Unions of sketches (docs/MODEL.md, "Merging").
-ghost use Rattle.std.specs.Prelude.{◌≡◌, ◌≢◌, ◌≤◌, ◌⊎◌, ◌↔◌, true, false, IsTrue, All, List, map, [], ◌∷◌, ◌++◌, fold, IfOk, IfErr, OnOk, OnErr};
+ghost use Rattle.std.specs.Prelude.{◌≡◌, ◌≢◌, ◌≤◌, ◌⊎◌, ◌↔◌, true, false, IsTrue, Some, All, List, map, [], ◌∷◌, ◌++◌, fold, IfOk, IfErr, OnOk, OnErr};
 ghost use Rattle.hll_base.specs.declared.error.Reason.TheVariants.{Memory};
 ghost use Rattle.hll_base.specs.declared.error.Reason.TheVariants as reasons;
 ghost use Rattle.hll_base.specs.Hash.{hash_of, initial_state, after_piece, default_seed};
@@ -8,10 +8,12 @@ ghost use Rattle.hll_coupons.specs.Pair.{value_of, set_of};
 ghost use Rattle.hll_base.specs.declared.hll_type.HllType.TheVariants.{Hll8};
 ghost use Rattle.hll_sketch.specs.Adding.{add};
 ghost use Rattle.hll_sketch.specs.Agree.{Agree};
+ghost use Rattle.hll_sketch.specs.Checks.{first_fault};
 ghost use Rattle.hll_sketch.specs.Grown.{IsGrown};
 ghost use Rattle.hll_sketch.specs.Layout.{sketch_of, NeedsMemory};
 ghost use Rattle.hll_sketch.specs.Joined.{least_lg_k, IsJoinOf};
 ghost use Rattle.hll_sketch.specs.Merging.{merge, merge_all, empty_union};
+ghost use Rattle.hll_sketch.specs.TakenIn.{TakesIn};
 ghost use Rattle.hll_sketch.specs.Union.{gadget_of, CanTakeIn, MergeNeedsMemory};
 ghost use Rattle.hll_sketch.specs.Value.{Sketch, IsLgK, in_registers, is_empty, size_of};
 
@@ -109,6 +111,23 @@ impl<A: Allocator + Clone> HllUnion<A> {
     {
         sketch.value_is_legal();
         self.gadget.merge(self.lg_max_k, sketch)
+    }
+
+    /// Merges the sketch of an image, as `update` does. Bytes behind the image are ignored. Coupons that ascend, as those that
+    /// are written here do, go into registers without a table between.
+    ///
+    /// Fails with the reason of the first check that the bytes fail (docs/FORMAT.md, "Order of checks"), or with `Memory`, and
+    /// then changes nothing, places included. Takes memory for the sketch, and where `update` does.
+    pub fn update_with_image(&mut self, image: &[u8]) -> Result<(), Error>
+        ensures ok { OnOk result (TakesIn self.old self.new image.now) }
+        ensures unchanged { OnErr result (self.new ≡ self.old) }
+        ensures err { IfErr result (λ e. (e ≡ Memory) ⊎ (first_fault image.now ≡ Some e)) }
+    {
+        if self.gadget.merge_ascending(self.lg_max_k, image) {
+            return Ok(());
+        }
+        let alloc = self.gadget.allocator().clone()?;
+        self.update(&HllSketch::deserialize(alloc, image)?)
     }
 
     /// Adds a coupon, as to a sketch.

@@ -127,3 +127,111 @@ fn values(rt: HostRuntime) -> Result<(), Fail> {
     }
     Ok(())
 }
+
+/// A union under the bound of 10 of this many coupons.
+fn union_with(alloc: Global, count: u32) -> Result<HllUnion, Error> {
+    let mut union = HllUnion::new(alloc, 10)?;
+    merge_filled(alloc, &mut union, HllType::Hll8, (count, 10))?;
+    Ok(union)
+}
+
+/// A union, and whether an image was merged into it, or why not.
+type Merged = Result<(HllSketch, Result<(), Error>), Error>;
+
+/// Merges an image into a union of this many coupons.
+fn with_image(alloc: Global, count: u32, image: &[u8]) -> Merged {
+    let mut union = union_with(alloc, count)?;
+    let answer = union.update_with_image(image);
+    Ok((union.into_sketch(HllType::Hll8)?, answer))
+}
+
+/// Merges the sketch that an image is read as.
+fn with_sketch(alloc: Global, count: u32, image: &[u8]) -> Merged {
+    let mut union = union_with(alloc, count)?;
+    let answer = match HllSketch::deserialize(alloc, image) {
+        Ok(sketch) => union.update(&sketch),
+        Err(e) => Err(e),
+    };
+    Ok((union.into_sketch(HllType::Hll8)?, answer))
+}
+
+/// Whether an image merged, and the sketch that it is read as, give the same answer and leave the same union.
+fn merge_alike(alloc: Global, count: u32, image: &[u8]) -> Result<bool, Error> {
+    Ok(with_image(alloc, count, image)? == with_sketch(alloc, count, image)?)
+}
+
+/// The image of a sketch of this many coupons, with more bytes behind it.
+fn image_of(alloc: Global, hll_type: HllType, source: (u32, u8)) -> Result<Vec<u8>, Error> {
+    let (count, lg_k) = source;
+    let mut image = filled(alloc, lg_k, hll_type, count, 63)?.serialize()?;
+    image.extend_from_slice(&[0, 255, 7])?;
+    Ok(image)
+}
+
+/// How many bytes at the front of an image are changed, each to a few values.
+const CHANGED: usize = 28;
+
+/// Whether an image with one byte changed is merged as the sketch that it is read as, at each of its first bytes.
+fn changes_merge_alike(alloc: Global, count: u32, image: &mut [u8]) -> Result<bool, Error> {
+    let mut alike = true;
+    for place in 0..CHANGED.min(image.len()) {
+        let byte = image[place];
+        for value in [
+            0,
+            1,
+            4,
+            byte.wrapping_add(1),
+            byte.wrapping_sub(1),
+            byte ^ 8,
+            255,
+        ] {
+            image[place] = value;
+            alike = alike && merge_alike(alloc, count, image)?;
+        }
+        image[place] = byte;
+    }
+    Ok(alike)
+}
+
+/// Whether each front of an image is merged as the sketch that it is read as.
+fn fronts_merge_alike(alloc: Global, count: u32, image: &[u8]) -> Result<bool, Error> {
+    let mut alike = true;
+    for length in 0..image.len().min(100) {
+        alike = alike && merge_alike(alloc, count, &image[..length])?;
+    }
+    Ok(alike)
+}
+
+/// Images are merged as the sketches that they are read as, into nothing, a list, a set and registers: those of each stage
+/// and width, cut short, and with a byte changed, so that coupons fall, come twice or have no value.
+#[test]
+fn images(rt: HostRuntime) -> Result<(), Fail> {
+    for count in [0, 5, 30, 300] {
+        for source in [
+            (0, 10),
+            (1, 9),
+            (3, 8),
+            (7, 21),
+            (20, 8),
+            (60, 12),
+            (300, 8),
+        ] {
+            for hll_type in WIDTHS {
+                let mut image = image_of(rt.alloc(), hll_type, source)?;
+                assert!(rt;
+                    merge_alike(rt.alloc(), count, &image)?,
+                    "{count} {source:?}"
+                );
+                assert!(rt;
+                    fronts_merge_alike(rt.alloc(), count, &image)?,
+                    "{count} {source:?}"
+                );
+                assert!(rt;
+                    changes_merge_alike(rt.alloc(), count, &mut image)?,
+                    "{count} {source:?}"
+                );
+            }
+        }
+    }
+    Ok(())
+}

@@ -1,0 +1,111 @@
+-- Images of coupons that ascend.
+use Rattle.std.proofs.Common.{◌≡◌, ℕ, zero, suc, ◌+◌, ◌-◌, ◌*◌, ◌^◌, ◌<◌, ◌≤◌, ◌↔◌, true, false, ◌||◌, nat_eq, List, [], ◌∷◌, length, take, drop, get_or, All, refl, sym, ap, subst, ◌∙◌, arith}
+use Rattle.std.specs.Int.{w32, from_le_bytes}
+use Rattle.std.specs.List.{AllPairs, list_any}
+use Rattle.std.specs.Ordering.{nat_cmp}
+use Rattle.std.specs.FinSet.{len, contains, len-empty, len-insert, contains-from_list_nat}
+use Rattle.std.specs.Cmp.{nat_cmp_total}
+use Rattle.std.proofs.lemmas.Bool.{cond-false, ne_eqb}
+use Rattle.std.proofs.lemmas.List.{length-drop}
+use Rattle.std.proofs.lemmas.List.Kept.{AllPairs-from_increasing}
+use Rattle.std.specs.List.Sorted.{IsStrictlyIncreasing}
+use Rattle.hll_coupons.specs.Coupons.{words, AreCoupons}
+use Rattle.hll_coupons.specs.Pair.{set_of}
+use Rattle.hll_coupons.specs.Payload.{ListShape, SetShape, shape_of_list, shape_of_set, list_coupons, list_places, set_count, set_coupons, set_places, IsListPayload, IsSetPayload}
+use Rattle.hll_coupons.proofs.Reading.{is_list_payload}
+use Rattle.hll_coupons.proofs.SetReading.{is_set_payload}
+use Rattle.hll_sketch.specs.TakenIn.{IsOfCoupons}
+use Rattle.hll_sketch.specs.Image.{table_byte, state_byte, is_flagged, HasHeader, HasSetTable, list_shape, set_shape}
+use Rattle.hll_sketch.specs.Value.{coupons}
+use Rattle.hll_sketch.proofs.FrontImages.{list_is_read, set_is_read}
+use Rattle.hll_sketch.proofs.ListImages.{list_image}
+
+length-words : (n : ℕ) (b : List ℕ) → length (words n b) ≡ n
+length-words zero b = refl
+length-words (suc n) b = omega (arith, length-words n (drop 4 b))
+
+-- coupons in a number that isn't 0 are some
+some_coupons : (n : ℕ) (b : List ℕ) → 1 ≤ n → AreCoupons (words n b) → len (set_of (words n b)) ≡ 0 → ⊥
+some_coupons n b some are none = omega (arith, some, are.distinct, none, length-words n b)
+
+-- the words behind the header of a compact list, in the number that it says, are its coupons
+pub list_of_coupons : (b : List ℕ) (n : ℕ) → HasHeader b 0 → table_byte b ≡ 3 → n ≡ state_byte b → is_flagged 4 b ≡ false → is_flagged 8 b ≡ true →
+    1 ≤ n → n ≤ 8 → 4 * n ≤ length (drop 8 b) → AreCoupons (words n (drop 8 b)) → IsOfCoupons b (words n (drop 8 b))
+list_of_coupons b n h table count filled compact some few there are =
+    let s : ListShape = shape_of_list 3 n false true in
+    let same : s ≡ list_shape b = λ i. shape_of_list 3 (count i) (sym filled i) (sym compact i) in
+    let payload : IsListPayload s (take (4 * n) (drop 8 b)) =
+    is_list_payload s (drop 8 b) (record { low = few; flag = (λ e. absurd (cc), λ z. absurd (omega (arith, z, some))) }) there are (length-words n (drop 8 b)) in
+    let here : IsListPayload (list_shape b) (take (4 * list_places (list_shape b)) (drop 8 b)) = subst (λ z. IsListPayload z (take (4 * list_places z) (drop 8 b))) same payload in
+    record {
+      sketch = _;
+      read = list_is_read b (list_image b h table here);
+      size = 3;
+      content = λ i. coupons (set_of (list_coupons (sym same i) (drop 8 b))) 3;
+      some = some_coupons n (drop 8 b) some are;
+    }
+
+-- the words behind the count of a compact set, in that number, are its coupons
+pub set_of_coupons : (b : List ℕ) (n : ℕ) → HasHeader b 1 → HasSetTable b → 4 ≤ length (drop 8 b) → n ≡ set_count (drop 8 b) → is_flagged 8 b ≡ true →
+    1 ≤ n → n < 2 ^ table_byte b → 4 * n ≤ length (drop 4 (drop 8 b)) → AreCoupons (words n (drop 4 (drop 8 b))) → IsOfCoupons b (words n (drop 4 (drop 8 b)))
+set_of_coupons b n h table whole count compact some room there are =
+    let p : List ℕ = drop 8 b in
+    let s : SetShape = shape_of_set (table_byte b) true in
+    let same : s ≡ set_shape b = λ i. shape_of_set (table_byte b) (sym compact i) in
+    let order : words n (drop 4 p) ≡ set_coupons s p = λ i. words (count i) (drop 4 p) in
+    let behind : 4 + 4 * set_places s p ≤ length p = omega (arith, whole, count, there, length-drop 4 p) in
+    let payload : IsSetPayload s (take (4 + 4 * set_places s p) p) =
+    is_set_payload s p (record { whole = whole; low = omega (arith, count, room) }) behind (subst AreCoupons order are) (length-words (set_count p) (drop 4 p)) in
+    let here : IsSetPayload (set_shape b) (take (4 + 4 * set_places (set_shape b) p) p) = subst (λ z. IsSetPayload z (take (4 + 4 * set_places z p) p)) same payload in
+    record {
+      sketch = _;
+      read = set_is_read b h table here;
+      size = table_byte b;
+      content = λ i. coupons (set_of ((ap (λ z. set_coupons z p) (sym same) ∙ sym order) i)) (table_byte b);
+      some = some_coupons n (drop 4 p) some are;
+    }
+
+-- ---- ascending words
+
+-- a number below all of a list is none of them
+absent : (x : ℕ) (xs : List ℕ) → All (λ y. x < y) xs → list_any (λ y. nat_eq y x) xs ≡ false
+absent x [] below = refl
+absent x (y ∷ ys) below =
+    let first : x < y = below 0 0 (omega arith) in
+    ap (λ b. b || list_any (λ y. nat_eq y x) ys) (ne_eqb y x (λ same. omega (arith, same, first)))
+    ∙ absent x ys (λ i d within. below (suc i) d (omega (arith, within)))
+
+-- numbers of which each is below all later ones are distinct
+distinct : (xs : List ℕ) → AllPairs (λ x y. x < y) xs → len (set_of xs) ≡ length xs
+distinct [] pairs = len-empty nat_cmp
+distinct (x ∷ xs) pairs =
+    let new : contains (set_of xs) x ≡ false = contains-from_list_nat xs x ∙ absent x xs (λ i d within. pairs 0 (suc i) d (omega arith) (omega (arith, within))) in
+    let more : len (set_of (x ∷ xs)) ≡ len (set_of xs) + 1 = len-insert nat_cmp_total (set_of xs) x ∙ cond-false (contains (set_of xs) x) (len (set_of xs)) (len (set_of xs) + 1) new in
+    omega (arith, more, distinct xs (λ i j d less within. pairs (suc i) (suc j) d (omega (arith, less)) (omega (arith, within))))
+
+-- words that increase from the last one without a value are coupons
+pub increasing_coupons : (xs : List ℕ) → IsStrictlyIncreasing ((2 ^ 26 - 1) ∷ xs) → AreCoupons xs
+increasing_coupons xs up =
+    let pairs = AllPairs-from_increasing ((2 ^ 26 - 1) ∷ xs) up in
+    record {
+      valued = λ i d within. let above : 2 ^ 26 - 1 < get_or xs i d = pairs 0 (suc i) d (omega arith) (omega (arith, within)) in omega (arith, above);
+      distinct = distinct xs (λ i j d less within. pairs (suc i) (suc j) d (omega (arith, less)) (omega (arith, within)));
+    }
+
+-- one more word in front
+pub increasing_more : (a b : ℕ) (xs : List ℕ) → IsStrictlyIncreasing (a ∷ b ∷ xs) ↔ ((a < b) × IsStrictlyIncreasing (b ∷ xs))
+increasing_more a b xs = (λ up. (up 0 (omega arith), λ k within. behind up k within), λ parts k within. both parts k within)
+  where
+    behind : IsStrictlyIncreasing (a ∷ b ∷ xs) → IsStrictlyIncreasing (b ∷ xs)
+    behind up k within = let e : suc k + 1 ≡ suc (k + 1) = omega arith in subst (λ n. get_or (b ∷ xs) k 0 < get_or (a ∷ b ∷ xs) n 0) e (up (suc k) (omega (arith, within)))
+
+    both : (a < b) × IsStrictlyIncreasing (b ∷ xs) → IsStrictlyIncreasing (a ∷ b ∷ xs)
+    both parts zero within = parts.0
+    both parts (suc k) within = let e : suc (k + 1) ≡ suc k + 1 = omega arith in subst (λ n. get_or (b ∷ xs) k 0 < get_or (a ∷ b ∷ xs) n 0) e (parts.1 k (omega (arith, within)))
+
+-- ---- words that are left
+
+-- the first of them, and those behind it
+pub next_word : (left counter count : ℕ) (b : List ℕ) → left + counter ≡ count → counter < count → words left b ≡ from_le_bytes w32 b ∷ words (left - 1) (drop 4 b)
+next_word zero counter count b is less = absurd (omega (arith, is, less))
+next_word (suc n) counter count b is less = ap (λ m. from_le_bytes w32 b ∷ words m (drop 4 b)) (let e : n ≡ suc n - 1 = omega arith in e)

@@ -1,0 +1,11 @@
+use Rattle.std.proofs.Common.{◌≡◌, ℕ, ◌+◌, ◌*◌, ◌≤◌, length}
+use Rattle.hll_coupons.specs.Coupons.{words}
+use Rattle.hll_sketch.specs.Laws.{add_in_turn}
+use Rattle.hll_sketch.specs.Union.{sketch_of_registers}
+use Rattle.hll_sketch.proofs.ascending.Words.raise.Given as goal
+
+-- the words that are left, added to the registers so far, are all of them added
+abbrev pub invariant-loop : goal.invariant-loop
+invariant-loop g l = (left : ℕ) × (left + l.counter ≡ l.fn.self.count) × (4 * left ≤ length l.cursor)
+    × (add_in_turn (sketch_of_registers l.array) (words left l.cursor) ≡ add_in_turn (sketch_of_registers l.fn.array) (words l.fn.self.count l.fn.self.bytes.now))
+    × (l.array.lg_k ≡ l.fn.array.lg_k)

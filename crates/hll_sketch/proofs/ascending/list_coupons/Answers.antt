@@ -1,0 +1,26 @@
+use Rattle.std.proofs.Common.{◌≡◌, List, ℕ, length, drop, sym, ap, subst, ◌∙◌, arith}
+use Rattle.std.proofs.lemmas.Bool.{not-false}
+use Rattle.std.proofs.lemmas.List.{take_rest}
+use Rattle.std.proofs.lemmas.Option.{IfSome_then}
+use Rattle.hll_coupons.specs.Coupons.{words, AreCoupons}
+use Rattle.hll_sketch.specs.declared.header.Header.{Header}
+use Rattle.hll_sketch.specs.TakenIn.{IsOfCoupons}
+use Rattle.hll_sketch.proofs.AscendingImages.{list_of_coupons}
+use Rattle.hll_sketch.proofs.ascending.list_coupons.Goals as goal
+
+pub returns : goal.returns
+returns c =
+    let b : List ℕ = c.args.bytes.now in
+    let says = c.requires.header in
+    IfSome_then c.front.result c.front.ensures λ w is. λ are.
+    let place = is.0 ∙ take_rest b 8 in
+    let same : words w.count w.bytes.now ≡ words w.count (drop 8 b) = ap (words w.count) place in
+    let number = is.1 ∙ c.from-count.ensures in
+    subst (IsOfCoupons b) (sym same) (list_of_coupons b w.count c.requires.has
+    (ap (λ (h : Header). h.lg_arr) (sym says) ∙ c.if-header-ne-LG_LIST_PLACES.false)
+    (number ∙ ap (λ (h : Header). h.state_byte) says)
+    (ap (λ (h : Header). h.empty) (sym says) ∙ c.if-header.false)
+    (ap (λ (h : Header). h.compact) (sym says) ∙ not-false c.args.header.compact c.if-not-header.false)
+    (omega (arith, is.2, is.1)) (omega (arith, number, c.from-count.ensures, c.if-two_to-count.false, c.two_to.ensures))
+    (omega (arith, is.3, is.1, ap length (take_rest b 8)))
+    (subst AreCoupons same are))

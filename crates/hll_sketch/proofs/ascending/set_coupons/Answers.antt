@@ -1,0 +1,31 @@
+use Rattle.std.proofs.Common.{◌≡◌, ◌^◌, List, ℕ, length, drop, sym, ap, subst, ◌∙◌, arith}
+use Rattle.std.proofs.lemmas.Bool.{not-false}
+use Rattle.std.proofs.lemmas.List.{take_rest}
+use Rattle.std.proofs.lemmas.Option.{IfSome_then}
+use Rattle.hll_coupons.specs.Coupons.{words, AreCoupons}
+use Rattle.hll_sketch.specs.declared.header.Header.{Header}
+use Rattle.hll_coupons.specs.Payload.{set_count}
+use Rattle.hll_sketch.specs.Image.{HasSetTable}
+use Rattle.hll_sketch.specs.TakenIn.{IsOfCoupons}
+use Rattle.hll_sketch.proofs.AscendingImages.{set_of_coupons}
+use Rattle.hll_sketch.proofs.ascending.set_coupons.Goals as goal
+
+pub returns : goal.returns
+returns c =
+    let b : List ℕ = c.args.bytes.now in
+    let says = c.requires.header in
+    let size = ap (λ (h : Header). h.lg_arr) says in
+    let k = ap (λ (h : Header). h.lg_k) says in
+    let table : HasSetTable b = record { low = omega (arith, c.if-header-lt-LG_LEAST_SET_PLACES.false, size); high = omega (arith, c.if-header.false, size, k, c.requires.has.lg_k.low) } in
+    let entry = c.new-cursor.ensures ∙ take_rest b 8 in
+    let read = c.in-Ok.ensures.ok in
+    IfSome_then c.front.result c.front.ensures λ w is. λ are.
+    let place : w.bytes.now ≡ drop 4 (drop 8 b) = is.0 ∙ c.remaining.ensures ∙ read.2 ∙ ap (drop 4) entry in
+    let same : words w.count w.bytes.now ≡ words w.count (drop 4 (drop 8 b)) = ap (words w.count) place in
+    subst (IsOfCoupons b) (sym same) (set_of_coupons b w.count c.requires.has table
+    (omega (arith, read.0, ap length entry))
+    (is.1 ∙ read.1 ∙ ap set_count entry)
+    (ap (λ (h : Header). h.compact) (sym says) ∙ not-false c.args.header.compact c.if-not-header.false)
+    (omega (arith, is.2, is.1)) (omega (arith, is.1, c.two_to.ensures, ap (λ n. 2 ^ n) size))
+    (omega (arith, is.3, is.1, ap length (sym place)))
+    (subst AreCoupons same are))

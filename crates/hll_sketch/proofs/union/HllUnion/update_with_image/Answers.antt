@@ -1,0 +1,30 @@
+use Rattle.std.proofs.Common.{◌≡◌, ◌<◌, ℕ, List, refl, ap, subst, ◌∙◌, arith}
+use Rattle.std.proofs.lemmas.List.Elements.{All-from_get_or}
+use Rattle.std.proofs.lemmas.Result.{on_ok_weaker}
+use Rattle.hll_sketch.specs.Image.{AreBytes}
+use Rattle.hll_sketch.specs.Layout.{SketchLayout, sketch_of}
+use Rattle.hll_sketch.specs.TakenIn.{TakesIn}
+use Rattle.hll_sketch.specs.Union.{UnionLayout}
+use Rattle.hll_sketch.proofs.MergedImages.{read_is_legal, taken}
+use Rattle.hll_sketch.proofs.union.HllUnion.update_with_image.Goals as goal
+
+pub returns-then-merge_ascending-clause-ok : goal.returns-then-merge_ascending-clause-ok
+returns-then-merge_ascending-clause-ok g c =
+    let bound : ℕ = c.self.inside.lg_max_k in
+    let u : UnionLayout = record { lg_max_k = bound; gadget = c.self.inside.gadget } in
+    let v : UnionLayout = record { lg_max_k = bound; gadget = c.merge_ascending.new.self } in
+    subst (λ x. TakesIn x v c.args.image.now) c.self.view_is (taken u v c.args.image.now refl (c.merge_ascending.ensures.merged c.if-merge_ascending.true))
+
+pub returns-clause-ok : goal.returns-clause-ok
+returns-clause-ok g c =
+    let bound : ℕ = c.self.inside.lg_max_k in
+    let of : SketchLayout → UnionLayout = λ x. record { lg_max_k = bound; gadget = x } in
+    let b : List ℕ = c.args.image.now in
+    let same : of c.merge_ascending.new.self ≡ c.args.self.now = ap of (c.merge_ascending.ensures.other c.if-merge_ascending.false) ∙ c.self.view_is in
+    let bytes : AreBytes b = All-from_get_or (λ n. n < 256) b 0 (λ i within. omega (arith, c.type_inv.image i)) in
+    let read = c.in_ok-deserialize.ensures.ok in
+    on_ok_weaker c.update-2.result
+    (λ is. subst (λ x. TakesIn x c.update-2.new.self b) same
+    (taken (of c.merge_ascending.new.self) c.update-2.new.self b c.update-2.ensures.bound
+    (record { sketch = sketch_of c.in_ok-deserialize.field-0; read = read; legal = read_is_legal b _ bytes read; merged = is })))
+    c.update-2.ensures.ok

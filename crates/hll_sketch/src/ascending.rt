@@ -1,0 +1,130 @@
+//! Images of coupons in ascending order, as they are written. One pass over their bytes tells what they mean, without a
+//! table.
+ghost use Rattle.std.specs.Prelude.{◌≡◌, ◌*◌, ◌^◌, ◌-◌, ◌≤◌, ◌↔◌, ◌∷◌, IsTrue, IfSome, length};
+ghost use Rattle.std.specs.List.Sorted.{IsStrictlyIncreasing};
+ghost use Rattle.hll_coupons.specs.Coupons.{words, AreCoupons};
+ghost use Rattle.hll_sketch.specs.TakenIn.{IsOfCoupons};
+ghost use Rattle.hll_sketch.specs.Header.{header_of};
+ghost use Rattle.hll_sketch.specs.Image.{HasHeader};
+ghost use Rattle.hll_sketch.specs.Laws.{add_in_turn};
+ghost use Rattle.hll_sketch.specs.Union.{sketch_of_registers};
+
+use crate::header::{HEADER_SIZE, Header, Stage};
+use hll_arrays::array8::Array8;
+use hll_arrays::registers::two_to;
+use hll_base::bounds::SLOT_BITS;
+use hll_base::cursor::SketchSlice;
+use hll_coupons::coupon::Coupon;
+use hll_coupons::serialization::{
+    COUPON_SIZE_BYTES, LG_LEAST_SET_PLACES, LG_LIST_PLACES, LG_SET_BELOW_LG_K,
+};
+use std::alloc::Allocator;
+
+/// The greatest raw word without a value.
+const LAST_WITHOUT_VALUE: u32 = (1 << SLOT_BITS) - 1;
+
+/// The raw words at the front of some bytes.
+#[derive(Clone, Copy)]
+pub(crate) struct Words<'a> {
+    bytes: &'a [u8],
+    count: usize,
+    ghost there: { 4 * count ≤ length bytes.now },
+}
+
+impl<'a> Words<'a> {
+    /// So many words, if there are any, and the bytes are there.
+    fn front(bytes: &'a [u8], count: usize) -> Option<Words<'a>>
+        ensures { IfSome result (λ w. (w.bytes.now ≡ bytes.now) × (w.count ≡ count) × (1 ≤ count) × (4 * count ≤ length bytes.now)) }
+    {
+        if count == 0 || bytes.len() / COUPON_SIZE_BYTES < count {
+            return None;
+        }
+        Some(Words { bytes, count })
+    }
+
+    /// Whether each has a value, and is greater than the one before it.
+    fn ascend(&self) -> bool
+        ensures { IsTrue result ↔ IsStrictlyIncreasing ((2 ^ 26 - 1) ∷ words self.now.count self.now.bytes.now) }
+    {
+        let mut cursor = SketchSlice::new(self.bytes);
+        let mut last = LAST_WITHOUT_VALUE;
+        for _ in 0..self.count {
+            match cursor.read_u32_le() {
+                Ok(word) if last < word => last = word,
+                _ => return false,
+            }
+        }
+        true
+    }
+
+    /// Raises registers of eight bits by these coupons in turn. Takes no memory.
+    pub(crate) fn raise<A: Allocator>(&self, array: &mut Array8<A>)
+        ensures added { sketch_of_registers array.new ≡ add_in_turn (sketch_of_registers array.old) (words self.now.count self.now.bytes.now) }
+        ensures lg_k { array.new.lg_k ≡ array.old.lg_k }
+    {
+        let mut cursor = SketchSlice::new(self.bytes);
+        for _ in 0..self.count {
+            if let Ok(word) = cursor.read_u32_le() {
+                array.update(Coupon::pack(word, (word >> SLOT_BITS) as u8));
+            }
+        }
+    }
+}
+
+/// The coupons of an image of a list or a set, if it has some, is compact, and they ascend. Takes no memory.
+pub(crate) fn ascending_coupons(bytes: &[u8]) -> Option<Words<'_>>
+    ensures { IfSome result (λ w. IsOfCoupons bytes.now (words w.count w.bytes.now)) }
+{
+    let Ok(header) = Header::read(bytes) else {
+        return None;
+    };
+    let coupons = match header.stage {
+        Stage::List => list_coupons(bytes, header)?,
+        Stage::Set => set_coupons(bytes, header)?,
+        Stage::Hll => return None,
+    };
+    if coupons.ascend() {
+        Some(coupons)
+    } else {
+        None
+    }
+}
+
+/// The words behind the header of a compact list, in the number that it says. `None` where a check but that of coupons fails.
+fn list_coupons(bytes: &[u8], header: Header) -> Option<Words<'_>>
+    requires has { HasHeader bytes.now 0 }
+    requires header { header ≡ header_of bytes.now }
+    ensures { IfSome result (λ w. AreCoupons (words w.count w.bytes.now) → IsOfCoupons bytes.now (words w.count w.bytes.now)) }
+{
+    if !header.compact || header.empty || header.lg_arr != LG_LIST_PLACES {
+        return None;
+    }
+    let count = usize::from(header.state_byte);
+    if two_to(LG_LIST_PLACES) < count {
+        return None;
+    }
+    Words::front(&bytes[HEADER_SIZE..], count)
+}
+
+/// The words behind the count of a compact set, in that number. `None` where a check but that of coupons fails.
+fn set_coupons(bytes: &[u8], header: Header) -> Option<Words<'_>>
+    requires has { HasHeader bytes.now 1 }
+    requires header { header ≡ header_of bytes.now }
+    ensures { IfSome result (λ w. AreCoupons (words w.count w.bytes.now) → IsOfCoupons bytes.now (words w.count w.bytes.now)) }
+{
+    if !header.compact
+        || header.lg_arr < LG_LEAST_SET_PLACES
+        || header.lg_k - LG_SET_BELOW_LG_K < header.lg_arr
+    {
+        return None;
+    }
+    let mut cursor = SketchSlice::new(&bytes[HEADER_SIZE..]);
+    let Ok(count) = cursor.read_u32_le() else {
+        return None;
+    };
+    let count = count as usize;
+    if two_to(header.lg_arr) <= count {
+        return None;
+    }
+    Words::front(cursor.remaining(), count)
+}
