@@ -7,7 +7,7 @@ ghost use Rattle.hll_kernels.specs.Packed as packed;
 ghost use Rattle.hll_kernels.specs.Packed.{zeros};
 ghost use Rattle.hll_registers.specs.Store.{size_in_registers};
 ghost use Rattle.hll_registers.specs.Payload.{state_at, IsHll8Payload, FirstHll8Fault, Hll8Fault, hll8_bytes};
-ghost use Rattle.hll_registers.specs.State.{cleared_state};
+ghost use Rattle.hll_registers.specs.State.{cleared_state, IsState};
 ghost use Rattle.hll_base.specs.declared.hll_type.HllType.TheVariants.{Hll8};
 ghost use Rattle.hll_registers.specs.Store.{zero_registers, update_with_coupon, merge_with, IsStored};
 ghost use Rattle.hll_kernels.specs.Packed.{AreRegisters};
@@ -93,24 +93,14 @@ impl<A: Allocator> Array8<A> {
         ensures order { IfErr result (λ e. (e ≡ Memory) ⊎ FirstHll8Fault lg_config_k cursor.entry e) }
         ensures asked { IfErr result (λ e. e ≡ Memory → IsHll8Payload lg_config_k (take (32 + 2 ^ lg_config_k) cursor.entry)) }
     {
-        let size = two_to(lg_config_k);
-        let (preamble, rest) = Preamble::read(cursor, ooo)?;
-        if preamble.num_at_cur_min as usize > size || preamble.exception_count != 0 {
-            return Err(Error::new(Reason::Count));
-        }
-        let Some(registers) = rest.remaining().get(..size) else {
-            return Err(Error::new(Reason::Truncated));
-        };
-        if !are_registers(registers) {
-            return Err(Error::new(Reason::Register));
-        }
+        let (registers, state) = read_registers(cursor, lg_config_k, ooo)?;
         // not what the header says: zeros are counted when asked
         let zero_count = None;
         Ok(Array8 {
             lg_config_k,
             registers: Vec::from_slice(alloc, registers)?,
             zero_count,
-            state: preamble.state,
+            state,
         })
     }
 
@@ -425,6 +415,36 @@ impl<A: Allocator> Eq for Array8<A> {
     ghost use Rattle.hll_arrays.specs.Same.{same_stored-equivalence};
 
     ghost laws = { same_stored-equivalence };
+}
+
+/// The registers in the part of an image of eight bits that follows the header, as they stand there, and their state
+/// (docs/FORMAT.md, "HLL"). The zero count is checked against its bound, and not used.
+///
+/// `lg_config_k` is 4 to 21. Fails with `Truncated`, `Count` or `Register`. One pass; takes no memory.
+pub fn read_registers(
+    cursor: SketchSlice<'_>,
+    lg_config_k: u8,
+    ooo: bool,
+) -> Result<(&[u8], EstimateState), Error>
+    requires { lg_config_k ≤ 21 }
+    ensures ok { IfOk result (λ r. IsHll8Payload lg_config_k (take (32 + 2 ^ lg_config_k) cursor.entry)
+        × (r.0.now ≡ take (2 ^ lg_config_k) (drop 32 cursor.entry)) × (r.1 ≡ state_at ooo cursor.entry)) }
+    ensures legal { IfOk result (λ r. AreRegisters lg_config_k r.0.now × IsState r.1) }
+    ensures err { IfErr result (λ e. Hll8Fault lg_config_k cursor.entry e) }
+    ensures order { IfErr result (λ e. FirstHll8Fault lg_config_k cursor.entry e) }
+{
+    let size = two_to(lg_config_k);
+    let (preamble, rest) = Preamble::read(cursor, ooo)?;
+    if preamble.num_at_cur_min as usize > size || preamble.exception_count != 0 {
+        return Err(Error::new(Reason::Count));
+    }
+    let Some(registers) = rest.remaining().get(..size) else {
+        return Err(Error::new(Reason::Truncated));
+    };
+    if !are_registers(registers) {
+        return Err(Error::new(Reason::Register));
+    }
+    Ok((registers, preamble.state))
 }
 
 /// Whether each byte is at most 63. One pass.

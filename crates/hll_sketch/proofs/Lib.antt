@@ -1,18 +1,18 @@
 mod StageRows
+mod ImageRows
 pub mod Adding
-pub mod AscendingImages
+pub mod BorrowedCoupons
 pub mod Checks
 pub mod Collecting
 pub mod Emptiness
 pub mod FaultKinds
+pub mod Faults
 pub mod FirstFailing
 pub mod FirstFaults
-pub mod Faults
 pub mod Folds
 pub mod FrontImages
 pub mod Gadgets
 pub mod Headers
-mod ImageRows
 pub mod Images
 pub mod InPlace
 pub mod Inserting

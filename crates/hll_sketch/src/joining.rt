@@ -1,6 +1,6 @@
 //! Merging a sketch into the gadget of a union (docs/MODEL.md, "Merging"). What needs memory is made aside, and then takes
 //! the place of what was there.
-ghost use Rattle.std.specs.Prelude.{◌≡◌, ◌<◌, nat_le, true, false, IfErr, OnOk, OnErr};
+ghost use Rattle.std.specs.Prelude.{◌≡◌, ◌<◌, nat_le, true, false, IfOk, IfErr, OnOk, OnErr};
 ghost use Rattle.std.specs.FinSet.{contains, len, union};
 ghost use Rattle.hll_base.specs.declared.error.Reason.TheVariants.{Memory};
 ghost use Rattle.hll_coupons.specs.Table.{coupons_in, coupons_of};
@@ -13,7 +13,7 @@ ghost use Rattle.hll_sketch.specs.TakenIn.{MergesImage};
 ghost use Rattle.hll_sketch.specs.Union.{IsGadget, sketch_of_registers, coupons_kept, can_hold_all, ContentNeedsMemory, MergeNeedsMemory};
 ghost use Rattle.hll_sketch.specs.Value.{IsLegal, IsLgK, coupons, in_registers, is_empty, registers};
 
-use crate::ascending::ascending_coupons;
+use crate::borrowed::{ascending_coupons, eight_bit_registers};
 use crate::folding::fold_of;
 use crate::mode::Mode;
 use crate::sketch::HllSketch;
@@ -122,6 +122,30 @@ impl<A: Allocator + Clone> HllSketch<A> {
         };
         coupons.raise(array);
         true
+    }
+
+    /// Merges an image of registers of eight bits into a gadget that is not empty, without a copy of them. Whether it did; else
+    /// nothing has changed.
+    ///
+    /// Fails with `Memory`, as `merge` does, and then changes nothing.
+    pub(crate) fn merge_eight_bits(&mut self, bound: u8, image: &[u8]) -> Result<bool, Error>
+        requires bound { IsLgK bound }
+        requires gadget { IsGadget bound (sketch_of self.old) }
+        ensures merged { IfOk result (λ did. did ≡ true → MergesImage bound (sketch_of self.old) (sketch_of self.new) image.now) }
+        ensures gadget { IsGadget bound (sketch_of self.new) }
+        ensures other { IfOk result (λ did. did ≡ false → self.new ≡ self.old) }
+        ensures unchanged { OnErr result (self.new ≡ self.old) }
+        ensures err { IfErr result (λ e. e ≡ Memory) }
+    {
+        self.value_is_legal();
+        if self.is_empty() {
+            return Ok(false);
+        }
+        let Some(registers) = eight_bit_registers(image) else {
+            return Ok(false);
+        };
+        self.merge_registers(bound, &registers)?;
+        Ok(true)
     }
 
     /// Adds the coupons of a table in turn.

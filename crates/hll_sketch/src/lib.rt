@@ -1,7 +1,7 @@
 //! Sketches, their values and images, and the laws of adding and merging (docs/ARCHITECTURE.md, "Sketches").
 #![tactic(auto)]
 
-mod ascending;
+mod borrowed;
 mod folding;
 mod header;
 mod image;

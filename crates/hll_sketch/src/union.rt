@@ -114,7 +114,7 @@ impl<A: Allocator + Clone> HllUnion<A> {
     }
 
     /// Merges the sketch of an image, as `update` does. Bytes behind the image are ignored. Coupons that ascend, as those that
-    /// are written here do, go into registers without a table between.
+    /// are written here do, go into registers without a table between, and registers of eight bits without a copy.
     ///
     /// Fails with the reason of the first check that the bytes fail (docs/FORMAT.md, "Order of checks"), or with `Memory`, and
     /// then changes nothing, places included. Takes memory for the sketch, and where `update` does.
@@ -124,6 +124,9 @@ impl<A: Allocator + Clone> HllUnion<A> {
         ensures err { IfErr result (λ e. (e ≡ Memory) ⊎ (first_fault image.now ≡ Some e)) }
     {
         if self.gadget.merge_ascending(self.lg_max_k, image) {
+            return Ok(());
+        }
+        if self.gadget.merge_eight_bits(self.lg_max_k, image)? {
             return Ok(());
         }
         let alloc = self.gadget.allocator().clone()?;

@@ -8,23 +8,34 @@ use Rattle.hll_sketch.specs.Union.{UnionLayout}
 use Rattle.hll_sketch.proofs.MergedImages.{read_is_legal, taken}
 use Rattle.hll_sketch.proofs.union.HllUnion.update_with_image.Goals as goal
 
+-- a union of a bound and a gadget
+abbrev union_of : ℕ → SketchLayout → UnionLayout
+union_of bound x = record { lg_max_k = bound; gadget = x }
+
 pub returns-then-merge_ascending-clause-ok : goal.returns-then-merge_ascending-clause-ok
 returns-then-merge_ascending-clause-ok g c =
     let bound : ℕ = c.self.inside.lg_max_k in
-    let u : UnionLayout = record { lg_max_k = bound; gadget = c.self.inside.gadget } in
-    let v : UnionLayout = record { lg_max_k = bound; gadget = c.merge_ascending.new.self } in
-    subst (λ x. TakesIn x v c.args.image.now) c.self.view_is (taken u v c.args.image.now refl (c.merge_ascending.ensures.merged c.if-merge_ascending.true))
+    let v : UnionLayout = union_of bound c.merge_ascending.new.self in
+    subst (λ x. TakesIn x v c.args.image.now) c.self.view_is (taken (union_of bound c.self.inside.gadget) v c.args.image.now refl (c.merge_ascending.ensures.merged c.if-merge_ascending.true))
+
+pub returns-then-branch-clause-ok : goal.returns-then-branch-clause-ok
+returns-then-branch-clause-ok g c =
+    let bound : ℕ = c.self.inside.lg_max_k in
+    let v : UnionLayout = union_of bound c.merge_eight_bits.new.self in
+    let same : union_of bound c.merge_ascending.new.self ≡ c.args.self.now = ap (union_of bound) (c.merge_ascending.ensures.other c.if-merge_ascending.false) ∙ c.self.view_is in
+    subst (λ x. TakesIn x v c.args.image.now) same
+    (taken (union_of bound c.merge_ascending.new.self) v c.args.image.now refl (c.in_ok-merge_eight_bits.ensures.merged c.if-branch.true))
 
 pub returns-clause-ok : goal.returns-clause-ok
 returns-clause-ok g c =
     let bound : ℕ = c.self.inside.lg_max_k in
-    let of : SketchLayout → UnionLayout = λ x. record { lg_max_k = bound; gadget = x } in
     let b : List ℕ = c.args.image.now in
-    let same : of c.merge_ascending.new.self ≡ c.args.self.now = ap of (c.merge_ascending.ensures.other c.if-merge_ascending.false) ∙ c.self.view_is in
+    let kept : c.merge_eight_bits.new.self ≡ c.self.inside.gadget = c.in_ok-merge_eight_bits.ensures.other c.if-branch.false ∙ c.merge_ascending.ensures.other c.if-merge_ascending.false in
+    let same : union_of bound c.merge_eight_bits.new.self ≡ c.args.self.now = ap (union_of bound) kept ∙ c.self.view_is in
     let bytes : AreBytes b = All-from_get_or (λ n. n < 256) b 0 (λ i within. omega (arith, c.type_inv.image i)) in
     let read = c.in_ok-deserialize.ensures.ok in
     on_ok_weaker c.update-2.result
     (λ is. subst (λ x. TakesIn x c.update-2.new.self b) same
-    (taken (of c.merge_ascending.new.self) c.update-2.new.self b c.update-2.ensures.bound
+    (taken (union_of bound c.merge_eight_bits.new.self) c.update-2.new.self b c.update-2.ensures.bound
     (record { sketch = sketch_of c.in_ok-deserialize.field-0; read = read; legal = read_is_legal b _ bytes read; merged = is })))
     c.update-2.ensures.ok

@@ -2,7 +2,7 @@ use Rattle.std.proofs.Common.{◌≡◌, ℕ, ◌+◌, ◌*◌, ◌≤◌, lengt
 use Rattle.hll_coupons.specs.Coupons.{words}
 use Rattle.hll_sketch.specs.Laws.{add_in_turn}
 use Rattle.hll_sketch.specs.Union.{sketch_of_registers}
-use Rattle.hll_sketch.proofs.ascending.Words.raise.Given as goal
+use Rattle.hll_sketch.proofs.borrowed.Words.raise.Given as goal
 
 -- the words that are left, added to the registers so far, are all of them added
 abbrev pub invariant-loop : goal.invariant-loop

@@ -1,23 +1,26 @@
-//! Images of coupons in ascending order, as they are written. One pass over their bytes tells what they mean, without a
-//! table.
+//! What an image says, as it stands in its bytes: coupons in ascending order, as they are written, and registers of eight
+//! bits. One pass over the bytes tells what they mean, without a table or a copy.
 ghost use Rattle.std.specs.Prelude.{◌≡◌, ◌*◌, ◌^◌, ◌-◌, ◌≤◌, ◌↔◌, ◌∷◌, IsTrue, IfSome, length};
 ghost use Rattle.std.specs.List.Sorted.{IsStrictlyIncreasing};
 ghost use Rattle.hll_coupons.specs.Coupons.{words, AreCoupons};
-ghost use Rattle.hll_sketch.specs.TakenIn.{IsOfCoupons};
+ghost use Rattle.hll_sketch.specs.TakenIn.{IsOfCoupons, IsOfRegisters};
 ghost use Rattle.hll_sketch.specs.Header.{header_of};
 ghost use Rattle.hll_sketch.specs.Image.{HasHeader};
 ghost use Rattle.hll_sketch.specs.Laws.{add_in_turn};
 ghost use Rattle.hll_sketch.specs.Union.{sketch_of_registers};
 
 use crate::header::{HEADER_SIZE, Header, Stage};
-use hll_arrays::array8::Array8;
+use hll_arrays::array8::{Array8, read_registers};
+use hll_arrays::kernels::all_zero;
 use hll_arrays::registers::two_to;
 use hll_base::bounds::SLOT_BITS;
 use hll_base::cursor::SketchSlice;
+use hll_base::hll_type::HllType;
 use hll_coupons::coupon::Coupon;
 use hll_coupons::serialization::{
     COUPON_SIZE_BYTES, LG_LEAST_SET_PLACES, LG_LIST_PLACES, LG_SET_BELOW_LG_K,
 };
+use hll_registers::register_slice::RegisterSlice;
 use std::alloc::Allocator;
 
 /// The greatest raw word without a value.
@@ -127,4 +130,24 @@ fn set_coupons(bytes: &[u8], header: Header) -> Option<Words<'_>>
         return None;
     }
     Words::front(cursor.remaining(), count)
+}
+
+/// The registers of an image of eight bits, if any of them is not 0. Takes no memory.
+pub(crate) fn eight_bit_registers(bytes: &[u8]) -> Option<RegisterSlice<'_>>
+    ensures { IfSome result (λ r. IsOfRegisters bytes.now r.0 r.1) }
+{
+    let Ok(header) = Header::read(bytes) else {
+        return None;
+    };
+    let (Stage::Hll, HllType::Hll8) = (header.stage, header.hll_type) else {
+        return None;
+    };
+    let payload = SketchSlice::new(&bytes[HEADER_SIZE..]);
+    let Ok((registers, _)) = read_registers(payload, header.lg_k, header.out_of_order) else {
+        return None;
+    };
+    if all_zero(registers) {
+        return None;
+    }
+    Some(RegisterSlice::new(header.lg_k, registers))
 }

@@ -7,8 +7,8 @@ use Rattle.hll_sketch.specs.declared.header.Header.{Header}
 use Rattle.hll_coupons.specs.Payload.{set_count}
 use Rattle.hll_sketch.specs.Image.{HasSetTable}
 use Rattle.hll_sketch.specs.TakenIn.{IsOfCoupons}
-use Rattle.hll_sketch.proofs.AscendingImages.{set_of_coupons}
-use Rattle.hll_sketch.proofs.ascending.set_coupons.Goals as goal
+use Rattle.hll_sketch.proofs.BorrowedCoupons.{set_of_coupons}
+use Rattle.hll_sketch.proofs.borrowed.set_coupons.Goals as goal
 
 pub returns : goal.returns
 returns c =

@@ -1,10 +1,10 @@
 use Rattle.std.proofs.Common.{List, ℕ, sym, subst}
 use Rattle.hll_coupons.specs.Coupons.{words, AreCoupons}
 use Rattle.hll_sketch.specs.TakenIn.{IsOfCoupons}
-use Rattle.hll_sketch.specs.declared.ascending.Words.{Words}
-use Rattle.hll_sketch.proofs.AscendingImages.{increasing_coupons}
-use Rattle.hll_sketch.proofs.ascending.ascending_coupons.Goals as goal
-use Rattle.hll_sketch.proofs.ascending.ascending_coupons.Goals.{in-List+in_ok-coupons-in-List, in-Set+in_ok-coupons-in-Set}
+use Rattle.hll_sketch.specs.declared.borrowed.Words.{Words}
+use Rattle.hll_sketch.proofs.BorrowedCoupons.{increasing_coupons}
+use Rattle.hll_sketch.proofs.borrowed.ascending_coupons.Goals as goal
+use Rattle.hll_sketch.proofs.borrowed.ascending_coupons.Goals.{in-List+in_ok-coupons-in-List, in-Set+in_ok-coupons-in-Set}
 
 -- the image is of these words, if they are coupons
 abbrev Means : List ℕ → Words → Type 0

@@ -1,7 +1,7 @@
 use Rattle.std.proofs.Common.{◌≡◌, ℕ, ◌+◌, ◌-◌, ◌*◌, ◌^◌, ◌≤◌, ◌↔◌, ◌∷◌, length}
 use Rattle.std.specs.List.Sorted.{IsStrictlyIncreasing}
 use Rattle.hll_coupons.specs.Coupons.{words}
-use Rattle.hll_sketch.proofs.ascending.Words.ascend.Given as goal
+use Rattle.hll_sketch.proofs.borrowed.Words.ascend.Given as goal
 
 -- the words that are left increase from the last one on, if and only if all do
 abbrev pub invariant-loop : goal.invariant-loop

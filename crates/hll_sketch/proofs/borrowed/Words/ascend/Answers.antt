@@ -3,8 +3,8 @@ use Rattle.std.specs.Int.{w32, from_le_bytes}
 use Rattle.std.proofs.lemmas.List.{length-drop}
 use Rattle.std.specs.List.Sorted.{IsStrictlyIncreasing}
 use Rattle.hll_coupons.specs.Coupons.{words}
-use Rattle.hll_sketch.proofs.AscendingImages.{increasing_more, next_word}
-use Rattle.hll_sketch.proofs.ascending.Words.ascend.Goals as goal
+use Rattle.hll_sketch.proofs.BorrowedCoupons.{increasing_more, next_word}
+use Rattle.hll_sketch.proofs.borrowed.Words.ascend.Goals as goal
 
 -- the words that are left increase from the last one, if and only if the next one is greater and those behind increase from it
 more : (last left counter count word : ℕ) (cursor after : List ℕ) → left + counter ≡ count → counter < count → word ≡ from_le_bytes w32 cursor → after ≡ drop 4 cursor →

@@ -5,8 +5,8 @@ use Rattle.std.proofs.lemmas.Option.{IfSome_then}
 use Rattle.hll_coupons.specs.Coupons.{words, AreCoupons}
 use Rattle.hll_sketch.specs.declared.header.Header.{Header}
 use Rattle.hll_sketch.specs.TakenIn.{IsOfCoupons}
-use Rattle.hll_sketch.proofs.AscendingImages.{list_of_coupons}
-use Rattle.hll_sketch.proofs.ascending.list_coupons.Goals as goal
+use Rattle.hll_sketch.proofs.BorrowedCoupons.{list_of_coupons}
+use Rattle.hll_sketch.proofs.borrowed.list_coupons.Goals as goal
 
 pub returns : goal.returns
 returns c =

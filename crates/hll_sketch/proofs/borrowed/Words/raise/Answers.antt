@@ -8,10 +8,10 @@ use Rattle.hll_sketch.specs.Adding.{add}
 use Rattle.hll_sketch.specs.Laws.{add_in_turn}
 use Rattle.hll_sketch.specs.Union.{sketch_of_registers}
 use Rattle.hll_sketch.specs.Value.{Sketch}
-use Rattle.hll_sketch.proofs.AscendingImages.{next_word}
+use Rattle.hll_sketch.proofs.BorrowedCoupons.{next_word}
 use Rattle.hll_sketch.proofs.Keeping.{updated_as}
-use Rattle.hll_sketch.proofs.ascending.Words.raise.Goals as goal
-use Rattle.hll_sketch.proofs.ascending.Words.raise.Goals.{in-Ok, in_default}
+use Rattle.hll_sketch.proofs.borrowed.Words.raise.Goals as goal
+use Rattle.hll_sketch.proofs.borrowed.Words.raise.Goals.{in-Ok, in_default}
 
 pub loop-preserved : goal.loop-preserved
 loop-preserved g c =
