@@ -25,7 +25,7 @@ SOURCES = {".rt", ".antt", ".py", ".c", ".h", ".sh", ".sql", ".rs", ".edit", ".m
 # These pages speak of another library's names.
 OTHERS = {"DIFFERENCES.md", "FAULTS.md"}
 # Output, a text that isn't a command, or the check itself.
-NO_COMMANDS = ("rattle-kit", "sketches/tuesday.bin:", "./check")
+NO_COMMANDS = ("rattle-kit", "./check")
 
 
 def files_of_project():

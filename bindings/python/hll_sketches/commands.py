@@ -110,7 +110,7 @@ def rounded(number: Optional[float]) -> str:
 
 _WORDS = {
     "zero": "zero: other libraries can't estimate from it",
-    "set": "set: the sums of the registers",
+    "set": "set: other libraries estimate from them",
     "other": "those of another program",
 }
 

@@ -61,8 +61,8 @@ def flags_of(image: bytes) -> List[str]:
 def words_of(image: bytes) -> str:
     """What the estimator words of an image are.
 
-    ``"none"`` for a list or a set, ``"zero"``, ``"set"`` where they are the sums of the registers,
-    and ``"other"`` where another program put its own there.
+    ``"none"`` for a list or a set, ``"zero"``, ``"set"`` where they are the sums of 2^-v over the
+    values v of the registers, and ``"other"`` where another program put its own there.
     """
     if image[7] & 3 != 2:
         return "none"

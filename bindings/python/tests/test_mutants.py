@@ -5,11 +5,13 @@ import subprocess
 import unittest
 
 import common
-from hll_sketches import ImageError, Sketch, check
+from hll_sketches import ImageError, Sketch, check, union_of
 from mutants import KINDS, Mutants
 from plain_reader import answer, read
 
 READ_PLAINLY, BY_PROGRAM = 2500, 250
+REGISTERS = Sketch(10)
+REGISTERS.update_many(range(2000))
 
 
 def program_answer(program, image):
@@ -22,6 +24,16 @@ def program_answer(program, image):
 
 
 class MutantsTest(unittest.TestCase):
+    def compare_merged(self, image, word):
+        """A mutant is merged into registers as the sketch that it is read as, or is refused."""
+        if word == "accepted":
+            merged = union_of([REGISTERS, image]), union_of([REGISTERS, Sketch.from_bytes(image)])
+            self.assertEqual(*merged, image.hex())
+            return
+        with self.assertRaises(ImageError) as caught:
+            union_of([REGISTERS, image])
+        self.assertEqual((caught.exception.reason, caught.exception.number), (word, 1), image.hex())
+
     def test_plain_reader(self):
         words = collections.Counter()
         for number, kind in enumerate(KINDS):
@@ -38,6 +50,7 @@ class MutantsTest(unittest.TestCase):
                         Sketch.from_bytes(image)
                     error = caught.exception
                     self.assertEqual((error.reason, error.number), (word, None))
+                self.compare_merged(image, word)
         print(f"{sum(words.values())} mutants read plainly:", dict(words.most_common()))
         self.assertEqual(len(words), 12, "each answer")
 
