@@ -8,6 +8,7 @@ there. The last line is 'N passed, M failed'.
 
 Commands and plans need the library of bindings/c and the programs, which are built where they are not up to date.
 """
+import fnmatch
 import os
 import pathlib
 import re
@@ -56,7 +57,7 @@ def named_files(text):
 
 def is_there(page, name):
     """Whether a path is there, from the top or from the page's own folder; what is built needn't be."""
-    if name in MADE or "/build/" in name or "/out/" in name or name.startswith("bench/rust/target"):
+    if name in MADE or "/build/" in name + "/" or "/out/" in name or name.startswith("bench/rust/target"):
         return True
     places = (ROOT / name, page.parent / name, ROOT / "docs" / name)
     return any(place.exists() for place in places)
@@ -90,10 +91,15 @@ def words_of_sources():
     return words
 
 
+def patterns_in(text):
+    """Names in backticks in which `*` stands for the rest: those of files and folders."""
+    return {code for code in re.findall(r"`([^`\n]+)`", text) if re.fullmatch(r"[\w*]*\*[\w*]*", code)}
+
+
 def names_in(text):
     """Identifiers in backticks that look like names of code: with an underscore, `::`, or capitals inside."""
     own = set(re.findall(r"\w+", " ".join(indented_blocks(text))))
-    for code in re.findall(r"`([^`\n]+)`", text):
+    for code in set(re.findall(r"`([^`\n]+)`", text)) - patterns_in(text):
         for name in re.findall(r"[A-Za-z_][\w]*(?:::[A-Za-z_]\w*)*", code):
             if "::" in name or "_" in name.strip("_") or re.search(r"[a-z][A-Z]", name):
                 yield from set(name.split("::")) - own - KNOWN
@@ -102,6 +108,7 @@ def names_in(text):
 def check_names():
     """One test for each page: what it names is there."""
     words = words_of_sources()
+    stems = {name for path in files_of_project() for name in (path.stem, path.parent.name)}
     failed = 0
     for page in pages():
         text = page.read_text()
@@ -110,6 +117,9 @@ def check_names():
             other = page_named(page, name)
             if other and title not in titles_of(other):
                 faults.add(f'no section "{title}" in {name}')
+        for pattern in patterns_in(text):
+            if not fnmatch.filter(stems, pattern):
+                faults.add(f"no file or folder {pattern}")
         if page.name not in OTHERS:
             faults |= {f"no name {name} in the sources" for name in names_in(text) if name not in words}
         for fault in sorted(faults):
