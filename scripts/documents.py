@@ -108,7 +108,7 @@ def names_in(text):
 def check_names():
     """One test for each page: what it names is there."""
     words = words_of_sources()
-    stems = {name for path in files_of_project() for name in (path.stem, path.parent.name)}
+    stems = {name for path in files_of_project() for name in (path.stem, *path.relative_to(ROOT).parts)}
     failed = 0
     for page in pages():
         text = page.read_text()
