@@ -69,7 +69,8 @@ def folder(pg_config, name):
 
 def has_server(pg_config):
     """Whether pg_config belongs to a server, and that has its headers."""
-    return (folder(pg_config, "bindir") / "postgres").exists() and folder(pg_config, "pgxs").exists()
+    needed = folder(pg_config, "bindir") / "postgres", folder(pg_config, "pgxs"), folder(pg_config, "includedir-server") / "postgres.h"
+    return all(path.exists() for path in needed)
 
 
 def end_with_parent(number):
