@@ -56,8 +56,8 @@ def named_files(text):
 
 
 def is_there(page, name):
-    """Whether a path is there, from the top or from the page's own folder; what is built needn't be."""
-    if name in MADE or "/build/" in name + "/" or "/out/" in name or name.startswith("bench/rust/target"):
+    """Whether a path is there, from the top or from the page's own folder; what is built needn't be, nor what stands for names."""
+    if name in MADE or re.search(r"/(CRATE|NAME)\b", name) or "/build/" in name + "/" or "/out/" in name or name.startswith("bench/rust/target"):
         return True
     places = (ROOT / name, page.parent / name, ROOT / "docs" / name)
     return any(place.exists() for place in places)
