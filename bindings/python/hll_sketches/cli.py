@@ -256,7 +256,7 @@ def _carried_out(options: argparse.Namespace) -> int:
         return trouble.status
     except MemoryError:
         commands.say("memory was refused")
-        return REFUSED
+        return UNUSABLE if options.command == "diff" else REFUSED
     except ImportError as error:
         commands.say(error)
         return UNUSABLE

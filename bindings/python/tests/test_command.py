@@ -18,7 +18,7 @@ from unittest import mock
 
 import common  # noqa: F401, for the path
 from command import COMMAND, CommandTest, environment, interruptible
-from hll_sketches import Sketch, adding, check, cli, files, layout
+from hll_sketches import Sketch, _library, adding, check, cli, files, layout
 from mutants import KINDS, Mutants
 
 NAMES = "merge info estimate check fold convert diff plot new add".split()
@@ -367,6 +367,27 @@ class OneFromAnotherTest(CommandTest):
         self.write("c.hll", b"\0" * 50)
         self.fails(1, ["c.hll: image family"], "convert", "c.hll", "--width", 4, "-o", "b.hll")
         self.assertEqual(self.listed(), ["a.hll", "c.hll"])
+
+
+class MemoryTest(CommandTest):
+    def ended(self, call, *words):
+        """The status of a command while a call of the library lacks memory, and what it says."""
+        err = io.StringIO()
+        lacking = mock.patch.object(_library, call, side_effect=MemoryError)
+        with lacking, mock.patch.object(cli, "_settled"), redirect_stderr(err):
+            return cli.main(list(words)), err.getvalue()
+
+    def test_refused_memory(self):
+        a, b = (str(self.write(name, image_of(range(500)))) for name in ("a.hll", "b.hll"))
+        out = str(self.folder / "c.hll")
+        rows = [
+            ("info", ["info", a], 1), ("estimation", ["estimate", a], 1), ("union", ["merge", a, b, "-o", out], 1),
+            ("fold", ["fold", a, "--lg-k", "8", "-o", out], 1), ("convert", ["convert", a, "--width", "4", "-o", out], 1),
+            ("agree", ["diff", a, b], 2),
+        ]
+        for call, words, status in rows:
+            self.assertEqual(self.ended(call, *words), (status, "hll: memory was refused\n"), words)
+        self.assertEqual(self.listed(), ["a.hll", "b.hll"])
 
 
 class DiffTest(CommandTest):
