@@ -90,15 +90,15 @@ def histogram():
 
 # Images a second of the tables in docs/SCALE.md: one process, images in memory or in pages that are cached.
 SPEED_TITLE = "Unions of 100,000 sketches of 4,096 registers: images a second, one process"
-SPEED_NOTE = "26 November 2026; 4 virtual processors (Xeon, 2.5 GHz), all busy with other work: docs/SCALE.md"
+SPEED_NOTE = "26 November 2026; virtual processors (Xeon, 2.5 GHz): docs/SCALE.md, which has sketches of few values too"
 SPEED = (
-    ("8 bits", (("C", 1_250_000), ("Python", 787_000), ("PostgreSQL", 936_000))),
-    ("6 bits", (("C", 766_000), ("Python", 750_000), ("PostgreSQL", 651_000))),
-    ("4 bits", (("C", 646_000), ("Python", 577_000), ("PostgreSQL", 571_000))),
-    ("postgresql-hll, 5 bits", (("PostgreSQL", 98_000),)),
+    ("8 bits", (("C", 1_440_000), ("Python", 709_000), ("PostgreSQL", 1_070_000))),
+    ("6 bits", (("C", 910_000), ("Python", 651_000), ("PostgreSQL", 587_000))),
+    ("4 bits", (("C", 598_000), ("Python", 438_000), ("PostgreSQL", 531_000))),
+    ("postgresql-hll, 5 bits", (("PostgreSQL", 103_000),)),
 )
 COLORS = {"C": "#4a7db5", "Python": "#8fb56a", "PostgreSQL": "#c08a4a"}
-AXIS, SCALE = 190, 560 / 1_400_000
+AXIS, SCALE = 190, 560 / 1_600_000
 
 
 def bars(top):
