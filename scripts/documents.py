@@ -1,14 +1,22 @@
 #!/usr/bin/env python3
 # SPDX-License-Identifier: Apache-2.0
-"""Checks the documents: files and sections that they name are there, names in backticks are in the sources, the commands of
-README.md and CALLING.md run as they stand and print what these say, and the plans of docs/FAULTS.md have the answers told
-there. The last line is 'N passed, M failed'.
+"""Checks the documents, and prints 'N passed, M failed' in the end.
 
     scripts/documents.py [names] [commands] [plans]
 
+names     Files and sections that a page names are there; names in backticks are in the sources, and on the pages for
+          reviewers are declared there; a clause is one of the function that it is said of; commands name programs, parts
+          and options that there are.
+commands  The blocks of README.md and CALLING.md run as they stand, each page in a folder without a reader's files, and
+          print what these say; so do commands of docs/PLAN.md and docs/SCALE.md, by bench/scale.py where they need an
+          engine.
+plans     The plans of docs/FAULTS.md have the answers told there.
+
 Commands and plans need the library of bindings/c and the programs, which are built where they are not up to date.
+HLL_MERGE and HLL_WORDS may name programs that are built already, LIBHLL_C the archive of the library.
 """
 import fnmatch
+import functools
 import os
 import pathlib
 import re
@@ -18,6 +26,14 @@ import tempfile
 
 ROOT = pathlib.Path(__file__).resolve().parent.parent
 
+# On these pages each name in backticks is declared in a crate, but for those that are others'.
+DECLARED = {
+    "PROVED.md": {"hex"},
+    "MODEL.md": set(),
+    "SCALE.md": {"bytea", "distributed", "find", "hll", "hll_sketches", "od", "pipe", "postgres_fdw", "xxd"},
+}
+# What the command rt does.
+TOOLCHAIN = {"check", "ci", "doc", "lib", "must-fail", "plant", "run", "test", "tidy", "try", "version"}
 # A file that a reader makes, and names that are not the project's.
 MADE = {"bindings/python/hll_sketches/libhll.so"}
 KNOWN = {"as_chunks_mut", "postgres_fdw"}
@@ -25,8 +41,8 @@ SKIPPED_FOLDERS = {"out", "build", ".git", "target", "__pycache__"}
 SOURCES = {".rt", ".antt", ".py", ".c", ".h", ".sh", ".sql", ".rs", ".edit", ".map", ".control", ".toml", ".txt", ".plan", ""}
 # These pages speak of another library's names.
 OTHERS = {"DIFFERENCES.md", "FAULTS.md"}
-# Output, a text that isn't a command, or the check itself.
-NO_COMMANDS = ("rattle-kit", "./check")
+# The check itself.
+NO_COMMANDS = ("./check",)
 
 
 def files_of_project():
@@ -105,21 +121,226 @@ def names_in(text):
                 yield from set(name.split("::")) - own - KNOWN
 
 
+def faults_of_files(page, text):
+    """Files, sections and patterns that a page names, and that are not there."""
+    yield from (f"no file {name}" for name in named_files(text) if not is_there(page, name))
+    for name, title in named_sections(text):
+        other = page_named(page, name)
+        if other and title not in titles_of(other):
+            yield f'no section "{title}" in {name}'
+    stems = {name for path in files_of_project() for name in (path.stem, *path.relative_to(ROOT).parts)}
+    for pattern in patterns_in(text):
+        if not fnmatch.filter(stems, pattern):
+            yield f"no file or folder {pattern}"
+
+
+# ---- declarations
+
+
+def sources_of_crates(suffix):
+    """The texts of the crates' sources (.rt) or definitions (.antt) by their names, without comments."""
+    folder, mark = ("src", "//") if suffix == ".rt" else ("specs", "--")
+    for path in sorted((ROOT / "crates").glob(f"*/{folder}/**/*{suffix}")):
+        yield path.stem, re.sub(mark + ".*", "", path.read_text())
+
+
+@functools.lru_cache(None)
+def clauses_by_function():
+    """The names of clauses of the functions of each name."""
+    clauses = {}
+    for _, text in sources_of_crates(".rt"):
+        function = None
+        for name, clause in re.findall(r"\bfn (\w+)|\b(?:ensures|requires) (\w+) \{", text):
+            function = name or function
+            clauses.setdefault(function, set()).update([clause] if clause else [])
+    return clauses
+
+
+@functools.lru_cache(None)
+def declared_names():
+    """Names of functions, types, variants, fields, clauses, definitions, modules and crates."""
+    names = {path.name for path in (ROOT / "crates").iterdir()}.union(*clauses_by_function().values())
+    for stem, text in sources_of_crates(".rt"):
+        names.add(stem)
+        names.update(re.findall(r"\b(?:fn|struct|enum|trait|type|const|static|mod|ghost) (\w+)", text))
+        names.update(re.findall(r"^\s+(?:pub )?(\w+): ", text, re.M))
+        names.update(re.findall(r"^\s+([A-Z]\w+)(?:\(|,| =)", text, re.M))
+    for stem, text in sources_of_crates(".antt"):
+        names.add(stem)
+        names.update(re.findall(r"\b(?:data|record) (\w+)", text), re.findall(r"\((\w+) :", text))
+        for declared in re.findall(r"^\s*(?:abbrev )?(?:pub )?([\w-]+(?: [\w-]+)*) :", text, re.M):
+            names.update(declared.split())
+    return names
+
+
+@functools.lru_cache(None)
+def fields_by_record():
+    """The names of fields of the records of each name."""
+    fields = {}
+    for _, text in sources_of_crates(".antt"):
+        for name, lines in re.findall(r"\brecord (\w+).*\n((?: .*\n)+)", text):
+            fields.setdefault(name, set()).update(re.findall(r"^ +(?:pub )?(\w+) :", lines, re.M))
+    return fields
+
+
+def in_backticks(words):
+    return re.findall(r"`(\w+)`", words)
+
+
+def cited_clauses(text):
+    """Pairs of a function, or None, and a clause that is said to be its: as in `f` and `g` (clauses `a`, `b`)."""
+    several = r"((?:`[\w:]+`(?:, | and )?)+)"
+    for functions, names in re.findall(rf"{several}?(?: \(|)\bclauses? {several}", text):
+        of = [code.split("::")[-1] for code in re.findall(r"`([\w:]+)`", functions)] or [None]
+        yield from ((function, name) for function in of for name in in_backticks(names))
+
+
+def cited_laws(text):
+    """Laws that a text or a table names: clauses, or functions of one clause."""
+    for names in re.findall(r"\blaws? ((?:`\w+`(?:, | and )?)+)", text):
+        yield from in_backticks(names)
+    for rows in re.findall(r"^\| law \|.*\n\|[-|]+\|\n((?:\|.*\n)+)", text, re.M):
+        for row in rows.splitlines():
+            yield from in_backticks(row.split("|")[1])
+
+
+def cited_fields(text):
+    """Pairs of a record and a field, as in: `Record`, with `field`."""
+    for record, names in re.findall(r"`([A-Z]\w*)`, with ((?:`\w+`(?:, | and )?)+)", text):
+        yield from ((record, name) for name in in_backticks(names))
+
+
+def faults_of_declarations(page, text):
+    """Clauses, laws and fields that aren't, and on the pages for reviewers names that no crate declares."""
+    clauses = clauses_by_function()
+    every = set().union(*clauses.values())
+    laws = every.union(filter(None, clauses))
+    for function, name in cited_clauses(text):
+        if name not in (every if function is None else clauses.get(function, ())):
+            yield f"no clause {name} of {function or 'a function'}"
+    for record, name in cited_fields(text):
+        if name not in fields_by_record().get(record, (name,)):
+            yield f"no field {name} of {record}"
+    yield from (f"no law {name}" for name in cited_laws(text) if name not in laws)
+    if page.name in DECLARED:
+        for code in re.findall(r"`([A-Za-z_]\w*(?:::\w+)*)`", text):
+            for name in set(code.split("::")) - declared_names() - DECLARED[page.name]:
+                yield f"no crate declares {name}"
+
+
+# ---- commands as they stand
+
+
+def code_of(text):
+    """What stands as code: blocks, and words in backticks."""
+    yield from indented_blocks(text)
+    yield from re.findall(r"^```.*?\n(.*?)^```$", text, re.M | re.S)
+    yield from re.findall(r"`([^`\n]+)`", re.sub(r"^```.*?^```$", "", text, flags=re.M | re.S))
+
+
+def calls_of(program, code):
+    """The words behind a program's name, up to what ends its call."""
+    code = code.replace("\\\n", " ")
+    for words in re.findall(rf"(?:^|[|;&({{`\"] *|^\$ |do )(?:{program})((?: +[^\s|;&()<>`#]+)*)", code, re.M):
+        yield words.split()
+
+
+@functools.lru_cache(None)
+def parsers():
+    """The parser of each command of `hll`."""
+    sys.path.insert(0, str(ROOT / "bindings" / "python"))
+    sys.dont_write_bytecode = True
+    from hll_sketches.cli import make_parser
+
+    return make_parser()._subparsers._group_actions[0].choices
+
+
+def is_placeholder(word):
+    return re.fullmatch(r"[A-Z]+(\.\.)?", word) is not None
+
+
+def faults_of_hll(code):
+    for name, *words in filter(None, calls_of(r"hll|python3 -m hll_sketches", code)):
+        if is_placeholder(name) or name.startswith("-") or not re.fullmatch(r"[a-z]+", name):
+            continue
+        if name not in parsers():
+            yield f"no command hll {name}"
+            continue
+        for word in words:
+            if word.startswith("-") and word != "-" and word not in parsers()[name]._option_string_actions:
+                yield f"no option {word} of hll {name}"
+
+
+@functools.lru_cache(None)
+def targets_of(folder):
+    """The targets of a folder's Makefile; those of all of them where no folder is told."""
+    if folder is None:
+        return set().union(*(targets_of(path.parent) for path in files_of_project() if path.name == "Makefile"))
+    makefile = ROOT / folder / "Makefile"
+    rules = re.findall(r"^([\w .-]+):", makefile.read_text(), re.M) if makefile.exists() else []
+    return set(" ".join(rules).split())
+
+
+def faults_of_make(code):
+    for words in calls_of("make", code):
+        at = words.index("-C") if "-C" in words[:-1] else None
+        folder = None if at is None else words[at + 1]
+        words = words if at is None else words[:at] + words[at + 2 :]
+        if not targets_of(folder):
+            yield f"no Makefile in {folder}"
+        wanted = (word for word in words if not re.match(r"-|\w+=", word))
+        yield from (f"no target {word} of make in {folder}" for word in wanted if word not in targets_of(folder))
+
+
+def faults_of_python(code):
+    for name, *words in filter(None, calls_of("python3", code)):
+        script = ROOT / name
+        if name.endswith(".py") and script.exists():
+            text = script.read_text()
+            yield from (f"no option {word} of {name}" for word in words if word.startswith("--") and word not in text)
+    for module, names in re.findall(r"from (hll_sketches[\w.]*) import ([\w, ]+)", code):
+        place = ROOT / "bindings" / "python" / module.replace(".", "/")
+        source = place.with_suffix(".py") if place.with_suffix(".py").exists() else place / "__init__.py"
+        words = set(re.findall(r"\w+", source.read_text())) if source.exists() else set()
+        yield from (f"no {name} in {module}" for name in re.findall(r"\w+", names) if name not in words)
+
+
+def faults_of_others(code):
+    for words in calls_of(r"\./check", code):
+        parts = {"proofs", "bindings", "documents", *(path.parent.name for path in ROOT.glob("bindings/*/check"))}
+        yield from (f"no part {word} of ./check" for word in words if word not in parts)
+    for words in calls_of("rt", code):
+        yield from (f"no command rt {word}" for word in words[:1] if word not in TOOLCHAIN)
+    bins = re.findall(r'^name = "(\w+)"', (ROOT / "bench/rust/Cargo.toml").read_text(), re.M)
+    for name in re.findall(r"cargo run .*?--bin (\S+?)[\s)]", code + " "):
+        if name not in bins:
+            yield f"no program {name} of bench/rust"
+
+
+def faults_of_commands(text, words):
+    """What commands name, and isn't there."""
+    for code in code_of(text):
+        yield from faults_of_hll(code)
+        yield from faults_of_make(code)
+        yield from faults_of_python(code)
+        yield from faults_of_others(code)
+        yield from (f"no name {name} in the sources" for name in re.findall(r"\b(?:hll|HLL)_\w+", code) if name not in words)
+        option = re.fullmatch(r"--([a-z][\w-]*)( [A-Z]+)?", code)
+        if option and option[1] not in words:
+            yield f"no option {code} in the sources"
+
+
+# ---- names of a page
+
+
 def check_names():
     """One test for each page: what it names is there."""
     words = words_of_sources()
-    stems = {name for path in files_of_project() for name in (path.stem, *path.relative_to(ROOT).parts)}
     failed = 0
     for page in pages():
         text = page.read_text()
-        faults = {f"no file {name}" for name in named_files(text) if not is_there(page, name)}
-        for name, title in named_sections(text):
-            other = page_named(page, name)
-            if other and title not in titles_of(other):
-                faults.add(f'no section "{title}" in {name}')
-        for pattern in patterns_in(text):
-            if not fnmatch.filter(stems, pattern):
-                faults.add(f"no file or folder {pattern}")
+        faults = {*faults_of_files(page, text), *faults_of_declarations(page, text)}
+        faults.update(faults_of_commands(text, words))
         if page.name not in OTHERS:
             faults |= {f"no name {name} in the sources" for name in names_in(text) if name not in words}
         for fault in sorted(faults):
@@ -155,43 +376,56 @@ def steps_of(block):
 
 
 def make_scratch(folder):
-    """A folder that looks like the checkout, with sketches of a reader's in it."""
+    """A folder that looks like the checkout, and has the command `hll` in a folder of programs."""
+    named = {"hll_merge": os.environ.get("HLL_MERGE"), "hll_words": os.environ.get("HLL_WORDS")}
     for path in ROOT.iterdir():
         if path.name != ".git":
-            (folder / path.name).symlink_to(path)
-    (folder / "sketches").mkdir()
-    images = ROOT / "examples" / "image.plan"
-    image = bytes.fromhex(re.search(r"^image (\w+)", images.read_text(), re.M).group(1))
-    for day in ("monday", "tuesday", "wednesday"):
-        (folder / "sketches" / f"{day}.bin").write_bytes(image)
-        (folder / f"{day}.hll").write_bytes(image)
-    (folder / "sketch.bin").write_bytes(image)
-    (folder / "plan").write_bytes(images.read_bytes())
+            (folder / path.name).symlink_to(named.get(path.name) or path)
+    (folder / ".bin").mkdir()
+    hll = folder / ".bin" / "hll"
+    hll.write_text(f'#!/bin/sh\nPYTHONPATH={ROOT}/bindings/python exec {sys.executable} -B -m hll_sketches "$@"\n')
+    hll.chmod(0o755)
 
 
 def run_step(command, wanted, folder):
     """Whether a command ends well, and prints what it should."""
-    ran = subprocess.run(["bash", "-c", "set -e\n" + command], cwd=folder, capture_output=True, text=True)
+    path = os.pathsep.join([str(folder / ".bin"), os.environ["PATH"]])
+    ran = subprocess.run(
+        ["bash", "-c", "set -e -o pipefail\n" + command], cwd=folder, capture_output=True, text=True, env=dict(os.environ, PATH=path)
+    )
     is_right = ran.returncode == 0 and (wanted is None or ran.stdout.rstrip() == wanted.rstrip())
     if not is_right:
         print(f"{command}\n  status {ran.returncode}, printed:\n{ran.stdout}{ran.stderr}")
     return is_right
 
 
-def check_commands():
-    """One test for each command of the pages for users."""
-    passed = failed = 0
+def run_page(name, begin="", before=""):
+    """Runs the blocks of a page that begin so, in their order, as a reader who pastes them into a shell; whether each step is
+    right. What the page takes as given is made before."""
     with tempfile.TemporaryDirectory() as scratch:
         folder = pathlib.Path(scratch)
         make_scratch(folder)
-        for page in ("README.md", "CALLING.md"):
-            for block in indented_blocks((ROOT / page).read_text()):
-                if block.startswith(NO_COMMANDS):
-                    continue
-                for command, wanted in steps_of(block):
-                    is_right = run_step(command, wanted, folder)
-                    passed, failed = passed + is_right, failed + (not is_right)
-    return passed, failed
+        run_step(before, None, folder)
+        blocks = [block for block in indented_blocks((ROOT / name).read_text()) if block.startswith(begin)]
+        steps = [step for block in blocks if not block.startswith(NO_COMMANDS) for step in steps_of(block)]
+        return [run_step(command, wanted, folder) for command, wanted in steps]
+
+
+def run_scale():
+    """Whether each command of docs/SCALE.md does what it should: those for engines by bench/scale.py, on few files."""
+    ran = subprocess.run([sys.executable, ROOT / "bench" / "scale.py", "60"], capture_output=True, text=True)
+    counts = re.search(r"^(\d+) passed, (\d+) failed$", ran.stdout, re.M)
+    passed, failed = map(int, counts.groups()) if counts else (0, 1)
+    if ran.returncode or failed:
+        print(f"docs/SCALE.md\n{ran.stdout}{ran.stderr}")
+    return [True] * passed + [False] * failed
+
+
+def check_commands():
+    """One test for each command of the pages for users."""
+    results = run_page("README.md") + run_page("CALLING.md") + run_page("docs/PLAN.md", "./")
+    results += run_page("docs/SCALE.md", "hll ", "mkdir sketches && hll new sketches/1.hll") + run_scale()
+    return results.count(True), results.count(False)
 
 
 # ---- plans

@@ -64,15 +64,13 @@ static double excess(double zeros)
     return 0.5 + 0.58 * (1.0 - zeros) * (1.0 - zeros);
 }
 
-/* Ertl's improved estimator over the histogram of so many registers, less its excess. Each value counts half as much as
- * the one below; sigma stands for the registers of 0, tau for those of 63, which may have been more. */
+/* Ertl's improved estimator over the histogram of so many registers, not all 0, less its excess. Each value counts half
+ * as much as the one below; sigma stands for the registers of 0, tau for those of 63, which may have been more. */
 static double estimate_of_counts(const uint64_t counts[64], double registers)
 {
     double zeros = (double)counts[0] / registers;
     double sum = registers * tau(1.0 - (double)counts[63] / registers);
     int value;
-    if (counts[0] > 0 && zeros >= 1.0)
-        return 0.0;
     for (value = 62; value >= 1; value--)
         sum = 0.5 * (sum + (double)counts[value]);
     sum += registers * sigma(zeros);

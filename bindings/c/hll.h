@@ -16,6 +16,11 @@
  * of coupons: a coupon is what is kept of a value, a slot below 2^26 and a number from 1 to 63. The width changes the
  * size of an image, and nothing else that it says.
  *
+ * An image is grown where its list or set has the table that its coupons need (a list up to seven, a set the least
+ * table that they fill to at most three quarters), or where its registers have the out-of-order flag and words of 0.
+ * New images are grown, and what calls make of grown images is too; only hll_image_set_estimator_words gives words to
+ * registers. Images of other programs often aren't.
+ *
  * Answers
  *     HLL_OK (0) where the call did what was asked. On every other status the output is as it was: the buffer, *info,
  *     *histogram, *same, *estimation, and *size but where the status is HLL_BUFFER.
@@ -29,8 +34,10 @@
  *     lg_k, lg_max_k   4 to 21: the logarithm of the number of registers.
  *     width            4, 6 or 8: the bits of a register.
  *     image, len       the bytes of an image. Others may follow it within len; they are not read. Every image is
- *                      checked whole, so the bytes may come from anywhere. (An image that is chosen to be slow, of a
- *                      large set, can take seconds to read: bound the len of strangers' images.)
+ *                      checked whole, so the bytes may come from anywhere. (An image can be made to be slow: a set of
+ *                      2^18 places, of a megabyte, takes half a minute and more, four bits with exceptions at lg_k 21,
+ *                      of 4.2 megabytes, six minutes. A call can't be stopped. So test byte 3 of strangers' images,
+ *                      the lg_k, and their len before a call: at most 12 means milliseconds. docs/LIMITS.md)
  *     out, room, size  a buffer of room bytes, and where the size of the image is put. The bytes behind the image
  *                      stay as they were. HLL_IMAGE_MAX(lg_k) bytes are enough for each answer of that lg_k or less.
  *     ends, n          of n byte strings that stand one after another in the bytes before this argument: string i
@@ -40,14 +47,20 @@
  *     failed           where images are refused (1 to 11), the number of the first one that is, from 0; else it is
  *                      left as it was.
  *
- * What is written has its coupons in ascending order, so the same sketch has the same bytes.
+ * What is written has its coupons in ascending order, so the same sketch has the same bytes, but for sets in tables of
+ * two sizes.
+ *
+ * Registers that these calls make have words of 0, from which the formula of other DataSketches libraries, a division
+ * by kxq0 + kxq1, gives infinity. Set the words by hll_image_set_estimator_words before an image goes to one of them.
  *
  * What the caller owes, which no call can test
  *     - A pointer is not NULL, even where its length is 0, and leads to as many bytes (or elements) as its length says.
  *     - out, size, failed, info, histogram, same, coupons and estimation overlap nothing else that is passed. (Inputs
  *       may overlap one another: an image can be merged with itself.)
+ *     - No input changes while a call runs. An end that another thread writes meanwhile can lead past the bytes.
  *     - malloc, realloc and free belong to one allocator, and align to 16 bytes.
- *     - No call is made from a signal handler, as calls use malloc.
+ *     - No call is made from a signal handler, or from a child that a process with threads forked: calls use malloc.
+ *     - An x86 processor has the instructions of x86-64-v2; an older one ends the program by SIGILL.
  *
  * Memory
  *     A call takes memory by malloc while it runs, and gives all of it back. Reading an image takes about the bytes of
@@ -57,9 +70,11 @@
  *     Calls share nothing and keep nothing, so any number of threads may call at once, also with the same inputs.
  *
  * What is proved
- *     The calls from hll_image_info to hll_coupons are proved to answer and to write what is said here, for all inputs;
- *     what is said of memory and of threads is not. hll_estimate and what this header defines itself are plain C,
- *     tested and not proved.
+ *     Of the calls from hll_image_info to hll_coupons it is proved what they answer, write and leave as it was, for
+ *     all inputs of a caller who keeps to the above; and of unions that order, repetition and grouping of grown images
+ *     under one lg_max_k make no difference. Not proved is what is said of time, of threads, of other libraries, and of
+ *     memory, but for which images may be refused for want of it. hll_estimate and what this header defines itself are
+ *     plain C, tested and not proved.
  */
 #ifndef HLL_H
 #define HLL_H
@@ -114,7 +129,7 @@ typedef struct hll_info {
     uint64_t zeros;         /* of registers: how many are 0 */
     uint64_t units_high;    /* of registers: the sum of 2^(63 - register), a number of 128 bits: its upper half */
     uint64_t units_low;     /* and its lower half */
-    uint64_t hip;           /* of registers: the three words from which DataSketches estimates, as bits of binary64 */
+    uint64_t hip;           /* of registers: the three words from which others estimate, as bits of binary64 */
     uint64_t kxq0;
     uint64_t kxq1;
     uint8_t lg_k;           /* 4 to 21 */
@@ -157,8 +172,12 @@ hll_status hll_image_histogram(const uint8_t *image, size_t len, hll_histogram *
  * Answers HLL_OK, HLL_ARGUMENT, HLL_MEMORY or HLL_BUFFER. Takes no more memory than the image. */
 hll_status hll_image_new(uint8_t lg_k, uint8_t width, uint8_t *out, size_t room, size_t *size);
 
-/* The image with n more values: byte strings, told by their ends. A value that the sketch has already changes nothing.
- * Pass many values at once: each call reads the image and writes it.
+/* The image with n more values: byte strings, told by their ends. Pass many at once, as each call reads the image and
+ * writes it. A value that a grown image has already changes nothing. (An image of another program may be fuller, and
+ * grows then: a list of eight becomes a set; a set of more than three quarters of its places gets a larger table, or
+ * becomes registers.)
+ * The bytes are hashed as they are, as in Python, SQL, Java and C++. In Rust, and by the update of the Rattle crates, a
+ * str is hashed with a byte ff behind it: "ann" from there and "ann" from here are two values.
  * Answers HLL_OK, 1 to 11, HLL_ARGUMENT, HLL_MEMORY or HLL_BUFFER. Takes the memory of reading, and the image's. */
 hll_status hll_image_add(const uint8_t *image, size_t len, const uint8_t *values, size_t values_len,
                          const size_t *ends, size_t n, uint8_t *out, size_t room, size_t *size);
@@ -171,14 +190,18 @@ hll_status hll_image_add_coupon(const uint8_t *image, size_t len, uint32_t slot,
 /* ---- unions ---- */
 
 /* The image, at this width, of the union of two images: the sketch of all values that either of them has. Its lg_k is
- * lg_max_k, or the least one of the register images among both, where that is smaller.
+ * lg_max_k, or the least one of those in registers that aren't all 0, where that is smaller.
  * Answers HLL_OK, 1 to 11 (*failed is 0 for the left image, 1 for the right), HLL_ARGUMENT, HLL_MEMORY or HLL_BUFFER.
  * Takes the memory of reading both, 2^lg_k bytes, and the image's. */
 hll_status hll_image_merge(uint8_t lg_max_k, uint8_t width, const uint8_t *left, size_t left_len, const uint8_t *right,
                            size_t right_len, uint8_t *out, size_t room, size_t *size, size_t *failed);
 
-/* The image, at this width, of the union of n images, told by their ends. Order, repetition and grouping make no
- * difference to what it says. The union of no images is the empty sketch of lg_max_k.
+/* The image, at this width, of the union of n images, told by their ends. Its lg_k is found as for two. The union of no
+ * images is the empty sketch of lg_max_k.
+ * Where all images are grown, their order, how often each is there, and whether some were united first, under the
+ * same lg_max_k, make no difference to the bytes. Where one isn't, two such answers fold to the same registers at the
+ * smaller lg_k of both, and stage, table and words may differ: a set of 31 coupons in 32 places at lg_k 8, united once,
+ * stays a set, and united twice becomes registers.
  * Answers HLL_OK, 1 to 11 (*failed is the number of the image), HLL_ARGUMENT, HLL_MEMORY or HLL_BUFFER.
  * Takes the memory of reading one image at a time, 2^lg_k bytes, and the image's. */
 hll_status hll_images_union(uint8_t lg_max_k, uint8_t width, const uint8_t *images, size_t images_len,
@@ -196,9 +219,9 @@ hll_status hll_image_fold(const uint8_t *image, size_t len, uint8_t lg_k, uint8_
  * image's. */
 hll_status hll_image_convert(const uint8_t *image, size_t len, uint8_t width, uint8_t *out, size_t room, size_t *size);
 
-/* The image with the three words and the flag set from which a DataSketches library estimates. An image of merged
- * registers has zeros there, by which others can't estimate: call this before the image goes to them. Lists and sets
- * have no words, and come out as they are.
+/* The image with the three words and the flag set from which a DataSketches library estimates. Registers that the other
+ * calls make have zeros there, from which others estimate infinity: call this before the image goes to them. Lists and
+ * sets have no words, and come out as they are.
  * Answers HLL_OK, 1 to 11, HLL_MEMORY or HLL_BUFFER. Takes the memory of reading, and the image's. */
 hll_status hll_image_set_estimator_words(const uint8_t *image, size_t len, uint8_t *out, size_t room, size_t *size);
 
@@ -212,8 +235,8 @@ hll_status hll_images_agree(const uint8_t *left, size_t left_len, const uint8_t 
 
 /* ---- coupons ---- */
 
-/* The coupon of a value: its raw word, from the MurmurHash3 (x64, 128 bits, seed 9001) of the bytes. No bytes are a
- * value like any other. Takes no memory. */
+/* The coupon of a value: its raw word, from the MurmurHash3 (x64, 128 bits, seed 9001) of these bytes alone. No bytes
+ * are a value like any other. Takes no memory. */
 uint32_t hll_coupon(const uint8_t *value, size_t len);
 
 /* The coupons of n values, told by their ends, into room places.

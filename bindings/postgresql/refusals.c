@@ -7,6 +7,8 @@
  */
 #include "hll_pg.h"
 
+#include "miscadmin.h"
+
 /* What is wrong with an image, by the number of the reason. */
 static const char *
 detail_of(hll_status status)
@@ -97,12 +99,13 @@ start_output(Output *out, size_t room)
 	out->bytes = palloc(VARHDRSZ + room);
 }
 
-/* Whether the room was too small: then there is enough, and the call is to be made again. */
+/* Whether the room was too small: then there is enough, and the call is to be made again, unless the query is cancelled. */
 bool
 grow_output(Output *out, hll_status status)
 {
 	if (status != HLL_BUFFER)
 		return false;
+	CHECK_FOR_INTERRUPTS();
 	pfree(out->bytes);
 	start_output(out, out->size);
 	return true;

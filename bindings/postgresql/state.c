@@ -7,6 +7,17 @@
 #define BATCH_SIZE ((size_t) 8 * 1024)
 #define BATCH_COUNT 1024
 
+/*
+ * A call of the library can't be interrupted. So images that wait are joined before reading them could take more steps
+ * than these: about half a second, whoever made them.
+ */
+#define MOST_STEPS ((uint64) 1 << 29)
+
+/* The places of the largest table of a set, as a power of two. */
+#define LG_PLACES 18
+
+#define HEADER_SIZE ((size_t) 40)	/* of an image of registers */
+
 /* Registers of eight bits, and their header. A list or a set is smaller than the registers in its place. */
 #define MOST_ROOM(lg_k) (((size_t) 1 << (lg_k)) + 64)
 
@@ -44,6 +55,43 @@ batch_size(const State *state)
 	return Max(BATCH_SIZE, 2 * state->image_size);
 }
 
+/* Whether bytes begin as an image of registers, and not as a list or a set. */
+static bool
+has_registers(const uint8 *image, size_t size)
+{
+	return size >= HEADER_SIZE && (image[7] & 3) == HLL_REGISTERS;
+}
+
+/* How many coupons, or exceptions of four bits, bytes may have. Each is searched for in a table. */
+static uint64
+searched_in(const uint8 *image, size_t size)
+{
+	size_t		plain = 0;
+
+	if (has_registers(image, size))
+		plain = (image[7] & 12) != 0 ? size : HEADER_SIZE + ((size_t) 1 << Min(image[3], 21)) / 2;
+	return size > plain ? (size - plain) / 4 : 0;
+}
+
+/* How many places of a set bytes may ask for, however few they are. */
+static uint64
+places_of(const uint8 *image, size_t size)
+{
+	return size < 8 || has_registers(image, size) ? 0 : (uint64) 1 << Min(image[4], LG_PLACES);
+}
+
+/*
+ * How many steps it may take to read an image, beside its bytes. The table is made, and each search passes all that came
+ * before it, where they share one path (docs/LIMITS.md).
+ */
+static uint64
+steps_of(const uint8 *image, size_t size)
+{
+	uint64		searched = searched_in(image, size);
+
+	return places_of(image, size) + searched * searched / 2;
+}
+
 /* Makes room for so many bytes, and for one that waits. The room doubles, up to that of the image and a batch. */
 static void
 make_room(State *state, size_t size)
@@ -77,6 +125,7 @@ set_image(State *state, const uint8 *image, size_t size)
 	memcpy(state->bytes, image, size);
 	state->used = size;
 	state->image_size = size;
+	state->steps = 0;
 	state->ends[0] = size;
 	state->rows_of[0] = 0;
 }
@@ -93,13 +142,14 @@ append(State *state, const uint8 *bytes, size_t size, int64 row)
 	state->rows_of[state->n] = row;
 }
 
-/* Whether a batch with so many bytes more would be too large. */
+/* Whether a batch with so many bytes and steps more would be too large. */
 static bool
-is_full(const State *state, size_t size)
+is_full(const State *state, size_t size, uint64 steps)
 {
 	size_t		most = Max(BATCH_COUNT, state->image_size / 32);
 
-	return state->n > 0 && (state->used - state->image_size + size > batch_size(state) || (size_t) state->n >= most);
+	return state->n > 0 && (state->used - state->image_size + size > batch_size(state) || (size_t) state->n >= most ||
+							state->steps + steps > MOST_STEPS);
 }
 
 static hll_status
@@ -155,9 +205,12 @@ settle(State *state)
 void
 take_image(State *state, const uint8 *image, size_t size, int64 row)
 {
-	if (state->has_values || is_full(state, size))
+	uint64		steps = steps_of(image, size);
+
+	if (state->has_values || is_full(state, size, steps))
 		settle(state);
 	state->has_values = false;
+	state->steps += steps;
 	append(state, image, size, row);
 }
 
@@ -174,7 +227,7 @@ set_empty_image(State *state)
 void
 take_value(State *state, const uint8 *value, size_t size)
 {
-	if (!state->has_values || is_full(state, size))
+	if (!state->has_values || is_full(state, size, 0))
 		settle(state);
 	state->has_values = true;
 	if (state->image_size == 0)

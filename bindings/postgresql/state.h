@@ -2,9 +2,10 @@
 /*
  * The state of an aggregate: an image, and a batch that waits to be joined to it.
  *
- * What waits are images (hll_image_union_agg) or values (hll_image_add_agg). A batch costs one call of the library, which reads the
- * image and writes it once, so a row costs little more than reading what it brings. A batch is small, so that many
- * groups fit in memory: 8 kilobytes and 1,024 images or values, or more where the image is large.
+ * What waits are images (hll_image_union_agg) or values (hll_image_add_agg). A batch costs one call of the library,
+ * which reads the image and writes it once, so a row costs little more than reading what it brings. A batch is small, so
+ * that many groups fit in memory: 8 kilobytes and 1,024 images or values, or more where the image is large. It is smaller
+ * where its images could be slow to read, so that a query that is cancelled ends soon.
  */
 #ifndef HLL_STATE_H
 #define HLL_STATE_H
@@ -27,6 +28,7 @@ typedef struct State
 	size_t	   *ends;			/* the end of the image; then of each that waits: of images in the bytes, of values
 								 * behind the image */
 	int64	   *rows_of;		/* 0 for the image; then the row of each that waits, 0 where no row brought it */
+	uint64		steps;			/* how many it may take to read the images that wait */
 } State;
 
 extern State *new_state(MemoryContext context, uint8 lg_k, uint8 width);

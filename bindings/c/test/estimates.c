@@ -1,8 +1,27 @@
 /* SPDX-License-Identifier: Apache-2.0 */
-/* Estimates of streams whose number of values is known, and of images at the ends of what there is. */
+/* Estimates of streams whose number of values is known, of images whose numbers were computed elsewhere (expected.py),
+ * and of those that the other tests don't reach. */
 #include "test.h"
 
 #include <math.h>
+
+struct numbers {
+    double estimate, error, lower[3], upper[3];
+};
+
+struct histogram_row {
+    uint8_t lg_k;
+    struct { uint8_t value; uint32_t count; } runs[6];
+    struct numbers wanted;
+};
+
+struct coupons_row {
+    uint8_t lg_k;
+    uint32_t count;
+    struct numbers wanted;
+};
+
+#include "expected.h"
 
 static int is_near(double is, double wanted, double part)
 {
@@ -57,38 +76,108 @@ static void test_widths(void)
     free(four.at);
 }
 
-static bytes registers_image(size_t count, uint8_t value)
+/* ---- numbers that were computed elsewhere ---- */
+
+/* The same number, but for what sums in another order may differ by. */
+static int is_same(double is, double wanted)
 {
-    bytes image = with_room(40 + 16);
+    return is == wanted || is_near(is, wanted, 1e-13);
+}
+
+static void check_numbers(const bytes *image, const struct numbers *wanted, const char *what, size_t row)
+{
+    hll_estimation found;
+    int d;
+    CHECK(hll_estimate(image->at, image->len, &found) == HLL_OK, "%s %d", what, (int)row);
+    CHECK(is_same(found.estimate, wanted->estimate), "%s %d: %.17g", what, (int)row, found.estimate);
+    CHECK(is_same(found.relative_standard_error, wanted->error), "%s %d: %.17g", what, (int)row,
+          found.relative_standard_error);
+    for (d = 0; d < 3; d++) {
+        CHECK(is_same(found.lower[d], wanted->lower[d]), "%s %d: %.17g below", what, (int)row, found.lower[d]);
+        CHECK(is_same(found.upper[d], wanted->upper[d]), "%s %d: %.17g above", what, (int)row, found.upper[d]);
+    }
+}
+
+/* Registers of eight bits, in runs of one value. */
+static bytes image_of_runs(const struct histogram_row *row)
+{
+    bytes image = with_room(40 + ((size_t)1 << row->lg_k));
+    uint8_t *at = image.at + 40;
+    size_t run;
     memset(image.at, 0, image.len);
-    memcpy(image.at, "\12\1\7\4\0\20\0\12", 8);
-    memset(image.at + 40, value, count);
+    memcpy(image.at, "\12\1\7\0\0\20\0\12", 8);
+    image.at[3] = row->lg_k;
+    for (run = 0; run < 6; run++) {
+        memset(at, row->runs[run].value, row->runs[run].count);
+        at += row->runs[run].count;
+    }
     return image;
 }
 
-/* Registers that are all 0, one of 1, all of 1, all of 62, all of 63 but one of 0, and all of 63. */
-static void test_ends(void)
+static void put_word(uint8_t *at, uint32_t word)
 {
-    static const struct { size_t count; uint8_t value; double least, most; } rows[] = {
-        {16, 0, 0, 0}, {1, 1, 1, 1.1}, {16, 1, 16, 25}, {16, 62, 2e19, 9e19}, {15, 63, 100, 200},
-        {16, 63, HUGE_VAL, HUGE_VAL},
-    };
+    int byte;
+    for (byte = 0; byte < 4; byte++)
+        at[byte] = (uint8_t)(word >> (8 * byte));
+}
+
+/* A list of up to eight coupons, or a set of more in the largest table. */
+static bytes image_of_coupons(const struct coupons_row *row)
+{
+    int is_list = row->count <= 8;
+    size_t front = is_list ? 8 : 12;
+    bytes image = with_room(front + 4 * row->count);
+    uint32_t i;
+    memcpy(image.at, is_list ? "\2\1\7\0\3\10\0\10" : "\3\1\7\0\0\10\0\11", 8);
+    image.at[3] = row->lg_k;
+    if (is_list) {
+        image.at[5] = row->count == 0 ? 12 : 8;
+        image.at[6] = (uint8_t)row->count;
+    } else {
+        image.at[4] = (uint8_t)(row->lg_k - 3);
+        put_word(image.at + 8, row->count);
+    }
+    for (i = 0; i < row->count; i++)
+        put_word(image.at + front + 4 * i, UINT32_C(1) << 26 | i);
+    return image;
+}
+
+static void test_numbers(void)
+{
     size_t i;
-    for (i = 0; i < sizeof rows / sizeof rows[0]; i++) {
-        bytes image = registers_image(rows[i].count, rows[i].value);
-        hll_estimation found;
-        CHECK(hll_estimate(image.at, image.len, &found) == HLL_OK, "row %d", (int)i);
-        CHECK(rows[i].least <= found.estimate && found.estimate <= rows[i].most, "row %d: %g", (int)i, found.estimate);
-        CHECK(found.lower[2] >= (rows[i].value ? (double)rows[i].count : 0), "row %d: %g", (int)i, found.lower[2]);
-        check_order(&found, "a row");
+    for (i = 0; i < sizeof histogram_rows / sizeof histogram_rows[0]; i++) {
+        bytes image = image_of_runs(&histogram_rows[i]);
+        check_numbers(&image, &histogram_rows[i].wanted, "histogram", i);
         free(image.at);
     }
+    for (i = 0; i < sizeof coupons_rows / sizeof coupons_rows[0]; i++) {
+        bytes image = image_of_coupons(&coupons_rows[i]);
+        check_numbers(&image, &coupons_rows[i].wanted, "coupons", i);
+        free(image.at);
+    }
+}
+
+/* ---- refusals ---- */
+
+/* Bytes that are no image: the status is that of the image, and nothing is told. */
+static void test_refusals(void)
+{
+    static const uint8_t family[8] = {2, 1, 9, 12, 3, 12, 0, 8};
+    static const uint8_t twice[16] = {2, 1, 7, 12, 3, 8, 2, 8, 1, 0, 0, 4, 1, 0, 0, 4};
+    hll_estimation found, before;
+    memset(&found, 77, sizeof found);
+    before = found;
+    CHECK(hll_estimate(family, sizeof family, &found) == HLL_FAMILY, "another family");
+    CHECK(hll_estimate(family, 5, &found) == HLL_TRUNCATED, "five bytes");
+    CHECK(hll_estimate(twice, sizeof twice, &found) == HLL_COUPON, "a coupon twice");
+    CHECK(memcmp(&found, &before, sizeof found) == 0, "told of a refused image");
 }
 
 int main(void)
 {
     test_streams();
     test_widths();
-    test_ends();
+    test_numbers();
+    test_refusals();
     return finish("estimates of known streams");
 }

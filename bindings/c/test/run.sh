@@ -94,6 +94,15 @@ shown() {
     nm "$@" | sed -n 's/^[0-9a-f]* [A-TV-Za-tv-z] \([^@]*\).*$/\1/p' | grep -v '^HLL_0$' | sort
 }
 
+# The numbers that estimates are compared with are those of a computation in Python.
+test_expected() {
+    if has python3; then
+        expect 'numbers of estimates' python3 test/expected.py --check
+    else
+        skip 'numbers of estimates' python3
+    fi
+}
+
 test_names() {
     declared >"$tests/declared"
     expect 'fifteen calls are declared' test "$(wc -l <"$tests/declared")" -eq 15
@@ -206,6 +215,7 @@ try_install() {
 
 test_header
 test_names
+test_expected
 test_calls
 test_memory
 test_sanitized

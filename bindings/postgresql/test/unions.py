@@ -5,7 +5,7 @@ import random
 import re
 
 from images import random_image
-from report import GROUPS, IMAGES, SEED, all_bytes_of, bytes_of, check, equal, load, union_of
+from report import ARGUMENT, GROUPS, IMAGES, SEED, all_bytes_of, bytes_of, check, equal, load, refused, union_of
 
 SETTINGS = """
 SET max_parallel_workers_per_gather = %d;
@@ -84,6 +84,57 @@ def compare_groups(server, table, count, workers, is_hash, leads):
     equal("workers for " + name, launched(plan), workers)
     step = "HashAggregate" if is_hash else "GroupAggregate"
     check("plan for " + name, ("Partial " + step in plan) if workers else (step in plan and "Partial" not in plan), plan)
+
+
+# ---- parts of a group
+
+
+def partial(server):
+    """Each aggregate is planned for workers, and what they join is what one process does."""
+    server.ask("CREATE DATABASE partial")
+    server.ask("""CREATE EXTENSION hll_sketches_agg CASCADE;
+        CREATE TABLE rows AS SELECT x::int8 x, 'user ' || x t, hll_image_add_agg(x) image FROM generate_series(1, 20000) x GROUP BY x;
+        ALTER TABLE rows SET (parallel_workers = 3);
+        ANALYZE rows""", "partial")
+    calls = list(aggregate_calls(server, "partial"))
+    equal("aggregates", len(calls), 24)
+    for call in calls:
+        query = "SELECT md5(%s) FROM rows" % call
+        plan = server.ask(settings(3) + PLAN + query, "partial")
+        check("workers for " + call, "Partial Aggregate" in plan and launched(plan) == 3, plan)
+        answers = [server.ask(settings(workers) + query, "partial") for workers in (0, 3)]
+        equal("%s at 3 workers" % call, answers[1], answers[0])
+
+
+def aggregate_calls(server, database):
+    """A call of each aggregate of both extensions."""
+    found = server.ask("SELECT p.oid::regproc, oidvectortypes(proargtypes) FROM pg_aggregate JOIN pg_proc p ON aggfnoid = p.oid "
+                       "WHERE proname ~ '^hll_' ORDER BY p.oid", database)
+    values = {"bytea": "image", "text": "t", "bigint": "x"}
+    for line in found.split("\n"):
+        name, arguments = line.split("|")
+        first, *others = arguments.split(", ")
+        yield "%s(%s)" % (name, ", ".join([values[first], "11", "4"][:len(others) + 1]))
+
+
+def parts(server):
+    """Parts of a group that are of several sizes or widths are refused when they are joined, and of one they are joined."""
+    server.ask("""CREATE TABLE sized (lg_k int, width int, image bytea) PARTITION BY LIST (lg_k);
+        CREATE TABLE sized_10 PARTITION OF sized FOR VALUES IN (10);
+        CREATE TABLE sized_11 PARTITION OF sized FOR VALUES IN (11);
+        INSERT INTO sized SELECT 10 + x % 2, 4 + 4 * (x % 2), hll_image_add_agg(x) FROM generate_series(1, 2000) x GROUP BY x;
+        ANALYZE sized""")
+    for call in ("hll_image_union_agg(image, %s)", "hll_image_add_agg(image, %s)"):
+        for options, is_refused in (("lg_k", True), ("12, width", True), ("lg_k, width", True), ("12, 8", False)):
+            query = "SELECT md5(%s) FROM sized" % (call % options)
+            name, set_up = call % options, "SET enable_partitionwise_aggregate = on;"
+            plan = server.ask(set_up + "EXPLAIN (COSTS OFF) " + query)
+            equal("parts of " + name, plan.count("Partial Aggregate"), 2)
+            said = server.run(set_up + query + ";")
+            if is_refused:
+                refused("parts of " + name, said, ARGUMENT, "the size and the width of a sketch must be the same")
+            else:
+                equal("parts of " + name, said, server.ask(query))
 
 
 # ---- many images

@@ -1,8 +1,17 @@
 # SPDX-License-Identifier: Apache-2.0
-"""``python3 -m hll_sketches`` is the command ``hll``."""
+"""The command ``hll``, which ``python3 -m hll_sketches`` is too."""
 import sys
 
-from .cli import main
+from ._signals import end_at_once
+
+
+def main() -> int:
+    """Runs the command, and gives its status."""
+    end_at_once()
+    from . import cli
+
+    return cli.main()
+
 
 if __name__ == "__main__":
     sys.exit(main())

@@ -11,6 +11,7 @@ import textwrap
 from typing import Any, Callable, List, Optional
 
 from . import __version__, commands
+from ._signals import end_at_once
 from .files import REFUSED, STANDARD, UNUSABLE, OutputTrouble, Trouble
 
 _ABOUT = "HyperLogLog sketches in the DataSketches format: make, merge, compare and look at them."
@@ -228,6 +229,7 @@ def _chosen(parser: argparse.ArgumentParser, arguments: Optional[List[str]]) -> 
 
 def _settled() -> None:
     """Streams and signals as other commands have them."""
+    end_at_once()
     for stream in (sys.stdout, sys.stderr):
         if stream is not None:
             stream.reconfigure(errors="surrogateescape")

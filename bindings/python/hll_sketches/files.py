@@ -2,13 +2,15 @@
 """Files of images: how they are found, read and written."""
 from __future__ import annotations
 
+import errno
 import os
 import stat
 import sys
-from contextlib import suppress
+from contextlib import contextmanager, suppress
 from typing import Callable, Iterable, Iterator, Optional
 
 from . import _library
+from ._signals import ENDING, held_back
 from .layout import size_of
 
 STANDARD = "-"
@@ -205,29 +207,87 @@ def _mode_of(path: str) -> Optional[int]:
         return None
 
 
-def _beside(path: str) -> str:
-    """A name in the same folder, which walks pass over."""
-    folder, name = os.path.split(path)
-    return os.path.join(folder, f".{name[:200]}.{os.getpid()}.{os.urandom(4).hex()}")
+def _fill(place: int, data: bytes, mode: Optional[int]) -> None:
+    """Writes a file, down to the disk."""
+    if mode is not None:
+        os.fchmod(place, stat.S_IMODE(mode))
+    _write_all(place, data)
+    os.fsync(place)
 
 
-def _replace(path: str, data: bytes, mode: Optional[int]) -> None:
-    """Writes a file beside, and gives it the name once it is whole."""
-    beside = _beside(path)
-    place = os.open(beside, os.O_WRONLY | os.O_CREAT | os.O_EXCL, 0o666)
-    try:
+@contextmanager
+def _beside(path: str) -> Iterator[str]:
+    """A name in the same folder, which walks pass over. While a file has it, signals wait; at the
+    end none has it."""
+    name = f".hll-{os.getpid()}-{os.urandom(8).hex()}"
+    beside = os.path.join(os.path.dirname(path), name)
+    with held_back(*ENDING):
         try:
-            if mode is not None:
-                os.fchmod(place, stat.S_IMODE(mode))
-            _write_all(place, data)
-            os.fsync(place)
+            yield beside
+        finally:
+            with suppress(FileNotFoundError):
+                os.unlink(beside)
+
+
+def _named(place: int, name: str) -> bool:
+    """Gives a file that has none a name, by the link that the system keeps for its descriptor."""
+    try:
+        # any src_dir_fd makes os.link follow that link
+        os.link(f"/proc/self/fd/{place}", name, src_dir_fd=place, follow_symlinks=True)
+    except OSError:
+        return False
+    return True
+
+
+def _replace_by_link(path: str, data: bytes, mode: Optional[int]) -> bool:
+    """Writes a file that has no name until it is whole, so that nothing is left of one that is not.
+    False where the system can't do this."""
+    try:
+        place = os.open(os.path.dirname(path), os.O_WRONLY | os.O_TMPFILE | os.O_CLOEXEC, 0o666)
+    except (OSError, AttributeError):
+        return False
+    try:
+        _fill(place, data, mode)
+        with _beside(path) as beside:
+            if not _named(place, beside):
+                return False
+            os.replace(beside, path)
+        return True
+    finally:
+        os.close(place)
+
+
+def _replace_by_name(path: str, data: bytes, mode: Optional[int]) -> None:
+    """Writes a file under another name first. Signals wait until it is written."""
+    with _beside(path) as beside:
+        place = os.open(beside, os.O_WRONLY | os.O_CREAT | os.O_EXCL | os.O_CLOEXEC, 0o666)
+        try:
+            _fill(place, data, mode)
         finally:
             os.close(place)
         os.replace(beside, path)
-    except BaseException:
-        with suppress(FileNotFoundError):
-            os.unlink(beside)
-        raise
+
+
+def _sync_folder(folder: str) -> None:
+    """Puts the names in a folder onto the disk, where it can be read and its system does that."""
+    try:
+        place = os.open(folder, os.O_RDONLY | os.O_DIRECTORY | os.O_CLOEXEC)
+    except PermissionError:
+        return
+    try:
+        os.fsync(place)
+    except OSError as error:
+        if error.errno not in (errno.EINVAL, errno.ENOTSUP):
+            raise
+    finally:
+        os.close(place)
+
+
+def _replace(path: str, data: bytes, mode: Optional[int]) -> None:
+    """Gives a path a new file, once that is whole and on the disk."""
+    if not _replace_by_link(path, data, mode):
+        _replace_by_name(path, data, mode)
+    _sync_folder(os.path.dirname(path))
 
 
 def _write_into(path: str, data: bytes) -> None:

@@ -9,6 +9,7 @@ from __future__ import annotations
 
 import os
 import signal
+import sys
 import threading
 from collections import deque
 from itertools import islice
@@ -17,6 +18,7 @@ from typing import Tuple
 
 from . import _library
 from ._errors import ImageError
+from ._signals import held_back
 from .files import STANDARD, Trouble, bytes_of_file, image_trouble
 
 if TYPE_CHECKING:
@@ -125,7 +127,8 @@ def _groups(names: Iterable[str]) -> Iterator[Group]:
 
 
 def _end_with_parent() -> None:
-    """Ends this process once its parent is gone, however that ended."""
+    """Ends this process once its parent is gone, however that ended; also inside a call of the
+    library, which lets other threads run."""
     from multiprocessing import connection, parent_process
 
     def wait(place: int) -> None:
@@ -139,19 +142,19 @@ def _end_with_parent() -> None:
 
 def _submitted(pool: "ProcessPoolExecutor", lg_k: int, group: Group) -> "Future[Part]":
     """Hands a task over. Processes that this starts see no interrupt: it is the parent's."""
-    before = signal.pthread_sigmask(signal.SIG_BLOCK, [signal.SIGINT])
-    try:
+    with held_back(signal.SIGINT):
         return pool.submit(union_of_group, lg_k, group)
-    finally:
-        signal.pthread_sigmask(signal.SIG_SETMASK, before)
 
 
 def _over_processes(lg_k: int, groups: Iterable[Group], jobs: int) -> Parts:
     """Tasks over so many processes, in the order of their groups; few are under way at a time."""
     from concurrent.futures import ProcessPoolExecutor
     from concurrent.futures.process import BrokenProcessPool
+    from multiprocessing import get_context
 
-    pool = ProcessPoolExecutor(jobs, initializer=_end_with_parent)
+    # by fork the queues have no names in the system, which a process that is ended would leave
+    context = get_context("fork" if sys.platform == "linux" else None)
+    pool = ProcessPoolExecutor(jobs, mp_context=context, initializer=_end_with_parent)
     waiting: Deque[Future[Part]] = deque()
     try:
         for group in groups:

@@ -131,6 +131,8 @@ class Sketch:
         """Return the image: compact, with coupons in ascending order.
 
         Equal sketches have equal images, but for sets that were read in tables of two sizes.
+        Registers that were changed or merged have words of zero, from which other DataSketches
+        libraries estimate infinity: ``with_estimator_words`` sets them.
         """
         if self._pending:
             self._apply()
@@ -141,7 +143,7 @@ class Sketch:
     # ---- changes
 
     def update(self, value: Value) -> None:
-        """Count a value. One that was counted before changes nothing.
+        """Count a value. One that was counted before makes no difference.
 
         Values are kept and hashed together: once there are 4,096 of them, or a megabyte, or the
         sketch is asked for anything. So memory may be refused by the call that asks.
@@ -151,9 +153,11 @@ class Sketch:
         value : bytes, bytearray, memoryview, str, int or float
             Hashed as bytes: of ``str`` its UTF-8, of ``int`` eight bytes, little-endian (in two's
             complement if it is negative), of ``float`` its binary64, little-endian, with -0.0 as
-            0.0 and one NaN for all. The other DataSketches libraries hash the same bytes, but they
-            pass over an empty string, which is a value like any other here. So ``1``, ``1.0`` and
-            ``"1"`` are three values, and ``-1`` is the same as ``2**64 - 1``.
+            0.0 and one NaN for all. So ``1``, ``1.0`` and ``"1"`` are three values, and ``-1`` is
+            the same as ``2**64 - 1``. The DataSketches libraries for Java and C++ hash the same
+            bytes, but they pass over an empty string, which is a value like any other here. That
+            for Rust, and ``update`` of the Rattle crates, hash a ``str`` with a byte ff behind it:
+            ``"ann"`` from there is another value.
 
         Raises
         ------
@@ -208,7 +212,7 @@ class Sketch:
         """Take in the values of another sketch.
 
         This sketch keeps its width, and its ``lg_k``, unless the other is in registers of a smaller
-        ``lg_k``: then it gets that one.
+        ``lg_k`` that are not all 0: then it gets that one.
 
         Parameters
         ----------
@@ -277,7 +281,8 @@ class Sketch:
     def with_estimator_words(self: _S) -> _S:
         """Return the same sketch with the words from which other DataSketches libraries estimate.
 
-        Call it before the image goes to one of them.
+        Call it before the image goes to one of them: from the zeros that stand there else their
+        formula gives infinity. A change of the registers puts the zeros back.
         """
         return self._of(_library.set_estimator_words(self.to_bytes()))
 

@@ -41,14 +41,15 @@ def _with_images(lg_max_k: int, state: bytes, sources: Iterable[Source]) -> byte
 class Union:
     """The union of sketches: the sketch of all values that any of them has.
 
-    Order, repetition and grouping of the sketches make no difference. Any number of threads may use
-    a union at once.
+    Order and repetition of the sketches make no difference to its registers, nor does it whether
+    some of them were joined first under the same ``lg_max_k``; nor to its bytes, where all are as
+    this library makes them, without estimator words. Any number of threads may use a union at once.
 
     Parameters
     ----------
     lg_max_k : int
         The largest ``lg_k`` of the union, 4 to 21. It has that one, or the least of the sketches in
-        registers, where that is smaller.
+        registers that are not all 0, where that is smaller.
     width : int
         The bits of a register of the sketch that it gives, 4, 6 or 8.
 
@@ -148,7 +149,7 @@ def union_of(sketches: Iterable[Source], lg_max_k: int = 12, width: int = 8) -> 
         Of ``Sketch``, or of images as bytes.
     lg_max_k : int
         The largest ``lg_k`` of the union, 4 to 21. It has that one, or the least of the sketches in
-        registers, where that is smaller.
+        registers that are not all 0, where that is smaller.
     width : int
         The bits of a register of the union, 4, 6 or 8.
 

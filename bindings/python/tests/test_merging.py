@@ -7,6 +7,7 @@ import random
 import shutil
 import signal
 import subprocess
+import sys
 import time
 import unittest
 from unittest import mock
@@ -31,6 +32,7 @@ def images():
 
 
 IMAGES = images()
+LARGE = [image for image in IMAGES if image[3] == 14]
 KINDS = {(one.stage, one.width) for one in map(Sketch.from_bytes, IMAGES)}
 
 
@@ -260,21 +262,93 @@ class RefusalsTest(LaidOut):
             self.ended(running, -end)
 
 
+STAND_IN = f"""#!{sys.executable}
+import sys
+sys.dont_write_bytecode = True
+sys.path.insert(0, {str(common.ROOT / "bench")!r})
+from plain_plans import answer_of
+answer = answer_of(sys.stdin.buffer.read())
+is_refused = answer.startswith("line ")
+print(answer, file=sys.stderr if is_refused else sys.stdout)
+sys.exit(is_refused)
+"""
+"""What hll_merge does, by the plain model of plans."""
+
+
 class ScriptTest(LaidOut):
-    def test_as_the_script_answers(self):
-        """examples/merge_folder.sh gives the same file; its last step, the words, is left out."""
-        program = common.program()
-        if program is None or shutil.which("xxd") is None:
-            self.skipTest("the program hll_merge, or xxd, is not here")
-        self.lay_out()
+    """The scripts of examples/. The words, which merge_folder.sh sets at its end, are left out."""
+
+    def setUp(self):
+        super().setUp()
         shutil.copytree(common.ROOT / "examples", self.folder / "examples")
-        (self.folder / "hll_merge").symlink_to(program)
         self.write("hll_words", b"#!/bin/sh\nexec cat\n").chmod(0o755)
-        script = ["examples/merge_folder.sh", "all", "13", "6", "100"]
-        done = subprocess.run(script, cwd=self.folder, stdout=subprocess.PIPE)
-        self.assertEqual(done.returncode, 0)
+        program = common.program()
+        if program is None:
+            self.write("hll_merge", STAND_IN.encode()).chmod(0o755)
+        else:
+            (self.folder / "hll_merge").symlink_to(program)
+
+    def run_script(self, *words, given=b""):
+        """The status, and what a script writes to standard output and standard error."""
+        done = subprocess.run(
+            [f"examples/{words[0]}", *map(str, words[1:])], input=given, capture_output=True,
+            cwd=self.folder,
+        )
+        return done.returncode, done.stdout, done.stderr.decode()
+
+    def merge_folder(self, *words):
+        if shutil.which("xxd") is None:
+            self.skipTest("xxd is not here")
+        return self.run_script("merge_folder.sh", *words)
+
+    def test_merge_folder(self):
+        self.lay_out(LARGE[1:])
+        self.write("all/a name with spaces", LARGE[0])
+        wanted = union_of(LARGE, 13, 6).to_bytes()
+        for files_in_group in (7, 100):
+            self.assertEqual(self.merge_folder("all", 13, 6, files_in_group), (0, wanted, ""))
         options = ["--plain", "--lg-k", 13, "--width", 6]
-        self.assertEqual(self.succeeds("merge", "all", "-o", "-", *options), done.stdout)
+        self.assertEqual(self.succeeds("merge", "all", "-o", "-", *options), wanted)
+        self.assertEqual(self.merge_folder("all")[1], union_of(LARGE).to_bytes())
+
+    def test_merge_folder_names_a_bad_file_of_each_group(self):
+        """The first, the last and one in the midst of a group; nothing is printed then."""
+        bad = {3: b"", 8: b"no", 14: b"\2\1\3" + bytes(40), 20: IMAGES[20][:-1]}
+        names = [f"all/{number:02} x" for number in range(25)]
+        for number, name in enumerate(names):
+            self.write(name, bad.get(number, IMAGES[number]))
+        reasons = {3: "truncated", 8: "truncated", 14: "family", 20: "truncated"}
+        wanted = sorted(f"{names[number]}: image {word}\n" for number, word in reasons.items())
+        status, out, err = self.merge_folder("all", 12, 8, 5)
+        self.assertEqual((status, out, sorted(err.splitlines(True))), (1, b"", wanted))
+        status, out, err = self.merge_folder("all", 12, 8, 500)
+        self.assertEqual((status, out, err), (1, b"", f"{names[3]}: image truncated\n"))
+        os.remove(self.folder / names[3])
+        self.assertEqual(self.merge_folder("all")[2], f"{names[8]}: image truncated\n")
+
+    def test_merge_folder_of_nothing(self):
+        self.assertEqual(self.merge_folder("none")[:2], (2, b""))
+        (self.folder / "none").mkdir()
+        self.assertEqual(self.merge_folder("none"), (0, Sketch(12).to_bytes(), ""))
+
+    def test_merge_lines(self):
+        """Its answers are its own input again."""
+        lines = [f"image {image.hex()}\n".encode() for image in LARGE]
+        groups = [b"".join(lines[:13]), b"".join(lines[13:])]
+        answers = [self.run_script("merge_lines.sh", 11, 4, given=group) for group in groups]
+        self.assertEqual({(status, err) for status, _, err in answers}, {(0, "")})
+        status, out, err = self.run_script("merge_lines.sh", 11, 4, given=b"".join(
+            answer for _, answer, _ in answers
+        ))
+        wanted = f"image {union_of(LARGE, 11, 4).to_bytes().hex()}\n".encode()
+        self.assertEqual((status, out, err), (0, wanted, ""))
+        wanted = f"image {union_of(LARGE[:13]).to_bytes().hex()}\n".encode()
+        self.assertEqual(self.run_script("merge_lines.sh", given=groups[0]), (0, wanted, ""))
+
+    def test_merge_lines_refuses(self):
+        line = f"image {IMAGES[5].hex()}\n".encode()
+        found = self.run_script("merge_lines.sh", given=line + b"image 00\n" + line)
+        self.assertEqual(found, (1, b"", "line 2: image truncated\n"))
 
 
 if __name__ == "__main__":

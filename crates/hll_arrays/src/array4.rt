@@ -253,7 +253,7 @@ impl<A: Allocator + Clone> Array4<A> {
         let needed = HLL_PREAMBLE_SIZE + packed;
         let mut bytes = SketchBytes::with_capacity(self.allocator().clone()?, needed)?;
         preamble.write_header(&mut bytes, self.header(lg_config_k))?;
-        preamble.write(&mut bytes)?;
+        let bytes = preamble.write(bytes)?;
         let written = self.registers.with_written(bytes)?;
         Ok(written.into_bytes())
     }

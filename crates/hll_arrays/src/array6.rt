@@ -229,7 +229,7 @@ impl<A: Allocator + Clone> Array6<A> {
         let needed = HLL_PREAMBLE_SIZE + self.estimated_size();
         let mut bytes = SketchBytes::with_capacity(self.groups.allocator().clone()?, needed)?;
         preamble.write_header(&mut bytes, HllHeader::plain(lg_config_k, HllType::Hll6))?;
-        preamble.write(&mut bytes)?;
+        let mut bytes = preamble.write(bytes)?;
         bytes.write(self.groups.as_flattened())?;
         bytes.write(&[0])?;
         Ok(bytes.into_bytes())

@@ -316,7 +316,7 @@ impl<A: Allocator + Clone> Array8<A> {
         let needed = HLL_PREAMBLE_SIZE + self.registers.len();
         let mut bytes = SketchBytes::with_capacity(self.registers.allocator().clone()?, needed)?;
         preamble.write_header(&mut bytes, HllHeader::plain(lg_config_k, HllType::Hll8))?;
-        preamble.write(&mut bytes)?;
+        let mut bytes = preamble.write(bytes)?;
         bytes.write(&self.registers)?;
         Ok(bytes.into_bytes())
     }

@@ -10,7 +10,7 @@ use Rattle.hll_sketch.specs.Adding.{add}
 use Rattle.hll_sketch.specs.Laws.{add_in_turn}
 use Rattle.hll_sketch.specs.Merging.{merge, merge_all, empty_union}
 use Rattle.hll_sketch.specs.Union.{UnionLayout, gadget_of}
-use Rattle.hll_c.specs.Batches.{AreEndsFrom, AreEnds, strings_from, strings, AreReadAs, IsFirstFaulty}
+use Rattle.hll_c.specs.Batches.{AreEndsFrom, AreEnds, strings_from, strings, AreReadAs, IsFirstFaulty, MayAskAt}
 use Rattle.hll_sketch.specs.TakenIn.{TakesIn}
 use Rattle.hll_c.specs.Steps.{TakesInAll, IsRefusedAt, FailsToTakeIn}
 use Rattle.hll_c.specs.Answers.{RefusesImages, images_fault}
@@ -114,9 +114,10 @@ pub record TakesInRest (before now : UnionLayout) (images ends : List ℕ) (fail
   pub rest : (ys : List Sketch) → AreReadAs (strings_from start images (drop i ends)) ys
       → (xs : List Sketch) × AreReadAs (strings images ends) xs × (merge_all before.lg_max_k (gadget_of now) ys ≡ merge_all before.lg_max_k (gadget_of before) xs)
   pub faulty : (n : ℕ) (r : Reason) → IsFirstFaulty (strings_from start images (drop i ends)) n r → IsFirstFaulty (strings images ends) (i + n) r
+  pub asked : (n : ℕ) → MayAskAt (strings_from start images (drop i ends)) n → MayAskAt (strings images ends) (i + n)
 
 pub takes_none : (before : UnionLayout) (images ends : List ℕ) (failed : ℕ) → AreEnds (length images) ends → TakesInRest before before images ends failed failed 0 0
-takes_none before images ends failed are = record { are = are; bound = refl; untold = refl; rest = λ ys read. (ys, read, refl); faulty = λ n r f. subst (λ m. IsFirstFaulty (strings images ends) m r) (let none : n ≡ 0 + n = omega arith in none) f }
+takes_none before images ends failed are = record { are = are; bound = refl; untold = refl; rest = λ ys read. (ys, read, refl); faulty = λ n r f. subst (λ m. IsFirstFaulty (strings images ends) m r) (let none : n ≡ 0 + n = omega arith in none) f; asked = λ n a. subst (MayAskAt (strings images ends)) (let none : n ≡ 0 + n = omega arith in none) a }
 
 module _ (before now : UnionLayout) (images ends : List ℕ) (failed_old failed_now start i : ℕ) (left : TakesInRest before now images ends failed_old failed_now start i) where
   module _ (inside : i < length ends) where
@@ -132,11 +133,14 @@ module _ (before now : UnionLayout) (images ends : List ℕ) (failed_old failed_
       faulty = λ n r f.
           subst (λ m. IsFirstFaulty (strings images ends) m r) (let next : i + suc n ≡ i + 1 + n = omega arith in next)
           (left.faulty (suc n) r (subst (λ s. IsFirstFaulty s (suc n) r) (sym (strings_here start images ends i 0 inside)) (no_fault _ one.sketch one.read, f)));
+      asked = λ n a.
+          subst (MayAskAt (strings images ends)) (let next : i + suc n ≡ i + 1 + n = omega arith in next)
+          (left.asked (suc n) (subst (λ s. MayAskAt s (suc n)) (sym (strings_here start images ends i 0 inside)) (no_fault _ one.sketch one.read, a)));
     }
 
     pub fails_here : (failed_next : ℕ) (e : Reason) → IsRefusedAt (string_at start images (get_or ends i 0)) i failed_now failed_next e
         → FailsToTakeIn (strings images ends) failed_old failed_next e
-    fails_here failed_next e (inl m) = inl (m.0, m.1 ∙ left.untold)
+    fails_here failed_next e (inl m) = inl (m.0, m.2 ∙ left.untold, i + 0, left.asked 0 (subst (λ s. MayAskAt s 0) (sym (strings_here start images ends i 0 inside)) m.1))
     fails_here failed_next e (inr f) =
         let here : i + 0 ≡ failed_next = omega (arith, f.1) in
         inr (subst (λ n. IsFirstFaulty (strings images ends) n e) here (left.faulty 0 e (subst (λ s. IsFirstFaulty s 0 e) (sym (strings_here start images ends i 0 inside)) f.0)))
@@ -179,5 +183,5 @@ is_union k bits images fo fn gadget y are united is same = record {
 
 pub refuses_batch : (InRange : Type 0) (images : List (List ℕ)) (failed_old failed_new : ℕ) (e : Reason) → InRange → FailsToTakeIn images failed_old failed_new e
     → RefusesImages InRange images failed_old failed_new e
-refuses_batch InRange images fo fn e are (inl m) = refuses_more_memory InRange images fo fn e m.0 are m.1
+refuses_batch InRange images fo fn e are (inl m) = refuses_more_memory InRange images fo fn e m.2 m.0 are m.3 m.1
 refuses_batch InRange images fo fn e are (inr f) = images_fault are f

@@ -9,7 +9,7 @@ use Rattle.hll_sketch.specs.Image.{IsReadAs}
 use Rattle.hll_sketch.specs.Value.{Sketch, IsLgK}
 use Rattle.hll_sketch.proofs.FirstFaults.{faultless_is_image}
 use Rattle.hll_c.specs.Answers.{RefusesArguments, argument, memory, RefusesImage, image_fault, image_memory, RefusesWith, argument_with_image, image_refused, RefusesImages, argument_with_images, images_fault, images_memory}
-use Rattle.hll_c.specs.Batches.{IsFirstFaulty, strings}
+use Rattle.hll_c.specs.Batches.{AreReadAs, IsFirstFaulty, MayAskAt, strings}
 use Rattle.hll_c.specs.Calls.{AreNewArguments, IsEmptyAt, IsMadeOf, IsFoldOf, RefusesFold, above, with, AreUnionArguments, IsUnionOf, AreBatchArguments, IsUnionOfBatch}
 use Rattle.hll_c.specs.Steps.{IsRefusedAt}
 
@@ -67,23 +67,29 @@ refuses_fold image x k e is read (inr m) outside = with (image_refused is (refus
 
 -- ---- several images
 
+-- behind images that were read memory may be asked for
+pub asked_behind : (images : List (List ℕ)) (xs : List Sketch) → AreReadAs images xs → MayAskAt images (length images)
+asked_behind [] xs read = tt
+asked_behind (image ∷ images) [] read = absurd read
+asked_behind (image ∷ images) (x ∷ xs) read = (no_fault image x read.0, asked_behind images xs read.1)
+
 module _ (InRange : Type 0) (images : List (List ℕ)) (failed_old failed_new : ℕ) (e : Reason) where
   pub refuses_arguments : e ≡ Argument → (InRange → ⊥) → failed_new ≡ failed_old → RefusesImages InRange images failed_old failed_new e
   refuses_arguments is not same = subst (RefusesImages InRange images failed_old failed_new) (sym is) (argument_with_images not same)
 
-  pub refuses_more_memory : e ≡ Memory → InRange → failed_new ≡ failed_old → RefusesImages InRange images failed_old failed_new e
-  refuses_more_memory is are same = subst (RefusesImages InRange images failed_old failed_new) (sym is) (images_memory are same)
+  pub refuses_more_memory : (n : ℕ) → e ≡ Memory → InRange → MayAskAt images n → failed_new ≡ failed_old → RefusesImages InRange images failed_old failed_new e
+  refuses_more_memory n is are asked same = subst (RefusesImages InRange images failed_old failed_new) (sym is) (images_memory n are asked same)
 
   -- the first image is refused
   pub refuses_first : (image : List ℕ) (more : List (List ℕ)) → images ≡ image ∷ more → InRange → IsRefusedAt image 0 failed_old failed_new e
       → RefusesImages InRange images failed_old failed_new e
-  refuses_first image more is are (inl m) = refuses_more_memory m.0 are m.1
+  refuses_first image more is are (inl m) = refuses_more_memory 0 m.0 are (subst (λ xs. MayAskAt xs 0) (sym is) m.1) m.2
   refuses_first image more is are (inr f) = images_fault are (subst (λ xs. IsFirstFaulty xs failed_new e) (sym is) (subst (λ n. IsFirstFaulty (image ∷ more) n e) (sym f.1) f.0))
 
   -- the second one is
   pub refuses_second : (image next : List ℕ) (x : Sketch) (failed : ℕ) → images ≡ image ∷ next ∷ [] → InRange → IsReadAs image x → failed ≡ failed_old → IsRefusedAt next 1 failed failed_new e
       → RefusesImages InRange images failed_old failed_new e
-  refuses_second image next x failed is are read same (inl m) = refuses_more_memory m.0 are (m.1 ∙ same)
+  refuses_second image next x failed is are read same (inl m) = refuses_more_memory 1 m.0 are (subst (λ xs. MayAskAt xs 1) (sym is) (no_fault image x read, m.1)) (m.2 ∙ same)
   refuses_second image next x failed is are read same (inr f) =
       images_fault are (subst (λ xs. IsFirstFaulty xs failed_new e) (sym is) (subst (λ n. IsFirstFaulty (image ∷ next ∷ []) n e) (sym f.1) (no_fault image x read, f.0)))
 
@@ -104,8 +110,9 @@ no_memory_to_fold image k y made = with (no_memory_with image (IsFoldOf k) y mad
 
 pub no_memory_to_unite : (k bits : ℕ) (images : List (List ℕ)) (failed_old failed_new : ℕ) (y : Sketch) → IsUnionOf k bits images failed_old failed_new y
     → RefusesImages (AreUnionArguments k bits) images failed_old failed_new Memory
-no_memory_to_unite k bits images fo fn y made = images_memory made.arguments made.untold
+no_memory_to_unite k bits images fo fn y made = images_memory (length images) made.arguments (asked_behind images made.sketches made.read) made.untold
 
 pub no_memory_to_unite_batch : (k bits : ℕ) (images ends : List ℕ) (failed_old failed_new : ℕ) (y : Sketch) → IsUnionOfBatch k bits images ends failed_old failed_new y
     → RefusesImages (AreBatchArguments k bits (length images) ends) (strings images ends) failed_old failed_new Memory
-no_memory_to_unite_batch k bits images ends fo fn y made = images_memory (record { union = made.is.arguments; are = made.are }) made.is.untold
+no_memory_to_unite_batch k bits images ends fo fn y made =
+    images_memory (length (strings images ends)) (record { union = made.is.arguments; are = made.are }) (asked_behind (strings images ends) made.is.sketches made.is.read) made.is.untold

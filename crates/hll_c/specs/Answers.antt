@@ -6,7 +6,7 @@ use Rattle.hll_base.specs.declared.error.Reason.TheVariants.{Argument, Memory}
 use Rattle.hll_sketch.specs.Checks.{first_fault, size_fault}
 use Rattle.hll_sketch.specs.Value.{Sketch}
 use Rattle.hll_sketch.specs.Written.{Written}
-use Rattle.hll_c.specs.Batches.{IsFirstFaulty}
+use Rattle.hll_c.specs.Batches.{IsFirstFaulty, MayAskAt}
 
 -- the code of a call that did what was asked
 abbrev pub ok_code : ℕ
@@ -53,8 +53,9 @@ pub data RefusesWith (InRange : Type 0) (image : List ℕ) : Reason → Type 0 w
   argument_with_image : (InRange → ⊥) → RefusesWith InRange image Argument
   image_refused : {r : Reason} → InRange → RefusesImage image r → RefusesWith InRange image r
 
--- the same of several images: the number of the first that fails a check is told, and of another refusal none
+-- the same of several images: the number of the first that fails a check is told, and of another refusal none; memory is refused once the
+-- bytes that an image asks for are there, and the images before it were read
 pub data RefusesImages (InRange : Type 0) (images : List (List ℕ)) (failed_old failed_new : ℕ) : Reason → Type 0 where
   argument_with_images : (InRange → ⊥) → failed_new ≡ failed_old → RefusesImages InRange images failed_old failed_new Argument
   images_fault : {r : Reason} → InRange → IsFirstFaulty images failed_new r → RefusesImages InRange images failed_old failed_new r
-  images_memory : InRange → failed_new ≡ failed_old → RefusesImages InRange images failed_old failed_new Memory
+  images_memory : (n : ℕ) → InRange → MayAskAt images n → failed_new ≡ failed_old → RefusesImages InRange images failed_old failed_new Memory

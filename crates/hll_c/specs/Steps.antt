@@ -1,12 +1,12 @@
 -- What the steps of a union of images promise (docs/MODEL.md, "Calls over images").
-use Rattle.std.specs.Prelude.{◌≡◌, ℕ, List, ◌⊎◌, Some}
+use Rattle.std.specs.Prelude.{◌≡◌, ℕ, List, ◌⊎◌, Some, None}
 use Rattle.hll_base.specs.declared.error.Reason.{Reason}
 use Rattle.hll_base.specs.declared.error.Reason.TheVariants.{Memory}
-use Rattle.hll_sketch.specs.Checks.{first_fault}
+use Rattle.hll_sketch.specs.Checks.{first_fault, size_fault}
 use Rattle.hll_sketch.specs.Merging.{merge_all}
 use Rattle.hll_sketch.specs.Union.{UnionLayout, gadget_of}
 use Rattle.hll_sketch.specs.Value.{Sketch}
-use Rattle.hll_c.specs.Batches.{AreReadAs, IsFirstFaulty}
+use Rattle.hll_c.specs.Batches.{AreReadAs, IsFirstFaulty, MayAskAt}
 
 -- a union took in several images in turn
 pub record TakesInAll (before after : UnionLayout) (images : List (List ℕ)) : Type 0 where
@@ -14,10 +14,10 @@ pub record TakesInAll (before after : UnionLayout) (images : List (List ℕ)) : 
   pub read : AreReadAs images sketches
   pub gadget : gadget_of after ≡ merge_all before.lg_max_k (gadget_of before) sketches
 
--- the image with this number is refused: for memory, or by a check, and then its number is told
+-- the image with this number is refused: for memory, once the bytes that it asks for are there, or by a check, and then its number is told
 abbrev pub IsRefusedAt : List ℕ → ℕ → ℕ → ℕ → Reason → Type 0
-IsRefusedAt image number failed_old failed_new e = ((e ≡ Memory) × (failed_new ≡ failed_old)) ⊎ ((first_fault image ≡ Some e) × (failed_new ≡ number))
+IsRefusedAt image number failed_old failed_new e = ((e ≡ Memory) × (size_fault image ≡ None) × (failed_new ≡ failed_old)) ⊎ ((first_fault image ≡ Some e) × (failed_new ≡ number))
 
--- memory is refused, or the first image that fails a check is, and then its number is told
+-- memory is refused where it may be asked for, or the first image that fails a check is, and then its number is told
 abbrev pub FailsToTakeIn : List (List ℕ) → ℕ → ℕ → Reason → Type 0
-FailsToTakeIn images failed_old failed_new e = ((e ≡ Memory) × (failed_new ≡ failed_old)) ⊎ IsFirstFaulty images failed_new e
+FailsToTakeIn images failed_old failed_new e = ((e ≡ Memory) × (failed_new ≡ failed_old) × (n : ℕ) × MayAskAt images n) ⊎ IsFirstFaulty images failed_new e

@@ -24,6 +24,8 @@ mod answer;
 mod batch;
 mod image;
 mod info;
+#[cfg(test)]
+mod tests;
 
 use crate::answer::{code_of, put_image, tell};
 use crate::batch::put_coupons;

@@ -195,8 +195,11 @@ enum ArrayCall {
     Clone4,
     Clone6,
     Clone8,
+    CloneIn8,
     Deserialize4,
     Deserialize4InPlaces,
+    Deserialize4Low,
+    Deserialize4LowWithException,
     Deserialize6,
     Deserialize8,
     MergeFrom,
@@ -217,6 +220,18 @@ const PAYLOAD: [u8; 72] = [
     0, 0, 0, 0, 0, 0, 0, 0, 0, 0, 0, 0, 0, 0, 0, 0, 0, 0, 0, 0, 0, 0, 0, 0, 13, 0, 0, 0, 2, 0, 0,
     0, 0xff, 1, 0, 0, 0, 0, 0, 0, 0, 0, 0, 80, 1, 0, 0, 64, 0, 0, 0, 0, 0, 0, 0, 0, 0, 0, 0, 0, 0,
     0, 0, 0, 0, 0, 0, 0, 0, 0, 0, 0,
+];
+
+/// The same with a minimum of 0 above which all registers are, without an exception: it is raised to 1.
+const LOW_PAYLOAD: [u8; 40] = [
+    0, 0, 0, 0, 0, 0, 0, 0, 0, 0, 0, 0, 0, 0, 0, 0, 0, 0, 0, 0, 0, 0, 0, 0, 0, 0, 0, 0, 0, 0, 0, 0,
+    0x11, 0x11, 0x11, 0x11, 0x11, 0x11, 0x11, 0x21,
+];
+
+/// The same with an exception of 40, which stays one, and one of 15, which does not.
+const LOW_PAYLOAD_WITH_EXCEPTIONS: [u8; 48] = [
+    0, 0, 0, 0, 0, 0, 0, 0, 0, 0, 0, 0, 0, 0, 0, 0, 0, 0, 0, 0, 0, 0, 0, 0, 0, 0, 0, 0, 2, 0, 0, 0,
+    0xff, 0x11, 0x11, 0x11, 0x11, 0x11, 0x11, 0x21, 0, 0, 0, 160, 1, 0, 0, 60,
 ];
 
 /// What follows the header of images of six and of eight bits whose registers are 0.
@@ -242,6 +257,16 @@ impl<'h> Trial for ArrayTrial<'h> {
             ArrayCall::Clone4 => shown(heap, four.clone()),
             ArrayCall::Clone6 => shown(heap, six.clone()),
             ArrayCall::Clone8 => shown(heap, eight.clone()),
+            ArrayCall::CloneIn8 => shown(heap, eight.clone_in(heap)),
+            ArrayCall::Deserialize4Low => {
+                let (low, compact) = (SketchSlice::new(&LOW_PAYLOAD), AuxFormat::Compact);
+                shown(heap, Array4::deserialize(heap, low, 0, 4, compact, false))
+            }
+            ArrayCall::Deserialize4LowWithException => {
+                let low = SketchSlice::new(&LOW_PAYLOAD_WITH_EXCEPTIONS);
+                let compact = AuxFormat::Compact;
+                shown(heap, Array4::deserialize(heap, low, 0, 4, compact, false))
+            }
             ArrayCall::Deserialize4 => {
                 let compact = AuxFormat::Compact;
                 shown(heap, Array4::deserialize(heap, bytes, 0, 4, compact, false))
@@ -270,12 +295,15 @@ impl<'h> Trial for ArrayTrial<'h> {
     }
 }
 
-const ARRAY_CALLS: [(ArrayCall, u64); 8] = [
+const ARRAY_CALLS: [(ArrayCall, u64); 11] = [
     (ArrayCall::Clone4, 3),
     (ArrayCall::Clone6, 1),
     (ArrayCall::Clone8, 1),
+    (ArrayCall::CloneIn8, 1),
     (ArrayCall::Deserialize4, 3),
     (ArrayCall::Deserialize4InPlaces, 3),
+    (ArrayCall::Deserialize4Low, 3),
+    (ArrayCall::Deserialize4LowWithException, 7),
     (ArrayCall::Deserialize6, 1),
     (ArrayCall::Deserialize8, 1),
     (ArrayCall::MergeFrom, 0),

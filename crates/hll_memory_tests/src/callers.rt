@@ -1,18 +1,25 @@
 //! The calls of a caller of the library, on two shards.
-use crate::harness::{Heap, Trial, requests_of, text};
-use crate::sketches::{Shape, WIDTHS, coupon_at, sketch_in, sketch_text};
+use crate::harness::{Heap, Trial, requests_of, shown};
+use crate::sketches::{Shape, coupon_at, sketch_in, sketch_text};
 use crate::unions::union_text;
 use hll_base::hll_type::HllType;
-use hll_caller::{join_shards, union_of_shards};
+use hll_caller::{join_shards, registers_of, union_of_shards};
 use hll_sketch::HllSketch;
 use hll_text::fault::Fault;
 use std::test::Fail;
 
-/// A call on the sketches of two shards, one of which sends its union at some width, or on the coupons of two.
+#[derive(Clone, Copy, Debug)]
+enum ShardsCall {
+    RegistersOf,
+    JoinShards,
+    UnionOfShards(HllType),
+}
+
+/// A call on the sketches of two shards, one of which sends its union at some width, or on the coupons of one or two.
 #[derive(Drop)]
 struct ShardsTrial<'h> {
     heap: &'h Heap,
-    hll_type: Option<HllType>,
+    call: ShardsCall,
 }
 
 /// The coupons of a sketch of each shard: a set, and registers.
@@ -28,15 +35,16 @@ impl<'h> Trial for ShardsTrial<'h> {
     }
 
     fn call(&self, shards: &mut [HllSketch<&'h Heap>; 2]) -> Result<String, Fault> {
-        let Some(hll_type) = self.hll_type else {
-            let coupons = [coupon_at(0), coupon_at(5), coupon_at(70)];
-            return text(self.heap, &join_shards(self.heap, 4, &coupons, &coupons)?);
-        };
-        let (here, there) = shards.split_at(1);
-        union_text(
-            self.heap,
-            union_of_shards(self.heap, 12, hll_type, here, there)?,
-        )
+        let heap = self.heap;
+        let coupons = [coupon_at(0), coupon_at(5), coupon_at(70)];
+        match self.call {
+            ShardsCall::RegistersOf => shown(heap, registers_of(heap, 4, &coupons)),
+            ShardsCall::JoinShards => shown(heap, join_shards(heap, 4, &coupons, &coupons)),
+            ShardsCall::UnionOfShards(hll_type) => {
+                let (here, there) = shards.split_at(1);
+                union_text(heap, union_of_shards(heap, 12, hll_type, here, there)?)
+            }
+        }
     }
 
     fn show(&self, shards: &[HllSketch<&'h Heap>; 2]) -> Result<String, Fault> {
@@ -47,23 +55,23 @@ impl<'h> Trial for ShardsTrial<'h> {
     }
 }
 
-/// Two requests for the registers of coupons. A union takes the registers of one shard, its sketch at the width that is
-/// sent, the set of the other, and the registers of both.
+/// The calls, and their requests: one for the registers of each shard. A union takes the registers of one shard, its sketch at
+/// the width that is sent, the set of the other, and the registers of both.
+const SHARDS_CALLS: [(ShardsCall, u64); 5] = [
+    (ShardsCall::RegistersOf, 1),
+    (ShardsCall::JoinShards, 2),
+    (ShardsCall::UnionOfShards(HllType::Hll4), 10),
+    (ShardsCall::UnionOfShards(HllType::Hll6), 4),
+    (ShardsCall::UnionOfShards(HllType::Hll8), 4),
+];
+
 #[test]
 fn refused_shards(rt: HostRuntime) -> Result<(), Fail> {
     let heap = Heap::new(rt.alloc());
-    let mut asked = [Ok(0); 4];
-    let widths = WIDTHS.map(Some);
-    for (asked, hll_type) in asked
-        .iter_mut()
-        .zip([None, widths[0], widths[1], widths[2]])
-    {
-        let trial = ShardsTrial {
-            heap: &heap,
-            hll_type,
-        };
-        *asked = requests_of(&rt, &heap, &trial);
+    for (call, requests) in SHARDS_CALLS {
+        let trial = ShardsTrial { heap: &heap, call };
+        let asked = requests_of(&rt, &heap, &trial);
+        assert_eq!(rt; asked, Ok(requests), "{call:?}");
     }
-    assert_eq!(rt; asked, [Ok(2), Ok(10), Ok(4), Ok(4)]);
     Ok(())
 }

@@ -2,10 +2,12 @@
 ghost use Rattle.std.specs.Prelude.{◌≤◌};
 
 use crate::harness::{Heap, Trial, requests_of, shown, text};
+use hll_base::codec::SketchBytes;
 use hll_base::cursor::SketchSlice;
+use hll_base::error::Error;
 use hll_base::hll_type::HllType;
 use hll_coupons::aux_map::AuxMap;
-use hll_coupons::container::Container;
+use hll_coupons::container::{Container, with_coupons};
 use hll_coupons::coupon::Coupon;
 use hll_coupons::hash_set::HashSet;
 use hll_coupons::list::List;
@@ -26,6 +28,10 @@ enum TableCall {
     CloneContainer,
     CloneList,
     CloneSet,
+    CloneContainerIn,
+    CloneListIn,
+    CloneSetIn,
+    WithCoupons,
     FromContainer,
     SerializeList,
     SerializeSet,
@@ -66,6 +72,12 @@ fn set_image<'h>(set: &HashSet<&'h Heap>) -> Result<Vec<u8, &'h Heap>, Fault> {
     Ok(set.serialize(10, HllType::Hll8)?)
 }
 
+/// A buffer without room to which three coupons are appended.
+fn three_coupons(heap: &Heap) -> Result<SketchBytes<&Heap>, Error> {
+    let coupons = [Coupon::pack(5, 3), Coupon::pack(6, 3), Coupon::pack(7, 1)];
+    with_coupons(SketchBytes::with_capacity(heap, 0)?, &coupons)
+}
+
 impl<'h> TableTrial<'h> {
     /// The size, at most that of the largest table.
     fn size(&self) -> usize
@@ -104,6 +116,10 @@ impl<'h> Trial for TableTrial<'h> {
             TableCall::CloneContainer => shown(heap, list.container().clone()),
             TableCall::CloneList => shown(heap, list.clone()),
             TableCall::CloneSet => shown(heap, set.clone()),
+            TableCall::CloneContainerIn => shown(heap, set.container().clone_in(heap)),
+            TableCall::CloneListIn => shown(heap, list.clone_in(heap)),
+            TableCall::CloneSetIn => shown(heap, set.clone_in(heap)),
+            TableCall::WithCoupons => shown(heap, three_coupons(heap)),
             TableCall::FromContainer => text(heap, &set_of(heap, list)?),
             TableCall::SerializeList => text(heap, &list_image(list)?),
             TableCall::SerializeSet => text(heap, &set_image(set)?),
@@ -129,7 +145,7 @@ const TABLES: [(usize, u32); 5] = [(2, 3), (3, 0), (3, 8), (4, 8), (5, 31)];
 
 /// The calls, and the requests of each on tables of these sizes: the image of a list is of eight places, that of a set of
 /// 32, in a sorted copy and the bytes.
-const TABLE_CALLS: [(TableCall, [u64; 5]); 12] = [
+const TABLE_CALLS: [(TableCall, [u64; 5]); 16] = [
     (TableCall::NewContainer, [1, 0, 0, 1, 1]),
     (TableCall::NewList, [1, 0, 0, 1, 1]),
     (TableCall::NewSet, [1, 0, 0, 1, 1]),
@@ -137,6 +153,10 @@ const TABLE_CALLS: [(TableCall, [u64; 5]); 12] = [
     (TableCall::CloneContainer, [1, 0, 0, 1, 1]),
     (TableCall::CloneList, [1, 0, 0, 1, 1]),
     (TableCall::CloneSet, [1, 0, 0, 1, 1]),
+    (TableCall::CloneContainerIn, [1, 0, 0, 1, 1]),
+    (TableCall::CloneListIn, [1, 0, 0, 1, 1]),
+    (TableCall::CloneSetIn, [1, 0, 0, 1, 1]),
+    (TableCall::WithCoupons, [2; 5]),
     (TableCall::FromContainer, [1, 1, 1, 1, 1]),
     (TableCall::SerializeList, [0, 1, 2, 0, 0]),
     (TableCall::SerializeSet, [0, 0, 0, 0, 2]),

@@ -1,10 +1,13 @@
-//! Two heaps, of which one is full: `agree` asks that of its first argument alone, and a union its own.
+//! Two heaps, of which one is full: `agree` asks that of its first argument alone, and what is given an allocator, and a
+//! union, its own.
 use crate::harness::Heap;
 use crate::sketches::{Shape, WIDTHS, sketch_in};
 use crate::unions::union_in;
 use hll_base::hll_type::HllType;
-use hll_sketch::{HllSketch, agree};
+use hll_merge::evaluate::{compare, evaluate};
+use hll_sketch::{HllSketch, agree, union_of};
 use hll_text::fault::Fault;
+use hll_text::step::Step;
 use std::test::Fail;
 
 /// Sketches: an empty list, lists, sets and registers.
@@ -93,5 +96,67 @@ fn unions_ask_their_own(rt: HostRuntime) -> Result<(), Fail> {
             }
         }
     }
+    Ok(())
+}
+
+/// The requests to the second heap, which is full by then, for the union that the first makes of its sketches.
+fn union_of_asks<'h>(
+    heap: &'h Heap,
+    full: &'h Heap,
+    hll_type: HllType,
+    shape: Shape,
+) -> Result<u64, Fault> {
+    full.admit();
+    let mut sketches = Vec::new(heap.inner());
+    sketches.push(sketch_in(full, hll_type, (10, 0, 90))?)?;
+    sketches.push(sketch_in(full, hll_type, shape)?)?;
+    full.refuse_all();
+    let _union = union_of(heap, 12, &sketches)?;
+    Ok(full.asked())
+}
+
+#[test]
+fn union_of_asks_its_own(rt: HostRuntime) -> Result<(), Fail> {
+    let heap = Heap::new(rt.alloc());
+    let full = Heap::new(rt.alloc());
+    for shape in SKETCHES {
+        for hll_type in WIDTHS {
+            let asked = union_of_asks(&heap, &full, hll_type, shape);
+            assert_eq!(rt; asked, Ok(0), "{shape:?} {hll_type:?}");
+        }
+    }
+    Ok(())
+}
+
+/// A list with a coupon, as an image.
+const IMAGE: &[u8] = b"\x02\x01\x07\x0a\x03\x08\x01\x08\x05\x00\x00\x0c";
+
+/// The requests to the second heap, which is full by then, for the outcome of steps that have an image in it, and for its
+/// comparison with itself.
+fn steps_ask<'h>(heap: &'h Heap, full: &'h Heap) -> Result<(u64, u64), Fault> {
+    full.admit();
+    let steps = [
+        Step::Image(Vec::from_slice(full, IMAGE)?),
+        Step::New(8, HllType::Hll4),
+        Step::Coupon(2, 30),
+        Step::Union(2, 12, HllType::Hll4),
+        Step::Fold(4),
+    ];
+    full.refuse_all();
+    if let Err(e) = evaluate(heap, &steps) {
+        return Err(e.fault);
+    }
+    let asked = full.asked();
+    match compare(heap, &steps, &steps) {
+        Ok(_) => Ok((asked, full.asked())),
+        Err(e) => Err(e.fault),
+    }
+}
+
+#[test]
+fn steps_ask_their_own(rt: HostRuntime) -> Result<(), Fail> {
+    let heap = Heap::new(rt.alloc());
+    let full = Heap::new(rt.alloc());
+    assert_eq!(rt; steps_ask(&heap, &full), Ok((0, 0)));
     Ok(())
 }

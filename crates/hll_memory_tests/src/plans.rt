@@ -89,7 +89,10 @@ impl<'h> Trial for TextTrial<'h> {
         let (feed, buffer) = subject;
         match self.call {
             TextCall::ReadStep => text(heap, &read_step(heap, bytes)?),
-            TextCall::DecodeInto => text(heap, &decode_into(buffer, bytes)?),
+            TextCall::DecodeInto => {
+                let taken = mem::replace(buffer, Vec::new(heap));
+                text(heap, &decode_into(taken, bytes)?)
+            }
             TextCall::NewFeed => text(heap, &feed_in(heap)?.pending()),
             TextCall::Finish => outcome_text(heap, mem::replace(feed, feed_in(heap)?).finish()),
             TextCall::Run => text(heap, &run_beside(heap, self.text)?),
@@ -102,7 +105,7 @@ impl<'h> Trial for TextTrial<'h> {
     }
 
     fn spends(&self) -> bool {
-        matches!(self.call, TextCall::Finish)
+        matches!(self.call, TextCall::Finish | TextCall::DecodeInto)
     }
 }
 

@@ -172,7 +172,7 @@ const STAGES: [(u8, u32, u8, usize); 10] = [
 ];
 
 /// The calls, and the requests of each at these stages, for four bits, for six and for eight.
-const SKETCH_CALLS: [(SketchCall, [[u64; 10]; 3]); 13] = [
+const SKETCH_CALLS: [(SketchCall, [[u64; 10]; 3]); 14] = [
     (
         SketchCall::Clone,
         [
@@ -220,6 +220,14 @@ const SKETCH_CALLS: [(SketchCall, [[u64; 10]; 3]); 13] = [
             [0, 0, 0, 0, 0, 0, 2, 2, 2, 2],
             [0; 10],
             [0, 0, 0, 0, 0, 0, 1, 1, 1, 1],
+        ],
+    ),
+    (
+        SketchCall::IntoWidth(HllType::Hll8),
+        [
+            [0, 0, 0, 0, 0, 0, 1, 1, 1, 1],
+            [0, 0, 0, 0, 0, 0, 1, 1, 1, 1],
+            [0; 10],
         ],
     ),
     (

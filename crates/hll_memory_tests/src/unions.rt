@@ -1,13 +1,13 @@
 //! Unions, and what is made of sketches together.
 use crate::harness::{Heap, Trial, requests_of, shown, text};
-use crate::sketches::{Shape, WIDTHS, coupon_at, shown_sketch, sketch_in};
+use crate::sketches::{Shape, coupon_at, shown_sketch, sketch_in};
 use hll_base::error::Error;
 use hll_base::hll_type::HllType;
 use hll_sketch::{HllSketch, HllUnion, agree, union_of};
 use hll_text::fault::Fault;
 use std::alloc::Global;
 use std::mem;
-use std::test::Fail;
+use std::process::Abort;
 
 #[derive(Clone, Copy, Debug)]
 enum UnionCall {
@@ -223,28 +223,40 @@ const UNION_CALLS: [(UnionCall, [[u64; 13]; 3]); 10] = [
     (UnionCall::Agree, [[2; 13]; 3]),
 ];
 
-#[test]
-fn refused_unions(rt: HostRuntime) -> Result<(), Fail> {
-    let heap = Heap::new(rt.alloc());
-    for (call, requests) in UNION_CALLS {
-        for (hll_type, requests) in WIDTHS.into_iter().zip(requests) {
-            for ((lg_max_k, inside, beside), requests) in UNIONS.into_iter().zip(requests) {
-                let trial = UnionTrial {
-                    heap: &heap,
-                    lg_max_k,
-                    inside,
-                    beside,
-                    hll_type,
-                    call,
-                };
-                let asked = requests_of(&rt, &heap, &trial);
-                assert_eq!(rt;
-                    asked,
-                    Ok(requests),
-                    "{call:?} {hll_type:?} {inside:?} {beside:?}"
-                );
-            }
+/// Makes each call on each union, beside sketches of a width.
+fn refuse_unions(rt: &impl Abort, heap: &Heap, hll_type: HllType) {
+    for (call, [four, six, eight]) in UNION_CALLS {
+        let requests = match hll_type {
+            HllType::Hll4 => four,
+            HllType::Hll6 => six,
+            HllType::Hll8 => eight,
+        };
+        for ((lg_max_k, inside, beside), requests) in UNIONS.into_iter().zip(requests) {
+            let trial = UnionTrial {
+                heap,
+                lg_max_k,
+                inside,
+                beside,
+                hll_type,
+                call,
+            };
+            let asked = requests_of(rt, heap, &trial);
+            assert_eq!(rt; asked, Ok(requests), "{call:?} {inside:?} {beside:?}");
         }
     }
-    Ok(())
+}
+
+#[test]
+fn refused_unions_of_four_bits(rt: HostRuntime) {
+    refuse_unions(&rt, &Heap::new(rt.alloc()), HllType::Hll4);
+}
+
+#[test]
+fn refused_unions_of_six_bits(rt: HostRuntime) {
+    refuse_unions(&rt, &Heap::new(rt.alloc()), HllType::Hll6);
+}
+
+#[test]
+fn refused_unions_of_eight_bits(rt: HostRuntime) {
+    refuse_unions(&rt, &Heap::new(rt.alloc()), HllType::Hll8);
 }

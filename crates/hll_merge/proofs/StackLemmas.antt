@@ -1,5 +1,5 @@
 -- Lemmas on carrying out steps: the sketches of a stack are outcomes of the plans.
-use Rattle.std.proofs.Common.{◌≡◌, ℕ, zero, suc, Bool, true, false, ◌&&◌, nat_eq, if◌then◌else◌, ◌+◌, ◌-◌, ◌<◌, ◌≤◌, inl, inr, List, [], ◌∷◌, ◌++◌, length, take, drop, get_or, Some, Ok, Err, ◌⊎◌, refl, sym, ◌∙◌, ap, subst, arith, map, option_to_list, Option, None}
+use Rattle.std.proofs.Common.{◌≡◌, ℕ, zero, suc, Bool, true, false, ◌&&◌, nat_eq, if◌then◌else◌, ◌+◌, ◌-◌, ◌<◌, ◌≤◌, inl, inr, List, [], ◌∷◌, ◌++◌, length, take, drop, get_or, Some, Ok, refl, sym, ◌∙◌, ap, subst, arith, map, option_to_list, Option, None}
 use Rattle.std.proofs.Math.ListN.{set}
 use Rattle.std.proofs.Math.Nat.{eq-or-lt_of_le}
 use Rattle.std.proofs.Math.Seq.{take-suc, get_or-append_seam}
@@ -26,7 +26,7 @@ use Rattle.hll_sketch.proofs.FaultKinds.{faults_are_of_data}
 use Rattle.hll_sketch.proofs.FirstFaults.{first_fault_stands}
 use Rattle.hll_text.specs.declared.fault.Fault.{Fault}
 use Rattle.hll_text.specs.declared.fault.Fault.TheVariants as faults
-use Rattle.hll_text.specs.Step.{fault_of, image_in}
+use Rattle.hll_text.specs.Step.{fault_of}
 use Rattle.hll_text.specs.Text as text
 use Rattle.hll_text.specs.Text.{PlanStep, Reading}
 use Rattle.hll_merge.specs.Plan as plan
@@ -204,11 +204,9 @@ fault_of-data reasons.Memory h = absurd (cc)
 pub fault_of-image : (ts : List Plan) (bytes : List ℕ) (r : Reason) → first_fault bytes ≡ Some r → IsFaultOfStep ts (text.image bytes) (fault_of r)
 fault_of-image ts bytes r h = (r, h, fault_of-data r (faults_are_of_data bytes r (first_fault_stands bytes r h)))
 
--- the bytes in front of a buffer are what the digits of an image say
-pub image-read : (digits buffer bytes : List ℕ) (size : ℕ) → bytes ≡ buffer → (image_in buffer (Ok size) ≡ text.image_step digits) ⊎ (Ok size ≡ Err faults.Memory)
-    → text.image_reading digits ≡ Ok (Some (text.image (take size bytes)))
-image-read digits buffer bytes size is (inl same) = ap text.as_reading (sym same) ∙ ap (λ xs. Ok (Some (text.image (take size xs)))) (sym is)
-image-read digits buffer bytes size is (inr full) = absurd (cc)
+-- the bytes of a line's digits are its reading
+pub image-read : (digits bytes : List ℕ) → text.image_step digits ≡ Ok (text.image bytes) → text.image_reading digits ≡ Ok (Some (text.image bytes))
+image-read digits bytes same = ap text.as_reading same
 
 pub carries-image : (xs : List SketchLayout) (bytes : List ℕ) (x : SketchLayout) → IsReadAs bytes (sketch_of x) → StackCarries xs (text.image bytes) (xs ++ x ∷ [])
 carries-image xs bytes x r = λ ts h. (ts ++ plan.image (sketch_of x) ∷ [], (sketch_of x, r, refl), AllRepresent-push xs ts x (plan.image (sketch_of x)) h refl)

@@ -1,5 +1,5 @@
 //! The sketches of a plan while its lines are carried out, the last one on top.
-ghost use Rattle.std.specs.Prelude.{◌≡◌, ◌≢◌, ◌+◌, ◌≤◌, ◌<◌, ◌⊎◌, ◌++◌, ◌∷◌, [], length, map, take, drop, true, false, Ok, None, OnOk, OnErr, IfOk, IfErr, IfSome, IfNone};
+ghost use Rattle.std.specs.Prelude.{◌≡◌, ◌≢◌, ◌+◌, ◌≤◌, ◌<◌, ◌⊎◌, ◌++◌, ◌∷◌, [], length, map, take, drop, true, false, Ok, Err, None, OnOk, OnErr, IfOk, IfErr, IfSome, IfNone};
 ghost use Rattle.hll_coupons.specs.Pair.{value_of, set_of};
 ghost use Rattle.hll_sketch.specs.Adding.{add};
 ghost use Rattle.hll_sketch.specs.Folding as folding;
@@ -7,7 +7,7 @@ ghost use Rattle.hll_sketch.specs.Layout.{SketchLayout, sketch_of};
 ghost use Rattle.hll_sketch.specs.Merging.{merge_all, empty_union};
 ghost use Rattle.hll_sketch.specs.Value.{IsLgK};
 ghost use Rattle.hll_text.specs.Step.{step_of, IsInRange, HasBytes};
-ghost use Rattle.hll_text.specs.Text.{new, image, union, reading, image_reading};
+ghost use Rattle.hll_text.specs.Text.{new, image, union, reading, image_reading, image_step};
 ghost use Rattle.hll_merge.specs.Stack.{ReplacesLast, UnitesFrom, LastIsBelow, StackCarries, StackRefuses, StackGives, StackFaults};
 ghost use Rattle.hll_text.specs.declared.fault.Fault.TheVariants.{Memory};
 ghost use Rattle.hll_text.specs.declared.fault.Fault.TheVariants as faults;
@@ -21,6 +21,7 @@ use hll_text::reading::{decode_into, read_line};
 use hll_text::step::{Line, Step};
 use std::alloc::{AllocError, Allocator};
 use std::marker::Model;
+use std::mem;
 
 /// The sketches of a plan, the last one on top, and a buffer for the bytes of their images. Contracts see the list of
 /// sketches.
@@ -216,6 +217,17 @@ impl<A: Allocator + Clone> Stack<A> {
         }
     }
 
+    /// The bytes that the digits of an image stand for, in the one buffer, which is taken. `Hex` where they are not an even
+    /// number of hexadecimal digits, or `Memory` where a larger buffer is refused.
+    fn decode(&mut self, digits: &[u8]) -> Result<Vec<u8, A>, Fault>
+        ensures ok { IfOk result (λ bytes. image_step digits.now ≡ Ok (image bytes.items)) }
+        ensures err { IfErr result (λ e. (e ≡ Memory) ⊎ ((e ≡ faults.Hex) × (image_step digits.now ≡ Err faults.Hex))) }
+        ensures unchanged { self.new ≡ self.old }
+    {
+        let emptied = Vec::new(self.cloned_allocator()?);
+        decode_into(mem::replace(&mut self.image, emptied), digits)
+    }
+
     /// Pushes the sketch of an image from its digits, which are decoded into the one buffer. `Hex` where they are not an
     /// even number of hexadecimal digits, else as `push_image`, or `Memory` where a larger buffer is refused.
     fn push_digits(&mut self, digits: &[u8]) -> Result<(), Fault>
@@ -224,9 +236,10 @@ impl<A: Allocator + Clone> Stack<A> {
         ensures unchanged { OnErr result (self.new ≡ self.old) }
     {
         let alloc = self.cloned_allocator()?;
-        let size = decode_into(&mut self.image, digits)?;
-        let sketch = HllSketch::deserialize(alloc, &self.image[..size])?;
-        self.sketches.push(sketch)?;
+        let bytes = self.decode(digits)?;
+        let read = HllSketch::deserialize(alloc, &bytes);
+        self.image = bytes;
+        self.sketches.push(read?)?;
         Ok(())
     }
 

@@ -1,9 +1,13 @@
 //! Reads a plan on standard input, and prints the image of its sketch (docs/PLAN.md, "The program").
 #![tactic(auto)]
 
+mod refusal;
+#[cfg(test)]
+mod tests;
+
+use crate::refusal::write_refusal;
 use hll_merge::run::run;
 use hll_merge::watched::Watched;
-use hll_text::refusal::write_refusal;
 use std::process::ExitCode;
 
 fn main(rt: HostRuntime) -> ExitCode {
@@ -13,7 +17,7 @@ fn main(rt: HostRuntime) -> ExitCode {
         Ok(()) => ExitCode::SUCCESS,
         Err(refusal) => {
             // If standard error fails too, only the exit status is left.
-            let _ = write_refusal(&mut Watched::new(rt.stderr()), &refusal);
+            let _ = write_refusal(&mut rt.stderr(), &refusal);
             ExitCode::FAILURE
         }
     }

@@ -1,5 +1,5 @@
 //! The estimate state and counts that precede the registers in an image (docs/FORMAT.md, "HLL").
-ghost use Rattle.std.specs.Prelude.{◌≡◌, ◌+◌, ◌≤◌, ◌<◌, ◌∷◌, [], ◌++◌, length, drop, OnOk, IfOk, IfErr};
+ghost use Rattle.std.specs.Prelude.{◌≡◌, ◌+◌, ◌≤◌, ◌<◌, ◌∷◌, [], ◌++◌, length, drop, OnOk, OnErr, IfOk, IfErr};
 ghost use Rattle.hll_base.specs.declared.error.Reason.TheVariants.{Truncated, Memory};
 ghost use Rattle.hll_coupons.specs.Coupons.{mode_byte};
 ghost use Rattle.hll_registers.specs.State.{IsState};
@@ -78,9 +78,11 @@ impl Preamble {
         Ok((preamble, cursor))
     }
 
-    /// Writes the preamble.
-    pub fn write<A: Allocator>(self, bytes: &mut SketchBytes<A>) -> Result<(), Error>
-        ensures ok { OnOk result (bytes.new ≡ bytes.old ++ number_bytes self.state self.num_at_cur_min self.exception_count) }
+    /// A buffer with the preamble appended to it.
+    ///
+    /// Takes memory where the buffer has no room. Fails with `Memory`.
+    pub fn write<A: Allocator>(self, mut bytes: SketchBytes<A>) -> Result<SketchBytes<A>, Error>
+        ensures ok { IfOk result (λ new. new ≡ bytes ++ number_bytes self.state self.num_at_cur_min self.exception_count) }
         ensures err { IfErr result (λ e. e ≡ Memory) }
     {
         let [first, second, third] = self.state.words;
@@ -88,10 +90,13 @@ impl Preamble {
         bytes.write_u64_le(second)?;
         bytes.write_u64_le(third)?;
         bytes.write_u32_le(self.num_at_cur_min)?;
-        bytes.write_u32_le(self.exception_count)
+        bytes.write_u32_le(self.exception_count)?;
+        Ok(bytes)
     }
 
-    /// Writes the header of an image.
+    /// Appends the header of an image.
+    ///
+    /// Takes memory where the buffer has no room. Fails with `Memory`, and then changes nothing.
     pub fn write_header<A: Allocator>(
         self,
         bytes: &mut SketchBytes<A>,
@@ -99,6 +104,7 @@ impl Preamble {
     ) -> Result<(), Error>
         requires { header.flags < 128 }
         ensures ok { OnOk result (bytes.new ≡ bytes.old ++ 10 ∷ 1 ∷ 7 ∷ header.lg_config_k ∷ 0 ∷ (header.flags + flag_of self.state) ∷ header.minimum ∷ mode_byte 2 header.hll_type ∷ []) }
+        ensures unchanged { OnErr result (bytes.new ≡ bytes.old) }
         ensures err { IfErr result (λ e. e ≡ Memory) }
     {
         let flag = if self.state.out_of_order {

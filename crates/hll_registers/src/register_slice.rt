@@ -1,11 +1,12 @@
 //! A slice of bytes as registers.
-ghost use Rattle.std.specs.Prelude.{◌≡◌, ◌≤◌};
+ghost use Rattle.std.specs.Prelude.{◌≡◌, ◌≤◌, ◌==◌};
+ghost use Rattle.std.specs.List.{list_all};
 ghost use Rattle.hll_registers.specs.State.{cleared_state};
 ghost use Rattle.hll_kernels.specs.Packed.{AreRegisters};
 
 use crate::estimate_state::EstimateState;
 use crate::registers::Registers;
-use hll_kernels::kernels::max_into;
+use hll_kernels::kernels::{all_zero, max_into};
 use std::marker::Model;
 
 /// 2^`lg_k` borrowed registers, one byte each, with the cleared state.
@@ -35,6 +36,13 @@ impl<'a> RegisterSlice<'a> {
         ensures { result ≡ (lg_k, values.now) }
     {
         RegisterSlice { lg_k, values }
+    }
+
+    /// Whether all registers are 0.
+    pub fn are_all_zero(&self) -> bool
+        ensures { result ≡ list_all (λ v. v == 0) self.now.1 }
+    {
+        all_zero(self.values)
     }
 }
 

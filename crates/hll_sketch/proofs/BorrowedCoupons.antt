@@ -20,7 +20,7 @@ use Rattle.hll_sketch.specs.Value.{coupons}
 use Rattle.hll_sketch.proofs.FrontImages.{list_is_read, set_is_read}
 use Rattle.hll_sketch.proofs.ListImages.{list_image}
 
-length-words : (n : ℕ) (b : List ℕ) → length (words n b) ≡ n
+pub length-words : (n : ℕ) (b : List ℕ) → length (words n b) ≡ n
 length-words zero b = refl
 length-words (suc n) b = omega (arith, length-words n (drop 4 b))
 

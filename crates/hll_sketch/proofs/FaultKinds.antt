@@ -6,7 +6,7 @@ use Rattle.hll_base.specs.declared.error.ErrorKind.TheVariants.{InvalidData, Out
 use Rattle.hll_base.specs.Reason.{kind_of}
 use Rattle.hll_coupons.specs.Payload.{ListShape, ListFault, SetShape, SetFault}
 use Rattle.hll_coupons.specs.Payload as coupons
-use Rattle.hll_registers.specs.Payload.{Hll8Fault, Hll6Fault, Hll4Shape, Hll4Fault}
+use Rattle.hll_registers.specs.Payload.{Hll8Fault, FirstHll8Fault, Hll6Fault, Hll4Shape, Hll4Fault}
 use Rattle.hll_registers.specs.Payload as arrays
 use Rattle.hll_sketch.specs.Fault.{HeaderFault, FaultsAreOfData}
 use Rattle.hll_sketch.specs.Fault as fault
@@ -40,6 +40,13 @@ hll8_data k b r (arrays.Hll8Fault.exceptions_counted l n) = refl
 hll8_data k b r (arrays.Hll8Fault.short l) = refl
 hll8_data k b r (arrays.Hll8Fault.register l n) = refl
 
+first_hll8_data : (k : ℕ) (b : List ℕ) (r : Reason) → FirstHll8Fault k b r → kind_of r ≡ InvalidData
+first_hll8_data k b r (arrays.FirstHll8Fault.no_counts l) = refl
+first_hll8_data k b r (arrays.FirstHll8Fault.zero_count l n) = refl
+first_hll8_data k b r (arrays.FirstHll8Fault.exceptions_counted l n) = refl
+first_hll8_data k b r (arrays.FirstHll8Fault.short c l) = refl
+first_hll8_data k b r (arrays.FirstHll8Fault.register c l n) = refl
+
 hll6_data : (k : ℕ) (b : List ℕ) (r : Reason) → Hll6Fault k b r → kind_of r ≡ InvalidData
 hll6_data k b r (arrays.Hll6Fault.no_counts l) = refl
 hll6_data k b r (arrays.Hll6Fault.zero_count l n) = refl
@@ -71,3 +78,7 @@ faults_are_of_data b r (fault.IsFault.hll4_payload l s w k f) = hll4_data _ _ r 
 -- a fault of the header is not of memory
 pub not_memory : (b : List ℕ) (r : Reason) → HeaderFault b r → r ≡ reasons.Memory → ⊥
 not_memory b r f is = let other : InvalidData ≡ OutOfMemory = sym (header_data b r f) ∙ ap kind_of is in cc
+
+-- nor is the first one of registers of eight bits
+pub eight_not_memory : (k : ℕ) (b : List ℕ) (r : Reason) → FirstHll8Fault k b r → r ≡ reasons.Memory → ⊥
+eight_not_memory k b r f is = let other : InvalidData ≡ OutOfMemory = sym (first_hll8_data k b r f) ∙ ap kind_of is in cc

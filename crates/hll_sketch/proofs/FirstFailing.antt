@@ -33,10 +33,10 @@ IfErr-with (Err e) P Q S h p q = h e p q
 module _ (b : List ℕ) where
   -- ---- behind a header
 
-  behind_list : HasHeader b 0 → checks_behind b ≡ list_checks b
+  pub behind_list : HasHeader b 0 → checks_behind b ≡ list_checks b
   behind_list h = ap (λ s. cond (eqb s 0) (list_checks b) (cond (eqb s 1) (set_checks b) (cond (eqb (width_bits b) 0) (hll4_checks b) (cond (eqb (width_bits b) 1) (hll6_checks b) (hll8_checks b))))) h.stage_is
 
-  behind_set : HasHeader b 1 → checks_behind b ≡ set_checks b
+  pub behind_set : HasHeader b 1 → checks_behind b ≡ set_checks b
   behind_set h = ap (λ s. cond (eqb s 0) (list_checks b) (cond (eqb s 1) (set_checks b) (cond (eqb (width_bits b) 0) (hll4_checks b) (cond (eqb (width_bits b) 1) (hll6_checks b) (hll8_checks b))))) h.stage_is
 
   behind_hll : (w : ℕ) → HasHeader b 2 → width_bits b ≡ w → checks_behind b ≡ cond (eqb w 0) (hll4_checks b) (cond (eqb w 1) (hll6_checks b) (hll8_checks b))
@@ -46,7 +46,7 @@ module _ (b : List ℕ) where
   first_behind : (s : ℕ) (cs : Checks) → s < 3 → HasHeader b s → checks_behind b ≡ cs → first_fault b ≡ first_failing (cs.size ++ cs.content)
   first_behind s cs three h is = header_passed b s ((checks_behind b).size ++ (checks_behind b).content) three h ∙ ap (λ (cs : Checks). first_failing (cs.size ++ cs.content)) is
 
-  size_behind : (s : ℕ) (cs : Checks) → s < 3 → HasHeader b s → checks_behind b ≡ cs → size_fault b ≡ first_failing cs.size
+  pub size_behind : (s : ℕ) (cs : Checks) → s < 3 → HasHeader b s → checks_behind b ≡ cs → size_fault b ≡ first_failing cs.size
   size_behind s cs three h is = header_passed b s (checks_behind b).size three h ∙ ap (λ (cs : Checks). first_failing cs.size) is
 
   -- ---- a list

@@ -33,6 +33,7 @@ pub mod Regrouping
 pub mod SameLemmas
 pub mod SetWords
 pub mod Sets
+mod SizedImages
 pub mod Stages
 pub mod Steps
 pub mod Written

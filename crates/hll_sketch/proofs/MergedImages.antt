@@ -1,22 +1,28 @@
 -- Images merged into a gadget as they stand: coupons into registers, and registers of eight bits.
-use Rattle.std.proofs.Common.{◌≡◌, ℕ, ◌<◌, ◌&&◌, true, false, cond, List, take, refl, sym, ap, subst, ◌∙◌}
+use Rattle.std.proofs.Common.{arith, ◌≡◌, ℕ, ◌<◌, ◌==◌, ◌&&◌, true, false, cond, nat_eq, List, None, take, drop, refl, sym, ap, subst, ◌∙◌}
+use Rattle.std.specs.List.{list_all}
 use Rattle.std.specs.Prelude.{min, nat_le}
 use Rattle.std.specs.FinSet.{len, union}
-use Rattle.std.proofs.lemmas.Bool.{cond-false, ne_eqb}
+use Rattle.std.proofs.lemmas.Bool.{cond-false, ne_eqb, true≢false}
+use Rattle.std.proofs.lemmas.List.{take-append-drop}
 use Rattle.std.proofs.lemmas.List.Elements.{All-take}
 use Rattle.hll_coupons.specs.Fold.{fold_to, pairs}
 use Rattle.hll_registers.specs.State.{cleared_state}
 use Rattle.hll_registers.specs.declared.estimate_state.EstimateState.{EstimateState}
+use Rattle.hll_sketch.specs.Checks.{size_fault}
 use Rattle.hll_sketch.specs.Image.{AreBytes, IsReadAs}
 use Rattle.hll_sketch.specs.Laws.{add_in_turn}
 use Rattle.hll_sketch.specs.Merging.{merge_content, merge_registers, state_after_merge}
-use Rattle.hll_sketch.specs.TakenIn.{IsOfCoupons, IsOfRegisters, MergesImage, TakesIn}
-use Rattle.hll_sketch.specs.Union.{UnionLayout, IsGadget, gadget_of}
-use Rattle.hll_sketch.specs.Value.{Sketch, registers, in_registers, is_empty, pairs_in, pairs_of, IsLegal}
+use Rattle.hll_sketch.specs.TakenIn.{IsOfCoupons, IsOfRegisters, MergesImage, TakesIn, HasAscendingCoupons, EightBitsNeedMemory, ImageNeedsMemory}
+use Rattle.hll_sketch.specs.Union.{UnionLayout, IsGadget, gadget_of, ContentNeedsMemory, MergeNeedsMemory}
+use Rattle.hll_sketch.specs.Value.{Sketch, Content, coupons, registers, in_registers, is_empty, pairs_in, pairs_of, IsLegal}
+use Rattle.hll_sketch.proofs.Emptiness.{zeros-empty}
 use Rattle.hll_sketch.proofs.Gadgets.{gadget_of_content}
+use Rattle.hll_sketch.proofs.Images.{one_image}
 use Rattle.hll_sketch.proofs.Joined.{joined_more}
 use Rattle.hll_sketch.proofs.LegalImages.{image_is_legal}
 use Rattle.hll_sketch.proofs.Merges.{coupons_merged, other_empty}
+use Rattle.hll_sketch.proofs.SizedImages.{sized_if_read}
 
 -- bytes are read as a legal sketch
 pub read_is_legal : (b : List ℕ) (x : Sketch) → AreBytes b → IsReadAs b x → IsLegal x
@@ -59,8 +65,21 @@ taken u v b bound is = record {
 state_of_some : (m k : ℕ) (g : Sketch) (s : EstimateState) → is_empty g ≡ false → state_after_merge m g k s ≡ cleared_state
 state_of_some m k g s some = ap (λ e. cond (e && nat_le k m) s cleared_state) some
 
+-- registers that are all 0 are none
+pub no_registers : (b : List ℕ) (k : ℕ) (R : List ℕ) (of : IsOfRegisters b k R) → is_empty of.sketch ≡ list_all (λ v. v == 0) R
+no_registers b k R of = ap (λ c. nat_eq (len (pairs_in c)) 0) of.content ∙ sym (zeros-empty R)
+
+-- such an image changes nothing
+pub nothing_merged : (m : ℕ) (g : Sketch) (b : List ℕ) (k : ℕ) (R : List ℕ) (of : IsOfRegisters b k R) → is_empty of.sketch ≡ true → AreBytes b → MergesImage m g g b
+nothing_merged m g b k R of none bytes = record {
+  sketch = of.sketch;
+  read = of.read;
+  legal = read_is_legal b of.sketch bytes of.read;
+  merged = sym (ap (λ e. cond e g (merge_content m g of.sketch of.sketch.content)) none);
+}
+
 module _ (m : ℕ) (g y : Sketch) (b : List ℕ) (k : ℕ) (R : List ℕ) (is : IsGadget m g) (some : is_empty g ≡ false) (of : IsOfRegisters b k R)
-    (joined : y ≡ merge_registers m g k R cleared_state) where
+    (others : is_empty of.sketch ≡ false) (joined : y ≡ merge_registers m g k R cleared_state) where
   as_registers : y ≡ merge_content m g of.sketch of.sketch.content
   as_registers =
       joined
@@ -77,9 +96,49 @@ module _ (m : ℕ) (g y : Sketch) (b : List ℕ) (k : ℕ) (R : List ℕ) (is : 
     sketch = of.sketch;
     read = of.read;
     legal = read_is_legal b of.sketch bytes of.read;
-    merged = as_registers ∙ sym (cond-false (is_empty of.sketch) g (merge_content m g of.sketch of.sketch.content) of.some);
+    merged = as_registers ∙ sym (cond-false (is_empty of.sketch) g (merge_content m g of.sketch of.sketch.content) others);
   }
 
   pub joined_gadget : AreBytes b → IsLegal g → IsGadget m y
   joined_gadget bytes legal =
-      subst (IsGadget m) (sym as_registers) (gadget_of_content m g of.sketch of.sketch.content refl of.some is legal (read_is_legal b of.sketch bytes of.read))
+      subst (IsGadget m) (sym as_registers) (gadget_of_content m g of.sketch of.sketch.content refl others is legal (read_is_legal b of.sketch bytes of.read))
+
+-- ---- what may need memory
+
+-- bytes are read as one sketch alone
+one_read : (b : List ℕ) (x y : Sketch) → IsReadAs b x → IsReadAs b y → x ≡ y
+one_read b x y here there =
+    (one_image (take here.size b) (take there.size b) (drop here.size b) (drop there.size b) x y here.image there.image
+    (take-append-drop here.size b ∙ sym (take-append-drop there.size b))).1
+
+-- what a merge of the sketch needs, where one of the registers is not 0, and the gadget is in coupons or at a greater lg_k
+pub eight_bits_need : (g : Sketch) (b : List ℕ) (k : ℕ) (R : List ℕ) (s : EstimateState) (of : IsOfRegisters b k R) → is_empty of.sketch ≡ false → ContentNeedsMemory g g.content k (registers R s)
+    → EightBitsNeedMemory g b
+eight_bits_need g b k R s of some content = λ eight x read.
+    subst (MergeNeedsMemory g) (one_read b of.sketch x of.read read)
+    (record { some = some; content = subst (λ c. ContentNeedsMemory g g.content of.sketch.lg_k c) (sym of.content) (subst (λ n. ContentNeedsMemory g g.content n (registers R of.state)) (sym of.lg_k) (any_state g.content content)) })
+  where
+    any_state : (c : Content) → ContentNeedsMemory g c k (registers R s) → ContentNeedsMemory g c k (registers R of.state)
+    any_state (coupons S p) need = need
+    any_state (registers Q t) need = need
+
+-- a gadget that is empty has coupons, so registers that aren't all 0 take over from it
+pub empty_gadget_needs : (m : ℕ) (g : Sketch) (b : List ℕ) (k : ℕ) (R : List ℕ) (of : IsOfRegisters b k R) → IsGadget m g → is_empty g ≡ true → is_empty of.sketch ≡ false → EightBitsNeedMemory g b
+empty_gadget_needs m g b k R of is none some = eight_bits_need g b k R of.state of some (by_content g.content (λ inside. true≢false (sym none ∙ is.registers inside)))
+  where
+    by_content : (c : Content) → (in_registers c ≡ true → ⊥) → ContentNeedsMemory g c k (registers R of.state)
+    by_content (coupons S p) outside = tt
+    by_content (registers Q t) outside = absurd (outside refl)
+
+-- what a join of registers of eight bits needs memory for, an image of them does
+pub join_needs : (g : Sketch) (b : List ℕ) (k : ℕ) (R : List ℕ) (of : IsOfRegisters b k R) → is_empty of.sketch ≡ false → ContentNeedsMemory g g.content k (registers R cleared_state)
+    → ImageNeedsMemory g b
+join_needs g b k R of some content = record {
+  sized = sized_if_read b of.sketch of.read;
+  coupons = λ inside up. omega (arith, up.stage, of.stage);
+  registers = eight_bits_need g b k R cleared_state of some content;
+}
+
+-- What reading an image aside needs memory for, where no coupons ascend into registers, and registers of eight bits need it.
+pub image_needs : (g : Sketch) (b : List ℕ) → size_fault b ≡ None → (in_registers g.content ≡ true → HasAscendingCoupons b → ⊥) → EightBitsNeedMemory g b → ImageNeedsMemory g b
+image_needs g b sized none eight = record { sized = sized; coupons = none; registers = eight }

@@ -1,14 +1,18 @@
 -- Images that a union takes in (docs/MODEL.md, "Merging").
-use Rattle.std.specs.Prelude.{◌≡◌, ℕ, false, List, [], ◌∷◌, ◌++◌}
+use Rattle.std.specs.Prelude.{◌≡◌, ℕ, ◌-◌, ◌^◌, ◌<◌, ◌≤◌, ◌==◌, if◌then◌else◌, true, List, [], ◌∷◌, ◌++◌, length, drop, None}
 use Rattle.std.specs.FinSet.{len}
+use Rattle.std.specs.List.Sorted.{IsStrictlyIncreasing}
+use Rattle.hll_coupons.specs.Coupons.{words}
 use Rattle.hll_coupons.specs.Pair.{set_of}
+use Rattle.hll_coupons.specs.Payload.{set_count}
 use Rattle.hll_registers.specs.declared.estimate_state.EstimateState.{EstimateState}
+use Rattle.hll_sketch.specs.Checks.{size_fault}
 use Rattle.hll_sketch.specs.Grown.{IsGrown}
-use Rattle.hll_sketch.specs.Image.{IsReadAs}
+use Rattle.hll_sketch.specs.Image.{IsReadAs, stage_bits, width_bits, state_byte, is_flagged}
 use Rattle.hll_sketch.specs.Joined.{IsJoinOf}
 use Rattle.hll_sketch.specs.Merging.{merge}
-use Rattle.hll_sketch.specs.Union.{UnionLayout, gadget_of}
-use Rattle.hll_sketch.specs.Value.{Sketch, coupons, registers, is_empty, IsLegal}
+use Rattle.hll_sketch.specs.Union.{UnionLayout, gadget_of, MergeNeedsMemory}
+use Rattle.hll_sketch.specs.Value.{Sketch, coupons, registers, in_registers, IsLegal}
 
 -- a union took in the sketch that an image is read as; the join of grown sketches and of this one, where it is grown, is the join of them all
 pub record TakesIn (before after : UnionLayout) (image : List ℕ) : Type 0 where
@@ -26,14 +30,14 @@ pub record IsOfCoupons (bytes order : List ℕ) : Type 0 where
   pub content : sketch.content ≡ coupons (set_of order) size
   pub some : len (set_of order) ≡ 0 → ⊥
 
--- the bytes are read as a sketch of these registers, of which one is not 0
+-- the bytes are read as a sketch of these registers
 pub record IsOfRegisters (bytes : List ℕ) (k : ℕ) (R : List ℕ) : Type 0 where
+  pub stage : stage_bits bytes ≡ 2
   pub sketch : Sketch
   pub read : IsReadAs bytes sketch
   pub lg_k : sketch.lg_k ≡ k
   pub state : EstimateState
   pub content : sketch.content ≡ registers R state
-  pub some : is_empty sketch ≡ false
 
 -- a gadget became its merge with the sketch that an image is read as, which is legal
 pub record MergesImage (bound : ℕ) (before after : Sketch) (image : List ℕ) : Type 0 where
@@ -41,3 +45,33 @@ pub record MergesImage (bound : ℕ) (before after : Sketch) (image : List ℕ) 
   pub read : IsReadAs image sketch
   pub legal : IsLegal sketch
   pub merged : after ≡ merge bound before sketch
+
+-- ---- what may need memory
+
+-- the words of the coupons of a compact image: behind the header of a list, and behind the count of a set
+abbrev pub words_in : List ℕ → List ℕ
+words_in b = if stage_bits b == 0 then words (state_byte b) (drop 8 b) else words (set_count (drop 8 b)) (drop 4 (drop 8 b))
+
+-- the bytes have the header, the counts and the length of a compact list or set, whose words, of which there are some, have a value and
+-- ascend, as in all images that are written here
+pub record HasAscendingCoupons (b : List ℕ) : Type 0 where
+  pub stage : stage_bits b < 2
+  pub sized : size_fault b ≡ None
+  pub compact : is_flagged 8 b ≡ true
+  pub some : 1 ≤ length (words_in b)
+  pub ascending : IsStrictlyIncreasing ((2 ^ 26 - 1) ∷ words_in b)
+
+-- the header is that of registers of eight bits
+abbrev pub HasEightBits : List ℕ → Type 0
+HasEightBits b = (stage_bits b ≡ 2) × (width_bits b ≡ 2)
+
+-- a merge of the sketch needs memory, if bytes are read as registers of eight bits
+abbrev pub EightBitsNeedMemory : Sketch → List ℕ → Type 0
+EightBitsNeedMemory g b = HasEightBits b → (x : Sketch) → IsReadAs b x → MergeNeedsMemory g x
+
+-- A gadget may need memory for an image only where its header, counts and length are right. Into registers it needs none for coupons
+-- that ascend, and for registers of eight bits it needs what a merge of their sketch does.
+pub record ImageNeedsMemory (g : Sketch) (b : List ℕ) : Type 0 where
+  pub sized : size_fault b ≡ None
+  pub coupons : in_registers g.content ≡ true → HasAscendingCoupons b → ⊥
+  pub registers : EightBitsNeedMemory g b

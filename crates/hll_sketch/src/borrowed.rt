@@ -1,9 +1,11 @@
 //! What an image says, as it stands in its bytes: coupons in ascending order, as they are written, and registers of eight
 //! bits. One pass over the bytes tells what they mean, without a table or a copy.
-ghost use Rattle.std.specs.Prelude.{◌≡◌, ◌*◌, ◌^◌, ◌-◌, ◌≤◌, ◌↔◌, ◌∷◌, IsTrue, IfSome, length};
+ghost use Rattle.std.specs.Prelude.{◌≡◌, ◌≢◌, ◌*◌, ◌^◌, ◌-◌, ◌<◌, ◌≤◌, ◌↔◌, ◌∷◌, Some, IsTrue, IfSome, IfNone, IfOk, IfErr, length};
 ghost use Rattle.std.specs.List.Sorted.{IsStrictlyIncreasing};
 ghost use Rattle.hll_coupons.specs.Coupons.{words, AreCoupons};
-ghost use Rattle.hll_sketch.specs.TakenIn.{IsOfCoupons, IsOfRegisters};
+ghost use Rattle.hll_base.specs.declared.error.Reason.TheVariants.{Memory};
+ghost use Rattle.hll_sketch.specs.Checks.{first_fault};
+ghost use Rattle.hll_sketch.specs.TakenIn.{IsOfCoupons, IsOfRegisters, words_in, HasAscendingCoupons, HasEightBits};
 ghost use Rattle.hll_sketch.specs.Header.{header_of};
 ghost use Rattle.hll_sketch.specs.Image.{HasHeader};
 ghost use Rattle.hll_sketch.specs.Laws.{add_in_turn};
@@ -11,10 +13,10 @@ ghost use Rattle.hll_sketch.specs.Union.{sketch_of_registers};
 
 use crate::header::{HEADER_SIZE, Header, Stage};
 use hll_arrays::array8::{Array8, read_registers};
-use hll_arrays::kernels::all_zero;
 use hll_arrays::registers::two_to;
 use hll_base::bounds::SLOT_BITS;
 use hll_base::cursor::SketchSlice;
+use hll_base::error::Error;
 use hll_base::hll_type::HllType;
 use hll_coupons::coupon::Coupon;
 use hll_coupons::serialization::{
@@ -37,7 +39,8 @@ pub(crate) struct Words<'a> {
 impl<'a> Words<'a> {
     /// So many words, if there are any, and the bytes are there.
     fn front(bytes: &'a [u8], count: usize) -> Option<Words<'a>>
-        ensures { IfSome result (λ w. (w.bytes.now ≡ bytes.now) × (w.count ≡ count) × (1 ≤ count) × (4 * count ≤ length bytes.now)) }
+        ensures some { IfSome result (λ w. (w.bytes.now ≡ bytes.now) × (w.count ≡ count) × (1 ≤ count) × (4 * count ≤ length bytes.now)) }
+        ensures none { IfNone result (1 ≤ count → length bytes.now < 4 * count) }
     {
         if count == 0 || bytes.len() / COUPON_SIZE_BYTES < count {
             return None;
@@ -76,7 +79,8 @@ impl<'a> Words<'a> {
 
 /// The coupons of an image of a list or a set, if it has some, is compact, and they ascend. Takes no memory.
 pub(crate) fn ascending_coupons(bytes: &[u8]) -> Option<Words<'_>>
-    ensures { IfSome result (λ w. IsOfCoupons bytes.now (words w.count w.bytes.now)) }
+    ensures some { IfSome result (λ w. IsOfCoupons bytes.now (words w.count w.bytes.now)) }
+    ensures none { IfNone result (HasAscendingCoupons bytes.now → ⊥) }
 {
     let Ok(header) = Header::read(bytes) else {
         return None;
@@ -97,7 +101,9 @@ pub(crate) fn ascending_coupons(bytes: &[u8]) -> Option<Words<'_>>
 fn list_coupons(bytes: &[u8], header: Header) -> Option<Words<'_>>
     requires has { HasHeader bytes.now 0 }
     requires header { header ≡ header_of bytes.now }
-    ensures { IfSome result (λ w. AreCoupons (words w.count w.bytes.now) → IsOfCoupons bytes.now (words w.count w.bytes.now)) }
+    ensures words { IfSome result (λ w. words w.count w.bytes.now ≡ words_in bytes.now) }
+    ensures coupons { IfSome result (λ w. AreCoupons (words w.count w.bytes.now) → IsOfCoupons bytes.now (words w.count w.bytes.now)) }
+    ensures none { IfNone result (HasAscendingCoupons bytes.now → ⊥) }
 {
     if !header.compact || header.empty || header.lg_arr != LG_LIST_PLACES {
         return None;
@@ -113,7 +119,9 @@ fn list_coupons(bytes: &[u8], header: Header) -> Option<Words<'_>>
 fn set_coupons(bytes: &[u8], header: Header) -> Option<Words<'_>>
     requires has { HasHeader bytes.now 1 }
     requires header { header ≡ header_of bytes.now }
-    ensures { IfSome result (λ w. AreCoupons (words w.count w.bytes.now) → IsOfCoupons bytes.now (words w.count w.bytes.now)) }
+    ensures words { IfSome result (λ w. words w.count w.bytes.now ≡ words_in bytes.now) }
+    ensures coupons { IfSome result (λ w. AreCoupons (words w.count w.bytes.now) → IsOfCoupons bytes.now (words w.count w.bytes.now)) }
+    ensures none { IfNone result (HasAscendingCoupons bytes.now → ⊥) }
 {
     if !header.compact
         || header.lg_arr < LG_LEAST_SET_PLACES
@@ -132,22 +140,19 @@ fn set_coupons(bytes: &[u8], header: Header) -> Option<Words<'_>>
     Words::front(cursor.remaining(), count)
 }
 
-/// The registers of an image of eight bits, if any of them is not 0. Takes no memory.
-pub(crate) fn eight_bit_registers(bytes: &[u8]) -> Option<RegisterSlice<'_>>
-    ensures { IfSome result (λ r. IsOfRegisters bytes.now r.0 r.1) }
+/// The registers of an image of eight bits; `None` for another stage or width. Takes no memory.
+///
+/// Fails with the reason of the first check that the header or registers of eight bits fail.
+pub(crate) fn eight_bit_registers(bytes: &[u8]) -> Result<Option<RegisterSlice<'_>>, Error>
+    ensures some { IfOk result (λ found. IfSome found (λ r. IsOfRegisters bytes.now r.0 r.1)) }
+    ensures none { IfOk result (λ found. IfNone found (HasEightBits bytes.now → ⊥)) }
+    ensures err { IfErr result (λ e. (e ≢ Memory) × (first_fault bytes.now ≡ Some e)) }
 {
-    let Ok(header) = Header::read(bytes) else {
-        return None;
-    };
+    let header = Header::read(bytes)?;
     let (Stage::Hll, HllType::Hll8) = (header.stage, header.hll_type) else {
-        return None;
+        return Ok(None);
     };
     let payload = SketchSlice::new(&bytes[HEADER_SIZE..]);
-    let Ok((registers, _)) = read_registers(payload, header.lg_k, header.out_of_order) else {
-        return None;
-    };
-    if all_zero(registers) {
-        return None;
-    }
-    Some(RegisterSlice::new(header.lg_k, registers))
+    let (registers, _) = read_registers(payload, header.lg_k, header.out_of_order)?;
+    Ok(Some(RegisterSlice::new(header.lg_k, registers)))
 }

@@ -1,6 +1,6 @@
 //! Merging a sketch into the gadget of a union (docs/MODEL.md, "Merging"). What needs memory is made aside, and then takes
 //! the place of what was there.
-ghost use Rattle.std.specs.Prelude.{◌≡◌, ◌<◌, nat_le, true, false, IfOk, IfErr, OnOk, OnErr};
+ghost use Rattle.std.specs.Prelude.{◌≡◌, ◌⊎◌, ◌<◌, nat_le, true, false, Some, IfOk, IfErr, OnOk, OnErr};
 ghost use Rattle.std.specs.FinSet.{contains, len, union};
 ghost use Rattle.hll_base.specs.declared.error.Reason.TheVariants.{Memory};
 ghost use Rattle.hll_coupons.specs.Table.{coupons_in, coupons_of};
@@ -9,7 +9,10 @@ ghost use Rattle.hll_registers.specs.Store.{IsStored};
 ghost use Rattle.hll_sketch.specs.Layout.{content_in, sketch_of, width_of};
 ghost use Rattle.hll_sketch.specs.Laws.{add_in_turn};
 ghost use Rattle.hll_sketch.specs.Merging as merging;
-ghost use Rattle.hll_sketch.specs.TakenIn.{MergesImage};
+ghost use Rattle.hll_sketch.specs.Checks.{first_fault};
+ghost use Rattle.hll_sketch.specs.Image.{IsReadAs};
+ghost use Rattle.hll_sketch.specs.Refusal.{IsRefusal};
+ghost use Rattle.hll_sketch.specs.TakenIn.{MergesImage, HasAscendingCoupons, EightBitsNeedMemory, ImageNeedsMemory};
 ghost use Rattle.hll_sketch.specs.Union.{IsGadget, sketch_of_registers, coupons_kept, can_hold_all, ContentNeedsMemory, MergeNeedsMemory};
 ghost use Rattle.hll_sketch.specs.Value.{IsLegal, IsLgK, coupons, in_registers, is_empty, registers};
 
@@ -21,7 +24,7 @@ use crate::stage::most_kept;
 use hll_arrays::array8::Array8;
 use hll_arrays::merge::merge_from;
 use hll_arrays::registers::Registers;
-use hll_base::error::Error;
+use hll_base::error::{Error, Reason};
 use hll_base::hll_type::HllType;
 use hll_coupons::container::Container;
 use hll_coupons::coupon::Coupon;
@@ -111,7 +114,8 @@ impl<A: Allocator + Clone> HllSketch<A> {
         requires gadget { IsGadget bound (sketch_of self.old) }
         ensures merged { result ≡ true → MergesImage bound (sketch_of self.old) (sketch_of self.new) image.now }
         ensures gadget { IsGadget bound (sketch_of self.new) }
-        ensures other { result ≡ false → self.new ≡ self.old }
+        ensures unchanged { result ≡ false → self.new ≡ self.old }
+        ensures other { result ≡ false → in_registers (content_in self.old.layout) ≡ true → HasAscendingCoupons image.now → ⊥ }
     {
         self.value_is_legal();
         let Mode::Array8(array) = &mut self.mode else {
@@ -124,28 +128,48 @@ impl<A: Allocator + Clone> HllSketch<A> {
         true
     }
 
-    /// Merges an image of registers of eight bits into a gadget that is not empty, without a copy of them. Whether it did; else
-    /// nothing has changed.
+    /// Merges an image of registers of eight bits, without a copy of them, unless the gadget is empty and takes them over.
+    /// Whether it did; else nothing has changed.
     ///
-    /// Fails with `Memory`, as `merge` does, and then changes nothing.
+    /// Fails with the reason of the first check that the header or registers of eight bits fail, or with `Memory`, where a
+    /// merge of their sketch needs it, and then changes nothing.
     pub(crate) fn merge_eight_bits(&mut self, bound: u8, image: &[u8]) -> Result<bool, Error>
         requires bound { IsLgK bound }
         requires gadget { IsGadget bound (sketch_of self.old) }
         ensures merged { IfOk result (λ did. did ≡ true → MergesImage bound (sketch_of self.old) (sketch_of self.new) image.now) }
         ensures gadget { IsGadget bound (sketch_of self.new) }
-        ensures other { IfOk result (λ did. did ≡ false → self.new ≡ self.old) }
+        ensures kept { IfOk result (λ did. did ≡ false → self.new ≡ self.old) }
+        ensures other { IfOk result (λ did. did ≡ false → EightBitsNeedMemory (sketch_of self.old) image.now) }
         ensures unchanged { OnErr result (self.new ≡ self.old) }
-        ensures err { IfErr result (λ e. e ≡ Memory) }
+        ensures err { IfErr result (λ e. (e ≡ Memory) ⊎ (first_fault image.now ≡ Some e)) }
+        ensures needed { IfErr result (λ e. e ≡ Memory → ImageNeedsMemory (sketch_of self.old) image.now) }
     {
         self.value_is_legal();
+        let Some(registers) = eight_bit_registers(image)? else {
+            return Ok(false);
+        };
+        if registers.are_all_zero() {
+            return Ok(true);
+        }
         if self.is_empty() {
             return Ok(false);
         }
-        let Some(registers) = eight_bit_registers(image) else {
-            return Ok(false);
-        };
         self.merge_registers(bound, &registers)?;
         Ok(true)
+    }
+
+    /// The sketch of an image, by a clone of this one's allocator.
+    ///
+    /// Fails with the reason of the first check that the bytes fail, or else with `Memory`, where that clone is refused
+    /// too.
+    pub(crate) fn read_beside(&self, image: &[u8]) -> Result<HllSketch<A>, Error>
+        ensures ok { IfOk result (λ s. IsReadAs image.now (sketch_of s)) }
+        ensures err { IfErr result (IsRefusal image.now) }
+    {
+        match self.allocator().clone() {
+            Ok(alloc) => HllSketch::deserialize(alloc, image),
+            Err(_) => Err(fault_or_memory(self.allocator(), image)),
+        }
     }
 
     /// Adds the coupons of a table in turn.
@@ -299,5 +323,15 @@ fn raise_by_each<A: Allocator>(array: &mut Array8<A>, table: &Container<A>)
 {
     for coupon in table.iter() {
         array.update(coupon);
+    }
+}
+
+/// The reason of the first check that bytes fail, or else `Memory`.
+fn fault_or_memory<A: Allocator + Clone>(alloc: A, bytes: &[u8]) -> Error
+    ensures { IsRefusal bytes.now result }
+{
+    match HllSketch::deserialize(alloc, bytes) {
+        Ok(_) => Error::new(Reason::Memory),
+        Err(e) => e,
     }
 }

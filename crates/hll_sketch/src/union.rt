@@ -13,7 +13,7 @@ ghost use Rattle.hll_sketch.specs.Grown.{IsGrown};
 ghost use Rattle.hll_sketch.specs.Layout.{sketch_of, NeedsMemory};
 ghost use Rattle.hll_sketch.specs.Joined.{least_lg_k, IsJoinOf};
 ghost use Rattle.hll_sketch.specs.Merging.{merge, merge_all, empty_union};
-ghost use Rattle.hll_sketch.specs.TakenIn.{TakesIn};
+ghost use Rattle.hll_sketch.specs.TakenIn.{TakesIn, ImageNeedsMemory};
 ghost use Rattle.hll_sketch.specs.Union.{gadget_of, CanTakeIn, MergeNeedsMemory};
 ghost use Rattle.hll_sketch.specs.Value.{Sketch, IsLgK, in_registers, is_empty, size_of};
 
@@ -117,10 +117,13 @@ impl<A: Allocator + Clone> HllUnion<A> {
     /// are written here do, go into registers without a table between, and registers of eight bits without a copy.
     ///
     /// Fails with the reason of the first check that the bytes fail (docs/FORMAT.md, "Order of checks"), or with `Memory`, and
-    /// then changes nothing, places included. Takes memory for the sketch, and where `update` does.
+    /// then changes nothing, places included. Takes memory for the sketch, only once the bytes that the image asks for are
+    /// there, and where `update` does. Takes none for coupons that ascend into registers, nor for registers of eight bits where
+    /// `update` takes none.
     pub fn update_with_image(&mut self, image: &[u8]) -> Result<(), Error>
         ensures ok { OnOk result (TakesIn self.old self.new image.now) }
         ensures unchanged { OnErr result (self.new ≡ self.old) }
+        ensures needed { IfErr result (λ e. e ≡ Memory → ImageNeedsMemory (gadget_of self.old) image.now) }
         ensures err { IfErr result (λ e. (e ≡ Memory) ⊎ (first_fault image.now ≡ Some e)) }
     {
         if self.gadget.merge_ascending(self.lg_max_k, image) {
@@ -129,8 +132,8 @@ impl<A: Allocator + Clone> HllUnion<A> {
         if self.gadget.merge_eight_bits(self.lg_max_k, image)? {
             return Ok(());
         }
-        let alloc = self.gadget.allocator().clone()?;
-        self.update(&HllSketch::deserialize(alloc, image)?)
+        let sketch = self.gadget.read_beside(image)?;
+        self.update(&sketch)
     }
 
     /// Adds a coupon, as to a sketch.

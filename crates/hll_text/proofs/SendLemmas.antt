@@ -1,8 +1,8 @@
 -- Lemmas on bytes that go out piece by piece.
-use Rattle.std.proofs.Common.{arith, ◌≡◌, ℕ, ◌<◌, List, ◌++◌, length, take, drop, sym, ◌∙◌, ap, append_assoc, take-append-drop, Option, Result, Ok, Err}
-use Rattle.std.specs.Prelude.{IsErrAnd, OnOk, IfErr}
+use Rattle.std.proofs.Common.{arith, ◌≡◌, ℕ, List, ◌++◌, sym, ◌∙◌, ap, append_assoc, Option, Result, Ok, Err}
+use Rattle.std.specs.Prelude.{IsErrAnd}
 use Rattle.std.specs.Io.KnownBytes.{Appends}
-use Rattle.std.proofs.lemmas.List.{length-append, length-drop}
+use Rattle.std.proofs.lemmas.List.{length-append}
 use Rattle.hll_text.specs.declared.fault.Fault.{Fault}
 use Rattle.hll_text.specs.declared.fault.Fault.TheVariants.{Write}
 use Rattle.hll_text.proofs.StreamLemmas.{Appends-more}
@@ -39,20 +39,3 @@ pub Sends-failed : {T : Type 0} (old new : Option (List ℕ)) (r : Result T Faul
     → IsErrAnd r (λ x. x ≡ e) → ((e ≡ Write) × AppendsFront old new xs) → Sends old new r (xs ++ ys)
 Sends-failed old new (Ok x) e xs ys h k = elim h [ ]
 Sends-failed old new (Err x) e xs ys h k = (h ∙ k.0, front-first old new xs ys k.1)
-
--- all bytes that `write_all` was given
-pub Sends-all : {T : Type 0} (P Q : Type 0) (old new : Option (List ℕ)) (r : Result T Fault) (bytes : List ℕ)
-    → OnOk r (Appends old new bytes × P)
-    → IfErr r (λ e. (e ≡ Write) × Q × (n : ℕ) × (n < length bytes) × Appends old new (take n bytes))
-    → Sends old new r bytes
-Sends-all P Q old new (Ok x) bytes h k = h.0
-Sends-all P Q old new (Err e) bytes h k = (
-  k.0,
-  record {
-    sent = take k.2 bytes;
-    rest = drop k.2 bytes;
-    parts = sym (take-append-drop k.2 bytes);
-    lacks = omega (arith, k.3, length-drop k.2 bytes);
-    appended = k.4;
-  },
-)

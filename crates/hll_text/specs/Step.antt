@@ -1,5 +1,5 @@
 -- What contracts see of a step: the plan's step, without its allocator (docs/PLAN.md, "The text").
-use Rattle.std.specs.Prelude.{◌≡◌, ◌⊎◌, ℕ, true, List, All, take, ◌<◌, ◌≤◌, ◌^◌, Option, Some, None, Result, Ok, Err}
+use Rattle.std.specs.Prelude.{◌≡◌, ◌⊎◌, ℕ, true, List, All, ◌<◌, ◌≤◌, ◌^◌, Option, Some, None, Result, Ok, Err}
 use denote.Ref.{Bor}
 use Rattle.hll_base.specs.declared.error.Reason.{Reason}
 use Rattle.hll_base.specs.declared.error.Reason.TheVariants as reasons
@@ -36,11 +36,6 @@ line_reading_of (Err e) = Err e
 line_reading_of (Ok lines.Skipped) = Ok None
 line_reading_of (Ok (lines.Image digits)) = image_reading digits.now
 line_reading_of (Ok (lines.Step step)) = Ok (Some (step_of step))
-
--- the plan's step or the fault, of what a reader of an image's digits leaves in a buffer and returns
-abbrev pub image_in : List ℕ → Result ℕ Fault → Result PlanStep Fault
-image_in buffer (Ok size) = Ok (image (take size buffer))
-image_in buffer (Err e) = Err e
 
 -- where a line says an image
 abbrev pub IfImage : {A : Type 0} → Line A → Type 0 → Type 0

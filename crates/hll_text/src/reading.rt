@@ -2,7 +2,7 @@
 ghost use Rattle.std.specs.Prelude.{◌/◌, ◌<◌, ◌≤◌, ◌≡◌, ◌⊎◌, [], ◌∷◌, length, take, true, codes, Ok, Err, OnOk, IfOk, IfErr, IfSome};
 ghost use Rattle.std.specs.Option.{option_copied};
 ghost use Rattle.hll_text.specs.declared.fault.Fault.TheVariants.{Hex, Memory};
-ghost use Rattle.hll_text.specs.Step.{step_reading_of, line_reading_of, image_in, step_of, ReadsAs, IsInRange, IfImage, IfStep};
+ghost use Rattle.hll_text.specs.Step.{step_reading_of, line_reading_of, step_of, ReadsAs, IsInRange, IfImage, IfStep};
 ghost use Rattle.hll_text.specs.Text as plan;
 ghost use Rattle.hll_text.specs.Text.{as_reading, words, words_after, reading, names_image, width, lg_k, FaultsOfLines};
 
@@ -91,41 +91,23 @@ fn coupon_line<'l, A: Allocator>(rest: Option<&[u8]>) -> Result<Line<'l, A>, Fau
     Ok(Line::Step(coupon_step(slot, value)?))
 }
 
-/// Decodes the digits of an image into the front of a buffer, and returns how many bytes there are. The buffer serves line
-/// after line.
+/// The bytes that the digits of an image stand for, in the memory of a buffer, whatever that held. So one buffer serves
+/// line after line.
 ///
-/// What the buffer held is lost; it grows to the longest image and keeps its size. `Hex` where the word is not an even
-/// number of hexadecimal digits: the buffer is empty then. `Memory` where a larger buffer is refused, never where the bytes
-/// have room: the buffer is unchanged then.
-pub fn decode_into<A: Allocator>(buffer: &mut Vec<u8, A>, digits: &[u8]) -> Result<usize, Fault>
-    ensures image { (image_in buffer.new.items result ≡ plan.image_step digits.now) ⊎ (result ≡ Err Memory) }
-    ensures bound { IfOk result (λ n. n ≤ length buffer.new.items) }
-    ensures needed { result ≡ Err Memory → length buffer.old.items < length digits.now / 2 }
-    ensures unchanged { result ≡ Err Memory → buffer.new.items ≡ buffer.old.items }
-    ensures emptied { result ≡ Err Hex → buffer.new.items ≡ [] }
+/// `Hex` where the word is not an even number of hexadecimal digits. Takes memory only where there are more bytes than
+/// the buffer held; `Memory` where that is refused.
+pub fn decode_into<A: Allocator>(mut buffer: Vec<u8, A>, digits: &[u8]) -> Result<Vec<u8, A>, Fault>
+    ensures ok { IfOk result (λ bytes. plan.image_step digits.now ≡ Ok (plan.image bytes.items)) }
+    ensures err { IfErr result (λ e. (e ≡ Memory) ⊎ ((e ≡ Hex) × (plan.image_step digits.now ≡ Err Hex))) }
+    ensures needed { IfErr result (λ e. e ≡ Memory → length buffer.items < length digits.now / 2) }
 {
     let size = digits.len() / 2;
+    buffer.truncate(size);
     if buffer.len() < size {
         buffer.resize(size, 0)?;
     }
-    match decode_front(digits, buffer.as_mut_slice()) {
-        Ok(()) => Ok(size),
-        Err(fault) => {
-            buffer.clear();
-            Err(fault)
-        }
-    }
-}
-
-/// Decodes the digits of an image into the front of some bytes. `Hex` where they are not an even number of hexadecimal
-/// digits.
-fn decode_front(digits: &[u8], bytes: &mut [u8]) -> Result<(), Fault>
-    requires { length digits.now / 2 ≤ length bytes.old }
-    ensures ok { OnOk result (Ok (plan.image (take (length digits.now / 2) bytes.new)) ≡ plan.image_step digits.now) }
-    ensures err { IfErr result (λ e. (e ≡ Hex) × (plan.image_step digits.now ≡ Err Hex)) }
-{
-    match hex::decode_to_slice(digits, &mut bytes[..digits.len() / 2]) {
-        Ok(()) => Ok(()),
+    match hex::decode_to_slice(digits, buffer.as_mut_slice()) {
+        Ok(()) => Ok(buffer),
         Err(_) => Err(Fault::Hex),
     }
 }

@@ -3,27 +3,22 @@ ghost use Rattle.std.specs.Prelude.{◌++◌, ◌∷◌, [], codes, decimal};
 ghost use Rattle.hll_text.specs.Refusal.{Sends, refusal_line, words_of};
 
 use crate::fault::{Fault, MergeError};
-use crate::streams::write_all;
-use crate::watched::Watched;
 use std::io;
 
 /// Writes `line L: `, the words of the fault and LF (docs/PLAN.md, "Refusals").
 ///
-/// `Write` where the writer fails: then it took only a prefix of the line, which may be empty. Takes no memory, apart
-/// from what the stream's own writes take.
-pub fn write_refusal<W: io::Write>(
-    writer: &mut Watched<W>,
-    refusal: &MergeError,
-) -> Result<(), Fault>
-    ensures { Sends (W.contents writer.old.inner) (W.contents writer.new.inner) result (refusal_line refusal.now) }
+/// `Write` where the writer returns an error, or takes no byte although there are some: then it took only a prefix of the
+/// line, which may be empty. Takes no memory, apart from what the stream's own writes take.
+pub fn write_refusal<W: io::Write>(writer: &mut W, refusal: &MergeError) -> Result<(), Fault>
+    ensures { Sends (W.contents writer.old) (W.contents writer.new) result (refusal_line refusal.now) }
 {
     write_start(writer, refusal.line)?;
     write_end(writer, refusal.fault)
 }
 
 /// Writes `line L: `.
-fn write_start<W: io::Write>(writer: &mut Watched<W>, line: u64) -> Result<(), Fault>
-    ensures { Sends (W.contents writer.old.inner) (W.contents writer.new.inner) result (codes "line " ++ (decimal line ++ codes ": ")) }
+fn write_start<W: io::Write>(writer: &mut W, line: u64) -> Result<(), Fault>
+    ensures { Sends (W.contents writer.old) (W.contents writer.new) result (codes "line " ++ (decimal line ++ codes ": ")) }
 {
     write_piece(writer, b"line ")?;
     write_number(writer, line)?;
@@ -31,16 +26,16 @@ fn write_start<W: io::Write>(writer: &mut Watched<W>, line: u64) -> Result<(), F
 }
 
 /// Writes the words of a fault, and LF.
-fn write_end<W: io::Write>(writer: &mut Watched<W>, fault: Fault) -> Result<(), Fault>
-    ensures { Sends (W.contents writer.old.inner) (W.contents writer.new.inner) result (words_of fault ++ 10 ∷ []) }
+fn write_end<W: io::Write>(writer: &mut W, fault: Fault) -> Result<(), Fault>
+    ensures { Sends (W.contents writer.old) (W.contents writer.new) result (words_of fault ++ 10 ∷ []) }
 {
     write_words(writer, fault)?;
     write_piece(writer, b"\n")
 }
 
 /// Writes the words of a fault.
-fn write_words<W: io::Write>(writer: &mut Watched<W>, fault: Fault) -> Result<(), Fault>
-    ensures { Sends (W.contents writer.old.inner) (W.contents writer.new.inner) result (words_of fault) }
+fn write_words<W: io::Write>(writer: &mut W, fault: Fault) -> Result<(), Fault>
+    ensures { Sends (W.contents writer.old) (W.contents writer.new) result (words_of fault) }
 {
     match fault {
         Fault::Syntax => write_piece(writer, b"syntax"),
@@ -59,8 +54,8 @@ fn write_words<W: io::Write>(writer: &mut Watched<W>, fault: Fault) -> Result<()
 }
 
 /// Writes the decimal digits of a number.
-fn write_number<W: io::Write>(writer: &mut Watched<W>, number: u64) -> Result<(), Fault>
-    ensures { Sends (W.contents writer.old.inner) (W.contents writer.new.inner) result (decimal number) }
+fn write_number<W: io::Write>(writer: &mut W, number: u64) -> Result<(), Fault>
+    ensures { Sends (W.contents writer.old) (W.contents writer.new) result (decimal number) }
 {
     let digit = [b'0' + (number % 10) as u8];
     if number < 10 {
@@ -71,8 +66,16 @@ fn write_number<W: io::Write>(writer: &mut Watched<W>, number: u64) -> Result<()
 }
 
 /// Writes all bytes of a piece.
-fn write_piece<W: io::Write>(writer: &mut Watched<W>, piece: &[u8]) -> Result<(), Fault>
-    ensures { Sends (W.contents writer.old.inner) (W.contents writer.new.inner) result piece.now }
+fn write_piece<W: io::Write>(writer: &mut W, piece: &[u8]) -> Result<(), Fault>
+    ensures { Sends (W.contents writer.old) (W.contents writer.new) result piece.now }
 {
-    write_all(writer, piece)
+    let mut sent = 0;
+    while sent < piece.len() {
+        match writer.write(&piece[sent..]) {
+            Ok(0) => return Err(Fault::Write),
+            Ok(count) => sent += count,
+            Err(_) => return Err(Fault::Write),
+        }
+    }
+    Ok(())
 }

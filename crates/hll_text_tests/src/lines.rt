@@ -95,8 +95,16 @@ fn decoded_images(rt: HostRuntime) -> Result<(), Fail> {
     ];
     let mut buffer = Vec::new(rt.alloc());
     for (digits, bytes) in rows {
-        let decoded = decode_into(&mut buffer, digits);
-        assert_eq!(rt; decoded.map(|size| &buffer[..size]), bytes);
+        match decode_into(buffer, digits) {
+            Ok(decoded) => {
+                assert_eq!(rt; Ok(decoded.as_slice()), bytes);
+                buffer = decoded;
+            }
+            Err(fault) => {
+                assert_eq!(rt; Err(fault), bytes);
+                buffer = Vec::new(rt.alloc());
+            }
+        }
     }
     Ok(())
 }

@@ -103,39 +103,6 @@ fn watched_writes(rt: HostRuntime) -> Result<(), Fail> {
     Ok(())
 }
 
-/// Refusals, and the lines that are printed for them.
-const LINES: [(u64, Fault, &[u8]); 10] = [
-    (1, Fault::Syntax, b"line 1: syntax\n"),
-    (2, Fault::Range, b"line 2: range\n"),
-    (10, Fault::Hex, b"line 10: hex\n"),
-    (
-        1,
-        Fault::Image(Reason::Truncated),
-        b"line 1: image truncated\n",
-    ),
-    (1, Fault::Image(Reason::LgK), b"line 1: image lgk\n"),
-    (0, Fault::Stack, b"line 0: stack\n"),
-    (305, Fault::Memory, b"line 305: memory\n"),
-    (99, Fault::Read, b"line 99: read\n"),
-    (
-        18446744073709551615,
-        Fault::Write,
-        b"line 18446744073709551615: write\n",
-    ),
-    (9, Fault::Fold, b"line 9: fold\n"),
-];
-
-#[test]
-fn lines_of_refusals(rt: HostRuntime) -> Result<(), Fail> {
-    for (line, fault, printed) in LINES {
-        let mut writer = Watched::new(Vec::new(rt.alloc()));
-        let refusal = MergeError { line, fault };
-        assert_eq!(rt; write_refusal(&mut writer, &refusal), Ok(()));
-        assert_eq!(rt; writer.into_inner().as_slice(), printed);
-    }
-    Ok(())
-}
-
 /// A front of the line went out where the writer fails.
 #[test]
 fn refusals_to_writers_that_fail(rt: HostRuntime) -> Result<(), Fail> {
@@ -147,11 +114,11 @@ fn refusals_to_writers_that_fail(rt: HostRuntime) -> Result<(), Fail> {
     for room in 0..23usize {
         for fails in [false, true] {
             let mut taken = Vec::new(rt.alloc());
-            let mut writer = Watched::new(Narrow {
+            let mut writer = Narrow {
                 taken: &mut taken,
                 room,
                 fails,
-            });
+            };
             let result = write_refusal(&mut writer, &refusal);
             drop(writer);
             if room < 21 {

@@ -7,7 +7,6 @@ use hll_sketch::HllSketch;
 use hll_text::fault::{Fault, MergeError};
 use hll_text::lines::without_return;
 use hll_text::refusal::write_refusal;
-use hll_text::watched::Watched;
 use std::alloc::Global;
 
 /// The line that a plan prints, or its refusal.
@@ -35,9 +34,9 @@ fn line_of(alloc: Global, printed: &Printed) -> Result<Vec<u8>, Wrong> {
     match printed {
         Ok(bytes) => Ok(bytes.clone()?),
         Err(refusal) => {
-            let mut writer = Watched::new(Vec::new(alloc));
-            match write_refusal(&mut writer, refusal) {
-                Ok(()) => Ok(writer.into_inner()),
+            let mut line = Vec::new(alloc);
+            match write_refusal(&mut line, refusal) {
+                Ok(()) => Ok(line),
                 Err(_) => Err(Wrong::Memory),
             }
         }

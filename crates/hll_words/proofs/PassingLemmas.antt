@@ -10,7 +10,7 @@ use Rattle.hll_sketch.specs.Checks.{first_fault}
 use Rattle.hll_text.specs.declared.fault.Fault.{Fault}
 use Rattle.hll_text.specs.declared.fault.Fault.TheVariants.{Memory, Write}
 use Rattle.hll_text.specs.declared.fault.MergeError.{MergeError}
-use Rattle.hll_text.specs.Step.{fault_of, image_in}
+use Rattle.hll_text.specs.Step.{fault_of}
 use Rattle.hll_text.specs.Text.{image, image_step, line_number, line_of_rest, printed_line}
 use Rattle.hll_text.proofs.StreamLemmas.{Appends-nil, Appends-more}
 use Rattle.hll_words.specs.Passing.{IsPassed, IsRefusedFor, ArePassed, StopsLine, Stops, Passes}
@@ -176,10 +176,6 @@ Stops-before n a b o p f e h = elim h [
 ]
 
 -- ---- one line
-
--- the digits of a line that were decoded
-pub decoded : (buffer line : List ℕ) (n : ℕ) → (image_in buffer (Ok n) ≡ image_step line) ⊎ (let read : Result ℕ Fault = Ok n in read ≡ Err Memory) → image_step line ≡ Ok (image (take n buffer))
-decoded buffer line n h = elim h [ inl e ↦ sym e | inr e ↦ absurd (cc) ]
 
 -- the fault of bytes that were decoded
 pub refused_bytes : (line bytes : List ℕ) (r : Reason) (e : Fault) → image_step line ≡ Ok (image bytes) → e ≡ fault_of r → (r ≡ reasons.Memory) ⊎ (first_fault bytes ≡ Some r) → (e ≡ Memory) ⊎ IsRefusedFor line e

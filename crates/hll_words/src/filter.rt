@@ -1,11 +1,12 @@
 //! Lines of images, passed on with their words set.
-ghost use Rattle.std.specs.Prelude.{◌≡◌, ◌⊎◌, ◌+◌, ◌^◌, ◌<◌, ◌==◌, ◌++◌, ◌∷◌, [], ℕ, List, length, take, drop, position, false, Some, None, MatchOption, MatchResult, IfOk, IfErr, IfSome};
+ghost use Rattle.std.specs.Prelude.{◌≡◌, ◌⊎◌, ◌+◌, ◌^◌, ◌<◌, ◌==◌, ◌++◌, ◌∷◌, [], ℕ, List, length, take, drop, position, false, Ok, Err, Some, None, MatchOption, MatchResult, IfOk, IfErr, IfSome};
 ghost use Rattle.std.specs.Io.KnownBytes.{Appends};
 ghost use Rattle.std.specs.Str.Lines.{strip_carriage_return};
 ghost use Rattle.hll_base.specs.declared.error.Reason.TheVariants as reasons;
 ghost use Rattle.hll_sketch.specs.Checks.{first_fault};
 ghost use Rattle.hll_text.specs.Cuts.{IsOpen};
-ghost use Rattle.hll_text.specs.Text.{ended_lines, open_line, line_of_rest};
+ghost use Rattle.hll_text.specs.Text.{ended_lines, open_line, line_of_rest, image, image_step};
+ghost use Rattle.hll_text.specs.declared.fault.Fault.TheVariants as faults;
 ghost use Rattle.hll_words.specs.Passing.{IsWithWords, IsPassed, Passes, Stops, StopsLine};
 
 use hll_base::error::Error;
@@ -16,7 +17,7 @@ use hll_text::reading::decode_into;
 use hll_text::streams::write_hex_line;
 use hll_text::watched::Watched;
 use std::alloc::{AllocError, Allocator};
-use std::io;
+use std::{io, mem};
 
 /// The image of bytes with the words of an estimator set. The reason of the first check that the bytes fail, or `Memory`.
 fn with_words<A: Allocator + Clone>(alloc: A, bytes: &[u8]) -> Result<Vec<u8, A>, Error>
@@ -26,6 +27,16 @@ fn with_words<A: Allocator + Clone>(alloc: A, bytes: &[u8]) -> Result<Vec<u8, A>
     let mut sketch = HllSketch::deserialize(alloc, bytes)?;
     sketch.set_estimator_words();
     sketch.serialize()
+}
+
+/// The bytes that the digits of a line stand for, in a buffer, which is taken. `Hex` where they are not an even number of
+/// hexadecimal digits, or `Memory` where a larger buffer is refused.
+fn decode<A: Allocator + Clone>(buffer: &mut Vec<u8, A>, digits: &[u8]) -> Result<Vec<u8, A>, Fault>
+    ensures ok { IfOk result (λ bytes. image_step digits.now ≡ Ok (image bytes.items)) }
+    ensures err { IfErr result (λ e. (e ≡ faults.Memory) ⊎ ((e ≡ faults.Hex) × (image_step digits.now ≡ Err faults.Hex))) }
+{
+    let emptied = Vec::new(buffer.allocator().clone()?);
+    decode_into(mem::replace(buffer, emptied), digits)
 }
 
 /// Passes a line on. `Hex`, or `Image` with the reason of the first check that its bytes fail, or `Memory`: then nothing
@@ -42,9 +53,10 @@ fn pass_line<A: Allocator + Clone, W: io::Write>(
         (λ _. (writer.new.failed ≡ false) × (printed : List ℕ) × IsPassed line.now printed × Appends (W.contents writer.old.inner) (W.contents writer.new.inner) printed)
         (λ e. StopsLine line.now (W.contents writer.old.inner) (W.contents writer.new.inner) writer.new.failed e) }
 {
-    let size = decode_into(buffer, line)?;
-    let alloc = buffer.allocator().clone()?;
-    let image = with_words(alloc, &buffer[..size])?;
+    let bytes = decode(buffer, line)?;
+    let alloc = bytes.allocator().clone()?;
+    let image = with_words(alloc, &bytes)?;
+    *buffer = bytes;
     write_hex_line(writer, &image)
 }
 

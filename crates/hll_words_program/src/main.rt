@@ -14,7 +14,7 @@ fn main(rt: HostRuntime) -> ExitCode {
         Ok(()) => ExitCode::SUCCESS,
         Err(refusal) => {
             // If standard error fails too, only the exit status is left.
-            let _ = write_refusal(&mut Watched::new(rt.stderr()), &refusal);
+            let _ = write_refusal(&mut rt.stderr(), &refusal);
             ExitCode::FAILURE
         }
     }

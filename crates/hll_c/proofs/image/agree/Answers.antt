@@ -4,7 +4,7 @@ use Rattle.std.proofs.lemmas.Result.{IfOk-weaker, IfErr-weaker}
 use Rattle.hll_sketch.specs.Layout.{sketch_of}
 use Rattle.hll_c.specs.Answers.{RefusesImages}
 use Rattle.hll_c.specs.Calls.{SaysAgreement}
-use Rattle.hll_c.proofs.Images.{refuses_first, refuses_second, refuses_more_memory}
+use Rattle.hll_c.proofs.Images.{asked_behind, refuses_first, refuses_second, refuses_more_memory}
 use Rattle.hll_c.proofs.image.agree.Goals as goal
 
 pub returns-in_err-left-clause-err : goal.returns-in_err-left-clause-err
@@ -41,5 +41,7 @@ pub returns-clause-err : goal.returns-clause-err
 returns-clause-err c =
     let all = c.args.left.now ∷ c.args.right.now ∷ [] in
     IfErr-weaker c.agreement.result _ (RefusesImages (Unit {0}) all c.args.failed.now c.read-2.new.failed)
-    (λ e memory. refuses_more_memory (Unit {0}) all c.args.failed.now c.read-2.new.failed e memory tt (c.in_ok-right.ensures.ok.1 ∙ c.in_ok-left.ensures.ok.1))
+    (λ e memory. refuses_more_memory (Unit {0}) all c.args.failed.now c.read-2.new.failed e 2 memory tt
+    (asked_behind all (sketch_of c.in_ok-left.left ∷ sketch_of c.in_ok-right.right ∷ []) (c.in_ok-left.ensures.ok.0, (c.in_ok-right.ensures.ok.0, tt)))
+    (c.in_ok-right.ensures.ok.1 ∙ c.in_ok-left.ensures.ok.1))
     c.agreement.ensures.err

@@ -6,7 +6,7 @@ use Rattle.hll_c.specs.Answers.{RefusesImages}
 use Rattle.hll_c.specs.Calls.{AreUnionArguments, IsUnionOf}
 use Rattle.hll_sketch.specs.Union.{gadget_of}
 use Rattle.hll_c.proofs.Batches.{united_two, is_union}
-use Rattle.hll_c.proofs.Images.{refuses_arguments, refuses_first, refuses_second, refuses_more_memory}
+use Rattle.hll_c.proofs.Images.{asked_behind, refuses_arguments, refuses_first, refuses_second, refuses_more_memory}
 use Rattle.hll_c.proofs.image.merged.Goals as goal
 
 pub returns-in_err-width-clause-err : goal.returns-in_err-width-clause-err
@@ -61,5 +61,7 @@ returns-clause-err c =
     let Are = AreUnionArguments c.args.lg_max_k c.args.width in
     let are : Are = record { lg_max_k_is = c.in_ok-union.ensures.lg_k; width_is = record { width = c.in_ok-width.width; is = c.in_ok-width.ensures.ok } } in
     IfErr-weaker c.into_sketch.result _ (RefusesImages Are all c.args.failed.now c.take_in-2.new.failed)
-    (λ e memory. refuses_more_memory Are all c.args.failed.now c.take_in-2.new.failed e memory are (c.in_ok-take_in-2.ensures.ok.1 ∙ c.in_ok-take_in.ensures.ok.1))
+    (λ e memory. refuses_more_memory Are all c.args.failed.now c.take_in-2.new.failed e 2 memory are
+    (asked_behind all (c.in_ok-take_in.ensures.ok.0.sketch ∷ c.in_ok-take_in-2.ensures.ok.0.sketch ∷ []) (c.in_ok-take_in.ensures.ok.0.read, (c.in_ok-take_in-2.ensures.ok.0.read, tt)))
+    (c.in_ok-take_in-2.ensures.ok.1 ∙ c.in_ok-take_in.ensures.ok.1))
     c.into_sketch.ensures.err

@@ -7,7 +7,7 @@ use Rattle.hll_c.specs.Answers.{RefusesImages}
 use Rattle.hll_c.specs.Batches.{AreEnds, strings}
 use Rattle.hll_c.specs.Calls.{AreUnionArguments, AreBatchArguments, IsUnionOfBatch}
 use Rattle.hll_c.proofs.Batches.{not_so, united_all, is_union, refuses_batch}
-use Rattle.hll_c.proofs.Images.{refuses_arguments, refuses_more_memory}
+use Rattle.hll_c.proofs.Images.{asked_behind, refuses_arguments, refuses_more_memory}
 use Rattle.hll_c.proofs.image.united.Goals as goal
 
 pub returns-in_err-width-clause-err : goal.returns-in_err-width-clause-err
@@ -67,5 +67,5 @@ returns-clause-err c =
       are = c.are_ends.ensures.0 c.if-not-are_ends.false;
     } in
     IfErr-weaker c.into_sketch.result _ (RefusesImages Are all c.args.failed.now c.take_in_all.new.failed)
-    (λ e memory. refuses_more_memory Are all c.args.failed.now c.take_in_all.new.failed e memory are c.in_ok-take_in_all.ensures.ok.1)
+    (λ e memory. refuses_more_memory Are all c.args.failed.now c.take_in_all.new.failed e (length all) memory are (asked_behind all c.in_ok-take_in_all.ensures.ok.0.sketches c.in_ok-take_in_all.ensures.ok.0.read) c.in_ok-take_in_all.ensures.ok.1)
     c.into_sketch.ensures.err

@@ -1,6 +1,8 @@
-use Rattle.std.proofs.Common.{List, ℕ, sym, subst}
+use Rattle.std.proofs.Common.{◌≡◌, ◌-◌, ◌^◌, ◌∷◌, List, ℕ, sym, subst, ap, ◌∙◌}
+use Rattle.std.proofs.lemmas.Bool.{true≢false}
+use Rattle.std.specs.List.Sorted.{IsStrictlyIncreasing}
 use Rattle.hll_coupons.specs.Coupons.{words, AreCoupons}
-use Rattle.hll_sketch.specs.TakenIn.{IsOfCoupons}
+use Rattle.hll_sketch.specs.TakenIn.{IsOfCoupons, words_in}
 use Rattle.hll_sketch.specs.declared.borrowed.Words.{Words}
 use Rattle.hll_sketch.proofs.BorrowedCoupons.{increasing_coupons}
 use Rattle.hll_sketch.proofs.borrowed.ascending_coupons.Goals as goal
@@ -10,12 +12,23 @@ use Rattle.hll_sketch.proofs.borrowed.ascending_coupons.Goals.{in-List+in_ok-cou
 abbrev Means : List ℕ → Words → Type 0
 Means b w = AreCoupons (words w.count w.bytes.now) → IsOfCoupons b (words w.count w.bytes.now)
 
-pub returns-then-ascend : goal.returns-then-ascend
-returns-then-ascend c =
+pub returns-then-ascend-clause-some : goal.returns-then-ascend-clause-some
+returns-then-ascend-clause-some c =
     let are : AreCoupons (words c.match-header.coupons.count c.match-header.coupons.bytes.now) = increasing_coupons _ (c.ascend.ensures.0 c.if-ascend.true) in
     let meaning : AreCoupons (words c.match-header.coupons.count c.match-header.coupons.bytes.now) → IsOfCoupons c.args.bytes.now (words c.match-header.coupons.count c.match-header.coupons.bytes.now) =
     elim c.match-header.branch [
-      | in-List+in_ok-coupons-in-List w ↦ subst (Means c.args.bytes.now) (sym w.coupons-is) w.in_ok-coupons-in-List.ensures
-      | in-Set+in_ok-coupons-in-Set w ↦ subst (Means c.args.bytes.now) (sym w.coupons-is) w.in_ok-coupons-in-Set.ensures
+      | in-List+in_ok-coupons-in-List w ↦ subst (Means c.args.bytes.now) (sym w.coupons-is) w.in_ok-coupons-in-List.ensures.coupons
+      | in-Set+in_ok-coupons-in-Set w ↦ subst (Means c.args.bytes.now) (sym w.coupons-is) w.in_ok-coupons-in-Set.ensures.coupons
     ] in
     meaning are
+
+pub returns-else-ascend-clause-none : goal.returns-else-ascend-clause-none
+returns-else-ascend-clause-none c = λ up.
+    let found : List ℕ = words c.match-header.coupons.count c.match-header.coupons.bytes.now in
+    let same : found ≡ words_in c.args.bytes.now =
+    elim c.match-header.branch [
+      | in-List+in_ok-coupons-in-List w ↦ ap (λ (x : Words). words x.count x.bytes.now) w.coupons-is ∙ w.in_ok-coupons-in-List.ensures.words
+      | in-Set+in_ok-coupons-in-Set w ↦ ap (λ (x : Words). words x.count x.bytes.now) w.coupons-is ∙ w.in_ok-coupons-in-Set.ensures.words
+    ] in
+    let ascends = c.ascend.ensures.1 (subst (λ ws. IsStrictlyIncreasing ((2 ^ 26 - 1) ∷ ws)) (sym same) up.ascending) in
+    true≢false (sym ascends ∙ c.if-ascend.false)

@@ -1,13 +1,16 @@
-use Rattle.std.proofs.Common.{◌≡◌, ℕ, ◌+◌, ◌^◌, ◌==◌, List, take, drop, false, refl, sym, ap, subst, ◌∙◌}
-use Rattle.std.specs.List.{list_all}
+use Rattle.std.proofs.Common.{◌≡◌, ℕ, ◌+◌, ◌^◌, List, Some, take, drop, refl, sym, ap, subst, ◌∙◌}
 use Rattle.std.proofs.lemmas.List.{take_rest}
-use Rattle.hll_registers.specs.Payload.{state_at, IsHll8Payload}
+use Rattle.hll_base.proofs.Errors.{IfErr-passed}
+use Rattle.hll_base.specs.declared.error.Reason.TheVariants.{Memory}
+use Rattle.hll_registers.specs.Payload.{state_at, IsHll8Payload, FirstHll8Fault}
 use Rattle.hll_registers.specs.Store.{Stored}
 use Rattle.hll_sketch.specs.Header.{number_of_stage}
 use Rattle.hll_sketch.specs.Image.{lg_k_byte, stage_bits, width_bits, is_flagged, HasHeader}
 use Rattle.hll_sketch.specs.TakenIn.{IsOfRegisters}
 use Rattle.hll_sketch.specs.declared.header.Header.{Header}
-use Rattle.hll_sketch.proofs.Emptiness.{zeros-empty}
+use Rattle.hll_sketch.specs.Checks.{first_fault}
+use Rattle.hll_sketch.proofs.FaultKinds.{eight_not_memory}
+use Rattle.hll_sketch.proofs.FirstFailing.{eight_first}
 use Rattle.hll_sketch.proofs.FrontImages.{read_as-eight}
 use Rattle.hll_sketch.proofs.Headers.{number_of_stage_of_bits, bits_of_eight}
 use Rattle.hll_sketch.proofs.borrowed.eight_bit_registers.Goals as goal
@@ -16,25 +19,38 @@ use Rattle.hll_sketch.proofs.borrowed.eight_bit_registers.Goals as goal
 abbrev Given : ℕ → List ℕ → List ℕ → Type 0
 Given k R payload = IsHll8Payload k (take (32 + 2 ^ k) payload) × (R ≡ take (2 ^ k) (drop 32 payload))
 
-pub returns : goal.returns
-returns c =
+pub returns-in_err-registers-clause-err : goal.returns-in_err-registers-clause-err
+returns-in_err-registers-clause-err c =
     let b : List ℕ = c.args.bytes.now in
-    let R : List ℕ = c.in-Ok-read_registers.registers.now in
-    let read = c.in-Ok.ensures.ok in
+    let e = c.in_err-registers.field-0.0 in
+    let read = c.in_ok-header.ensures.ok in
     let k = ap (λ (h : Header). h.lg_k) read.2 in
     let stage : stage_bits b ≡ 2 = sym (number_of_stage_of_bits (stage_bits b) read.1) ∙ ap number_of_stage (ap (λ (h : Header). h.stage) (sym read.2) ∙ c.in-Hll-Hll8.is-0) in
     let has : HasHeader b 2 = subst (HasHeader b) stage read.0 in
     let width : width_bits b ≡ 2 = bits_of_eight (width_bits b) has.width (ap (λ (h : Header). h.hll_type) (sym read.2) ∙ c.in-Hll-Hll8.is-1) in
-    let found = c.in-Ok-read_registers.ensures.ok in
-    let given : Given (lg_k_byte b) R (drop 8 b) = subst (λ k. Given k R (drop 8 b)) k (subst (Given c.in-Ok.header.lg_k R) (c.new-payload.ensures ∙ take_rest b 8) (found.0, found.1)) in
+    let entry = c.new-payload.ensures ∙ take_rest b 8 in
+    let first : FirstHll8Fault (lg_k_byte b) (drop 8 b) e = subst (λ n. FirstHll8Fault n (drop 8 b) e) k (subst (λ xs. FirstHll8Fault c.in_ok-header.header.lg_k xs e) entry c.in_err-registers.ensures.order) in
+    IfErr-passed (λ r. (r ≡ Memory → ⊥) × (first_fault b ≡ Some r)) c.from_residual-in_err-registers.result e c.from_residual-in_err-registers.ensures.1
+    (eight_not_memory (lg_k_byte b) (drop 8 b) e first, eight_first b e has width first)
+
+pub returns-clause-some : goal.returns-clause-some
+returns-clause-some c =
+    let b : List ℕ = c.args.bytes.now in
+    let R : List ℕ = c.in_ok-registers.registers.now in
+    let read = c.in_ok-header.ensures.ok in
+    let k = ap (λ (h : Header). h.lg_k) read.2 in
+    let stage : stage_bits b ≡ 2 = sym (number_of_stage_of_bits (stage_bits b) read.1) ∙ ap number_of_stage (ap (λ (h : Header). h.stage) (sym read.2) ∙ c.in-Hll-Hll8.is-0) in
+    let has : HasHeader b 2 = subst (HasHeader b) stage read.0 in
+    let width : width_bits b ≡ 2 = bits_of_eight (width_bits b) has.width (ap (λ (h : Header). h.hll_type) (sym read.2) ∙ c.in-Hll-Hll8.is-1) in
+    let found = c.in_ok-registers.ensures.ok in
+    let given : Given (lg_k_byte b) R (drop 8 b) = subst (λ k. Given k R (drop 8 b)) k (subst (Given c.in_ok-header.header.lg_k R) (c.new-payload.ensures ∙ take_rest b 8) (found.0, found.1)) in
     let x : Stored = record { lg_k = lg_k_byte b; registers = R; state = state_at (is_flagged 16 b) (drop 8 b) } in
-    let some : list_all (λ v. v == 0) R ≡ false = sym c.all_zero.ensures ∙ c.if-all_zero.false in
-    let here : IsOfRegisters b c.in-Ok.header.lg_k R = record {
+    let here : IsOfRegisters b c.in_ok-header.header.lg_k R = record {
+      stage = stage;
       sketch = _;
       read = read_as-eight b x has width given.0 (λ i. record { lg_k = lg_k_byte b; registers = given.1 i; state = state_at (is_flagged 16 b) (drop 8 b) });
       lg_k = sym k;
       state = x.state;
       content = refl;
-      some = sym (zeros-empty R) ∙ some;
     } in
     subst (λ p. IsOfRegisters b p.0 p.1) (sym c.new.ensures) here

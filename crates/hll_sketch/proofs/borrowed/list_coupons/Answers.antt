@@ -6,13 +6,14 @@ use Rattle.hll_coupons.specs.Coupons.{words, AreCoupons}
 use Rattle.hll_sketch.specs.declared.header.Header.{Header}
 use Rattle.hll_sketch.specs.TakenIn.{IsOfCoupons}
 use Rattle.hll_sketch.proofs.BorrowedCoupons.{list_of_coupons}
+use Rattle.hll_sketch.proofs.SizedImages.{list_there, IfNone_then}
 use Rattle.hll_sketch.proofs.borrowed.list_coupons.Goals as goal
 
-pub returns : goal.returns
-returns c =
+pub returns-clause-coupons : goal.returns-clause-coupons
+returns-clause-coupons c =
     let b : List ℕ = c.args.bytes.now in
     let says = c.requires.header in
-    IfSome_then c.front.result c.front.ensures λ w is. λ are.
+    IfSome_then c.front.result c.front.ensures.some λ w is. λ are.
     let place = is.0 ∙ take_rest b 8 in
     let same : words w.count w.bytes.now ≡ words w.count (drop 8 b) = ap (words w.count) place in
     let number = is.1 ∙ c.from-count.ensures in
@@ -24,3 +25,10 @@ returns c =
     (omega (arith, is.2, is.1)) (omega (arith, number, c.from-count.ensures, c.if-two_to-count.false, c.two_to.ensures))
     (omega (arith, is.3, is.1, ap length (take_rest b 8)))
     (subst AreCoupons same are))
+
+pub returns-clause-none : goal.returns-clause-none
+returns-clause-none c = IfNone_then c.front.result c.front.ensures.none λ short up.
+    let there = list_there c.args.bytes.now c.requires.has up in
+    let count = c.from-count.ensures ∙ ap (λ (h : Header). h.state_byte) c.requires.header in
+    let less = short (omega (arith, there.0, count)) in
+    omega (arith, there.1, count, less, ap length (take_rest c.args.bytes.now 8))

@@ -8,10 +8,11 @@ use Rattle.hll_coupons.specs.Payload.{set_count}
 use Rattle.hll_sketch.specs.Image.{HasSetTable}
 use Rattle.hll_sketch.specs.TakenIn.{IsOfCoupons}
 use Rattle.hll_sketch.proofs.BorrowedCoupons.{set_of_coupons}
+use Rattle.hll_sketch.proofs.SizedImages.{set_there, IfNone_then}
 use Rattle.hll_sketch.proofs.borrowed.set_coupons.Goals as goal
 
-pub returns : goal.returns
-returns c =
+pub returns-clause-coupons : goal.returns-clause-coupons
+returns-clause-coupons c =
     let b : List ℕ = c.args.bytes.now in
     let says = c.requires.header in
     let size = ap (λ (h : Header). h.lg_arr) says in
@@ -19,7 +20,7 @@ returns c =
     let table : HasSetTable b = record { low = omega (arith, c.if-header-lt-LG_LEAST_SET_PLACES.false, size); high = omega (arith, c.if-header.false, size, k, c.requires.has.lg_k.low) } in
     let entry = c.new-cursor.ensures ∙ take_rest b 8 in
     let read = c.in-Ok.ensures.ok in
-    IfSome_then c.front.result c.front.ensures λ w is. λ are.
+    IfSome_then c.front.result c.front.ensures.some λ w is. λ are.
     let place : w.bytes.now ≡ drop 4 (drop 8 b) = is.0 ∙ c.remaining.ensures ∙ read.2 ∙ ap (drop 4) entry in
     let same : words w.count w.bytes.now ≡ words w.count (drop 4 (drop 8 b)) = ap (words w.count) place in
     subst (IsOfCoupons b) (sym same) (set_of_coupons b w.count c.requires.has table
@@ -29,3 +30,14 @@ returns c =
     (omega (arith, is.2, is.1)) (omega (arith, is.1, c.two_to.ensures, ap (λ n. 2 ^ n) size))
     (omega (arith, is.3, is.1, ap length (sym place)))
     (subst AreCoupons same are))
+
+pub returns-clause-none : goal.returns-clause-none
+returns-clause-none c = IfNone_then c.front.result c.front.ensures.none λ short up.
+    let b : List ℕ = c.args.bytes.now in
+    let there = set_there b c.requires.has up in
+    let entry = c.new-cursor.ensures ∙ take_rest b 8 in
+    let read = c.in-Ok.ensures.ok in
+    let count = read.1 ∙ ap set_count entry in
+    let place = c.remaining.ensures ∙ read.2 ∙ ap (drop 4) entry in
+    let less = short (omega (arith, there.0, count)) in
+    omega (arith, there.1, count, less, ap length place)

@@ -1,25 +1,22 @@
-use Rattle.std.proofs.Common.{◌≡◌, ℕ, List, take, refl, sym, subst}
+use Rattle.std.proofs.Common.{◌≡◌, ℕ, List, refl, sym, subst}
 use Rattle.std.specs.Prelude.{Ok}
 use Rattle.hll_text.specs.Text.{image, image_step, printed_line}
 use Rattle.hll_words.specs.Passing.{IsPassed}
-use Rattle.hll_words.proofs.PassingLemmas.{decoded, refused_line, written_line}
+use Rattle.hll_words.proofs.PassingLemmas.{refused_line, written_line}
 use Rattle.hll_words.proofs.filter.pass_line.Goals as goal
 
 pub returns-in_err-image : goal.returns-in_err-image
 returns-in_err-image g c =
-    let buffer : List ℕ = c.decode_into.new.buffer.items in
-    let size : ℕ = c.in_ok-size.size in
-    refused_line _ c.args.line.now (take size c.deref.result.now) _ _ c.in_err-image.field-0.0 _ c.from_residual-in_err-image.ensures.1 c.requires
-    (subst (λ bs. image_step c.args.line.now ≡ Ok (image (take size bs))) (sym c.deref.ensures.value) (decoded buffer c.args.line.now size c.in_ok-size.ensures.image))
-    c.in_err-image.ensures.err
+    let bytes : List ℕ = c.deref.result.now in
+    let digits : image_step c.args.line.now ≡ Ok (image bytes) = subst (λ bs. image_step c.args.line.now ≡ Ok (image bs)) (sym c.deref.ensures.value) c.in_ok-bytes.ensures.ok in
+    refused_line _ c.args.line.now bytes _ _ c.in_err-image.field-0.0 _ c.from_residual-in_err-image.ensures.1 c.requires digits c.in_err-image.ensures.err
 
 pub returns : goal.returns
 returns g c =
-    let buffer : List ℕ = c.decode_into.new.buffer.items in
-    let size : ℕ = c.in_ok-size.size in
+    let bytes : List ℕ = c.deref.result.now in
     let passed : IsPassed c.args.line.now (printed_line c.in_ok-image.image.items) = record {
-      bytes = take size c.deref.result.now;
-      digits = subst (λ bs. image_step c.args.line.now ≡ Ok (image (take size bs))) (sym c.deref.ensures.value) (decoded buffer c.args.line.now size c.in_ok-size.ensures.image);
+      bytes = bytes;
+      digits = subst (λ bs. image_step c.args.line.now ≡ Ok (image bs)) (sym c.deref.ensures.value) c.in_ok-bytes.ensures.ok;
       new = c.in_ok-image.image.items;
       words = c.in_ok-image.ensures.ok;
       shown = refl;

@@ -25,10 +25,10 @@ returns-clause-ok g c =
     c.in_ok-write_header.ensures.ok
     ∙ (λ i. let h : HllHeader = c.header.ensures i in c.in_ok-bytes.ensures.ok i ++ (10 ∷ 1 ∷ 7 ∷ h.lg_config_k ∷ 0 ∷ (h.flags + flag_of c.estimate_state.result) ∷ h.minimum ∷ mode_byte 2 h.hll_type ∷ []))
     ∙ (λ i. header_of (k i) (m i) (state i)) in
-    let second : c.write.new.bytes ≡ H ++ number_bytes x.state (count_at_minimum R) count = c.in_ok-write.ensures.ok ∙ (λ i. first i ++ number_bytes (state i) (at i) count) in
+    let second : c.in_ok-bytes-2.bytes ≡ H ++ number_bytes x.state (count_at_minimum R) count = c.in_ok-bytes-2.ensures.ok ∙ (λ i. first i ++ number_bytes (state i) (at i) count) in
     let image : List ℕ = c.into_bytes.result.items in
-    let written : WritesAscending (λ order. (c.write.new.bytes ++ nibble_bytes R) ++ coupon_bytes order) (set_of (exceptions R)) image =
-    subst (WritesAscending (λ order. (c.write.new.bytes ++ nibble_bytes R) ++ coupon_bytes order) (set_of (exceptions R))) (sym c.into_bytes.ensures) c.in_ok-written.ensures.ok in
+    let written : WritesAscending (λ order. (c.in_ok-bytes-2.bytes ++ nibble_bytes R) ++ coupon_bytes order) (set_of (exceptions R)) image =
+    subst (WritesAscending (λ order. (c.in_ok-bytes-2.bytes ++ nibble_bytes R) ++ coupon_bytes order) (set_of (exceptions R))) (sym c.into_bytes.ensures) c.in_ok-written.ensures.ok in
     subst (λ k. WritesRegisters image k Hll4 c.args.self.now.stored.registers c.args.self.now.stored.state) (sym c.requires)
     (subst (λ (z : FourBits). WritesRegisters image z.stored.lg_k Hll4 z.stored.registers z.stored.state) view
-    (image_is x.registers.lg_k R x.state count c.exception_count-count.ensures.count c.write.new.bytes image second written))
+    (image_is x.registers.lg_k R x.state count c.exception_count-count.ensures.count c.in_ok-bytes-2.bytes image second written))

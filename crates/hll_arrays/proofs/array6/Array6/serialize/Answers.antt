@@ -26,9 +26,9 @@ returns-clause-ok g c =
     let B : List ℕ = flat_map (λ x. x) G in
     let first : c.write_header.new.bytes ≡ header =
     c.in_ok-write_header.ensures.ok ∙ (λ i. c.in_ok-bytes.ensures.ok i ++ header_of (c.plain.ensures i) state) ∙ ap (λ flags. 10 ∷ 1 ∷ 7 ∷ k ∷ 0 ∷ flags ∷ 0 ∷ 6 ∷ []) (zero-add (flag_of state)) in
-    let second : c.write.new.bytes ≡ header ++ N = c.in_ok-write.ensures.ok ∙ (λ i. first i ++ number_bytes state (count i) 0) in
-    let third : c.write-2.new.self ≡ (header ++ N) ++ B = c.in_ok-write-2.ensures.ok ∙ (λ i. second i ++ (c.as_flattened.ensures.value ∙ ap (flat_map (λ x. x)) c.deref.ensures.value) i) in
-    let all : c.into_bytes.result.items ≡ ((header ++ N) ++ B) ++ 0 ∷ [] = c.into_bytes.ensures ∙ c.in_ok-write-3.ensures.ok ∙ ap (λ b. b ++ 0 ∷ []) third in
+    let second : c.in_ok-bytes-2.bytes ≡ header ++ N = c.in_ok-bytes-2.ensures.ok ∙ (λ i. first i ++ number_bytes state (count i) 0) in
+    let third : c.write-2.new.self ≡ (header ++ N) ++ B = c.in_ok-write.ensures.ok ∙ (λ i. second i ++ (c.as_flattened.ensures.value ∙ ap (flat_map (λ x. x)) c.deref.ensures.value) i) in
+    let all : c.into_bytes.result.items ≡ ((header ++ N) ++ B) ++ 0 ∷ [] = c.into_bytes.ensures ∙ c.in_ok-write-2.ensures.ok ∙ ap (λ b. b ++ 0 ∷ []) third in
     let parts : ((header ++ N) ++ B) ++ 0 ∷ [] ≡ header ++ (N ++ (B ++ 0 ∷ [])) = append_assoc (header ++ N) B (0 ∷ []) ∙ append_assoc header N (B ++ 0 ∷ []) in
     subst (λ (x : Stored). c.into_bytes.result.items ≡ hll6_bytes k x.registers x.state) c.self.view_is
     (all ∙ parts ∙ ap (λ r. header ++ (N ++ r)) (field_bytes-registers_in G c.self.invariant.2.bytes))

@@ -31,7 +31,7 @@ returns-clause-merged g c = λ _.
     let is : in_bytes k a ≡ c.args.self.now = (λ i. let y : SketchLayout = record { lg_k = k; layout = layout_of (sym c.in-Array8.is i) } in y) ∙ c.self.view_is in
     let here : a.lg_k ≡ k = subst (IsLayoutFor k) (ap layout_of c.in-Array8.is) c.self.invariant.1 in
     let bytes : AreBytes c.args.image.now = All-from_get_or (λ n. n < 256) c.args.image.now 0 (λ i within. omega (arith, c.type_inv.image i)) in
-    merged_image c.args.bound (sketch_of c.args.self.now) _ c.args.image.now order c.requires.gadget (ap (λ (y : SketchLayout). in_registers (content_in y.layout)) (sym is)) c.in-Some.ensures
+    merged_image c.args.bound (sketch_of c.args.self.now) _ c.args.image.now order c.requires.gadget (ap (λ (y : SketchLayout). in_registers (content_in y.layout)) (sym is)) c.in-Some.ensures.some
     (raised_as k a c.raise.new.array order here c.raise.ensures.lg_k c.raise.ensures.added ∙ ap (λ y. add_in_turn (sketch_of y) order) is)
     bytes
 
@@ -43,6 +43,6 @@ returns-clause-gadget g c =
     let is : in_bytes k a ≡ c.args.self.now = (λ i. let y : SketchLayout = record { lg_k = k; layout = layout_of (sym c.in-Array8.is i) } in y) ∙ c.self.view_is in
     let here : a.lg_k ≡ k = subst (IsLayoutFor k) (ap layout_of c.in-Array8.is) c.self.invariant.1 in
     let bytes : AreBytes c.args.image.now = All-from_get_or (λ n. n < 256) c.args.image.now 0 (λ i within. omega (arith, c.type_inv.image i)) in
-    still_gadget c.args.bound (sketch_of c.args.self.now) _ c.args.image.now order c.requires.gadget (ap (λ (y : SketchLayout). in_registers (content_in y.layout)) (sym is)) c.in-Some.ensures
+    still_gadget c.args.bound (sketch_of c.args.self.now) _ c.args.image.now order c.requires.gadget (ap (λ (y : SketchLayout). in_registers (content_in y.layout)) (sym is)) c.in-Some.ensures.some
     (raised_as k a c.raise.new.array order here c.raise.ensures.lg_k c.raise.ensures.added ∙ ap (λ y. add_in_turn (sketch_of y) order) is)
     bytes c.value_is_legal.ensures

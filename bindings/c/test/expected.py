@@ -1,0 +1,157 @@
+#!/usr/bin/env python3
+# SPDX-License-Identifier: Apache-2.0
+"""Prints expected.h: estimates of histograms and of numbers of coupons, by the formulas of docs/ESTIMATES.md in
+decimal numbers of 60 digits. With --check it compares them with the file."""
+import pathlib
+import sys
+from decimal import Decimal, getcontext
+
+getcontext().prec = 60
+FILE = pathlib.Path(__file__).resolve().parent / "expected.h"
+LN2, ONE, HALF = Decimal(2).ln(), Decimal(1), Decimal("0.5")
+SLOTS = Decimal(2) ** 26
+TINY = Decimal(10) ** -58
+
+# Histograms by lg_k: how many registers have which value. Each formula has rows in which its part is not small.
+HISTOGRAMS = [
+    (4, {0: 16}),
+    (4, {0: 15, 1: 1}),
+    (4, {0: 8, 1: 4, 2: 3, 5: 1}),
+    (4, {0: 1, 1: 10, 3: 5}),
+    (4, {1: 16}),
+    (4, {3: 6, 4: 6, 7: 4}),
+    (4, {40: 8, 41: 8}),
+    (4, {61: 9, 62: 7}),
+    (4, {62: 8, 63: 8}),
+    (4, {62: 1, 63: 15}),
+    (4, {0: 1, 63: 15}),
+    (4, {63: 16}),
+    (8, {0: 200, 1: 30, 2: 20, 4: 6}),
+    (8, {2: 100, 3: 100, 5: 50, 9: 6}),
+    (12, {0: 4095, 1: 1}),
+    (12, {0: 4000, 1: 50, 2: 40, 20: 6}),
+    (12, {0: 600, 1: 1200, 2: 1000, 3: 700, 4: 400, 9: 196}),
+    (12, {5: 1000, 6: 1500, 7: 1000, 8: 500, 20: 96}),
+]
+COUPONS = [(12, 0), (12, 1), (12, 2), (12, 3), (12, 8), (12, 20), (14, 1500), (21, 196608)]
+
+
+# ---- the formulas
+
+
+def series(term):
+    """The sum of term(1), term(2), .. down to the last digit; None where it has no end."""
+    total = Decimal(0)
+    for i in range(1, 2000):
+        more = term(i)
+        total += more
+        if abs(more) <= abs(total) * TINY:
+            return total
+    return None
+
+
+def sigma(x):
+    return x + (series(lambda i: x ** (2**i) * 2 ** (i - 1)) if x else 0)
+
+
+def tau(x):
+    if x in (0, 1):
+        return Decimal(0)
+    roots = [x]
+    for _ in range(250):
+        roots.append(roots[-1].sqrt())
+    return (1 - x - sum((1 - root) ** 2 / Decimal(2) ** i for i, root in enumerate(roots) if i)) / 3
+
+
+def estimate_of(counts, m):
+    """That of Ertl, divided by 1 + e / m; None where it is infinite."""
+    z = sum(Decimal(count) / Decimal(2) ** value for value, count in counts.items() if 0 < value < 63)
+    z += m * sigma(counts.get(0, 0) / m) + m * tau(1 - counts.get(63, 0) / m) / Decimal(2) ** 62
+    e = HALF + Decimal("0.58") * (1 - counts.get(0, 0) / m) ** 2
+    return m * m / (2 * LN2 * z * (1 + e / m)) if z else None
+
+
+def error_of(n, m):
+    limit = (3 * LN2 - 1) * (1 + 2 / m)
+    few = 1 / (1 + n / (16 * m)) ** 4 if n is not None else 0
+    return ((limit - (limit - HALF) * few) / m).sqrt()
+
+
+def expected_coupons(n):
+    total, term = n, n
+    for j in range(2, 12):
+        term *= -(n - j + 1) / j / SLOTS
+        total += term / (2**j - 1)
+    return total
+
+
+def values_of(coupons):
+    """The n of which so many coupons are expected."""
+    low, high = Decimal(coupons), Decimal(coupons) * 2
+    for _ in range(190):
+        middle = (low + high) / 2
+        low, high = (middle, high) if expected_coupons(middle) < coupons else (low, middle)
+    return low if coupons else Decimal(0)
+
+
+# ---- the rows
+
+
+def told(n, error, least):
+    """The estimate, its error, and the bounds at 1, 2 and 3 deviations."""
+    if n is None:
+        return [None, error, *3 * [None], *3 * [None]]
+    n = max(n, Decimal(least))
+    lower = [max(n / (1 + d * error), Decimal(least)) for d in (1, 2, 3)]
+    return [n, error, *lower, *(n / (1 - d * error) for d in (1, 2, 3))]
+
+
+def of_histogram(lg_k, counts):
+    m = Decimal(2) ** lg_k
+    assert sum(counts.values()) == m
+    if counts.get(0) == m:
+        return told(Decimal(0), Decimal(0), 0)
+    n = estimate_of(counts, m)
+    return told(n, error_of(n, m), m - counts.get(0, 0))
+
+
+def of_coupons(count):
+    n = values_of(count)
+    error = ((n - 1) / n / 6 / SLOTS).sqrt() if n > 1 else Decimal(0)
+    return told(n, error, count)
+
+
+def number(x):
+    return "HUGE_VAL" if x is None else repr(float(x))
+
+
+def row(front, numbers):
+    first, second, *bounds = map(number, numbers)
+    lines = [f"    {{{front},", f"     {{{first}, {second},"]
+    lines.append(f"      {{{', '.join(bounds[:3])}}},")
+    lines.append(f"      {{{', '.join(bounds[3:])}}}}}}},")
+    return "\n".join(lines)
+
+
+def text():
+    lines = ["/* SPDX-License-Identifier: Apache-2.0 */", "/* Printed by expected.py. */", ""]
+    lines.append("static const struct histogram_row histogram_rows[] = {")
+    for lg_k, counts in HISTOGRAMS:
+        runs = ", ".join(f"{{{value}, {count}}}" for value, count in counts.items())
+        lines.append(row(f"{lg_k}, {{{runs}}}", of_histogram(lg_k, counts)))
+    lines += ["};", "", "static const struct coupons_row coupons_rows[] = {"]
+    lines += [row(f"{lg_k}, {count}", of_coupons(count)) for lg_k, count in COUPONS]
+    return "\n".join([*lines, "};", ""])
+
+
+def main():
+    if "--check" not in sys.argv:
+        print(text(), end="")
+        return 0
+    is_same = FILE.read_text() == text()
+    print("expected.h is", "right" if is_same else "not what expected.py prints")
+    return not is_same
+
+
+if __name__ == "__main__":
+    sys.exit(main())

@@ -1,0 +1,16 @@
+//! The line that the program prints for a refusal.
+ghost use Rattle.hll_text.specs.Refusal.{Sends, refusal_line};
+
+use hll_text::fault::{Fault, MergeError};
+use hll_text::refusal;
+use std::io::Write;
+
+/// Writes `line L: `, the words of the fault and LF (docs/PLAN.md, "Refusals").
+///
+/// `Write` where the writer returns an error, or takes no byte although there are some: then it took only a prefix of the
+/// line, which may be empty. Takes no memory, apart from what the stream's own writes take.
+pub fn write_refusal<W: Write>(writer: &mut W, refusal: &MergeError) -> Result<(), Fault>
+    ensures { Sends (W.contents writer.old) (W.contents writer.new) result (refusal_line refusal.now) }
+{
+    refusal::write_refusal(writer, refusal)
+}

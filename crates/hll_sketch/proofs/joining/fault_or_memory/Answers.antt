@@ -1,0 +1,12 @@
+use Rattle.std.proofs.Common.{refl, sym, subst, ◌∙◌, inl}
+use Rattle.hll_sketch.specs.Refusal.{IsRefusal}
+use Rattle.hll_sketch.proofs.SizedImages.{sized_if_read}
+use Rattle.hll_sketch.proofs.joining.fault_or_memory.Goals as goal
+use Rattle.hll_sketch.proofs.joining.fault_or_memory.Goals.{in-Ok, in-Err}
+
+pub returns : goal.returns
+returns g c =
+    elim c.match-deserialize.branch [
+      | in-Ok w ↦ subst (IsRefusal c.args.bytes.now) (sym (w.result-is ∙ w.new.ensures)) (record { first = inl refl; asked = λ _. sized_if_read c.args.bytes.now _ w.in-Ok.ensures.ok })
+      | in-Err w ↦ subst (IsRefusal c.args.bytes.now) (sym w.result-is) (record { first = w.in-Err.ensures.order; asked = w.in-Err.ensures.asked })
+    ]
