@@ -307,7 +307,7 @@ def faults_of_python(code):
 
 def faults_of_others(code):
     for words in calls_of(r"\./check", code):
-        parts = {"proofs", "bindings", "documents", *(path.parent.name for path in ROOT.glob("bindings/*/check"))}
+        parts = {*re.findall(r"^    (\w+)\) \1 ;;$", (ROOT / "check").read_text(), re.M), *(path.parent.name for path in ROOT.glob("bindings/*/check"))}
         yield from (f"no part {word} of ./check" for word in words if word not in parts)
     for words in calls_of("rt", code):
         yield from (f"no command rt {word}" for word in words[:1] if word not in TOOLCHAIN)

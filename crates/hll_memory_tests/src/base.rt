@@ -1,6 +1,9 @@
-//! Buffers of image fields.
+//! Buffers of image fields, and what precedes registers in them.
 use crate::harness::{Heap, Trial, requests_of, shown, text};
 use hll_base::codec::SketchBytes;
+use hll_base::hll_type::HllType;
+use hll_registers::estimate_state::EstimateState;
+use hll_registers::preamble::{HllHeader, Preamble};
 use hll_text::fault::Fault;
 use std::test::Fail;
 
@@ -11,7 +14,16 @@ enum BufferCall {
     WriteU32,
     WriteU64,
     Write,
+    WriteHeader,
+    WritePreamble,
 }
+
+/// What precedes the registers of an image.
+const PREAMBLE: Preamble = Preamble {
+    state: EstimateState::CLEARED,
+    num_at_cur_min: 16,
+    exception_count: 0,
+};
 
 /// A call on a buffer with room for some bytes, one of them written.
 #[derive(Drop)]
@@ -40,6 +52,14 @@ impl<'h> Trial for BufferTrial<'h> {
             BufferCall::WriteU32 => shown(heap, bytes.write_u32_le(0x0504_0302)),
             BufferCall::WriteU64 => shown(heap, bytes.write_u64_le(0x0908_0706_0504_0302)),
             BufferCall::Write => shown(heap, bytes.write(&[2, 3, 4])),
+            BufferCall::WriteHeader => {
+                let header = HllHeader::plain(4, HllType::Hll8);
+                shown(heap, PREAMBLE.write_header(bytes, header))
+            }
+            BufferCall::WritePreamble => {
+                let written = SketchBytes::with_capacity(heap, self.capacity)?;
+                shown(heap, PREAMBLE.write(written))
+            }
         }
     }
 
@@ -49,12 +69,15 @@ impl<'h> Trial for BufferTrial<'h> {
 }
 
 /// The calls, and the requests of each on a full buffer, and on one with room.
-const BUFFERS: [(BufferCall, [u64; 2]); 5] = [
+const BUFFERS: [(BufferCall, [u64; 2]); 7] = [
     (BufferCall::WithCapacity, [1, 1]),
     (BufferCall::WriteU8, [1, 0]),
     (BufferCall::WriteU32, [1, 0]),
     (BufferCall::WriteU64, [1, 0]),
     (BufferCall::Write, [1, 0]),
+    (BufferCall::WriteHeader, [1, 0]),
+    // a buffer of one byte grows to 8, 16 and 32
+    (BufferCall::WritePreamble, [4, 1]),
 ];
 
 #[test]
