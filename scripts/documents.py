@@ -33,7 +33,7 @@ DECLARED = {
     "SCALE.md": {"bytea", "distributed", "find", "hll", "hll_sketches", "od", "pipe", "postgres_fdw", "xxd"},
 }
 # What the command rt does.
-TOOLCHAIN = {"check", "ci", "doc", "lib", "must-fail", "plant", "run", "test", "tidy", "try", "version"}
+TOOLCHAIN = {"check", "ci", "doc", "lib", "must-fail", "plant", "run", "test", "tidy", "try", "verdict", "version"}
 # A file that a reader makes, and names that are not the project's.
 MADE = {"bindings/python/hll_sketches/libhll.so"}
 KNOWN = {"as_chunks_mut", "postgres_fdw"}
