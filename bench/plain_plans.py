@@ -2,8 +2,8 @@
 """Answers plans by a plain model that follows docs/PLAN.md, docs/MODEL.md and docs/FORMAT.md alone, and shares no code with
 the library; each row of a text of rows has to have that answer (docs/PLAN.md, "Rows").
 
-Call it with the file of rows; without one it takes those of `hll_vectors`. It prints each row whose answer is another, and
-how many there were, and ends with status 1 if there is one.
+Call it with the file of rows; without one it takes those of `hll_vectors`. It prints each row whose answer is another,
+and 'N passed, M failed' at the end, and ends with status 1 if there is one.
 """
 import pathlib
 import re
@@ -269,7 +269,7 @@ def main():
     differing = [(plan, answer) for plan, answer in rows if answer_of(plan) != answer]
     for plan, answer in differing:
         print(f"{plan.decode(errors='replace')}\n{answer}, answered plainly {answer_of(plan)}\n")
-    print(f"{len(rows)} rows, {len(differing)} answers differ")
+    print(f"{len(rows) - len(differing)} passed, {len(differing)} failed")
     sys.exit(1 if differing or not rows else 0)
 
 

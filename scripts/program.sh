@@ -85,7 +85,23 @@ build() {
     cp "$root/crates/$crate/out/$crate" "$program.new" && mv "$program.new" "$program" && mv "$kept/started" "$kept/built"
 }
 
-if is_stale && ! build >&2 </dev/null; then
+# Builds the program, if no other run has done so meanwhile: runs at once wait for one another, where there is flock.
+build_once() {
+    mkdir -p "$kept" && : >>"$kept/lock" || return 1
+    command -v flock >/dev/null || {
+        build
+        return
+    }
+    {
+        flock -n 9 || {
+            echo "$name: waiting for another run, which builds the program"
+            flock 9
+        }
+        ! is_stale || build 9>&-
+    } 9<"$kept/lock"
+}
+
+if is_stale && ! build_once >&2 </dev/null; then
     echo "$name: the program was not built" >&2
     exit 2
 fi

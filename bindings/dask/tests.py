@@ -164,7 +164,7 @@ def arrow(frame):
     try:
         import pyarrow
     except ImportError:
-        print("skipped: a column of Arrow, as no pyarrow is here")
+        print("not tried: a column of Arrow, as there is no pyarrow, which the distribution may not have")
         return
     frames = [frame, frame.assign(image=pandas.array(frame["image"], dtype=pandas.ArrowDtype(pyarrow.binary())))]
     first, second = (union_by_key(dask.dataframe.from_pandas(one, npartitions=5), "day", "image").compute() for one in frames)

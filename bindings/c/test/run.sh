@@ -190,6 +190,20 @@ try_example() {
     ! "$program" 2>/dev/null
 }
 
+# Builds the libraries in two folders, of the same archive: they are the same bytes.
+try_two_folders() {
+    archive=$(cd ../../crates/hll_c/out 2>/dev/null && pwd)/libhll_c.a
+    archive=${LIBHLL_C:-$archive}
+    for place in one another-folder; do
+        rm -rf "$tests/$place"
+        mkdir "$tests/$place" || return 1
+        cp Makefile estimate.c hll.h hll.map hll.pc.in "$tests/$place" || return 1
+        make -s -C "$tests/$place" LIBHLL_C="$archive" LIBC_C="$(dirname "$(rt doc)")/c/liblibc_c.a" all || return 1
+    done
+    cmp "$tests/one/build/libhll.so" "$tests/another-folder/build/libhll.so" || return 1
+    cmp "$tests/one/build/libhll.a" "$tests/another-folder/build/libhll.a"
+}
+
 # Installs below a folder, builds the example by the flags of the file for pkg-config, and takes all away again.
 try_install() {
     place=$(pwd)/$tests/installed
@@ -221,6 +235,11 @@ test_memory
 test_sanitized
 expect 'the example' try_example "$build/example"
 expect 'install and uninstall' try_install
+if has rt; then
+    expect 'the same bytes from two folders' try_two_folders
+else
+    skip 'the same bytes from two folders' rt
+fi
 
 echo "$passed passed, $failed failed"
 [ "$failed" -eq 0 ] && [ "$passed" -gt 0 ]
