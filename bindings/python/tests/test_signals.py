@@ -201,18 +201,23 @@ class WritingTest(CommandTest):
         self.succeeds(*words)
         whole, new = time.monotonic() - begin, self.read("one.hll")
         ended = 0
-        for number in range(32):
+        for number in range(96):
             self.write("one.hll", BEFORE)
             code = (NO_LINKS if number % 2 else "") + MAIN
             running = started(self.folder, [sys.executable, "-c", code, *words])
-            time.sleep(numbers.uniform(0.3, 1.05) * whole)
+            moment = numbers.uniform(0.3, 1.05) * whole
+            time.sleep(moment)
             running.send_signal(signal.SIGTERM)
             running.communicate(timeout=60)
-            ended += running.returncode == -signal.SIGTERM
             self.assertIn(running.returncode, (-signal.SIGTERM, 0))
             self.assertIn(self.read("one.hll"), (BEFORE, new))
             self.assertEqual(self.listed(), ["days", "one.hll"])
-        self.assertGreater(ended, 10)
+            # the machine may be busier than before, or less busy
+            whole = min(whole, moment) if running.returncode == 0 else 1.03 * whole
+            ended += running.returncode != 0
+            if ended == 24:
+                return
+        self.fail(f"only {ended} were ended")
 
     def test_an_ignored_interrupt_stays_ignored(self):
         """As of a command that `nohup`, or a script in the background, starts."""
