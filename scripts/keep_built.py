@@ -57,10 +57,12 @@ def build_archive(rtlib, folder, jobs):
     words = crate.words(["--jobs", str(jobs)], keeps=False)
     command = [rtlib.RATTLE, "build", *words, "--toolchain", "%s/toolchain" % rtlib.KIT, "--backend", "llvm", "-o", ARCHIVE]
     (folder / "out").mkdir(exist_ok=True)
-    ran = subprocess.run(command, cwd=folder, stdin=subprocess.DEVNULL, capture_output=True, text=True, errors="replace")
+    ran = subprocess.run(
+        command, cwd=folder, stdin=subprocess.DEVNULL, stdout=subprocess.PIPE, stderr=subprocess.STDOUT, text=True, errors="replace"
+    )
     last = (ran.stdout.splitlines() or [""])[-1]
     if ran.returncode or not last.startswith("logic=proved ") or not (folder / ARCHIVE).is_file():
-        raise Unkept("the archive was not built: %s" % (ran.stderr.strip() or last)[-300:])
+        raise Unkept("the archive was not built: %s" % ran.stdout.strip()[-300:])
     return last
 
 
