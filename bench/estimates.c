@@ -16,14 +16,15 @@
 #include <stdlib.h>
 #include <string.h>
 
-#define LARGEST 14
+#define LARGEST 21
 #define VALUES 1000000
 #define BATCH 10000
-#define TABLE 8192
+#define LG_TABLE 19
 
-static const int lg_ks[] = {4, 8, 12, 14};
-static const long fronts[] = {1,    2,    5,     10,    20,    50,     100,    200,    500,    1000,
-                              2000, 5000, 10000, 20000, 50000, 100000, 200000, 500000, 1000000};
+/* from the largest on, as registers are folded from one to the next */
+static const int lg_ks[] = {21, 20, 19, 18, 17, 16, 14, 12, 8, 4};
+static const long fronts[] = {1,    2,    5,    10,    20,    50,    100,    200,    500,    1000,
+                              2000, 5000, 8200, 10000, 20000, 50000, 100000, 190000, 200000, 500000, 1000000};
 
 #define LG_KS (int)(sizeof lg_ks / sizeof lg_ks[0])
 #define FRONTS (int)(sizeof fronts / sizeof fronts[0])
@@ -36,7 +37,7 @@ static struct sums {
 /* ---- a stream: its registers, and its distinct coupons while they are few ---- */
 
 static uint8_t registers[1 << LARGEST];
-static uint32_t table[TABLE];
+static uint32_t table[1 << LG_TABLE];
 static long distinct;
 
 static void begin(void)
@@ -49,11 +50,11 @@ static void begin(void)
 /* More coupons than a table may have are not counted: no lg_k keeps so many. */
 static void count_coupon(uint32_t coupon)
 {
-    uint32_t place = coupon * UINT32_C(2654435761) >> 19;
-    if (distinct > TABLE / 2)
+    uint32_t place = coupon * UINT32_C(2654435761) >> (32 - LG_TABLE);
+    if (distinct > 1 << (LG_TABLE - 1))
         return;
     while (table[place] != 0 && table[place] != coupon)
-        place = (place + 1) % TABLE;
+        place = (place + 1) % (1 << LG_TABLE);
     distinct += table[place] == 0;
     table[place] = coupon;
 }
@@ -75,20 +76,21 @@ static int are_coupons(int lg_k, long count)
 
 /* ---- estimates ---- */
 
-static hll_estimation estimation_at(int lg_k)
+/* Registers of 2^from, folded to 2^to: each half is put upon the other, so the greater ones stay. */
+static void fold(uint8_t *at, int from, int to)
 {
-    uint8_t folded[1 << LARGEST] = {0};
+    long half, slot;
+    for (half = 1L << from >> 1; half >= 1L << to; half /= 2)
+        for (slot = 0; slot < half; slot++)
+            at[slot] = at[slot] > at[half + slot] ? at[slot] : at[half + slot];
+}
+
+static hll_estimation estimation_of_registers(const uint8_t *at, int lg_k)
+{
     uint64_t counts[64] = {0};
-    int slot;
-    if (are_coupons(lg_k, distinct))
-        return estimation_of_coupons((uint64_t)distinct);
-    for (slot = 0; slot < 1 << LARGEST; slot++) {
-        uint8_t *at = &folded[slot % (1 << lg_k)];
-        if (registers[slot] > *at)
-            *at = registers[slot];
-    }
-    for (slot = 0; slot < 1 << lg_k; slot++)
-        counts[folded[slot]]++;
+    long slot;
+    for (slot = 0; slot < 1L << lg_k; slot++)
+        counts[at[slot]]++;
     return estimation_of_counts(counts);
 }
 
@@ -123,21 +125,34 @@ static void hash(uint64_t stream, long from, uint32_t *coupons)
         exit(1);
 }
 
+/* Estimates what there is at each lg_k. */
+static void take_front(int front)
+{
+    static uint8_t folded[1 << LARGEST];
+    int lg_k = LARGEST, k;
+    memcpy(folded, registers, sizeof folded);
+    for (k = 0; k < LG_KS; k++) {
+        int is_few = are_coupons(lg_ks[k], distinct);
+        fold(folded, lg_k, lg_ks[k]);
+        lg_k = lg_ks[k];
+        take(&sums[k][front],
+             is_few ? estimation_of_coupons((uint64_t)distinct) : estimation_of_registers(folded, lg_k),
+             (double)fronts[front]);
+    }
+}
+
 static void run(uint64_t stream)
 {
     static uint32_t coupons[BATCH];
     long value;
-    int front = 0, k;
+    int front = 0;
     begin();
     for (value = 0; value < VALUES; value++) {
         if (value % BATCH == 0)
             hash(stream, value, coupons);
         add(coupons[value % BATCH]);
-        if (value + 1 == fronts[front]) {
-            for (k = 0; k < LG_KS; k++)
-                take(&sums[k][front], estimation_at(lg_ks[k]), (double)fronts[front]);
-            front++;
-        }
+        if (value + 1 == fronts[front])
+            take_front(front++);
     }
 }
 

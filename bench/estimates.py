@@ -3,7 +3,8 @@
 they scatter, and how often their bounds hold.
 
 It compiles bench/estimates.c, runs it on 4,000 streams of a million values by two processes, prints
-the tables of docs/ESTIMATES.md, and draws docs/estimates.svg. Call it with another number of
+the tables of docs/ESTIMATES.md, and draws docs/estimates.svg. Each lg_k of bench/estimates.c counts
+in the summary, and those with a color have a table. Call it with another number of
 streams for a shorter run, which draws nothing; with --write the tables go into docs/ESTIMATES.md
 too. It needs a C compiler, and the library: bindings/c/build, which `make` in bindings/c makes, or
 the folder that HLL_BUILD names.
@@ -22,6 +23,8 @@ PAGE, PICTURE = ROOT / "docs" / "ESTIMATES.md", ROOT / "docs" / "estimates.svg"
 STREAMS, PROCESSES = 4000, 2
 BEGIN, END = "<!-- tables -->", "<!-- end of tables -->"
 COLORS = {4: "#b5352c", 8: "#b07a12", 12: "#2b6cb0", 14: "#2f855a"}
+COLORS |= {16: "#6b46c1", 18: "#b83280", 21: "#4a5568"}
+COUPONS = 1e-4  # the standard error told is less from coupons, and greater from registers
 
 
 # ---- measuring
@@ -31,7 +34,7 @@ def compiled(folder):
     """The program, compiled into a folder."""
     program = pathlib.Path(folder) / "estimates"
     source = ROOT / "bench" / "estimates.c"
-    command = [os.environ.get("CC", "cc"), "-std=c99", "-O2", "-o", program, source]
+    command = [os.environ.get("CC", "cc"), "-std=c99", "-O3", "-o", program, source]
     subprocess.run([*command, BUILD / "libhll.so", f"-Wl,-rpath,{BUILD}"], check=True)
     return program
 
@@ -76,7 +79,7 @@ def percent(part):
     """Digits enough to see a small part."""
     if part < 5e-7:
         return "0"
-    return f"{100 * part:.2f} %" if part >= 1e-4 else f"{100 * part:.4f} %"
+    return f"{100 * part:.2f} %" if part >= 1e-3 else f"{100 * part:.4f} %"
 
 
 def table(rows, lg_k):
@@ -97,23 +100,32 @@ def table(rows, lg_k):
     return [*lines, ""]
 
 
-def summary(rows):
-    """The worst of what was measured, from 100 values on."""
-    from_registers = [row for (lg_k, values), row in rows.items() if values >= 100]
-    worst = max(abs(row.off) for row in from_registers)
-    widest = max(row.scatter / row.told for row in from_registers if row.told > 1e-3)
-    shares = [min(row.within[d] for row in from_registers) for d in range(3)]
+def worst(rows):
+    """The worst of some of what was measured."""
+    bias = max(abs(row.off) for row in rows)
+    shares = [min(row.within[d] for row in rows) for d in range(3)]
+    held = "{:.1f}, {:.1f} and {:.1f} %".format(*shares)
     return (
-        f"From 100 values on the bias is at most {worst:.3f} of the standard error, the scatter at"
-        f" most {widest:.2f} of the standard error that is told, and bounds at 1, 2 and 3"
-        f" deviations hold in at least {shares[0]:.1f}, {shares[1]:.1f} and {shares[2]:.1f} % of"
-        " the streams."
+        f"the bias is at most {bias:.3f} of the standard error that is told, and bounds at 1, 2"
+        f" and 3 deviations hold in at least {held} of the streams"
+    )
+
+
+def summary(rows):
+    """The worst from coupons, and from registers of 100 values on, over all lg_k."""
+    coupons = [row for (_, values), row in rows.items() if values > 1 and row.told < COUPONS]
+    registers = [row for (_, values), row in rows.items() if values >= 100 and row.told > COUPONS]
+    widest = max(row.scatter / row.told for row in registers)
+    measured_at = ", ".join(str(lg_k) for lg_k in sorted({lg_k for lg_k, _ in rows}))
+    return (
+        f"At `lg_k` {measured_at}: from coupons {worst(coupons)}. From registers, of 100 values"
+        f" and more, {worst(registers)}, and the scatter is at most {widest:.2f} of that error."
     )
 
 
 def tables(rows, streams):
     lines = [f"{streams:,} streams. {summary(rows)}", ""]
-    for lg_k in sorted({lg_k for lg_k, _ in rows}):
+    for lg_k in sorted(COLORS):
         lines += table(rows, lg_k)
     return "\n".join(lines)
 

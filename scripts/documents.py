@@ -34,8 +34,7 @@ DECLARED = {
 }
 # What the command rt does.
 TOOLCHAIN = {"check", "ci", "doc", "lib", "must-fail", "plant", "run", "test", "tidy", "try", "verdict", "version"}
-# A file that a reader makes, and names that are not the project's.
-MADE = {"bindings/python/hll_sketches/libhll.so"}
+# Names that are not the project's.
 KNOWN = {"as_chunks_mut", "postgres_fdw"}
 SKIPPED_FOLDERS = {"out", "build", ".git", "target", "__pycache__"}
 SOURCES = {".rt", ".antt", ".py", ".c", ".h", ".sh", ".sql", ".rs", ".edit", ".map", ".control", ".toml", ".txt", ".plan", ""}
@@ -73,7 +72,7 @@ def named_files(text):
 
 def is_there(page, name):
     """Whether a path is there, from the top or from the page's own folder; what is built needn't be, nor what stands for names."""
-    if name in MADE or re.search(r"/(CRATE|NAME)\b", name) or "/build/" in name + "/" or "/out/" in name or name.startswith("bench/rust/target"):
+    if re.search(r"/(CRATE|NAME)\b", name) or "/build/" in name + "/" or "/out/" in name or name.startswith("bench/rust/target"):
         return True
     places = (ROOT / name, page.parent / name, ROOT / "docs" / name)
     return any(place.exists() for place in places)

@@ -113,7 +113,8 @@ static double estimate_of_coupons(double coupons)
     return values;
 }
 
-/* The relative standard error of that: as many values are lost as pairs share a coupon, which scatters like chance. */
+/* The relative standard error of that: as many values are lost as pairs share a coupon, and their number scatters by
+ * its square root. */
 static double error_of_coupons(double values)
 {
     return values > 1.0 ? square_root((values - 1.0) / values / 6.0 / SLOTS) : 0.0;
@@ -121,19 +122,71 @@ static double error_of_coupons(double values)
 
 /* ---- bounds ---- */
 
-/* An estimate of values of which at least some were seen for certain. */
+#define DEVIATIONS 3
+
+/* How often what is normally distributed is more than 1, 2 or 3 standard deviations above its mean. */
+static const double tails[DEVIATIONS] = {0.15865525393145705, 0.022750131948179207, 0.0013498980316300945};
+
+/* An estimate of values of which at least some were seen for certain. Its bounds are the numbers of which it is so many
+ * deviations above and below. */
 static hll_estimation with_bounds(double estimate, double error, double least)
 {
     hll_estimation found;
     int d;
     found.estimate = estimate < least ? least : estimate;
     found.relative_standard_error = error;
-    for (d = 1; d <= 3; d++) {
+    for (d = 1; d <= DEVIATIONS; d++) {
         double lower = found.estimate / (1.0 + d * error);
         found.lower[d - 1] = lower < least ? least : lower;
         found.upper[d - 1] = found.estimate / (1.0 - d * error);
     }
     return found;
+}
+
+/* How often a number is at most so many, and how often at least. */
+struct shares {
+    double at_most, at_least;
+};
+
+/* That of Poisson's distribution: the number is i with a probability in the ratio of mean^i / i!. */
+static struct shares shares_of_poisson(double mean, int many)
+{
+    struct shares found = {0.0, 0.0};
+    double term = 1.0, sum = 0.0;
+    int i;
+    for (i = 0; i <= many || sum + term != sum; i++) {
+        sum += term;
+        if (i <= many)
+            found.at_most += term;
+        if (i >= many)
+            found.at_least += term;
+        term *= mean / (double)(i + 1);
+    }
+    found.at_most /= sum;
+    found.at_least /= sum;
+    return found;
+}
+
+/* The bounds of an estimate from coupons. Values are lost where they share a coupon, and as such pairs are rare, the
+ * number of the lost is distributed as Poisson's. A number of values lies below the bounds where it would lose so few
+ * less often than the tail says, and above them where it would lose so many. */
+static void bound_by_losses(hll_estimation *found, double coupons)
+{
+    struct shares shares;
+    int lost = 0, d;
+    for (d = 0; d < DEVIATIONS; d++)
+        found->lower[d] = coupons;
+    do {
+        double values = coupons + lost;
+        shares = shares_of_poisson(values - expected_coupons(values), lost);
+        for (d = 0; d < DEVIATIONS; d++) {
+            if (shares.at_most < tails[d])
+                found->lower[d] = values + 1.0;
+            if (shares.at_least >= tails[d])
+                found->upper[d] = values < found->estimate ? found->estimate : values;
+        }
+        lost++;
+    } while (shares.at_least >= tails[DEVIATIONS - 1]);
 }
 
 /* The estimation of a histogram of registers. */
@@ -154,7 +207,9 @@ static hll_estimation estimation_of_counts(const uint64_t counts[64])
 static hll_estimation estimation_of_coupons(uint64_t coupons)
 {
     double estimate = estimate_of_coupons((double)coupons);
-    return with_bounds(estimate, error_of_coupons(estimate), (double)coupons);
+    hll_estimation found = with_bounds(estimate, error_of_coupons(estimate), (double)coupons);
+    bound_by_losses(&found, (double)coupons);
+    return found;
 }
 
 hll_status hll_estimate(const uint8_t *image, size_t len, hll_estimation *estimation)

@@ -144,7 +144,8 @@ typedef struct hll_histogram {
     uint64_t counts[64];
 } hll_histogram;
 
-/* An estimate of the number of distinct values, and bounds at 1, 2 and 3 standard deviations. */
+/* An estimate of the number of distinct values, and bounds at 1, 2 and 3 standard deviations: the number is between
+ * them in about 68, 95 and 99.7 of 100 cases, from a list or a set in at least so many. */
 typedef struct hll_estimation {
     double estimate;
     double relative_standard_error;     /* the standard deviation of the estimate, divided by the number of values */

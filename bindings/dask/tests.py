@@ -171,6 +171,23 @@ def arrow(frame):
     equal("Arrow", second.to_dict(), first.to_dict())
 
 
+def columns(client, folder, images, paths):
+    """The values of a column are counted, and a whole table, whose names would be, is refused."""
+    table = pandas.DataFrame({"number": [1, 2, 2], "text": ["x", "y", "x"], "real": [0.5, -0.0, 0.0]})
+    wanted = {"number": [1, 2], "text": ["x", "y"], "real": [0.5, 0.0]}
+    for name, values in wanted.items():
+        made, again = Sketch(), Sketch()
+        made.update_many(table[name])
+        again.update_many(values)
+        equal("a column of %s" % name, made.to_bytes(), again.to_bytes())
+    try:
+        Sketch().update_many(table)
+        told = None
+    except TypeError as error:
+        told = str(error)
+    equal("a whole table", told, "many values, not a DataFrame: one of its columns")
+
+
 def lost_worker(client, folder, images, paths):
     """A worker is killed in the middle: its tasks are run again, and the union is the same."""
     log = folder / "opened"
@@ -190,7 +207,7 @@ def lost_worker(client, folder, images, paths):
     print("  %d files, opened %d times, by %d processes" % (len(paths), sum(times.values()), len(times)))
 
 
-PARTS = [files, refused_files, arguments, bags, keys, lost_worker]
+PARTS = [files, refused_files, arguments, bags, keys, columns, lost_worker]
 
 
 def run(part, *arguments_of_all):

@@ -49,23 +49,32 @@ named_width(bytea *image)
 	return bits == 3 ? 8 : 4 + 2 * bits;
 }
 
+/* The bound of a union of two images: the third argument, or else the greater lg_k, so that only registers lower it. */
+static uint8
+lg_max_k_of(FunctionCallInfo fcinfo, bytea *left, bytea *right)
+{
+	if (PG_NARGS() > 2)
+		return checked_lg_k("lg_max_k", PG_GETARG_INT32(2));
+	return Max(named_lg_k(left), named_lg_k(right));
+}
+
 PG_FUNCTION_INFO_V1(hll_pg_merge);
 
-/* The smaller lg_k and the greater width of both, so that merges may be grouped and ordered in any way. */
+/* The union, with the greater width of both. */
 Datum
 hll_pg_merge(PG_FUNCTION_ARGS)
 {
 	bytea	   *left = PG_GETARG_BYTEA_PP(0);
 	bytea	   *right = PG_GETARG_BYTEA_PP(1);
-	uint8		lg_k = Min(named_lg_k(left), named_lg_k(right));
+	uint8		lg_max_k = lg_max_k_of(fcinfo, left, right);
 	uint8		width = Max(named_width(left), named_width(right));
 	size_t		failed = 0;
 	hll_status	status;
 	Output		out;
 
-	start_output(&out, Min(LENGTH(left) + LENGTH(right), (size_t) 1 << lg_k) + 64);
+	start_output(&out, Min(LENGTH(left) + LENGTH(right), (size_t) 1 << lg_max_k) + 64);
 	do
-		status = hll_image_merge(lg_k, width, IMAGE(left), IMAGE(right), OUTPUT(out), &failed);
+		status = hll_image_merge(lg_max_k, width, IMAGE(left), IMAGE(right), OUTPUT(out), &failed);
 	while (grow_output(&out, status));
 	check_argument_status(status, failed);
 	PG_RETURN_BYTEA_P(end_output(&out));

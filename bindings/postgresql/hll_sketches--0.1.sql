@@ -57,7 +57,12 @@ COMMENT ON FUNCTION hll_words(pg_catalog.bytea)
 CREATE FUNCTION hll_merge(a pg_catalog.bytea, b pg_catalog.bytea) RETURNS pg_catalog.bytea
     AS 'MODULE_PATHNAME', 'hll_pg_merge' LANGUAGE C IMMUTABLE STRICT PARALLEL SAFE COST 100;
 COMMENT ON FUNCTION hll_merge(pg_catalog.bytea, pg_catalog.bytea)
-    IS 'the union of two images, with the smaller lg_k and the greater width';
+    IS 'the union of two images, of the greater lg_k unless registers have a smaller one, and the greater width';
+
+CREATE FUNCTION hll_merge(a pg_catalog.bytea, b pg_catalog.bytea, lg_max_k pg_catalog.int4) RETURNS pg_catalog.bytea
+    AS 'MODULE_PATHNAME', 'hll_pg_merge' LANGUAGE C IMMUTABLE STRICT PARALLEL SAFE COST 100;
+COMMENT ON FUNCTION hll_merge(pg_catalog.bytea, pg_catalog.bytea, pg_catalog.int4)
+    IS 'the union of two images, of an lg_k at most and the greater width';
 
 CREATE FUNCTION hll_agree(a pg_catalog.bytea, b pg_catalog.bytea) RETURNS pg_catalog.bool
     AS 'MODULE_PATHNAME', 'hll_pg_agree' LANGUAGE C IMMUTABLE STRICT PARALLEL SAFE COST 100;

@@ -91,12 +91,14 @@ checked_width(int32 width)
 	return (uint8) width;
 }
 
+/* Room for no more than the largest image that the library writes: an argument may be a gigabyte long, of which only the
+ * front is an image, and the server refuses to allocate more. */
 void
 start_output(Output *out, size_t room)
 {
-	out->room = room;
+	out->room = Min(room, HLL_IMAGE_MAX(21));
 	out->size = 0;
-	out->bytes = palloc(VARHDRSZ + room);
+	out->bytes = palloc(VARHDRSZ + out->room);
 }
 
 /* Whether the room was too small: then there is enough, and the call is to be made again, unless the query is cancelled. */

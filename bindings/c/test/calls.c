@@ -271,6 +271,46 @@ static void test_words(void)
     free(image.at);
 }
 
+/* ---- images of other versions (docs/DIFFERENCES.md) ---- */
+
+/* A list or a set whose table has the size byte 0 is refused, and with the byte that its coupons ask for it is read. */
+static void test_table_sizes(void)
+{
+    static const struct { size_t values; uint8_t lg_places; } rows[] = {
+        {0, 3}, {1, 3}, {7, 3}, {8, 5}, {24, 5}, {25, 6}, {48, 6}, {49, 7}, {384, 9},
+    };
+    size_t i;
+    for (i = 0; i < sizeof rows / sizeof rows[0]; i++) {
+        bytes image = image_of_values(12, 8, 5, rows[i].values);
+        CHECK(image.at[4] == rows[i].lg_places, "%d values: a table of 2^%d", (int)rows[i].values, image.at[4]);
+        image.at[4] = 0;
+        CHECK(hll_image_check(image.at, image.len) == HLL_LG_ARR, "%d values, size 0", (int)rows[i].values);
+        image.at[4] = rows[i].lg_places;
+        CHECK(hll_image_check(image.at, image.len) == HLL_OK, "%d values", (int)rows[i].values);
+        free(image.at);
+    }
+}
+
+/* Words that the flag 32 calls stale are kept without it, until they are made anew. */
+static void test_stale_words(void)
+{
+    bytes plain = image_of_values(12, 8, 5, 5000), stale = with_room(plain.len), written = with_room(plain.len);
+    bytes wanted = with_room(plain.len);
+    size_t size = 0;
+    CHECK(hll_image_set_estimator_words(plain.at, plain.len, wanted.at, wanted.len, &size) == HLL_OK, "words");
+    memcpy(stale.at, wanted.at, wanted.len);
+    stale.at[5] |= 32;
+    memset(stale.at + 8, 7, 24);
+    CHECK(hll_image_convert(stale.at, stale.len, 8, written.at, written.len, &size) == HLL_OK, "stale words");
+    CHECK(written.at[5] == (wanted.at[5] & ~32) && memcmp(written.at + 8, stale.at + 8, 24) == 0, "words are not kept");
+    CHECK(hll_image_set_estimator_words(written.at, size, stale.at, stale.len, &size) == HLL_OK, "words of these");
+    CHECK(size == wanted.len && memcmp(stale.at, wanted.at, size) == 0, "words are not made anew");
+    free(plain.at);
+    free(stale.at);
+    free(written.at);
+    free(wanted.at);
+}
+
 int main(void)
 {
     test_reasons();
@@ -284,5 +324,7 @@ int main(void)
     test_folds();
     test_histogram_of_63();
     test_words();
+    test_table_sizes();
+    test_stale_words();
     return finish("calls, each with its codes");
 }

@@ -5,12 +5,14 @@ decimal numbers of 60 digits. With --check it compares them with the file."""
 import pathlib
 import sys
 from decimal import Decimal, getcontext
+from math import factorial
 
 getcontext().prec = 60
 FILE = pathlib.Path(__file__).resolve().parent / "expected.h"
 LN2, ONE, HALF = Decimal(2).ln(), Decimal(1), Decimal("0.5")
 SLOTS = Decimal(2) ** 26
 TINY = Decimal(10) ** -58
+PI = Decimal("3.14159265358979323846264338327950288419716939937510582097494")
 
 # Histograms by lg_k: how many registers have which value. Each formula has rows in which its part is not small.
 HISTOGRAMS = [
@@ -33,7 +35,13 @@ HISTOGRAMS = [
     (12, {0: 600, 1: 1200, 2: 1000, 3: 700, 4: 400, 9: 196}),
     (12, {5: 1000, 6: 1500, 7: 1000, 8: 500, 20: 96}),
 ]
-COUPONS = [(12, 0), (12, 1), (12, 2), (12, 3), (12, 8), (12, 20), (14, 1500), (21, 196608)]
+
+# Numbers of coupons by lg_k. Each bound has the two between which it takes its first step: the upper ones of 3, 2 and 1
+# deviations from 738, 3,044 and 8,340 coupons on, the lower ones of 1, 2 and 3 from 27,228, 39,032 and 51,585 on.
+STEPS = [738, 3044, 8340, 27228, 39032, 51585]
+COUPONS = [(12, count) for count in (0, 1, 2, 3, 8, 20)] + [(14, 1500)]
+COUPONS += [(21, count - before) for count in STEPS for before in (1, 0)]
+COUPONS += [(21, count) for count in (8200, 98304, 150000, 196608, 262143)]
 
 
 # ---- the formulas
@@ -98,7 +106,7 @@ def values_of(coupons):
 
 
 def told(n, error, least):
-    """The estimate, its error, and the bounds at 1, 2 and 3 deviations."""
+    """The estimate from registers, its error, and the bounds at 1, 2 and 3 deviations."""
     if n is None:
         return [None, error, *3 * [None], *3 * [None]]
     n = max(n, Decimal(least))
@@ -115,10 +123,35 @@ def of_histogram(lg_k, counts):
     return told(n, error_of(n, m), m - counts.get(0, 0))
 
 
+def share_of_more(deviations):
+    """How often what is normally distributed is so many deviations above its mean, or more: erfc(d / sqrt(2)) / 2."""
+    x = deviations / Decimal(2).sqrt()
+    odd = series(lambda i: (-1) ** (i + 1) * x ** (2 * i - 1) / (2 * i - 1) / factorial(i - 1))
+    return HALF - odd / PI.sqrt()
+
+
+def losses_up_to(n, lost):
+    """How often n values lose so many at most, by Poisson's distribution."""
+    mean = n - expected_coupons(n)
+    return (-mean).exp() * (1 + sum(mean**i / factorial(i) for i in range(1, lost + 1)))
+
+
+def first(is_so):
+    """The least number that is so; all above it are, too."""
+    low, high = -1, 1024
+    while high - low > 1:
+        middle = (low + high) // 2
+        low, high = (low, middle) if is_so(middle) else (middle, high)
+    return high
+
+
 def of_coupons(count):
     n = values_of(count)
     error = ((n - 1) / n / 6 / SLOTS).sqrt() if n > 1 else Decimal(0)
-    return told(n, error, count)
+    tails = [share_of_more(d) for d in (1, 2, 3)]
+    lower = [count + first(lambda lost: losses_up_to(Decimal(count + lost), lost) >= tail) for tail in tails]
+    above = [count + first(lambda lost: 1 - losses_up_to(Decimal(count + lost), lost - 1) < tail) for tail in tails]
+    return [n, error, *lower, *(max(n, Decimal(values - 1)) for values in above)]
 
 
 def number(x):

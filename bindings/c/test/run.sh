@@ -204,6 +204,28 @@ try_two_folders() {
     cmp "$tests/one/build/libhll.a" "$tests/another-folder/build/libhll.a"
 }
 
+# Without the command rt, make ends with a line that says so and what to do: the first one where nothing is proved.
+# (The links to the tools that there are go again: `rt ci` takes none in a checkout.)
+make_without_rt() {
+    PATH=$place/tools make -C "$place/bindings/c" --no-print-directory "$@" >"$tests/said" 2>&1
+}
+
+try_without_rt() {
+    place=$(pwd)/$tests/without-rt
+    rm -rf "$place"
+    mkdir -p "$place/tools" "$place/crates/hll_c" "$place/bindings/c" || return 1
+    touch "$place/crates.txt" "$place/libhll_c.a"
+    cp Makefile estimate.c hll.h hll.map hll.pc.in "$place/bindings/c" || return 1
+    for tool in make sh mkdir find getconf sed cc as ld; do
+        ln -s "$(command -v $tool)" "$place/tools/$tool" || return 1
+    done
+    ! make_without_rt && head -n 1 "$tests/said" | grep '^The command rt is not on the path' &&
+        ! make_without_rt -s LIBHLL_C="$place/libhll_c.a" && head -n 1 "$tests/said" | grep 'LIBHLL_C=FILE LIBC_C=FILE$'
+    found=$?
+    rm -rf "$place"
+    return $found
+}
+
 # Installs below a folder, builds the example by the flags of the file for pkg-config, and takes all away again.
 try_install() {
     place=$(pwd)/$tests/installed
@@ -235,6 +257,7 @@ test_memory
 test_sanitized
 expect 'the example' try_example "$build/example"
 expect 'install and uninstall' try_install
+expect 'without rt' try_without_rt
 if has rt; then
     expect 'the same bytes from two folders' try_two_folders
 else

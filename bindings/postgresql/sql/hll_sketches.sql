@@ -10,6 +10,7 @@ CREATE TABLE shards AS SELECT n, hll_image_add_agg(x) AS image FROM generate_ser
 SELECT hll_info(hll_image_union_agg(image)), hll_image_union_agg(image) = (SELECT hll_image_add_agg(x) FROM generate_series(1000, 5999) x) AS is_of_all FROM shards;
 SELECT hll_image_union_agg(image, 10) = hll_fold(hll_image_union_agg(image), 10) AS folds FROM shards;
 SELECT hll_merge(a.image, b.image) = hll_merge(b.image, a.image) AS commutes FROM shards a, shards b WHERE a.n = 1 AND b.n = 2;
+SELECT (hll_info(hll_merge(image, hll_image_empty(4)))).lg_k AS stays, (hll_info(hll_merge(image, image, 10))).lg_k AS bounded FROM shards WHERE n = 1;
 SELECT hll_agree(image, hll_convert(image, 4)) AS agree, hll_agree(image, hll_image_empty()) AS agrees_with_none FROM shards WHERE n = 1;
 -- estimates
 SELECT n, hll_estimate(image) BETWEEN b.lower AND b.upper AS is_between, 2000 BETWEEN b.lower AND b.upper AS is_near FROM shards, hll_estimate_bounds(image, 3) b ORDER BY n;

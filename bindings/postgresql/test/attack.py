@@ -32,7 +32,7 @@ TYPES = "name text varchar oid regnamespace bytea int4 int8 bool".split()
 POLYMORPHIC = ["anyelement", "anynonarray", "anycompatible"]
 OPERATORS = "= <> < > <= >= ~ ~~ ||".split()
 CATALOG_NAMES = ["current_schema", "format", "to_regnamespace", "quote_ident", *TYPES]
-ARGUMENTS = "%s", "%s, int4", "%s, int4, int4", "%s, %s"
+ARGUMENTS = "%s", "%s, int4", "%s, int4, int4", "%s, %s", "%s, %s, int4"
 
 
 def function(name, arguments, answer="bool"):
@@ -108,7 +108,8 @@ ALTER TABLE safe.sketches SET (parallel_workers = 3);
 SET search_path = mallory, public;
 """
 CALLS = ("hll_check(image)", "hll_info(image)", "hll_estimate(image)", "hll_estimate_bounds(image, 2)", "hll_fold(image, 5)",
-         "hll_convert(image, 6)", "hll_words(image)", "hll_merge(image, image)", "hll_agree(image, image)")
+         "hll_convert(image, 6)", "hll_words(image)", "hll_merge(image, image)", "hll_merge(image, image, 10)",
+         "hll_agree(image, image)")
 
 
 def uses(own, short):

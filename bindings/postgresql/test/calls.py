@@ -124,20 +124,57 @@ def folds(server, images):
             equal("hll_agree of a fold", same, "t")
 
 
+PAIRS = "SELECT %s FROM sketches a JOIN sketches b ON b.n = a.n + 1 ORDER BY a.n"
+
+
 def pairs(server, images):
-    query = "SELECT %s(a.image, b.image) FROM sketches a JOIN sketches b ON b.n = a.n + 1 ORDER BY a.n"
-    merged = all_bytes_of(server.ask(query % "hll_merge"))
-    agreed = server.ask(query % "hll_agree").split("\n")
-    for a, b, union, same in zip(images, images[1:], merged, agreed):
-        lg_k, width = min(a[3], b[3]), max(sketch_of(a).width, sketch_of(b).width)
-        equal("hll_merge", union, union_of([a, b], lg_k, width))
-        folded = [greatest(pairs_of(sketch_of(image)), lg_k) for image in (a, b)]
+    agreed = server.ask(PAIRS % "hll_agree(a.image, b.image)").split("\n")
+    for a, b, same in zip(images, images[1:], agreed):
+        folded = [greatest(pairs_of(sketch_of(image)), min(a[3], b[3])) for image in (a, b)]
         equal("hll_agree", same, "t" if folded[0] == folded[1] else "f")
-    found = server.ask("""SELECT count(*), count(*) FILTER (WHERE hll_merge(a, b) <> hll_merge(b, a)),
-        count(*) FILTER (WHERE hll_merge(hll_merge(a, b), c) <> hll_merge(a, hll_merge(b, c)))
-        FROM (SELECT image, lead(image) OVER w, lead(image, 2) OVER w FROM sketches WINDOW w AS (ORDER BY n)) x(a, b, c)
-        WHERE c IS NOT NULL""")
-    equal("merges in other orders and groups", found, "%d|0|0" % (len(images) - 2))
+    merges(server, images)
+    groupings(server, len(images) - 2)
+    sizes_of_merges(server)
+
+
+def merges(server, images):
+    """The union under the greater lg_k of both, or under the bound that is given."""
+    for bound in (None, 4, 9, 12, 15):
+        arguments = "a.image, b.image" if bound is None else "a.image, b.image, %d" % bound
+        merged = all_bytes_of(server.ask(PAIRS % ("hll_merge(%s)" % arguments)))
+        for a, b, union in zip(images, images[1:], merged):
+            width = max(sketch_of(a).width, sketch_of(b).width)
+            equal("hll_merge(%s)" % arguments, union, union_of([a, b], bound or max(a[3], b[3]), width))
+
+
+GROUPINGS = """SELECT count(*), count(*) FILTER (WHERE hll_merge(a, b) <> hll_merge(b, a)),
+    count(*) FILTER (WHERE NOT hll_agree(hll_merge(hll_merge(a, b), c), hll_merge(a, hll_merge(b, c)))),
+    count(*) FILTER (WHERE hll_merge(hll_merge(a, b, 12), c, 12) <> hll_merge(a, hll_merge(b, c, 12), 12))
+    FROM (SELECT image, lead(image) OVER w, lead(image, 2) OVER w FROM sketches WINDOW w AS (ORDER BY n)) x(a, b, c)
+    WHERE c IS NOT NULL"""
+
+
+def groupings(server, count):
+    """Neither order nor grouping makes a difference, under one bound not even to the bytes."""
+    equal("merges in other orders and groups", server.ask(GROUPINGS), "%d|0|0|0" % count)
+
+
+def sizes_of_merges(server):
+    """Registers lower the lg_k, and empty and small sketches don't."""
+    server.ask("""CREATE TABLE rollup AS SELECT hll_image_empty(4) AS empty, hll_image_empty(21) AS wide,
+        hll_image_add_agg(x) FILTER (WHERE x < 5) AS list, hll_image_add_agg(x, 14) FILTER (WHERE x < 100) AS small,
+        hll_image_add_agg(x, 14) AS large, hll_image_add_agg(x, 10) AS coarse,
+        hll_image_add_agg(x, 8) FILTER (WHERE x <= 20) AS one, hll_image_add_agg(x, 8) FILTER (WHERE x BETWEEN 21 AND 40) AS other
+        FROM generate_series(1, 9999) x""")
+    for arguments, wanted in (
+            ("large, empty", "14|registers"), ("empty, large", "14|registers"), ("list, empty", "12|list"),
+            ("large, list", "14|registers"), ("small, list", "14|set"), ("small, wide", "21|set"), ("small, wide, 12", "12|set"),
+            ("small, list, 16", "16|set"), ("large, coarse", "10|registers"), ("coarse, small", "10|registers"),
+            ("coarse, wide, 16", "10|registers"), ("large, list, 12", "12|registers"), ("large, small, 21", "14|registers"),
+            ("hll_merge(large, one), other", "14|registers"), ("hll_merge(one, other), large", "8|registers"),
+            ("hll_merge(one, other, 14), large, 14", "14|registers")):
+        found = server.ask("SELECT i.lg_k, i.stage FROM rollup, hll_info(hll_merge(%s)) i" % arguments)
+        equal("size of hll_merge(%s)" % arguments, found, wanted)
 
 
 def words(server, images):
@@ -218,6 +255,7 @@ def arguments(server):
             ("hll_image_add_agg(v) = hll_image_add_agg('a') FROM unnest(ARRAY[NULL, 'a', NULL, 'a']) v", "t"),
             ("(hll_info(hll_image_add_agg(v))).coupons FROM unnest(ARRAY['']) v", "1"),
             ("hll_merge(NULL, IMAGE) IS NULL, hll_check(NULL) IS NULL", "t|t"),
+            ("hll_merge(IMAGE, IMAGE, NULL) IS NULL, hll_merge(IMAGE, NULL, 12) IS NULL", "t|t"),
             ("hll_image_empty(), hll_image_empty(10, 4)", "\\x0201070c030c0008|\\x0201070a030c0000"),
             ("'\\x0201070c030c0008'::hll_image IS NOT NULL, NULL::hll_image IS NULL", "t|t")):
         equal(question, server.run("SELECT %s;" % question.replace("IMAGE", image)), wanted)
@@ -231,6 +269,9 @@ def arguments(server):
             ("hll_image_union_agg(i, NULL) FROM unnest(ARRAY[IMAGE]) i", NULL),
             ("hll_image_add_agg('a', 12, NULL)", NULL),
             ("hll_image_add_agg('a', 2)", ARGUMENT),
+            ("hll_merge(IMAGE, IMAGE, 3)", ARGUMENT),
+            ("hll_merge(IMAGE, IMAGE, 22)", ARGUMENT),
+            ("hll_merge(IMAGE, IMAGE, 268)", ARGUMENT),
             ("hll_fold(IMAGE, 13)", ARGUMENT),
             ("hll_fold(IMAGE, 3)", ARGUMENT),
             ("hll_convert(IMAGE, 7)", ARGUMENT),
@@ -278,7 +319,7 @@ def reasons(server):
         for call in CALLS:
             said = server.run("SELECT %s;" % (call % bad))
             refused("%s of %s" % (call, word), said, IMAGE, "invalid HLL image: %s\n" % word)
-        for call in ("hll_merge(%s, %s)", "hll_agree(%s, %s)"):
+        for call in ("hll_merge(%s, %s)", "hll_merge(%s, %s, 9)", "hll_agree(%s, %s)"):
             for number, both in ((1, (bad, good)), (2, (good, bad))):
                 said = server.run("SELECT %s;" % (call % both))
                 refused("%s of %s" % (call, word), said, IMAGE, "invalid HLL image in argument %d: %s\n" % (number, word))

@@ -1,5 +1,6 @@
 # SPDX-License-Identifier: Apache-2.0
 """Refused, timed-out and cancelled queries leave the backend's memory as it was, also where memory itself is refused."""
+import itertools
 import random
 import threading
 
@@ -9,6 +10,35 @@ from report import CANCELLED, IMAGES, MEMORY, QUICK, REFUSALS, array, check, equ
 from server import Session
 
 SLOW = "SELECT hll_image_union_agg(image, 14), hll_image_add_agg(image) FROM slow, generate_series(1, 100000)"
+
+
+LONG = 2**29 + 2**20        # of which twice as much is more than a value may have
+KILOBYTES = 4 * 2**20       # for the backend
+FRONTS = """SELECT %s FROM (SELECT i || convert_to(repeat('x', %d), 'UTF8') long, i
+    FROM (SELECT hll_image_add_agg(x) i FROM generate_series(1, 5000) x) s OFFSET 0) x;"""
+OF_FRONT = ("hll_check(long) IS NULL", "hll_convert(long, 4) = hll_convert(i, 4)", "hll_fold(long, 9) = hll_fold(i, 9)",
+            "hll_words(long) = hll_words(i)", "hll_merge(long, i) = i", "hll_merge(i, long, 9) = hll_fold(i, 9)",
+            "hll_agree(i, long)", "hll_info(long) = hll_info(i)", "hll_estimate(long) = hll_estimate(i)",
+            "hll_estimate_bounds(long) = hll_estimate_bounds(i)", "(SELECT hll_image_union_agg(l) FROM (SELECT long l) y) = i")
+
+
+def has_memory(kilobytes):
+    """Whether the machine has so much to spare."""
+    with open("/proc/meminfo") as file:
+        return any(int(line.split()[1]) >= kilobytes for line in file if line.startswith("MemAvailable:"))
+
+
+def long_values(server):
+    """An image before half a gigabyte of other bytes is that image, and a text of this length is a value."""
+    if not has_memory(KILOBYTES):
+        print("skipped: values of half a gigabyte, as memory is short")
+        return
+    answers = server.run(FRONTS % (", ".join(OF_FRONT), LONG)).split("|")
+    for question, answer in itertools.zip_longest(OF_FRONT, answers, fillvalue=""):
+        equal("long: " + question, answer, "t")
+    equal("long and no image", server.run("SELECT hll_check(convert_to(repeat('x', %d), 'UTF8'));" % LONG), "family")
+    found = server.run("SELECT (hll_info(hll_image_add_agg(repeat('x', %d)))).coupons;" % LONG)
+    equal("a long text", found, "1")
 
 
 def refusals():

@@ -137,6 +137,32 @@ def parts(server):
                 equal("parts of " + name, said, server.ask(query))
 
 
+# ---- workers for toasted images
+
+TOASTED = """CREATE EXTENSION hll_sketches;
+    CREATE TABLE kept (n int, image hll_image NOT NULL);
+    ALTER TABLE kept ALTER image SET STORAGE EXTERNAL;
+    INSERT INTO kept SELECT n, i FROM (SELECT hll_image_add_agg(x) i FROM generate_series(1, 20000) x) s,
+        generate_series(1, 15000) n"""
+FEWER = "DELETE FROM kept WHERE n > %d; VACUUM FULL ANALYZE kept; ALTER TABLE kept RESET (parallel_workers)"
+WORKERS = ["ALTER TABLE kept SET (parallel_workers = 4)", "SET max_parallel_workers_per_gather = 4", "SET parallel_setup_cost = 0"]
+
+
+def toasted_plans(server):
+    """How many workers are planned for images that stand beside their table, with none, one .. of the settings that README.md
+    names ("Aggregates")."""
+    server.ask("CREATE DATABASE toasts")
+    server.ask(TOASTED, "toasts")
+    sizes = server.ask("SELECT pg_relation_size('kept') / count(*), pg_table_size('kept') / count(*) > 4096 FROM kept", "toasts")
+    equal("bytes of a row, and images beside", sizes, "52|t")
+    for count, wanted in (15000, ["", "2", "4", "4"]), (4000, ["", "", "", "4"]):
+        server.ask(FEWER % count, "toasts")
+        for taken, workers in enumerate(wanted):
+            plan = server.ask(";".join([*WORKERS[:taken], "EXPLAIN SELECT hll_image_union_agg(image) FROM kept"]), "toasts")
+            planned = re.findall(r"Workers Planned: (\d+)", plan)
+            equal("workers for %d images by %d settings" % (count, taken), "".join(planned), workers)
+
+
 # ---- many images
 
 

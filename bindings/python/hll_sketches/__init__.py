@@ -14,8 +14,10 @@ into that of all their values.
 Sketches, and their images as bytes, are read, made and merged by a shared library that is proved.
 Estimates, and this package itself, are tested and not proved.
 """
-from ._errors import ArgumentError, HllError, ImageError
+from ._errors import ArgumentError, FilesError, HllError, ImageError, PrecisionError
+from ._errors import PrecisionWarning
 from ._values import Value, coupon, coupons
+from .merging import merge_files
 from .sketch import Sketch, check
 from .union import Union, union_of
 
@@ -23,13 +25,17 @@ __version__ = "0.1.0"
 
 __all__ = [
     "ArgumentError",
+    "FilesError",
     "HllError",
     "ImageError",
+    "PrecisionError",
+    "PrecisionWarning",
     "Sketch",
     "Union",
     "Value",
     "check",
     "coupon",
     "coupons",
+    "merge_files",
     "union_of",
 ]

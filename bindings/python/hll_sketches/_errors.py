@@ -2,7 +2,9 @@
 """What is raised."""
 from __future__ import annotations
 
-from typing import Optional, Tuple
+from typing import Any, List, Optional, Tuple
+
+from ._names import shown
 
 
 class HllError(Exception):
@@ -38,5 +40,49 @@ class ImageError(HllError, ValueError):
         which = "image" if self.number is None else f"image {self.number}"
         return f"{which} is refused: {self.reason}"
 
-    def __reduce__(self) -> Tuple[type, Tuple[str, Optional[int]]]:
+    def __reduce__(self) -> Tuple[type, Tuple[Any, ...]]:
         return type(self), (self.reason, self.number)
+
+
+class PrecisionError(HllError, ValueError):
+    """A sketch is in fewer registers than were asked for.
+
+    Attributes
+    ----------
+    lg_k : int
+        The ``lg_k`` of the sketch.
+    min_lg_k : int
+        The least one that was asked for.
+    number : int
+        The number of the sketch, from 0.
+    """
+
+    def __init__(self, lg_k: int, min_lg_k: int, number: int) -> None:
+        super().__init__(lg_k, min_lg_k, number)
+        self.lg_k, self.min_lg_k, self.number = lg_k, min_lg_k, number
+
+    def __str__(self) -> str:
+        return f"sketch {self.number} is refused: its lg_k is {self.lg_k}, below {self.min_lg_k}"
+
+
+class FilesError(HllError, ValueError):
+    """Files are refused, so that no union was made.
+
+    Attributes
+    ----------
+    refused : list of (str, str)
+        The path of each, and why.
+    """
+
+    def __init__(self, refused: List[Tuple[str, str]]) -> None:
+        super().__init__(refused)
+        self.refused = refused
+
+    def __str__(self) -> str:
+        path, reason = self.refused[0]
+        more = len(self.refused) - 1
+        return f"{shown(path)}: {reason}" + (f" (and {more:,} files more)" if more else "")
+
+
+class PrecisionWarning(UserWarning):
+    """A union is coarser than sketches that it was made of."""

@@ -9,13 +9,23 @@ from __future__ import annotations
 import ctypes
 import os
 import pathlib
+import re
+import threading
 from array import array
 from ctypes import POINTER, byref, c_char_p, c_double, c_size_t, c_void_p
 from ctypes import c_uint8, c_uint32, c_uint64
 from itertools import accumulate
-from typing import Callable, Dict, List, Optional, Sequence
+from typing import TYPE_CHECKING, Callable, Dict, List, Optional, Sequence, Type, TypeVar
 
 from ._errors import ArgumentError, ImageError
+from ._locks import loading
+
+Call = Callable[..., int]
+
+if TYPE_CHECKING:
+    Numbers = array[int]
+else:
+    Numbers = array
 
 WORDS = (
     "ok",
@@ -35,12 +45,27 @@ WORDS = (
     "buffer",
 )
 OK, ARGUMENT, MEMORY, BUFFER = 0, 12, 13, 14
+MOST_KEPT = 1 << 22
+"""A thread keeps no more memory than this for its answers."""
+
 LEAST_LG_K, MOST_LG_K = 4, 21
 
 
 class Info(ctypes.Structure):
     """``hll_info`` of hll.h."""
 
+    coupons: int
+    zeros: int
+    units_high: int
+    units_low: int
+    hip: int
+    kxq0: int
+    kxq1: int
+    lg_k: int
+    width: int
+    stage: int
+    is_empty: int
+    out_of_order: int
     _fields_ = [
         ("coupons", c_uint64),
         ("zeros", c_uint64),
@@ -60,12 +85,17 @@ class Info(ctypes.Structure):
 class Histogram(ctypes.Structure):
     """``hll_histogram`` of hll.h."""
 
+    counts: Sequence[int]
     _fields_ = [("counts", c_uint64 * 64)]
 
 
 class Estimation(ctypes.Structure):
     """``hll_estimation`` of hll.h."""
 
+    estimate: float
+    relative_standard_error: float
+    lower: Sequence[float]
+    upper: Sequence[float]
     _fields_ = [
         ("estimate", c_double),
         ("relative_standard_error", c_double),
@@ -104,9 +134,9 @@ def _places() -> List[str]:
         return [named]
     package = pathlib.Path(__file__).resolve().parent
     near = [
+        package.parent.parent / "c" / "build" / "libhll.so",
         package / "libhll.so",
         package / "libhll.so.0",
-        package.parent.parent / "c" / "build" / "libhll.so",
     ]
     found = [str(place) for place in near if place.exists()]
     if not found:
@@ -117,30 +147,84 @@ def _places() -> List[str]:
     return found
 
 
-def _load() -> Dict[str, Callable[..., int]]:
-    """The calls of the library by their names."""
+# ---- is it the right one?
+
+VERSION = 0, 1
+"""The library is of this version, whatever its last number is. It tells none itself: what it
+answers of a known image is compared."""
+
+_KNOWN = bytes.fromhex("0201070a030801080500000c")
+"""The image of one coupon, of slot 5 and value 3, at ``lg_k`` 10 and eight bits."""
+
+_Structure = TypeVar("_Structure", bound=ctypes.Structure)
+
+
+def _filled(call: Call, kind: Type[_Structure]) -> _Structure:
+    """What a call tells of the known image, if it fills just the structure."""
+    size, guard = ctypes.sizeof(kind), b"\xa5" * 256
+    room = (c_uint8 * (size + len(guard))).from_buffer_copy(b"\xa5" * size + guard)
+    told = ctypes.cast(room, POINTER(kind))
+    if call(_KNOWN, len(_KNOWN), told) != OK or bytes(room)[size:] != guard:
+        raise ImportError(f"its {kind.__name__.lower()} is laid out in another way")
+    return told.contents
+
+
+def _check_name(place: str) -> None:
+    """Refuses a library whose file is named as that of another version, as in libhll.so.0.2.0."""
+    told = re.search(r"\.so\.(\d+)\.(\d+)\.\d+$", os.path.realpath(place))
+    version = VERSION if told is None else (int(told[1]), int(told[2]))
+    if version != VERSION:
+        raise ImportError("it is of version %d.%d, and not %d.%d" % (*version, *VERSION))
+
+
+def _check_answers(calls: Dict[str, Call]) -> None:
+    """Refuses a library that answers of a known image in another way."""
+    told = _filled(calls["hll_image_info"], Info)
+    if (told.coupons, told.lg_k, told.width, told.stage) != (1, 10, 8, 0):
+        raise ImportError("its info is laid out in another way")
+    counts = list(_filled(calls["hll_image_histogram"], Histogram).counts)
+    if counts != [1023, 0, 0, 1] + [0] * 60:
+        raise ImportError("its histogram is laid out in another way")
+    found = _filled(calls["hll_estimate"], Estimation)
+    if not 0 < found.lower[2] <= found.estimate <= found.upper[2] < 9:
+        raise ImportError("its estimation is laid out in another way")
+
+
+def _calls_of(place: str) -> Dict[str, Call]:
+    """The calls of a library by their names."""
+    _check_name(place)
+    library = ctypes.CDLL(place)
+    calls = {name: getattr(library, name) for name in _CALLS}
+    for name, call in calls.items():
+        call.argtypes, call.restype = _CALLS[name], _ANSWERS.get(name, c_uint8)
+    _check_answers(calls)
+    return calls
+
+
+def _load() -> Dict[str, Call]:
+    """The calls of the library that is found first."""
     places = _places()
     if not places:
         raise ImportError(
-            "the shared library libhll.so is not here: build it by `make` in bindings/c, or install"
-            " it, or name it in the environment variable HLL_SKETCHES_LIBRARY"
+            "the shared library libhll.so is not here: build it by `make -C bindings/c` in a"
+            " checkout (which needs a C compiler, and the command rt or the archive"
+            " crates/hll_c/out/libhll_c.a), or install it, or name it in the environment variable"
+            " HLL_SKETCHES_LIBRARY"
         )
     try:
-        library = ctypes.CDLL(places[0])
-        calls = {name: getattr(library, name) for name in _CALLS}
-    except (OSError, AttributeError) as error:
+        with loading:
+            return _calls_of(places[0])
+    except (OSError, AttributeError, ImportError) as error:
         raise ImportError(f"the library {places[0]} can't be used: {error}") from error
-    for name, call in calls.items():
-        call.argtypes, call.restype = _CALLS[name], _ANSWERS.get(name, c_uint8)
-    return calls
 
 
 class _Calls:
     """The calls of the library, which is loaded when one is first made."""
 
-    def __getattr__(self, name: str) -> Callable[..., int]:
+    def __getattr__(self, name: str) -> Call:
         vars(self).update(_load())
-        return vars(self)[name]
+        call: Call = vars(self)[name]
+        return call
 
 
 _library = _Calls()
@@ -151,17 +235,17 @@ _END = next(code for code in "LQI" if array(code).itemsize == ctypes.sizeof(c_si
 _COUPON = next(code for code in "IL" if array(code).itemsize == 4)
 
 
-def ends_of(pieces: Sequence[bytes]) -> array:
+def ends_of(pieces: Sequence[bytes]) -> Numbers:
     """Where each of the byte strings ends, if they stand one after another."""
     return array(_END, accumulate(map(len, pieces)))
 
 
-def ends_of_eights(count: int) -> array:
+def ends_of_eights(count: int) -> Numbers:
     """The ends of so many strings of eight bytes."""
     return array(_END, range(8, 8 * count + 1, 8))
 
 
-def _address(numbers: array) -> int:
+def _address(numbers: Numbers) -> int:
     """Where the numbers are; never NULL."""
     if not numbers:
         numbers.append(0)
@@ -180,19 +264,39 @@ def _refusal(status: int, number: Optional[int] = None) -> Exception:
     return ImageError(WORDS[status], number)
 
 
-def _written(
-    call: Callable[..., int], room: int, *arguments: object, number: Optional[c_size_t] = None
-) -> bytes:
+class _Kept(threading.local):
+    """The memory into which the last answer of a thread was written, for the next one."""
+
+    memory: Optional[bytearray] = None
+
+    def take(self, size: int) -> bytearray:
+        """At least so much memory, which nobody else has; also within a handler of a signal that
+        came while it was in use."""
+        memory, self.memory = self.memory, None
+        return memory if memory is not None and len(memory) >= size else bytearray(size)
+
+    def give_back(self, memory: bytearray) -> None:
+        """Keeps the memory, unless it is much."""
+        if len(memory) <= MOST_KEPT:
+            self.memory = memory
+
+
+_kept = _Kept()
+
+
+def _written(call: Call, room: int, *arguments: object, number: Optional[c_size_t] = None) -> bytes:
     """The image that a call writes; it is asked again where it needs more room. A call over several
     images tells the number of one that it refuses."""
     size = c_size_t()
     more = () if number is None else (byref(number),)
     while True:
-        out = bytearray(room)
+        out = _kept.take(room)
         place = byref(c_uint8.from_buffer(out))
-        status = call(*arguments, place, room, byref(size), *more)
+        status = call(*arguments, place, len(out), byref(size), *more)
         if status == OK:
-            return bytes(memoryview(out)[: size.value])
+            image = bytes(memoryview(out)[: size.value])
+            _kept.give_back(out)
+            return image
         if status != BUFFER:
             raise _refusal(status, None if number is None else number.value)
         room = size.value
@@ -246,7 +350,7 @@ def estimation(image: bytes) -> Estimation:
     return found
 
 
-def add(image: bytes, values: bytes, ends: array) -> bytes:
+def add(image: bytes, values: bytes, ends: Numbers) -> bytes:
     """The image with values, told by their ends."""
     count = len(ends)
     room = room_for(image[3])
@@ -305,7 +409,7 @@ def agree(left: bytes, right: bytes) -> bool:
     )
     if status != OK:
         raise _refusal(status, failed.value)
-    return same.value == 1
+    return bool(same.value)
 
 
 def coupon(value: bytes) -> int:
@@ -313,7 +417,7 @@ def coupon(value: bytes) -> int:
     return _library.hll_coupon(value, len(value))
 
 
-def coupons(values: bytes, ends: array) -> array:
+def coupons(values: bytes, ends: Numbers) -> Numbers:
     """The raw words of the coupons of values, told by their ends."""
     made = array(_COUPON, bytes(4 * len(ends)))
     if made:

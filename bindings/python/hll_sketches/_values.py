@@ -7,18 +7,19 @@ import sys
 from array import array
 from itertools import islice
 from operator import index
-from typing import Callable, Dict, Iterable, Iterator, List, Tuple, Union
+from typing import Any, Callable, Dict, Iterable, Iterator, List, Mapping, SupportsIndex, Tuple
+from typing import Union, cast
 
 from . import _library
+from ._library import Numbers
 
-Value = Union[bytes, bytearray, memoryview, str, int, float]
+Value = Union[bytes, bytearray, memoryview, str, int, float, SupportsIndex]
 """What can be counted: bytes, text, or a number."""
 
 LEAST, MOST, ENOUGH = 1 << 10, 1 << 16, 1 << 20
 """A first batch has so many values, the largest so many, and so many bytes are enough for one."""
 
 _NAN = float("nan")
-_float = struct.Struct("<d").pack
 
 
 def bytes_of_int(value: int) -> bytes:
@@ -31,11 +32,11 @@ def bytes_of_int(value: int) -> bytes:
 
 def bytes_of_float(value: float) -> bytes:
     """Eight bytes, binary64, little-endian: -0.0 as 0.0, and one NaN for all."""
-    return _float(value + 0.0 if value == value else _NAN)
+    return struct.pack("<d", value + 0.0 if value == value else _NAN)
 
 
 _of_type: Dict[type, Callable[..., bytes]] = {
-    bytes: lambda value: value,
+    bytes: bytes,
     str: str.encode,
     int: bytes_of_int,
     float: bytes_of_float,
@@ -56,7 +57,7 @@ def _bytes_of_other(value: Value) -> bytes:
         if isinstance(value, kind):
             return call(value)
     try:
-        return bytes_of_int(index(value))
+        return bytes_of_int(index(cast(SupportsIndex, value)))
     except TypeError:
         raise TypeError(
             f"a value is bytes, str, int or float, not {type(value).__name__}"
@@ -81,7 +82,7 @@ def _eights_of_floats(values: List[float]) -> bytes:
     )
 
 
-def joined(values: List[Value]) -> Tuple[bytes, array]:
+def joined(values: List[Any]) -> Tuple[bytes, Numbers]:
     """The bytes of values, one after another, and their ends."""
     kinds = set(map(type, values))
     if kinds == {int}:
@@ -93,15 +94,36 @@ def joined(values: List[Value]) -> Tuple[bytes, array]:
     elif kinds == {bytes}:
         pieces = values
     else:
-        pieces = [bytes_of(value) for value in values]
+        pieces = list(map(bytes_of, values))
     return b"".join(pieces), _library.ends_of(pieces)
 
 
-def batches(values: Iterable[Value]) -> Iterator[Tuple[bytes, array]]:
+def _lines(file: Iterable[Value]) -> Iterator[Value]:
+    """The lines of an open file without the LF, as ``hll add`` takes them."""
+    for line in file:
+        if isinstance(line, str):
+            yield line[:-1] if line.endswith("\n") else line
+        elif isinstance(line, bytes):
+            yield line[:-1] if line.endswith(b"\n") else line
+        else:
+            yield line
+
+
+def _many(values: Iterable[Value]) -> Iterator[Value]:
+    """The values, one by one, of what is meant to be many."""
+    name = type(values).__name__
+    if isinstance(values, (str, bytes, bytearray, memoryview)):
+        raise TypeError(f"many values, not one {name}")
+    if isinstance(values, Mapping):
+        raise TypeError(f"many values, not a {name}: its keys() or its values()")
+    if hasattr(values, "columns"):
+        raise TypeError(f"many values, not a {name}: one of its columns")
+    return _lines(values) if hasattr(values, "readline") else iter(values)
+
+
+def batches(values: Iterable[Value]) -> Iterator[Tuple[bytes, Numbers]]:
     """The bytes of the values and their ends, in batches of about `ENOUGH` bytes."""
-    if isinstance(values, (str, bytes, bytearray)):
-        raise TypeError(f"many values, not one {type(values).__name__}")
-    source, count = iter(values), LEAST
+    source, count = _many(values), LEAST
     while True:
         batch = list(islice(source, count))
         if not batch:
@@ -130,7 +152,7 @@ def coupon(value: Value) -> int:
     return _library.coupon(bytes_of(value))
 
 
-def coupons(values: Iterable[Value]) -> array:
+def coupons(values: Iterable[Value]) -> Numbers:
     """The coupons of many values.
 
     Parameters

@@ -4,11 +4,12 @@
 from __future__ import annotations
 
 import argparse
+import io
 import os
 import signal
 import sys
 import textwrap
-from typing import Any, Callable, List, Optional
+from typing import IO, Any, Callable, List, Optional
 
 from . import __version__, commands
 from ._signals import end_at_once
@@ -89,8 +90,7 @@ def _with_folders(parser: argparse.ArgumentParser) -> None:
 
 def _with_deviations(parser: argparse.ArgumentParser) -> None:
     help_ = "bounds at 1, 2 or 3 standard deviations (2)"
-    choices = dict(type=int, choices=(1, 2, 3), default=2)
-    parser.add_argument("--deviations", help=help_, **choices)
+    parser.add_argument("--deviations", type=int, choices=(1, 2, 3), default=2, help=help_)
 
 
 # ---- commands
@@ -99,10 +99,12 @@ def _with_deviations(parser: argparse.ArgumentParser) -> None:
 def _merge(parser: argparse.ArgumentParser) -> None:
     _with_folders(parser)
     _with_output(parser, required=True)
-    _with_lg_k(parser, "the largest lg_k of the answer, 4 to 21 (12)", default=12)
+    _with_lg_k(parser, "the largest lg_k of the answer, 4 to 21 (12)")
+    help_ = "refuse files in registers of a smaller lg_k, which would make the answer coarser"
+    parser.add_argument("--min-lg-k", type=_lg_k, metavar="K", default=4, help=help_)
     _with_width(parser, default=8)
     parser.add_argument("--jobs", type=_jobs, metavar="N", help="processes (one a processor)")
-    help_ = "leave out files that are no images, tell which on standard error, and go on"
+    help_ = "leave out files that are refused or can't be read, tell which, and go on"
     parser.add_argument("--skip-bad", action="store_true", help=help_)
     _with_plain(parser)
 
@@ -175,7 +177,8 @@ _COMMANDS = (
     ("add", _add, "add lines of standard input, each a value", "cut -f2 log | hll add day.hll"),
 )
 _MORE = {
-    "merge": "Each file that is refused is named; then nothing is written, but with --skip-bad.",
+    "merge": "Each file that is refused is named; then nothing is written, but with --skip-bad. "
+    "Each file that makes the answer coarser is named too.",
     "estimate": "The number of one file stands alone; that of several has the name behind it.",
     "check": "A file that is a sketch is passed over in silence.",
     "fold": "The answer is what the sketch would be, had it been made with that lg_k.",
@@ -185,10 +188,20 @@ _MORE = {
 }
 
 
+class _Parser(argparse.ArgumentParser):
+    """A parser whose help is lost no more than other answers are."""
+
+    def _print_message(self, message: str, file: Optional[IO[str]] = None) -> None:
+        if file is not None and file is sys.stdout:
+            commands.put_text(message)
+        else:
+            super()._print_message(message, file)
+
+
 def make_parser() -> argparse.ArgumentParser:
     """The parser of all commands."""
     raw = argparse.RawDescriptionHelpFormatter
-    parser = argparse.ArgumentParser("hll", None, _ABOUT, _NOTES, formatter_class=raw)
+    parser = _Parser("hll", None, _ABOUT, _NOTES, formatter_class=raw)
     parser.add_argument("--version", action="version", version=f"hll {__version__}")
     several = parser.add_subparsers(dest="command", metavar="COMMAND", required=True)
     for name, arguments, what, example in _COMMANDS:
@@ -227,11 +240,24 @@ def _chosen(parser: argparse.ArgumentParser, arguments: Optional[List[str]]) -> 
 # ---- how it ends
 
 
+def _held_open() -> None:
+    """Takes the places of standard streams that are closed, so that no file gets one of them. What
+    is done there fails as on a closed stream."""
+    for place, wrong_way in ((0, os.O_WRONLY), (1, os.O_RDONLY), (2, os.O_RDONLY)):
+        try:
+            os.fstat(place)
+        except OSError:
+            os.dup2(os.open(os.devnull, wrong_way), place)
+    if sys.stdout is None:
+        sys.stdout = open(1, "w", closefd=False)
+
+
 def _settled() -> None:
     """Streams and signals as other commands have them."""
     end_at_once()
+    _held_open()
     for stream in (sys.stdout, sys.stderr):
-        if stream is not None:
+        if isinstance(stream, io.TextIOWrapper):
             stream.reconfigure(errors="surrogateescape")
     if hasattr(signal, "SIGPIPE"):
         signal.signal(signal.SIGPIPE, signal.SIG_DFL)
@@ -249,8 +275,9 @@ def _flushed() -> None:
 
 def _carried_out(options: argparse.Namespace) -> int:
     """Carries out a command, and tells what goes wrong."""
+    call: Callable[[argparse.Namespace], int] = options.call
     try:
-        return options.call(options)
+        return call(options)
     except OutputTrouble:
         raise
     except Trouble as trouble:
@@ -271,11 +298,11 @@ def _run(arguments: Optional[List[str]]) -> int:
     """Carries out a command line, and gives its status."""
     parser = make_parser()
     _completed(parser)
-    options = _chosen(parser, arguments)
     try:
-        status = _carried_out(options)
-        _flushed()
-        return status
+        try:
+            return _carried_out(_chosen(parser, arguments))
+        finally:
+            _flushed()
     except OutputTrouble as trouble:
         os.dup2(os.open(os.devnull, os.O_WRONLY), 1)
         commands.say(trouble)

@@ -8,12 +8,16 @@ import os
 import struct
 import sys
 from argparse import Namespace
+from contextlib import suppress
 from typing import Any, Callable, Dict, Iterator, List, Optional, Tuple
 
 from . import _library
+from ._names import shown
 from .files import STANDARD, UNUSABLE, OutputTrouble, Trouble, bytes_of_file, check_output
-from .files import found, image_of_file, image_trouble, names_in, write_file
+from .files import image_of_file, image_trouble, write_file
+from .finding import Tell, found, names_in
 from .layout import STAGES, flags_of, registers_of, size_of, words_of
+from .precision import DEFAULT, Precision
 from .progress import Bar
 
 OK, DIFFER = 0, 1
@@ -24,15 +28,21 @@ Record = Dict[str, Any]
 def say(words: object) -> None:
     """Writes a line to standard error."""
     if sys.stderr is not None:
-        print(f"hll: {words}", file=sys.stderr, flush=True)
+        with suppress(OSError):
+            print(f"hll: {words}", file=sys.stderr, flush=True)
 
 
-def tell(text: str) -> None:
-    """Writes text and a line end to standard output."""
+def put_text(text: str) -> None:
+    """Writes text to standard output."""
     try:
-        print(text)
+        print(text, end="")
     except OSError as error:
         raise OutputTrouble(error) from None
+
+
+def tell(text: object) -> None:
+    """Writes text and a line end to standard output."""
+    put_text(f"{text}\n")
 
 
 def show(document: object) -> None:
@@ -132,7 +142,7 @@ def described(name: str, told: Record) -> str:
         rows += [("zeros", f"{told['zeros']:,}"), ("words", _WORDS[told["words"]])]
     rows.append(("flags", ", ".join(told["flags"]) or "none"))
     rows.append(("bytes", f"{told['bytes']:,}"))
-    return "\n".join([f"{name}:", *(f"  {key:<9} {value}" for key, value in rows)])
+    return "\n".join([f"{shown(name)}:", *(f"  {key:<9} {value}" for key, value in rows)])
 
 
 def info(options: Namespace) -> int:
@@ -161,7 +171,7 @@ def estimate(options: Namespace) -> int:
         records.append({"file": name, **{key: told[key] for key in keys}})
         if not options.json:
             number = "inf" if told["estimate"] is None else f"{told['estimate']:.0f}"
-            tell(number if len(options.files) == 1 else f"{number}\t{name}")
+            tell(number if len(options.files) == 1 else f"{number}\t{shown(name)}")
 
     status = each(options.files, one)
     if options.json:
@@ -172,47 +182,65 @@ def estimate(options: Namespace) -> int:
 # ---- files and folders
 
 
-def named_files(options: Namespace) -> Iterator[str]:
+def named_files(options: Namespace, refuse: Tell) -> Iterator[str]:
     """The files of the command line, those below its folders, and those that a file names."""
     if not options.files and options.files_from is None:
         raise Trouble(options.command, "no files are named", UNUSABLE)
-    yield from found(options.files)
+    yield from found(options.files, refuse, say)
     if options.files_from is not None:
-        yield from found(names_in(options.files_from, options.null))
+        yield from found(names_in(options.files_from, options.null), refuse, say)
 
 
 def check(options: Namespace) -> int:
     """Tells each file that is no image, and why."""
-    checked, refused, worst = 0, [], OK
+    checked, refused = 0, []
+    troubles: List[Trouble] = []
+
+    def refuse(trouble: Trouble) -> None:
+        say(trouble)
+        troubles.append(trouble)
+
     with Bar("file") as bar:
-        for name in named_files(options):
+        for name in named_files(options, refuse):
             checked += 1
             bar.more(1)
             try:
                 status = _library.check(bytes_of_file(name))
             except Trouble as trouble:
-                say(trouble)
-                worst = max(worst, trouble.status)
+                refuse(trouble)
                 continue
             if status == _library.OK:
                 continue
-            worst, reason = max(worst, DIFFER), _library.WORDS[status]
+            reason = _library.WORDS[status]
             refused.append({"file": name, "reason": reason})
             if not options.json:
                 tell(image_trouble(name, reason))
     if options.json:
         show({"checked": checked, "refused": refused})
-    return worst
+    return _worst(troubles, DIFFER if refused else OK)
 
 
-def _worst(troubles: List[Trouble]) -> int:
-    """The worst status; where nothing was named at all, that of a wrong command line."""
-    return max((trouble.status for trouble in troubles), default=UNUSABLE)
+def _worst(troubles: List[Trouble], else_: int) -> int:
+    """The worst status, or another where there is none."""
+    return max((trouble.status for trouble in troubles), default=else_)
+
+
+def _tell_of_precision(precision: Precision[str], is_bound_chosen: bool) -> None:
+    """Names the files that made the answer coarser, or tells that the bound did."""
+    if precision.is_lowered:
+        words = f"its lg_k lowers that of the answer from {precision.without} to {precision.lowest}"
+        for name in precision.names:
+            say(Trouble(name, words))
+        if precision.count > len(precision.names):
+            say(f"merge: and {precision.count - len(precision.names):,} files more do so")
+    if precision.is_bounded and not is_bound_chosen:
+        least = precision.least
+        say(f"merge: the lg_k of each file is above {precision.bound}: --lg-k {least} keeps more")
 
 
 def merge(options: Namespace) -> int:
     """Merges any number of files."""
-    from .merging import processors, union_of_files
+    from .merging import Bounds, processors, union_of_files
 
     check_output(options.output)
     left_out: List[Trouble] = []
@@ -221,20 +249,20 @@ def merge(options: Namespace) -> int:
         say(f"{trouble} (left out)" if options.skip_bad else trouble)
         left_out.append(trouble)
 
+    bounds = Bounds(options.lg_k or DEFAULT, options.min_lg_k)
     with Bar("file") as bar:
         jobs = options.jobs or processors()
-        names = named_files(options)
-        image, count = union_of_files(
-            names, options.lg_k, options.width, jobs, refuse, bar.more
-        )
+        names = named_files(options, refuse)
+        answer = union_of_files(names, bounds, options.width, jobs, refuse, bar.more)
     if left_out and not options.skip_bad:
-        return _worst(left_out)
-    if not count:
-        raise Trouble("merge", "no image is left to merge", _worst(left_out))
-    if not options.plain:
-        image = _library.set_estimator_words(image)
+        return _worst(left_out, OK)
+    if not answer.merged:
+        raise Trouble("merge", "no image is left to merge", _worst(left_out, UNUSABLE))
+    _tell_of_precision(answer.precision, options.lg_k is not None)
+    image = answer.image if options.plain else _library.set_estimator_words(answer.image)
     skipped = [{"file": trouble.name, "reason": trouble.words} for trouble in left_out]
-    return put(options, image, merged=count, left_out=skipped)
+    lowered = answer.precision.names if answer.precision.is_lowered else []
+    return put(options, image, merged=answer.merged, left_out=skipped, lowered_by=lowered)
 
 
 # ---- one image from another

@@ -13,6 +13,8 @@ A task reads images and gives the image of their union; the tasks above join suc
 time. The union is the same however images are grouped, ordered or repeated. So a task that is run
 again, because its worker was lost, changes nothing.
 
+No task warns of sketches that make a union coarser: the ``lg_k`` of the answer tells.
+
 The package and its library have to be on each worker. Needs ``dask`` 2022.12 or later.
 """
 from __future__ import annotations
@@ -20,13 +22,13 @@ from __future__ import annotations
 import os
 from functools import partial
 from typing import Any, Callable, Dict, Hashable, Iterable, List, Optional, Sequence, Tuple
-from typing import Union as Either
+from typing import Union as Either, cast
 
-from dask import delayed
+from dask.delayed import delayed
 
 from ._errors import ImageError
 from .sketch import Sketch, checked_lg_k, checked_width
-from .union import Source, union_of
+from .union import Source, joined
 
 __all__ = ["PlacedImageError", "union_by_key", "union_of_bag", "union_of_files"]
 
@@ -66,7 +68,7 @@ class PlacedImageError(ImageError):
 
 def _image_of(images: Iterable[Source], lg_max_k: int) -> bytes:
     """The image of a union, for the tasks above."""
-    return union_of(images, lg_max_k).to_bytes()
+    return joined(images, lg_max_k).to_bytes()
 
 
 def _placed(
@@ -86,7 +88,7 @@ def _bytes_of_file(path: Path) -> bytes:
         import fsspec
 
         with fsspec.open(name, "rb") as file:
-            return file.read()
+            return bytes(file.read())
     with open(name, "rb") as file:
         return file.read()
 
@@ -128,7 +130,7 @@ def _joined(parts: List[bytes], lg_max_k: int) -> bytes:
 
 
 def _sketch_of(parts: List[bytes], lg_max_k: int, width: int) -> Sketch:
-    return union_of(parts, lg_max_k, width)
+    return joined(parts, lg_max_k, width)
 
 
 def _collected(parts: List[Dict[Hashable, bytes]]) -> Dict[Hashable, List[bytes]]:
@@ -149,13 +151,13 @@ def _series_of(
     import pandas
 
     images = {
-        one: union_of(of_key, lg_max_k, width).to_bytes()
+        one: joined(of_key, lg_max_k, width).to_bytes()
         for one, of_key in _collected(parts).items()
     }
     if isinstance(key, str):
         index = pandas.Index(list(images), name=key)
     else:
-        columns = list(zip(*images)) or [[] for _ in key]
+        columns = list(zip(*cast(Iterable[Sequence[Hashable]], images))) or [() for _ in key]
         index = pandas.MultiIndex.from_arrays(columns, names=list(key))
     series = pandas.Series(list(images.values()), index=index, name=image, dtype=object)
     return series.sort_index()

@@ -1,5 +1,5 @@
 # SPDX-License-Identifier: Apache-2.0
-"""Files of images: how they are found, read and written."""
+"""Files of images: how they are read and written."""
 from __future__ import annotations
 
 import errno
@@ -7,9 +7,10 @@ import os
 import stat
 import sys
 from contextlib import contextmanager, suppress
-from typing import Callable, Iterable, Iterator, Optional
+from typing import Iterator, List, Optional
 
 from . import _library
+from ._names import shown
 from ._signals import ENDING, held_back
 from .layout import size_of
 
@@ -17,6 +18,9 @@ STANDARD = "-"
 """The name of standard input, or of standard output."""
 
 PIECE = 1 << 16
+STEP = 4000
+"""The system takes a path of so many bytes at once."""
+
 REFUSED, UNUSABLE = 1, 2
 
 
@@ -39,7 +43,7 @@ class Trouble(Exception):
         self.name, self.words, self.status = name, words, status
 
     def __str__(self) -> str:
-        return f"{self.name}: {self.words}"
+        return f"{shown(self.name)}: {self.words}"
 
 
 class OutputTrouble(Trouble):
@@ -57,6 +61,48 @@ def unusable(name: str, error: OSError) -> Trouble:
 def image_trouble(name: str, reason: str) -> Trouble:
     """The trouble of a file that is no image."""
     return Trouble(name, f"image {reason}")
+
+
+# ---- opening
+
+
+def _steps(path: str) -> List[bytes]:
+    """The path in parts that the system takes, each within the folder of the one before."""
+    steps, rest = [], os.fsencode(path)
+    while len(rest) > STEP:
+        cut = rest.rfind(b"/", 1, STEP)
+        if cut < 0:
+            break
+        steps.append(rest[:cut])
+        rest = rest[cut:].lstrip(b"/")
+    return [*steps, rest or b"."]
+
+
+def _opened_in_steps(path: str, flags: int) -> int:
+    """Opens a file by way of the folders above it."""
+    *folders, last = _steps(path)
+    above: Optional[int] = None
+    try:
+        for folder in folders:
+            below = os.open(folder, os.O_RDONLY | os.O_DIRECTORY | os.O_CLOEXEC, dir_fd=above)
+            if above is not None:
+                os.close(above)
+            above = below
+        return os.open(last, flags, dir_fd=above)
+    finally:
+        if above is not None:
+            os.close(above)
+
+
+def opened(path: str, flags: int) -> int:
+    """Opens a file, also by a path that is longer than the system takes at once."""
+    flags |= os.O_CLOEXEC
+    try:
+        return os.open(path, flags)
+    except OSError as error:
+        if error.errno != errno.ENAMETOOLONG:
+            raise
+    return _opened_in_steps(path, flags)
 
 
 # ---- reading
@@ -81,10 +127,25 @@ def _read_image(place: int) -> bytes:
     return data + _read_up_to(place, more) if more > 0 else data
 
 
-def bytes_of_file(name: str) -> bytes:
-    """The bytes of a file as far as an image can go, unchecked; ``-`` is standard input.
+def read_path(path: str) -> bytes:
+    """The bytes of a file as far as an image can go, unchecked.
 
     A file of any size takes no more memory than the image that its first bytes promise.
+
+    Raises
+    ------
+    OSError
+        If the file can't be read.
+    """
+    place = opened(path, os.O_RDONLY)
+    try:
+        return _read_image(place)
+    finally:
+        os.close(place)
+
+
+def bytes_of_file(name: str) -> bytes:
+    """What ``read_path`` gives; ``-`` is standard input.
 
     Raises
     ------
@@ -92,13 +153,7 @@ def bytes_of_file(name: str) -> bytes:
         If the file can't be read.
     """
     try:
-        if name == STANDARD:
-            return _read_image(0)
-        place = os.open(name, os.O_RDONLY | getattr(os, "O_CLOEXEC", 0))
-        try:
-            return _read_image(place)
-        finally:
-            os.close(place)
+        return _read_image(0) if name == STANDARD else read_path(name)
     except OSError as error:
         raise unusable(name, error) from None
     except ValueError:
@@ -118,65 +173,6 @@ def image_of_file(name: str) -> bytes:
     if status != _library.OK:
         raise image_trouble(name, _library.WORDS[status])
     return data
-
-
-# ---- finding
-
-
-def _walk(folder: str) -> Iterator[str]:
-    """The files below a folder, in order; names that begin with a dot are passed over."""
-    try:
-        with os.scandir(folder) as entries:
-            seen = [entry for entry in entries if not entry.name.startswith(".")]
-    except OSError as error:
-        raise unusable(folder, error) from None
-    for entry in sorted(seen, key=lambda entry: entry.name):
-        if entry.is_dir(follow_symlinks=False):
-            yield from _walk(entry.path)
-        elif entry.is_file():
-            yield entry.path
-
-
-def found(names: Iterable[str]) -> Iterator[str]:
-    """The files that are named, and in place of a folder those below it.
-
-    Raises
-    ------
-    Trouble
-        If a folder can't be read, or has no file.
-    """
-    for name in names:
-        if name == STANDARD or not os.path.isdir(name):
-            yield name
-            continue
-        none = True
-        for path in _walk(name):
-            none = False
-            yield path
-        if none:
-            raise Trouble(name, "no files in this folder", UNUSABLE)
-
-
-def names_in(name: str, ends_with_nul: bool) -> Iterator[str]:
-    """The names that a file has, each on a line or ended by NUL; ``-`` is standard input.
-
-    Raises
-    ------
-    Trouble
-        If the file can't be read.
-    """
-    end = b"\0" if ends_with_nul else b"\n"
-    rest = b""
-    try:
-        source = os.dup(0) if name == STANDARD else os.open(name, os.O_RDONLY)
-        with open(source, "rb", buffering=0) as stream:
-            for piece in iter(lambda: stream.read(PIECE), b""):
-                *whole, rest = (rest + piece).split(end)
-                yield from map(os.fsdecode, filter(None, whole))
-    except OSError as error:
-        raise unusable(name, error) from None
-    if rest:
-        yield os.fsdecode(rest)
 
 
 # ---- writing
@@ -299,11 +295,27 @@ def _write_into(path: str, data: bytes) -> None:
         os.close(place)
 
 
-def _to_path(name: str, call: Callable[[str, Optional[int]], None]) -> None:
-    """Calls with where a name leads, and the mode of what is there."""
+def write_path(name: str, data: bytes) -> None:
+    """Writes a file as a whole, or leaves it as it was.
+
+    Raises
+    ------
+    OSError
+        If it can't be written.
+    """
+    path = os.path.realpath(name)
+    mode = _mode_of(path)
+    if mode is None or stat.S_ISREG(mode):
+        _replace(path, data, mode)
+    else:
+        _write_into(path, data)
+
+
+@contextmanager
+def _told_of(name: str) -> Iterator[None]:
+    """Errors of the system become the trouble of a file."""
     try:
-        path = os.path.realpath(name)
-        call(path, _mode_of(path))
+        yield
     except OSError as error:
         raise unusable(name, error) from None
     except ValueError:
@@ -311,24 +323,18 @@ def _to_path(name: str, call: Callable[[str, Optional[int]], None]) -> None:
 
 
 def write_file(name: str, data: bytes) -> None:
-    """Writes a file as a whole, or leaves it as it was; ``-`` is standard output.
+    """What ``write_path`` does; ``-`` is standard output.
 
     Raises
     ------
     Trouble
         If it can't be written.
     """
-
-    def write(path: str, mode: Optional[int]) -> None:
-        if mode is None or stat.S_ISREG(mode):
-            _replace(path, data, mode)
-        else:
-            _write_into(path, data)
-
     if name == STANDARD:
         _write_standard(data)
-    else:
-        _to_path(name, write)
+        return
+    with _told_of(name):
+        write_path(name, data)
 
 
 def check_output(name: str) -> None:
@@ -339,14 +345,14 @@ def check_output(name: str) -> None:
     Trouble
         If it can't.
     """
-
-    def check(path: str, mode: Optional[int]) -> None:
+    if name == STANDARD:
+        return
+    with _told_of(name):
+        path = os.path.realpath(name)
+        mode = _mode_of(path)
         if mode is not None and stat.S_ISDIR(mode):
             raise Trouble(name, "Is a directory", UNUSABLE)
         folder = os.path.dirname(path)
         os.stat(folder)
         if (mode is None or stat.S_ISREG(mode)) and not os.access(folder, os.W_OK | os.X_OK):
             raise Trouble(name, "Permission denied", UNUSABLE)
-
-    if name != STANDARD:
-        _to_path(name, check)

@@ -53,6 +53,17 @@ def size_of(image: bytes) -> int:
     return _set_size(image) if stage == 1 else _registers_size(image)
 
 
+def holds_values(image: bytes) -> bool:
+    """Whether a legal image has a coupon, or a register above 0."""
+    stage = image[7] & 3
+    if stage < 2:
+        return any(image[8:12]) if stage else image[6] > 0 and not image[5] & 4
+    width = _library.width_in(image)
+    if width == 4 and image[6]:  # what is added to each nibble
+        return True
+    return any(image[HEADER : HEADER + (width << image[3] >> 3)])
+
+
 def flags_of(image: bytes) -> List[str]:
     """The names of the flags that are set."""
     return [name for bit, name in _FLAGS if image[5] & bit]

@@ -76,7 +76,7 @@ def words(x: float, y: float, text: str, kind: str = "") -> str:
 
 def step_of(most: float) -> int:
     """A round distance of the lines of a grid, of which about five are below a number."""
-    power = 10 ** max(int(math.log10(max(most, 1))), 0)
+    power: int = 10 ** max(int(math.log10(max(most, 1))), 0)
     for step in (power // 5, power // 2, power, 2 * power):
         if step and most / step <= 6:
             return step

@@ -2,19 +2,22 @@
 """Sketches of distinct values."""
 from __future__ import annotations
 
-import threading
+import os
 from operator import index
-from typing import Iterable, List, Optional, Tuple, Type, TypeVar, Union
+from typing import Any, Iterable, List, Optional, Tuple, Type, TypeVar, Union
 
 from . import _library
 from ._errors import ArgumentError
+from ._locks import Lock
 from ._values import Value, batches, bytes_of
 
 _S = TypeVar("_S", bound="Sketch")
 
 _STAGES = ("list", "set", "registers")
 
-PENDING_VALUES, PENDING_BYTES = 4096, 1 << 20
+PENDING_BYTES, VALUE_BYTES = 1 << 12, 56
+"""A sketch keeps values of so many bytes, or twice those of its image, until they are hashed; and
+so many bytes are those of a value beside its own."""
 
 
 def checked_lg_k(lg_k: int) -> int:
@@ -100,7 +103,7 @@ class Sketch:
         self._image = image
         self._pending: List[bytes] = []
         self._pending_bytes = 0
-        self._lock = threading.RLock()
+        self._lock = Lock()
 
     @classmethod
     def _of(cls: Type[_S], image: bytes) -> _S:
@@ -108,7 +111,7 @@ class Sketch:
         made._set(image)
         return made
 
-    # ---- images
+    # ---- images and files
 
     @classmethod
     def from_bytes(cls: Type[_S], image: Union[bytes, bytearray, memoryview]) -> _S:
@@ -140,13 +143,47 @@ class Sketch:
 
     __bytes__ = to_bytes
 
+    @classmethod
+    def read(cls: Type[_S], path: Union[str, "os.PathLike[str]"]) -> _S:
+        """Read the file of a sketch.
+
+        No more of it is read than its first bytes say that the image takes.
+
+        Raises
+        ------
+        OSError
+            If it can't be read.
+        ImageError
+            If it is no image.
+        """
+        from .files import read_path
+
+        return cls.from_bytes(read_path(os.fspath(path)))
+
+    def write(self, path: Union[str, "os.PathLike[str]"]) -> None:
+        """Write the image to a file, which is then on the disk.
+
+        The file is the old one or the new one at each moment, and never a part. It has the bytes of
+        ``to_bytes``: where another DataSketches library is to read it, write
+        ``with_estimator_words()``.
+
+        Raises
+        ------
+        OSError
+            If it can't be written. Then the file is as it was.
+        """
+        from .files import write_path
+
+        write_path(os.fspath(path), self.to_bytes())
+
     # ---- changes
 
     def update(self, value: Value) -> None:
         """Count a value. One that was counted before makes no difference.
 
-        Values are kept and hashed together: once there are 4,096 of them, or a megabyte, or the
-        sketch is asked for anything. So memory may be refused by the call that asks.
+        Values are kept and hashed together: once they take four kilobytes, or twice the bytes of
+        the image, or the sketch is asked for anything. So memory may be refused by the call that
+        asks.
 
         Parameters
         ----------
@@ -168,8 +205,8 @@ class Sketch:
         """
         data = bytes_of(value)
         self._pending.append(data)
-        self._pending_bytes += len(data)
-        if len(self._pending) >= PENDING_VALUES or self._pending_bytes >= PENDING_BYTES:
+        self._pending_bytes += len(data) + VALUE_BYTES
+        if self._pending_bytes >= PENDING_BYTES and self._pending_bytes >= 2 * len(self._image):
             self._apply()
 
     def update_many(self, values: Iterable[Value]) -> None:
@@ -178,8 +215,10 @@ class Sketch:
         Parameters
         ----------
         values : iterable
-            Of what ``update`` takes. One ``str`` or ``bytes`` is no iterable of values. Where a
-            value is refused, some of those before it have been counted.
+            Of what ``update`` takes; a pandas ``Series`` or a NumPy array of one dimension too. Of
+            an open file, the values are its lines without the LF. One ``str`` or ``bytes``, a
+            ``dict`` or a table is no iterable of values. Where a value is refused, some of those
+            before it have been counted.
         """
         for data, ends in batches(values):
             with self._lock:
@@ -251,7 +290,8 @@ class Sketch:
                 data = b"".join(kept)
                 self._image = _library.add(self._image, data, _library.ends_of(kept))
                 del self._pending[:count]
-                self._pending_bytes = sum(map(len, self._pending))
+                rest = self._pending
+                self._pending_bytes = sum(map(len, rest)) + VALUE_BYTES * len(rest)
 
     # ---- other sketches of the same values
 
@@ -386,5 +426,5 @@ class Sketch:
     def __deepcopy__(self: _S, memo: object) -> _S:
         return self.copy()
 
-    def __reduce__(self) -> Tuple[object, Tuple[bytes]]:
+    def __reduce__(self) -> Tuple[Any, Tuple[bytes]]:
         return type(self).from_bytes, (self.to_bytes(),)

@@ -5,6 +5,7 @@ import pathlib
 import shutil
 import subprocess
 import sys
+import warnings
 
 sys.dont_write_bytecode = True
 PACKAGE = pathlib.Path(__file__).resolve().parent.parent
@@ -25,3 +26,13 @@ def program():
     plan = b"new 4 8\n"
     done = subprocess.run([ROOT / "hll_merge"], input=plan, stdout=subprocess.DEVNULL)
     return kept if done.returncode == 0 else None
+
+
+def ignore_precision(test):
+    """Within a test, unions may be coarser than what they are made of."""
+    from hll_sketches import PrecisionWarning
+
+    kept = warnings.catch_warnings()
+    kept.__enter__()
+    test.addCleanup(kept.__exit__, None, None, None)
+    warnings.simplefilter("ignore", PrecisionWarning)

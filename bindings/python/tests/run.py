@@ -16,7 +16,7 @@ def main():
     suite = unittest.defaultTestLoader.discover(str(FOLDER), top_level_dir=str(FOLDER))
     result = unittest.TextTestRunner(stream=sys.stdout, verbosity=1).run(suite)
     for test, reason in result.skipped:
-        print(f"skipped: {test.id()}: {reason}")
+        print(f"skipped: {test.id()}, as {reason}")
     bad = len({test.id().split(" ")[0] for test, _ in result.errors + result.failures})
     print(f"{result.testsRun - bad - len(result.skipped)} passed, {bad} failed")
     return bad or not result.testsRun

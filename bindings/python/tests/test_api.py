@@ -13,8 +13,8 @@ from unittest import mock
 
 import common
 import hll_sketches
-from hll_sketches import ArgumentError, HllError, ImageError, Sketch, Union, _library
-from hll_sketches import check, coupon, coupons, union_of
+from hll_sketches import ArgumentError, HllError, ImageError, Sketch, Union, _library, check
+from hll_sketches import coupon, coupons, union_of
 
 EMPTY = bytes.fromhex("0201070a030c0008")
 ONE = bytes.fromhex("0201070a030801080500000c")
@@ -214,13 +214,14 @@ class SketchTest(unittest.TestCase):
         sketch, many = Sketch(), Sketch()
         for value in range(10000):
             sketch.update(value)
-            self.assertLess(len(sketch._pending), 4096)
+            room = max(4096, 2 * len(sketch._image))
+            self.assertLess(sum(map(sys.getsizeof, sketch._pending)), room)
         many.update_many(range(10000))
         self.assertEqual(sketch, many)
         large = Sketch()
         for number in range(5):
             large.update(bytes([number]) * 600_000)
-            self.assertLess(large._pending_bytes, 1 << 20)
+            self.assertEqual(large._pending_bytes, 0)
         self.assertEqual(large.num_coupons, 5)
         one = Sketch()
         one.update("x")
@@ -324,6 +325,7 @@ class SketchTest(unittest.TestCase):
 
 class UnionTest(unittest.TestCase):
     def setUp(self):
+        common.ignore_precision(self)
         source = random.Random(5)
         self.sketches = []
         for number in range(700):

@@ -315,9 +315,13 @@ class CheckTest(CommandTest):
         os.mkfifo(self.folder / "all" / "pipe")
         (self.folder / "all" / "round").symlink_to("..")
         (self.folder / "all" / "link").symlink_to("a")
-        self.assertEqual(self.succeeds("check", "all"), b"")
-        told = json.loads(self.succeeds("check", "--json", "all", "-", given=self.read("all/a")))
-        self.assertEqual(told, {"checked": 4, "refused": []})
+        err = "".join(f"hll: all/{name} (passed over)\n" for name in (
+            "pipe: a FIFO", "round: a link to a folder"
+        ))
+        self.assertEqual(self.run_hll("check", "all"), (0, b"", err))
+        given = self.read("all/a")
+        status, out, told = self.run_hll("check", "--json", "all", "-", given=given)
+        self.assertEqual((status, json.loads(out), told), (0, {"checked": 4, "refused": []}, err))
 
     def test_troubles(self):
         self.write("a", b"")
@@ -333,9 +337,9 @@ class CheckTest(CommandTest):
         with open(os.path.join(os.fsencode(self.folder), name), "wb") as file:
             file.write(b"no")
         status, out, _ = self.run_hll("check", ".")
-        self.assertEqual((status, out), (1, b"./" + name + b": image truncated\n"))
+        self.assertEqual((status, out), (1, rb"$'./a\377\nb': image truncated" + b"\n"))
         status, out, _ = self.run_hll("check", "--files-from", "-", "-0", given=name + b"\0")
-        self.assertEqual((status, out), (1, name + b": image truncated\n"))
+        self.assertEqual((status, out), (1, rb"$'a\377\nb': image truncated" + b"\n"))
         json.loads(self.run_hll("check", ".", "--json")[1])
 
 

@@ -37,10 +37,35 @@ def expected_coupons(values):
     return -sum(2**26 * math.expm1(values * math.log1p(-part / 2**26)) for part in parts)
 
 
+def poisson(mean, many):
+    """How often a number of this mean is at most so many, and how often at least."""
+    parts = [math.exp(i * math.log(mean) - mean - math.lgamma(i + 1)) if mean else float(i == 0)
+             for i in range(many + 1)]
+    return math.fsum(parts), 1 - math.fsum(parts[:-1])
+
+
+def bounds_of_coupons(coupons, estimate):
+    """Bounds at 1, 2 and 3 deviations: of as many values, so many would share coupons with others
+    no less often than the tails of a normal distribution."""
+    shares = []
+    for lost in range(400):
+        values = coupons + lost
+        shares.append(poisson(max(values - expected_coupons(values), 0), lost))
+    for d in (1, 2, 3):
+        tail = math.erfc(d / math.sqrt(2)) / 2
+        too_few = [lost for lost, (at_most, _) in enumerate(shares) if at_most < tail]
+        enough = [lost for lost, (_, at_least) in enumerate(shares) if at_least >= tail]
+        lower = coupons + max(too_few, default=-1) + 1
+        yield lower, max(coupons + max(enough), estimate)
+
+
 class EstimatesTest(unittest.TestCase):
-    def check_bounds(self, sketch, estimate, error, least):
-        self.assertAlmostEqual(sketch.estimate() / max(estimate, least), 1, 9)
+    def check_estimate(self, sketch, estimate, error):
+        self.assertAlmostEqual(sketch.estimate() / estimate, 1, 9)
         self.assertAlmostEqual(sketch.relative_standard_error() / error, 1, 9)
+
+    def check_bounds(self, sketch, estimate, error, least):
+        self.check_estimate(sketch, max(estimate, least), error)
         for d in (1, 2, 3):
             lower, upper = sketch.bounds(d)
             self.assertAlmostEqual(lower / max(least, sketch.estimate() / (1 + d * error)), 1, 9)
@@ -70,7 +95,11 @@ class EstimatesTest(unittest.TestCase):
             estimate = sketch.estimate()
             self.assertLess(abs(expected_coupons(estimate) - coupons), 1e-9 * coupons)
             error = math.sqrt((estimate - 1) / estimate / 6 / 2**26)
-            self.check_bounds(sketch, estimate, error, coupons)
+            self.check_estimate(sketch, estimate, error)
+            for d, (lower, upper) in enumerate(bounds_of_coupons(coupons, estimate), 1):
+                found = sketch.bounds(d)
+                self.assertAlmostEqual(found[0] / lower, 1, 9, (count, d))
+                self.assertAlmostEqual(found[1] / upper, 1, 9, (count, d))
 
     def test_one_and_none(self):
         sketch = Sketch()

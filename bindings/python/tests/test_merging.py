@@ -15,6 +15,7 @@ from unittest import mock
 import common
 from command import COMMAND, CommandTest, environment, interruptible
 from hll_sketches import Sketch, files, merging, union_of
+from hll_sketches.merging import Bounds
 
 FILES = 300
 COUNTS = (0, 1, 8, 9, 40, 3000, 20_000)
@@ -44,7 +45,34 @@ def program_union(program, made, lg_k, width):
     return bytes.fromhex(done.stdout.decode())
 
 
+def precision_lines(names, made, bound=12):
+    """What a merge tells of the files that make its answer coarser."""
+    sketches = [Sketch.from_bytes(image) for image in made]
+    lg_ks = [sketch.lg_k for sketch in sketches if not sketch.is_empty]
+    of_registers = [(name, one.lg_k) for name, one in zip(names, sketches)
+                    if one.stage == "registers" and one.num_zeros < 1 << one.lg_k]
+    least = min([bound, *(lg_k for _, lg_k in of_registers)])
+    if least == bound or max(lg_ks) == least:
+        return ""
+    lowering = [name for name, lg_k in of_registers if lg_k == least]
+    without = min(bound, max(lg_ks))
+    told = f"its lg_k lowers that of the answer from {without} to {least}"
+    lines = [f"hll: {name}: {told}\n" for name in lowering[:100]]
+    if len(lowering) > 100:
+        lines.append(f"hll: merge: and {len(lowering) - 100:,} files more do so\n")
+    return "".join(lines)
+
+
+def in_order(names, made):
+    """Names and images as a walk finds them."""
+    return zip(*sorted(zip(names, made)))
+
+
 class LaidOut(CommandTest):
+    def setUp(self):
+        super().setUp()
+        common.ignore_precision(self)
+
     def lay_out(self, made=IMAGES):
         """The images as files in folders; their names in order."""
         names = [f"all/{number % 4}/{number:04}.hll" for number in range(len(made))]
@@ -59,15 +87,18 @@ class MergeTest(LaidOut):
         if program is None:
             self.skipTest("the program hll_merge is not here")
         self.assertEqual(len(KINDS), 9)
-        self.lay_out()
+        names, made = in_order(self.lay_out(), IMAGES)
         for jobs, lg_k, width in ((1, 12, 8), (3, 12, 8), (3, 9, 4), (1, 7, 6)):
             options = ["--jobs", jobs, "--lg-k", lg_k, "--width", width]
             wanted = program_union(program, IMAGES, lg_k, width)
             with self.subTest(options=options):
-                out = self.succeeds("merge", "all", "-o", "one.hll", "--plain", *options)
-                self.assertEqual((out, self.read("one.hll")), (b"", wanted))
+                err = precision_lines(names, made, lg_k)
+                self.assertEqual(err == "", lg_k < 8)
+                told = self.run_hll("merge", "all", "-o", "one.hll", "--plain", *options)
+                self.assertEqual((told, self.read("one.hll")), ((0, b"", err), wanted))
                 with_words = Sketch.from_bytes(wanted).with_estimator_words().to_bytes()
-                self.assertEqual(self.succeeds("merge", "all", "-o", "-", *options), with_words)
+                told = self.run_hll("merge", "all", "-o", "-", *options)
+                self.assertEqual(told, (0, with_words, err))
                 self.assertNotEqual(with_words, wanted)
 
     def test_of_coupons_alone(self):
@@ -86,8 +117,10 @@ class MergeTest(LaidOut):
             told = []
             with mock.patch.object(merging, "GROUP", group), \
                     mock.patch.object(merging, "BATCH_BYTES", batch):
-                found = merging.union_of_files(names, 11, 6, jobs, self.fail, told.append)
-            self.assertEqual(found, (wanted, FILES))
+                found = merging.union_of_files(
+                    names, Bounds(11), 6, jobs, self.fail, told.append
+                )
+            self.assertEqual(found[:2], (wanted, FILES))
             self.assertEqual((sum(told), len(told)), (FILES, -(-FILES // group)))
 
     def test_memory_is_bounded(self):
@@ -101,7 +134,7 @@ class MergeTest(LaidOut):
 
         with mock.patch.object(merging, "BATCH_BYTES", 30_000), \
                 mock.patch.object(merging._library, "union", measured):
-            merging.union_of_files(names, 12, 8, 1, self.fail)
+            merging.union_of_files(names, Bounds(12), 8, 1, self.fail)
         self.assertGreater(sum(sizes), 300_000)
         self.assertLess(max(sizes), 30_000 + max(map(len, IMAGES)) + 4200)
 
@@ -115,7 +148,8 @@ class MergeTest(LaidOut):
         extra.update_many(range(10**9, 10**9 + 9999))
         words = ["merge", "-", "--files-from", "list", "-o", "one.hll", "--jobs", 3, "--skip-bad"]
         status, out, err = self.run_hll(*words, "--json", given=extra.to_bytes())
-        self.assertEqual((status, err), (0, "hll: bad: image truncated (left out)\n"))
+        lines = precision_lines(names, IMAGES * 5)
+        self.assertEqual((status, err), (0, "hll: bad: image truncated (left out)\n" + lines))
         told = json.loads(out)
         self.assertEqual((told["merged"], len(told["left_out"])), (5 * FILES + 1, 1))
         both = union_of([*IMAGES, extra]).with_estimator_words().to_bytes()
@@ -125,9 +159,9 @@ class MergeTest(LaidOut):
     def test_a_process_that_is_lost(self):
         names = [str(self.folder / name) for name in self.lay_out(IMAGES[:9])]
         with mock.patch.object(merging, "GROUP", 1), \
-                mock.patch.object(merging, "_Joined", lambda lg_k: os._exit(3)), \
+                mock.patch.object(merging, "_Joined", lambda bounds: os._exit(3)), \
                 self.assertRaises(files.Trouble) as caught:
-            merging.union_of_files(names, 12, 8, 2, self.fail)
+            merging.union_of_files(names, Bounds(12), 8, 2, self.fail)
         words = "merge: a process ended before its work was done"
         self.assertEqual((str(caught.exception), caught.exception.status), (words, 1))
 
@@ -136,8 +170,8 @@ class MergeTest(LaidOut):
         wanted = union_of(IMAGES[:20]).with_estimator_words().to_bytes()
         for end, more in (("\n", []), ("\0", ["-0"])):
             given = end.join(names).encode()
-            out = self.succeeds("merge", "--files-from", "-", *more, "-o", "-", given=given)
-            self.assertEqual(out, wanted)
+            told = self.run_hll("merge", "--files-from", "-", *more, "-o", "-", given=given)
+            self.assertEqual(told, (0, wanted, precision_lines(names, IMAGES[:20])))
         words = ["none: No such file or directory"]
         self.fails(2, words, "merge", "--files-from", "none", "-o", "x")
 
@@ -171,7 +205,9 @@ class RefusalsTest(LaidOut):
         lines = ["none: No such file or directory", *lines]
         left = [f"{line} (left out)" for line in lines]
         words = ["merge", "none", "all", "--skip-bad", "-o"]
+        names = self.lay_out(IMAGES[:60])
         err = "".join(f"hll: {line}\n" for line in left)
+        err += precision_lines(*in_order(names, IMAGES[:60]))
         self.assertEqual(self.run_hll(*words, "one.hll"), (0, b"", err))
         self.assertEqual(self.read("one.hll"), wanted)
         status, out, _ = self.run_hll(*words, "two.hll", "--json")
@@ -190,6 +226,8 @@ class RefusalsTest(LaidOut):
         self.fails(1, lines, "merge", "all", "-o", "one.hll")
         self.assertEqual(self.listed(), ["all"])
         err = "".join(f"hll: {line} (left out)\n" for line in lines)
+        good = [(name, made[n]) for n, name in enumerate(names) if n not in bad]
+        err += precision_lines(*in_order(*zip(*good)))
         for jobs in (1, 4):
             words = ("merge", "all", "--skip-bad", "-o", "one.hll", "--jobs", jobs)
             self.assertEqual(self.run_hll(*words), (0, b"", err))

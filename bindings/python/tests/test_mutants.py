@@ -24,6 +24,9 @@ def program_answer(program, image):
 
 
 class MutantsTest(unittest.TestCase):
+    def setUp(self):
+        common.ignore_precision(self)
+
     def compare_merged(self, image, word):
         """A mutant is merged into registers as the sketch that it is read as, or is refused."""
         if word == "accepted":

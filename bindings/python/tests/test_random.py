@@ -127,6 +127,7 @@ class RandomTest(unittest.TestCase):
         self.assertTrue(result.agrees_with(made))
 
     def test_random(self):
+        common.ignore_precision(self)
         for _ in range(CASES):
             self.case()
         print(f"{CASES} random cases")

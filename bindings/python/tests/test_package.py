@@ -1,0 +1,247 @@
+# SPDX-License-Identifier: Apache-2.0
+"""The package as others get it: its types, its wheel, and the library that it takes."""
+import os
+import re
+import shutil
+import subprocess
+import sys
+import unittest
+import zipfile
+
+import common
+from command import CommandTest
+
+SYSTEM = "/usr/bin/python3"
+BUILD = common.PACKAGE.parent / "c" / "build"
+
+
+def has(python, *modules):
+    """Whether a Python is there with some modules."""
+    if shutil.which(python) is None:
+        return False
+    code = "import sys, importlib.util as i; sys.exit(not all(map(i.find_spec, sys.argv[1:])))"
+    return subprocess.run([python, "-c", code, *modules]).returncode == 0
+
+
+def plain_environment(**more):
+    """Without what the tests are run with."""
+    names = ("HLL_SKETCHES_LIBRARY", "PYTHONPATH", "VIRTUAL_ENV")
+    kept = {name: value for name, value in os.environ.items() if name not in names}
+    return {**kept, "PIP_NO_INDEX": "1", "PYTHONDONTWRITEBYTECODE": "1", **more}
+
+
+class TypesTest(CommandTest):
+    def setUp(self):
+        super().setUp()
+        self.mypy = shutil.which("mypy")
+        if self.mypy is None:
+            self.skipTest("mypy is not here")
+
+    def checked(self, *words):
+        done = subprocess.run(
+            [self.mypy, *words], cwd=common.PACKAGE, capture_output=True, text=True
+        )
+        return done.returncode, done.stdout
+
+    def test_the_package(self):
+        status, out = self.checked("--strict", "hll_sketches")
+        self.assertEqual(status, 0, out)
+
+    def test_a_program(self):
+        """What a program that uses the package is told."""
+        self.write("right.py", b"""\
+import pathlib
+from hll_sketches import Sketch, Union, coupons, merge_files, union_of
+made: Sketch = union_of([Sketch(), b""], 12, 8, min_lg_k=8) | Sketch.read("x")
+made.update_many(open("x"))
+made.update_many([1, "a", b"b", 2.5])
+made.write(pathlib.Path("x"))
+low, high = made.bounds()
+number: float = low + high + made.estimate() + sum(coupons(["x"]))
+merged: Sketch = merge_files(["a", pathlib.Path("b")], on_refused=print)
+copied: Union = Union(12).copy()
+""")
+        wrong = "from hll_sketches import Sketch\nSketch('12')\nSketch().update(None)\n"
+        self.write("wrong.py", wrong.encode())
+        status, out = self.checked("--strict", str(self.folder / "right.py"))
+        self.assertEqual(status, 0, out)
+        status, out = self.checked("--strict", str(self.folder / "wrong.py"))
+        self.assertEqual((status, len(re.findall("error:", out))), (1, 2), out)
+
+
+class BuildTest(CommandTest):
+    """In a copy of the checkout."""
+
+    def setUp(self):
+        super().setUp()
+        self.root = self.folder / "hll"
+        left_out = shutil.ignore_patterns("build", "*.egg-info", "__pycache__")
+        shutil.copytree(common.PACKAGE, self.root / "bindings" / "python", ignore=left_out)
+        self.c = self.root / "bindings" / "c"
+        self.c.mkdir()
+        (self.c / "Makefile").write_text("all:\n")
+
+    def put_library(self):
+        library = BUILD / "libhll.so"
+        if not library.exists():
+            self.skipTest("bindings/c/build/libhll.so is not here")
+        (self.c / "build").mkdir()
+        shutil.copyfile(library, self.c / "build" / "libhll.so")
+
+    def wheel(self):
+        """The wheel that is built, and the Python that built it."""
+        wanted = "pip", "setuptools", "wheel"
+        pythons = [one for one in (sys.executable, SYSTEM) if has(one, *wanted)]
+        if not pythons:
+            self.skipTest("pip, setuptools and wheel are not here")
+        python = pythons[0]
+        words = ["-m", "pip", "wheel", "-q", "--no-build-isolation", "--no-deps", "-w", "wheels"]
+        subprocess.run(
+            [python, *words, "hll/bindings/python"], cwd=self.folder, env=plain_environment(),
+            check=True, capture_output=True,
+        )
+        (made,) = (self.folder / "wheels").iterdir()
+        return made, python
+
+    def run_from(self, wheel, python, *words):
+        """Runs the command from a wheel, far from the checkout."""
+        place = self.folder / "installed"
+        shutil.rmtree(place, ignore_errors=True)
+        with zipfile.ZipFile(wheel) as archive:
+            archive.extractall(place)
+            names = archive.namelist()
+        done = subprocess.run(
+            [python, "-m", "hll_sketches", *words], cwd=self.folder, capture_output=True, text=True,
+            env=plain_environment(PYTHONPATH=str(place)),
+        )
+        return names, done
+
+    def test_with_the_library(self):
+        self.put_library()
+        (self.root / "bindings/python/hll_sketches/libhll.so").write_bytes(b"an old one")
+        wheel, python = self.wheel()
+        self.assertRegex(wheel.name, r"^hll_sketches-[\d.]+-py3-none-linux_\w+\.whl$")
+        names, done = self.run_from(wheel, python, "new", "a.hll")
+        self.assertEqual((done.returncode, done.stderr), (0, ""))
+        with zipfile.ZipFile(wheel) as archive:
+            inside = archive.read("hll_sketches/libhll.so")
+            (licence,) = (name for name in names if name.endswith("LICENSE"))
+            self.assertEqual(archive.read(licence), (common.PACKAGE / "LICENSE").read_bytes())
+        self.assertEqual(inside, (BUILD / "libhll.so").read_bytes())
+        self.assertIn("hll_sketches/py.typed", names)
+
+    def test_without_the_library(self):
+        stale = self.root / "bindings/python/build/lib/hll_sketches/libhll.so"
+        stale.parent.mkdir(parents=True)
+        stale.write_bytes(b"an old one")
+        wheel, python = self.wheel()
+        self.assertTrue(wheel.name.endswith("-py3-none-any.whl"), wheel.name)
+        names, done = self.run_from(wheel, python, "new", "a.hll")
+        self.assertFalse([name for name in names if "libhll" in name])
+        if "libhll" not in str(subprocess.run(["ldconfig", "-p"], capture_output=True).stdout):
+            self.assertEqual(done.returncode, 2)
+            begin = "hll: the shared library libhll.so is not here: build it"
+            self.assertEqual(done.stderr[: len(begin)], begin)
+            self.assertIn("the command rt or", done.stderr)
+
+    def test_the_steps_of_the_readme(self):
+        """As they stand, but for what only root can do."""
+        self.put_library()
+        if not has(SYSTEM, "ensurepip", "setuptools", "wheel", "venv"):
+            self.skipTest("python3-venv, python3-setuptools and python3-wheel are not here")
+        text = (common.PACKAGE / "README.md").read_text("utf-8")
+        block = re.search(r"```sh\n(sudo apt .*?)```", text, re.S)[1]
+        lines = [line for line in block.splitlines() if not line.startswith("sudo ")]
+        self.assertGreater(len(lines), 2)
+        found = plain_environment(PATH="/usr/bin:/bin", HOME=str(self.folder / "home"))
+        done = subprocess.run(["sh", "-e"], input="\n".join(lines), cwd=self.root, env=found,
+                              capture_output=True, text=True)
+        self.assertEqual(done.returncode, 0, done.stdout + done.stderr)
+        self.assertIn("lg_k", done.stdout)
+
+    def test_a_fresh_build_goes_before_a_copy_in_the_package(self):
+        self.put_library()
+        package = self.root / "bindings" / "python"
+        (package / "hll_sketches" / "libhll.so").write_bytes(b"an old one")
+        done = subprocess.run(
+            [sys.executable, "-m", "hll_sketches", "new", "a.hll"], cwd=self.folder,
+            capture_output=True, env=plain_environment(PYTHONPATH=str(package)),
+        )
+        self.assertEqual((done.returncode, done.stderr), (0, b""))
+
+
+class LicenceTest(CommandTest):
+    def test_it_is_that_of_the_checkout(self):
+        whole = common.ROOT / "LICENSE"
+        if not whole.exists():
+            self.skipTest("the LICENSE of the checkout is not here")
+        self.assertEqual((common.PACKAGE / "LICENSE").read_bytes(), whole.read_bytes())
+
+
+OTHER = r"""
+#include <string.h>
+#include <stdint.h>
+#include <stddef.h>
+typedef unsigned char u8;
+#define EMPTY(name) int name(void) { return 0; }
+EMPTY(hll_image_new) EMPTY(hll_image_add) EMPTY(hll_image_add_coupon) EMPTY(hll_image_merge)
+EMPTY(hll_images_union) EMPTY(hll_image_fold) EMPTY(hll_image_convert) EMPTY(hll_image_check)
+EMPTY(hll_image_set_estimator_words) EMPTY(hll_images_agree) EMPTY(hll_coupon) EMPTY(hll_coupons)
+EMPTY(hll_estimate)
+#ifndef WITHOUT
+u8 hll_image_histogram(const u8 *image, size_t len, uint64_t *counts)
+{ memset(counts, 0, 512); counts[0] = 1023; counts[COUNT] = 1; return 0; }
+#endif
+u8 hll_image_info(const u8 *image, size_t len, u8 *info)
+{ memset(info, 0, SIZE); info[0] = 1; info[56] = 10; info[57] = 8; return 0; }
+"""
+
+
+class OtherLibrariesTest(CommandTest):
+    """A library of another version, or with another layout, is refused when it is loaded."""
+
+    def told_of(self, name="libother.so", **defined):
+        words = [f"-D{name}={value}" for name, value in {"SIZE": 64, "COUNT": 3, **defined}.items()]
+        self.write("other.c", OTHER.encode())
+        library = self.folder / name
+        subprocess.run(["cc", "-shared", "-fPIC", "-w", *words, "-o", library, "other.c"],
+                       cwd=self.folder, check=True)
+        done = subprocess.run(
+            [sys.executable, "-m", "hll_sketches", "new", "a.hll"], cwd=self.folder, text=True,
+            capture_output=True, env=plain_environment(
+                PYTHONPATH=str(common.PACKAGE), HLL_SKETCHES_LIBRARY=str(library)),
+        )
+        self.assertEqual((done.returncode, (self.folder / "a.hll").exists()), (2, False))
+        return done.stderr.split("can't be used: ")[1].strip()
+
+    def setUp(self):
+        super().setUp()
+        if shutil.which("cc") is None:
+            self.skipTest("a C compiler is not here")
+
+    def test_another_layout(self):
+        self.assertEqual(self.told_of(SIZE=72), "its info is laid out in another way")
+        self.assertEqual(self.told_of(COUNT=4), "its histogram is laid out in another way")
+        self.assertEqual(self.told_of(), "its estimation is laid out in another way")
+
+    def test_a_missing_call(self):
+        self.assertIn("undefined symbol: hll_image_histogram", self.told_of(WITHOUT=1))
+
+    def test_another_version(self):
+        for number in ("1.0", "0.2"):
+            told = self.told_of(f"libhll.so.{number}.0")
+            self.assertEqual(told, f"it is of version {number}, and not 0.1")
+        told = self.told_of("libhll.so.0.1.7")
+        self.assertEqual(told, "its estimation is laid out in another way")
+        (self.folder / "libhll.so").symlink_to("libhll.so.0.2.0")
+        done = subprocess.run(
+            [sys.executable, "-m", "hll_sketches", "new", "a.hll"], cwd=self.folder,
+            capture_output=True, env=plain_environment(
+                PYTHONPATH=str(common.PACKAGE), HLL_SKETCHES_LIBRARY="./libhll.so"),
+        )
+        self.assertEqual(done.returncode, 2)
+        self.assertIn(b"it is of version 0.2", done.stderr)
+
+
+if __name__ == "__main__":
+    unittest.main()
