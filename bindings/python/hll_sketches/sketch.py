@@ -170,7 +170,8 @@ class Sketch:
         Raises
         ------
         OSError
-            If it can't be written. Then the file is as it was.
+            If it can't be written. Then the file is the old one, unless the new one is whole and it
+            is only its name that may not be on the disk yet.
         """
         from .files import write_path
 

@@ -1,12 +1,13 @@
 -- Lemmas on images that are read, and on what refuses them.
-use Rattle.std.proofs.Common.{arith, ◌≡◌, ◌⊎◌, ℕ, ◌<◌, ◌≤◌, Bool, true, false, cond, List, [], ◌∷◌, ◌++◌, length, Some, None, inl, inr, refl, sym, ◌∙◌, ap, subst, append_assoc}
+use Rattle.std.proofs.Common.{arith, ◌≡◌, ◌⊎◌, ℕ, ◌<◌, ◌≤◌, List, [], ◌∷◌, ◌++◌, length, Some, None, inl, inr, sym, ◌∙◌, ap, subst, append_assoc}
 use Rattle.std.proofs.lemmas.Bool.{cases_lt}
 use Rattle.hll_base.specs.declared.error.Reason.{Reason}
 use Rattle.hll_base.specs.declared.error.Reason.TheVariants.{Argument, Memory}
-use Rattle.hll_sketch.specs.Checks.{Check, first_failing, header_checks, checks_behind, first_fault, size_fault}
+use Rattle.hll_sketch.specs.Checks.{first_failing, header_checks, checks_behind, first_fault, size_fault}
 use Rattle.hll_sketch.specs.Folding.{IsFoldLgK}
 use Rattle.hll_sketch.specs.Image.{IsReadAs}
 use Rattle.hll_sketch.specs.Value.{Sketch, IsLgK}
+use Rattle.hll_sketch.proofs.FirstFailing.{none_before}
 use Rattle.hll_sketch.proofs.FirstFaults.{faultless_is_image}
 use Rattle.hll_c.specs.Answers.{RefusesArguments, argument, memory, RefusesImage, image_fault, image_memory, RefusesWith, argument_with_image, image_refused, RefusesImages, argument_with_images, images_fault, images_memory}
 use Rattle.hll_c.specs.Batches.{AreReadAs, IsFirstFaulty, MayAskAt, strings}
@@ -14,16 +15,6 @@ use Rattle.hll_c.specs.Calls.{AreNewArguments, IsEmptyAt, IsMadeOf, IsFoldOf, Re
 use Rattle.hll_c.specs.Steps.{IsRefusedAt}
 
 -- ---- reading
-
--- checks of which none fails
-none_before : (cs ds : List Check) → first_failing (cs ++ ds) ≡ None → first_failing cs ≡ None
-none_before [] ds e = refl
-none_before (c ∷ cs) ds e = of c.passes (none_before cs ds) e
-  where
-    of : (t : Bool) → (first_failing (cs ++ ds) ≡ None → first_failing cs ≡ None) → cond t (first_failing (cs ++ ds)) (Some c.reason) ≡ None
-        → cond t (first_failing cs) (Some c.reason) ≡ None
-    of true further n = further n
-    of false further n = n
 
 -- an image that is read has no fault
 pub no_fault : (image : List ℕ) (x : Sketch) → IsReadAs image x → first_fault image ≡ None

@@ -25,6 +25,16 @@ failing_before (c ∷ cs) ds r e = of c.passes (failing_before cs ds r) e
     of true further f = further f
     of false further f = f
 
+-- none of the first checks fails, if none of all
+pub none_before : (cs ds : List Check) → first_failing (cs ++ ds) ≡ None → first_failing cs ≡ None
+none_before [] ds e = refl
+none_before (c ∷ cs) ds e = of c.passes (none_before cs ds) e
+  where
+    of : (t : Bool) → (first_failing (cs ++ ds) ≡ None → first_failing cs ≡ None) → cond t (first_failing (cs ++ ds)) (Some c.reason) ≡ None
+        → cond t (first_failing cs) (Some c.reason) ≡ None
+    of true further n = further n
+    of false further n = n
+
 -- what two clauses say of an error
 pub IfErr-with : {T E : Type 0} (r : Result T E) (P Q S : E → Type 0) → ((e : E) → P e → Q e → S e) → IfErr r P → IfErr r Q → IfErr r S
 IfErr-with (Ok x) P Q S h p q = tt

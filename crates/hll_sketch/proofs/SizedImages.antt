@@ -14,7 +14,7 @@ use Rattle.hll_sketch.specs.Value.{Sketch}
 use Rattle.hll_sketch.proofs.BorrowedCoupons.{length-words}
 use Rattle.hll_sketch.proofs.Checks.{Decides-leb, Decides-list_count, Decides-set_table}
 use Rattle.std.proofs.lemmas.Bool.Decides.{Decides-eqb, Decides-ltb}
-use Rattle.hll_sketch.proofs.FirstFailing.{behind_list, behind_set, size_behind}
+use Rattle.hll_sketch.proofs.FirstFailing.{none_before, behind_list, behind_set, size_behind}
 use Rattle.hll_sketch.proofs.FirstFaults.{faultless_is_image}
 
 -- where a check doesn't fail, it passes, and none of those behind it fails
@@ -22,19 +22,9 @@ passing : {P : Type 0} (t : Bool) (s : Reason) (o : Option Reason) → Decides t
 passing true s o d none = (d.0 refl, none)
 passing false s o d none = let other : Some s ≡ None = none in absurd (cc)
 
--- none of the first checks fails
-fronts : (cs ds : List Check) → first_failing (cs ++ ds) ≡ None → first_failing cs ≡ None
-fronts [] ds none = refl
-fronts (c ∷ cs) ds none = of c.passes (fronts cs ds) none
-  where
-    of : (t : Bool) → (first_failing (cs ++ ds) ≡ None → first_failing cs ≡ None) → cond t (first_failing (cs ++ ds)) (Some c.reason) ≡ None
-        → cond t (first_failing cs) (Some c.reason) ≡ None
-    of true further n = further n
-    of false further n = n
-
--- nor of what chooses and measures, if none of all
+-- none of what chooses and measures fails, if none of all
 sized_if_faultless : (hs ss cs : List Check) → first_failing (hs ++ (ss ++ cs)) ≡ None → first_failing (hs ++ ss) ≡ None
-sized_if_faultless [] ss cs none = fronts ss cs none
+sized_if_faultless [] ss cs none = none_before ss cs none
 sized_if_faultless (h ∷ hs) ss cs none = of h.passes (sized_if_faultless hs ss cs) none
   where
     of : (t : Bool) → (first_failing (hs ++ (ss ++ cs)) ≡ None → first_failing (hs ++ ss) ≡ None) → cond t (first_failing (hs ++ (ss ++ cs))) (Some h.reason) ≡ None
