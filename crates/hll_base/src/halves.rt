@@ -1,5 +1,6 @@
 //! The state of MurmurHash3 x64 128 and its mixing steps (docs/FORMAT.md, "The hash").
-ghost use Rattle.std.specs.Prelude.{◌≡◌, ℕ, ◌++◌, ◌-◌, List, length, replicate, fold};
+ghost use Rattle.std.specs.Prelude.{◌≡◌, ℕ, ◌++◌, ◌-◌, ◌<◌, ◌≤◌, ◌^◌, List, length, replicate, fold};
+ghost use Rattle.std.specs.Int.{w64, from_le_bytes};
 ghost use Rattle.hll_base.specs.Hash as spec;
 ghost use Rattle.hll_base.specs.Hash.{rotation, mix_of, first_scramble, second_scramble, first_word, second_word, after_block, after_rest, final_halves};
 
@@ -71,6 +72,42 @@ fn words(block: &[u8; 16]) -> (u64, u64)
     )
 }
 
+/// The little-endian number of up to three bytes.
+fn few_bytes(bytes: &[u8]) -> u64
+    requires { length bytes.now ≤ 3 }
+    ensures number { result ≡ from_le_bytes w64 bytes.now }
+    ensures small { result < 2 ^ 24 }
+{
+    match *bytes {
+        [] => 0,
+        [a] => u64::from(a),
+        [a, b] => u64::from(a) + u64::from(b) * (1 << 8),
+        [a, b, c, ..] => u64::from(a) + u64::from(b) * (1 << 8) + u64::from(c) * (1 << 16),
+    }
+}
+
+/// The little-endian number of up to seven bytes.
+fn some_bytes(bytes: &[u8]) -> u64
+    requires { length bytes.now ≤ 7 }
+    ensures { result ≡ from_le_bytes w64 bytes.now }
+{
+    match bytes.split_first_chunk::<4>() {
+        Some((low, high)) => u64::from(u32::from_le_bytes(*low)) + few_bytes(high) * (1 << 32),
+        None => few_bytes(bytes),
+    }
+}
+
+/// The little-endian number of up to eight bytes.
+fn word(bytes: &[u8]) -> u64
+    requires { length bytes.now ≤ 8 }
+    ensures { result ≡ from_le_bytes w64 bytes.now }
+{
+    match bytes.first_chunk::<8>() {
+        Some(all) => u64::from_le_bytes(*all),
+        None => some_bytes(bytes),
+    }
+}
+
 impl Halves {
     /// The state before any block.
     pub(crate) fn at_seed(seed: u64) -> Halves
@@ -116,6 +153,23 @@ impl Halves {
         if count > 8 {
             self.second ^= scramble_second(high);
         }
+    }
+
+    /// Absorbs the last bytes, fewer than sixteen.
+    pub(crate) fn absorb_tail(&mut self, rest: &[u8])
+        requires { length rest.now < 16 }
+        ensures { self.new ≡ after_rest self.old rest.now }
+    {
+        if rest.is_empty() {
+            return;
+        }
+        if rest.len() <= 8 {
+            self.first ^= scramble_first(word(rest));
+            return;
+        }
+        let (low, high) = rest.split_at(8);
+        self.first ^= scramble_first(word(low));
+        self.second ^= scramble_second(word(high));
     }
 
     /// Adds the second half to the first, and then the new first half to the second.

@@ -1,13 +1,13 @@
 //! MurmurHash3 x64 128 (docs/FORMAT.md, "The hash").
-ghost use Rattle.std.specs.Prelude.{◌≡◌, ◌+◌, ◌≤◌, ◌<◌, ◌++◌, [], length, take, drop};
-ghost use Rattle.hll_base.specs.Hash.{initial_state, after_bytes, after_piece, hash_of, default_seed};
+ghost use Rattle.std.specs.Prelude.{◌≡◌, ◌+◌, ◌%◌, ◌^◌, ◌≤◌, ◌<◌, ◌++◌, [], length, take, drop};
+ghost use Rattle.hll_base.specs.Hash.{initial_state, after_bytes, after_piece, hash, hash_of, default_seed};
 
 use crate::halves::Halves;
 use std::hash::Hasher;
 use std::marker::Model;
 
 /// The default seed.
-const DEFAULT_SEED: u64 = 9001;
+pub const DEFAULT_SEED: u64 = 9001;
 
 /// The bytes in a block.
 const BLOCK: usize = 16;
@@ -123,6 +123,25 @@ impl MurmurHash3X64128 {
         halves.absorb_rest(&self.block, self.partial);
         halves.end(self.count)
     }
+}
+
+/// The number of bytes, modulo 2^64.
+fn count_of(bytes: &[u8]) -> u64
+    ensures { result ≡ length bytes.now % 2 ^ 64 }
+{
+    bytes.len() as u64
+}
+
+/// The 128-bit hash of bytes with a seed, in one go, as two 64-bit words. Takes no memory.
+pub fn hash_of_bytes(seed: u64, bytes: &[u8]) -> (u64, u64)
+    ensures first { result.0 ≡ (hash seed bytes.now).first }
+    ensures second { result.1 ≡ (hash seed bytes.now).second }
+{
+    let mut halves = Halves::at_seed(seed);
+    let (blocks, rest) = bytes.as_chunks::<BLOCK>();
+    halves.absorb_each(blocks);
+    halves.absorb_tail(rest);
+    halves.end(count_of(bytes))
 }
 
 impl Hasher for MurmurHash3X64128 {

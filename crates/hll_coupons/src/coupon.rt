@@ -6,7 +6,7 @@ ghost use Rattle.hll_coupons.specs.Pair.{slot_of, value_of, pair, IsPair};
 ghost use Rattle.hll_coupons.specs.Hashed.{coupon_of_words, coupon_of_halves, coupon_of_bytes};
 
 use hll_base::bounds::{MAX_VALUE, SLOT_BITS};
-use hll_base::hash::MurmurHash3X64128;
+use hll_base::hash::{DEFAULT_SEED, MurmurHash3X64128, hash_of_bytes};
 use std::hash::Hash;
 use std::marker::Model;
 
@@ -66,9 +66,8 @@ impl Coupon {
         ensures bytes { result ≡ coupon_of_bytes bytes.now }
         ensures pair { IsPair result }
     {
-        let mut hash = MurmurHash3X64128::default();
-        hash.write(bytes);
-        Coupon::from_hash(&hash)
+        let (lo, hi) = hash_of_bytes(DEFAULT_SEED, bytes);
+        Coupon::from_words(lo, hi)
     }
 
     /// The coupon of a value: that of the pieces of bytes that its own `hash` writes. Takes no memory.
