@@ -1,10 +1,10 @@
 #!/usr/bin/env python3
 # SPDX-License-Identifier: Apache-2.0
 """Keeps what `rt ci` has just proved and built, so that nothing is proved twice: both programs for the scripts at the top,
-and the archive of the crate hll_c for bindings/c. `./check` calls it once the proofs have passed.
+and the archives of the crate hll_c for bindings/c, as each of two compilers builds it. `./check` calls it once the proofs have passed.
 
 `rt ci` leaves the libraries with their statements alone, over which rt itself would prove all anew. The toolchain's own
-command builds the archive over them, by the words that rt gives it; its last line says that the crate was proved. Where the
+command proves the crate over them, by the words that rt gives it, and compiles what was proved. Where the
 kit's rt has other inner words, or work that was kept before stands there instead, nothing is done here, and make builds the
 archive by `rt lib`.
 """
@@ -14,10 +14,12 @@ import pathlib
 import shutil
 import subprocess
 import sys
+import tempfile
 
 ROOT = pathlib.Path(__file__).resolve().parent.parent
 PROGRAMS = {"hll_merge": "hll_program", "hll_words": "hll_words_program"}
-ARCHIVE = "out/libhll_c.a"
+# By the compiler: LLVM's, which all bindings are built from, and that of the toolchain's own, which is tried beside it.
+ARCHIVES = {"llvm": "out/libhll_c.a", "rattle": "out/libhll_c_rattle.a"}
 
 
 class Unkept(Exception):
@@ -49,27 +51,47 @@ def toolchain():
     return module
 
 
-def build_archive(rtlib, folder, jobs):
-    """Builds the archive over the libraries that stand there, and says what its last line says."""
+def call(rtlib, folder, *words):
+    """Runs the toolchain's own command in a folder, and gives the last line that it says; `Unkept` where it fails."""
+    ran = subprocess.run(
+        [rtlib.RATTLE, *words], cwd=folder, stdin=subprocess.DEVNULL, stdout=subprocess.PIPE, stderr=subprocess.STDOUT, text=True, errors="replace"
+    )
+    if ran.returncode:
+        raise Unkept("rattle %s failed: %s" % (words[0], ran.stdout.strip()[-300:]))
+    return (ran.stdout.splitlines() or [""])[-1]
+
+
+def without(words, *flags):
+    """The words without these flags and what stands behind each."""
+    kept = list(words)
+    for flag in flags:
+        at = kept.index(flag)
+        del kept[at : at + 2]
+    return kept
+
+
+def build_archives(rtlib, folder, jobs):
+    """Proves the archive's crate over the libraries that stand there, compiles it by each compiler, and says the proof's last line."""
     crate = rtlib.Crate(str(folder), str(ROOT), {}, name=None)
     if any(it.is_built() for it in crate.below()):
         raise Unkept("work was kept before, over which rt lib is as fast")
     words = crate.words(["--jobs", str(jobs)], keeps=False)
-    command = [rtlib.RATTLE, "build", *words, "--toolchain", "%s/toolchain" % rtlib.KIT, "--backend", "llvm", "-o", ARCHIVE]
     (folder / "out").mkdir(exist_ok=True)
-    ran = subprocess.run(
-        command, cwd=folder, stdin=subprocess.DEVNULL, stdout=subprocess.PIPE, stderr=subprocess.STDOUT, text=True, errors="replace"
-    )
-    last = (ran.stdout.splitlines() or [""])[-1]
-    if ran.returncode or not last.startswith("logic=proved ") or not (folder / ARCHIVE).is_file():
-        raise Unkept("the archive was not built: %s" % ran.stdout.strip()[-300:])
+    with tempfile.TemporaryDirectory() as room:
+        checked = "%s/checked" % room
+        last = call(rtlib, folder, "check", *words, "-o", checked)
+        if not last.startswith("logic=proved "):
+            raise Unkept("the crate was not proved: %s" % last)
+        words = [*without(words, "--logic-built", "--jobs"), "--crate-checked", checked, "--toolchain", "%s/toolchain" % rtlib.KIT]
+        for compiler, archive in ARCHIVES.items():
+            call(rtlib, folder, "build", *words, "--backend", compiler, "-o", archive)
     return last
 
 
-def keep_archive():
-    """Builds the archive where make looks for it, and says to make that it is new."""
+def keep_archives():
+    """Builds the archives where make and its tests look for them, and says to make that they are new."""
     folder = ROOT / "crates" / "hll_c"
-    said = build_archive(toolchain(), folder, min(os.cpu_count() or 1, 4))
+    said = build_archives(toolchain(), folder, min(os.cpu_count() or 1, 4))
     place = ROOT / "bindings" / "c" / "build"
     place.mkdir(exist_ok=True)
     (place / "proved").touch()
@@ -84,9 +106,9 @@ def main():
         except (OSError, Unkept) as why:
             print("not kept: the program %s, as %s" % (name, why))
     try:
-        print("kept: the archive of hll_c (%s)" % keep_archive())
+        print("kept: the archives of hll_c (%s)" % keep_archives())
     except Exception as why:        # of the kit's own code, whatever it is: make then builds the archive
-        print("not kept: the archive of hll_c, as %s: %s" % (type(why).__name__, why))
+        print("not kept: the archives of hll_c, as %s: %s" % (type(why).__name__, why))
 
 
 if __name__ == "__main__":

@@ -8,16 +8,16 @@ root=$(CDPATH='' cd -- "$(dirname -- "$0")/.." && pwd -P) || exit 2
 kept=$root/.$name
 program=$kept/$name
 
-# The program's crate, and the libraries in the order in which they are proved, with the share of the time that each took,
-# in hundredths.
+# The program's crate, and its libraries in the order in which they are proved, each with the hundredths of the time that it
+# takes.
 case $name in
 hll_merge)
     crate=hll_program
-    shares='hll_base 4 hll_text 5 hll_kernels 7 hll_coupons 15 hll_registers 12 hll_arrays 13 hll_sketch 24 hll_merge 20'
+    shares='hll_base 4 hll_kernels 6 hll_text 8 hll_coupons 13 hll_registers 13 hll_arrays 13 hll_sketch 23 hll_merge 13'
     ;;
 hll_words)
     crate=hll_words_program
-    shares='hll_base 5 hll_text 6 hll_kernels 8 hll_coupons 18 hll_registers 14 hll_arrays 16 hll_sketch 29 hll_words 4'
+    shares='hll_base 5 hll_kernels 7 hll_text 9 hll_coupons 15 hll_registers 15 hll_arrays 15 hll_sketch 27 hll_words 4'
     ;;
 *)
     echo "usage: program.sh hll_merge|hll_words" >&2
@@ -32,18 +32,16 @@ is_stale() {
     [ -n "$newer" ]
 }
 
-# How many hundredths of the work are done, by what `rt run` has said so far: it names the functions of a library once all are
-# proved, and tells before how many of the next one are.
+# How many hundredths of the work are done: the shares of the libraries that are proved, and a part of the one that is next
+# by what rt has said of it so far.
 hundredths() {
     awk -v shares="$shares" '
         BEGIN { n = split(shares, words, " "); for (i = 1; i < n; i += 2) share[words[i]] = words[i + 1] }
-        $NF == "proved" { split($2, path, "::"); if (path[1] in share && !(path[1] in proved)) { proved[path[1]] = 1; done += share[path[1]]; part = 0 } }
+        FILENAME ~ /done$/ { done += share[$1] }
+        $1 == "proving" { next_one = $2; part = 0 }
         $1 == "so" && $2 == "far:" { part = $3 / $5 }
-        END {
-            for (i = 1; i < n && words[i] in proved; i += 2);
-            print int(done + (i < n ? share[words[i]] * part : 0))
-        }
-    ' "$kept/log"
+        END { print int(done + share[next_one] * part) }
+    ' "$kept/done" "$kept/log"
 }
 
 # Says each minute how far the proof is, and about how long it still takes, until it is killed or this script has ended.
@@ -62,6 +60,47 @@ report() {
     done
 }
 
+# Proves a library.
+prove() {
+    echo "proving $1" >"$kept/log"
+    (cd "$root/crates/$1" && rt lib --jobs "$jobs") >>"$kept/log" 2>&1 && echo "$1" >>"$kept/done"
+}
+
+# Proves a library that uses hll_base alone in a folder of its own, since rt keeps others from what a crate uses, and moves
+# what it kept to its place.
+prove_aside() {
+    aside=$kept/aside-$1
+    rm -rf "$aside"
+    mkdir -p "$aside/crates" && cp "$root/HANDLES" "$aside" &&
+        grep -E "^(hll_base|$1):" "$root/crates.txt" >"$aside/crates.txt" &&
+        cp -R "$root/crates/hll_base" "$root/crates/$1" "$aside/crates" &&
+        (cd "$aside/crates/$1" && rt lib --jobs 1) >"$kept/log-$1" 2>&1 &&
+        mv "$aside/crates/$1/out" "$root/crates/$1/out" && echo "$1" >>"$kept/done"
+    rm -rf "$aside"
+}
+
+# Proves the libraries, one after the other. In a first build hll_kernels and hll_text are proved beside others, if there are
+# processors for that; what fails so is proved again where it is used.
+prove_all() {
+    kernels='' text=''
+    for library in $(printf '%s\n' "$shares" | sed 's/ [0-9][0-9]*//g'); do
+        case $library in
+        hll_kernels | hll_text)
+            if [ "$jobs" -ge 4 ] && [ ! -e "$root/crates/$library/out" ]; then
+                prove_aside "$library" &
+                [ "$library" = hll_text ] && text=$! || kernels=$!
+                continue
+            fi
+            ;;
+        # shellcheck disable=SC2086
+        hll_registers) wait $kernels ;;
+        # shellcheck disable=SC2086
+        hll_merge | hll_words) wait $text ;;
+        esac
+        prove "$library" || return 1
+    done
+}
+
 # Proves and builds the program by up to four processors, tries it on its stored input, and keeps a copy. All it says goes
 # to standard error.
 build() {
@@ -70,12 +109,12 @@ build() {
         return 1
     }
     echo "$name: proving and building the program; a first build takes some minutes"
-    mkdir -p "$kept" && : >"$kept/started" && : >"$kept/log" || return 1
+    mkdir -p "$kept" && : >"$kept/started" && : >"$kept/log" && : >"$kept/done" || return 1
     jobs=$(getconf _NPROCESSORS_ONLN) || jobs=1
     [ "$jobs" -le 4 ] || jobs=4
     report &
     reporter=$!
-    printed=$(cd "$root/crates/$crate" && rt run --jobs "$jobs" <stdin 2>"$kept/log")
+    (prove_all) && printed=$(cd "$root/crates/$crate" && rt run --jobs "$jobs" <stdin 2>"$kept/log")
     status=$?
     kill "$reporter"
     if [ "$status" -ne 0 ] || [ "$printed" != "$(cat "$root/crates/$crate/stdout")" ]; then

@@ -190,18 +190,49 @@ try_example() {
     ! "$program" 2>/dev/null
 }
 
+# Makes a folder anew and builds the libraries there, of an archive of the crate hll_c.
+make_in() {
+    rm -rf "$1"
+    mkdir "$1" || return 1
+    cp Makefile estimate.c hll.h hll.map hll.pc.in "$1" || return 1
+    make -s -C "$1" LIBHLL_C="$2" LIBC_C="$(dirname "$(rt doc)")/c/liblibc_c.a" all
+}
+
 # Builds the libraries in two folders, of the same archive: they are the same bytes.
 try_two_folders() {
     archive=$(cd ../../crates/hll_c/out 2>/dev/null && pwd)/libhll_c.a
     archive=${LIBHLL_C:-$archive}
     for place in one another-folder; do
-        rm -rf "$tests/$place"
-        mkdir "$tests/$place" || return 1
-        cp Makefile estimate.c hll.h hll.map hll.pc.in "$tests/$place" || return 1
-        make -s -C "$tests/$place" LIBHLL_C="$archive" LIBC_C="$(dirname "$(rt doc)")/c/liblibc_c.a" all || return 1
+        make_in "$tests/$place" "$archive" || return 1
     done
     cmp "$tests/one/build/libhll.so" "$tests/another-folder/build/libhll.so" || return 1
     cmp "$tests/one/build/libhll.a" "$tests/another-folder/build/libhll.a"
+}
+
+# Builds the archive by the toolchain's own compiler, beside LLVM's, if the gate has left none that is as new.
+build_other() {
+    out=$(cd ../../crates/hll_c/out && pwd) || return 1
+    [ "$out/libhll_c_rattle.a" -nt "$out/libhll_c.a" ] && return
+    cp -p "$out/libhll_c.a" "$tests/libhll_c.a" || return 1
+    (cd "$out/.." && rt lib --backend rattle) && mv "$out/libhll_c.a" "$out/libhll_c_rattle.a"
+    status=$?
+    cp -p "$tests/libhll_c.a" "$out/libhll_c.a" && return $status
+}
+
+# The calls, as that compiler builds them.
+test_other_compiler() {
+    if [ -n "${LIBHLL_C:-}" ] || ! has rt; then
+        skip 'the library by the other compiler' "$(has rt && echo 'its crate' || echo rt)"
+        return
+    fi
+    expect 'the archive by the other compiler' build_other
+    expect 'the library by the other compiler' make_in "$tests/other" "$(cd ../../crates/hll_c/out && pwd)/libhll_c_rattle.a"
+    for name in calls buffers rows; do
+        compile "$name-other" "$tests/other/build/libhll.a"
+    done
+    run 'calls, other compiler' "$tests/calls-other"
+    run 'buffers, other compiler' "$tests/buffers-other"
+    run 'rows, other compiler' "$tests/rows-other" "$rows"
 }
 
 # Without the command rt, make ends with a line that says so and what to do: the first one where nothing is proved.
@@ -258,6 +289,7 @@ test_sanitized
 expect 'the example' try_example "$build/example"
 expect 'install and uninstall' try_install
 expect 'without rt' try_without_rt
+test_other_compiler
 if has rt; then
     expect 'the same bytes from two folders' try_two_folders
 else

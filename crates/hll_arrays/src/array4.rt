@@ -10,7 +10,6 @@ ghost use Rattle.hll_registers.specs.Payload.{shape_of_hll4, hll4_size, register
 ghost use Rattle.hll_registers.specs.Store.{size_in_registers, zero_registers, update_with_coupon, IsStored};
 
 use crate::four_bit_payload::{Hll4Header, read_payload};
-use hll_base::codec::SketchBytes;
 use hll_base::cursor::SketchSlice;
 use hll_base::error::Error;
 use hll_base::hll_type::HllType;
@@ -251,9 +250,8 @@ impl<A: Allocator + Clone> Array4<A> {
         };
         let packed = two_to(self.registers.lg_k() - 1) + count * COUPON_SIZE_BYTES;
         let needed = HLL_PREAMBLE_SIZE + packed;
-        let mut bytes = SketchBytes::with_capacity(self.allocator().clone()?, needed)?;
-        preamble.write_header(&mut bytes, self.header(lg_config_k))?;
-        let bytes = preamble.write(bytes)?;
+        let alloc = self.allocator().clone()?;
+        let bytes = preamble.start_image(alloc, self.header(lg_config_k), needed)?;
         let written = self.registers.with_written(bytes)?;
         Ok(written.into_bytes())
     }

@@ -8,7 +8,6 @@ ghost use Rattle.hll_registers.specs.Store.{size_in_registers};
 ghost use Rattle.hll_registers.specs.Payload.{field_size, state_at, IsHll6Payload, FirstHll6Fault, Hll6Fault, hll6_bytes};
 ghost use Rattle.hll_registers.specs.Store.{zero_registers, update_with_coupon, IsStored};
 
-use hll_base::codec::SketchBytes;
 use hll_base::cursor::SketchSlice;
 use hll_base::error::{Error, Reason};
 use hll_base::hll_type::HllType;
@@ -227,9 +226,8 @@ impl<A: Allocator + Clone> Array6<A> {
             exception_count: 0,
         };
         let needed = HLL_PREAMBLE_SIZE + self.estimated_size();
-        let mut bytes = SketchBytes::with_capacity(self.groups.allocator().clone()?, needed)?;
-        preamble.write_header(&mut bytes, HllHeader::plain(lg_config_k, HllType::Hll6))?;
-        let mut bytes = preamble.write(bytes)?;
+        let header = HllHeader::plain(lg_config_k, HllType::Hll6);
+        let mut bytes = preamble.start_image(self.allocator().clone()?, header, needed)?;
         bytes.write(self.groups.as_flattened())?;
         bytes.write(&[0])?;
         Ok(bytes.into_bytes())

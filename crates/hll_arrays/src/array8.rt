@@ -13,7 +13,6 @@ ghost use Rattle.hll_registers.specs.Store.{zero_registers, update_with_coupon, 
 ghost use Rattle.hll_kernels.specs.Packed.{AreRegisters};
 
 use hll_base::bounds::MAX_VALUE;
-use hll_base::codec::SketchBytes;
 use hll_base::cursor::SketchSlice;
 use hll_base::error::{Error, Reason};
 use hll_base::hll_type::HllType;
@@ -314,9 +313,8 @@ impl<A: Allocator + Clone> Array8<A> {
             exception_count: 0,
         };
         let needed = HLL_PREAMBLE_SIZE + self.registers.len();
-        let mut bytes = SketchBytes::with_capacity(self.registers.allocator().clone()?, needed)?;
-        preamble.write_header(&mut bytes, HllHeader::plain(lg_config_k, HllType::Hll8))?;
-        let mut bytes = preamble.write(bytes)?;
+        let header = HllHeader::plain(lg_config_k, HllType::Hll8);
+        let mut bytes = preamble.start_image(self.allocator().clone()?, header, needed)?;
         bytes.write(&self.registers)?;
         Ok(bytes.into_bytes())
     }

@@ -1,5 +1,5 @@
 -- The members of a set in ascending order: one list for each set, as long as the set, and what a sort makes.
-use Rattle.std.proofs.Common.{◌≡◌, ℕ, suc, ◌+◌, ◌<◌, ◌≤◌, Bool, true, false, cond, ◌||◌, List, [], ◌∷◌, length, get_or, nat_eq, refl, sym, ◌∙◌, ap, subst, arith, inl, inr}
+use Rattle.std.proofs.Common.{◌≡◌, ℕ, suc, ◌+◌, ◌<◌, ◌≤◌, Bool, true, false, cond, ◌||◌, List, [], ◌∷◌, ◌++◌, length, get_or, nat_eq, refl, sym, ◌∙◌, ap, subst, arith, inl, inr}
 use Rattle.std.specs.Ordering.{nat_cmp, eq_by_cmp}
 use Rattle.std.specs.Cmp.{nat_cmp_total, both_ways, unsigned_tied, eq_by_cmp_equiv}
 use Rattle.std.specs.FinSet.{contains, len, len-empty, len-insert, contains-from_list, contains-from_list_nat, same_set, nat_cmp-IsAntisymmetric}
@@ -11,8 +11,9 @@ use Rattle.std.proofs.lemmas.List.Sorted.{Contains-permutation, IsPermutation-sy
 use Rattle.std.proofs.lemmas.Map.Keys.{IsStrictlyIncreasing-from_distinct}
 use Rattle.std.proofs.lemmas.Map.Views.{list_any-from_Contains, Contains-from_any}
 use Rattle.hll_coupons.specs.Pair.{Pairs, set_of}
-use Rattle.hll_coupons.specs.Coupons.{IsAscending, WritesAscending}
+use Rattle.hll_coupons.specs.Coupons.{coupon_bytes, IsAscending, WritesAscending}
 use Rattle.hll_coupons.specs.Laws.{OneAscendingOrder}
+use Rattle.hll_coupons.specs.Table.{Table, IsTable, coupons_in, coupons_of}
 use Rattle.hll_coupons.proofs.Reading.{len-set_of-le}
 
 -- ---- one order
@@ -101,6 +102,17 @@ len-Ascends (x ∷ xs) h =
 
 pub len-ascending : (order : List ℕ) (S : Pairs) → IsAscending order S → length order ≡ len S
 len-ascending order S h = sym (len-Ascends order (ascends order (AllPairs-from_increasing order h.increasing))) ∙ ap len h.members
+
+-- an image whose header is made of the number of coupons
+pub written_behind : (header_of : ℕ → List ℕ) (t : Table) (n : ℕ) (header bytes : List ℕ) → IsTable t → n ≡ length (coupons_in t.places) → header ≡ header_of n →
+    WritesAscending (λ order. header ++ coupon_bytes order) (coupons_of t) bytes → WritesAscending (λ order. header_of (length order) ++ coupon_bytes order) (coupons_of t) bytes
+written_behind header_of t n header bytes table count is w =
+    let number : n ≡ length w.order = count ∙ sym table.distinct ∙ sym (len-ascending w.order (coupons_of t) w.ascending) in
+    record {
+      order = w.order;
+      ascending = w.ascending;
+      is = w.is ∙ ap (λ h. h ++ coupon_bytes w.order) (is ∙ ap header_of number);
+    }
 
 -- ---- what a sort makes
 

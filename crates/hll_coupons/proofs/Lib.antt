@@ -13,7 +13,6 @@ pub mod Members
 pub mod Pairs
 pub mod Payloads
 pub mod Places
-pub mod ReferenceSteps
 pub mod Replacing
 mod ProbeRows
 pub mod Probing

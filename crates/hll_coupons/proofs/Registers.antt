@@ -1,19 +1,17 @@
 -- Registers and their pairs: each is the fold of the other.
-use Rattle.std.proofs.Common.{◌≡◌, ℕ, ◌+◌, ◌-◌, ◌%◌, ◌^◌, ◌<◌, ◌≤◌, zero, suc, true, false, cond, ◌⊎◌, eqb, List, [], ◌∷◌, map, length, get_or, set, refl, sym, ap, ◌∙◌, arith, inl, inr}
-use Rattle.std.specs.Prelude.{max}
+use Rattle.std.proofs.Common.{◌≡◌, ℕ, ◌+◌, ◌-◌, ◌%◌, ◌^◌, ◌<◌, ◌≤◌, zero, suc, true, false, cond, ◌⊎◌, eqb, List, [], ◌∷◌, map, length, get_or, refl, sym, ap, ◌∙◌, arith, inl, inr}
 use Rattle.std.specs.List.{list_any, range_with_len}
 use Rattle.std.specs.Ordering.{nat_cmp, eq_by_cmp}
 use Rattle.std.specs.Cmp.{nat_cmp_total}
-use Rattle.std.specs.FinSet.{items, contains, insert, contains-from_list}
-use Rattle.std.proofs.lemmas.Bool.{eqb-true, eqb-false, eq-eqb, or_cases, or_left, or_right, cases_Bool, cases_eq, cases_lt, cond-true, cond-false}
+use Rattle.std.specs.FinSet.{items, contains, contains-from_list}
+use Rattle.std.proofs.lemmas.Bool.{eqb-true, eqb-false, eq-eqb, or_cases, or_left, or_right, cases_Bool, cases_lt, cond-true, cond-false}
 use Rattle.std.proofs.lemmas.List.FromFn.{length-map-range_with_len, get_or-map-range_with_len}
-use Rattle.std.proofs.lemmas.List.{length-set, get_or-set_same, get_or-set_other}
 use Rattle.std.proofs.lemmas.Nat.{mod-mul-add, div-mul-add, pow_below, pow_pos, mod_below}
 use Rattle.std.proofs.Math.Nat.{mod-eq_of_lt, zero-add}
 use Rattle.std.proofs.Math.Pow.{mod-mod-pow}
 use Rattle.hll_coupons.specs.Pair.{Pairs, set_of, slot_of, value_of, pair}
 use Rattle.hll_coupons.specs.Fold.{fold_to, greatest, value_at, pairs, words_from}
-use Rattle.hll_coupons.proofs.Greatest.{bounded, reached, same_word, itself, greatest-insert, greatest-set_of}
+use Rattle.hll_coupons.proofs.Greatest.{bounded, reached, same_word, itself, greatest-set_of}
 use Rattle.hll_coupons.proofs.Folds.{length-fold_to, get_or-fold_to, is_fold_to}
 
 -- ---- the pairs of registers
@@ -166,35 +164,6 @@ fold_to-pairs R k small len = sym (is_fold_to R (pairs R) k len (λ s h.
           omega (arith, reached (value_at k s) (pair s v) (pairs R) is_pair)
     ] in
     omega arith))
-
--- ---- one more pair
-
-pub fold_to-insert_low : (P : Pairs) (c e : ℕ) → value_of c ≤ get_or (fold_to P e) (slot_of c % 2 ^ e) 0 → fold_to (insert P c) e ≡ fold_to P e
-fold_to-insert_low P c e low = sym (is_fold_to (fold_to P e) (insert P c) e (length-fold_to P e) (λ s h.
-    let at : get_or (fold_to P e) s 0 ≡ greatest (value_at e s) (items P) = get_or-fold_to P e s h in
-    let new : greatest (value_at e s) (items (insert P c)) ≡ max (value_at e s c) (greatest (value_at e s) (items P)) = greatest-insert (value_at e s) P c in
-    elim (value_at_cases e s c) [
-      | inl z ↦ omega arith
-      | inr m ↦ omega (arith, ap (λ t. get_or (fold_to P e) t 0) m.0, m.1)
-    ]))
-
-pub fold_to-insert_high : (P : Pairs) (c e : ℕ) → get_or (fold_to P e) (slot_of c % 2 ^ e) 0 ≤ value_of c → fold_to (insert P c) e ≡ set (fold_to P e) (slot_of c % 2 ^ e) (value_of c)
-fold_to-insert_high P c e high = sym (is_fold_to (set (fold_to P e) t (value_of c)) (insert P c) e (length-set (fold_to P e) t (value_of c) ∙ length-fold_to P e) (λ s h.
-    let at : get_or (fold_to P e) s 0 ≡ greatest (value_at e s) (items P) = get_or-fold_to P e s h in
-    let new : greatest (value_at e s) (items (insert P c)) ≡ max (value_at e s c) (greatest (value_at e s) (items P)) = greatest-insert (value_at e s) P c in
-    elim (cases_eq s t) [
-      | inl same ↦
-          let there : value_at e s c ≡ value_of c = value_at_same e s c (sym same) in
-          let wrote : get_or (set (fold_to P e) t (value_of c)) s 0 ≡ value_of c = ap (λ i. get_or (set (fold_to P e) t (value_of c)) i 0) same ∙ get_or-set_same (fold_to P e) t (value_of c) 0 (omega (arith, same, length-fold_to P e)) in
-          omega (arith, ap (λ i. get_or (fold_to P e) i 0) same)
-      | inr other ↦
-          let none : value_at e s c ≡ 0 = elim (value_at_cases e s c) [ inl z ↦ z | inr m ↦ absurd (other (sym m.0)) ] in
-          let kept : get_or (set (fold_to P e) t (value_of c)) s 0 ≡ get_or (fold_to P e) s 0 = get_or-set_other (fold_to P e) t s (value_of c) 0 other in
-          omega arith
-    ]))
-  where
-    t : ℕ
-    t = slot_of c % 2 ^ e
 
 -- ---- a set from a list: its fold computes from the list
 

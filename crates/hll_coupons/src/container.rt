@@ -7,10 +7,10 @@ ghost use Rattle.std.specs.FinSet.{len};
 ghost use Rattle.hll_base.specs.declared.error.Reason.TheVariants.{Memory};
 ghost use Rattle.hll_coupons.specs.Pair.{value_of};
 ghost use Rattle.hll_coupons.specs.Table.{coupons_in, coupons_of, empty_table, IsTable};
-ghost use Rattle.hll_coupons.specs.Coupons.{coupon_bytes, IsAscending};
+ghost use Rattle.hll_coupons.specs.Coupons.{coupon_bytes, IsAscending, WritesAscending};
 
 use crate::coupon::Coupon;
-use crate::serialization::LG_LIST_PLACES;
+use crate::serialization::{COUPON_SIZE_BYTES, LG_LIST_PLACES};
 use crate::storage::Storage;
 use hll_base::codec::SketchBytes;
 use hll_base::error::Error;
@@ -269,6 +269,18 @@ impl<A: Allocator + Clone> Container<A> {
     {
         self.clone_in(self.allocator().clone()?)
     }
+
+    /// An image: this header, and the coupons behind it, four bytes each, in ascending raw words.
+    ///
+    /// Takes memory for a sorted copy of the coupons, and in one request for the image. Fails with `Memory`.
+    pub(crate) fn image(&self, header: &[u8]) -> Result<Vec<u8, A>, Error>
+        ensures ok { IfOk result (λ image. WritesAscending (λ order. header.now ++ coupon_bytes order) (coupons_of self.now) image.items) }
+        ensures err { IfErr result (λ e. e ≡ Memory) }
+    {
+        let alloc = self.allocator();
+        let coupons = self.ascending(alloc.clone()?)?;
+        image_of(alloc.clone()?, header, &coupons)
+    }
 }
 
 /// Containers are equal where they hold the same coupons, whatever their sizes and places. Compares
@@ -297,6 +309,19 @@ pub(crate) fn places_of(lg_size: usize) -> usize
     ensures { result ≡ 2 ^ lg_size }
 {
     1 << lg_size
+}
+
+/// A header and coupons, four bytes each, in one request for memory.
+///
+/// Fails with `Memory`.
+fn image_of<A: Allocator>(alloc: A, header: &[u8], coupons: &[Coupon]) -> Result<Vec<u8, A>, Error>
+    ensures ok { IfOk result (λ image. image.items ≡ header.now ++ coupon_bytes coupons.now) }
+    ensures err { IfErr result (λ e. e ≡ Memory) }
+{
+    let needed = header.len() + coupons.len() * COUPON_SIZE_BYTES;
+    let mut bytes = SketchBytes::with_capacity(alloc, needed)?;
+    bytes.write(header)?;
+    Ok(with_coupons(bytes, coupons)?.into_bytes())
 }
 
 /// A buffer with coupons appended to it, four bytes each.

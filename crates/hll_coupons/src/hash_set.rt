@@ -1,6 +1,7 @@
 //! A set of coupons in a table that is searched by probing (docs/MODEL.md, "Tables" and "Probing").
-ghost use Rattle.std.specs.Prelude.{◌≡◌, ◌+◌, ◌*◌, ◌^◌, ◌<◌, ◌≤◌, ◌⊎◌, ◌↔◌, if◌then◌else◌, length, take, drop, false, IsTrue, IfOk, IfErr, OnOk};
+ghost use Rattle.std.specs.Prelude.{◌≡◌, ◌+◌, ◌*◌, ◌^◌, ◌<◌, ◌≤◌, ◌⊎◌, ◌↔◌, ◌++◌, if◌then◌else◌, length, take, drop, false, IsTrue, IfOk, IfErr, OnOk};
 ghost use Rattle.std.specs.FinSet as set;
+ghost use Rattle.std.specs.Int.{w32, to_le_bytes};
 ghost use Rattle.hll_base.specs.declared.error.Reason.TheVariants.{Memory};
 ghost use Rattle.hll_base.specs.declared.error.Reason.TheVariants as reasons;
 ghost use Rattle.hll_coupons.specs.Coupons.{WritesAscending, set_bytes, coupons_at, AreCoupons};
@@ -13,14 +14,13 @@ ghost use Rattle.hll_coupons.specs.Probe.{Puts, PutsEach};
 ghost use Rattle.hll_coupons.specs.Same.{have_same_coupons};
 ghost use Rattle.hll_coupons.specs.Table.{coupons_in, coupons_of, empty_table, IsTable};
 
-use crate::container::{Container, Insertion, places_of, with_coupons};
+use crate::container::{Container, Insertion, places_of};
 use crate::coupon::Coupon;
 use crate::search::{Key, put_all, search};
 use crate::serialization::{
     COMPACT_FLAG_MASK, COUPON_SIZE_BYTES, CUR_MODE_SET, HASH_SET_PREINTS, LG_LEAST_SET_PLACES,
     SERIAL_VERSION, SET_PREAMBLE_SIZE, encode_mode_byte,
 };
-use hll_base::codec::SketchBytes;
 use hll_base::cursor::SketchSlice;
 use hll_base::error::{Error, Reason};
 use hll_base::family::Family;
@@ -265,15 +265,10 @@ impl<A: Allocator + Clone> HashSet<A> {
         ensures ok { IfOk result (λ image. WritesAscending (set_bytes lg_config_k hll_type self.now.lg_size) (coupons_of self.now) image.items) }
         ensures err { IfErr result (λ e. e ≡ Memory) }
     {
-        let alloc = self.container.allocator();
-        let coupons = self.container.ascending(alloc.clone()?)?;
-        let count = self.container.len();
-        let needed = SET_PREAMBLE_SIZE + count * COUPON_SIZE_BYTES;
-        let mut bytes = SketchBytes::with_capacity(alloc.clone()?, needed)?;
         let lg_size = self.container.lg_size() as u8;
-        bytes.write(&set_header(lg_config_k, hll_type, lg_size))?;
-        bytes.write_u32_le(count as u32)?;
-        Ok(with_coupons(bytes, &coupons)?.into_bytes())
+        let count = self.container.len() as u32;
+        self.container
+            .image(&set_header(lg_config_k, hll_type, lg_size, count))
     }
 }
 
@@ -333,10 +328,16 @@ fn read_places<A: Allocator>(
     Ok(())
 }
 
-/// The eight bytes before the count of a set.
-fn set_header(lg_config_k: u8, hll_type: HllType, lg_size: u8) -> [u8; 8]
-    ensures { result ≡ header.set_header lg_config_k hll_type lg_size }
+/// The twelve bytes before the coupons of a set: the last four are the count.
+fn set_header(
+    lg_config_k: u8,
+    hll_type: HllType,
+    lg_size: u8,
+    count: u32,
+) -> [u8; SET_PREAMBLE_SIZE]
+    ensures { result ≡ header.set_header lg_config_k hll_type lg_size ++ to_le_bytes w32 count }
 {
+    let [first, second, third, fourth] = u32::to_le_bytes(count);
     [
         HASH_SET_PREINTS,
         SERIAL_VERSION,
@@ -346,5 +347,9 @@ fn set_header(lg_config_k: u8, hll_type: HllType, lg_size: u8) -> [u8; 8]
         COMPACT_FLAG_MASK,
         0,
         encode_mode_byte(CUR_MODE_SET, hll_type as u8),
+        first,
+        second,
+        third,
+        fourth,
     ]
 }

@@ -8,7 +8,6 @@ pub mod coupon;
 pub mod hash_set;
 pub mod laws;
 pub mod list;
-pub mod reference;
 mod search;
 pub mod serialization;
 mod storage;

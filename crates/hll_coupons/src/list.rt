@@ -10,13 +10,12 @@ ghost use Rattle.hll_coupons.specs.Coupons.{WritesAscending, list_bytes, coupons
 ghost use Rattle.hll_coupons.specs.Payload.{shape_of_list, HasListCount, list_places, list_table, IsListPayload, ListFault};
 ghost use Rattle.hll_coupons.specs.Coupons as header;
 
-use crate::container::{Container, Insertion, places_of, with_coupons};
+use crate::container::{Container, Insertion, places_of};
 use crate::coupon::Coupon;
 use crate::serialization::{
     COMPACT_FLAG_MASK, COUPON_SIZE_BYTES, CUR_MODE_LIST, EMPTY_FLAG_MASK, LG_LIST_PLACES,
     LIST_PREAMBLE_SIZE, LIST_PREINTS, SERIAL_VERSION, encode_mode_byte,
 };
-use hll_base::codec::SketchBytes;
 use hll_base::cursor::SketchSlice;
 use hll_base::error::{Error, Reason};
 use hll_base::family::Family;
@@ -217,13 +216,9 @@ impl<A: Allocator + Clone> List<A> {
         ensures ok { IfOk result (λ image. WritesAscending (list_bytes lg_config_k hll_type) (coupons_of self.now) image.items) }
         ensures err { IfErr result (λ e. e ≡ Memory) }
     {
-        let alloc = self.container.allocator();
-        let coupons = self.container.ascending(alloc.clone()?)?;
         let count = self.container.len();
-        let needed = LIST_PREAMBLE_SIZE + count * COUPON_SIZE_BYTES;
-        let mut bytes = SketchBytes::with_capacity(alloc.clone()?, needed)?;
-        bytes.write(&list_header(lg_config_k, hll_type, count))?;
-        Ok(with_coupons(bytes, &coupons)?.into_bytes())
+        self.container
+            .image(&list_header(lg_config_k, hll_type, count))
     }
 }
 

@@ -10,12 +10,21 @@ use std::alloc::{Allocator, Global};
 use std::fmt;
 
 /// 2^`lg_size` places, each empty or filled. Those of a list stand in the value itself.
-#[derive(Drop)]
 pub(crate) enum Storage<A: Allocator = Global> {
     /// Eight, which take no memory.
     InValue { coupons: [Coupon; 8], alloc: A },
     /// Any number.
     Allocated(Vec<Coupon, A>),
+}
+
+/// Written out, and not derived, so that the proof of whatever drops a table calls this and doesn't go through both kinds.
+impl<A: Allocator> Drop for Storage<A> {
+    fn drop(self) {
+        match self {
+            Storage::InValue { coupons: _, alloc } => drop(alloc),
+            Storage::Allocated(coupons) => drop(coupons),
+        }
+    }
 }
 
 impl<A: Allocator> Storage<A> {

@@ -6,7 +6,6 @@ pub mod FeedingLemmas
 pub mod Growing
 pub mod Headline
 pub mod Outcomes
-pub mod ReferenceSteps
 pub mod Rearranging
 pub mod RunLemmas
 pub mod StackLemmas

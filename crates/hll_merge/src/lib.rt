@@ -4,7 +4,6 @@
 pub mod evaluate;
 pub mod feed;
 pub mod laws;
-pub mod reference;
 pub mod run;
 mod stack;
 

@@ -1,14 +1,18 @@
-//! Tests of `hll_merge` through its public calls.
+//! Tests through public calls of `hll_text`, `hll_merge` and `hll_words`: lines, streams, plans, and the filter of images.
 #![tactic(auto)]
 
+#[cfg(test)]
+mod filter;
 #[cfg(test)]
 mod fixtures;
 #[cfg(test)]
 mod images;
 #[cfg(test)]
+mod lines;
+#[cfg(test)]
 mod pieces;
 #[cfg(test)]
-mod reference;
+mod streams;
 #[cfg(test)]
 mod texts;
 #[cfg(test)]

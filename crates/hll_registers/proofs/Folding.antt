@@ -12,12 +12,11 @@ use Rattle.hll_coupons.specs.Pair.{slot_of, value_of, pair}
 use Rattle.hll_coupons.specs.Fold.{fold_to, pairs, greatest, value_at}
 use Rattle.hll_base.specs.Join.{join}
 use Rattle.hll_base.proofs.Joins.{join_assoc}
-use Rattle.hll_coupons.proofs.Folds.{length-fold_to, get_or-fold_to}
+use Rattle.hll_coupons.proofs.Folds.{length-fold_to, get_or-fold_to, fold_to-empty}
 use Rattle.hll_coupons.proofs.Greatest.{bounded, reached}
 use Rattle.hll_kernels.specs.Packed.{AreRegisters}
 use Rattle.hll_kernels.proofs.Grouping.{groups-pow}
 use Rattle.hll_base.proofs.Joins.{is_join}
-use Rattle.hll_coupons.proofs.ReferenceSteps.{fold_to-empty}
 use Rattle.hll_coupons.proofs.Registers.{StandsFor, pairs_only, pairs_have, slot_of-pair, value_of-pair, value_at_cases, value_at_same}
 
 -- the fold of the first m registers

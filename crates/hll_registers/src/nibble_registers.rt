@@ -35,7 +35,6 @@ use std::marker::Model;
 ///
 /// What reads them takes no memory.
 #[derive_where(Debug)]
-#[derive(Drop)]
 pub struct NibbleRegisters<A: Allocator> {
     lg_k: u8,
     /// The least register.
@@ -44,6 +43,21 @@ pub struct NibbleRegisters<A: Allocator> {
     count_at_minimum: u32,
     nibbles: Vec<u8, A>,
     exceptions: Exceptions<A>,
+}
+
+/// Written out, and not derived, so that the proof of whatever drops registers calls this and doesn't go through their parts.
+impl<A: Allocator> Drop for NibbleRegisters<A> {
+    fn drop(self) {
+        let NibbleRegisters {
+            lg_k: _,
+            minimum: _,
+            count_at_minimum: _,
+            nibbles,
+            exceptions,
+        } = self;
+        drop(nibbles);
+        drop(exceptions);
+    }
 }
 
 impl<A: Allocator> Model for NibbleRegisters<A> {

@@ -94,6 +94,24 @@ impl Preamble {
         Ok(bytes)
     }
 
+    /// The first 40 bytes of an image, header and preamble, in a buffer with room for `capacity` bytes.
+    ///
+    /// Takes memory in one request, where the room is enough. Fails with `Memory`.
+    pub fn start_image<A: Allocator>(
+        self,
+        alloc: A,
+        header: HllHeader,
+        capacity: usize,
+    ) -> Result<SketchBytes<A>, Error>
+        requires { header.flags < 128 }
+        ensures ok { IfOk result (λ bytes. bytes ≡ 10 ∷ 1 ∷ 7 ∷ header.lg_config_k ∷ 0 ∷ (header.flags + flag_of self.state) ∷ header.minimum ∷ mode_byte 2 header.hll_type ∷ number_bytes self.state self.num_at_cur_min self.exception_count) }
+        ensures err { IfErr result (λ e. e ≡ Memory) }
+    {
+        let mut bytes = SketchBytes::with_capacity(alloc, capacity)?;
+        self.write_header(&mut bytes, header)?;
+        self.write(bytes)
+    }
+
     /// Appends the header of an image.
     ///
     /// Takes memory where the buffer has no room. Fails with `Memory`, and then changes nothing.

@@ -1,5 +1,5 @@
--- Images of coupons that ascend.
-use Rattle.std.proofs.Common.{◌≡◌, ℕ, zero, suc, ◌+◌, ◌-◌, ◌*◌, ◌^◌, ◌<◌, ◌≤◌, ◌↔◌, true, false, ◌||◌, nat_eq, List, [], ◌∷◌, length, take, drop, get_or, All, refl, sym, ap, subst, ◌∙◌, arith}
+-- Images of compact coupons.
+use Rattle.std.proofs.Common.{◌≡◌, ℕ, zero, suc, ◌+◌, ◌-◌, ◌*◌, ◌^◌, ◌<◌, ◌≤◌, ◌↔◌, true, false, ◌||◌, nat_eq, List, [], ◌∷◌, length, take, drop, get_or, All, inl, inr, refl, sym, ap, subst, ◌∙◌, arith}
 use Rattle.std.specs.Int.{w32, from_le_bytes}
 use Rattle.std.specs.List.{AllPairs, list_any}
 use Rattle.std.specs.Ordering.{nat_cmp}
@@ -14,6 +14,7 @@ use Rattle.hll_coupons.specs.Pair.{set_of}
 use Rattle.hll_coupons.specs.Payload.{ListShape, SetShape, shape_of_list, shape_of_set, list_coupons, list_places, set_count, set_coupons, set_places, IsListPayload, IsSetPayload}
 use Rattle.hll_coupons.proofs.Reading.{is_list_payload}
 use Rattle.hll_coupons.proofs.SetReading.{is_set_payload}
+use Rattle.hll_sketch.specs.Borrowed.{AreTold}
 use Rattle.hll_sketch.specs.TakenIn.{IsOfCoupons}
 use Rattle.hll_sketch.specs.Image.{table_byte, state_byte, is_flagged, HasHeader, HasSetTable, list_shape, set_shape}
 use Rattle.hll_sketch.specs.Value.{coupons}
@@ -91,6 +92,11 @@ increasing_coupons xs up =
       valued = λ i d within. let above : 2 ^ 26 - 1 < get_or xs i d = pairs 0 (suc i) d (omega arith) (omega (arith, within)) in omega (arith, above);
       distinct = distinct xs (λ i j d less within. pairs (suc i) (suc j) d (omega (arith, less)) (omega (arith, within)));
     }
+
+-- and so are words that one pass tells to be
+pub told_coupons : (xs : List ℕ) → AreTold xs → AreCoupons xs
+told_coupons xs (inl up) = increasing_coupons xs up
+told_coupons xs (inr few) = few.1
 
 -- one more word in front
 pub increasing_more : (a b : ℕ) (xs : List ℕ) → IsStrictlyIncreasing (a ∷ b ∷ xs) ↔ ((a < b) × IsStrictlyIncreasing (b ∷ xs))

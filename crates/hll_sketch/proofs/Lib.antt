@@ -4,6 +4,7 @@ pub mod Adding
 pub mod BorrowedCoupons
 pub mod Checks
 pub mod Collecting
+pub mod Differing
 pub mod Emptiness
 pub mod FaultKinds
 pub mod Faults
@@ -27,7 +28,6 @@ pub mod MergedImages
 pub mod Merges
 pub mod Promoting
 pub mod ReadBack
-pub mod ReferenceSteps
 pub mod Refusals
 pub mod Regrouping
 pub mod SameLemmas

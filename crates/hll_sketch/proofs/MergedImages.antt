@@ -13,7 +13,7 @@ use Rattle.hll_sketch.specs.Checks.{size_fault}
 use Rattle.hll_sketch.specs.Image.{AreBytes, IsReadAs}
 use Rattle.hll_sketch.specs.Laws.{add_in_turn}
 use Rattle.hll_sketch.specs.Merging.{merge_content, merge_registers, state_after_merge}
-use Rattle.hll_sketch.specs.TakenIn.{IsOfCoupons, IsOfRegisters, MergesImage, TakesIn, HasAscendingCoupons, EightBitsNeedMemory, ImageNeedsMemory}
+use Rattle.hll_sketch.specs.TakenIn.{IsOfCoupons, IsOfRegisters, MergesImage, TakesIn, HasCompactCoupons, EightBitsNeedMemory, ImageNeedsMemory}
 use Rattle.hll_sketch.specs.Union.{UnionLayout, IsGadget, gadget_of, ContentNeedsMemory, MergeNeedsMemory}
 use Rattle.hll_sketch.specs.Value.{Sketch, Content, coupons, registers, in_registers, is_empty, pairs_in, pairs_of, IsLegal}
 use Rattle.hll_sketch.proofs.Emptiness.{zeros-empty}
@@ -140,5 +140,5 @@ join_needs g b k R of some content = record {
 }
 
 -- What reading an image aside needs memory for, where no coupons ascend into registers, and registers of eight bits need it.
-pub image_needs : (g : Sketch) (b : List ℕ) → size_fault b ≡ None → (in_registers g.content ≡ true → HasAscendingCoupons b → ⊥) → EightBitsNeedMemory g b → ImageNeedsMemory g b
+pub image_needs : (g : Sketch) (b : List ℕ) → size_fault b ≡ None → (in_registers g.content ≡ true → HasCompactCoupons b → ⊥) → EightBitsNeedMemory g b → ImageNeedsMemory g b
 image_needs g b sized none eight = record { sized = sized; coupons = none; registers = eight }

@@ -1,16 +1,16 @@
 -- Registers that take over from a table.
-use Rattle.std.proofs.Common.{◌≡◌, ℕ, ◌^◌, List, [], ◌∷◌, ◌++◌, replicate, sym, ap, ◌∙◌}
+use Rattle.std.proofs.Common.{◌≡◌, ℕ, ◌^◌, List, [], ◌∷◌, ◌++◌, Option, Some, None, replicate, sym, ap, ◌∙◌}
 use Rattle.std.proofs.lemmas.List.{append-nil}
 use Rattle.std.specs.FinSet.{empty, insert}
 use Rattle.hll_coupons.specs.Pair.{Pairs, set_of}
 use Rattle.hll_coupons.specs.Fold.{fold_to}
 use Rattle.hll_base.specs.Join.{join}
-use Rattle.hll_coupons.proofs.Folds.{fold_to-union}
+use Rattle.hll_coupons.proofs.Folds.{fold_to-union, fold_to-empty}
 use Rattle.hll_coupons.proofs.Members.{set_of-between}
-use Rattle.hll_coupons.proofs.ReferenceSteps.{fold_to-empty}
 use Rattle.hll_registers.specs.State.{cleared_state}
 use Rattle.hll_registers.specs.Store.{Stored, zero_registers, update_with_coupon}
 use Rattle.hll_registers.proofs.States.{state_after-cleared_state}
+use Rattle.hll_sketch.specs.Promotion.{with_more}
 use Rattle.hll_sketch.proofs.Inserting.{insert-union, set_of-nil}
 use Rattle.hll_sketch.proofs.Sets.{union-empty}
 
@@ -28,6 +28,13 @@ folded-more k P c = λ i. record {
   registers = (sym (fold_to-union P (set_of (c ∷ [])) k) ∙ ap (λ Q. fold_to Q k) (sym (insert-union P c))) i;
   state = state_after-cleared_state (fold_to P k) (join (fold_to P k) (fold_to (set_of (c ∷ [])) k)) i;
 }
+
+-- one more, or none
+pub folded-with_one : (k : ℕ) (P : Pairs) (c : ℕ) (o : Option ℕ) (a b : Stored) → o ≡ Some c → a ≡ folded k P → b ≡ update_with_coupon a c → b ≡ folded k (with_more P o)
+folded-with_one k P c o a b one held put = put ∙ ap (λ x. update_with_coupon x c) held ∙ folded-more k P c ∙ ap (λ q. folded k (with_more P q)) (sym one)
+
+pub folded-with_none : (k : ℕ) (P : Pairs) (o : Option ℕ) (a : Stored) → o ≡ None → a ≡ folded k P → a ≡ folded k (with_more P o)
+folded-with_none k P o a none held = held ∙ ap (λ q. folded k (with_more P q)) (sym none)
 
 -- behind others
 pub folded-behind : (k : ℕ) (order : List ℕ) (c : ℕ) → update_with_coupon (folded k (set_of order)) c ≡ folded k (set_of (order ++ c ∷ []))

@@ -9,7 +9,7 @@ use Rattle.hll_coupons.specs.Coupons.{words}
 use Rattle.hll_coupons.specs.Payload.{HasListCount, shape_of_list, shape_of_set, list_places, set_count, set_places}
 use Rattle.hll_sketch.specs.Image.{table_byte, state_byte, is_flagged, HasHeader, HasSetTable, list_shape, set_shape, IsReadAs}
 use Rattle.hll_sketch.specs.Checks.{Check, first_failing, header_checks, checks_behind, list_checks, set_checks, size_fault}
-use Rattle.hll_sketch.specs.TakenIn.{words_in, HasAscendingCoupons}
+use Rattle.hll_sketch.specs.TakenIn.{words_in, HasCompactCoupons}
 use Rattle.hll_sketch.specs.Value.{Sketch}
 use Rattle.hll_sketch.proofs.BorrowedCoupons.{length-words}
 use Rattle.hll_sketch.proofs.Checks.{Decides-leb, Decides-list_count, Decides-set_table}
@@ -64,14 +64,14 @@ set_size b h none =
     let fourth = passing _ _ _ (Decides-leb (12 + 4 * set_places (set_shape b) (drop 8 b)) (length b)) third.1 in
     record { table = first.0; whole = second.0; count = third.0; there = fourth.0 }
 
--- ---- coupons that ascend
+-- ---- compact coupons
 
 -- the words in a list and in a set
 abbrev words_by : List ℕ → ℕ → List ℕ
 words_by b stage = cond (eqb stage 0) (words (state_byte b) (drop 8 b)) (words (set_count (drop 8 b)) (drop 4 (drop 8 b)))
 
 -- those of a list are there
-pub list_there : (b : List ℕ) → HasHeader b 0 → HasAscendingCoupons b → (1 ≤ state_byte b) × (4 * state_byte b ≤ length (drop 8 b))
+pub list_there : (b : List ℕ) → HasHeader b 0 → HasCompactCoupons b → (1 ≤ state_byte b) × (4 * state_byte b ≤ length (drop 8 b))
 list_there b h up =
     let size : ListSize b = list_size b h up.sized in
     let behind : words_in b ≡ words (state_byte b) (drop 8 b) = ap (words_by b) h.stage_is in
@@ -81,7 +81,7 @@ list_there b h up =
     (some, omega (arith, size.there, places, length-drop 8 b, h.whole))
 
 -- and those of a set
-pub set_there : (b : List ℕ) → HasHeader b 1 → HasAscendingCoupons b → (1 ≤ set_count (drop 8 b)) × (4 * set_count (drop 8 b) ≤ length (drop 4 (drop 8 b)))
+pub set_there : (b : List ℕ) → HasHeader b 1 → HasCompactCoupons b → (1 ≤ set_count (drop 8 b)) × (4 * set_count (drop 8 b) ≤ length (drop 4 (drop 8 b)))
 set_there b h up =
     let size : SetSize b = set_size b h up.sized in
     let behind : words_in b ≡ words (set_count (drop 8 b)) (drop 4 (drop 8 b)) = ap (words_by b) h.stage_is in

@@ -5,6 +5,10 @@ use Rattle.std.specs.List.{range_with_len}
 use Rattle.std.proofs.lemmas.Bool.{leb-true, le-leb, lt-leb, cases_Bool, and_parts, and_from, and_left, cond-true, cond-false, false_from_ne_true, true≢false}
 use Rattle.hll_sketch.specs.Stage.{sizes, can_hold, stage}
 
+-- a size that does not pass is passed over
+pub find_later : (f : ℕ → Bool) (c m n : ℕ) → m ≡ suc n → f c ≡ false → find f (range_with_len c m) ≡ find f (range_with_len (c + 1) n)
+find_later f c m n e fails = ap (λ k. find f (range_with_len c k)) e ∙ cond-false (f c) (Some c) (find f (range_with_len (c + 1) n)) fails
+
 -- what holds more holds less
 pub holds_fewer : (q n m : ℕ) → n ≤ m → can_hold q m ≡ true → can_hold q n ≡ true
 holds_fewer q n m le =

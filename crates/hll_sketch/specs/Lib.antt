@@ -1,5 +1,6 @@
 pub mod Adding
 pub mod Agree
+pub mod Borrowed
 pub mod Checks
 pub mod EstimatorWords
 pub mod Fault
@@ -12,7 +13,7 @@ pub mod Laws
 pub mod Layout
 pub mod Meaning
 pub mod Merging
-pub mod Reference
+pub mod Promotion
 pub mod Refusal
 pub mod Same
 pub mod Stage

@@ -1,11 +1,11 @@
 -- Images that a union takes in (docs/MODEL.md, "Merging").
-use Rattle.std.specs.Prelude.{◌≡◌, ℕ, ◌-◌, ◌^◌, ◌<◌, ◌≤◌, ◌==◌, if◌then◌else◌, true, List, [], ◌∷◌, ◌++◌, length, drop, None}
+use Rattle.std.specs.Prelude.{◌≡◌, ℕ, ◌<◌, ◌≤◌, ◌==◌, if◌then◌else◌, true, List, [], ◌∷◌, ◌++◌, length, drop, None}
 use Rattle.std.specs.FinSet.{len}
-use Rattle.std.specs.List.Sorted.{IsStrictlyIncreasing}
 use Rattle.hll_coupons.specs.Coupons.{words}
 use Rattle.hll_coupons.specs.Pair.{set_of}
 use Rattle.hll_coupons.specs.Payload.{set_count}
 use Rattle.hll_registers.specs.declared.estimate_state.EstimateState.{EstimateState}
+use Rattle.hll_sketch.specs.Borrowed.{AreTold}
 use Rattle.hll_sketch.specs.Checks.{size_fault}
 use Rattle.hll_sketch.specs.Grown.{IsGrown}
 use Rattle.hll_sketch.specs.Image.{IsReadAs, stage_bits, width_bits, state_byte, is_flagged}
@@ -52,14 +52,14 @@ pub record MergesImage (bound : ℕ) (before after : Sketch) (image : List ℕ) 
 abbrev pub words_in : List ℕ → List ℕ
 words_in b = if stage_bits b == 0 then words (state_byte b) (drop 8 b) else words (set_count (drop 8 b)) (drop 4 (drop 8 b))
 
--- the bytes have the header, the counts and the length of a compact list or set, whose words, of which there are some, have a value and
--- ascend, as in all images that are written here
-pub record HasAscendingCoupons (b : List ℕ) : Type 0 where
+-- the bytes have the header, the counts and the length of a compact list or set, whose words, of which there are some, one pass tells to
+-- be coupons
+pub record HasCompactCoupons (b : List ℕ) : Type 0 where
   pub stage : stage_bits b < 2
   pub sized : size_fault b ≡ None
   pub compact : is_flagged 8 b ≡ true
   pub some : 1 ≤ length (words_in b)
-  pub ascending : IsStrictlyIncreasing ((2 ^ 26 - 1) ∷ words_in b)
+  pub told : AreTold (words_in b)
 
 -- the header is that of registers of eight bits
 abbrev pub HasEightBits : List ℕ → Type 0
@@ -69,9 +69,9 @@ HasEightBits b = (stage_bits b ≡ 2) × (width_bits b ≡ 2)
 abbrev pub EightBitsNeedMemory : Sketch → List ℕ → Type 0
 EightBitsNeedMemory g b = HasEightBits b → (x : Sketch) → IsReadAs b x → MergeNeedsMemory g x
 
--- A gadget may need memory for an image only where its header, counts and length are right. Into registers it needs none for coupons
--- that ascend, and for registers of eight bits it needs what a merge of their sketch does.
+-- A gadget may need memory for an image only where its header, counts and length are right. Into registers it needs none for compact
+-- coupons that ascend or are few, and for registers of eight bits it needs what a merge of their sketch does.
 pub record ImageNeedsMemory (g : Sketch) (b : List ℕ) : Type 0 where
   pub sized : size_fault b ≡ None
-  pub coupons : in_registers g.content ≡ true → HasAscendingCoupons b → ⊥
+  pub coupons : in_registers g.content ≡ true → HasCompactCoupons b → ⊥
   pub registers : EightBitsNeedMemory g b

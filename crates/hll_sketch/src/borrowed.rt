@@ -1,11 +1,15 @@
-//! What an image says, as it stands in its bytes: coupons in ascending order, as they are written, and registers of eight
-//! bits. One pass over the bytes tells what they mean, without a table or a copy.
-ghost use Rattle.std.specs.Prelude.{◌≡◌, ◌≢◌, ◌*◌, ◌^◌, ◌-◌, ◌<◌, ◌≤◌, ◌↔◌, ◌∷◌, Some, IsTrue, IfSome, IfNone, IfOk, IfErr, length};
+//! What an image says, as it stands in its bytes: coupons that ascend, as they are written, or are few, in any order, and
+//! registers of eight bits. One pass over the bytes tells what they mean, without a table or a copy.
+ghost use Rattle.std.specs.Prelude.{◌≡◌, ◌≢◌, ◌*◌, ◌^◌, ◌-◌, ◌<◌, ◌≤◌, ◌↔◌, ◌∷◌, false, nat_eq, Some, IsTrue, IfSome, IfNone, IfOk, IfErr, length};
+ghost use Rattle.std.specs.FinSet.{contains};
+ghost use Rattle.std.specs.List.{list_any};
 ghost use Rattle.std.specs.List.Sorted.{IsStrictlyIncreasing};
 ghost use Rattle.hll_coupons.specs.Coupons.{words, AreCoupons};
+ghost use Rattle.hll_coupons.specs.Pair.{set_of};
 ghost use Rattle.hll_base.specs.declared.error.Reason.TheVariants.{Memory};
+ghost use Rattle.hll_sketch.specs.Borrowed.{AreMarked, AreTold};
 ghost use Rattle.hll_sketch.specs.Checks.{first_fault};
-ghost use Rattle.hll_sketch.specs.TakenIn.{IsOfCoupons, IsOfRegisters, words_in, HasAscendingCoupons, HasEightBits};
+ghost use Rattle.hll_sketch.specs.TakenIn.{IsOfCoupons, IsOfRegisters, words_in, HasCompactCoupons, HasEightBits};
 ghost use Rattle.hll_sketch.specs.Header.{header_of};
 ghost use Rattle.hll_sketch.specs.Image.{HasHeader};
 ghost use Rattle.hll_sketch.specs.Laws.{add_in_turn};
@@ -27,6 +31,12 @@ use std::alloc::Allocator;
 
 /// The greatest raw word without a value.
 const LAST_WITHOUT_VALUE: u32 = (1 << SLOT_BITS) - 1;
+
+/// Up to so many coupons are told apart by marks.
+const FEW: usize = 128;
+
+/// How many marks there are, so that few of `FEW` coupons share one.
+const MARKS: usize = 1024;
 
 /// The raw words at the front of some bytes.
 #[derive(Clone, Copy)]
@@ -63,6 +73,64 @@ impl<'a> Words<'a> {
         true
     }
 
+    /// Whether each has a value, and no two are the same. A word is compared with those before it only where one of them
+    /// has its mark.
+    // (a caller that had the marks among its own values would clear them at each call)
+    #[inline(never)]
+    fn differ(&self) -> bool
+        ensures { IsTrue result ↔ AreCoupons (words self.now.count self.now.bytes.now) }
+    {
+        let mut marks = [false; MARKS];
+        let mut cursor = SketchSlice::new(self.bytes);
+        for place in 0..self.count {
+            let Ok(word) = cursor.read_u32_le() else {
+                return false;
+            };
+            if word <= LAST_WITHOUT_VALUE || !self.is_new(&marks, place, word) {
+                return false;
+            }
+            marks[word as usize % MARKS] = true;
+        }
+        true
+    }
+
+    /// Whether none of the first words is this one, if each of them has its mark.
+    fn is_new(&self, marks: &[bool; MARKS], place: usize, word: u32) -> bool
+        requires within { place ≤ self.now.count }
+        requires marked { AreMarked 1024 (words place self.now.bytes.now) marks.now }
+        ensures { IsTrue result ↔ (contains (set_of (words place self.now.bytes.now)) word ≡ false) }
+    {
+        !marks[word as usize % MARKS] || !self.stands_before(place, word)
+    }
+
+    /// Whether one of the first words is this one.
+    fn stands_before(&self, place: usize, word: u32) -> bool
+        requires { place ≤ self.now.count }
+        ensures { result ≡ list_any (λ w. nat_eq w word) (words place self.now.bytes.now) }
+    {
+        let mut cursor = SketchSlice::new(self.bytes);
+        for _ in 0..place {
+            match cursor.read_u32_le() {
+                Ok(other) if other != word => {}
+                _ => return true,
+            }
+        }
+        false
+    }
+
+    /// Whether these are coupons, if they ascend or are few; else it says no.
+    fn are_told(&self) -> bool
+        ensures { IsTrue result ↔ AreTold (words self.now.count self.now.bytes.now) }
+    {
+        if self.ascend() {
+            return true;
+        }
+        if FEW < self.count {
+            return false;
+        }
+        self.differ()
+    }
+
     /// Raises registers of eight bits by these coupons in turn. Takes no memory.
     pub(crate) fn raise<A: Allocator>(&self, array: &mut Array8<A>)
         ensures added { sketch_of_registers array.new ≡ add_in_turn (sketch_of_registers array.old) (words self.now.count self.now.bytes.now) }
@@ -77,10 +145,10 @@ impl<'a> Words<'a> {
     }
 }
 
-/// The coupons of an image of a list or a set, if it has some, is compact, and they ascend. Takes no memory.
-pub(crate) fn ascending_coupons(bytes: &[u8]) -> Option<Words<'_>>
+/// The coupons of an image of a list or a set, if it has some, is compact, and they ascend or are few. Takes no memory.
+pub(crate) fn compact_coupons(bytes: &[u8]) -> Option<Words<'_>>
     ensures some { IfSome result (λ w. IsOfCoupons bytes.now (words w.count w.bytes.now)) }
-    ensures none { IfNone result (HasAscendingCoupons bytes.now → ⊥) }
+    ensures none { IfNone result (HasCompactCoupons bytes.now → ⊥) }
 {
     let Ok(header) = Header::read(bytes) else {
         return None;
@@ -90,7 +158,7 @@ pub(crate) fn ascending_coupons(bytes: &[u8]) -> Option<Words<'_>>
         Stage::Set => set_coupons(bytes, header)?,
         Stage::Hll => return None,
     };
-    if coupons.ascend() {
+    if coupons.are_told() {
         Some(coupons)
     } else {
         None
@@ -103,7 +171,7 @@ fn list_coupons(bytes: &[u8], header: Header) -> Option<Words<'_>>
     requires header { header ≡ header_of bytes.now }
     ensures words { IfSome result (λ w. words w.count w.bytes.now ≡ words_in bytes.now) }
     ensures coupons { IfSome result (λ w. AreCoupons (words w.count w.bytes.now) → IsOfCoupons bytes.now (words w.count w.bytes.now)) }
-    ensures none { IfNone result (HasAscendingCoupons bytes.now → ⊥) }
+    ensures none { IfNone result (HasCompactCoupons bytes.now → ⊥) }
 {
     if !header.compact || header.empty || header.lg_arr != LG_LIST_PLACES {
         return None;
@@ -121,7 +189,7 @@ fn set_coupons(bytes: &[u8], header: Header) -> Option<Words<'_>>
     requires header { header ≡ header_of bytes.now }
     ensures words { IfSome result (λ w. words w.count w.bytes.now ≡ words_in bytes.now) }
     ensures coupons { IfSome result (λ w. AreCoupons (words w.count w.bytes.now) → IsOfCoupons bytes.now (words w.count w.bytes.now)) }
-    ensures none { IfNone result (HasAscendingCoupons bytes.now → ⊥) }
+    ensures none { IfNone result (HasCompactCoupons bytes.now → ⊥) }
 {
     if !header.compact
         || header.lg_arr < LG_LEAST_SET_PLACES

@@ -38,8 +38,8 @@ pub(crate) fn fold_of<A: Allocator + Clone>(
     ensures err { IfErr result (λ e. e ≡ Memory) }
 {
     match mode {
-        Mode::List { list, .. } => registers_of_table(alloc, lg_k, list.container()),
-        Mode::Set { set, .. } => registers_of_table(alloc, lg_k, set.container()),
+        Mode::List { list, .. } => registers_of_table(alloc, lg_k, list.container(), None),
+        Mode::Set { set, .. } => registers_of_table(alloc, lg_k, set.container(), None),
         Mode::Array4(array) => fold_of_registers(alloc, lg_k, array),
         Mode::Array6(array) => fold_of_registers(alloc, lg_k, array),
         Mode::Array8(array) => fold_of_registers(alloc, lg_k, array),
@@ -85,7 +85,7 @@ pub(crate) fn mode_of_coupons<A: Allocator + Clone>(
     ensures err { IfErr result (λ e. e ≡ Memory) }
 {
     match stage(lg_k, LG_LIST_PLACES, table.len()) {
-        None => mode_of_table(lg_k, hll_type, table),
+        None => mode_of_table(lg_k, hll_type, table, None),
         Some(LG_LIST_PLACES) => Ok(Mode::List {
             list: list_of(table)?,
             hll_type,

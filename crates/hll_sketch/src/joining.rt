@@ -12,11 +12,11 @@ ghost use Rattle.hll_sketch.specs.Merging as merging;
 ghost use Rattle.hll_sketch.specs.Checks.{first_fault};
 ghost use Rattle.hll_sketch.specs.Image.{IsReadAs};
 ghost use Rattle.hll_sketch.specs.Refusal.{IsRefusal};
-ghost use Rattle.hll_sketch.specs.TakenIn.{MergesImage, HasAscendingCoupons, EightBitsNeedMemory, ImageNeedsMemory};
+ghost use Rattle.hll_sketch.specs.TakenIn.{MergesImage, HasCompactCoupons, EightBitsNeedMemory, ImageNeedsMemory};
 ghost use Rattle.hll_sketch.specs.Union.{IsGadget, sketch_of_registers, coupons_kept, can_hold_all, ContentNeedsMemory, MergeNeedsMemory};
 ghost use Rattle.hll_sketch.specs.Value.{IsLegal, IsLgK, coupons, in_registers, is_empty, registers};
 
-use crate::borrowed::{ascending_coupons, eight_bit_registers};
+use crate::borrowed::{compact_coupons, eight_bit_registers};
 use crate::folding::fold_of;
 use crate::mode::Mode;
 use crate::sketch::HllSketch;
@@ -107,21 +107,21 @@ impl<A: Allocator + Clone> HllSketch<A> {
         }
     }
 
-    /// Merges an image of coupons that ascend into a gadget in registers, without a table. Whether it did; else nothing has
+    /// Merges a compact image of coupons into a gadget in registers, without a table. Whether it did; else nothing has
     /// changed. Takes no memory.
-    pub(crate) fn merge_ascending(&mut self, bound: u8, image: &[u8]) -> bool
+    pub(crate) fn merge_compact(&mut self, bound: u8, image: &[u8]) -> bool
         requires bound { IsLgK bound }
         requires gadget { IsGadget bound (sketch_of self.old) }
         ensures merged { result ≡ true → MergesImage bound (sketch_of self.old) (sketch_of self.new) image.now }
         ensures gadget { IsGadget bound (sketch_of self.new) }
         ensures unchanged { result ≡ false → self.new ≡ self.old }
-        ensures other { result ≡ false → in_registers (content_in self.old.layout) ≡ true → HasAscendingCoupons image.now → ⊥ }
+        ensures other { result ≡ false → in_registers (content_in self.old.layout) ≡ true → HasCompactCoupons image.now → ⊥ }
     {
         self.value_is_legal();
         let Mode::Array8(array) = &mut self.mode else {
             return false;
         };
-        let Some(coupons) = ascending_coupons(image) else {
+        let Some(coupons) = compact_coupons(image) else {
             return false;
         };
         coupons.raise(array);

@@ -9,7 +9,6 @@ mod joining;
 pub mod laws;
 pub mod mode;
 mod promotion;
-pub mod reference;
 pub mod sketch;
 pub mod stage;
 pub mod union;

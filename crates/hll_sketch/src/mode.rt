@@ -1,8 +1,10 @@
 //! What a sketch keeps (docs/MODEL.md, "Sketch values").
-ghost use Rattle.std.specs.Prelude.{◌≡◌, IfOk, IfErr};
+ghost use Rattle.std.specs.Prelude.{◌≡◌, ℕ, true, IfOk, IfErr, OnErr};
 ghost use Rattle.hll_base.specs.declared.error.Reason.TheVariants.{Memory};
-ghost use Rattle.hll_sketch.specs.Layout.{layout_of};
+ghost use Rattle.hll_sketch.specs.Layout.{content_in, layout_of, width_of, IsLayoutFor};
+ghost use Rattle.hll_sketch.specs.Value.{in_registers};
 
+use crate::width::{array_into_mode, registers_to_mode};
 use hll_arrays::array4::Array4;
 use hll_arrays::array6::Array6;
 use hll_arrays::array8::Array8;
@@ -14,7 +16,6 @@ use std::alloc::{Allocator, Global};
 
 /// A list or a set of coupons with the width of the registers to come, or registers.
 #[derive_where(Debug)]
-#[derive(Drop)]
 pub enum Mode<A: Allocator = Global> {
     /// A list of eight places.
     List { list: List<A>, hll_type: HllType },
@@ -28,7 +29,40 @@ pub enum Mode<A: Allocator = Global> {
     Array8(Array8<A>),
 }
 
+/// Drops the table or the registers. Written out, since a derived drop is proved anew, kind by kind, at each place that
+/// drops a sketch.
+impl<A: Allocator> Drop for Mode<A> {
+    fn drop(self) {
+        match self {
+            Mode::List { list, hll_type: _ } => drop(list),
+            Mode::Set { set, hll_type: _ } => drop(set),
+            Mode::Array4(array) => drop(array),
+            Mode::Array6(array) => drop(array),
+            Mode::Array8(array) => drop(array),
+        }
+    }
+}
+
 impl<A: Allocator + Clone> Mode<A> {
+    /// The same at a width: coupons at the size of their table, or registers with their state.
+    ///
+    /// Fails with `Memory`, only for registers.
+    pub(crate) fn into_width(self, hll_type: HllType) -> Result<Mode<A>, Error>
+        ensures content { IfOk result (λ m. content_in (layout_of m) ≡ content_in (layout_of self)) }
+        ensures layout { IfOk result (λ m. (lg_k : ℕ) → IsLayoutFor lg_k (layout_of self) → IsLayoutFor lg_k (layout_of m)) }
+        ensures width { IfOk result (λ m. width_of (layout_of m) ≡ hll_type) }
+        ensures needed { OnErr result (in_registers (content_in (layout_of self)) ≡ true) }
+        ensures err { IfErr result (λ e. e ≡ Memory) }
+    {
+        match self {
+            Mode::List { list, hll_type: _ } => Ok(Mode::List { list, hll_type }),
+            Mode::Set { set, hll_type: _ } => Ok(Mode::Set { set, hll_type }),
+            Mode::Array4(array) => registers_to_mode(array.allocator(), &array, hll_type),
+            Mode::Array6(array) => registers_to_mode(array.allocator(), &array, hll_type),
+            Mode::Array8(array) => array_into_mode(array, hll_type),
+        }
+    }
+
     /// A copy, with the same places.
     ///
     /// Fails with `Memory`.
@@ -70,17 +104,17 @@ impl<A: Allocator> PartialEq for Mode<A> {
                     list: others,
                     hll_type: width,
                 },
-            ) => { hll_type == width && list == others }
+            ) => { *hll_type == *width && *list == *others }
             (
                 Mode::Set { set, hll_type },
                 Mode::Set {
                     set: others,
                     hll_type: width,
                 },
-            ) => { hll_type == width && set == others }
-            (Mode::Array4(array), Mode::Array4(others)) => array == others,
-            (Mode::Array6(array), Mode::Array6(others)) => array == others,
-            (Mode::Array8(array), Mode::Array8(others)) => array == others,
+            ) => { *hll_type == *width && *set == *others }
+            (Mode::Array4(array), Mode::Array4(others)) => *array == *others,
+            (Mode::Array6(array), Mode::Array6(others)) => *array == *others,
+            (Mode::Array8(array), Mode::Array8(others)) => *array == *others,
             _ => false,
         }
     }

@@ -8,6 +8,7 @@ ghost use Rattle.hll_coupons.specs.Table.{coupons_in, coupons_of};
 ghost use Rattle.hll_registers.specs.State.{cleared_state};
 ghost use Rattle.hll_sketch.specs.Adding.{content_for};
 ghost use Rattle.hll_sketch.specs.Layout.{layout_of, content_in, width_of, IsLayoutFor, IsSize, size_after};
+ghost use Rattle.hll_sketch.specs.Promotion.{with_more};
 ghost use Rattle.hll_sketch.specs.Stage as stages;
 ghost use Rattle.hll_sketch.specs.Value.{IsLgK, registers};
 
@@ -46,7 +47,7 @@ pub(crate) fn promoted_table<A: Allocator + Clone>(
 {
     table.table_is_legal();
     match next_size(lg_k, table.lg_size()) {
-        None => registers_with(lg_k, hll_type, table, coupon),
+        None => mode_of_table(lg_k, hll_type, table, Some(coupon)),
         Some(size) => Ok(Mode::Set {
             set: set_of_size(size, table, coupon)?,
             hll_type,
@@ -72,78 +73,48 @@ fn next_size(lg_k: u8, size: usize) -> Option<usize>
     }
 }
 
-/// The registers of this width of the coupons of a table and of one more.
-fn registers_with<A: Allocator + Clone>(
-    lg_k: u8,
-    hll_type: HllType,
-    table: &Container<A>,
-    coupon: Coupon,
-) -> Result<Mode<A>, Error>
-    requires lg_k { IsLgK lg_k }
-    ensures content { IfOk result (λ m. content_in (layout_of m) ≡ registers (fold_to (insert (coupons_of table.now) coupon) lg_k) cleared_state) }
-    ensures layout { IfOk result (λ m. IsLayoutFor lg_k (layout_of m)) }
-    ensures width { IfOk result (λ m. width_of (layout_of m) ≡ hll_type) }
-    ensures err { IfErr result (λ e. e ≡ Memory) }
-{
-    match hll_type {
-        HllType::Hll4 => Ok(Mode::Array4(registers_of(lg_k, table, coupon)?)),
-        HllType::Hll6 => Ok(Mode::Array6(registers_of(lg_k, table, coupon)?)),
-        HllType::Hll8 => Ok(Mode::Array8(registers_of(lg_k, table, coupon)?)),
-    }
-}
-
-/// The registers of the coupons of a table and of one more.
-fn registers_of<S: RegisterStore<A>, A: Allocator + Clone>(
-    lg_k: u8,
-    table: &Container<A>,
-    coupon: Coupon,
-) -> Result<S, Error>
-    requires { IsLgK lg_k }
-    ensures ok { IfOk result (λ s. S.stored s ≡ record { lg_k = lg_k; registers = fold_to (insert (coupons_of table.now) coupon) lg_k; state = cleared_state }) }
-    ensures err { IfErr result (λ e. e ≡ Memory) }
-{
-    let mut registers: S = registers_of_table(table.allocator().clone()?, lg_k, table)?;
-    registers.put_coupon(coupon)?;
-    Ok(registers)
-}
-
-/// The registers of this width of the coupons of a table.
+/// The registers of this width of the coupons of a table, and of one more where there is one.
 ///
 /// Fails with `Memory`.
 pub(crate) fn mode_of_table<A: Allocator + Clone>(
     lg_k: u8,
     hll_type: HllType,
     table: &Container<A>,
+    more: Option<Coupon>,
 ) -> Result<Mode<A>, Error>
     requires lg_k { IsLgK lg_k }
-    ensures content { IfOk result (λ m. content_in (layout_of m) ≡ registers (fold_to (coupons_of table.now) lg_k) cleared_state) }
+    ensures content { IfOk result (λ m. content_in (layout_of m) ≡ registers (fold_to (with_more (coupons_of table.now) more) lg_k) cleared_state) }
     ensures layout { IfOk result (λ m. IsLayoutFor lg_k (layout_of m)) }
     ensures width { IfOk result (λ m. width_of (layout_of m) ≡ hll_type) }
     ensures err { IfErr result (λ e. e ≡ Memory) }
 {
     let alloc = table.allocator().clone()?;
     match hll_type {
-        HllType::Hll4 => Ok(Mode::Array4(registers_of_table(alloc, lg_k, table)?)),
-        HllType::Hll6 => Ok(Mode::Array6(registers_of_table(alloc, lg_k, table)?)),
-        HllType::Hll8 => Ok(Mode::Array8(registers_of_table(alloc, lg_k, table)?)),
+        HllType::Hll4 => Ok(Mode::Array4(registers_of_table(alloc, lg_k, table, more)?)),
+        HllType::Hll6 => Ok(Mode::Array6(registers_of_table(alloc, lg_k, table, more)?)),
+        HllType::Hll8 => Ok(Mode::Array8(registers_of_table(alloc, lg_k, table, more)?)),
     }
 }
 
-/// The registers of the coupons of a table, with the cleared state.
+/// The registers of the coupons of a table, and of one more where there is one, with the cleared state.
 ///
 /// Fails with `Memory`.
 pub(crate) fn registers_of_table<S: RegisterStore<A>, A: Allocator>(
     alloc: A,
     lg_k: u8,
     table: &Container<A>,
+    more: Option<Coupon>,
 ) -> Result<S, Error>
     requires { IsLgK lg_k }
-    ensures ok { IfOk result (λ s. S.stored s ≡ record { lg_k = lg_k; registers = fold_to (coupons_of table.now) lg_k; state = cleared_state }) }
+    ensures ok { IfOk result (λ s. S.stored s ≡ record { lg_k = lg_k; registers = fold_to (with_more (coupons_of table.now) more) lg_k; state = cleared_state }) }
     ensures err { IfErr result (λ e. e ≡ Memory) }
 {
     let mut registers = S::make(alloc, lg_k)?;
     for coupon in table.iter() {
         registers.put_coupon(coupon)?;
+    }
+    if let Some(one) = more {
+        registers.put_coupon(one)?;
     }
     Ok(registers)
 }

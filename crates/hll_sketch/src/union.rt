@@ -113,12 +113,13 @@ impl<A: Allocator + Clone> HllUnion<A> {
         self.gadget.merge(self.lg_max_k, sketch)
     }
 
-    /// Merges the sketch of an image, as `update` does. Bytes behind the image are ignored. Coupons that ascend, as those that
-    /// are written here do, go into registers without a table between, and registers of eight bits without a copy.
+    /// Merges the sketch of an image, as `update` does. Bytes behind the image are ignored. The coupons of a compact image go
+    /// into registers without a table between, if they ascend, as those that are written here do, or are at most 128; and
+    /// registers of eight bits without a copy.
     ///
     /// Fails with the reason of the first check that the bytes fail (docs/FORMAT.md, "Order of checks"), or with `Memory`, and
     /// then changes nothing, places included. Takes memory for the sketch, only once the bytes that the image asks for are
-    /// there, and where `update` does. Takes none for coupons that ascend into registers, nor for registers of eight bits where
+    /// there, and where `update` does. Takes none for such coupons into registers, nor for registers of eight bits where
     /// `update` takes none.
     pub fn update_with_image(&mut self, image: &[u8]) -> Result<(), Error>
         ensures ok { OnOk result (TakesIn self.old self.new image.now) }
@@ -126,7 +127,7 @@ impl<A: Allocator + Clone> HllUnion<A> {
         ensures needed { IfErr result (λ e. e ≡ Memory → ImageNeedsMemory (gadget_of self.old) image.now) }
         ensures err { IfErr result (λ e. (e ≡ Memory) ⊎ (first_fault image.now ≡ Some e)) }
     {
-        if self.gadget.merge_ascending(self.lg_max_k, image) {
+        if self.gadget.merge_compact(self.lg_max_k, image) {
             return Ok(());
         }
         if self.gadget.merge_eight_bits(self.lg_max_k, image)? {

@@ -41,13 +41,14 @@ impl<A: Allocator + Clone> HllSketch<A> {
         ensures ok { IfOk result (λ s. sketch_of s ≡ record (sketch_of self.now) { width = hll_type }) }
         ensures err { IfErr result (λ e. e ≡ Memory) }
     {
+        let alloc = alloc.clone()?;
         let mode = match &self.mode {
             Mode::List { list, .. } => Mode::List {
-                list: list.clone_in(alloc.clone()?)?,
+                list: list.clone_in(alloc)?,
                 hll_type,
             },
             Mode::Set { set, .. } => Mode::Set {
-                set: set.clone_in(alloc.clone()?)?,
+                set: set.clone_in(alloc)?,
                 hll_type,
             },
             Mode::Array4(_) | Mode::Array6(_) | Mode::Array8(_) => unreachable!(),
@@ -72,20 +73,10 @@ impl<A: Allocator + Clone> HllSketch<A> {
             return Ok(self);
         }
         let HllSketch { lg_config_k, mode } = self;
-        let mode = match mode {
-            Mode::List { list, .. } => Mode::List { list, hll_type },
-            Mode::Set { set, .. } => Mode::Set { set, hll_type },
-            Mode::Array4(array) => {
-                let alloc = array.allocator().clone()?;
-                array_into_mode(eight_bits_of(alloc, &array)?, hll_type)?
-            }
-            Mode::Array6(array) => {
-                let alloc = array.allocator().clone()?;
-                array_into_mode(eight_bits_of(alloc, &array)?, hll_type)?
-            }
-            Mode::Array8(array) => array_into_mode(array, hll_type)?,
-        };
-        Ok(HllSketch { lg_config_k, mode })
+        Ok(HllSketch {
+            lg_config_k,
+            mode: mode.into_width(hll_type)?,
+        })
     }
 }
 
@@ -99,6 +90,22 @@ fn eight_bits_of<R: Registers, A: Allocator>(alloc: A, source: &R) -> Result<Arr
     let mut made = fold_of_registers(alloc, source.lg_k(), source)?;
     made.restore_estimate_state(source.estimate_state());
     Ok(made)
+}
+
+/// A copy of registers as a mode of a width, with their state.
+///
+/// Takes memory of a clone of this allocator alone. Fails with `Memory`.
+pub(crate) fn registers_to_mode<R: Registers, A: Allocator + Clone>(
+    alloc: &A,
+    source: &R,
+    hll_type: HllType,
+) -> Result<Mode<A>, Error>
+    ensures content { IfOk result (λ m. content_in (layout_of m) ≡ registers (R.stored source.now).registers (R.stored source.now).state) }
+    ensures layout { IfOk result (λ m. IsLayoutFor (R.stored source.now).lg_k (layout_of m)) }
+    ensures width { IfOk result (λ m. width_of (layout_of m) ≡ hll_type) }
+    ensures err { IfErr result (λ e. e ≡ Memory) }
+{
+    array_into_mode(eight_bits_of(alloc.clone()?, source)?, hll_type)
 }
 
 /// Registers of eight bits as a mode of another width, with their state.

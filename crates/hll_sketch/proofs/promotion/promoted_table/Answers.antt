@@ -14,7 +14,7 @@ returns-in-None-clause-content g c =
     let t : Table = c.args.table.now in
     let S : Pairs = insert (coupons_of t) c.args.coupon in
     let last : c.args.lg_k < size_after t.lg_size + 3 = subst (λ q. c.args.lg_k < size_after q + 3) c.lg_size.ensures.size c.in-None.ensures.none in
-    IfOk-weaker c.registers_with.result _ _ (λ m folded. folded ∙ ap (content_for c.args.lg_k S) (sym (stage_last c.args.lg_k t.lg_size (len S) c.requires.size c.requires.overflows last))) c.registers_with.ensures.content
+    IfOk-weaker c.mode_of_table.result _ _ (λ m folded. folded ∙ ap (content_for c.args.lg_k S) (sym (stage_last c.args.lg_k t.lg_size (len S) c.requires.size c.requires.overflows last))) c.mode_of_table.ensures.content
 
 pub returns-in_ok-set_of_size-in-Some-clause-content : goal.returns-in_ok-set_of_size-in-Some-clause-content
 returns-in_ok-set_of_size-in-Some-clause-content g c =

@@ -1,7 +1,7 @@
 use Rattle.std.proofs.Common.{◌≡◌, ℕ, ◌+◌, ◌-◌, false, ◌&&◌, leb, arith, sym, ◌∙◌}
 use Rattle.std.proofs.lemmas.Bool.{and_left, and_right, lt-leb}
 use Rattle.hll_sketch.specs.Stage.{can_hold}
-use Rattle.hll_sketch.proofs.ReferenceSteps.{find_later}
+use Rattle.hll_sketch.proofs.Stages.{find_later}
 use Rattle.hll_sketch.proofs.stage.stage.Goals as goal
 use Rattle.hll_sketch.proofs.stage.stage.Goals.{else-from-size-via-then-from-size+else-can_hold-2, else-from-size-via-else-from-size}
 

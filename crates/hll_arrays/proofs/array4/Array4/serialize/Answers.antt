@@ -1,4 +1,4 @@
-use Rattle.std.proofs.Common.{◌≡◌, ◌+◌, ◌∙◌, ℕ, List, [], ◌∷◌, ◌++◌, sym, ap, subst}
+use Rattle.std.proofs.Common.{◌≡◌, ◌+◌, ◌∙◌, ℕ, List, ◌∷◌, ◌++◌, sym, ap, subst}
 use Rattle.hll_coupons.specs.Coupons.{coupon_bytes, mode_byte, WritesAscending}
 use Rattle.hll_coupons.specs.Pair.{set_of}
 use Rattle.hll_base.specs.declared.hll_type.HllType.TheVariants.{Hll4}
@@ -21,14 +21,13 @@ returns-clause-ok g c =
     let state : c.estimate_state.result ≡ x.state = c.estimate_state.ensures ∙ sym (ap (λ (z : FourBits). z.stored.state) view) in
     let count : ℕ = c.exception_count-count.result in
     let H : List ℕ = header_of x.registers.lg_k (minimum R) x.state in
-    let first : c.write_header.new.bytes ≡ H =
-    c.in_ok-write_header.ensures.ok
-    ∙ (λ i. let h : HllHeader = c.header.ensures i in c.in_ok-bytes.ensures.ok i ++ (10 ∷ 1 ∷ 7 ∷ h.lg_config_k ∷ 0 ∷ (h.flags + flag_of c.estimate_state.result) ∷ h.minimum ∷ mode_byte 2 h.hll_type ∷ []))
-    ∙ (λ i. header_of (k i) (m i) (state i)) in
-    let second : c.in_ok-bytes-2.bytes ≡ H ++ number_bytes x.state (count_at_minimum R) count = c.in_ok-bytes-2.ensures.ok ∙ (λ i. first i ++ number_bytes (state i) (at i) count) in
+    let start : c.in_ok-bytes.bytes ≡ H ++ number_bytes x.state (count_at_minimum R) count =
+    c.in_ok-bytes.ensures.ok
+    ∙ (λ i. let h : HllHeader = c.header.ensures i in 10 ∷ 1 ∷ 7 ∷ h.lg_config_k ∷ 0 ∷ (h.flags + flag_of c.estimate_state.result) ∷ h.minimum ∷ mode_byte 2 h.hll_type ∷ number_bytes c.estimate_state.result c.num_at_cur_min.result count)
+    ∙ (λ i. header_of (k i) (m i) (state i) ++ number_bytes (state i) (at i) count) in
     let image : List ℕ = c.into_bytes.result.items in
-    let written : WritesAscending (λ order. (c.in_ok-bytes-2.bytes ++ nibble_bytes R) ++ coupon_bytes order) (set_of (exceptions R)) image =
-    subst (WritesAscending (λ order. (c.in_ok-bytes-2.bytes ++ nibble_bytes R) ++ coupon_bytes order) (set_of (exceptions R))) (sym c.into_bytes.ensures) c.in_ok-written.ensures.ok in
+    let written : WritesAscending (λ order. (c.in_ok-bytes.bytes ++ nibble_bytes R) ++ coupon_bytes order) (set_of (exceptions R)) image =
+    subst (WritesAscending (λ order. (c.in_ok-bytes.bytes ++ nibble_bytes R) ++ coupon_bytes order) (set_of (exceptions R))) (sym c.into_bytes.ensures) c.in_ok-written.ensures.ok in
     subst (λ k. WritesRegisters image k Hll4 c.args.self.now.stored.registers c.args.self.now.stored.state) (sym c.requires)
     (subst (λ (z : FourBits). WritesRegisters image z.stored.lg_k Hll4 z.stored.registers z.stored.state) view
-    (image_is x.registers.lg_k R x.state count c.exception_count-count.ensures.count c.in_ok-bytes-2.bytes image second written))
+    (image_is x.registers.lg_k R x.state count c.exception_count-count.ensures.count c.in_ok-bytes.bytes image start written))

@@ -1,0 +1,130 @@
+//! Registers of eight and six bits: images written and read back, and copies.
+ghost use Rattle.std.specs.Prelude.{◌≤◌, length};
+
+use crate::eight_bits::eight_in;
+use crate::register_fixtures::{Images, READ, first_of};
+use crate::six_bits::three_in;
+use hll_arrays::{EstimateState, RegisterStore, Registers};
+use hll_coupons::coupon::Coupon;
+use std::alloc::Global;
+use std::process::Abort;
+use std::test::Fail;
+
+/// The image of registers of `lg_k` 4 with the cleared state, written, and read with each flag.
+pub(crate) fn read_in<S: Images<Global>>(
+    rt: &impl Abort,
+    alloc: Global,
+    store: &S,
+    image: &[u8],
+) -> Result<(), Fail> {
+    let written = store.write_image()?;
+    assert_eq!(rt;
+        (written.as_slice(), written.capacity()),
+        (image, image.len())
+    );
+    for out_of_order in [true, false] {
+        let read = S::read(alloc, image, 4, out_of_order)?;
+        let state = EstimateState {
+            words: [0; 3],
+            out_of_order,
+        };
+        assert_eq!(rt;
+            (first_of(&read), read.estimate_state()),
+            (first_of(store), state)
+        );
+    }
+    Ok(())
+}
+
+/// The image of these registers with a state that was read, written, and read back before other bytes.
+pub(crate) fn written_in<S: Images<Global>>(
+    rt: &impl Abort,
+    alloc: Global,
+    mut store: S,
+    image: &[u8],
+) -> Result<(), Fail>
+    requires { 40 ≤ length image.now }
+{
+    store.restore(READ);
+    let mut expected = Vec::from_slice(alloc, image)?;
+    expected[5] = 0;
+    expected[8] = 1;
+    expected[16] = 2;
+    expected[24] = 3;
+    let mut written = store.write_image()?;
+    assert_eq!(rt; written.as_slice(), expected.as_slice());
+    written.extend_from_slice(&[255, 255])?;
+    assert!(rt; S::read(alloc, &written, 4, false)? == store);
+    Ok(())
+}
+
+/// The last register of the largest store, written through a slot above it, and its image read back.
+pub(crate) fn largest_in<S: Images<Global>>(
+    rt: &impl Abort,
+    alloc: Global,
+) -> Result<(S, Vec<u8>), Fail> {
+    let mut store = S::make(alloc, 21)?;
+    store.put_coupon(Coupon::pack(67108863, 9))?;
+    assert!(rt; store.num_registers() == 2097152);
+    let registers = [store.get(0), store.get(2097150), store.get(2097151)];
+    assert_eq!(rt; registers, [0, 0, 9]);
+    let image = store.write_image()?;
+    assert!(rt; S::read(alloc, &image, 21, true)? == store);
+    Ok((store, image))
+}
+
+/// A copy of registers of `lg_k` 4 is equal, and independent.
+fn copied_in<S: Images<Global>>(rt: &impl Abort, mut store: S) -> Result<S, Fail> {
+    let registers = first_of(&store);
+    store.restore(READ);
+    let mut copy = store.copied()?;
+    assert!(rt; copy == store);
+    assert_eq!(rt;
+        (copy.num_registers(), first_of(&copy), copy.estimate_state()),
+        (16, registers, READ)
+    );
+    copy.put_coupon(Coupon::pack(15, 1))?;
+    assert_eq!(rt;
+        (first_of(&store), store.estimate_state()),
+        (registers, READ)
+    );
+    copy.restore(READ);
+    assert!(rt; copy != store);
+    Ok(store)
+}
+
+/// States, and whether they are `READ`.
+const STATES: [([u64; 3], bool, bool); 5] = [
+    ([1, 2, 3], false, true),
+    ([0, 2, 3], false, false),
+    ([1, 3, 3], false, false),
+    ([1, 2, 9223372036854775811], false, false),
+    ([1, 2, 3], true, false),
+];
+
+/// States that differ in a word or in the flag are not equal, on the same registers; nor are sizes.
+pub(crate) fn compared_in<S: RegisterStore<Global>>(
+    rt: &impl Abort,
+    alloc: Global,
+    store: &S,
+    mut other: S,
+) -> Result<(), Fail> {
+    for (words, out_of_order, same) in &STATES {
+        let state = EstimateState {
+            words: *words,
+            out_of_order: *out_of_order,
+        };
+        other.restore(state);
+        assert_eq!(rt; (state, *store == other), (state, *same));
+    }
+    assert!(rt; S::make(alloc, 4)? != S::make(alloc, 5)?);
+    Ok(())
+}
+
+#[test]
+fn copies(rt: HostRuntime) -> Result<(), Fail> {
+    let eight = copied_in(&rt, eight_in(rt.alloc())?)?;
+    compared_in(&rt, rt.alloc(), &eight, eight_in(rt.alloc())?)?;
+    let six = copied_in(&rt, three_in(rt.alloc())?)?;
+    compared_in(&rt, rt.alloc(), &six, three_in(rt.alloc())?)
+}

@@ -1,7 +1,0 @@
-//! Tests of `hll_text` through its public calls.
-#![tactic(auto)]
-
-#[cfg(test)]
-mod lines;
-#[cfg(test)]
-mod streams;
