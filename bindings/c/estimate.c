@@ -212,19 +212,25 @@ static hll_estimation estimation_of_coupons(uint64_t coupons)
     return found;
 }
 
+/* Whether the header of an image says that registers follow. Whoever reads the image checks it. */
+static int says_registers(const uint8_t *image, size_t len)
+{
+    return len > 7 && (image[7] & 3) == HLL_REGISTERS;
+}
+
 hll_status hll_estimate(const uint8_t *image, size_t len, hll_estimation *estimation)
 {
     hll_histogram histogram;
     hll_info info;
-    hll_status status = hll_image_info(image, len, &info);
-    if (status != HLL_OK)
+    hll_status status;
+    if (says_registers(image, len)) {
+        status = hll_image_histogram(image, len, &histogram);
+        if (status == HLL_OK)
+            *estimation = estimation_of_counts(histogram.counts);
         return status;
-    if (info.stage != HLL_REGISTERS) {
-        *estimation = estimation_of_coupons(info.coupons);
-        return HLL_OK;
     }
-    status = hll_image_histogram(image, len, &histogram);
+    status = hll_image_info(image, len, &info);
     if (status == HLL_OK)
-        *estimation = estimation_of_counts(histogram.counts);
+        *estimation = estimation_of_coupons(info.coupons);
     return status;
 }

@@ -18,7 +18,7 @@ use hll_arrays::array4::Array4;
 use hll_arrays::array6::Array6;
 use hll_arrays::array8::Array8;
 use hll_arrays::kernels::{all_zero, count_zeros, lower_nibbles, max_into, units};
-use hll_base::hash::MurmurHash3X64128;
+use hll_base::hash::{DEFAULT_SEED, hash_of_bytes};
 use std::alloc::Global;
 
 /// What an export returns if an allocation fails.
@@ -29,9 +29,7 @@ const REFUSED: u64 = u64::MAX;
 pub extern "C" fn hll_bench_hash(bytes: &[u8]) -> u64
     ensures { result ≡ (hash default_seed bytes.now).first }
 {
-    let mut hash = MurmurHash3X64128::default();
-    hash.write(bytes);
-    hash.finish128().0
+    hash_of_bytes(DEFAULT_SEED, bytes).0
 }
 
 /// Merges of registers of this many bits into registers of eight.
