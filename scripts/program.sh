@@ -13,11 +13,11 @@ program=$kept/$name
 case $name in
 hll_merge)
     crate=hll_program
-    shares='hll_base 4 hll_kernels 6 hll_text 8 hll_coupons 13 hll_registers 13 hll_arrays 13 hll_sketch 23 hll_merge 13'
+    shares='hll_base 5 hll_kernels 8 hll_text 4 hll_coupons 9 hll_registers 12 hll_arrays 12 hll_sketch 25 hll_merge 18'
     ;;
 hll_words)
     crate=hll_words_program
-    shares='hll_base 5 hll_kernels 7 hll_text 9 hll_coupons 15 hll_registers 15 hll_arrays 15 hll_sketch 27 hll_words 4'
+    shares='hll_base 6 hll_kernels 9 hll_text 5 hll_coupons 11 hll_registers 15 hll_arrays 15 hll_sketch 30 hll_words 4'
     ;;
 *)
     echo "usage: program.sh hll_merge|hll_words" >&2
@@ -60,18 +60,20 @@ report() {
     done
 }
 
-# Proves a library.
+# Proves a library. Functions of hll_merge call one another in a row, so more than two proofs of it at once only load it
+# once more.
 prove() {
+    at_once=$jobs
+    [ "$1" != hll_merge ] || [ "$jobs" -eq 1 ] || at_once=2
     echo "proving $1" >"$kept/log"
-    (cd "$root/crates/$1" && rt lib --jobs "$jobs") >>"$kept/log" 2>&1 && echo "$1" >>"$kept/done"
+    (cd "$root/crates/$1" && rt lib --jobs "$at_once") >>"$kept/log" 2>&1 && echo "$1" >>"$kept/done"
 }
 
 # Proves a library that uses hll_base alone in a folder of its own, since rt keeps others from what a crate uses, and moves
 # what it kept to its place.
 prove_aside() {
-    aside=$kept/aside-$1
-    rm -rf "$aside"
-    mkdir -p "$aside/crates" && cp "$root/HANDLES" "$aside" &&
+    aside=$(mktemp -d) || return 1
+    mkdir "$aside/crates" && cp "$root/HANDLES" "$aside" &&
         grep -E "^(hll_base|$1):" "$root/crates.txt" >"$aside/crates.txt" &&
         cp -R "$root/crates/hll_base" "$root/crates/$1" "$aside/crates" &&
         (cd "$aside/crates/$1" && rt lib --jobs 1) >"$kept/log-$1" 2>&1 &&
@@ -114,7 +116,7 @@ build() {
     [ "$jobs" -le 4 ] || jobs=4
     report &
     reporter=$!
-    (prove_all) && printed=$(cd "$root/crates/$crate" && rt run --jobs "$jobs" <stdin 2>"$kept/log")
+    (prove_all) && printed=$(cd "$root/crates/$crate" && rt run --jobs 1 <stdin 2>"$kept/log")
     status=$?
     kill "$reporter"
     if [ "$status" -ne 0 ] || [ "$printed" != "$(cat "$root/crates/$crate/stdout")" ]; then

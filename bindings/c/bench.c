@@ -1,5 +1,5 @@
 /* SPDX-License-Identifier: Apache-2.0 */
-/* Times the calls at lg_k 12, and prints a table: of this thread's processor time. The calls run in turn, so that a
+/* Times the calls at lg_k 12, and prints two tables: of this thread's processor time. The calls run in turn, so that a
  * change of load changes all alike; of times, and of their ratios in a turn, the median of the turns is told. */
 #define _POSIX_C_SOURCE 199309L
 #include "hll.h"
@@ -180,6 +180,100 @@ static void make_joined(void)
         ends[i] = joined_len += make_image(joined + joined_len, i * 20000, 20);
 }
 
+/* ---- small sets, as they are written here and elsewhere ---- */
+
+enum { ASCENDING, IN_PLACES, UPDATABLE, ORDERS };
+
+#define SET_VALUES 20
+#define SET_HEADER 12
+#define LG_PLACES 5
+#define PLACES (1 << LG_PLACES)
+
+/* A little-endian word. */
+static uint32_t word_at(const uint8_t *from)
+{
+    return (uint32_t)from[0] | (uint32_t)from[1] << 8 | (uint32_t)from[2] << 16 | (uint32_t)from[3] << 24;
+}
+
+/* Puts the coupons of a set into the places of its table, where searches find them. */
+static void put_coupons(uint8_t places[4 * PLACES], const uint8_t *from)
+{
+    int i;
+    memset(places, 0, 4 * PLACES);
+    for (i = 0; i < SET_VALUES; i++) {
+        uint32_t coupon = word_at(from + 4 * i);
+        uint32_t stride = (coupon & 0x3ffffff) >> LG_PLACES | 1, place = coupon % PLACES;
+        while (word_at(places + 4 * place) != 0)
+            place = (place + stride) % PLACES;
+        memcpy(places + 4 * place, from + 4 * i, 4);
+    }
+}
+
+/* A set of twenty values from a number on, its coupons in this order. */
+static size_t make_set(uint8_t *to, uint64_t from, int order)
+{
+    uint8_t empty[64], places[4 * PLACES];
+    size_t empty_len, made, place;
+    need(hll_image_new(LG_K, 8, empty, sizeof empty, &empty_len));
+    make_values(from);
+    need(hll_image_add(empty, empty_len, values, 8 * SET_VALUES, value_ends, SET_VALUES, to, 256, &made));
+    if (order == ASCENDING)
+        return made;
+    put_coupons(places, to + SET_HEADER);
+    if (order == UPDATABLE) {
+        to[5] &= (uint8_t)~8;
+        memcpy(to + SET_HEADER, places, sizeof places);
+        return SET_HEADER + sizeof places;
+    }
+    made = SET_HEADER;
+    for (place = 0; place < PLACES; place++)
+        if (word_at(places + 4 * place) != 0)
+            memcpy(to + made, places + 4 * place, 4), made += 4;
+    return made;
+}
+
+static size_t sets_of_union;
+
+static void run_sets(void)
+{
+    need(hll_images_union(LG_K, 8, joined, ends[sets_of_union - 1], ends, sets_of_union, out, sizeof out, &size, &failed));
+}
+
+/* The nanoseconds of each set in a union of registers and 999 sets, less what the registers take alone. */
+static double time_sets(int order)
+{
+    static double of[TURNS];
+    size_t i;
+    int turn;
+    joined_len = 0;
+    for (i = 0; i < IMAGES; i++)
+        ends[i] = joined_len += i == 0 ? make_image(joined, 0, 20) : make_set(joined + joined_len, 100000 + i * SET_VALUES, order);
+    for (turn = 0; turn < TURNS; turn++) {
+        double alone;
+        sets_of_union = 1;
+        alone = timed(run_sets, 20);
+        sets_of_union = IMAGES;
+        of[turn] = (timed(run_sets, 20) - alone) / (IMAGES - 1);
+    }
+    return median(of);
+}
+
+static void print_sets(void)
+{
+    double ascending, in_places, updatable;
+    width = 8;
+    joined = malloc(IMAGES * sizeof out);
+    if (joined == NULL)
+        need(HLL_MEMORY);
+    ascending = time_sets(ASCENDING);
+    in_places = time_sets(IN_PLACES);
+    updatable = time_sets(UPDATABLE);
+    free(joined);
+    printf("\n| union of sets of 20 into registers, each, in ns | ascending | in places | updatable |\n|---|---|---|---|\n");
+    printf("| | %.0f | %.0f | %.0f |\n", ascending, in_places, updatable);
+    printf("| of the ascending one | | %.2f | %.2f |\n", in_places / ascending, updatable / ascending);
+}
+
 int main(void)
 {
     double columns[3][ROWS];
@@ -201,5 +295,6 @@ int main(void)
             printf(form, columns[i][row]);
         putchar('\n');
     }
+    print_sets();
     return 0;
 }
