@@ -18,22 +18,25 @@ ROOT = pathlib.Path(__file__).resolve().parent.parent
 TICKS = os.sysconf("SC_CLK_TCK")
 
 
-def processor_seconds(top):
-    """User and system time of a process, of those below it, and of those of them that have ended."""
-    parents, spent = {}, {}
+def processes_below(top):
+    """A process and all below it: by number, the words of /proc/NUMBER/stat from the third on."""
+    stats = {}
     for folder in pathlib.Path("/proc").glob("[0-9]*"):
         try:
-            words = (folder / "stat").read_text().rsplit(")", 1)[1].split()
+            stats[int(folder.name)] = (folder / "stat").read_text().rsplit(")", 1)[1].split()
         except OSError:
             continue
-        parents[int(folder.name)] = int(words[1])
-        spent[int(folder.name)] = sum(map(int, words[11:15])) / TICKS
     below = {top}
     while True:
-        more = {it for it, parent in parents.items() if parent in below} - below
+        more = {it for it, words in stats.items() if int(words[1]) in below} - below
         if not more:
-            return sum(spent.get(it, 0) for it in below)
+            return {it: stats[it] for it in below if it in stats}
         below |= more
+
+
+def processor_seconds(top):
+    """User and system time of a process, of those below it, and of those of them that have ended."""
+    return sum(sum(map(int, words[11:15])) for words in processes_below(top).values()) / TICKS
 
 
 def proved_in(kept):

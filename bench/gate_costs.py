@@ -5,40 +5,40 @@ its tests.
 
     bench/gate_costs.py [FOLDER]
 
-It looks once a second at the processes of the prover, so what ends within a second is missed. It takes as long as `rt ci`,
-whose lines go to standard error. docs/MEASUREMENTS.md, "Proofs", has what it printed.
+It looks once a second at the processes of the prover that `rt ci` has started, so what ends within a second is missed. It
+takes as long as `rt ci`, whose lines go to standard error. docs/MEASUREMENTS.md, "Proofs", has what it printed.
 """
 import collections
 import os
-import pathlib
 import subprocess
 import sys
 import time
 
-TICKS = os.sysconf("SC_CLK_TCK")
+sys.dont_write_bytecode = True
+from first_build import TICKS, processes_below
 
 
-def provers():
-    """Of each process of the prover: its number with its start, what it works at, and its processor seconds."""
-    for folder in pathlib.Path("/proc").glob("[0-9]*"):
+def provers(top):
+    """Of each process of the prover below another: its number with its start, what it works at, and its processor seconds."""
+    for number, numbers in processes_below(top).items():
         try:
-            words = (folder / "cmdline").read_bytes().decode(errors="replace").split("\0")
-            if not words[0].endswith("/rattle") or "--crate-name" not in words:
-                continue
-            place = os.readlink(folder / "cwd")
-            numbers = (folder / "stat").read_text().rsplit(")", 1)[1].split()
+            with open("/proc/%d/cmdline" % number, errors="replace") as command:
+                words = command.read().split("\0")
+            place = os.readlink("/proc/%d/cwd" % number)
         except OSError:
+            continue
+        if not words[0].endswith("/rattle") or "--crate-name" not in words:
             continue
         kind = "edits" if "/rt-edit-" in place else "tests" if "--test" in words else "proof"
         crate = words[words.index("--crate-name") + 1]
-        yield (folder.name, numbers[19]), (crate, kind), sum(map(int, numbers[11:13])) / TICKS
+        yield (number, numbers[19]), (crate, kind), sum(map(int, numbers[11:13])) / TICKS
 
 
 def watch(ran):
     """Processor seconds by crate and kind, until the run ends."""
     spent = {}
     while ran.poll() is None:
-        for process, work, seconds in provers():
+        for process, work, seconds in provers(ran.pid):
             spent[process] = work, seconds
         time.sleep(1)
     costs = collections.Counter()

@@ -1,5 +1,5 @@
 //! The hash: vectors at several seeds, and the same bytes cut differently.
-use hll_base::hash::MurmurHash3X64128;
+use hll_base::hash::{DEFAULT_SEED, MurmurHash3X64128, hash_of_bytes};
 
 /// The bytes 0 to 69.
 const BYTES: [u8; 70] = [
@@ -133,6 +133,18 @@ fn vectors(rt: HostRuntime) {
     }
 }
 
+/// The same vectors, of bytes that are hashed at once.
+#[test]
+fn vectors_at_once(rt: HostRuntime) {
+    for (seed, end, first, second) in VECTORS {
+        assert_eq!(rt;
+            hash_of_bytes(seed, &BYTES[..end.min(70)]),
+            (first, second),
+            "{end} bytes at seed {seed}"
+        );
+    }
+}
+
 #[test]
 fn default_seed(rt: HostRuntime) {
     let mut hash = MurmurHash3X64128::default();
@@ -140,11 +152,11 @@ fn default_seed(rt: HostRuntime) {
     assert_eq!(rt; hash.finish128(), words_of(9001, &BYTES));
 }
 
-/// Up to seventy bytes, cut in two at each place.
+/// Up to seventy bytes, cut in two at each place, beside all of them at once.
 #[test]
 fn cuts(rt: HostRuntime) {
     for end in 0..71usize {
-        let whole = words_of(9001, &BYTES[..end]);
+        let whole = hash_of_bytes(DEFAULT_SEED, &BYTES[..end]);
         for at in 0..end {
             assert_eq!(rt;
                 words_of_two(9001, &BYTES[..at], &BYTES[at..end]),

@@ -5,6 +5,7 @@ use crate::fixtures::{WIDTHS, filled};
 use hll_base::error::Error;
 use hll_base::hll_type::HllType;
 use hll_coupons::coupon::Coupon;
+use hll_sketch::stage::{can_hold, most_kept, stage};
 use hll_sketch::{HllSketch, Mode};
 use std::alloc::{Allocator, Global};
 use std::process::Abort;
@@ -85,6 +86,18 @@ fn stages(rt: HostRuntime) -> Result<(), Fail> {
         }
     }
     Ok(())
+}
+
+/// At `lg_k` 8 a list, a set of 32 places and registers follow one another; at 4 a list and registers.
+#[test]
+fn stages_of_counts(rt: HostRuntime) {
+    assert_eq!(rt; stage(8, 3, 7), Some(3));
+    assert_eq!(rt; stage(8, 3, 8), Some(5));
+    assert_eq!(rt; stage(8, 5, 24), Some(5));
+    assert_eq!(rt; stage(8, 5, 25), None);
+    assert_eq!(rt; stage(4, 3, 8), None);
+    assert!(rt; can_hold(6, 48) && !can_hold(6, 49));
+    assert_eq!(rt; (most_kept(3), most_kept(5)), (7, 24));
 }
 
 /// A sketch with a coupon of value 1 at each slot below a number, in descending order.
