@@ -5,6 +5,7 @@ import pathlib
 import random
 import signal
 import stat
+import struct
 import subprocess
 import sys
 import time
@@ -46,8 +47,10 @@ os.{step} = called
 
 
 def hostile_image():
-    """A set whose coupons are all on one path: half a minute of work for a call."""
-    return set_image(21, 18, path_coupons(18))
+    """A set whose coupons are all on one path: half a minute of work for a call. They don't ascend: such are checked without
+    a table."""
+    coupons = path_coupons(18)
+    return set_image(21, 18, coupons)[:12] + struct.pack("<%dI" % len(coupons), *coupons)
 
 
 def children_of(process):

@@ -9,7 +9,7 @@ ghost use Rattle.hll_registers.specs.FourBits.{exception_of, ExceptionsMove};
 ghost use Rattle.hll_registers.specs.Payload.{shape_of_hll4, hll4_size, registers_of, state_at, FirstHll4Fault, Hll4Fault, IsHll4Payload, IsWhole, WritesRegisters};
 ghost use Rattle.hll_registers.specs.Store.{size_in_registers, zero_registers, update_with_coupon, IsStored};
 
-use crate::four_bit_payload::{Hll4Header, read_payload};
+use crate::four_bit_payload::{Hll4Header, read_payload, read_slice};
 use hll_base::cursor::SketchSlice;
 use hll_base::error::Error;
 use hll_base::hll_type::HllType;
@@ -18,6 +18,7 @@ use hll_coupons::serialization::{COMPACT_FLAG_MASK, COUPON_SIZE_BYTES, HLL_PREAM
 use hll_registers::aux_format::AuxFormat;
 use hll_registers::estimate_state::EstimateState;
 use hll_registers::nibble_registers::NibbleRegisters;
+use hll_registers::nibble_slice::NibbleSlice;
 use hll_registers::preamble::{HllHeader, Preamble};
 use hll_registers::register_store::RegisterStore;
 use hll_registers::registers::{Registers, two_to, units_of};
@@ -185,7 +186,7 @@ impl<A: Allocator + Clone> Array4<A> {
     ///
     /// `lg_config_k` is 4 to 21. Fails with the first fault in the order of checks (`Count`, `LgArr`, `Truncated`,
     /// `Coupon` or `Register`), or else with `Memory`. Takes memory only once the bytes are known to be there: the
-    /// nibbles in one request, then the map of exceptions as it grows, and where the minimum is below the least register
+    /// map of exceptions as it grows, then the nibbles in one request, or where the minimum is below the least register
     /// a byte for each register, and nibbles and a map anew.
     pub fn deserialize(
         alloc: A,
@@ -361,4 +362,42 @@ impl<A: Allocator> Eq for Array4<A> {
     ghost use Rattle.hll_arrays.specs.Same.{same_four_bits-equivalence};
 
     ghost laws = { same_four_bits-equivalence };
+}
+
+/// The registers in the part of an image of four bits that follows the header, as they stand there, with a map of their
+/// exceptions by this allocator, and their state (docs/FORMAT.md, "HLL"). `cur_min` is the state byte, which may be below
+/// the least register, and `aux_format` says how the exceptions are stored. The count at the minimum is checked against its
+/// bound, and not used.
+///
+/// `lg_config_k` is 4 to 21. Fails with the first fault in the order of checks (`Count`, `LgArr`, `Truncated`, `Coupon` or
+/// `Register`), or else with `Memory`. Takes memory only once the bytes are known to be there: for the map of exceptions, as
+/// it grows.
+pub fn read_nibbles<'a, A: Allocator + Clone>(
+    alloc: &A,
+    cursor: SketchSlice<'a>,
+    cur_min: u8,
+    lg_config_k: u8,
+    aux_format: AuxFormat,
+    ooo: bool,
+) -> Result<(NibbleSlice<'a, A>, EstimateState), Error>
+    requires least { 4 ≤ lg_config_k }
+    requires most { lg_config_k ≤ 21 }
+    ensures ok { let h = shape_of_hll4 lg_config_k cur_min aux_format in
+        IfOk result (λ r. IsHll4Payload h (take (hll4_size h cursor.entry) cursor.entry)
+        × (r.0 ≡ (lg_config_k, registers_of h (take (hll4_size h cursor.entry) cursor.entry))) × (r.1 ≡ state_at ooo cursor.entry)) }
+    ensures err { let h = shape_of_hll4 lg_config_k cur_min aux_format in
+        IfErr result (λ e. (e ≡ Memory) ⊎ Hll4Fault h cursor.entry e) }
+    ensures order { let h = shape_of_hll4 lg_config_k cur_min aux_format in
+        IfErr result (λ e. (e ≡ Memory) ⊎ FirstHll4Fault h cursor.entry e) }
+    ensures asked { let h = shape_of_hll4 lg_config_k cur_min aux_format in
+        IfErr result (λ e. e ≡ Memory → IsWhole h cursor.entry) }
+{
+    let header = Hll4Header {
+        lg_config_k,
+        cur_min,
+        aux_format,
+        ooo,
+    };
+    let (registers, state) = read_slice(alloc, cursor, header)?;
+    Ok((registers, state))
 }

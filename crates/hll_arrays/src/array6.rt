@@ -3,9 +3,11 @@ ghost use Rattle.std.specs.Prelude.{◌≡◌, ◌+◌, ◌^◌, ◌-◌, ◌<�
 ghost use Rattle.std.specs.List.{list_all};
 ghost use Rattle.hll_base.specs.declared.error.Reason.TheVariants.{Memory};
 ghost use Rattle.hll_base.specs.declared.hll_type.HllType.TheVariants.{Hll6};
+ghost use Rattle.hll_kernels.specs.Groups.{registers_in, AreGroups};
 ghost use Rattle.hll_kernels.specs.Packed.{fields, zeros, units};
 ghost use Rattle.hll_registers.specs.Store.{size_in_registers};
 ghost use Rattle.hll_registers.specs.Payload.{field_size, state_at, IsHll6Payload, FirstHll6Fault, Hll6Fault, hll6_bytes};
+ghost use Rattle.hll_registers.specs.State.{IsState};
 ghost use Rattle.hll_registers.specs.Store.{zero_registers, update_with_coupon, IsStored};
 
 use hll_base::cursor::SketchSlice;
@@ -14,7 +16,7 @@ use hll_base::hll_type::HllType;
 use hll_coupons::coupon::Coupon;
 use hll_coupons::serialization::HLL_PREAMBLE_SIZE;
 use hll_kernels::groups::{
-    all_zero_in, count_zeros_in, groups_from_bytes, max_groups_into, pack_groups, put_register,
+    all_zero_in, count_zeros_in, groups_in, max_groups_into, pack_groups, put_register,
     register_at, weight_sums_in,
 };
 use hll_kernels::kernels::{WeightSums, count_zeros};
@@ -88,21 +90,14 @@ impl<A: Allocator> Array6<A> {
         ensures order { IfErr result (λ e. (e ≡ Memory) ⊎ FirstHll6Fault lg_config_k cursor.entry e) }
         ensures asked { IfErr result (λ e. e ≡ Memory → IsHll6Payload lg_config_k (take (32 + field_size lg_config_k) cursor.entry)) }
     {
-        let size = two_to(lg_config_k);
-        let (preamble, rest) = Preamble::read(cursor, ooo)?;
-        if preamble.num_at_cur_min as usize > size || preamble.exception_count != 0 {
-            return Err(Error::new(Reason::Count));
-        }
-        let Some(packed) = rest.remaining().get(..packed_size(lg_config_k)) else {
-            return Err(Error::new(Reason::Truncated));
-        };
+        let (groups, state) = read_groups(cursor, lg_config_k, ooo)?;
         // not what the header says: zeros are counted when asked
         let zero_count = None;
         Ok(Array6 {
             lg_config_k,
-            groups: groups_from_bytes(alloc, packed)?,
+            groups: Vec::from_slice(alloc, groups)?,
             zero_count,
-            state: preamble.state,
+            state,
         })
     }
 
@@ -329,6 +324,35 @@ impl<A: Allocator> Eq for Array6<A> {
     ghost use Rattle.hll_arrays.specs.Same.{same_stored-equivalence};
 
     ghost laws = { same_stored-equivalence };
+}
+
+/// The registers in the part of an image of six bits that follows the header, as they stand there in groups of four, and
+/// their state (docs/FORMAT.md, "HLL"). The zero count is checked against its bound, and not used. The last byte has to be
+/// there, and may be any.
+///
+/// `lg_config_k` is 4 to 21. Fails with `Truncated` or `Count`. Takes no memory.
+pub fn read_groups(
+    cursor: SketchSlice<'_>,
+    lg_config_k: u8,
+    ooo: bool,
+) -> Result<(&[[u8; 3]], EstimateState), Error>
+    requires least { 4 ≤ lg_config_k }
+    requires most { lg_config_k ≤ 21 }
+    ensures ok { IfOk result (λ r. IsHll6Payload lg_config_k (take (32 + field_size lg_config_k) cursor.entry)
+        × (registers_in r.0.now ≡ fields (take (field_size lg_config_k) (drop 32 cursor.entry))) × (r.1 ≡ state_at ooo cursor.entry)) }
+    ensures legal { IfOk result (λ r. AreGroups lg_config_k r.0.now × IsState r.1) }
+    ensures err { IfErr result (λ e. Hll6Fault lg_config_k cursor.entry e) }
+    ensures order { IfErr result (λ e. FirstHll6Fault lg_config_k cursor.entry e) }
+{
+    let size = two_to(lg_config_k);
+    let (preamble, rest) = Preamble::read(cursor, ooo)?;
+    if preamble.num_at_cur_min as usize > size || preamble.exception_count != 0 {
+        return Err(Error::new(Reason::Count));
+    }
+    let Some(packed) = rest.remaining().get(..packed_size(lg_config_k)) else {
+        return Err(Error::new(Reason::Truncated));
+    };
+    Ok((groups_in(packed), preamble.state))
 }
 
 /// How many bytes 2^`lg_k` registers take in an image.

@@ -19,6 +19,7 @@ use hll_registers::aux_format::AuxFormat;
 use hll_registers::estimate_state::EstimateState;
 use hll_registers::exception_map::{Exceptions, add_exception, exception_at};
 use hll_registers::nibble_registers::NibbleRegisters;
+use hll_registers::nibble_slice::NibbleSlice;
 use hll_registers::preamble::Preamble;
 use hll_registers::registers::two_to;
 use std::alloc::Allocator;
@@ -54,13 +55,37 @@ pub(crate) fn read_payload<A: Allocator + Clone>(
     ensures asked { let h = shape_of_hll4 header.lg_config_k header.cur_min header.aux_format in
         IfErr result (λ e. e ≡ Memory → IsWhole h cursor.entry) }
 {
+    let (registers, state) = read_slice(&alloc, cursor, header)?;
+    Ok((registers.into_registers(alloc)?, state))
+}
+
+/// The registers above the minimum that the header gives, as they stand in the bytes, with a map of the exceptions by this
+/// allocator, and the estimate state.
+///
+/// Fails with the first fault in the order of checks, or else with `Memory`.
+pub(crate) fn read_slice<'a, A: Allocator + Clone>(
+    alloc: &A,
+    cursor: SketchSlice<'a>,
+    header: Hll4Header,
+) -> Result<(NibbleSlice<'a, A>, EstimateState), Error>
+    requires least { 4 ≤ header.lg_config_k }
+    requires most { header.lg_config_k ≤ 21 }
+    ensures state { IfOk result (λ r. (r.1 ≡ state_at header.ooo cursor.entry) × IsState r.1) }
+    ensures payload { let h = shape_of_hll4 header.lg_config_k header.cur_min header.aux_format in
+        IfOk result (λ r. IsWhole h cursor.entry × IsHll4Payload h (take (hll4_size h cursor.entry) cursor.entry)) }
+    ensures registers { let h = shape_of_hll4 header.lg_config_k header.cur_min header.aux_format in
+        IfOk result (λ r. r.0 ≡ (header.lg_config_k, registers_of h cursor.entry)) }
+    ensures err { let h = shape_of_hll4 header.lg_config_k header.cur_min header.aux_format in
+        IfErr result (λ e. (e ≡ Memory) ⊎ FirstHll4Fault h cursor.entry e) }
+    ensures asked { let h = shape_of_hll4 header.lg_config_k header.cur_min header.aux_format in
+        IfErr result (λ e. e ≡ Memory → IsWhole h cursor.entry) }
+{
     let frame = frame_of(cursor, header)?;
-    let nibbles = Vec::from_slice(alloc, frame.nibbles)?;
-    let exceptions = read_entries(nibbles.allocator(), header.lg_config_k, &frame)?;
-    let registers = NibbleRegisters::from_parts(
+    let exceptions = read_entries(alloc, header.lg_config_k, &frame)?;
+    let registers = NibbleSlice::from_parts(
         header.lg_config_k,
         header.cur_min,
-        nibbles,
+        frame.nibbles,
         exceptions,
     )?;
     Ok((registers, frame.preamble.state))

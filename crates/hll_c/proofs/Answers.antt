@@ -7,7 +7,7 @@ use Rattle.hll_base.specs.declared.error.Reason.TheVariants.{Memory}
 use Rattle.hll_sketch.specs.Layout.{SketchLayout, sketch_of}
 use Rattle.hll_sketch.specs.Value.{Sketch}
 use Rattle.hll_sketch.specs.Written.{Written}
-use Rattle.hll_c.specs.Answers.{Answers, wrote, too_small, refused, Tells, told, untold, Tests, passed, failed, ok_code, buffer_code}
+use Rattle.hll_c.specs.Answers.{Answers, wrote, too_small, refused, IsImageOf, Puts, put, wanted, not_put, Tells, told, untold, Tests, passed, failed, ok_code, buffer_code}
 
 -- the sketch that was made, and why none was, or why no image of it is written
 abbrev pub IsOf : Result SketchLayout Reason → Sketch → Type 0
@@ -48,27 +48,50 @@ module _ {X : Type 0} (Says : X → Type 0) (Refuses : Reason → Type 0) where
   tells_of found old new _ ok err (told from) = told (said found new ok from)
   tells_of found old new _ ok err (untold r from is) = untold r (denied found r err from) is
 
--- ---- the image of what was made, put into a buffer
+-- ---- an image, put into a buffer
 
-module _ (made : Result SketchLayout Reason) (bytes old : List ℕ) (size_old : ℕ) (written : MatchResult made (λ s. Written bytes (sketch_of s)) (λ _. ⊥)) where
-  pub puts : (new : List ℕ) (size_new : ℕ) → length bytes ≤ length old → new ≡ bytes ++ drop (length bytes) old → size_new ≡ length bytes
-      → Answers (λ y. IsOf made y) (λ r. IsFor made r) old new size_old size_new ok_code
-  puts new size_new fits is size = of made written
-    where
-      of : (m : Result SketchLayout Reason) → MatchResult m (λ s. Written bytes (sketch_of s)) (λ _. ⊥) → Answers (λ y. IsOf m y) (λ r. IsFor m r) old new size_old size_new ok_code
-      of (Ok s) w = wrote (sketch_of s) bytes refl w fits is size
-      of (Err e) w = absurd w
+module _ {X : Type 0} (items : X → List ℕ) (image : Result X Reason) where
+  -- the bytes are those of the image, and why there is none
+  abbrev pub AreOf : List ℕ → Type 0
+  AreOf b = MatchResult image (λ v. b ≡ items v) (λ _. ⊥)
 
-  pub wants : (size_new : ℕ) → length old < length bytes → size_new ≡ length bytes → Answers (λ y. IsOf made y) (λ r. IsFor made r) old old size_old size_new buffer_code
-  wants size_new short size = of made written
-    where
-      of : (m : Result SketchLayout Reason) → MatchResult m (λ s. Written bytes (sketch_of s)) (λ _. ⊥) → Answers (λ y. IsOf m y) (λ r. IsFor m r) old old size_old size_new buffer_code
-      of (Ok s) w = too_small (sketch_of s) bytes refl w short refl size
-      of (Err e) w = absurd w
+  abbrev pub IsWhyNone : Reason → Type 0
+  IsWhyNone r = MatchResult image (λ _. ⊥) (λ e. r ≡ e)
 
-pub puts_nothing : (made : Result SketchLayout Reason) (r : Reason) (old : List ℕ) (size code : ℕ) → IsFor made r → code ≡ number_of r
-    → Answers (λ y. IsOf made y) (λ r. IsFor made r) old old size size code
-puts_nothing made r old size code for is = subst (Answers (λ y. IsOf made y) (λ r. IsFor made r) old old size size) (sym is) (refused r for refl refl)
+  are_of : (v : X) → image ≡ Ok v → AreOf (items v)
+  are_of v is = subst (λ m. MatchResult m (λ w. items v ≡ items w) (λ _. ⊥)) (sym is) refl
+
+  pub puts : (v : X) (old new : List ℕ) (size_old size_new : ℕ) → image ≡ Ok v → length (items v) ≤ length old → new ≡ items v ++ drop (length (items v)) old → size_new ≡ length (items v)
+      → Puts AreOf IsWhyNone old new size_old size_new ok_code
+  puts v old new so sn is fits after size = put (items v) (are_of v is) fits after size
+
+  pub wants : (v : X) (old : List ℕ) (size_old size_new : ℕ) → image ≡ Ok v → length old < length (items v) → size_new ≡ length (items v) → Puts AreOf IsWhyNone old old size_old size_new buffer_code
+  wants v old so sn is short size = wanted (items v) (are_of v is) short refl size
+
+  pub puts_nothing : (e : Reason) (old : List ℕ) (size code : ℕ) → image ≡ Err e → code ≡ number_of e → Puts AreOf IsWhyNone old old size size code
+  puts_nothing e old size code is number =
+      subst (Puts AreOf IsWhyNone old old size size) (sym number) (not_put e (subst (λ m. MatchResult m (λ _. ⊥) (λ d. e ≡ d)) (sym is) refl) refl refl)
+
+  -- the answer that puts it is one of a call that writes what is made
+  module _ (IsMade : Sketch → Type 0) (Refuses : Reason → Type 0) where
+    image_in : (m : Result X Reason) → IfOk m (λ v. IsImageOf IsMade (items v)) → (b : List ℕ) → MatchResult m (λ v. b ≡ items v) (λ _. ⊥) → IsImageOf IsMade b
+    image_in (Ok v) ok b same = subst (IsImageOf IsMade) (sym same) ok
+    image_in (Err e) ok b same = absurd same
+
+    why_in : (m : Result X Reason) → IfErr m Refuses → (r : Reason) → MatchResult m (λ _. ⊥) (λ e. r ≡ e) → Refuses r
+    why_in (Ok v) err r same = absurd same
+    why_in (Err e) err r same = subst Refuses (sym same) err
+
+    pub answers_with : (old new : List ℕ) (size_old size_new code : ℕ) → IfOk image (λ v. IsImageOf IsMade (items v)) → IfErr image Refuses
+        → Puts AreOf IsWhyNone old new size_old size_new code → Answers IsMade Refuses old new size_old size_new code
+    answers_with old new so sn _ ok err (put b are fits after size) = let made = image_in image ok b are in wrote made.0 b made.1 made.2 fits after size
+    answers_with old new so sn _ ok err (wanted b are short after size) = let made = image_in image ok b are in too_small made.0 b made.1 made.2 short after size
+    answers_with old new so sn _ ok err (not_put r why after size) = refused r (why_in image err r why) after size
+
+-- the image of what was made is what is written for it
+pub image_of_made : (made : Result SketchLayout Reason) (bytes : List ℕ) → MatchResult made (λ s. Written bytes (sketch_of s)) (λ _. ⊥) → IsImageOf (λ y. IsOf made y) bytes
+image_of_made (Ok s) bytes written = (sketch_of s, refl, written)
+image_of_made (Err e) bytes written = absurd written
 
 -- ---- codes alone, and what is told
 

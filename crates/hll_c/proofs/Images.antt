@@ -1,17 +1,19 @@
 -- Lemmas on images that are read, and on what refuses them.
-use Rattle.std.proofs.Common.{arith, ◌≡◌, ◌⊎◌, ℕ, ◌<◌, ◌≤◌, List, [], ◌∷◌, ◌++◌, length, Some, None, inl, inr, sym, ◌∙◌, ap, subst, append_assoc}
+use Rattle.std.proofs.Common.{arith, ◌≡◌, ◌⊎◌, ℕ, ◌<◌, ◌≤◌, List, [], ◌∷◌, ◌++◌, length, Some, None, inl, inr, refl, sym, ◌∙◌, ap, subst, append_assoc}
 use Rattle.std.proofs.lemmas.Bool.{cases_lt}
 use Rattle.hll_base.specs.declared.error.Reason.{Reason}
 use Rattle.hll_base.specs.declared.error.Reason.TheVariants.{Argument, Memory}
+use Rattle.hll_base.specs.declared.hll_type.HllType.{HllType}
 use Rattle.hll_sketch.specs.Checks.{first_failing, header_checks, checks_behind, first_fault, size_fault}
+use Rattle.hll_sketch.specs.CouponImages.{IsImageOfUnion, AreBothRead, IsImageAt}
 use Rattle.hll_sketch.specs.Folding.{IsFoldLgK}
 use Rattle.hll_sketch.specs.Image.{IsReadAs}
 use Rattle.hll_sketch.specs.Value.{Sketch, IsLgK}
 use Rattle.hll_sketch.proofs.FirstFailing.{none_before}
 use Rattle.hll_sketch.proofs.FirstFaults.{faultless_is_image}
-use Rattle.hll_c.specs.Answers.{RefusesArguments, argument, memory, RefusesImage, image_fault, image_memory, RefusesWith, argument_with_image, image_refused, RefusesImages, argument_with_images, images_fault, images_memory}
+use Rattle.hll_c.specs.Answers.{IsImageOf, RefusesArguments, argument, memory, RefusesImage, image_fault, image_memory, RefusesWith, argument_with_image, image_refused, RefusesImages, argument_with_images, images_fault, images_memory}
 use Rattle.hll_c.specs.Batches.{AreReadAs, IsFirstFaulty, MayAskAt, strings}
-use Rattle.hll_c.specs.Calls.{AreNewArguments, IsEmptyAt, IsMadeOf, IsFoldOf, RefusesFold, above, with, AreUnionArguments, IsUnionOf, AreBatchArguments, IsUnionOfBatch}
+use Rattle.hll_c.specs.Calls.{bits_of, IsAtWidth, AreNewArguments, IsEmptyAt, IsMadeOf, IsFoldOf, RefusesFold, above, with, AreUnionArguments, IsUnionOf, AreBatchArguments, IsUnionOfBatch}
 use Rattle.hll_c.specs.Steps.{IsRefusedAt}
 
 -- ---- reading
@@ -107,3 +109,27 @@ pub no_memory_to_unite_batch : (k bits : ℕ) (images ends : List ℕ) (failed_o
     → RefusesImages (AreBatchArguments k bits (length images) ends) (strings images ends) failed_old failed_new Memory
 no_memory_to_unite_batch k bits images ends fo fn y made =
     images_memory (length (strings images ends)) (record { union = made.is.arguments; are = made.are }) (asked_behind (strings images ends) made.is.sketches made.is.read) made.is.untold
+
+-- ---- images made from bytes to bytes
+
+module _ (k bits : ℕ) (width : HllType) (is_width : bits_of width ≡ bits) (left right : List ℕ) where
+  pub union_in_bytes : (bytes : List ℕ) (failed : ℕ) → IsImageOfUnion k width left right bytes → IsImageOf (IsUnionOf k bits (left ∷ right ∷ []) failed failed) bytes
+  union_in_bytes bytes failed of = (
+    _,
+    record {
+      arguments = record { lg_max_k_is = of.bound_is; width_is = record { width = width; is = is_width } };
+      sketches = of.left_sketch ∷ of.right_sketch ∷ [];
+      read = (of.left_read, (of.right_read, tt));
+      is = refl;
+      untold = refl;
+    },
+    of.written,
+  )
+
+  pub refuses_union_in_bytes : (failed : ℕ) (e : Reason) → AreBothRead k left right → e ≡ Memory → RefusesImages (AreUnionArguments k bits) (left ∷ right ∷ []) failed failed e
+  refuses_union_in_bytes failed e both is =
+      refuses_more_memory (AreUnionArguments k bits) (left ∷ right ∷ []) failed failed e 2 is (record { lg_max_k_is = both.bound_is; width_is = record { width = width; is = is_width } })
+      (asked_behind (left ∷ right ∷ []) (both.left_sketch ∷ both.right_sketch ∷ []) (both.left_read, (both.right_read, tt))) refl
+
+pub image_in_bytes : (bits : ℕ) (width : HllType) (image bytes : List ℕ) → bits_of width ≡ bits → IsImageAt width image bytes → IsImageOf (IsMadeOf image (IsAtWidth bits)) bytes
+image_in_bytes bits width image bytes is at = (_, record { sketch = at.sketch; read = at.read; is_made = record { width_is = record { width = width; is = is }; is = refl } }, at.written)

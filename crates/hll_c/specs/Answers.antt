@@ -26,6 +26,18 @@ pub data Answers (IsMade : Sketch → Type 0) (Refuses : Reason → Type 0) (old
       → Answers IsMade Refuses old new size_old size_new buffer_code
   refused : (r : Reason) → Refuses r → new ≡ old → size_new ≡ size_old → Answers IsMade Refuses old new size_old size_new (number_of r)
 
+-- the bytes are what is written for a sketch that is made
+abbrev pub IsImageOf : (Sketch → Type 0) → List ℕ → Type 0
+IsImageOf IsMade bytes = (made : Sketch) × IsMade made × Written bytes made
+
+-- Bytes that are put into a buffer, as `Answers` puts an image: at its front, if they fit; or it is refused for a reason.
+pub data Puts (IsPut : List ℕ → Type 0) (Refuses : Reason → Type 0) (old new : List ℕ) (size_old size_new : ℕ) : ℕ → Type 0 where
+  put : (bytes : List ℕ) → IsPut bytes → length bytes ≤ length old → new ≡ bytes ++ drop (length bytes) old → size_new ≡ length bytes
+      → Puts IsPut Refuses old new size_old size_new ok_code
+  wanted : (bytes : List ℕ) → IsPut bytes → length old < length bytes → new ≡ old → size_new ≡ length bytes
+      → Puts IsPut Refuses old new size_old size_new buffer_code
+  not_put : (r : Reason) → Refuses r → new ≡ old → size_new ≡ size_old → Puts IsPut Refuses old new size_old size_new (number_of r)
+
 -- A call that tells something through a pointer, which `Says` what is asked; or it `Refuses` for a reason, and nothing changes.
 pub data Tells (X : Type 0) (Says : X → Type 0) (Refuses : Reason → Type 0) (old new : X) : ℕ → Type 0 where
   told : Says new → Tells X Says Refuses old new ok_code

@@ -3,7 +3,7 @@ ghost use Rattle.std.specs.Prelude.{◌≡◌, MatchResult, IfOk, IfErr};
 ghost use Rattle.hll_base.specs.declared.error.Reason.TheVariants.{Memory};
 ghost use Rattle.hll_sketch.specs.Layout.{sketch_of};
 ghost use Rattle.hll_sketch.specs.Written.{Written};
-ghost use Rattle.hll_c.specs.Answers.{Answers, Tells, Tests};
+ghost use Rattle.hll_c.specs.Answers.{Answers, Puts, Tells, Tests};
 
 use hll_base::error::Error;
 use hll_sketch::HllSketch;
@@ -41,7 +41,14 @@ pub(crate) fn tell<T: Copy>(found: Result<T, Error>, place: &mut T) -> u8
 pub(crate) fn put_image(made: Result<HllSketch, Error>, out: &mut [u8], size: &mut usize) -> u8
     ensures { Answers (λ y. MatchResult made (λ s. y ≡ sketch_of s) (λ _. ⊥)) (λ r. MatchResult made (λ _. r ≡ Memory) (λ e. r ≡ e)) out.old out.new size.old size.new result }
 {
-    match image_of(made) {
+    put_bytes(image_of(made), out, size)
+}
+
+/// Puts an image at the front of a buffer, if that is large enough, and says how large the image is.
+pub(crate) fn put_bytes(image: Result<Vec<u8>, Error>, out: &mut [u8], size: &mut usize) -> u8
+    ensures { Puts (λ b. MatchResult image (λ v. b ≡ v.items) (λ _. ⊥)) (λ r. MatchResult image (λ _. ⊥) (λ e. r ≡ e)) out.old out.new size.old size.new result }
+{
+    match image {
         Ok(image) => {
             *size = image.len();
             if image.len() > out.len() {

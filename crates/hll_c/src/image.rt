@@ -8,7 +8,7 @@ ghost use Rattle.hll_sketch.specs.Image.{IsReadAs};
 ghost use Rattle.hll_sketch.specs.Laws.{add_in_turn};
 ghost use Rattle.hll_sketch.specs.Layout.{sketch_of};
 ghost use Rattle.hll_sketch.specs.Value.{Sketch};
-ghost use Rattle.hll_c.specs.Answers.{RefusesArguments, RefusesImage, RefusesWith, RefusesImages};
+ghost use Rattle.hll_c.specs.Answers.{IsImageOf, RefusesArguments, RefusesImage, RefusesWith, RefusesImages};
 ghost use Rattle.hll_c.specs.Batches.{AreEnds, strings};
 ghost use Rattle.hll_c.specs.Calls.{bit, bits_of, IsWidth, AreNewArguments, IsEmptyAt, IsMadeOf, IsFoldOf, RefusesFold, IsAtWidth, AreOfCoupon, HasCoupon, HasValues, AreUnionArguments, IsUnionOf, AreBatchArguments, IsUnionOfBatch, SaysAgreement};
 ghost use Rattle.hll_sketch.specs.TakenIn.{TakesIn};
@@ -19,7 +19,7 @@ use hll_base::bounds::{MAX_LG_K, MAX_VALUE, MIN_LG_K, SLOT_BITS};
 use hll_base::error::{Error, Reason};
 use hll_base::hll_type::HllType;
 use hll_coupons::coupon::Coupon;
-use hll_sketch::{HllSketch, HllUnion};
+use hll_sketch::{HllSketch, HllUnion, ascending_image_at, union_of_ascending_images};
 use std::alloc::Global;
 
 /// The width of a number of bits. `Argument` where it is not 4, 6 or 8.
@@ -62,8 +62,7 @@ pub(crate) fn check(alloc: Global, image: &[u8]) -> Result<(), Error>
     ensures ok { OnOk result ((x : Sketch) × IsReadAs image.now x) }
     ensures err { IfErr result (λ e. RefusesImage image.now e) }
 {
-    let _sketch = HllSketch::deserialize(alloc, image)?;
-    Ok(())
+    HllSketch::check(alloc, image)
 }
 
 /// The empty sketch.
@@ -131,8 +130,26 @@ fn add_values(sketch: &mut HllSketch, values: &[u8], ends: &[usize]) -> Result<(
     Ok(())
 }
 
-/// The union of two images.
+/// The image of the union of two images.
 pub(crate) fn merged(
+    alloc: Global,
+    lg_max_k: u8,
+    width: u8,
+    left: &[u8],
+    right: &[u8],
+    failed: &mut usize,
+) -> Result<Vec<u8>, Error>
+    ensures ok { IfOk result (λ image. IsImageOf (IsUnionOf lg_max_k width (left.now ∷ right.now ∷ []) failed.old failed.new) image.items) }
+    ensures err { IfErr result (λ e. RefusesImages (AreUnionArguments lg_max_k width) (left.now ∷ right.now ∷ []) failed.old failed.new e) }
+{
+    match union_of_ascending_images(alloc, lg_max_k, width_of(width)?, left, right)? {
+        Some(image) => Ok(image),
+        None => union_of_two(alloc, lg_max_k, width, left, right, failed)?.serialize(),
+    }
+}
+
+/// The union of two images.
+fn union_of_two(
     alloc: Global,
     lg_max_k: u8,
     width: u8,
@@ -217,8 +234,19 @@ pub(crate) fn folded(alloc: Global, image: &[u8], lg_k: u8) -> Result<HllSketch,
     HllSketch::deserialize(alloc, image)?.folded(lg_k)
 }
 
+/// The image at a width.
+pub(crate) fn converted(alloc: Global, image: &[u8], width: u8) -> Result<Vec<u8>, Error>
+    ensures ok { IfOk result (λ written. IsImageOf (IsMadeOf image.now (IsAtWidth width)) written.items) }
+    ensures err { IfErr result (λ e. RefusesWith (IsWidth width) image.now e) }
+{
+    match ascending_image_at(alloc, width_of(width)?, image)? {
+        Some(written) => Ok(written),
+        None => sketch_at(alloc, image, width)?.serialize(),
+    }
+}
+
 /// The sketch at a width.
-pub(crate) fn converted(alloc: Global, image: &[u8], width: u8) -> Result<HllSketch, Error>
+fn sketch_at(alloc: Global, image: &[u8], width: u8) -> Result<HllSketch, Error>
     ensures ok { IfOk result (λ s. IsMadeOf image.now (IsAtWidth width) (sketch_of s)) }
     ensures err { IfErr result (λ e. RefusesWith (IsWidth width) image.now e) }
 {

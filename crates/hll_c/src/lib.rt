@@ -27,7 +27,7 @@ mod info;
 #[cfg(test)]
 mod tests;
 
-use crate::answer::{code_of, put_image, tell};
+use crate::answer::{code_of, put_bytes, put_image, tell};
 use crate::batch::put_coupons;
 use crate::info::{HllHistogram, HllInfo};
 use hll_coupons::coupon::Coupon;
@@ -45,7 +45,7 @@ pub extern "C" fn hll_image_info(alloc: Global, image: &[u8], info: &mut HllInfo
 
 /// Whether bytes begin with an image; else the reason of the first check that they fail (docs/FORMAT.md, "Order of checks").
 ///
-/// Takes memory for its sketch. Answers `Memory` too.
+/// Takes memory for its sketch, and none for coupons that are at most 128, or ascend in a compact image. Answers `Memory` too.
 #[unsafe(no_mangle)]
 pub extern "C" fn hll_image_check(alloc: Global, image: &[u8]) -> u8
     ensures { Tests ((x : Sketch) × IsReadAs image.now x) (RefusesImage image.now) result }
@@ -136,7 +136,7 @@ pub extern "C" fn hll_image_merge(
 ) -> u8
     ensures { Answers (IsUnionOf lg_max_k width (left.now ∷ right.now ∷ []) failed.old failed.new) (RefusesImages (AreUnionArguments lg_max_k width) (left.now ∷ right.now ∷ []) failed.old failed.new) out.old out.new size.old size.new result }
 {
-    put_image(
+    put_bytes(
         image::merged(alloc, lg_max_k, width, left, right, failed),
         out,
         size,
@@ -199,7 +199,7 @@ pub extern "C" fn hll_image_convert(
 ) -> u8
     ensures { Answers (IsMadeOf image.now (IsAtWidth width)) (RefusesWith (IsWidth width) image.now) out.old out.new size.old size.new result }
 {
-    put_image(image::converted(alloc, image, width), out, size)
+    put_bytes(image::converted(alloc, image, width), out, size)
 }
 
 /// The image with the words set from which a composite estimator computes (docs/FORMAT.md, "Estimator words"); a list or a

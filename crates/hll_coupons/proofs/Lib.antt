@@ -10,6 +10,7 @@ pub mod Listed
 pub mod MapChanges
 pub mod Maps
 pub mod Members
+pub mod Merging
 pub mod Pairs
 pub mod Payloads
 pub mod Places

@@ -1,3 +1,4 @@
+pub mod Ascending
 pub mod AuxMap
 pub mod Coupons
 pub mod Fold

@@ -329,7 +329,7 @@ fn read_places<A: Allocator>(
 }
 
 /// The twelve bytes before the coupons of a set: the last four are the count.
-fn set_header(
+pub(crate) fn set_header(
     lg_config_k: u8,
     hll_type: HllType,
     lg_size: u8,

@@ -8,6 +8,7 @@ pub mod coupon;
 pub mod hash_set;
 pub mod laws;
 pub mod list;
+pub mod raw_words;
 mod search;
 pub mod serialization;
 mod storage;

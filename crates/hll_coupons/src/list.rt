@@ -296,7 +296,11 @@ fn read_places<A: Allocator>(
 }
 
 /// The eight bytes before the coupons of a list.
-fn list_header(lg_config_k: u8, hll_type: HllType, count: usize) -> [u8; LIST_PREAMBLE_SIZE]
+pub(crate) fn list_header(
+    lg_config_k: u8,
+    hll_type: HllType,
+    count: usize,
+) -> [u8; LIST_PREAMBLE_SIZE]
     requires { count ≤ 8 }
     ensures { result ≡ header.list_header lg_config_k hll_type count }
 {

@@ -350,14 +350,11 @@ fn unpacked(bytes: &[u8]) -> [u8; 256]
     registers
 }
 
-/// The groups that bytes hold. Up to two bytes at the end, which fill none, are left out. Allocates in one request.
-pub fn groups_from_bytes<A: Allocator>(
-    alloc: A,
-    bytes: &[u8],
-) -> Result<Vec<[u8; 3], A>, AllocError>
-    ensures registers { IfOk result (λ groups. registers_in groups.items ≡ packed.fields bytes.now) }
-    ensures groups { IfOk result (λ groups. All IsGroup groups.items) }
+/// The groups that bytes hold, as they stand there. Up to two bytes at the end, which fill none, are left out.
+pub fn groups_in(bytes: &[u8]) -> &[[u8; 3]]
+    ensures registers { registers_in result.now ≡ packed.fields bytes.now }
+    ensures groups { All IsGroup result.now }
 {
     let (groups, _) = bytes.as_chunks::<3>();
-    Vec::from_slice(alloc, groups)
+    groups
 }

@@ -67,7 +67,12 @@ fn taken<'h>(
 }
 
 /// An image with all places of a table of 2^`lg_arr`, empty ones too, and so many bytes.
-fn with_places(alloc: Global, image: &[u8], lg_arr: u8, size: usize) -> Result<Vec<u8>, Fault> {
+pub(crate) fn with_places(
+    alloc: Global,
+    image: &[u8],
+    lg_arr: u8,
+    size: usize,
+) -> Result<Vec<u8>, Fault> {
     let mut bytes = Vec::from_slice(alloc, image)?;
     if let Some(places) = bytes.get_mut(4) {
         *places = lg_arr;
@@ -89,6 +94,8 @@ enum SketchCall {
     IntoWidth(HllType),
     Deserialize,
     DeserializePlaces,
+    Check,
+    CheckPlaces,
     UpdateNew,
     UpdateHeld,
     UpdateValue,
@@ -131,6 +138,8 @@ impl<'h> Trial for SketchTrial<'h> {
             SketchCall::DeserializePlaces => {
                 shown_sketch(heap, HllSketch::deserialize(heap, whole))
             }
+            SketchCall::Check => shown(heap, HllSketch::check(heap, image)),
+            SketchCall::CheckPlaces => shown(heap, HllSketch::check(heap, whole)),
             SketchCall::Queries => {
                 let numbers = (
                     sketch.num_coupons(),
@@ -172,7 +181,7 @@ const STAGES: [(u8, u32, u8, usize); 10] = [
 ];
 
 /// The calls, and the requests of each at these stages, for four bits, for six and for eight.
-const SKETCH_CALLS: [(SketchCall, [[u64; 10]; 3]); 14] = [
+const SKETCH_CALLS: [(SketchCall, [[u64; 10]; 3]); 16] = [
     (
         SketchCall::Clone,
         [
@@ -244,6 +253,22 @@ const SKETCH_CALLS: [(SketchCall, [[u64; 10]; 3]); 14] = [
             [0, 0, 0, 1, 1, 1, 1, 3, 3, 7],
             [0, 0, 0, 1, 1, 1, 1, 1, 1, 1],
             [0, 0, 0, 1, 1, 1, 1, 1, 1, 1],
+        ],
+    ),
+    (
+        SketchCall::Check,
+        [
+            [0, 0, 0, 0, 0, 0, 1, 3, 3, 7],
+            [0, 0, 0, 0, 0, 0, 1, 1, 1, 1],
+            [0, 0, 0, 0, 0, 0, 1, 1, 1, 1],
+        ],
+    ),
+    (
+        SketchCall::CheckPlaces,
+        [
+            [0, 0, 0, 0, 0, 0, 1, 3, 3, 7],
+            [0, 0, 0, 0, 0, 0, 1, 1, 1, 1],
+            [0, 0, 0, 0, 0, 0, 1, 1, 1, 1],
         ],
     ),
     (

@@ -1,9 +1,11 @@
 //! Unions, and what is made of sketches together.
 use crate::harness::{Heap, Trial, requests_of, shown, text};
-use crate::sketches::{Shape, coupon_at, shown_sketch, sketch_in};
+use crate::sketches::{Shape, coupon_at, shown_sketch, sketch_in, with_places};
 use hll_base::error::Error;
 use hll_base::hll_type::HllType;
-use hll_sketch::{HllSketch, HllUnion, agree, union_of};
+use hll_sketch::{
+    HllSketch, HllUnion, agree, ascending_image_at, union_of, union_of_ascending_images,
+};
 use hll_text::fault::Fault;
 use std::alloc::Global;
 use std::mem;
@@ -17,10 +19,13 @@ enum UnionCall {
     Reset,
     Update,
     UpdateImage,
+    UpdatePlaces,
     UpdateNew,
     UpdateValue,
     UnionOf,
     Agree,
+    ImageTwice,
+    ImageAt,
 }
 
 /// A call on a union under a bound, of one sketch of eight bits, beside a sketch of some width.
@@ -90,7 +95,35 @@ fn taken<'h>(
     mem::replace(union, HllUnion::new(heap, lg_max_k)?).into_sketch(hll_type)
 }
 
+/// An image of coupons with all places of its table; another image as it is.
+fn with_all_places(alloc: Global, image: &[u8]) -> Result<Vec<u8>, Fault> {
+    match image {
+        [2, _, _, _, lg_arr, ..] => with_places(alloc, image, *lg_arr, 40),
+        [3, _, _, _, 5, ..] => with_places(alloc, image, 5, 140),
+        [3, _, _, _, lg_arr, ..] => with_places(alloc, image, *lg_arr, 1036),
+        _ => Ok(Vec::from_slice(alloc, image)?),
+    }
+}
+
 impl<'h> UnionTrial<'h> {
+    /// The image that a call makes of an image from its bytes: of the union with itself, or at a width.
+    fn image_made(&self, image: &[u8]) -> Result<String, Fault> {
+        let heap = self.heap;
+        match self.call {
+            UnionCall::ImageTwice => {
+                let made = union_of_ascending_images(
+                    heap,
+                    self.lg_max_k,
+                    self.hll_type,
+                    image,
+                    image,
+                );
+                shown(heap, made)
+            }
+            _ => shown(heap, ascending_image_at(heap, self.hll_type, image)),
+        }
+    }
+
     /// What a call gives that makes a value of two sketches.
     fn made(&self, both: &[HllSketch<&'h Heap>]) -> Result<String, Fault> {
         let heap = self.heap;
@@ -138,6 +171,11 @@ impl<'h> Trial for UnionTrial<'h> {
                 None => Err(Fault::Stack),
             },
             UnionCall::UpdateImage => shown(self.heap, union.update_with_image(image)),
+            UnionCall::ImageTwice | UnionCall::ImageAt => self.image_made(image),
+            UnionCall::UpdatePlaces => {
+                let image = with_all_places(self.heap.inner(), image)?;
+                shown(self.heap, union.update_with_image(&image))
+            }
             _ => self.given(union),
         }
     }
@@ -174,7 +212,7 @@ const UNIONS: [(u8, Shape, Shape); 13] = [
 ];
 
 /// The calls, and the requests of each on these unions, for four bits, for six and for eight.
-const UNION_CALLS: [(UnionCall, [[u64; 13]; 3]); 10] = [
+const UNION_CALLS: [(UnionCall, [[u64; 13]; 3]); 13] = [
     (
         UnionCall::Clone,
         [[0, 0, 0, 0, 0, 0, 0, 1, 1, 1, 1, 1, 1]; 3],
@@ -203,8 +241,16 @@ const UNION_CALLS: [(UnionCall, [[u64; 13]; 3]); 10] = [
     (
         UnionCall::UpdateImage,
         [
-            [0, 2, 1, 0, 0, 2, 10, 10, 4, 0, 7, 9, 4],
-            [0, 2, 1, 0, 0, 2, 2, 2, 2, 0, 1, 1, 2],
+            [0, 2, 1, 0, 0, 2, 10, 9, 3, 0, 6, 8, 3],
+            [0, 2, 1, 0, 0, 2, 2, 1, 1, 0, 0, 0, 1],
+            [0, 2, 1, 0, 0, 2, 2, 1, 1, 0, 0, 0, 1],
+        ],
+    ),
+    (
+        UnionCall::UpdatePlaces,
+        [
+            [0, 2, 1, 0, 0, 2, 10, 9, 3, 0, 6, 8, 3],
+            [0, 2, 1, 0, 0, 2, 2, 1, 1, 0, 0, 0, 1],
             [0, 2, 1, 0, 0, 2, 2, 1, 1, 0, 0, 0, 1],
         ],
     ),
@@ -221,6 +267,14 @@ const UNION_CALLS: [(UnionCall, [[u64; 13]; 3]); 10] = [
         [[0, 1, 1, 0, 0, 1, 1, 2, 2, 1, 1, 1, 2]; 3],
     ),
     (UnionCall::Agree, [[2; 13]; 3]),
+    (
+        UnionCall::ImageTwice,
+        [[0, 2, 2, 2, 2, 2, 0, 0, 0, 0, 0, 0, 0]; 3],
+    ),
+    (
+        UnionCall::ImageAt,
+        [[0, 1, 1, 1, 1, 1, 0, 0, 0, 1, 0, 0, 0]; 3],
+    ),
 ];
 
 /// Makes each call on each union, beside sketches of a width.

@@ -1,13 +1,13 @@
 -- Registers of four bits as they are read: nibbles above a minimum and exceptions that agree.
-use Rattle.std.proofs.Common.{◌≡◌, ℕ, zero, suc, ◌+◌, ◌-◌, ◌*◌, ◌/◌, ◌%◌, ◌^◌, ◌<◌, ◌≤◌, Bool, true, false, ◌&&◌, List, All, Option, Some, None, length, take, drop, get_or, refl, sym, ap, subst, ◌∙◌, arith, inl, inr}
+use Rattle.std.proofs.Common.{◌≡◌, ℕ, zero, suc, ◌+◌, ◌-◌, ◌*◌, ◌/◌, ◌%◌, ◌^◌, ◌<◌, ◌≤◌, ◌==◌, Bool, true, false, ◌&&◌, List, All, Option, Some, None, length, take, drop, get_or, refl, sym, ap, subst, ◌∙◌, arith, inl, inr}
 use Rattle.std.specs.Prelude.{count_by, nat_eq, nat_le, nat_lt}
 use Rattle.std.specs.List.{list_all}
-use Rattle.std.proofs.lemmas.Bool.{cases_lt, leb-true, ltb-true, true≢false}
-use Rattle.std.proofs.lemmas.List.Sums.{AllPass-from_list_all}
+use Rattle.std.proofs.lemmas.Bool.{cases_lt, eq-eqb, eqb-true, leb-true, ltb-true, true≢false}
+use Rattle.std.proofs.lemmas.List.Sums.{AllPass-from_list_all, list_all-from_AllPass}
 use Rattle.std.proofs.lemmas.List.{get_or_default, get_or-drop, get_or-take, length-drop, length-take}
 use Rattle.std.proofs.lemmas.List.FromFn.{length-map-range_with_len, get_or-map-range_with_len}
-use Rattle.std.proofs.lemmas.Nat.{mod_below}
-use Rattle.std.proofs.Math.Nat.{zero-add}
+use Rattle.std.proofs.lemmas.Nat.{mod_below, pow_pos}
+use Rattle.std.proofs.Math.Nat.{zero-add, zero-div}
 use Rattle.hll_coupons.specs.AuxMap.{ExceptionMap}
 use Rattle.hll_coupons.proofs.Pairs.{entries_are, of_value}
 use Rattle.hll_registers.specs.FourBits.{exception_in, exception_of, unpacked, IsMapFor, IsPacked}
@@ -30,11 +30,11 @@ exception_small k None u s v is = cc
 exception_small k (Some t) (map, lg, some) s v is = of_value t map (λ p. p.1 ≤ 63) (λ i d l. (entries_are t map i d l).most) s v is
 
 -- a nibble and an exception are those of their register
-record OfRegister (m n : ℕ) (o : Option ℕ) (r : ℕ) : Type 0 where
-  small : r ≤ 63
-  least : m ≤ r
-  nibble_is : n ≡ nibble m r
-  exception_is : o ≡ exception_of m r
+pub record OfRegister (m n : ℕ) (o : Option ℕ) (r : ℕ) : Type 0 where
+  pub small : r ≤ 63
+  pub least : m ≤ r
+  pub nibble_is : n ≡ nibble m r
+  pub exception_is : o ≡ exception_of m r
 
 of_register : (m n : ℕ) (o : Option ℕ) → Agrees m n o → ((v : ℕ) → o ≡ Some v → v ≤ 63) → OfRegister m n o (register_of m n o)
 of_register m n None agrees small = record {
@@ -136,7 +136,7 @@ module _ {k m : ℕ} {bytes : List ℕ} {e : Option ExceptionMap} (parts : Agree
   abbrev R : List ℕ
   R = unpacked k m bytes e
 
-  at : (s : ℕ) → s < 2 ^ k → OfRegister m (nibble_at bytes s) (exception_in e s) (get_or R s 0)
+  pub at : (s : ℕ) → s < 2 ^ k → OfRegister m (nibble_at bytes s) (exception_in e s) (get_or R s 0)
   at s l = subst (OfRegister m (nibble_at bytes s) (exception_in e s)) (sym (unpacked-at k m bytes e s l))
       (of_register m (nibble_at bytes s) (exception_in e s) (parts.agree s l) (exception_small k e parts.map_for s))
 
@@ -145,6 +145,9 @@ module _ {k m : ℕ} {bytes : List ℕ} {e : Option ExceptionMap} (parts : Agree
     size = length-unpacked k m bytes e;
     small = λ i d l. omega (arith, get_or_default R i d 0 l, (at i (omega (arith, l, length-unpacked k m bytes e))).small);
   }
+
+  pub small_minimum : m ≤ 63
+  small_minimum = omega (arith, (at 0 (pow_pos k)).least, (at 0 (pow_pos k)).small)
 
   low : (s : ℕ) → s < 2 ^ k → m ≤ get_or R s 0
   low s l = (at s l).least
@@ -156,3 +159,45 @@ module _ {k m : ℕ} {bytes : List ℕ} {e : Option ExceptionMap} (parts : Agree
       let counted : count ≡ count_by (λ r. nat_eq r m) R = zeros ∙ counted_zeros k m bytes R legal.size low parts.size parts.fits nibbles in
       let least : m ≡ minimum R = minimum_is m R legal.small (λ s l. low s (omega (arith, l, legal.size))) (omega (arith, some, counted)) in
       packed_least k m count bytes e R legal least parts.size parts.fits nibbles parts.map_for (λ s l. (at s l).exception_is) zeros
+
+  -- each register is 0 where the minimum and each byte are
+  pub zeros_above : m ≡ 0 → list_all (λ b. b == 0) bytes ≡ true → list_all (λ v. v == 0) R ≡ true
+  zeros_above least all = list_all-from_AllPass (λ v. v == 0) R (λ i d l.
+      let within : i < 2 ^ k = omega (arith, l, legal.size) in
+      let byte : get_or bytes (i / 2) 0 ≡ 0 = eqb-true (get_or bytes (i / 2) 0) 0 (AllPass-from_list_all (λ b. b == 0) bytes all (i / 2) 0 (omega (arith, within, parts.size))) in
+      let none : nibble_at bytes i ≡ 0 = ap (λ b. b / 16 ^ (i % 2) % 16) byte ∙ ap (λ q. q % 16) (zero-div (16 ^ (i % 2))) in
+      eq-eqb (get_or R i d) 0 (omega (arith, get_or_default R i d 0 l, (at i within).nibble_is, none, least)))
+
+  -- and only there
+  none_at : (s : ℕ) → s < 2 ^ k → list_all (λ v. v == 0) R ≡ true → get_or R s 0 ≡ 0
+  none_at s l all = eqb-true (get_or R s 0) 0 (AllPass-from_list_all (λ v. v == 0) R all s 0 (omega (arith, l, legal.size)))
+
+  pub least_of_none : list_all (λ v. v == 0) R ≡ true → m ≡ 0
+  least_of_none all = omega (arith, low 0 (pow_pos k), none_at 0 (pow_pos k) all)
+
+  pub bytes_of_none : list_all (λ v. v == 0) R ≡ true → list_all (λ b. b == 0) bytes ≡ true
+  bytes_of_none all = list_all-from_AllPass (λ b. b == 0) bytes (λ i d l.
+      let even : 2 * i / 2 ≡ i = omega arith in
+      let odd : (2 * i + 1) / 2 ≡ i = omega arith in
+      let first : 2 * i % 2 ≡ 0 = omega arith in
+      let second : (2 * i + 1) % 2 ≡ 1 = omega arith in
+      let there : 2 * i < 2 ^ k = omega (arith, l, parts.size) in
+      let behind : 2 * i + 1 < 2 ^ k = omega (arith, l, parts.size) in
+      let b : ℕ = get_or bytes i 0 in
+      let lower : nibble_at bytes (2 * i) ≡ b % 16 = (λ j. get_or bytes (even j) 0 / 16 ^ first j % 16) ∙ (let e : b / 1 % 16 ≡ b % 16 = omega arith in e) in
+      let upper : nibble_at bytes (2 * i + 1) ≡ b / 16 % 16 = λ j. get_or bytes (odd j) 0 / 16 ^ second j % 16 in
+      let low_none : b % 16 ≡ 0 = omega (arith, lower, (at (2 * i) there).nibble_is, none_at (2 * i) there all) in
+      let high_none : b / 16 % 16 ≡ 0 = omega (arith, upper, (at (2 * i + 1) behind).nibble_is, none_at (2 * i + 1) behind all) in
+      eq-eqb (get_or bytes i d) 0 (omega (arith, get_or_default bytes i d 0 l, low_none, high_none, parts.fits i 0 l)))
+
+-- packed registers agree
+pub agree_above : (k m n : ℕ) (bytes : List ℕ) (e : Option ExceptionMap) (R : List ℕ) → IsPacked k m n bytes e R → AgreeAbove k m bytes e
+agree_above k m n bytes e R p = record {
+  size = p.size;
+  fits = p.fits;
+  map_for = p.map_for;
+  agree = λ s l.
+      let r : ℕ = get_or R s 0 in
+      let both = agrees-packed m r (p.least s l) (p.registers.small s 0 (omega (arith, l, p.registers.size))) in
+      subst (λ n. Agrees m n (exception_in e s)) (sym (p.nibbles s l)) (subst (Agrees m (nibble m r)) (sym (p.excepted s l)) both.0);
+}

@@ -20,7 +20,7 @@ use Rattle.hll_base.specs.declared.hll_type.HllType.TheVariants.{Hll4}
 use Rattle.hll_coupons.proofs.Ascending.{len-ascending}
 use Rattle.hll_coupons.proofs.Listed.{has, contains-has}
 use Rattle.hll_coupons.proofs.Registers.{StandsFor, in_words, slot_of-pair}
-use Rattle.hll_registers.specs.FourBits.{exception_in, exception_of, exceptions_in, IsMapFor, IsPacked, IsOfRegisters}
+use Rattle.hll_registers.specs.FourBits.{exception_in, exception_of, exceptions_in, unpacked, IsMapFor, IsPacked, IsOfRegisters}
 use Rattle.hll_registers.specs.Exceptions.{exceptions}
 use Rattle.hll_kernels.specs.Packed.{minimum, count_at_minimum, nibble, nibble_at, nibble_bytes, nibble_bytes_above, zero_nibbles}
 use Rattle.hll_registers.specs.Store.{size_in_registers}
@@ -30,6 +30,7 @@ use Rattle.hll_registers.specs.declared.estimate_state.EstimateState.{EstimateSt
 use Rattle.hll_registers.proofs.Exceptions.{kept}
 use Rattle.hll_registers.proofs.FourBits.{exception_of-high, exception_of-low, packed_is_of_registers}
 use Rattle.hll_registers.proofs.FourBitChanges.{attained, count_some, zero_nibbles_are}
+use Rattle.hll_registers.proofs.FourBitReading.{AgreeAbove, at, legal}
 use Rattle.hll_kernels.proofs.FourBitLanes.{length-nibble_bytes_above}
 use Rattle.hll_kernels.proofs.SingleNibbles.{nibble_at-high, nibble_at-low, nibble_at-tail}
 use Rattle.hll_base.proofs.Joins.{get_or-join}
@@ -182,7 +183,10 @@ nibble_values-at m (b ∷ bs) (suc zero) fits l = let at : nibble_at (b ∷ bs) 
 nibble_values-at m (b ∷ bs) (suc (suc s)) fits l =
     nibble_values-at m bs s (All-tail (λ b. b < 256) b bs fits) (omega (arith, l)) ∙ ap (λ n. m + n) (sym (nibble_at-tail b bs s))
 
-module _ (k m n : ℕ) (bytes : List ℕ) (e : Option ExceptionMap) (R : List ℕ) (p : IsPacked k m n bytes e R) (first : ℕ) (V : List ℕ) (within : first + length V ≤ 2 ^ k) (aligned : first % 4 ≡ 0) (groups : length V % 4 ≡ 0) where
+module _ {k m : ℕ} {bytes : List ℕ} {e : Option ExceptionMap} (p : AgreeAbove k m bytes e) (first : ℕ) (V : List ℕ) (within : first + length V ≤ 2 ^ k) (aligned : first % 4 ≡ 0) (groups : length V % 4 ≡ 0) where
+  abbrev R : List ℕ
+  R = unpacked k m bytes e
+
   -- the bytes of the registers
   abbrev pub block : List ℕ
   block = take (first / 2 + length V / 2 - first / 2) (drop (first / 2) bytes)
@@ -195,12 +199,12 @@ module _ (k m n : ℕ) (bytes : List ℕ) (e : Option ExceptionMap) (R : List �
       let half : first / 2 + s / 2 ≡ (first + s) / 2 = omega (arith, aligned) in
       let odd : s % 2 ≡ (first + s) % 2 = omega (arith, aligned) in
       let byte : get_or block (s / 2) 0 ≡ get_or bytes (first / 2 + s / 2) 0 = get_or-take (first / 2 + length V / 2 - first / 2) (drop (first / 2) bytes) (s / 2) 0 (omega (arith, l, groups)) ∙ get_or-drop (first / 2) bytes (s / 2) 0 in
-      ap (λ b. b / 16 ^ (s % 2) % 16) byte ∙ (λ i. get_or bytes (half i) 0 / 16 ^ odd i % 16) ∙ p.nibbles (first + s) (omega (arith, l, within))
+      ap (λ b. b / 16 ^ (s % 2) % 16) byte ∙ (λ i. get_or bytes (half i) 0 / 16 ^ odd i % 16) ∙ (at p (first + s) (omega (arith, l, within))).nibble_is
 
   pub unmarked : (s : ℕ) → s < length V → nibble_at block s ≢ 15 → exception_in e (first + s) ≡ None
   unmarked s l other =
       let r : ℕ = get_or R (first + s) 0 in
-      p.excepted (first + s) (omega (arith, l, within)) ∙ exception_of-low m r (elim (cases_lt r (m + 15)) [
+      (at p (first + s) (omega (arith, l, within))).exception_is ∙ exception_of-low m r (elim (cases_lt r (m + 15)) [
         | inl under ↦ under
         | inr over ↦ absurd (other (nibble_at-block s l ∙ (let mark : nibble m r ≡ 15 = omega (arith, over) in mark)))
       ])
@@ -216,17 +220,17 @@ module _ (k m n : ℕ) (bytes : List ℕ) (e : Option ExceptionMap) (R : List �
 
   -- and then to their exceptions, they are the join with the registers
   pub joined : (X : List ℕ) → length X ≡ length V → ((s : ℕ) → s < length V → get_or X s 0 ≡ max (max (get_or V s 0) (m + nibble_at block s)) (unwrap_or (exception_in e (first + s)) 0)) → X ≡ join V (take (length V) (drop first R))
-  joined X size at =
+  joined X size raised =
       let behind : List ℕ = drop first R in
-      let many : length V ≤ length behind = omega (arith, length-drop first R, within, p.registers.size) in
+      let many : length V ≤ length behind = omega (arith, length-drop first R, within, (legal p).size) in
       is_join V (take (length V) behind) X (sym (length-take-le (length V) behind many)) size (λ s h.
       let l : s < length V = omega (arith, h, size) in
       let r : ℕ = get_or R (first + s) 0 in
       let there : get_or (take (length V) behind) s 0 ≡ r = get_or-take (length V) behind s 0 l ∙ get_or-drop first R s 0 in
       let slot : first + s < 2 ^ k = omega (arith, l, within) in
-      let low : m ≤ r = p.least (first + s) slot in
-      let entry : exception_in e (first + s) ≡ exception_of m r = p.excepted (first + s) slot in
-      let here : get_or X s 0 ≡ max (max (get_or V s 0) (m + nibble m r)) (unwrap_or (exception_of m r) 0) = at s l ∙ (λ i. max (max (get_or V s 0) (m + nibble_at-block s l i)) (unwrap_or (entry i) 0)) in
+      let low : m ≤ r = (at p (first + s) slot).least in
+      let entry : exception_in e (first + s) ≡ exception_of m r = (at p (first + s) slot).exception_is in
+      let here : get_or X s 0 ≡ max (max (get_or V s 0) (m + nibble m r)) (unwrap_or (exception_of m r) 0) = raised s l ∙ (λ i. max (max (get_or V s 0) (m + nibble_at-block s l i)) (unwrap_or (entry i) 0)) in
       elim (cases_lt r (m + 15)) [
         | inl under ↦
             let none : unwrap_or (exception_of m r) 0 ≡ 0 = ap (λ o. unwrap_or o 0) (exception_of-low m r under) in

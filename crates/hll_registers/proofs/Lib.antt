@@ -8,5 +8,6 @@ pub mod FourBitStores
 pub mod FourBits
 pub mod Marked
 pub mod Packing
+pub mod RaisedEntries
 pub mod Raising
 pub mod States

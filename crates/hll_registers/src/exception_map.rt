@@ -1,11 +1,12 @@
 //! The exceptions of registers of four bits: a map, where there is one.
-ghost use Rattle.std.specs.Prelude.{◌≡◌, ◌≢◌, ◌+◌, ◌-◌, ◌*◌, ◌^◌, ◌++◌, ◌<◌, ◌≤◌, ◌==◌, ◌↔◌, ◌⊎◌, nat_lt, ℕ, if◌then◌else◌, length, max, slice_index, unwrap_or, All, true, false, None, Some, IsOk, IsTrue, IfOk, IfErr, IfSome, OnOk, OnErr};
+ghost use Rattle.std.specs.Prelude.{◌≡◌, ◌≢◌, ◌+◌, ◌-◌, ◌*◌, ◌^◌, ◌%◌, ◌++◌, ◌<◌, ◌≤◌, ◌==◌, ◌↔◌, ◌⊎◌, nat_lt, ℕ, if◌then◌else◌, length, take, drop, max, slice_index, unwrap_or, All, true, false, None, Some, IsOk, IsTrue, IfOk, IfErr, IfSome, OnOk, OnErr};
 ghost use Rattle.hll_base.specs.declared.error.Reason.TheVariants.{Memory};
 ghost use Rattle.std.specs.FinSet.{len};
 ghost use Rattle.std.specs.List.{list_all};
 ghost use Rattle.hll_coupons.specs.AuxMap.{table_bytes, value_in, ExceptionMap, IsMap};
+ghost use Rattle.hll_base.specs.Join.{join};
 ghost use Rattle.hll_coupons.specs.Coupons.{coupon_bytes, WritesAscending};
-ghost use Rattle.hll_registers.specs.FourBits.{unboxed, exception_in, exception_of, exceptions_in, fallen, kept_above, IsMapFor, IsSlotOf};
+ghost use Rattle.hll_registers.specs.FourBits.{unboxed, exception_in, exception_of, exceptions_in, fallen, kept_above, unpacked, IsMapFor, IsSlotOf};
 ghost use Rattle.hll_registers.specs.Payload.{register_of, Agrees};
 ghost use Rattle.hll_kernels.specs.Packed.{lowered_by, nibble, nibble_at, AreRegisters};
 
@@ -13,7 +14,7 @@ use hll_base::codec::SketchBytes;
 use hll_base::error::Error;
 use hll_coupons::aux_map::AuxMap;
 use hll_coupons::container::with_coupons;
-use hll_kernels::nibbles::{are_at_most, lower_by, nibble_of, put_nibble};
+use hll_kernels::nibbles::{are_at_most, lower_by, nibble_of, put_nibble, raise_by_nibbles};
 use std::alloc::Allocator;
 use std::simd::prelude::*;
 
@@ -513,16 +514,70 @@ pub(crate) fn register_at<A: Allocator>(
     }
 }
 
-/// Raises each value to the exception of its slot, if it has one: `first + i` for value i. Searches where a nibble is 15,
-/// and passes over blocks of 64 where none is.
+/// Raises each value to the greater of itself and register `first + i`, for value i, of nibbles above a minimum and exceptions
+/// that agree. One pass, and a search for each exception.
+pub(crate) fn raise_by_registers<A: Allocator>(
+    values: &mut [u8],
+    first: u32,
+    nibbles: &[u8],
+    map: &Exceptions<A>,
+    lg_k: u8,
+    minimum: u8,
+)
+    requires within { first + length values.old ≤ 2 ^ lg_k }
+    requires aligned { first % 4 ≡ 0 }
+    requires groups { length values.old % 4 ≡ 0 }
+    requires size { 2 * length nibbles.now ≡ 2 ^ lg_k }
+    requires map { IsMapFor lg_k (unboxed map.now) }
+    requires agree { (s : ℕ) → s < 2 ^ lg_k → Agrees minimum (nibble_at nibbles.now s) (exception_in (unboxed map.now) s) }
+    ensures { values.new ≡ join values.old (take (length values.old) (drop first (unpacked lg_k minimum nibbles.now (unboxed map.now)))) }
+{
+    let start = first as usize / 2;
+    let nibbles = &nibbles[start..start + values.len() / 2];
+    raise_by_nibbles(values, nibbles, minimum);
+    if let Some(map) = map {
+        raise_by_exceptions(values, nibbles, map, first);
+    }
+}
+
+/// Raises each value to the exception of its slot, if it has one: `first + i` for value i. Goes through the map where it has
+/// few places for so many values, as a whole array of registers has, and else through the nibbles.
 ///
 /// Each two values have a byte of nibbles, and a slot whose nibble isn't 15 has no exception.
-pub(crate) fn raise_by_exceptions<A: Allocator>(
-    values: &mut [u8],
-    nibbles: &[u8],
-    map: &AuxMap<A>,
-    first: u32,
-)
+fn raise_by_exceptions<A: Allocator>(values: &mut [u8], nibbles: &[u8], map: &AuxMap<A>, first: u32)
+    requires size { length values.old ≡ 2 * length nibbles.now }
+    requires within { first + length values.old ≤ 2 ^ map.now.lg_k }
+    requires map { IsMap map.now }
+    requires marked { (s : ℕ) → s < length values.old → nibble_at nibbles.now s ≢ 15 → value_in map.now (first + s) ≡ None }
+    ensures raised { (s : ℕ) → s < length values.old → slice_index values.new s ≡ max (slice_index values.old s) (unwrap_or (value_in map.now (first + s)) 0) }
+    ensures len { length values.new ≡ length values.old }
+{
+    if map.estimated_size() <= values.len() / 8 {
+        raise_by_entries(values, map, first);
+    } else {
+        raise_by_marks(values, nibbles, map, first);
+    }
+}
+
+/// The same, by one entry of the map after the other.
+fn raise_by_entries<A: Allocator>(values: &mut [u8], map: &AuxMap<A>, first: u32)
+    requires map { IsMap map.now }
+    ensures raised { (s : ℕ) → s < length values.old → slice_index values.new s ≡ max (slice_index values.old s) (unwrap_or (value_in map.now (first + s)) 0) }
+    ensures len { length values.new ≡ length values.old }
+{
+    for (slot, value) in map.iter() {
+        if slot < first {
+            continue;
+        }
+        let place = (slot - first) as usize;
+        if place < values.len() {
+            values[place] = values[place].max(value);
+        }
+    }
+}
+
+/// The same, by a search where a nibble is 15. Passes over blocks of 64 where none is.
+fn raise_by_marks<A: Allocator>(values: &mut [u8], nibbles: &[u8], map: &AuxMap<A>, first: u32)
     requires size { length values.old ≡ 2 * length nibbles.now }
     requires within { first + length values.old ≤ 2 ^ map.now.lg_k }
     requires map { IsMap map.now }

@@ -3,30 +3,26 @@ ghost use Rattle.std.specs.Prelude.{◌≡◌, ◌≢◌, ◌+◌, ◌*◌, ◌^
 ghost use Rattle.std.specs.Cmp.Lexicographic.{pointwise};
 ghost use Rattle.std.specs.FinSet.{len};
 ghost use Rattle.hll_base.specs.Join.{join};
-ghost use Rattle.hll_base.specs.declared.error.Reason.TheVariants.{Memory, Register};
+ghost use Rattle.hll_base.specs.declared.error.Reason.TheVariants.{Memory};
 ghost use Rattle.hll_base.specs.declared.hll_type.HllType.TheVariants.{Hll4};
 ghost use Rattle.hll_coupons.specs.Coupons.{coupon_bytes, WritesAscending};
 ghost use Rattle.hll_coupons.specs.Pair.{set_of};
-ghost use Rattle.hll_kernels.specs.Packed.{minimum, count_at_minimum, nibble, nibble_at, nibble_bytes, zeros, AreRegisters};
+ghost use Rattle.hll_kernels.specs.Packed.{minimum, count_at_minimum, nibble, nibble_at, nibble_bytes, zero_nibbles, zeros, AreRegisters};
 ghost use Rattle.hll_registers.specs.Exceptions.{exceptions};
 ghost use Rattle.hll_registers.specs.FourBits.{exception_in, exception_of, unboxed, unpacked, ExceptionsMove, IsMapFor, IsSlotOf};
 ghost use Rattle.hll_registers.specs.Payload.{register_of, Agrees};
 ghost use Rattle.hll_registers.specs.Store.{size_in_registers, zero_registers};
 
-use crate::agreement::agree;
 use crate::exception_map::{
     Exceptions, MARK, Rise, bytes_of_places, copied, count_exceptions, exception_at,
-    exceptions_after, exceptions_of, have_same_exceptions, put_exception, raise_by_exceptions,
+    exceptions_after, exceptions_of, have_same_exceptions, put_exception, raise_by_registers,
     register_at, repack, replace_by, with_exceptions,
 };
 use crate::registers::two_to;
 use hll_base::codec::SketchBytes;
-use hll_base::error::{Error, Reason};
+use hll_base::error::Error;
 use hll_kernels::kernels::least_of;
-use hll_kernels::nibbles::{
-    count_zero_nibbles, count_zeros_and_marks, nibble_of, packed_nibbles, put_nibble,
-    raise_by_nibbles,
-};
+use hll_kernels::nibbles::{count_zero_nibbles, nibble_of, packed_nibbles, put_nibble};
 use std::alloc::Allocator;
 use std::marker::Model;
 
@@ -183,12 +179,14 @@ impl<A: Allocator> NibbleRegisters<A> {
         requires groups { length values.old % 4 ≡ 0 }
         ensures { values.new ≡ join values.old (take (length values.old) (drop first self.now.registers)) }
     {
-        let start = first as usize / 2;
-        let nibbles = &self.nibbles[start..start + values.len() / 2];
-        raise_by_nibbles(values, nibbles, self.minimum);
-        if let Some(map) = &self.exceptions {
-            raise_by_exceptions(values, nibbles, map, first);
-        }
+        raise_by_registers(
+            values,
+            first,
+            &self.nibbles,
+            &self.exceptions,
+            self.lg_k,
+            self.minimum,
+        );
     }
 
     /// The allocator that made them.
@@ -221,37 +219,35 @@ impl<A: Allocator + Clone> NibbleRegisters<A> {
         })
     }
 
-    /// The registers of nibbles above a minimum, and exceptions by the same allocator, if they agree. The minimum may be
-    /// below the least register: then they are packed anew. One pass over the nibbles, where the minimum is at most 49.
-    ///
-    /// Fails with `Register` if they don't agree, or else with `Memory`.
-    pub fn from_parts(
+    /// The registers of nibbles above a minimum, so many of which are 0, and exceptions by the same allocator, which agree.
+    /// The minimum may be below the least register: then they are packed anew. A copy of the nibbles. Fails with
+    /// `Memory`.
+    pub(crate) fn from_parts(
+        alloc: A,
         lg_k: u8,
         minimum: u8,
-        nibbles: Vec<u8, A>,
+        nibbles: &[u8],
+        zeros: u32,
         exceptions: Exceptions<A>,
     ) -> Result<NibbleRegisters<A>, Error>
         requires least { 4 ≤ lg_k }
         requires most { lg_k ≤ 21 }
-        requires size { 2 * length nibbles.items ≡ 2 ^ lg_k }
+        requires size { 2 * length nibbles.now ≡ 2 ^ lg_k }
+        requires zeros { zeros ≡ zero_nibbles nibbles.now }
         requires map { IsMapFor lg_k (unboxed exceptions) }
-        ensures ok { IfOk result (λ r. (r.lg_k ≡ lg_k) × (r.registers ≡ unpacked lg_k minimum nibbles.items (unboxed exceptions))) }
-        ensures agree { IfOk result (λ r. (s : ℕ) → s < 2 ^ lg_k → Agrees minimum (nibble_at nibbles.items s) (exception_in (unboxed exceptions) s)) }
-        ensures err { IfErr result (λ e. (e ≡ Memory) ⊎ ((e ≡ Register) × (((s : ℕ) → s < 2 ^ lg_k → Agrees minimum (nibble_at nibbles.items s) (exception_in (unboxed exceptions) s)) → ⊥))) }
+        requires agree { (s : ℕ) → s < 2 ^ lg_k → Agrees minimum (nibble_at nibbles.now s) (exception_in (unboxed exceptions) s) }
+        ensures ok { IfOk result (λ r. (r.lg_k ≡ lg_k) × (r.registers ≡ unpacked lg_k minimum nibbles.now (unboxed exceptions))) }
+        ensures err { IfErr result (λ e. e ≡ Memory) }
     {
-        let (zeros, marks) = count_zeros_and_marks(&nibbles);
-        if !agree(&nibbles, &exceptions, lg_k, minimum, marks) {
-            return Err(Error::new(Reason::Register));
-        }
         if zeros == 0 {
-            let values = values_of(nibbles.allocator(), &nibbles, &exceptions, lg_k, minimum)?;
-            return NibbleRegisters::from_values(nibbles.allocator().clone()?, lg_k, &values);
+            let values = values_of(&alloc, nibbles, &exceptions, lg_k, minimum)?;
+            return NibbleRegisters::from_values(alloc, lg_k, &values);
         }
         Ok(NibbleRegisters {
             lg_k,
             minimum,
             count_at_minimum: zeros,
-            nibbles,
+            nibbles: Vec::from_slice(alloc, nibbles)?,
             exceptions,
         })
     }

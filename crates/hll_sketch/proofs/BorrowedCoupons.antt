@@ -1,5 +1,5 @@
 -- Images of compact coupons.
-use Rattle.std.proofs.Common.{◌≡◌, ℕ, zero, suc, ◌+◌, ◌-◌, ◌*◌, ◌^◌, ◌<◌, ◌≤◌, ◌↔◌, true, false, ◌||◌, nat_eq, List, [], ◌∷◌, length, take, drop, get_or, All, inl, inr, refl, sym, ap, subst, ◌∙◌, arith}
+use Rattle.std.proofs.Common.{◌≡◌, ℕ, zero, suc, ◌+◌, ◌-◌, ◌*◌, ◌^◌, ◌<◌, ◌≤◌, true, false, ◌||◌, nat_eq, List, [], ◌∷◌, length, take, drop, get_or, All, inl, inr, refl, sym, ap, subst, ◌∙◌, arith}
 use Rattle.std.specs.Int.{w32, from_le_bytes}
 use Rattle.std.specs.List.{AllPairs, list_any}
 use Rattle.std.specs.Ordering.{nat_cmp}
@@ -12,18 +12,15 @@ use Rattle.std.specs.List.Sorted.{IsStrictlyIncreasing}
 use Rattle.hll_coupons.specs.Coupons.{words, AreCoupons}
 use Rattle.hll_coupons.specs.Pair.{set_of}
 use Rattle.hll_coupons.specs.Payload.{ListShape, SetShape, shape_of_list, shape_of_set, list_coupons, list_places, set_count, set_coupons, set_places, IsListPayload, IsSetPayload}
+use Rattle.hll_coupons.proofs.Merging.{length-words}
 use Rattle.hll_coupons.proofs.Reading.{is_list_payload}
 use Rattle.hll_coupons.proofs.SetReading.{is_set_payload}
-use Rattle.hll_sketch.specs.Borrowed.{AreTold}
+use Rattle.hll_sketch.specs.Borrowed.{AreEvidentlyCoupons}
 use Rattle.hll_sketch.specs.TakenIn.{IsOfCoupons}
 use Rattle.hll_sketch.specs.Image.{table_byte, state_byte, is_flagged, HasHeader, HasSetTable, list_shape, set_shape}
 use Rattle.hll_sketch.specs.Value.{coupons}
 use Rattle.hll_sketch.proofs.FrontImages.{list_is_read, set_is_read}
 use Rattle.hll_sketch.proofs.ListImages.{list_image}
-
-pub length-words : (n : ℕ) (b : List ℕ) → length (words n b) ≡ n
-length-words zero b = refl
-length-words (suc n) b = omega (arith, length-words n (drop 4 b))
 
 -- coupons in a number that isn't 0 are some
 some_coupons : (n : ℕ) (b : List ℕ) → 1 ≤ n → AreCoupons (words n b) → len (set_of (words n b)) ≡ 0 → ⊥
@@ -93,21 +90,10 @@ increasing_coupons xs up =
       distinct = distinct xs (λ i j d less within. pairs (suc i) (suc j) d (omega (arith, less)) (omega (arith, within)));
     }
 
--- and so are words that one pass tells to be
-pub told_coupons : (xs : List ℕ) → AreTold xs → AreCoupons xs
-told_coupons xs (inl up) = increasing_coupons xs up
-told_coupons xs (inr few) = few.1
-
--- one more word in front
-pub increasing_more : (a b : ℕ) (xs : List ℕ) → IsStrictlyIncreasing (a ∷ b ∷ xs) ↔ ((a < b) × IsStrictlyIncreasing (b ∷ xs))
-increasing_more a b xs = (λ up. (up 0 (omega arith), λ k within. behind up k within), λ parts k within. both parts k within)
-  where
-    behind : IsStrictlyIncreasing (a ∷ b ∷ xs) → IsStrictlyIncreasing (b ∷ xs)
-    behind up k within = let e : suc k + 1 ≡ suc (k + 1) = omega arith in subst (λ n. get_or (b ∷ xs) k 0 < get_or (a ∷ b ∷ xs) n 0) e (up (suc k) (omega (arith, within)))
-
-    both : (a < b) × IsStrictlyIncreasing (b ∷ xs) → IsStrictlyIncreasing (a ∷ b ∷ xs)
-    both parts zero within = parts.0
-    both parts (suc k) within = let e : suc (k + 1) ≡ suc k + 1 = omega arith in subst (λ n. get_or (b ∷ xs) k 0 < get_or (a ∷ b ∷ xs) n 0) e (parts.1 k (omega (arith, within)))
+-- and so are words that are evidently coupons
+pub evident_coupons : (xs : List ℕ) → AreEvidentlyCoupons xs → AreCoupons xs
+evident_coupons xs (inl up) = increasing_coupons xs up
+evident_coupons xs (inr few) = few.1
 
 -- ---- words that are left
 

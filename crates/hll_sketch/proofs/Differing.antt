@@ -12,7 +12,7 @@ use Rattle.hll_sketch.specs.Borrowed.{AreMarked}
 
 -- ---- the words one by one
 
-words_split : (m n : ℕ) (b : List ℕ) → words (m + n) b ≡ words m b ++ words n (drop (4 * m) b)
+pub words_split : (m n : ℕ) (b : List ℕ) → words (m + n) b ≡ words m b ++ words n (drop (4 * m) b)
 words_split zero n b = let e : 0 + n ≡ n = omega arith in ap (λ k. words k b) e
 words_split (suc m) n b =
     let e : suc m + n ≡ suc (m + n) = omega arith in
@@ -22,7 +22,7 @@ words_split (suc m) n b =
     ∙ ap (λ l. from_le_bytes w32 b ∷ (words m (drop 4 b) ++ words n l)) (drop-drop (4 * m) 4 b ∙ ap (λ k. drop k b) d)
 
 -- one more
-one_more : (place w : ℕ) (b cursor : List ℕ) → cursor ≡ drop (4 * place) b → w ≡ from_le_bytes w32 cursor → words (place + 1) b ≡ words place b ++ w ∷ []
+pub one_more : (place w : ℕ) (b cursor : List ℕ) → cursor ≡ drop (4 * place) b → w ≡ from_le_bytes w32 cursor → words (place + 1) b ≡ words place b ++ w ∷ []
 one_more place w b cursor behind is = words_split place 1 b ∙ (λ i. words place b ++ words 1 (sym behind i)) ∙ ap (λ v. words place b ++ v ∷ []) (sym is)
 
 -- all of them, from one on

@@ -6,7 +6,7 @@ use Rattle.hll_base.specs.declared.error.ErrorKind.TheVariants.{InvalidData, Out
 use Rattle.hll_base.specs.Reason.{kind_of}
 use Rattle.hll_coupons.specs.Payload.{ListShape, ListFault, SetShape, SetFault}
 use Rattle.hll_coupons.specs.Payload as coupons
-use Rattle.hll_registers.specs.Payload.{Hll8Fault, FirstHll8Fault, Hll6Fault, Hll4Shape, Hll4Fault}
+use Rattle.hll_registers.specs.Payload.{Hll8Fault, FirstHll8Fault, Hll6Fault, FirstHll6Fault, Hll4Shape, Hll4Fault}
 use Rattle.hll_registers.specs.Payload as arrays
 use Rattle.hll_sketch.specs.Fault.{HeaderFault, FaultsAreOfData}
 use Rattle.hll_sketch.specs.Fault as fault
@@ -53,6 +53,12 @@ hll6_data k b r (arrays.Hll6Fault.zero_count l n) = refl
 hll6_data k b r (arrays.Hll6Fault.exceptions_counted l n) = refl
 hll6_data k b r (arrays.Hll6Fault.short l) = refl
 
+first_hll6_data : (k : ℕ) (b : List ℕ) (r : Reason) → FirstHll6Fault k b r → kind_of r ≡ InvalidData
+first_hll6_data k b r (arrays.FirstHll6Fault.no_counts l) = refl
+first_hll6_data k b r (arrays.FirstHll6Fault.zero_count l n) = refl
+first_hll6_data k b r (arrays.FirstHll6Fault.exceptions_counted l n) = refl
+first_hll6_data k b r (arrays.FirstHll6Fault.short c l) = refl
+
 hll4_data : (h : Hll4Shape) (b : List ℕ) (r : Reason) → Hll4Fault h b r → kind_of r ≡ InvalidData
 hll4_data h b r (arrays.Hll4Fault.no_counts l) = refl
 hll4_data h b r (arrays.Hll4Fault.low_count_above l n) = refl
@@ -82,3 +88,7 @@ not_memory b r f is = let other : InvalidData ≡ OutOfMemory = sym (header_data
 -- nor is the first one of registers of eight bits
 pub eight_not_memory : (k : ℕ) (b : List ℕ) (r : Reason) → FirstHll8Fault k b r → r ≡ reasons.Memory → ⊥
 eight_not_memory k b r f is = let other : InvalidData ≡ OutOfMemory = sym (first_hll8_data k b r f) ∙ ap kind_of is in cc
+
+-- nor of six bits
+pub six_not_memory : (k : ℕ) (b : List ℕ) (r : Reason) → FirstHll6Fault k b r → r ≡ reasons.Memory → ⊥
+six_not_memory k b r f is = let other : InvalidData ≡ OutOfMemory = sym (first_hll6_data k b r f) ∙ ap kind_of is in cc

@@ -53,7 +53,7 @@ module _ (b : List ℕ) where
   behind_hll w h width = λ i. cond (eqb (h.stage_is i) 0) (list_checks b) (cond (eqb (h.stage_is i) 1) (set_checks b) (cond (eqb (width i) 0) (hll4_checks b) (cond (eqb (width i) 1) (hll6_checks b) (hll8_checks b))))
 
   -- the first fault is that of the checks behind
-  first_behind : (s : ℕ) (cs : Checks) → s < 3 → HasHeader b s → checks_behind b ≡ cs → first_fault b ≡ first_failing (cs.size ++ cs.content)
+  pub first_behind : (s : ℕ) (cs : Checks) → s < 3 → HasHeader b s → checks_behind b ≡ cs → first_fault b ≡ first_failing (cs.size ++ cs.content)
   first_behind s cs three h is = header_passed b s ((checks_behind b).size ++ (checks_behind b).content) three h ∙ ap (λ (cs : Checks). first_failing (cs.size ++ cs.content)) is
 
   pub size_behind : (s : ℕ) (cs : Checks) → s < 3 → HasHeader b s → checks_behind b ≡ cs → size_fault b ≡ first_failing cs.size

@@ -4,6 +4,7 @@ pub mod Adding
 pub mod BorrowedCoupons
 pub mod Checks
 pub mod Collecting
+pub mod CouponImages
 pub mod Differing
 pub mod Emptiness
 pub mod FaultKinds
@@ -11,8 +12,10 @@ pub mod Faults
 pub mod FirstFailing
 pub mod FirstFaults
 pub mod Folds
+pub mod FourBitImages
 pub mod FrontImages
 pub mod Gadgets
+pub mod Gathering
 pub mod Headers
 pub mod Images
 pub mod InPlace
@@ -26,7 +29,9 @@ pub mod ListImages
 pub mod Meanings
 pub mod MergedImages
 pub mod Merges
+pub mod PlacedCoupons
 pub mod Promoting
+pub mod RaisedRegisters
 pub mod ReadBack
 pub mod Refusals
 pub mod Regrouping

@@ -1,4 +1,4 @@
--- Images merged into a gadget as they stand: coupons into registers, and registers of eight bits.
+-- Images merged into a gadget as they stand: coupons into registers, and registers.
 use Rattle.std.proofs.Common.{arith, ◌≡◌, ℕ, ◌<◌, ◌==◌, ◌&&◌, true, false, cond, nat_eq, List, None, take, drop, refl, sym, ap, subst, ◌∙◌}
 use Rattle.std.specs.List.{list_all}
 use Rattle.std.specs.Prelude.{min, nat_le}
@@ -8,13 +8,15 @@ use Rattle.std.proofs.lemmas.List.{take-append-drop}
 use Rattle.std.proofs.lemmas.List.Elements.{All-take}
 use Rattle.hll_coupons.specs.Fold.{fold_to, pairs}
 use Rattle.hll_registers.specs.State.{cleared_state}
+use Rattle.hll_registers.specs.Store.{Stored}
 use Rattle.hll_registers.specs.declared.estimate_state.EstimateState.{EstimateState}
 use Rattle.hll_sketch.specs.Checks.{size_fault}
-use Rattle.hll_sketch.specs.Image.{AreBytes, IsReadAs}
+use Rattle.hll_sketch.specs.Image.{width_bits, AreBytes, HasHeader, IsReadAs}
 use Rattle.hll_sketch.specs.Laws.{add_in_turn}
 use Rattle.hll_sketch.specs.Merging.{merge_content, merge_registers, state_after_merge}
-use Rattle.hll_sketch.specs.TakenIn.{IsOfCoupons, IsOfRegisters, MergesImage, TakesIn, HasCompactCoupons, EightBitsNeedMemory, ImageNeedsMemory}
+use Rattle.hll_sketch.specs.TakenIn.{IsOfCoupons, IsOfRegisters, MergesImage, TakesIn, HasCompactCoupons, PlainRegistersNeedMemory, ImageNeedsMemory}
 use Rattle.hll_sketch.specs.Union.{UnionLayout, IsGadget, gadget_of, ContentNeedsMemory, MergeNeedsMemory}
+use Rattle.hll_sketch.specs.Updatable.{HasUpdatableCoupons}
 use Rattle.hll_sketch.specs.Value.{Sketch, Content, coupons, registers, in_registers, is_empty, pairs_in, pairs_of, IsLegal}
 use Rattle.hll_sketch.proofs.Emptiness.{zeros-empty}
 use Rattle.hll_sketch.proofs.Gadgets.{gadget_of_content}
@@ -78,16 +80,16 @@ nothing_merged m g b k R of none bytes = record {
   merged = sym (ap (λ e. cond e g (merge_content m g of.sketch of.sketch.content)) none);
 }
 
-module _ (m : ℕ) (g y : Sketch) (b : List ℕ) (k : ℕ) (R : List ℕ) (is : IsGadget m g) (some : is_empty g ≡ false) (of : IsOfRegisters b k R)
-    (others : is_empty of.sketch ≡ false) (joined : y ≡ merge_registers m g k R cleared_state) where
+module _ (m : ℕ) (g y : Sketch) (b : List ℕ) (x : Stored) (is : IsGadget m g) (some : is_empty g ≡ false) (of : IsOfRegisters b x.lg_k x.registers)
+    (others : is_empty of.sketch ≡ false) (joined : y ≡ merge_registers m g x.lg_k x.registers x.state) where
   as_registers : y ≡ merge_content m g of.sketch of.sketch.content
   as_registers =
       joined
       ∙ (λ i. record {
         lg_k = min g.lg_k (sym of.lg_k i);
         width = g.width;
-        content = registers (fold_to (union (pairs_of g) (pairs R)) (min g.lg_k (sym of.lg_k i)))
-            ((state_of_some m k g cleared_state some ∙ sym (state_of_some m of.sketch.lg_k g of.state some)) i);
+        content = registers (fold_to (union (pairs_of g) (pairs x.registers)) (min g.lg_k (sym of.lg_k i)))
+            ((state_of_some m x.lg_k g x.state some ∙ sym (state_of_some m of.sketch.lg_k g of.state some)) i);
       })
       ∙ sym (ap (merge_content m g of.sketch) of.content)
 
@@ -112,9 +114,9 @@ one_read b x y here there =
     (take-append-drop here.size b ∙ sym (take-append-drop there.size b))).1
 
 -- what a merge of the sketch needs, where one of the registers is not 0, and the gadget is in coupons or at a greater lg_k
-pub eight_bits_need : (g : Sketch) (b : List ℕ) (k : ℕ) (R : List ℕ) (s : EstimateState) (of : IsOfRegisters b k R) → is_empty of.sketch ≡ false → ContentNeedsMemory g g.content k (registers R s)
-    → EightBitsNeedMemory g b
-eight_bits_need g b k R s of some content = λ eight x read.
+pub plain_registers_need : (g : Sketch) (b : List ℕ) (k : ℕ) (R : List ℕ) (s : EstimateState) (of : IsOfRegisters b k R) → is_empty of.sketch ≡ false → ContentNeedsMemory g g.content k (registers R s)
+    → PlainRegistersNeedMemory g b
+plain_registers_need g b k R s of some content = λ plain x read.
     subst (MergeNeedsMemory g) (one_read b of.sketch x of.read read)
     (record { some = some; content = subst (λ c. ContentNeedsMemory g g.content of.sketch.lg_k c) (sym of.content) (subst (λ n. ContentNeedsMemory g g.content n (registers R of.state)) (sym of.lg_k) (any_state g.content content)) })
   where
@@ -123,22 +125,33 @@ eight_bits_need g b k R s of some content = λ eight x read.
     any_state (registers Q t) need = need
 
 -- a gadget that is empty has coupons, so registers that aren't all 0 take over from it
-pub empty_gadget_needs : (m : ℕ) (g : Sketch) (b : List ℕ) (k : ℕ) (R : List ℕ) (of : IsOfRegisters b k R) → IsGadget m g → is_empty g ≡ true → is_empty of.sketch ≡ false → EightBitsNeedMemory g b
-empty_gadget_needs m g b k R of is none some = eight_bits_need g b k R of.state of some (by_content g.content (λ inside. true≢false (sym none ∙ is.registers inside)))
+pub empty_gadget_needs : (m : ℕ) (g : Sketch) (b : List ℕ) (k : ℕ) (R : List ℕ) (of : IsOfRegisters b k R) → IsGadget m g → is_empty g ≡ true → is_empty of.sketch ≡ false → PlainRegistersNeedMemory g b
+empty_gadget_needs m g b k R of is none some = plain_registers_need g b k R of.state of some (by_content g.content (λ inside. true≢false (sym none ∙ is.registers inside)))
   where
     by_content : (c : Content) → (in_registers c ≡ true → ⊥) → ContentNeedsMemory g c k (registers R of.state)
     by_content (coupons S p) outside = tt
     by_content (registers Q t) outside = absurd (outside refl)
 
--- what a join of registers of eight bits needs memory for, an image of them does
-pub join_needs : (g : Sketch) (b : List ℕ) (k : ℕ) (R : List ℕ) (of : IsOfRegisters b k R) → is_empty of.sketch ≡ false → ContentNeedsMemory g g.content k (registers R cleared_state)
+-- what a join of registers needs memory for, an image of them does
+pub join_needs : (g : Sketch) (b : List ℕ) (x : Stored) (of : IsOfRegisters b x.lg_k x.registers) → is_empty of.sketch ≡ false → ContentNeedsMemory g g.content x.lg_k (registers x.registers x.state)
     → ImageNeedsMemory g b
-join_needs g b k R of some content = record {
+join_needs g b x of some content = record {
   sized = sized_if_read b of.sketch of.read;
   coupons = λ inside up. omega (arith, up.stage, of.stage);
-  registers = eight_bits_need g b k R cleared_state of some content;
+  places = λ inside up. omega (arith, up.stage, of.stage);
+  registers = plain_registers_need g b x.lg_k x.registers x.state of some content;
 }
 
--- What reading an image aside needs memory for, where no coupons ascend into registers, and registers of eight bits need it.
-pub image_needs : (g : Sketch) (b : List ℕ) → size_fault b ≡ None → (in_registers g.content ≡ true → HasCompactCoupons b → ⊥) → EightBitsNeedMemory g b → ImageNeedsMemory g b
-image_needs g b sized none eight = record { sized = sized; coupons = none; registers = eight }
+-- registers of four bits need it for their exceptions
+pub four_bits_need : (g : Sketch) (b : List ℕ) → HasHeader b 2 → width_bits b ≡ 0 → size_fault b ≡ None → ImageNeedsMemory g b
+four_bits_need g b has width sized = record {
+  sized = sized;
+  coupons = λ inside up. omega (arith, up.stage, has.stage_is);
+  places = λ inside up. omega (arith, up.stage, has.stage_is);
+  registers = λ plain x read. absurd (plain.1 width);
+}
+
+-- What reading an image aside needs memory for, where no coupons go into registers without a table, and registers of eight or six bits need it.
+pub image_needs : (g : Sketch) (b : List ℕ) → size_fault b ≡ None → (in_registers g.content ≡ true → HasCompactCoupons b → ⊥) → (in_registers g.content ≡ true → HasUpdatableCoupons b → ⊥) →
+    PlainRegistersNeedMemory g b → ImageNeedsMemory g b
+image_needs g b sized compact placed plain = record { sized = sized; coupons = compact; places = placed; registers = plain }

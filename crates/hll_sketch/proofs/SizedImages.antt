@@ -11,14 +11,14 @@ use Rattle.hll_sketch.specs.Image.{table_byte, state_byte, is_flagged, HasHeader
 use Rattle.hll_sketch.specs.Checks.{Check, first_failing, header_checks, checks_behind, list_checks, set_checks, size_fault}
 use Rattle.hll_sketch.specs.TakenIn.{words_in, HasCompactCoupons}
 use Rattle.hll_sketch.specs.Value.{Sketch}
-use Rattle.hll_sketch.proofs.BorrowedCoupons.{length-words}
+use Rattle.hll_coupons.proofs.Merging.{length-words}
 use Rattle.hll_sketch.proofs.Checks.{Decides-leb, Decides-list_count, Decides-set_table}
 use Rattle.std.proofs.lemmas.Bool.Decides.{Decides-eqb, Decides-ltb}
 use Rattle.hll_sketch.proofs.FirstFailing.{none_before, behind_list, behind_set, size_behind}
 use Rattle.hll_sketch.proofs.FirstFaults.{faultless_is_image}
 
 -- where a check doesn't fail, it passes, and none of those behind it fails
-passing : {P : Type 0} (t : Bool) (s : Reason) (o : Option Reason) → Decides t P → cond t o (Some s) ≡ None → P × (o ≡ None)
+pub passing : {P : Type 0} (t : Bool) (s : Reason) (o : Option Reason) → Decides t P → cond t o (Some s) ≡ None → P × (o ≡ None)
 passing true s o d none = (d.0 refl, none)
 passing false s o d none = let other : Some s ≡ None = none in absurd (cc)
 

@@ -5,9 +5,9 @@ use Rattle.std.specs.List.Sorted.{IsStrictlyIncreasing}
 use Rattle.hll_coupons.specs.Coupons.{AreCoupons}
 use Rattle.hll_coupons.specs.Pair.{set_of}
 
--- words that one pass tells to be coupons: they have values and ascend, as all that are written here do, or they are few and differ
-abbrev pub AreTold : List ℕ → Type 0
-AreTold order = IsStrictlyIncreasing ((2 ^ 26 - 1) ∷ order) ⊎ ((length order ≤ 128) × AreCoupons order)
+-- words that one pass tells to be coupons: they have values and ascend, as all that are written here do, or they are at most 128, and differ
+abbrev pub AreEvidentlyCoupons : List ℕ → Type 0
+AreEvidentlyCoupons order = IsStrictlyIncreasing ((2 ^ 26 - 1) ∷ order) ⊎ ((length order ≤ 128) × AreCoupons order)
 
 -- each of these has its mark among n: that of its number modulo n
 abbrev pub AreMarked : ℕ → List ℕ → List Bool → Type 0

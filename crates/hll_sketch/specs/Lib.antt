@@ -2,6 +2,7 @@ pub mod Adding
 pub mod Agree
 pub mod Borrowed
 pub mod Checks
+pub mod CouponImages
 pub mod EstimatorWords
 pub mod Fault
 pub mod Folding
@@ -14,10 +15,12 @@ pub mod Layout
 pub mod Meaning
 pub mod Merging
 pub mod Promotion
+pub mod Raising
 pub mod Refusal
 pub mod Same
 pub mod Stage
 pub mod TakenIn
 pub mod Union
+pub mod Updatable
 pub mod Value
 pub mod Written

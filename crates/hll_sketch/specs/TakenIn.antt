@@ -1,17 +1,18 @@
 -- Images that a union takes in (docs/MODEL.md, "Merging").
-use Rattle.std.specs.Prelude.{◌≡◌, ℕ, ◌<◌, ◌≤◌, ◌==◌, if◌then◌else◌, true, List, [], ◌∷◌, ◌++◌, length, drop, None}
+use Rattle.std.specs.Prelude.{◌≡◌, ◌≢◌, ℕ, ◌<◌, ◌≤◌, ◌==◌, if◌then◌else◌, true, List, [], ◌∷◌, ◌++◌, length, drop, None}
 use Rattle.std.specs.FinSet.{len}
 use Rattle.hll_coupons.specs.Coupons.{words}
 use Rattle.hll_coupons.specs.Pair.{set_of}
 use Rattle.hll_coupons.specs.Payload.{set_count}
 use Rattle.hll_registers.specs.declared.estimate_state.EstimateState.{EstimateState}
-use Rattle.hll_sketch.specs.Borrowed.{AreTold}
+use Rattle.hll_sketch.specs.Borrowed.{AreEvidentlyCoupons}
 use Rattle.hll_sketch.specs.Checks.{size_fault}
 use Rattle.hll_sketch.specs.Grown.{IsGrown}
 use Rattle.hll_sketch.specs.Image.{IsReadAs, stage_bits, width_bits, state_byte, is_flagged}
 use Rattle.hll_sketch.specs.Joined.{IsJoinOf}
 use Rattle.hll_sketch.specs.Merging.{merge}
 use Rattle.hll_sketch.specs.Union.{UnionLayout, gadget_of, MergeNeedsMemory}
+use Rattle.hll_sketch.specs.Updatable.{HasUpdatableCoupons}
 use Rattle.hll_sketch.specs.Value.{Sketch, coupons, registers, in_registers, IsLegal}
 
 -- a union took in the sketch that an image is read as; the join of grown sketches and of this one, where it is grown, is the join of them all
@@ -59,19 +60,21 @@ pub record HasCompactCoupons (b : List ℕ) : Type 0 where
   pub sized : size_fault b ≡ None
   pub compact : is_flagged 8 b ≡ true
   pub some : 1 ≤ length (words_in b)
-  pub told : AreTold (words_in b)
+  pub evident : AreEvidentlyCoupons (words_in b)
 
--- the header is that of registers of eight bits
-abbrev pub HasEightBits : List ℕ → Type 0
-HasEightBits b = (stage_bits b ≡ 2) × (width_bits b ≡ 2)
+-- the header is that of registers of eight or six bits
+abbrev pub HasPlainRegisters : List ℕ → Type 0
+HasPlainRegisters b = (stage_bits b ≡ 2) × (width_bits b ≢ 0)
 
--- a merge of the sketch needs memory, if bytes are read as registers of eight bits
-abbrev pub EightBitsNeedMemory : Sketch → List ℕ → Type 0
-EightBitsNeedMemory g b = HasEightBits b → (x : Sketch) → IsReadAs b x → MergeNeedsMemory g x
+-- a merge of the sketch needs memory, if bytes are read as registers of eight or six bits
+abbrev pub PlainRegistersNeedMemory : Sketch → List ℕ → Type 0
+PlainRegistersNeedMemory g b = HasPlainRegisters b → (x : Sketch) → IsReadAs b x → MergeNeedsMemory g x
 
 -- A gadget may need memory for an image only where its header, counts and length are right. Into registers it needs none for compact
--- coupons that ascend or are few, and for registers of eight bits it needs what a merge of their sketch does.
+-- coupons that ascend or are few, none for an updatable image of few, and for registers of eight or six bits it needs what a merge of
+-- their sketch does.
 pub record ImageNeedsMemory (g : Sketch) (b : List ℕ) : Type 0 where
   pub sized : size_fault b ≡ None
   pub coupons : in_registers g.content ≡ true → HasCompactCoupons b → ⊥
-  pub registers : EightBitsNeedMemory g b
+  pub places : in_registers g.content ≡ true → HasUpdatableCoupons b → ⊥
+  pub registers : PlainRegistersNeedMemory g b

@@ -1,31 +1,37 @@
 //! What an image says, as it stands in its bytes: coupons that ascend, as they are written, or are few, in any order, and
-//! registers of eight bits. One pass over the bytes tells what they mean, without a table or a copy.
+//! registers. One pass over the bytes tells what they mean, without a table or a copy.
 ghost use Rattle.std.specs.Prelude.{◌≡◌, ◌≢◌, ◌*◌, ◌^◌, ◌-◌, ◌<◌, ◌≤◌, ◌↔◌, ◌∷◌, false, nat_eq, Some, IsTrue, IfSome, IfNone, IfOk, IfErr, length};
 ghost use Rattle.std.specs.FinSet.{contains};
 ghost use Rattle.std.specs.List.{list_any};
 ghost use Rattle.std.specs.List.Sorted.{IsStrictlyIncreasing};
-ghost use Rattle.hll_coupons.specs.Coupons.{words, AreCoupons};
+ghost use Rattle.hll_coupons.specs.Coupons.{coupon_bytes, words, AreCoupons};
 ghost use Rattle.hll_coupons.specs.Pair.{set_of};
 ghost use Rattle.hll_base.specs.declared.error.Reason.TheVariants.{Memory};
-ghost use Rattle.hll_sketch.specs.Borrowed.{AreMarked, AreTold};
+ghost use Rattle.hll_sketch.specs.Borrowed.{AreMarked, AreEvidentlyCoupons};
 ghost use Rattle.hll_sketch.specs.Checks.{first_fault};
-ghost use Rattle.hll_sketch.specs.TakenIn.{IsOfCoupons, IsOfRegisters, words_in, HasCompactCoupons, HasEightBits};
+ghost use Rattle.hll_sketch.specs.TakenIn.{IsOfCoupons, IsOfRegisters, words_in, HasCompactCoupons};
+ghost use Rattle.hll_sketch.specs.Refusal.{IsRefusal};
 ghost use Rattle.hll_sketch.specs.Header.{header_of};
-ghost use Rattle.hll_sketch.specs.Image.{HasHeader};
+ghost use Rattle.hll_sketch.specs.Image.{HasHeader, stage_bits, width_bits};
 ghost use Rattle.hll_sketch.specs.Laws.{add_in_turn};
 ghost use Rattle.hll_sketch.specs.Union.{sketch_of_registers};
 
 use crate::header::{HEADER_SIZE, Header, Stage};
+use hll_arrays::array4::read_nibbles;
+use hll_arrays::array6::read_groups;
 use hll_arrays::array8::{Array8, read_registers};
+use hll_arrays::aux_format::AuxFormat;
 use hll_arrays::registers::two_to;
 use hll_base::bounds::SLOT_BITS;
 use hll_base::cursor::SketchSlice;
 use hll_base::error::Error;
-use hll_base::hll_type::HllType;
 use hll_coupons::coupon::Coupon;
+use hll_coupons::raw_words::{RawWords, bytes_of_words};
 use hll_coupons::serialization::{
     COUPON_SIZE_BYTES, LG_LEAST_SET_PLACES, LG_LIST_PLACES, LG_SET_BELOW_LG_K,
 };
+use hll_registers::group_slice::GroupSlice;
+use hll_registers::nibble_slice::NibbleSlice;
 use hll_registers::register_slice::RegisterSlice;
 use std::alloc::Allocator;
 
@@ -33,7 +39,7 @@ use std::alloc::Allocator;
 const LAST_WITHOUT_VALUE: u32 = (1 << SLOT_BITS) - 1;
 
 /// Up to so many coupons are told apart by marks.
-const FEW: usize = 128;
+pub(crate) const FEW: usize = 128;
 
 /// How many marks there are, so that few of `FEW` coupons share one.
 const MARKS: usize = 1024;
@@ -41,14 +47,14 @@ const MARKS: usize = 1024;
 /// The raw words at the front of some bytes.
 #[derive(Clone, Copy)]
 pub(crate) struct Words<'a> {
-    bytes: &'a [u8],
-    count: usize,
+    pub bytes: &'a [u8],
+    pub count: usize,
     ghost there: { 4 * count ≤ length bytes.now },
 }
 
 impl<'a> Words<'a> {
     /// So many words, if there are any, and the bytes are there.
-    fn front(bytes: &'a [u8], count: usize) -> Option<Words<'a>>
+    pub(crate) fn front(bytes: &'a [u8], count: usize) -> Option<Words<'a>>
         ensures some { IfSome result (λ w. (w.bytes.now ≡ bytes.now) × (w.count ≡ count) × (1 ≤ count) × (4 * count ≤ length bytes.now)) }
         ensures none { IfNone result (1 ≤ count → length bytes.now < 4 * count) }
     {
@@ -58,8 +64,22 @@ impl<'a> Words<'a> {
         Some(Words { bytes, count })
     }
 
+    /// These words, to be taken one by one.
+    pub(crate) fn all(&self) -> RawWords<'a>
+        ensures { result ≡ words self.now.count self.now.bytes.now }
+    {
+        RawWords::new(self.bytes, self.count)
+    }
+
+    /// Their bytes.
+    pub(crate) fn as_bytes(&self) -> &'a [u8]
+        ensures { result.now ≡ coupon_bytes (words self.now.count self.now.bytes.now) }
+    {
+        bytes_of_words(self.bytes, self.count)
+    }
+
     /// Whether each has a value, and is greater than the one before it.
-    fn ascend(&self) -> bool
+    pub(crate) fn ascend(&self) -> bool
         ensures { IsTrue result ↔ IsStrictlyIncreasing ((2 ^ 26 - 1) ∷ words self.now.count self.now.bytes.now) }
     {
         let mut cursor = SketchSlice::new(self.bytes);
@@ -77,7 +97,7 @@ impl<'a> Words<'a> {
     /// has its mark.
     // (a caller that had the marks among its own values would clear them at each call)
     #[inline(never)]
-    fn differ(&self) -> bool
+    pub(crate) fn differ(&self) -> bool
         ensures { IsTrue result ↔ AreCoupons (words self.now.count self.now.bytes.now) }
     {
         let mut marks = [false; MARKS];
@@ -119,8 +139,8 @@ impl<'a> Words<'a> {
     }
 
     /// Whether these are coupons, if they ascend or are few; else it says no.
-    fn are_told(&self) -> bool
-        ensures { IsTrue result ↔ AreTold (words self.now.count self.now.bytes.now) }
+    fn are_evidently_coupons(&self) -> bool
+        ensures { IsTrue result ↔ AreEvidentlyCoupons (words self.now.count self.now.bytes.now) }
     {
         if self.ascend() {
             return true;
@@ -132,6 +152,8 @@ impl<'a> Words<'a> {
     }
 
     /// Raises registers of eight bits by these coupons in turn. Takes no memory.
+    // (a loop of its own, for all callers)
+    #[inline(never)]
     pub(crate) fn raise<A: Allocator>(&self, array: &mut Array8<A>)
         ensures added { sketch_of_registers array.new ≡ add_in_turn (sketch_of_registers array.old) (words self.now.count self.now.bytes.now) }
         ensures lg_k { array.new.lg_k ≡ array.old.lg_k }
@@ -146,6 +168,8 @@ impl<'a> Words<'a> {
 }
 
 /// The coupons of an image of a list or a set, if it has some, is compact, and they ascend or are few. Takes no memory.
+// (in each of its callers, so that what it gives isn't put into memory for them)
+#[inline(always)]
 pub(crate) fn compact_coupons(bytes: &[u8]) -> Option<Words<'_>>
     ensures some { IfSome result (λ w. IsOfCoupons bytes.now (words w.count w.bytes.now)) }
     ensures none { IfNone result (HasCompactCoupons bytes.now → ⊥) }
@@ -158,7 +182,7 @@ pub(crate) fn compact_coupons(bytes: &[u8]) -> Option<Words<'_>>
         Stage::Set => set_coupons(bytes, header)?,
         Stage::Hll => return None,
     };
-    if coupons.are_told() {
+    if coupons.are_evidently_coupons() {
         Some(coupons)
     } else {
         None
@@ -166,7 +190,7 @@ pub(crate) fn compact_coupons(bytes: &[u8]) -> Option<Words<'_>>
 }
 
 /// The words behind the header of a compact list, in the number that it says. `None` where a check but that of coupons fails.
-fn list_coupons(bytes: &[u8], header: Header) -> Option<Words<'_>>
+pub(crate) fn list_coupons(bytes: &[u8], header: Header) -> Option<Words<'_>>
     requires has { HasHeader bytes.now 0 }
     requires header { header ≡ header_of bytes.now }
     ensures words { IfSome result (λ w. words w.count w.bytes.now ≡ words_in bytes.now) }
@@ -184,7 +208,7 @@ fn list_coupons(bytes: &[u8], header: Header) -> Option<Words<'_>>
 }
 
 /// The words behind the count of a compact set, in that number. `None` where a check but that of coupons fails.
-fn set_coupons(bytes: &[u8], header: Header) -> Option<Words<'_>>
+pub(crate) fn set_coupons(bytes: &[u8], header: Header) -> Option<Words<'_>>
     requires has { HasHeader bytes.now 1 }
     requires header { header ≡ header_of bytes.now }
     ensures words { IfSome result (λ w. words w.count w.bytes.now ≡ words_in bytes.now) }
@@ -208,19 +232,72 @@ fn set_coupons(bytes: &[u8], header: Header) -> Option<Words<'_>>
     Words::front(cursor.remaining(), count)
 }
 
-/// The registers of an image of eight bits; `None` for another stage or width. Takes no memory.
+/// The header of an image of registers; `None` for another stage. Takes no memory.
 ///
-/// Fails with the reason of the first check that the header or registers of eight bits fail.
-pub(crate) fn eight_bit_registers(bytes: &[u8]) -> Result<Option<RegisterSlice<'_>>, Error>
-    ensures some { IfOk result (λ found. IfSome found (λ r. IsOfRegisters bytes.now r.0 r.1)) }
-    ensures none { IfOk result (λ found. IfNone found (HasEightBits bytes.now → ⊥)) }
+/// Fails with the reason of the first check that the header fails.
+pub(crate) fn header_of_registers(bytes: &[u8]) -> Result<Option<Header>, Error>
+    ensures some { IfOk result (λ found. IfSome found (λ h. HasHeader bytes.now 2 × (h ≡ header_of bytes.now))) }
+    ensures none { IfOk result (λ found. IfNone found (stage_bits bytes.now ≢ 2)) }
     ensures err { IfErr result (λ e. (e ≢ Memory) × (first_fault bytes.now ≡ Some e)) }
 {
     let header = Header::read(bytes)?;
-    let (Stage::Hll, HllType::Hll8) = (header.stage, header.hll_type) else {
-        return Ok(None);
-    };
+    match header.stage {
+        Stage::Hll => Ok(Some(header)),
+        Stage::List | Stage::Set => Ok(None),
+    }
+}
+
+/// The registers of an image of eight bits. Takes no memory.
+///
+/// Fails with the reason of the first check that they fail.
+pub(crate) fn eight_bit_registers(bytes: &[u8], header: Header) -> Result<RegisterSlice<'_>, Error>
+    requires has { HasHeader bytes.now 2 }
+    requires width { width_bits bytes.now ≡ 2 }
+    requires header { header ≡ header_of bytes.now }
+    ensures ok { IfOk result (λ r. IsOfRegisters bytes.now r.0 r.1) }
+    ensures err { IfErr result (λ e. (e ≢ Memory) × (first_fault bytes.now ≡ Some e)) }
+{
     let payload = SketchSlice::new(&bytes[HEADER_SIZE..]);
     let (registers, _) = read_registers(payload, header.lg_k, header.out_of_order)?;
-    Ok(Some(RegisterSlice::new(header.lg_k, registers)))
+    Ok(RegisterSlice::new(header.lg_k, registers))
+}
+
+/// The registers of an image of six bits. Takes no memory.
+///
+/// Fails with the reason of the first check that they fail.
+pub(crate) fn six_bit_registers(bytes: &[u8], header: Header) -> Result<GroupSlice<'_>, Error>
+    requires has { HasHeader bytes.now 2 }
+    requires width { width_bits bytes.now ≡ 1 }
+    requires header { header ≡ header_of bytes.now }
+    ensures ok { IfOk result (λ r. IsOfRegisters bytes.now r.0 r.1) }
+    ensures err { IfErr result (λ e. (e ≢ Memory) × (first_fault bytes.now ≡ Some e)) }
+{
+    let payload = SketchSlice::new(&bytes[HEADER_SIZE..]);
+    let (groups, _) = read_groups(payload, header.lg_k, header.out_of_order)?;
+    Ok(GroupSlice::new(header.lg_k, groups))
+}
+
+/// The registers of an image of four bits, with a map of their exceptions by this allocator. Takes memory for that alone.
+///
+/// Fails with the reason of the first check that they fail, or else with `Memory`.
+pub(crate) fn four_bit_registers<'a, A: Allocator + Clone>(
+    alloc: &A,
+    bytes: &'a [u8],
+    header: Header,
+) -> Result<NibbleSlice<'a, A>, Error>
+    requires has { HasHeader bytes.now 2 }
+    requires width { width_bits bytes.now ≡ 0 }
+    requires header { header ≡ header_of bytes.now }
+    ensures ok { IfOk result (λ r. IsOfRegisters bytes.now r.0 r.1) }
+    ensures err { IfErr result (IsRefusal bytes.now) }
+{
+    let (registers, _) = read_nibbles(
+        alloc,
+        SketchSlice::new(&bytes[HEADER_SIZE..]),
+        header.state_byte,
+        header.lg_k,
+        AuxFormat::from_header(header.compact, header.lg_arr),
+        header.out_of_order,
+    )?;
+    Ok(registers)
 }

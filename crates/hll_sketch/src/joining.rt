@@ -1,7 +1,8 @@
 //! Merging a sketch into the gadget of a union (docs/MODEL.md, "Merging"). What needs memory is made aside, and then takes
 //! the place of what was there.
-ghost use Rattle.std.specs.Prelude.{◌≡◌, ◌⊎◌, ◌<◌, nat_le, true, false, Some, IfOk, IfErr, OnOk, OnErr};
+ghost use Rattle.std.specs.Prelude.{◌≡◌, ◌⊎◌, ◌<◌, ◌==◌, nat_le, true, false, Some, IfOk, IfErr, OnOk, OnErr};
 ghost use Rattle.std.specs.FinSet.{contains, len, union};
+ghost use Rattle.std.specs.List.{list_all};
 ghost use Rattle.hll_base.specs.declared.error.Reason.TheVariants.{Memory};
 ghost use Rattle.hll_coupons.specs.Table.{coupons_in, coupons_of};
 ghost use Rattle.hll_base.specs.declared.hll_type.HllType.TheVariants.{Hll8};
@@ -10,17 +11,24 @@ ghost use Rattle.hll_sketch.specs.Layout.{content_in, sketch_of, width_of};
 ghost use Rattle.hll_sketch.specs.Laws.{add_in_turn};
 ghost use Rattle.hll_sketch.specs.Merging as merging;
 ghost use Rattle.hll_sketch.specs.Checks.{first_fault};
-ghost use Rattle.hll_sketch.specs.Image.{IsReadAs};
+ghost use Rattle.hll_sketch.specs.Header.{header_of};
+ghost use Rattle.hll_sketch.specs.Image.{width_bits, HasHeader, IsReadAs};
 ghost use Rattle.hll_sketch.specs.Refusal.{IsRefusal};
-ghost use Rattle.hll_sketch.specs.TakenIn.{MergesImage, HasCompactCoupons, EightBitsNeedMemory, ImageNeedsMemory};
+ghost use Rattle.hll_sketch.specs.TakenIn.{IsOfRegisters, MergesImage, HasCompactCoupons, PlainRegistersNeedMemory, ImageNeedsMemory};
 ghost use Rattle.hll_sketch.specs.Union.{IsGadget, sketch_of_registers, coupons_kept, can_hold_all, ContentNeedsMemory, MergeNeedsMemory};
+ghost use Rattle.hll_sketch.specs.Updatable.{HasUpdatableCoupons};
 ghost use Rattle.hll_sketch.specs.Value.{IsLegal, IsLgK, coupons, in_registers, is_empty, registers};
 
-use crate::borrowed::{compact_coupons, eight_bit_registers};
+use crate::borrowed::{
+    compact_coupons, eight_bit_registers, four_bit_registers, header_of_registers,
+    six_bit_registers,
+};
 use crate::folding::fold_of;
+use crate::header::Header;
 use crate::mode::Mode;
 use crate::sketch::HllSketch;
 use crate::stage::most_kept;
+use crate::updatable::raise_by_updatable;
 use hll_arrays::array8::Array8;
 use hll_arrays::merge::merge_from;
 use hll_arrays::registers::Registers;
@@ -128,33 +136,110 @@ impl<A: Allocator + Clone> HllSketch<A> {
         true
     }
 
-    /// Merges an image of registers of eight bits, without a copy of them, unless the gadget is empty and takes them over.
-    /// Whether it did; else nothing has changed.
+    /// Merges an updatable image of few coupons into a gadget in registers, without a table. Whether it did; else nothing has
+    /// changed. Takes no memory.
+    pub(crate) fn merge_updatable(&mut self, bound: u8, image: &[u8]) -> bool
+        requires bound { IsLgK bound }
+        requires gadget { IsGadget bound (sketch_of self.old) }
+        ensures merged { result ≡ true → MergesImage bound (sketch_of self.old) (sketch_of self.new) image.now }
+        ensures gadget { IsGadget bound (sketch_of self.new) }
+        ensures unchanged { result ≡ false → self.new ≡ self.old }
+        ensures other { result ≡ false → in_registers (content_in self.old.layout) ≡ true → HasUpdatableCoupons image.now → ⊥ }
+    {
+        self.value_is_legal();
+        let Mode::Array8(array) = &mut self.mode else {
+            return false;
+        };
+        raise_by_updatable(array, image)
+    }
+
+    /// Merges an image of registers, without a copy of them, unless the gadget is empty and takes them over. Whether it did;
+    /// else nothing has changed.
     ///
-    /// Fails with the reason of the first check that the header or registers of eight bits fail, or with `Memory`, where a
-    /// merge of their sketch needs it, and then changes nothing.
-    pub(crate) fn merge_eight_bits(&mut self, bound: u8, image: &[u8]) -> Result<bool, Error>
+    /// Fails with the reason of the first check that the header or the registers fail, or with `Memory`, at eight and six
+    /// bits where a merge of their sketch needs it, and then changes nothing.
+    pub(crate) fn merge_registers_of_image(
+        &mut self,
+        bound: u8,
+        image: &[u8],
+    ) -> Result<bool, Error>
         requires bound { IsLgK bound }
         requires gadget { IsGadget bound (sketch_of self.old) }
         ensures merged { IfOk result (λ did. did ≡ true → MergesImage bound (sketch_of self.old) (sketch_of self.new) image.now) }
         ensures gadget { IsGadget bound (sketch_of self.new) }
         ensures kept { IfOk result (λ did. did ≡ false → self.new ≡ self.old) }
-        ensures other { IfOk result (λ did. did ≡ false → EightBitsNeedMemory (sketch_of self.old) image.now) }
+        ensures other { IfOk result (λ did. did ≡ false → PlainRegistersNeedMemory (sketch_of self.old) image.now) }
         ensures unchanged { OnErr result (self.new ≡ self.old) }
         ensures err { IfErr result (λ e. (e ≡ Memory) ⊎ (first_fault image.now ≡ Some e)) }
         ensures needed { IfErr result (λ e. e ≡ Memory → ImageNeedsMemory (sketch_of self.old) image.now) }
     {
-        self.value_is_legal();
-        let Some(registers) = eight_bit_registers(image)? else {
+        let Some(header) = header_of_registers(image)? else {
             return Ok(false);
         };
-        if registers.are_all_zero() {
+        match header.hll_type {
+            HllType::Hll4 => self.merge_four_bits(bound, image, header),
+            HllType::Hll6 => {
+                let registers = six_bit_registers(image, header)?;
+                self.merge_borrowed(bound, image, &registers, registers.are_all_zero())
+            }
+            HllType::Hll8 => {
+                let registers = eight_bit_registers(image, header)?;
+                self.merge_borrowed(bound, image, &registers, registers.are_all_zero())
+            }
+        }
+    }
+
+    /// The same at four bits: all checks come before the join.
+    #[inline(never)]
+    fn merge_four_bits(&mut self, bound: u8, image: &[u8], header: Header) -> Result<bool, Error>
+        requires bound { IsLgK bound }
+        requires gadget { IsGadget bound (sketch_of self.old) }
+        requires has { HasHeader image.now 2 }
+        requires width { width_bits image.now ≡ 0 }
+        requires header { header ≡ header_of image.now }
+        ensures merged { IfOk result (λ did. did ≡ true → MergesImage bound (sketch_of self.old) (sketch_of self.new) image.now) }
+        ensures gadget { IsGadget bound (sketch_of self.new) }
+        ensures kept { IfOk result (λ did. did ≡ false → self.new ≡ self.old) }
+        ensures unchanged { OnErr result (self.new ≡ self.old) }
+        ensures err { IfErr result (λ e. (e ≡ Memory) ⊎ (first_fault image.now ≡ Some e)) }
+        ensures needed { IfErr result (λ e. e ≡ Memory → ImageNeedsMemory (sketch_of self.old) image.now) }
+    {
+        if self.is_empty() {
+            return Ok(false);
+        }
+        let registers = four_bit_registers(self.allocator(), image, header)?;
+        self.merge_borrowed(bound, image, &registers, registers.are_all_zero())
+    }
+
+    /// Merges registers that an image has, and of which it is known whether all are 0, unless the gadget is empty and takes
+    /// them over. Whether it did; else nothing has changed.
+    fn merge_borrowed<R: Registers>(
+        &mut self,
+        bound: u8,
+        image: &[u8],
+        source: &R,
+        are_all_zero: bool,
+    ) -> Result<bool, Error>
+        requires bound { IsLgK bound }
+        requires gadget { IsGadget bound (sketch_of self.old) }
+        requires registers { IsOfRegisters image.now (R.stored source.now).lg_k (R.stored source.now).registers }
+        requires zeros { are_all_zero ≡ list_all (λ v. v == 0) (R.stored source.now).registers }
+        ensures merged { IfOk result (λ did. did ≡ true → MergesImage bound (sketch_of self.old) (sketch_of self.new) image.now) }
+        ensures gadget { IsGadget bound (sketch_of self.new) }
+        ensures kept { IfOk result (λ did. did ≡ false → self.new ≡ self.old) }
+        ensures other { IfOk result (λ did. did ≡ false → PlainRegistersNeedMemory (sketch_of self.old) image.now) }
+        ensures unchanged { OnErr result (self.new ≡ self.old) }
+        ensures err { IfErr result (λ e. e ≡ Memory) }
+        ensures needed { OnErr result (ImageNeedsMemory (sketch_of self.old) image.now) }
+    {
+        self.value_is_legal();
+        if are_all_zero {
             return Ok(true);
         }
         if self.is_empty() {
             return Ok(false);
         }
-        self.merge_registers(bound, &registers)?;
+        self.merge_registers(bound, source)?;
         Ok(true)
     }
 

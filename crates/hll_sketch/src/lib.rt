@@ -2,6 +2,8 @@
 #![tactic(auto)]
 
 mod borrowed;
+mod checking;
+pub mod coupon_images;
 mod folding;
 mod header;
 mod image;
@@ -12,8 +14,10 @@ mod promotion;
 pub mod sketch;
 pub mod stage;
 pub mod union;
+mod updatable;
 mod width;
 
+pub use coupon_images::{ascending_image_at, union_of_ascending_images};
 pub use header::Stage;
 pub use mode::Mode;
 pub use sketch::HllSketch;

@@ -13,7 +13,7 @@ ghost use Rattle.hll_sketch.specs.Grown.{IsGrown};
 ghost use Rattle.hll_sketch.specs.Layout.{sketch_of, NeedsMemory};
 ghost use Rattle.hll_sketch.specs.Joined.{least_lg_k, IsJoinOf};
 ghost use Rattle.hll_sketch.specs.Merging.{merge, merge_all, empty_union};
-ghost use Rattle.hll_sketch.specs.TakenIn.{TakesIn, ImageNeedsMemory};
+ghost use Rattle.hll_sketch.specs.TakenIn.{TakesIn, HasCompactCoupons, ImageNeedsMemory};
 ghost use Rattle.hll_sketch.specs.Union.{gadget_of, CanTakeIn, MergeNeedsMemory};
 ghost use Rattle.hll_sketch.specs.Value.{Sketch, IsLgK, in_registers, is_empty, size_of};
 
@@ -113,14 +113,15 @@ impl<A: Allocator + Clone> HllUnion<A> {
         self.gadget.merge(self.lg_max_k, sketch)
     }
 
-    /// Merges the sketch of an image, as `update` does. Bytes behind the image are ignored. The coupons of a compact image go
-    /// into registers without a table between, if they ascend, as those that are written here do, or are at most 128; and
-    /// registers of eight bits without a copy.
+    /// Merges the sketch of an image, as `update` does. Bytes behind the image are ignored. Coupons go into registers without a
+    /// table between, if they are at most 128, or the image is compact, and they ascend, as those that are written here do;
+    /// and registers without a copy, unless an empty union takes them over.
     ///
     /// Fails with the reason of the first check that the bytes fail (docs/FORMAT.md, "Order of checks"), or with `Memory`, and
     /// then changes nothing, places included. Takes memory for the sketch, only once the bytes that the image asks for are
-    /// there, and where `update` does. Takes none for such coupons into registers, nor for registers of eight bits where
-    /// `update` takes none.
+    /// there, and where `update` does. Takes none for such coupons into registers, nor for registers of eight and six bits
+    /// where `update` takes none; for registers of four bits into a union that isn't empty, beside what `update` takes, a map
+    /// of their exceptions alone, where they have some.
     pub fn update_with_image(&mut self, image: &[u8]) -> Result<(), Error>
         ensures ok { OnOk result (TakesIn self.old self.new image.now) }
         ensures unchanged { OnErr result (self.new ≡ self.old) }
@@ -130,7 +131,23 @@ impl<A: Allocator + Clone> HllUnion<A> {
         if self.gadget.merge_compact(self.lg_max_k, image) {
             return Ok(());
         }
-        if self.gadget.merge_eight_bits(self.lg_max_k, image)? {
+        self.update_with_other_image(image)
+    }
+
+    /// The same, of an image whose coupons, if it has compact ones, don't go into registers without a table.
+    // (a caller would clear its values for compact coupons too)
+    #[inline(never)]
+    fn update_with_other_image(&mut self, image: &[u8]) -> Result<(), Error>
+        requires { in_registers (gadget_of self.old).content ≡ true → HasCompactCoupons image.now → ⊥ }
+        ensures ok { OnOk result (TakesIn self.old self.new image.now) }
+        ensures unchanged { OnErr result (self.new ≡ self.old) }
+        ensures needed { IfErr result (λ e. e ≡ Memory → ImageNeedsMemory (gadget_of self.old) image.now) }
+        ensures err { IfErr result (λ e. (e ≡ Memory) ⊎ (first_fault image.now ≡ Some e)) }
+    {
+        if self.gadget.merge_updatable(self.lg_max_k, image) {
+            return Ok(());
+        }
+        if self.gadget.merge_registers_of_image(self.lg_max_k, image)? {
             return Ok(());
         }
         let sketch = self.gadget.read_beside(image)?;

@@ -9,6 +9,8 @@ mod aux_map;
 #[cfg(test)]
 mod bytes;
 #[cfg(test)]
+mod coupon_images;
+#[cfg(test)]
 mod eight_bits;
 #[cfg(test)]
 mod errors;

@@ -4,6 +4,7 @@ ghost use Rattle.std.specs.Prelude.{◌≤◌};
 use crate::fixtures::{WIDTHS, filled};
 use hll_base::error::Error;
 use hll_base::hll_type::HllType;
+use hll_coupons::coupon::Coupon;
 use hll_sketch::{HllSketch, HllUnion, agree};
 use std::alloc::Global;
 use std::test::Fail;
@@ -155,9 +156,20 @@ fn with_sketch(alloc: Global, count: u32, image: &[u8]) -> Merged {
     Ok((union.into_sketch(HllType::Hll8)?, answer))
 }
 
-/// Whether an image merged, and the sketch that it is read as, give the same answer and leave the same union.
+/// Whether an image is checked as it is read.
+fn is_checked_alike(alloc: Global, image: &[u8]) -> bool {
+    let read = match HllSketch::deserialize(alloc, image) {
+        Ok(_) => Ok(()),
+        Err(e) => Err(e),
+    };
+    HllSketch::check(alloc, image) == read
+}
+
+/// Whether an image merged, and the sketch that it is read as, give the same answer and leave the same union, and a check of it
+/// answers as the read does.
 fn merge_alike(alloc: Global, count: u32, image: &[u8]) -> Result<bool, Error> {
-    Ok(with_image(alloc, count, image)? == with_sketch(alloc, count, image)?)
+    let merged = with_image(alloc, count, image)?;
+    Ok(merged == with_sketch(alloc, count, image)? && is_checked_alike(alloc, image))
 }
 
 /// The image of a sketch of this many coupons, with more bytes behind it.
@@ -168,13 +180,17 @@ fn image_of(alloc: Global, hll_type: HllType, source: (u32, u8)) -> Result<Vec<u
     Ok(image)
 }
 
-/// How many bytes at the front of an image are changed, each to a few values.
-const CHANGED: usize = 28;
-
-/// Whether an image with one byte changed is merged as the sketch that it is read as, at each of its first bytes.
-fn changes_merge_alike(alloc: Global, count: u32, image: &mut [u8]) -> Result<bool, Error> {
+/// Whether an image with one byte changed is merged as the sketch that it is read as, at each of so many bytes from a place on,
+/// as far as there are any.
+fn changes_merge_alike(
+    alloc: Global,
+    count: u32,
+    image: &mut [u8],
+    from: usize,
+    changed: usize,
+) -> Result<bool, Error> {
     let mut alike = true;
-    for place in 0..CHANGED.min(image.len()) {
+    for place in from..image.len().min(from.saturating_add(changed)) {
         let byte = image[place];
         for value in [
             0,
@@ -227,10 +243,153 @@ fn images(rt: HostRuntime) -> Result<(), Fail> {
                     "{count} {source:?}"
                 );
                 assert!(rt;
-                    changes_merge_alike(rt.alloc(), count, &mut image)?,
+                    changes_merge_alike(rt.alloc(), count, &mut image, 0, 28)?,
                     "{count} {source:?}"
                 );
             }
+        }
+    }
+    Ok(())
+}
+
+/// A sketch of registers with few exceptions: this many from 1 to 14 in turn, and three of 40.
+fn with_few_exceptions(
+    alloc: Global,
+    hll_type: HllType,
+    source: (u32, u8),
+) -> Result<HllSketch, Error> {
+    let (count, lg_k) = source;
+    let mut sketch = filled(alloc, lg_k, hll_type, count, 14)?;
+    for slot in [0, 77, 200] {
+        sketch.update_with_coupon(Coupon::pack(slot, 40))?;
+    }
+    Ok(sketch)
+}
+
+/// Images of registers are merged as the sketches that they are read as, also where few of them are exceptions: at the same
+/// `lg_k` as the union, a smaller one and a greater one, cut short, and with a byte changed, so that counts, nibbles and
+/// exceptions are wrong or don't agree.
+#[test]
+fn images_of_registers(rt: HostRuntime) -> Result<(), Fail> {
+    for count in [5, 300] {
+        for source in [(256, 8), (1024, 10), (4096, 12)] {
+            for hll_type in WIDTHS {
+                let mut image = with_few_exceptions(rt.alloc(), hll_type, source)?.serialize()?;
+                assert!(rt;
+                    merge_alike(rt.alloc(), count, &image)?,
+                    "{count} {source:?}"
+                );
+                assert!(rt;
+                    fronts_merge_alike(rt.alloc(), count, &image)?,
+                    "{count} {source:?}"
+                );
+                assert!(rt;
+                    changes_merge_alike(rt.alloc(), count, &mut image, 28, 20)?,
+                    "{count} {source:?}"
+                );
+                let last = image.len().saturating_sub(13);
+                assert!(rt;
+                    changes_merge_alike(rt.alloc(), count, &mut image, last, 13)?,
+                    "{count} {source:?}"
+                );
+            }
+        }
+    }
+    Ok(())
+}
+
+/// The last place of the table of an image of coupons.
+fn last_place(image: &[u8]) -> usize
+    ensures { result ≤ 255 }
+{
+    match image.get(4) {
+        Some(3) => 7,
+        Some(5) => 31,
+        Some(6) => 63,
+        Some(7) => 127,
+        _ => 255,
+    }
+}
+
+/// The image of a list or a set of this many coupons with all places of its table, the empty ones among the others, and more
+/// bytes behind it.
+fn updatable_image(alloc: Global, source: (u32, u8)) -> Result<Vec<u8>, Error> {
+    let (count, lg_k) = source;
+    let compact = filled(alloc, lg_k, HllType::Hll8, count, 63)?.serialize()?;
+    let last = last_place(&compact);
+    let head = if last == 7 { 8 } else { 12 };
+    let mut image = Vec::from_slice(alloc, &compact[..head.min(compact.len())])?;
+    if let Some(flags) = image.get_mut(5) {
+        *flags &= 0xf7;
+    }
+    image.resize(head + 4 * last + 7, 0)?;
+    for (number, byte) in compact.iter().skip(head).enumerate() {
+        let place = (number / 4).wrapping_mul(5).wrapping_add(3) & last;
+        let at = place.wrapping_mul(4).wrapping_add(head + number % 4);
+        if let Some(room) = image.get_mut(at) {
+            *room = *byte;
+        }
+    }
+    Ok(image)
+}
+
+/// An image with the four bytes at one place copied to another.
+fn with_bytes_twice(alloc: Global, image: &[u8], from: usize, to: usize) -> Result<Vec<u8>, Error> {
+    let mut changed = Vec::from_slice(alloc, image)?;
+    for place in 0..4 {
+        let byte = image.get(from.wrapping_add(place));
+        if let (Some(byte), Some(room)) = (byte, changed.get_mut(to.wrapping_add(place))) {
+            *room = *byte;
+        }
+    }
+    Ok(changed)
+}
+
+/// Whether an image in which some places have the words of others is merged as the sketch that it is read as.
+fn words_merge_alike(alloc: Global, count: u32, image: &[u8]) -> Result<bool, Error> {
+    let mut alike = true;
+    for from in 2u8..12 {
+        for to in 2u8..9 {
+            let (from, to) = (usize::from(from) * 4, usize::from(to) * 20 - 28);
+            let changed = with_bytes_twice(alloc, image, from, to)?;
+            alike = alike && merge_alike(alloc, count, &changed)?;
+        }
+    }
+    Ok(alike)
+}
+
+/// Updatable images are merged as the sketches that they are read as, into nothing, a list, a set and registers: lists, and
+/// sets of up to 128 coupons and of more, as they are, cut short, and with bytes and words changed, so that coupons fall,
+/// come twice, have no value, or are not as many as is said.
+#[test]
+fn updatable_images(rt: HostRuntime) -> Result<(), Fail> {
+    for count in [0, 5, 30, 300] {
+        for source in [
+            (0, 10),
+            (1, 9),
+            (7, 21),
+            (20, 8),
+            (60, 12),
+            (128, 12),
+            (129, 12),
+        ] {
+            let mut image = updatable_image(rt.alloc(), source)?;
+            assert!(rt;
+                merge_alike(rt.alloc(), count, &image)?,
+                "{count} {source:?}"
+            );
+            assert!(rt;
+                fronts_merge_alike(rt.alloc(), count, &image)?,
+                "{count} {source:?}"
+            );
+            assert!(rt;
+                words_merge_alike(rt.alloc(), count, &image)?,
+                "{count} {source:?}"
+            );
+            assert!(rt;
+                changes_merge_alike(rt.alloc(), count, &mut image, 0, 28)?,
+                "{count} {source:?}"
+            );
         }
     }
     Ok(())

@@ -1,19 +1,10 @@
-use Rattle.std.proofs.Common.{◌<◌, ◌≤◌, ◌++◌, length, drop, ap, subst, ◌∙◌}
-use Rattle.hll_base.specs.Reason.{number_of}
-use Rattle.hll_c.proofs.Answers.{puts, wants, puts_nothing}
+use Rattle.std.proofs.lemmas.Result.{IfOk-weaker}
+use Rattle.hll_c.specs.Answers.{IsImageOf}
+use Rattle.hll_c.proofs.Answers.{IsOf, IsFor, answers_with, image_of_made}
 use Rattle.hll_c.proofs.answer.put_image.Goals as goal
 
-pub returns-then-len-out : goal.returns-then-len-out
-returns-then-len-out c =
-    wants c.args.made c.in-Ok.image.items c.args.out.now c.args.size.now c.in-Ok.ensures.ok c.len.result
-    (subst (λ n. length c.args.out.now < n) (c.len-in-Ok.ensures ∙ c.in-Ok.image.ok.0) c.if-len-out.true) (c.len.ensures ∙ c.in-Ok.image.ok.0)
-
-pub returns-else-len-out : goal.returns-else-len-out
-returns-else-len-out c =
-    let copied = c.copy_from_slice.ensures.after ∙ c.deref.ensures.value in
-    puts c.args.made c.in-Ok.image.items c.args.out.now c.args.size.now c.in-Ok.ensures.ok (c.copy_from_slice.new.self ++ drop c.len-in-Ok-2.result c.args.out.now) c.len.result
-    (subst (λ n. n ≤ length c.args.out.now) (c.len-in-Ok.ensures ∙ c.in-Ok.image.ok.0) c.if-len-out.false)
-    (λ i. copied i ++ drop ((c.len-in-Ok-2.ensures ∙ c.in-Ok.image.ok.0) i) c.args.out.now) (c.len.ensures ∙ c.in-Ok.image.ok.0)
-
-pub returns-in-Err : goal.returns-in-Err
-returns-in-Err c = puts_nothing c.args.made c.in-Err.e c.args.out.now c.args.size.now c.number.result c.in-Err.ensures.err (c.number.ensures ∙ ap number_of c.reason.ensures)
+pub returns : goal.returns
+returns c =
+    answers_with (λ v. v.items) c.image_of.result (λ y. IsOf c.args.made y) (λ r. IsFor c.args.made r) c.args.out.now c.put_bytes.new.out c.args.size.now c.put_bytes.new.size c.put_bytes.result
+    (IfOk-weaker c.image_of.result _ (λ v. IsImageOf (λ y. IsOf c.args.made y) v.items) (λ v written. image_of_made c.args.made v.items written) c.image_of.ensures.ok)
+    c.image_of.ensures.err c.put_bytes.ensures

@@ -1,9 +1,10 @@
-use Rattle.hll_base.proofs.Errors.{IfErr-passed}
+use Rattle.hll_sketch.specs.Refusal.{IsRefusal}
+use Rattle.hll_sketch.proofs.FirstFailing.{IfErr-with}
 use Rattle.hll_c.specs.Answers.{RefusesImage}
 use Rattle.hll_c.proofs.Images.{refuses_image}
 use Rattle.hll_c.proofs.image.check.Goals as goal
 
-pub returns-in_err-_sketch-clause-err : goal.returns-in_err-_sketch-clause-err
-returns-in_err-_sketch-clause-err c =
-    let e = c.in_err-_sketch in
-    IfErr-passed (RefusesImage c.args.image.now) c.from_residual.result e.field-0.0 c.from_residual.ensures.1 (refuses_image c.args.image.now e.field-0.0 e.ensures.order e.ensures.asked)
+pub returns-clause-err : goal.returns-clause-err
+returns-clause-err c =
+    IfErr-with c.check.result (IsRefusal c.args.image.now) (IsRefusal c.args.image.now) (RefusesImage c.args.image.now)
+    (λ e refusal _. refuses_image c.args.image.now e refusal.first refusal.asked) c.check.ensures.err c.check.ensures.err

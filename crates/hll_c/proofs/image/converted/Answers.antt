@@ -1,34 +1,36 @@
-use Rattle.std.proofs.lemmas.Result.{IfOk-weaker, IfErr-weaker}
+use Rattle.std.proofs.Common.{sym, subst}
+use Rattle.std.specs.Option.{IfSome}
+use Rattle.std.proofs.lemmas.Result.{IfErr-weaker}
 use Rattle.hll_base.proofs.Errors.{IfErr-passed}
+use Rattle.hll_sketch.specs.CouponImages.{IsImageAt}
 use Rattle.hll_sketch.specs.Layout.{sketch_of}
 use Rattle.hll_c.specs.Answers.{RefusesWith, image_refused}
-use Rattle.hll_c.specs.Calls.{IsWidth, IsMadeOf, IsAtWidth}
-use Rattle.hll_c.proofs.Images.{refuses_argument, refuses_image, refuses_memory}
+use Rattle.hll_c.specs.Calls.{IsWidth, IsAtWidth}
+use Rattle.hll_c.proofs.Images.{refuses_argument, refuses_memory, no_memory_with, image_in_bytes}
 use Rattle.hll_c.proofs.image.converted.Goals as goal
 
-pub returns-in_err-width-clause-err : goal.returns-in_err-width-clause-err
-returns-in_err-width-clause-err c =
-    let e = c.in_err-width in
+pub returns-in_err-width_of-clause-err : goal.returns-in_err-width_of-clause-err
+returns-in_err-width_of-clause-err c =
+    let e = c.in_err-width_of in
     IfErr-passed (RefusesWith (IsWidth c.args.width) c.args.image.now) c.from_residual.result e.field-0.0 c.from_residual.ensures.1
     (refuses_argument (IsWidth c.args.width) c.args.image.now e.field-0.0 e.ensures.outside.0 e.ensures.outside.1)
 
-pub returns-in_err-deserialize-clause-err : goal.returns-in_err-deserialize-clause-err
-returns-in_err-deserialize-clause-err c =
-    let e = c.in_err-deserialize in
-    let is : IsWidth c.args.width = record { width = c.in_ok-width.width; is = c.in_ok-width.ensures.ok } in
-    IfErr-passed (RefusesWith (IsWidth c.args.width) c.args.image.now) c.from_residual-in_err-deserialize.result e.field-0.0 c.from_residual-in_err-deserialize.ensures.1
-    (image_refused is (refuses_image c.args.image.now e.field-0.0 e.ensures.order e.ensures.asked))
+pub returns-in_err-written-clause-err : goal.returns-in_err-written-clause-err
+returns-in_err-written-clause-err c =
+    let e = c.in_err-written in
+    let is : IsWidth c.args.width = record { width = c.in_ok-width_of.field-0; is = c.in_ok-width_of.ensures.ok } in
+    IfErr-passed (RefusesWith (IsWidth c.args.width) c.args.image.now) c.from_residual-in_err-written.result e.field-0.0 c.from_residual-in_err-written.ensures.1
+    (image_refused is (refuses_memory c.args.image.now e.ensures.read.0 e.field-0.0 e.ensures.read.1 e.ensures.err))
 
-pub returns-clause-ok : goal.returns-clause-ok
-returns-clause-ok c =
-    let is : IsWidth c.args.width = record { width = c.in_ok-width.width; is = c.in_ok-width.ensures.ok } in
-    IfOk-weaker c.into_width.result _ (λ s. IsMadeOf c.args.image.now (IsAtWidth c.args.width) (sketch_of s))
-    (λ s made. record { sketch = sketch_of c.in_ok-deserialize.field-0; read = c.in_ok-deserialize.ensures.ok; is_made = record { width_is = is; is = made } })
-    c.into_width.ensures.ok
+pub returns-in-Some-clause-ok : goal.returns-in-Some-clause-ok
+returns-in-Some-clause-ok c =
+    image_in_bytes c.args.width c.in_ok-width_of.field-0 c.args.image.now c.in-Some.written.items c.in_ok-width_of.ensures.ok
+    (subst (λ o. IfSome o (λ written. IsImageAt c.in_ok-width_of.field-0 c.args.image.now written.items)) c.in-Some.is c.in_ok-written.ensures.some)
 
-pub returns-clause-err : goal.returns-clause-err
-returns-clause-err c =
-    let is : IsWidth c.args.width = record { width = c.in_ok-width.width; is = c.in_ok-width.ensures.ok } in
-    IfErr-weaker c.into_width.result _ (RefusesWith (IsWidth c.args.width) c.args.image.now)
-    (λ e memory. image_refused is (refuses_memory c.args.image.now (sketch_of c.in_ok-deserialize.field-0) e c.in_ok-deserialize.ensures.ok memory))
-    c.into_width.ensures.err
+pub returns-in_ok-sketch_at-in-None-clause-err : goal.returns-in_ok-sketch_at-in-None-clause-err
+returns-in_ok-sketch_at-in-None-clause-err c =
+    let Refuses = RefusesWith (IsWidth c.args.width) c.args.image.now in
+    IfErr-weaker c.serialize-in-None.result _ Refuses
+    (λ e memory. subst Refuses (sym memory)
+    (no_memory_with c.args.image.now (IsAtWidth c.args.width) (sketch_of c.in_ok-sketch_at-in-None.field-0) c.in_ok-sketch_at-in-None.ensures.ok (IsWidth c.args.width) (λ x z at. at.width_is)))
+    c.serialize-in-None.ensures.err

@@ -4,15 +4,13 @@ use Rattle.hll_base.proofs.Errors.{IfErr-passed}
 use Rattle.hll_base.specs.declared.error.Reason.TheVariants.{Memory}
 use Rattle.hll_registers.specs.Payload.{state_at, IsHll8Payload, FirstHll8Fault}
 use Rattle.hll_registers.specs.Store.{Stored}
-use Rattle.hll_sketch.specs.Header.{number_of_stage}
-use Rattle.hll_sketch.specs.Image.{lg_k_byte, stage_bits, width_bits, is_flagged, HasHeader}
+use Rattle.hll_sketch.specs.Image.{lg_k_byte, is_flagged}
 use Rattle.hll_sketch.specs.TakenIn.{IsOfRegisters}
 use Rattle.hll_sketch.specs.declared.header.Header.{Header}
 use Rattle.hll_sketch.specs.Checks.{first_fault}
 use Rattle.hll_sketch.proofs.FaultKinds.{eight_not_memory}
 use Rattle.hll_sketch.proofs.FirstFailing.{eight_first}
 use Rattle.hll_sketch.proofs.FrontImages.{read_as-eight}
-use Rattle.hll_sketch.proofs.Headers.{number_of_stage_of_bits, bits_of_eight}
 use Rattle.hll_sketch.proofs.borrowed.eight_bit_registers.Goals as goal
 
 -- the payload, and the registers in it
@@ -23,32 +21,24 @@ pub returns-in_err-registers-clause-err : goal.returns-in_err-registers-clause-e
 returns-in_err-registers-clause-err c =
     let b : List ℕ = c.args.bytes.now in
     let e = c.in_err-registers.field-0.0 in
-    let read = c.in_ok-header.ensures.ok in
-    let k = ap (λ (h : Header). h.lg_k) read.2 in
-    let stage : stage_bits b ≡ 2 = sym (number_of_stage_of_bits (stage_bits b) read.1) ∙ ap number_of_stage (ap (λ (h : Header). h.stage) (sym read.2) ∙ c.in-Hll-Hll8.is-0) in
-    let has : HasHeader b 2 = subst (HasHeader b) stage read.0 in
-    let width : width_bits b ≡ 2 = bits_of_eight (width_bits b) has.width (ap (λ (h : Header). h.hll_type) (sym read.2) ∙ c.in-Hll-Hll8.is-1) in
+    let k = ap (λ (h : Header). h.lg_k) c.requires.header in
     let entry = c.new-payload.ensures ∙ take_rest b 8 in
-    let first : FirstHll8Fault (lg_k_byte b) (drop 8 b) e = subst (λ n. FirstHll8Fault n (drop 8 b) e) k (subst (λ xs. FirstHll8Fault c.in_ok-header.header.lg_k xs e) entry c.in_err-registers.ensures.order) in
-    IfErr-passed (λ r. (r ≡ Memory → ⊥) × (first_fault b ≡ Some r)) c.from_residual-in_err-registers.result e c.from_residual-in_err-registers.ensures.1
-    (eight_not_memory (lg_k_byte b) (drop 8 b) e first, eight_first b e has width first)
+    let first : FirstHll8Fault (lg_k_byte b) (drop 8 b) e = subst (λ n. FirstHll8Fault n (drop 8 b) e) k (subst (λ xs. FirstHll8Fault c.args.header.lg_k xs e) entry c.in_err-registers.ensures.order) in
+    IfErr-passed (λ r. (r ≡ Memory → ⊥) × (first_fault b ≡ Some r)) c.from_residual.result e c.from_residual.ensures.1
+    (eight_not_memory (lg_k_byte b) (drop 8 b) e first, eight_first b e c.requires.has c.requires.width first)
 
-pub returns-clause-some : goal.returns-clause-some
-returns-clause-some c =
+pub returns-clause-ok : goal.returns-clause-ok
+returns-clause-ok c =
     let b : List ℕ = c.args.bytes.now in
     let R : List ℕ = c.in_ok-registers.registers.now in
-    let read = c.in_ok-header.ensures.ok in
-    let k = ap (λ (h : Header). h.lg_k) read.2 in
-    let stage : stage_bits b ≡ 2 = sym (number_of_stage_of_bits (stage_bits b) read.1) ∙ ap number_of_stage (ap (λ (h : Header). h.stage) (sym read.2) ∙ c.in-Hll-Hll8.is-0) in
-    let has : HasHeader b 2 = subst (HasHeader b) stage read.0 in
-    let width : width_bits b ≡ 2 = bits_of_eight (width_bits b) has.width (ap (λ (h : Header). h.hll_type) (sym read.2) ∙ c.in-Hll-Hll8.is-1) in
+    let k = ap (λ (h : Header). h.lg_k) c.requires.header in
     let found = c.in_ok-registers.ensures.ok in
-    let given : Given (lg_k_byte b) R (drop 8 b) = subst (λ k. Given k R (drop 8 b)) k (subst (Given c.in_ok-header.header.lg_k R) (c.new-payload.ensures ∙ take_rest b 8) (found.0, found.1)) in
+    let given : Given (lg_k_byte b) R (drop 8 b) = subst (λ k. Given k R (drop 8 b)) k (subst (Given c.args.header.lg_k R) (c.new-payload.ensures ∙ take_rest b 8) (found.0, found.1)) in
     let x : Stored = record { lg_k = lg_k_byte b; registers = R; state = state_at (is_flagged 16 b) (drop 8 b) } in
-    let here : IsOfRegisters b c.in_ok-header.header.lg_k R = record {
-      stage = stage;
+    let here : IsOfRegisters b c.args.header.lg_k R = record {
+      stage = c.requires.has.stage_is;
       sketch = _;
-      read = read_as-eight b x has width given.0 (λ i. record { lg_k = lg_k_byte b; registers = given.1 i; state = state_at (is_flagged 16 b) (drop 8 b) });
+      read = read_as-eight b x c.requires.has c.requires.width given.0 (λ i. record { lg_k = lg_k_byte b; registers = given.1 i; state = state_at (is_flagged 16 b) (drop 8 b) });
       lg_k = sym k;
       state = x.state;
       content = refl;

@@ -3,7 +3,8 @@ use Rattle.std.specs.Int.{w32, from_le_bytes}
 use Rattle.std.proofs.lemmas.List.{length-drop}
 use Rattle.std.specs.List.Sorted.{IsStrictlyIncreasing}
 use Rattle.hll_coupons.specs.Coupons.{words}
-use Rattle.hll_sketch.proofs.BorrowedCoupons.{increasing_more, next_word}
+use Rattle.hll_coupons.proofs.Merging.{increasing_more}
+use Rattle.hll_sketch.proofs.BorrowedCoupons.{next_word}
 use Rattle.hll_sketch.proofs.borrowed.Words.ascend.Goals as goal
 
 -- the words that are left increase from the last one, if and only if the next one is greater and those behind increase from it

@@ -1,27 +1,14 @@
-use Rattle.std.proofs.Common.{◌≡◌, ℕ, ◌<◌, List, None, sym, ap, subst, ◌∙◌, arith}
+use Rattle.std.proofs.Common.{◌≡◌, ℕ, ◌<◌, List, sym, ap, subst, ◌∙◌, arith}
 use Rattle.std.proofs.lemmas.List.Elements.{All-from_get_or}
-use Rattle.hll_base.specs.declared.hll_type.HllType.TheVariants.{Hll8}
 use Rattle.hll_coupons.specs.Coupons.{words}
 use Rattle.hll_registers.specs.Store.{Stored}
 use Rattle.hll_sketch.specs.Image.{AreBytes}
 use Rattle.hll_sketch.specs.Laws.{add_in_turn}
-use Rattle.hll_sketch.specs.Layout.{SketchLayout, array, layout_of, content_in, sketch_of, IsLayoutFor}
-use Rattle.hll_sketch.specs.Union.{sketch_of_registers}
-use Rattle.hll_sketch.specs.Value.{registers, in_registers}
+use Rattle.hll_sketch.specs.Layout.{SketchLayout, layout_of, content_in, sketch_of, IsLayoutFor}
+use Rattle.hll_sketch.specs.Value.{in_registers}
 use Rattle.hll_sketch.proofs.MergedImages.{merged_image, still_gadget}
+use Rattle.hll_sketch.proofs.RaisedRegisters.{in_bytes, raised_as}
 use Rattle.hll_sketch.proofs.sketch.HllSketch.merge_compact.Goals as goal
-
--- a sketch in registers of eight bits
-abbrev in_bytes : ℕ → Stored → SketchLayout
-in_bytes k a = record { lg_k = k; layout = array Hll8 a None }
-
-as_registers : (k : ℕ) (a : Stored) → a.lg_k ≡ k → sketch_of (in_bytes k a) ≡ sketch_of_registers a
-as_registers k a same = λ i. record { lg_k = sym same i; width = Hll8; content = registers a.registers a.state }
-
--- registers raised by the words, as a sketch
-raised_as : (k : ℕ) (a b : Stored) (order : List ℕ) → a.lg_k ≡ k → b.lg_k ≡ a.lg_k → sketch_of_registers b ≡ add_in_turn (sketch_of_registers a) order →
-    sketch_of (in_bytes k b) ≡ add_in_turn (sketch_of (in_bytes k a)) order
-raised_as k a b order here there raised = as_registers k b (there ∙ here) ∙ raised ∙ ap (λ x. add_in_turn x order) (sym (as_registers k a here))
 
 pub returns-clause-merged : goal.returns-clause-merged
 returns-clause-merged g c = λ _.

@@ -1,15 +1,9 @@
-use Rattle.std.proofs.Common.{◌≡◌, ◌<◌, ℕ, List, refl, ap, subst, ◌∙◌, arith}
-use Rattle.std.proofs.lemmas.List.Elements.{All-from_get_or}
-use Rattle.std.proofs.lemmas.Result.{on_ok_weaker}
-use Rattle.hll_sketch.specs.Image.{AreBytes}
-use Rattle.hll_sketch.specs.Layout.{SketchLayout, sketch_of}
-use Rattle.hll_base.proofs.Errors.{IfErr-passed}
-use Rattle.hll_base.specs.declared.error.Reason.TheVariants.{Memory}
-use Rattle.hll_sketch.specs.TakenIn.{TakesIn, EightBitsNeedMemory, ImageNeedsMemory}
-use Rattle.hll_sketch.specs.Value.{Sketch}
-use Rattle.hll_sketch.specs.Union.{UnionLayout, gadget_of}
-use Rattle.hll_sketch.proofs.MergedImages.{read_is_legal, taken, image_needs}
-use Rattle.hll_sketch.proofs.SizedImages.{sized_if_read, IfErr-each}
+use Rattle.std.proofs.Common.{◌≡◌, ℕ, true, refl, sym, subst}
+use Rattle.hll_sketch.specs.Layout.{SketchLayout, content_in}
+use Rattle.hll_sketch.specs.TakenIn.{TakesIn, HasCompactCoupons}
+use Rattle.hll_sketch.specs.Value.{in_registers}
+use Rattle.hll_sketch.specs.Union.{UnionLayout}
+use Rattle.hll_sketch.proofs.MergedImages.{taken}
 use Rattle.hll_sketch.proofs.union.HllUnion.update_with_image.Goals as goal
 
 -- a union of a bound and a gadget
@@ -22,44 +16,7 @@ returns-then-merge_compact-clause-ok g c =
     let v : UnionLayout = union_of bound c.merge_compact.new.self in
     subst (λ x. TakesIn x v c.args.image.now) c.self.view_is (taken (union_of bound c.self.inside.gadget) v c.args.image.now refl (c.merge_compact.ensures.merged c.if-merge_compact.true))
 
-pub returns-then-branch-clause-ok : goal.returns-then-branch-clause-ok
-returns-then-branch-clause-ok g c =
-    let bound : ℕ = c.self.inside.lg_max_k in
-    let v : UnionLayout = union_of bound c.merge_eight_bits.new.self in
-    let same : union_of bound c.merge_compact.new.self ≡ c.args.self.now = ap (union_of bound) (c.merge_compact.ensures.unchanged c.if-merge_compact.false) ∙ c.self.view_is in
-    subst (λ x. TakesIn x v c.args.image.now) same
-    (taken (union_of bound c.merge_compact.new.self) v c.args.image.now refl (c.in_ok-merge_eight_bits.ensures.merged c.if-branch.true))
-
-pub returns-clause-ok : goal.returns-clause-ok
-returns-clause-ok g c =
-    let bound : ℕ = c.self.inside.lg_max_k in
-    let b : List ℕ = c.args.image.now in
-    let kept : c.merge_eight_bits.new.self ≡ c.self.inside.gadget = c.in_ok-merge_eight_bits.ensures.kept c.if-branch.false ∙ c.merge_compact.ensures.unchanged c.if-merge_compact.false in
-    let same : union_of bound c.merge_eight_bits.new.self ≡ c.args.self.now = ap (union_of bound) kept ∙ c.self.view_is in
-    let bytes : AreBytes b = All-from_get_or (λ n. n < 256) b 0 (λ i within. omega (arith, c.type_inv.image i)) in
-    let read = c.in_ok-sketch.ensures.ok in
-    on_ok_weaker c.update.result
-    (λ is. subst (λ x. TakesIn x c.update.new.self b) same
-    (taken (union_of bound c.merge_eight_bits.new.self) c.update.new.self b c.update.ensures.bound
-    (record { sketch = sketch_of c.in_ok-sketch.sketch; read = read; legal = read_is_legal b _ bytes read; merged = is })))
-    c.update.ensures.ok
-
-pub returns-in_err-sketch-clause-needed : goal.returns-in_err-sketch-clause-needed
-returns-in_err-sketch-clause-needed g c =
-    let b : List ℕ = c.args.image.now in
-    let before : Sketch = sketch_of c.self.inside.gadget in
-    let same : before ≡ gadget_of c.args.self.now = ap gadget_of c.self.view_is in
-    let kept : c.merge_compact.new.self ≡ c.self.inside.gadget = c.merge_compact.ensures.unchanged c.if-merge_compact.false in
-    let eight : EightBitsNeedMemory before b = subst (λ x. EightBitsNeedMemory (sketch_of x) b) kept (c.in_ok-merge_eight_bits.ensures.other c.if-branch.false) in
-    IfErr-passed (λ e. e ≡ Memory → ImageNeedsMemory (gadget_of c.args.self.now) b) c.from_residual-in_err-sketch.result c.in_err-sketch.field-0.0 c.from_residual-in_err-sketch.ensures.1
-    (λ full. subst (λ x. ImageNeedsMemory x b) same (image_needs before b (c.in_err-sketch.ensures.err.asked full) (c.merge_compact.ensures.other c.if-merge_compact.false) eight))
-
-pub returns-clause-needed : goal.returns-clause-needed
-returns-clause-needed g c =
-    let b : List ℕ = c.args.image.now in
-    let before : Sketch = sketch_of c.self.inside.gadget in
-    let same : before ≡ gadget_of c.args.self.now = ap gadget_of c.self.view_is in
-    let kept : c.merge_compact.new.self ≡ c.self.inside.gadget = c.merge_compact.ensures.unchanged c.if-merge_compact.false in
-    let eight : EightBitsNeedMemory before b = subst (λ x. EightBitsNeedMemory (sketch_of x) b) kept (c.in_ok-merge_eight_bits.ensures.other c.if-branch.false) in
-    IfErr-each c.update.result (λ e _. subst (λ x. ImageNeedsMemory x b) same
-    (image_needs before b (sized_if_read b _ c.in_ok-sketch.ensures.ok) (c.merge_compact.ensures.other c.if-merge_compact.false) eight))
+pub update_with_other_image-requires : goal.update_with_other_image-requires
+update_with_other_image-requires g c =
+    subst (λ x. in_registers (content_in x.layout) ≡ true → HasCompactCoupons c.args.image.now → ⊥) (sym (c.merge_compact.ensures.unchanged c.if-merge_compact.false))
+    (c.merge_compact.ensures.other c.if-merge_compact.false)

@@ -1,0 +1,77 @@
+use Rattle.std.proofs.Common.{◌≡◌, ◌+◌, ◌-◌, ◌*◌, ◌/◌, ◌<◌, ◌≤◌, ℕ, Option, None, inl, inr, length, slice_index, sym, ap, subst, ◌∙◌, arith}
+use Rattle.std.specs.Prelude.{max, unwrap_or}
+use Rattle.std.proofs.lemmas.Bool.{cases_lt}
+use Rattle.hll_coupons.specs.AuxMap.{value_in}
+use Rattle.hll_kernels.specs.Packed.{nibble_at}
+use Rattle.hll_kernels.proofs.Blocks.{get_or-blocks}
+use Rattle.hll_registers.proofs.FourBitReading.{nibble_at-block, nibble_at-drop, nibbles_at_most}
+use Rattle.hll_registers.proofs.exception_map.raise_by_marks.Goals as goal
+use Rattle.hll_registers.proofs.exception_map.raise_by_marks.Goals.{then-not-are_at_most, else-not-are_at_most}
+
+-- a slot without an exception keeps its value
+kept : (x : ℕ) (o : Option ℕ) → o ≡ None → x ≡ max x (unwrap_or o 0)
+kept x o none = subst (λ p. x ≡ max x (unwrap_or p 0)) (sym none) (omega arith)
+
+pub raise_marked-requires-clause-marked : goal.raise_marked-requires-clause-marked
+raise_marked-requires-clause-marked g c = λ s from to other.
+    let nibbles = c.args.nibbles.now in
+    let place = c.loop-place.place in
+    let inside : place < length nibbles / 32 = omega (arith, c.loop-place-test.true, c.as_chunks.ensures.front_len) in
+    let block = get_or-blocks 32 (length nibbles / 32) nibbles c.as_chunks.result.0.now place _ c.as_chunks.ensures.front inside in
+    c.requires.marked s (omega (arith, to, inside, c.requires.size)) (λ mark. other (nibble_at-block nibbles _ place s block from (omega (arith, to)) ∙ mark))
+
+pub raise_marked-requires-2-clause-marked : goal.raise_marked-requires-2-clause-marked
+raise_marked-requires-2-clause-marked g c = λ s from to other.
+    let nibbles = c.args.nibbles.now in
+    let n : ℕ = length nibbles / 32 in
+    let blocks : length c.as_chunks.result.0.now ≡ n = c.as_chunks.ensures.front_len in
+    let low : 2 * (n * 32) ≤ s = omega (arith, from, blocks) in
+    let same : s - 64 * length c.as_chunks.result.0.now ≡ s - 2 * (n * 32) = omega (arith, blocks) in
+    let read : nibble_at c.as_chunks.result.1.now (s - 64 * length c.as_chunks.result.0.now) ≡ nibble_at nibbles s =
+    (λ i. nibble_at (c.as_chunks.ensures.back i) (same i)) ∙ nibble_at-drop nibbles (n * 32) s low in
+    c.requires.marked s (omega (arith, to, blocks, c.requires.size, c.as_chunks.ensures.back_len)) (λ mark. other (read ∙ mark))
+
+pub loop-place-preserved : goal.loop-place-preserved
+loop-place-preserved g c =
+    let before = c.loop-place.invariant in
+    let place = c.loop-place.place in
+    let nibbles = c.args.nibbles.now in
+    let exception : ℕ → ℕ = λ s. unwrap_or (value_in c.args.map.now (c.args.first + s)) 0 in
+    elim c.if-not-are_at_most.branch [
+      | then-not-are_at_most w ↦
+          let at : (s : ℕ) → slice_index c.if-not-are_at_most.values s ≡ slice_index w.raise_marked.new.values s = λ s. ap (λ vs. slice_index vs s) w.values-is in
+          record {
+            size = ap length w.values-is ∙ w.raise_marked.ensures.len ∙ before.size;
+            done = λ s l some. at s ∙ elim (cases_lt s (64 * place)) [
+              | inl earlier ↦ w.raise_marked.ensures.before s earlier ∙ before.done s earlier some
+              | inr from ↦ w.raise_marked.ensures.raised s from (omega (arith, l)) ∙ ap (λ v. max v (exception s)) (before.left s from)
+            ];
+            left = λ s l. at s ∙ w.raise_marked.ensures.behind s (omega (arith, l)) ∙ before.left s (omega (arith, l));
+          }
+      | else-not-are_at_most w ↦
+          let at : (s : ℕ) → slice_index c.if-not-are_at_most.values s ≡ slice_index c.loop-place.values s = λ s. ap (λ vs. slice_index vs s) w.values-is in
+          let inside : place < length nibbles / 32 = omega (arith, c.loop-place-test.true, c.as_chunks.ensures.front_len) in
+          let low : (s : ℕ) → 64 * place ≤ s → s < 64 * (place + 1) → nibble_at nibbles s ≤ 14 =
+          nibbles_at_most nibbles _ place 14 (get_or-blocks 32 (length nibbles / 32) nibbles c.as_chunks.result.0.now place _ c.as_chunks.ensures.front inside) (omega (arith, inside))
+          (sym c.are_at_most.ensures ∙ w.if-not-are_at_most.false) in
+          record {
+            size = ap length w.values-is ∙ before.size;
+            done = λ s l some. at s ∙ elim (cases_lt s (64 * place)) [
+              | inl earlier ↦ before.done s earlier some
+              | inr from ↦ before.left s from ∙ kept _ (value_in c.args.map.now (c.args.first + s)) (c.requires.marked s some (λ mark. omega (arith, mark, low s from l)))
+            ];
+            left = λ s l. at s ∙ before.left s (omega (arith, l));
+          }
+    ]
+
+pub returns-clause-raised : goal.returns-clause-raised
+returns-clause-raised g c =
+    let before = c.loop-place.invariant in
+    let nibbles = c.args.nibbles.now in
+    let all : c.loop-place.place ≡ length nibbles / 32 = omega (arith, c.loop-place-test.false, c.loop-place.auto.place-end, c.as_chunks.ensures.front_len) in
+    λ s some. elim (cases_lt s (64 * c.loop-place.place)) [
+      | inl earlier ↦ c.raise_marked-2.ensures.before s (omega (arith, earlier, all, c.as_chunks.ensures.front_len)) ∙ before.done s earlier some
+      | inr from ↦
+          c.raise_marked-2.ensures.raised s (omega (arith, from, all, c.as_chunks.ensures.front_len)) (omega (arith, some, c.requires.size))
+          ∙ ap (λ v. max v (unwrap_or (value_in c.args.map.now (c.args.first + s)) 0)) (before.left s from)
+    ]

@@ -1,0 +1,74 @@
+//! A slice of groups of three bytes as registers of six bits.
+ghost use Rattle.std.specs.Prelude.{◌≡◌, ◌≤◌, ◌==◌};
+ghost use Rattle.std.specs.List.{list_all};
+ghost use Rattle.hll_kernels.specs.Groups.{registers_in, AreGroups};
+ghost use Rattle.hll_registers.specs.State.{cleared_state};
+
+use crate::estimate_state::EstimateState;
+use crate::registers::{Registers, two_to};
+use hll_kernels::groups::{all_zero_in, max_groups_into, register_at};
+use std::marker::Model;
+
+/// 2^`lg_k` borrowed registers, four of them in three bytes, with the cleared state.
+#[derive(Debug, Drop)]
+pub struct GroupSlice<'a> {
+    lg_k: u8,
+    groups: &'a [[u8; 3]],
+}
+
+impl<'a> Model for GroupSlice<'a> {
+    ghost use Rattle.std.specs.Prelude.{ℕ, List, ◌≤◌};
+    ghost use Rattle.hll_kernels.specs.Groups.{registers_in, AreGroups};
+
+    ghost Value = { ℕ × List ℕ };
+
+    ghost view = { λ l. (l.lg_k, registers_in l.groups.now) };
+
+    ghost invariant = { λ l. (4 ≤ l.lg_k) × (l.lg_k ≤ 21) × AreGroups l.lg_k l.groups.now };
+}
+
+impl<'a> GroupSlice<'a> {
+    /// The 2^`lg_k` registers of groups, for an `lg_k` of 4 to 21.
+    pub fn new(lg_k: u8, groups: &'a [[u8; 3]]) -> GroupSlice<'a>
+        requires least { 4 ≤ lg_k }
+        requires most { lg_k ≤ 21 }
+        requires groups { AreGroups lg_k groups.now }
+        ensures { result ≡ (lg_k, registers_in groups.now) }
+    {
+        GroupSlice { lg_k, groups }
+    }
+
+    /// Whether all registers are 0.
+    pub fn are_all_zero(&self) -> bool
+        ensures { result ≡ list_all (λ v. v == 0) self.now.1 }
+    {
+        all_zero_in(self.groups)
+    }
+}
+
+impl<'a> Registers for GroupSlice<'a> {
+    ghost stored = { λ l. record { lg_k = l.0; registers = l.1; state = cleared_state } };
+
+    fn lg_k(&self) -> u8 {
+        self.lg_k
+    }
+
+    fn num_registers(&self) -> usize {
+        two_to(self.lg_k)
+    }
+
+    fn get(&self, slot: u32) -> u8 {
+        register_at(self.groups, slot as usize)
+    }
+
+    fn estimate_state(&self) -> EstimateState {
+        EstimateState::CLEARED
+    }
+
+    /// One pass, by groups.
+    fn join_into(&self, first: u32, values: &mut [u8]) {
+        let first = first as usize / 4;
+        let end = first + values.len() / 4;
+        max_groups_into(values, &self.groups[first..end]);
+    }
+}

@@ -1,0 +1,152 @@
+//! A slice of nibbles above a minimum, with a map of exceptions, as registers of four bits (docs/MODEL.md, "Registers of
+//! four bits").
+ghost use Rattle.std.specs.Prelude.{◌≡◌, ◌*◌, ◌^◌, ◌<◌, ◌≤◌, ◌==◌, ℕ, length, IfOk, IfErr, OnOk};
+ghost use Rattle.std.specs.List.{list_all};
+ghost use Rattle.hll_base.specs.declared.error.Reason.TheVariants.{Memory, Register};
+ghost use Rattle.hll_kernels.specs.Packed.{nibble_at};
+ghost use Rattle.hll_registers.specs.FourBits.{exception_in, unboxed, unpacked, IsMapFor};
+ghost use Rattle.hll_registers.specs.Payload.{Agrees};
+ghost use Rattle.hll_registers.specs.State.{cleared_state};
+
+use crate::agreement::agree;
+use crate::estimate_state::EstimateState;
+use crate::exception_map::{Exceptions, raise_by_registers, register_at};
+use crate::nibble_registers::NibbleRegisters;
+use crate::registers::{Registers, two_to};
+use hll_base::error::{Error, Reason};
+use hll_kernels::kernels::all_zero;
+use hll_kernels::nibbles::count_zeros_and_marks;
+use std::alloc::Allocator;
+use std::marker::Model;
+
+/// 2^`lg_k` registers, two in a borrowed byte, with the cleared state: each as far above a minimum as a nibble says, and
+/// where that is 15, in a map. The minimum may be below the least register.
+#[derive_where(Debug)]
+pub struct NibbleSlice<'a, A: Allocator> {
+    lg_k: u8,
+    minimum: u8,
+    nibbles: &'a [u8],
+    /// How many nibbles are 0.
+    zeros: u32,
+    exceptions: Exceptions<A>,
+}
+
+/// Written out, and not derived, so that the proof of whatever drops registers calls this and doesn't go through their parts.
+impl<'a, A: Allocator> Drop for NibbleSlice<'a, A> {
+    fn drop(self) {
+        let NibbleSlice {
+            lg_k: _,
+            minimum: _,
+            nibbles: _,
+            zeros: _,
+            exceptions,
+        } = self;
+        drop(exceptions);
+    }
+}
+
+impl<'a, A: Allocator> Model for NibbleSlice<'a, A> {
+    ghost use Rattle.std.specs.Prelude.{◌≡◌, ◌*◌, ◌^◌, ◌<◌, ◌≤◌, ℕ, List, All, length};
+    ghost use Rattle.hll_kernels.specs.Packed.{nibble_at, zero_nibbles};
+    ghost use Rattle.hll_registers.specs.FourBits.{exception_in, unboxed, unpacked, IsMapFor};
+    ghost use Rattle.hll_registers.specs.Payload.{Agrees};
+
+    ghost Value = { ℕ × List ℕ };
+
+    ghost view = { λ l. (l.lg_k, unpacked l.lg_k l.minimum l.nibbles.now (unboxed l.exceptions)) };
+
+    ghost invariant = { λ l. (4 ≤ l.lg_k) × (l.lg_k ≤ 21) × (2 * length l.nibbles.now ≡ 2 ^ l.lg_k) × All (λ b. b < 256) l.nibbles.now × IsMapFor l.lg_k (unboxed l.exceptions)
+        × ((s : ℕ) → s < 2 ^ l.lg_k → Agrees l.minimum (nibble_at l.nibbles.now s) (exception_in (unboxed l.exceptions) s)) × (l.zeros ≡ zero_nibbles l.nibbles.now) };
+}
+
+impl<'a, A: Allocator> NibbleSlice<'a, A> {
+    /// The registers of nibbles above a minimum, and exceptions, if they agree. One pass over the nibbles, where the minimum
+    /// is at most 49; takes no memory.
+    ///
+    /// `lg_k` is 4 to 21. Fails with `Register` if they don't agree.
+    pub fn from_parts(
+        lg_k: u8,
+        minimum: u8,
+        nibbles: &'a [u8],
+        exceptions: Exceptions<A>,
+    ) -> Result<NibbleSlice<'a, A>, Error>
+        requires least { 4 ≤ lg_k }
+        requires most { lg_k ≤ 21 }
+        requires size { 2 * length nibbles.now ≡ 2 ^ lg_k }
+        requires map { IsMapFor lg_k (unboxed exceptions) }
+        ensures ok { IfOk result (λ r. r ≡ (lg_k, unpacked lg_k minimum nibbles.now (unboxed exceptions))) }
+        ensures agree { OnOk result ((s : ℕ) → s < 2 ^ lg_k → Agrees minimum (nibble_at nibbles.now s) (exception_in (unboxed exceptions) s)) }
+        ensures err { IfErr result (λ e. (e ≡ Register) × (((s : ℕ) → s < 2 ^ lg_k → Agrees minimum (nibble_at nibbles.now s) (exception_in (unboxed exceptions) s)) → ⊥)) }
+    {
+        let (zeros, marks) = count_zeros_and_marks(nibbles);
+        if !agree(nibbles, &exceptions, lg_k, minimum, marks) {
+            return Err(Error::new(Reason::Register));
+        }
+        Ok(NibbleSlice {
+            lg_k,
+            minimum,
+            nibbles,
+            zeros,
+            exceptions,
+        })
+    }
+
+    /// Whether all registers are 0.
+    pub fn are_all_zero(&self) -> bool
+        ensures { result ≡ list_all (λ v. v == 0) self.now.1 }
+    {
+        self.minimum == 0 && all_zero(self.nibbles)
+    }
+}
+
+impl<'a, A: Allocator + Clone> NibbleSlice<'a, A> {
+    /// The registers in memory of their own, above the least of them. A copy of the nibbles, and where the minimum is below
+    /// the least register, two passes more. Takes memory by this allocator, which the map has.
+    ///
+    /// Fails with `Memory`.
+    pub fn into_registers(self, alloc: A) -> Result<NibbleRegisters<A>, Error>
+        ensures ok { IfOk result (λ r. (r.lg_k ≡ self.entry.0) × (r.registers ≡ self.entry.1)) }
+        ensures err { IfErr result (λ e. e ≡ Memory) }
+    {
+        let NibbleSlice {
+            lg_k,
+            minimum,
+            nibbles,
+            zeros,
+            exceptions,
+        } = self;
+        NibbleRegisters::from_parts(alloc, lg_k, minimum, nibbles, zeros, exceptions)
+    }
+}
+
+impl<'a, A: Allocator> Registers for NibbleSlice<'a, A> {
+    ghost stored = { λ l. record { lg_k = l.0; registers = l.1; state = cleared_state } };
+
+    fn lg_k(&self) -> u8 {
+        self.lg_k
+    }
+
+    fn num_registers(&self) -> usize {
+        two_to(self.lg_k)
+    }
+
+    fn get(&self, slot: u32) -> u8 {
+        register_at(self.nibbles, &self.exceptions, self.minimum, slot)
+    }
+
+    fn estimate_state(&self) -> EstimateState {
+        EstimateState::CLEARED
+    }
+
+    /// One pass, and a search for each exception.
+    fn join_into(&self, first: u32, values: &mut [u8]) {
+        raise_by_registers(
+            values,
+            first,
+            self.nibbles,
+            &self.exceptions,
+            self.lg_k,
+            self.minimum,
+        );
+    }
+}

@@ -1,0 +1,151 @@
+-- The union of two images of coupons that ascend.
+use Rattle.std.proofs.Common.{◌≡◌, ◌≢◌, ℕ, suc, inl, ◌+◌, ◌-◌, ◌/◌, ◌^◌, ◌<◌, ◌∷◌, ◌&&◌, true, false, nat_eq, List, length, take, drop, get_or, Some, None, refl, sym, ap, subst, ◌∙◌, arith}
+use Rattle.std.specs.FinSet.{union, len, len-empty}
+use Rattle.std.specs.Ordering.{nat_cmp}
+use Rattle.std.specs.List.Sorted.{IsStrictlyIncreasing}
+use Rattle.std.proofs.lemmas.Bool.{cond-true, cond-false, eq-eqb, ne_eqb}
+use Rattle.std.proofs.lemmas.List.{take-append-drop}
+use Rattle.hll_base.specs.declared.hll_type.HllType.{HllType}
+use Rattle.hll_base.specs.declared.hll_type.HllType.TheVariants.{Hll8}
+use Rattle.hll_coupons.specs.Pair.{Pairs, set_of}
+use Rattle.hll_coupons.specs.Coupons.{coupon_bytes, IsAscending, WritesAscending}
+use Rattle.hll_coupons.proofs.Ascending.{len-ascending}
+use Rattle.hll_coupons.proofs.Merging.{count_in_bytes}
+use Rattle.hll_sketch.specs.Adding.{add, content_for}
+use Rattle.hll_sketch.specs.CouponImages.{AscendAsWritten, IsOfAscending, HasAscendingCoupons, HaveUnionInTable, IsImageOfUnion, IsImageAt}
+use Rattle.hll_sketch.specs.Image.{AreBytes, byte, lg_k_byte, table_byte, HasHeader, list, set, hll8, hll6, hll4}
+use Rattle.hll_sketch.specs.Merging.{merge, merge_content, empty_union}
+use Rattle.hll_sketch.specs.Stage.{stage}
+use Rattle.hll_sketch.specs.TakenIn.{IsOfCoupons, words_in, HasCompactCoupons}
+use Rattle.hll_sketch.specs.Value.{Sketch, Content, coupons, registers, in_registers, pairs_in, pairs_of, is_empty, IsLgK, IsTableFor, IsLegal, IsLegalContent}
+use Rattle.hll_sketch.specs.Written.{coupon_image, Written}
+use Rattle.hll_sketch.proofs.Images.{at}
+use Rattle.hll_sketch.proofs.LegalSketches.{legal_size}
+use Rattle.hll_sketch.proofs.MergedImages.{read_is_legal}
+
+-- ---- what an image of coupons says
+
+-- the size of a table; registers have none
+abbrev size_of_table : Content → ℕ
+size_of_table (coupons S size) = size
+size_of_table (registers R state) = 0
+
+module _ (b order : List ℕ) (of : IsOfCoupons b order) where
+  abbrev front : List ℕ
+  front = take of.read.size b
+
+  byte_is : (s i : ℕ) → HasHeader front s → i < 8 → byte front i ≡ byte b i
+  byte_is s i h within = at front (drop of.read.size b) b (take-append-drop of.read.size b) h.whole i within
+
+  no_registers : of.sketch.content ≡ coupons (set_of order) of.size → in_registers of.sketch.content ≡ true → ⊥
+  no_registers is inside = let no : false ≡ true = sym (ap in_registers is) ∙ inside in cc
+
+  coupons_say : (of.sketch.lg_k ≡ lg_k_byte b) × (of.size ≡ table_byte b)
+  coupons_say = elim of.read.image [
+    | list is e ↦ (ap (λ (x : Sketch). x.lg_k) e ∙ byte_is 0 3 is.header (omega arith), ap size_of_table (sym of.content ∙ ap (λ (x : Sketch). x.content) e) ∙ sym is.table ∙ byte_is 0 4 is.header (omega arith))
+    | set is e ↦ (ap (λ (x : Sketch). x.lg_k) e ∙ byte_is 1 3 is.header (omega arith), ap size_of_table (sym of.content ∙ ap (λ (x : Sketch). x.content) e) ∙ byte_is 1 4 is.header (omega arith))
+    | hll8 is e ↦ absurd (no_registers of.content (ap (λ (x : Sketch). in_registers x.content) e))
+    | hll6 is e ↦ absurd (no_registers of.content (ap (λ (x : Sketch). in_registers x.content) e))
+    | hll4 is e ↦ absurd (no_registers of.content (ap (λ (x : Sketch). in_registers x.content) e))
+  ]
+
+  -- an image whose coupons ascend
+  pub of_ascending : (k size : ℕ) → k ≡ lg_k_byte b → size ≡ table_byte b → AscendAsWritten order → IsOfAscending b k size order
+  of_ascending k size k_is size_is up = record {
+    sketch = of.sketch;
+    read = of.read;
+    lg_k = coupons_say.0 ∙ sym k_is;
+    content = of.content ∙ ap (coupons (set_of order)) (coupons_say.1 ∙ sym size_is);
+    some = of.some;
+    ascends = up;
+  }
+
+-- ---- the union
+
+module _ (k : ℕ) (x y : Sketch) (S T : Pairs) (p q : ℕ) (at_k : x.lg_k ≡ k) (x_is : x.content ≡ coupons S p) (y_is : y.content ≡ coupons T q) (some_x : len S ≢ 0) (some_y : len T ≢ 0) where
+  abbrev first : Sketch
+  first = record { lg_k = k; width = Hll8; content = coupons S p }
+
+  not_empty : (z : Sketch) (P : Pairs) (r : ℕ) → z.content ≡ coupons P r → len P ≢ 0 → is_empty z ≡ false
+  not_empty z P r is some = ap (λ c. nat_eq (len (pairs_in c)) 0) is ∙ ne_eqb (len P) 0 some
+
+  -- the first sketch is taken whole
+  taken_whole : merge k (empty_union k) x ≡ first
+  taken_whole =
+      cond-false (is_empty x) (empty_union k) (merge_content k (empty_union k) x x.content) (not_empty x S p x_is some_x)
+      ∙ ap (merge_content k (empty_union k) x) x_is
+      ∙ cond-true (is_empty (empty_union k) && nat_eq k x.lg_k) (record (empty_union k) { content = x.content }) (add (empty_union k) (pairs_of x)) whole
+      ∙ ap (λ c. let z : Sketch = record { lg_k = k; width = Hll8; content = c } in z) x_is
+    where
+      whole : (is_empty (empty_union k) && nat_eq k x.lg_k) ≡ true
+      whole = (λ i. nat_eq (len-empty nat_cmp i) 0 && nat_eq k x.lg_k) ∙ eq-eqb k x.lg_k (sym at_k)
+
+  -- the coupons of the second are added
+  pub merged_in_table : (size : ℕ) → stage k p (len (union S T)) ≡ Some size → merge k (merge k (empty_union k) x) y ≡ record { lg_k = k; width = Hll8; content = coupons (union S T) size }
+  merged_in_table size held =
+      ap (λ g. merge k g y) taken_whole
+      ∙ cond-false (is_empty y) first (merge_content k first y y.content) (not_empty y T q y_is some_y)
+      ∙ ap (merge_content k first y) y_is
+      ∙ cond-false (is_empty first && nat_eq k y.lg_k) (record first { content = y.content }) (add first (pairs_of y)) (ap (λ b. b && nat_eq k y.lg_k) (ne_eqb (len S) 0 some_x))
+      ∙ ap (λ c. add first (pairs_in c)) y_is
+      ∙ ap (λ o. let z : Sketch = record { lg_k = k; width = Hll8; content = content_for k (union S T) o } in z) held
+
+-- what is written for the union
+module _ (k kl kr p q : ℕ) (left right xs ys bytes : List ℕ) (l : IsOfAscending left kl p xs) (r : IsOfAscending right kr q ys) (at_k : kl ≡ k)
+    (up : WritesAscending coupon_bytes (union (set_of xs) (set_of ys)) bytes) (n : ℕ) (count : n ≡ length bytes / 4) where
+  number : n ≡ len (union (set_of xs) (set_of ys))
+  number = count ∙ count_in_bytes bytes up.order up.is ∙ len-ascending up.order (union (set_of xs) (set_of ys)) up.ascending
+
+  pub table_of_union : (size : ℕ) → stage k p n ≡ Some size → (order : List ℕ) × (bytes ≡ coupon_bytes order) × IsTableFor k (length order) size
+  table_of_union size held = (up.order, up.is, subst (λ m. IsTableFor k m size) (number ∙ sym (len-ascending up.order (union (set_of xs) (set_of ys)) up.ascending)) (legal_size k p n size held))
+
+  pub image_of_union : (size : ℕ) (width : HllType) (image : List ℕ) → stage k p n ≡ Some size → IsLgK kl → ((order : List ℕ) → bytes ≡ coupon_bytes order → image ≡ coupon_image k width size order)
+      → IsImageOfUnion k width left right image
+  image_of_union size width image held legal is =
+      let U : Pairs = union (set_of xs) (set_of ys) in
+      let same : merge k (merge k (empty_union k) l.sketch) r.sketch ≡ record { lg_k = k; width = Hll8; content = coupons U size } =
+      merged_in_table k l.sketch r.sketch (set_of xs) (set_of ys) p q (l.lg_k ∙ at_k) l.content r.content l.some r.some size (ap (stage k p) (sym number) ∙ held) in
+      record {
+        bound_is = subst IsLgK at_k legal;
+        left_sketch = l.sketch;
+        left_read = l.read;
+        right_sketch = r.sketch;
+        right_read = r.read;
+        written = subst (λ (z : Sketch). Written image (record z { width = width })) (sym same) (record { order = up.order; ascending = up.ascending; is = is up.order up.is });
+      }
+
+  -- no table holds it
+  pub no_table : p ≡ table_byte left → xs ≡ words_in left → ys ≡ words_in right → stage k p n ≡ None → HaveUnionInTable k left right → ⊥
+  no_table p_is xs_is ys_is none have =
+      have.held ((λ i. stage k (sym p_is i) (len (union (set_of (sym xs_is i)) (set_of (sym ys_is i))))) ∙ ap (stage k p) (sym number) ∙ none)
+
+-- words that ascend from the greatest without a value ascend
+pub ascends_behind : (xs : List ℕ) → AscendAsWritten xs → IsStrictlyIncreasing xs
+ascends_behind xs up k within =
+    let e : suc k + 1 ≡ suc (k + 1) = omega arith in subst (λ n. get_or xs k 0 < get_or ((2 ^ 26 - 1) ∷ xs) n 0) e (up (suc k) (omega (arith, within)))
+
+-- the image has such coupons
+pub compact_coupons_of : (b : List ℕ) → HasAscendingCoupons b → HasCompactCoupons b
+compact_coupons_of b has = record { stage = has.stage; sized = has.sized; compact = has.compact; some = has.some; evident = inl has.ascends }
+
+-- ---- one image
+
+module _ (k size : ℕ) (b xs bytes : List ℕ) (of : IsOfAscending b k size xs) (is_bytes : bytes ≡ coupon_bytes xs) where
+  own_order : IsAscending xs (set_of xs)
+  own_order = record { increasing = ascends_behind xs of.ascends; members = refl }
+
+  -- what is written at a width
+  pub image_at : (width : HllType) (image : List ℕ) → ((order : List ℕ) → bytes ≡ coupon_bytes order → image ≡ coupon_image k width size order) → IsImageAt width b image
+  image_at width image is = record {
+    sketch = of.sketch;
+    read = of.read;
+    written = subst (λ (c : Content). Written image (record of.sketch { width = width; content = c })) (sym of.content)
+        (record { order = xs; ascending = own_order; is = is xs is_bytes ∙ ap (λ n. coupon_image n width size xs) (sym of.lg_k) });
+  }
+
+  -- its table holds them
+  pub own_table : AreBytes b → (order : List ℕ) × (bytes ≡ coupon_bytes order) × IsTableFor k (length order) size
+  own_table are =
+      let legal : IsLegal of.sketch = read_is_legal b of.sketch are of.read in
+      let table : IsTableFor of.sketch.lg_k (len (set_of xs)) size = (subst (IsLegalContent of.sketch.lg_k) of.content legal.content).1 in
+      (xs, is_bytes, subst (λ n. IsTableFor n (length xs) size) of.lg_k (subst (λ n. IsTableFor of.sketch.lg_k n size) (sym (len-ascending xs (set_of xs) own_order)) table))

@@ -1,0 +1,25 @@
+use Rattle.std.proofs.Common.{◌≤◌, List, ℕ, length, inl, inr, sym, ◌∙◌, arith}
+use Rattle.std.proofs.lemmas.Bool.{true≢false}
+use Rattle.hll_coupons.specs.Coupons.{words}
+use Rattle.hll_coupons.proofs.Merging.{length-words}
+use Rattle.hll_sketch.proofs.borrowed.Words.are_evidently_coupons.Goals as goal
+
+pub returns-then-self-gt-FEW : goal.returns-then-self-gt-FEW
+returns-then-self-gt-FEW c = (
+  λ e. absurd (true≢false (sym e)),
+  λ evident. elim evident [
+    | inl up ↦ absurd (true≢false (sym (c.ascend.ensures.1 up) ∙ c.if-ascend.false))
+    | inr few ↦ absurd (omega (arith, few.0, length-words c.args.self.now.count c.args.self.now.bytes.now, c.if-self-gt-FEW.true))
+  ],
+)
+
+pub returns : goal.returns
+returns c =
+    let ws : List ℕ = words c.args.self.now.count c.args.self.now.bytes.now in
+    let few : length ws ≤ 128 = omega (arith, length-words c.args.self.now.count c.args.self.now.bytes.now, c.if-self-gt-FEW.false) in (
+      λ e. inr (few, c.differ.ensures.0 e),
+      λ evident. elim evident [
+        | inl up ↦ absurd (true≢false (sym (c.ascend.ensures.1 up) ∙ c.if-ascend.false))
+        | inr both ↦ c.differ.ensures.1 both.1
+      ],
+    )
