@@ -5,7 +5,8 @@ all processors, in PostgreSQL with 0 and 3 workers, and by Dask with 1 to 4 work
 
     engines.py [--images N] [--files N] [--runs N] [processes | postgresql | dask ..]
 
-The images are 100,000 distinct ones of lg_k 12 at 8, 6 and 4 bits, and as many of 20 values each. Beside them stands
+The images are 100,000 distinct ones of lg_k 12 at 8, 6 and 4 bits, and as many of 20 values each, whose coupons ascend,
+or stand in the order of their places ("as placed"), as other libraries write them. Beside them stands
 postgresql-hll, where it is installed, on sketches of the same registers at 5 bits, and of as many values. Contestants
 take turns, and each number is the median over the rounds; so is each ratio, over the ratios of the rounds. In PostgreSQL
 the time of a scan alone (`count`) is taken off. Dask reads a folder of 20,000 files, and so does the process beside it.
@@ -149,6 +150,23 @@ def sketch_of_values(first, count):
     return sketch.to_bytes()
 
 
+def in_order_of_places(image):
+    """The image of a set as other libraries write it: its coupons in the order of their places in the table."""
+    size = 1 << image[4]
+    places = [0] * size
+    for coupon in struct.unpack_from("<%dI" % ((len(image) - 12) // 4), image, 12):
+        place, stride = coupon % size, coupon % 2**26 // size | 1
+        while places[place]:
+            place = (place + stride) % size
+        places[place] = coupon
+    coupons = list(filter(None, places))
+    return image[:12] + struct.pack("<%dI" % len(coupons), *coupons)
+
+
+def small_images(count):
+    return [sketch_of_values(20 * number, 20) for number in range(count)]
+
+
 def image_kinds(count):
     """The images of each width, and the small ones."""
     from hll_sketches import union_of
@@ -156,7 +174,9 @@ def image_kinds(count):
     yield "8 bits", images
     for width in (6, 4):
         yield "%d bits" % width, [union_of([image], LG_K, width).to_bytes() for image in images]
-    yield "20 values", [sketch_of_values(20 * number, 20) for number in range(count)]
+    small = small_images(count)
+    yield "20 values", small
+    yield "20 values, as placed", list(map(in_order_of_places, small))
 
 
 def measure_processes(arguments):
@@ -198,6 +218,8 @@ def fill(server, count, has_peer):
     for width in (6, 4):
         server.ask("INSERT INTO ours%d SELECT k, hll_convert(image, %d) FROM ours8" % (width, width))
     server.ask("INSERT INTO small SELECT n %% %d, hll_image_add_agg(x) FROM %s" % (GROUPS, SMALL % (20 * count - 1)))
+    copy_file(path, map(in_order_of_places, small_images(count)))
+    server.ask("COPY placed FROM '%s' (FORMAT binary)" % path)
     if has_peer:
         fill_peer(server, count, path)
     path.unlink()
@@ -219,7 +241,7 @@ def fill_peer(server, count, path):
 
 
 def kinds(has_peer):
-    return ["ours8", "ours6", "ours4", "small"] + (["peer", "peer_small"] if has_peer else [])
+    return ["ours8", "ours6", "ours4", "small", "placed"] + (["peer", "peer_small"] if has_peer else [])
 
 
 def launched(plan):
@@ -261,14 +283,14 @@ def measure_postgresql(arguments):
 
 def compare_estimates(server):
     """Both count the same registers: so their estimates are near each other."""
-    for ours, peer in (("ours8", "peer"), ("small", "peer_small")):
+    for ours, peer in (("ours8", "peer"), ("small", "peer_small"), ("placed", "peer_small")):
         first = float(server.ask("SELECT hll_estimate(hll_image_union_agg(image)) FROM " + ours))
         second = float(server.ask("SELECT hll_cardinality(hll_union_agg(image)) FROM " + peer))
         assert 0.9 < first / second < 1.1, (first, second)
 
 
-NAMES = {"ours8": "8 bits", "ours6": "6 bits", "ours4": "4 bits", "small": "20 values", "peer": "postgresql-hll",
-         "peer_small": "postgresql-hll, 20 values"}
+NAMES = {"ours8": "8 bits", "ours6": "6 bits", "ours4": "4 bits", "small": "20 values",
+         "placed": "20 values, as placed", "peer": "postgresql-hll", "peer_small": "postgresql-hll, 20 values"}
 QUERIES = {"scan": "SELECT count(image) FROM %s", "union": "SELECT union_agg(image) FROM %s",
            "groups": "SELECT count(u) FROM (SELECT union_agg(image) u FROM %s GROUP BY k) x"}
 
@@ -298,7 +320,7 @@ def measure_queries(arguments, session, has_peer):
         for workers in (0, WORKERS):
             union, scan = times[kind, workers, "union"], times[kind, workers, "scan"]
             row += ["%s (%s)" % (milliseconds(union), milliseconds(scan)), rate(arguments.images, net(kind, workers))]
-        peer = "peer_small" if kind == "small" else "peer"
+        peer = "peer_small" if kind in ("small", "placed") else "peer"
         beside = ratio(net(kind, 0), net(peer, 0)) if has_peer and not kind.startswith("peer") else ""
         rows.append(row + [ratio(net(kind, 0), net(kind, WORKERS)), beside, milliseconds(times[kind, 0, "groups"])])
     table(["images", "0 workers, ms (scan)", "images/s", "%d workers, ms (scan)" % WORKERS, "images/s",

@@ -160,8 +160,8 @@ typedef struct hll_estimation {
 hll_status hll_image_info(const uint8_t *image, size_t len, hll_info *info);
 
 /* Whether the bytes begin with an image (HLL_OK), else why not.
- * Answers HLL_OK, 1 to 11, or HLL_MEMORY. Takes the memory of reading, and none for coupons that are at most 128, or
- * ascend in a compact image. */
+ * Answers HLL_OK, 1 to 11, or HLL_MEMORY. Takes the memory of reading for coupons, but none where they are at most 128,
+ * or ascend in a compact image; and memory for the exceptions of registers of 4 bits. */
 hll_status hll_image_check(const uint8_t *image, size_t len);
 
 /* Counts the registers of each value, at the lg_k of the image; the coupons of a list or a set are folded to it.

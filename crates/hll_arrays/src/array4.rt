@@ -18,7 +18,7 @@ use hll_coupons::serialization::{COMPACT_FLAG_MASK, COUPON_SIZE_BYTES, HLL_PREAM
 use hll_registers::aux_format::AuxFormat;
 use hll_registers::estimate_state::EstimateState;
 use hll_registers::nibble_registers::NibbleRegisters;
-use hll_registers::nibble_slice::NibbleSlice;
+use hll_registers::nibble_slice::{NibbleSlice, Use};
 use hll_registers::preamble::{HllHeader, Preamble};
 use hll_registers::register_store::RegisterStore;
 use hll_registers::registers::{Registers, two_to, units_of};
@@ -398,6 +398,6 @@ pub fn read_nibbles<'a, A: Allocator + Clone>(
         aux_format,
         ooo,
     };
-    let (registers, state) = read_slice(alloc, cursor, header)?;
+    let (registers, state) = read_slice(alloc, cursor, header, Use::Join)?;
     Ok((registers, state))
 }

@@ -19,7 +19,7 @@ use hll_registers::aux_format::AuxFormat;
 use hll_registers::estimate_state::EstimateState;
 use hll_registers::exception_map::{Exceptions, add_exception, exception_at};
 use hll_registers::nibble_registers::NibbleRegisters;
-use hll_registers::nibble_slice::NibbleSlice;
+use hll_registers::nibble_slice::{NibbleSlice, Use};
 use hll_registers::preamble::Preamble;
 use hll_registers::registers::two_to;
 use std::alloc::Allocator;
@@ -55,7 +55,7 @@ pub(crate) fn read_payload<A: Allocator + Clone>(
     ensures asked { let h = shape_of_hll4 header.lg_config_k header.cur_min header.aux_format in
         IfErr result (λ e. e ≡ Memory → IsWhole h cursor.entry) }
 {
-    let (registers, state) = read_slice(&alloc, cursor, header)?;
+    let (registers, state) = read_slice(&alloc, cursor, header, Use::Copy)?;
     Ok((registers.into_registers(alloc)?, state))
 }
 
@@ -67,6 +67,7 @@ pub(crate) fn read_slice<'a, A: Allocator + Clone>(
     alloc: &A,
     cursor: SketchSlice<'a>,
     header: Hll4Header,
+    later: Use,
 ) -> Result<(NibbleSlice<'a, A>, EstimateState), Error>
     requires least { 4 ≤ header.lg_config_k }
     requires most { header.lg_config_k ≤ 21 }
@@ -87,6 +88,7 @@ pub(crate) fn read_slice<'a, A: Allocator + Clone>(
         header.cur_min,
         frame.nibbles,
         exceptions,
+        later,
     )?;
     Ok((registers, frame.preamble.state))
 }

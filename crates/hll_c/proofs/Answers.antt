@@ -7,7 +7,7 @@ use Rattle.hll_base.specs.declared.error.Reason.TheVariants.{Memory}
 use Rattle.hll_sketch.specs.Layout.{SketchLayout, sketch_of}
 use Rattle.hll_sketch.specs.Value.{Sketch}
 use Rattle.hll_sketch.specs.Written.{Written}
-use Rattle.hll_c.specs.Answers.{Answers, wrote, too_small, refused, IsImageOf, Puts, put, wanted, not_put, Tells, told, untold, Tests, passed, failed, ok_code, buffer_code}
+use Rattle.hll_c.specs.Answers.{Answers, IsImageOf, PutsBytes, wrote, too_small, refused, Tells, told, untold, Tests, passed, failed, ok_code, buffer_code}
 
 -- the sketch that was made, and why none was, or why no image of it is written
 abbrev pub IsOf : Result SketchLayout Reason → Sketch → Type 0
@@ -15,6 +15,13 @@ IsOf made y = MatchResult made (λ s. y ≡ sketch_of s) (λ _. ⊥)
 
 abbrev pub IsFor : Result SketchLayout Reason → Reason → Type 0
 IsFor made r = MatchResult made (λ _. r ≡ Memory) (λ e. r ≡ e)
+
+-- what is put, and why not, said otherwise
+puts_as : {A B : List ℕ → Type 0} {Q R : Reason → Type 0} (old new : List ℕ) (size_old size_new code : ℕ) → ((b : List ℕ) → A b → B b) → ((r : Reason) → Q r → R r)
+    → PutsBytes A Q old new size_old size_new code → PutsBytes B R old new size_old size_new code
+puts_as old new so sn _ are why (wrote b put fits after size) = wrote b (are b put) fits after size
+puts_as old new so sn _ are why (too_small b put short after size) = too_small b (are b put) short after size
+puts_as old new so sn _ are why (refused r from after size) = refused r (why r from) after size
 
 module _ (IsMade : Sketch → Type 0) (Refuses : Reason → Type 0) (memory : (y : Sketch) → IsMade y → Refuses Memory) where
   made_of : (made : Result SketchLayout Reason) (y : Sketch) → IfOk made (λ s. IsMade (sketch_of s)) → IsOf made y → IsMade y
@@ -29,9 +36,7 @@ module _ (IsMade : Sketch → Type 0) (Refuses : Reason → Type 0) (memory : (y
   pub answers_of : (made : Result SketchLayout Reason) (old new : List ℕ) (size_old size_new code : ℕ)
       → IfOk made (λ s. IsMade (sketch_of s)) → IfErr made Refuses → Answers (λ y. IsOf made y) (λ r. IsFor made r) old new size_old size_new code
       → Answers IsMade Refuses old new size_old size_new code
-  answers_of made old new so sn _ ok err (wrote y bytes from written fits is size) = wrote y bytes (made_of made y ok from) written fits is size
-  answers_of made old new so sn _ ok err (too_small y bytes from written short is size) = too_small y bytes (made_of made y ok from) written short is size
-  answers_of made old new so sn _ ok err (refused r from is size) = refused r (refused_of made r ok err from) is size
+  answers_of made old new so sn code ok err = puts_as old new so sn code (λ b is. (is.0, made_of made is.0 ok is.1, is.2)) (λ r from. refused_of made r ok err from)
 
 module _ {X : Type 0} (Says : X → Type 0) (Refuses : Reason → Type 0) where
   said : (found : Result X Reason) (x : X) → IfOk found Says → MatchResult found (λ y. x ≡ y) (λ _. ⊥) → Says x
@@ -62,15 +67,15 @@ module _ {X : Type 0} (items : X → List ℕ) (image : Result X Reason) where
   are_of v is = subst (λ m. MatchResult m (λ w. items v ≡ items w) (λ _. ⊥)) (sym is) refl
 
   pub puts : (v : X) (old new : List ℕ) (size_old size_new : ℕ) → image ≡ Ok v → length (items v) ≤ length old → new ≡ items v ++ drop (length (items v)) old → size_new ≡ length (items v)
-      → Puts AreOf IsWhyNone old new size_old size_new ok_code
-  puts v old new so sn is fits after size = put (items v) (are_of v is) fits after size
+      → PutsBytes AreOf IsWhyNone old new size_old size_new ok_code
+  puts v old new so sn is fits after size = wrote (items v) (are_of v is) fits after size
 
-  pub wants : (v : X) (old : List ℕ) (size_old size_new : ℕ) → image ≡ Ok v → length old < length (items v) → size_new ≡ length (items v) → Puts AreOf IsWhyNone old old size_old size_new buffer_code
-  wants v old so sn is short size = wanted (items v) (are_of v is) short refl size
+  pub wants : (v : X) (old : List ℕ) (size_old size_new : ℕ) → image ≡ Ok v → length old < length (items v) → size_new ≡ length (items v) → PutsBytes AreOf IsWhyNone old old size_old size_new buffer_code
+  wants v old so sn is short size = too_small (items v) (are_of v is) short refl size
 
-  pub puts_nothing : (e : Reason) (old : List ℕ) (size code : ℕ) → image ≡ Err e → code ≡ number_of e → Puts AreOf IsWhyNone old old size size code
+  pub puts_nothing : (e : Reason) (old : List ℕ) (size code : ℕ) → image ≡ Err e → code ≡ number_of e → PutsBytes AreOf IsWhyNone old old size size code
   puts_nothing e old size code is number =
-      subst (Puts AreOf IsWhyNone old old size size) (sym number) (not_put e (subst (λ m. MatchResult m (λ _. ⊥) (λ d. e ≡ d)) (sym is) refl) refl refl)
+      subst (PutsBytes AreOf IsWhyNone old old size size) (sym number) (refused e (subst (λ m. MatchResult m (λ _. ⊥) (λ d. e ≡ d)) (sym is) refl) refl refl)
 
   -- the answer that puts it is one of a call that writes what is made
   module _ (IsMade : Sketch → Type 0) (Refuses : Reason → Type 0) where
@@ -83,10 +88,8 @@ module _ {X : Type 0} (items : X → List ℕ) (image : Result X Reason) where
     why_in (Err e) err r same = subst Refuses (sym same) err
 
     pub answers_with : (old new : List ℕ) (size_old size_new code : ℕ) → IfOk image (λ v. IsImageOf IsMade (items v)) → IfErr image Refuses
-        → Puts AreOf IsWhyNone old new size_old size_new code → Answers IsMade Refuses old new size_old size_new code
-    answers_with old new so sn _ ok err (put b are fits after size) = let made = image_in image ok b are in wrote made.0 b made.1 made.2 fits after size
-    answers_with old new so sn _ ok err (wanted b are short after size) = let made = image_in image ok b are in too_small made.0 b made.1 made.2 short after size
-    answers_with old new so sn _ ok err (not_put r why after size) = refused r (why_in image err r why) after size
+        → PutsBytes AreOf IsWhyNone old new size_old size_new code → Answers IsMade Refuses old new size_old size_new code
+    answers_with old new so sn code ok err = puts_as old new so sn code (image_in image ok) (why_in image err)
 
 -- the image of what was made is what is written for it
 pub image_of_made : (made : Result SketchLayout Reason) (bytes : List ℕ) → MatchResult made (λ s. Written bytes (sketch_of s)) (λ _. ⊥) → IsImageOf (λ y. IsOf made y) bytes

@@ -16,27 +16,22 @@ ok_code = 0
 abbrev pub buffer_code : ℕ
 buffer_code = 14
 
--- A call that writes an image into a buffer. It makes a sketch, as `IsMade` says, and puts the bytes that are written for it at the front
--- of the buffer, whose rest stays, and says how many they are; or the buffer is too small for them, and it says how many they are alone;
--- or it `Refuses` for a reason, and nothing changes.
-pub data Answers (IsMade : Sketch → Type 0) (Refuses : Reason → Type 0) (old new : List ℕ) (size_old size_new : ℕ) : ℕ → Type 0 where
-  wrote : (made : Sketch) (bytes : List ℕ) → IsMade made → Written bytes made → length bytes ≤ length old → new ≡ bytes ++ drop (length bytes) old → size_new ≡ length bytes
-      → Answers IsMade Refuses old new size_old size_new ok_code
-  too_small : (made : Sketch) (bytes : List ℕ) → IsMade made → Written bytes made → length old < length bytes → new ≡ old → size_new ≡ length bytes
-      → Answers IsMade Refuses old new size_old size_new buffer_code
-  refused : (r : Reason) → Refuses r → new ≡ old → size_new ≡ size_old → Answers IsMade Refuses old new size_old size_new (number_of r)
+-- Bytes that a call puts into a buffer: at its front, whose rest stays, and it says how many they are; or the buffer is too small for them,
+-- and it says how many they are alone; or it `Refuses` for a reason, and nothing changes.
+pub data PutsBytes (ArePut : List ℕ → Type 0) (Refuses : Reason → Type 0) (old new : List ℕ) (size_old size_new : ℕ) : ℕ → Type 0 where
+  wrote : (bytes : List ℕ) → ArePut bytes → length bytes ≤ length old → new ≡ bytes ++ drop (length bytes) old → size_new ≡ length bytes
+      → PutsBytes ArePut Refuses old new size_old size_new ok_code
+  too_small : (bytes : List ℕ) → ArePut bytes → length old < length bytes → new ≡ old → size_new ≡ length bytes
+      → PutsBytes ArePut Refuses old new size_old size_new buffer_code
+  refused : (r : Reason) → Refuses r → new ≡ old → size_new ≡ size_old → PutsBytes ArePut Refuses old new size_old size_new (number_of r)
 
 -- the bytes are what is written for a sketch that is made
 abbrev pub IsImageOf : (Sketch → Type 0) → List ℕ → Type 0
 IsImageOf IsMade bytes = (made : Sketch) × IsMade made × Written bytes made
 
--- Bytes that are put into a buffer, as `Answers` puts an image: at its front, if they fit; or it is refused for a reason.
-pub data Puts (IsPut : List ℕ → Type 0) (Refuses : Reason → Type 0) (old new : List ℕ) (size_old size_new : ℕ) : ℕ → Type 0 where
-  put : (bytes : List ℕ) → IsPut bytes → length bytes ≤ length old → new ≡ bytes ++ drop (length bytes) old → size_new ≡ length bytes
-      → Puts IsPut Refuses old new size_old size_new ok_code
-  wanted : (bytes : List ℕ) → IsPut bytes → length old < length bytes → new ≡ old → size_new ≡ length bytes
-      → Puts IsPut Refuses old new size_old size_new buffer_code
-  not_put : (r : Reason) → Refuses r → new ≡ old → size_new ≡ size_old → Puts IsPut Refuses old new size_old size_new (number_of r)
+-- a call that makes a sketch, as `IsMade` says, and puts what is written for it into a buffer
+abbrev pub Answers : (Sketch → Type 0) → (Reason → Type 0) → List ℕ → List ℕ → ℕ → ℕ → ℕ → Type 0
+Answers IsMade Refuses = PutsBytes (IsImageOf IsMade) Refuses
 
 -- A call that tells something through a pointer, which `Says` what is asked; or it `Refuses` for a reason, and nothing changes.
 pub data Tells (X : Type 0) (Says : X → Type 0) (Refuses : Reason → Type 0) (old new : X) : ℕ → Type 0 where

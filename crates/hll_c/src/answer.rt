@@ -3,7 +3,7 @@ ghost use Rattle.std.specs.Prelude.{◌≡◌, MatchResult, IfOk, IfErr};
 ghost use Rattle.hll_base.specs.declared.error.Reason.TheVariants.{Memory};
 ghost use Rattle.hll_sketch.specs.Layout.{sketch_of};
 ghost use Rattle.hll_sketch.specs.Written.{Written};
-ghost use Rattle.hll_c.specs.Answers.{Answers, Puts, Tells, Tests};
+ghost use Rattle.hll_c.specs.Answers.{Answers, PutsBytes, Tells, Tests};
 
 use hll_base::error::Error;
 use hll_sketch::HllSketch;
@@ -46,7 +46,7 @@ pub(crate) fn put_image(made: Result<HllSketch, Error>, out: &mut [u8], size: &m
 
 /// Puts an image at the front of a buffer, if that is large enough, and says how large the image is.
 pub(crate) fn put_bytes(image: Result<Vec<u8>, Error>, out: &mut [u8], size: &mut usize) -> u8
-    ensures { Puts (λ b. MatchResult image (λ v. b ≡ v.items) (λ _. ⊥)) (λ r. MatchResult image (λ _. ⊥) (λ e. r ≡ e)) out.old out.new size.old size.new result }
+    ensures { PutsBytes (λ b. MatchResult image (λ v. b ≡ v.items) (λ _. ⊥)) (λ r. MatchResult image (λ _. ⊥) (λ e. r ≡ e)) out.old out.new size.old size.new result }
 {
     match image {
         Ok(image) => {

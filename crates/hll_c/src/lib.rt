@@ -45,7 +45,8 @@ pub extern "C" fn hll_image_info(alloc: Global, image: &[u8], info: &mut HllInfo
 
 /// Whether bytes begin with an image; else the reason of the first check that they fail (docs/FORMAT.md, "Order of checks").
 ///
-/// Takes memory for its sketch, and none for coupons that are at most 128, or ascend in a compact image. Answers `Memory` too.
+/// Answers `Memory` too. Takes memory for a table of coupons, but not for coupons that are at most 128, or ascend in a compact
+/// image; and for the exceptions of registers of four bits.
 #[unsafe(no_mangle)]
 pub extern "C" fn hll_image_check(alloc: Global, image: &[u8]) -> u8
     ensures { Tests ((x : Sketch) × IsReadAs image.now x) (RefusesImage image.now) result }

@@ -64,6 +64,19 @@ pub fn count_zero_nibbles(bytes: &[u8]) -> u32
     count + zero_nibbles_one_by_one(rest)
 }
 
+/// How many nibbles are 15. One pass.
+pub fn count_mark_nibbles(bytes: &[u8]) -> u32
+    requires { length bytes.now ≤ 2 ^ 20 }
+    ensures { result ≡ mark_nibbles bytes.now }
+{
+    let (blocks, rest) = bytes.as_chunks::<64>();
+    let mut count = 0;
+    for block in blocks {
+        count += u32::from(mark_nibbles_in(block));
+    }
+    count + mark_nibbles_one_by_one(rest)
+}
+
 /// How many nibbles are 0, and how many are 15. One pass.
 pub fn count_zeros_and_marks(bytes: &[u8]) -> (u32, u32)
     requires { length bytes.now ≤ 2 ^ 20 }

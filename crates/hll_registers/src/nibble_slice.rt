@@ -1,9 +1,9 @@
 //! A slice of nibbles above a minimum, with a map of exceptions, as registers of four bits (docs/MODEL.md, "Registers of
 //! four bits").
-ghost use Rattle.std.specs.Prelude.{◌≡◌, ◌*◌, ◌^◌, ◌<◌, ◌≤◌, ◌==◌, ℕ, length, IfOk, IfErr, OnOk};
+ghost use Rattle.std.specs.Prelude.{◌≡◌, ◌*◌, ◌^◌, ◌<◌, ◌≤◌, ◌==◌, ℕ, length, IfSome, IfOk, IfErr, OnOk};
 ghost use Rattle.std.specs.List.{list_all};
 ghost use Rattle.hll_base.specs.declared.error.Reason.TheVariants.{Memory, Register};
-ghost use Rattle.hll_kernels.specs.Packed.{nibble_at};
+ghost use Rattle.hll_kernels.specs.Packed.{mark_nibbles, nibble_at, zero_nibbles};
 ghost use Rattle.hll_registers.specs.FourBits.{exception_in, unboxed, unpacked, IsMapFor};
 ghost use Rattle.hll_registers.specs.Payload.{Agrees};
 ghost use Rattle.hll_registers.specs.State.{cleared_state};
@@ -15,9 +15,18 @@ use crate::nibble_registers::NibbleRegisters;
 use crate::registers::{Registers, two_to};
 use hll_base::error::{Error, Reason};
 use hll_kernels::kernels::all_zero;
-use hll_kernels::nibbles::count_zeros_and_marks;
+use hll_kernels::nibbles::{count_mark_nibbles, count_zero_nibbles, count_zeros_and_marks};
 use std::alloc::Allocator;
 use std::marker::Model;
+
+/// What borrowed registers are for.
+#[derive(Clone, Copy)]
+pub enum Use {
+    /// To be joined where they stand, or only checked.
+    Join,
+    /// To be copied, which asks how many nibbles are 0.
+    Copy,
+}
 
 /// 2^`lg_k` registers, two in a borrowed byte, with the cleared state: each as far above a minimum as a nibble says, and
 /// where that is 15, in a map. The minimum may be below the least register.
@@ -26,8 +35,8 @@ pub struct NibbleSlice<'a, A: Allocator> {
     lg_k: u8,
     minimum: u8,
     nibbles: &'a [u8],
-    /// How many nibbles are 0.
-    zeros: u32,
+    /// How many nibbles are 0, where they were counted.
+    zeros: Option<u32>,
     exceptions: Exceptions<A>,
 }
 
@@ -46,7 +55,7 @@ impl<'a, A: Allocator> Drop for NibbleSlice<'a, A> {
 }
 
 impl<'a, A: Allocator> Model for NibbleSlice<'a, A> {
-    ghost use Rattle.std.specs.Prelude.{◌≡◌, ◌*◌, ◌^◌, ◌<◌, ◌≤◌, ℕ, List, All, length};
+    ghost use Rattle.std.specs.Prelude.{◌≡◌, ◌*◌, ◌^◌, ◌<◌, ◌≤◌, ℕ, List, All, IfSome, length};
     ghost use Rattle.hll_kernels.specs.Packed.{nibble_at, zero_nibbles};
     ghost use Rattle.hll_registers.specs.FourBits.{exception_in, unboxed, unpacked, IsMapFor};
     ghost use Rattle.hll_registers.specs.Payload.{Agrees};
@@ -56,12 +65,12 @@ impl<'a, A: Allocator> Model for NibbleSlice<'a, A> {
     ghost view = { λ l. (l.lg_k, unpacked l.lg_k l.minimum l.nibbles.now (unboxed l.exceptions)) };
 
     ghost invariant = { λ l. (4 ≤ l.lg_k) × (l.lg_k ≤ 21) × (2 * length l.nibbles.now ≡ 2 ^ l.lg_k) × All (λ b. b < 256) l.nibbles.now × IsMapFor l.lg_k (unboxed l.exceptions)
-        × ((s : ℕ) → s < 2 ^ l.lg_k → Agrees l.minimum (nibble_at l.nibbles.now s) (exception_in (unboxed l.exceptions) s)) × (l.zeros ≡ zero_nibbles l.nibbles.now) };
+        × ((s : ℕ) → s < 2 ^ l.lg_k → Agrees l.minimum (nibble_at l.nibbles.now s) (exception_in (unboxed l.exceptions) s)) × IfSome l.zeros (λ n. n ≡ zero_nibbles l.nibbles.now) };
 }
 
 impl<'a, A: Allocator> NibbleSlice<'a, A> {
     /// The registers of nibbles above a minimum, and exceptions, if they agree. One pass over the nibbles, where the minimum
-    /// is at most 49; takes no memory.
+    /// is at most 49, which counts what a later use needs; takes no memory.
     ///
     /// `lg_k` is 4 to 21. Fails with `Register` if they don't agree.
     pub fn from_parts(
@@ -69,6 +78,7 @@ impl<'a, A: Allocator> NibbleSlice<'a, A> {
         minimum: u8,
         nibbles: &'a [u8],
         exceptions: Exceptions<A>,
+        later: Use,
     ) -> Result<NibbleSlice<'a, A>, Error>
         requires least { 4 ≤ lg_k }
         requires most { lg_k ≤ 21 }
@@ -78,7 +88,7 @@ impl<'a, A: Allocator> NibbleSlice<'a, A> {
         ensures agree { OnOk result ((s : ℕ) → s < 2 ^ lg_k → Agrees minimum (nibble_at nibbles.now s) (exception_in (unboxed exceptions) s)) }
         ensures err { IfErr result (λ e. (e ≡ Register) × (((s : ℕ) → s < 2 ^ lg_k → Agrees minimum (nibble_at nibbles.now s) (exception_in (unboxed exceptions) s)) → ⊥)) }
     {
-        let (zeros, marks) = count_zeros_and_marks(nibbles);
+        let (zeros, marks) = counts_of(nibbles, later);
         if !agree(nibbles, &exceptions, lg_k, minimum, marks) {
             return Err(Error::new(Reason::Register));
         }
@@ -115,7 +125,26 @@ impl<'a, A: Allocator + Clone> NibbleSlice<'a, A> {
             zeros,
             exceptions,
         } = self;
+        let zeros = match zeros {
+            Some(count) => count,
+            None => count_zero_nibbles(nibbles),
+        };
         NibbleRegisters::from_parts(alloc, lg_k, minimum, nibbles, zeros, exceptions)
+    }
+}
+
+/// How many nibbles are 0, if that is of use, and how many are 15. One pass.
+fn counts_of(nibbles: &[u8], later: Use) -> (Option<u32>, u32)
+    requires { length nibbles.now ≤ 2 ^ 20 }
+    ensures zeros { IfSome result.0 (λ n. n ≡ zero_nibbles nibbles.now) }
+    ensures marks { result.1 ≡ mark_nibbles nibbles.now }
+{
+    match later {
+        Use::Join => (None, count_mark_nibbles(nibbles)),
+        Use::Copy => {
+            let (zeros, marks) = count_zeros_and_marks(nibbles);
+            (Some(zeros), marks)
+        }
     }
 }
 

@@ -260,8 +260,35 @@ impl<A: Allocator + Clone> HllSketch<A> {
     ///
     /// Its value is at least 1. Fails with `Memory`, only if a table changes its size or the slots of exceptions of
     /// registers of four bits do, and then changes nothing, places included.
+    // (in the loops of callers)
+    #[inline(always)]
     pub fn update_with_coupon(&mut self, coupon: Coupon) -> Result<(), Error>
         requires { 1 ≤ value_of coupon }
+        ensures ok { OnOk result (sketch_of self.new ≡ add (sketch_of self.old) (set_of (coupon ∷ []))) }
+        ensures unchanged { OnErr result (self.new ≡ self.old) }
+        ensures needed { OnErr result (NeedsMemory self.old.lg_k self.old.layout coupon) }
+        ensures err { IfErr result (λ e. e ≡ Memory) }
+    {
+        match &mut self.mode {
+            Mode::List { .. } | Mode::Set { .. } => self.update_table(coupon),
+            Mode::Array4(array) => array.update(coupon),
+            Mode::Array6(array) => {
+                array.update(coupon);
+                Ok(())
+            }
+            Mode::Array8(array) => {
+                array.update(coupon);
+                Ok(())
+            }
+        }
+    }
+
+    /// The same, for a list or a set.
+    // (not in the loops of callers, which registers are for)
+    #[inline(never)]
+    fn update_table(&mut self, coupon: Coupon) -> Result<(), Error>
+        requires valued { 1 ≤ value_of coupon }
+        requires table { in_registers (content_in self.old.layout) ≡ false }
         ensures ok { OnOk result (sketch_of self.new ≡ add (sketch_of self.old) (set_of (coupon ∷ []))) }
         ensures unchanged { OnErr result (self.new ≡ self.old) }
         ensures needed { OnErr result (NeedsMemory self.old.lg_k self.old.layout coupon) }
@@ -276,15 +303,7 @@ impl<A: Allocator + Clone> HllSketch<A> {
                 let most = most_kept(set.container().lg_size() as u8);
                 set.update_within(coupon, most)
             }
-            Mode::Array4(array) => return array.update(coupon),
-            Mode::Array6(array) => {
-                array.update(coupon);
-                return Ok(());
-            }
-            Mode::Array8(array) => {
-                array.update(coupon);
-                return Ok(());
-            }
+            Mode::Array4(_) | Mode::Array6(_) | Mode::Array8(_) => unreachable!(),
         };
         match insertion {
             Insertion::Added | Insertion::Held => Ok(()),

@@ -1,4 +1,4 @@
-use Rattle.std.proofs.Common.{ℕ, List, ◌<◌, ◌≤◌, ◌++◌, length, drop, ap, subst, sym, ◌∙◌}
+use Rattle.std.proofs.Common.{◌<◌, ◌≤◌, ◌++◌, length, drop, ap, subst, ◌∙◌}
 use Rattle.hll_base.specs.Reason.{number_of}
 use Rattle.hll_c.proofs.Answers.{puts, wants, puts_nothing}
 use Rattle.hll_c.proofs.answer.put_bytes.Goals as goal

@@ -9,8 +9,8 @@ use Rattle.hll_sketch.specs.Layout.{SketchLayout, layout_of, can_hold_with, sket
 use Rattle.hll_sketch.specs.Stage.{can_hold}
 use Rattle.hll_sketch.specs.Value.{Sketch}
 use Rattle.hll_sketch.proofs.Keeping.{needs_memory, taken_as, refused_as}
-use Rattle.hll_sketch.proofs.sketch.HllSketch.update_with_coupon.Goals as goal
-use Rattle.hll_sketch.proofs.sketch.HllSketch.update_with_coupon.Goals.{in-List, in-Set}
+use Rattle.hll_sketch.proofs.sketch.HllSketch.update_table.Goals as goal
+use Rattle.hll_sketch.proofs.sketch.HllSketch.update_table.Goals.{in-List, in-Set}
 
 pub returns-in-Added-clause-ok : goal.returns-in-Added-clause-ok
 returns-in-Added-clause-ok g c =
