@@ -1,11 +1,15 @@
 mod ConstantRows
 mod FoldRows
 pub mod Ascending
+pub mod Bits
 pub mod CouponRows
+pub mod Cycles
+pub mod Fillings
 pub mod Folds
 pub mod Greatest
 pub mod ImageRows
 pub mod Insertions
+pub mod Inverses
 pub mod Listed
 pub mod MapChanges
 pub mod Maps
@@ -26,4 +30,5 @@ pub mod Sets
 pub mod Sizes
 pub mod Sought
 pub mod TableLemmas
+pub mod Walks
 pub mod Yielded

@@ -1,5 +1,5 @@
 -- Entries that are put by a search for their key: what the table then holds.
-use Rattle.std.proofs.Common.{◌≡◌, ℕ, suc, ◌+◌, ◌^◌, ◌<◌, Bool, true, false, ◌||◌, List, [], ◌∷◌, ◌++◌, All, map, nat_eq, length, get_or, set, refl, sym, subst, ap, ◌∙◌, arith, inl, inr}
+use Rattle.std.proofs.Common.{◌≡◌, ℕ, zero, suc, ◌+◌, ◌^◌, ◌<◌, Bool, true, false, ◌||◌, List, [], ◌∷◌, ◌++◌, All, map, nat_eq, length, get_or, set, refl, sym, subst, ap, ◌∙◌, arith, inl, inr}
 use Rattle.std.specs.List.{list_any}
 use Rattle.std.specs.FinSet.{contains, insert, len, contains-from_list_nat}
 use Rattle.std.proofs.lemmas.Bool.{cases_lt, cases_eq, cases_Bool, eqb-true, eq-eqb, true≢false}
@@ -105,6 +105,12 @@ pub members-put : (places : List ℕ) (c : ℕ) (new : List ℕ) → 0 < c → P
 members-put places c new some put =
     let b : Between places put.place c = between places put.place c put.within put.empty some in
     ap (λ xs. set_of (coupons_in xs)) put.is ∙ ap set_of b.new ∙ set_of-between b.before b.after c ∙ ap (λ xs. insert (set_of xs) c) (sym b.old)
+
+-- a place that is emptied again
+pub undone : (places : List ℕ) (p entry : ℕ) → get_or places p 0 ≡ 0 → set (set places p entry) p 0 ≡ places
+undone [] p entry z = refl
+undone (x ∷ xs) zero entry z = ap (λ y. y ∷ xs) (sym z)
+undone (x ∷ xs) (suc p) entry z = ap (λ ys. x ∷ ys) (undone xs p entry z)
 
 -- ---- one after the other
 

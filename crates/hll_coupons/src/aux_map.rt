@@ -13,7 +13,8 @@ ghost use Rattle.hll_coupons.specs.Table.{coupons_in, coupons_of, IsTable};
 
 use crate::container::{Container, ContainerIter};
 use crate::coupon::Coupon;
-use crate::search::{Key, put_all, put_entry, search};
+use crate::filling::put_all;
+use crate::search::{Key, put_entry, search};
 use hll_base::error::Error;
 use std::alloc::{Allocator, Global};
 use std::marker::Model;
@@ -231,7 +232,7 @@ fn value_of_place(entry: Coupon) -> Option<u8>
 
 /// Puts an entry into a table, and moves all entries to a table of twice as many places, in the order of their places.
 ///
-/// Takes memory first: a refusal changes nothing.
+/// A refusal changes nothing.
 fn put_growing<A: Allocator + Clone>(table: &mut Container<A>, entry: Coupon) -> Result<(), Error>
     requires probed { IsProbed slot_of table.old.lg_size table.old.places }
     requires valued { 1 ≤ value_of entry }
@@ -246,11 +247,19 @@ fn put_growing<A: Allocator + Clone>(table: &mut Container<A>, entry: Coupon) ->
     ensures unchanged { OnErr result (table.new ≡ table.old) }
     ensures err { IfErr result (λ e. e ≡ Memory) }
 {
+    table.table_is_legal();
     let mut larger = Container::new(table.allocator().clone()?, table.lg_size() + 1)?;
-    put_entry(table, Key::Slot, entry);
-    put_all(&mut larger, Key::Slot, table);
-    *table = larger;
-    Ok(())
+    let place = put_entry(table, Key::Slot, entry);
+    match put_all(&mut larger, Key::Slot, table.places()) {
+        Ok(()) => {
+            *table = larger;
+            Ok(())
+        }
+        Err(e) => {
+            table.take_out(place);
+            Err(e)
+        }
+    }
 }
 
 /// Maps are equal if their `lg_config_k` and entries are; places don't count. Looks up each entry of one in the other;

@@ -1,5 +1,5 @@
 //! A table of places for coupons (docs/MODEL.md, "Tables").
-ghost use Rattle.std.specs.Prelude.{◌≡◌, ◌≢◌, ℕ, ◌*◌, ◌^◌, ◌<◌, ◌≤◌, ◌↔◌, ◌++◌, [], length, slice_set, slice_index, false, IsTrue, IfOk, IfErr, OnOk, OnErr};
+ghost use Rattle.std.specs.Prelude.{◌≡◌, ◌≢◌, ℕ, ◌+◌, ◌*◌, ◌^◌, ◌<◌, ◌≤◌, ◌↔◌, ◌++◌, [], length, slice_set, slice_index, false, IsTrue, IfOk, IfErr, OnOk, OnErr};
 ghost use Rattle.std.specs.Bool.{OnFalse};
 ghost use Rattle.std.specs.Iterator.{YieldsFirst, item_count};
 ghost use Rattle.std.specs.FinSet as set;
@@ -179,9 +179,7 @@ impl<A: Allocator> Container<A> {
     pub fn iter(&self) -> ContainerIter<'_>
         ensures { result ≡ coupons_in self.now.places }
     {
-        ContainerIter {
-            places: self.places.as_slice(),
-        }
+        coupons_of_places(self.places.as_slice())
     }
 
     /// The places, each empty or filled with a coupon.
@@ -218,6 +216,17 @@ impl<A: Allocator> Container<A> {
     {
         prove!(1 <= coupon.value());
         self.places.set(place, coupon);
+    }
+
+    /// Empties a place again that was filled.
+    pub(crate) fn take_out(&mut self, place: usize)
+        requires inside { place < 2 ^ self.old.lg_size }
+        requires table { IsTable (record self.old { places = slice_set self.old.places place 0 }) }
+        requires count { length (coupons_in self.old.places) ≡ length (coupons_in (slice_set self.old.places place 0)) + 1 }
+        ensures { self.new ≡ record self.old { places = slice_set self.old.places place 0 } }
+    {
+        self.places.set(place, Coupon::EMPTY);
+        self.len -= 1;
     }
 
     /// A copy of the coupons in the order of their places, in one request for memory.
@@ -301,6 +310,13 @@ impl<A: Allocator> Eq for Container<A> {
     ghost use Rattle.hll_coupons.specs.Same.{have_same_coupons-equivalence};
 
     ghost laws = { have_same_coupons-equivalence };
+}
+
+/// The coupons of places, in their order.
+pub(crate) fn coupons_of_places(places: &[Coupon]) -> ContainerIter<'_>
+    ensures { result ≡ coupons_in places.now }
+{
+    ContainerIter { places }
 }
 
 /// The number of places of a size.

@@ -16,7 +16,8 @@ ghost use Rattle.hll_coupons.specs.Table.{coupons_in, coupons_of, empty_table, I
 
 use crate::container::{Container, Insertion, places_of};
 use crate::coupon::Coupon;
-use crate::search::{Key, put_all, search};
+use crate::filling::put_all;
+use crate::search::{Key, search};
 use crate::serialization::{
     COMPACT_FLAG_MASK, COUPON_SIZE_BYTES, CUR_MODE_SET, HASH_SET_PREINTS, LG_LEAST_SET_PLACES,
     SERIAL_VERSION, SET_PREAMBLE_SIZE, encode_mode_byte,
@@ -69,29 +70,6 @@ impl<A: Allocator> HashSet<A> {
         ensures err { IfErr result (λ e. e ≡ Memory) }
     {
         HashSet::new(alloc, usize::from(LG_LEAST_SET_PLACES))
-    }
-
-    /// The coupons of a container, put in the order of its places into 2^`lg_size` empty ones.
-    ///
-    /// `lg_size` is at most 26, and there are no more coupons than places. Fails with `Memory`.
-    pub fn from_container(
-        alloc: A,
-        lg_size: usize,
-        coupons: &Container<A>,
-    ) -> Result<HashSet<A>, Error>
-        requires small { lg_size ≤ 26 }
-        requires room { length (coupons_in coupons.now.places) ≤ 2 ^ lg_size }
-        ensures size { IfOk result (λ s. s.lg_size ≡ lg_size) }
-        ensures places { IfOk result (λ s. PutsEach (λ c. c) lg_size (empty_table lg_size).places (coupons_in coupons.now.places) s.places) }
-        ensures members { IfOk result (λ s. coupons_of s ≡ coupons_of coupons.now) }
-        ensures count { IfOk result (λ s. length (coupons_in s.places) ≡ length (coupons_in coupons.now.places)) }
-        ensures set { IfOk result IsHashSet }
-        ensures err { IfErr result (λ e. e ≡ Memory) }
-    {
-        coupons.table_is_legal();
-        let mut container = Container::new(alloc, lg_size)?;
-        put_all(&mut container, Key::Word, coupons);
-        Ok(HashSet { container })
     }
 
     /// Reads what follows the header of a set's image (docs/FORMAT.md, "SET"): the count, and 2^`lg_arr` places, or
@@ -242,6 +220,29 @@ impl<A: Allocator> HashSet<A> {
 }
 
 impl<A: Allocator + Clone> HashSet<A> {
+    /// The coupons of a container, put in the order of its places into 2^`lg_size` empty ones.
+    ///
+    /// `lg_size` is at most 26, and there are no more coupons than places. Takes memory for the places, and for
+    /// bitmaps where searches have become dear (docs/LIMITS.md). Fails with `Memory`.
+    pub fn from_container(
+        alloc: A,
+        lg_size: usize,
+        coupons: &Container<A>,
+    ) -> Result<HashSet<A>, Error>
+        requires small { lg_size ≤ 26 }
+        requires room { length (coupons_in coupons.now.places) ≤ 2 ^ lg_size }
+        ensures size { IfOk result (λ s. s.lg_size ≡ lg_size) }
+        ensures places { IfOk result (λ s. PutsEach (λ c. c) lg_size (empty_table lg_size).places (coupons_in coupons.now.places) s.places) }
+        ensures members { IfOk result (λ s. coupons_of s ≡ coupons_of coupons.now) }
+        ensures count { IfOk result (λ s. length (coupons_in s.places) ≡ length (coupons_in coupons.now.places)) }
+        ensures set { IfOk result IsHashSet }
+        ensures err { IfErr result (λ e. e ≡ Memory) }
+    {
+        let mut container = Container::new(alloc, lg_size)?;
+        put_all(&mut container, Key::Word, coupons.places())?;
+        Ok(HashSet { container })
+    }
+
     /// A copy, with the same places.
     ///
     /// Fails with `Memory`.

@@ -5,13 +5,18 @@
 pub mod aux_map;
 pub mod container;
 pub mod coupon;
+mod cycle;
+mod filling;
 pub mod hash_set;
+mod inverse;
 pub mod laws;
 pub mod list;
+mod long_searches;
 pub mod raw_words;
 mod search;
 pub mod serialization;
 mod storage;
+mod words;
 
 pub use aux_map::{AuxMap, AuxMapIter, AuxMapRefIter};
 pub use container::{Container, ContainerIter, Insertion};

@@ -1,5 +1,5 @@
 //! Searches through a table of places by a key, and entries put where they end (docs/MODEL.md, "Probing").
-ghost use Rattle.std.specs.Prelude.{◌≡◌, ◌%◌, ◌^◌, ◌<◌, ◌≤◌, length, map, IfSome, IfNone};
+ghost use Rattle.std.specs.Prelude.{◌≡◌, ◌%◌, ◌^◌, ◌<◌, ◌≤◌, length, slice_index, slice_set, IfSome, IfNone};
 ghost use Rattle.std.specs.FinSet.{len};
 ghost use Rattle.hll_coupons.specs.Pair.{set_of, value_of};
 ghost use Rattle.hll_coupons.specs.Table.{coupons_in, coupons_of, empty_table, IsTable};
@@ -22,7 +22,7 @@ pub(crate) enum Key {
 
 impl Key {
     /// The key of an entry.
-    fn of(self, entry: Coupon) -> u32
+    pub(crate) fn of(self, entry: Coupon) -> u32
         ensures { result ≡ key_of self entry }
     {
         match self {
@@ -33,7 +33,7 @@ impl Key {
 }
 
 /// A place modulo 2^`lg_size`.
-fn wrapped(lg_size: usize, place: usize) -> usize
+pub(crate) fn wrapped(lg_size: usize, place: usize) -> usize
     requires { lg_size ≤ 26 }
     ensures { result ≡ place % 2 ^ lg_size }
 {
@@ -41,13 +41,17 @@ fn wrapped(lg_size: usize, place: usize) -> usize
 }
 
 /// The stride of a key: the bits of its slot above the table's, made odd.
-fn stride_of(lg_size: usize, key: u32) -> usize
+pub(crate) fn stride_of(lg_size: usize, key: u32) -> u32
     requires { lg_size ≤ 26 }
     ensures stride { result ≡ probe.stride_of lg_size key }
+    ensures odd { result % 2 ≡ 1 }
     ensures small { result < 2 ^ 26 }
 {
-    (Coupon::from_raw(key).slot() as usize >> lg_size) | 1
+    Coupon::from_raw(key).slot() >> lg_size | 1
 }
+
+/// As many steps are walked before a search is long.
+pub(crate) const SHORT: usize = 64;
 
 /// The first place on the path of a key that is empty or filled with the key; none in a table that is full of other keys.
 pub(crate) fn search(by: Key, lg_size: usize, places: &[Coupon], key: u32) -> Option<usize>
@@ -56,9 +60,26 @@ pub(crate) fn search(by: Key, lg_size: usize, places: &[Coupon], key: u32) -> Op
     ensures found { IfSome result (EndsAt (key_of by) lg_size places.now key) }
     ensures full { IfNone result (Passes (key_of by) lg_size places.now key (2 ^ lg_size)) }
 {
-    let stride = stride_of(lg_size, key);
+    search_within(by, lg_size, places, key, places.len())
+}
+
+/// The same among the first `limit` places of the path.
+pub(crate) fn search_within(
+    by: Key,
+    lg_size: usize,
+    places: &[Coupon],
+    key: u32,
+    limit: usize,
+) -> Option<usize>
+    requires small { lg_size ≤ 26 }
+    requires size { length places.now ≡ 2 ^ lg_size }
+    requires limit { limit ≤ 2 ^ lg_size }
+    ensures found { IfSome result (EndsAt (key_of by) lg_size places.now key) }
+    ensures none { IfNone result (Passes (key_of by) lg_size places.now key limit) }
+{
+    let stride = stride_of(lg_size, key) as usize;
     let mut place = wrapped(lg_size, key as usize);
-    for _ in 0..places.len() {
+    for _ in 0..limit {
         let entry = places[place];
         if entry.is_empty() || by.of(entry) == key {
             return Some(place);
@@ -68,14 +89,67 @@ pub(crate) fn search(by: Key, lg_size: usize, places: &[Coupon], key: u32) -> Op
     None
 }
 
+/// The same behind the first `passed` places of the path, with the number of steps from there.
+#[inline(never)]
+pub(crate) fn search_on(
+    by: Key,
+    lg_size: usize,
+    places: &[Coupon],
+    key: u32,
+    passed: usize,
+) -> Option<(usize, usize)>
+    requires small { lg_size ≤ 26 }
+    requires size { length places.now ≡ 2 ^ lg_size }
+    requires within { passed ≤ 2 ^ lg_size }
+    requires passes { Passes (key_of by) lg_size places.now key passed }
+    ensures found { IfSome result (λ end. EndsAt (key_of by) lg_size places.now key end.0) }
+    ensures full { IfNone result (Passes (key_of by) lg_size places.now key (2 ^ lg_size)) }
+{
+    let stride = stride_of(lg_size, key) as usize;
+    let mut place = wrapped(lg_size, key as usize + passed * stride);
+    for index in passed..places.len() {
+        let entry = places[place];
+        if entry.is_empty() || by.of(entry) == key {
+            return Some((place, index - passed));
+        }
+        place = wrapped(lg_size, place + stride);
+    }
+    None
+}
+
+/// The same as `search`, by a limited search that usually ends. The steps of a long one are added to a count.
+pub(crate) fn search_counted(
+    by: Key,
+    lg_size: usize,
+    places: &[Coupon],
+    key: u32,
+    steps: &mut usize,
+) -> Option<usize>
+    requires small { lg_size ≤ 26 }
+    requires size { length places.now ≡ 2 ^ lg_size }
+    ensures found { IfSome result (EndsAt (key_of by) lg_size places.now key) }
+    ensures full { IfNone result (Passes (key_of by) lg_size places.now key (2 ^ lg_size)) }
+{
+    let limit = SHORT.min(places.len());
+    if let Some(place) = search_within(by, lg_size, places, key, limit) {
+        return Some(place);
+    }
+    let (place, more) = search_on(by, lg_size, places, key, limit)?;
+    *steps = steps.saturating_add(more);
+    Some(place)
+}
+
 /// Puts an entry into the empty place where the search for its key ends.
 ///
-/// Its value is at least 1, its key is absent, and a place is empty.
-pub(crate) fn put_entry<A: Allocator>(table: &mut Container<A>, by: Key, entry: Coupon)
+/// Its value is at least 1, its key is absent, and a place is empty. Says which place it was.
+pub(crate) fn put_entry<A: Allocator>(table: &mut Container<A>, by: Key, entry: Coupon) -> usize
     requires probed { IsProbed (key_of by) table.old.lg_size table.old.places }
     requires valued { 1 ≤ value_of entry }
     requires absent { IsAbsent (key_of by) table.old.places (key_of by entry) }
     requires room { length (coupons_in table.old.places) < 2 ^ table.old.lg_size }
+    ensures within { result < 2 ^ table.old.lg_size }
+    ensures empty { slice_index table.old.places result ≡ 0 }
+    ensures at { table.new.places ≡ slice_set table.old.places result entry }
     ensures size { table.new.lg_size ≡ table.old.lg_size }
     ensures places { Puts (key_of by) table.old.lg_size table.old.places entry table.new.places }
     ensures table { IsTable table.new }
@@ -85,25 +159,5 @@ pub(crate) fn put_entry<A: Allocator>(table: &mut Container<A>, by: Key, entry: 
         unreachable!()
     };
     table.put(place, entry);
-}
-
-/// Puts the coupons of a table into an empty one, in the order of their places.
-///
-/// No two of them have one key, and they are no more than the empty table has places.
-pub(crate) fn put_all<A: Allocator>(into: &mut Container<A>, by: Key, from: &Container<A>)
-    requires small { into.old.lg_size ≤ 26 }
-    requires none { into.old ≡ empty_table into.old.lg_size }
-    requires table { IsTable from.now }
-    requires room { length (coupons_in from.now.places) ≤ 2 ^ into.old.lg_size }
-    requires distinct { len (set_of (map (key_of by) (coupons_in from.now.places))) ≡ length (coupons_in from.now.places) }
-    ensures size { into.new.lg_size ≡ into.old.lg_size }
-    ensures places { PutsEach (key_of by) into.old.lg_size into.old.places (coupons_in from.now.places) into.new.places }
-    ensures probed { IsProbed (key_of by) into.new.lg_size into.new.places }
-    ensures members { coupons_of into.new ≡ coupons_of from.now }
-    ensures count { length (coupons_in into.new.places) ≡ length (coupons_in from.now.places) }
-    ensures table { IsTable into.new }
-{
-    for entry in from.iter() {
-        put_entry(into, by, entry);
-    }
+    place
 }

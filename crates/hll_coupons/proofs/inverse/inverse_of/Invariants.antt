@@ -1,0 +1,9 @@
+use Rattle.std.proofs.Common.{◌≡◌, ◌*◌, ◌%◌, ◌^◌, ◌<◌}
+use Rattle.hll_coupons.proofs.inverse.inverse_of.Given as goal
+
+-- twice as many of the low bits are right after each step
+abbrev pub invariant-loop : goal.invariant-loop
+invariant-loop l = record {
+  right : l.odd * l.inverse % 2 ^ (2 ^ l.counter) ≡ 1;
+  small : l.inverse < 2 ^ 32;
+}

@@ -1,0 +1,70 @@
+//! Tables that are filled with distinct keys, at the places that probing one by one gives.
+ghost use Rattle.std.specs.Prelude.{◌≡◌, ◌^◌, ◌<◌, ◌≤◌, All, length, map, OnOk, IfErr};
+ghost use Rattle.std.specs.FinSet.{len};
+ghost use Rattle.hll_base.specs.declared.error.Reason.TheVariants.{Memory};
+ghost use Rattle.hll_coupons.specs.Keys.{key_of};
+ghost use Rattle.hll_coupons.specs.LongSearches.{AreFor};
+ghost use Rattle.hll_coupons.specs.Pair.{set_of, value_of, IsPair};
+ghost use Rattle.hll_coupons.specs.Probe.{IsProbed, IsAbsent, Puts, PutsEach};
+ghost use Rattle.hll_coupons.specs.Table.{coupons_in, coupons_of, empty_table, IsTable};
+
+use crate::container::{Container, coupons_of_places};
+use crate::coupon::Coupon;
+use crate::long_searches::LongSearches;
+use crate::search::Key;
+use hll_base::error::Error;
+use std::alloc::Allocator;
+
+/// Puts an entry into the empty place where the search for its key ends.
+///
+/// Its value is at least 1, its key is absent, and a place is empty. Fails with `Memory`.
+fn put_absent<A: Allocator + Clone>(
+    table: &mut Container<A>,
+    searches: &mut LongSearches<A>,
+    by: Key,
+    entry: Coupon,
+) -> Result<(), Error>
+    requires valued { 1 ≤ value_of entry }
+    requires absent { IsAbsent (key_of by) table.old.places (key_of by entry) }
+    requires room { length (coupons_in table.old.places) < 2 ^ table.old.lg_size }
+    requires cycles { AreFor table.old.lg_size table.old.places searches.old }
+    ensures size { OnOk result (table.new.lg_size ≡ table.old.lg_size) }
+    ensures places { OnOk result (Puts (key_of by) table.old.lg_size table.old.places entry table.new.places) }
+    ensures table { OnOk result (IsTable table.new) }
+    ensures cycles { OnOk result (AreFor table.new.lg_size table.new.places searches.new) }
+    ensures err { IfErr result (λ e. e ≡ Memory) }
+{
+    let place = searches.end_of(by, table.lg_size(), table.places(), by.of(entry))?;
+    table.put(place, entry);
+    searches.fill(place);
+    Ok(())
+}
+
+/// Puts coupons into an empty table, in their order; empty places among them are passed over.
+///
+/// No two of them have one key, and they are no more than the table has places. Takes memory where long searches have
+/// become dear. Fails with `Memory`.
+pub(crate) fn put_all<A: Allocator + Clone>(
+    into: &mut Container<A>,
+    by: Key,
+    from: &[Coupon],
+) -> Result<(), Error>
+    requires small { into.old.lg_size ≤ 26 }
+    requires none { into.old ≡ empty_table into.old.lg_size }
+    requires valued { All IsPair (coupons_in from.now) }
+    requires room { length (coupons_in from.now) ≤ 2 ^ into.old.lg_size }
+    requires distinct { len (set_of (map (key_of by) (coupons_in from.now))) ≡ length (coupons_in from.now) }
+    ensures size { OnOk result (into.new.lg_size ≡ into.old.lg_size) }
+    ensures places { OnOk result (PutsEach (key_of by) into.old.lg_size into.old.places (coupons_in from.now) into.new.places) }
+    ensures probed { OnOk result (IsProbed (key_of by) into.new.lg_size into.new.places) }
+    ensures members { OnOk result (coupons_of into.new ≡ set_of (coupons_in from.now)) }
+    ensures count { OnOk result (length (coupons_in into.new.places) ≡ length (coupons_in from.now)) }
+    ensures table { OnOk result (IsTable into.new) }
+    ensures err { IfErr result (λ e. e ≡ Memory) }
+{
+    let mut searches = LongSearches::new(into.allocator().clone()?);
+    for entry in coupons_of_places(from) {
+        put_absent(into, &mut searches, by, entry)?;
+    }
+    Ok(())
+}

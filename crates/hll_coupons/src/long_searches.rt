@@ -1,0 +1,161 @@
+//! Long searches for absent keys, shortened by cycles (docs/MODEL.md, "Cycles").
+ghost use Rattle.std.specs.Prelude.{◌≡◌, ℕ, List, ◌%◌, ◌^◌, ◌<◌, ◌≤◌, All, length, IsTrue, IfOk, OnOk, IfErr, IfSome};
+ghost use Rattle.hll_base.specs.declared.error.Reason.TheVariants.{Memory};
+ghost use Rattle.hll_coupons.specs.Cycle.{IsSound, AreFilled};
+ghost use Rattle.hll_coupons.specs.Keys.{key_of};
+ghost use Rattle.hll_coupons.specs.LongSearches.{AreFor, EndsByCycle};
+ghost use Rattle.hll_coupons.specs.Probe.{EndsAt, Passes, IsAbsent};
+ghost use Rattle.hll_coupons.specs.Table.{coupons_in};
+
+use crate::coupon::Coupon;
+use crate::cycle::Cycle;
+use crate::search::{Key, SHORT, search_on, search_within, stride_of};
+use hll_base::error::Error;
+use std::alloc::Allocator;
+
+/// The logarithm of the least number of places that a cycle is made for: a word of bits.
+const LG_LEAST_CYCLE: usize = 6;
+
+/// The cycles that were made while a table is filled, and the steps of long searches since the last of them.
+#[derive(Drop)]
+pub(crate) struct LongSearches<A: Allocator> {
+    steps: usize,
+    cycles: Vec<Cycle<A>, A>,
+}
+
+impl<A: Allocator> LongSearches<A> {
+    /// No steps and no cycles. Takes no memory.
+    pub(crate) fn new(alloc: A) -> LongSearches<A>
+        ensures { (lg : ℕ) (places : List ℕ) → AreFor lg places result }
+    {
+        LongSearches {
+            steps: 0,
+            cycles: Vec::new(alloc),
+        }
+    }
+
+    /// Where the search for an absent key ends, if there is a cycle of its stride.
+    #[inline(never)]
+    fn end_by_cycle(&self, lg_size: usize, key: u32) -> Option<usize>
+        requires small { lg_size ≤ 26 }
+        requires sound { All IsSound self.now.cycles.items }
+        ensures { IfSome result (EndsByCycle self.now lg_size key) }
+    {
+        let stride = stride_of(lg_size, key);
+        for cycle in &self.cycles {
+            if cycle.stride() == stride {
+                return cycle.first_empty(key);
+            }
+        }
+        None
+    }
+
+    /// A place of the table is filled.
+    pub(crate) fn fill(&mut self, place: usize)
+        requires sound { All IsSound self.old.cycles.items }
+        requires within { All (λ c. place < 2 ^ c.lg_size) self.old.cycles.items }
+        ensures { AreFilled self.old.cycles.items place self.new.cycles.items }
+    {
+        fill_each(&mut self.cycles, place);
+    }
+}
+
+impl<A: Allocator + Clone> LongSearches<A> {
+    /// The place where the search for an absent key ends.
+    ///
+    /// Takes memory for a cycle where long searches have become dear. Fails with `Memory`.
+    pub(crate) fn end_of(
+        &mut self,
+        by: Key,
+        lg_size: usize,
+        places: &[Coupon],
+        key: u32,
+    ) -> Result<usize, Error>
+        requires small { lg_size ≤ 26 }
+        requires size { length places.now ≡ 2 ^ lg_size }
+        requires absent { IsAbsent (key_of by) places.now key }
+        requires room { length (coupons_in places.now) < 2 ^ lg_size }
+        requires cycles { AreFor lg_size places.now self.old }
+        ensures ends { IfOk result (EndsAt (key_of by) lg_size places.now key) }
+        ensures cycles { OnOk result (AreFor lg_size places.now self.new) }
+        ensures err { IfErr result (λ e. e ≡ Memory) }
+    {
+        if !self.cycles.is_empty() {
+            if let Some(place) = self.end_by_cycle(lg_size, key) {
+                return Ok(place);
+            }
+        }
+        let limit = SHORT.min(places.len());
+        match search_within(by, lg_size, places, key, limit) {
+            Some(place) => Ok(place),
+            None => self.end_of_long(by, lg_size, places, key, limit),
+        }
+    }
+
+    /// The same behind the first `passed` places of the path, where the steps are counted.
+    #[inline(never)]
+    fn end_of_long(
+        &mut self,
+        by: Key,
+        lg_size: usize,
+        places: &[Coupon],
+        key: u32,
+        passed: usize,
+    ) -> Result<usize, Error>
+        requires small { lg_size ≤ 26 }
+        requires size { length places.now ≡ 2 ^ lg_size }
+        requires room { length (coupons_in places.now) < 2 ^ lg_size }
+        requires within { passed ≤ 2 ^ lg_size }
+        requires passes { Passes (key_of by) lg_size places.now key passed }
+        requires cycles { AreFor lg_size places.now self.old }
+        ensures ends { IfOk result (EndsAt (key_of by) lg_size places.now key) }
+        ensures cycles { OnOk result (AreFor lg_size places.now self.new) }
+        ensures err { IfErr result (λ e. e ≡ Memory) }
+    {
+        let Some((place, more)) = search_on(by, lg_size, places, key, passed) else {
+            unreachable!()
+        };
+        self.steps = self.steps.saturating_add(more);
+        if are_dear(self.steps, lg_size) {
+            self.make_cycle(lg_size, stride_of(lg_size, key), places)?;
+        }
+        Ok(place)
+    }
+
+    /// Makes the cycle of a stride through these places, and counts from 0.
+    fn make_cycle(&mut self, lg_size: usize, stride: u32, places: &[Coupon]) -> Result<(), Error>
+        requires least { 6 ≤ lg_size }
+        requires small { lg_size ≤ 26 }
+        requires size { length places.now ≡ 2 ^ lg_size }
+        requires odd { stride % 2 ≡ 1 }
+        requires few { stride < 2 ^ 26 }
+        requires cycles { AreFor lg_size places.now self.old }
+        ensures cycles { OnOk result (AreFor lg_size places.now self.new) }
+        ensures err { IfErr result (λ e. e ≡ Memory) }
+    {
+        self.steps = 0;
+        let alloc = self.cycles.allocator().clone()?;
+        let cycle = Cycle::new(alloc, lg_size, stride, places)?;
+        self.cycles.push(cycle)?;
+        Ok(())
+    }
+}
+
+/// Whether long searches took four steps for each place of a table of 64 places or more.
+pub(crate) fn are_dear(steps: usize, lg_size: usize) -> bool
+    requires { lg_size ≤ 26 }
+    ensures { IsTrue result → 6 ≤ lg_size }
+{
+    lg_size >= LG_LEAST_CYCLE && steps >= 4 << lg_size
+}
+
+/// A place is filled in each cycle.
+fn fill_each<A: Allocator>(cycles: &mut [Cycle<A>], place: usize)
+    requires sound { All IsSound cycles.old }
+    requires within { All (λ c. place < 2 ^ c.lg_size) cycles.old }
+    ensures { AreFilled cycles.old place cycles.new }
+{
+    for cycle in cycles.iter_mut() {
+        cycle.fill(place);
+    }
+}
