@@ -34,7 +34,7 @@ use std::marker::Model;
 #[derive_where(Debug)]
 #[derive(Drop)]
 pub struct HashSet<A: Allocator = Global> {
-    container: Container<A>,
+    pub(crate) container: Container<A>,
 }
 
 impl<A: Allocator> Model for HashSet<A> {

@@ -2,6 +2,7 @@
 //! "The crates").
 #![tactic(auto)]
 
+mod additions;
 pub mod aux_map;
 pub mod container;
 pub mod coupon;

@@ -9,7 +9,7 @@ ghost use Rattle.hll_coupons.specs.Table.{coupons_in};
 
 use crate::coupon::Coupon;
 use crate::cycle::Cycle;
-use crate::search::{Key, SHORT, search_on, search_within, stride_of};
+use crate::search::{Key, SHORT, search, search_on, search_within, stride_of};
 use hll_base::error::Error;
 use std::alloc::Allocator;
 
@@ -77,7 +77,7 @@ impl<A: Allocator + Clone> LongSearches<A> {
         requires room { length (coupons_in places.now) < 2 ^ lg_size }
         requires cycles { AreFor lg_size places.now self.old }
         ensures ends { IfOk result (EndsAt (key_of by) lg_size places.now key) }
-        ensures cycles { OnOk result (AreFor lg_size places.now self.new) }
+        ensures cycles { AreFor lg_size places.now self.new }
         ensures err { IfErr result (λ e. e ≡ Memory) }
     {
         if !self.cycles.is_empty() {
@@ -92,7 +92,32 @@ impl<A: Allocator + Clone> LongSearches<A> {
         }
     }
 
-    /// The same behind the first `passed` places of the path, where the steps are counted.
+    /// The same, without a cycle where memory for it is refused.
+    pub(crate) fn end_or_walk(
+        &mut self,
+        by: Key,
+        lg_size: usize,
+        places: &[Coupon],
+        key: u32,
+    ) -> usize
+        requires small { lg_size ≤ 26 }
+        requires size { length places.now ≡ 2 ^ lg_size }
+        requires absent { IsAbsent (key_of by) places.now key }
+        requires room { length (coupons_in places.now) < 2 ^ lg_size }
+        requires cycles { AreFor lg_size places.now self.old }
+        ensures ends { EndsAt (key_of by) lg_size places.now key result }
+        ensures cycles { AreFor lg_size places.now self.new }
+    {
+        match self.end_of(by, lg_size, places, key) {
+            Ok(place) => place,
+            Err(_) => match search(by, lg_size, places, key) {
+                Some(place) => place,
+                None => unreachable!(),
+            },
+        }
+    }
+
+    /// As `end_of`, behind the first `passed` places of the path, where the steps are counted.
     #[inline(never)]
     fn end_of_long(
         &mut self,
@@ -109,7 +134,7 @@ impl<A: Allocator + Clone> LongSearches<A> {
         requires passes { Passes (key_of by) lg_size places.now key passed }
         requires cycles { AreFor lg_size places.now self.old }
         ensures ends { IfOk result (EndsAt (key_of by) lg_size places.now key) }
-        ensures cycles { OnOk result (AreFor lg_size places.now self.new) }
+        ensures cycles { AreFor lg_size places.now self.new }
         ensures err { IfErr result (λ e. e ≡ Memory) }
     {
         let Some((place, more)) = search_on(by, lg_size, places, key, passed) else {
@@ -130,7 +155,7 @@ impl<A: Allocator + Clone> LongSearches<A> {
         requires odd { stride % 2 ≡ 1 }
         requires few { stride < 2 ^ 26 }
         requires cycles { AreFor lg_size places.now self.old }
-        ensures cycles { OnOk result (AreFor lg_size places.now self.new) }
+        ensures cycles { AreFor lg_size places.now self.new }
         ensures err { IfErr result (λ e. e ≡ Memory) }
     {
         self.steps = 0;
