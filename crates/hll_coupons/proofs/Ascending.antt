@@ -4,7 +4,7 @@ use Rattle.std.specs.Ordering.{nat_cmp, eq_by_cmp}
 use Rattle.std.specs.Cmp.{nat_cmp_total, both_ways, unsigned_tied, eq_by_cmp_equiv}
 use Rattle.std.specs.FinSet.{contains, len, len-empty, len-insert, contains-from_list, contains-from_list_nat, same_set, nat_cmp-IsAntisymmetric}
 use Rattle.std.specs.List.{list_any, AllPairs, AllByRecursion, IsDistinct, Contains}
-use Rattle.std.specs.List.Sorted.{IsSorted, IsPermutation}
+use Rattle.std.specs.List.Sorted.{IsSorted, IsPermutation, IsStrictlyIncreasing}
 use Rattle.std.proofs.lemmas.Bool.{eqb-true, eq-eqb, true≢false, cases_Bool}
 use Rattle.std.proofs.lemmas.List.Kept.{AllPairs-from_increasing}
 use Rattle.std.proofs.lemmas.List.Sorted.{Contains-permutation, IsPermutation-sym, length_permutation, IsNonDecreasingBy-from_sort}
@@ -160,3 +160,15 @@ ascending_from_sort all copy ys same once p up =
           (distinct ys (ap len (set_of-permutation all ys q) ∙ once ∙ sym (length_permutation all ys q)));
       members = set_of-permutation all ys q;
     }
+
+-- ---- what an order tells of a list
+
+-- numbers that ascend are distinct
+pub distinct-ascending : (xs : List ℕ) → IsStrictlyIncreasing xs → len (set_of xs) ≡ length xs
+distinct-ascending xs up = sym (len-ascending xs (set_of xs) (record { increasing = up; members = refl }))
+
+-- and so is any list of which a permutation ascends
+pub distinct-sorted : (all copy ys : List ℕ) → copy ≡ all → IsPermutation copy ys → IsStrictlyIncreasing ys → len (set_of all) ≡ length all
+distinct-sorted all copy ys same p up =
+    let q : IsPermutation all ys = subst (λ xs. IsPermutation xs ys) same p in
+    ap len (sym (set_of-permutation all ys q)) ∙ distinct-ascending ys up ∙ length_permutation all ys q

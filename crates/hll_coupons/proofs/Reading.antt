@@ -131,7 +131,7 @@ is_list_payload h b few there are number = record {
 }
 
 -- coupons are not empty
-coupons_in-coupons : (xs : List ℕ) → All (λ c. 1 ≤ value_of c) xs → coupons_in xs ≡ xs
+pub coupons_in-coupons : (xs : List ℕ) → All (λ c. 1 ≤ value_of c) xs → coupons_in xs ≡ xs
 coupons_in-coupons [] v = refl
 coupons_in-coupons (x ∷ xs) v = coupons_in-full x xs (positive x (v 0 0 (omega arith))) ∙ ap (λ ys. x ∷ ys) (coupons_in-coupons xs (λ i d l. v (suc i) d (omega (arith, l))))
   where

@@ -1,18 +1,19 @@
 -- Lemmas on reading the places of a set.
-use Rattle.std.proofs.Common.{◌≡◌, ℕ, ◌+◌, ◌-◌, ◌*◌, ◌^◌, ◌<◌, ◌≤◌, Bool, true, false, List, [], ◌∷◌, ◌++◌, length, take, drop, cond, refl, sym, ◌∙◌, ap, subst, arith, append_assoc}
+use Rattle.std.proofs.Common.{◌≡◌, ℕ, ◌+◌, ◌-◌, ◌*◌, ◌^◌, ◌<◌, ◌≤◌, Bool, true, false, List, [], ◌∷◌, ◌++◌, length, take, drop, cond, All, refl, sym, ◌∙◌, ap, subst, arith, append_assoc}
 use Rattle.std.specs.Cmp.{nat_cmp_total}
 use Rattle.std.specs.FinSet.{contains, insert, len, from_list_push, nat_cmp-IsAntisymmetric}
-use Rattle.std.proofs.lemmas.List.{length-append, length-drop, length-take, take-append-drop}
+use Rattle.std.proofs.lemmas.List.{append-nil, length-append, length-drop, length-take, take-append-drop}
 use Rattle.std.specs.Int.{w32, from_le_bytes}
 use Rattle.hll_coupons.specs.Coupons.{coupons_at, AreCoupons}
 use Rattle.hll_coupons.specs.HashSet.{IsHashSet}
-use Rattle.hll_coupons.specs.Pair.{set_of, value_of}
+use Rattle.hll_coupons.specs.Pair.{IsPair, set_of, value_of}
 use Rattle.hll_coupons.specs.Payload.{SetShape, HasSetCount, IsSetPayload, IsSetTable, set_count, set_coupons, set_places}
 use Rattle.hll_coupons.specs.Probe.{Puts, PutsEach}
 use Rattle.hll_coupons.specs.Table.{Table, coupons_in, coupons_of, empty_table}
+use Rattle.hll_coupons.proofs.Fillings.{one_more}
 use Rattle.hll_coupons.proofs.Payloads.{front_coupons, front_number}
 use Rattle.hll_coupons.proofs.Places.{coupons_in-replicate}
-use Rattle.hll_coupons.proofs.Reading.{AreCoupons-nil, AreCoupons-push, all_places, passed_over}
+use Rattle.hll_coupons.proofs.Reading.{AreCoupons-nil, AreCoupons-push, all_places, coupons_in-coupons, passed_over}
 use Rattle.hll_coupons.proofs.Searching.{IsProbed-empty, PutsEach-push}
 use Rattle.hll_coupons.proofs.TableLemmas.{IsTable-empty}
 
@@ -93,6 +94,65 @@ module _ (compact : Bool) (places counter lg : ℕ) (all before : List ℕ) (t :
     set = set;
   }
 
+-- ---- the coupons alone
+
+-- the coupons of the places so far, and the rest is to come
+pub record CopiedSoFar (compact : Bool) (places counter : ℕ) (all order cursor : List ℕ) : Type 0 where
+  pub read : all ≡ order ++ coupons_at compact (places - counter) cursor
+  pub room : 4 * (places - counter) ≤ length cursor
+  pub pairs : All IsPair order
+  pub few : length order ≤ counter
+
+pub copied_none : (compact : Bool) (places : ℕ) (order cursor : List ℕ) → order ≡ [] → 4 * places ≤ length cursor → CopiedSoFar compact places 0 (coupons_at compact places cursor) order cursor
+copied_none compact places order cursor none there =
+    let whole : places ≡ places - 0 = omega arith in
+    record {
+      read = ap (λ n. coupons_at compact n cursor) whole ∙ ap (λ xs. xs ++ coupons_at compact (places - 0) cursor) (sym none);
+      room = omega (arith, there);
+      pairs = subst (All IsPair) (sym none) (λ i d l. absurd (omega arith));
+      few = omega (arith, ap length none);
+    }
+
+module _ (compact : Bool) (places counter : ℕ) (all order cursor : List ℕ) (so : CopiedSoFar compact places counter all order cursor) (left : counter < places)
+    (w : ℕ) (rest : List ℕ) (is : w ≡ from_le_bytes w32 cursor) (rest_is : rest ≡ drop 4 cursor) where
+  fewer : 4 * (places - (counter + 1)) ≤ length rest
+  fewer = omega (arith, so.room, ap length rest_is, length-drop 4 cursor, left)
+
+  -- an empty place is passed over
+  pub copied_over : w ≡ 0 → compact ≡ false → CopiedSoFar compact places (counter + 1) all order rest
+  copied_over zero' loose =
+      let P : Bool → Type 0 = λ b. all ≡ order ++ coupons_at b (places - counter) cursor in
+      let Q : Bool → Type 0 = λ b. all ≡ order ++ coupons_at b (places - (counter + 1)) rest in
+      record {
+        read = subst Q (sym loose) (passed_over places counter w cursor rest all order left (subst P loose so.read) is rest_is zero');
+        room = fewer;
+        pairs = so.pairs;
+        few = omega (arith, so.few);
+      }
+
+  -- a word that has to be a coupon
+  pub copied_word : (w ≡ 0 → compact ≡ true) → all ≡ order ++ w ∷ coupons_at compact (places - (counter + 1)) rest
+  copied_word filled = all_places compact places counter w cursor rest all order left so.read is rest_is filled
+
+  -- one more
+  pub copied_more : (w ≡ 0 → compact ≡ true) → IsPair w → (new : List ℕ) → new ≡ order ++ w ∷ [] → CopiedSoFar compact places (counter + 1) all new rest
+  copied_more filled pair new grown = record {
+    read = copied_word filled ∙ sym (append_assoc order (w ∷ []) (coupons_at compact (places - (counter + 1)) rest)) ∙ ap (λ xs. xs ++ coupons_at compact (places - (counter + 1)) rest) (sym grown);
+    room = fewer;
+    pairs = subst (All IsPair) (sym grown) (one_more IsPair order w so.pairs pair);
+    few = omega (arith, so.few, ap length grown, length-append order (w ∷ []));
+  }
+
+-- all were copied
+pub copied_all : (compact : Bool) (places counter : ℕ) (all order cursor : List ℕ) → CopiedSoFar compact places counter all order cursor → places ≤ counter → order ≡ all
+copied_all compact places counter all order cursor so done =
+    let none : places - counter ≡ 0 = omega arith in
+    sym (so.read ∙ ap (λ n. order ++ coupons_at compact n cursor) none ∙ ap (λ xs. order ++ xs) (nothing compact) ∙ append-nil order)
+  where
+    nothing : (b : Bool) → coupons_at b 0 cursor ≡ []
+    nothing true = refl
+    nothing false = refl
+
 -- ---- the whole
 
 -- no more places than the table has
@@ -142,3 +202,19 @@ is_read h b start t n rest empty size n_is rest_is puts are members distinct =
       };
       number = sym distinct ∙ ap len (members ∙ ap set_of same) ∙ here.distinct;
     }
+
+-- a copy of the coupons, as a table is filled with it
+pub record IsCopy (compact : Bool) (places : ℕ) (cursor copy : List ℕ) : Type 0 where
+  pub all : coupons_in copy ≡ coupons_at compact places cursor
+  pub pairs : All IsPair (coupons_in copy)
+  pub same : copy ≡ coupons_at compact places cursor
+
+pub is_copy : (compact : Bool) (places : ℕ) (cursor items copy : List ℕ) → items ≡ coupons_at compact places cursor → All IsPair items → copy ≡ items → IsCopy compact places cursor copy
+is_copy compact places cursor items copy is pairs copied =
+    let here : All IsPair copy = subst (All IsPair) (sym copied) pairs in
+    let full : coupons_in copy ≡ copy = coupons_in-coupons copy (λ i d l. (here i d l).valued) in
+    record { all = full ∙ copied ∙ is; pairs = subst (All IsPair) (sym full) here; same = copied ∙ is }
+
+-- the coupons of an image that are distinct
+pub are_coupons : (all : List ℕ) → All IsPair all → len (set_of all) ≡ length all → AreCoupons all
+are_coupons all pairs once = record { valued = λ i d l. (pairs i d l).valued; distinct = once }

@@ -12,6 +12,7 @@ pub mod LongSearches
 pub mod Pair
 pub mod Payload
 pub mod Probe
+pub mod Reading
 pub mod Same
 pub mod Storage
 pub mod Table

@@ -1,23 +1,26 @@
 //! A set of coupons in a table that is searched by probing (docs/MODEL.md, "Tables" and "Probing").
-ghost use Rattle.std.specs.Prelude.{◌≡◌, ◌+◌, ◌*◌, ◌^◌, ◌<◌, ◌≤◌, ◌⊎◌, ◌↔◌, ◌++◌, if◌then◌else◌, length, take, drop, false, IsTrue, IfOk, IfErr, OnOk};
+ghost use Rattle.std.specs.Prelude.{◌≡◌, ◌+◌, ◌*◌, ◌^◌, ◌<◌, ◌≤◌, ◌⊎◌, ◌↔◌, ◌++◌, if◌then◌else◌, All, length, take, drop, false, IsTrue, IfOk, IfErr, OnOk};
 ghost use Rattle.std.specs.FinSet as set;
 ghost use Rattle.std.specs.Int.{w32, to_le_bytes};
 ghost use Rattle.hll_base.specs.declared.error.Reason.TheVariants.{Memory};
 ghost use Rattle.hll_base.specs.declared.error.Reason.TheVariants as reasons;
 ghost use Rattle.hll_coupons.specs.Coupons.{WritesAscending, set_bytes, coupons_at, AreCoupons};
 ghost use Rattle.hll_coupons.specs.Coupons as header;
-ghost use Rattle.hll_coupons.specs.Pair.{set_of, value_of};
+ghost use Rattle.hll_coupons.specs.Pair.{IsPair, set_of, value_of};
 ghost use Rattle.hll_coupons.specs.Payload.{shape_of_set, HasSetCount, set_coupons, set_places, IsSetPayload, IsSetTable, SetFault};
 ghost use Rattle.hll_coupons.specs.HashSet.{IsHashSet};
 ghost use Rattle.hll_coupons.specs.Insertion.{IsInsertion, IfTaken, IfRefused};
 ghost use Rattle.hll_coupons.specs.Probe.{Puts, PutsEach};
+ghost use Rattle.hll_coupons.specs.Reading.{IfWhole};
 ghost use Rattle.hll_coupons.specs.Same.{have_same_coupons};
 ghost use Rattle.hll_coupons.specs.Table.{coupons_in, coupons_of, empty_table, IsTable};
 
 use crate::container::{Container, Insertion, places_of};
 use crate::coupon::Coupon;
+use crate::distinct::are_distinct;
 use crate::filling::put_all;
-use crate::search::{Key, search};
+use crate::long_searches::are_dear;
+use crate::search::{Key, search, search_counted};
 use crate::serialization::{
     COMPACT_FLAG_MASK, COUPON_SIZE_BYTES, CUR_MODE_SET, HASH_SET_PREINTS, LG_LEAST_SET_PLACES,
     SERIAL_VERSION, SET_PREAMBLE_SIZE, encode_mode_byte,
@@ -72,46 +75,6 @@ impl<A: Allocator> HashSet<A> {
         HashSet::new(alloc, usize::from(LG_LEAST_SET_PLACES))
     }
 
-    /// Reads what follows the header of a set's image (docs/FORMAT.md, "SET"): the count, and 2^`lg_arr` places, or
-    /// where `compact` the filled ones alone. The coupons are placed anew, in their order.
-    ///
-    /// `lg_arr` is at most 26. Fails with `Truncated`, `Count` or `Coupon` where that fault stands, in the
-    /// order of checks, or else with `Memory`. Takes memory only once the bytes are known to be there.
-    pub fn deserialize(
-        alloc: A,
-        mut cursor: SketchSlice<'_>,
-        lg_arr: usize,
-        compact: bool,
-    ) -> Result<HashSet<A>, Error>
-        requires { lg_arr ≤ 26 }
-        ensures ok { let h = shape_of_set lg_arr compact in
-            IfOk result (λ s. IsSetPayload h (take (4 + 4 * set_places h cursor.entry) cursor.entry) × IsSetTable h cursor.entry s) }
-        ensures members { let h = shape_of_set lg_arr compact in
-            IfOk result (λ s. coupons_of s ≡ set_of (set_coupons h cursor.entry)) }
-        ensures room { IfOk result (λ s. length (coupons_in s.places) < 2 ^ s.lg_size) }
-        ensures err { let h = shape_of_set lg_arr compact in
-            IfErr result (λ e. (e ≡ Memory) ⊎ SetFault h cursor.entry e) }
-        ensures asked { let h = shape_of_set lg_arr compact in
-            IfErr result (λ e. e ≡ Memory → HasSetCount h cursor.entry × (4 + 4 * set_places h cursor.entry ≤ length cursor.entry)) }
-        ensures order { let h = shape_of_set lg_arr compact in
-            IfErr result (λ e. e ≡ reasons.Count → HasSetCount h cursor.entry → AreCoupons (coupons_at compact (set_places h cursor.entry) (drop 4 cursor.entry))) }
-    {
-        let count = cursor.read_u32_le()? as usize;
-        if count >= places_of(lg_arr) {
-            return Err(Error::new(Reason::Count));
-        }
-        let places = places_to_read(lg_arr, count, compact);
-        if cursor.remaining().len() < places * COUPON_SIZE_BYTES {
-            return Err(Error::new(Reason::Truncated));
-        }
-        let mut set = HashSet::new(alloc, lg_arr)?;
-        match read_places(&mut set, cursor, places, compact) {
-            Ok(()) if set.container.len() == count => Ok(set),
-            Ok(()) => Err(Error::new(Reason::Count)),
-            Err(e) => Err(e),
-        }
-    }
-
     /// Puts a coupon where a search for it ends, unless the set has it. Takes no memory.
     ///
     /// Its value is at least 1, and a place is free if the set doesn't have it.
@@ -123,11 +86,12 @@ impl<A: Allocator> HashSet<A> {
         ensures members { coupons_of self.new ≡ set.insert (coupons_of self.old) coupon }
         ensures set { IsHashSet self.new }
     {
-        self.insert(coupon);
+        let mut steps = 0;
+        self.insert(coupon, &mut steps);
     }
 
-    /// The same. Says whether the coupon is new.
-    fn insert(&mut self, coupon: Coupon) -> bool
+    /// The same. Says whether the coupon is new, and adds the steps of a long search to a count.
+    fn insert(&mut self, coupon: Coupon, steps: &mut usize) -> bool
         requires valued { 1 ≤ value_of coupon }
         requires room { set.contains (coupons_of self.old) coupon ≡ false → length (coupons_in self.old.places) < 2 ^ self.old.lg_size }
         ensures new { IsTrue result ↔ (set.contains (coupons_of self.old) coupon ≡ false) }
@@ -136,12 +100,15 @@ impl<A: Allocator> HashSet<A> {
         ensures members { coupons_of self.new ≡ set.insert (coupons_of self.old) coupon }
         ensures set { IsHashSet self.new }
     {
-        let most = self.container.capacity();
-        match self.update_within(coupon, most) {
-            Insertion::Added => true,
-            Insertion::Held => false,
-            Insertion::Refused => unreachable!(),
+        let lg_size = self.container.lg_size();
+        let places = self.container.places();
+        let found = search_counted(Key::Word, lg_size, places, coupon.raw(), steps);
+        let Some(place) = found else { unreachable!() };
+        if !places[place].is_empty() {
+            return false;
         }
+        self.container.put(place, coupon);
+        true
     }
 
     /// Puts a coupon where a search for it ends, unless the set has it, or would have more than `most` coupons. One
@@ -243,6 +210,47 @@ impl<A: Allocator + Clone> HashSet<A> {
         Ok(HashSet { container })
     }
 
+    /// Reads what follows the header of a set's image (docs/FORMAT.md, "SET"): the count, and 2^`lg_arr` places, or
+    /// where `compact` the filled ones alone. The coupons are placed anew, in their order.
+    ///
+    /// `lg_arr` is at most 26. Fails with `Truncated`, `Count` or `Coupon` where that fault stands, in the
+    /// order of checks, or else with `Memory`. Takes memory only once the bytes are known to be there: for the places, and
+    /// where searches have become dear for copies of the coupons and for bitmaps (docs/LIMITS.md).
+    pub fn deserialize(
+        alloc: A,
+        mut cursor: SketchSlice<'_>,
+        lg_arr: usize,
+        compact: bool,
+    ) -> Result<HashSet<A>, Error>
+        requires { lg_arr ≤ 26 }
+        ensures ok { let h = shape_of_set lg_arr compact in
+            IfOk result (λ s. IsSetPayload h (take (4 + 4 * set_places h cursor.entry) cursor.entry) × IsSetTable h cursor.entry s) }
+        ensures members { let h = shape_of_set lg_arr compact in
+            IfOk result (λ s. coupons_of s ≡ set_of (set_coupons h cursor.entry)) }
+        ensures room { IfOk result (λ s. length (coupons_in s.places) < 2 ^ s.lg_size) }
+        ensures err { let h = shape_of_set lg_arr compact in
+            IfErr result (λ e. (e ≡ Memory) ⊎ SetFault h cursor.entry e) }
+        ensures asked { let h = shape_of_set lg_arr compact in
+            IfErr result (λ e. e ≡ Memory → HasSetCount h cursor.entry × (4 + 4 * set_places h cursor.entry ≤ length cursor.entry)) }
+        ensures order { let h = shape_of_set lg_arr compact in
+            IfErr result (λ e. e ≡ reasons.Count → HasSetCount h cursor.entry → AreCoupons (coupons_at compact (set_places h cursor.entry) (drop 4 cursor.entry))) }
+    {
+        let count = cursor.read_u32_le()? as usize;
+        if count >= places_of(lg_arr) {
+            return Err(Error::new(Reason::Count));
+        }
+        let places = places_to_read(lg_arr, count, compact);
+        if cursor.remaining().len() < places * COUPON_SIZE_BYTES {
+            return Err(Error::new(Reason::Truncated));
+        }
+        let mut set = HashSet::new(alloc, lg_arr)?;
+        match read_places(&mut set, cursor, places, compact) {
+            Ok(()) if set.container.len() == count => Ok(set),
+            Ok(()) => Err(Error::new(Reason::Count)),
+            Err(e) => Err(e),
+        }
+    }
+
     /// A copy, with the same places.
     ///
     /// Fails with `Memory`.
@@ -302,9 +310,9 @@ fn places_to_read(lg_arr: usize, count: usize, compact: bool) -> usize
 }
 
 /// Reads places into an empty set. `Coupon` where one that has to be a coupon has no value, or comes twice.
-fn read_places<A: Allocator>(
+fn read_places<A: Allocator + Clone>(
     set: &mut HashSet<A>,
-    mut cursor: SketchSlice<'_>,
+    cursor: SketchSlice<'_>,
     places: usize,
     compact: bool,
 ) -> Result<(), Error>
@@ -312,21 +320,113 @@ fn read_places<A: Allocator>(
     requires none { set.old ≡ empty_table set.old.lg_size }
     requires room { places ≤ 2 ^ set.old.lg_size }
     requires there { 4 * places ≤ length cursor }
-    ensures size { set.new.lg_size ≡ set.old.lg_size }
+    ensures size { OnOk result (set.new.lg_size ≡ set.old.lg_size) }
     ensures ok { OnOk result (PutsEach (λ c. c) set.old.lg_size set.old.places (coupons_at compact places cursor.entry) set.new.places × AreCoupons (coupons_at compact places cursor.entry)) }
     ensures members { OnOk result (coupons_of set.new ≡ set_of (coupons_at compact places cursor.entry)) }
+    ensures err { IfErr result (λ e. (e ≡ Memory) ⊎ ((e ≡ reasons.Coupon) × (AreCoupons (coupons_at compact places cursor.entry) → ⊥))) }
+{
+    let bytes = cursor.remaining();
+    match read_by_search(set, cursor, places, compact)? {
+        Reading::Whole => Ok(()),
+        Reading::Dear => read_by_order(set, SketchSlice::new(bytes), places, compact),
+    }
+}
+
+/// How places were read.
+enum Reading {
+    /// Each of them.
+    Whole,
+    /// Some of them, until searches had become dear.
+    Dear,
+}
+
+/// Reads places into an empty set, and searches for each coupon, as long as that isn't dear.
+fn read_by_search<A: Allocator>(
+    set: &mut HashSet<A>,
+    mut cursor: SketchSlice<'_>,
+    places: usize,
+    compact: bool,
+) -> Result<Reading, Error>
+    requires small { set.old.lg_size ≤ 26 }
+    requires none { set.old ≡ empty_table set.old.lg_size }
+    requires room { places ≤ 2 ^ set.old.lg_size }
+    requires there { 4 * places ≤ length cursor }
+    ensures size { set.new.lg_size ≡ set.old.lg_size }
+    ensures ok { IfOk result (λ r. IfWhole r (PutsEach (λ c. c) set.old.lg_size set.old.places (coupons_at compact places cursor.entry) set.new.places × AreCoupons (coupons_at compact places cursor.entry))) }
+    ensures members { IfOk result (λ r. IfWhole r (coupons_of set.new ≡ set_of (coupons_at compact places cursor.entry))) }
     ensures err { IfErr result (λ e. (e ≡ reasons.Coupon) × (AreCoupons (coupons_at compact places cursor.entry) → ⊥)) }
 {
+    let lg_size = set.container.lg_size();
+    let mut steps = 0;
     for _ in 0..places {
         let coupon = Coupon::from_raw(cursor.read_u32_le()?);
         if coupon.is_empty() && !compact {
             continue;
         }
-        if coupon.value() == 0 || !set.insert(coupon) {
+        if coupon.value() == 0 || !set.insert(coupon, &mut steps) {
             return Err(Error::new(Reason::Coupon));
         }
+        if are_dear(steps, lg_size) {
+            return Ok(Reading::Dear);
+        }
     }
+    Ok(Reading::Whole)
+}
+
+/// Reads places into a set, whatever it has, by copies of the coupons and the cycles of their strides.
+#[inline(never)]
+fn read_by_order<A: Allocator + Clone>(
+    set: &mut HashSet<A>,
+    cursor: SketchSlice<'_>,
+    places: usize,
+    compact: bool,
+) -> Result<(), Error>
+    requires small { set.old.lg_size ≤ 26 }
+    requires room { places ≤ 2 ^ set.old.lg_size }
+    requires there { 4 * places ≤ length cursor }
+    ensures size { OnOk result (set.new.lg_size ≡ set.old.lg_size) }
+    ensures ok { OnOk result (PutsEach (λ c. c) set.old.lg_size (empty_table set.old.lg_size).places (coupons_at compact places cursor.entry) set.new.places × AreCoupons (coupons_at compact places cursor.entry)) }
+    ensures members { OnOk result (coupons_of set.new ≡ set_of (coupons_at compact places cursor.entry)) }
+    ensures err { IfErr result (λ e. (e ≡ Memory) ⊎ ((e ≡ reasons.Coupon) × (AreCoupons (coupons_at compact places cursor.entry) → ⊥))) }
+{
+    let alloc = set.container.allocator().clone()?;
+    let coupons = read_coupons(alloc.clone()?, cursor, places, compact)?;
+    if !are_distinct(alloc.clone()?, &coupons)? {
+        return Err(Error::new(Reason::Coupon));
+    }
+    let mut container = Container::new(alloc, set.container.lg_size())?;
+    put_all(&mut container, Key::Word, &coupons)?;
+    *set = HashSet { container };
     Ok(())
+}
+
+/// The coupons of places, in their order. `Coupon` where one that has to be a coupon has no value.
+///
+/// Takes memory in one request. Fails with `Memory`.
+fn read_coupons<A: Allocator>(
+    alloc: A,
+    mut cursor: SketchSlice<'_>,
+    places: usize,
+    compact: bool,
+) -> Result<Vec<Coupon, A>, Error>
+    requires { 4 * places ≤ length cursor }
+    ensures ok { IfOk result (λ coupons. coupons.items ≡ coupons_at compact places cursor.entry) }
+    ensures pairs { IfOk result (λ coupons. All IsPair coupons.items) }
+    ensures few { IfOk result (λ coupons. length coupons.items ≤ places) }
+    ensures err { IfErr result (λ e. (e ≡ Memory) ⊎ ((e ≡ reasons.Coupon) × (AreCoupons (coupons_at compact places cursor.entry) → ⊥))) }
+{
+    let mut coupons = Vec::with_capacity(alloc, places)?;
+    for _ in 0..places {
+        let coupon = Coupon::from_raw(cursor.read_u32_le()?);
+        if coupon.is_empty() && !compact {
+            continue;
+        }
+        if coupon.value() == 0 {
+            return Err(Error::new(Reason::Coupon));
+        }
+        coupons.push(coupon)?;
+    }
+    Ok(coupons)
 }
 
 /// The twelve bytes before the coupons of a set: the last four are the count.

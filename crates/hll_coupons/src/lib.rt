@@ -7,6 +7,7 @@ pub mod aux_map;
 pub mod container;
 pub mod coupon;
 mod cycle;
+mod distinct;
 mod filling;
 pub mod hash_set;
 mod inverse;

@@ -1,4 +1,4 @@
-use Rattle.std.proofs.Common.{arith, ◌≡◌, ◌≢◌, ◌+◌, ◌*◌, ◌^◌, ◌<◌, ◌≤◌, ◌∙◌, ◌⊎◌, inr, cond, length, sym, ap, subst}
+use Rattle.std.proofs.Common.{arith, ◌≡◌, ◌≢◌, ◌+◌, ◌*◌, ◌^◌, ◌<◌, ◌≤◌, ◌∙◌, ◌⊎◌, inl, inr, cond, length, sym, ap, subst}
 use Rattle.std.specs.FinSet.{len}
 use Rattle.std.proofs.lemmas.List.{length-drop}
 use Rattle.std.proofs.Math.Pow.{pow_mono}
@@ -49,7 +49,7 @@ returns-in-Ok-clause-ok g c =
     let few : HasSetCount h c.args.cursor = record { whole = whole.0; low = omega (arith, c.if-count-places_of.false, c.places_of.ensures, whole.1) } in
     let n : c.places_to_read-places.result ≡ set_places h c.args.cursor = c.places_to_read-places.ensures ∙ ap (λ m. cond c.args.compact m (2 ^ c.args.lg_arr)) whole.1 in
     let there : 4 + 4 * set_places h c.args.cursor ≤ length c.args.cursor = omega (arith, c.if-remaining-places.false, n, whole.0, ap length c.remaining.ensures, ap length whole.2, length-drop 4 c.args.cursor) in
-    let read = is_read h c.args.cursor c.in_ok-set.set c.read_places.new.set c.places_to_read-places.result c.read_u32_le.new.self c.in_ok-set.ensures.ok c.read_places.ensures.size n whole.2 c.in-Ok.ensures.ok.0 c.in-Ok.ensures.ok.1 c.in-Ok.ensures.members
+    let read = is_read h c.args.cursor c.in_ok-set.set c.read_places.new.set c.places_to_read-places.result c.read_u32_le.new.self c.in_ok-set.ensures.ok c.in-Ok.ensures.size n whole.2 c.in-Ok.ensures.ok.0 c.in-Ok.ensures.ok.1 c.in-Ok.ensures.members
     (subst (λ (u : Table). len (coupons_of u) ≡ length (coupons_in u.places)) c.set.view_is c.set.invariant.table.distinct) in
     let counted : length (set_coupons h c.args.cursor) ≡ set_count c.args.cursor =
     sym read.number ∙ ap (λ (u : Table). length (coupons_in u.places)) (sym c.set.view_is) ∙ sym c.len.ensures.count ∙ c.if-len-count.true ∙ whole.1 in
@@ -62,7 +62,7 @@ returns-in-Ok-2-clause-err g c =
     let few : HasSetCount h c.args.cursor = record { whole = whole.0; low = omega (arith, c.if-count-places_of.false, c.places_of.ensures, whole.1) } in
     let n : c.places_to_read-places.result ≡ set_places h c.args.cursor = c.places_to_read-places.ensures ∙ ap (λ m. cond c.args.compact m (2 ^ c.args.lg_arr)) whole.1 in
     let there : 4 + 4 * set_places h c.args.cursor ≤ length c.args.cursor = omega (arith, c.if-remaining-places.false, n, whole.0, ap length c.remaining.ensures, ap length whole.2, length-drop 4 c.args.cursor) in
-    let read = is_read h c.args.cursor c.in_ok-set.set c.read_places.new.set c.places_to_read-places.result c.read_u32_le.new.self c.in_ok-set.ensures.ok c.read_places.ensures.size n whole.2 c.in-Ok-2.ensures.ok.0 c.in-Ok-2.ensures.ok.1 c.in-Ok-2.ensures.members
+    let read = is_read h c.args.cursor c.in_ok-set.set c.read_places.new.set c.places_to_read-places.result c.read_u32_le.new.self c.in_ok-set.ensures.ok c.in-Ok-2.ensures.size n whole.2 c.in-Ok-2.ensures.ok.0 c.in-Ok-2.ensures.ok.1 c.in-Ok-2.ensures.members
     (subst (λ (u : Table). len (coupons_of u) ≡ length (coupons_in u.places)) c.set.view_is c.set.invariant.table.distinct) in
     let other : length (set_coupons h c.args.cursor) ≢ set_count c.args.cursor = λ same. c.if-len-count.false (
     c.len.ensures.count ∙ ap (λ (u : Table). length (coupons_in u.places)) c.set.view_is ∙ read.number ∙ same ∙ sym whole.1) in
@@ -75,6 +75,9 @@ returns-in-Err-clause-err g c =
     let few : HasSetCount h c.args.cursor = record { whole = whole.0; low = omega (arith, c.if-count-places_of.false, c.places_of.ensures, whole.1) } in
     let n : c.places_to_read-places.result ≡ set_places h c.args.cursor = c.places_to_read-places.ensures ∙ ap (λ m. cond c.args.compact m (2 ^ c.args.lg_arr)) whole.1 in
     let there : 4 + 4 * set_places h c.args.cursor ≤ length c.args.cursor = omega (arith, c.if-remaining-places.false, n, whole.0, ap length c.remaining.ensures, ap length whole.2, length-drop 4 c.args.cursor) in
-    let fault = c.in-Err.ensures.err in
-    let none : AreCoupons (set_coupons h c.args.cursor) → ⊥ = λ are. fault.1 (subst (λ cs. AreCoupons cs) (λ i. coupons_at c.args.compact (sym n i) (sym whole.2 i)) are) in
-    inr (subst (SetFault h c.args.cursor) (sym fault.0) (payload.SetFault.coupon few there none))
+    elim c.in-Err.ensures.err [
+      | inl memory ↦ inl memory
+      | inr fault ↦
+          let none : AreCoupons (set_coupons h c.args.cursor) → ⊥ = λ are. fault.1 (subst (λ cs. AreCoupons cs) (λ i. coupons_at c.args.compact (sym n i) (sym whole.2 i)) are) in
+          inr (subst (SetFault h c.args.cursor) (sym fault.0) (payload.SetFault.coupon few there none))
+    ]

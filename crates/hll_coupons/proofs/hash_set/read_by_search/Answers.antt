@@ -8,8 +8,8 @@ use Rattle.hll_coupons.specs.Table.{coupons_of}
 use Rattle.hll_coupons.proofs.Members.{member_unless_lacking}
 use Rattle.hll_coupons.proofs.Reading.{no_value, twice}
 use Rattle.hll_coupons.proofs.SetReading.{read_none, read_over, read_word, read_more}
-use Rattle.hll_coupons.proofs.hash_set.read_places.Goals as goal
-use Rattle.hll_coupons.proofs.hash_set.read_places.Goals.{else-is_empty-via-then-is_empty+else-not-compact, else-is_empty-via-else-is_empty, then-value-eq0-via-then-value-eq0, then-value-eq0-via-else-value-eq0+then-not-insert}
+use Rattle.hll_coupons.proofs.hash_set.read_by_search.Goals as goal
+use Rattle.hll_coupons.proofs.hash_set.read_by_search.Goals.{else-is_empty-via-then-is_empty+else-not-compact, else-is_empty-via-else-is_empty, then-value-eq0-via-then-value-eq0, then-value-eq0-via-else-value-eq0+then-not-insert}
 
 pub loop-init : goal.loop-init
 loop-init g c = read_none c.args.compact c.args.places c.args.set.now c.args.cursor c.requires.small c.requires.none c.requires.there
