@@ -1,7 +1,9 @@
 mod ConstantRows
 mod FoldRows
+pub mod AddedCoupons
 pub mod Ascending
 pub mod Bits
+pub mod Collecting
 pub mod CouponRows
 pub mod Cycles
 pub mod Fillings
@@ -30,5 +32,6 @@ pub mod Sets
 pub mod Sizes
 pub mod Sought
 pub mod TableLemmas
+pub mod Unions
 pub mod Walks
 pub mod Yielded

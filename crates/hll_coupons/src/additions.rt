@@ -1,6 +1,6 @@
 //! The coupons of a table beside those of a set: counted with them, and added to them. Each is searched, until searches
 //! have become dear (docs/LIMITS.md); then a copy of the set's coupons in ascending order tells which of them it has.
-ghost use Rattle.std.specs.Prelude.{◌≡◌, ◌^◌, ◌<◌, ◌≤◌, false, length, IfOk, IfErr};
+ghost use Rattle.std.specs.Prelude.{◌≡◌, ◌^◌, ◌<◌, ◌≤◌, true, false, length, IfOk, IfErr};
 ghost use Rattle.std.specs.FinSet.{contains, insert, len, union};
 ghost use Rattle.std.specs.List.Sorted.{IsStrictlyIncreasing};
 ghost use Rattle.hll_base.specs.declared.error.Reason.TheVariants.{Memory};
@@ -14,14 +14,14 @@ use crate::container::Container;
 use crate::coupon::Coupon;
 use crate::hash_set::HashSet;
 use crate::long_searches::{LongSearches, are_dear};
-use crate::search::{Key, search_counted};
+use crate::search::Key;
 use hll_base::error::Error;
 use std::alloc::Allocator;
 
 impl<A: Allocator + Clone> HashSet<A> {
     /// How many coupons the set has with those of a table.
     ///
-    /// Where searches have become dear, takes memory for a copy of its coupons, and goes on without where that is refused.
+    /// Where searches have become dear, takes memory for a copy of its coupons, and searches on if that is refused.
     pub fn count_with(&self, others: &Container<A>) -> usize
         ensures { result ≡ len (union (coupons_of self.now) (coupons_of others.now)) }
     {
@@ -30,48 +30,12 @@ impl<A: Allocator + Clone> HashSet<A> {
         let mut steps = 0;
         let mut count = self.container.len();
         for coupon in others.iter() {
-            if !self.has(coupon, &mut steps) {
-                count += 1;
-            }
+            count += usize::from(!self.has(coupon, &mut steps));
             if are_dear(steps, lg_size) {
-                return self.count_by_order(others);
-            }
-        }
-        count
-    }
-
-    /// Whether the set has the coupon, by a search whose steps are counted where it is long.
-    fn has(&self, coupon: Coupon, steps: &mut usize) -> bool
-        ensures { result ≡ contains (coupons_of self.now) coupon }
-    {
-        let places = self.container.places();
-        let lg_size = self.container.lg_size();
-        match search_counted(Key::Word, lg_size, places, coupon.raw(), steps) {
-            Some(place) => !places[place].is_empty(),
-            None => false,
-        }
-    }
-
-    /// As `count_with`, by a copy in order.
-    #[inline(never)]
-    fn count_by_order(&self, others: &Container<A>) -> usize
-        ensures { result ≡ len (union (coupons_of self.now) (coupons_of others.now)) }
-    {
-        match self.ascending() {
-            Ok(own) => count_of_both(&own, others),
-            Err(_) => self.count_by_search(others),
-        }
-    }
-
-    /// As `count_with`, by searches alone.
-    fn count_by_search(&self, others: &Container<A>) -> usize
-        ensures { result ≡ len (union (coupons_of self.now) (coupons_of others.now)) }
-    {
-        others.table_is_legal();
-        let mut count = self.container.len();
-        for coupon in others.iter() {
-            if !self.contains(coupon) {
-                count += 1;
+                if let Ok(own) = self.ascending() {
+                    return count_of_both(&own, others);
+                }
+                steps = 0;
             }
         }
         count
@@ -89,8 +53,8 @@ impl<A: Allocator + Clone> HashSet<A> {
 
     /// Adds the coupons of a table, for which there is room.
     ///
-    /// Where searches have become dear, takes memory for a copy of its coupons and for bitmaps, and goes on without where
-    /// that is refused.
+    /// Where searches have become dear, takes memory for a copy of its coupons and for bitmaps, and searches on if that is
+    /// refused.
     pub fn update_each(&mut self, others: &Container<A>)
         requires { len (union (coupons_of self.old) (coupons_of others.now)) ≤ 2 ^ self.old.lg_size }
         ensures size { self.new.lg_size ≡ self.old.lg_size }
@@ -101,52 +65,43 @@ impl<A: Allocator + Clone> HashSet<A> {
         let lg_size = self.container.lg_size();
         let mut steps = 0;
         for coupon in others.iter() {
-            steps += 1; self.update(coupon); //TEMP
+            self.insert(coupon, &mut steps);
             if are_dear(steps, lg_size) {
-                return self.update_by_order(others);
+                if self.update_by_order(others) {
+                    return;
+                }
+                steps = 0;
             }
         }
     }
 
-    /// As `update_each`, by a copy in order.
+    /// The same, by a copy in order. Whether there was memory for that; else nothing has changed.
     #[inline(never)]
-    fn update_by_order(&mut self, others: &Container<A>)
+    fn update_by_order(&mut self, others: &Container<A>) -> bool
         requires { len (union (coupons_of self.old) (coupons_of others.now)) ≤ 2 ^ self.old.lg_size }
         ensures size { self.new.lg_size ≡ self.old.lg_size }
-        ensures members { coupons_of self.new ≡ union (coupons_of self.old) (coupons_of others.now) }
+        ensures members { result ≡ true → coupons_of self.new ≡ union (coupons_of self.old) (coupons_of others.now) }
+        ensures unchanged { result ≡ false → self.new ≡ self.old }
         ensures set { IsHashSet self.new }
     {
-        match self.ascending() {
-            Ok(own) => put_lacking(&mut self.container, own.allocator(), &own, others),
-            Err(_) => self.update_by_search(others),
-        }
-    }
-
-    /// As `update_each`, by searches alone.
-    fn update_by_search(&mut self, others: &Container<A>)
-        requires { len (union (coupons_of self.old) (coupons_of others.now)) ≤ 2 ^ self.old.lg_size }
-        ensures size { self.new.lg_size ≡ self.old.lg_size }
-        ensures members { coupons_of self.new ≡ union (coupons_of self.old) (coupons_of others.now) }
-        ensures set { IsHashSet self.new }
-    {
-        others.table_is_legal();
-        for coupon in others.iter() {
-            self.update(coupon);
-        }
+        let Ok(own) = self.ascending() else {
+            return false;
+        };
+        put_lacking(&mut self.container, own.allocator(), &own, others);
+        true
     }
 }
 
 /// How many coupons there are in both, of which the first ascend.
 fn count_of_both<A: Allocator>(own: &[Coupon], others: &Container<A>) -> usize
-    requires { IsStrictlyIncreasing own.now }
+    requires ascends { IsStrictlyIncreasing own.now }
+    requires few { length own.now ≤ 2 ^ 26 }
     ensures { result ≡ len (union (set_of own.now) (coupons_of others.now)) }
 {
     others.table_is_legal();
     let mut count = own.len();
     for coupon in others.iter() {
-        if !is_among(own, coupon) {
-            count += 1;
-        }
+        count += usize::from(!is_among(own, coupon));
     }
     count
 }

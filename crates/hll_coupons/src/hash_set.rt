@@ -91,7 +91,7 @@ impl<A: Allocator> HashSet<A> {
     }
 
     /// The same. Says whether the coupon is new, and adds the steps of a long search to a count.
-    fn insert(&mut self, coupon: Coupon, steps: &mut usize) -> bool
+    pub(crate) fn insert(&mut self, coupon: Coupon, steps: &mut usize) -> bool
         requires valued { 1 ≤ value_of coupon }
         requires room { set.contains (coupons_of self.old) coupon ≡ false → length (coupons_in self.old.places) < 2 ^ self.old.lg_size }
         ensures new { IsTrue result ↔ (set.contains (coupons_of self.old) coupon ≡ false) }
@@ -146,8 +146,17 @@ impl<A: Allocator> HashSet<A> {
     pub fn contains(&self, coupon: Coupon) -> bool
         ensures { result ≡ set.contains (coupons_of self.now) coupon }
     {
+        let mut steps = 0;
+        self.has(coupon, &mut steps)
+    }
+
+    /// The same. Adds the steps of a long search to a count.
+    pub(crate) fn has(&self, coupon: Coupon, steps: &mut usize) -> bool
+        ensures { result ≡ set.contains (coupons_of self.now) coupon }
+    {
         let places = self.container.places();
-        match search(Key::Word, self.container.lg_size(), places, coupon.raw()) {
+        let lg_size = self.container.lg_size();
+        match search_counted(Key::Word, lg_size, places, coupon.raw(), steps) {
             Some(place) => !places[place].is_empty(),
             None => false,
         }

@@ -21,7 +21,7 @@ use Rattle.hll_sketch.proofs.Adding.{merge_of_empty, merge_of_some}
 use Rattle.hll_sketch.proofs.Gadgets.{ArePairs-one}
 use Rattle.hll_sketch.proofs.Meanings.{MeansPairs, MeansPairs-add, MeansPairs-merge, MeansPairs-width, MeansPairs-empty, MeansPairs-legal, MeansPairs-folded, nothing, folds_as}
 use Rattle.hll_merge.proofs.EffectiveLgK.{lg_k-outcome}
-use Rattle.hll_sketch.proofs.Sets.{union-empty, union_assoc, union_none, no_members, union_left, union_right}
+use Rattle.hll_coupons.proofs.Unions.{union-empty, union_assoc, union_none, no_members, union_left, union_right}
 
 -- ---- plans
 

@@ -19,7 +19,7 @@ use Rattle.hll_sketch.specs.Adding.{content_for, content_with, add}
 use Rattle.hll_sketch.specs.Merging.{merge, merge_content, merge_registers, empty_union}
 use Rattle.hll_sketch.specs.Laws.{AddOfAdd, AddEach, add_in_turn, UnionLgK, Event, of_sketch, of_pairs, gadget_after_all, merged_sketches}
 use Rattle.hll_sketch.specs.Joined.{least_lg_k}
-use Rattle.hll_sketch.proofs.Sets.{union_assoc, len_union_le, from_list_cons, union_none}
+use Rattle.hll_coupons.proofs.Unions.{union_assoc, len_union_le, from_list_cons, union_none}
 use Rattle.hll_sketch.proofs.Stages.{stage_again, stage_none}
 
 -- what both join leave alone, the first leaves alone

@@ -21,7 +21,7 @@ use Rattle.hll_sketch.specs.Adding.{content_for, content_with, add}
 use Rattle.hll_sketch.specs.Merging.{merge_coupons, merge_registers, merge_content}
 use Rattle.hll_sketch.specs.Union.{IsGadget}
 use Rattle.hll_sketch.proofs.LegalImages.{ArePairs-set_of}
-use Rattle.hll_sketch.proofs.Sets.{no_members, union_right}
+use Rattle.hll_coupons.proofs.Unions.{no_members, union_right}
 use Rattle.hll_sketch.proofs.LegalSketches.{ArePairs-union, ArePairs-pairs, pairs_are}
 
 -- a fold without pairs is of none

@@ -29,7 +29,7 @@ use Rattle.hll_sketch.specs.Merging.{merge, merge_coupons, merge_content, state_
 use Rattle.hll_sketch.proofs.Adding.{added_again, lowered, least-lowered, merge_of_empty, merge_of_some}
 use Rattle.hll_sketch.proofs.LegalSketches.{ArePairs-union, ArePairs-pairs, fold_are_registers, pairs_are}
 use Rattle.hll_sketch.proofs.Meanings.{MeansPairs, nothing, ArePairs-empty, folds_as, Means-content_for}
-use Rattle.hll_sketch.proofs.Sets.{union_assoc, len_union_le, union_left, union_right, or_assoc, or-false, union-empty, union_none}
+use Rattle.hll_coupons.proofs.Unions.{union_assoc, len_union_le, union_left, union_right, or_assoc, or-false, union-empty, union_none}
 use Rattle.hll_sketch.proofs.Stages.{stage_again}
 
 -- ---- one merge

@@ -14,7 +14,7 @@ use Rattle.hll_sketch.specs.Stage.{can_hold, sizes, stage}
 use Rattle.hll_sketch.specs.Value.{coupons, registers}
 use Rattle.hll_sketch.specs.Adding.{content_for, content_with}
 use Rattle.hll_sketch.specs.Layout.{Layout, list, set, array, can_hold_with, IsSize, NeedsMemory, TableChanges}
-use Rattle.hll_sketch.proofs.Inserting.{insert-union}
+use Rattle.hll_coupons.proofs.Unions.{insert-union}
 use Rattle.hll_sketch.proofs.Steps.{stage_stays}
 
 -- what a table that its coupons leave becomes

@@ -22,7 +22,7 @@ use Rattle.hll_sketch.specs.Value.{Sketch, Content, coupons, registers, pairs_in
 use Rattle.hll_sketch.specs.Adding.{content_for, content_with, add}
 use Rattle.hll_sketch.specs.Merging.{merge_coupons, merge_content, state_after_merge}
 use Rattle.hll_sketch.specs.Laws.{AddIsLegal, MergeIsLegal}
-use Rattle.hll_sketch.proofs.Sets.{contains_union}
+use Rattle.hll_coupons.proofs.Unions.{contains_union}
 
 -- ---- sizes
 

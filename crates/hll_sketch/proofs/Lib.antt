@@ -3,7 +3,6 @@ mod ImageRows
 pub mod Adding
 pub mod BorrowedCoupons
 pub mod Checks
-pub mod Collecting
 pub mod CouponImages
 pub mod Differing
 pub mod Emptiness
@@ -19,7 +18,6 @@ pub mod Gathering
 pub mod Headers
 pub mod Images
 pub mod InPlace
-pub mod Inserting
 pub mod Joined
 pub mod Keeping
 pub mod LegalImages
@@ -37,7 +35,6 @@ pub mod Refusals
 pub mod Regrouping
 pub mod SameLemmas
 pub mod SetWords
-pub mod Sets
 mod SizedImages
 pub mod Stages
 pub mod Steps

@@ -19,7 +19,7 @@ use Rattle.hll_sketch.specs.Adding.{content_for, content_with, add}
 use Rattle.hll_sketch.specs.Merging.{merge, merge_coupons, merge_content, merge_registers}
 use Rattle.hll_sketch.proofs.Adding.{merge_of_empty, merge_of_some}
 use Rattle.hll_sketch.proofs.Gadgets.{fold_none}
-use Rattle.hll_sketch.proofs.Sets.{union-empty, union_none}
+use Rattle.hll_coupons.proofs.Unions.{union-empty, union_none}
 use Rattle.hll_sketch.proofs.LegalSketches.{ArePairs-union, ArePairs-pairs}
 
 pub folds_as : (k e : ℕ) (c : Content) (P : Pairs) → k ≤ 21 → e ≤ k → Means k c P → fold_to (pairs_in c) e ≡ fold_to P e

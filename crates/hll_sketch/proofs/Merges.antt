@@ -27,11 +27,10 @@ use Rattle.hll_sketch.specs.Joined.{least_lg_k}
 use Rattle.hll_sketch.specs.Laws.{add_in_turn}
 use Rattle.hll_sketch.specs.Merging.{merge, merge_all, merge_content, merge_coupons, merge_registers, state_after_merge}
 use Rattle.hll_sketch.proofs.Adding.{add_each, least-merge}
-use Rattle.hll_sketch.proofs.Collecting.{union_behind, len-union_longer, len-union_none, len-union_with}
+use Rattle.hll_coupons.proofs.Collecting.{union_behind, len-union_longer, len-union_none, len-union_with}
 use Rattle.hll_sketch.proofs.Gadgets.{false_unless}
-use Rattle.hll_sketch.proofs.Inserting.{insert-union, set_of-nil}
+use Rattle.hll_coupons.proofs.Unions.{insert-union, set_of-nil, union-empty, union_none}
 use Rattle.hll_sketch.proofs.LegalSketches.{found_in_range}
-use Rattle.hll_sketch.proofs.Sets.{union-empty, union_none}
 use Rattle.hll_sketch.proofs.Stages.{holds_fewer}
 use Rattle.hll_sketch.proofs.Steps.{stage_stays}
 

@@ -11,8 +11,7 @@ use Rattle.hll_registers.specs.State.{cleared_state}
 use Rattle.hll_registers.specs.Store.{Stored, zero_registers, update_with_coupon}
 use Rattle.hll_registers.proofs.States.{state_after-cleared_state}
 use Rattle.hll_sketch.specs.Promotion.{with_more}
-use Rattle.hll_sketch.proofs.Inserting.{insert-union, set_of-nil}
-use Rattle.hll_sketch.proofs.Sets.{union-empty}
+use Rattle.hll_coupons.proofs.Unions.{insert-union, set_of-nil, union-empty}
 
 -- registers of pairs, with the cleared state
 abbrev pub folded : ℕ → Pairs → Stored

@@ -20,7 +20,7 @@ use Rattle.hll_registers.specs.State.{cleared_state}
 use Rattle.hll_sketch.specs.Value.{registers, Sketch, pairs_of, has_nonzero_registers, ArePairs}
 use Rattle.hll_sketch.specs.Adding.{content_for}
 use Rattle.hll_sketch.specs.Joined.{all_pairs, least_lg_k, join_value_of_pairs, join_value, UnionOfSame, UnionOfUnion, IsGrownOfPairs, JoinsOfSame, JoinOfJoin}
-use Rattle.hll_sketch.proofs.Sets.{same_members, union_assoc, contains_union, len_union_le, or_assoc, or-false, union-empty, union_none}
+use Rattle.hll_coupons.proofs.Unions.{same_members, union_assoc, contains_union, len_union_le, or_assoc, or-false, union-empty, union_none}
 use Rattle.hll_sketch.proofs.Stages.{stage_none}
 use Rattle.hll_sketch.proofs.Meanings.{nothing, folds_as}
 use Rattle.hll_sketch.proofs.Adding.{lowered, least-lowered}

@@ -8,6 +8,7 @@ use Rattle.std.proofs.lemmas.Bool.{le-leb, lt-leb, cases_lt, and_from, and_left,
 use Rattle.std.proofs.lemmas.Bool.Decides.{nat_tests}
 use Rattle.std.specs.Cmp.{nat_cmp_total}
 use Rattle.std.specs.FinSet.{contains, insert, len, len-insert}
+use Rattle.hll_coupons.proofs.Unions.{len-insert_le}
 use Rattle.hll_coupons.proofs.Sought.{find_least}
 use Rattle.hll_coupons.specs.Pair.{Pairs}
 use Rattle.hll_coupons.specs.Table.{Table, coupons_in, coupons_of, IsTable}
@@ -98,12 +99,6 @@ from_five k p (inl three) = subst (λ p. 5 ≤ size_after p) (sym three) (let fi
 from_five k p (inr (low, high)) = omega (arith, after_set p low)
 
 -- ---- a table and a coupon more
-
-pub len-insert_le : (S : Pairs) (c : ℕ) → len (insert S c) ≤ len S + 1
-len-insert_le S c = rw (len-insert nat_cmp_total S c) (elim (contains S c) as (λ b. cond b (len S) (len S + 1) ≤ len S + 1) [ true ↦ omega arith | false ↦ omega arith ])
-
-pub len-insert_ge : (S : Pairs) (c : ℕ) → len S ≤ len (insert S c)
-len-insert_ge S c = rw (len-insert nat_cmp_total S c) (elim (contains S c) as (λ b. len S ≤ cond b (len S) (len S + 1)) [ true ↦ omega arith | false ↦ omega arith ])
 
 pub AtMost-with : (t : Table) (c n : ℕ) → IsTable t → length (coupons_in t.places) ≤ 2 ^ t.lg_size → (5 ≤ t.lg_size → length (coupons_in t.places) < 2 ^ t.lg_size) →
     n ≡ len (insert (coupons_of t) c) → AtMost t.lg_size n

@@ -5,7 +5,7 @@ use Rattle.hll_coupons.specs.Pair.{IsPair, set_of}
 use Rattle.hll_coupons.specs.Table.{Table, coupons_in, IsTable}
 use Rattle.hll_coupons.proofs.Members.{set_of-between}
 use Rattle.hll_coupons.proofs.Yielded.{given}
-use Rattle.hll_sketch.proofs.Collecting.{All-between, room_of_eight}
+use Rattle.hll_coupons.proofs.Collecting.{All-between, room_of_eight}
 use Rattle.hll_sketch.proofs.folding.list_of.Goals as goal
 
 pub update-requires-clause-valued : goal.update-requires-clause-valued

@@ -4,7 +4,7 @@ use Rattle.std.specs.Option.{unwrap_or}
 use Rattle.std.proofs.lemmas.Bool.{le-leb}
 use Rattle.hll_coupons.specs.Table.{coupons_in, coupons_of}
 use Rattle.hll_sketch.specs.Union.{coupons_kept}
-use Rattle.hll_sketch.proofs.Collecting.{len-union_most, len-union_none}
+use Rattle.hll_coupons.proofs.Collecting.{len-union_most, len-union_none}
 use Rattle.hll_sketch.proofs.Merges.{kept_count}
 use Rattle.hll_sketch.proofs.sketch.HllSketch.are_at_most.Goals as goal
 

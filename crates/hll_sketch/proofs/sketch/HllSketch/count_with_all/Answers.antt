@@ -6,7 +6,7 @@ use Rattle.hll_coupons.specs.Pair.{set_of}
 use Rattle.hll_coupons.specs.Table.{coupons_in}
 use Rattle.hll_coupons.proofs.Yielded.{given}
 use Rattle.hll_sketch.specs.Union.{coupons_kept}
-use Rattle.hll_sketch.proofs.Collecting.{len-union_new, len-union_old, len-union_most, shorter}
+use Rattle.hll_coupons.proofs.Collecting.{len-union_new, len-union_old, len-union_most, shorter}
 use Rattle.hll_sketch.proofs.Merges.{kept_count, kept_few}
 use Rattle.hll_sketch.proofs.sketch.HllSketch.count_with_all.Goals as goal
 

@@ -8,7 +8,7 @@ use Rattle.hll_sketch.specs.Adding.{add}
 use Rattle.hll_sketch.specs.Layout.{sketch_of}
 use Rattle.hll_sketch.specs.Laws.{add_in_turn}
 use Rattle.hll_sketch.specs.Union.{can_hold_all}
-use Rattle.hll_sketch.proofs.Collecting.{All-between}
+use Rattle.hll_coupons.proofs.Collecting.{All-between}
 use Rattle.hll_base.proofs.Errors.{OnErr-of}
 use Rattle.hll_sketch.proofs.Merges.{added_more, room_suffices}
 use Rattle.hll_sketch.proofs.sketch.HllSketch.update_with_each.Goals as goal

@@ -11,9 +11,7 @@ use Rattle.hll_coupons.specs.Pair.{Pairs, set_of}
 use Rattle.hll_coupons.specs.Table.{Table, coupons_in, coupons_of, IsTable}
 use Rattle.hll_coupons.proofs.Members.{set_of-between, len-between, insert-member}
 use Rattle.hll_coupons.proofs.Reading.{len-set_of-le}
-use Rattle.hll_sketch.proofs.Inserting.{insert-union}
-use Rattle.hll_sketch.proofs.Sets.{contains_union, union_assoc, union_none}
-use Rattle.hll_sketch.proofs.Steps.{len-insert_ge, len-insert_le}
+use Rattle.hll_coupons.proofs.Unions.{contains_union, insert-union, len-insert_ge, len-insert_le, union_assoc, union_none}
 
 -- what all of a list have, one between others has
 pub All-between : {X : Type 0} (P : X → Type 0) (xs zs : List X) (y : X) → All P (xs ++ y ∷ zs) → P y
@@ -27,7 +25,7 @@ len-longer xs (y ∷ ys) =
     let more : len (set_of (xs ++ ys)) ≤ len (set_of (xs ++ y ∷ ys)) = rw (set_of-between xs ys y) (len-insert_ge (set_of (xs ++ ys)) y) in
     omega (arith, more, len-longer xs ys)
 
-append-between : (xs ys : List ℕ) (c : ℕ) → (xs ++ c ∷ []) ++ ys ≡ xs ++ c ∷ ys
+pub append-between : (xs ys : List ℕ) (c : ℕ) → (xs ++ c ∷ []) ++ ys ≡ xs ++ c ∷ ys
 append-between [] ys c = refl
 append-between (x ∷ xs) ys c = ap (λ zs. x ∷ zs) (append-between xs ys c)
 

@@ -5,7 +5,7 @@ use Rattle.std.specs.Ordering.{nat_cmp, eq_by_cmp}
 use Rattle.std.specs.Cmp.{nat_cmp_total}
 use Rattle.std.proofs.lemmas.Bool.{cases_Bool, true≢false, or_left, or_right}
 use Rattle.std.specs.FinSet.{empty, contains-empty, items, contains, contains-items, insert, contains-insert, len, len-insert, union, contains-union, from_list, contains-from_list, same_set, nat_cmp-IsAntisymmetric}
-use Rattle.hll_coupons.specs.Pair.{Pairs}
+use Rattle.hll_coupons.specs.Pair.{Pairs, set_of}
 
 pub or_assoc : (a b c : Bool) → ((a || b) || c) ≡ (a || (b || c))
 or_assoc true b c = refl
@@ -77,3 +77,26 @@ union_left P Q e = no_members P (λ c h. true≢false (sym (contains_union P Q c
 
 pub union_right : (P Q : Pairs) → union P Q ≡ empty → Q ≡ empty
 union_right P Q e = no_members Q (λ c h. true≢false (sym (contains_union P Q c ∙ or_right (contains P c) (contains Q c) h) ∙ ap (λ S. contains S c) e ∙ contains-empty nat_cmp c))
+
+-- ---- one pair more
+
+pub set_of-nil : set_of [] ≡ empty
+set_of-nil = same_members (set_of []) empty (λ q. contains-from_list nat_cmp_total [] q ∙ sym (contains-empty nat_cmp q))
+
+or-false-last : (a b : Bool) → (b || a) ≡ (a || (b || false))
+or-false-last true true = refl
+or-false-last true false = refl
+or-false-last false true = refl
+or-false-last false false = refl
+
+-- one coupon more is a union with it
+pub insert-union : (S : Pairs) (c : ℕ) → insert S c ≡ union S (set_of (c ∷ []))
+insert-union S c = same_members (insert S c) (union S (set_of (c ∷ []))) (λ q.
+    contains-insert nat_cmp_total S c q ∙ or-false-last (contains S q) (eq_by_cmp nat_cmp q c)
+    ∙ sym (contains_union S (set_of (c ∷ [])) q ∙ ap (λ b. contains S q || b) (contains-from_list nat_cmp_total (c ∷ []) q)))
+
+pub len-insert_le : (S : Pairs) (c : ℕ) → len (insert S c) ≤ len S + 1
+len-insert_le S c = rw (len-insert nat_cmp_total S c) (elim (contains S c) as (λ b. cond b (len S) (len S + 1) ≤ len S + 1) [ true ↦ omega arith | false ↦ omega arith ])
+
+pub len-insert_ge : (S : Pairs) (c : ℕ) → len S ≤ len (insert S c)
+len-insert_ge S c = rw (len-insert nat_cmp_total S c) (elim (contains S c) as (λ b. len S ≤ cond b (len S) (len S + 1)) [ true ↦ omega arith | false ↦ omega arith ])
