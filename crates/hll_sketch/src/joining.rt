@@ -26,6 +26,7 @@ use crate::borrowed::{
 use crate::folding::fold_of;
 use crate::header::Header;
 use crate::mode::Mode;
+use crate::promotion::mode_of_both;
 use crate::sketch::HllSketch;
 use crate::stage::most_kept;
 use crate::updatable::raise_by_updatable;
@@ -35,7 +36,7 @@ use hll_arrays::registers::Registers;
 use hll_base::error::{Error, Reason};
 use hll_base::hll_type::HllType;
 use hll_coupons::container::Container;
-use hll_coupons::coupon::Coupon;
+use hll_coupons::list::List;
 use std::alloc::Allocator;
 
 impl<A: Allocator + Clone> HllSketch<A> {
@@ -106,11 +107,10 @@ impl<A: Allocator + Clone> HllSketch<A> {
             *self = sketch.table_in(self.allocator(), HllType::Hll8)?;
             Ok(())
         } else if self.has_room_for(table) {
-            self.add_each(table)
+            self.add_each(table);
+            Ok(())
         } else {
-            let mut larger = self.clone()?;
-            larger.add_each(table)?;
-            *self = larger;
+            self.mode = self.mode_with_all(table)?;
             Ok(())
         }
     }
@@ -257,35 +257,44 @@ impl<A: Allocator + Clone> HllSketch<A> {
         }
     }
 
-    /// Adds the coupons of a table in turn.
-    ///
-    /// Fails with `Memory`, only if there is no room for them, and may then have some of them.
-    fn add_each(&mut self, table: &Container<A>) -> Result<(), Error>
-        ensures ok { OnOk result (sketch_of self.new ≡ add_in_turn (sketch_of self.old) (coupons_in table.now.places)) }
-        ensures needed { OnErr result (can_hold_all self.old.layout (coupons_of table.now) ≡ false) }
-        ensures err { IfErr result (λ e. e ≡ Memory) }
-    {
-        match &mut self.mode {
-            Mode::Array8(array) => {
-                raise_by_each(array, table);
-                Ok(())
-            }
-            _ => self.update_with_each(table),
-        }
-    }
-
-    /// As `add_each`, by one update after the other.
-    fn update_with_each(&mut self, table: &Container<A>) -> Result<(), Error>
-        ensures ok { OnOk result (sketch_of self.new ≡ add_in_turn (sketch_of self.old) (coupons_in table.now.places)) }
-        ensures needed { OnErr result (can_hold_all self.old.layout (coupons_of table.now) ≡ false) }
-        ensures err { IfErr result (λ e. e ≡ Memory) }
+    /// Adds the coupons of a table, for which there is room. Takes no memory but where searches have become dear, and goes on
+    /// without where that is refused.
+    fn add_each(&mut self, table: &Container<A>)
+        requires { can_hold_all self.old.layout (coupons_of table.now) ≡ true }
+        ensures { sketch_of self.new ≡ add (sketch_of self.old) (coupons_of table.now) }
     {
         table.table_is_legal();
         self.value_is_legal();
-        for coupon in table.iter() {
-            self.update_with_coupon(coupon)?;
+        match &mut self.mode {
+            Mode::List { list, .. } => update_each(list, table),
+            Mode::Set { set, .. } => set.update_each(table),
+            Mode::Array8(array) => raise_by_each(array, table),
+            Mode::Array4(_) | Mode::Array6(_) => unreachable!(),
         }
-        Ok(())
+    }
+
+    /// The mode with the coupons of a table, for which this list or set has no room: a larger set, or registers of eight bits.
+    ///
+    /// Fails with `Memory`.
+    fn mode_with_all(&self, table: &Container<A>) -> Result<Mode<A>, Error>
+        requires width { width_of self.now.layout ≡ Hll8 }
+        requires overflows { can_hold_all self.now.layout (coupons_of table.now) ≡ false }
+        ensures content { IfOk result (λ mode. content_in (layout_of mode) ≡ content_with self.now.lg_k (content_in self.now.layout) (coupons_of table.now)) }
+        ensures layout { IfOk result (λ mode. IsLayoutFor self.now.lg_k (layout_of mode)) }
+        ensures width { IfOk result (λ mode. width_of (layout_of mode) ≡ Hll8) }
+        ensures err { IfErr result (λ e. e ≡ Memory) }
+    {
+        self.value_is_legal();
+        let count = self.count_with_all(table);
+        match &self.mode {
+            Mode::List { list, .. } => {
+                mode_of_both(self.lg_config_k, list.container(), table, count)
+            }
+            Mode::Set { set, .. } => {
+                mode_of_both(self.lg_config_k, set.container(), table, count)
+            }
+            Mode::Array4(_) | Mode::Array6(_) | Mode::Array8(_) => unreachable!(),
+        }
     }
 
     /// Whether the table stays as large as it is with the coupons of another one, as registers of six and eight bits do.
@@ -312,29 +321,14 @@ impl<A: Allocator + Clone> HllSketch<A> {
         both <= most || self.count_with_all(table) <= most
     }
 
-    /// How many coupons there are with those of a table.
+    /// How many coupons there are with those of a table; registers have none.
     fn count_with_all(&self, table: &Container<A>) -> usize
         ensures { result ≡ len (union (coupons_kept self.now.layout) (coupons_of table.now)) }
     {
-        table.table_is_legal();
-        self.value_is_legal();
-        let mut count = self.num_coupons().unwrap_or(0);
-        for coupon in table.iter() {
-            if !self.has_coupon(coupon) {
-                count += 1;
-            }
-        }
-        count
-    }
-
-    /// Whether a table has a coupon; registers have none.
-    fn has_coupon(&self, coupon: Coupon) -> bool
-        ensures { result ≡ contains (coupons_kept self.now.layout) coupon }
-    {
         match &self.mode {
-            Mode::List { list, .. } => list.contains(coupon),
-            Mode::Set { set, .. } => set.contains(coupon),
-            Mode::Array4(_) | Mode::Array6(_) | Mode::Array8(_) => false,
+            Mode::List { list, .. } => count_with(list, table),
+            Mode::Set { set, .. } => set.count_with(table),
+            Mode::Array4(_) | Mode::Array6(_) | Mode::Array8(_) => table.len(),
         }
     }
 
@@ -401,8 +395,32 @@ impl<A: Allocator + Clone> HllSketch<A> {
     }
 }
 
+/// How many coupons a list has with those of a table.
+fn count_with<A: Allocator>(list: &List<A>, table: &Container<A>) -> usize
+    ensures { result ≡ len (union (coupons_of list.now) (coupons_of table.now)) }
+{
+    table.table_is_legal();
+    let mut count = list.container().len();
+    for coupon in table.iter() {
+        count += usize::from(!list.contains(coupon));
+    }
+    count
+}
+
+/// Adds the coupons of a table to a list, which has room for them.
+fn update_each<A: Allocator>(list: &mut List<A>, table: &Container<A>)
+    requires { len (union (coupons_of list.old) (coupons_of table.now)) ≤ 2 ^ list.old.lg_size }
+    ensures size { list.new.lg_size ≡ list.old.lg_size }
+    ensures members { coupons_of list.new ≡ union (coupons_of list.old) (coupons_of table.now) }
+{
+    table.table_is_legal();
+    for coupon in table.iter() {
+        list.update(coupon);
+    }
+}
+
 /// Raises registers of eight bits by the coupons of a table in turn.
-fn raise_by_each<A: Allocator>(array: &mut Array8<A>, table: &Container<A>)
+pub(crate) fn raise_by_each<A: Allocator>(array: &mut Array8<A>, table: &Container<A>)
     ensures added { sketch_of_registers array.new ≡ add_in_turn (sketch_of_registers array.old) (coupons_in table.now.places) }
     ensures lg_k { array.new.lg_k ≡ array.old.lg_k }
 {

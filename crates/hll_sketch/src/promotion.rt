@@ -1,7 +1,8 @@
 //! The next stage, where a table overflows with one more coupon (docs/MODEL.md, "Stages").
 ghost use Rattle.std.specs.Prelude.{◌≡◌, ◌+◌, ◌^◌, ◌<◌, ◌≤◌, length, false, IfOk, IfErr, IfSome, IfNone};
-ghost use Rattle.std.specs.FinSet.{len, insert};
+ghost use Rattle.std.specs.FinSet.{len, insert, union};
 ghost use Rattle.hll_base.specs.declared.error.Reason.TheVariants.{Memory};
+ghost use Rattle.hll_base.specs.declared.hll_type.HllType.TheVariants.{Hll8};
 ghost use Rattle.hll_coupons.specs.Fold.{fold_to};
 ghost use Rattle.hll_coupons.specs.Pair.{value_of};
 ghost use Rattle.hll_coupons.specs.Table.{coupons_in, coupons_of};
@@ -12,7 +13,9 @@ ghost use Rattle.hll_sketch.specs.Promotion.{with_more};
 ghost use Rattle.hll_sketch.specs.Stage as stages;
 ghost use Rattle.hll_sketch.specs.Value.{IsLgK, registers};
 
+use crate::joining::raise_by_each;
 use crate::mode::Mode;
+use crate::stage::stage;
 use hll_arrays::array4::Array4;
 use hll_arrays::array6::Array6;
 use hll_arrays::array8::Array8;
@@ -136,4 +139,39 @@ fn set_of_size<A: Allocator + Clone>(
     let mut set = HashSet::from_container(table.allocator().clone()?, lg_size, table)?;
     set.update(coupon);
     Ok(set)
+}
+
+/// The next stage of a table that has no room for the coupons of another one: a larger set, or registers of eight bits.
+///
+/// Both have `count` coupons together. Fails with `Memory`.
+pub(crate) fn mode_of_both<A: Allocator + Clone>(
+    lg_k: u8,
+    table: &Container<A>,
+    others: &Container<A>,
+    count: usize,
+) -> Result<Mode<A>, Error>
+    requires lg_k { IsLgK lg_k }
+    requires size { IsSize lg_k table.now.lg_size }
+    requires count { count ≡ len (union (coupons_of table.now) (coupons_of others.now)) }
+    requires overflows { stages.can_hold table.now.lg_size count ≡ false }
+    ensures content { let pairs = union (coupons_of table.now) (coupons_of others.now) in
+        IfOk result (λ mode. content_in (layout_of mode) ≡ content_for lg_k pairs (stages.stage lg_k table.now.lg_size (len pairs))) }
+    ensures layout { IfOk result (λ mode. IsLayoutFor lg_k (layout_of mode)) }
+    ensures width { IfOk result (λ mode. width_of (layout_of mode) ≡ Hll8) }
+    ensures err { IfErr result (λ e. e ≡ Memory) }
+{
+    let alloc = table.allocator().clone()?;
+    match stage(lg_k, table.lg_size() as u8, count) {
+        None => {
+            let mut array: Array8<A> = registers_of_table(alloc, lg_k, table, None)?;
+            raise_by_each(&mut array, others);
+            Ok(Mode::Array8(array))
+        }
+        Some(size) => {
+            let mut set = HashSet::from_container(alloc, usize::from(size), table)?;
+            set.update_each(others);
+            let hll_type = HllType::Hll8;
+            Ok(Mode::Set { set, hll_type })
+        }
+    }
 }

@@ -1,9 +1,9 @@
-use Rattle.std.proofs.Common.{◌≡◌, ◌+◌, ◌≤◌, ◌^◌, ◌∷◌, ◌++◌, not, length, sym, ap, subst, ◌∙◌, arith}
+use Rattle.std.proofs.Common.{◌≡◌, ◌+◌, ◌≤◌, ◌^◌, ◌∷◌, not, length, sym, ap, subst, ◌∙◌, arith}
 use Rattle.std.specs.FinSet.{len, union}
 use Rattle.std.proofs.Math.Pow.{pow_mono}
 use Rattle.std.proofs.lemmas.List.{append-nil}
 use Rattle.hll_coupons.specs.Pair.{set_of}
-use Rattle.hll_coupons.specs.Table.{Table, coupons_in, coupons_of}
+use Rattle.hll_coupons.specs.Table.{coupons_in}
 use Rattle.hll_coupons.proofs.AddedCoupons.{at_most_one, count_more}
 use Rattle.hll_coupons.proofs.Ascending.{distinct-ascending}
 use Rattle.hll_coupons.proofs.Collecting.{len-union_none, len-union_most, shorter}
@@ -11,7 +11,7 @@ use Rattle.hll_coupons.proofs.Yielded.{given}
 use Rattle.hll_coupons.proofs.additions.count_of_both.Goals as goal
 
 pub loop-coupon-init : goal.loop-coupon-init
-loop-coupon-init g c = c.len-count.ensures ∙ sym (distinct-ascending c.args.own.now c.requires.ascends) ∙ sym (len-union_none (set_of c.args.own.now))
+loop-coupon-init g c = sym (distinct-ascending c.args.own.now c.requires.ascends) ∙ sym (len-union_none (set_of c.args.own.now))
 
 pub overflow_add-count : goal.overflow_add-count
 overflow_add-count g c =

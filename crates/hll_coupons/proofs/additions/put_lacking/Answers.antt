@@ -1,8 +1,8 @@
-use Rattle.std.proofs.Common.{◌≡◌, ◌^◌, ◌≤◌, ◌<◌, ◌∷◌, ◌++◌, All, false, true, length, refl, sym, ap, subst, ◌∙◌}
+use Rattle.std.proofs.Common.{◌≡◌, ◌^◌, ◌≤◌, ◌<◌, All, length, refl, sym, ap, subst, ◌∙◌}
 use Rattle.std.specs.FinSet.{contains, len, union}
 use Rattle.std.proofs.lemmas.List.{append-nil}
 use Rattle.hll_coupons.specs.Pair.{Pairs, IsPair, set_of}
-use Rattle.hll_coupons.specs.Table.{Table, coupons_in, coupons_of}
+use Rattle.hll_coupons.specs.Table.{coupons_in, coupons_of}
 use Rattle.hll_coupons.proofs.AddedCoupons.{lacking, members_more, members_same, place_left}
 use Rattle.hll_coupons.proofs.Collecting.{All-between}
 use Rattle.hll_coupons.proofs.Unions.{union_none}
@@ -24,7 +24,7 @@ put_new-requires-clause-new g c =
     let S : Pairs = coupons_of c.args.table.now in
     ap (λ P. contains P c.in-Some.coupon) c.loop-coupon.invariant.members
     ∙ lacking S c.loop-coupon.yielded c.next.new.self c.in-Some.coupon (subst (λ order. len (set_of order) ≡ length order) all c.table_is_legal.ensures.table.distinct)
-        (ap (λ P. contains P c.in-Some.coupon) (sym c.requires.own.members) ∙ sym c.is_among.ensures ∙ c.if-not-is_among.true)
+    (ap (λ P. contains P c.in-Some.coupon) (sym c.requires.own.members) ∙ sym c.is_among.ensures ∙ c.if-not-is_among.true)
 
 pub put_new-requires-clause-room : goal.put_new-requires-clause-room
 put_new-requires-clause-room g c =
@@ -33,7 +33,7 @@ put_new-requires-clause-room g c =
     let inv = c.loop-coupon.invariant in
     let new = ap (λ P. contains P c.in-Some.coupon) inv.members
     ∙ lacking S c.loop-coupon.yielded c.next.new.self c.in-Some.coupon (subst (λ order. len (set_of order) ≡ length order) all c.table_is_legal.ensures.table.distinct)
-        (ap (λ P. contains P c.in-Some.coupon) (sym c.requires.own.members) ∙ sym c.is_among.ensures ∙ c.if-not-is_among.true) in
+    (ap (λ P. contains P c.in-Some.coupon) (sym c.requires.own.members) ∙ sym c.is_among.ensures ∙ c.if-not-is_among.true) in
     subst (λ n. length (coupons_in c.loop-coupon.table.places) < 2 ^ n) (sym inv.size)
     (place_left S c.loop-coupon.yielded c.next.new.self c.in-Some.coupon c.loop-coupon.table (2 ^ c.args.table.now.lg_size) inv.set.table inv.members
     (subst (λ order. len (union S (set_of order)) ≤ 2 ^ c.args.table.now.lg_size) all c.requires.room) new)

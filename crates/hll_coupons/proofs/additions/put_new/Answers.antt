@@ -1,4 +1,4 @@
-use Rattle.std.proofs.Common.{arith, ◌≡◌, ◌≢◌, ◌<◌, ◌^◌, ℕ, List, All, get_or, length, slice_set, true, false, ap, sym, subst, ◌∙◌}
+use Rattle.std.proofs.Common.{arith, ◌≡◌, ◌<◌, ◌^◌, ℕ, List, All, length, slice_set, false, ap, sym, subst, ◌∙◌}
 use Rattle.std.proofs.lemmas.Bool.{true≢false}
 use Rattle.hll_coupons.specs.Cycle.{IsFor}
 use Rattle.hll_coupons.specs.Probe.{EndsAt, IsAbsent, IsProbed, Puts, placed}
@@ -42,7 +42,7 @@ returns-clause-members g c =
     let some : 0 < w = full_of_valued w c.requires.valued in
     let at = ends t w _ _ c.end_or_walk-place.result _ c.lg_size.ensures.size c.places.ensures.places c.raw.ensures c.end_or_walk-place.ensures.ends in
     let put : PutAt t.places w c.put.new.self.places = put_at (λ c. c) t.lg_size t.places w c.put.new.self.places c.requires.set.probed.size (absent t w some c.requires.new)
-        (puts t c.put.new.self w c.end_or_walk-place.result some c.requires.new c.requires.set.probed.size at c.put.ensures.places) in
+    (puts t c.put.new.self w c.end_or_walk-place.result some c.requires.new c.requires.set.probed.size at c.put.ensures.places) in
     members-put t.places w c.put.new.self.places some put
 
 pub returns-clause-set : goal.returns-clause-set

@@ -1,4 +1,4 @@
-use Rattle.std.proofs.Common.{◌≡◌, ◌+◌, ◌≤◌, ◌^◌, ◌∷◌, ◌++◌, not, length, sym, ap, subst, ◌∙◌, arith}
+use Rattle.std.proofs.Common.{◌≡◌, ◌+◌, ◌≤◌, ◌^◌, ◌∷◌, not, length, sym, ap, subst, ◌∙◌, arith}
 use Rattle.std.specs.FinSet.{len, union}
 use Rattle.std.proofs.Math.Pow.{pow_mono}
 use Rattle.std.proofs.lemmas.List.{append-nil}
@@ -35,3 +35,8 @@ loop-coupon-preserved g c =
 
 pub returns : goal.returns
 returns g c = c.loop-coupon.invariant ∙ ap (λ order. len (union (coupons_of c.args.self.now) (set_of order))) (sym (append-nil c.loop-coupon.yielded) ∙ sym (given _ _ _ _ _ (c.into_iter-coupon-iterator.ensures.into_iter_gives ∙ c.iter-coupon-items.ensures) c.loop-coupon.yielded_by c.in-None.ensures.steps.0))
+
+pub count_of_both-requires-clause-few : goal.count_of_both-requires-clause-few
+count_of_both-requires-clause-few g c =
+    let own : 2 ^ c.self.inside.container.lg_size ≤ 2 ^ 26 = pow_mono c.self.invariant.table.small in
+    omega (arith, own, c.in-Ok.ensures.count, ap length c.deref.ensures.value, ap (λ (t : Table). length (coupons_in t.places)) c.self.view_is, c.len-count.ensures.within)

@@ -1,9 +1,8 @@
-use Rattle.std.proofs.Common.{◌≡◌, ◌^◌, ◌≤◌, ◌<◌, ◌∷◌, ◌++◌, ℕ, List, [], All, false, length, refl, sym, ap, subst, ◌∙◌}
-use Rattle.std.specs.FinSet.{contains, len, union}
-use Rattle.std.proofs.lemmas.List.{append-nil}
+use Rattle.std.proofs.Common.{◌≡◌, ◌^◌, ◌≤◌, ◌<◌, ◌∷◌, ◌++◌, ℕ, List, [], All, length, refl, sym, ap, subst, ◌∙◌}
+use Rattle.std.specs.FinSet.{len, union}
 use Rattle.hll_coupons.specs.HashSet.{IsHashSet}
 use Rattle.hll_coupons.specs.Pair.{Pairs, IsPair, set_of}
-use Rattle.hll_coupons.specs.Table.{Table, coupons_in, coupons_of}
+use Rattle.hll_coupons.specs.Table.{coupons_in, coupons_of}
 use Rattle.hll_coupons.proofs.AddedCoupons.{absorbed, members_more, place_left}
 use Rattle.hll_coupons.proofs.Collecting.{All-between, append-between}
 use Rattle.hll_coupons.proofs.Unions.{union_none}
