@@ -22,6 +22,7 @@ pub mod Joined
 pub mod Keeping
 pub mod LegalImages
 pub mod LegalLayouts
+pub mod LargerTables
 pub mod LegalSketches
 pub mod ListImages
 pub mod Meanings

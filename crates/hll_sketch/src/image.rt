@@ -54,7 +54,7 @@ pub(crate) fn read_list<A: Allocator>(
 }
 
 /// The sketch of an image of a set.
-pub(crate) fn read_set<A: Allocator>(
+pub(crate) fn read_set<A: Allocator + Clone>(
     alloc: A,
     bytes: &[u8],
     header: Header,

@@ -1,13 +1,14 @@
 //! Merging a sketch into the gadget of a union (docs/MODEL.md, "Merging"). What needs memory is made aside, and then takes
 //! the place of what was there.
-ghost use Rattle.std.specs.Prelude.{◌≡◌, ◌⊎◌, ◌<◌, ◌==◌, nat_le, true, false, Some, IfOk, IfErr, OnOk, OnErr};
-ghost use Rattle.std.specs.FinSet.{contains, len, union};
+ghost use Rattle.std.specs.Prelude.{◌≡◌, ◌⊎◌, ◌^◌, ◌<◌, ◌≤◌, ◌==◌, nat_le, true, false, Some, IfOk, IfErr, OnOk, OnErr};
+ghost use Rattle.std.specs.FinSet.{len, union};
 ghost use Rattle.std.specs.List.{list_all};
 ghost use Rattle.hll_base.specs.declared.error.Reason.TheVariants.{Memory};
 ghost use Rattle.hll_coupons.specs.Table.{coupons_in, coupons_of};
 ghost use Rattle.hll_base.specs.declared.hll_type.HllType.TheVariants.{Hll8};
 ghost use Rattle.hll_registers.specs.Store.{IsStored};
-ghost use Rattle.hll_sketch.specs.Layout.{content_in, sketch_of, width_of};
+ghost use Rattle.hll_sketch.specs.Adding.{add, content_with};
+ghost use Rattle.hll_sketch.specs.Layout.{content_in, layout_of, sketch_of, width_of, IsLayoutFor};
 ghost use Rattle.hll_sketch.specs.Laws.{add_in_turn};
 ghost use Rattle.hll_sketch.specs.Merging as merging;
 ghost use Rattle.hll_sketch.specs.Checks.{first_fault};
@@ -110,7 +111,8 @@ impl<A: Allocator + Clone> HllSketch<A> {
             self.add_each(table);
             Ok(())
         } else {
-            self.mode = self.mode_with_all(table)?;
+            let larger = self.mode_with_all(table)?;
+            self.mode = larger;
             Ok(())
         }
     }
@@ -260,7 +262,9 @@ impl<A: Allocator + Clone> HllSketch<A> {
     /// Adds the coupons of a table, for which there is room. Takes no memory but where searches have become dear, and goes on
     /// without where that is refused.
     fn add_each(&mut self, table: &Container<A>)
-        requires { can_hold_all self.old.layout (coupons_of table.now) ≡ true }
+        requires width { width_of self.old.layout ≡ Hll8 }
+        requires room { can_hold_all self.old.layout (coupons_of table.now) ≡ true }
+        requires some { len (coupons_of table.now) ≡ 0 → ⊥ }
         ensures { sketch_of self.new ≡ add (sketch_of self.old) (coupons_of table.now) }
     {
         table.table_is_legal();
@@ -415,6 +419,7 @@ fn update_each<A: Allocator>(list: &mut List<A>, table: &Container<A>)
 {
     table.table_is_legal();
     for coupon in table.iter() {
+        list.container().table_is_legal();
         list.update(coupon);
     }
 }

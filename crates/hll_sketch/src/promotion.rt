@@ -160,6 +160,7 @@ pub(crate) fn mode_of_both<A: Allocator + Clone>(
     ensures width { IfOk result (λ mode. width_of (layout_of mode) ≡ Hll8) }
     ensures err { IfErr result (λ e. e ≡ Memory) }
 {
+    table.table_is_legal();
     let alloc = table.allocator().clone()?;
     match stage(lg_k, table.lg_size() as u8, count) {
         None => {
