@@ -183,6 +183,79 @@ fn refused_tables(rt: HostRuntime) -> Result<(), Fail> {
 }
 
 #[derive(Clone, Copy, Debug)]
+enum PathCall {
+    Read,
+    PutAnew,
+}
+
+/// A call on a set of 128 places with 127 coupons, all but one of which begin at one place and go on by one stride.
+#[derive(Drop)]
+struct PathTrial<'h> {
+    heap: &'h Heap,
+    call: PathCall,
+}
+
+/// The number of coupons and the coupons, as they stand behind the header of an image.
+fn path_image(heap: &Heap) -> Result<Vec<u8>, Fault> {
+    let mut bytes = Vec::new(heap.inner());
+    bytes.extend_from_slice(&u32::to_le_bytes(127))?;
+    for index in 0..127u32 {
+        let slot = (15 - index / 63 % 2) * 128 + index / 126;
+        let coupon = Coupon::pack(slot, (index % 63) as u8 + 1);
+        bytes.extend_from_slice(&u32::to_le_bytes(coupon.raw()))?;
+    }
+    Ok(bytes)
+}
+
+/// The set of that image.
+fn path_set<'h>(heap: &'h Heap) -> Result<HashSet<&'h Heap>, Fault> {
+    let image = path_image(heap)?;
+    Ok(HashSet::deserialize(heap, SketchSlice::new(&image), 7, true)?)
+}
+
+/// The same coupons in another table of as many places, put in the order of their places.
+fn put_anew<'h>(heap: &'h Heap, set: &HashSet<&'h Heap>) -> Result<HashSet<&'h Heap>, Fault> {
+    if set.container().len() > 128 {
+        return Err(Fault::Range);
+    }
+    Ok(HashSet::from_container(heap, 7, set.container())?)
+}
+
+impl<'h> Trial for PathTrial<'h> {
+    type Subject = HashSet<&'h Heap>;
+
+    fn make(&self) -> Result<HashSet<&'h Heap>, Fault> {
+        path_set(self.heap)
+    }
+
+    fn call(&self, set: &mut HashSet<&'h Heap>) -> Result<String, Fault> {
+        match self.call {
+            PathCall::Read => text(self.heap, &path_set(self.heap)?),
+            PathCall::PutAnew => text(self.heap, &put_anew(self.heap, set)?),
+        }
+    }
+
+    fn show(&self, set: &HashSet<&'h Heap>) -> Result<String, Fault> {
+        text(self.heap, set)
+    }
+}
+
+/// The calls, and the requests of each: the places, and three for the cycle of the stride; to read them also the places of a
+/// first try, a copy of the coupons and a sorted one.
+const PATH_CALLS: [(PathCall, u64); 2] = [(PathCall::Read, 7), (PathCall::PutAnew, 4)];
+
+#[test]
+fn refused_paths(rt: HostRuntime) -> Result<(), Fail> {
+    let heap = Heap::new(rt.alloc());
+    for (call, requests) in PATH_CALLS {
+        let trial = PathTrial { heap: &heap, call };
+        let asked = requests_of(&rt, &heap, &trial);
+        assert_eq!(rt; asked, Ok(requests), "{call:?}");
+    }
+    Ok(())
+}
+
+#[derive(Clone, Copy, Debug)]
 enum MapCall {
     New,
     Insert,

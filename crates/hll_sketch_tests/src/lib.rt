@@ -33,6 +33,8 @@ mod kernels;
 #[cfg(test)]
 mod lists;
 #[cfg(test)]
+mod paths;
+#[cfg(test)]
 mod register_fixtures;
 #[cfg(test)]
 mod register_images;

@@ -156,7 +156,7 @@ const CROWDED: [u8; 20] = [
 ];
 
 /// What is wrong with these bytes behind the header of a set with four places, or the number of its coupons.
-fn read_in<A: Allocator>(alloc: A, bytes: &[u8], compact: bool) -> Result<usize, Reason> {
+fn read_in<A: Allocator + Clone>(alloc: A, bytes: &[u8], compact: bool) -> Result<usize, Reason> {
     match HashSet::deserialize(alloc, SketchSlice::new(bytes), 2, compact) {
         Ok(set) => Ok(set.container().len()),
         Err(e) => Err(e.reason()),

@@ -1,0 +1,4 @@
+use Rattle.hll_sketch_tests.proofs.paths.has_places.Goals as goal
+
+pub next-requires : goal.next-requires
+next-requires c = tt

@@ -1,0 +1,149 @@
+//! Sets whose coupons meet on one path or on a few: the places are those that a walk gives, step by step.
+ghost use Rattle.std.specs.Prelude.{◌≤◌};
+
+use hll_base::cursor::SketchSlice;
+use hll_base::error::{Error, Reason};
+use hll_coupons::coupon::Coupon;
+use hll_coupons::hash_set::HashSet;
+use std::alloc::{AllocError, Global};
+use std::test::Fail;
+
+/// The logarithm of the number of places.
+const LG_SIZE: usize = 9;
+
+/// The number of places.
+const PLACES: usize = 512;
+
+/// Coupons of one of `strides` strides each, in turn: 126 of a stride begin at one place, the next at the place before it on
+/// the path, so that each search goes through those that came before.
+fn on_paths(index: u32, strides: u32) -> Coupon {
+    let strides = strides.max(1);
+    let number = index / strides;
+    let stride = 2 * (index % strides).min(100) + 15;
+    let begin = 4096u32.wrapping_sub((number / 126).wrapping_mul(stride)) % 512;
+    let high = stride - (number / 63) % 2;
+    Coupon::pack(
+        begin.wrapping_add(high.wrapping_mul(512)),
+        (number % 63) as u8 + 1,
+    )
+}
+
+/// The first so many coupons of some strides, in their order, or from the last to the first.
+fn coupons_of(
+    alloc: Global,
+    count: u32,
+    strides: u32,
+    reversed: bool,
+) -> Result<Vec<Coupon>, AllocError> {
+    let mut coupons = Vec::new(alloc);
+    for index in 0..count {
+        let number = if reversed { count - 1 - index } else { index };
+        coupons.push(on_paths(number, strides))?;
+    }
+    Ok(coupons)
+}
+
+/// Puts a coupon into the first empty place of its path.
+fn put_by_steps(places: &mut [Coupon], coupon: Coupon) {
+    let size = places.len().max(1);
+    let stride = coupon.slot() as usize / size | 1;
+    let mut place = coupon.slot() as usize % size;
+    for _ in 0..size {
+        match places.get_mut(place) {
+            Some(entry) if entry.is_empty() => {
+                *entry = coupon;
+                return;
+            }
+            _ => place = place.wrapping_add(stride) % size,
+        }
+    }
+}
+
+/// Places with the coupons put one by one.
+fn places_by_steps(
+    alloc: Global,
+    size: usize,
+    coupons: &[Coupon],
+) -> Result<Vec<Coupon>, AllocError> {
+    let mut places = vec![in alloc; Coupon::EMPTY; size]?;
+    for coupon in coupons {
+        put_by_steps(&mut places, *coupon);
+    }
+    Ok(places)
+}
+
+/// Whether a set gives the coupons of these places, in their order.
+fn has_places(set: &HashSet, places: &[Coupon]) -> bool {
+    let mut coupons = set.container().iter();
+    for place in places {
+        if !place.is_empty() && coupons.next() != Some(*place) {
+            return false;
+        }
+    }
+    coupons.next().is_none()
+}
+
+/// The number of coupons and the coupons, as they stand behind the header of an image.
+fn image_of(alloc: Global, coupons: &[Coupon]) -> Result<Vec<u8>, AllocError> {
+    let mut bytes = Vec::new(alloc);
+    bytes.extend_from_slice(&u32::to_le_bytes(coupons.len().min(PLACES) as u32))?;
+    for coupon in coupons {
+        bytes.extend_from_slice(&u32::to_le_bytes(coupon.raw()))?;
+    }
+    Ok(bytes)
+}
+
+/// A set that is read from the image of these coupons.
+fn read(alloc: Global, coupons: &[Coupon]) -> Result<HashSet, Error> {
+    let image = image_of(alloc, coupons)?;
+    HashSet::deserialize(alloc, SketchSlice::new(&image), LG_SIZE, true)
+}
+
+/// A set of twice as many places with the coupons of a set, none where they are more than these.
+fn grown(alloc: Global, set: &HashSet) -> Result<Option<HashSet>, Error> {
+    if set.container().len() > 2 * PLACES {
+        return Ok(None);
+    }
+    let larger = HashSet::from_container(alloc, LG_SIZE + 1, set.container())?;
+    Ok(Some(larger))
+}
+
+/// Numbers of coupons and of their strides: three quarters of the places, and all but one.
+const CASES: [(u32, u32); 6] = [(384, 1), (511, 1), (384, 4), (511, 4), (511, 8), (511, 100)];
+
+/// Read in any order, and grown, they stand where a walk puts them.
+#[test]
+fn places_on_paths(rt: HostRuntime) -> Result<(), Fail> {
+    for (count, strides) in CASES {
+        for reversed in [false, true] {
+            let mut coupons = coupons_of(rt.alloc(), count, strides, reversed)?;
+            let set = read(rt.alloc(), &coupons)?;
+            let places = places_by_steps(rt.alloc(), PLACES, &coupons)?;
+            assert!(rt; has_places(&set, &places), "{count} {strides} {reversed}");
+            let larger = grown(rt.alloc(), &set)?;
+            let places = places_by_steps(rt.alloc(), 2 * PLACES, &places)?;
+            let is_same = larger.is_some_and(|larger| has_places(&larger, &places));
+            assert!(rt; is_same, "{count} {strides} {reversed}");
+            coupons.sort_unstable();
+            let set = read(rt.alloc(), &coupons)?;
+            let places = places_by_steps(rt.alloc(), PLACES, &coupons)?;
+            assert!(rt; has_places(&set, &places), "{count} {strides}");
+        }
+    }
+    Ok(())
+}
+
+/// A coupon that comes twice is refused, wherever it stands.
+#[test]
+fn doubled_on_a_path(rt: HostRuntime) -> Result<(), Fail> {
+    for twice in [0, 1, 200, 509] {
+        let mut coupons = coupons_of(rt.alloc(), 510, 1, false)?;
+        coupons.push(on_paths(twice, 1))?;
+        let reason = read(rt.alloc(), &coupons).err().map(|e| e.reason());
+        assert_eq!(rt; reason, Some(Reason::Coupon), "{twice}");
+        coupons.sort_unstable();
+        let reason = read(rt.alloc(), &coupons).err().map(|e| e.reason());
+        assert_eq!(rt; reason, Some(Reason::Coupon), "{twice}");
+    }
+    Ok(())
+}
