@@ -1,13 +1,12 @@
 -- A table and a coupon more, in the words of the definitions.
-use Rattle.std.proofs.Common.{◌≡◌, ℕ, ◌+◌, ◌&&◌, ◌^◌, ◌≤◌, ◌<◌, true, false, cond, leb, [], ◌∷◌, length, Result, Ok, Err, OnOk, OnErr, refl, sym, ap, ◌∙◌, arith}
-use Rattle.std.specs.Cmp.{nat_cmp_total}
-use Rattle.std.specs.FinSet.{contains, insert, union, len, len-insert}
-use Rattle.std.proofs.lemmas.Bool.{le-leb, lt-leb, leb-true, and_parts, true≢false}
+use Rattle.std.proofs.Common.{◌≡◌, ℕ, ◌&&◌, true, false, leb, [], ◌∷◌, Result, Ok, Err, OnOk, OnErr, refl, sym, ap, ◌∙◌}
+use Rattle.std.specs.FinSet.{insert, union, len}
+use Rattle.std.proofs.lemmas.Bool.{le-leb, lt-leb, and_parts, true≢false}
 use Rattle.hll_coupons.specs.Insertion.{IsInsertion, IfTaken}
 use Rattle.hll_coupons.specs.declared.container.Insertion.{Insertion}
 use Rattle.hll_coupons.specs.declared.container.Insertion.TheVariants.{Added, Held, Refused}
 use Rattle.hll_coupons.specs.Pair.{Pairs, set_of}
-use Rattle.hll_coupons.specs.Table.{Table, coupons_in, coupons_of, IsTable}
+use Rattle.hll_coupons.specs.Table.{Table, coupons_of}
 use Rattle.hll_coupons.proofs.Listed.{finds}
 use Rattle.hll_registers.specs.Store.{Stored, update_with_pairs, update_with_coupon}
 use Rattle.hll_sketch.specs.Stage.{can_hold, sizes, stage}
@@ -67,16 +66,6 @@ pub updated_as : (k : ℕ) (x y : Stored) (c : ℕ) → x.lg_k ≡ k → y ≡ u
 updated_as k x y c same e =
     ap (λ (z : Stored). registers z.registers z.state) e
     ∙ ap (λ m. let z : Stored = update_with_pairs (record { lg_k = m; registers = x.registers; state = x.state }) (set_of (c ∷ [])) in registers z.registers z.state) same
-
--- a list that holds one more has a free place for it
-pub room_of_list : (t : Table) (c : ℕ) → IsTable t → t.lg_size ≡ 3 → can_hold t.lg_size (len (insert (coupons_of t) c)) ≡ true → contains (coupons_of t) c ≡ false →
-    length (coupons_in t.places) < 2 ^ t.lg_size
-room_of_list t c table three holds' fresh =
-    let seven : can_hold 3 (len (insert (coupons_of t) c)) ≡ true = ap (λ q. can_hold q (len (insert (coupons_of t) c))) (sym three) ∙ holds' in
-    let few : len (insert (coupons_of t) c) ≤ 7 = leb-true _ 7 seven in
-    let more : len (insert (coupons_of t) c) ≡ len (coupons_of t) + 1 = len-insert nat_cmp_total (coupons_of t) c ∙ ap (λ b. cond b (len (coupons_of t)) (len (coupons_of t) + 1)) fresh in
-    let eight : 2 ^ t.lg_size ≡ 8 = ap (λ q. 2 ^ q) three in
-    omega (arith, few, more, eight, table.distinct)
 
 -- what follows from either outcome
 pub either_way : {X E : Type 0} (r : Result X E) (P Q T : Type 0) → OnOk r P → OnErr r Q → (P → T) → (Q → T) → T

@@ -1,5 +1,5 @@
 -- The table, or the registers, that have the coupons of two tables.
-use Rattle.std.proofs.Common.{◌≡◌, ℕ, ◌+◌, ◌-◌, ◌*◌, ◌^◌, ◌≤◌, ◌<◌, Bool, true, false, cond, ◌&&◌, leb, eqb, List, [], ◌∷◌, Some, None, refl, sym, ap, subst, ◌∙◌, arith, inl, inr}
+use Rattle.std.proofs.Common.{◌≡◌, ℕ, ◌+◌, ◌-◌, ◌*◌, ◌^◌, ◌≤◌, ◌<◌, true, false, cond, ◌&&◌, leb, eqb, List, [], ◌∷◌, Some, sym, ap, ◌∙◌, arith, inl, inr}
 use Rattle.std.specs.FinSet.{insert, union}
 use Rattle.std.proofs.lemmas.Bool.{cases_Bool, and_parts, cond-false, ne_eqb, true≢false}
 use borrow.Author.Tests.{leb-true}

@@ -5,7 +5,6 @@ use Rattle.std.specs.FinSet.{empty, union, len, empty_of_len, len-empty}
 use Rattle.std.specs.Ordering.{nat_cmp}
 use Rattle.std.proofs.lemmas.Bool.{cases_Bool, cond-true, cond-false, and_parts, eqb-true, eq-eqb, ne_eqb, le-leb, lt-leb, true≢false}
 use Rattle.std.specs.Option.{unwrap_or}
-use Rattle.std.proofs.lemmas.Nat.{pow_below, pow_pos}
 use Rattle.hll_coupons.specs.AuxMap.{ExceptionMap}
 use Rattle.hll_coupons.specs.Pair.{Pairs, set_of}
 use Rattle.hll_coupons.specs.Fold.{fold_to, pairs}
@@ -13,23 +12,23 @@ use Rattle.hll_base.specs.Join.{join}
 use Rattle.hll_coupons.proofs.Folds.{fold_to-union}
 use Rattle.hll_coupons.proofs.Registers.{fold_to-pairs}
 use Rattle.hll_base.specs.declared.hll_type.HllType.{HllType}
-use Rattle.hll_coupons.specs.Table.{Table, coupons_of}
+use Rattle.hll_coupons.specs.Table.{coupons_of}
 use Rattle.hll_base.specs.declared.hll_type.HllType.TheVariants.{Hll4, Hll6, Hll8}
 use Rattle.hll_registers.specs.declared.estimate_state.EstimateState.{EstimateState}
 use Rattle.hll_registers.specs.State.{cleared_state}
 use Rattle.hll_registers.specs.Store.{Stored, merge_with}
 use Rattle.hll_sketch.specs.Stage.{can_hold, stage}
-use Rattle.hll_sketch.specs.Value.{Sketch, Content, coupons, registers, pairs_in, pairs_of, is_empty, in_registers, IsTableFor, IsLgK, IsLegalContent, IsLegal}
+use Rattle.hll_sketch.specs.Value.{Sketch, Content, coupons, registers, pairs_in, pairs_of, is_empty, in_registers, IsTableFor, IsLgK}
 use Rattle.hll_sketch.specs.Adding.{add, content_for, content_with}
-use Rattle.hll_sketch.specs.Layout.{Layout, list, set, array, SketchLayout, content_in, count_in, width_of, sketch_of, IsSize, TableChanges, NeedsMemory}
+use Rattle.hll_sketch.specs.Layout.{Layout, list, set, array, SketchLayout, content_in, count_in, width_of, sketch_of, IsSize}
 use Rattle.hll_sketch.specs.Union.{IsGadget, coupons_kept, can_hold_all, ContentNeedsMemory}
 use Rattle.hll_sketch.specs.Joined.{least_lg_k}
 use Rattle.hll_sketch.specs.Laws.{add_in_turn}
 use Rattle.hll_sketch.specs.Merging.{merge, merge_all, merge_content, merge_coupons, merge_registers, state_after_merge}
 use Rattle.hll_sketch.proofs.Adding.{add_each, least-merge}
-use Rattle.hll_coupons.proofs.Collecting.{union_behind, len-union_longer, len-union_none, len-union_with}
+use Rattle.hll_coupons.proofs.Collecting.{len-union_longer, len-union_none}
 use Rattle.hll_sketch.proofs.Gadgets.{false_unless}
-use Rattle.hll_coupons.proofs.Unions.{insert-union, set_of-nil, union-empty, union_none}
+use Rattle.hll_coupons.proofs.Unions.{set_of-nil, union-empty, union_none}
 use Rattle.hll_sketch.proofs.LegalSketches.{found_in_range}
 use Rattle.hll_sketch.proofs.Stages.{holds_fewer}
 use Rattle.hll_sketch.proofs.Steps.{stage_stays}
@@ -130,51 +129,6 @@ size_of_legal : (k n p : ℕ) → IsTableFor k n p → IsSize k p
 size_of_legal k n p (inl few) = inl few.0
 size_of_legal k n p (inr large) = inr (large.0, large.1)
 
--- so a table of this content has room for one more of them
-table_stays : (k p : ℕ) (S : Pairs) (t : Table) (ys zs : List ℕ) (c : ℕ) → IsSize k p → can_hold p (len (union S (set_of (ys ++ c ∷ zs)))) ≡ true →
-    coupons (coupons_of t) t.lg_size ≡ coupons (union S (set_of ys)) p → TableChanges k t c → ⊥
-table_stays k p S t ys zs c size room is changes =
-    let members : coupons_of t ≡ union S (set_of ys) = cc in
-    let same : t.lg_size ≡ p = cc in
-    let all : union (coupons_of t) (set_of (c ∷ [])) ≡ union S (set_of (ys ++ c ∷ [])) = ap (λ T. union T (set_of (c ∷ []))) members ∙ sym (insert-union (union S (set_of ys)) c) ∙ sym (union_behind S ys c) in
-    let fit : can_hold p (len (union S (set_of (ys ++ c ∷ [])))) ≡ true = holds_fewer p _ _ (len-union_with S ys zs c) room in
-    let stays : stage k p (len (union S (set_of (ys ++ c ∷ [])))) ≡ Some p = stage_stays k p _ size fit in
-    changes ((λ i. stage k (same i) (len (all i))) ∙ stays ∙ ap (λ q. Some q) (sym same))
-
--- so no coupon of them needs memory
-pub room_suffices : (x y : SketchLayout) (ys zs : List ℕ) (c : ℕ) → IsLegal (sketch_of x) → sketch_of y ≡ add_in_turn (sketch_of x) ys →
-    can_hold_all x.layout (set_of (ys ++ c ∷ zs)) ≡ true → NeedsMemory y.lg_k y.layout c → ⊥
-room_suffices x y ys zs c legal same room needs = of x.lg_k x.layout y.lg_k y.layout legal same room needs
-  where
-    of_table : (k : ℕ) (w : HllType) (t : Table) (j : ℕ) (m : Layout) → let g : Sketch = record { lg_k = k; width = w; content = coupons (coupons_of t) t.lg_size } in
-        IsSize k t.lg_size → sketch_of (record { lg_k = j; layout = m }) ≡ add_in_turn g ys → can_hold t.lg_size (len (union (coupons_of t) (set_of (ys ++ c ∷ zs)))) ≡ true → NeedsMemory j m c → ⊥
-    of_table k w t j m size same room needs = pick m (ap (λ (x : Sketch). x.lg_k) same ∙ lg_k-add_in_turn g ys) (ap (λ (x : Sketch). x.content) same ∙ in_turn_stays g (coupons_of t) t.lg_size ys (c ∷ zs) refl size room) needs
-      where
-        g : Sketch
-        g = record { lg_k = k; width = w; content = coupons (coupons_of t) t.lg_size }
-
-        pick : (m : Layout) → j ≡ k → content_in m ≡ coupons (union (coupons_of t) (set_of ys)) t.lg_size → NeedsMemory j m c → ⊥
-        pick (list v u) e is needs = table_stays k t.lg_size (coupons_of t) u ys zs c size room is (subst (λ q. TableChanges q u c) e needs)
-        pick (set v u) e is needs = table_stays k t.lg_size (coupons_of t) u ys zs c size room is (subst (λ q. TableChanges q u c) e needs)
-        pick (array v z o) e is needs = absurd (cc)
-
-    of_registers : (w : HllType) (j : ℕ) (m : Layout) → (w ≡ Hll4 → ⊥) → width_of m ≡ w → in_registers (content_in m) ≡ true → NeedsMemory j m c → ⊥
-    of_registers w j (list v u) other is reg needs = absurd (cc)
-    of_registers w j (set v u) other is reg needs = absurd (cc)
-    of_registers w j (array Hll4 z o) other is reg needs = other (sym is)
-    of_registers w j (array Hll6 z o) other is reg needs = needs
-    of_registers w j (array Hll8 z o) other is reg needs = needs
-
-    of : (k : ℕ) (l : Layout) (j : ℕ) (m : Layout) → IsLegal (sketch_of (record { lg_k = k; layout = l })) →
-        sketch_of (record { lg_k = j; layout = m }) ≡ add_in_turn (sketch_of (record { lg_k = k; layout = l })) ys → can_hold_all l (set_of (ys ++ c ∷ zs)) ≡ true → NeedsMemory j m c → ⊥
-    of k (list w t) j m legal same room needs = of_table k w t j m (size_of_legal k _ t.lg_size legal.content.1) same room needs
-    of k (set w t) j m legal same room needs = of_table k w t j m (size_of_legal k _ t.lg_size legal.content.1) same room needs
-    of k (array Hll4 z o) j m legal same room needs = absurd (cc)
-    of k (array Hll6 z o) j m legal same room needs =
-        of_registers Hll6 j m (λ e. absurd (cc)) (ap (λ (x : Sketch). x.width) same ∙ width-add_in_turn _ ys) (ap (λ (x : Sketch). in_registers x.content) same ∙ registers_in_turn _ ys refl) needs
-    of k (array Hll8 z o) j m legal same room needs =
-        of_registers Hll8 j m (λ e. absurd (cc)) (ap (λ (x : Sketch). x.width) same ∙ width-add_in_turn _ ys) (ap (λ (x : Sketch). in_registers x.content) same ∙ registers_in_turn _ ys refl) needs
-
 -- ---- what the code makes
 
 -- the state of registers merged aside
@@ -273,18 +227,6 @@ pub kept_count : (l : Layout) → unwrap_or (count_in (content_in l)) 0 ≡ len 
 kept_count (list w t) = sym (len-union_none (coupons_of t))
 kept_count (set w t) = sym (len-union_none (coupons_of t))
 kept_count (array w x e) = sym (len-union_none empty ∙ len-empty nat_cmp)
-
-pub kept_few : (y : SketchLayout) → IsLegal (sketch_of y) → len (coupons_kept y.layout) < 2 ^ 26
-kept_few y legal = of y.layout legal.content
-  where
-    table : (n p : ℕ) → IsTableFor y.lg_k n p → n < 2 ^ 26
-    table n p (inl few) = omega (arith, few.1, pow_below 3 26 (omega arith))
-    table n p (inr large) = omega (arith, large.2, pow_below p 26 (omega (arith, large.1, legal.lg_k.high)))
-
-    of : (l : Layout) → IsLegalContent y.lg_k (content_in l) → len (coupons_kept l) < 2 ^ 26
-    of (list w t) legal = table _ t.lg_size legal.1
-    of (set w t) legal = table _ t.lg_size legal.1
-    of (array w x e) legal = omega (arith, len-empty nat_cmp, pow_pos 26)
 
 -- ---- sketches in turn
 

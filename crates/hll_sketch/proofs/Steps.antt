@@ -1,16 +1,14 @@
 -- One step suffices: where a table holds its coupons its size stays, else the next size holds them, or registers take over.
-use Rattle.std.proofs.Common.{◌≡◌, ℕ, ◌+◌, ◌-◌, ◌*◌, ◌^◌, ◌≤◌, ◌<◌, zero, suc, Bool, true, false, cond, ◌&&◌, eqb, leb, length, Some, None, refl, sym, ap, subst, ◌∙◌, arith, inl, inr}
+use Rattle.std.proofs.Common.{◌≡◌, ℕ, ◌+◌, ◌-◌, ◌*◌, ◌^◌, ◌≤◌, ◌<◌, zero, suc, Bool, true, false, ◌&&◌, eqb, leb, length, Some, None, refl, sym, ap, subst, ◌∙◌, arith, inl, inr}
 use Rattle.std.specs.Prelude.{find}
 use Rattle.std.specs.List.{range_with_len}
 use Rattle.std.proofs.Math.Nat.{pow-suc}
 use Rattle.std.proofs.lemmas.Nat.{pow_pos}
 use Rattle.std.proofs.lemmas.Bool.{le-leb, lt-leb, cases_lt, and_from, and_left, and_right, cond-true, cond-false}
 use Rattle.std.proofs.lemmas.Bool.Decides.{nat_tests}
-use Rattle.std.specs.Cmp.{nat_cmp_total}
-use Rattle.std.specs.FinSet.{contains, insert, len, len-insert}
+use Rattle.std.specs.FinSet.{insert, len}
 use Rattle.hll_coupons.proofs.Unions.{len-insert_le}
 use Rattle.hll_coupons.proofs.Sought.{find_least}
-use Rattle.hll_coupons.specs.Pair.{Pairs}
 use Rattle.hll_coupons.specs.Table.{Table, coupons_in, coupons_of, IsTable}
 use Rattle.hll_sketch.specs.Stage.{can_hold, stage}
 use Rattle.hll_sketch.specs.Layout.{IsSize, AtMost, size_after, OneStepSuffices}

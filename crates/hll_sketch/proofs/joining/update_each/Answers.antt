@@ -1,10 +1,9 @@
-use Rattle.std.proofs.Common.{◌≡◌, ◌^◌, ◌≤◌, ◌<◌, ◌∷◌, ◌++◌, All, false, length, refl, sym, ap, subst, ◌∙◌}
-use Rattle.std.specs.FinSet.{contains, len, union}
+use Rattle.std.proofs.Common.{◌^◌, ◌≤◌, ◌<◌, length, refl, sym, ap, subst, ◌∙◌}
+use Rattle.std.specs.FinSet.{len, union}
 use Rattle.std.proofs.lemmas.List.{append-nil}
-use Rattle.hll_coupons.specs.Pair.{IsPair, set_of}
+use Rattle.hll_coupons.specs.Pair.{set_of}
 use Rattle.hll_coupons.specs.Table.{Table, coupons_in, coupons_of, IsTable}
 use Rattle.hll_coupons.proofs.AddedCoupons.{members_more, place_left}
-use Rattle.hll_coupons.proofs.Collecting.{All-between}
 use Rattle.hll_coupons.proofs.Unions.{union_none}
 use Rattle.hll_coupons.proofs.Yielded.{given}
 use Rattle.hll_sketch.proofs.joining.update_each.Goals as goal

@@ -1,7 +1,7 @@
 use Rattle.std.proofs.Common.{◌≡◌}
 use Rattle.std.specs.FinSet.{union}
 use Rattle.hll_coupons.specs.Pair.{set_of}
-use Rattle.hll_coupons.specs.Table.{IsTable, coupons_of}
+use Rattle.hll_coupons.specs.Table.{coupons_of}
 use Rattle.hll_sketch.proofs.joining.update_each.Given as goal
 
 -- the coupons so far were added

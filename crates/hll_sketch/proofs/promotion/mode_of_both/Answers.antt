@@ -1,19 +1,15 @@
-use Rattle.std.proofs.Common.{◌≡◌, ◌+◌, ◌^◌, ◌≤◌, ◌<◌, ℕ, List, Some, None, length, sym, ap, subst, ◌∙◌, arith}
+use Rattle.std.proofs.Common.{◌≡◌, ◌^◌, ◌≤◌, ◌<◌, ℕ, List, None, length, sym, ap, subst, ◌∙◌, arith}
 use Rattle.std.specs.FinSet.{len, union}
-use Rattle.std.proofs.Math.Pow.{pow_mono}
-use Rattle.hll_coupons.specs.Fold.{fold_to}
 use Rattle.hll_coupons.specs.Pair.{Pairs}
 use Rattle.hll_coupons.specs.Table.{Table, coupons_in, coupons_of}
 use Rattle.hll_coupons.proofs.Unions.{len_union_le}
-use Rattle.hll_registers.specs.State.{cleared_state}
 use Rattle.hll_registers.specs.Store.{Stored}
 use Rattle.hll_sketch.specs.Adding.{content_for}
 use Rattle.hll_sketch.specs.Laws.{add_in_turn}
 use Rattle.hll_sketch.specs.Stage.{stage}
 use Rattle.hll_sketch.specs.Union.{sketch_of_registers}
-use Rattle.hll_sketch.specs.Value.{Sketch, registers}
+use Rattle.hll_sketch.specs.Value.{Sketch}
 use Rattle.hll_sketch.proofs.LargerTables.{IsLarger, larger, raised}
-use Rattle.hll_sketch.proofs.Promoting.{folded}
 use Rattle.hll_sketch.proofs.promotion.mode_of_both.Goals as goal
 
 pub from_container-requires-clause-small : goal.from_container-requires-clause-small
@@ -54,5 +50,5 @@ returns-in_ok-set-in-Some-clause-layout g c =
       omega (arith, size, is.low),
       omega (arith, size, is.high),
       subst (λ n. length (coupons_in new.places) < 2 ^ n) (sym size)
-      (omega (arith, is.few, c.requires.count, c.update_each.ensures.set.table.distinct, ap len c.update_each.ensures.members, ap (λ P. len (union P (coupons_of c.args.others.now))) set.members)),
+          (omega (arith, is.few, c.requires.count, c.update_each.ensures.set.table.distinct, ap len c.update_each.ensures.members, ap (λ P. len (union P (coupons_of c.args.others.now))) set.members)),
     )

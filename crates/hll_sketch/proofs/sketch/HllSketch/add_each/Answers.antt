@@ -1,6 +1,6 @@
-use Rattle.std.proofs.Common.{◌≡◌, ◌≤◌, ◌+◌, ℕ, true, List, sym, ap, subst, ◌∙◌, inl, inr}
+use Rattle.std.proofs.Common.{◌≡◌, ℕ, true, List, sym, ap, subst, ◌∙◌, inl, inr}
 use Rattle.std.specs.FinSet.{len, union}
-use Rattle.hll_coupons.specs.Pair.{Pairs, set_of}
+use Rattle.hll_coupons.specs.Pair.{Pairs}
 use Rattle.hll_coupons.specs.Table.{Table, coupons_in, coupons_of}
 use Rattle.hll_registers.specs.Store.{Stored}
 use Rattle.hll_sketch.specs.Adding.{add, content_for, content_with}

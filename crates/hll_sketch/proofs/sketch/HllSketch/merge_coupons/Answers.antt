@@ -1,9 +1,7 @@
 use Rattle.std.proofs.Common.{◌≡◌, ◌&&◌, nat_eq, false, sym, ap, ◌∙◌}
 use Rattle.hll_coupons.specs.Table.{coupons_of}
 use Rattle.hll_sketch.specs.Layout.{SketchLayout, content_in, sketch_of}
-use Rattle.hll_sketch.specs.Laws.{add_in_turn}
 use Rattle.hll_sketch.specs.Value.{Sketch, is_empty, pairs_in}
-use Rattle.std.proofs.lemmas.Result.{on_ok_weaker}
 use Rattle.hll_base.proofs.Errors.{OnErr-of}
 use Rattle.hll_sketch.proofs.Merges.{coupons_added, needs_whole, needs_larger, other_size, other_empty}
 use Rattle.hll_sketch.proofs.sketch.HllSketch.merge_coupons.Goals as goal
