@@ -375,7 +375,8 @@ fn read_by_search<A: Allocator>(
     Ok(Reading::Whole)
 }
 
-/// Reads places into a set, whatever it has, by copies of the coupons and the cycles of their strides.
+/// Reads places into a set, whatever it has, by copies of the coupons and the cycles of their strides. Gives the memory of
+/// its places back first.
 #[inline(never)]
 fn read_by_order<A: Allocator + Clone>(
     set: &mut HashSet<A>,
@@ -391,14 +392,18 @@ fn read_by_order<A: Allocator + Clone>(
     ensures members { OnOk result (coupons_of set.new ≡ set_of (coupons_at compact places cursor.entry)) }
     ensures err { IfErr result (λ e. (e ≡ Memory) ⊎ ((e ≡ reasons.Coupon) × (AreCoupons (coupons_at compact places cursor.entry) → ⊥))) }
 {
+    let lg_size = set.container.lg_size();
     let alloc = set.container.allocator().clone()?;
+    *set = HashSet {
+        container: Container::eight(alloc.clone()?),
+    };
     let coupons = read_coupons(alloc.clone()?, cursor, places, compact)?;
     if !are_distinct(alloc.clone()?, &coupons)? {
         return Err(Error::new(Reason::Coupon));
     }
-    let mut container = Container::new(alloc, set.container.lg_size())?;
-    put_by_cycles(&mut container, Key::Word, &coupons)?;
-    *set = HashSet { container };
+    let mut filled = Container::new(alloc, lg_size)?;
+    put_by_cycles(&mut filled, Key::Word, &coupons)?;
+    *set = HashSet { container: filled };
     Ok(())
 }
 

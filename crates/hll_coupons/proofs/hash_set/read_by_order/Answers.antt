@@ -15,7 +15,7 @@ put_by_cycles-requires-clause-valued g c =
 pub put_by_cycles-requires-clause-room : goal.put_by_cycles-requires-clause-room
 put_by_cycles-requires-clause-room g c =
     let is = is_copy c.args.compact c.args.places c.args.cursor c.in_ok-coupons.coupons.items c.deref-2.result.now c.in_ok-coupons.ensures.ok c.in_ok-coupons.ensures.pairs c.deref-2.ensures.value in
-    let size = ap (λ (t : Table). t.lg_size) c.in_ok-container.ensures.ok ∙ c.lg_size.ensures.size ∙ ap (λ (t : Table). t.lg_size) c.set.view_is in
+    let size = ap (λ (t : Table). t.lg_size) c.in_ok-filled.ensures.ok ∙ c.lg_size-lg_size.ensures.size ∙ ap (λ (t : Table). t.lg_size) c.set.view_is in
     let few : length (coupons_in c.deref-2.result.now) ≤ 2 ^ c.args.set.now.lg_size = omega (arith, ap length is.all, ap length c.in_ok-coupons.ensures.ok, c.in_ok-coupons.ensures.few, c.requires.room) in
     subst (λ n. length (coupons_in c.deref-2.result.now) ≤ 2 ^ n) (sym size) few
 
@@ -34,10 +34,10 @@ returns-clause-ok g c =
     let is = is_copy c.args.compact c.args.places c.args.cursor c.in_ok-coupons.coupons.items c.deref-2.result.now c.in_ok-coupons.ensures.ok c.in_ok-coupons.ensures.pairs c.deref-2.ensures.value in
     let once = once_of _ _ (c.deref.ensures.value ∙ c.in_ok-coupons.ensures.ok) (c.in_ok-are_distinct.ensures.ok.0 c.if-not-branch.false) in
     let new : Table = c.put_by_cycles.new.into in
-    let size = c.lg_size.ensures.size ∙ ap (λ (t : Table). t.lg_size) c.set.view_is in
-    let empty : c.in_ok-container.container ≡ empty_table c.args.set.now.lg_size = c.in_ok-container.ensures.ok ∙ ap empty_table size in (
+    let size = c.lg_size-lg_size.ensures.size ∙ ap (λ (t : Table). t.lg_size) c.set.view_is in
+    let empty : c.in_ok-filled.filled ≡ empty_table c.args.set.now.lg_size = c.in_ok-filled.ensures.ok ∙ ap empty_table size in (
       subst (λ (t : Table). PutsEach (λ c. c) t.lg_size t.places (coupons_at c.args.compact c.args.places c.args.cursor) new.places) empty
-          (subst (λ xs. PutsEach (λ c. c) c.in_ok-container.container.lg_size c.in_ok-container.container.places xs new.places) is.all c.in_ok-put_by_cycles.ensures.places),
+          (subst (λ xs. PutsEach (λ c. c) c.in_ok-filled.filled.lg_size c.in_ok-filled.filled.places xs new.places) is.all c.in_ok-put_by_cycles.ensures.places),
       are_coupons (coupons_at c.args.compact c.args.places c.args.cursor) (subst (All IsPair) c.in_ok-coupons.ensures.ok c.in_ok-coupons.ensures.pairs) once,
     )
 
