@@ -1,8 +1,8 @@
 -- How the places of an image were read.
 use Rattle.hll_coupons.specs.declared.hash_set.Reading.{Reading}
-use Rattle.hll_coupons.specs.declared.hash_set.Reading.TheVariants.{Whole, Dear}
+use Rattle.hll_coupons.specs.declared.hash_set.Reading.TheVariants.{Whole, Cut}
 
 -- what holds where each was read
 abbrev pub IfWhole : Reading → Type 0 → Type 0
 IfWhole Whole P = P
-IfWhole Dear P = Unit {0}
+IfWhole Cut P = Unit {0}

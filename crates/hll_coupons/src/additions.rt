@@ -1,5 +1,5 @@
-//! The coupons of a table beside those of a set: counted with them, and added to them. Each is searched, until searches
-//! have become dear (docs/LIMITS.md); then a copy of the set's coupons in ascending order tells which of them it has.
+//! The coupons of a table beside those of a set: counted with them, and added to them. Each is sought by a short
+//! search. Where one is cut off, a copy of the set's coupons in ascending order tells which of them it has (docs/LIMITS.md).
 ghost use Rattle.std.specs.Prelude.{◌≡◌, ◌^◌, ◌<◌, ◌≤◌, true, false, length, IfOk, IfErr};
 ghost use Rattle.std.specs.FinSet.{contains, insert, len, union};
 ghost use Rattle.std.specs.List.Sorted.{IsStrictlyIncreasing};
@@ -13,7 +13,7 @@ ghost use Rattle.hll_coupons.specs.Table.{coupons_in, coupons_of};
 use crate::container::Container;
 use crate::coupon::Coupon;
 use crate::hash_set::HashSet;
-use crate::long_searches::{LongSearches, are_dear};
+use crate::long_searches::LongSearches;
 use crate::search::Key;
 use hll_base::error::Error;
 use std::alloc::Allocator;
@@ -21,22 +21,21 @@ use std::alloc::Allocator;
 impl<A: Allocator + Clone> HashSet<A> {
     /// How many coupons the set has with those of a table.
     ///
-    /// Where searches have become dear, takes memory for a copy of its coupons, and searches on if that is refused.
+    /// Where a search is long, takes memory for a copy of its coupons, and searches on if that is refused.
     pub fn count_with(&self, others: &Container<A>) -> usize
         ensures { result ≡ len (union (coupons_of self.now) (coupons_of others.now)) }
     {
         others.table_is_legal();
-        let lg_size = self.container.lg_size();
-        let mut steps = 0;
         let mut count = self.container.len();
         for coupon in others.iter() {
-            count += usize::from(!self.has(coupon, &mut steps));
-            if are_dear(steps, lg_size) {
-                if let Ok(own) = self.ascending() {
-                    return count_of_both(&own, others);
-                }
-                steps = 0;
-            }
+            let has = match self.has_shortly(coupon) {
+                Some(has) => has,
+                None => match self.ascending() {
+                    Ok(own) => return count_of_both(&own, others),
+                    Err(_) => self.contains(coupon),
+                },
+            };
+            count += usize::from(!has);
         }
         count
     }
@@ -53,24 +52,18 @@ impl<A: Allocator + Clone> HashSet<A> {
 
     /// Adds the coupons of a table, for which there is room.
     ///
-    /// Where searches have become dear, takes memory for a copy of its coupons and for bitmaps, and searches on if that is
-    /// refused.
+    /// Where a search is long, takes memory for a copy of its coupons and for bitmaps, and searches on if that is refused.
     pub fn update_each(&mut self, others: &Container<A>)
         requires { len (union (coupons_of self.old) (coupons_of others.now)) ≤ 2 ^ self.old.lg_size }
         ensures size { self.new.lg_size ≡ self.old.lg_size }
         ensures members { coupons_of self.new ≡ union (coupons_of self.old) (coupons_of others.now) }
-        ensures set { IsHashSet self.new }
     {
         others.table_is_legal();
-        let lg_size = self.container.lg_size();
-        let mut steps = 0;
         for coupon in others.iter() {
-            self.insert(coupon, &mut steps);
-            if are_dear(steps, lg_size) {
-                if self.update_by_order(others) {
-                    return;
-                }
-                steps = 0;
+            match self.insert_shortly(coupon) {
+                Some(_) => {}
+                None if self.update_by_order(others) => return,
+                None => self.update(coupon),
             }
         }
     }

@@ -229,6 +229,14 @@ impl<A: Allocator> Container<A> {
         self.len -= 1;
     }
 
+    /// Empties each place.
+    pub(crate) fn clear(&mut self)
+        ensures { self.new ≡ empty_table self.old.lg_size }
+    {
+        self.places.clear();
+        self.len = 0;
+    }
+
     /// A copy of the coupons in the order of their places, in one request for memory.
     pub(crate) fn copied<B: Allocator>(&self, alloc: B) -> Result<Vec<Coupon, B>, Error>
         ensures ok { IfOk result (λ coupons. coupons.items ≡ coupons_in self.now.places) }

@@ -1,5 +1,6 @@
 //! Tables that are filled with distinct keys, at the places that probing one by one gives.
 ghost use Rattle.std.specs.Prelude.{◌≡◌, ◌^◌, ◌<◌, ◌≤◌, All, length, map, OnOk, IfErr};
+ghost use Rattle.std.specs.Bool.{OnTrue};
 ghost use Rattle.std.specs.FinSet.{len};
 ghost use Rattle.hll_base.specs.declared.error.Reason.TheVariants.{Memory};
 ghost use Rattle.hll_coupons.specs.Keys.{key_of};
@@ -11,7 +12,7 @@ ghost use Rattle.hll_coupons.specs.Table.{coupons_in, coupons_of, empty_table, I
 use crate::container::{Container, coupons_of_places};
 use crate::coupon::Coupon;
 use crate::long_searches::LongSearches;
-use crate::search::Key;
+use crate::search::{Key, SHORT, search_within};
 use hll_base::error::Error;
 use std::alloc::Allocator;
 
@@ -40,11 +41,80 @@ fn put_absent<A: Allocator + Clone>(
     Ok(())
 }
 
+/// Puts an entry into the empty place where a short search for its key ends. Says whether that wasn't cut off.
+///
+/// Its value is at least 1, and its key is absent.
+fn put_shortly<A: Allocator>(table: &mut Container<A>, by: Key, entry: Coupon) -> bool
+    requires valued { 1 ≤ value_of entry }
+    requires absent { IsAbsent (key_of by) table.old.places (key_of by entry) }
+    ensures size { table.new.lg_size ≡ table.old.lg_size }
+    ensures places { OnTrue result (Puts (key_of by) table.old.lg_size table.old.places entry table.new.places) }
+    ensures table { IsTable table.new }
+{
+    let places = table.places();
+    let limit = SHORT.min(places.len());
+    let found = search_within(by, table.lg_size(), places, by.of(entry), limit);
+    let Some(place) = found else {
+        return false;
+    };
+    table.put(place, entry);
+    true
+}
+
 /// Puts coupons into an empty table, in their order; empty places among them are passed over.
 ///
 /// No two of them have one key, and they are no more than the table has places. Takes memory where long searches have
 /// become dear. Fails with `Memory`.
 pub(crate) fn put_all<A: Allocator + Clone>(
+    into: &mut Container<A>,
+    by: Key,
+    from: &[Coupon],
+) -> Result<(), Error>
+    requires small { into.old.lg_size ≤ 26 }
+    requires none { into.old ≡ empty_table into.old.lg_size }
+    requires valued { All IsPair (coupons_in from.now) }
+    requires room { length (coupons_in from.now) ≤ 2 ^ into.old.lg_size }
+    requires distinct { len (set_of (map (key_of by) (coupons_in from.now))) ≡ length (coupons_in from.now) }
+    ensures size { OnOk result (into.new.lg_size ≡ into.old.lg_size) }
+    ensures places { OnOk result (PutsEach (key_of by) into.old.lg_size into.old.places (coupons_in from.now) into.new.places) }
+    ensures probed { OnOk result (IsProbed (key_of by) into.new.lg_size into.new.places) }
+    ensures members { OnOk result (coupons_of into.new ≡ set_of (coupons_in from.now)) }
+    ensures count { OnOk result (length (coupons_in into.new.places) ≡ length (coupons_in from.now)) }
+    ensures table { OnOk result (IsTable into.new) }
+    ensures err { IfErr result (λ e. e ≡ Memory) }
+{
+    if put_by_search(into, by, from) {
+        return Ok(());
+    }
+    into.clear();
+    put_by_cycles(into, by, from)
+}
+
+/// The same by short searches. Says whether none was cut off.
+fn put_by_search<A: Allocator>(into: &mut Container<A>, by: Key, from: &[Coupon]) -> bool
+    requires small { into.old.lg_size ≤ 26 }
+    requires none { into.old ≡ empty_table into.old.lg_size }
+    requires valued { All IsPair (coupons_in from.now) }
+    requires room { length (coupons_in from.now) ≤ 2 ^ into.old.lg_size }
+    requires distinct { len (set_of (map (key_of by) (coupons_in from.now))) ≡ length (coupons_in from.now) }
+    ensures size { into.new.lg_size ≡ into.old.lg_size }
+    ensures places { OnTrue result (PutsEach (key_of by) into.old.lg_size into.old.places (coupons_in from.now) into.new.places) }
+    ensures probed { OnTrue result (IsProbed (key_of by) into.new.lg_size into.new.places) }
+    ensures members { OnTrue result (coupons_of into.new ≡ set_of (coupons_in from.now)) }
+    ensures count { OnTrue result (length (coupons_in into.new.places) ≡ length (coupons_in from.now)) }
+    ensures table { OnTrue result (IsTable into.new) }
+{
+    for entry in coupons_of_places(from) {
+        if !put_shortly(into, by, entry) {
+            return false;
+        }
+    }
+    true
+}
+
+/// The same by cycles, where searches are long.
+#[inline(never)]
+pub(crate) fn put_by_cycles<A: Allocator + Clone>(
     into: &mut Container<A>,
     by: Key,
     from: &[Coupon],

@@ -1,5 +1,5 @@
 //! A set of coupons in a table that is searched by probing (docs/MODEL.md, "Tables" and "Probing").
-ghost use Rattle.std.specs.Prelude.{◌≡◌, ◌+◌, ◌*◌, ◌^◌, ◌<◌, ◌≤◌, ◌⊎◌, ◌↔◌, ◌++◌, if◌then◌else◌, All, length, take, drop, false, IsTrue, IfOk, IfErr, OnOk};
+ghost use Rattle.std.specs.Prelude.{◌≡◌, ◌+◌, ◌*◌, ◌^◌, ◌<◌, ◌≤◌, ◌⊎◌, ◌↔◌, ◌++◌, if◌then◌else◌, All, length, take, drop, false, IsTrue, IfOk, IfErr, IfSome, IfNone, OnOk};
 ghost use Rattle.std.specs.FinSet as set;
 ghost use Rattle.std.specs.Int.{w32, to_le_bytes};
 ghost use Rattle.hll_base.specs.declared.error.Reason.TheVariants.{Memory};
@@ -18,9 +18,8 @@ ghost use Rattle.hll_coupons.specs.Table.{coupons_in, coupons_of, empty_table, I
 use crate::container::{Container, Insertion, places_of};
 use crate::coupon::Coupon;
 use crate::distinct::are_distinct;
-use crate::filling::put_all;
-use crate::long_searches::are_dear;
-use crate::search::{Key, search, search_counted};
+use crate::filling::{put_all, put_by_cycles};
+use crate::search::{Key, SHORT, search, search_within};
 use crate::serialization::{
     COMPACT_FLAG_MASK, COUPON_SIZE_BYTES, CUR_MODE_SET, HASH_SET_PREINTS, LG_LEAST_SET_PLACES,
     SERIAL_VERSION, SET_PREAMBLE_SIZE, encode_mode_byte,
@@ -86,29 +85,33 @@ impl<A: Allocator> HashSet<A> {
         ensures members { coupons_of self.new ≡ set.insert (coupons_of self.old) coupon }
         ensures set { IsHashSet self.new }
     {
-        let mut steps = 0;
-        self.insert(coupon, &mut steps);
+        let most = self.container.capacity();
+        match self.update_within(coupon, most) {
+            Insertion::Added => {}
+            Insertion::Held => {}
+            Insertion::Refused => unreachable!(),
+        }
     }
 
-    /// The same. Says whether the coupon is new, and adds the steps of a long search to a count.
-    pub(crate) fn insert(&mut self, coupon: Coupon, steps: &mut usize) -> bool
+    /// The same by a short search. Says whether the coupon is new, nothing where the search was cut off.
+    pub(crate) fn insert_shortly(&mut self, coupon: Coupon) -> Option<bool>
         requires valued { 1 ≤ value_of coupon }
-        requires room { set.contains (coupons_of self.old) coupon ≡ false → length (coupons_in self.old.places) < 2 ^ self.old.lg_size }
-        ensures new { IsTrue result ↔ (set.contains (coupons_of self.old) coupon ≡ false) }
+        ensures new { IfSome result (λ new. IsTrue new ↔ (set.contains (coupons_of self.old) coupon ≡ false)) }
         ensures size { self.new.lg_size ≡ self.old.lg_size }
-        ensures places { Puts (λ c. c) self.old.lg_size self.old.places coupon self.new.places }
-        ensures members { coupons_of self.new ≡ set.insert (coupons_of self.old) coupon }
+        ensures places { IfSome result (λ _. Puts (λ c. c) self.old.lg_size self.old.places coupon self.new.places) }
+        ensures members { IfSome result (λ _. coupons_of self.new ≡ set.insert (coupons_of self.old) coupon) }
+        ensures unchanged { IfNone result (self.new ≡ self.old) }
         ensures set { IsHashSet self.new }
     {
         let lg_size = self.container.lg_size();
         let places = self.container.places();
-        let found = search_counted(Key::Word, lg_size, places, coupon.raw(), steps);
-        let Some(place) = found else { unreachable!() };
+        let limit = SHORT.min(places.len());
+        let place = search_within(Key::Word, lg_size, places, coupon.raw(), limit)?;
         if !places[place].is_empty() {
-            return false;
+            return Some(false);
         }
         self.container.put(place, coupon);
-        true
+        Some(true)
     }
 
     /// Puts a coupon where a search for it ends, unless the set has it, or would have more than `most` coupons. One
@@ -146,20 +149,22 @@ impl<A: Allocator> HashSet<A> {
     pub fn contains(&self, coupon: Coupon) -> bool
         ensures { result ≡ set.contains (coupons_of self.now) coupon }
     {
-        let mut steps = 0;
-        self.has(coupon, &mut steps)
-    }
-
-    /// The same. Adds the steps of a long search to a count.
-    pub(crate) fn has(&self, coupon: Coupon, steps: &mut usize) -> bool
-        ensures { result ≡ set.contains (coupons_of self.now) coupon }
-    {
         let places = self.container.places();
-        let lg_size = self.container.lg_size();
-        match search_counted(Key::Word, lg_size, places, coupon.raw(), steps) {
+        match search(Key::Word, self.container.lg_size(), places, coupon.raw()) {
             Some(place) => !places[place].is_empty(),
             None => false,
         }
+    }
+
+    /// The same by a short search; nothing where it was cut off.
+    pub(crate) fn has_shortly(&self, coupon: Coupon) -> Option<bool>
+        ensures { IfSome result (λ has. has ≡ set.contains (coupons_of self.now) coupon) }
+    {
+        let lg_size = self.container.lg_size();
+        let places = self.container.places();
+        let limit = SHORT.min(places.len());
+        let place = search_within(Key::Word, lg_size, places, coupon.raw(), limit)?;
+        Some(!places[place].is_empty())
     }
 
     /// The places. Takes no memory.
@@ -337,7 +342,7 @@ fn read_places<A: Allocator + Clone>(
     let bytes = cursor.remaining();
     match read_by_search(set, cursor, places, compact)? {
         Reading::Whole => Ok(()),
-        Reading::Dear => read_by_order(set, SketchSlice::new(bytes), places, compact),
+        Reading::Cut => read_by_order(set, SketchSlice::new(bytes), places, compact),
     }
 }
 
@@ -345,11 +350,11 @@ fn read_places<A: Allocator + Clone>(
 enum Reading {
     /// Each of them.
     Whole,
-    /// Some of them, until searches had become dear.
-    Dear,
+    /// Some of them, until a search was cut off.
+    Cut,
 }
 
-/// Reads places into an empty set, and searches for each coupon, as long as that isn't dear.
+/// Reads places into an empty set by short searches, until one is cut off.
 fn read_by_search<A: Allocator>(
     set: &mut HashSet<A>,
     mut cursor: SketchSlice<'_>,
@@ -365,24 +370,25 @@ fn read_by_search<A: Allocator>(
     ensures members { IfOk result (λ r. IfWhole r (coupons_of set.new ≡ set_of (coupons_at compact places cursor.entry))) }
     ensures err { IfErr result (λ e. (e ≡ reasons.Coupon) × (AreCoupons (coupons_at compact places cursor.entry) → ⊥)) }
 {
-    let lg_size = set.container.lg_size();
-    let mut steps = 0;
     for _ in 0..places {
         let coupon = Coupon::from_raw(cursor.read_u32_le()?);
         if coupon.is_empty() && !compact {
             continue;
         }
-        if coupon.value() == 0 || !set.insert(coupon, &mut steps) {
+        if coupon.value() == 0 {
             return Err(Error::new(Reason::Coupon));
         }
-        if are_dear(steps, lg_size) {
-            return Ok(Reading::Dear);
+        match set.insert_shortly(coupon) {
+            Some(true) => {}
+            Some(false) => return Err(Error::new(Reason::Coupon)),
+            None => return Ok(Reading::Cut),
         }
     }
     Ok(Reading::Whole)
 }
 
-/// Reads places into a set, whatever it has, by copies of the coupons and the cycles of their strides.
+/// Reads places into a set, whatever it has, by copies of the coupons and the cycles of their strides. Gives the memory of
+/// its places back first.
 #[inline(never)]
 fn read_by_order<A: Allocator + Clone>(
     set: &mut HashSet<A>,
@@ -398,14 +404,18 @@ fn read_by_order<A: Allocator + Clone>(
     ensures members { OnOk result (coupons_of set.new ≡ set_of (coupons_at compact places cursor.entry)) }
     ensures err { IfErr result (λ e. (e ≡ Memory) ⊎ ((e ≡ reasons.Coupon) × (AreCoupons (coupons_at compact places cursor.entry) → ⊥))) }
 {
+    let lg_size = set.container.lg_size();
     let alloc = set.container.allocator().clone()?;
+    *set = HashSet {
+        container: Container::eight(alloc.clone()?),
+    };
     let coupons = read_coupons(alloc.clone()?, cursor, places, compact)?;
     if !are_distinct(alloc.clone()?, &coupons)? {
         return Err(Error::new(Reason::Coupon));
     }
-    let mut container = Container::new(alloc, set.container.lg_size())?;
-    put_all(&mut container, Key::Word, &coupons)?;
-    *set = HashSet { container };
+    let mut filled = Container::new(alloc, lg_size)?;
+    put_by_cycles(&mut filled, Key::Word, &coupons)?;
+    *set = HashSet { container: filled };
     Ok(())
 }
 

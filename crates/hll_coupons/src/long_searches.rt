@@ -167,7 +167,7 @@ impl<A: Allocator + Clone> LongSearches<A> {
 }
 
 /// Whether long searches took four steps for each place of a table of 64 places or more.
-pub(crate) fn are_dear(steps: usize, lg_size: usize) -> bool
+fn are_dear(steps: usize, lg_size: usize) -> bool
     requires { lg_size ≤ 26 }
     ensures { IsTrue result → 6 ≤ lg_size }
 {

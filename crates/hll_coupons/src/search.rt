@@ -50,7 +50,7 @@ pub(crate) fn stride_of(lg_size: usize, key: u32) -> u32
     Coupon::from_raw(key).slot() >> lg_size | 1
 }
 
-/// As many steps are walked before a search is long.
+/// As many places does a short search look at.
 pub(crate) const SHORT: usize = 64;
 
 /// The first place on the path of a key that is empty or filled with the key; none in a table that is full of other keys.
@@ -115,28 +115,6 @@ pub(crate) fn search_on(
         place = wrapped(lg_size, place + stride);
     }
     None
-}
-
-/// The same as `search`, by a limited search that usually ends. The steps of a long one are added to a count.
-pub(crate) fn search_counted(
-    by: Key,
-    lg_size: usize,
-    places: &[Coupon],
-    key: u32,
-    steps: &mut usize,
-) -> Option<usize>
-    requires small { lg_size ≤ 26 }
-    requires size { length places.now ≡ 2 ^ lg_size }
-    ensures found { IfSome result (EndsAt (key_of by) lg_size places.now key) }
-    ensures full { IfNone result (Passes (key_of by) lg_size places.now key (2 ^ lg_size)) }
-{
-    let limit = SHORT.min(places.len());
-    if let Some(place) = search_within(by, lg_size, places, key, limit) {
-        return Some(place);
-    }
-    let (place, more) = search_on(by, lg_size, places, key, limit)?;
-    *steps = steps.saturating_add(more);
-    Some(place)
 }
 
 /// Puts an entry into the empty place where the search for its key ends.

@@ -89,6 +89,16 @@ impl<A: Allocator> Storage<A> {
         }
     }
 
+    /// Empties each place.
+    pub(crate) fn clear(&mut self)
+        ensures { places_in self.new ≡ replicate (length (places_in self.old)) 0 }
+    {
+        match self {
+            Storage::InValue { coupons, .. } => coupons.fill(Coupon::EMPTY),
+            Storage::Allocated(coupons) => coupons.fill(Coupon::EMPTY),
+        }
+    }
+
     /// Fills a place.
     pub(crate) fn set(&mut self, place: usize, coupon: Coupon)
         requires small { place < 2 ^ 26 }

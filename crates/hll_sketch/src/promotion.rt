@@ -171,6 +171,7 @@ pub(crate) fn mode_of_both<A: Allocator + Clone>(
         Some(size) => {
             let mut set = HashSet::from_container(alloc, usize::from(size), table)?;
             set.update_each(others);
+            set.container().table_is_legal();
             let hll_type = HllType::Hll8;
             Ok(Mode::Set { set, hll_type })
         }

@@ -8,14 +8,14 @@ use Rattle.hll_coupons.specs.Table.{Table, coupons_in, empty_table}
 use Rattle.hll_coupons.proofs.SetReading.{are_coupons, is_copy}
 use Rattle.hll_coupons.proofs.hash_set.read_by_order.Goals as goal
 
-pub put_all-requires-clause-valued : goal.put_all-requires-clause-valued
-put_all-requires-clause-valued g c =
+pub put_by_cycles-requires-clause-valued : goal.put_by_cycles-requires-clause-valued
+put_by_cycles-requires-clause-valued g c =
     (is_copy c.args.compact c.args.places c.args.cursor c.in_ok-coupons.coupons.items c.deref-2.result.now c.in_ok-coupons.ensures.ok c.in_ok-coupons.ensures.pairs c.deref-2.ensures.value).pairs
 
-pub put_all-requires-clause-room : goal.put_all-requires-clause-room
-put_all-requires-clause-room g c =
+pub put_by_cycles-requires-clause-room : goal.put_by_cycles-requires-clause-room
+put_by_cycles-requires-clause-room g c =
     let is = is_copy c.args.compact c.args.places c.args.cursor c.in_ok-coupons.coupons.items c.deref-2.result.now c.in_ok-coupons.ensures.ok c.in_ok-coupons.ensures.pairs c.deref-2.ensures.value in
-    let size = ap (λ (t : Table). t.lg_size) c.in_ok-container.ensures.ok ∙ c.lg_size.ensures.size ∙ ap (λ (t : Table). t.lg_size) c.set.view_is in
+    let size = ap (λ (t : Table). t.lg_size) c.in_ok-filled.ensures.ok ∙ c.lg_size-lg_size.ensures.size ∙ ap (λ (t : Table). t.lg_size) c.set.view_is in
     let few : length (coupons_in c.deref-2.result.now) ≤ 2 ^ c.args.set.now.lg_size = omega (arith, ap length is.all, ap length c.in_ok-coupons.ensures.ok, c.in_ok-coupons.ensures.few, c.requires.room) in
     subst (λ n. length (coupons_in c.deref-2.result.now) ≤ 2 ^ n) (sym size) few
 
@@ -23,8 +23,8 @@ put_all-requires-clause-room g c =
 once_of : (copy all : List ℕ) → copy ≡ all → len (set_of copy) ≡ length copy → len (set_of all) ≡ length all
 once_of copy all is once = subst (λ xs. len (set_of xs) ≡ length xs) is once
 
-pub put_all-requires-clause-distinct : goal.put_all-requires-clause-distinct
-put_all-requires-clause-distinct g c =
+pub put_by_cycles-requires-clause-distinct : goal.put_by_cycles-requires-clause-distinct
+put_by_cycles-requires-clause-distinct g c =
     let is = is_copy c.args.compact c.args.places c.args.cursor c.in_ok-coupons.coupons.items c.deref-2.result.now c.in_ok-coupons.ensures.ok c.in_ok-coupons.ensures.pairs c.deref-2.ensures.value in
     let once = once_of _ _ (c.deref.ensures.value ∙ c.in_ok-coupons.ensures.ok) (c.in_ok-are_distinct.ensures.ok.0 c.if-not-branch.false) in
     ap (λ cs. len (set_of cs)) (map-id (coupons_in c.deref-2.result.now)) ∙ once_of _ _ (sym is.all) once
@@ -33,15 +33,15 @@ pub returns-clause-ok : goal.returns-clause-ok
 returns-clause-ok g c =
     let is = is_copy c.args.compact c.args.places c.args.cursor c.in_ok-coupons.coupons.items c.deref-2.result.now c.in_ok-coupons.ensures.ok c.in_ok-coupons.ensures.pairs c.deref-2.ensures.value in
     let once = once_of _ _ (c.deref.ensures.value ∙ c.in_ok-coupons.ensures.ok) (c.in_ok-are_distinct.ensures.ok.0 c.if-not-branch.false) in
-    let new : Table = c.put_all.new.into in
-    let size = c.lg_size.ensures.size ∙ ap (λ (t : Table). t.lg_size) c.set.view_is in
-    let empty : c.in_ok-container.container ≡ empty_table c.args.set.now.lg_size = c.in_ok-container.ensures.ok ∙ ap empty_table size in (
+    let new : Table = c.put_by_cycles.new.into in
+    let size = c.lg_size-lg_size.ensures.size ∙ ap (λ (t : Table). t.lg_size) c.set.view_is in
+    let empty : c.in_ok-filled.filled ≡ empty_table c.args.set.now.lg_size = c.in_ok-filled.ensures.ok ∙ ap empty_table size in (
       subst (λ (t : Table). PutsEach (λ c. c) t.lg_size t.places (coupons_at c.args.compact c.args.places c.args.cursor) new.places) empty
-          (subst (λ xs. PutsEach (λ c. c) c.in_ok-container.container.lg_size c.in_ok-container.container.places xs new.places) is.all c.in_ok-put_all.ensures.places),
+          (subst (λ xs. PutsEach (λ c. c) c.in_ok-filled.filled.lg_size c.in_ok-filled.filled.places xs new.places) is.all c.in_ok-put_by_cycles.ensures.places),
       are_coupons (coupons_at c.args.compact c.args.places c.args.cursor) (subst (All IsPair) c.in_ok-coupons.ensures.ok c.in_ok-coupons.ensures.pairs) once,
     )
 
 pub returns-clause-members : goal.returns-clause-members
 returns-clause-members g c =
     let is = is_copy c.args.compact c.args.places c.args.cursor c.in_ok-coupons.coupons.items c.deref-2.result.now c.in_ok-coupons.ensures.ok c.in_ok-coupons.ensures.pairs c.deref-2.ensures.value in
-    c.in_ok-put_all.ensures.members ∙ ap set_of is.all
+    c.in_ok-put_by_cycles.ensures.members ∙ ap set_of is.all

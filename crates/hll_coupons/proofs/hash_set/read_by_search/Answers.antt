@@ -9,7 +9,7 @@ use Rattle.hll_coupons.proofs.Members.{member_unless_lacking}
 use Rattle.hll_coupons.proofs.Reading.{no_value, twice}
 use Rattle.hll_coupons.proofs.SetReading.{read_none, read_over, read_word, read_more}
 use Rattle.hll_coupons.proofs.hash_set.read_by_search.Goals as goal
-use Rattle.hll_coupons.proofs.hash_set.read_by_search.Goals.{else-is_empty-via-then-is_empty+else-not-compact, else-is_empty-via-else-is_empty, then-value-eq0-via-then-value-eq0, then-value-eq0-via-else-value-eq0+then-not-insert}
+use Rattle.hll_coupons.proofs.hash_set.read_by_search.Goals.{else-is_empty-via-then-is_empty+else-not-compact, else-is_empty-via-else-is_empty}
 
 pub loop-init : goal.loop-init
 loop-init g c = read_none c.args.compact c.args.places c.args.set.now c.args.cursor c.requires.small c.requires.none c.requires.there
@@ -30,15 +30,22 @@ returns-then-value-eq0-clause-err g c =
       | else-is_empty-via-else-is_empty v ↦ absurd (true≢false (sym (c.is_empty.ensures.1 (c.from_raw-coupon.ensures ∙ z)) ∙ v.if-is_empty.false))
     ] in
     let all = read_word c.args.compact c.args.places c.loop.counter _ _ _ c.loop.set c.loop.cursor so c.loop-test.true w c.read_u32_le.new.self word.1 word.2 filled in
-    let same : c.from_raw-coupon.result ≡ w = c.from_raw-coupon.ensures in (
-      c.new.ensures,
-      λ are. elim c.then-value-eq0.branch [
-        | then-value-eq0-via-then-value-eq0 v ↦ no_value so.order _ w (ap value_of (sym same) ∙ sym c.value.ensures.value ∙ v.if-value-eq0.true) (subst AreCoupons all are)
-        | then-value-eq0-via-else-value-eq0+then-not-insert v ↦
-            let there : contains (coupons_of c.loop.set) c.from_raw-coupon.result ≡ true = member_unless_lacking (coupons_of c.loop.set) c.from_raw-coupon.result (λ none. true≢false (sym (v.insert.ensures.new.1 none) ∙ v.if-not-insert.true)) in
-            twice so.order _ w ((λ i. contains (sym so.members i) (sym same i)) ∙ there) (subst AreCoupons all are)
-      ],
-    )
+    (c.new.ensures, λ are. no_value so.order _ w (ap value_of (sym c.from_raw-coupon.ensures) ∙ sym c.value.ensures.value ∙ c.if-value-eq0.true) (subst AreCoupons all are))
+
+pub returns-in-Some-false-clause-err : goal.returns-in-Some-false-clause-err
+returns-in-Some-false-clause-err g c =
+    let so = c.loop.invariant in
+    let word = c.in_ok-read_u32_le.ensures.ok in
+    let w : ℕ = c.in_ok-read_u32_le.field-0 in
+    let filled : w ≡ 0 → c.args.compact ≡ true = λ z. elim c.else-is_empty.branch [
+      | else-is_empty-via-then-is_empty+else-not-compact v ↦ v.if-not-compact.false
+      | else-is_empty-via-else-is_empty v ↦ absurd (true≢false (sym (c.is_empty.ensures.1 (c.from_raw-coupon.ensures ∙ z)) ∙ v.if-is_empty.false))
+    ] in
+    let all = read_word c.args.compact c.args.places c.loop.counter _ _ _ c.loop.set c.loop.cursor so c.loop-test.true w c.read_u32_le.new.self word.1 word.2 filled in
+    let same : c.from_raw-coupon.result ≡ w = c.from_raw-coupon.ensures in
+    let there : contains (coupons_of c.loop.set) c.from_raw-coupon.result ≡ true =
+    member_unless_lacking (coupons_of c.loop.set) c.from_raw-coupon.result (λ none. true≢false (sym (c.in-Some-false.ensures.new.1 none) ∙ c.in-Some-false.field-0-test)) in
+    (c.new-in-Some-false.ensures, λ are. twice so.order _ w ((λ i. contains (sym so.members i) (sym same i)) ∙ there) (subst AreCoupons all are))
 
 pub loop-preserved : goal.loop-preserved
 loop-preserved g c =
@@ -49,8 +56,8 @@ loop-preserved g c =
       | else-is_empty-via-else-is_empty v ↦ absurd (true≢false (sym (c.is_empty.ensures.1 (c.from_raw-coupon.ensures ∙ z)) ∙ v.if-is_empty.false))
     ] in
     let same : c.from_raw-coupon.result ≡ w = c.from_raw-coupon.ensures in
-    let new = c.insert.ensures in
-    read_more c.args.compact c.args.places c.loop.counter _ _ _ c.loop.set c.loop.cursor c.loop.invariant c.loop-test.true w c.read_u32_le.new.self word.1 word.2 c.insert.new.self filled
+    let new = c.in-Some-true.ensures in
+    read_more c.args.compact c.args.places c.loop.counter _ _ _ c.loop.set c.loop.cursor c.loop.invariant c.loop-test.true w c.read_u32_le.new.self word.1 word.2 c.insert_shortly.new.self filled
     (let v : 1 ≤ value_of w = omega (arith, c.if-value-eq0.false, c.value.ensures.value, ap value_of same) in v)
-    (ap (contains (coupons_of c.loop.set)) (sym same) ∙ new.new.0 c.if-not-insert.false) new.size
-    (subst (λ w. Puts (λ c. c) c.loop.set.lg_size c.loop.set.places w c.insert.new.self.places) same new.places) (new.members ∙ ap (insert (coupons_of c.loop.set)) same) new.set
+    (ap (contains (coupons_of c.loop.set)) (sym same) ∙ new.new.0 c.in-Some-true.field-0-test) new.size
+    (subst (λ w. Puts (λ c. c) c.loop.set.lg_size c.loop.set.places w c.insert_shortly.new.self.places) same new.places) (new.members ∙ ap (insert (coupons_of c.loop.set)) same) new.set

@@ -50,5 +50,5 @@ returns-in_ok-set-in-Some-clause-layout g c =
       omega (arith, size, is.low),
       omega (arith, size, is.high),
       subst (λ n. length (coupons_in new.places) < 2 ^ n) (sym size)
-          (omega (arith, is.few, c.requires.count, c.update_each.ensures.set.table.distinct, ap len c.update_each.ensures.members, ap (λ P. len (union P (coupons_of c.args.others.now))) set.members)),
+          (omega (arith, is.few, c.requires.count, c.table_is_legal-in-Some.ensures.table.distinct, ap (λ (t : Table). length (coupons_in t.places)) c.container.ensures.same, ap (λ (t : Table). len (coupons_of t)) c.container.ensures.same, ap len c.update_each.ensures.members, ap (λ P. len (union P (coupons_of c.args.others.now))) set.members)),
     )

@@ -1,5 +1,6 @@
 use Rattle.std.proofs.Common.{arith, ◌≡◌, ◌<◌, ◌^◌, ◌∙◌, ◌++◌, ◌∷◌, [], ℕ, List, All, refl, sym, ap, subst, length, map}
 use Rattle.std.specs.Cmp.{nat_cmp_total}
+use Rattle.std.specs.Bool.{OnTrue}
 use Rattle.std.specs.Iterator.{Yields, YieldsFirst}
 use Rattle.std.specs.FinSet.{insert, len, from_list_push, nat_cmp-IsAntisymmetric}
 use Rattle.std.proofs.lemmas.List.{append-nil, length-append}
@@ -12,7 +13,7 @@ use Rattle.hll_coupons.proofs.Putting.{PutAt, put_at, absent_next, fresh_next, l
 use Rattle.hll_coupons.proofs.Searching.{IsProbed-empty, IsProbed-puts, PutsEach-push}
 use Rattle.hll_coupons.proofs.TableLemmas.{IsTable-empty, full_of_valued}
 use Rattle.hll_coupons.proofs.Yielded.{given}
-use Rattle.hll_coupons.proofs.filling.put_all.Goals as goal
+use Rattle.hll_coupons.proofs.filling.put_by_search.Goals as goal
 
 pub loop-entry-init : goal.loop-entry-init
 loop-entry-init g c =
@@ -26,7 +27,6 @@ loop-entry-init g c =
       members = ap set_of none;
       count = ap length none;
       table = subst IsTable (sym c.requires.none) (IsTable-empty t.lg_size c.requires.small);
-      cycles = c.new-searches.ensures t.lg_size t.places;
     }
 
 -- what is known of the next entry
@@ -43,21 +43,15 @@ next key all yielded rest places entry parts valued distinct members = record {
   fewer = omega (arith, ap length parts, length-append yielded (entry ∷ rest));
 }
 
-pub put_absent-requires-clause-valued : goal.put_absent-requires-clause-valued
-put_absent-requires-clause-valued g c =
+pub put_shortly-requires-clause-valued : goal.put_shortly-requires-clause-valued
+put_shortly-requires-clause-valued g c =
     let parts = given _ _ _ _ _ (c.into_iter-entry-iterator.ensures.into_iter_gives ∙ c.coupons_of_places-entry-items.ensures) c.loop-entry.yielded_by c.in-Some.ensures.steps in
     (next (key_of c.args.by) _ _ _ c.loop-entry.into.places _ parts c.requires.valued c.requires.distinct c.loop-entry.invariant.members).pair.valued
 
-pub put_absent-requires-clause-absent : goal.put_absent-requires-clause-absent
-put_absent-requires-clause-absent g c =
+pub put_shortly-requires-clause-absent : goal.put_shortly-requires-clause-absent
+put_shortly-requires-clause-absent g c =
     let parts = given _ _ _ _ _ (c.into_iter-entry-iterator.ensures.into_iter_gives ∙ c.coupons_of_places-entry-items.ensures) c.loop-entry.yielded_by c.in-Some.ensures.steps in
     (next (key_of c.args.by) _ _ _ c.loop-entry.into.places _ parts c.requires.valued c.requires.distinct c.loop-entry.invariant.members).absent
-
-pub put_absent-requires-clause-room : goal.put_absent-requires-clause-room
-put_absent-requires-clause-room g c =
-    let parts = given _ _ _ _ _ (c.into_iter-entry-iterator.ensures.into_iter_gives ∙ c.coupons_of_places-entry-items.ensures) c.loop-entry.yielded_by c.in-Some.ensures.steps in
-    let fewer = (next (key_of c.args.by) _ _ _ c.loop-entry.into.places _ parts c.requires.valued c.requires.distinct c.loop-entry.invariant.members).fewer in
-    subst (λ n. length (coupons_in c.loop-entry.into.places) < 2 ^ n) (sym c.loop-entry.invariant.size) (omega (arith, fewer, c.requires.room, c.loop-entry.invariant.count))
 
 pub loop-entry-preserved : goal.loop-entry-preserved
 loop-entry-preserved g c =
@@ -66,19 +60,19 @@ loop-entry-preserved g c =
     let key : ℕ → ℕ = key_of c.args.by in
     let entry : ℕ = c.in-Some.entry in
     let old : List ℕ = c.loop-entry.into.places in
-    let new : List ℕ = c.put_absent.new.table.places in
+    let new : List ℕ = c.put_shortly.new.table.places in
     let is = next key _ _ _ old entry parts c.requires.valued c.requires.distinct inv.members in
     let some : 0 < entry = full_of_valued entry is.pair.valued in
-    let puts : Puts key c.args.into.now.lg_size old entry new = subst (λ n. Puts key n old entry new) inv.size c.in_ok-put_absent.ensures.places in
+    let puts : Puts key c.args.into.now.lg_size old entry new =
+    subst (λ n. Puts key n old entry new) inv.size (subst (λ b. OnTrue b (Puts key c.loop-entry.into.lg_size old entry new)) c.if-not-put_shortly.false c.put_shortly.ensures.places) in
     let put : PutAt old entry new = put_at key c.args.into.now.lg_size old entry new inv.probed.size is.absent puts in
     record {
-      size = c.in_ok-put_absent.ensures.size ∙ inv.size;
+      size = c.put_shortly.ensures.size ∙ inv.size;
       places = PutsEach-push key c.args.into.now.lg_size _ c.loop-entry.yielded old entry new inv.places puts;
       probed = IsProbed-puts key c.args.into.now.lg_size old entry new inv.probed (λ z. omega (arith, some, z)) puts;
       members = members-put old entry new some put ∙ ap (λ S. insert S entry) inv.members ∙ sym (from_list_push nat_cmp_total nat_cmp-IsAntisymmetric c.loop-entry.yielded entry);
       count = length-put old entry new some put ∙ omega (arith, inv.count, length-append c.loop-entry.yielded (entry ∷ []));
-      table = c.in_ok-put_absent.ensures.table;
-      cycles = c.in_ok-put_absent.ensures.cycles;
+      table = c.put_shortly.ensures.table;
     }
 
 -- all were put

@@ -1,10 +1,9 @@
 use Rattle.std.proofs.Common.{◌≡◌, length}
 use Rattle.hll_coupons.specs.Keys.{key_of}
-use Rattle.hll_coupons.specs.LongSearches.{AreFor}
 use Rattle.hll_coupons.specs.Pair.{set_of}
 use Rattle.hll_coupons.specs.Probe.{IsProbed, PutsEach}
 use Rattle.hll_coupons.specs.Table.{coupons_in, IsTable}
-use Rattle.hll_coupons.proofs.filling.put_all.Given as goal
+use Rattle.hll_coupons.proofs.filling.put_by_search.Given as goal
 
 -- the entries so far are put
 abbrev pub invariant-loop-entry : goal.invariant-loop-entry
@@ -15,5 +14,4 @@ invariant-loop-entry g l = record {
   members : set_of (coupons_in l.into.places) ≡ set_of l.yielded;
   count : length (coupons_in l.into.places) ≡ length l.yielded;
   table : IsTable l.into;
-  cycles : AreFor l.into.lg_size l.into.places l.searches;
 }

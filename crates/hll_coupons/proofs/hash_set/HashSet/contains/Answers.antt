@@ -4,13 +4,13 @@ use Rattle.std.proofs.lemmas.Bool.{cases_Bool, true≢false}
 use Rattle.hll_coupons.specs.Table.{Table, coupons_of}
 use Rattle.hll_coupons.proofs.Sets.{IsEnd, end_of, full_end, found_end, lacking_end}
 use mathlib.Core.Bool.{not}
-use Rattle.hll_coupons.proofs.hash_set.HashSet.has.Goals as goal
+use Rattle.hll_coupons.proofs.hash_set.HashSet.contains.Goals as goal
 
 pub returns-in-Some : goal.returns-in-Some
 returns-in-Some g c =
     let t : Table = c.self.inside.container in
     let w : ℕ = c.args.coupon in
-    let is : IsEnd t w c.in-Some.place c.index-places-place.result = end_of t w c.in-Some.place c.index-places-place.result _ _ _ c.self.invariant.probed.size c.lg_size-lg_size.ensures.size c.places-places.ensures.places c.raw.ensures c.in-Some.ensures.found c.index-places-place.is in
+    let is : IsEnd t w c.in-Some.place c.index-places-place.result = end_of t w c.in-Some.place c.index-places-place.result _ _ _ c.self.invariant.probed.size c.lg_size.ensures.size c.places-places.ensures.places c.raw.ensures c.in-Some.ensures.found c.index-places-place.is in
     elim (cases_Bool c.is_empty.result) [
       | inl empty ↦
           ap not empty ∙ sym (lacking_end t w c.self.invariant.probed c.in-Some.place c.index-places-place.result is (c.is_empty.ensures.0 empty))
@@ -22,5 +22,5 @@ returns-in-Some g c =
 
 pub returns-in-None : goal.returns-in-None
 returns-in-None g c =
-    sym (full_end c.self.inside.container c.args.coupon _ _ _ c.self.invariant.probed c.lg_size-lg_size.ensures.size c.places-places.ensures.places c.raw.ensures c.in-None.ensures.full).1
+    sym (full_end c.self.inside.container c.args.coupon _ _ _ c.self.invariant.probed c.lg_size.ensures.size c.places-places.ensures.places c.raw.ensures c.in-None.ensures.full).1
     ∙ ap (λ (u : Table). contains (coupons_of u) c.args.coupon) c.self.view_is

@@ -1,0 +1,19 @@
+use Rattle.std.proofs.Common.{◌≡◌, length}
+use Rattle.hll_coupons.specs.Keys.{key_of}
+use Rattle.hll_coupons.specs.LongSearches.{AreFor}
+use Rattle.hll_coupons.specs.Pair.{set_of}
+use Rattle.hll_coupons.specs.Probe.{IsProbed, PutsEach}
+use Rattle.hll_coupons.specs.Table.{coupons_in, IsTable}
+use Rattle.hll_coupons.proofs.filling.put_by_cycles.Given as goal
+
+-- the entries so far are put
+abbrev pub invariant-loop-entry : goal.invariant-loop-entry
+invariant-loop-entry g l = record {
+  size : l.into.lg_size ≡ l.fn.into.lg_size;
+  places : PutsEach (key_of l.fn.by) l.fn.into.lg_size l.fn.into.places l.yielded l.into.places;
+  probed : IsProbed (key_of l.fn.by) l.fn.into.lg_size l.into.places;
+  members : set_of (coupons_in l.into.places) ≡ set_of l.yielded;
+  count : length (coupons_in l.into.places) ≡ length l.yielded;
+  table : IsTable l.into;
+  cycles : AreFor l.into.lg_size l.into.places l.searches;
+}

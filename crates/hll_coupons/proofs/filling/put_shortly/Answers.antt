@@ -1,0 +1,19 @@
+use Rattle.std.proofs.Common.{ℕ, ap}
+use Rattle.hll_coupons.specs.Keys.{key_of}
+use Rattle.hll_coupons.specs.Probe.{EndsAt, placed}
+use Rattle.hll_coupons.specs.Table.{Table}
+use Rattle.hll_coupons.proofs.Putting.{absent_fresh, empty_end, ends_as}
+use Rattle.hll_coupons.proofs.TableLemmas.{full_of_valued}
+use Rattle.hll_coupons.proofs.filling.put_shortly.Goals as goal
+
+pub put-requires-clause-fresh : goal.put-requires-clause-fresh
+put-requires-clause-fresh g c = absent_fresh (key_of c.args.by) c.args.table.now.places c.args.entry (full_of_valued c.args.entry c.requires.valued) c.requires.absent
+
+pub returns-clause-places : goal.returns-clause-places
+returns-clause-places g c =
+    let t : Table = c.args.table.now in
+    let key : ℕ = key_of c.args.by c.args.entry in
+    let ends : EndsAt (key_of c.args.by) t.lg_size t.places key c.in-Some.place =
+    ends_as (key_of c.args.by) _ _ _ _ _ _ _ c.lg_size.ensures.size c.places-places.ensures.places c.of.ensures c.in-Some.ensures.found in
+    placed c.in-Some.place ends.first (empty_end (key_of c.args.by) t.lg_size t.places key c.in-Some.place c.places-places.ensures.table.size c.requires.absent ends)
+    (ap (λ (t : Table). t.places) c.put.ensures.places)
