@@ -57,8 +57,11 @@ impl<A: Allocator + Clone> HashSet<A> {
         requires { len (union (coupons_of self.old) (coupons_of others.now)) ≤ 2 ^ self.old.lg_size }
         ensures size { self.new.lg_size ≡ self.old.lg_size }
         ensures members { coupons_of self.new ≡ union (coupons_of self.old) (coupons_of others.now) }
+        ensures set { IsHashSet self.new }
     {
         others.table_is_legal();
+        // (brings the invariant of a set)
+        let _container = self.container();
         for coupon in others.iter() {
             match self.insert_shortly(coupon) {
                 Some(_) => {}

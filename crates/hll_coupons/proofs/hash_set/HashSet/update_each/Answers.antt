@@ -8,13 +8,14 @@ use Rattle.hll_coupons.proofs.Yielded.{given}
 use Rattle.hll_coupons.proofs.hash_set.HashSet.update_each.Goals as goal
 
 pub loop-coupon-init : goal.loop-coupon-init
-loop-coupon-init g c = record { size = refl; members = sym (union_none (coupons_of c.args.self.now)) }
+loop-coupon-init g c = record { size = refl; members = sym (union_none (coupons_of c.args.self.now)); set = c.container-container.ensures.set }
 
 pub loop-coupon-preserved-in-Some-insert_shortly : goal.loop-coupon-preserved-in-Some-insert_shortly
 loop-coupon-preserved-in-Some-insert_shortly g c =
     let inv = c.loop-coupon.invariant in record {
       size = c.insert_shortly.ensures.size ∙ inv.size;
       members = members_more (coupons_of c.args.self.now) c.loop-coupon.yielded c.in-Some.coupon _ _ inv.members c.in-Some-insert_shortly.ensures.members;
+      set = c.insert_shortly.ensures.set;
     }
 
 pub update_by_order-requires : goal.update_by_order-requires
@@ -51,4 +52,5 @@ loop-coupon-preserved g c =
     let kept = c.update_by_order.ensures.unchanged c.if-update_by_order.false ∙ c.in-None-insert_shortly.ensures.unchanged in record {
       size = c.update.ensures.size ∙ c.update_by_order.ensures.size ∙ c.insert_shortly.ensures.size ∙ inv.size;
       members = members_more (coupons_of c.args.self.now) c.loop-coupon.yielded c.in-Some.coupon _ _ (ap coupons_of kept ∙ inv.members) c.update.ensures.members;
+      set = c.update.ensures.set;
     }
