@@ -11,6 +11,7 @@ pub mod FaultKinds
 pub mod Faults
 pub mod FirstFailing
 pub mod FirstFaults
+pub mod FoldedInPlace
 pub mod Folds
 pub mod FourBitImages
 pub mod FrontImages
@@ -21,6 +22,8 @@ pub mod Images
 pub mod InPlace
 pub mod Inserting
 pub mod Joined
+pub mod JoinedBytes
+pub mod JoinedUnions
 pub mod Keeping
 pub mod LegalImages
 pub mod LegalLayouts
