@@ -4,6 +4,9 @@
  * registers [SEQUENCES [small]]; small: no lg_k above 14. */
 #include "test.h"
 
+#include <stddef.h>
+#include <sys/uio.h>
+
 #define MOST_IMAGES 16
 
 /* Whether bytes have all this value. */
@@ -150,6 +153,14 @@ static void test_counts(void)
     }
     CHECK(are_all(registers, sizeof registers, 0) && told == 7 && size == 9, "an argument out of range changes nothing");
     free(image.at);
+}
+
+/* Parts are laid out as struct iovec. */
+static void test_layout(void)
+{
+    CHECK(sizeof(hll_bytes) == sizeof(struct iovec), "%d bytes", (int)sizeof(hll_bytes));
+    CHECK(offsetof(hll_bytes, bytes) == offsetof(struct iovec, iov_base), "bytes");
+    CHECK(offsetof(hll_bytes, len) == offsetof(struct iovec, iov_len), "len");
 }
 
 static void test_codes(void)
@@ -445,6 +456,7 @@ int main(int argc, char **argv)
 {
     unsigned long sequences = argc > 1 ? strtoul(argv[1], NULL, 10) : 2000;
     int small = argc > 2 || sequences < 2000;
+    test_layout();
     test_counts();
     test_codes();
     test_faulty();

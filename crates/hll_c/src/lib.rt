@@ -1,9 +1,10 @@
-//! The library for C: calls over images, which keep nothing. bindings/c/hll.h says what each call owes its caller, and
+//! The library for C: calls over images, and over registers of the caller, which keep nothing. bindings/c/hll.h says what each call owes its caller, and
 //! docs/MODEL.md, "Calls over images", what the contracts say.
 //!
-//! Each answers 0, the number of a reason (docs/FORMAT.md, "Reasons"), or 14 where a buffer is too small; then `size` is the
-//! size needed. On every code but 0 what was lent is as it was, but for that `size` and for `failed`, which is the number of
-//! the image that failed a check, from 0. An `lg_k` is 4 to 21, a width 4, 6 or 8 bits. Arguments out of range are
+//! Each answers 0, the number of a reason (docs/FORMAT.md, "Reasons"), 14 where a buffer is too small, or 15 where what is
+//! joined has fewer registers than the caller; then `size` is the size needed, and `fewer` the other `lg_k`. On every code
+//! but 0 what was lent is as it was, but for these two and for `failed`, which is the number of the image that failed a
+//! check, from 0. An `lg_k` is 4 to 21, a width 4, 6 or 8 bits. Arguments out of range are
 //! `Argument`, before any image is read. Memory is taken by `malloc` while a call runs, for the sketches of its images and
 //! for the answer; where it is refused the reason is `Memory`.
 #![tactic(auto)]
