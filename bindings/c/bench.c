@@ -18,6 +18,9 @@ static uint8_t image[2][HLL_IMAGE_MAX(LG_K)], out[HLL_IMAGE_MAX(LG_K)], *joined;
 static size_t len[2], ends[IMAGES], value_ends[VALUES], joined_len, size, failed;
 static uint8_t values[8 * VALUES], width;
 static uint32_t coupons[VALUES];
+static uint8_t registers[1 << LG_K];
+static hll_bytes parts[IMAGES];
+static volatile uint64_t bytes_sum;
 
 static void need(hll_status status)
 {
@@ -32,6 +35,39 @@ static void need(hll_status status)
 static void run_union(void)
 {
     need(hll_images_union(LG_K, width, joined, joined_len, ends, IMAGES, out, sizeof out, &size, &failed));
+}
+
+static void run_parts(void)
+{
+    need(hll_parts_union(LG_K, width, parts, IMAGES, out, sizeof out, &size, &failed));
+}
+
+/* Each image into registers of the caller, and their image at the end. */
+static void run_join(void)
+{
+    uint8_t lg_k;
+    size_t i;
+    memset(registers, 0, sizeof registers);
+    for (i = 0; i < IMAGES; i++)
+        need(hll_registers_join(registers, sizeof registers, parts[i].bytes, parts[i].len, &lg_k));
+    need(hll_registers_image(registers, sizeof registers, width, out, sizeof out, &size));
+}
+
+/* Each byte of all images, eight at a time. */
+static void run_bytes(void)
+{
+    uint64_t sum = 0, word;
+    size_t i;
+    for (i = 0; i + 8 <= joined_len; i += 8) {
+        memcpy(&word, joined + i, 8);
+        sum += word;
+    }
+    bytes_sum = sum;
+}
+
+static void run_add_registers(void)
+{
+    need(hll_registers_add(registers, sizeof registers, values, sizeof values, value_ends, VALUES));
 }
 
 static void run_merge(void)
@@ -103,8 +139,8 @@ static double timed(void (*call)(void), int rounds)
     return (now() - start) / rounds;
 }
 
-enum { UNION, MERGE, READ, READ_WRITE, ADD, ADD_NONE, HASH, ESTIMATE, CALLS };
-enum { OF_MERGE = CALLS, OF_ADD, OF_ADD_ALONE, ROWS };
+enum { UNION, PARTS, JOIN, BYTES, MERGE, READ, READ_WRITE, ADD, ADD_NONE, ADD_REGISTERS, HASH, ESTIMATE, CALLS };
+enum { OF_JOIN = CALLS, OF_PARTS, OF_MERGE, OF_ADD, OF_ADD_ALONE, OF_ADD_REGISTERS, ROWS };
 
 static const struct {
     const char *name;
@@ -112,16 +148,23 @@ static const struct {
     int rounds;
 } rows[ROWS] = {
     {"union of 1,000 images, each", run_union, 2},
+    {"union of 1,000 parts, each", run_parts, 2},
+    {"join into registers of the caller, each", run_join, 2},
+    {"each byte read once, an image", run_bytes, 2},
     {"merge of two", run_merge, 400},
     {"read (check)", run_read, 800},
     {"read and write (convert)", run_read_write, 400},
     {"add 1,000 values", run_add, 40},
     {"add none", run_add_none, 400},
+    {"add 1,000 values to registers of the caller", run_add_registers, 40},
     {"hash 1,000 values (coupons)", run_hash, 40},
     {"estimate", run_estimate, 100},
+    {"join / union", NULL, 0},
+    {"parts / each byte read once", NULL, 0},
     {"merge / (two reads and a write)", NULL, 0},
     {"add / hash", NULL, 0},
     {"(add - add none) / hash", NULL, 0},
+    {"add to registers of the caller / hash", NULL, 0},
 };
 
 /* Times all calls in each turn; the medians go into a column. */
@@ -132,10 +175,14 @@ static void time_calls(double *column)
     for (turn = 0; turn < TURNS; turn++) {
         for (row = 0; row < CALLS; row++)
             of[row][turn] = timed(rows[row].call, rows[row].rounds);
-        of[UNION][turn] /= IMAGES;
+        for (row = UNION; row <= BYTES; row++)
+            of[row][turn] /= IMAGES;
+        of[OF_JOIN][turn] = of[JOIN][turn] / of[UNION][turn];
+        of[OF_PARTS][turn] = of[PARTS][turn] / of[BYTES][turn];
         of[OF_MERGE][turn] = of[MERGE][turn] / (of[READ][turn] + of[READ_WRITE][turn]);
         of[OF_ADD][turn] = of[ADD][turn] / of[HASH][turn];
         of[OF_ADD_ALONE][turn] = (of[ADD][turn] - of[ADD_NONE][turn]) / of[HASH][turn];
+        of[OF_ADD_REGISTERS][turn] = of[ADD_REGISTERS][turn] / of[HASH][turn];
     }
     for (row = 0; row < ROWS; row++)
         column[row] = median(of[row]);
@@ -176,8 +223,11 @@ static void make_joined(void)
     joined = malloc(IMAGES * sizeof out);
     if (joined == NULL)
         need(HLL_MEMORY);
-    for (i = 0; i < IMAGES; i++)
-        ends[i] = joined_len += make_image(joined + joined_len, i * 20000, 20);
+    for (i = 0; i < IMAGES; i++) {
+        parts[i].bytes = joined + joined_len;
+        parts[i].len = make_image(joined + joined_len, i * 20000, 20);
+        ends[i] = joined_len += parts[i].len;
+    }
 }
 
 /* ---- small sets, as they are written here and elsewhere ---- */
@@ -239,8 +289,19 @@ static void run_sets(void)
     need(hll_images_union(LG_K, 8, joined, ends[sets_of_union - 1], ends, sets_of_union, out, sizeof out, &size, &failed));
 }
 
+/* The same into registers of the caller. */
+static void run_set_joins(void)
+{
+    uint8_t lg_k;
+    size_t i;
+    memset(registers, 0, sizeof registers);
+    for (i = 0; i < sets_of_union; i++)
+        need(hll_registers_join(registers, sizeof registers, joined + (i == 0 ? 0 : ends[i - 1]),
+                                ends[i] - (i == 0 ? 0 : ends[i - 1]), &lg_k));
+}
+
 /* The nanoseconds of each set in a union of registers and 999 sets, less what the registers take alone. */
-static double time_sets(int order)
+static double time_sets(void (*call)(void), int order)
 {
     static double of[TURNS];
     size_t i;
@@ -251,27 +312,31 @@ static double time_sets(int order)
     for (turn = 0; turn < TURNS; turn++) {
         double alone;
         sets_of_union = 1;
-        alone = timed(run_sets, 20);
+        alone = timed(call, 20);
         sets_of_union = IMAGES;
-        of[turn] = (timed(run_sets, 20) - alone) / (IMAGES - 1);
+        of[turn] = (timed(call, 20) - alone) / (IMAGES - 1);
     }
     return median(of);
 }
 
 static void print_sets(void)
 {
-    double ascending, in_places, updatable;
+    double united[ORDERS], into_registers[ORDERS];
+    int order;
     width = 8;
     joined = malloc(IMAGES * sizeof out);
     if (joined == NULL)
         need(HLL_MEMORY);
-    ascending = time_sets(ASCENDING);
-    in_places = time_sets(IN_PLACES);
-    updatable = time_sets(UPDATABLE);
+    for (order = 0; order < ORDERS; order++) {
+        united[order] = time_sets(run_sets, order);
+        into_registers[order] = time_sets(run_set_joins, order);
+    }
     free(joined);
-    printf("\n| union of sets of 20 into registers, each, in ns | ascending | in places | updatable |\n|---|---|---|---|\n");
-    printf("| | %.0f | %.0f | %.0f |\n", ascending, in_places, updatable);
-    printf("| of the ascending one | | %.2f | %.2f |\n", in_places / ascending, updatable / ascending);
+    printf("\n| sets of 20, each, in ns | ascending | in places | updatable |\n|---|---|---|---|\n");
+    printf("| union into registers | %.0f | %.0f | %.0f |\n", united[0], united[1], united[2]);
+    printf("| of the ascending one | | %.2f | %.2f |\n", united[1] / united[0], united[2] / united[0]);
+    printf("| join into registers of the caller | %.0f | %.0f | %.0f |\n", into_registers[0], into_registers[1],
+           into_registers[2]);
 }
 
 int main(void)

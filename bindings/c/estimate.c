@@ -234,3 +234,12 @@ hll_status hll_estimate(const uint8_t *image, size_t len, hll_estimation *estima
         *estimation = estimation_of_coupons(info.coupons);
     return status;
 }
+
+hll_status hll_registers_estimate(const uint8_t *registers, size_t count, hll_estimation *estimation)
+{
+    hll_histogram histogram;
+    hll_status status = hll_registers_histogram(registers, count, &histogram);
+    if (status == HLL_OK)
+        *estimation = estimation_of_counts(histogram.counts);
+    return status;
+}

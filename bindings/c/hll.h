@@ -3,7 +3,8 @@
  * HyperLogLog sketches as images: the bytes of a DataSketches HLL sketch, serial version 1.
  *
  * The calls keep nothing. Each takes images (or values) as bytes, and what it makes is an image again, which it puts
- * into the caller's buffer. So an image is the sketch: keep it in memory, in a file, in a column of a table.
+ * into the caller's buffer. So an image is the sketch: keep it in memory, in a file, in a column of a table. A program
+ * that adds or joins many, one at a time, keeps registers instead, 2^lg_k bytes of its own ("registers of the caller").
  *
  *     uint8_t empty[HLL_IMAGE_MAX(12)], image[HLL_IMAGE_MAX(12)];
  *     size_t empty_size, size, end = 5;
@@ -18,17 +19,18 @@
  *
  * An image is grown where its list or set has the table that its coupons need (a list up to seven, a set the least
  * table that they fill to at most three quarters), or where its registers have the out-of-order flag and words of 0.
- * New images are grown, and what calls make of grown images is too; only hll_image_set_estimator_words gives words to
- * registers. Images of other programs often aren't.
+ * New images are grown, and what calls make of grown images is too; only hll_image_set_estimator_words and
+ * hll_registers_image give words to registers. Images of other programs often aren't.
  *
  * Answers
  *     HLL_OK (0) where the call did what was asked. On every other status the output is as it was: the buffer, *info,
- *     *histogram, *same, *estimation, and *size but where the status is HLL_BUFFER.
+ *     *histogram, *same, *estimation, registers, and *size but where the status is HLL_BUFFER.
  *     HLL_TRUNCATED to HLL_REGISTER (1 to 11): an image is refused, for the first check that it fails.
  *     HLL_ARGUMENT: an argument is out of its range. This comes first, whatever the images are; only a fold above the
  *     lg_k of the image is found once that is read.
  *     HLL_MEMORY: malloc answered NULL. The same call can be made again.
  *     HLL_BUFFER: the buffer is too small; *size is the number of bytes that are needed.
+ *     HLL_FEWER: what is to be joined has fewer registers; *lg_k is that of what has them.
  *
  * Arguments
  *     lg_k, lg_max_k   4 to 21: the logarithm of the number of registers.
@@ -44,6 +46,8 @@
  *                      goes from ends[i - 1] (from 0 for the first) to ends[i]. Ends ascend. Two may be the same:
  *                      an empty string is a string like any other. Ends that descend, or go past the bytes, are
  *                      HLL_ARGUMENT. Bytes behind the last end are not looked at.
+ *     registers, count the caller's registers, a byte for each, and how many: 2^lg_k, 16 to 2^21. Any other count is
+ *                      HLL_ARGUMENT.
  *     failed           where images are refused (1 to 11), the number of the first one that is, from 0; else it is
  *                      left as it was.
  *
@@ -55,8 +59,8 @@
  *
  * What the caller owes, which no call can test
  *     - A pointer is not NULL, even where its length is 0, and leads to as many bytes (or elements) as its length says.
- *     - out, size, failed, info, histogram, same, coupons and estimation overlap nothing else that is passed. (Inputs
- *       may overlap one another: an image can be merged with itself.)
+ *     - out, size, failed, info, histogram, same, coupons, estimation, and registers that a call changes, with its lg_k,
+ *       overlap nothing else that is passed. (Inputs may overlap one another: an image can be merged with itself.)
  *     - No input changes while a call runs. An end that another thread writes meanwhile can lead past the bytes.
  *     - malloc, realloc and free belong to one allocator, and align to 16 bytes.
  *     - No call is made from a signal handler, or from a child that a process with threads forked: calls use malloc.
@@ -71,10 +75,11 @@
  *
  * What is proved
  *     Of the calls from hll_image_info to hll_coupons it is proved what they answer, write and leave as it was, for
- *     all inputs of a caller who keeps to the above; and of unions that order, repetition and grouping of grown images
- *     under one lg_max_k make no difference. Not proved is what is said of time, of threads, of other libraries, and of
- *     memory, but for which images may be refused for want of it. hll_estimate and what this header defines itself are
- *     plain C, tested and not proved.
+ *     all inputs of a caller who keeps to the above; of unions that order, repetition and grouping of grown images
+ *     under one lg_max_k make no difference; and that registers into which an image is joined, written as an image, are
+ *     the union of theirs with it. Not proved is what is said of time, of threads, of other libraries, and of memory,
+ *     but for which images may be refused for want of it. hll_estimate, hll_registers_estimate and what this header
+ *     defines itself are plain C, tested and not proved.
  */
 #ifndef HLL_H
 #define HLL_H
@@ -87,7 +92,7 @@ extern "C" {
 #endif
 
 #define HLL_VERSION_MAJOR 0
-#define HLL_VERSION_MINOR 1
+#define HLL_VERSION_MINOR 2
 #define HLL_VERSION_PATCH 0
 
 typedef uint8_t hll_status;
@@ -109,7 +114,8 @@ enum {
     /* The call is refused. */
     HLL_ARGUMENT = 12,      /* an argument is out of its range */
     HLL_MEMORY = 13,        /* malloc answered NULL */
-    HLL_BUFFER = 14         /* the buffer is too small; *size is the size needed */
+    HLL_BUFFER = 14,        /* the buffer is too small; *size is the size needed */
+    HLL_FEWER = 15          /* what is to be joined has fewer registers; *lg_k is its own */
 };
 
 /* The stage of a sketch. */
@@ -152,6 +158,12 @@ typedef struct hll_estimation {
     double lower[3];                    /* lower[d - 1] and upper[d - 1] are the bounds at d deviations */
     double upper[3];
 } hll_estimation;
+
+/* Bytes that lie anywhere; laid out as struct iovec. */
+typedef struct hll_bytes {
+    const uint8_t *bytes;
+    size_t len;
+} hll_bytes;
 
 /* ---- what an image says ---- */
 
@@ -209,6 +221,11 @@ hll_status hll_image_merge(uint8_t lg_max_k, uint8_t width, const uint8_t *left,
 hll_status hll_images_union(uint8_t lg_max_k, uint8_t width, const uint8_t *images, size_t images_len,
                             const size_t *ends, size_t n, uint8_t *out, size_t room, size_t *size, size_t *failed);
 
+/* As hll_images_union, of n images that lie anywhere, each in bytes of its own.
+ * Answers and takes memory as that. */
+hll_status hll_parts_union(uint8_t lg_max_k, uint8_t width, const hll_bytes *parts, size_t n, uint8_t *out,
+                           size_t room, size_t *size, size_t *failed);
+
 /* ---- one image from another ---- */
 
 /* The image at a smaller lg_k (or the same): what the sketch would be, had it been made with it.
@@ -235,6 +252,60 @@ hll_status hll_image_set_estimator_words(const uint8_t *image, size_t len, uint8
 hll_status hll_images_agree(const uint8_t *left, size_t left_len, const uint8_t *right, size_t right_len,
                             uint8_t *same, size_t *failed);
 
+/* ---- registers of the caller ----
+ *
+ * A byte for each of 2^lg_k registers, 0 at first: any memory of the caller's, which may be copied, sent and compared as
+ * bytes. There is nothing to make and nothing to free. Register s is the greatest value, 0 to 63, of the coupons whose
+ * slot is s modulo 2^lg_k; so what was added and joined gives the same bytes in every order, however often, and however
+ * it was grouped.
+ *
+ *     static uint8_t registers[1 << 12];
+ *     while (...)
+ *         hll_registers_join(registers, sizeof registers, image, len, &lg_k);
+ *     hll_registers_estimate(registers, sizeof registers, &found);
+ *
+ * hll_registers_add and the joins only raise bytes, and don't look whether those of the caller are registers; the other
+ * calls answer HLL_REGISTER where a byte is above 63.
+ */
+
+/* Adds n values, told by their ends, as hll_image_add does.
+ * Answers HLL_OK or HLL_ARGUMENT. Takes no memory. */
+hll_status hll_registers_add(uint8_t *registers, size_t count, const uint8_t *values, size_t values_len,
+                             const size_t *ends, size_t n);
+
+/* Adds n coupons, raw words as hll_coupons puts them. A word of value 0 is HLL_ARGUMENT.
+ * Answers HLL_OK or HLL_ARGUMENT. Takes no memory. */
+hll_status hll_registers_add_coupons(uint8_t *registers, size_t count, const uint32_t *coupons, size_t n);
+
+/* Joins an image of every stage, width and lg_k: each register becomes the greater of what it was and of the image's
+ * registers that fold to it. A list or a set has coupons alone, and is joined whatever its lg_k; so are registers that
+ * are all 0, which change nothing. Where the image has other registers, and fewer than the caller, the answer is
+ * HLL_FEWER, and *lg_k is the image's: fold to it, and join again. *lg_k is written on no other answer.
+ * Answers HLL_OK, 1 to 11, HLL_ARGUMENT, HLL_MEMORY or HLL_FEWER. Takes memory for the exceptions of registers of 4
+ * bits, and the memory of reading for coupons, but none where they are at most 128, or ascend in a compact image; none
+ * for registers of 6 and 8 bits. */
+hll_status hll_registers_join(uint8_t *registers, size_t count, const uint8_t *image, size_t len, uint8_t *lg_k);
+
+/* Joins as many other registers, or more, which are folded. Where the others are fewer, and not all 0, the answer is
+ * HLL_FEWER, and *lg_k is theirs. A byte of the others above 63 is HLL_REGISTER.
+ * Answers HLL_OK, HLL_REGISTER, HLL_ARGUMENT or HLL_FEWER. Takes no memory. */
+hll_status hll_registers_join_registers(uint8_t *registers, size_t count, const uint8_t *others, size_t others_count,
+                                        uint8_t *lg_k);
+
+/* Folds the registers to a smaller lg_k (or the same): they are the first 2^to bytes then, and those behind stay.
+ * Answers HLL_OK, HLL_REGISTER, or HLL_ARGUMENT (also where `to` is above their lg_k). Takes no memory. */
+hll_status hll_registers_fold(uint8_t *registers, size_t count, uint8_t to);
+
+/* Counts the registers of each value.
+ * Answers HLL_OK, HLL_REGISTER or HLL_ARGUMENT. Takes no memory. */
+hll_status hll_registers_histogram(const uint8_t *registers, size_t count, hll_histogram *histogram);
+
+/* The image of the registers at this width, with the words set from which a DataSketches library estimates.
+ * Answers HLL_OK, HLL_REGISTER, HLL_ARGUMENT, HLL_MEMORY or HLL_BUFFER. Takes count bytes, at 4 and 6 bits the packed
+ * form of the registers beside, and the image's. */
+hll_status hll_registers_image(const uint8_t *registers, size_t count, uint8_t width, uint8_t *out, size_t room,
+                               size_t *size);
+
 /* ---- coupons ---- */
 
 /* The coupon of a value: its raw word, from the MurmurHash3 (x64, 128 bits, seed 9001) of these bytes alone. No bytes
@@ -255,13 +326,18 @@ hll_status hll_coupons(const uint8_t *values, size_t values_len, const size_t *e
  * Answers HLL_OK, 1 to 11, or HLL_MEMORY. Takes the memory of hll_image_histogram. */
 hll_status hll_estimate(const uint8_t *image, size_t len, hll_estimation *estimation);
 
+/* The same of registers of the caller; not proved.
+ * Answers HLL_OK, HLL_REGISTER or HLL_ARGUMENT. Takes no memory. */
+hll_status hll_registers_estimate(const uint8_t *registers, size_t count, hll_estimation *estimation);
+
 /* The word of a status: "ok", "truncated", "family" and so on; "unknown" for a number that is none. */
 static inline const char *hll_reason(hll_status status)
 {
     static const char *const words[] = {"ok",       "truncated", "family",   "version",  "lgk",
                                         "width",    "stage",     "preamble", "lgarr",    "count",
-                                        "coupon",   "register",  "argument", "memory",   "buffer"};
-    return status <= HLL_BUFFER ? words[status] : "unknown";
+                                        "coupon",   "register",  "argument", "memory",   "buffer",
+                                        "fewer"};
+    return status <= HLL_FEWER ? words[status] : "unknown";
 }
 
 #ifdef __cplusplus

@@ -22,10 +22,10 @@ static const char *const faulty[] = {
 static void test_reasons(void)
 {
     static const char *const words[] = {"ok", "truncated", "family", "version", "lgk", "width", "stage", "preamble",
-                                        "lgarr", "count", "coupon", "register", "argument", "memory", "buffer"};
+                                        "lgarr", "count", "coupon", "register", "argument", "memory", "buffer", "fewer"};
     int status;
     for (status = 0; status < 256; status++)
-        CHECK(strcmp(hll_reason((hll_status)status), status < 15 ? words[status] : "unknown") == 0, "%d", status);
+        CHECK(strcmp(hll_reason((hll_status)status), status < 16 ? words[status] : "unknown") == 0, "%d", status);
 }
 
 /* Each call refuses each faulty image for its reason, and leaves its output as it was. */

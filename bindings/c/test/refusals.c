@@ -88,6 +88,27 @@ static hll_status call_joined(const uint8_t *image, size_t len, uint8_t *out, si
     return failed == 77 ? status : 200;
 }
 
+static hll_status call_parts(const uint8_t *image, size_t len, uint8_t *out, size_t room, size_t *size)
+{
+    const hll_bytes parts[] = {{other_image, sizeof other_image}, {image, len}, {image, len}};
+    size_t failed = 77;
+    hll_status status = hll_parts_union(12, 6, parts, 3, out, room, size, &failed);
+    return failed == 77 ? status : 200;
+}
+
+/* A join into registers of the caller, which a refusal leaves as they were, and their image. */
+static hll_status call_registers(const uint8_t *image, size_t len, uint8_t *out, size_t room, size_t *size)
+{
+    static uint8_t registers[1 << 12], zeros[sizeof registers];
+    uint8_t lg_k = 77;
+    hll_status status;
+    memset(registers, 0, sizeof registers);
+    status = hll_registers_join(registers, sizeof registers, image, len, &lg_k);
+    if (status != HLL_OK)
+        return lg_k == 77 && memcmp(registers, zeros, sizeof zeros) == 0 ? status : 200;
+    return hll_registers_image(registers, sizeof registers, 4, out, room, size);
+}
+
 /* Sixty new values, which make a set of a list, and registers of the largest set. */
 static hll_status call_grow(const uint8_t *image, size_t len, uint8_t *out, size_t room, size_t *size)
 {
@@ -166,6 +187,8 @@ static void test_image(bytes image)
         if (writers[i].call != call_union)
             refuse_each(writers[i].name, writers[i].call, image);
     refuse_each("union", call_joined, image);
+    refuse_each("union of parts", call_parts, image);
+    refuse_each("join into registers, and their image", call_registers, image);
     refuse_each("add of sixty values", call_grow, image);
     for (i = 0; i < TELLERS; i++) {
         long first = 0;

@@ -105,7 +105,7 @@ test_expected() {
 
 test_names() {
     declared >"$tests/declared"
-    expect 'fifteen calls are declared' test "$(wc -l <"$tests/declared")" -eq 15
+    expect 'twenty-four calls are declared' test "$(wc -l <"$tests/declared")" -eq 24
     shown -D --defined-only "$build/libhll.so" >"$tests/shown"
     expect 'names of the shared library' diff "$tests/declared" "$tests/shown"
     shown -g --defined-only "$build/libhll.a" >"$tests/shown"
@@ -123,7 +123,7 @@ compile() {
 }
 
 test_calls() {
-    for name in calls buffers estimates rows; do
+    for name in calls buffers estimates rows registers; do
         compile "$name" "$build/libhll.a"
     done
     compile threads "$build/libhll.a" -pthread
@@ -136,6 +136,7 @@ test_calls() {
     run threads "$tests/threads"
     run estimates "$tests/estimates"
     run rows "$tests/rows" "$rows"
+    run registers "$tests/registers"
 }
 
 test_memory() {
@@ -151,16 +152,18 @@ test_memory() {
     run 'refusals in valgrind' $clean "$tests/refusals"
     run 'estimates in valgrind' $clean "$tests/estimates"
     run 'rows in valgrind' $clean "$tests/rows" "$rows"
+    run 'registers in valgrind' $clean "$tests/registers" 20 small
 }
 
 # The tests and estimate.c, with checks of gcc for each access and each sum.
 test_sanitized() {
     flags='-fsanitize=address,undefined -fno-sanitize-recover=all -Dhll_estimate=sanitized_estimate'
+    flags="$flags -Dhll_registers_estimate=sanitized_registers_estimate"
     if ! echo 'int main(void) { return 0; }' | $CC $flags -x c -o "$tests/probe" - 2>/dev/null || ! "$tests/probe"; then
         skip 'sanitizers' "their library"
         return
     fi
-    for name in calls buffers estimates rows threads; do
+    for name in calls buffers estimates rows threads registers; do
         compile "$name-sanitized" $flags estimate.c "$build/libhll.a" -pthread
     done
     # What leaks is seen by valgrind and by the test of refusals; here it takes rights that not each machine gives.
@@ -171,6 +174,7 @@ test_sanitized() {
     run 'estimates, sanitized' "$tests/estimates-sanitized"
     run 'rows, sanitized' "$tests/rows-sanitized" "$rows"
     run 'threads, sanitized' "$tests/threads-sanitized"
+    run 'registers, sanitized' "$tests/registers-sanitized" 300
 }
 
 # ---- the example, and an installed library
@@ -188,6 +192,17 @@ try_example() {
     ! "$program" "$tests/out.hll" "$tests/one.hll" "$tests/none.hll" 2>"$tests/said" || return 1
     grep 'none.hll: family$' "$tests/said" || return 1
     ! "$program" 2>/dev/null
+}
+
+# The program of the README joins files that are named on its input, and names one that is no image.
+try_readme() {
+    awk '/^```c$/ { on = 1; text = ""; next } /^```$/ { if (on && text ~ /hll_registers_join/) printf "%s", text; on = 0 }
+        on { text = text $0 "\n" }' README.md >"$tests/readme.c"
+    $CC $strict -std=c99 -I. -o "$tests/readme" "$tests/readme.c" "$build/libhll.a" || return 1
+    printf '%s\n' "$tests/one.hll" "$tests/none.hll" "$tests/two.hll" "$tests/one.hll" | "$tests/readme" \
+        >"$tests/said" 2>"$tests/refused" || return 1
+    grep '^2 distinct values$' "$tests/said" && grep 'none.hll: family$' "$tests/refused" &&
+        [ "$(wc -l <"$tests/refused")" -eq 1 ]
 }
 
 # Makes a folder anew and builds the libraries there, of an archive of the crate hll_c.
@@ -227,12 +242,13 @@ test_other_compiler() {
     fi
     expect 'the archive by the other compiler' build_other
     expect 'the library by the other compiler' make_in "$tests/other" "$(cd ../../crates/hll_c/out && pwd)/libhll_c_rattle.a"
-    for name in calls buffers rows; do
+    for name in calls buffers rows registers; do
         compile "$name-other" "$tests/other/build/libhll.a"
     done
     run 'calls, other compiler' "$tests/calls-other"
     run 'buffers, other compiler' "$tests/buffers-other"
     run 'rows, other compiler' "$tests/rows-other" "$rows"
+    run 'registers, other compiler' "$tests/registers-other" 500
 }
 
 # Without the command rt, make ends with a line that says so and what to do: the first one where nothing is proved.
@@ -262,7 +278,7 @@ try_install() {
     place=$(pwd)/$tests/installed
     rm -rf "$place"
     make -s install DESTDIR="$place" PREFIX=/usr || return 1
-    for file in include/hll.h lib/libhll.a lib/libhll.so lib/libhll.so.0 lib/libhll.so.0.1.0 lib/pkgconfig/hll.pc; do
+    for file in include/hll.h lib/libhll.a lib/libhll.so lib/libhll.so.0 lib/libhll.so.0.2.0 lib/pkgconfig/hll.pc; do
         [ -f "$place/usr/$file" ] || { echo "$file is missing"; return 1; }
     done
     flags="-I$place/usr/include -L$place/usr/lib -lhll"
@@ -287,6 +303,7 @@ test_calls
 test_memory
 test_sanitized
 expect 'the example' try_example "$build/example"
+expect 'the program of the README' try_readme
 expect 'install and uninstall' try_install
 expect 'without rt' try_without_rt
 test_other_compiler

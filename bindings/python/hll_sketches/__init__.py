@@ -21,7 +21,7 @@ from .merging import merge_files
 from .sketch import Sketch, check
 from .union import Union, union_of
 
-__version__ = "0.1.0"
+__version__ = "0.2.0"
 
 __all__ = [
     "ArgumentError",

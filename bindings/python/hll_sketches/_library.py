@@ -149,7 +149,7 @@ def _places() -> List[str]:
 
 # ---- is it the right one?
 
-VERSION = 0, 1
+VERSION = 0, 2
 """The library is of this version, whatever its last number is. It tells none itself: what it
 answers of a known image is compared."""
 
@@ -170,7 +170,7 @@ def _filled(call: Call, kind: Type[_Structure]) -> _Structure:
 
 
 def _check_name(place: str) -> None:
-    """Refuses a library whose file is named as that of another version, as in libhll.so.0.2.0."""
+    """Refuses a library whose file is named as that of another version, as in libhll.so.0.3.0."""
     told = re.search(r"\.so\.(\d+)\.(\d+)\.\d+$", os.path.realpath(place))
     version = VERSION if told is None else (int(told[1]), int(told[2]))
     if version != VERSION:

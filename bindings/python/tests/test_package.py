@@ -228,19 +228,19 @@ class OtherLibrariesTest(CommandTest):
         self.assertIn("undefined symbol: hll_image_histogram", self.told_of(WITHOUT=1))
 
     def test_another_version(self):
-        for number in ("1.0", "0.2"):
+        for number in ("1.0", "0.1"):
             told = self.told_of(f"libhll.so.{number}.0")
-            self.assertEqual(told, f"it is of version {number}, and not 0.1")
-        told = self.told_of("libhll.so.0.1.7")
+            self.assertEqual(told, f"it is of version {number}, and not 0.2")
+        told = self.told_of("libhll.so.0.2.7")
         self.assertEqual(told, "its estimation is laid out in another way")
-        (self.folder / "libhll.so").symlink_to("libhll.so.0.2.0")
+        (self.folder / "libhll.so").symlink_to("libhll.so.0.1.0")
         done = subprocess.run(
             [sys.executable, "-m", "hll_sketches", "new", "a.hll"], cwd=self.folder,
             capture_output=True, env=plain_environment(
                 PYTHONPATH=str(common.PACKAGE), HLL_SKETCHES_LIBRARY="./libhll.so"),
         )
         self.assertEqual(done.returncode, 2)
-        self.assertIn(b"it is of version 0.2", done.stderr)
+        self.assertIn(b"it is of version 0.1", done.stderr)
 
 
 if __name__ == "__main__":

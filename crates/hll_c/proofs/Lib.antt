@@ -2,3 +2,5 @@ pub mod Answers
 pub mod Batches
 pub mod Counts
 pub mod Images
+pub mod JoinedValues
+pub mod Powers

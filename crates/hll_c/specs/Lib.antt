@@ -1,5 +1,6 @@
 pub mod Answers
 pub mod Batches
+pub mod ByteRegisters
 pub mod Calls
 pub mod Info
 pub mod Steps

@@ -23,7 +23,7 @@ use hll_sketch::{HllSketch, HllUnion, ascending_image_at, union_of_ascending_ima
 use std::alloc::Global;
 
 /// The width of a number of bits. `Argument` where it is not 4, 6 or 8.
-fn width_of(bits: u8) -> Result<HllType, Error>
+pub(crate) fn width_of(bits: u8) -> Result<HllType, Error>
     ensures ok { IfOk result (λ w. bits_of w ≡ bits) }
     ensures outside { IfErr result (λ e. (e ≡ reasons.Argument) × (IsWidth bits → ⊥)) }
 {
@@ -203,6 +203,34 @@ fn take_in_all(
     for (number, end) in ends.iter().enumerate() {
         take_in(union, &images[start..*end], number, failed)?;
         start = *end;
+    }
+    Ok(())
+}
+
+/// The union of images that lie anywhere.
+pub(crate) fn united_parts(
+    alloc: Global,
+    lg_max_k: u8,
+    width: u8,
+    parts: &[&[u8]],
+    failed: &mut usize,
+) -> Result<HllSketch, Error>
+    ensures ok { IfOk result (λ s. IsUnionOf lg_max_k width (map (λ part. part.now) parts.now) failed.old failed.new (sketch_of s)) }
+    ensures err { IfErr result (λ e. RefusesImages (AreUnionArguments lg_max_k width) (map (λ part. part.now) parts.now) failed.old failed.new e) }
+{
+    let width = width_of(width)?;
+    let mut union = HllUnion::new(alloc, lg_max_k)?;
+    take_in_parts(&mut union, parts, failed)?;
+    union.into_sketch(width)
+}
+
+/// Merges images that lie anywhere in turn into a union.
+fn take_in_parts(union: &mut HllUnion, parts: &[&[u8]], failed: &mut usize) -> Result<(), Error>
+    ensures ok { OnOk result (TakesInAll union.old union.new (map (λ part. part.now) parts.now) × (failed.new ≡ failed.old)) }
+    ensures err { IfErr result (λ e. FailsToTakeIn (map (λ part. part.now) parts.now) failed.old failed.new e) }
+{
+    for (number, part) in parts.iter().enumerate() {
+        take_in(union, part, number, failed)?;
     }
     Ok(())
 }

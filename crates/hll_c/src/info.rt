@@ -145,7 +145,7 @@ pub(crate) fn info_of(alloc: Global, image: &[u8]) -> Result<HllInfo, Error>
 }
 
 /// How many registers have each value from 0 to 63.
-fn counts_of(registers: &[u8]) -> [u64; 64]
+pub(crate) fn counts_of(registers: &[u8]) -> [u64; 64]
     requires { length registers.now < 2 ^ 64 }
     ensures { AreCountsOf registers.now result }
 {

@@ -1,20 +1,22 @@
-//! The library for C: calls over images, which keep nothing. bindings/c/hll.h says what each call owes its caller, and
+//! The library for C: calls over images, and over registers of the caller, which keep nothing. bindings/c/hll.h says what each call owes its caller, and
 //! docs/MODEL.md, "Calls over images", what the contracts say.
 //!
-//! Each answers 0, the number of a reason (docs/FORMAT.md, "Reasons"), or 14 where a buffer is too small; then `size` is the
-//! size needed. On every code but 0 what was lent is as it was, but for that `size` and for `failed`, which is the number of
-//! the image that failed a check, from 0. An `lg_k` is 4 to 21, a width 4, 6 or 8 bits. Arguments out of range are
+//! Each answers 0, the number of a reason (docs/FORMAT.md, "Reasons"), 14 where a buffer is too small, or 15 where what is
+//! joined has fewer registers than the caller; then `size` is the size needed, and `fewer` the other `lg_k`. On every code
+//! but 0 what was lent is as it was, but for these two and for `failed`, which is the number of the image that failed a
+//! check, from 0. An `lg_k` is 4 to 21, a width 4, 6 or 8 bits. Arguments out of range are
 //! `Argument`, before any image is read. Memory is taken by `malloc` while a call runs, for the sketches of its images and
 //! for the answer; where it is refused the reason is `Memory`.
 #![tactic(auto)]
 
-ghost use Rattle.std.specs.Prelude.{◌≡◌, ◌∷◌, [], ℕ, length};
+ghost use Rattle.std.specs.Prelude.{◌≡◌, ◌∷◌, [], ℕ, length, map};
 ghost use Rattle.hll_coupons.specs.Hashed.{coupon_of_bytes};
 ghost use Rattle.hll_sketch.specs.EstimatorWords.{SetsWords};
 ghost use Rattle.hll_sketch.specs.Image.{IsReadAs};
 ghost use Rattle.hll_sketch.specs.Value.{Sketch};
 ghost use Rattle.hll_c.specs.Answers.{Answers, Tells, Tests, RefusesArguments, RefusesImage, RefusesWith, RefusesImages};
 ghost use Rattle.hll_c.specs.Batches.{AreEnds, strings};
+ghost use Rattle.hll_c.specs.ByteRegisters.{JoinsImageInto, JoinsRegistersInto, AddsValues, AddsCoupons, FoldsInPlace, RefusesRegisters, SaysCounts, IsOfBytes, RefusesBytes};
 ghost use Rattle.hll_c.specs.Calls.{AreNewArguments, IsEmptyAt, IsMadeOf, IsFoldOf, RefusesFold, IsWidth, IsAtWidth, AreOfCoupon, HasCoupon, HasValues, AreUnionArguments, IsUnionOf, AreBatchArguments, IsUnionOfBatch, SaysAgreement, PutsCoupons};
 ghost use Rattle.hll_c.specs.Info.{SaysInfo, SaysHistogram};
 ghost use Rattle.hll_c.specs.declared.info.HllInfo.{HllInfo};
@@ -22,6 +24,7 @@ ghost use Rattle.hll_c.specs.declared.info.HllHistogram.{HllHistogram};
 
 mod answer;
 mod batch;
+mod byte_registers;
 mod image;
 mod info;
 #[cfg(test)]
@@ -169,6 +172,28 @@ pub extern "C" fn hll_images_union(
     )
 }
 
+/// The image of the union, under a bound of the `lg_k` and at a width, of images that lie anywhere; of none the empty sketch.
+///
+/// Answers as `hll_image_merge`. Takes memory for one sketch at a time, the union and the answer.
+#[unsafe(no_mangle)]
+pub extern "C" fn hll_parts_union(
+    alloc: Global,
+    lg_max_k: u8,
+    width: u8,
+    parts: &[&[u8]],
+    out: &mut [u8],
+    size: &mut usize,
+    failed: &mut usize,
+) -> u8
+    ensures { Answers (IsUnionOf lg_max_k width (map (λ part. part.now) parts.now) failed.old failed.new) (RefusesImages (AreUnionArguments lg_max_k width) (map (λ part. part.now) parts.now) failed.old failed.new) out.old out.new size.old size.new result }
+{
+    put_image(
+        image::united_parts(alloc, lg_max_k, width, parts, failed),
+        out,
+        size,
+    )
+}
+
 /// The image folded to an `lg_k` of 4 to its own (docs/MODEL.md, "Folding").
 ///
 /// Answers `Argument` for another, the reason of the first check that the image fails, or `Memory`. Takes memory for its
@@ -234,6 +259,98 @@ pub extern "C" fn hll_images_agree(
     ensures { Tells ℕ (SaysAgreement left.now right.now failed.old failed.new) (RefusesImages (Unit {0}) (left.now ∷ right.now ∷ []) failed.old failed.new) same.old same.new result }
 {
     tell(image::agree(alloc, left, right, failed), same)
+}
+
+/// Raises registers of the caller by the values that stand in `values` up to each of `ends`.
+///
+/// Answers `Argument` for ends that descend or go past the values, or a number of registers that is not 2^`lg_k`. Takes no
+/// memory.
+#[unsafe(no_mangle)]
+pub extern "C" fn hll_registers_add(registers: &mut [u8], values: &[u8], ends: &[usize]) -> u8
+    ensures { AddsValues values.now ends.now registers.old registers.new result }
+{
+    byte_registers::add(registers, values, ends)
+}
+
+/// Raises registers of the caller by coupons, raw words of which each has a value.
+///
+/// Answers `Argument` for a word without, or a number of registers that is not 2^`lg_k`. Takes no memory.
+#[unsafe(no_mangle)]
+pub extern "C" fn hll_registers_add_coupons(registers: &mut [u8], coupons: &[u32]) -> u8
+    ensures { AddsCoupons coupons.now registers.old registers.new result }
+{
+    byte_registers::add_coupons(registers, coupons)
+}
+
+/// Raises registers of the caller by those of an image of any stage and width, folded to their `lg_k`.
+///
+/// Answers 15 where the image has registers that are not all 0, and fewer of them; then `fewer` is its `lg_k`. Answers
+/// `Argument` for a number of registers that is not 2^`lg_k`, the reason of the first check that the image fails, or
+/// `Memory`. Takes memory for the exceptions of registers of four bits, and for a table of coupons, but not for coupons that
+/// are at most 128, or ascend in a compact image.
+#[unsafe(no_mangle)]
+pub extern "C" fn hll_registers_join(
+    alloc: Global,
+    registers: &mut [u8],
+    image: &[u8],
+    fewer: &mut u8,
+) -> u8
+    ensures { JoinsImageInto image.now registers.old registers.new fewer.old fewer.new result }
+{
+    byte_registers::join(alloc, registers, image, fewer)
+}
+
+/// Raises registers of the caller by as many others, or by what more of them fold to.
+///
+/// Answers 15 where the others are not all 0, and fewer; then `fewer` is their `lg_k`. Answers `Argument` for a number of
+/// registers or of others that is not 2^`lg_k`, or `Register` where one of the others is above 63. Takes no memory.
+#[unsafe(no_mangle)]
+pub extern "C" fn hll_registers_join_registers(
+    registers: &mut [u8],
+    others: &[u8],
+    fewer: &mut u8,
+) -> u8
+    ensures { JoinsRegistersInto others.now registers.old registers.new fewer.old fewer.new result }
+{
+    byte_registers::join_others(registers, others, fewer)
+}
+
+/// Folds registers of the caller to an `lg_k` of 4 to theirs, at the front of their bytes; the bytes behind stay.
+///
+/// Answers `Argument` for another, or a number of registers that is not 2^`lg_k`, or `Register` where one is above 63. Takes
+/// no memory.
+#[unsafe(no_mangle)]
+pub extern "C" fn hll_registers_fold(registers: &mut [u8], to: u8) -> u8
+    ensures { FoldsInPlace to registers.old registers.new result }
+{
+    byte_registers::fold(registers, to)
+}
+
+/// How many registers of the caller have each value from 0 to 63.
+///
+/// Answers `Argument` for a number of registers that is not 2^`lg_k`, or `Register` where one is above 63. Takes no memory.
+#[unsafe(no_mangle)]
+pub extern "C" fn hll_registers_histogram(registers: &[u8], histogram: &mut HllHistogram) -> u8
+    ensures { Tells HllHistogram (SaysCounts registers.now) (RefusesRegisters registers.now) histogram.old histogram.new result }
+{
+    tell(byte_registers::histogram(registers), histogram)
+}
+
+/// The image of registers of the caller at a width, with the words set from which a composite estimator computes.
+///
+/// Answers `Argument` for a width that is none or a number of registers that is not 2^`lg_k`, `Register` where one is above
+/// 63, or `Memory`. Takes memory for a copy of the registers, at four and six bits for their packed form, and for the answer.
+#[unsafe(no_mangle)]
+pub extern "C" fn hll_registers_image(
+    alloc: Global,
+    registers: &[u8],
+    width: u8,
+    out: &mut [u8],
+    size: &mut usize,
+) -> u8
+    ensures { Answers (IsOfBytes width registers.now) (RefusesBytes width registers.now) out.old out.new size.old size.new result }
+{
+    put_image(byte_registers::sketch(alloc, registers, width), out, size)
 }
 
 /// The coupon of a value: its raw word, value * 2^26 + slot (docs/FORMAT.md, "Coupons"). Takes no memory.

@@ -4,6 +4,8 @@ use crate::{
     hll_coupon, hll_coupons, hll_image_add, hll_image_add_coupon, hll_image_check,
     hll_image_convert, hll_image_fold, hll_image_histogram, hll_image_info, hll_image_merge,
     hll_image_new, hll_image_set_estimator_words, hll_images_agree, hll_images_union,
+    hll_parts_union, hll_registers_add, hll_registers_add_coupons, hll_registers_fold,
+    hll_registers_histogram, hll_registers_image, hll_registers_join, hll_registers_join_registers,
 };
 use std::test::Fail;
 
@@ -289,5 +291,112 @@ fn what_an_image_says(rt: HostRuntime) -> Result<(), Fail> {
     counts[25] = 1;
     counts[30] = 1;
     assert_eq!(rt; histogram.counts, counts);
+    Ok(())
+}
+
+/// Parts that lie apart are united as those of a batch, and an empty one is refused.
+#[test]
+fn united_parts(rt: HostRuntime) -> Result<(), Fail> {
+    let mut lent = Lent::new();
+    let mut failed = 5;
+    let parts = [LEFT, EMPTY, RIGHT];
+    let code = hll_parts_union(
+        rt.alloc(),
+        10,
+        8,
+        &parts,
+        &mut lent.out,
+        &mut lent.size,
+        &mut failed,
+    );
+    assert!(rt; lent.has(code, JOINED));
+    assert_eq!(rt; failed, 5);
+
+    let mut lent = Lent::new();
+    let parts: [&[u8]; 2] = [LEFT, b""];
+    let code = hll_parts_union(
+        rt.alloc(),
+        10,
+        8,
+        &parts,
+        &mut lent.out,
+        &mut lent.size,
+        &mut failed,
+    );
+    assert_eq!(rt; (code, failed), (1, 1));
+    assert!(rt; lent.is_kept());
+    Ok(())
+}
+
+/// Images are joined into registers, folded to as many, and the registers written are their union.
+#[test]
+fn joined_registers(rt: HostRuntime) -> Result<(), Fail> {
+    let mut registers = [0u8; 16];
+    let mut fewer = 9;
+    for image in [LEFT, RIGHT, EMPTY] {
+        let code = hll_registers_join(rt.alloc(), &mut registers, image, &mut fewer);
+        assert_eq!(rt; (code, fewer), (0, 9));
+    }
+    let mut lent = Lent::new();
+    let code = hll_registers_image(rt.alloc(), &registers, 8, &mut lent.out, &mut lent.size);
+    assert!(rt; lent.has(code, WITH_WORDS));
+
+    let before = registers;
+    let code = hll_registers_join(rt.alloc(), &mut registers, OF_ANOTHER_FAMILY, &mut fewer);
+    assert_eq!(rt; (code, fewer), (2, 9));
+    assert_eq!(rt; registers, before);
+    assert_eq!(rt;
+        hll_registers_join(rt.alloc(), &mut [0; 24], LEFT, &mut fewer),
+        12
+    );
+
+    let mut more = [0u8; 32];
+    let code = hll_registers_join(rt.alloc(), &mut more, LEFT, &mut fewer);
+    assert_eq!(rt; (code, fewer), (15, 4));
+    assert_eq!(rt; more, [0; 32]);
+    assert_eq!(rt;
+        hll_registers_join(rt.alloc(), &mut more, RIGHT, &mut fewer),
+        0
+    );
+    assert_eq!(rt; hll_registers_fold(&mut more, 4), 0);
+    assert_eq!(rt; (more[0], more[1], more[16], more[17]), (25, 30, 25, 30));
+    Ok(())
+}
+
+/// Values and coupons raise registers, which are counted, and joined into others.
+#[test]
+fn added_registers(rt: HostRuntime) -> Result<(), Fail> {
+    let coupon = hll_coupon(b"a value");
+    let (slot, value) = ((coupon % 16) as usize, (coupon >> 26) as u8);
+    let mut by_value = [0u8; 16];
+    let mut by_coupon = [0u8; 16];
+    assert_eq!(rt; hll_registers_add(&mut by_value, b"a value", &[7]), 0);
+    assert_eq!(rt; hll_registers_add_coupons(&mut by_coupon, &[coupon]), 0);
+    assert_eq!(rt; by_value, by_coupon);
+    assert_eq!(rt; by_value[slot], value);
+    assert_eq!(rt; hll_registers_add(&mut by_value, b"a", &[2]), 12);
+    assert_eq!(rt; hll_registers_add_coupons(&mut by_value, &[1 << 26, 5]), 12);
+    assert_eq!(rt; by_value, by_coupon);
+
+    let mut fewer = 9;
+    let mut others = [0u8; 32];
+    others[slot + 16] = value + 1;
+    let code = hll_registers_join_registers(&mut by_value, &others, &mut fewer);
+    assert_eq!(rt; (code, fewer, by_value[slot]), (0, 9, value + 1));
+    let code = hll_registers_join_registers(&mut others, &by_value, &mut fewer);
+    assert_eq!(rt; (code, fewer), (15, 4));
+
+    let mut histogram = HllHistogram { counts: [7; 64] };
+    assert_eq!(rt; hll_registers_histogram(&by_coupon, &mut histogram), 0);
+    assert_eq!(rt;
+        (histogram.counts[0], histogram.counts[value as usize]),
+        (15, 1)
+    );
+    by_coupon[3] = 64;
+    assert_eq!(rt; hll_registers_histogram(&by_coupon, &mut histogram), 11);
+    assert_eq!(rt; hll_registers_fold(&mut by_coupon, 4), 11);
+    assert_eq!(rt; hll_registers_fold(&mut by_value, 5), 12);
+    let code = hll_registers_join_registers(&mut by_value, &by_coupon, &mut fewer);
+    assert_eq!(rt; (code, fewer), (11, 4));
     Ok(())
 }

@@ -10,6 +10,7 @@ pub mod FaultKinds
 pub mod Faults
 pub mod FirstFailing
 pub mod FirstFaults
+pub mod FoldedInPlace
 pub mod Folds
 pub mod FourBitImages
 pub mod FrontImages
@@ -19,6 +20,8 @@ pub mod Headers
 pub mod Images
 pub mod InPlace
 pub mod Joined
+pub mod JoinedBytes
+pub mod JoinedUnions
 pub mod Keeping
 pub mod LegalImages
 pub mod LegalLayouts

@@ -10,6 +10,7 @@ pub mod Grown
 pub mod Header
 pub mod Image
 pub mod Joined
+pub mod ByteRegisters
 pub mod Laws
 pub mod Layout
 pub mod Meaning

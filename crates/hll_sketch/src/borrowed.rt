@@ -4,7 +4,9 @@ ghost use Rattle.std.specs.Prelude.{◌≡◌, ◌≢◌, ◌*◌, ◌^◌, ◌-
 ghost use Rattle.std.specs.FinSet.{contains};
 ghost use Rattle.std.specs.List.{list_any};
 ghost use Rattle.std.specs.List.Sorted.{IsStrictlyIncreasing};
+ghost use Rattle.hll_base.specs.Join.{join};
 ghost use Rattle.hll_coupons.specs.Coupons.{coupon_bytes, words, AreCoupons};
+ghost use Rattle.hll_coupons.specs.Fold.{fold_to};
 ghost use Rattle.hll_coupons.specs.Pair.{set_of};
 ghost use Rattle.hll_base.specs.declared.error.Reason.TheVariants.{Memory};
 ghost use Rattle.hll_sketch.specs.Borrowed.{AreMarked, AreEvidentlyCoupons};
@@ -16,6 +18,7 @@ ghost use Rattle.hll_sketch.specs.Image.{HasHeader, stage_bits, width_bits};
 ghost use Rattle.hll_sketch.specs.Laws.{add_in_turn};
 ghost use Rattle.hll_sketch.specs.Union.{sketch_of_registers};
 
+use crate::byte_registers::join_coupon;
 use crate::header::{HEADER_SIZE, Header, Stage};
 use hll_arrays::array4::read_nibbles;
 use hll_arrays::array6::read_groups;
@@ -162,6 +165,24 @@ impl<'a> Words<'a> {
         for _ in 0..self.count {
             if let Ok(word) = cursor.read_u32_le() {
                 array.update(Coupon::pack(word, (word >> SLOT_BITS) as u8));
+            }
+        }
+    }
+
+    /// Raises 2^`lg_k` bytes by these coupons in turn. Takes no memory.
+    pub(crate) fn join_into(&self, registers: &mut [u8], lg_k: u8)
+        requires most { lg_k ≤ 21 }
+        requires size { length registers.old ≡ 2 ^ lg_k }
+        ensures { registers.new ≡ join registers.old (fold_to (set_of (words self.now.count self.now.bytes.now)) lg_k) }
+    {
+        let mut cursor = SketchSlice::new(self.bytes);
+        for _ in 0..self.count {
+            if let Ok(word) = cursor.read_u32_le() {
+                join_coupon(
+                    registers,
+                    lg_k,
+                    Coupon::pack(word, (word >> SLOT_BITS) as u8),
+                );
             }
         }
     }

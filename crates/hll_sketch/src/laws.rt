@@ -2,6 +2,7 @@
 //! and merging" and "Images").
 ghost use Rattle.hll_sketch.specs.Laws.{AddOfAdd, AddEach, MergeOfEmpty, UnionLgK, AddIsLegal, MergeIsLegal, WrittenIsReadBack};
 ghost use Rattle.hll_sketch.specs.Layout.{OneStepSuffices};
+ghost use Rattle.hll_sketch.specs.ByteRegisters.{JoinIsUnion};
 ghost use Rattle.hll_sketch.specs.Joined.{MergeOfGrown, UnionOfSame, UnionOfUnion, JoinsOfSame, JoinOfJoin};
 ghost use Rattle.hll_sketch.specs.EstimatorWords.{WordsKeep, WordsTwice, SameRegistersSameBytes};
 ghost use Rattle.hll_sketch.specs.Folding.{FoldedIsLegal, FoldedIsGrown, FoldedHasSameFolds};
@@ -50,6 +51,14 @@ pub fn merging()
     ensures joins_of_same { JoinsOfSame }
     ensures join_of_join { JoinOfJoin }
     ensures merge_is_legal { MergeIsLegal }
+{}
+
+/// A law of registers that a caller keeps:
+///
+/// - `join_is_union`: registers that an image was joined into, written with their words set, are the union of a sketch of
+///   the registers with the image's.
+pub fn joining()
+    ensures join_is_union { JoinIsUnion }
 {}
 
 /// Laws of folding:

@@ -2,6 +2,7 @@
 #![tactic(auto)]
 
 mod borrowed;
+pub mod byte_registers;
 mod checking;
 pub mod coupon_images;
 mod folding;

@@ -1,8 +1,12 @@
 //! Coupons in the places of a table, as an updatable image has them, where 0 stands for an empty place. Where they are few,
 //! they are gathered as a compact image has them, and go on from there: no table is made.
-ghost use Rattle.std.specs.Prelude.{◌≡◌, ◌+◌, ◌*◌, ◌^◌, ◌<◌, ◌≤◌, ◌↔◌, ◌++◌, [], ◌∷◌, true, false, IsTrue, IfSome, IfNone, length};
+ghost use Rattle.std.specs.Prelude.{◌≡◌, ◌+◌, ◌*◌, ◌^◌, ◌<◌, ◌≤◌, ◌↔◌, ◌++◌, [], ◌∷◌, true, false, None, IsTrue, IfSome, IfNone, length};
+ghost use Rattle.hll_base.specs.Join.{join};
 ghost use Rattle.hll_coupons.specs.Coupons.{words};
+ghost use Rattle.hll_coupons.specs.Fold.{fold_to};
+ghost use Rattle.hll_coupons.specs.Pair.{set_of};
 ghost use Rattle.hll_coupons.specs.Table.{coupons_in};
+ghost use Rattle.hll_sketch.specs.ByteRegisters.{JoinsImage};
 ghost use Rattle.hll_sketch.specs.Header.{header_of};
 ghost use Rattle.hll_sketch.specs.Image.{HasHeader, IsReadAs};
 ghost use Rattle.hll_sketch.specs.Laws.{add_in_turn};
@@ -67,6 +71,29 @@ impl<'a> Places<'a> {
             count: self.filled,
         };
         gathered.raise(array);
+        true
+    }
+
+    /// Raises 2^`lg_k` bytes by the coupons in these places in turn, if they hold so many. Whether it did; else nothing has
+    /// changed. Takes no memory.
+    // (a caller that had the room among its own values would clear it at each call)
+    #[inline(never)]
+    fn join_into(&self, registers: &mut [u8], lg_k: u8) -> bool
+        requires most { lg_k ≤ 21 }
+        requires size { length registers.old ≡ 2 ^ lg_k }
+        ensures holds { IsTrue result ↔ HoldCoupons self.now.filled (words self.now.words.count self.now.words.bytes.now) }
+        ensures joined { result ≡ true → registers.new ≡ join registers.old (fold_to (set_of (coupons_in (words self.now.words.count self.now.words.bytes.now))) lg_k) }
+        ensures unchanged { result ≡ false → registers.new ≡ registers.old }
+    {
+        let mut room = [0; ROOM];
+        if !self.gather_coupons(&mut room) {
+            return false;
+        }
+        let gathered = Words {
+            bytes: &room,
+            count: self.filled,
+        };
+        gathered.join_into(registers, lg_k);
         true
     }
 
@@ -138,6 +165,23 @@ pub(crate) fn raise_by_updatable<A: Allocator>(array: &mut Array8<A>, bytes: &[u
 {
     match updatable_places(bytes) {
         Some(places) => places.raise(array),
+        None => false,
+    }
+}
+
+/// Raises 2^`lg_k` bytes by the coupons of an updatable image of a list or a set, if there are 1 to `FEW`. Whether it did;
+/// else nothing has changed. Takes no memory.
+// (a caller of it would clear its values for compact images too)
+#[inline(never)]
+pub(crate) fn join_updatable(registers: &mut [u8], lg_k: u8, bytes: &[u8]) -> bool
+    requires most { lg_k ≤ 21 }
+    requires size { length registers.old ≡ 2 ^ lg_k }
+    ensures joined { result ≡ true → JoinsImage lg_k bytes.now registers.old registers.new None }
+    ensures unchanged { result ≡ false → registers.new ≡ registers.old }
+    ensures other { result ≡ false → HasUpdatableCoupons bytes.now → ⊥ }
+{
+    match updatable_places(bytes) {
+        Some(places) => places.join_into(registers, lg_k),
         None => false,
     }
 }

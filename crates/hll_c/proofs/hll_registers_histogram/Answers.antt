@@ -1,0 +1,6 @@
+use Rattle.hll_c.specs.ByteRegisters.{RefusesRegisters, SaysCounts}
+use Rattle.hll_c.proofs.Answers.{tells_of}
+use Rattle.hll_c.proofs.hll_registers_histogram.Goals as goal
+
+pub returns : goal.returns
+returns c = tells_of (SaysCounts c.args.registers.now) (RefusesRegisters c.args.registers.now) c.histogram.result c.args.histogram.now c.tell.new.place c.tell.result c.histogram.ensures.ok c.histogram.ensures.err c.tell.ensures

@@ -1,0 +1,55 @@
+use Rattle.std.proofs.Common.{length, refl}
+use Rattle.std.proofs.lemmas.Result.{IfOk-weaker, IfErr-weaker}
+use Rattle.hll_base.proofs.Errors.{IfErr-passed}
+use Rattle.hll_sketch.specs.Layout.{sketch_of}
+use Rattle.hll_sketch.specs.Union.{gadget_of}
+use Rattle.hll_c.specs.Answers.{RefusesImages}
+use Rattle.hll_c.specs.Calls.{AreUnionArguments, IsUnionOf}
+use Rattle.hll_c.proofs.Batches.{united_all, is_union, refuses_batch}
+use Rattle.hll_c.proofs.Images.{asked_behind, refuses_arguments, refuses_more_memory}
+use Rattle.hll_c.proofs.JoinedValues.{bytes_of}
+use Rattle.hll_c.proofs.image.united_parts.Goals as goal
+
+pub returns-in_err-width-clause-err : goal.returns-in_err-width-clause-err
+returns-in_err-width-clause-err c =
+    let all = bytes_of c.args.parts.now in
+    let e = c.in_err-width in
+    let Are = AreUnionArguments c.args.lg_max_k c.args.width in
+    IfErr-passed (RefusesImages Are all c.args.failed.now c.args.failed.now) c.from_residual.result e.field-0.0 c.from_residual.ensures.1
+    (refuses_arguments Are all c.args.failed.now c.args.failed.now e.field-0.0 e.ensures.outside.0 (λ are. e.ensures.outside.1 are.width_is) refl)
+
+pub returns-in_err-union-clause-err : goal.returns-in_err-union-clause-err
+returns-in_err-union-clause-err c =
+    let all = bytes_of c.args.parts.now in
+    let e = c.in_err-union in
+    let Are = AreUnionArguments c.args.lg_max_k c.args.width in
+    IfErr-passed (RefusesImages Are all c.args.failed.now c.args.failed.now) c.from_residual-in_err-union.result e.field-0.0 c.from_residual-in_err-union.ensures.1
+    (refuses_arguments Are all c.args.failed.now c.args.failed.now e.field-0.0 e.ensures.err (λ are. e.ensures.outside are.lg_max_k_is) refl)
+
+pub returns-in_err-take_in_parts-clause-err : goal.returns-in_err-take_in_parts-clause-err
+returns-in_err-take_in_parts-clause-err c =
+    let all = bytes_of c.args.parts.now in
+    let e = c.in_err-take_in_parts in
+    let Are = AreUnionArguments c.args.lg_max_k c.args.width in
+    let are : Are = record { lg_max_k_is = c.in_ok-union.ensures.lg_k; width_is = record { width = c.in_ok-width.width; is = c.in_ok-width.ensures.ok } } in
+    IfErr-passed (RefusesImages Are all c.args.failed.now c.take_in_parts.new.failed) c.from_residual-in_err-take_in_parts.result e.field-0.0 c.from_residual-in_err-take_in_parts.ensures.1
+    (refuses_batch Are all c.args.failed.now c.take_in_parts.new.failed e.field-0.0 are e.ensures.err)
+
+pub returns-clause-ok : goal.returns-clause-ok
+returns-clause-ok c =
+    let all = bytes_of c.args.parts.now in
+    let are : AreUnionArguments c.args.lg_max_k c.args.width = record { lg_max_k_is = c.in_ok-union.ensures.lg_k; width_is = record { width = c.in_ok-width.width; is = c.in_ok-width.ensures.ok } } in
+    let taken = c.in_ok-take_in_parts.ensures.ok in
+    let united = united_all c.args.lg_max_k c.in_ok-union.union c.in_ok-union.ensures.ok.0 c.in_ok-union.ensures.ok.1 c.take_in_parts.new.union all taken.0 in
+    IfOk-weaker c.into_sketch.result _ (λ s. IsUnionOf c.args.lg_max_k c.args.width all c.args.failed.now c.take_in_parts.new.failed (sketch_of s))
+    (λ s is. is_union c.args.lg_max_k c.args.width all c.args.failed.now c.take_in_parts.new.failed (gadget_of c.take_in_parts.new.union) (sketch_of s) are united is taken.1)
+    c.into_sketch.ensures.ok
+
+pub returns-clause-err : goal.returns-clause-err
+returns-clause-err c =
+    let all = bytes_of c.args.parts.now in
+    let Are = AreUnionArguments c.args.lg_max_k c.args.width in
+    let are : Are = record { lg_max_k_is = c.in_ok-union.ensures.lg_k; width_is = record { width = c.in_ok-width.width; is = c.in_ok-width.ensures.ok } } in
+    IfErr-weaker c.into_sketch.result _ (RefusesImages Are all c.args.failed.now c.take_in_parts.new.failed)
+    (λ e memory. refuses_more_memory Are all c.args.failed.now c.take_in_parts.new.failed e (length all) memory are (asked_behind all c.in_ok-take_in_parts.ensures.ok.0.sketches c.in_ok-take_in_parts.ensures.ok.0.read) c.in_ok-take_in_parts.ensures.ok.1)
+    c.into_sketch.ensures.err

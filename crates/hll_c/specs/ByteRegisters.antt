@@ -1,0 +1,124 @@
+-- What the calls do with registers that a caller keeps as bytes (docs/MODEL.md, "Registers of the caller").
+use Rattle.std.specs.Prelude.{◌≡◌, ℕ, ◌^◌, ◌≤◌, List, ◌++◌, length, drop, map, Some, None, All}
+use Rattle.hll_base.specs.Join.{join}
+use Rattle.hll_base.specs.Reason.{number_of}
+use Rattle.hll_base.specs.declared.error.Reason.{Reason}
+use Rattle.hll_base.specs.declared.error.Reason.TheVariants.{Argument, Memory, Register}
+use Rattle.hll_coupons.specs.Fold.{fold_to, pairs}
+use Rattle.hll_coupons.specs.Hashed.{coupon_of_bytes}
+use Rattle.hll_coupons.specs.Pair.{set_of}
+use Rattle.hll_kernels.specs.Packed.{AreRegisters}
+use Rattle.hll_registers.specs.State.{cleared_state}
+use Rattle.hll_base.specs.declared.hll_type.HllType.TheVariants.{Hll8}
+use Rattle.hll_sketch.specs.ByteRegisters.{JoinsImage, JoinsSketch, JoinNeedsMemory, IsOfWords}
+use Rattle.hll_sketch.specs.Value.{Sketch, IsLgK, registers}
+use Rattle.hll_c.specs.Answers.{RefusesWith, ok_code}
+use Rattle.hll_c.specs.Batches.{AreEnds, strings}
+use Rattle.hll_c.specs.Calls.{IsWidth}
+use Rattle.hll_c.specs.Info.{AreCountsOf}
+use Rattle.hll_c.specs.declared.info.HllHistogram.{HllHistogram}
+
+-- the code of a call whose other registers are fewer
+abbrev pub fewer_code : ℕ
+fewer_code = 15
+
+-- a byte for each of 2^k registers
+pub record IsLgKOf (R : List ℕ) (k : ℕ) : Type 0 where
+  pub is : IsLgK k
+  pub size : length R ≡ 2 ^ k
+
+-- there are as many bytes as registers of an lg_k
+pub record HasLgK (R : List ℕ) : Type 0 where
+  pub lg_k : ℕ
+  pub of : IsLgKOf R lg_k
+
+-- ---- joins
+
+-- The registers become the join of what they were with those that the image folds to; or the image has fewer, not all 0, and its lg_k
+-- is told; or it is refused. But in the first case nothing of them changes.
+pub data JoinsImageInto (image old new : List ℕ) (told_old told_new : ℕ) : ℕ → Type 0 where
+  joined : {k : ℕ} → IsLgKOf old k → JoinsImage k image old new None → told_new ≡ told_old → JoinsImageInto image old new told_old told_new ok_code
+  fewer : {k e : ℕ} → IsLgKOf old k → JoinsImage k image old new (Some e) → told_new ≡ e → JoinsImageInto image old new told_old told_new fewer_code
+  refused : {r : Reason} → RefusesWith (HasLgK old) image r → (r ≡ Memory → JoinNeedsMemory image) → new ≡ old → told_new ≡ told_old
+      → JoinsImageInto image old new told_old told_new (number_of r)
+
+-- registers of eight bits, as a sketch
+abbrev pub sketch_of_bytes : ℕ → List ℕ → Sketch
+sketch_of_bytes l Q = record { lg_k = l; width = Hll8; content = registers Q cleared_state }
+
+-- The same of other registers in place of an image.
+pub data JoinsRegistersInto (others old new : List ℕ) (told_old told_new : ℕ) : ℕ → Type 0 where
+  joined_registers : {k l : ℕ} → IsLgKOf old k → IsLgKOf others l → AreRegisters l others → JoinsSketch k (sketch_of_bytes l others) old new None → told_new ≡ told_old
+      → JoinsRegistersInto others old new told_old told_new ok_code
+  fewer_registers : {k l e : ℕ} → IsLgKOf old k → IsLgKOf others l → AreRegisters l others → JoinsSketch k (sketch_of_bytes l others) old new (Some e) → told_new ≡ e
+      → JoinsRegistersInto others old new told_old told_new fewer_code
+  others_above : {l : ℕ} → HasLgK old → IsLgKOf others l → (AreRegisters l others → ⊥) → new ≡ old → told_new ≡ told_old → JoinsRegistersInto others old new told_old told_new (number_of Register)
+  others_argument : (HasLgK old × HasLgK others → ⊥) → new ≡ old → told_new ≡ told_old → JoinsRegistersInto others old new told_old told_new (number_of Argument)
+
+-- ---- coupons
+
+-- registers, and ends of byte strings
+pub record AreAddArguments (values ends old : List ℕ) : Type 0 where
+  pub kept : HasLgK old
+  pub are : AreEnds (length values) ends
+
+-- the registers become the join of what they were with those that the coupons of byte strings fold to; or an argument is out of range
+pub data AddsValues (values ends old new : List ℕ) : ℕ → Type 0 where
+  added : {k : ℕ} → IsLgKOf old k → AreEnds (length values) ends → new ≡ join old (fold_to (set_of (map coupon_of_bytes (strings values ends))) k) → AddsValues values ends old new ok_code
+  values_argument : (AreAddArguments values ends old → ⊥) → new ≡ old → AddsValues values ends old new (number_of Argument)
+
+-- raw words of which each has a value
+abbrev pub HaveValues : List ℕ → Type 0
+HaveValues coupons = All (λ word. 2 ^ 26 ≤ word) coupons
+
+-- the same of coupons
+pub data AddsCoupons (coupons old new : List ℕ) : ℕ → Type 0 where
+  added_coupons : {k : ℕ} → IsLgKOf old k → HaveValues coupons → new ≡ join old (fold_to (set_of coupons) k) → AddsCoupons coupons old new ok_code
+  coupons_argument : (HasLgK old × HaveValues coupons → ⊥) → new ≡ old → AddsCoupons coupons old new (number_of Argument)
+
+-- ---- folds
+
+-- registers, and an lg_k from 4 to theirs
+pub record AreFoldArguments (to : ℕ) (old : List ℕ) : Type 0 where
+  pub kept : HasLgK old
+  pub to_is : IsLgK to
+  pub within : to ≤ kept.lg_k
+
+-- the registers fold at the front of their bytes, and the bytes behind stay; or an argument is out of range, or a byte is above 63
+pub data FoldsInPlace (to : ℕ) (old new : List ℕ) : ℕ → Type 0 where
+  folded : {k : ℕ} → IsLgKOf old k → IsLgK to → to ≤ k → AreRegisters k old → new ≡ fold_to (pairs old) to ++ drop (2 ^ to) old → FoldsInPlace to old new ok_code
+  fold_argument : (AreFoldArguments to old → ⊥) → new ≡ old → FoldsInPlace to old new (number_of Argument)
+  fold_register : {k : ℕ} → IsLgKOf old k → IsLgK to → to ≤ k → (AreRegisters k old → ⊥) → new ≡ old → FoldsInPlace to old new (number_of Register)
+
+-- ---- what registers say
+
+-- why registers are refused: there are not as many as of an lg_k, or one is above 63
+pub data RefusesRegisters (R : List ℕ) : Reason → Type 0 where
+  no_lg_k : (HasLgK R → ⊥) → RefusesRegisters R Argument
+  above_63 : {k : ℕ} → IsLgKOf R k → (AreRegisters k R → ⊥) → RefusesRegisters R Register
+
+-- how many registers have each value
+pub record SaysCounts (R : List ℕ) (h : HllHistogram) : Type 0 where
+  pub lg_k : ℕ
+  pub of : IsLgKOf R lg_k
+  pub are : AreRegisters lg_k R
+  pub says : AreCountsOf R h.counts
+
+-- ---- the image of registers
+
+pub record AreImageArguments (bits : ℕ) (R : List ℕ) : Type 0 where
+  pub kept : HasLgK R
+  pub width_is : IsWidth bits
+
+-- a sketch of the registers, with the words from which a composite estimator computes
+pub record IsOfBytes (bits : ℕ) (R : List ℕ) (y : Sketch) : Type 0 where
+  pub lg_k : ℕ
+  pub of : IsLgKOf R lg_k
+  pub width_is : IsWidth bits
+  pub are : AreRegisters lg_k R
+  pub is : IsOfWords lg_k width_is.width R y
+
+pub data RefusesBytes (bits : ℕ) (R : List ℕ) : Reason → Type 0 where
+  bytes_argument : (AreImageArguments bits R → ⊥) → RefusesBytes bits R Argument
+  bytes_register : {k : ℕ} → IsLgKOf R k → IsWidth bits → (AreRegisters k R → ⊥) → RefusesBytes bits R Register
+  bytes_memory : {k : ℕ} → IsLgKOf R k → IsWidth bits → AreRegisters k R → RefusesBytes bits R Memory

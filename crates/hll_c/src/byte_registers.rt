@@ -1,0 +1,211 @@
+//! Registers that the caller keeps: 2^`lg_k` bytes, one for each register.
+ghost use Rattle.std.specs.Prelude.{◌≡◌, ◌^◌, ◌≤◌, ◌↔◌, length, map, IsTrue, IfOk, IfErr};
+ghost use Rattle.hll_base.specs.declared.error.Reason.TheVariants as reasons;
+ghost use Rattle.hll_base.specs.Join.{join};
+ghost use Rattle.hll_coupons.specs.Fold.{fold_to};
+ghost use Rattle.hll_coupons.specs.Hashed.{coupon_of_bytes};
+ghost use Rattle.hll_coupons.specs.Pair.{set_of};
+ghost use Rattle.hll_kernels.specs.Packed.{AreRegisters};
+ghost use Rattle.hll_sketch.specs.Layout.{sketch_of};
+ghost use Rattle.hll_c.specs.Batches.{AreEnds, strings};
+ghost use Rattle.hll_c.specs.ByteRegisters.{HasLgK, IsLgKOf, HaveValues, JoinsImageInto, JoinsRegistersInto, AddsValues, AddsCoupons, FoldsInPlace, RefusesRegisters, SaysCounts, IsOfBytes, RefusesBytes};
+
+use crate::answer::OK;
+use crate::batch::are_ends;
+use crate::image::width_of;
+use crate::info::{HllHistogram, counts_of};
+use hll_arrays::kernels::greatest_of;
+use hll_arrays::registers::two_to;
+use hll_base::bounds::{MAX_LG_K, MAX_VALUE, MIN_LG_K, SLOT_BITS};
+use hll_base::error::{Error, Reason};
+use hll_coupons::coupon::Coupon;
+use hll_registers::register_slice::RegisterSlice;
+use hll_sketch::HllSketch;
+use hll_sketch::byte_registers::{
+    fold_in_place, join_coupon, join_image, join_registers, sketch_in_registers,
+};
+use std::alloc::Global;
+
+/// The other registers are fewer.
+const FEWER: u8 = 15;
+
+/// The `lg_k` of which there is a byte for each register. `Argument` where there is none.
+fn lg_k_of(registers: &[u8]) -> Result<u8, Error>
+    ensures ok { IfOk result (IsLgKOf registers.now) }
+    ensures err { IfErr result (λ e. (e ≡ reasons.Argument) × (HasLgK registers.now → ⊥)) }
+{
+    let count = registers.len();
+    if count < two_to(MIN_LG_K) || two_to(MAX_LG_K) < count {
+        return Err(Error::new(Reason::Argument));
+    }
+    let lg_k = (usize::BITS - 1 - count.leading_zeros()) as u8;
+    if two_to(lg_k) != count {
+        return Err(Error::new(Reason::Argument));
+    }
+    Ok(lg_k)
+}
+
+/// Whether each is at most 63.
+fn are_small(registers: &[u8], lg_k: u8) -> bool
+    requires { IsLgKOf registers.now lg_k }
+    ensures { IsTrue result ↔ AreRegisters lg_k registers.now }
+{
+    greatest_of(registers) <= MAX_VALUE
+}
+
+/// The `lg_k` of registers that are at most 63. `Argument` where there are not as many as of an `lg_k`, else `Register`.
+fn checked_lg_k(registers: &[u8]) -> Result<u8, Error>
+    ensures ok { IfOk result (λ k. IsLgKOf registers.now k × AreRegisters k registers.now) }
+    ensures err { IfErr result (RefusesRegisters registers.now) }
+{
+    let lg_k = lg_k_of(registers)?;
+    if !are_small(registers, lg_k) {
+        return Err(Error::new(Reason::Register));
+    }
+    Ok(lg_k)
+}
+
+/// Joins the registers of an image into those of the caller.
+pub(crate) fn join(alloc: Global, registers: &mut [u8], image: &[u8], fewer: &mut u8) -> u8
+    ensures { JoinsImageInto image.now registers.old registers.new fewer.old fewer.new result }
+{
+    let Ok(lg_k) = lg_k_of(registers) else {
+        return Reason::Argument.number();
+    };
+    match join_image(alloc, registers, lg_k, image) {
+        Ok(None) => OK,
+        Ok(Some(of_image)) => {
+            *fewer = of_image;
+            FEWER
+        }
+        Err(e) => e.reason().number(),
+    }
+}
+
+/// Joins other registers into those of the caller.
+pub(crate) fn join_others(registers: &mut [u8], others: &[u8], fewer: &mut u8) -> u8
+    ensures { JoinsRegistersInto others.now registers.old registers.new fewer.old fewer.new result }
+{
+    let Ok(lg_k) = lg_k_of(registers) else {
+        return Reason::Argument.number();
+    };
+    let Ok(others_lg_k) = lg_k_of(others) else {
+        return Reason::Argument.number();
+    };
+    if !are_small(others, others_lg_k) {
+        return Reason::Register.number();
+    }
+    let source = RegisterSlice::new(others_lg_k, others);
+    match join_registers(registers, lg_k, &source, source.are_all_zero()) {
+        None => OK,
+        Some(of_others) => {
+            *fewer = of_others;
+            FEWER
+        }
+    }
+}
+
+/// Joins the coupons of byte strings into registers of the caller.
+pub(crate) fn add(registers: &mut [u8], values: &[u8], ends: &[usize]) -> u8
+    ensures { AddsValues values.now ends.now registers.old registers.new result }
+{
+    let Ok(lg_k) = lg_k_of(registers) else {
+        return Reason::Argument.number();
+    };
+    if !are_ends(ends, values.len()) {
+        return Reason::Argument.number();
+    }
+    join_values(registers, lg_k, values, ends);
+    OK
+}
+
+/// The same, of ends that ascend.
+fn join_values(registers: &mut [u8], lg_k: u8, values: &[u8], ends: &[usize])
+    requires lg_k { IsLgKOf registers.old lg_k }
+    requires ends { AreEnds (length values.now) ends.now }
+    ensures { registers.new ≡ join registers.old (fold_to (set_of (map coupon_of_bytes (strings values.now ends.now))) lg_k) }
+{
+    let mut start = 0;
+    for end in ends {
+        join_coupon(registers, lg_k, Coupon::from_bytes(&values[start..*end]));
+        start = *end;
+    }
+}
+
+/// Joins coupons into registers of the caller.
+pub(crate) fn add_coupons(registers: &mut [u8], coupons: &[u32]) -> u8
+    ensures { AddsCoupons coupons.now registers.old registers.new result }
+{
+    let Ok(lg_k) = lg_k_of(registers) else {
+        return Reason::Argument.number();
+    };
+    if !have_values(coupons) {
+        return Reason::Argument.number();
+    }
+    join_coupons(registers, lg_k, coupons);
+    OK
+}
+
+/// Whether each coupon has a value.
+fn have_values(coupons: &[u32]) -> bool
+    ensures { IsTrue result ↔ HaveValues coupons.now }
+{
+    for raw in coupons {
+        if *raw < 1 << SLOT_BITS {
+            return false;
+        }
+    }
+    true
+}
+
+/// Joins coupons, of which each has a value.
+fn join_coupons(registers: &mut [u8], lg_k: u8, coupons: &[u32])
+    requires { IsLgKOf registers.old lg_k }
+    ensures { registers.new ≡ join registers.old (fold_to (set_of coupons.now) lg_k) }
+{
+    for raw in coupons {
+        join_coupon(
+            registers,
+            lg_k,
+            Coupon::pack(*raw, (*raw >> SLOT_BITS) as u8),
+        );
+    }
+}
+
+/// Folds registers of the caller at the front of their bytes.
+pub(crate) fn fold(registers: &mut [u8], to: u8) -> u8
+    ensures { FoldsInPlace to registers.old registers.new result }
+{
+    let Ok(lg_k) = lg_k_of(registers) else {
+        return Reason::Argument.number();
+    };
+    if to < MIN_LG_K || lg_k < to {
+        return Reason::Argument.number();
+    }
+    if !are_small(registers, lg_k) {
+        return Reason::Register.number();
+    }
+    fold_in_place(registers, lg_k, to);
+    OK
+}
+
+/// How many registers of the caller have each value.
+pub(crate) fn histogram(registers: &[u8]) -> Result<HllHistogram, Error>
+    ensures ok { IfOk result (SaysCounts registers.now) }
+    ensures err { IfErr result (RefusesRegisters registers.now) }
+{
+    checked_lg_k(registers)?;
+    Ok(HllHistogram {
+        counts: counts_of(registers),
+    })
+}
+
+/// The sketch of registers of the caller.
+pub(crate) fn sketch(alloc: Global, registers: &[u8], width: u8) -> Result<HllSketch, Error>
+    ensures ok { IfOk result (λ s. IsOfBytes width registers.now (sketch_of s)) }
+    ensures err { IfErr result (RefusesBytes width registers.now) }
+{
+    let width = width_of(width)?;
+    let lg_k = checked_lg_k(registers)?;
+    sketch_in_registers(alloc, lg_k, width, registers)
+}

@@ -1,0 +1,102 @@
+-- Lemmas on registers that a caller keeps.
+use Rattle.std.proofs.Common.{◌≡◌, ℕ, ◌*◌, ◌^◌, ◌<◌, ◌≤◌, ◌==◌, nat_eq, true, false, ◌&&◌, not, Option, Some, None, List, [], ◌∷◌, ◌++◌, length, refl, sym, ap, ◌∙◌, arith}
+use Rattle.std.specs.FinSet.{len, empty_of_len, insert, union}
+use Rattle.std.specs.Option.{is_some}
+use Rattle.std.proofs.lemmas.Bool.{and_parts, eqb-true, true≢false}
+use Rattle.std.proofs.lemmas.List.{append-nil}
+use Rattle.std.specs.List.{list_all}
+use Rattle.hll_base.specs.Join.{join}
+use Rattle.hll_coupons.proofs.Members.{set_of-between}
+use Rattle.hll_sketch.specs.TakenIn.{IsOfCoupons, IsOfRegisters}
+use Rattle.hll_sketch.specs.ByteRegisters.{JoinsImage, JoinsSketch, joins, has_fewer}
+use Rattle.hll_sketch.proofs.Emptiness.{zeros-empty}
+use Rattle.hll_base.proofs.Joins.{join_assoc, join_comm}
+use Rattle.hll_coupons.specs.Fold.{fold_to, pairs}
+use Rattle.hll_coupons.specs.Pair.{Pairs, set_of}
+use Rattle.hll_coupons.proofs.Folds.{fold_to-union}
+use Rattle.hll_registers.specs.declared.estimate_state.EstimateState.{EstimateState}
+use Rattle.hll_registers.proofs.Folding.{folded, folded-none}
+use Rattle.hll_sketch.specs.Layout.{count_in}
+use Rattle.hll_sketch.specs.Value.{Sketch, Content, coupons, registers, in_registers, is_empty, pairs_of, pairs_in, has_nonzero_registers}
+use Rattle.hll_sketch.proofs.Inserting.{insert-union, set_of-nil}
+
+-- ---- joins
+
+pub joined-nil : (V : List ℕ) (e : ℕ) → length V ≡ 2 ^ e → V ≡ join V (fold_to (set_of []) e)
+joined-nil V e size =
+    let nothing : 0 * 2 ^ e ≡ 0 = omega arith in
+    folded-none V [] e size ∙ ap (λ m. join V (folded [] e m)) nothing
+
+-- where there are no pairs nothing changes
+pub joined-none : (V : List ℕ) (P : Pairs) (e : ℕ) → length V ≡ 2 ^ e → len P ≡ 0 → V ≡ join V (fold_to P e)
+joined-none V P e size none = joined-nil V e size ∙ ap (λ Q. join V (fold_to Q e)) (set_of-nil ∙ sym (empty_of_len P none))
+
+-- one coupon, and then others
+pub joined-more : (V W : List ℕ) (c : ℕ) (cs : List ℕ) (e : ℕ) → W ≡ join V (fold_to (set_of (c ∷ [])) e) → join W (fold_to (set_of cs) e) ≡ join V (fold_to (set_of (c ∷ cs)) e)
+joined-more V W c cs e is =
+    let one : List ℕ = fold_to (set_of (c ∷ [])) e in
+    let others : List ℕ = fold_to (set_of cs) e in
+    ap (λ X. join X others) is ∙ join_assoc V one others
+    ∙ ap (join V) (join_comm one others ∙ sym (fold_to-union (set_of cs) (set_of (c ∷ [])) e) ∙ ap (λ S. fold_to S e) (sym (insert-union (set_of cs) c)))
+
+-- ---- registers that are not all 0
+
+-- what is empty has none
+pub none_nonzero : (x : Sketch) → is_empty x ≡ true → has_nonzero_registers x ≡ true → ⊥
+none_nonzero x none some = true≢false (sym (and_parts (in_registers x.content) (not (is_empty x)) some).1 ∙ ap not none)
+
+-- nor have coupons
+pub coupons_nonzero : (x : Sketch) (S : Pairs) (size : ℕ) → x.content ≡ coupons S size → has_nonzero_registers x ≡ true → ⊥
+coupons_nonzero x S size is some = true≢false (sym (and_parts (in_registers x.content) (not (is_empty x)) some).0 ∙ ap in_registers is)
+
+pub registers_nonzero : (x : Sketch) → in_registers x.content ≡ true → is_empty x ≡ false → has_nonzero_registers x ≡ true
+registers_nonzero x inside some = λ i. inside i && not (some i)
+
+-- a content that counts no coupons is in registers, and no other
+pub no_count : (c : Content) → is_some (count_in c) ≡ false → in_registers c ≡ true
+no_count (coupons S size) is = absurd (true≢false is)
+no_count (registers R state) is = refl
+
+pub count_none : (c : Content) → in_registers c ≡ true → is_some (count_in c) ≡ false
+count_none (coupons S size) is = absurd (true≢false (sym is))
+count_none (registers R state) is = refl
+
+-- ---- what is joined
+
+-- some coupons, and then one
+pub joined_later : (V W : List ℕ) (cs : List ℕ) (c e : ℕ) → W ≡ join V (fold_to (set_of cs) e) → join W (fold_to (set_of (c ∷ [])) e) ≡ join V (fold_to (set_of (cs ++ c ∷ [])) e)
+joined_later V W cs c e is =
+    let one : List ℕ = fold_to (set_of (c ∷ [])) e in
+    let others : List ℕ = fold_to (set_of cs) e in
+    let more : set_of (cs ++ c ∷ []) ≡ union (set_of cs) (set_of (c ∷ [])) = set_of-between cs [] c ∙ ap (λ xs. insert (set_of xs) c) (append-nil cs) ∙ insert-union (set_of cs) c in
+    ap (λ X. join X one) is ∙ join_assoc V others one ∙ ap (join V) (sym (fold_to-union (set_of cs) (set_of (c ∷ [])) e) ∙ ap (λ S. fold_to S e) (sym more))
+
+-- the coupons of a sketch
+pub joined_table : (k : ℕ) (x : Sketch) (old new : List ℕ) (S : Pairs) (size : ℕ) → x.content ≡ coupons S size → new ≡ join old (fold_to S k) → JoinsSketch k x old new None
+joined_table k x old new S size holds is = joins (λ some. absurd (coupons_nonzero x S size holds some)) (is ∙ ap (λ P. join old (fold_to P k)) (sym (ap pairs_in holds)))
+
+-- the coupons of an image
+pub joined_coupons : (k : ℕ) (b old new order : List ℕ) → IsOfCoupons b order → new ≡ join old (fold_to (set_of order) k) → JoinsImage k b old new None
+joined_coupons k b old new order of is = record { sketch = of.sketch; read = of.read; is = joined_table k of.sketch old new (set_of order) of.size of.content is }
+
+-- registers that are all 0 change nothing
+pub joined_zeros : (k l : ℕ) (old R : List ℕ) → length old ≡ 2 ^ k → list_all (λ v. v == 0) R ≡ true → (y : Sketch) (s : EstimateState) → y.lg_k ≡ l → y.content ≡ registers R s → JoinsSketch k y old old None
+joined_zeros k l old R size zeros y s at is =
+    let none : is_empty y ≡ true = ap (λ c. nat_eq (len (pairs_in c)) 0) is ∙ sym (zeros-empty R) ∙ zeros in
+    joins (λ some. absurd (none_nonzero y none some)) (joined-none old (pairs_of y) k size (eqb-true _ 0 none))
+
+-- others, where there are fewer
+pub joined_fewer : (k l : ℕ) (old R : List ℕ) (e : ℕ) → l < k → e ≡ l → list_all (λ v. v == 0) R ≡ false → (y : Sketch) (s : EstimateState) → y.lg_k ≡ l → y.content ≡ registers R s →
+    JoinsSketch k y old old (Some e)
+joined_fewer k l old R e less told some y s at is =
+    let not_empty : is_empty y ≡ false = ap (λ c. nat_eq (len (pairs_in c)) 0) is ∙ sym (zeros-empty R) ∙ some in
+    has_fewer (registers_nonzero y (ap in_registers is) not_empty) (omega (arith, less, at)) (told ∙ sym at) refl
+
+-- and where there are as many or more
+pub joined_folds : (k l : ℕ) (old new R : List ℕ) → k ≤ l → new ≡ join old (fold_to (pairs R) k) → (y : Sketch) (s : EstimateState) → y.lg_k ≡ l → y.content ≡ registers R s → JoinsSketch k y old new None
+joined_folds k l old new R enough is y s at there = joins (λ some. omega (arith, enough, at)) (is ∙ ap (λ P. join old (fold_to P k)) (sym (ap pairs_in there)))
+
+-- the registers of an image
+pub joined_registers : (k : ℕ) (b old new : List ℕ) (answer : Option ℕ) (l : ℕ) (R : List ℕ) → IsOfRegisters b l R
+    → ((y : Sketch) (s : EstimateState) → y.lg_k ≡ l → y.content ≡ registers R s → JoinsSketch k y old new answer) → JoinsImage k b old new answer
+joined_registers k b old new answer l R of joined = record { sketch = of.sketch; read = of.read; is = joined of.sketch of.state of.lg_k of.content }
