@@ -18,7 +18,7 @@ use Rattle.hll_registers.specs.declared.estimate_state.EstimateState.{EstimateSt
 use Rattle.hll_registers.proofs.Folding.{folded, folded-none}
 use Rattle.hll_sketch.specs.Layout.{count_in}
 use Rattle.hll_sketch.specs.Value.{Sketch, Content, coupons, registers, in_registers, is_empty, pairs_of, pairs_in, has_nonzero_registers}
-use Rattle.hll_sketch.proofs.Inserting.{insert-union, set_of-nil}
+use Rattle.hll_coupons.proofs.Unions.{insert-union, set_of-nil}
 
 -- ---- joins
 
