@@ -1,7 +1,6 @@
 -- Lemmas on registers that a caller keeps.
 use Rattle.std.proofs.Common.{◌≡◌, ℕ, ◌*◌, ◌^◌, ◌<◌, ◌≤◌, ◌==◌, nat_eq, true, false, ◌&&◌, not, Option, Some, None, List, [], ◌∷◌, ◌++◌, length, refl, sym, ap, ◌∙◌, arith}
 use Rattle.std.specs.FinSet.{len, empty_of_len, insert, union}
-use Rattle.std.specs.Option.{is_some}
 use Rattle.std.proofs.lemmas.Bool.{and_parts, eqb-true, true≢false}
 use Rattle.std.proofs.lemmas.List.{append-nil}
 use Rattle.std.specs.List.{list_all}
@@ -16,8 +15,7 @@ use Rattle.hll_coupons.specs.Pair.{Pairs, set_of}
 use Rattle.hll_coupons.proofs.Folds.{fold_to-union}
 use Rattle.hll_registers.specs.declared.estimate_state.EstimateState.{EstimateState}
 use Rattle.hll_registers.proofs.Folding.{folded, folded-none}
-use Rattle.hll_sketch.specs.Layout.{count_in}
-use Rattle.hll_sketch.specs.Value.{Sketch, Content, coupons, registers, in_registers, is_empty, pairs_of, pairs_in, has_nonzero_registers}
+use Rattle.hll_sketch.specs.Value.{Sketch, coupons, registers, in_registers, is_empty, pairs_of, pairs_in, has_nonzero_registers}
 use Rattle.hll_coupons.proofs.Unions.{insert-union, set_of-nil}
 
 -- ---- joins
@@ -39,6 +37,14 @@ joined-more V W c cs e is =
     ap (λ X. join X others) is ∙ join_assoc V one others
     ∙ ap (join V) (join_comm one others ∙ sym (fold_to-union (set_of cs) (set_of (c ∷ [])) e) ∙ ap (λ S. fold_to S e) (sym (insert-union (set_of cs) c)))
 
+-- some coupons, and then one
+pub joined_later : (V W : List ℕ) (cs : List ℕ) (c e : ℕ) → W ≡ join V (fold_to (set_of cs) e) → join W (fold_to (set_of (c ∷ [])) e) ≡ join V (fold_to (set_of (cs ++ c ∷ [])) e)
+joined_later V W cs c e is =
+    let one : List ℕ = fold_to (set_of (c ∷ [])) e in
+    let others : List ℕ = fold_to (set_of cs) e in
+    let more : set_of (cs ++ c ∷ []) ≡ union (set_of cs) (set_of (c ∷ [])) = set_of-between cs [] c ∙ ap (λ xs. insert (set_of xs) c) (append-nil cs) ∙ insert-union (set_of cs) c in
+    ap (λ X. join X one) is ∙ join_assoc V others one ∙ ap (join V) (sym (fold_to-union (set_of cs) (set_of (c ∷ [])) e) ∙ ap (λ S. fold_to S e) (sym more))
+
 -- ---- registers that are not all 0
 
 -- what is empty has none
@@ -52,24 +58,7 @@ coupons_nonzero x S size is some = true≢false (sym (and_parts (in_registers x.
 pub registers_nonzero : (x : Sketch) → in_registers x.content ≡ true → is_empty x ≡ false → has_nonzero_registers x ≡ true
 registers_nonzero x inside some = λ i. inside i && not (some i)
 
--- a content that counts no coupons is in registers, and no other
-pub no_count : (c : Content) → is_some (count_in c) ≡ false → in_registers c ≡ true
-no_count (coupons S size) is = absurd (true≢false is)
-no_count (registers R state) is = refl
-
-pub count_none : (c : Content) → in_registers c ≡ true → is_some (count_in c) ≡ false
-count_none (coupons S size) is = absurd (true≢false (sym is))
-count_none (registers R state) is = refl
-
 -- ---- what is joined
-
--- some coupons, and then one
-pub joined_later : (V W : List ℕ) (cs : List ℕ) (c e : ℕ) → W ≡ join V (fold_to (set_of cs) e) → join W (fold_to (set_of (c ∷ [])) e) ≡ join V (fold_to (set_of (cs ++ c ∷ [])) e)
-joined_later V W cs c e is =
-    let one : List ℕ = fold_to (set_of (c ∷ [])) e in
-    let others : List ℕ = fold_to (set_of cs) e in
-    let more : set_of (cs ++ c ∷ []) ≡ union (set_of cs) (set_of (c ∷ [])) = set_of-between cs [] c ∙ ap (λ xs. insert (set_of xs) c) (append-nil cs) ∙ insert-union (set_of cs) c in
-    ap (λ X. join X one) is ∙ join_assoc V others one ∙ ap (join V) (sym (fold_to-union (set_of cs) (set_of (c ∷ [])) e) ∙ ap (λ S. fold_to S e) (sym more))
 
 -- the coupons of a sketch
 pub joined_table : (k : ℕ) (x : Sketch) (old new : List ℕ) (S : Pairs) (size : ℕ) → x.content ≡ coupons S size → new ≡ join old (fold_to S k) → JoinsSketch k x old new None
