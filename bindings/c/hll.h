@@ -36,10 +36,10 @@
  *     lg_k, lg_max_k   4 to 21: the logarithm of the number of registers.
  *     width            4, 6 or 8: the bits of a register.
  *     image, len       the bytes of an image. Others may follow it within len; they are not read. Every image is
- *                      checked whole, so the bytes may come from anywhere. (An image can be made to be slow: a set of
- *                      2^18 places, of a megabyte, takes half a minute and more, four bits with exceptions at lg_k 21,
- *                      of 4.2 megabytes, six minutes. A call can't be stopped. So test byte 3 of strangers' images,
- *                      the lg_k, and their len before a call: at most 12 means milliseconds. docs/LIMITS.md)
+ *                      checked whole, so the bytes may come from anywhere. (An image can be made to be slow: four bits
+ *                      with exceptions at lg_k 21, of 4.2 megabytes, take six minutes. A call can't be stopped. So
+ *                      test byte 3 of strangers' images, the lg_k, and their len before a call: at most 12 means
+ *                      milliseconds. docs/LIMITS.md)
  *     out, room, size  a buffer of room bytes, and where the size of the image is put. The bytes behind the image
  *                      stay as they were. HLL_IMAGE_MAX(lg_k) bytes are enough for each answer of that lg_k or less.
  *     ends, n          of n byte strings that stand one after another in the bytes before this argument: string i

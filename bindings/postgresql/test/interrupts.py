@@ -11,15 +11,19 @@ from report import CANCELLED, CHECKED, check, equal, literal, load, refused
 from server import HERE, Session
 from worst_cases import SLOTS, path_coupons, path_slots, registers_with
 
-LG_PLACES, COUPONS, COUNT = 15, 20000, 100
+LG_K, COUNT = 16, 100
 SECONDS = 0.5           # until a query is stopped
 LATEST = 2              # seconds until it ends
 EMPTY_SET = bytes.fromhex("030107151208000900000000")
 
 
+def slow_image():
+    """Registers of four bits whose exceptions share one path, so that each passes all before it."""
+    return image_of(LG_K, 4, registers_with(LG_K, path_slots(LG_K), 40))
+
+
 def set_on_one_path(lg_places, coupons):
-    """The image of a set whose coupons share one path, so that each passes all before it. They don't ascend: such are read
-    without a table."""
+    """The image of a set whose coupons share one path. They don't ascend: such are read without a table."""
     words = struct.pack("<%dI" % (len(coupons) + 1), len(coupons), *coupons)
     return bytes([3, 1, 7, lg_places + 3, lg_places, 8, 0, 9]) + words
 
@@ -44,7 +48,7 @@ SORTS = """SELECT set_config(name, 'off', false) FROM pg_settings WHERE name = '
 
 def interrupts(server):
     """A query is stopped by a timeout, a cancel and a termination."""
-    slow = set_on_one_path(LG_PLACES, path_coupons(LG_PLACES)[:COUPONS])
+    slow = slow_image()
     server.ask("CREATE TABLE large_image (n int, image bytea); CREATE TABLE slow_images (n int, image bytea)")
     load(server, "large_image", [(0, image_of(21, 8, bytes([1]) * 2**21))])
     load(server, "slow_images", [(n, slow) for n in range(1, COUNT + 1)])
@@ -94,9 +98,8 @@ def stopped(name, said, took):
 
 def made_again(server):
     """A call that has to be made again, as its room was too small, isn't where the query was stopped meanwhile."""
-    image = image_of(16, 4, registers_with(16, path_slots(16), 40))
     server.ask("CREATE TABLE many_exceptions (image bytea)")
-    load(server, "many_exceptions", [(image,)])
+    load(server, "many_exceptions", [(slow_image(),)])
     query = "SELECT length(hll_merge(image, image)) FROM many_exceptions;"
     with Session(server) as session:
         said, twice = timed(session, query)
@@ -111,7 +114,7 @@ def made_again(server):
 
 def windows(server):
     """As a window function the aggregate joins each image once, though it answers for each row."""
-    slow = set_on_one_path(LG_PLACES, path_coupons(LG_PLACES)[:COUPONS])
+    slow = slow_image()
     rows = [(0, image_of(18, 8, bytes([1]) * 2**18)), (1, slow)] + [(n, small_image(n)) for n in range(2, 102)]
     server.ask("CREATE TABLE window_rows (n int, image bytea)")
     load(server, "window_rows", rows)
@@ -126,7 +129,7 @@ def windows(server):
 
 def behind_slow(server):
     """Small images behind slow ones wait for each other as ever."""
-    slow = set_on_one_path(LG_PLACES, path_coupons(LG_PLACES)[:COUPONS])
+    slow = slow_image()
     server.ask("CREATE TABLE behind_slow (n int, image bytea)")
     load(server, "behind_slow", [(0, image_of(18, 8, bytes([1]) * 2**18))] + [(n, slow) for n in range(1, 5)])
     query = "SELECT md5(hll_image_union_agg(image, 18 ORDER BY n)) FROM (TABLE behind_slow %s) x;"

@@ -5,7 +5,6 @@ import pathlib
 import random
 import signal
 import stat
-import struct
 import subprocess
 import sys
 import time
@@ -15,8 +14,8 @@ from unittest import mock
 import common
 from command import COMMAND, CommandTest, environment, interruptible
 from hll_sketches import Sketch, files, merging
-from shared import set_image
-from worst_cases import path_coupons
+from shared import image_of
+from worst_cases import path_slots, registers_with
 
 TICK = 1 / os.sysconf("SC_CLK_TCK")
 BEFORE, AFTER = b"as it was", Sketch(12).to_bytes()
@@ -47,10 +46,8 @@ os.{step} = called
 
 
 def hostile_image():
-    """A set whose coupons are all on one path: half a minute of work for a call. They don't ascend: such are checked without
-    a table."""
-    coupons = path_coupons(18)
-    return set_image(21, 18, coupons)[:12] + struct.pack("<%dI" % len(coupons), *coupons)
+    """Registers of four bits whose exceptions are all on one path: half a minute of work for a call."""
+    return image_of(19, 4, registers_with(19, path_slots(19), 40))
 
 
 def children_of(process):
