@@ -115,7 +115,7 @@ def made_again(server):
 def windows(server):
     """As a window function the aggregate joins each image once, though it answers for each row."""
     slow = slow_image()
-    rows = [(0, image_of(18, 8, bytes([1]) * 2**18)), (1, slow)] + [(n, small_image(n)) for n in range(2, 102)]
+    rows = [(0, image_of(18, 8, bytes([1]) * 2**18)), (1, slow)] + [(n, small_image(20000 + n)) for n in range(2, 102)]
     server.ask("CREATE TABLE window_rows (n int, image bytea)")
     load(server, "window_rows", rows)
     with Session(server) as session:
