@@ -18,6 +18,7 @@ from ._errors import ArgumentError, FilesError, HllError, ImageError, PrecisionE
 from ._errors import PrecisionWarning
 from ._values import Value, coupon, coupons
 from .merging import merge_files
+from .registers import Registers
 from .sketch import Sketch, check
 from .union import Union, union_of
 
@@ -30,6 +31,7 @@ __all__ = [
     "ImageError",
     "PrecisionError",
     "PrecisionWarning",
+    "Registers",
     "Sketch",
     "Union",
     "Value",

@@ -24,8 +24,10 @@ Call = Callable[..., int]
 
 if TYPE_CHECKING:
     Numbers = array[int]
+    Memory = ctypes.Array[c_uint8]
 else:
     Numbers = array
+    Memory = ctypes.Array
 
 WORDS = (
     "ok",
@@ -43,8 +45,9 @@ WORDS = (
     "argument",
     "memory",
     "buffer",
+    "fewer",
 )
-OK, ARGUMENT, MEMORY, BUFFER = 0, 12, 13, 14
+OK, REGISTER, ARGUMENT, MEMORY, BUFFER, FEWER = 0, 11, 12, 13, 14, 15
 MOST_KEPT = 1 << 22
 """A thread keeps no more memory than this for its answers."""
 
@@ -107,6 +110,7 @@ class Estimation(ctypes.Structure):
 _IMAGE = [c_char_p, c_size_t]
 _ENDS = [c_void_p, c_size_t]
 _OUT = [c_void_p, c_size_t, c_void_p]
+_REGISTERS = [c_void_p, c_size_t]
 _CALLS = {
     "hll_image_info": _IMAGE + [POINTER(Info)],
     "hll_image_check": _IMAGE,
@@ -123,6 +127,14 @@ _CALLS = {
     "hll_coupon": _IMAGE,
     "hll_coupons": _IMAGE + _ENDS + [c_void_p, c_size_t],
     "hll_estimate": _IMAGE + [POINTER(Estimation)],
+    "hll_registers_add": _REGISTERS + _IMAGE + _ENDS,
+    "hll_registers_add_coupons": _REGISTERS + [c_void_p, c_size_t],
+    "hll_registers_join": _REGISTERS + _IMAGE + [POINTER(c_uint8)],
+    "hll_registers_join_registers": _REGISTERS + _REGISTERS + [POINTER(c_uint8)],
+    "hll_registers_fold": _REGISTERS + [c_uint8],
+    "hll_registers_histogram": _REGISTERS + [POINTER(Histogram)],
+    "hll_registers_image": _REGISTERS + [c_uint8] + _OUT,
+    "hll_registers_estimate": _REGISTERS + [POINTER(Estimation)],
 }
 _ANSWERS = {"hll_coupon": c_uint32}
 
@@ -428,6 +440,94 @@ def coupons(values: bytes, ends: Numbers) -> Numbers:
         if status != OK:
             raise _refusal(status)
     return made
+
+
+# ---- registers of the caller
+
+def place_of(memory: memoryview) -> Memory:
+    """The bytes of a writable view, where they lie."""
+    return (c_uint8 * len(memory)).from_buffer(memory)
+
+
+def _refused_registers(status: int) -> Exception:
+    """What is raised for a status that is not one of an image."""
+    if status == REGISTER:
+        return ArgumentError("a register is 0 to 63, and a byte is greater")
+    return _refusal(status)
+
+
+def add_to(registers: Memory, values: bytes, ends: Numbers) -> None:
+    """Adds values, told by their ends, to registers."""
+    status = _library.hll_registers_add(
+        registers, len(registers), values, len(values), _address(ends), len(ends)
+    )
+    if status != OK:
+        raise _refused_registers(status)
+
+
+def add_coupons_to(registers: Memory, words: Numbers) -> None:
+    """Adds coupons to registers."""
+    count = len(words)
+    status = _library.hll_registers_add_coupons(registers, len(registers), _address(words), count)
+    if status != OK:
+        raise ArgumentError("a coupon has a value of 1 to 63")
+
+
+def join_image(registers: Memory, image: bytes) -> Optional[int]:
+    """Joins an image into registers. Its ``lg_k``, where it has fewer; then nothing is changed."""
+    fewer = c_uint8()
+    status = _library.hll_registers_join(
+        registers, len(registers), image, len(image), byref(fewer)
+    )
+    if status not in (OK, FEWER):
+        raise _refusal(status)
+    return fewer.value if status == FEWER else None
+
+
+def join_registers(registers: Memory, others: Memory) -> Optional[int]:
+    """Joins other registers. Their ``lg_k``, where they are fewer; then nothing is changed."""
+    fewer = c_uint8()
+    status = _library.hll_registers_join_registers(
+        registers, len(registers), others, len(others), byref(fewer)
+    )
+    if status not in (OK, FEWER):
+        raise _refused_registers(status)
+    return fewer.value if status == FEWER else None
+
+
+def fold_registers(registers: Memory, lg_k: int) -> None:
+    """Folds registers, at the front of their bytes."""
+    status = _library.hll_registers_fold(registers, len(registers), lg_k)
+    if status != OK:
+        raise _refused_registers(status)
+
+
+def histogram_of(registers: Memory) -> List[int]:
+    """How many registers have each value."""
+    found = Histogram()
+    status = _library.hll_registers_histogram(registers, len(registers), byref(found))
+    if status != OK:
+        raise _refused_registers(status)
+    return list(found.counts)
+
+
+def estimation_of(registers: Memory) -> Estimation:
+    """An estimate from registers, with its bounds."""
+    found = Estimation()
+    status = _library.hll_registers_estimate(registers, len(registers), byref(found))
+    if status != OK:
+        raise _refused_registers(status)
+    return found
+
+
+def image_of(registers: Memory, width: int) -> bytes:
+    """The image of registers, with the words from which others estimate."""
+    try:
+        return _written(
+            _library.hll_registers_image, 64 + len(registers), registers, len(registers), width
+        )
+    except ImageError:
+        raise _refused_registers(REGISTER) from None
 
 
 def width_in(image: bytes) -> int:

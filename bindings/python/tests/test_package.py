@@ -51,7 +51,7 @@ class TypesTest(CommandTest):
         """What a program that uses the package is told."""
         self.write("right.py", b"""\
 import pathlib
-from hll_sketches import Sketch, Union, coupons, merge_files, union_of
+from hll_sketches import Registers, Sketch, Union, coupons, merge_files, union_of
 made: Sketch = union_of([Sketch(), b""], 12, 8, min_lg_k=8) | Sketch.read("x")
 made.update_many(open("x"))
 made.update_many([1, "a", b"b", 2.5])
@@ -60,6 +60,10 @@ low, high = made.bounds()
 number: float = low + high + made.estimate() + sum(coupons(["x"]))
 merged: Sketch = merge_files(["a", pathlib.Path("b")], on_refused=print)
 copied: Union = Union(12).copy()
+kept: Registers = Registers.over(bytearray(4096)).fold(10)
+kept.join(made)
+kept.add_coupons(coupons(["x"]))
+made = kept.to_sketch()
 """)
         wrong = "from hll_sketches import Sketch\nSketch('12')\nSketch().update(None)\n"
         self.write("wrong.py", wrong.encode())
@@ -187,7 +191,9 @@ typedef unsigned char u8;
 EMPTY(hll_image_new) EMPTY(hll_image_add) EMPTY(hll_image_add_coupon) EMPTY(hll_image_merge)
 EMPTY(hll_images_union) EMPTY(hll_image_fold) EMPTY(hll_image_convert) EMPTY(hll_image_check)
 EMPTY(hll_image_set_estimator_words) EMPTY(hll_images_agree) EMPTY(hll_coupon) EMPTY(hll_coupons)
-EMPTY(hll_estimate)
+EMPTY(hll_estimate) EMPTY(hll_registers_add) EMPTY(hll_registers_add_coupons)
+EMPTY(hll_registers_join) EMPTY(hll_registers_join_registers) EMPTY(hll_registers_fold)
+EMPTY(hll_registers_histogram) EMPTY(hll_registers_image) EMPTY(hll_registers_estimate)
 #ifndef WITHOUT
 u8 hll_image_histogram(const u8 *image, size_t len, uint64_t *counts)
 { memset(counts, 0, 512); counts[0] = 1023; counts[COUNT] = 1; return 0; }

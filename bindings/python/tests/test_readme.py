@@ -45,12 +45,13 @@ class ReadmeTest(CommandTest):
                 self.assertEqual(self.shown_by(command), shown)
 
     def test_python(self):
-        code = re.search(r"```python\n(.*?)```", README.read_text("utf-8"), re.S)[1]
-        done = subprocess.run(
-            [sys.executable, "-c", code], cwd=self.folder, env=environment(), capture_output=True
-        )
-        self.assertEqual((done.returncode, done.stderr), (0, b""))
-        self.assertEqual(self.listed(), [".bin", "both.hll"])
+        for code in re.findall(r"```python\n(.*?)```", README.read_text("utf-8"), re.S):
+            done = subprocess.run(
+                [sys.executable, "-c", code], cwd=self.folder, env=environment(),
+                capture_output=True,
+            )
+            self.assertEqual((done.returncode, done.stderr), (0, b""))
+        self.assertEqual(self.listed(), [".bin", "both.hll", "seen.hll"])
 
 
 class PicturesTest(unittest.TestCase):

@@ -1,0 +1,226 @@
+# SPDX-License-Identifier: Apache-2.0
+"""Registers that a program keeps as bytes of its own."""
+from __future__ import annotations
+
+from array import array
+from operator import index
+from typing import Any, Iterable, List, Tuple, Type, TypeVar, Union
+
+from . import _library
+from ._errors import ArgumentError, PrecisionError
+from ._locks import Lock
+from ._values import Value, batches, bytes_of
+from .sketch import Sketch, checked_lg_k, checked_width, data_in
+
+_R = TypeVar("_R", bound="Registers")
+
+_WORD = next(code for code in "IL" if array(code).itemsize == 4)
+
+
+class Registers:
+    """The registers of a sketch, a byte for each: ``2**lg_k`` bytes, all 0 at first.
+
+    They count like a ``Sketch``, in constant memory: values, coupons, sketches and images are
+    joined into them where they lie. The same values give the same bytes, in every order, however
+    often, and however they were grouped. Any number of threads may use an object at once; where
+    two objects lie over the same memory, one at a time may be changed.
+
+    Parameters
+    ----------
+    lg_k : int
+        The logarithm of the number of registers, 4 to 21.
+
+    Raises
+    ------
+    ArgumentError
+        If ``lg_k`` is out of its range.
+    """
+
+    __slots__ = ("_memory", "_place", "_lock", "__weakref__")
+    __hash__ = None  # type: ignore[assignment]
+
+    def __init__(self, lg_k: int = 12) -> None:
+        self._lie_over(memoryview(bytearray(1 << checked_lg_k(lg_k))))
+
+    def _lie_over(self, memory: memoryview) -> None:
+        self._memory = memory
+        self._place = _library.place_of(memory)
+        self._lock = Lock()
+
+    @classmethod
+    def over(cls: Type[_R], memory: Any) -> _R:
+        """Return registers over memory of the caller, as they are there.
+
+        Parameters
+        ----------
+        memory : bytearray, mmap, array, shared memory or the like
+            Writable bytes, 16 to ``2**21`` of them and a power of two, each 0 to 63. They are
+            changed where they lie; their size can't be, as long as the object is there.
+
+        Raises
+        ------
+        TypeError
+            If they can't be written, or aren't bytes that follow one another.
+        ArgumentError
+            If their number is another.
+        """
+        view = memoryview(memory)
+        if view.readonly:
+            raise TypeError(f"writable memory, not {type(memory).__name__}")
+        if not view.c_contiguous or view.itemsize != 1:
+            raise TypeError("memory of bytes that follow one another")
+        count = view.nbytes
+        if count & (count - 1) or not 1 << 4 <= count <= 1 << 21:
+            raise ArgumentError(f"registers are 16 to 2^21, and a power of two, not {count}")
+        made = cls.__new__(cls)
+        made._lie_over(view.cast("B"))
+        return made
+
+    # ---- changes
+
+    def update(self, value: Value) -> None:
+        """Count a value, as ``Sketch.update`` does."""
+        data = bytes_of(value)
+        with self._lock:
+            _library.add_to(self._place, data, _library.ends_of([data]))
+
+    def update_many(self, values: Iterable[Value]) -> None:
+        """Count many values, as ``Sketch.update_many`` does."""
+        for data, ends in batches(values):
+            with self._lock:
+                _library.add_to(self._place, data, ends)
+
+    def add_coupons(self, words: Iterable[int]) -> None:
+        """Add coupons: what ``coupons`` gives of values.
+
+        Parameters
+        ----------
+        words : iterable of int
+            ``value * 2**26 + slot``, with a value of 1 to 63 and a slot below ``2**26``. An
+            ``array`` of 32 bits is taken as it is.
+
+        Raises
+        ------
+        ArgumentError
+            If one is no coupon. Then none was added.
+        """
+        if isinstance(words, array) and words.typecode == _WORD:
+            taken = words
+        else:
+            try:
+                taken = array(_WORD, map(index, words))
+            except OverflowError:
+                raise ArgumentError("a coupon is 0 to 2^32 - 1") from None
+        if taken:
+            with self._lock:
+                _library.add_coupons_to(self._place, taken)
+
+    def join(self, other: Union[Sketch, "Registers", bytes, bytearray, memoryview]) -> None:
+        """Take in a sketch, its image, or other registers, which are folded to these.
+
+        Raises
+        ------
+        ImageError
+            If bytes are no image.
+        PrecisionError
+            If the other one has fewer registers, and not all are 0: ``lg_k`` tells how many.
+            ``fold`` these to that first, if the union may be as coarse.
+        """
+        if isinstance(other, Registers):
+            with self._lock:
+                fewer = _library.join_registers(self._place, other._place)
+        else:
+            image = other.to_bytes() if isinstance(other, Sketch) else data_in(other)
+            with self._lock:
+                fewer = _library.join_image(self._place, image)
+        if fewer is not None:
+            raise PrecisionError(fewer, self.lg_k, 0)
+
+    # ---- others of the same values
+
+    def fold(self: _R, lg_k: int) -> _R:
+        """Return registers of the same values at a smaller ``lg_k``, or the same.
+
+        Raises
+        ------
+        ArgumentError
+            If ``lg_k`` is below 4, or above that of these, or a byte is above 63.
+        """
+        lg_k = checked_lg_k(lg_k)
+        if lg_k > self.lg_k:
+            raise ArgumentError(f"a fold is to an lg_k of at most {self.lg_k}, not {lg_k}")
+        copied = self._bytes()
+        _library.fold_registers(_library.place_of(memoryview(copied)), lg_k)
+        return self.over(copied[: 1 << lg_k])
+
+    def to_bytes(self, width: int = 8) -> bytes:
+        """Return the image of a sketch in these registers.
+
+        It has the words from which other DataSketches libraries estimate.
+
+        Parameters
+        ----------
+        width : int
+            The bits of a register in the image, 4, 6 or 8.
+        """
+        with self._lock:
+            return _library.image_of(self._place, checked_width(width))
+
+    def to_sketch(self, width: int = 8) -> Sketch:
+        """Return the sketch in these registers."""
+        return Sketch.from_bytes(self.to_bytes(width))
+
+    # ---- what they are
+
+    @property
+    def memory(self) -> memoryview:
+        """The registers themselves: writable bytes, each 0 to 63."""
+        return self._memory
+
+    @property
+    def lg_k(self) -> int:
+        """The logarithm of the number of registers."""
+        return len(self._memory).bit_length() - 1
+
+    def histogram(self) -> List[int]:
+        """Return how many registers have each value from 0 to 63."""
+        return _library.histogram_of(self._place)
+
+    def estimate(self) -> float:
+        """Return an estimate of how many distinct values were counted. It is not proved."""
+        return _library.estimation_of(self._place).estimate
+
+    def bounds(self, deviations: int = 2) -> Tuple[float, float]:
+        """Return a lower and an upper bound of how many values, as ``Sketch.bounds`` does."""
+        if deviations not in (1, 2, 3):
+            raise ArgumentError(f"bounds are at 1, 2 or 3 deviations, not {deviations}")
+        found = _library.estimation_of(self._place)
+        return found.lower[deviations - 1], found.upper[deviations - 1]
+
+    def _bytes(self) -> bytearray:
+        with self._lock:
+            return bytearray(self._memory)
+
+    def __eq__(self, other: object) -> bool:
+        """Return whether both have the same bytes."""
+        if not isinstance(other, Registers):
+            return NotImplemented
+        return self._memory == other._memory
+
+    def __repr__(self) -> str:
+        return f"<{type(self).__name__} lg_k={self.lg_k}>"
+
+    # ---- copies
+
+    def copy(self: _R) -> _R:
+        """Return registers of the same values, in memory of their own."""
+        return self.over(self._bytes())
+
+    def __copy__(self: _R) -> _R:
+        return self.copy()
+
+    def __deepcopy__(self: _R, memo: object) -> _R:
+        return self.copy()
+
+    def __reduce__(self) -> Tuple[Any, Tuple[bytearray]]:
+        return type(self).over, (self._bytes(),)
