@@ -1,6 +1,6 @@
 /* SPDX-License-Identifier: Apache-2.0 */
 /*
- * An estimate of the number of distinct values of an image, with bounds. Plain C, not proved; docs/ESTIMATES.md says
+ * Estimates of the number of distinct values, with bounds, and the version. Plain C, not proved; docs/ESTIMATES.md says
  * where the formulas come from, and how far they are off.
  */
 #include "hll.h"
@@ -10,6 +10,12 @@
 
 /* The relative variance of one register: 3 ln 2 - 1. */
 #define REGISTER_VARIANCE 1.07944154167983593
+
+/* By the root of the number of registers this is the relative standard error of a HIP estimate: the root of ln 2. */
+#define HIP_ERROR 0.83255461115769776
+
+/* The greatest finite number. */
+#define GREATEST 1.7976931348623157e308
 
 /* Of each coupon a slot of 2^26 is one part in so many. */
 #define SLOTS 67108864.0
@@ -242,4 +248,35 @@ hll_status hll_registers_estimate(const uint8_t *registers, size_t count, hll_es
     if (status == HLL_OK)
         *estimation = estimation_of_counts(histogram.counts);
     return status;
+}
+
+/* The number of these bits. */
+static double number_of_bits(uint64_t bits)
+{
+    union {
+        uint64_t bits;
+        double number;
+    } word;
+    word.bits = bits;
+    return word.number;
+}
+
+hll_status hll_hip_estimate(const uint8_t *image, size_t len, hll_estimation *estimation)
+{
+    hll_info info;
+    double kept, registers;
+    hll_status status = hll_image_info(image, len, &info);
+    if (status != HLL_OK)
+        return status;
+    kept = number_of_bits(info.hip);
+    if (info.stage != HLL_REGISTERS || info.out_of_order || !(kept > 0.0 && kept <= GREATEST))
+        return HLL_ARGUMENT;
+    registers = (double)((uint32_t)1 << info.lg_k);
+    *estimation = with_bounds(kept, HIP_ERROR * square_root(1.0 / registers), registers - (double)info.zeros);
+    return HLL_OK;
+}
+
+uint32_t hll_version(void)
+{
+    return HLL_VERSION_NUMBER;
 }

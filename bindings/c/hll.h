@@ -78,8 +78,8 @@
  *     all inputs of a caller who keeps to the above; of unions that order, repetition and grouping of grown images
  *     under one lg_max_k make no difference; and that registers into which an image is joined, written as an image, are
  *     the union of theirs with it. Not proved is what is said of time, of threads, of other libraries, and of memory,
- *     but for which images may be refused for want of it. hll_estimate, hll_registers_estimate and what this header
- *     defines itself are plain C, tested and not proved.
+ *     but for which images may be refused for want of it. Estimates, hll_version and what this header defines
+ *     itself are plain C, tested and not proved.
  */
 #ifndef HLL_H
 #define HLL_H
@@ -94,6 +94,7 @@ extern "C" {
 #define HLL_VERSION_MAJOR 0
 #define HLL_VERSION_MINOR 2
 #define HLL_VERSION_PATCH 0
+#define HLL_VERSION_NUMBER (HLL_VERSION_MAJOR * 1000000 + HLL_VERSION_MINOR * 1000 + HLL_VERSION_PATCH)
 
 typedef uint8_t hll_status;
 
@@ -164,6 +165,9 @@ typedef struct hll_bytes {
     const uint8_t *bytes;
     size_t len;
 } hll_bytes;
+
+/* The version of the library; HLL_VERSION_NUMBER is that of this header. */
+uint32_t hll_version(void);
 
 /* ---- what an image says ---- */
 
@@ -325,6 +329,12 @@ hll_status hll_coupons(const uint8_t *values, size_t values_len, const size_t *e
  * were at least so many values. Where every register is 63 the estimate is infinite.
  * Answers HLL_OK, 1 to 11, or HLL_MEMORY. Takes the memory of hll_image_histogram. */
 hll_status hll_estimate(const uint8_t *image, size_t len, hll_estimation *estimation);
+
+/* The estimate that the writer of an image kept in it while it added values one by one (the HIP accumulator), with its
+ * bounds; it scatters by a fifth less than hll_estimate. HLL_ARGUMENT where there is none: for coupons, for registers that
+ * were merged (with the out-of-order flag), and where the word is 0 or no number, as this library writes it. Not proved.
+ * Answers HLL_OK, 1 to 11, HLL_ARGUMENT or HLL_MEMORY. Takes the memory of reading. */
+hll_status hll_hip_estimate(const uint8_t *image, size_t len, hll_estimation *estimation);
 
 /* The same of registers of the caller; not proved.
  * Answers HLL_OK, HLL_REGISTER or HLL_ARGUMENT. Takes no memory. */

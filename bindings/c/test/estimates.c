@@ -173,11 +173,59 @@ static void test_refusals(void)
     CHECK(memcmp(&found, &before, sizeof found) == 0, "told of a refused image");
 }
 
+/* ---- what an image keeps ---- */
+
+/* Registers of eight bits at lg_k 4, 12 of them 1 and the others 0, with a word and a flag. */
+static void put_kept(uint8_t image[56], double word, uint8_t flags)
+{
+    static const uint8_t header[8] = {10, 1, 7, 4, 0, 0, 0, 10};
+    memset(image, 0, 56);
+    memcpy(image, header, sizeof header);
+    image[5] = flags;
+    memcpy(image + 8, &word, sizeof word);
+    image[32] = 4;
+    memset(image + 44, 1, 12);
+}
+
+static hll_status kept(double word, uint8_t flags, hll_estimation *found)
+{
+    uint8_t image[56];
+    put_kept(image, word, flags);
+    return hll_hip_estimate(image, sizeof image, found);
+}
+
+static void test_kept(void)
+{
+    static const uint8_t list[12] = {2, 1, 7, 10, 3, 8, 1, 8, 5, 0, 0, 12};
+    const double none[] = {0.0, -0.0, -17.0, INFINITY, -INFINITY, NAN};
+    hll_estimation found, before;
+    uint8_t image[56];
+    size_t i;
+    CHECK(kept(17.25, 0, &found) == HLL_OK && found.estimate == 17.25, "a word");
+    CHECK(is_near(found.relative_standard_error, sqrt(log(2.0)) / 4, 1e-15), "its error");
+    CHECK(found.lower[0] == 17.25 / (1.0 + found.relative_standard_error), "its lower bound");
+    CHECK(found.lower[2] == 12.0, "as many as there are registers above 0");
+    check_order(&found, "a word");
+    memset(&found, 77, sizeof found);
+    before = found;
+    CHECK(kept(17.25, 16, &found) == HLL_ARGUMENT, "registers that were merged");
+    for (i = 0; i < sizeof none / sizeof none[0]; i++)
+        CHECK(kept(none[i], 0, &found) == HLL_ARGUMENT, "a word that is none: %g", none[i]);
+    CHECK(hll_hip_estimate(list, sizeof list, &found) == HLL_ARGUMENT, "coupons");
+    put_kept(image, 17.25, 0);
+    CHECK(hll_hip_estimate(image, 55, &found) == HLL_TRUNCATED, "a byte less");
+    image[55] = 64;
+    CHECK(hll_hip_estimate(image, 56, &found) == HLL_REGISTER, "a register above 63");
+    CHECK(memcmp(&found, &before, sizeof found) == 0, "told where there is none");
+    CHECK(hll_version() == HLL_VERSION_NUMBER && HLL_VERSION_NUMBER == 2000, "the version");
+}
+
 int main(void)
 {
     test_streams();
     test_widths();
     test_numbers();
     test_refusals();
+    test_kept();
     return finish("estimates of known streams");
 }

@@ -105,7 +105,7 @@ test_expected() {
 
 test_names() {
     declared >"$tests/declared"
-    expect 'twenty-four calls are declared' test "$(wc -l <"$tests/declared")" -eq 24
+    expect 'twenty-six calls are declared' test "$(wc -l <"$tests/declared")" -eq 26
     shown -D --defined-only "$build/libhll.so" >"$tests/shown"
     expect 'names of the shared library' diff "$tests/declared" "$tests/shown"
     shown -g --defined-only "$build/libhll.a" >"$tests/shown"
@@ -159,6 +159,7 @@ test_memory() {
 test_sanitized() {
     flags='-fsanitize=address,undefined -fno-sanitize-recover=all -Dhll_estimate=sanitized_estimate'
     flags="$flags -Dhll_registers_estimate=sanitized_registers_estimate"
+    flags="$flags -Dhll_hip_estimate=sanitized_hip_estimate -Dhll_version=sanitized_version"
     if ! echo 'int main(void) { return 0; }' | $CC $flags -x c -o "$tests/probe" - 2>/dev/null || ! "$tests/probe"; then
         skip 'sanitizers' "their library"
         return

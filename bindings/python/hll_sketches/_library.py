@@ -9,7 +9,6 @@ from __future__ import annotations
 import ctypes
 import os
 import pathlib
-import re
 import threading
 from array import array
 from ctypes import POINTER, byref, c_char_p, c_double, c_size_t, c_void_p
@@ -127,6 +126,8 @@ _CALLS = {
     "hll_coupon": _IMAGE,
     "hll_coupons": _IMAGE + _ENDS + [c_void_p, c_size_t],
     "hll_estimate": _IMAGE + [POINTER(Estimation)],
+    "hll_hip_estimate": _IMAGE + [POINTER(Estimation)],
+    "hll_version": [],
     "hll_registers_add": _REGISTERS + _IMAGE + _ENDS,
     "hll_registers_add_coupons": _REGISTERS + [c_void_p, c_size_t],
     "hll_registers_join": _REGISTERS + _IMAGE + [POINTER(c_uint8)],
@@ -136,7 +137,7 @@ _CALLS = {
     "hll_registers_image": _REGISTERS + [c_uint8] + _OUT,
     "hll_registers_estimate": _REGISTERS + [POINTER(Estimation)],
 }
-_ANSWERS = {"hll_coupon": c_uint32}
+_ANSWERS = {"hll_coupon": c_uint32, "hll_version": c_uint32}
 
 
 def _places() -> List[str]:
@@ -162,8 +163,7 @@ def _places() -> List[str]:
 # ---- is it the right one?
 
 VERSION = 0, 2
-"""The library is of this version, whatever its last number is. It tells none itself: what it
-answers of a known image is compared."""
+"""The library is of this version. What it answers of a known image is compared too."""
 
 _KNOWN = bytes.fromhex("0201070a030801080500000c")
 """The image of one coupon, of slot 5 and value 3, at ``lg_k`` 10 and eight bits."""
@@ -181,10 +181,9 @@ def _filled(call: Call, kind: Type[_Structure]) -> _Structure:
     return told.contents
 
 
-def _check_name(place: str) -> None:
-    """Refuses a library whose file is named as that of another version, as in libhll.so.0.3.0."""
-    told = re.search(r"\.so\.(\d+)\.(\d+)\.\d+$", os.path.realpath(place))
-    version = VERSION if told is None else (int(told[1]), int(told[2]))
+def _check_version(number: int) -> None:
+    """Refuses a library of another version, whatever its last number is."""
+    version = number // 1_000_000, number // 1000 % 1000
     if version != VERSION:
         raise ImportError("it is of version %d.%d, and not %d.%d" % (*version, *VERSION))
 
@@ -204,11 +203,11 @@ def _check_answers(calls: Dict[str, Call]) -> None:
 
 def _calls_of(place: str) -> Dict[str, Call]:
     """The calls of a library by their names."""
-    _check_name(place)
     library = ctypes.CDLL(place)
     calls = {name: getattr(library, name) for name in _CALLS}
     for name, call in calls.items():
         call.argtypes, call.restype = _CALLS[name], _ANSWERS.get(name, c_uint8)
+    _check_version(calls["hll_version"]())
     _check_answers(calls)
     return calls
 
@@ -360,6 +359,15 @@ def estimation(image: bytes) -> Estimation:
     if status != OK:
         raise _refusal(status)
     return found
+
+
+def hip_estimation(image: bytes) -> Optional[Estimation]:
+    """The estimate that an image keeps, with its bounds; None where it has none."""
+    found = Estimation()
+    status = _library.hll_hip_estimate(image, len(image), byref(found))
+    if status not in (OK, ARGUMENT):
+        raise _refusal(status)
+    return found if status == OK else None
 
 
 def add(image: bytes, values: bytes, ends: Numbers) -> bytes:

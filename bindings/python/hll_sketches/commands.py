@@ -110,6 +110,8 @@ def summary(image: bytes, deviations: int = 2) -> Record:
     bits = struct.pack("<3Q", told.hip, told.kxq0, told.kxq1)
     numbers = map(finite, struct.unpack("<3d", bits))
     named = dict(zip(("hip", "kxq0", "kxq1"), numbers))
+    kept = _library.hip_estimation(image)
+    named["hip_estimate"] = None if kept is None else kept.estimate
     return {**record, "zeros": told.zeros, "words": words_of(image), **named}
 
 
@@ -140,6 +142,8 @@ def described(name: str, told: Record) -> str:
         rows.append(("coupons", f"{told['coupons']:,}"))
     else:
         rows += [("zeros", f"{told['zeros']:,}"), ("words", _WORDS[told["words"]])]
+        if told["hip_estimate"] is not None:
+            rows.append(("hip", f"{rounded(told['hip_estimate'])}, as its writer counted"))
     rows.append(("flags", ", ".join(told["flags"]) or "none"))
     rows.append(("bytes", f"{told['bytes']:,}"))
     return "\n".join([f"{shown(name)}:", *(f"  {key:<9} {value}" for key, value in rows)])

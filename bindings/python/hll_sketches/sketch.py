@@ -369,6 +369,15 @@ class Sketch:
         """Return an estimate of how many distinct values were counted. It is not proved."""
         return _library.estimation(self.to_bytes()).estimate
 
+    def hip_estimate(self) -> Optional[float]:
+        """Return the estimate that the program which wrote these registers kept in them, if any.
+
+        It scatters by a fifth less than ``estimate``, by ``0.83 / sqrt(2**lg_k)``. Sketches that
+        were merged have none, nor have those that this package changed.
+        """
+        found = _library.hip_estimation(self.to_bytes())
+        return None if found is None else found.estimate
+
     def bounds(self, deviations: int = 2) -> Tuple[float, float]:
         """Return a lower and an upper bound of how many distinct values were counted.
 

@@ -240,9 +240,20 @@ class InfoTest(CommandTest):
             self.assertIn("out of order", told["flags"])
             sums = [0.5**value * count for value, count in enumerate(made.histogram())]
             self.assertEqual((told["kxq0"], told["hip"]), (sum(sums[:32]), 0))
+            self.assertIsNone(told["hip_estimate"])
         else:
             self.assertEqual((told["coupons"], "words" in told), (made.num_coupons, False))
             self.assertEqual("empty" in told["flags"], made.is_empty)
+
+    def test_a_kept_estimate(self):
+        image = bytearray(image_of(range(30_000)))
+        image[5] &= ~16
+        image[8:16] = struct.pack("<d", 30_123.25)
+        self.write("kept.hll", image)
+        self.assertIn(b"\n  hip       30,123, as its writer counted\n",
+                      self.succeeds("info", "kept.hll"))
+        told, = json.loads(self.succeeds("info", "--json", "kept.hll"))
+        self.assertEqual((told["hip_estimate"], told["hip"]), (30_123.25, 30_123.25))
 
     def test_text(self):
         self.write("a.hll", image_of(range(30_000)))

@@ -2,6 +2,7 @@
 """Estimates and bounds beside the formulas of docs/ESTIMATES.md, computed by Python's own functions."""
 import math
 import random
+import struct
 import unittest
 
 import common  # noqa: F401, for the path
@@ -112,6 +113,24 @@ class EstimatesTest(unittest.TestCase):
     def test_full(self):
         full = Sketch.from_bytes(image_of(4, 8, [63] * 16))
         self.assertEqual(full.estimate(), math.inf)
+
+    def test_kept_estimates(self):
+        """That of a program which counts in order, as long as nothing else is done."""
+        whole = Sketch(8)
+        whole.update_many(range(1000))
+        self.assertIsNone(Sketch(8).hip_estimate())
+        self.assertIsNone(whole.hip_estimate())
+        for width in (4, 6, 8):
+            image = bytearray(whole.convert(width).to_bytes())
+            image[5] &= ~16
+            image[8:16] = struct.pack("<d", 1012.5)
+            sketch = Sketch.from_bytes(image)
+            self.assertEqual(sketch.hip_estimate(), 1012.5)
+            self.assertEqual(sketch.convert(8).hip_estimate(), 1012.5)
+            for changed in (sketch | whole, sketch.fold(7)):
+                self.assertIsNone(changed.hip_estimate())
+            sketch.add_coupon(3, 60)
+            self.assertIsNone(sketch.hip_estimate())
 
 
 if __name__ == "__main__":
