@@ -38,8 +38,7 @@
  *     image, len       the bytes of an image. Others may follow it within len; they are not read. Every image is
  *                      checked whole, so the bytes may come from anywhere. (An image can be made to be slow: four bits
  *                      with exceptions at lg_k 21, of 4.2 megabytes, take six minutes. A call can't be stopped. So
- *                      test byte 3 of strangers' images, the lg_k, and their len before a call: at most 12 means
- *                      milliseconds. docs/LIMITS.md)
+ *                      ask hll_is_small of a stranger's image before a call. docs/LIMITS.md)
  *     out, room, size  a buffer of room bytes, and where the size of the image is put. The bytes behind the image
  *                      stay as they were. HLL_IMAGE_MAX(lg_k) bytes are enough for each answer of that lg_k or less.
  *     ends, n          of n byte strings that stand one after another in the bytes before this argument: string i
@@ -348,6 +347,14 @@ static inline const char *hll_reason(hll_status status)
                                         "coupon",   "register",  "argument", "memory",   "buffer",
                                         "fewer"};
     return status <= HLL_FEWER ? words[status] : "unknown";
+}
+
+/* Whether an image of a stranger's is quick to read: it has at most so many bytes, and byte 3, which says its lg_k, is at
+ * most this. 12 and 8192 leave room for honest images of lg_k 12; the worst of these takes milliseconds
+ * (docs/LIMITS.md, "Images of strangers"). No other byte is looked at. */
+static inline int hll_is_small(const uint8_t *image, size_t len, uint8_t lg_k, size_t most)
+{
+    return 4 <= len && len <= most && image[3] <= lg_k;
 }
 
 #ifdef __cplusplus

@@ -28,6 +28,16 @@ static void test_reasons(void)
         CHECK(strcmp(hll_reason((hll_status)status), status < 16 ? words[status] : "unknown") == 0, "%d", status);
 }
 
+/* Byte 3 and the number of bytes alone. */
+static void test_is_small(void)
+{
+    static const uint8_t image[8] = {255, 255, 255, 12, 255, 255, 255, 255};
+    CHECK(hll_is_small(image, 8, 12, 8) && hll_is_small(image, 4, 12, 4), "at the bounds");
+    CHECK(hll_is_small(image, 8, 21, 8192), "within them");
+    CHECK(!hll_is_small(image, 8, 11, 8) && !hll_is_small(image, 8, 12, 7), "above one");
+    CHECK(!hll_is_small(image, 3, 12, 8) && !hll_is_small(NULL, 0, 12, 8), "too short to tell");
+}
+
 /* Each call refuses each faulty image for its reason, and leaves its output as it was. */
 static void test_faulty_images(void)
 {
@@ -314,6 +324,7 @@ static void test_stale_words(void)
 int main(void)
 {
     test_reasons();
+    test_is_small();
     test_faulty_images();
     test_failed();
     test_arguments();

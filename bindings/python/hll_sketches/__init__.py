@@ -19,7 +19,7 @@ from ._errors import PrecisionWarning
 from ._values import Value, coupon, coupons
 from .merging import merge_files
 from .registers import Registers
-from .sketch import Sketch, check
+from .sketch import Sketch, check, is_small
 from .union import Union, union_of
 
 __version__ = "0.2.0"
@@ -38,6 +38,7 @@ __all__ = [
     "check",
     "coupon",
     "coupons",
+    "is_small",
     "merge_files",
     "union_of",
 ]

@@ -68,6 +68,28 @@ def check(image: Union[bytes, bytearray, memoryview]) -> Optional[str]:
     return None if status == _library.OK else _library.WORDS[status]
 
 
+def is_small(
+    image: Union[bytes, bytearray, memoryview], max_lg_k: int = 12, max_bytes: int = 8192
+) -> bool:
+    """Whether an image of a stranger's is quick to read.
+
+    An image can be made to hold its reader for minutes. Its ``lg_k`` and its size bound that, and
+    are told without reading it; those that are the defaults mean milliseconds, and leave room for
+    the images of honest programs with an ``lg_k`` of 12.
+
+    Parameters
+    ----------
+    image : bytes, bytearray or memoryview
+        Whether it is an image at all is for ``check``.
+    max_lg_k : int
+        The greatest ``lg_k``, 4 to 21.
+    max_bytes : int
+        The most bytes.
+    """
+    size = memoryview(image).nbytes
+    return 4 <= size <= max_bytes and memoryview(image).cast("B")[3] <= checked_lg_k(max_lg_k)
+
+
 class Sketch:
     """A HyperLogLog sketch: it counts distinct values.
 

@@ -14,7 +14,7 @@ from unittest import mock
 import common
 import hll_sketches
 from hll_sketches import ArgumentError, HllError, ImageError, Sketch, Union, _library, check
-from hll_sketches import coupon, coupons, union_of
+from hll_sketches import coupon, coupons, is_small, union_of
 
 EMPTY = bytes.fromhex("0201070a030c0008")
 ONE = bytes.fromhex("0201070a030801080500000c")
@@ -57,6 +57,22 @@ def murmur(data, seed=9001):
 def plain_coupon(data):
     low, high = murmur(data)
     return min(64 - high.bit_length(), 62) + 1 << 26 | low % 2**26
+
+
+class IsSmallTest(unittest.TestCase):
+    def test_bounds(self):
+        image = Sketch(12).to_bytes()
+        self.assertTrue(is_small(image))
+        self.assertTrue(is_small(memoryview(image), 12, len(image)))
+        self.assertFalse(is_small(image, 11))
+        self.assertFalse(is_small(bytearray(image), 12, len(image) - 1))
+        self.assertFalse(is_small(b""))
+        self.assertFalse(is_small(image[:3]))
+        self.assertFalse(is_small(bytes([0, 0, 0, 255]), 21))
+        self.assertFalse(is_small(bytes(8193)))
+        self.assertTrue(is_small(bytes(8192)))
+        self.assertRaises(ArgumentError, is_small, image, 22)
+        self.assertRaises(TypeError, is_small, "text")
 
 
 class ValuesTest(unittest.TestCase):
