@@ -65,6 +65,8 @@ fn put_shortly<A: Allocator>(table: &mut Container<A>, by: Key, entry: Coupon) -
 ///
 /// No two of them have one key, and they are no more than the table has places. Takes memory where long searches have
 /// become dear. Fails with `Memory`.
+// (in its callers, which have the table among their own values)
+#[inline(always)]
 pub(crate) fn put_all<A: Allocator + Clone>(
     into: &mut Container<A>,
     by: Key,
@@ -91,6 +93,7 @@ pub(crate) fn put_all<A: Allocator + Clone>(
 }
 
 /// The same by short searches. Says whether none was cut off.
+#[inline(always)]
 fn put_by_search<A: Allocator>(into: &mut Container<A>, by: Key, from: &[Coupon]) -> bool
     requires small { into.old.lg_size ≤ 26 }
     requires none { into.old ≡ empty_table into.old.lg_size }
