@@ -1,5 +1,5 @@
-//! The library for C: calls over images, and over registers of the caller, which keep nothing. bindings/c/hll.h says what each call owes its caller, and
-//! docs/MODEL.md, "Calls over images", what the contracts say.
+//! The library for C: calls over images, and over registers of the caller, which keep nothing. bindings/c/hll.h says what
+//! each call owes its caller, and docs/MODEL.md, "Calls over images", what the contracts say.
 //!
 //! Each answers 0, the number of a reason (docs/FORMAT.md, "Reasons"), 14 where a buffer is too small, or 15 where what is
 //! joined has fewer registers than the caller; then `size` is the size needed, and `fewer` the other `lg_k`. On every code
