@@ -75,10 +75,10 @@
  * What is proved
  *     Of the calls from hll_image_info to hll_coupons it is proved what they answer, write and leave as it was, for
  *     all inputs of a caller who keeps to the above; of unions that order, repetition and grouping of grown images
- *     under one lg_max_k make no difference; and that registers into which an image is joined, written as an image, are
- *     the union of theirs with it. Not proved is what is said of time, of threads, of other libraries, and of memory,
- *     but for which images may be refused for want of it. Estimates, hll_version and what this header defines
- *     itself are plain C, tested and not proved.
+ *     under one lg_max_k make no difference; and that registers that are not all 0, into which an image is joined,
+ *     written as an image, are the union of theirs with it, its words set. Not proved is what is said of time, of
+ *     threads, of other libraries, and of memory, but for which images may be refused for want of it. Estimates,
+ *     hll_version and what this header defines itself are plain C, tested and not proved.
  */
 #ifndef HLL_H
 #define HLL_H
@@ -175,7 +175,7 @@ uint32_t hll_version(void);
 hll_status hll_image_info(const uint8_t *image, size_t len, hll_info *info);
 
 /* Whether the bytes begin with an image (HLL_OK), else why not.
- * Answers HLL_OK, 1 to 11, or HLL_MEMORY. Takes the memory of reading for coupons, but none where they are at most 128,
+ * Answers HLL_OK, 1 to 11, or HLL_MEMORY. Takes the memory of reading for coupons, but none where they are 1 to 128,
  * or ascend in a compact image; and memory for the exceptions of registers of 4 bits. */
 hll_status hll_image_check(const uint8_t *image, size_t len);
 
@@ -285,7 +285,7 @@ hll_status hll_registers_add_coupons(uint8_t *registers, size_t count, const uin
  * are all 0, which change nothing. Where the image has other registers, and fewer than the caller, the answer is
  * HLL_FEWER, and *lg_k is the image's: fold to it, and join again. *lg_k is written on no other answer.
  * Answers HLL_OK, 1 to 11, HLL_ARGUMENT, HLL_MEMORY or HLL_FEWER. Takes memory for the exceptions of registers of 4
- * bits, and the memory of reading for coupons, but none where they are at most 128, or ascend in a compact image; none
+ * bits, and the memory of reading for coupons, but none where they are 1 to 128, or ascend in a compact image; none
  * for registers of 6 and 8 bits. */
 hll_status hll_registers_join(uint8_t *registers, size_t count, const uint8_t *image, size_t len, uint8_t *lg_k);
 
@@ -335,7 +335,7 @@ hll_status hll_estimate(const uint8_t *image, size_t len, hll_estimation *estima
  * Answers HLL_OK, 1 to 11, HLL_ARGUMENT or HLL_MEMORY. Takes the memory of reading. */
 hll_status hll_hip_estimate(const uint8_t *image, size_t len, hll_estimation *estimation);
 
-/* The same of registers of the caller; not proved.
+/* Estimates as hll_estimate does, from registers of the caller; not proved.
  * Answers HLL_OK, HLL_REGISTER or HLL_ARGUMENT. Takes no memory. */
 hll_status hll_registers_estimate(const uint8_t *registers, size_t count, hll_estimation *estimation);
 

@@ -112,7 +112,7 @@ class Registers:
             except OverflowError:
                 raise ArgumentError("a coupon is 0 to 2^32 - 1") from None
         if taken:
-            with self._lock:
+            with memoryview(taken), self._lock:     # no thread can resize it meanwhile
                 _library.add_coupons_to(self._place, taken)
 
     def join(self, other: Union[Sketch, "Registers", bytes, bytearray, memoryview]) -> None:
@@ -127,8 +127,9 @@ class Registers:
             ``fold`` these to that first, if the union may be as coarse.
         """
         if isinstance(other, Registers):
+            copied = memoryview(other._bytes())     # both may lie over the same memory
             with self._lock:
-                fewer = _library.join_registers(self._place, other._place)
+                fewer = _library.join_registers(self._place, _library.place_of(copied))
         else:
             image = other.to_bytes() if isinstance(other, Sketch) else data_in(other)
             with self._lock:

@@ -7,10 +7,11 @@ import random
 import threading
 import unittest
 from array import array
+from unittest import mock
 
 import common
 from hll_sketches import ArgumentError, ImageError, PrecisionError, Registers, Sketch, coupons
-from hll_sketches import union_of
+from hll_sketches import _library, union_of
 
 ROUNDS = 300
 
@@ -122,6 +123,37 @@ class JoinTest(unittest.TestCase):
         with self.assertRaises(TypeError):
             made.update_many("text")
         self.assertEqual(bytes(made.memory), before)
+
+    def test_registers_over_the_same_memory(self):
+        """Joined with themselves, and with others that share a part of their bytes."""
+        made = Registers(6)
+        made.update_many(range(200))
+        before = bytes(made.memory)
+        made.join(made)
+        self.assertEqual(bytes(made.memory), before)
+        front = Registers.over(made.memory[:32])
+        front.join(made)
+        self.assertEqual(bytes(front.memory), bytes(map(max, before[:32], before[32:])))
+        self.assertEqual(bytes(made.memory[32:]), before[32:])
+
+    def test_an_array_keeps_its_size_meanwhile(self):
+        """So that no other thread takes away what is read."""
+        words, made = coupons(range(50)), Registers(6)
+        if not isinstance(words, array):
+            words = array("I", words)
+        add, refused = _library.add_coupons_to, []
+
+        def add_beside(place, taken):
+            with self.assertRaises(BufferError):
+                taken.append(1)
+            refused.append(len(taken))
+            add(place, taken)
+
+        with mock.patch.object(_library, "add_coupons_to", add_beside):
+            made.add_coupons(words)
+        self.assertEqual(refused, [50])
+        self.assertEqual(bytes(made.memory), plain_registers(6, words))
+        words.append(1 << 26)
 
     def test_lg_k(self):
         for lg_k in range(4, 22):

@@ -48,7 +48,7 @@ pub extern "C" fn hll_image_info(alloc: Global, image: &[u8], info: &mut HllInfo
 
 /// Whether bytes begin with an image; else the reason of the first check that they fail (docs/FORMAT.md, "Order of checks").
 ///
-/// Answers `Memory` too. Takes memory for a table of coupons, but not for coupons that are at most 128, or ascend in a compact
+/// Answers `Memory` too. Takes memory for a table of coupons, but not for coupons that are 1 to 128, or ascend in a compact
 /// image; and for the exceptions of registers of four bits.
 #[unsafe(no_mangle)]
 pub extern "C" fn hll_image_check(alloc: Global, image: &[u8]) -> u8
@@ -287,7 +287,7 @@ pub extern "C" fn hll_registers_add_coupons(registers: &mut [u8], coupons: &[u32
 /// Answers 15 where the image has registers that are not all 0, and fewer of them; then `fewer` is its `lg_k`. Answers
 /// `Argument` for a number of registers that is not 2^`lg_k`, the reason of the first check that the image fails, or
 /// `Memory`. Takes memory for the exceptions of registers of four bits, and for a table of coupons, but not for coupons that
-/// are at most 128, or ascend in a compact image.
+/// are 1 to 128, or ascend in a compact image.
 #[unsafe(no_mangle)]
 pub extern "C" fn hll_registers_join(
     alloc: Global,

@@ -54,7 +54,7 @@ pub fn join_coupon(registers: &mut [u8], lg_k: u8, coupon: Coupon)
 /// changes nothing, where it has registers that are not all 0, and fewer of them.
 ///
 /// Fails with the reason of the first check that the image fails, or with `Memory`, and then changes nothing. Takes memory
-/// for the exceptions of registers of four bits, and for a table of coupons, but not for coupons that are at most 128, or
+/// for the exceptions of registers of four bits, and for a table of coupons, but not for coupons that are 1 to 128, or
 /// ascend in a compact image.
 pub fn join_image<A: Allocator + Clone>(
     alloc: A,

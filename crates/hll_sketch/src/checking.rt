@@ -23,7 +23,7 @@ impl<A: Allocator + Clone> HllSketch<A> {
     /// Tests whether bytes begin with an image. What follows the image is not looked at.
     ///
     /// Fails as `deserialize` does, with the reason of the first check that the bytes fail, or else with `Memory`. Takes memory,
-    /// only once the bytes that the image asks for are there, for a table of coupons, but not for coupons that are at most
+    /// only once the bytes that the image asks for are there, for a table of coupons, but not for coupons that are 1 to
     /// 128, or ascend in a compact image; and for the exceptions of registers of four bits.
     pub fn check(alloc: A, bytes: &[u8]) -> Result<(), Error>
         ensures ok { OnOk result ((x : Sketch) × IsReadAs bytes.now x) }
