@@ -201,7 +201,8 @@ try_readme() {
         on { text = text $0 "\n" }' README.md >"$tests/readme.c"
     $CC $strict -std=c99 -I. -o "$tests/readme" "$tests/readme.c" "$build/libhll.a" || return 1
     printf '%s\n' "$tests/one.hll" "$tests/none.hll" "$tests/two.hll" "$tests/one.hll" | "$tests/readme" \
-        >"$tests/said" 2>"$tests/refused" || return 1
+        >"$tests/said" 2>"$tests/refused"
+    [ $? -eq 1 ] || return 1
     grep '^2 distinct values$' "$tests/said" && grep 'none.hll: family$' "$tests/refused" &&
         [ "$(wc -l <"$tests/refused")" -eq 1 ]
 }
