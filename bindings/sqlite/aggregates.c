@@ -1,0 +1,173 @@
+/* SPDX-License-Identifier: Apache-2.0 */
+/*
+ * The aggregates hll_image_union_agg and hll_image_add_agg, and their shorter names.
+ */
+#include "group.h"
+
+#include <string.h>
+
+/* ---- arguments */
+
+/* Whether the arguments behind the first are right, and those of all rows before. */
+static bool options_in(sqlite3_context *context, int n, sqlite3_value **values, const char *lg_k_name, Group *group)
+{
+    uint8_t lg_k = 12, width = 8;
+
+    if (n > 1 && !lg_k_in(context, values[1], lg_k_name, &lg_k))
+        return false;
+    if (n > 2 && !width_in(context, values[2], &width))
+        return false;
+    if (group->is_begun && (group->lg_k != lg_k || group->width != width)) {
+        sqlite3_result_error(context, "lg_k and width must be the same for all rows of a group", -1);
+        return false;
+    }
+    group->is_begun = true;
+    group->lg_k = lg_k;
+    group->width = width;
+    return true;
+}
+
+/* The group for the next row; NULL where an error was answered, now or before. */
+static Group *next_row(sqlite3_context *context, int n, sqlite3_value **values, const char *lg_k_name)
+{
+    Group *group = sqlite3_aggregate_context(context, sizeof *group);
+
+    if (group == NULL) {
+        sqlite3_result_error_nomem(context);
+        return NULL;
+    }
+    if (group->has_failed)
+        return NULL;
+    group->has_failed = !options_in(context, n, values, lg_k_name, group);
+    group->rows++;
+    return group->has_failed ? NULL : group;
+}
+
+/* ---- values */
+
+static void put_eight(uint8_t *eight, uint64_t word)
+{
+    int i;
+
+    for (i = 0; i < 8; i++)
+        eight[i] = (uint8_t)(word >> (8 * i));
+}
+
+/* The binary64 that stands for a real: 0.0 for -0.0, and one NaN for all. */
+static uint64_t word_of_real(double real)
+{
+    uint64_t word;
+
+    if (real != real)
+        return UINT64_C(0x7ff8000000000000);
+    real += 0.0;
+    memcpy(&word, &real, sizeof word);
+    return word;
+}
+
+/* The bytes that a value counts by (docs/FORMAT.md, "What values are hashed as"): of a number eight, the lowest first. */
+static bool hashed_in(sqlite3_context *context, sqlite3_value *value, uint8_t *eight, hll_bytes *bytes)
+{
+    int type = sqlite3_value_type(value);
+
+    if (type == SQLITE_TEXT || type == SQLITE_BLOB)
+        return bytes_in(context, value, bytes);
+    put_eight(eight, type == SQLITE_INTEGER ? (uint64_t)sqlite3_value_int64(value) : word_of_real(sqlite3_value_double(value)));
+    bytes->bytes = eight;
+    bytes->len = 8;
+    return true;
+}
+
+/* ---- the aggregates */
+
+static void step_images(sqlite3_context *context, int n, sqlite3_value **values)
+{
+    Group *group = next_row(context, n, values, "lg_max_k");
+    hll_bytes image;
+    hll_status status;
+
+    if (group == NULL || sqlite3_value_type(values[0]) == SQLITE_NULL)
+        return;
+    group->has_failed = !image_in(context, values[0], &image);
+    if (group->has_failed)
+        return;
+    status = take_image(group, image);
+    group->has_failed = status != HLL_OK;
+    if (group->has_failed)
+        refuse_number(context, status, "row", refused_row(group));
+}
+
+static void step_values(sqlite3_context *context, int n, sqlite3_value **values)
+{
+    Group *group = next_row(context, n, values, "lg_k");
+    uint8_t eight[8];
+    hll_bytes value;
+    hll_status status;
+
+    if (group == NULL || sqlite3_value_type(values[0]) == SQLITE_NULL)
+        return;
+    group->has_failed = !hashed_in(context, values[0], eight, &value);
+    if (group->has_failed)
+        return;
+    status = take_value(group, value);
+    group->has_failed = status != HLL_OK;
+    if (group->has_failed)
+        refuse(context, status, "");
+}
+
+/* Answers the image of a group, unless nothing came or an error was answered. */
+static void finish(sqlite3_context *context, Finish *image_of)
+{
+    Group *group = sqlite3_aggregate_context(context, 0);
+    Output out;
+    hll_status status;
+
+    if (group == NULL)
+        return;
+    if (!group->has_failed && !is_vacant(group)) {
+        status = image_of(group, &out);
+        if (status == HLL_OK)
+            answer_image(context, &out);
+        else
+            refuse_number(context, status, "row", refused_row(group));
+    }
+    free_group(group);
+}
+
+static void final_images(sqlite3_context *context)
+{
+    finish(context, finish_images);
+}
+
+static void final_values(sqlite3_context *context)
+{
+    finish(context, finish_values);
+}
+
+/* ---- registration */
+
+typedef struct Entry {
+    const char *name;
+    void (*step)(sqlite3_context *context, int n, sqlite3_value **values);
+    void (*final)(sqlite3_context *context);
+} Entry;
+
+static const Entry entries[] = {
+    {"hll_image_union_agg", step_images, final_images},
+    {"hll_image_add_agg", step_values, final_values},
+    {"hll_union_agg", step_images, final_images},
+    {"hll_add_agg", step_values, final_values},
+};
+
+/* Each takes one argument to three. None can leave a row out again, so none is a window function. */
+int register_aggregates(sqlite3 *db)
+{
+    int code = SQLITE_OK, n;
+    size_t i;
+
+    for (i = 0; i < sizeof entries / sizeof *entries; i++)
+        for (n = 1; n <= 3 && code == SQLITE_OK; n++)
+            code = sqlite3_create_function_v2(db, entries[i].name, n, HLL_FLAGS, NULL, NULL, entries[i].step, entries[i].final,
+                                              NULL);
+    return code;
+}

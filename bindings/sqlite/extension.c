@@ -1,0 +1,158 @@
+/* SPDX-License-Identifier: Apache-2.0 */
+/*
+ * The entry of the extension, and what its functions share.
+ */
+#include "hll_sqlite.h"
+
+SQLITE_EXTENSION_INIT1
+
+/* ---- arguments */
+
+/* The bytes of a text or a blob. */
+bool bytes_in(sqlite3_context *context, sqlite3_value *value, hll_bytes *bytes)
+{
+    bytes->bytes = sqlite3_value_type(value) == SQLITE_TEXT ? sqlite3_value_text(value) : sqlite3_value_blob(value);
+    bytes->len = (size_t)sqlite3_value_bytes(value);
+    if (bytes->bytes == NULL && bytes->len > 0) {
+        sqlite3_result_error_nomem(context);
+        return false;
+    }
+    if (bytes->bytes == NULL)
+        bytes->bytes = (const uint8_t *)"";
+    return true;
+}
+
+bool image_in(sqlite3_context *context, sqlite3_value *value, hll_bytes *image)
+{
+    if (sqlite3_value_type(value) == SQLITE_BLOB)
+        return bytes_in(context, value, image);
+    sqlite3_result_error(context, "an HLL image must be a blob", -1);
+    return false;
+}
+
+/* A number that is an integer, as it stands. */
+static bool integer_in(sqlite3_context *context, sqlite3_value *value, const char *name, sqlite3_int64 *number)
+{
+    int type = sqlite3_value_type(value);
+
+    *number = sqlite3_value_int64(value);
+    if (type == SQLITE_INTEGER)
+        return true;
+    refuse_argument(context, type == SQLITE_NULL ? "%s must not be null" : "%s must be an integer", name, 0);
+    return false;
+}
+
+bool lg_k_in(sqlite3_context *context, sqlite3_value *value, const char *name, uint8_t *lg_k)
+{
+    sqlite3_int64 number;
+
+    if (!integer_in(context, value, name, &number))
+        return false;
+    *lg_k = (uint8_t)number;
+    if (4 <= number && number <= 21)
+        return true;
+    refuse_argument(context, "%s must be between 4 and 21, not %lld", name, number);
+    return false;
+}
+
+bool width_in(sqlite3_context *context, sqlite3_value *value, uint8_t *width)
+{
+    sqlite3_int64 number;
+
+    if (!integer_in(context, value, "width", &number))
+        return false;
+    *width = (uint8_t)number;
+    if (number == 4 || number == 6 || number == 8)
+        return true;
+    refuse_argument(context, "%s must be 4, 6 or 8, not %lld", "width", number);
+    return false;
+}
+
+bool deviations_in(sqlite3_context *context, sqlite3_value *value, int *deviations)
+{
+    sqlite3_int64 number;
+
+    if (!integer_in(context, value, "deviations", &number))
+        return false;
+    *deviations = (int)number;
+    if (1 <= number && number <= 3)
+        return true;
+    refuse_argument(context, "%s must be 1, 2 or 3, not %lld", "deviations", number);
+    return false;
+}
+
+/* ---- errors */
+
+/* Answers an error with a text of SQLite's, which it gives back. */
+static void answer_error(sqlite3_context *context, char *text)
+{
+    if (text == NULL)
+        sqlite3_result_error_nomem(context);
+    else
+        sqlite3_result_error(context, text, -1);
+    sqlite3_free(text);
+}
+
+void refuse(sqlite3_context *context, hll_status status, const char *place)
+{
+    bool is_image = HLL_TRUNCATED <= status && status <= HLL_REGISTER;
+    const char *format = is_image ? "invalid HLL image%s: %s" : "unexpected answer of the HLL library%s: %s";
+
+    if (status == HLL_MEMORY)
+        sqlite3_result_error_nomem(context);
+    else
+        answer_error(context, sqlite3_mprintf(format, place, hll_reason(status)));
+}
+
+/* The same, of an image with a number: "argument" 2, "row" 17. */
+void refuse_number(sqlite3_context *context, hll_status status, const char *what, sqlite3_int64 number)
+{
+    char place[64];
+
+    sqlite3_snprintf(sizeof place, place, " in %s %lld", what, number);
+    refuse(context, status, place);
+}
+
+/* An argument that is no such number; the format has its name and, if it tells it, the number. */
+void refuse_argument(sqlite3_context *context, const char *format, const char *name, sqlite3_int64 number)
+{
+    answer_error(context, sqlite3_mprintf(format, name, number));
+}
+
+/* ---- what is written */
+
+hll_status write_image(Writer *writer, void *given, size_t room, Output *out)
+{
+    hll_status status;
+
+    out->size = room;
+    do {
+        out->room = out->size;
+        out->bytes = sqlite3_malloc64(out->room);
+        if (out->bytes == NULL)
+            return HLL_MEMORY;
+        status = writer(given, out);
+        if (status != HLL_OK)
+            sqlite3_free(out->bytes);
+    } while (status == HLL_BUFFER);
+    return status;
+}
+
+void answer_image(sqlite3_context *context, const Output *out)
+{
+    sqlite3_result_blob64(context, out->bytes, out->size, sqlite3_free);
+}
+
+/* ---- the entry: SQLite makes its name of the file's, hll_sketches.so */
+
+int sqlite3_hllsketches_init(sqlite3 *db, char **error, const sqlite3_api_routines *api);
+
+int sqlite3_hllsketches_init(sqlite3 *db, char **error, const sqlite3_api_routines *api)
+{
+    int code;
+
+    (void)error;
+    SQLITE_EXTENSION_INIT2(api);
+    code = register_functions(db);
+    return code == SQLITE_OK ? register_aggregates(db) : code;
+}

@@ -1,0 +1,363 @@
+/* SPDX-License-Identifier: Apache-2.0 */
+/*
+ * Functions of one image or two. Each is one call of the library.
+ */
+#include "hll_sqlite.h"
+
+#include <math.h>
+#include <stdio.h>
+#include <string.h>
+
+#define MAX(a, b) ((a) > (b) ? (a) : (b))
+#define MIN(a, b) ((a) < (b) ? (a) : (b))
+
+/* A function whose arguments are not NULL. */
+typedef void Function(sqlite3_context *context, int n, sqlite3_value **values);
+
+/* What a call of the library is given. */
+typedef struct Call {
+    hll_bytes image;
+    hll_bytes other;
+    uint8_t lg_k;
+    uint8_t width;
+    size_t failed;
+} Call;
+
+#define IMAGE(bytes_) (bytes_).bytes, (bytes_).len
+
+/* A guess at what an image needs that changes its width or lg_k: only many exceptions of four bits need more. Bytes behind
+ * an image may be many. */
+static size_t changed_room(hll_bytes image)
+{
+    return MIN(2 * image.len + 64, HLL_IMAGE_MAX(21));
+}
+
+/* Answers the image that a call writes, or the error of its refusal. */
+static void answer_written(sqlite3_context *context, Writer *writer, Call *call, size_t room)
+{
+    Output out;
+    hll_status status = write_image(writer, call, room, &out);
+
+    if (status == HLL_OK)
+        answer_image(context, &out);
+    else
+        refuse(context, status, "");
+}
+
+/* ---- images from images */
+
+static hll_status write_empty(void *given, Output *out)
+{
+    const Call *call = given;
+
+    return hll_image_new(call->lg_k, call->width, OUTPUT(out));
+}
+
+static void empty(sqlite3_context *context, int n, sqlite3_value **values)
+{
+    Call call = {.lg_k = 12, .width = 8};
+
+    if (n > 0 && !lg_k_in(context, values[0], "lg_k", &call.lg_k))
+        return;
+    if (n > 1 && !width_in(context, values[1], &call.width))
+        return;
+    answer_written(context, write_empty, &call, 64);
+}
+
+static hll_status write_fold(void *given, Output *out)
+{
+    const Call *call = given;
+
+    return hll_image_fold(IMAGE(call->image), call->lg_k, OUTPUT(out));
+}
+
+static void fold(sqlite3_context *context, int n, sqlite3_value **values)
+{
+    Call call;
+    Output out;
+    hll_status status;
+
+    (void)n;
+    if (!image_in(context, values[0], &call.image) || !lg_k_in(context, values[1], "lg_k", &call.lg_k))
+        return;
+    status = write_image(write_fold, &call, changed_room(call.image), &out);
+    if (status == HLL_OK)
+        answer_image(context, &out);
+    else if (status == HLL_ARGUMENT)
+        refuse_argument(context, "%s must be at most that of the image, not %lld", "lg_k", call.lg_k);
+    else
+        refuse(context, status, "");
+}
+
+static hll_status write_converted(void *given, Output *out)
+{
+    const Call *call = given;
+
+    return hll_image_convert(IMAGE(call->image), call->width, OUTPUT(out));
+}
+
+static void convert(sqlite3_context *context, int n, sqlite3_value **values)
+{
+    Call call;
+
+    (void)n;
+    if (image_in(context, values[0], &call.image) && width_in(context, values[1], &call.width))
+        answer_written(context, write_converted, &call, changed_room(call.image));
+}
+
+static hll_status write_with_words(void *given, Output *out)
+{
+    const Call *call = given;
+
+    return hll_image_set_estimator_words(IMAGE(call->image), OUTPUT(out));
+}
+
+static void words(sqlite3_context *context, int n, sqlite3_value **values)
+{
+    Call call;
+
+    (void)n;
+    if (image_in(context, values[0], &call.image))
+        answer_written(context, write_with_words, &call, MIN(call.image.len + 64, HLL_IMAGE_MAX(21)));
+}
+
+/* ---- two images */
+
+/* The lg_k that the header names; where the bytes are no image, any that is in range: reading them refuses them. */
+static uint8_t named_lg_k(hll_bytes image)
+{
+    uint8_t lg_k = image.len < 8 ? 4 : image.bytes[3];
+
+    return lg_k < 4 || lg_k > 21 ? 4 : lg_k;
+}
+
+/* The width that the header names, likewise. */
+static uint8_t named_width(hll_bytes image)
+{
+    uint8_t bits = image.len < 8 ? 0 : image.bytes[7] >> 2 & 3;
+
+    return bits == 3 ? 8 : (uint8_t)(4 + 2 * bits);
+}
+
+static bool two_images_in(sqlite3_context *context, sqlite3_value **values, Call *call)
+{
+    return image_in(context, values[0], &call->image) && image_in(context, values[1], &call->other);
+}
+
+static hll_status write_merged(void *given, Output *out)
+{
+    Call *call = given;
+
+    return hll_image_merge(call->lg_k, call->width, IMAGE(call->image), IMAGE(call->other), OUTPUT(out), &call->failed);
+}
+
+/* The union, with the greater width of both, and the greater lg_k or the one that is given. */
+static void merge(sqlite3_context *context, int n, sqlite3_value **values)
+{
+    Call call;
+    Output out;
+    hll_status status;
+
+    if (!two_images_in(context, values, &call))
+        return;
+    call.lg_k = MAX(named_lg_k(call.image), named_lg_k(call.other));
+    call.width = MAX(named_width(call.image), named_width(call.other));
+    if (n > 2 && !lg_k_in(context, values[2], "lg_max_k", &call.lg_k))
+        return;
+    status = write_image(write_merged, &call, MIN(call.image.len + call.other.len, (size_t)1 << call.lg_k) + 64, &out);
+    if (status == HLL_OK)
+        answer_image(context, &out);
+    else
+        refuse_number(context, status, "argument", (sqlite3_int64)call.failed + 1);
+}
+
+static void agree(sqlite3_context *context, int n, sqlite3_value **values)
+{
+    Call call;
+    uint8_t same;
+    hll_status status;
+
+    (void)n;
+    if (!two_images_in(context, values, &call))
+        return;
+    status = hll_images_agree(IMAGE(call.image), IMAGE(call.other), &same, &call.failed);
+    if (status == HLL_OK)
+        sqlite3_result_int(context, same);
+    else
+        refuse_number(context, status, "argument", (sqlite3_int64)call.failed + 1);
+}
+
+/* ---- what an image says */
+
+/* The word of the reason why a value is no image; NULL where it is one. */
+static void check(sqlite3_context *context, int n, sqlite3_value **values)
+{
+    hll_bytes image;
+    hll_status status;
+
+    (void)n;
+    if (sqlite3_value_type(values[0]) != SQLITE_BLOB) {
+        sqlite3_result_text(context, "type", -1, SQLITE_STATIC);
+        return;
+    }
+    if (!bytes_in(context, values[0], &image))
+        return;
+    status = hll_image_check(IMAGE(image));
+    if (status > HLL_REGISTER)
+        refuse(context, status, "");
+    else if (status != HLL_OK)
+        sqlite3_result_text(context, hll_reason(status), -1, SQLITE_STATIC);
+}
+
+/* Answers a text of SQLite's. */
+static void answer_text(sqlite3_context *context, char *text)
+{
+    if (text == NULL)
+        sqlite3_result_error_nomem(context);
+    else
+        sqlite3_result_text(context, text, -1, sqlite3_free);
+}
+
+static void info(sqlite3_context *context, int n, sqlite3_value **values)
+{
+    static const char *const stages[] = {"list", "set", "registers"};
+    hll_bytes image;
+    hll_info told;
+    hll_status status;
+
+    (void)n;
+    if (!image_in(context, values[0], &image))
+        return;
+    status = hll_image_info(IMAGE(image), &told);
+    if (status == HLL_OK)
+        answer_text(context, sqlite3_mprintf("{\"lg_k\":%d,\"width\":%d,\"stage\":\"%s\",\"coupons\":%lld,\"zeros\":%lld}",
+                                             told.lg_k, told.width, stages[told.stage], (sqlite3_int64)told.coupons,
+                                             (sqlite3_int64)told.zeros));
+    else
+        refuse(context, status, "");
+}
+
+/* ---- estimates */
+
+static bool estimation_of(sqlite3_context *context, sqlite3_value *value, hll_estimation *found)
+{
+    hll_bytes image;
+    hll_status status;
+
+    if (!image_in(context, value, &image))
+        return false;
+    status = hll_estimate(IMAGE(image), found);
+    if (status != HLL_OK)
+        refuse(context, status, "");
+    return status == HLL_OK;
+}
+
+static void estimate(sqlite3_context *context, int n, sqlite3_value **values)
+{
+    hll_estimation found;
+
+    (void)n;
+    if (estimation_of(context, values[0], &found))
+        sqlite3_result_double(context, found.estimate);
+}
+
+/* The estimate that the writer kept in the image, or NULL. */
+static void hip_estimate(sqlite3_context *context, int n, sqlite3_value **values)
+{
+    hll_bytes image;
+    hll_estimation found;
+    hll_status status;
+
+    (void)n;
+    if (!image_in(context, values[0], &image))
+        return;
+    status = hll_hip_estimate(IMAGE(image), &found);
+    if (status == HLL_OK)
+        sqlite3_result_double(context, found.estimate);
+    else if (status != HLL_ARGUMENT)
+        refuse(context, status, "");
+}
+
+/* A number with all its digits, and a point whatever the locale. JSON has no infinity: it is written as a number that no
+ * binary64 reaches. */
+static void put_number(char *text, size_t room, double number)
+{
+    char *point;
+    size_t len;
+
+    if (isinf(number)) {
+        snprintf(text, room, "9e999");
+        return;
+    }
+    snprintf(text, room, "%.17g", number);
+    point = text + strspn(text, "-0123456789");
+    if (*point == '\0' || *point == 'e')
+        return;
+    len = strcspn(point, "0123456789");
+    memmove(point + 1, point + len, strlen(point + len) + 1);
+    *point = '.';
+}
+
+static void estimate_bounds(sqlite3_context *context, int n, sqlite3_value **values)
+{
+    char lower[64], upper[64];
+    hll_estimation found;
+    int deviations = 2;
+
+    if (n > 1 && !deviations_in(context, values[1], &deviations))
+        return;
+    if (!estimation_of(context, values[0], &found))
+        return;
+    put_number(lower, sizeof lower, found.lower[deviations - 1]);
+    put_number(upper, sizeof upper, found.upper[deviations - 1]);
+    answer_text(context, sqlite3_mprintf("{\"lower\":%s,\"upper\":%s}", lower, upper));
+}
+
+/* ---- registration */
+
+typedef struct Entry {
+    const char *name;
+    int n;
+    Function *function;
+} Entry;
+
+static const Entry entries[] = {
+    {"hll_image_empty", 0, empty},
+    {"hll_image_empty", 1, empty},
+    {"hll_image_empty", 2, empty},
+    {"hll_fold", 2, fold},
+    {"hll_convert", 2, convert},
+    {"hll_words", 1, words},
+    {"hll_merge", 2, merge},
+    {"hll_merge", 3, merge},
+    {"hll_agree", 2, agree},
+    {"hll_check", 1, check},
+    {"hll_info", 1, info},
+    {"hll_estimate", 1, estimate},
+    {"hll_hip_estimate", 1, hip_estimate},
+    {"hll_estimate_bounds", 1, estimate_bounds},
+    {"hll_estimate_bounds", 2, estimate_bounds},
+};
+
+/* Calls the function of an entry, unless an argument is NULL: then the answer is NULL. */
+static void call_strict(sqlite3_context *context, int n, sqlite3_value **values)
+{
+    const Entry *entry = sqlite3_user_data(context);
+    int i;
+
+    for (i = 0; i < n; i++)
+        if (sqlite3_value_type(values[i]) == SQLITE_NULL)
+            return;
+    entry->function(context, n, values);
+}
+
+int register_functions(sqlite3 *db)
+{
+    int code = SQLITE_OK;
+    size_t i;
+
+    for (i = 0; i < sizeof entries / sizeof *entries && code == SQLITE_OK; i++)
+        code = sqlite3_create_function_v2(db, entries[i].name, entries[i].n, HLL_FLAGS, (void *)&entries[i], call_strict, NULL,
+                                          NULL, NULL);
+    return code;
+}

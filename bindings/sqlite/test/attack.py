@@ -1,0 +1,60 @@
+# SPDX-License-Identifier: Apache-2.0
+"""Bytes of strangers, schemas of strangers, and queries that are interrupted."""
+import threading
+import time
+
+from base import ask, connect, said_by
+from images import image_of_values
+from mutants import KINDS, Mutants
+from plain_reader import answer
+from report import SEED, check, equal
+
+MUTANTS = 400       # of each kind
+
+
+def mutants():
+    """Mutated images are answered as the plain reader answers them, and refused alike by all calls."""
+    for number, kind in enumerate(KINDS):
+        made = Mutants(kind, SEED + number)
+        for _ in range(MUTANTS):
+            image = made.image()
+            word, _ = answer(image)
+            equal("a mutant", ask("SELECT hll_check(?)", image), None if word == "accepted" else word)
+            for call in ("hll_convert(?, 4)", "hll_estimate(?)", "hll_image_union_agg(?)", "hll_info(?)"):
+                said = said_by("SELECT " + call, image)
+                check("%s of a mutant" % call, said.split(": ")[-1] == word if word != "accepted" else not said, (said, word))
+
+
+def interrupts():
+    """`sqlite3_interrupt` is heard between rows, by aggregates and by functions."""
+    other = connect()
+    endless = "WITH RECURSIVE n (i) AS (SELECT 1 UNION ALL SELECT i + 1 FROM n) SELECT %s FROM n"
+    for call in ("hll_image_add_agg(i)", "hll_image_union_agg(hll_image_empty(4 + i % 18))",
+                 "max(hll_estimate(hll_image_empty(4 + i % 18)))"):
+        timer = threading.Timer(0.3, other.interrupt)
+        timer.start()
+        started = time.monotonic()
+        said = said_by(endless % call, on=other)
+        check("an interrupt of " + call, said == "interrupted" and time.monotonic() - started < 10, said)
+        timer.join()
+    equal("after interrupts", ask("SELECT hll_image_add_agg('a')", on=other), image_of_values(12, 8, [b"a"]))
+    other.close()
+
+
+def schemas():
+    """Functions serve constraints, indexes and views, also where the schema is not trusted."""
+    other = connect()
+    other.execute("PRAGMA trusted_schema = OFF")
+    other.execute("CREATE TABLE days (day PRIMARY KEY, image BLOB NOT NULL CHECK (hll_check(image) IS NULL))")
+    other.execute("CREATE INDEX estimates ON days (hll_estimate(image))")
+    other.execute("CREATE VIEW month AS SELECT hll_image_union_agg(image) AS image FROM days")
+    for day in range(30):
+        other.execute("INSERT INTO days SELECT ?, hll_image_add_agg(?)", (day, "visitor %d" % day))
+    for bad in (b"", b"no image", "text", 7):
+        said = said_by("INSERT INTO days VALUES (99, ?)", bad, on=other)
+        check("a constraint refuses %r" % (bad,), said.startswith("CHECK constraint failed"), said)
+    found = ask("SELECT image FROM month", on=other)
+    equal("a view", found, image_of_values(12, 8, [b"visitor %d" % day for day in range(30)]))
+    plan = other.execute("EXPLAIN QUERY PLAN SELECT day FROM days WHERE hll_estimate(image) > 100").fetchall()
+    check("an index is used", "INDEX estimates" in plan[0][3], plan)
+    other.close()
