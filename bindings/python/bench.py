@@ -9,11 +9,12 @@ import pathlib
 import statistics
 import sys
 import time
+from array import array
 
 sys.dont_write_bytecode = True
 sys.path.insert(0, str(pathlib.Path(__file__).resolve().parent))
 
-from hll_sketches import Sketch, Union, _library, coupons, union_of  # noqa: E402
+from hll_sketches import Registers, Sketch, Union, _library, coupons, union_of  # noqa: E402
 
 IMAGES, TURNS = 1000, 11
 
@@ -48,6 +49,26 @@ def call_alone(images):
             raise RuntimeError("the call of the library failed")
 
     return call
+
+
+def add_alone(lg_k, values):
+    """The call of the library for all values of eight bytes at once, into an empty image."""
+    image, data, ends = Sketch(lg_k).to_bytes(), values.tobytes(), _library.ends_of_width(8, len(values))
+    out, size = bytearray(64 + (5 << lg_k)), _library.c_size_t()
+    room, add = _library.byref(_library.c_uint8.from_buffer(out)), _library._library.hll_image_add
+
+    def call():
+        rest = ends.buffer_info()[0], len(values), room, len(out), _library.byref(size)
+        if add(image, len(image), data, len(data), *rest) != _library.OK:
+            raise RuntimeError("the call of the library failed")
+
+    return call
+
+
+def add_to_alone(values):
+    """The same into registers."""
+    registers, data, ends = Registers(12), values.tobytes(), _library.ends_of_width(8, len(values))
+    return lambda: _library.add_to(registers._place, data, ends, len(values))
 
 
 def in_turn(images):
@@ -92,6 +113,15 @@ def main():
     ints, words = list(range(1_000_000)), [str(number) for number in range(1_000_000)]
     row("`update_many` of a million int", len(ints), lambda: Sketch(12).update_many(ints))
     row("`update_many` of a million str", len(words), lambda: Sketch(12).update_many(words))
+    for lg_k in (12, 21):
+        eights, floats = array("q", ints), array("d", ints)
+        alone = add_alone(lg_k, eights)
+        row(f"the same of an array of int64, lg_k {lg_k}", len(ints), lambda: Sketch(lg_k).update_many(eights), alone)
+        row(f"the same of an array of float64, lg_k {lg_k}", len(ints), lambda: Sketch(lg_k).update_many(floats), alone)
+    small = array("i", ints)
+    row("the same of an array of int32, lg_k 12", len(ints), lambda: Sketch(12).update_many(small), add_alone(12, eights))
+    registers = Registers(12)
+    row("`Registers.update_many` of an array of int64", len(ints), lambda: registers.update_many(eights), add_to_alone(eights))
     row("`update` of an int", 100_000, lambda: one_by_one(ints[:100_000]))
     row("`coupons` of a million int", len(ints), lambda: coupons(ints))
 

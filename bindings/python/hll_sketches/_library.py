@@ -9,12 +9,16 @@ from __future__ import annotations
 import ctypes
 import os
 import pathlib
+import struct
+import sys
 import threading
 from array import array
 from ctypes import POINTER, byref, c_char_p, c_double, c_size_t, c_void_p
 from ctypes import c_uint8, c_uint32, c_uint64
 from itertools import accumulate
-from typing import TYPE_CHECKING, Callable, Dict, List, Optional, Sequence, Type, TypeVar
+from operator import index
+from typing import TYPE_CHECKING, Callable, Dict, Iterable, List, Optional, Sequence, SupportsIndex
+from typing import Type, TypeVar
 
 from ._errors import ArgumentError, ImageError
 from ._locks import loading
@@ -226,7 +230,10 @@ def _load() -> Dict[str, Call]:
         with loading:
             return _calls_of(places[0])
     except (OSError, AttributeError, ImportError) as error:
-        raise ImportError(f"the library {places[0]} can't be used: {error}") from error
+        why = f"the library {places[0]} can't be used: {error}"
+        if "ISA level" in str(error):
+            why += " (it takes a processor with the instructions of x86-64-v2)"
+        raise ImportError(why) from error
 
 
 class _Calls:
@@ -251,9 +258,40 @@ def ends_of(pieces: Sequence[bytes]) -> Numbers:
     return array(_END, accumulate(map(len, pieces)))
 
 
-def ends_of_eights(count: int) -> Numbers:
-    """The ends of so many strings of eight bytes."""
-    return array(_END, range(8, 8 * count + 1, 8))
+_MOST_EIGHTS = 1 << 19
+
+_eights: Numbers = array(_END)
+"""The ends of strings of eight bytes, as many as were wanted at once, up to `_MOST_EIGHTS`."""
+
+
+def ends_of_width(width: int, count: int) -> Numbers:
+    """The ends of so many strings of one width, and maybe of more. They are not to be changed."""
+    global _eights
+    kept = _eights
+    if width == 8 and count <= len(kept):
+        return kept
+    made = array(_END, range(width, width * count + 1, width))
+    if width == 8 and count <= _MOST_EIGHTS:
+        _eights = made
+    return made
+
+
+def numbers_of(numbers: Iterable[SupportsIndex]) -> Numbers:
+    """Numbers as ends; each is tested by the call that takes them."""
+    try:
+        return array(_END, map(index, numbers))
+    except OverflowError:
+        raise ArgumentError(_WRONG_ENDS) from None
+
+
+def numbers_of_eights(data: bytes) -> Numbers:
+    """The same of numbers of eight bytes, the lowest first."""
+    if sys.byteorder == "little" and ctypes.sizeof(c_size_t) == 8:
+        return array(_END, data)
+    return numbers_of(number for number, in struct.iter_unpack("<Q", data))
+
+
+_WRONG_ENDS = "ends have to ascend, within the bytes"
 
 
 def _address(numbers: Numbers) -> int:
@@ -370,13 +408,13 @@ def hip_estimation(image: bytes) -> Optional[Estimation]:
     return found if status == OK else None
 
 
-def add(image: bytes, values: bytes, ends: Numbers) -> bytes:
-    """The image with values, told by their ends."""
-    count = len(ends)
-    room = room_for(image[3])
-    return _written(
-        _library.hll_image_add, room, image, len(image), values, len(values), _address(ends), count
-    )
+def add(image: bytes, values: bytes, ends: Numbers, count: int) -> bytes:
+    """The image with so many values, told by their ends."""
+    given = image, len(image), values, len(values), _address(ends), count
+    try:
+        return _written(_library.hll_image_add, room_for(image[3]), *given)
+    except ArgumentError:
+        raise ArgumentError(_WRONG_ENDS) from None
 
 
 def add_coupon(image: bytes, slot: int, value: int) -> bytes:
@@ -437,11 +475,10 @@ def coupon(value: bytes) -> int:
     return _library.hll_coupon(value, len(value))
 
 
-def coupons(values: bytes, ends: Numbers) -> Numbers:
-    """The raw words of the coupons of values, told by their ends."""
-    made = array(_COUPON, bytes(4 * len(ends)))
+def coupons(values: bytes, ends: Numbers, count: int) -> Numbers:
+    """The raw words of the coupons of so many values, told by their ends."""
+    made = array(_COUPON, bytes(4 * count))
     if made:
-        count = len(ends)
         status = _library.hll_coupons(
             values, len(values), _address(ends), count, made.buffer_info()[0], count
         )
@@ -464,13 +501,13 @@ def _refused_registers(status: int) -> Exception:
     return _refusal(status)
 
 
-def add_to(registers: Memory, values: bytes, ends: Numbers) -> None:
-    """Adds values, told by their ends, to registers."""
+def add_to(registers: Memory, values: bytes, ends: Numbers, count: int) -> None:
+    """Adds so many values, told by their ends, to registers."""
     status = _library.hll_registers_add(
-        registers, len(registers), values, len(values), _address(ends), len(ends)
+        registers, len(registers), values, len(values), _address(ends), count
     )
     if status != OK:
-        raise _refused_registers(status)
+        raise ArgumentError(_WRONG_ENDS)
 
 
 def add_coupons_to(registers: Memory, words: Numbers) -> None:

@@ -2,15 +2,15 @@
 """Values: the bytes that are hashed for each type, and their coupons."""
 from __future__ import annotations
 
-import struct
 import sys
 from array import array
 from itertools import islice
 from operator import index
-from typing import Any, Callable, Dict, Iterable, Iterator, List, Mapping, SupportsIndex, Tuple
+from typing import Any, Callable, Dict, Iterable, Iterator, List, Mapping, SupportsIndex
 from typing import Union, cast
 
 from . import _library
+from ._columns import Batch, Column, bytes_of_float, column_of, eights_of_floats, single_of
 from ._library import Numbers
 
 Value = Union[bytes, bytearray, memoryview, str, int, float, SupportsIndex]
@@ -19,20 +19,12 @@ Value = Union[bytes, bytearray, memoryview, str, int, float, SupportsIndex]
 LEAST, MOST, ENOUGH = 1 << 10, 1 << 16, 1 << 20
 """A first batch has so many values, the largest so many, and so many bytes are enough for one."""
 
-_NAN = float("nan")
-
-
 def bytes_of_int(value: int) -> bytes:
     """Eight bytes, little-endian, in two's complement."""
     try:
         return value.to_bytes(8, "little", signed=value < 0)
     except OverflowError:
         raise OverflowError("an int has to be within -2^63 and 2^64 - 1") from None
-
-
-def bytes_of_float(value: float) -> bytes:
-    """Eight bytes, binary64, little-endian: -0.0 as 0.0, and one NaN for all."""
-    return struct.pack("<d", value + 0.0 if value == value else _NAN)
 
 
 _of_type: Dict[type, Callable[..., bytes]] = {
@@ -52,10 +44,13 @@ def bytes_of(value: Value) -> bytes:
 
 
 def _bytes_of_other(value: Value) -> bytes:
-    """The same for a type that is derived from one of those, or stands for an int."""
+    """The same for a type that is derived from one of those, is NumPy's, or stands for an int."""
     for kind, call in _of_type.items():
         if isinstance(value, kind):
             return call(value)
+    kept = single_of(value)
+    if kept is not None:
+        return bytes_of(kept)
     try:
         return bytes_of_int(index(cast(SupportsIndex, value)))
     except TypeError:
@@ -75,27 +70,20 @@ def _eights_of_ints(values: List[int]) -> bytes:
     return numbers.tobytes()
 
 
-def _eights_of_floats(values: List[float]) -> bytes:
-    """The bytes of many floats."""
-    return struct.pack(
-        f"<{len(values)}d", *[value + 0.0 if value == value else _NAN for value in values]
-    )
-
-
-def joined(values: List[Any]) -> Tuple[bytes, Numbers]:
-    """The bytes of values, one after another, and their ends."""
-    kinds = set(map(type, values))
+def joined(values: List[Any]) -> Batch:
+    """The bytes of values, one after another, with their ends."""
+    kinds, count = set(map(type, values)), len(values)
     if kinds == {int}:
-        return _eights_of_ints(values), _library.ends_of_eights(len(values))
+        return _eights_of_ints(values), _library.ends_of_width(8, count), count
     if kinds == {float}:
-        return _eights_of_floats(values), _library.ends_of_eights(len(values))
+        return eights_of_floats(values), _library.ends_of_width(8, count), count
     if kinds == {str}:
         pieces = list(map(str.encode, values))
     elif kinds == {bytes}:
         pieces = values
     else:
         pieces = list(map(bytes_of, values))
-    return b"".join(pieces), _library.ends_of(pieces)
+    return b"".join(pieces), _library.ends_of(pieces), count
 
 
 def _lines(file: Iterable[Value]) -> Iterator[Value]:
@@ -109,30 +97,49 @@ def _lines(file: Iterable[Value]) -> Iterator[Value]:
             yield line
 
 
-def _many(values: Iterable[Value]) -> Iterator[Value]:
-    """The values, one by one, of what is meant to be many."""
+def _refuse_one(values: object) -> None:
+    """Refuses what is no iterable of values, though Python could iterate over it."""
     name = type(values).__name__
+    if isinstance(values, memoryview) and (values.ndim != 1 or values.itemsize > 1):
+        return
     if isinstance(values, (str, bytes, bytearray, memoryview)):
-        raise TypeError(f"many values, not one {name}")
+        raise TypeError(f"many values, not one {name}: a list of it, or update_bytes with ends")
     if isinstance(values, Mapping):
         raise TypeError(f"many values, not a {name}: its keys() or its values()")
     if hasattr(values, "columns"):
         raise TypeError(f"many values, not a {name}: one of its columns")
-    return _lines(values) if hasattr(values, "readline") else iter(values)
 
 
-def batches(values: Iterable[Value]) -> Iterator[Tuple[bytes, Numbers]]:
-    """The bytes of the values and their ends, in batches of about `ENOUGH` bytes."""
-    source, count = _many(values), LEAST
+def _batches_of(column: Column, size: int) -> Iterator[Batch]:
+    """The values of a column, in batches of at most half of `ENOUGH` bytes; of more where an image
+    of this size is read and written for each."""
+    most = max(1, min(max(ENOUGH // 2, size), 4 * ENOUGH) // column.width)
+    for start in range(0, column.length, most):
+        yield column.batch(start, min(start + most, column.length))
+
+
+def batches(values: Iterable[Value], size: int = 0) -> Iterator[Batch]:
+    """The bytes of the values and their ends, in batches of about `ENOUGH` bytes.
+
+    An image of `size` bytes is read and written for each.
+    """
+    _refuse_one(values)
+    column = column_of(values)
+    if column is not None:
+        yield from _batches_of(column, size)
+        return
+    if isinstance(values, memoryview):
+        raise TypeError(f"many values, not a memoryview of the format {values.format!r}")
+    source, count = _lines(values) if hasattr(values, "readline") else iter(values), LEAST
     while True:
         batch = list(islice(source, count))
         if not batch:
             return
-        data, ends = joined(batch)
-        yield data, ends
-        if len(data) < ENOUGH:
+        made = joined(batch)
+        yield made
+        if len(made[0]) < ENOUGH:
             count = min(2 * count, MOST)
-        elif len(data) > 4 * ENOUGH:
+        elif len(made[0]) > 4 * ENOUGH:
             count = max(count // 2, 1)
 
 
@@ -165,7 +172,7 @@ def coupons(values: Iterable[Value]) -> Numbers:
     array.array
         One number of 32 bits for each value, in their order.
     """
-    made = _library.coupons(b"", _library.ends_of([]))
-    for data, ends in batches(values):
-        made.extend(_library.coupons(data, ends))
+    made = _library.coupons(b"", _library.ends_of([]), 0)
+    for batch in batches(values):
+        made.extend(_library.coupons(*batch))
     return made

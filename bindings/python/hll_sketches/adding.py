@@ -13,7 +13,8 @@ BLOCK = 1 << 20
 def _with_lines(image: bytes, text: bytes) -> Tuple[bytes, int]:
     """The image with the lines of a text, which has no LF at its end; and how many these are."""
     lines = text.split(b"\n")
-    return _library.add(image, text.replace(b"\n", b""), _library.ends_of(lines)), len(lines)
+    count = len(lines)
+    return _library.add(image, text.replace(b"\n", b""), _library.ends_of(lines), count), count
 
 
 def add_lines(

@@ -2,20 +2,16 @@
 """Registers that a program keeps as bytes of its own."""
 from __future__ import annotations
 
-from array import array
-from operator import index
 from typing import Any, Iterable, List, Tuple, Type, TypeVar, Union
 
 from . import _library
+from ._columns import batch_of, words_in
 from ._errors import ArgumentError, PrecisionError
 from ._locks import Lock
 from ._values import Value, batches, bytes_of
 from .sketch import Sketch, checked_lg_k, checked_width, data_in
 
 _R = TypeVar("_R", bound="Registers")
-
-_WORD = next(code for code in "IL" if array(code).itemsize == 4)
-
 
 class Registers:
     """The registers of a sketch, a byte for each: ``2**lg_k`` bytes, all 0 at first.
@@ -82,13 +78,19 @@ class Registers:
         """Count a value, as ``Sketch.update`` does."""
         data = bytes_of(value)
         with self._lock:
-            _library.add_to(self._place, data, _library.ends_of([data]))
+            _library.add_to(self._place, data, _library.ends_of([data]), 1)
 
     def update_many(self, values: Iterable[Value]) -> None:
         """Count many values, as ``Sketch.update_many`` does."""
-        for data, ends in batches(values):
+        for batch in batches(values):
             with self._lock:
-                _library.add_to(self._place, data, ends)
+                _library.add_to(self._place, *batch)
+
+    def update_bytes(self, data: Any, ends: Any) -> None:
+        """Count byte strings that stand one after another, as ``Sketch.update_bytes`` does."""
+        batch = batch_of(data, ends)
+        with self._lock:
+            _library.add_to(self._place, *batch)
 
     def add_coupons(self, words: Iterable[int]) -> None:
         """Add coupons: what ``coupons`` gives of values.
@@ -104,13 +106,7 @@ class Registers:
         ArgumentError
             If one is no coupon. Then none was added.
         """
-        if isinstance(words, array) and words.typecode == _WORD:
-            taken = words
-        else:
-            try:
-                taken = array(_WORD, map(index, words))
-            except OverflowError:
-                raise ArgumentError("a coupon is 0 to 2^32 - 1") from None
+        taken = words_in(words)
         if taken:
             with memoryview(taken), self._lock:     # no thread can resize it meanwhile
                 _library.add_coupons_to(self._place, taken)

@@ -7,6 +7,7 @@ from operator import index
 from typing import Any, Iterable, List, Optional, Tuple, Type, TypeVar, Union
 
 from . import _library
+from ._columns import batch_of
 from ._errors import ArgumentError
 from ._locks import Lock
 from ._values import Value, batches, bytes_of
@@ -238,14 +239,36 @@ class Sketch:
         Parameters
         ----------
         values : iterable
-            Of what ``update`` takes; a pandas ``Series`` or a NumPy array of one dimension too. Of
-            an open file, the values are its lines without the LF. One ``str`` or ``bytes``, a
-            ``dict`` or a table is no iterable of values. Where a value is refused, some of those
-            before it have been counted.
+            Of what ``update`` takes. Numbers of at most eight bytes, and byte strings of one width,
+            are taken from their memory, without an object for each: a NumPy array of one
+            dimension, a pandas ``Series``, an ``array.array``, a ``memoryview`` of numbers. They
+            count as they do one by one. Of an open file, the values are its lines without the LF.
+            One ``str`` or ``bytes``, a ``dict`` or a table is no iterable of values. Where a value
+            is refused, some of those before it have been counted.
         """
-        for data, ends in batches(values):
+        for batch in batches(values, 8 + (1 << self.lg_k)):
             with self._lock:
-                self._image = _library.add(self.to_bytes(), data, ends)
+                self._image = _library.add(self.to_bytes(), *batch)
+
+    def update_bytes(self, data: Any, ends: Any) -> None:
+        """Count byte strings that stand one after another, as in a column of strings of Arrow.
+
+        Parameters
+        ----------
+        data : bytes, or what shows bytes
+            All of them, without a gap. Bytes behind the last end are not looked at.
+        ends : iterable of int, or integers in memory
+            The end of each; the first one begins at 0. (Offsets of Arrow begin with that 0: leave
+            it out.)
+
+        Raises
+        ------
+        ArgumentError
+            If the ends descend, or go past the bytes. Then nothing has changed.
+        """
+        batch = batch_of(data, ends)
+        with self._lock:
+            self._image = _library.add(self.to_bytes(), *batch)
 
     def add_coupon(self, slot: int, value: int) -> None:
         """Add a coupon itself: what a hash made of a value.
@@ -311,7 +334,7 @@ class Sketch:
             if count:
                 kept = self._pending[:count]
                 data = b"".join(kept)
-                self._image = _library.add(self._image, data, _library.ends_of(kept))
+                self._image = _library.add(self._image, data, _library.ends_of(kept), count)
                 del self._pending[:count]
                 rest = self._pending
                 self._pending_bytes = sum(map(len, rest)) + VALUE_BYTES * len(rest)

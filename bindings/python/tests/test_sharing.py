@@ -14,7 +14,6 @@ import time
 import tracemalloc
 import types
 import unittest
-from array import array
 from unittest import mock
 
 import common
@@ -280,9 +279,8 @@ class ManyTest(unittest.TestCase):
                 call(values)
 
     def test_what_is_no_iterable_of_values(self):
-        views = memoryview(b"ab"), memoryview(array("q", [1]))
-        for values in (b"ab", bytearray(b"ab"), "ab", *views):
-            self.refused(values, f"^many values, not one {type(values).__name__}$")
+        for values in (b"ab", bytearray(b"ab"), "ab", memoryview(b"ab")):
+            self.refused(values, f"^many values, not one {type(values).__name__}: a list of it, or ")
         for values in ({"a": 1}, os.environ, types.MappingProxyType({})):
             self.refused(values, r"keys\(\) or its values\(\)")
         table = type("DataFrame", (), {"columns": ["a"], "__iter__": lambda self: iter("a")})

@@ -1,0 +1,228 @@
+# SPDX-License-Identifier: Apache-2.0
+"""Columns: numbers, or byte strings of one width, that lie in memory one after another.
+
+What shows its memory (a NumPy array, an ``array.array``, a ``memoryview``, a pandas ``Series`` of
+numbers) is taken by its format, and no value of it becomes an object of Python.
+"""
+from __future__ import annotations
+
+import re
+import struct
+import sys
+from array import array
+from operator import index
+from typing import Any, Callable, List, NamedTuple, Optional, Tuple, Union
+
+from . import _library
+from ._errors import ArgumentError
+from ._library import Numbers
+
+Batch = Tuple[bytes, Numbers, int]
+"""The bytes of values, one after another; their ends, and maybe more; and how many there are."""
+
+Part = Callable[[int, int], bytes]
+"""The bytes that are hashed for the values from one number to another."""
+
+NAN = float("nan")
+
+FEW = 16
+"""Where one number in so many needs a look, all are looked at."""
+
+
+class Column(NamedTuple):
+    """So many values of so many bytes each; or of fewer, where zeros at the end don't count."""
+
+    length: int
+    width: int
+    part: Part
+    is_stripped: bool = False
+
+    def batch(self, start: int, stop: int) -> Batch:
+        """The values from one number to another."""
+        data, count = self.part(start, stop), stop - start
+        if self.is_stripped and b"\0" in data[self.width - 1 :: self.width]:
+            cut = (data[at : at + self.width] for at in range(0, len(data), self.width))
+            pieces = [piece.rstrip(b"\0") for piece in cut]
+            return b"".join(pieces), _library.ends_of(pieces), count
+        return data, _library.ends_of_width(self.width, count), count
+
+
+# ---- real numbers
+
+
+def bytes_of_float(value: float) -> bytes:
+    """Eight bytes, binary64, little-endian: -0.0 as 0.0, and one NaN for all."""
+    return struct.pack("<d", value + 0.0 if value == value else NAN)
+
+
+def eights_of_floats(values: List[float]) -> bytes:
+    """The bytes of many floats."""
+    return struct.pack(
+        f"<{len(values)}d", *[value + 0.0 if value == value else NAN for value in values]
+    )
+
+
+def _normal(data: bytes) -> bytes:
+    """Words of binary64, little-endian, with -0.0 as 0.0, and one NaN for all."""
+    highest = data[7::8]
+    suspects = [byte for byte in (0x7F, 0x80, 0xFF) if byte in highest]     # of -0.0 and NaN
+    if not suspects:
+        return data
+    if sum(map(highest.count, suspects)) > len(highest) // FEW:
+        return eights_of_floats(list(struct.unpack(f"<{len(highest)}d", data)))
+    made = bytearray(data)
+    for byte in suspects:
+        at = highest.find(byte)
+        while at >= 0:
+            made[8 * at : 8 * at + 8] = bytes_of_float(*struct.unpack_from("<d", data, 8 * at))
+            at = highest.find(byte, at + 1)
+    return bytes(made)
+
+
+# ---- formats
+
+_SIGNS = bytes(128) + b"\xff" * 128
+"""For the highest byte of a number, those above it in eight bytes."""
+
+
+def _is_little(view: memoryview) -> bool:
+    """Whether the lowest byte of a number is the first one."""
+    order = view.format[:1]
+    return order == "<" or (order not in (">", "!") and sys.byteorder == "little")
+
+
+def _in_eight(data: bytes, width: int, is_little: bool, is_signed: bool) -> bytes:
+    """Numbers of so many bytes in eight each, the lowest first."""
+    made = bytearray(len(data) // width * 8)
+    for at in range(width):
+        made[at::8] = data[(at if is_little else width - 1 - at) :: width]
+    above = made[width - 1 :: 8].translate(_SIGNS) if is_signed else b""
+    if width < 8 and above.strip(b"\0"):
+        for at in range(width, 8):
+            made[at::8] = above
+    return bytes(made)
+
+
+def _integers(view: memoryview, is_signed: bool) -> Part:
+    """Integers, or booleans as 0 and 1."""
+    width, is_little = view.itemsize, _is_little(view)
+    if width == 8 and is_little:
+        return _bytes_of(view)
+    return lambda start, stop: _in_eight(view[start:stop].tobytes(), width, is_little, is_signed)
+
+
+def _floats(source: Any, view: memoryview) -> Part:
+    """Floats of eight bytes as they are, of others as those."""
+    if view.itemsize == 8:
+        taken = _integers(view, False)
+        return lambda start, stop: _normal(taken(start, stop))
+    if hasattr(source, "astype"):
+        return lambda start, stop: _normal(bytes(source[start:stop].astype("<f8").tobytes()))
+    code = ("<" if _is_little(view) else ">") + "%d" + view.format[-1]
+
+    def part(start: int, stop: int) -> bytes:
+        values = struct.unpack(code % (stop - start), view[start:stop].tobytes())
+        return eights_of_floats(list(values))
+
+    return part
+
+
+def _numbers(source: Any, view: memoryview) -> Optional[Part]:
+    """How numbers become bytes; None where the format is another one."""
+    code = view.format.lstrip("@=<>!")
+    if code in ("b", "h", "i", "l", "q", "n"):
+        return _integers(view, True)
+    if code in ("?", "B", "H", "I", "L", "Q", "N"):
+        return _integers(view, False)
+    return _floats(source, view) if code in ("e", "f", "d") else None
+
+
+def _bytes_of(view: memoryview) -> Part:
+    """The bytes as they stand."""
+    return lambda start, stop: view[start:stop].tobytes()
+
+
+# ---- columns
+
+
+def _view_of(values: object) -> Optional[memoryview]:
+    """The memory of values, if they show it, and no value is masked."""
+    if hasattr(values, "mask"):
+        return None
+    try:
+        return memoryview(values)       # type: ignore[arg-type]
+    except (TypeError, ValueError, BufferError):
+        return None
+
+
+def column_of(values: Any) -> Optional[Column]:
+    """Values as a column; None where they are none, or are of another format.
+
+    Raises
+    ------
+    TypeError
+        If they are a table, or one value.
+    """
+    if hasattr(values, "iloc") and hasattr(values, "to_numpy"):     # a pandas Series
+        values = values.to_numpy()
+    view = _view_of(values)
+    if view is None:
+        return None
+    if view.ndim != 1:
+        table = f"a table of {view.ndim} dimensions: one of its columns"
+        raise TypeError(f"many values, not {table if view.ndim else 'one'}")
+    if re.fullmatch(r"\d*[sx]", view.format) and view.itemsize:
+        return Column(len(view), view.itemsize, _bytes_of(view), view.format.endswith("s"))
+    part = _numbers(values, view)
+    return None if part is None else Column(len(view), 8, part)
+
+
+def single_of(value: Any) -> Union[float, int, bytes, None]:
+    """One value that shows its memory as a boolean, a short float or bytes; else None."""
+    view = _view_of(value)
+    if view is None or view.ndim != 0:
+        return None
+    if view.format == "?":
+        return int(bool(value))
+    if view.format in ("e", "f"):
+        return float(value)
+    return view.tobytes() if re.fullmatch(r"\d*x", view.format) else None
+
+
+# ---- byte strings with ends
+
+
+def _ends_in(ends: Any) -> Numbers:
+    """Numbers as the library takes ends, in memory that nobody else changes."""
+    view = _view_of(ends)
+    if view is not None and view.ndim == 1 and view.format[-1:] in "bhilqnBHILQN":
+        part = _numbers(ends, view)
+        if part is not None:
+            return _library.numbers_of_eights(part(0, len(view)))
+    return _library.numbers_of(ends)
+
+
+def batch_of(data: Any, ends: Any) -> Batch:
+    """Byte strings that stand one after another, told by their ends."""
+    taken = _ends_in(ends)
+    return data if type(data) is bytes else memoryview(data).tobytes(), taken, len(taken)
+
+
+# ---- coupons
+
+
+_WORD = next(code for code in "IL" if array(code).itemsize == 4)
+
+
+def words_in(words: Any) -> Numbers:
+    """Raw words of coupons: an array of 32 bits as it is, a copy of other memory of 32 bits."""
+    if isinstance(words, array) and words.typecode == _WORD:
+        return words
+    view = _view_of(words)
+    if view is not None and (view.ndim, view.itemsize) == (1, 4) and view.format[-1:] in "IL":
+        if _is_little(view) == (sys.byteorder == "little"):
+            return array(_WORD, view.tobytes())
+    try:
+        return array(_WORD, map(index, words))
+    except OverflowError:
+        raise ArgumentError("a coupon is 0 to 2^32 - 1") from None

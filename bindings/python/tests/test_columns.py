@@ -1,0 +1,329 @@
+# SPDX-License-Identifier: Apache-2.0
+"""Values that lie in memory count as they do one by one, whatever shows them."""
+import ctypes
+import math
+import random
+import shutil
+import struct
+import subprocess
+import threading
+import unittest
+from array import array
+
+import common  # noqa: F401, for the path
+from hll_sketches import ArgumentError, Registers, Sketch, coupon, coupons
+
+try:
+    import numpy
+except ImportError:
+    numpy = None
+try:
+    import pandas
+except ImportError:
+    pandas = None
+
+SYSTEM = "/usr/bin/python3"
+INTEGERS = [0, 1, -1, 2, 100, 127, -128, 255, 256, 32767, -32768, 65535, 2**31 - 1, -2**31, 2**32 - 1,
+            2**53 + 1, 2**63 - 1, -2**63, 2**64 - 1]
+FLOATS = [0.0, -0.0, 1.0, -1.0, 0.1, 65504.0, 1e300, -1e300, 5e-324, -5e-324, math.inf, -math.inf, math.nan, -math.nan]
+COUNTS = (0, 1, 5, 1023)
+
+
+def one_by_one(values):
+    """The image of values that are added in turn, or None where one is refused."""
+    made = Sketch(11)
+    try:
+        for value in values:
+            made.update(value)
+    except TypeError:
+        return None
+    return made.to_bytes()
+
+
+class ColumnTest(unittest.TestCase):
+    def check(self, values, wanted=None):
+        """Sketches, registers and coupons, beside the same values one by one."""
+        wanted = one_by_one(values if wanted is None else wanted)
+        if wanted is None:
+            for call in (Sketch().update_many, Registers().update_many, coupons):
+                self.assertRaises(TypeError, call, values)
+            return
+        sketch, registers = Sketch(11), Registers(11)
+        sketch.update_many(values)
+        registers.update_many(values)
+        self.assertEqual(sketch.to_bytes(), wanted)
+        self.assertEqual(registers.to_sketch().histogram(), sketch.histogram())
+        self.assertEqual(list(coupons(values)), [coupon(value) for value in values])
+
+    def each_count(self, values, source):
+        for count in COUNTS:
+            yield [source.choice(values) for _ in range(count)]
+
+
+class MemoryTest(ColumnTest):
+    """What Python has itself."""
+
+    def test_arrays_and_views(self):
+        source = random.Random(1)
+        for code in "bBhHiIlLqQ":
+            size = 8 * array(code).itemsize
+            least, most = (0, 2**size - 1) if code.isupper() else (-(2 ** (size - 1)), 2 ** (size - 1) - 1)
+            fit = [number for number in INTEGERS if least <= number <= most]
+            fit += [source.randint(least, most) for _ in range(5000)]
+            for values in self.each_count(fit, source):
+                with self.subTest(code=code, count=len(values)):
+                    self.check(array(code, values))
+                    if size > 8:
+                        view = memoryview(array(code, values))
+                        self.check(view, values)
+                        self.check(view[::-1], values[::-1])
+                        self.check(view[1::3], values[1::3])
+                        self.check(view.toreadonly(), values)
+
+    def test_floats(self):
+        source = random.Random(2)
+        for code in "fd":
+            plain = [source.uniform(-9, 9) for _ in range(1000)]
+            fit = [value for value in FLOATS if code == "d" or not 1e40 < abs(value) < math.inf]
+            for kinds in (plain, plain * 40 + fit, plain + fit, [math.nan, -0.0]):
+                for values in self.each_count(kinds, source):
+                    kept = array(code, values)
+                    with self.subTest(code=code, count=len(values)):
+                        self.check(kept)
+                        self.check(memoryview(kept), list(kept))
+                        self.check(memoryview(kept)[::2], list(kept)[::2])
+
+    def test_each_nan(self):
+        words = [0x7FF0000000000001, 0x7FF8000000000001, 0xFFF8000000000000, 0xFFFFFFFFFFFFFFFF, 0x7FF8000000000000]
+        nans = array("d", struct.pack("<5Q", *words))
+        self.assertEqual(set(coupons(nans)), {coupon(math.nan)})
+        self.assertEqual(coupon(math.nan), coupon(bytes.fromhex("000000000000f87f")))
+        mixed = array("d", struct.pack("<5Q", *words) + struct.pack("<2000d", *range(2000)))
+        self.check(mixed)
+        self.assertEqual(set(coupons(array("d", [0.0, -0.0]))), {coupon(0.0)})
+
+    def test_more_than_a_batch(self):
+        source = random.Random(7)
+        self.check(array("q", [source.getrandbits(63) for _ in range(70_000)]))
+        self.check(array("i", [source.getrandbits(31) for _ in range(70_000)]))
+        self.check(array("d", [source.random() for _ in range(70_000)]))
+
+    def test_arrays_of_ctypes(self):
+        for kind in (ctypes.c_int64, ctypes.c_uint64, ctypes.c_int32, ctypes.c_uint8, ctypes.c_double, ctypes.c_float):
+            self.check((kind * 5)(1, 2, 3, 0, 255))
+        for kind in (ctypes.c_int32.__ctype_be__, ctypes.c_int64.__ctype_be__):
+            self.check((kind * 3)(1, 2, -3))
+            self.check(memoryview((kind * 3)(1, 2, -3)), [1, 2, -3])
+
+    def test_it_is_quick(self):
+        """No value becomes an object: a call for each batch, and none for a value."""
+        calls, values = [], array("q", range(200_000))
+        from hll_sketches import _library, _values
+        from unittest import mock
+        with mock.patch.object(_values, "bytes_of", side_effect=AssertionError), \
+                mock.patch.object(_values, "joined", side_effect=AssertionError), \
+                mock.patch.object(_library, "add", side_effect=lambda *given: calls.append(given[3]) or given[0]):
+            Sketch().update_many(values)
+        self.assertEqual(sum(calls), len(values))
+        self.assertLess(len(calls), 8)
+
+    def test_refused(self):
+        """What is no column and no iterable of values; the error says what to pass."""
+        for values, said in (
+            (memoryview(b"abc"), "update_bytes"), (b"abc", "update_bytes"), (bytearray(8), "update_bytes"), ("abc", "many values"),
+            (memoryview(bytes(64)).cast("q", [2, 4]), "2 dimensions"), ({1: 2}, "keys"),
+            (memoryview(bytes(8)).cast("q", []), "one"), (memoryview((ctypes.c_longdouble * 3)()), "format"),
+        ):
+            for call in (Sketch().update_many, Registers().update_many, coupons):
+                with self.assertRaisesRegex(TypeError, said):
+                    call(values)
+
+    def test_memory_is_held(self):
+        """An array can't be resized while its values are taken, and can afterwards."""
+        values = array("q", range(200_000))
+        batches = __import__("hll_sketches._values", fromlist=["batches"]).batches(values)
+        next(batches)
+        self.assertRaises(BufferError, values.append, 1)
+        list(batches)
+        values.append(1)
+
+    def test_changed_meanwhile(self):
+        """Another thread writes the numbers and the ends: what is counted is some of them, and nothing breaks."""
+        values, ends = array("q", range(100_000)), array("q", range(8, 800_001, 8))
+        data, stop = bytes(800_000), threading.Event()
+
+        def write():
+            while not stop.is_set():
+                for number in range(0, 100_000, 97):
+                    values[number], ends[number] = number * 7919, 2**62
+
+        writer = threading.Thread(target=write)
+        writer.start()
+        for _ in range(20):
+            Sketch().update_many(values)
+            try:
+                Registers().update_bytes(data, ends)
+            except ArgumentError:
+                pass
+        stop.set()
+        writer.join()
+
+    def test_threads(self):
+        parts = [array("q", range(first, first + 50_000)) for first in range(0, 200_000, 50_000)]
+        made, wanted = Registers(12), Registers(12)
+        threads = [threading.Thread(target=made.update_many, args=[part]) for part in parts]
+        for thread in threads:
+            thread.start()
+        for thread in threads:
+            thread.join()
+        wanted.update_many(range(200_000))
+        self.assertEqual(made, wanted)
+
+
+class BytesTest(ColumnTest):
+    """Byte strings with their ends."""
+
+    def test_update_bytes(self):
+        source = random.Random(5)
+        for count in (0, 1, 7, 5000):
+            pieces = [source.randbytes(source.choice((0, 1, 8, 30))) for _ in range(count)]
+            data, ends, at = b"".join(pieces), [], 0
+            for piece in pieces:
+                at += len(piece)
+                ends.append(at)
+            wanted, of_registers = Sketch(11), Registers(11)
+            wanted.update_many(pieces)
+            of_registers.update_many(pieces)
+            for given in (ends, array("i", ends), array("q", ends), array("Q", ends), memoryview(array("I", ends)), iter(ends)):
+                for held in (data, bytearray(data), memoryview(data + b"behind")):
+                    if hasattr(given, "__next__") and held is not data:
+                        continue
+                    made, registers = Sketch(11), Registers(11)
+                    made.update_bytes(held, given)
+                    self.assertEqual(made, wanted)
+                    if not hasattr(given, "__next__"):
+                        registers.update_bytes(held, given)
+                        self.assertEqual(registers, of_registers)
+
+    def test_wrong_ends(self):
+        made, registers = Sketch(), Registers()
+        made.update_many("abc" for _ in range(3))
+        before = made.to_bytes()
+        for ends in ([4], [2, 1], [-1], [2**64], [2**70], array("q", [-1]), array("i", [1, 0]), array("Q", [2**63]), [1, 4]):
+            for call in (made.update_bytes, registers.update_bytes):
+                with self.assertRaisesRegex(ArgumentError, "ends have to ascend, within the bytes"):
+                    call(b"abc", ends)
+        for data, ends in (("abc", [1]), (b"abc", ["1"]), (b"abc", [1.0]), (b"abc", array("d", [1.0])), (b"abc", None), (5, [1])):
+            for call in (made.update_bytes, registers.update_bytes):
+                self.assertRaises(TypeError, call, data, ends)
+        self.assertEqual(made.to_bytes(), before)
+        self.assertEqual(registers, Registers())
+
+    def test_coupons_in_memory(self):
+        words = coupons(range(1000))
+        wanted, made = Registers(), Registers()
+        wanted.add_coupons(words)
+        made.add_coupons(memoryview(words))
+        self.assertEqual(made, wanted)
+        self.assertRaises(ArgumentError, made.add_coupons, memoryview(array("I", [5])))
+        if numpy is not None:
+            again = Registers()
+            again.add_coupons(numpy.array(words, "u4"))
+            again.add_coupons(numpy.array(words, "u8"))
+            again.add_coupons(numpy.array(words, ">u4"))
+            self.assertEqual(again, wanted)
+
+
+class NumPyTest(ColumnTest):
+    def test_integers(self):
+        source = random.Random(3)
+        for kind in ("i1", "u1", "i2", "u2", "i4", "u4", "i8", "u8", ">i2", ">u4", ">i8", ">u8"):
+            bounds = numpy.iinfo(kind)
+            fit = [number for number in INTEGERS if bounds.min <= number <= bounds.max]
+            fit += [source.randint(int(bounds.min), int(bounds.max)) for _ in range(500)]
+            for values in self.each_count(fit, source):
+                with self.subTest(kind=kind, count=len(values)):
+                    kept = numpy.array(values, kind)
+                    self.check(kept)
+                    self.check(kept, values)
+                    self.check(kept[::-2])
+                    kept.flags.writeable = False
+                    self.check(kept)
+
+    def test_floats(self):
+        source = random.Random(4)
+        for kind in ("f2", "f4", "f8", ">f4", ">f8"):
+            plain = [source.uniform(-9, 9) for _ in range(1000)]
+            fit = [value for value in FLOATS if kind[-1] == "8" or not 1e5 < abs(value) < math.inf]
+            for kinds in (plain, plain + fit, [math.nan, -0.0]):
+                for values in self.each_count(kinds, source):
+                    with self.subTest(kind=kind, count=len(values)):
+                        self.check(numpy.array(values, kind))
+                        self.check(numpy.array(values, kind)[::-3])
+
+    def test_booleans(self):
+        for values in ([True], [True, False] * 40, [False]):
+            self.check(numpy.array(values), values)
+            self.check(numpy.array(values)[::-1], values[::-1])
+            self.check(array("b", values), values)
+            self.check((ctypes.c_bool * len(values))(*values), values)
+
+    def test_bytes_and_texts(self):
+        source = random.Random(6)
+        short = [source.randbytes(source.randrange(6)) for _ in range(300)]
+        for pieces in (short, [b"abc"] * 3 + [b"xyz"], [b"\0", b"\0a", b"a\0", b"", b"a\0b"], [bytes([n, 1]) for n in range(256)]):
+            self.check(numpy.array(pieces, "S5"))
+            self.check(numpy.array(pieces))
+            self.check(numpy.array(pieces, "V5"))
+            self.check(numpy.array(pieces, "O"))
+        self.check(numpy.array(["a", "\u00e9\u4e2d", "", "b" * 30]))
+        self.check(numpy.array([], "S3"))
+        self.check(numpy.array([b"", b""]))
+
+    def test_single_numbers(self):
+        for value, wanted in ((numpy.int8(-1), -1), (numpy.uint64(2**64 - 1), 2**64 - 1), (numpy.float64(-0.0), 0.0),
+                              (numpy.float32(1.5), 1.5), (numpy.float16("nan"), math.nan), (numpy.void(b"ab\0"), b"ab\0"),
+                              (numpy.bytes_(b"ab"), b"ab"), (numpy.str_("a"), "a")):
+            self.assertEqual(coupon(value), coupon(wanted))
+        self.assertEqual([coupon(numpy.bool_(n)) for n in (0, 1)], [coupon(0), coupon(1)])
+        for value in (numpy.complex128(1), numpy.datetime64("2026-11-26"), numpy.longdouble(1),
+                      numpy.array([1, 2]), numpy.array(1.5, "g")):
+            self.assertRaises(TypeError, coupon, value)
+
+    def test_refused(self):
+        """Whole arrays that are refused as their values are; tables, one value, masked values."""
+        for values in (numpy.array([1j]), numpy.array(["2026-11-26"], "M8[D]"), numpy.zeros(3, "g"),
+                       numpy.zeros(3, "i4,f8"), numpy.zeros((2, 2)), numpy.array(5), numpy.int64(5),
+                       numpy.ma.array([1, 2, 3], mask=[0, 1, 0])):
+            for call in (Sketch().update_many, Registers().update_many, coupons):
+                self.assertRaises(TypeError, call, values)
+
+    @unittest.skipIf(pandas is None, "pandas is not here")
+    def test_series(self):
+        for values in ([1, 2, 3], [1.5, math.nan], ["a", "b"], [b"a"], [1, "a", 2.5]):
+            self.check(pandas.Series(values), values)
+        frame = pandas.DataFrame({"a": [1, 2, 3], "b": [1.0, 2.0, -0.0]})
+        self.check(frame["a"], [1, 2, 3])
+        self.check(frame["b"], [1.0, 2.0, 0.0])
+        self.assertRaises(TypeError, Sketch().update_many, frame)
+        self.assertRaises(TypeError, Sketch().update_many, pandas.Series([1, None], dtype="Int64"))
+
+
+class OtherPythonTest(unittest.TestCase):
+    def test_numpy(self):
+        """The tests of NumPy, in the system's Python, which may have it where this one hasn't."""
+        has_numpy = [SYSTEM, "-c", "import numpy"]
+        if shutil.which(SYSTEM) is None or subprocess.run(has_numpy, capture_output=True).returncode:
+            self.skipTest("numpy is not here")
+        done = subprocess.run([SYSTEM, "-B", __file__], capture_output=True, text=True)
+        self.assertEqual(done.returncode, 0, done.stderr)
+
+
+if numpy is None:
+    del NumPyTest
+else:
+    del OtherPythonTest
+
+
+if __name__ == "__main__":
+    unittest.main()
