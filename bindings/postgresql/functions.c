@@ -211,6 +211,22 @@ hll_pg_estimate(PG_FUNCTION_ARGS)
 	PG_RETURN_FLOAT8(found.estimate);
 }
 
+PG_FUNCTION_INFO_V1(hll_pg_hip_estimate);
+
+/* The estimate that the writer of an image kept in it, or NULL. */
+Datum
+hll_pg_hip_estimate(PG_FUNCTION_ARGS)
+{
+	bytea	   *image = PG_GETARG_BYTEA_PP(0);
+	hll_estimation found;
+	hll_status	status = hll_hip_estimate(IMAGE(image), &found);
+
+	if (status == HLL_ARGUMENT)
+		PG_RETURN_NULL();
+	check_status(status);
+	PG_RETURN_FLOAT8(found.estimate);
+}
+
 PG_FUNCTION_INFO_V1(hll_pg_estimate_bounds);
 
 Datum

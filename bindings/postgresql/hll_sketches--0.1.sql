@@ -33,6 +33,11 @@ CREATE FUNCTION hll_estimate(image pg_catalog.bytea) RETURNS pg_catalog.float8
     AS 'MODULE_PATHNAME', 'hll_pg_estimate' LANGUAGE C IMMUTABLE STRICT PARALLEL SAFE COST 100;
 COMMENT ON FUNCTION hll_estimate(pg_catalog.bytea) IS 'the estimated number of distinct values';
 
+CREATE FUNCTION hll_hip_estimate(image pg_catalog.bytea) RETURNS pg_catalog.float8
+    AS 'MODULE_PATHNAME', 'hll_pg_hip_estimate' LANGUAGE C IMMUTABLE STRICT PARALLEL SAFE COST 50;
+COMMENT ON FUNCTION hll_hip_estimate(pg_catalog.bytea)
+    IS 'the estimate that another program kept in an image while it counted in order, or null';
+
 CREATE FUNCTION hll_estimate_bounds(image pg_catalog.bytea, deviations pg_catalog.int4 DEFAULT 2,
         OUT lower pg_catalog.float8, OUT upper pg_catalog.float8)
     AS 'MODULE_PATHNAME', 'hll_pg_estimate_bounds' LANGUAGE C IMMUTABLE STRICT PARALLEL SAFE COST 100;

@@ -14,6 +14,7 @@ SELECT (hll_info(hll_merge(image, hll_image_empty(4)))).lg_k AS stays, (hll_info
 SELECT hll_agree(image, hll_convert(image, 4)) AS agree, hll_agree(image, hll_image_empty()) AS agrees_with_none FROM shards WHERE n = 1;
 -- estimates
 SELECT n, hll_estimate(image) BETWEEN b.lower AND b.upper AS is_between, 2000 BETWEEN b.lower AND b.upper AS is_near FROM shards, hll_estimate_bounds(image, 3) b ORDER BY n;
+SELECT hll_hip_estimate(hll_image_empty()) IS NULL AS of_none, hll_hip_estimate('\x0a0107040000000a0000000000000840' || decode(repeat('00', 40), 'hex')) AS kept;
 -- refusals
 SELECT hll_check('\x0201070a030801080500000c') AS image, hll_check('\x0201070a') AS cut, hll_check('\x0201080a00000000') AS other;
 \set VERBOSITY terse

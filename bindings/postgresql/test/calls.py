@@ -202,6 +202,20 @@ def estimates(server):
     found = server.ask("SELECT hll_estimate_bounds(i) = hll_estimate_bounds(i, 2) "
                        "FROM (SELECT hll_image_add_agg(x) i FROM generate_series(1, 9999) x) s")
     equal("bounds at 2 by themselves", found, "t")
+    hip_estimates(server)
+
+
+def hip_estimates(server):
+    """The word of registers that were counted in order; NULL where there is none, or it is no number of values."""
+    counted = bytearray(image_of(11, 8, bytes(n % 5 for n in range(2048))))
+    for flag, word, wanted in ((0, 4321.5, "4321.5"), (0, 3e15, "3e+15"), (16, 4321.5, ""), (0, 0.0, ""), (0, -1.0, ""),
+                               (0, float("nan"), ""), (0, float("inf"), "")):
+        counted[5], counted[8:16] = flag, struct.pack("<d", word)
+        found = server.ask("SELECT hll_hip_estimate(%s)" % literal(bytes(counted)))
+        equal("hll_hip_estimate of %r, flag %d" % (word, flag), found, wanted)
+    found = server.ask("SELECT hll_hip_estimate(NULL) IS NULL, hll_hip_estimate(hll_image_add_agg(x)) IS NULL, "
+                       "hll_hip_estimate(hll_image_union_agg(%s)) IS NULL FROM generate_series(1, 9) x" % literal(bytes(counted)))
+    equal("hll_hip_estimate of none", found, "t|t|t")
 
 
 # ---- values
@@ -306,7 +320,7 @@ def bad_images():
 
 
 CALLS = ("hll_info(%s)", "hll_fold(%s, 4)", "hll_convert(%s, 4)", "hll_words(%s)", "hll_estimate(%s)",
-         "hll_estimate_bounds(%s)")
+         "hll_hip_estimate(%s)", "hll_estimate_bounds(%s)")
 ROWS = "SELECT CASE WHEN n = %d THEN %s WHEN n %% 3 = 0 THEN NULL ELSE %s END i FROM generate_series(1, %d) n"
 
 
