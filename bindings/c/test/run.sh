@@ -275,6 +275,27 @@ try_without_rt() {
     return $found
 }
 
+# On a processor without the instructions of x86-64-v2 neither library is loaded, and a program that has it says why; on one
+# with no others the calls answer as they do here.
+refused_on_old() {
+    ! qemu-x86_64 -cpu core2duo "$@" >"$tests/said" 2>&1 && grep 'CPU ISA level is lower than required$' "$tests/said"
+}
+
+test_processors() {
+    [ "$(uname -m)" = x86_64 ] || return 0
+    if ! has qemu-x86_64; then
+        skip 'older processors' qemu-x86_64
+        return
+    fi
+    expect 'an older processor, archive' refused_on_old "$build/example"
+    LD_LIBRARY_PATH=$build
+    export LD_LIBRARY_PATH
+    expect 'an older processor, shared library' refused_on_old "$tests/calls-shared"
+    run 'calls on a processor of x86-64-v2' qemu-x86_64 -cpu Nehalem "$tests/calls"
+    run 'registers on a processor of x86-64-v2' qemu-x86_64 -cpu Nehalem "$tests/registers" 20 small
+    unset LD_LIBRARY_PATH
+}
+
 # Installs below a folder, builds the example by the flags of the file for pkg-config, and takes all away again.
 try_install() {
     place=$(pwd)/$tests/installed
@@ -308,6 +329,7 @@ expect 'the example' try_example "$build/example"
 expect 'the program of the README' try_readme
 expect 'install and uninstall' try_install
 expect 'without rt' try_without_rt
+test_processors
 test_other_compiler
 if has rt; then
     expect 'the same bytes from two folders' try_two_folders

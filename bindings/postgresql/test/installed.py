@@ -18,6 +18,9 @@ def build(server):
     check("names of the module", "hll_pg_union_trans" in names, names)
     own = r"(pg_finfo_)?hll_pg_[a-z0-9_]+|Pg_magic_func"
     equal("other names of the module", [name for name in names if not re.fullmatch(own, name)], [])
+    if os.uname().machine == "x86_64":
+        notes = subprocess.run(["readelf", "-n", server.root / "build" / "hll_sketches.so"], stdout=subprocess.PIPE, text=True)
+        check("the loader is told what processor it takes", "x86 ISA needed: x86-64-v2" in notes.stdout, notes.stdout)
 
 
 # ---- beside postgresql-hll

@@ -247,5 +247,27 @@ class OtherLibrariesTest(CommandTest):
         self.assertEqual(told, "its estimation is laid out in another way")
 
 
+@unittest.skipIf(os.uname().machine != "x86_64", "this is no x86 processor")
+class ProcessorTest(CommandTest):
+    def on(self, processor):
+        emulated = ["qemu-x86_64", "-cpu", processor, SYSTEM, "-m", "hll_sketches", "new", "a.hll"]
+        return subprocess.run(emulated, cwd=self.folder, text=True, capture_output=True,
+                              env=plain_environment(PYTHONPATH=str(common.PACKAGE)))
+
+    def test_an_older_one_is_told(self):
+        if shutil.which("qemu-x86_64") is None or not has(SYSTEM):
+            self.skipTest("qemu-x86_64 is not here")
+        if not (BUILD / "libhll.so").exists():
+            self.skipTest("bindings/c/build is not here")
+        done = self.on("core2duo")
+        self.assertEqual((done.returncode, done.stdout), (2, ""))
+        self.assertIn("CPU ISA level is lower than required", done.stderr)
+        wanted = "(it takes a processor with the instructions of x86-64-v2)\n"
+        self.assertEqual(done.stderr[-len(wanted) :], wanted)
+        self.assertFalse((self.folder / "a.hll").exists())
+        done = self.on("Nehalem")
+        self.assertEqual((done.returncode, done.stderr), (0, ""))
+
+
 if __name__ == "__main__":
     unittest.main()
