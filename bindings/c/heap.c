@@ -1,0 +1,44 @@
+/* SPDX-License-Identifier: Apache-2.0 */
+/*
+ * What the archive of the crate hll_c calls for memory, over malloc. The toolchain has these calls for x86-64 alone, so this
+ * file stands in for them on other processors (make TARGET=..).
+ */
+#include <stddef.h>
+#include <stdint.h>
+#include <stdlib.h>
+
+/* Whether there was memory, and where; never NULL. */
+typedef struct tried {
+    uint64_t is_there;
+    void *memory;
+} tried;
+
+tried rattle_alloc(size_t size, size_t align);
+tried rattle_realloc(void *memory, size_t kept, size_t size, size_t align);
+void rattle_dealloc(void *memory);
+
+static tried answer(void *memory)
+{
+    static char none;
+    tried found;
+    found.is_there = memory != NULL;
+    found.memory = memory != NULL ? memory : &none;
+    return found;
+}
+
+/* No type of the library is aligned to more than 16 bytes, as memory of malloc is. */
+tried rattle_alloc(size_t size, size_t align)
+{
+    return answer(malloc(size != 0 ? size : align));
+}
+
+tried rattle_realloc(void *memory, size_t kept, size_t size, size_t align)
+{
+    (void)kept;
+    return answer(realloc(memory, size != 0 ? size : align));
+}
+
+void rattle_dealloc(void *memory)
+{
+    free(memory);
+}
