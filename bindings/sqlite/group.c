@@ -6,7 +6,7 @@
 #define MAX(a, b) ((a) > (b) ? (a) : (b))
 #define MIN(a, b) ((a) < (b) ? (a) : (b))
 
-/* So many bytes wait at most, those of their ends and rows too; or twice the image, where that is more. */
+/* So many bytes wait at most, those of their ends and rows too; or twice the image so far, where that is more. */
 #define BATCH_SIZE ((size_t)16 * 1024)
 #define BESIDE (sizeof(size_t) + sizeof(sqlite3_int64))
 
@@ -169,12 +169,17 @@ static hll_status settle_images(Group *group)
     return status;
 }
 
+/* The bytes of the union of all before, if it is the first that waits. */
+static size_t union_size(const Batch *batch)
+{
+    return batch->n > 0 && batch->rows[0] == 0 ? batch->ends[0] : 0;
+}
+
 hll_status take_image(Group *group, hll_bytes image)
 {
-    size_t first = group->batch.n > 0 ? group->batch.ends[0] : 0;
     hll_status status = HLL_OK;
 
-    if (group->registers == NULL && is_full(&group->batch, image.len, first))
+    if (group->registers == NULL && is_full(&group->batch, image.len, union_size(&group->batch)))
         status = settle_images(group);
     if (status != HLL_OK)
         return status;

@@ -78,6 +78,19 @@ def lg_k():
         equal("its stage", found[7], wanted.to_bytes()[7])
 
 
+def large():
+    """Sets that outgrow a batch many times, at lg_k 21, and images with many bytes behind them."""
+    sets = [image_of_coupons(21, 8, random_coupons(NUMBERS, 3000)) for _ in range(30)]
+    found, wanted = ask("SELECT hll_image_union_agg(x, 21) FROM " + table_of(sets)), union_of(sets, 21)
+    equal("union of large sets", found, wanted.to_bytes())
+    longer = [image + bytes(NUMBERS.randrange(10**5)) for image in sets + SMALL[:50]]
+    found, wanted = ask("SELECT hll_image_union_agg(x, 14) FROM " + table_of(longer)), union_of(sets + SMALL[:50], 14)
+    equal("union of images with bytes behind them", registers_of(found), registers_of(wanted.to_bytes()))
+    words = ["value %d" % number for number in range(40000)]
+    found = ask("SELECT hll_image_add_agg(x, 21, 6) FROM " + table_of(words))
+    equal("a large set of values", found, image_of_values(21, 6, [word.encode() for word in words]))
+
+
 def nulls():
     image = image_of_coupons(12, 8, [1 << 26])
     for values in ([], [None], [None, None]):
