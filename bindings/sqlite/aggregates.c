@@ -45,21 +45,24 @@ static Group *next_row(sqlite3_context *context, int n, sqlite3_value **values, 
 
 /* ---- values */
 
+/* (A compiler makes one store of these, and not of a loop.) */
 static void put_eight(uint8_t *eight, uint64_t word)
 {
-    int i;
-
-    for (i = 0; i < 8; i++)
-        eight[i] = (uint8_t)(word >> (8 * i));
+    eight[0] = (uint8_t)word;
+    eight[1] = (uint8_t)(word >> 8);
+    eight[2] = (uint8_t)(word >> 16);
+    eight[3] = (uint8_t)(word >> 24);
+    eight[4] = (uint8_t)(word >> 32);
+    eight[5] = (uint8_t)(word >> 40);
+    eight[6] = (uint8_t)(word >> 48);
+    eight[7] = (uint8_t)(word >> 56);
 }
 
-/* The binary64 that stands for a real: 0.0 for -0.0, and one NaN for all. */
+/* The binary64 that stands for a real: 0.0 for -0.0. SQLite has no NaN: it keeps NULL in its place. */
 static uint64_t word_of_real(double real)
 {
     uint64_t word;
 
-    if (real != real)
-        return UINT64_C(0x7ff8000000000000);
     real += 0.0;
     memcpy(&word, &real, sizeof word);
     return word;
