@@ -258,21 +258,22 @@ def ends_of(pieces: Sequence[bytes]) -> Numbers:
     return array(_END, accumulate(map(len, pieces)))
 
 
-_MOST_EIGHTS = 1 << 19
-
-_eights: Numbers = array(_END)
-"""The ends of strings of eight bytes, as many as were wanted at once, up to `_MOST_EIGHTS`."""
+_MOST_ENDS, _MOST_WIDTHS = 1 << 19, 4
+_ends_kept: Dict[int, Numbers] = {}
+"""By the width of byte strings, the ends of as many as were wanted at once; of few widths."""
 
 
 def ends_of_width(width: int, count: int) -> Numbers:
     """The ends of so many strings of one width, and maybe of more. They are not to be changed."""
-    global _eights
-    kept = _eights
-    if width == 8 and count <= len(kept):
+    kept = _ends_kept.get(width)
+    if kept is not None and count <= len(kept):
         return kept
+    count = max(1024, 1 << max(count - 1, 0).bit_length())
     made = array(_END, range(width, width * count + 1, width))
-    if width == 8 and count <= _MOST_EIGHTS:
-        _eights = made
+    if count <= _MOST_ENDS:
+        if len(_ends_kept) >= _MOST_WIDTHS:
+            _ends_kept.clear()
+        _ends_kept[width] = made
     return made
 
 

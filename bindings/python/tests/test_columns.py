@@ -43,7 +43,8 @@ def one_by_one(values):
 class ColumnTest(unittest.TestCase):
     def check(self, values, wanted=None):
         """Sketches, registers and coupons, beside the same values one by one."""
-        wanted = one_by_one(values if wanted is None else wanted)
+        singly = values if wanted is None else wanted
+        wanted = one_by_one(singly)
         if wanted is None:
             for call in (Sketch().update_many, Registers().update_many, coupons):
                 self.assertRaises(TypeError, call, values)
@@ -53,7 +54,7 @@ class ColumnTest(unittest.TestCase):
         registers.update_many(values)
         self.assertEqual(sketch.to_bytes(), wanted)
         self.assertEqual(registers.to_sketch().histogram(), sketch.histogram())
-        self.assertEqual(list(coupons(values)), [coupon(value) for value in values])
+        self.assertEqual(list(coupons(values)), [coupon(value) for value in singly])
 
     def each_count(self, values, source):
         for count in COUNTS:

@@ -14,6 +14,7 @@ import time
 import tracemalloc
 import types
 import unittest
+from array import array
 from unittest import mock
 
 import common
