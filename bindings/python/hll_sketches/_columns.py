@@ -10,8 +10,9 @@ import re
 import struct
 import sys
 from array import array
+from itertools import chain
 from operator import index
-from typing import Any, Callable, List, NamedTuple, Optional, Tuple, Union
+from typing import Any, Callable, Iterable, List, NamedTuple, Optional, Tuple, Union
 
 from . import _library
 from ._errors import ArgumentError
@@ -30,19 +31,19 @@ FEW = 16
 
 
 class Column(NamedTuple):
-    """So many values of so many bytes each; or of fewer, where zeros at the end don't count."""
+    """So many values of so many bytes each; or of fewer, where zeros at the end don't count, and
+    then byte strings without them can be asked for."""
 
     length: int
     width: int
     part: Part
-    is_stripped: bool = False
+    stripped: Optional[Callable[[int, int], List[bytes]]] = None
 
     def batch(self, start: int, stop: int) -> Batch:
         """The values from one number to another."""
         data, count = self.part(start, stop), stop - start
-        if self.is_stripped and b"\0" in data[self.width - 1 :: self.width]:
-            cut = (data[at : at + self.width] for at in range(0, len(data), self.width))
-            pieces = [piece.rstrip(b"\0") for piece in cut]
+        if self.stripped is not None and b"\0" in data[self.width - 1 :: self.width]:
+            pieces = self.stripped(start, stop)
             return b"".join(pieces), _library.ends_of(pieces), count
         return data, _library.ends_of_width(self.width, count), count
 
@@ -79,6 +80,13 @@ def _normal(data: bytes) -> bytes:
     return bytes(made)
 
 
+def _normal_of_array(values: Any) -> bytes:
+    """The same of an array of NumPy."""
+    made = values.astype("<f8") + 0.0
+    made[made != made] = NAN
+    return bytes(made.tobytes())
+
+
 # ---- formats
 
 _SIGNS = bytes(128) + b"\xff" * 128
@@ -113,11 +121,11 @@ def _integers(view: memoryview, is_signed: bool) -> Part:
 
 def _floats(source: Any, view: memoryview) -> Part:
     """Floats of eight bytes as they are, of others as those."""
+    if hasattr(source, "astype"):
+        return lambda start, stop: _normal_of_array(source[start:stop])
     if view.itemsize == 8:
         taken = _integers(view, False)
         return lambda start, stop: _normal(taken(start, stop))
-    if hasattr(source, "astype"):
-        return lambda start, stop: _normal(bytes(source[start:stop].astype("<f8").tobytes()))
     code = ("<" if _is_little(view) else ">") + "%d" + view.format[-1]
 
     def part(start: int, stop: int) -> bytes:
@@ -171,10 +179,26 @@ def column_of(values: Any) -> Optional[Column]:
     if view.ndim != 1:
         table = f"a table of {view.ndim} dimensions: one of its columns"
         raise TypeError(f"many values, not {table if view.ndim else 'one'}")
-    if re.fullmatch(r"\d*[sx]", view.format) and view.itemsize:
-        return Column(len(view), view.itemsize, _bytes_of(view), view.format.endswith("s"))
+    if re.fullmatch(r"\d*x", view.format) and view.itemsize:
+        return Column(len(view), view.itemsize, _bytes_of(view))
+    if re.fullmatch(r"\d*s", view.format) and view.itemsize and hasattr(values, "tolist"):
+        stripped = _lists_of(values)
+        return Column(len(view), view.itemsize, _bytes_of(view), stripped)
     part = _numbers(values, view)
     return None if part is None else Column(len(view), 8, part)
+
+
+def _lists_of(values: Any) -> Callable[[int, int], List[Any]]:
+    """Lists of the values of an array of NumPy, each as an object of Python."""
+    return lambda start, stop: list(values[start:stop].tolist())
+
+
+def singly(values: Any) -> Iterable[Any]:
+    """Values as objects of Python, those of an array of NumPy a batch at a time."""
+    if not hasattr(values, "dtype") or not hasattr(values, "tolist") or hasattr(values, "iloc"):
+        return values       # type: ignore[no-any-return]
+    lists, step = _lists_of(values), 1 << 12
+    return chain.from_iterable(lists(at, at + step) for at in range(0, len(values), step))
 
 
 def single_of(value: Any) -> Union[float, int, bytes, None]:

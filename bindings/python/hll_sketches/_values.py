@@ -11,6 +11,7 @@ from typing import Union, cast
 
 from . import _library
 from ._columns import Batch, Column, bytes_of_float, column_of, eights_of_floats, single_of
+from ._columns import singly
 from ._library import Numbers
 
 Value = Union[bytes, bytearray, memoryview, str, int, float, SupportsIndex]
@@ -130,7 +131,8 @@ def batches(values: Iterable[Value], size: int = 0) -> Iterator[Batch]:
         return
     if isinstance(values, memoryview):
         raise TypeError(f"many values, not a memoryview of the format {values.format!r}")
-    source, count = _lines(values) if hasattr(values, "readline") else iter(values), LEAST
+    source = _lines(values) if hasattr(values, "readline") else iter(singly(values))
+    count = LEAST
     while True:
         batch = list(islice(source, count))
         if not batch:
