@@ -42,18 +42,22 @@ def interrupts():
 
 
 def schemas():
-    """Functions serve constraints, indexes and views, also where the schema is not trusted."""
+    """Functions serve constraints, indexes, views, generated columns and triggers, also where the schema is not trusted."""
     other = connect()
     other.execute("PRAGMA trusted_schema = OFF")
     other.execute("CREATE TABLE days (day PRIMARY KEY, image BLOB NOT NULL CHECK (hll_check(image) IS NULL))")
     other.execute("CREATE INDEX estimates ON days (hll_estimate(image))")
     other.execute("CREATE VIEW month AS SELECT hll_image_union_agg(image) AS image FROM days")
+    other.execute("CREATE TABLE whole (image BLOB, about REAL AS (round(hll_estimate(image))) STORED)")
+    other.execute("INSERT INTO whole VALUES (hll_image_empty())")
+    other.execute("CREATE TRIGGER join_day AFTER INSERT ON days BEGIN UPDATE whole SET image = hll_merge(image, NEW.image); END")
     for day in range(30):
         other.execute("INSERT INTO days SELECT ?, hll_image_add_agg(?)", (day, "visitor %d" % day))
     for bad in (b"", b"no image", "text", 7):
         said = said_by("INSERT INTO days VALUES (99, ?)", bad, on=other)
         check("a constraint refuses %r" % (bad,), said.startswith("CHECK constraint failed"), said)
     found = ask("SELECT image FROM month", on=other)
+    equal("a generated column, and a trigger", ask("SELECT about FROM whole", on=other), 30.0)
     equal("a view", found, image_of_values(12, 8, [b"visitor %d" % day for day in range(30)]))
     plan = other.execute("EXPLAIN QUERY PLAN SELECT day FROM days WHERE hll_estimate(image) > 100").fetchall()
     check("an index is used", "INDEX estimates" in plan[0][3], plan)
