@@ -1,5 +1,5 @@
 -- The union of two images of coupons that ascend.
-use Rattle.std.proofs.Common.{◌≡◌, ◌≢◌, ℕ, suc, inl, ◌+◌, ◌-◌, ◌/◌, ◌^◌, ◌<◌, ◌∷◌, ◌&&◌, true, false, nat_eq, List, length, take, drop, get_or, Some, None, refl, sym, ap, subst, ◌∙◌, arith}
+use Rattle.std.proofs.Common.{◌≡◌, ◌≢◌, ℕ, suc, inl, ◌+◌, ◌-◌, ◌/◌, ◌%◌, ◌^◌, ◌<◌, ◌∷◌, ◌&&◌, true, false, nat_eq, List, length, take, drop, get_or, Some, None, refl, sym, ap, subst, ◌∙◌, arith}
 use Rattle.std.specs.FinSet.{union, len, len-empty}
 use Rattle.std.specs.Ordering.{nat_cmp}
 use Rattle.std.specs.List.Sorted.{IsStrictlyIncreasing}
@@ -12,8 +12,10 @@ use Rattle.hll_coupons.specs.Coupons.{coupon_bytes, IsAscending, WritesAscending
 use Rattle.hll_coupons.proofs.Ascending.{len-ascending}
 use Rattle.hll_coupons.proofs.Merging.{count_in_bytes}
 use Rattle.hll_sketch.specs.Adding.{add, content_for}
-use Rattle.hll_sketch.specs.CouponImages.{AscendAsWritten, IsOfAscending, HasAscendingCoupons, HaveUnionInTable, IsImageOfUnion, IsImageAt}
-use Rattle.hll_sketch.specs.Image.{AreBytes, byte, lg_k_byte, table_byte, HasHeader, list, set, hll8, hll6, hll4}
+use Rattle.hll_sketch.specs.CouponImages.{AscendAsWritten, IsOfAscending, IsImageOfTable, HasAscendingCoupons, HaveUnionInTable, IsImageOfUnion, IsImageAt}
+use Rattle.hll_sketch.specs.Header.{header_of}
+use Rattle.hll_sketch.specs.declared.header.Header.{Header}
+use Rattle.hll_sketch.specs.Image.{AreBytes, byte, lg_k_byte, table_byte, width_bits, width_of_bits, HasHeader, list, set, hll8, hll6, hll4}
 use Rattle.hll_sketch.specs.Merging.{merge, merge_content, empty_union}
 use Rattle.hll_sketch.specs.Stage.{stage}
 use Rattle.hll_sketch.specs.TakenIn.{IsOfCoupons, words_in, HasCompactCoupons}
@@ -40,7 +42,7 @@ module _ (b order : List ℕ) (of : IsOfCoupons b order) where
   no_registers : of.sketch.content ≡ coupons (set_of order) of.size → in_registers of.sketch.content ≡ true → ⊥
   no_registers is inside = let no : false ≡ true = sym (ap in_registers is) ∙ inside in cc
 
-  coupons_say : (of.sketch.lg_k ≡ lg_k_byte b) × (of.size ≡ table_byte b)
+  pub coupons_say : (of.sketch.lg_k ≡ lg_k_byte b) × (of.size ≡ table_byte b)
   coupons_say = elim of.read.image [
     | list is e ↦ (ap (λ (x : Sketch). x.lg_k) e ∙ byte_is 0 3 is.header (omega arith), ap size_of_table (sym of.content ∙ ap (λ (x : Sketch). x.content) e) ∙ sym is.table ∙ byte_is 0 4 is.header (omega arith))
     | set is e ↦ (ap (λ (x : Sketch). x.lg_k) e ∙ byte_is 1 3 is.header (omega arith), ap size_of_table (sym of.content ∙ ap (λ (x : Sketch). x.content) e) ∙ byte_is 1 4 is.header (omega arith))
@@ -48,6 +50,32 @@ module _ (b order : List ℕ) (of : IsOfCoupons b order) where
     | hll6 is e ↦ absurd (no_registers of.content (ap (λ (x : Sketch). in_registers x.content) e))
     | hll4 is e ↦ absurd (no_registers of.content (ap (λ (x : Sketch). in_registers x.content) e))
   ]
+
+  width_is : (s : ℕ) → HasHeader front s → width_of_bits (width_bits front) ≡ width_of_bits (width_bits b)
+  width_is s h = ap (λ v. width_of_bits (v / 4 % 4)) (byte_is s 7 h (omega arith))
+
+  coupons_have : of.sketch.width ≡ width_of_bits (width_bits b)
+  coupons_have = elim of.read.image [
+    | list is e ↦ ap (λ (x : Sketch). x.width) e ∙ width_is 0 is.header
+    | set is e ↦ ap (λ (x : Sketch). x.width) e ∙ width_is 1 is.header
+    | hll8 is e ↦ absurd (no_registers of.content (ap (λ (x : Sketch). in_registers x.content) e))
+    | hll6 is e ↦ absurd (no_registers of.content (ap (λ (x : Sketch). in_registers x.content) e))
+    | hll4 is e ↦ absurd (no_registers of.content (ap (λ (x : Sketch). in_registers x.content) e))
+  ]
+
+  -- an image of coupons, whose header is read
+  pub of_table : (h : Header) → h ≡ header_of b → (n : ℕ) → len (set_of order) ≡ n → IsImageOfTable b h.lg_k h.hll_type h.lg_arr n
+  of_table h is n number = record {
+    sketch = of.sketch;
+    read = of.read;
+    is = record {
+      lg_k = coupons_say.0 ∙ sym (ap (λ (i : Header). i.lg_k) is);
+      width_is = coupons_have ∙ sym (ap (λ (i : Header). i.hll_type) is);
+      pairs = set_of order;
+      content = of.content ∙ ap (coupons (set_of order)) (coupons_say.1 ∙ sym (ap (λ (i : Header). i.lg_arr) is));
+      number = number;
+    };
+  }
 
   -- an image whose coupons ascend
   pub of_ascending : (k size : ℕ) → k ≡ lg_k_byte b → size ≡ table_byte b → AscendAsWritten order → IsOfAscending b k size order
@@ -111,6 +139,7 @@ module _ (k kl kr p q : ℕ) (left right xs ys bytes : List ℕ) (l : IsOfAscend
         left_read = l.read;
         right_sketch = r.sketch;
         right_read = r.read;
+        in_table = ap (λ (z : Sketch). in_registers z.content) same;
         written = subst (λ (z : Sketch). Written image (record z { width = width })) (sym same) (record { order = up.order; ascending = up.ascending; is = is up.order up.is });
       }
 
@@ -139,6 +168,7 @@ module _ (k size : ℕ) (b xs bytes : List ℕ) (of : IsOfAscending b k size xs)
   image_at width image is = record {
     sketch = of.sketch;
     read = of.read;
+    in_table = ap in_registers of.content;
     written = subst (λ (c : Content). Written image (record of.sketch { width = width; content = c })) (sym of.content)
         (record { order = xs; ascending = own_order; is = is xs is_bytes ∙ ap (λ n. coupon_image n width size xs) (sym of.lg_k) });
   }

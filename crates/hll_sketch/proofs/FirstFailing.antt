@@ -49,7 +49,7 @@ module _ (b : List ℕ) where
   pub behind_set : HasHeader b 1 → checks_behind b ≡ set_checks b
   behind_set h = ap (λ s. cond (eqb s 0) (list_checks b) (cond (eqb s 1) (set_checks b) (cond (eqb (width_bits b) 0) (hll4_checks b) (cond (eqb (width_bits b) 1) (hll6_checks b) (hll8_checks b))))) h.stage_is
 
-  behind_hll : (w : ℕ) → HasHeader b 2 → width_bits b ≡ w → checks_behind b ≡ cond (eqb w 0) (hll4_checks b) (cond (eqb w 1) (hll6_checks b) (hll8_checks b))
+  pub behind_hll : (w : ℕ) → HasHeader b 2 → width_bits b ≡ w → checks_behind b ≡ cond (eqb w 0) (hll4_checks b) (cond (eqb w 1) (hll6_checks b) (hll8_checks b))
   behind_hll w h width = λ i. cond (eqb (h.stage_is i) 0) (list_checks b) (cond (eqb (h.stage_is i) 1) (set_checks b) (cond (eqb (width i) 0) (hll4_checks b) (cond (eqb (width i) 1) (hll6_checks b) (hll8_checks b))))
 
   -- the first fault is that of the checks behind

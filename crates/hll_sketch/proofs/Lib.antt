@@ -17,6 +17,8 @@ pub mod FrontImages
 pub mod Gadgets
 pub mod Gathering
 pub mod Headers
+mod ImageRegisters
+mod ImageSizes
 pub mod Images
 pub mod InPlace
 pub mod Joined
@@ -32,6 +34,7 @@ pub mod Meanings
 pub mod MergedImages
 pub mod Merges
 pub mod PlacedCoupons
+pub mod PlainUnions
 pub mod Promoting
 pub mod RaisedRegisters
 pub mod ReadBack

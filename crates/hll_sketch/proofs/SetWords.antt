@@ -1,13 +1,14 @@
 -- Lemmas on sketches with the words that a composite estimator reads.
-use Rattle.std.proofs.Common.{◌≡◌, ℕ, List, None, refl, sym, ap, subst, ◌∙◌}
+use Rattle.std.proofs.Common.{◌≡◌, ℕ, false, List, None, refl, sym, ap, subst, ◌∙◌}
+use Rattle.std.proofs.lemmas.Bool.{true≢false}
 use Rattle.hll_base.specs.declared.hll_type.HllType.{HllType}
 use Rattle.hll_registers.specs.declared.estimate_state.EstimateState.{EstimateState}
 use Rattle.hll_registers.specs.EstimatorWords.{AreEstimatorWords}
 use Rattle.hll_registers.proofs.Binary64.{one_estimator_state}
 use Rattle.hll_registers.specs.State.{cleared_state}
-use Rattle.hll_sketch.specs.EstimatorWords.{SetsWords, SetsWordsIn, AreWordsIn, with_state, WordsKeep, WordsTwice, HaveSameRegisters, SameRegistersSameBytes}
+use Rattle.hll_sketch.specs.EstimatorWords.{SetsWords, SetsWordsIn, AreWordsIn, HasClearedState, FillsWords, stays, with_state, WordsKeep, WordsTwice, HaveSameRegisters, SameRegistersSameBytes}
 use Rattle.hll_sketch.specs.Layout.{SketchLayout, Layout, list, set, array, content_in}
-use Rattle.hll_sketch.specs.Value.{Sketch, Content, coupons, registers, pairs_in, size_in, IsLegal, IsLegalContent, IsLgK, IsEqualContent}
+use Rattle.hll_sketch.specs.Value.{Sketch, Content, coupons, registers, in_registers, pairs_in, size_in, IsLegal, IsLegalContent, IsLgK, IsEqualContent}
 use Rattle.hll_sketch.specs.Written.{Written, HaveSameSize}
 use Rattle.hll_sketch.proofs.Written.{same_bytes}
 
@@ -49,7 +50,7 @@ again (registers R s) y z v w = let u : SetsWordsIn (registers R v.0) z = subst 
 pub words_twice : WordsTwice
 words_twice x y z v w = λ i. record { lg_k = w.lg_k i; width = w.width i; content = again x.content y.content z.content v.content w.content i }
 
-same_words_of_sketches : (x y p q : Sketch) → x.lg_k ≡ y.lg_k → x.width ≡ y.width → HaveSameRegisters x.content y.content → SetsWords x p → SetsWords y q → p ≡ q
+pub same_words_of_sketches : (x y p q : Sketch) → x.lg_k ≡ y.lg_k → x.width ≡ y.width → HaveSameRegisters x.content y.content → SetsWords x p → SetsWords y q → p ≡ q
 same_words_of_sketches x y p q k width same v w =
     let lg_k = v.lg_k ∙ k ∙ sym w.lg_k in
     let widths = v.width ∙ width ∙ sym w.width in
@@ -79,3 +80,21 @@ same_layout x h = (cleared_state, λ i. record x { layout = stays x.layout h i }
     stays (list w t) h = refl
     stays (set w t) h = refl
     stays (array w x e) h = absurd (let both = h.2 in cc)
+
+-- what is not in registers has no state
+no_state : (x : Content) → in_registers x ≡ false → HasClearedState x → ⊥
+no_state (coupons S size) out cleared = cleared
+no_state (registers R s) out cleared = true≢false out
+
+-- and no words to set
+pub coupons_stay : (x : Sketch) → in_registers x.content ≡ false → FillsWords x x
+coupons_stay x out = stays (no_state x.content out) refl
+
+-- a layout has a state of its own to keep
+pub own_layout : (x : SketchLayout) → (s : EstimateState) × (x ≡ record x { layout = with_state x.layout s })
+own_layout x = let own = of x.layout in (own.0, λ i. record x { layout = own.1 i })
+  where
+    of : (l : Layout) → (s : EstimateState) × (l ≡ with_state l s)
+    of (list w t) = (cleared_state, refl)
+    of (set w t) = (cleared_state, refl)
+    of (array w x e) = (x.state, refl)

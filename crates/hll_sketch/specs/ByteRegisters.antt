@@ -35,6 +35,13 @@ pub record JoinNeedsMemory (b : List ℕ) : Type 0 where
   pub places : HasUpdatableCoupons b → ⊥
   pub registers : HasPlainRegisters b → ⊥
 
+-- the bytes are read as a sketch whose pairs fold to these registers at its lg_k
+pub record AreRegistersOf (b : List ℕ) (k : ℕ) (R : List ℕ) : Type 0 where
+  pub sketch : Sketch
+  pub read : IsReadAs b sketch
+  pub lg_k : sketch.lg_k ≡ k
+  pub are : R ≡ fold_to (pairs_of sketch) k
+
 -- a sketch of these registers, whose words are those from which a composite estimator computes
 pub record IsOfWords (k : ℕ) (width : HllType) (R : List ℕ) (y : Sketch) : Type 0 where
   pub lg_k : y.lg_k ≡ k

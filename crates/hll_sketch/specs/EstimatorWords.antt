@@ -2,6 +2,7 @@
 use Rattle.std.specs.Prelude.{◌≡◌, ℕ, List, Option, Some, None}
 use Rattle.hll_registers.specs.declared.estimate_state.EstimateState.{EstimateState}
 use Rattle.hll_registers.specs.EstimatorWords.{AreEstimatorWords}
+use Rattle.hll_registers.specs.State.{cleared_state}
 use Rattle.hll_sketch.specs.Layout.{Layout, list, set, array}
 use Rattle.hll_sketch.specs.Value.{Sketch, Content, coupons, registers, IsLegal, pairs_of, size_of}
 use Rattle.hll_sketch.specs.Written.{Written}
@@ -21,6 +22,25 @@ pub record SetsWords (old new : Sketch) : Type 0 where
   pub lg_k : new.lg_k ≡ old.lg_k
   pub width : new.width ≡ old.width
   pub content : SetsWordsIn old.content new.content
+
+-- registers whose state is cleared
+abbrev pub HasClearedState : Content → Type 0
+HasClearedState (coupons S size) = ⊥
+HasClearedState (registers R s) = s ≡ cleared_state
+
+-- the new sketch is the old one, with its words set where its state was cleared
+pub data FillsWords (old new : Sketch) : Type 0 where
+  filled : HasClearedState old.content → SetsWords old new → FillsWords old new
+  stays : (HasClearedState old.content → ⊥) → new ≡ old → FillsWords old new
+
+-- registers keep their values, and their state is cleared; coupons have none
+abbrev pub cleared_content : Content → Content
+cleared_content (coupons S size) = coupons S size
+cleared_content (registers R s) = registers R cleared_state
+
+-- the sketch with its state cleared
+abbrev pub cleared : Sketch → Sketch
+cleared x = record x { content = cleared_content x.content }
 
 -- the layout with this estimate state, places included; tables have none
 abbrev pub with_state : Layout → EstimateState → Layout

@@ -15,6 +15,7 @@ pub mod Laws
 pub mod Layout
 pub mod Meaning
 pub mod Merging
+pub mod PlainStates
 pub mod Promotion
 pub mod Raising
 pub mod Refusal

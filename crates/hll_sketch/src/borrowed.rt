@@ -193,6 +193,7 @@ impl<'a> Words<'a> {
 #[inline(always)]
 pub(crate) fn compact_coupons(bytes: &[u8]) -> Option<Words<'_>>
     ensures some { IfSome result (λ w. IsOfCoupons bytes.now (words w.count w.bytes.now)) }
+    ensures are { IfSome result (λ w. AreCoupons (words w.count w.bytes.now)) }
     ensures none { IfNone result (HasCompactCoupons bytes.now → ⊥) }
 {
     let Ok(header) = Header::read(bytes) else {

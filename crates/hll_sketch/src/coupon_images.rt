@@ -3,13 +3,13 @@
 ghost use Rattle.std.specs.Prelude.{◌≡◌, ℕ, List, ◌≤◌, ◌<◌, IfSome, IfNone, IfOk, IfErr, OnErr, length};
 ghost use Rattle.hll_base.specs.declared.error.Reason.TheVariants.{Memory};
 ghost use Rattle.hll_coupons.specs.Coupons.{coupon_bytes, words};
-ghost use Rattle.hll_sketch.specs.CouponImages.{IsOfAscending, HasAscendingCoupons, HaveUnionInTable, IsImageOfUnion, AreBothRead, IsImageAt};
+ghost use Rattle.hll_sketch.specs.CouponImages.{IsOfAscending, IsImageOfTable, HasAscendingCoupons, HaveUnionInTable, IsImageOfUnion, AreBothRead, IsImageAt};
 ghost use Rattle.hll_sketch.specs.Image.{IsReadAs, lg_k_byte, table_byte};
-ghost use Rattle.hll_sketch.specs.TakenIn.{words_in};
+ghost use Rattle.hll_sketch.specs.TakenIn.{words_in, HasCompactCoupons};
 ghost use Rattle.hll_sketch.specs.Value.{Sketch, IsLgK, IsTableFor};
 ghost use Rattle.hll_sketch.specs.Written as written;
 
-use crate::borrowed::{Words, list_coupons, set_coupons};
+use crate::borrowed::{Words, compact_coupons, list_coupons, set_coupons};
 use crate::header::{Header, Stage};
 use crate::stage::stage;
 use hll_base::error::Error;
@@ -27,6 +27,36 @@ struct AscendingImage<'a> {
     lg_size: u8,
     /// The coupons, as they stand.
     words: Words<'a>,
+}
+
+/// What an image of coupons says, but for the coupons.
+#[derive(Clone, Copy)]
+pub struct ImageOfCoupons {
+    /// The logarithm of the number of registers, 4 to 21.
+    pub lg_k: u8,
+    /// The width that registers are to have.
+    pub hll_type: HllType,
+    /// The logarithm of the number of places of its table.
+    pub lg_size: u8,
+    /// How many coupons there are.
+    pub count: usize,
+}
+
+/// What an image of coupons says, where it is compact, and they ascend or are at most 128; there are some. `None` for others.
+pub fn image_of_coupons(bytes: &[u8]) -> Option<ImageOfCoupons>
+    ensures some { IfSome result (λ i. IsImageOfTable bytes.now i.lg_k i.hll_type i.lg_size i.count) }
+    ensures none { IfNone result (HasCompactCoupons bytes.now → ⊥) }
+{
+    let coupons = compact_coupons(bytes)?;
+    let Ok(header) = Header::read(bytes) else {
+        unreachable!()
+    };
+    Some(ImageOfCoupons {
+        lg_k: header.lg_k,
+        hll_type: header.hll_type,
+        lg_size: header.lg_arr,
+        count: coupons.count,
+    })
 }
 
 /// The image of the union of two images of coupons, at a width: where both are compact and ascend, as those that are

@@ -5,6 +5,7 @@ ghost use Rattle.hll_sketch.specs.Layout.{OneStepSuffices};
 ghost use Rattle.hll_sketch.specs.ByteRegisters.{JoinIsUnion};
 ghost use Rattle.hll_sketch.specs.Joined.{MergeOfGrown, UnionOfSame, UnionOfUnion, JoinsOfSame, JoinOfJoin};
 ghost use Rattle.hll_sketch.specs.EstimatorWords.{WordsKeep, WordsTwice, SameRegistersSameBytes};
+ghost use Rattle.hll_sketch.specs.PlainStates.{UnionOfPlain, FilledIsPlain};
 ghost use Rattle.hll_sketch.specs.Folding.{FoldedIsLegal, FoldedIsGrown, FoldedHasSameFolds};
 ghost use Rattle.hll_sketch.specs.Same.{SameIsEqual};
 ghost use Rattle.hll_sketch.specs.Image.{OneImage, ImageIsLegal};
@@ -113,8 +114,13 @@ pub fn writing()
 /// - `words_twice`: to set them twice is to set them once.
 /// - `same_registers_same_bytes`: sketches of one `lg_k` and width with the same registers, whatever their states, have
 ///   the same bytes once their words are set.
+/// - `union_of_plain`: sketches whose states are cleared, or have their words set, merged in turn, make what they make with
+///   their states cleared, once the words of both are set. So the laws of grown sketches hold of them too.
+/// - `filled_is_plain`: a sketch whose state is cleared, or has its words set, has such a state once its words are set.
 pub fn estimator_words()
     ensures words_keep { WordsKeep }
     ensures words_twice { WordsTwice }
     ensures same_registers_same_bytes { SameRegistersSameBytes }
+    ensures union_of_plain { UnionOfPlain }
+    ensures filled_is_plain { FilledIsPlain }
 {}

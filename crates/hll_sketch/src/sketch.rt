@@ -9,7 +9,8 @@ ghost use Rattle.hll_coupons.specs.Pair.{value_of, set_of};
 ghost use Rattle.hll_sketch.specs.Adding.{add, content_with};
 ghost use Rattle.hll_sketch.specs.Checks.{first_fault, size_fault};
 ghost use Rattle.hll_registers.specs.declared.estimate_state.EstimateState.{EstimateState};
-ghost use Rattle.hll_sketch.specs.EstimatorWords.{SetsWords, AreWordsIn, with_state};
+ghost use Rattle.hll_registers.specs.State.{cleared_state};
+ghost use Rattle.hll_sketch.specs.EstimatorWords.{SetsWords, AreWordsIn, HasClearedState, FillsWords, cleared, with_state};
 ghost use Rattle.hll_sketch.specs.Fault.{IsFault};
 ghost use Rattle.hll_sketch.specs.Folding as folding;
 ghost use Rattle.hll_sketch.specs.Folding.{IsFoldLgK};
@@ -153,6 +154,36 @@ impl<A: Allocator> HllSketch<A> {
     {
         if let Some(words) = self.estimator_words() {
             self.restore_estimate_state(words);
+        }
+    }
+
+    /// Sets the words of registers whose state is cleared, as `set_estimator_words` does. Another state stays as it is.
+    pub fn fill_estimator_words(&mut self)
+        ensures words { FillsWords (sketch_of self.old) (sketch_of self.new) }
+        ensures rest { (s : EstimateState) × (self.new ≡ record self.old { layout = with_state self.old.layout s }) }
+    {
+        if self.has_cleared_state() {
+            self.set_estimator_words();
+        }
+    }
+
+    /// Clears the state of registers: words of 0, with the out-of-order flag. A list or a set stays as it is.
+    pub fn clear_estimator_words(&mut self)
+        ensures state { sketch_of self.new ≡ cleared (sketch_of self.old) }
+        ensures rest { self.new ≡ record self.old { layout = with_state self.old.layout cleared_state } }
+    {
+        self.restore_estimate_state(EstimateState::CLEARED);
+    }
+
+    /// Whether these are registers whose state is cleared.
+    fn has_cleared_state(&self) -> bool
+        ensures { IsTrue result ↔ HasClearedState (content_in self.now.layout) }
+    {
+        match &self.mode {
+            Mode::List { .. } | Mode::Set { .. } => false,
+            Mode::Array4(array) => array.estimate_state() == EstimateState::CLEARED,
+            Mode::Array6(array) => array.estimate_state() == EstimateState::CLEARED,
+            Mode::Array8(array) => array.estimate_state() == EstimateState::CLEARED,
         }
     }
 

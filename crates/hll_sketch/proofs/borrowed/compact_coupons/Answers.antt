@@ -22,6 +22,9 @@ returns-then-are_evidently_coupons-clause-some c =
     ] in
     meaning are
 
+pub returns-then-are_evidently_coupons-clause-are : goal.returns-then-are_evidently_coupons-clause-are
+returns-then-are_evidently_coupons-clause-are c = evident_coupons _ (c.are_evidently_coupons.ensures.0 c.if-are_evidently_coupons.true)
+
 pub returns-else-are_evidently_coupons-clause-none : goal.returns-else-are_evidently_coupons-clause-none
 returns-else-are_evidently_coupons-clause-none c = λ has.
     let found : List ℕ = words c.match-header.coupons.count c.match-header.coupons.bytes.now in

@@ -1,4 +1,5 @@
 use Rattle.hll_sketch.proofs.SetWords.{words_keep, words_twice, same_registers_same_bytes}
+use Rattle.hll_sketch.proofs.PlainUnions.{union_of_plain, filled_is_plain}
 use Rattle.hll_sketch.proofs.laws.estimator_words.Goals as goal
 
 pub returns-clause-words_keep : goal.returns-clause-words_keep
@@ -9,3 +10,9 @@ returns-clause-words_twice c = words_twice
 
 pub returns-clause-same_registers_same_bytes : goal.returns-clause-same_registers_same_bytes
 returns-clause-same_registers_same_bytes c = same_registers_same_bytes
+
+pub returns-clause-union_of_plain : goal.returns-clause-union_of_plain
+returns-clause-union_of_plain c = union_of_plain
+
+pub returns-clause-filled_is_plain : goal.returns-clause-filled_is_plain
+returns-clause-filled_is_plain c = filled_is_plain

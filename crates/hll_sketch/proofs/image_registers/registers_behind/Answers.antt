@@ -1,0 +1,38 @@
+use Rattle.std.proofs.lemmas.Result.{IfOk-weaker, IfErr-weaker}
+use Rattle.hll_sketch.specs.ByteRegisters.{AreRegistersOf}
+use Rattle.hll_sketch.specs.Refusal.{IsRefusal}
+use Rattle.hll_sketch.proofs.ImageRegisters.{wants_memory, of_registers}
+use Rattle.hll_sketch.proofs.image_registers.registers_behind.Goals as goal
+
+pub returns-in_ok-source-in-Hll4-clause-ok : goal.returns-in_ok-source-in-Hll4-clause-ok
+returns-in_ok-source-in-Hll4-clause-ok g c =
+    let of = c.in_ok-source-in-Hll4.ensures.ok in
+    IfOk-weaker c.values_of.result _ (λ r. AreRegistersOf c.args.image.now r.lg_k r.values.items)
+    (λ r is. of_registers c.args.image.now _ r.lg_k _ r.values.items of is.0 is.1) c.values_of.ensures.ok
+
+pub returns-in_ok-source-in-Hll4-clause-err : goal.returns-in_ok-source-in-Hll4-clause-err
+returns-in_ok-source-in-Hll4-clause-err g c =
+    let of = c.in_ok-source-in-Hll4.ensures.ok in
+    IfErr-weaker c.values_of.result _ (IsRefusal c.args.image.now) (λ e memory. wants_memory c.args.image.now of.sketch e of.read memory) c.values_of.ensures.err
+
+pub returns-in_ok-source-in-Hll6-clause-ok : goal.returns-in_ok-source-in-Hll6-clause-ok
+returns-in_ok-source-in-Hll6-clause-ok g c =
+    let of = c.in_ok-source-in-Hll6.ensures.ok in
+    IfOk-weaker c.values_of-in-Hll6.result _ (λ r. AreRegistersOf c.args.image.now r.lg_k r.values.items)
+    (λ r is. of_registers c.args.image.now _ r.lg_k _ r.values.items of is.0 is.1) c.values_of-in-Hll6.ensures.ok
+
+pub returns-in_ok-source-in-Hll6-clause-err : goal.returns-in_ok-source-in-Hll6-clause-err
+returns-in_ok-source-in-Hll6-clause-err g c =
+    let of = c.in_ok-source-in-Hll6.ensures.ok in
+    IfErr-weaker c.values_of-in-Hll6.result _ (IsRefusal c.args.image.now) (λ e memory. wants_memory c.args.image.now of.sketch e of.read memory) c.values_of-in-Hll6.ensures.err
+
+pub returns-in_ok-source-in-Hll8-clause-ok : goal.returns-in_ok-source-in-Hll8-clause-ok
+returns-in_ok-source-in-Hll8-clause-ok g c =
+    let of = c.in_ok-source-in-Hll8.ensures.ok in
+    IfOk-weaker c.values_of-in-Hll8.result _ (λ r. AreRegistersOf c.args.image.now r.lg_k r.values.items)
+    (λ r is. of_registers c.args.image.now _ r.lg_k _ r.values.items of is.0 is.1) c.values_of-in-Hll8.ensures.ok
+
+pub returns-in_ok-source-in-Hll8-clause-err : goal.returns-in_ok-source-in-Hll8-clause-err
+returns-in_ok-source-in-Hll8-clause-err g c =
+    let of = c.in_ok-source-in-Hll8.ensures.ok in
+    IfErr-weaker c.values_of-in-Hll8.result _ (IsRefusal c.args.image.now) (λ e memory. wants_memory c.args.image.now of.sketch e of.read memory) c.values_of-in-Hll8.ensures.err
