@@ -4,10 +4,11 @@ use Rattle.std.specs.Result.{MatchResult, IfOk, IfErr}
 use Rattle.hll_base.specs.Reason.{number_of}
 use Rattle.hll_base.specs.declared.error.Reason.{Reason}
 use Rattle.hll_base.specs.declared.error.Reason.TheVariants.{Memory}
+use Rattle.hll_sketch.specs.EstimatorWords.{FillsWords}
 use Rattle.hll_sketch.specs.Layout.{SketchLayout, sketch_of}
 use Rattle.hll_sketch.specs.Value.{Sketch}
 use Rattle.hll_sketch.specs.Written.{Written}
-use Rattle.hll_c.specs.Answers.{Answers, IsImageOf, PutsBytes, wrote, too_small, refused, Tells, told, untold, Tests, passed, failed, ok_code, buffer_code}
+use Rattle.hll_c.specs.Answers.{Answers, IsImageOf, WithWords, PutsBytes, wrote, too_small, refused, Tells, told, untold, Tests, passed, failed, ok_code, buffer_code}
 
 -- the sketch that was made, and why none was, or why no image of it is written
 abbrev pub IsOf : Result SketchLayout Reason → Sketch → Type 0
@@ -36,7 +37,7 @@ module _ (IsMade : Sketch → Type 0) (Refuses : Reason → Type 0) (memory : (y
   pub answers_of : (made : Result SketchLayout Reason) (old new : List ℕ) (size_old size_new code : ℕ)
       → IfOk made (λ s. IsMade (sketch_of s)) → IfErr made Refuses → Answers (λ y. IsOf made y) (λ r. IsFor made r) old new size_old size_new code
       → Answers IsMade Refuses old new size_old size_new code
-  answers_of made old new so sn code ok err = puts_as old new so sn code (λ b is. (is.0, made_of made is.0 ok is.1, is.2)) (λ r from. refused_of made r ok err from)
+  answers_of made old new so sn code ok err = puts_as old new so sn code (λ b is. (is.0, (is.1.0, made_of made is.1.0 ok is.1.1, is.1.2), is.2)) (λ r from. refused_of made r ok err from)
 
 module _ {X : Type 0} (Says : X → Type 0) (Refuses : Reason → Type 0) where
   said : (found : Result X Reason) (x : X) → IfOk found Says → MatchResult found (λ y. x ≡ y) (λ _. ⊥) → Says x
@@ -88,13 +89,16 @@ module _ {X : Type 0} (items : X → List ℕ) (image : Result X Reason) where
     why_in (Err e) err r same = subst Refuses (sym same) err
 
     pub answers_with : (old new : List ℕ) (size_old size_new code : ℕ) → IfOk image (λ v. IsImageOf IsMade (items v)) → IfErr image Refuses
-        → PutsBytes AreOf IsWhyNone old new size_old size_new code → Answers IsMade Refuses old new size_old size_new code
+        → PutsBytes AreOf IsWhyNone old new size_old size_new code → PutsBytes (IsImageOf IsMade) Refuses old new size_old size_new code
     answers_with old new so sn code ok err = puts_as old new so sn code (image_in image ok) (why_in image err)
 
--- the image of what was made is what is written for it
-pub image_of_made : (made : Result SketchLayout Reason) (bytes : List ℕ) → MatchResult made (λ s. Written bytes (sketch_of s)) (λ _. ⊥) → IsImageOf (λ y. IsOf made y) bytes
-image_of_made (Ok s) bytes written = (sketch_of s, refl, written)
-image_of_made (Err e) bytes written = absurd written
+-- the image of what was made is what is written for it with its words
+pub image_of_made : (made : Result SketchLayout Reason) (bytes : List ℕ) → MatchResult made (λ s. IsImageOf (FillsWords (sketch_of s)) bytes) (λ _. ⊥) → IsImageOf (WithWords (λ y. IsOf made y)) bytes
+image_of_made (Ok s) bytes is = (is.0, (sketch_of s, refl, is.1), is.2)
+image_of_made (Err e) bytes is = absurd is
+
+pub made_with_words : (IsMade : Sketch → Type 0) (x : Sketch) (bytes : List ℕ) → IsMade x → IsImageOf (FillsWords x) bytes → IsImageOf (WithWords IsMade) bytes
+made_with_words IsMade x bytes made is = (is.0, (x, made, is.1), is.2)
 
 -- ---- codes alone, and what is told
 

@@ -11,7 +11,8 @@ use Rattle.hll_sketch.specs.Image.{IsReadAs}
 use Rattle.hll_sketch.specs.Value.{Sketch, IsLgK}
 use Rattle.hll_sketch.proofs.FirstFailing.{none_before}
 use Rattle.hll_sketch.proofs.FirstFaults.{faultless_is_image}
-use Rattle.hll_c.specs.Answers.{IsImageOf, RefusesArguments, argument, memory, RefusesImage, image_fault, image_memory, RefusesWith, argument_with_image, image_refused, RefusesImages, argument_with_images, images_fault, images_memory}
+use Rattle.hll_sketch.proofs.SetWords.{coupons_stay}
+use Rattle.hll_c.specs.Answers.{IsImageOf, WithWords, RefusesArguments, argument, memory, RefusesImage, image_fault, image_memory, RefusesWith, argument_with_image, image_refused, RefusesImages, argument_with_images, images_fault, images_memory}
 use Rattle.hll_c.specs.Batches.{AreReadAs, IsFirstFaulty, MayAskAt, strings}
 use Rattle.hll_c.specs.Calls.{bits_of, IsAtWidth, AreNewArguments, IsEmptyAt, IsMadeOf, IsFoldOf, RefusesFold, above, with, AreUnionArguments, IsUnionOf, AreBatchArguments, IsUnionOfBatch}
 use Rattle.hll_c.specs.Steps.{IsRefusedAt}
@@ -113,16 +114,20 @@ no_memory_to_unite_batch k bits images ends fo fn y made =
 -- ---- images made from bytes to bytes
 
 module _ (k bits : ℕ) (width : HllType) (is_width : bits_of width ≡ bits) (left right : List ℕ) where
-  pub union_in_bytes : (bytes : List ℕ) (failed : ℕ) → IsImageOfUnion k width left right bytes → IsImageOf (IsUnionOf k bits (left ∷ right ∷ []) failed failed) bytes
+  pub union_in_bytes : (bytes : List ℕ) (failed : ℕ) → IsImageOfUnion k width left right bytes → IsImageOf (WithWords (IsUnionOf k bits (left ∷ right ∷ []) failed failed)) bytes
   union_in_bytes bytes failed of = (
     _,
-    record {
-      arguments = record { lg_max_k_is = of.bound_is; width_is = record { width = width; is = is_width } };
-      sketches = of.left_sketch ∷ of.right_sketch ∷ [];
-      read = (of.left_read, (of.right_read, tt));
-      is = refl;
-      untold = refl;
-    },
+    (
+      _,
+      record {
+        arguments = record { lg_max_k_is = of.bound_is; width_is = record { width = width; is = is_width } };
+        sketches = of.left_sketch ∷ of.right_sketch ∷ [];
+        read = (of.left_read, (of.right_read, tt));
+        is = refl;
+        untold = refl;
+      },
+      coupons_stay _ of.in_table,
+    ),
     of.written,
   )
 
@@ -131,5 +136,6 @@ module _ (k bits : ℕ) (width : HllType) (is_width : bits_of width ≡ bits) (l
       refuses_more_memory (AreUnionArguments k bits) (left ∷ right ∷ []) failed failed e 2 is (record { lg_max_k_is = both.bound_is; width_is = record { width = width; is = is_width } })
       (asked_behind (left ∷ right ∷ []) (both.left_sketch ∷ both.right_sketch ∷ []) (both.left_read, (both.right_read, tt))) refl
 
-pub image_in_bytes : (bits : ℕ) (width : HllType) (image bytes : List ℕ) → bits_of width ≡ bits → IsImageAt width image bytes → IsImageOf (IsMadeOf image (IsAtWidth bits)) bytes
-image_in_bytes bits width image bytes is at = (_, record { sketch = at.sketch; read = at.read; is_made = record { width_is = record { width = width; is = is }; is = refl } }, at.written)
+pub image_in_bytes : (bits : ℕ) (width : HllType) (image bytes : List ℕ) → bits_of width ≡ bits → IsImageAt width image bytes → IsImageOf (WithWords (IsMadeOf image (IsAtWidth bits))) bytes
+image_in_bytes bits width image bytes is at =
+    (_, (_, record { sketch = at.sketch; read = at.read; is_made = record { width_is = record { width = width; is = is }; is = refl } }, coupons_stay _ at.in_table), at.written)

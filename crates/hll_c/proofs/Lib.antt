@@ -1,3 +1,4 @@
+mod Agreement
 pub mod Answers
 pub mod Batches
 pub mod Counts

@@ -4,6 +4,7 @@ use Rattle.hll_base.specs.Reason.{number_of}
 use Rattle.hll_base.specs.declared.error.Reason.{Reason}
 use Rattle.hll_base.specs.declared.error.Reason.TheVariants.{Argument, Memory}
 use Rattle.hll_sketch.specs.Checks.{first_fault, size_fault}
+use Rattle.hll_sketch.specs.EstimatorWords.{FillsWords}
 use Rattle.hll_sketch.specs.Value.{Sketch}
 use Rattle.hll_sketch.specs.Written.{Written}
 use Rattle.hll_c.specs.Batches.{IsFirstFaulty, MayAskAt}
@@ -29,9 +30,13 @@ pub data PutsBytes (ArePut : List ℕ → Type 0) (Refuses : Reason → Type 0) 
 abbrev pub IsImageOf : (Sketch → Type 0) → List ℕ → Type 0
 IsImageOf IsMade bytes = (made : Sketch) × IsMade made × Written bytes made
 
--- a call that makes a sketch, as `IsMade` says, and puts what is written for it into a buffer
+-- a sketch that is made, with its words set where its state is cleared
+abbrev pub WithWords : (Sketch → Type 0) → Sketch → Type 0
+WithWords IsMade y = (made : Sketch) × IsMade made × FillsWords made y
+
+-- a call that makes a sketch, as `IsMade` says, and puts what is written for it into a buffer, its words set where its state is cleared
 abbrev pub Answers : (Sketch → Type 0) → (Reason → Type 0) → List ℕ → List ℕ → ℕ → ℕ → ℕ → Type 0
-Answers IsMade Refuses = PutsBytes (IsImageOf IsMade) Refuses
+Answers IsMade Refuses = PutsBytes (IsImageOf (WithWords IsMade)) Refuses
 
 -- A call that tells something through a pointer, which `Says` what is asked; or it `Refuses` for a reason, and nothing changes.
 pub data Tells (X : Type 0) (Says : X → Type 0) (Refuses : Reason → Type 0) (old new : X) : ℕ → Type 0 where

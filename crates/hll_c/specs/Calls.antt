@@ -9,6 +9,7 @@ use Rattle.hll_coupons.specs.Hashed.{coupon_of_bytes}
 use Rattle.hll_coupons.specs.Pair.{pair, set_of}
 use Rattle.hll_sketch.specs.Adding.{add}
 use Rattle.hll_sketch.specs.Agree.{Agree}
+use Rattle.hll_sketch.specs.EstimatorWords.{cleared}
 use Rattle.hll_sketch.specs.Folding.{folded, IsFoldLgK}
 use Rattle.hll_sketch.specs.Image.{IsReadAs}
 use Rattle.hll_sketch.specs.Laws.{add_in_turn}
@@ -68,6 +69,10 @@ pub data RefusesFold (lg_k : ℕ) (image : List ℕ) : Reason → Type 0 where
 pub record IsAtWidth (bits : ℕ) (x y : Sketch) : Type 0 where
   pub width_is : IsWidth bits
   pub is : y ≡ record x { width = width_is.width }
+
+-- a sketch with its state cleared
+abbrev pub IsCleared : Sketch → Sketch → Type 0
+IsCleared x y = y ≡ cleared x
 
 -- a slot and a value of a coupon
 pub record AreOfCoupon (slot value : ℕ) : Type 0 where

@@ -1,24 +1,30 @@
 //! What the calls make of images.
-ghost use Rattle.std.specs.Prelude.{◌≡◌, ◌≢◌, ◌⊎◌, ◌↔◌, ◌∷◌, [], Bool, true, length, map, IsTrue, IfOk, IfErr, OnOk};
+ghost use Rattle.std.specs.Prelude.{◌≡◌, ◌≢◌, ◌^◌, ◌≤◌, ◌⊎◌, ◌↔◌, ◌∷◌, [], Bool, true, min, length, map, IsTrue, IfOk, IfErr, OnOk};
 ghost use Rattle.hll_base.specs.declared.error.Reason.TheVariants as reasons;
 ghost use Rattle.hll_coupons.specs.Hashed.{coupon_of_bytes};
-ghost use Rattle.hll_sketch.specs.Agree.{Agree};
+ghost use Rattle.hll_coupons.specs.Fold.{fold_to, pairs};
+ghost use Rattle.hll_sketch.specs.ByteRegisters.{AreRegistersOf};
 ghost use Rattle.hll_sketch.specs.EstimatorWords.{SetsWords};
-ghost use Rattle.hll_sketch.specs.Image.{IsReadAs};
+ghost use Rattle.hll_sketch.specs.Image.{IsReadAs, IsSizeOfImage};
 ghost use Rattle.hll_sketch.specs.Laws.{add_in_turn};
 ghost use Rattle.hll_sketch.specs.Layout.{sketch_of};
-ghost use Rattle.hll_sketch.specs.Value.{Sketch};
-ghost use Rattle.hll_c.specs.Answers.{IsImageOf, RefusesArguments, RefusesImage, RefusesWith, RefusesImages};
+ghost use Rattle.hll_sketch.specs.Value.{Sketch, IsLgK};
+ghost use Rattle.hll_c.specs.Answers.{IsImageOf, WithWords, RefusesArguments, RefusesImage, RefusesWith, RefusesImages};
 ghost use Rattle.hll_c.specs.Batches.{AreEnds, strings};
-ghost use Rattle.hll_c.specs.Calls.{bit, bits_of, IsWidth, AreNewArguments, IsEmptyAt, IsMadeOf, IsFoldOf, RefusesFold, IsAtWidth, AreOfCoupon, HasCoupon, HasValues, AreUnionArguments, IsUnionOf, AreBatchArguments, IsUnionOfBatch, SaysAgreement};
+ghost use Rattle.hll_c.specs.Calls.{bit, bits_of, IsWidth, AreNewArguments, IsEmptyAt, IsMadeOf, IsFoldOf, RefusesFold, IsAtWidth, IsCleared, AreOfCoupon, HasCoupon, HasValues, AreUnionArguments, IsUnionOf, AreBatchArguments, IsUnionOfBatch, SaysAgreement};
 ghost use Rattle.hll_sketch.specs.TakenIn.{TakesIn};
 ghost use Rattle.hll_c.specs.Steps.{TakesInAll, IsRefusedAt, FailsToTakeIn};
 
+use crate::answer::image_with_words;
 use crate::batch::are_ends;
+use hll_arrays::registers::two_to;
 use hll_base::bounds::{MAX_LG_K, MAX_VALUE, MIN_LG_K, SLOT_BITS};
 use hll_base::error::{Error, Reason};
 use hll_base::hll_type::HllType;
 use hll_coupons::coupon::Coupon;
+use hll_sketch::byte_registers::fold_in_place;
+use hll_sketch::image_registers::{ImageRegisters, registers_of_image};
+use hll_sketch::size::size_of_image;
 use hll_sketch::{HllSketch, HllUnion, ascending_image_at, union_of_ascending_images};
 use std::alloc::Global;
 
@@ -35,13 +41,18 @@ pub(crate) fn width_of(bits: u8) -> Result<HllType, Error>
     }
 }
 
-/// Reads the image with this number. Where it is refused by a check, `failed` is its number.
-fn read(alloc: Global, image: &[u8], number: usize, failed: &mut usize) -> Result<HllSketch, Error>
-    ensures ok { IfOk result (λ s. IsReadAs image.now (sketch_of s) × (failed.new ≡ failed.old)) }
+/// Reads the registers of the image with this number. Where it is refused by a check, `failed` is its number.
+fn read_registers(
+    alloc: Global,
+    image: &[u8],
+    number: usize,
+    failed: &mut usize,
+) -> Result<ImageRegisters, Error>
+    ensures ok { IfOk result (λ r. AreRegistersOf image.now r.lg_k r.values.items × IsLgK r.lg_k × (failed.new ≡ failed.old)) }
     ensures err { IfErr result (λ e. IsRefusedAt image.now number failed.old failed.new e) }
 {
-    match HllSketch::deserialize(alloc, image) {
-        Ok(sketch) => Ok(sketch),
+    match registers_of_image(alloc, image) {
+        Ok(registers) => Ok(registers),
         Err(e) => Err(refused_at(e, number, failed)),
     }
 }
@@ -139,12 +150,12 @@ pub(crate) fn merged(
     right: &[u8],
     failed: &mut usize,
 ) -> Result<Vec<u8>, Error>
-    ensures ok { IfOk result (λ image. IsImageOf (IsUnionOf lg_max_k width (left.now ∷ right.now ∷ []) failed.old failed.new) image.items) }
+    ensures ok { IfOk result (λ image. IsImageOf (WithWords (IsUnionOf lg_max_k width (left.now ∷ right.now ∷ []) failed.old failed.new)) image.items) }
     ensures err { IfErr result (λ e. RefusesImages (AreUnionArguments lg_max_k width) (left.now ∷ right.now ∷ []) failed.old failed.new e) }
 {
     match union_of_ascending_images(alloc, lg_max_k, width_of(width)?, left, right)? {
         Some(image) => Ok(image),
-        None => union_of_two(alloc, lg_max_k, width, left, right, failed)?.serialize(),
+        None => image_with_words(union_of_two(alloc, lg_max_k, width, left, right, failed)?),
     }
 }
 
@@ -264,12 +275,12 @@ pub(crate) fn folded(alloc: Global, image: &[u8], lg_k: u8) -> Result<HllSketch,
 
 /// The image at a width.
 pub(crate) fn converted(alloc: Global, image: &[u8], width: u8) -> Result<Vec<u8>, Error>
-    ensures ok { IfOk result (λ written. IsImageOf (IsMadeOf image.now (IsAtWidth width)) written.items) }
+    ensures ok { IfOk result (λ written. IsImageOf (WithWords (IsMadeOf image.now (IsAtWidth width))) written.items) }
     ensures err { IfErr result (λ e. RefusesWith (IsWidth width) image.now e) }
 {
     match ascending_image_at(alloc, width_of(width)?, image)? {
         Some(written) => Ok(written),
-        None => sketch_at(alloc, image, width)?.serialize(),
+        None => image_with_words(sketch_at(alloc, image, width)?),
     }
 }
 
@@ -292,6 +303,25 @@ pub(crate) fn with_estimator_words(alloc: Global, image: &[u8]) -> Result<HllSke
     Ok(sketch)
 }
 
+/// The image with its state cleared.
+pub(crate) fn without_estimator_words(alloc: Global, image: &[u8]) -> Result<Vec<u8>, Error>
+    ensures ok { IfOk result (λ written. IsImageOf (IsMadeOf image.now IsCleared) written.items) }
+    ensures err { IfErr result (λ e. RefusesImage image.now e) }
+{
+    let mut sketch = HllSketch::deserialize(alloc, image)?;
+    sketch.clear_estimator_words();
+    sketch.serialize()
+}
+
+/// How many of the bytes are the image that they begin with.
+pub(crate) fn size(alloc: Global, image: &[u8]) -> Result<usize, Error>
+    ensures ok { IfOk result (IsSizeOfImage image.now) }
+    ensures err { IfErr result (RefusesImage image.now) }
+{
+    check(alloc, image)?;
+    Ok(size_of_image(image))
+}
+
 /// Whether two images fold to the same registers at the smaller `lg_k` of both: 1 if they do, else 0.
 pub(crate) fn agree(
     alloc: Global,
@@ -302,15 +332,32 @@ pub(crate) fn agree(
     ensures ok { IfOk result (λ same. SaysAgreement left.now right.now failed.old failed.new same) }
     ensures err { IfErr result (λ e. RefusesImages (Unit {0}) (left.now ∷ right.now ∷ []) failed.old failed.new e) }
 {
-    let left = read(alloc, left, 0, failed)?;
-    let right = read(alloc, right, 1, failed)?;
-    agreement(&left, &right)
+    let left = read_registers(alloc, left, 0, failed)?;
+    let right = read_registers(alloc, right, 1, failed)?;
+    Ok(agreement(left, right))
 }
 
-/// 1 where two sketches agree, else 0.
-fn agreement(left: &HllSketch, right: &HllSketch) -> Result<u8, Error>
-    ensures ok { IfOk result (λ same. (answer : Bool) × (same ≡ bit answer) × ((answer ≡ true) ↔ Agree (sketch_of left.now) (sketch_of right.now))) }
-    ensures err { IfErr result (λ e. e ≡ reasons.Memory) }
+/// 1 where registers are the same once both are folded to the smaller `lg_k`, else 0.
+fn agreement(left: ImageRegisters, right: ImageRegisters) -> u8
+    requires left { IsLgK left.lg_k × (length left.values.items ≡ 2 ^ left.lg_k) }
+    requires right { IsLgK right.lg_k × (length right.values.items ≡ 2 ^ right.lg_k) }
+    ensures { (same : Bool) × (result ≡ bit same) × (let e = min left.lg_k right.lg_k in (same ≡ true) ↔ (fold_to (pairs left.values.items) e ≡ fold_to (pairs right.values.items) e)) }
 {
-    Ok(u8::from(hll_sketch::agree(left, right)?))
+    let lg_k = left.lg_k.min(right.lg_k);
+    u8::from(folded_values(left, lg_k) == folded_values(right, lg_k))
+}
+
+/// The values of registers, folded to an `lg_k` of at most theirs.
+fn folded_values(registers: ImageRegisters, lg_k: u8) -> Vec<u8>
+    requires size { IsLgK registers.lg_k × (length registers.values.items ≡ 2 ^ registers.lg_k) }
+    requires within { lg_k ≤ registers.lg_k }
+    ensures { result.items ≡ fold_to (pairs registers.values.items) lg_k }
+{
+    let ImageRegisters {
+        lg_k: from,
+        mut values,
+    } = registers;
+    fold_in_place(&mut values, from, lg_k);
+    values.truncate(two_to(lg_k));
+    values
 }

@@ -1,19 +1,26 @@
 //! What an image says.
-ghost use Rattle.std.specs.Prelude.{◌≡◌, ◌^◌, ◌<◌, length, IfOk, IfErr};
+ghost use Rattle.std.specs.Prelude.{◌≡◌, ◌^◌, ◌<◌, ◌≤◌, length, IfOk, IfErr};
 ghost use Rattle.hll_coupons.specs.Pair.{Pairs};
+ghost use Rattle.hll_sketch.specs.CouponImages.{IsTableOf};
 ghost use Rattle.hll_kernels.specs.Packed as packed;
 ghost use Rattle.hll_sketch.specs.Layout.{content_in, sketch_of};
 ghost use Rattle.hll_sketch.specs.Value as values;
-ghost use Rattle.hll_c.specs.Answers.{RefusesImage};
+ghost use Rattle.hll_sketch.specs.Value.{Sketch};
+ghost use Rattle.hll_c.specs.Answers.{RefusesImage, RefusesWith};
 ghost use Rattle.hll_c.specs.Calls as calls;
 ghost use Rattle.hll_c.specs.Info.{IsInfoOf, SaysInfo, AreCountsOf, SaysHistogram};
 
 use hll_arrays::registers::Registers;
-use hll_base::error::Error;
+use hll_base::error::{Error, Reason};
 use hll_base::hll_type::HllType;
 use hll_coupons::serialization::LG_LIST_PLACES;
-use hll_sketch::{HllSketch, Mode};
+use hll_sketch::coupon_images::ImageOfCoupons;
+use hll_sketch::image_registers::registers_of_image;
+use hll_sketch::{HllSketch, Mode, image_of_coupons};
 use std::alloc::Global;
+
+/// The bytes of `HllInfo`.
+const INFO_SIZE: usize = 64;
 
 /// The stage of a list.
 const LIST: u8 = 0;
@@ -69,29 +76,42 @@ fn bits_of(width: HllType) -> u8
     }
 }
 
-/// What coupons in a table of this size say.
-fn info_of_coupons(sketch: &HllSketch, lg_size: usize) -> HllInfo
-    requires { (S : Pairs) × (content_in sketch.now.layout ≡ values.coupons S lg_size) }
-    ensures { IsInfoOf (sketch_of sketch.now) result }
+/// What an image of coupons says.
+fn info_of_coupons(image: ImageOfCoupons) -> HllInfo
+    ensures { (x : Sketch) → IsTableOf image.lg_k image.hll_type image.lg_size image.count x → IsInfoOf x result }
 {
     HllInfo {
-        coupons: sketch.num_coupons().unwrap_or(0) as u64,
+        coupons: image.count as u64,
         zeros: 0,
         units_high: 0,
         units_low: 0,
         hip: 0,
         kxq0: 0,
         kxq1: 0,
-        lg_k: sketch.lg_config_k(),
-        width: bits_of(sketch.target_type()),
-        stage: if lg_size == LG_LIST_PLACES as usize {
+        lg_k: image.lg_k,
+        width: bits_of(image.hll_type),
+        stage: if image.lg_size == LG_LIST_PLACES {
             LIST
         } else {
             SET
         },
-        is_empty: u8::from(sketch.is_empty()),
+        is_empty: u8::from(image.count == 0),
         out_of_order: 0,
     }
+}
+
+/// What the coupons of a sketch say, in a table of this size.
+fn info_of_table(sketch: &HllSketch, lg_size: usize) -> HllInfo
+    requires content { (S : Pairs) × (content_in sketch.now.layout ≡ values.coupons S lg_size) }
+    requires small { lg_size ≤ 26 }
+    ensures { IsInfoOf (sketch_of sketch.now) result }
+{
+    info_of_coupons(ImageOfCoupons {
+        lg_k: sketch.lg_config_k(),
+        hll_type: sketch.target_type(),
+        lg_size: lg_size as u8,
+        count: sketch.num_coupons().unwrap_or(0),
+    })
 }
 
 /// What registers say, of which so many are 0, with this sum of weights.
@@ -128,20 +148,26 @@ fn info_of_sketch(sketch: &HllSketch) -> HllInfo
     ensures { IsInfoOf (sketch_of sketch.now) result }
 {
     match sketch.mode() {
-        Mode::List { list, .. } => info_of_coupons(sketch, list.container().lg_size()),
-        Mode::Set { set, .. } => info_of_coupons(sketch, set.container().lg_size()),
+        Mode::List { list, .. } => info_of_table(sketch, list.container().lg_size()),
+        Mode::Set { set, .. } => info_of_table(sketch, set.container().lg_size()),
         Mode::Array4(a) => info_of_registers(sketch, a, a.num_zeros(), a.kxq_units()),
         Mode::Array6(a) => info_of_registers(sketch, a, a.num_zeros(), a.kxq_units()),
         Mode::Array8(a) => info_of_registers(sketch, a, a.num_zeros(), a.kxq_units()),
     }
 }
 
-/// What an image says.
-pub(crate) fn info_of(alloc: Global, image: &[u8]) -> Result<HllInfo, Error>
+/// What an image says, where the caller's structure has the size of ours.
+pub(crate) fn info_of(alloc: Global, image: &[u8], size: usize) -> Result<HllInfo, Error>
     ensures ok { IfOk result (λ i. SaysInfo image.now i) }
-    ensures err { IfErr result (λ e. RefusesImage image.now e) }
+    ensures err { IfErr result (λ e. RefusesWith (size ≡ 64) image.now e) }
 {
-    Ok(info_of_sketch(&HllSketch::deserialize(alloc, image)?))
+    if size != INFO_SIZE {
+        return Err(Error::new(Reason::Argument));
+    }
+    match image_of_coupons(image) {
+        Some(coupons) => Ok(info_of_coupons(coupons)),
+        None => Ok(info_of_sketch(&HllSketch::deserialize(alloc, image)?)),
+    }
 }
 
 /// How many registers have each value from 0 to 63.
@@ -163,9 +189,8 @@ pub(crate) fn histogram_of(alloc: Global, image: &[u8]) -> Result<HllHistogram, 
     ensures ok { IfOk result (λ h. SaysHistogram image.now h) }
     ensures err { IfErr result (λ e. RefusesImage image.now e) }
 {
-    let sketch = HllSketch::deserialize(alloc, image)?;
-    let registers = sketch.registers_at(sketch.lg_config_k())?;
+    let registers = registers_of_image(alloc, image)?;
     Ok(HllHistogram {
-        counts: counts_of(&registers),
+        counts: counts_of(&registers.values),
     })
 }

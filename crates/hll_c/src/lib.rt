@@ -5,19 +5,20 @@
 //! joined has fewer registers than the caller; then `size` is the size needed, and `fewer` the other `lg_k`. On every code
 //! but 0 what was lent is as it was, but for these two and for `failed`, which is the number of the image that failed a
 //! check, from 0. An `lg_k` is 4 to 21, a width 4, 6 or 8 bits. Arguments out of range are
-//! `Argument`, before any image is read. Memory is taken by `malloc` while a call runs, for the sketches of its images and
+//! `Argument`, before any image is read. Registers that are written get the words of an estimator where their state is
+//! cleared; another state, as an image may bring it, stays. Memory is taken by `malloc` while a call runs, for the sketches of its images and
 //! for the answer; where it is refused the reason is `Memory`.
 #![tactic(auto)]
 
 ghost use Rattle.std.specs.Prelude.{◌≡◌, ◌∷◌, [], ℕ, length, map};
 ghost use Rattle.hll_coupons.specs.Hashed.{coupon_of_bytes};
 ghost use Rattle.hll_sketch.specs.EstimatorWords.{SetsWords};
-ghost use Rattle.hll_sketch.specs.Image.{IsReadAs};
+ghost use Rattle.hll_sketch.specs.Image.{IsReadAs, IsSizeOfImage};
 ghost use Rattle.hll_sketch.specs.Value.{Sketch};
-ghost use Rattle.hll_c.specs.Answers.{Answers, Tells, Tests, RefusesArguments, RefusesImage, RefusesWith, RefusesImages};
+ghost use Rattle.hll_c.specs.Answers.{Answers, IsImageOf, PutsBytes, Tells, Tests, RefusesArguments, RefusesImage, RefusesWith, RefusesImages};
 ghost use Rattle.hll_c.specs.Batches.{AreEnds, strings};
 ghost use Rattle.hll_c.specs.ByteRegisters.{JoinsImageInto, JoinsRegistersInto, AddsValues, AddsCoupons, FoldsInPlace, RefusesRegisters, SaysCounts, IsOfBytes, RefusesBytes};
-ghost use Rattle.hll_c.specs.Calls.{AreNewArguments, IsEmptyAt, IsMadeOf, IsFoldOf, RefusesFold, IsWidth, IsAtWidth, AreOfCoupon, HasCoupon, HasValues, AreUnionArguments, IsUnionOf, AreBatchArguments, IsUnionOfBatch, SaysAgreement, PutsCoupons};
+ghost use Rattle.hll_c.specs.Calls.{AreNewArguments, IsEmptyAt, IsMadeOf, IsFoldOf, RefusesFold, IsWidth, IsAtWidth, IsCleared, AreOfCoupon, HasCoupon, HasValues, AreUnionArguments, IsUnionOf, AreBatchArguments, IsUnionOfBatch, SaysAgreement, PutsCoupons};
 ghost use Rattle.hll_c.specs.Info.{SaysInfo, SaysHistogram};
 ghost use Rattle.hll_c.specs.declared.info.HllInfo.{HllInfo};
 ghost use Rattle.hll_c.specs.declared.info.HllHistogram.{HllHistogram};
@@ -36,14 +37,16 @@ use crate::info::{HllHistogram, HllInfo};
 use hll_coupons::coupon::Coupon;
 use std::alloc::Global;
 
-/// What an image says: `lg_k`, width, stage, its coupons, or the sums and words of its registers.
+/// What an image says: `lg_k`, width, stage, its coupons, or the sums and words of its registers. `size` is that of the
+/// caller's structure, in bytes.
 ///
-/// Answers the reason of the first check that the bytes fail, or `Memory`. Takes memory for its sketch.
+/// Answers `Argument` where that is not 64, the reason of the first check that the bytes fail, or `Memory`. Takes memory for
+/// its sketch, but none for coupons of a compact image that ascend or are at most 128.
 #[unsafe(no_mangle)]
-pub extern "C" fn hll_image_info(alloc: Global, image: &[u8], info: &mut HllInfo) -> u8
-    ensures { Tells HllInfo (SaysInfo image.now) (RefusesImage image.now) info.old info.new result }
+pub extern "C" fn hll_image_info(alloc: Global, image: &[u8], info: &mut HllInfo, size: usize) -> u8
+    ensures { Tells HllInfo (SaysInfo image.now) (RefusesWith (size ≡ 64) image.now) info.old info.new result }
 {
-    tell(info::info_of(alloc, image), info)
+    tell(info::info_of(alloc, image, size), info)
 }
 
 /// Whether bytes begin with an image; else the reason of the first check that they fail (docs/FORMAT.md, "Order of checks").
@@ -57,9 +60,21 @@ pub extern "C" fn hll_image_check(alloc: Global, image: &[u8]) -> u8
     code_of(image::check(alloc, image))
 }
 
+/// How many of the bytes are the image that they begin with.
+///
+/// Answers the reason of the first check that the bytes fail, or `Memory`, as `hll_image_check` does.
+#[unsafe(no_mangle)]
+pub extern "C" fn hll_image_size(alloc: Global, image: &[u8], size: &mut usize) -> u8
+    ensures { Tells ℕ (IsSizeOfImage image.now) (RefusesImage image.now) size.old size.new result }
+{
+    tell(image::size(alloc, image), size)
+}
+
 /// How many registers have each value from 0 to 63, at the image's `lg_k`; coupons count as the registers they fold to.
 ///
-/// Answers the reason of the first check that the bytes fail, or `Memory`. Takes memory for its sketch, and a byte a register.
+/// Answers the reason of the first check that the bytes fail, or `Memory`. Takes memory for a byte a register; for the
+/// exceptions of registers of four bits; and for a table of coupons, but not for coupons of a compact image that ascend or are
+/// at most 128.
 #[unsafe(no_mangle)]
 pub extern "C" fn hll_image_histogram(
     alloc: Global,
@@ -244,10 +259,25 @@ pub extern "C" fn hll_image_set_estimator_words(
     put_image(image::with_estimator_words(alloc, image), out, size)
 }
 
+/// The image with its state cleared: words of 0, with the out-of-order flag. A list or a set stays as it is.
+///
+/// Answers the reason of the first check that the image fails, or `Memory`. Takes memory for its sketch and the answer.
+#[unsafe(no_mangle)]
+pub extern "C" fn hll_image_clear_estimator_words(
+    alloc: Global,
+    image: &[u8],
+    out: &mut [u8],
+    size: &mut usize,
+) -> u8
+    ensures { PutsBytes (IsImageOf (IsMadeOf image.now IsCleared)) (RefusesImage image.now) out.old out.new size.old size.new result }
+{
+    put_bytes(image::without_estimator_words(alloc, image), out, size)
+}
+
 /// Whether two images fold to the same registers at the smaller `lg_k` of both: 1 if they do, else 0.
 ///
 /// Answers the reason of the first check that the first faulty image fails, with its number in `failed`, or `Memory`. Takes
-/// memory for both sketches, and two bytes a register at that `lg_k`.
+/// memory as `hll_image_histogram` does, for each of both.
 #[unsafe(no_mangle)]
 pub extern "C" fn hll_images_agree(
     alloc: Global,

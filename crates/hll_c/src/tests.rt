@@ -2,10 +2,11 @@
 use crate::info::{HllHistogram, HllInfo};
 use crate::{
     hll_coupon, hll_coupons, hll_image_add, hll_image_add_coupon, hll_image_check,
-    hll_image_convert, hll_image_fold, hll_image_histogram, hll_image_info, hll_image_merge,
-    hll_image_new, hll_image_set_estimator_words, hll_images_agree, hll_images_union,
-    hll_parts_union, hll_registers_add, hll_registers_add_coupons, hll_registers_fold,
-    hll_registers_histogram, hll_registers_image, hll_registers_join, hll_registers_join_registers,
+    hll_image_clear_estimator_words, hll_image_convert, hll_image_fold, hll_image_histogram,
+    hll_image_info, hll_image_merge, hll_image_new, hll_image_set_estimator_words, hll_image_size,
+    hll_images_agree, hll_images_union, hll_parts_union, hll_registers_add,
+    hll_registers_add_coupons, hll_registers_fold, hll_registers_histogram, hll_registers_image,
+    hll_registers_join, hll_registers_join_registers,
 };
 use std::test::Fail;
 
@@ -24,14 +25,14 @@ const RIGHT: &[u8] = b"\x0a\x01\x07\x05\x00\x10\x00\x0a\x00\x00\x00\x00\x00\x00\
     \x1c\x00\x00\x00\x00\x00\x00\x00\x0f\x12\x00\x00\x00\x00\x00\x00\
     \x00\x00\x00\x00\x00\x00\x00\x00\x19\x1e\x00\x00\x00\x00\x00\x00\
     \x00\x00\x00\x00\x00\x00\x00\x00";
-/// The union of both, at `lg_k` 4: slots 0 and 1 are 25 and 30.
+/// The union of both, at `lg_k` 4: slots 0 and 1 are 25 and 30. Its words are 0.
 const JOINED: &[u8] = b"\x0a\x01\x07\x04\x00\x10\x00\x0a\x00\x00\x00\x00\x00\x00\x00\x00\
     \x00\x00\x00\x00\x00\x00\x00\x00\x00\x00\x00\x00\x00\x00\x00\x00\
     \x0e\x00\x00\x00\x00\x00\x00\x00\x19\x1e\x00\x00\x00\x00\x00\x00\
     \x00\x00\x00\x00\x00\x00\x00\x00";
-/// The union with registers of four bits, both of them exceptions.
+/// The union with registers of four bits, both of them exceptions, and with its words.
 const OF_FOUR_BITS: &[u8] = b"\x0a\x01\x07\x04\x00\x18\x00\x02\x00\x00\x00\x00\x00\x00\x00\x00\
-    \x00\x00\x00\x00\x00\x00\x00\x00\x00\x00\x00\x00\x00\x00\x00\x00\
+    \x00\x00\x08\x01\x00\x00\x2c\x40\x00\x00\x00\x00\x00\x00\x00\x00\
     \x0e\x00\x00\x00\x02\x00\x00\x00\xff\x00\x00\x00\x00\x00\x00\x00\
     \x00\x00\x00\x64\x01\x00\x00\x78";
 /// The union with the words of an estimator: kxq0 is 14 + 2^-25 + 2^-30.
@@ -138,7 +139,7 @@ fn unions(rt: HostRuntime) -> Result<(), Fail> {
             &mut lent.size,
             &mut failed,
         );
-        assert!(rt; lent.has(code, JOINED));
+        assert!(rt; lent.has(code, WITH_WORDS));
         assert_eq!(rt; failed, 5);
 
         let mut both = Vec::new(rt.alloc());
@@ -156,7 +157,7 @@ fn unions(rt: HostRuntime) -> Result<(), Fail> {
             &mut lent.size,
             &mut failed,
         );
-        assert!(rt; lent.has(code, JOINED));
+        assert!(rt; lent.has(code, WITH_WORDS));
         assert_eq!(rt; failed, 5);
     }
     Ok(())
@@ -217,7 +218,7 @@ fn small_buffers(rt: HostRuntime) -> Result<(), Fail> {
 fn other_forms(rt: HostRuntime) -> Result<(), Fail> {
     let mut lent = Lent::new();
     let code = hll_image_fold(rt.alloc(), RIGHT, 4, &mut lent.out, &mut lent.size);
-    assert!(rt; lent.has(code, JOINED));
+    assert!(rt; lent.has(code, WITH_WORDS));
 
     let mut lent = Lent::new();
     let code = hll_image_convert(rt.alloc(), JOINED, 4, &mut lent.out, &mut lent.size);
@@ -226,6 +227,15 @@ fn other_forms(rt: HostRuntime) -> Result<(), Fail> {
     let mut lent = Lent::new();
     let code = hll_image_set_estimator_words(rt.alloc(), JOINED, &mut lent.out, &mut lent.size);
     assert!(rt; lent.has(code, WITH_WORDS));
+
+    let mut lent = Lent::new();
+    let code = hll_image_clear_estimator_words(
+        rt.alloc(),
+        WITH_WORDS,
+        &mut lent.out,
+        &mut lent.size,
+    );
+    assert!(rt; lent.has(code, JOINED));
 
     let mut failed = 5;
     for (other, answer) in [(OF_FOUR_BITS, 1), (LEFT, 0)] {
@@ -252,9 +262,24 @@ fn what_an_image_says(rt: HostRuntime) -> Result<(), Fail> {
         is_empty: 9,
         out_of_order: 9,
     };
-    assert_eq!(rt; hll_image_info(rt.alloc(), OF_ANOTHER_FAMILY, &mut info), 2);
+    assert_eq!(rt;
+        hll_image_info(rt.alloc(), OF_ANOTHER_FAMILY, &mut info, 64),
+        2
+    );
+    assert_eq!(rt; hll_image_info(rt.alloc(), WITH_WORDS, &mut info, 72), 12);
     assert_eq!(rt; (info.coupons, info.lg_k, info.out_of_order), (9, 9, 9));
-    assert_eq!(rt; hll_image_info(rt.alloc(), WITH_WORDS, &mut info), 0);
+    assert_eq!(rt; hll_image_info(rt.alloc(), ONE, &mut info, 64), 0);
+    assert_eq!(rt;
+        (
+            info.lg_k,
+            info.width,
+            info.stage,
+            info.is_empty,
+            info.coupons
+        ),
+        (10, 8, 0, 0, 1)
+    );
+    assert_eq!(rt; hll_image_info(rt.alloc(), WITH_WORDS, &mut info, 64), 0);
     assert_eq!(rt;
         (
             info.lg_k,
@@ -294,6 +319,23 @@ fn what_an_image_says(rt: HostRuntime) -> Result<(), Fail> {
     Ok(())
 }
 
+/// What follows an image is not of it.
+#[test]
+fn sizes(rt: HostRuntime) -> Result<(), Fail> {
+    for image in [EMPTY, ONE, LEFT, RIGHT, OF_FOUR_BITS] {
+        let mut bytes = Vec::new(rt.alloc());
+        bytes.extend_from_slice(image)?;
+        bytes.extend_from_slice(ONE)?;
+        let mut size = 9;
+        assert_eq!(rt; hll_image_size(rt.alloc(), &bytes, &mut size), 0);
+        assert_eq!(rt; size, image.len());
+    }
+    let mut size = 9;
+    let code = hll_image_size(rt.alloc(), OF_ANOTHER_FAMILY, &mut size);
+    assert_eq!(rt; (code, size), (2, 9));
+    Ok(())
+}
+
 /// Parts that lie apart are united as those of a batch, and an empty one is refused.
 #[test]
 fn united_parts(rt: HostRuntime) -> Result<(), Fail> {
@@ -309,7 +351,7 @@ fn united_parts(rt: HostRuntime) -> Result<(), Fail> {
         &mut lent.size,
         &mut failed,
     );
-    assert!(rt; lent.has(code, JOINED));
+    assert!(rt; lent.has(code, WITH_WORDS));
     assert_eq!(rt; failed, 5);
 
     let mut lent = Lent::new();

@@ -1,47 +1,48 @@
 use Rattle.std.proofs.Common.{[], ◌∷◌, refl, ◌∙◌}
 use Rattle.hll_base.proofs.Errors.{IfErr-passed}
-use Rattle.std.proofs.lemmas.Result.{IfOk-weaker, IfErr-weaker}
-use Rattle.hll_sketch.specs.Layout.{sketch_of}
 use Rattle.hll_c.specs.Answers.{RefusesImages}
-use Rattle.hll_c.specs.Calls.{SaysAgreement}
-use Rattle.hll_c.proofs.Images.{asked_behind, refuses_first, refuses_second, refuses_more_memory}
+use Rattle.hll_c.proofs.Agreement.{size_of_registers, same_is_agreement}
+use Rattle.hll_c.proofs.Images.{refuses_first, refuses_second}
 use Rattle.hll_c.proofs.image.agree.Goals as goal
 
 pub returns-in_err-left-clause-err : goal.returns-in_err-left-clause-err
 returns-in_err-left-clause-err c =
     let all = c.args.left.now ∷ c.args.right.now ∷ [] in
     let e = c.in_err-left in
-    IfErr-passed (RefusesImages (Unit {0}) all c.args.failed.now c.read.new.failed) c.from_residual.result e.field-0.0 c.from_residual.ensures.1
-    (refuses_first (Unit {0}) all c.args.failed.now c.read.new.failed e.field-0.0 c.args.left.now (c.args.right.now ∷ []) refl tt e.ensures.err)
+    IfErr-passed (RefusesImages (Unit {0}) all c.args.failed.now c.read_registers.new.failed) c.from_residual.result e.field-0.0 c.from_residual.ensures.1
+    (refuses_first (Unit {0}) all c.args.failed.now c.read_registers.new.failed e.field-0.0 c.args.left.now (c.args.right.now ∷ []) refl tt e.ensures.err)
 
 pub returns-in_err-right-clause-err : goal.returns-in_err-right-clause-err
 returns-in_err-right-clause-err c =
     let all = c.args.left.now ∷ c.args.right.now ∷ [] in
     let e = c.in_err-right in
-    IfErr-passed (RefusesImages (Unit {0}) all c.args.failed.now c.read-2.new.failed) c.from_residual-in_err-right.result e.field-0.0 c.from_residual-in_err-right.ensures.1
-    (refuses_second (Unit {0}) all c.args.failed.now c.read-2.new.failed e.field-0.0 c.args.left.now c.args.right.now (sketch_of c.in_ok-left.left) c.read.new.failed refl tt
-    c.in_ok-left.ensures.ok.0 c.in_ok-left.ensures.ok.1 e.ensures.err)
+    let left = c.in_ok-left.ensures.ok in
+    IfErr-passed (RefusesImages (Unit {0}) all c.args.failed.now c.read_registers-2.new.failed) c.from_residual-in_err-right.result e.field-0.0 c.from_residual-in_err-right.ensures.1
+    (refuses_second (Unit {0}) all c.args.failed.now c.read_registers-2.new.failed e.field-0.0 c.args.left.now c.args.right.now left.0.sketch c.read_registers.new.failed refl tt
+    left.0.read left.2 e.ensures.err)
+
+pub agreement-requires-clause-left : goal.agreement-requires-clause-left
+agreement-requires-clause-left c =
+    let left = c.in_ok-left.ensures.ok in
+    (left.1, size_of_registers c.args.left.now c.in_ok-left.left.lg_k c.in_ok-left.left.values.items left.0)
+
+pub agreement-requires-clause-right : goal.agreement-requires-clause-right
+agreement-requires-clause-right c =
+    let right = c.in_ok-right.ensures.ok in
+    (right.1, size_of_registers c.args.right.now c.in_ok-right.right.lg_k c.in_ok-right.right.values.items right.0)
 
 pub returns-clause-ok : goal.returns-clause-ok
 returns-clause-ok c =
-    IfOk-weaker c.agreement.result _ (SaysAgreement c.args.left.now c.args.right.now c.args.failed.now c.read-2.new.failed)
-    (λ same is. record {
-      here = sketch_of c.in_ok-left.left;
-      here_read = c.in_ok-left.ensures.ok.0;
-      there = sketch_of c.in_ok-right.right;
-      there_read = c.in_ok-right.ensures.ok.0;
-      answer = is.0;
-      same_is = is.1;
-      is = is.2;
-      untold = c.in_ok-right.ensures.ok.1 ∙ c.in_ok-left.ensures.ok.1;
-    })
-    c.agreement.ensures.ok
-
-pub returns-clause-err : goal.returns-clause-err
-returns-clause-err c =
-    let all = c.args.left.now ∷ c.args.right.now ∷ [] in
-    IfErr-weaker c.agreement.result _ (RefusesImages (Unit {0}) all c.args.failed.now c.read-2.new.failed)
-    (λ e memory. refuses_more_memory (Unit {0}) all c.args.failed.now c.read-2.new.failed e 2 memory tt
-    (asked_behind all (sketch_of c.in_ok-left.left ∷ sketch_of c.in_ok-right.right ∷ []) (c.in_ok-left.ensures.ok.0, (c.in_ok-right.ensures.ok.0, tt)))
-    (c.in_ok-right.ensures.ok.1 ∙ c.in_ok-left.ensures.ok.1))
-    c.agreement.ensures.err
+    let left = c.in_ok-left.ensures.ok in
+    let right = c.in_ok-right.ensures.ok in
+    let same = same_is_agreement c.args.left.now c.args.right.now c.in_ok-left.left.lg_k c.in_ok-right.right.lg_k c.in_ok-left.left.values.items c.in_ok-right.right.values.items left.0 right.0 left.1 right.1 in
+    record {
+      here = left.0.sketch;
+      here_read = left.0.read;
+      there = right.0.sketch;
+      there_read = right.0.read;
+      answer = c.agreement.ensures.0;
+      same_is = c.agreement.ensures.1;
+      is = (λ t. same.0 (c.agreement.ensures.2.0 t), λ agree. c.agreement.ensures.2.1 (same.1 agree));
+      untold = right.2 ∙ left.2;
+    }

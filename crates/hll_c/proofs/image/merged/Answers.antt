@@ -1,11 +1,12 @@
 use Rattle.std.proofs.Common.{[], ◌∷◌, refl, sym, subst}
 use Rattle.std.specs.Option.{IfSome}
-use Rattle.std.proofs.lemmas.Result.{IfErr-weaker}
+use Rattle.std.proofs.lemmas.Result.{IfOk-weaker, IfErr-weaker}
 use Rattle.hll_base.proofs.Errors.{IfErr-passed}
 use Rattle.hll_sketch.specs.CouponImages.{IsImageOfUnion}
 use Rattle.hll_sketch.specs.Layout.{sketch_of}
-use Rattle.hll_c.specs.Answers.{RefusesImages}
-use Rattle.hll_c.specs.Calls.{AreUnionArguments}
+use Rattle.hll_c.specs.Answers.{IsImageOf, WithWords, RefusesImages}
+use Rattle.hll_c.specs.Calls.{AreUnionArguments, IsUnionOf}
+use Rattle.hll_c.proofs.Answers.{made_with_words}
 use Rattle.hll_c.proofs.Images.{refuses_arguments, no_memory_to_unite, union_in_bytes, refuses_union_in_bytes}
 use Rattle.hll_c.proofs.image.merged.Goals as goal
 
@@ -29,11 +30,17 @@ returns-in-Some-clause-ok c =
     union_in_bytes c.args.lg_max_k c.args.width c.in_ok-width_of.field-0 c.in_ok-width_of.ensures.ok c.args.left.now c.args.right.now c.in-Some.image.items c.args.failed.now
     (subst (λ o. IfSome o (λ image. IsImageOfUnion c.args.lg_max_k c.in_ok-width_of.field-0 c.args.left.now c.args.right.now image.items)) c.in-Some.is c.in_ok-image.ensures.some)
 
+pub returns-in_ok-union_of_two-in-None-clause-ok : goal.returns-in_ok-union_of_two-in-None-clause-ok
+returns-in_ok-union_of_two-in-None-clause-ok c =
+    let Made = IsUnionOf c.args.lg_max_k c.args.width (c.args.left.now ∷ c.args.right.now ∷ []) c.args.failed.now c.union_of_two.new.failed in
+    IfOk-weaker c.image_with_words.result _ (λ v. IsImageOf (WithWords Made) v.items)
+    (λ v is. made_with_words Made (sketch_of c.in_ok-union_of_two-in-None.field-0) v.items c.in_ok-union_of_two-in-None.ensures.ok is) c.image_with_words.ensures.ok
+
 pub returns-in_ok-union_of_two-in-None-clause-err : goal.returns-in_ok-union_of_two-in-None-clause-err
 returns-in_ok-union_of_two-in-None-clause-err c =
     let all = c.args.left.now ∷ c.args.right.now ∷ [] in
     let Refuses = RefusesImages (AreUnionArguments c.args.lg_max_k c.args.width) all c.args.failed.now c.union_of_two.new.failed in
-    IfErr-weaker c.serialize-in-None.result _ Refuses
+    IfErr-weaker c.image_with_words.result _ Refuses
     (λ e memory. subst Refuses (sym memory)
     (no_memory_to_unite c.args.lg_max_k c.args.width all c.args.failed.now c.union_of_two.new.failed (sketch_of c.in_ok-union_of_two-in-None.field-0) c.in_ok-union_of_two-in-None.ensures.ok))
-    c.serialize-in-None.ensures.err
+    c.image_with_words.ensures.err
