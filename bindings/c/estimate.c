@@ -235,7 +235,7 @@ hll_status hll_estimate(const uint8_t *image, size_t len, hll_estimation *estima
             *estimation = estimation_of_counts(histogram.counts);
         return status;
     }
-    status = hll_image_info(image, len, &info);
+    status = hll_image_info(image, len, &info, sizeof info);
     if (status == HLL_OK)
         *estimation = estimation_of_coupons(info.coupons);
     return status;
@@ -265,7 +265,7 @@ hll_status hll_hip_estimate(const uint8_t *image, size_t len, hll_estimation *es
 {
     hll_info info;
     double kept, registers;
-    hll_status status = hll_image_info(image, len, &info);
+    hll_status status = hll_image_info(image, len, &info, sizeof info);
     if (status != HLL_OK)
         return status;
     kept = number_of_bits(info.hip);

@@ -18,9 +18,9 @@
  * size of an image, and nothing else that it says.
  *
  * An image is grown where its list or set has the table that its coupons need (a list up to seven, a set the least
- * table that they fill to at most three quarters), or where its registers have the out-of-order flag and words of 0.
- * New images are grown, and what calls make of grown images is too; only hll_image_set_estimator_words and
- * hll_registers_image give words to registers. Images of other programs often aren't.
+ * table that they fill to at most three quarters), or where its registers have the out-of-order flag and words that
+ * follow from them: those that calls set here, or 0. New images are grown, and what calls make of grown images is too.
+ * Images of other programs often aren't.
  *
  * Answers
  *     HLL_OK (0) where the call did what was asked. On every other status the output is as it was: the buffer, *info,
@@ -48,22 +48,27 @@
  *     registers, count the caller's registers, a byte for each, and how many: 2^lg_k, 16 to 2^21. Any other count is
  *                      HLL_ARGUMENT.
  *     failed           where images are refused (1 to 11), the number of the first one that is, from 0; else it is
- *                      left as it was.
+ *                      left as it was. NULL, where it is not wanted; so may lg_k be, of HLL_FEWER.
  *
  * What is written has its coupons in ascending order, so the same sketch has the same bytes, but for sets in tables of
  * two sizes.
  *
- * Registers that these calls make have words of 0, from which the formula of other DataSketches libraries, a division
- * by kxq0 + kxq1, gives infinity. Set the words by hll_image_set_estimator_words before an image goes to one of them.
+ * Registers are written with the words from which other DataSketches libraries estimate, and the out-of-order flag, where
+ * a call has changed or united them, or their words were 0. The words follow from the registers, so the same registers
+ * have the same bytes. Other words, which an image brings and a call keeps (of hll_image_convert, or of the union of one
+ * image), stay as they are. hll_image_clear_estimator_words gives words of 0, as the program hll_merge writes them; from
+ * those the formula of other libraries, a division by kxq0 + kxq1, gives infinity.
  *
  * What the caller owes, which no call can test
- *     - A pointer is not NULL, even where its length is 0, and leads to as many bytes (or elements) as its length says.
+ *     - A pointer leads to as many bytes (or elements) as its length says; where that is 0 it may be NULL. No other is
+ *       NULL, but failed, and lg_k of HLL_FEWER.
  *     - out, size, failed, info, histogram, same, coupons, estimation, and registers that a call changes, with its lg_k,
  *       overlap nothing else that is passed. (Inputs may overlap one another: an image can be merged with itself.)
  *     - No input changes while a call runs. An end that another thread writes meanwhile can lead past the bytes.
  *     - malloc, realloc and free belong to one allocator, and align to 16 bytes.
  *     - No call is made from a signal handler, or from a child that a process with threads forked: calls use malloc.
- *     - An x86 processor has the instructions of x86-64-v2; an older one ends the program by SIGILL.
+ *     - An x86 processor has the instructions of x86-64-v2. The loader of glibc refuses the library on an older one; else
+ *       that ends the program by SIGILL.
  *
  * Memory
  *     A call takes memory by malloc while it runs, and gives all of it back. Reading an image takes about the bytes of
@@ -77,7 +82,7 @@
  *     all inputs of a caller who keeps to the above; of unions that order, repetition and grouping of grown images
  *     under one lg_max_k make no difference; and that registers that are not all 0, into which an image is joined,
  *     written as an image, are the union of theirs with it, its words set. Not proved is what is said of time, of
- *     threads, of other libraries, and of memory, but for which images may be refused for want of it. Estimates,
+ *     threads, of NULL, of other libraries, and of memory, but for which images may be refused for want of it. Estimates,
  *     hll_version and what this header defines itself are plain C, tested and not proved.
  */
 #ifndef HLL_H
@@ -129,7 +134,7 @@ enum { HLL_LIST = 0, HLL_SET = 1, HLL_REGISTERS = 2 };
 #define HLL_COUPON_SLOT(coupon) ((uint32_t)(coupon) & UINT32_C(0x3ffffff))
 #define HLL_COUPON_VALUE(coupon) ((uint8_t)((uint32_t)(coupon) >> 26))
 
-/* What an image says of its sketch. What the stage doesn't have is 0. */
+/* What an image says of its sketch. What the stage doesn't have is 0. A later version may have more members. */
 typedef struct hll_info {
     uint64_t coupons;       /* of a list or a set: how many coupons */
     uint64_t zeros;         /* of registers: how many are 0 */
@@ -170,17 +175,24 @@ uint32_t hll_version(void);
 
 /* ---- what an image says ---- */
 
-/* Tells what the image says of its sketch.
- * Answers HLL_OK, 1 to 11, or HLL_MEMORY. Takes the memory of reading. */
-hll_status hll_image_info(const uint8_t *image, size_t len, hll_info *info);
+/* Tells what the image says of its sketch. info_size is sizeof *info; where it isn't that of this version, the caller was
+ * compiled for another one, and the answer is HLL_ARGUMENT.
+ * Answers HLL_OK, 1 to 11, HLL_ARGUMENT, or HLL_MEMORY. Takes the memory of reading, but none for 1 to 128 coupons of a
+ * compact image, or for more that ascend. */
+hll_status hll_image_info(const uint8_t *image, size_t len, hll_info *info, size_t info_size);
 
 /* Whether the bytes begin with an image (HLL_OK), else why not.
  * Answers HLL_OK, 1 to 11, or HLL_MEMORY. Takes the memory of reading for coupons, but none where they are 1 to 128,
  * or ascend in a compact image; and memory for the exceptions of registers of 4 bits. */
 hll_status hll_image_check(const uint8_t *image, size_t len);
 
+/* How many of the bytes are the image that they begin with.
+ * Answers HLL_OK, 1 to 11, or HLL_MEMORY. Takes memory as hll_image_check does. */
+hll_status hll_image_size(const uint8_t *bytes, size_t len, size_t *size);
+
 /* Counts the registers of each value, at the lg_k of the image; the coupons of a list or a set are folded to it.
- * Answers HLL_OK, 1 to 11, or HLL_MEMORY. Takes the memory of reading, and 2^lg_k bytes. */
+ * Answers HLL_OK, 1 to 11, or HLL_MEMORY. Takes 2^lg_k bytes, memory for the exceptions of registers of 4 bits, and for
+ * coupons as hll_image_info does. */
 hll_status hll_image_histogram(const uint8_t *image, size_t len, hll_histogram *histogram);
 
 /* ---- making an image ---- */
@@ -241,17 +253,20 @@ hll_status hll_image_fold(const uint8_t *image, size_t len, uint8_t lg_k, uint8_
  * image's. */
 hll_status hll_image_convert(const uint8_t *image, size_t len, uint8_t width, uint8_t *out, size_t room, size_t *size);
 
-/* The image with the three words and the flag set from which a DataSketches library estimates. Registers that the other
- * calls make have zeros there, from which others estimate infinity: call this before the image goes to them. Lists and
- * sets have no words, and come out as they are.
+/* The image with the three words and the flag set from which a DataSketches library estimates, whatever they were. Lists
+ * and sets have no words, and come out as they are.
  * Answers HLL_OK, 1 to 11, HLL_MEMORY or HLL_BUFFER. Takes the memory of reading, and the image's. */
 hll_status hll_image_set_estimator_words(const uint8_t *image, size_t len, uint8_t *out, size_t room, size_t *size);
+
+/* The image with words of 0 and the flag, as the program hll_merge writes it.
+ * Answers and takes memory as hll_image_set_estimator_words. */
+hll_status hll_image_clear_estimator_words(const uint8_t *image, size_t len, uint8_t *out, size_t room, size_t *size);
 
 /* ---- comparing ---- */
 
 /* Whether both images have the same registers (*same is 1) or not (0), once both are folded to the smaller lg_k.
  * Answers HLL_OK, 1 to 11 (*failed is 0 for the left image, 1 for the right), or HLL_MEMORY. Takes the memory of
- * reading both, and twice 2^lg_k bytes. */
+ * hll_image_histogram for each. */
 hll_status hll_images_agree(const uint8_t *left, size_t left_len, const uint8_t *right, size_t right_len,
                             uint8_t *same, size_t *failed);
 
@@ -326,7 +341,7 @@ hll_status hll_coupons(const uint8_t *values, size_t values_len, const size_t *e
  * standard error of 1.04 / sqrt(2^lg_k); from a list or a set it is the number of coupons, corrected for coupons that
  * values share, and nearly exact. A lower bound is never below the number of coupons, or of registers above 0: there
  * were at least so many values. Where every register is 63 the estimate is infinite.
- * Answers HLL_OK, 1 to 11, or HLL_MEMORY. Takes the memory of hll_image_histogram. */
+ * Answers HLL_OK, 1 to 11, or HLL_MEMORY. Takes the memory of hll_image_histogram, or of hll_image_info for coupons. */
 hll_status hll_estimate(const uint8_t *image, size_t len, hll_estimation *estimation);
 
 /* The estimate that the writer of an image kept in it while it added values one by one (the HIP accumulator), with its

@@ -175,6 +175,14 @@ static void test_coupons(void)
     CHECK(HLL_COUPON_SLOT(UINT32_C(201326597)) == 5 && HLL_COUPON_VALUE(UINT32_C(201326597)) == 3, "slot and value");
 }
 
+/* The number of these bits of binary64. */
+static double number_of(uint64_t bits)
+{
+    double number;
+    memcpy(&number, &bits, sizeof number);
+    return number;
+}
+
 /* What info, histogram, and agree tell of images of each stage and width. */
 static void test_telling(void)
 {
@@ -187,16 +195,21 @@ static void test_telling(void)
             hll_info info;
             hll_histogram histogram;
             uint64_t sum = 0, low = 0;
+            double sums[2] = {0, 0};
             uint8_t same = 7;
-            CHECK(hll_image_info(image.at, image.len, &info) == HLL_OK, "info");
+            CHECK(hll_image_info(image.at, image.len, &info, sizeof info) == HLL_OK, "info");
             CHECK(info.lg_k == 12 && info.width == width && info.stage == stage && !info.is_empty, "info of stage");
             CHECK(info.coupons == (stage < 2 ? values_of_stage[stage] : 0), "%d coupons", (int)info.coupons);
-            CHECK(info.out_of_order == (stage == 2) && info.hip == 0 && info.kxq0 == 0 && info.kxq1 == 0, "words");
+            CHECK(info.out_of_order == (stage == 2) && info.hip == 0, "words");
             CHECK(hll_image_histogram(image.at, image.len, &histogram) == HLL_OK, "histogram");
             for (value = 0; value < 64; value++) {
+                double part = (double)histogram.counts[value] / (double)(UINT64_C(1) << value);
                 sum += histogram.counts[value];
                 low += value >= 1 ? histogram.counts[value] << (63 - value) : 0;
+                sums[value >= 32] += part;
             }
+            CHECK(number_of(info.kxq0) == (stage < 2 ? 0 : sums[0]), "the sum of registers below 32");
+            CHECK(number_of(info.kxq1) == (stage < 2 ? 0 : sums[1]), "the sum of others");
             CHECK(sum == 4096, "a histogram of %d", (int)sum);
             low += histogram.counts[0] << 63;
             CHECK(stage < 2 || (info.zeros == histogram.counts[0] && info.units_low == low), "zeros and units");
@@ -278,7 +291,125 @@ static void test_words(void)
     EXPECT("words", hll_image_set_estimator_words(image.at, image.len, out, sizeof out, &size), out, size,
            "0a0107040010000a" "0000000000000000" "0000040000002940" "000020000000f03d" "0c00000000000000"
            "011f203f000000000000000000000000");
+    EXPECT("no words", hll_image_clear_estimator_words(image.at, image.len, out, sizeof out, &size), out, size,
+           "0a0107040010000a" "0000000000000000" "0000000000000000" "0000000000000000" "0c00000000000000"
+           "011f203f000000000000000000000000");
+    EXPECT("a list has none", hll_image_clear_estimator_words((const uint8_t *)"\2\1\7\12\3\14\0\10", 8, out,
+                                                              sizeof out, &size), out, size, "0201070a030c0008");
     free(image.at);
+}
+
+/* Whether a call writes this image. */
+static int writes_image(hll_status status, const uint8_t *out, size_t size, bytes image)
+{
+    return status == HLL_OK && size == image.len && memcmp(out, image.at, size) == 0;
+}
+
+/* Registers with words of 0 are written with their words, whatever the call does; other words that an image brings are kept
+ * where nothing changes, and made anew where something does. */
+static void test_words_by_default(void)
+{
+    static uint8_t out[HLL_IMAGE_MAX(12)];
+    static const size_t no_ends[] = {0};
+    unsigned width;
+    for (width = 4; width <= 8; width += 2) {
+        bytes words = image_of_values(12, (uint8_t)width, 5, 5000), zero = with_room(words.len), other;
+        size_t size = 0, failed = 0, end = words.len;
+        CHECK(hll_image_set_estimator_words(words.at, words.len, out, sizeof out, &size) == HLL_OK, "words");
+        CHECK(writes_image(HLL_OK, out, size, words), "values are written without their words");
+        CHECK(hll_image_clear_estimator_words(words.at, words.len, zero.at, zero.len, &size) == HLL_OK, "no words");
+        CHECK(memcmp(zero.at, words.at, size) != 0 && zero.at[5] == words.at[5], "words that are not cleared");
+        other = with_room(words.len);
+        memcpy(other.at, words.at, words.len);
+        other.at[5] &= ~16;
+        memset(other.at + 8, 65, 24);
+#define WRITES(call, wanted) CHECK(writes_image(call, out, size, wanted), "%u bits: %s", width, #call)
+        WRITES(hll_image_convert(zero.at, zero.len, (uint8_t)width, out, sizeof out, &size), words);
+        WRITES(hll_image_fold(zero.at, zero.len, 12, out, sizeof out, &size), words);
+        WRITES(hll_image_add(zero.at, zero.len, zero.at, 0, no_ends, 0, out, sizeof out, &size), words);
+        WRITES(hll_image_merge(12, (uint8_t)width, zero.at, zero.len, zero.at, zero.len, out, sizeof out, &size,
+                               &failed), words);
+        WRITES(hll_images_union(12, (uint8_t)width, zero.at, zero.len, &end, 1, out, sizeof out, &size, &failed),
+               words);
+        WRITES(hll_image_convert(other.at, other.len, (uint8_t)width, out, sizeof out, &size), other);
+        WRITES(hll_images_union(12, (uint8_t)width, other.at, other.len, &end, 1, out, sizeof out, &size, &failed),
+               other);
+        WRITES(hll_image_merge(12, (uint8_t)width, other.at, other.len, other.at, other.len, out, sizeof out, &size,
+                               &failed), words);
+        free(words.at);
+        free(zero.at);
+        free(other.at);
+    }
+}
+
+/* An image is as long as its size says, whatever follows; and no shorter bytes are one. */
+static void test_sizes(void)
+{
+    size_t stage, size;
+    unsigned width;
+    for (stage = 0; stage < 3; stage++)
+        for (width = 4; width <= 8; width += 2) {
+            bytes image = image_of_values(12, (uint8_t)width, 0, values_of_stage[stage]);
+            bytes more = with_room(image.len + 9);
+            memset(more.at, 7, more.len);
+            memcpy(more.at, image.at, image.len);
+            size = 4711;
+            CHECK(hll_image_size(more.at, image.len - 1, &size) == HLL_TRUNCATED && size == 4711, "a byte too few");
+            CHECK(hll_image_size(more.at, image.len, &size) == HLL_OK && size == image.len, "%d", (int)size);
+            CHECK(hll_image_size(more.at, more.len, &size) == HLL_OK && size == image.len, "%d, more", (int)size);
+            free(more.at);
+            free(image.at);
+        }
+}
+
+/* A caller that was compiled for another hll_info is told so, and nothing is written. */
+static void test_other_info(void)
+{
+    static const uint8_t empty[] = {2, 1, 7, 10, 3, 12, 0, 8};
+    static const size_t others[] = {0, 8, sizeof(hll_info) - 1, sizeof(hll_info) + 8};
+    hll_info info, before;
+    size_t i;
+    memset(&info, 5, sizeof info);
+    memset(&before, 5, sizeof before);
+    for (i = 0; i < 4; i++)
+        CHECK(hll_image_info(empty, sizeof empty, &info, others[i]) == HLL_ARGUMENT, "an info of %d bytes", (int)others[i]);
+    CHECK(memcmp(&info, &before, sizeof info) == 0, "an info of another size is written");
+    CHECK(hll_image_info(empty, sizeof empty, &info, sizeof info) == HLL_OK && info.is_empty == 1, "an empty sketch");
+}
+
+/* NULL may stand where a length is 0, and for what is told of a refusal. */
+static void test_null(void)
+{
+    static const uint8_t empty[] = {2, 1, 7, 10, 3, 12, 0, 8}, bad[] = {2, 1, 6, 10, 3, 12, 0, 8};
+    static const size_t ends[] = {0, 0}, apart[] = {8, 16};
+    uint8_t out[64], both[16], registers[32] = {0}, few[16] = {0}, same = 7;
+    hll_bytes parts[2] = {{NULL, 0}, {NULL, 0}};
+    size_t size = 0;
+    hll_info info;
+    hll_histogram histogram;
+    memcpy(both, empty, 8);
+    memcpy(both + 8, bad, 8);
+    few[3] = 9;
+    CHECK(hll_image_check(NULL, 0) == HLL_TRUNCATED && hll_image_size(NULL, 0, &size) == HLL_TRUNCATED, "no image");
+    CHECK(hll_image_info(NULL, 0, &info, sizeof info) == HLL_TRUNCATED, "info of none");
+    CHECK(hll_image_histogram(NULL, 0, &histogram) == HLL_TRUNCATED, "a histogram of none");
+    CHECK(hll_image_new(10, 8, NULL, 0, &size) == HLL_BUFFER && size == 8, "no buffer");
+    CHECK(hll_image_add(empty, 8, NULL, 0, NULL, 0, out, sizeof out, &size) == HLL_OK && size == 8, "no values");
+    CHECK(hll_image_add(empty, 8, NULL, 0, ends, 2, out, sizeof out, &size) == HLL_OK && size == 12, "empty strings");
+    CHECK(hll_images_union(10, 8, NULL, 0, NULL, 0, out, sizeof out, &size, NULL) == HLL_OK && size == 8, "no images");
+    CHECK(hll_images_union(10, 8, both, 16, apart, 2, out, sizeof out, &size, NULL) == HLL_FAMILY, "a bad image");
+    CHECK(hll_parts_union(10, 8, NULL, 0, out, sizeof out, &size, NULL) == HLL_OK && size == 8, "no parts");
+    CHECK(hll_parts_union(10, 8, parts, 2, out, sizeof out, &size, NULL) == HLL_TRUNCATED, "parts of no bytes");
+    CHECK(hll_image_merge(10, 8, empty, 8, bad, 8, out, sizeof out, &size, NULL) == HLL_FAMILY, "merged with a bad one");
+    CHECK(hll_image_merge(10, 8, NULL, 0, empty, 8, out, sizeof out, &size, NULL) == HLL_TRUNCATED, "with none");
+    CHECK(hll_images_agree(bad, 8, empty, 8, &same, NULL) == HLL_FAMILY && same == 7, "agreement with a bad one");
+    CHECK(hll_registers_add(registers, 32, NULL, 0, NULL, 0) == HLL_OK, "no values for registers");
+    CHECK(hll_registers_add_coupons(registers, 32, NULL, 0) == HLL_OK, "no coupons");
+    CHECK(hll_registers_join(registers, 32, NULL, 0, NULL) == HLL_TRUNCATED, "no image for registers");
+    CHECK(hll_registers_join_registers(registers, 32, few, 16, NULL) == HLL_FEWER, "fewer registers");
+    CHECK(hll_registers_join_registers(registers, 32, NULL, 0, NULL) == HLL_ARGUMENT, "no registers");
+    CHECK(hll_coupon(NULL, 0) == hll_coupon(empty, 0), "the coupon of no bytes");
+    CHECK(hll_coupons(NULL, 0, NULL, 0, NULL, 0) == HLL_OK, "no coupons of values");
 }
 
 /* ---- images of other versions (docs/DIFFERENCES.md) ---- */
@@ -337,5 +468,9 @@ int main(void)
     test_words();
     test_table_sizes();
     test_stale_words();
+    test_words_by_default();
+    test_sizes();
+    test_other_info();
+    test_null();
     return finish("calls, each with its codes");
 }

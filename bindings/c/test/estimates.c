@@ -52,7 +52,7 @@ static void test_streams(void)
                 hll_info info;
                 double n = (double)sizes[j];
                 CHECK(hll_estimate(image.at, image.len, &found) == HLL_OK, "%d values", (int)n);
-                CHECK(hll_image_info(image.at, image.len, &info) == HLL_OK, "info");
+                CHECK(hll_image_info(image.at, image.len, &info, sizeof info) == HLL_OK, "info");
                 check_order(&found, "a stream");
                 CHECK(is_near(found.estimate, n, 4 * found.relative_standard_error + 1e-9), "lg_k %d: %g for %g",
                       lg_ks[i], found.estimate, n);

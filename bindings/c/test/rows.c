@@ -138,11 +138,25 @@ static bytes outcome(void)
     if (is_as_read) {
         hll_info info;
         size_t size = 0;
-        CHECK(hll_image_info(image.at, image.len, &info) == HLL_OK, "the info of an image");
+        CHECK(hll_image_info(image.at, image.len, &info, sizeof info) == HLL_OK, "the info of an image");
         CHECK(hll_image_convert(image.at, image.len, info.width, out, sizeof out, &size) == HLL_OK, "an image again");
         image.at = out;
         image.len = size;
     }
+    return image;
+}
+
+/* The width that byte 7 of an image says. */
+#define WIDTH_OF(image) ((uint8_t)(4 + ((image)[7] >> 2 & 3) * 2))
+
+/* The answer of a row, with its words set where they are 0, as the calls write it; the program hll_merge leaves them. */
+static bytes with_words(const char *digits)
+{
+    bytes plain = of_hex(digits), image = with_room(plain.len);
+    size_t size = 0;
+    CHECK(hll_image_convert(plain.at, plain.len, WIDTH_OF(plain.at), image.at, image.len, &size) == HLL_OK
+              && size == plain.len, "the answer of a row, written again");
+    free(plain.at);
     return image;
 }
 
@@ -151,7 +165,7 @@ static void run_answered(char *plan, const char *answer)
 {
     unsigned long number;
     hll_status status = run_plan(plan, &number);
-    bytes wanted = of_hex(answer + 2), image;
+    bytes wanted = with_words(answer + 2), image;
     CHECK(status == HLL_OK, "line %lu: %s; wanted %.40s", number, hll_reason(status), answer);
     CHECK(height == 1, "%d sketches are left", (int)height);
     if (status == HLL_OK && height == 1) {

@@ -105,7 +105,7 @@ test_expected() {
 
 test_names() {
     declared >"$tests/declared"
-    expect 'twenty-six calls are declared' test "$(wc -l <"$tests/declared")" -eq 26
+    expect 'twenty-eight calls are declared' test "$(wc -l <"$tests/declared")" -eq 28
     shown -D --defined-only "$build/libhll.so" >"$tests/shown"
     expect 'names of the shared library' diff "$tests/declared" "$tests/shown"
     shown -g --defined-only "$build/libhll.a" >"$tests/shown"
@@ -211,7 +211,7 @@ try_readme() {
 make_in() {
     rm -rf "$1"
     mkdir "$1" || return 1
-    cp Makefile estimate.c hll.h hll.map hll.pc.in "$1" || return 1
+    cp Makefile estimate.c unwanted.c hll.h hll.map hll.pc.in "$1" || return 1
     make -s -C "$1" LIBHLL_C="$2" LIBC_C="$(dirname "$(rt doc)")/c/liblibc_c.a" all
 }
 
@@ -264,7 +264,7 @@ try_without_rt() {
     rm -rf "$place"
     mkdir -p "$place/tools" "$place/crates/hll_c" "$place/bindings/c" || return 1
     touch "$place/crates.txt" "$place/libhll_c.a"
-    cp Makefile estimate.c hll.h hll.map hll.pc.in "$place/bindings/c" || return 1
+    cp Makefile estimate.c unwanted.c hll.h hll.map hll.pc.in "$place/bindings/c" || return 1
     for tool in make sh mkdir find getconf sed cc as ld; do
         ln -s "$(command -v $tool)" "$place/tools/$tool" || return 1
     done

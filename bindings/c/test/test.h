@@ -224,6 +224,11 @@ static hll_status call_words(const uint8_t *image, size_t len, uint8_t *out, siz
     return hll_image_set_estimator_words(image, len, out, room, size);
 }
 
+static hll_status call_no_words(const uint8_t *image, size_t len, uint8_t *out, size_t room, size_t *size)
+{
+    return hll_image_clear_estimator_words(image, len, out, room, size);
+}
+
 static const struct writer {
     const char *name;
     writes *call;
@@ -242,6 +247,7 @@ static const struct writer {
     {"convert to 6", call_convert, 1},
     {"convert to 4", call_convert_4, 1},
     {"set_estimator_words", call_words, 1},
+    {"clear_estimator_words", call_no_words, 1},
 };
 
 #define WRITERS (sizeof writers / sizeof writers[0])
@@ -250,7 +256,12 @@ static const struct writer {
 
 static hll_status tell_info(const uint8_t *image, size_t len, void *answer)
 {
-    return hll_image_info(image, len, answer);
+    return hll_image_info(image, len, answer, sizeof(hll_info));
+}
+
+static hll_status tell_size(const uint8_t *image, size_t len, void *answer)
+{
+    return hll_image_size(image, len, answer);
 }
 
 static hll_status tell_check(const uint8_t *image, size_t len, void *answer)
@@ -298,7 +309,7 @@ static const struct teller {
     const char *name;
     hll_status (*call)(const uint8_t *image, size_t len, void *answer);
 } tellers[] = {
-    {"info", tell_info},           {"check", tell_check},     {"histogram", tell_histogram},
+    {"info", tell_info},           {"check", tell_check},     {"size", tell_size},         {"histogram", tell_histogram},
     {"estimate", tell_estimate},   {"agree, right", tell_agree}, {"agree, left", tell_agree_left},
 };
 
