@@ -115,8 +115,9 @@ _ENDS = [c_void_p, c_size_t]
 _OUT = [c_void_p, c_size_t, c_void_p]
 _REGISTERS = [c_void_p, c_size_t]
 _CALLS = {
-    "hll_image_info": _IMAGE + [POINTER(Info)],
+    "hll_image_info": _IMAGE + [POINTER(Info), c_size_t],
     "hll_image_check": _IMAGE,
+    "hll_image_size": _IMAGE + [POINTER(c_size_t)],
     "hll_image_histogram": _IMAGE + [POINTER(Histogram)],
     "hll_image_new": [c_uint8, c_uint8] + _OUT,
     "hll_image_add": _IMAGE + _IMAGE + _ENDS + _OUT,
@@ -126,6 +127,7 @@ _CALLS = {
     "hll_image_fold": _IMAGE + [c_uint8] + _OUT,
     "hll_image_convert": _IMAGE + [c_uint8] + _OUT,
     "hll_image_set_estimator_words": _IMAGE + _OUT,
+    "hll_image_clear_estimator_words": _IMAGE + _OUT,
     "hll_images_agree": _IMAGE + _IMAGE + [POINTER(c_uint8), c_void_p],
     "hll_coupon": _IMAGE,
     "hll_coupons": _IMAGE + _ENDS + [c_void_p, c_size_t],
@@ -175,12 +177,12 @@ _KNOWN = bytes.fromhex("0201070a030801080500000c")
 _Structure = TypeVar("_Structure", bound=ctypes.Structure)
 
 
-def _filled(call: Call, kind: Type[_Structure]) -> _Structure:
+def _filled(call: Call, kind: Type[_Structure], *more: int) -> _Structure:
     """What a call tells of the known image, if it fills just the structure."""
     size, guard = ctypes.sizeof(kind), b"\xa5" * 256
     room = (c_uint8 * (size + len(guard))).from_buffer_copy(b"\xa5" * size + guard)
     told = ctypes.cast(room, POINTER(kind))
-    if call(_KNOWN, len(_KNOWN), told) != OK or bytes(room)[size:] != guard:
+    if call(_KNOWN, len(_KNOWN), told, *more) != OK or bytes(room)[size:] != guard:
         raise ImportError(f"its {kind.__name__.lower()} is laid out in another way")
     return told.contents
 
@@ -194,7 +196,7 @@ def _check_version(number: int) -> None:
 
 def _check_answers(calls: Dict[str, Call]) -> None:
     """Refuses a library that answers of a known image in another way."""
-    told = _filled(calls["hll_image_info"], Info)
+    told = _filled(calls["hll_image_info"], Info, ctypes.sizeof(Info))
     if (told.coupons, told.lg_k, told.width, told.stage) != (1, 10, 8, 0):
         raise ImportError("its info is laid out in another way")
     counts = list(_filled(calls["hll_image_histogram"], Histogram).counts)
@@ -368,7 +370,7 @@ def new(lg_k: int, width: int) -> bytes:
 def info(image: bytes) -> Info:
     """What an image says."""
     found = Info()
-    status = _library.hll_image_info(image, len(image), byref(found))
+    status = _library.hll_image_info(image, len(image), byref(found), ctypes.sizeof(Info))
     if status != OK:
         raise _refusal(status)
     return found
@@ -451,6 +453,13 @@ def convert(image: bytes, width: int) -> bytes:
     """The image at a width."""
     lg_k = image[3] if len(image) > 3 and image[3] <= MOST_LG_K else LEAST_LG_K
     return _written(_library.hll_image_convert, room_for(lg_k), image, len(image), width)
+
+
+def clear_estimator_words(image: bytes) -> bytes:
+    """The image with words of zero."""
+    return _written(
+        _library.hll_image_clear_estimator_words, room_for(image[3]), image, len(image)
+    )
 
 
 def set_estimator_words(image: bytes) -> bytes:

@@ -73,11 +73,8 @@ def each(names: List[str], call: Callable[[str], None]) -> int:
 
 
 def finished(image: bytes, plain: bool) -> bytes:
-    """The image as it is written: other libraries can estimate from it, unless it is to be plain.
-
-    Words that another library put there are kept.
-    """
-    return image if plain or words_of(image) != "zero" else _library.set_estimator_words(image)
+    """The image as it is written: with words of zero, if it is to be plain."""
+    return _library.clear_estimator_words(image) if plain else image
 
 
 def put(options: Namespace, image: bytes, **more: object) -> int:
@@ -263,7 +260,7 @@ def merge(options: Namespace) -> int:
     if not answer.merged:
         raise Trouble("merge", "no image is left to merge", _worst(left_out, UNUSABLE))
     _tell_of_precision(answer.precision, options.lg_k is not None)
-    image = answer.image if options.plain else _library.set_estimator_words(answer.image)
+    image = finished(answer.image, options.plain)
     skipped = [{"file": trouble.name, "reason": trouble.words} for trouble in left_out]
     lowered = answer.precision.names if answer.precision.is_lowered else []
     return put(options, image, merged=answer.merged, left_out=skipped, lowered_by=lowered)

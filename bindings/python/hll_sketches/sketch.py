@@ -153,18 +153,25 @@ class Sketch:
         data = data_in(image)
         return cls._of(_library.convert(data, _library.width_in(data)))
 
-    def to_bytes(self) -> bytes:
+    def to_bytes(self, *, plain: bool = False) -> bytes:
         """Return the image: compact, with coupons in ascending order.
 
         Equal sketches have equal images, but for sets that were read in tables of two sizes.
-        Registers that were changed or merged have words of zero, from which other DataSketches
-        libraries estimate infinity: ``with_estimator_words`` sets them.
+        Registers have the words from which other DataSketches libraries estimate; words that
+        another library wrote are kept while nothing changes.
+
+        Parameters
+        ----------
+        plain : bool
+            Whether the words are zero, as the program ``hll_merge`` writes them. Other libraries
+            estimate infinity from those.
         """
         if self._pending:
             self._apply()
-        return self._image
+        return _library.clear_estimator_words(self._image) if plain else self._image
 
-    __bytes__ = to_bytes
+    def __bytes__(self) -> bytes:
+        return self.to_bytes()
 
     @classmethod
     def read(cls: Type[_S], path: Union[str, "os.PathLike[str]"]) -> _S:
@@ -187,8 +194,7 @@ class Sketch:
         """Write the image to a file, which is then on the disk.
 
         The file is the old one or the new one at each moment, and never a part. It has the bytes of
-        ``to_bytes``: where another DataSketches library is to read it, write
-        ``with_estimator_words()``.
+        ``to_bytes``.
 
         Raises
         ------
@@ -365,10 +371,10 @@ class Sketch:
         return self._of(_library.convert(self.to_bytes(), checked_width(width)))
 
     def with_estimator_words(self: _S) -> _S:
-        """Return the same sketch with the words from which other DataSketches libraries estimate.
+        """Return the same sketch with the words that follow from its registers.
 
-        Call it before the image goes to one of them: from the zeros that stand there else their
-        formula gives infinity. A change of the registers puts the zeros back.
+        It has them anyway, unless it was read with words that another DataSketches library wrote
+        while it added values one by one, and was not changed since.
         """
         return self._of(_library.set_estimator_words(self.to_bytes()))
 

@@ -64,7 +64,7 @@ class Union:
 
     Order and repetition of the sketches make no difference to its registers, nor does it whether
     some of them were joined first under the same ``lg_max_k``; nor to its bytes, where all are as
-    this library makes them, without estimator words. Any number of threads may use a union at once.
+    this library makes them. Any number of threads may use a union at once.
 
     Parameters
     ----------
