@@ -297,6 +297,10 @@ impl<A: Allocator> Registers for Array4<A> {
         Array4::estimate_state(self)
     }
 
+    fn is_dear_in_parts(&self) -> bool {
+        self.registers.is_dear_in_parts()
+    }
+
     /// One pass, and a search for each exception.
     fn join_into(&self, first: u32, values: &mut [u8]) {
         self.registers.join_into(first, values);

@@ -17,7 +17,9 @@ use hll_coupons::coupon::Coupon;
 use hll_coupons::serialization::COUPON_SIZE_BYTES;
 use hll_registers::aux_format::AuxFormat;
 use hll_registers::estimate_state::EstimateState;
-use hll_registers::exception_map::{Exceptions, add_exception, exception_at};
+use hll_registers::exception_map::{
+    Exceptions, ExceptionsBuilder, add_exception, built, has_exception,
+};
 use hll_registers::nibble_registers::NibbleRegisters;
 use hll_registers::nibble_slice::{NibbleSlice, Use};
 use hll_registers::preamble::Preamble;
@@ -207,29 +209,29 @@ fn read_entries<A: Allocator + Clone>(
     if filled != frame.preamble.exception_count as usize {
         return Err(Error::new(Reason::Count));
     }
-    Ok(map)
+    built(map, alloc)
 }
 
 /// Puts an exception that was read into the map.
 ///
 /// Fails with `Coupon` if it has no value or its slot has an exception, and else with `Memory`.
 fn put_entry<A: Allocator + Clone>(
-    map: &mut Exceptions<A>,
+    map: &mut ExceptionsBuilder<A>,
     alloc: &A,
     lg_config_k: u8,
     entry: Coupon,
 ) -> Result<(), Error>
     requires least { 4 ≤ lg_config_k }
     requires most { lg_config_k ≤ 21 }
-    requires map { IsMapFor lg_config_k (unboxed map.old) }
-    ensures map { OnOk result (IsMapFor lg_config_k (unboxed map.new)) }
-    ensures values { OnOk result ((s : ℕ) → exception_in (unboxed map.new) s ≡ (if s == slot_of entry % 2 ^ lg_config_k then Some (value_of entry) else exception_in (unboxed map.old) s)) }
+    requires map { IsMapFor lg_config_k map.old }
+    ensures map { OnOk result (IsMapFor lg_config_k map.new) }
+    ensures values { OnOk result ((s : ℕ) → exception_in map.new s ≡ (if s == slot_of entry % 2 ^ lg_config_k then Some (value_of entry) else exception_in map.old s)) }
     ensures valued { OnOk result (1 ≤ value_of entry) }
-    ensures new { OnOk result (exception_in (unboxed map.old) (slot_of entry % 2 ^ lg_config_k) ≡ None) }
-    ensures err { IfErr result (λ e. (e ≡ Memory) ⊎ ((e ≡ reasons.Coupon) × ((value_of entry ≡ 0) ⊎ (exception_in (unboxed map.old) (slot_of entry % 2 ^ lg_config_k) ≢ None)))) }
+    ensures new { OnOk result (exception_in map.old (slot_of entry % 2 ^ lg_config_k) ≡ None) }
+    ensures err { IfErr result (λ e. (e ≡ Memory) ⊎ ((e ≡ reasons.Coupon) × ((value_of entry ≡ 0) ⊎ (exception_in map.old (slot_of entry % 2 ^ lg_config_k) ≢ None)))) }
 {
     let slot = entry.slot() % two_to(lg_config_k) as u32;
-    if entry.value() == 0 || exception_at(map, slot).is_some() {
+    if entry.value() == 0 || has_exception(map, slot)? {
         return Err(Error::new(Reason::Coupon));
     }
     add_exception(map, alloc, lg_config_k, slot, entry.value())

@@ -15,6 +15,7 @@ pub mod Inverses
 pub mod Listed
 pub mod MapChanges
 pub mod Maps
+pub mod Marks
 pub mod Members
 pub mod Merging
 pub mod Pairs

@@ -1,12 +1,13 @@
 -- A map from slots to values, the exceptions of registers of four bits, in a table of places: its entries, and the size
 -- that the table takes (docs/MODEL.md, "Maps of exceptions"; docs/FORMAT.md, "Probing").
-use Rattle.std.specs.Prelude.{ℕ, ◌≡◌, ◌+◌, ◌-◌, ◌*◌, ◌%◌, ◌^◌, ◌<◌, ◌≤◌, ◌==◌, nat_le, if◌then◌else◌, List, length, map, All, unwrap_or, find}
+use Rattle.std.specs.Prelude.{ℕ, ◌≡◌, ◌≢◌, ◌+◌, ◌-◌, ◌*◌, ◌%◌, ◌^◌, ◌<◌, ◌≤◌, ◌==◌, nat_le, if◌then◌else◌, List, length, map, All, None, unwrap_or, find}
 use Rattle.std.specs.List.{range_with_len}
 use Rattle.std.specs.Option.{option_map}
 use Rattle.std.specs.declared.option.Option.{Option}
 use Rattle.hll_coupons.specs.Pair.{slot_of, value_of, pair}
 use Rattle.hll_coupons.specs.Table.{Table, coupons_in, empty_table, IsTable}
 use Rattle.hll_coupons.specs.Probe.{IsProbed, Puts, PutsEach}
+use Rattle.hll_coupons.specs.Words.{bit_of}
 
 -- ---- sizes
 
@@ -57,6 +58,12 @@ pub record IsMap (m : ExceptionMap) : Type 0 where
 -- a map with no entry
 abbrev pub empty_map : ℕ → ExceptionMap
 empty_map k = record { lg_k = k; table = empty_table (start_size k) }
+
+-- a bit for each slot, which is set where the slot has a value
+pub record MarksValues (m : ExceptionMap) (words : List ℕ) : Type 0 where
+  pub room : 2 ^ m.lg_k ≤ 64 * length words
+  pub set : (s : ℕ) → s < 2 ^ m.lg_k → bit_of words s ≡ 1 → value_in m s ≢ None
+  pub clear : (s : ℕ) → s < 2 ^ m.lg_k → bit_of words s ≢ 1 → value_in m s ≡ None
 
 -- an entry is put, and all entries move to a table of the next size, in the order of their places
 pub record IsGrownFrom (old : Table) (entry : ℕ) (new : Table) : Type 0 where

@@ -6,6 +6,7 @@ ghost use Rattle.hll_base.specs.declared.error.Reason.TheVariants.{Memory};
 ghost use Rattle.hll_coupons.specs.AuxMap as sizes;
 ghost use Rattle.hll_coupons.specs.AuxMap.{table_size, empty_map, entries_in, entry_of, value_in, with_value, Inserts, IsGrownFrom, IsMap};
 ghost use Rattle.hll_coupons.specs.Coupons.{IsAscending};
+ghost use Rattle.hll_coupons.specs.LongSearches.{AreFor};
 ghost use Rattle.hll_coupons.specs.Pair.{slot_of, value_of, pair};
 ghost use Rattle.hll_coupons.specs.Probe.{IsProbed, IsAbsent};
 ghost use Rattle.hll_coupons.specs.Same.{have_same_coupons};
@@ -13,8 +14,9 @@ ghost use Rattle.hll_coupons.specs.Table.{coupons_in, coupons_of, IsTable};
 
 use crate::container::{Container, ContainerIter};
 use crate::coupon::Coupon;
-use crate::filling::put_all;
-use crate::search::{Key, put_entry, search};
+use crate::filling::{put_absent, put_all};
+use crate::long_searches::LongSearches;
+use crate::search::{Key, SHORT_BY_SLOT, put_entry, search, search_within};
 use hll_base::error::Error;
 use std::alloc::{Allocator, Global};
 use std::marker::Model;
@@ -81,6 +83,18 @@ impl<A: Allocator> AuxMap<A> {
         let places = self.table.places();
         let place = search(Key::Slot, self.table.lg_size(), places, slot)?;
         value_of_place(places[place])
+    }
+
+    /// The same by a short search; nothing where it was cut off. Takes no memory.
+    pub fn get_shortly(&self, slot: u32) -> Option<Option<u8>>
+        requires { slot < 2 ^ self.now.lg_k }
+        ensures value { IfSome result (λ value. value ≡ value_in self.now slot) }
+        ensures small { IfSome result (λ value. IfSome value (λ v. (1 ≤ v) × (v ≤ 63))) }
+    {
+        let places = self.table.places();
+        let limit = SHORT_BY_SLOT.min(places.len());
+        let place = search_within(Key::Slot, self.table.lg_size(), places, slot, limit)?;
+        Some(value_of_place(places[place]))
     }
 
     /// Gives a slot that has a value another one, at the same place. Takes no memory.
@@ -153,6 +167,11 @@ impl<A: Allocator> AuxMap<A> {
         }
     }
 
+    /// The allocator that made it. Takes no memory.
+    pub(crate) fn allocator(&self) -> &A {
+        self.table.allocator()
+    }
+
     /// The bytes of all places, four each. Takes no memory.
     pub fn estimated_size(&self) -> usize
         ensures { result ≡ 4 * 2 ^ self.now.table.lg_size }
@@ -186,6 +205,39 @@ impl<A: Allocator + Clone> AuxMap<A> {
             put_entry(&mut self.table, Key::Slot, entry);
         } else {
             put_growing(&mut self.table, entry)?;
+        }
+        Ok(())
+    }
+
+    /// The same by these searches of the table, which it needs no more where it grows.
+    ///
+    /// Fails with `Memory`, and then changes nothing.
+    pub(crate) fn insert_by(
+        &mut self,
+        searches: &mut LongSearches<A>,
+        slot: u32,
+        value: u8,
+    ) -> Result<(), Error>
+        requires within { slot < 2 ^ self.old.lg_k }
+        requires least { 1 ≤ value }
+        requires most { value ≤ 63 }
+        requires absent { value_in self.old slot ≡ None }
+        requires cycles { AreFor self.old.table.lg_size self.old.table.places searches.old }
+        ensures lg_k { OnOk result (self.new.lg_k ≡ self.old.lg_k) }
+        ensures places { OnOk result (Inserts self.old.table (pair slot value) self.new.table) }
+        ensures members { OnOk result (coupons_of self.new.table ≡ set.insert (coupons_of self.old.table) (pair slot value)) }
+        ensures values { OnOk result ((s : ℕ) → value_in self.new s ≡ (if s == slot then Some value else value_in self.old s)) }
+        ensures map { OnOk result (IsMap self.new) }
+        ensures unchanged { OnErr result (self.new ≡ self.old) }
+        ensures err { IfErr result (λ e. e ≡ Memory) }
+        ensures cycles { AreFor self.new.table.lg_size self.new.table.places searches.new }
+    {
+        let entry = Coupon::pack(slot, value);
+        if 3 * self.table.capacity() < 4 * (self.table.len() + 1) {
+            put_growing(&mut self.table, entry)?;
+            searches.forget();
+        } else {
+            put_absent(&mut self.table, searches, Key::Slot, entry)?;
         }
         Ok(())
     }

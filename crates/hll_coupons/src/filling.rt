@@ -1,5 +1,5 @@
 //! Tables that are filled with distinct keys, at the places that probing one by one gives.
-ghost use Rattle.std.specs.Prelude.{◌≡◌, ◌^◌, ◌<◌, ◌≤◌, All, length, map, OnOk, IfErr};
+ghost use Rattle.std.specs.Prelude.{◌≡◌, ◌^◌, ◌<◌, ◌≤◌, All, length, map, OnOk, OnErr, IfErr};
 ghost use Rattle.std.specs.Bool.{OnTrue};
 ghost use Rattle.std.specs.FinSet.{len};
 ghost use Rattle.hll_base.specs.declared.error.Reason.TheVariants.{Memory};
@@ -18,8 +18,8 @@ use std::alloc::Allocator;
 
 /// Puts an entry into the empty place where the search for its key ends.
 ///
-/// Its value is at least 1, its key is absent, and a place is empty. Fails with `Memory`.
-fn put_absent<A: Allocator + Clone>(
+/// Its value is at least 1, its key is absent, and a place is empty. Fails with `Memory`, and then changes no place.
+pub(crate) fn put_absent<A: Allocator + Clone>(
     table: &mut Container<A>,
     searches: &mut LongSearches<A>,
     by: Key,
@@ -32,7 +32,8 @@ fn put_absent<A: Allocator + Clone>(
     ensures size { OnOk result (table.new.lg_size ≡ table.old.lg_size) }
     ensures places { OnOk result (Puts (key_of by) table.old.lg_size table.old.places entry table.new.places) }
     ensures table { OnOk result (IsTable table.new) }
-    ensures cycles { OnOk result (AreFor table.new.lg_size table.new.places searches.new) }
+    ensures cycles { AreFor table.new.lg_size table.new.places searches.new }
+    ensures unchanged { OnErr result (table.new ≡ table.old) }
     ensures err { IfErr result (λ e. e ≡ Memory) }
 {
     let place = searches.end_of(by, table.lg_size(), table.places(), by.of(entry))?;

@@ -4,6 +4,7 @@
 
 mod additions;
 pub mod aux_map;
+pub mod aux_map_builder;
 pub mod container;
 pub mod coupon;
 mod cycle;

@@ -34,6 +34,14 @@ impl<A: Allocator> LongSearches<A> {
         }
     }
 
+    /// Forgets all cycles, as of a table that is no more.
+    pub(crate) fn forget(&mut self)
+        ensures { (lg : ℕ) (places : List ℕ) → AreFor lg places self.new }
+    {
+        self.steps = 0;
+        self.cycles.clear();
+    }
+
     /// Where the search for an absent key ends, if there is a cycle of its stride.
     #[inline(never)]
     fn end_by_cycle(&self, lg_size: usize, key: u32) -> Option<usize>

@@ -53,6 +53,10 @@ pub(crate) fn stride_of(lg_size: usize, key: u32) -> u32
 /// As many places does a short search look at.
 pub(crate) const SHORT: usize = 64;
 
+/// As many does one for an exception. Slots have few bits above the table's, so most searches go to the next place, and
+/// filled places lie side by side.
+pub(crate) const SHORT_BY_SLOT: usize = 256;
+
 /// The first place on the path of a key that is empty or filled with the key; none in a table that is full of other keys.
 pub(crate) fn search(by: Key, lg_size: usize, places: &[Coupon], key: u32) -> Option<usize>
     requires small { lg_size ≤ 26 }

@@ -1,5 +1,5 @@
 //! Bits in words of 64.
-ghost use Rattle.std.specs.Prelude.{◌≡◌, ◌≢◌, ℕ, ◌*◌, ◌^◌, ◌<◌, ◌≤◌, length, IfSome, IfNone};
+ghost use Rattle.std.specs.Prelude.{◌≡◌, ◌≢◌, ◌↔◌, ℕ, ◌*◌, ◌^◌, ◌<◌, ◌≤◌, length, IsTrue, IfSome, IfNone};
 ghost use Rattle.std.specs.Int.{bit_at};
 ghost use Rattle.hll_coupons.specs.Words.{bit_of, IsNext, NoneFrom, IsSummary};
 
@@ -39,6 +39,14 @@ fn lowest(word: u64) -> usize
     ensures before { (j : ℕ) → j < result → bit_at word j ≡ 0 }
 {
     word.trailing_zeros() as usize
+}
+
+/// Whether a bit is set.
+pub(crate) fn is_set(words: &[u64], bit: usize) -> bool
+    requires { bit < 64 * length words.now }
+    ensures { IsTrue result ↔ (bit_of words.now bit ≡ 1) }
+{
+    words[bit / 64] >> (bit % 64) & 1 == 1
 }
 
 /// Sets a bit.

@@ -200,6 +200,7 @@ enum ArrayCall {
     Deserialize4InPlaces,
     Deserialize4Low,
     Deserialize4LowWithException,
+    Deserialize4OnAPath,
     Deserialize6,
     Deserialize8,
     MergeFrom,
@@ -240,6 +241,23 @@ const ZEROS: [u8; 48] = [
     0, 0, 0, 0, 0, 0, 0, 0, 0, 0, 0, 0, 0, 0, 0, 0, 0,
 ];
 
+/// The same of 2^11 registers with 768 exceptions in 1,024 places, two for each of the first 384 places, so that searches
+/// are long.
+fn path_payload(heap: &Heap) -> Result<Vec<u8>, Fault> {
+    let mut bytes = Vec::new(heap.inner());
+    bytes.extend_from_slice(&[0; 28])?;
+    bytes.extend_from_slice(&u32::to_le_bytes(768))?;
+    for _ in 0..2u8 {
+        bytes.extend_from_slice(&[0xff; 192])?;
+        bytes.extend_from_slice(&[0; 320])?;
+    }
+    for index in 0..768u32 {
+        let coupon = Coupon::pack(index % 384 + index / 384 * 1024, 20);
+        bytes.extend_from_slice(&u32::to_le_bytes(coupon.raw()))?;
+    }
+    Ok(bytes)
+}
+
 impl<'h> Trial for ArrayTrial<'h> {
     type Subject = Arrays<'h>;
 
@@ -275,6 +293,11 @@ impl<'h> Trial for ArrayTrial<'h> {
                 let places = AuxFormat::Updatable { lg_arr: 3 };
                 shown(heap, Array4::deserialize(heap, bytes, 0, 4, places, false))
             }
+            ArrayCall::Deserialize4OnAPath => {
+                let payload = path_payload(heap)?;
+                let (bytes, compact) = (SketchSlice::new(&payload), AuxFormat::Compact);
+                shown(heap, Array4::deserialize(heap, bytes, 0, 11, compact, false))
+            }
             ArrayCall::Deserialize6 => {
                 shown(heap, Array6::deserialize_registers(heap, zeros, 4, false))
             }
@@ -295,7 +318,9 @@ impl<'h> Trial for ArrayTrial<'h> {
     }
 }
 
-const ARRAY_CALLS: [(ArrayCall, u64); 11] = [
+/// The calls, and the requests of each. On a path they are seven tables, the bits of the slots, three for the cycle of the
+/// stride, the map and the nibbles.
+const ARRAY_CALLS: [(ArrayCall, u64); 12] = [
     (ArrayCall::Clone4, 3),
     (ArrayCall::Clone6, 1),
     (ArrayCall::Clone8, 1),
@@ -304,6 +329,7 @@ const ARRAY_CALLS: [(ArrayCall, u64); 11] = [
     (ArrayCall::Deserialize4InPlaces, 3),
     (ArrayCall::Deserialize4Low, 2),
     (ArrayCall::Deserialize4LowWithException, 6),
+    (ArrayCall::Deserialize4OnAPath, 13),
     (ArrayCall::Deserialize6, 1),
     (ArrayCall::Deserialize8, 1),
     (ArrayCall::MergeFrom, 0),

@@ -1,6 +1,7 @@
 //! The exceptions of registers of four bits: a map, where there is one.
 ghost use Rattle.std.specs.Prelude.{◌≡◌, ◌≢◌, ◌+◌, ◌-◌, ◌*◌, ◌^◌, ◌%◌, ◌++◌, ◌<◌, ◌≤◌, ◌==◌, ◌↔◌, ◌⊎◌, nat_lt, ℕ, if◌then◌else◌, length, take, drop, max, slice_index, unwrap_or, All, true, false, None, Some, IsOk, IsTrue, IfOk, IfErr, IfSome, OnOk, OnErr};
 ghost use Rattle.hll_base.specs.declared.error.Reason.TheVariants.{Memory};
+ghost use Rattle.std.specs.Bool.{OnTrue};
 ghost use Rattle.std.specs.FinSet.{len};
 ghost use Rattle.std.specs.List.{list_all};
 ghost use Rattle.hll_coupons.specs.AuxMap.{table_bytes, value_in, ExceptionMap, IsMap};
@@ -13,6 +14,7 @@ ghost use Rattle.hll_kernels.specs.Packed.{lowered_by, nibble, nibble_at, AreReg
 use hll_base::codec::SketchBytes;
 use hll_base::error::Error;
 use hll_coupons::aux_map::AuxMap;
+use hll_coupons::aux_map_builder::AuxMapBuilder;
 use hll_coupons::container::with_coupons;
 use hll_kernels::nibbles::{are_at_most, lower_by, nibble_of, put_nibble, raise_by_nibbles};
 use std::alloc::Allocator;
@@ -23,6 +25,9 @@ pub const MARK: u8 = 15;
 
 /// A map of exceptions in memory of its own, where there are any.
 pub type Exceptions<A> = Option<Box<AuxMap<A>, A>>;
+
+/// Such a map while it is filled.
+pub type ExceptionsBuilder<A> = Option<AuxMapBuilder<A>>;
 
 /// The exception of a slot, if it has one.
 pub fn exception_at<A: Allocator>(map: &Exceptions<A>, slot: u32) -> Option<u8>
@@ -58,6 +63,14 @@ pub(crate) fn bytes_of_places<A: Allocator>(map: &Exceptions<A>) -> usize
     match map {
         Some(map) => map.estimated_size(),
         None => 0,
+    }
+}
+
+/// Whether the map has so many places that to go through them for few values is dear.
+pub(crate) fn has_many_places<A: Allocator>(map: &Exceptions<A>) -> bool {
+    match map {
+        Some(map) => map.estimated_size() > 1 << 16,
+        None => false,
     }
 }
 
@@ -148,7 +161,11 @@ pub(crate) fn put_exception<A: Allocator + Clone>(
 {
     match map {
         Some(map) => set_value(map, slot, value),
-        None => add_exception(map, alloc, lg_k, slot, value),
+        None => {
+            let entry = one_entry(alloc.clone()?, lg_k, slot, value)?;
+            *map = Some(Box::new(alloc.clone()?, entry)?);
+            Ok(())
+        }
     }
 }
 
@@ -172,11 +189,34 @@ fn set_value<A: Allocator + Clone>(map: &mut AuxMap<A>, slot: u32, value: u8) ->
     }
 }
 
-/// Gives a slot that has no exception one, in a map that is made where there is none, by this allocator. One search.
+// ---- maps that are filled
+
+/// A map of one entry, to be filled.
+fn one_entry_to_fill<A: Allocator + Clone>(
+    alloc: A,
+    lg_k: u8,
+    slot: u32,
+    value: u8,
+) -> Result<AuxMapBuilder<A>, Error>
+    requires low { 4 ≤ lg_k }
+    requires high { lg_k ≤ 21 }
+    requires within { slot < 2 ^ lg_k }
+    requires least { 1 ≤ value }
+    requires most { value ≤ 63 }
+    ensures map { IfOk result (λ m. IsMapFor lg_k (Some m)) }
+    ensures values { IfOk result (λ m. (s : ℕ) → exception_in (Some m) s ≡ (if s == slot then Some value else None)) }
+    ensures err { IfErr result (λ e. e ≡ Memory) }
+{
+    let mut map = AuxMapBuilder::new(alloc, lg_k)?;
+    fill_value(&mut map, slot, value)?;
+    Ok(map)
+}
+
+/// Gives a slot that has no exception one, in a map that is made where there is none, by this allocator.
 ///
 /// Fails with `Memory`, and then changes nothing.
 pub fn add_exception<A: Allocator + Clone>(
-    map: &mut Exceptions<A>,
+    map: &mut ExceptionsBuilder<A>,
     alloc: &A,
     lg_k: u8,
     slot: u32,
@@ -187,21 +227,100 @@ pub fn add_exception<A: Allocator + Clone>(
     requires within { slot < 2 ^ lg_k }
     requires least { 1 ≤ value }
     requires most { value ≤ 63 }
-    requires map { IsMapFor lg_k (unboxed map.old) }
-    requires none { exception_in (unboxed map.old) slot ≡ None }
-    ensures map { OnOk result (IsMapFor lg_k (unboxed map.new)) }
-    ensures values { OnOk result ((s : ℕ) → exception_in (unboxed map.new) s ≡ (if s == slot then Some value else exception_in (unboxed map.old) s)) }
-    ensures unchanged { OnErr result ((unboxed map.new) ≡ (unboxed map.old)) }
+    requires map { IsMapFor lg_k map.old }
+    requires none { exception_in map.old slot ≡ None }
+    ensures map { OnOk result (IsMapFor lg_k map.new) }
+    ensures values { OnOk result ((s : ℕ) → exception_in map.new s ≡ (if s == slot then Some value else exception_in map.old s)) }
+    ensures unchanged { OnErr result (map.new ≡ map.old) }
     ensures err { IfErr result (λ e. e ≡ Memory) }
 {
     match map {
-        Some(map) => add_value(map, slot, value),
+        Some(map) => fill_value(map, slot, value),
         None => {
-            let entry = one_entry(alloc.clone()?, lg_k, slot, value)?;
-            *map = Some(Box::new(alloc.clone()?, entry)?);
+            *map = Some(one_entry_to_fill(alloc.clone()?, lg_k, slot, value)?);
             Ok(())
         }
     }
+}
+
+/// Whether a slot has an exception.
+///
+/// Fails with `Memory`, only where a search was cut off.
+pub fn has_exception<A: Allocator + Clone>(
+    map: &mut ExceptionsBuilder<A>,
+    slot: u32,
+) -> Result<bool, Error>
+    requires { IsSlotOf map.old slot }
+    ensures has { IfOk result (λ has. IsTrue has ↔ (exception_in map.old slot ≢ None)) }
+    ensures unchanged { map.new ≡ map.old }
+    ensures err { IfErr result (λ e. e ≡ Memory) }
+{
+    match map {
+        Some(map) => map.has(slot),
+        None => Ok(false),
+    }
+}
+
+/// Gives a slot an exception, unless it has this one.
+///
+/// Fails with `Memory`.
+fn keep_exception<A: Allocator + Clone>(
+    map: &mut ExceptionsBuilder<A>,
+    alloc: &A,
+    lg_k: u8,
+    slot: u32,
+    value: u8,
+) -> Result<(), Error>
+    requires low { 4 ≤ lg_k }
+    requires high { lg_k ≤ 21 }
+    requires within { slot < 2 ^ lg_k }
+    requires least { 1 ≤ value }
+    requires most { value ≤ 63 }
+    requires map { IsMapFor lg_k map.old }
+    requires same { (v : ℕ) → exception_in map.old slot ≡ Some v → v ≡ value }
+    ensures map { OnOk result (IsMapFor lg_k map.new) }
+    ensures values { OnOk result ((s : ℕ) → exception_in map.new s ≡ (if s == slot then Some value else exception_in map.old s)) }
+    ensures err { IfErr result (λ e. e ≡ Memory) }
+{
+    if has_exception(map, slot)? {
+        return Ok(());
+    }
+    add_exception(map, alloc, lg_k, slot, value)
+}
+
+/// A map that was filled, in memory of its own by this allocator.
+///
+/// Fails with `Memory`, never if there is none.
+pub fn built<A: Allocator + Clone>(
+    map: ExceptionsBuilder<A>,
+    alloc: &A,
+) -> Result<Exceptions<A>, Error>
+    ensures ok { IfOk result (λ built. unboxed built ≡ map) }
+    ensures needed { OnErr result (map ≢ None) }
+    ensures err { IfErr result (λ e. e ≡ Memory) }
+{
+    match map {
+        Some(map) => Ok(Some(Box::new(alloc.clone()?, map.build())?)),
+        None => Ok(None),
+    }
+}
+
+/// Gives a slot of a map that has no value one.
+fn fill_value<A: Allocator + Clone>(
+    map: &mut AuxMapBuilder<A>,
+    slot: u32,
+    value: u8,
+) -> Result<(), Error>
+    requires within { slot < 2 ^ map.old.lg_k }
+    requires least { 1 ≤ value }
+    requires most { value ≤ 63 }
+    requires none { exception_in (Some map.old) slot ≡ None }
+    ensures map { OnOk result (IsMapFor map.old.lg_k (Some map.new)) }
+    ensures values { OnOk result ((s : ℕ) → exception_in (Some map.new) s ≡ (if s == slot then Some value else exception_in (Some map.old) s)) }
+    ensures unchanged { OnErr result (map.new ≡ map.old) }
+    ensures err { IfErr result (λ e. e ≡ Memory) }
+{
+    map.insert(slot, value)
 }
 
 /// Gives a slot of a map that has no value one.
@@ -251,10 +370,10 @@ fn kept_entries<A: Allocator + Clone>(
     let mut kept = None;
     for (slot, value) in map.iter() {
         if value >= minimum + MARK {
-            put_exception(&mut kept, alloc, map.lg_config_k(), slot, value)?;
+            keep_exception(&mut kept, alloc, map.lg_config_k(), slot, value)?;
         }
     }
-    Ok(kept)
+    built(kept, alloc)
 }
 
 /// Sets the nibbles of the exceptions that are none above a minimum.
@@ -444,7 +563,7 @@ pub(crate) fn exceptions_of<A: Allocator + Clone>(
         }
     }
     put_exceptions_of(&mut map, alloc, &registers, 64 * blocks.len(), values.len())?;
-    Ok(map)
+    built(map, alloc)
 }
 
 /// Whether each value of a block is below a bound.
@@ -461,7 +580,7 @@ fn are_below(block: &[u8; 64], bound: u8) -> bool
 ///
 /// Fails with `Memory`.
 fn put_exceptions_of<A: Allocator + Clone>(
-    map: &mut Exceptions<A>,
+    map: &mut ExceptionsBuilder<A>,
     alloc: &A,
     registers: &Above<'_>,
     from: usize,
@@ -473,12 +592,12 @@ fn put_exceptions_of<A: Allocator + Clone>(
     requires registers { AreRegisters registers.now.lg_k registers.now.values.now }
     requires order { from ≤ to }
     requires to { to ≤ length registers.now.values.now }
-    requires map { IsMapFor registers.now.lg_k (unboxed map.old) }
-    requires none { (s : ℕ) → from ≤ s → exception_in (unboxed map.old) s ≡ None }
-    ensures map { OnOk result (IsMapFor registers.now.lg_k (unboxed map.new)) }
-    ensures put { OnOk result ((s : ℕ) → from ≤ s → s < to → exception_in (unboxed map.new) s ≡ exception_of registers.now.minimum (slice_index registers.now.values.now s)) }
-    ensures before { OnOk result ((s : ℕ) → s < from → exception_in (unboxed map.new) s ≡ exception_in (unboxed map.old) s) }
-    ensures behind { OnOk result ((s : ℕ) → to ≤ s → exception_in (unboxed map.new) s ≡ None) }
+    requires map { IsMapFor registers.now.lg_k map.old }
+    requires none { (s : ℕ) → from ≤ s → exception_in map.old s ≡ None }
+    ensures map { OnOk result (IsMapFor registers.now.lg_k map.new) }
+    ensures put { OnOk result ((s : ℕ) → from ≤ s → s < to → exception_in map.new s ≡ exception_of registers.now.minimum (slice_index registers.now.values.now s)) }
+    ensures before { OnOk result ((s : ℕ) → s < from → exception_in map.new s ≡ exception_in map.old s) }
+    ensures behind { OnOk result ((s : ℕ) → to ≤ s → exception_in map.new s ≡ None) }
     ensures err { IfErr result (λ e. e ≡ Memory) }
 {
     for slot in from..to {
@@ -515,7 +634,7 @@ pub(crate) fn register_at<A: Allocator>(
 }
 
 /// Raises each value to the greater of itself and register `first + i`, for value i, of nibbles above a minimum and exceptions
-/// that agree. One pass, and a search for each exception.
+/// that agree. One pass, and a search for each exception, or one pass through the map where a search is long.
 pub(crate) fn raise_by_registers<A: Allocator>(
     values: &mut [u8],
     first: u32,
@@ -541,7 +660,8 @@ pub(crate) fn raise_by_registers<A: Allocator>(
 }
 
 /// Raises each value to the exception of its slot, if it has one: `first + i` for value i. Goes through the map where it has
-/// few places for so many values, as a whole array of registers has, and else through the nibbles.
+/// few places for so many values, as a whole array of registers has, or where a search is long, and else through the
+/// nibbles.
 ///
 /// Each two values have a byte of nibbles, and a slot whose nibble isn't 15 has no exception.
 fn raise_by_exceptions<A: Allocator>(values: &mut [u8], nibbles: &[u8], map: &AuxMap<A>, first: u32)
@@ -552,10 +672,9 @@ fn raise_by_exceptions<A: Allocator>(values: &mut [u8], nibbles: &[u8], map: &Au
     ensures raised { (s : ℕ) → s < length values.old → slice_index values.new s ≡ max (slice_index values.old s) (unwrap_or (value_in map.now (first + s)) 0) }
     ensures len { length values.new ≡ length values.old }
 {
-    if map.estimated_size() <= values.len() / 8 {
+    let has_few_places = map.estimated_size() <= values.len() / 8;
+    if has_few_places || !raise_by_marks(values, nibbles, map, first) {
         raise_by_entries(values, map, first);
-    } else {
-        raise_by_marks(values, nibbles, map, first);
     }
 }
 
@@ -576,22 +695,30 @@ fn raise_by_entries<A: Allocator>(values: &mut [u8], map: &AuxMap<A>, first: u32
     }
 }
 
-/// The same, by a search where a nibble is 15. Passes over blocks of 64 where none is.
-fn raise_by_marks<A: Allocator>(values: &mut [u8], nibbles: &[u8], map: &AuxMap<A>, first: u32)
+/// The same, by a short search where a nibble is 15. Passes over blocks of 64 where none is. Says whether no search was cut
+/// off; else some values may be raised.
+fn raise_by_marks<A: Allocator>(
+    values: &mut [u8],
+    nibbles: &[u8],
+    map: &AuxMap<A>,
+    first: u32,
+) -> bool
     requires size { length values.old ≡ 2 * length nibbles.now }
     requires within { first + length values.old ≤ 2 ^ map.now.lg_k }
     requires map { IsMap map.now }
     requires marked { (s : ℕ) → s < length values.old → nibble_at nibbles.now s ≢ 15 → value_in map.now (first + s) ≡ None }
-    ensures raised { (s : ℕ) → s < length values.old → slice_index values.new s ≡ max (slice_index values.old s) (unwrap_or (value_in map.now (first + s)) 0) }
+    ensures raised { OnTrue result ((s : ℕ) → s < length values.old → slice_index values.new s ≡ max (slice_index values.old s) (unwrap_or (value_in map.now (first + s)) 0)) }
+    ensures some { (s : ℕ) → s < length values.old → max (slice_index values.new s) (unwrap_or (value_in map.now (first + s)) 0) ≡ max (slice_index values.old s) (unwrap_or (value_in map.now (first + s)) 0) }
     ensures len { length values.new ≡ length values.old }
 {
     let (blocks, rest) = nibbles.as_chunks::<32>();
     for place in 0..blocks.len() {
-        if !are_at_most(&blocks[place], MARK - 1) {
-            raise_marked(values, 64 * place, &blocks[place], map, first);
+        let block = &blocks[place];
+        if !are_at_most(block, MARK - 1) && !raise_marked(values, 64 * place, block, map, first) {
+            return false;
         }
     }
-    raise_marked(values, 64 * blocks.len(), rest, map, first);
+    raise_marked(values, 64 * blocks.len(), rest, map, first)
 }
 
 /// The same of the values from `at` on, two for each byte of nibbles. The others are unchanged.
@@ -601,20 +728,24 @@ fn raise_marked<A: Allocator>(
     nibbles: &[u8],
     map: &AuxMap<A>,
     first: u32,
-)
+) -> bool
     requires room { at + 2 * length nibbles.now ≤ length values.old }
     requires within { first + length values.old ≤ 2 ^ map.now.lg_k }
     requires map { IsMap map.now }
     requires marked { (s : ℕ) → at ≤ s → s < at + 2 * length nibbles.now → nibble_at nibbles.now (s - at) ≢ 15 → value_in map.now (first + s) ≡ None }
-    ensures raised { (s : ℕ) → at ≤ s → s < at + 2 * length nibbles.now → slice_index values.new s ≡ max (slice_index values.old s) (unwrap_or (value_in map.now (first + s)) 0) }
+    ensures raised { OnTrue result ((s : ℕ) → at ≤ s → s < at + 2 * length nibbles.now → slice_index values.new s ≡ max (slice_index values.old s) (unwrap_or (value_in map.now (first + s)) 0)) }
+    ensures some { (s : ℕ) → max (slice_index values.new s) (unwrap_or (value_in map.now (first + s)) 0) ≡ max (slice_index values.old s) (unwrap_or (value_in map.now (first + s)) 0) }
     ensures before { (s : ℕ) → s < at → slice_index values.new s ≡ slice_index values.old s }
     ensures behind { (s : ℕ) → at + 2 * length nibbles.now ≤ s → slice_index values.new s ≡ slice_index values.old s }
     ensures len { length values.new ≡ length values.old }
 {
     for slot in at..at + 2 * nibbles.len() {
         if nibble_of(nibbles, slot - at) == MARK {
-            let exception = map.get(first + slot as u32).unwrap_or(0);
-            values[slot] = values[slot].max(exception);
+            let Some(exception) = map.get_shortly(first + slot as u32) else {
+                return false;
+            };
+            values[slot] = values[slot].max(exception.unwrap_or(0));
         }
     }
+    true
 }

@@ -1,5 +1,5 @@
 //! Registers as nibbles above the least of them, with a map of exceptions (docs/MODEL.md, "Registers of four bits").
-ghost use Rattle.std.specs.Prelude.{◌≡◌, ◌≢◌, ◌+◌, ◌*◌, ◌^◌, ◌<◌, ◌≤◌, ◌==◌, ◌%◌, ◌++◌, ◌⊎◌, ℕ, take, drop, length, count_by, nat_eq, slice_index, slice_set, IfOk, IfErr, OnOk, OnErr, Some, None};
+ghost use Rattle.std.specs.Prelude.{◌≡◌, ◌≢◌, ◌+◌, ◌*◌, ◌^◌, ◌<◌, ◌≤◌, ◌==◌, ◌%◌, ◌++◌, ◌⊎◌, ℕ, take, drop, min, length, count_by, nat_eq, slice_index, slice_set, IfOk, IfErr, OnOk, OnErr, Some, None};
 ghost use Rattle.std.specs.Cmp.Lexicographic.{pointwise};
 ghost use Rattle.std.specs.FinSet.{len};
 ghost use Rattle.hll_base.specs.Join.{join};
@@ -10,13 +10,13 @@ ghost use Rattle.hll_coupons.specs.Pair.{set_of};
 ghost use Rattle.hll_kernels.specs.Packed.{minimum, count_at_minimum, nibble, nibble_at, nibble_bytes, zero_nibbles, zeros, AreRegisters};
 ghost use Rattle.hll_registers.specs.Exceptions.{exceptions};
 ghost use Rattle.hll_registers.specs.FourBits.{exception_in, exception_of, unboxed, unpacked, ExceptionsMove, IsMapFor, IsSlotOf};
-ghost use Rattle.hll_registers.specs.Payload.{register_of, Agrees};
+ghost use Rattle.hll_registers.specs.Payload.{Agrees};
 ghost use Rattle.hll_registers.specs.Store.{size_in_registers, zero_registers};
 
 use crate::exception_map::{
     Exceptions, MARK, Rise, bytes_of_places, copied, count_exceptions, exception_at,
-    exceptions_after, exceptions_of, have_same_exceptions, put_exception, raise_by_registers,
-    register_at, repack, replace_by, with_exceptions,
+    exceptions_after, exceptions_of, has_many_places, have_same_exceptions, put_exception,
+    raise_by_registers, register_at, repack, replace_by, with_exceptions,
 };
 use crate::registers::two_to;
 use hll_base::codec::SketchBytes;
@@ -171,8 +171,13 @@ impl<A: Allocator> NibbleRegisters<A> {
             && have_same_exceptions(&self.exceptions, &other.exceptions)
     }
 
+    /// Whether `join_into` is dear where there are few values.
+    pub fn is_dear_in_parts(&self) -> bool {
+        has_many_places(&self.exceptions)
+    }
+
     /// Raises each value to the greater of itself and register `first + i`, for value i. One pass, and a search for each
-    /// exception.
+    /// exception, or one through the map where a search is long.
     pub fn join_into(&self, first: u32, values: &mut [u8])
         requires within { first + length values.old ≤ 2 ^ self.now.lg_k }
         requires aligned { first % 4 ≡ 0 }
@@ -377,13 +382,48 @@ impl<A: Allocator + Clone> NibbleRegisters<A> {
         Ok(())
     }
 
-    /// The least register when that of one slot has a greater value and none is left at the minimum. Stops at the first
-    /// that is one above it.
+    /// The least register when that of one slot has a greater value and none is left at the minimum.
     fn minimum_with(&self, slot: u32, value: u8) -> u8
         requires within { slot < 2 ^ self.now.lg_k }
         requires more { slice_index self.now.registers slot < value }
         requires most { value ≤ 63 }
         requires none { count_by (λ r. r == minimum self.now.registers) (slice_set self.now.registers slot value) ≡ 0 }
+        ensures { result ≡ minimum (slice_set self.now.registers slot value) }
+    {
+        let least = self.minimum_of_nibbles_with(slot, value);
+        if least < self.minimum + MARK {
+            return least;
+        }
+        self.minimum_of_exceptions_with(slot, value)
+    }
+
+    /// The same, or the least exception, if that is less. Stops at the first register that is one above the minimum.
+    fn minimum_of_nibbles_with(&self, slot: u32, value: u8) -> u8
+        requires within { slot < 2 ^ self.now.lg_k }
+        requires more { slice_index self.now.registers slot < value }
+        requires most { value ≤ 63 }
+        requires none { count_by (λ r. r == minimum self.now.registers) (slice_set self.now.registers slot value) ≡ 0 }
+        ensures { result ≡ min (minimum (slice_set self.now.registers slot value)) (minimum self.now.registers + 15) }
+    {
+        let mut least = 63u8.min(self.minimum + MARK);
+        for other in 0..two_to(self.lg_k) as u32 {
+            let register = if other == slot {
+                value
+            } else {
+                self.minimum + self.nibble(other)
+            };
+            least = least.min(register);
+            if least == self.minimum + 1 {
+                return least;
+            }
+        }
+        least
+    }
+
+    /// The same, where all other registers are exceptions: their table has more places than there are slots, so that each
+    /// search ends where it starts.
+    fn minimum_of_exceptions_with(&self, slot: u32, value: u8) -> u8
+        requires within { slot < 2 ^ self.now.lg_k }
         ensures { result ≡ minimum (slice_set self.now.registers slot value) }
     {
         let mut least = 63u8;
@@ -394,9 +434,6 @@ impl<A: Allocator + Clone> NibbleRegisters<A> {
                 self.get(other)
             };
             least = least.min(register);
-            if least == self.minimum + 1 {
-                return least;
-            }
         }
         least
     }
@@ -410,6 +447,7 @@ fn values_of<A: Allocator + Clone>(
     lg_k: u8,
     minimum: u8,
 ) -> Result<Vec<u8, A>, Error>
+    requires least { 4 ≤ lg_k }
     requires most { lg_k ≤ 21 }
     requires size { 2 * length nibbles.now ≡ 2 ^ lg_k }
     requires map { IsMapFor lg_k (unboxed map.now) }
@@ -418,20 +456,6 @@ fn values_of<A: Allocator + Clone>(
     ensures err { IfErr result (λ e. e ≡ Memory) }
 {
     let mut values = vec![in alloc.clone()?; 0; two_to(lg_k)]?;
-    put_registers(&mut values, nibbles, map, minimum);
+    raise_by_registers(&mut values, 0, nibbles, map, lg_k, minimum);
     Ok(values)
-}
-
-/// Writes the register of each slot.
-fn put_registers<A: Allocator>(values: &mut [u8], nibbles: &[u8], map: &Exceptions<A>, minimum: u8)
-    requires few { length values.old ≤ 2 ^ 21 }
-    requires size { length values.old ≡ 2 * length nibbles.now }
-    requires slots { (s : ℕ) → s < length values.old → IsSlotOf (unboxed map.now) s }
-    requires agree { (s : ℕ) → s < length values.old → Agrees minimum (nibble_at nibbles.now s) (exception_in (unboxed map.now) s) }
-    ensures registers { (s : ℕ) → s < length values.old → slice_index values.new s ≡ register_of minimum (nibble_at nibbles.now s) (exception_in (unboxed map.now) s) }
-    ensures len { length values.new ≡ length values.old }
-{
-    for slot in 0..values.len() {
-        values[slot] = register_at(nibbles, map, minimum, slot as u32);
-    }
 }

@@ -10,7 +10,7 @@ ghost use Rattle.hll_registers.specs.State.{cleared_state};
 
 use crate::agreement::agree;
 use crate::estimate_state::EstimateState;
-use crate::exception_map::{Exceptions, raise_by_registers, register_at};
+use crate::exception_map::{Exceptions, has_many_places, raise_by_registers, register_at};
 use crate::nibble_registers::NibbleRegisters;
 use crate::registers::{Registers, two_to};
 use hll_base::error::{Error, Reason};
@@ -165,6 +165,10 @@ impl<'a, A: Allocator> Registers for NibbleSlice<'a, A> {
 
     fn estimate_state(&self) -> EstimateState {
         EstimateState::CLEARED
+    }
+
+    fn is_dear_in_parts(&self) -> bool {
+        has_many_places(&self.exceptions)
     }
 
     /// One pass, and a search for each exception.

@@ -9,6 +9,7 @@ ghost use Rattle.hll_kernels.specs.WeightSums.{AreSumsOf};
 ghost use Rattle.hll_registers.specs.EstimatorWords.{AreEstimatorWords};
 
 use crate::estimate_state::EstimateState;
+use crate::register_slice::RegisterSlice;
 use hll_kernels::kernels::{WeightSums, weight_sums};
 
 /// 2^`lg_k` registers of 0 to 63, and their estimate state. No call takes memory.
@@ -35,11 +36,11 @@ pub trait Registers {
         ensures { result ≡ (stored self.now).state };
 
     /// The sums of 2^-v over the registers v. One pass. An implementation may go over its own bytes; this body takes at
-    /// most 256 registers at a time.
+    /// most 16,384 registers at a time.
     fn weight_sums(&self) -> WeightSums
         ensures { AreSumsOf result (stored self.now).registers }
     {
-        let lg_size = self.lg_k().min(8);
+        let lg_size = self.lg_k().min(14);
         let size = two_to(lg_size);
         let mut sums = WeightSums { low: 0, high: 0 };
         for block in 0..two_to(self.lg_k() - lg_size) {
@@ -48,18 +49,18 @@ pub trait Registers {
         sums
     }
 
-    /// The sums of 2^-v over at most 256 registers v from `first` on.
+    /// The sums of 2^-v over at most 16,384 registers v from `first` on.
     ///
     /// These registers exist, and `first` and their number are multiples of four.
     fn weight_sums_at(&self, first: usize, size: usize) -> WeightSums
         requires within { first + size ≤ 2 ^ (stored self.now).lg_k }
         requires aligned { first % 4 ≡ 0 }
         requires groups { size % 4 ≡ 0 }
-        requires few { size ≤ 256 }
+        requires few { size ≤ 16384 }
         requires legal { IsStored (stored self.now) }
         ensures { AreSumsOf result (take size (drop first (stored self.now).registers)) }
     {
-        let mut registers = [0; 256];
+        let mut registers = [0; 16384];
         self.join_into(first as u32, &mut registers[..size]);
         weight_sums(&registers[..size])
     }
@@ -72,6 +73,12 @@ pub trait Registers {
         // brings that the registers are legal
         let _lg_k = self.lg_k();
         EstimateState::of_sums(self.weight_sums())
+    }
+
+    /// Whether `join_into` is dear where there are few values, since each call goes over something that all registers share.
+    /// No result depends on it.
+    fn is_dear_in_parts(&self) -> bool {
+        false
     }
 
     /// Raises each value to the greater of itself and register `first + i`, for value i.
@@ -113,8 +120,41 @@ pub fn zeros_left(zero_count: Option<u32>, register: u8) -> Option<u32>
 }
 
 /// Raises each of 2^`lg_k` values to the greatest of itself and the source's registers that fold to it: each block of
-/// 2^`lg_k` consecutive registers folds to all of the values.
+/// 2^`lg_k` consecutive registers folds to all of the values. Where few registers at a time are dear, folds to 2^14 first.
 pub fn join_folds<R: Registers>(values: &mut [u8], lg_k: u8, src: &R)
+    requires least { 4 ≤ lg_k }
+    requires most { lg_k ≤ (R.stored src.now).lg_k }
+    requires size { length values.old ≡ 2 ^ lg_k }
+    ensures joined { values.new ≡ join values.old (fold_to (pairs (R.stored src.now).registers) lg_k) }
+    ensures registers { AreRegisters lg_k values.old → AreRegisters lg_k values.new }
+{
+    if lg_k < LG_PART && src.lg_k() > LG_PART && src.is_dear_in_parts() {
+        join_by_stages(values, lg_k, src);
+    } else {
+        join_blocks(values, lg_k, src);
+    }
+}
+
+/// The logarithm of the number of registers that are joined at once where few are dear.
+const LG_PART: u8 = 14;
+
+/// The same by the fold to 2^14 registers, of which the source has more.
+#[inline(never)]
+fn join_by_stages<R: Registers>(values: &mut [u8], lg_k: u8, src: &R)
+    requires least { 4 ≤ lg_k }
+    requires below { lg_k ≤ 14 }
+    requires most { 14 ≤ (R.stored src.now).lg_k }
+    requires size { length values.old ≡ 2 ^ lg_k }
+    ensures joined { values.new ≡ join values.old (fold_to (pairs (R.stored src.now).registers) lg_k) }
+    ensures registers { AreRegisters lg_k values.old → AreRegisters lg_k values.new }
+{
+    let mut parts = [0; 16384];
+    join_blocks(&mut parts, LG_PART, src);
+    join_blocks(values, lg_k, &RegisterSlice::new(LG_PART, &parts));
+}
+
+/// The same by one block after the other.
+fn join_blocks<R: Registers>(values: &mut [u8], lg_k: u8, src: &R)
     requires least { 4 ≤ lg_k }
     requires most { lg_k ≤ (R.stored src.now).lg_k }
     requires size { length values.old ≡ 2 ^ lg_k }

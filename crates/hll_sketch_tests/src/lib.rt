@@ -21,6 +21,8 @@ mod folds;
 #[cfg(test)]
 mod four_bit_images;
 #[cfg(test)]
+mod four_bit_paths;
+#[cfg(test)]
 mod four_bit_stores;
 #[cfg(test)]
 mod four_bits;

@@ -1,6 +1,6 @@
 use Rattle.std.proofs.Common.{◌≡◌, ◌*◌, ◌/◌, ◌<◌, ℕ, inl, inr, length, sym, ap, subst, ◌∙◌, arith}
 use Rattle.std.proofs.lemmas.Bool.{cases_lt}
-use Rattle.hll_registers.specs.FourBits.{exception_in, IsMapFor, unboxed}
+use Rattle.hll_registers.specs.FourBits.{exception_in, IsMapFor}
 use Rattle.hll_kernels.proofs.Blocks.{get_or-blocks}
 use Rattle.hll_registers.proofs.FourBitReading.{no_exception_in_block}
 use Rattle.hll_registers.proofs.exception_map.exceptions_of.Goals as goal
@@ -14,9 +14,9 @@ loop-place-preserved g c =
     elim c.if-not-are_below.branch [
       | then-not-are_below+in_ok-put_exceptions_of w ↦
           let put = w.in_ok-put_exceptions_of.ensures in
-          let at : (s : ℕ) → exception_in (unboxed c.if-not-are_below.map) s ≡ exception_in (unboxed w.put_exceptions_of.new.map) s = λ s. ap (λ m. exception_in (unboxed m) s) w.map-is in
+          let at : (s : ℕ) → exception_in c.if-not-are_below.map s ≡ exception_in w.put_exceptions_of.new.map s = λ s. ap (λ m. exception_in m s) w.map-is in
           record {
-            map = subst (λ o. IsMapFor c.args.lg_k (unboxed o)) (sym w.map-is) put.map;
+            map = subst (λ o. IsMapFor c.args.lg_k o) (sym w.map-is) put.map;
             done = λ s l. at s ∙ elim (cases_lt s (64 * place)) [
               | inl earlier ↦ put.before s earlier ∙ before.done s earlier
               | inr from ↦ put.put s from (omega (arith, l))
@@ -24,10 +24,10 @@ loop-place-preserved g c =
             left = λ s l. at s ∙ put.behind s (omega (arith, l));
           }
       | else-not-are_below w ↦
-          let at : (s : ℕ) → exception_in (unboxed c.if-not-are_below.map) s ≡ exception_in (unboxed c.loop-place.map) s = λ s. ap (λ m. exception_in (unboxed m) s) w.map-is in
+          let at : (s : ℕ) → exception_in c.if-not-are_below.map s ≡ exception_in c.loop-place.map s = λ s. ap (λ m. exception_in m s) w.map-is in
           let inside : place < length values / 64 = omega (arith, c.loop-place-test.true, c.as_chunks.ensures.front_len) in
           record {
-            map = subst (λ o. IsMapFor c.args.lg_k (unboxed o)) (sym w.map-is) before.map;
+            map = subst (λ o. IsMapFor c.args.lg_k o) (sym w.map-is) before.map;
             done = λ s l. at s ∙ elim (cases_lt s (64 * place)) [
               | inl earlier ↦ before.done s earlier
               | inr from ↦ before.left s from ∙ sym (no_exception_in_block c.args.minimum values _ place

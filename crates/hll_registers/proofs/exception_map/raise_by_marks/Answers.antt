@@ -1,12 +1,25 @@
-use Rattle.std.proofs.Common.{◌≡◌, ◌+◌, ◌-◌, ◌*◌, ◌/◌, ◌<◌, ◌≤◌, ℕ, Option, None, inl, inr, length, slice_index, sym, ap, subst, ◌∙◌, arith}
+use Rattle.std.proofs.Common.{Bool, true, false, ◌≡◌, ◌+◌, ◌-◌, ◌*◌, ◌/◌, ◌<◌, ◌≤◌, ℕ, Option, None, inl, inr, length, slice_index, sym, ap, subst, ◌∙◌, arith}
+use Rattle.std.specs.Bool.{OnTrue}
 use Rattle.std.specs.Prelude.{max, unwrap_or}
-use Rattle.std.proofs.lemmas.Bool.{cases_lt}
+use Rattle.std.proofs.lemmas.Bool.{cases_lt, true≢false}
 use Rattle.hll_coupons.specs.AuxMap.{value_in}
 use Rattle.hll_kernels.specs.Packed.{nibble_at}
 use Rattle.hll_kernels.proofs.Blocks.{get_or-blocks}
 use Rattle.hll_registers.proofs.FourBitReading.{nibble_at-block, nibble_at-drop, nibbles_at_most}
 use Rattle.hll_registers.proofs.exception_map.raise_by_marks.Goals as goal
-use Rattle.hll_registers.proofs.exception_map.raise_by_marks.Goals.{then-not-are_at_most, else-not-are_at_most}
+use Rattle.hll_registers.proofs.exception_map.raise_by_marks.Goals.{else-not-are_at_most-via-then-not-are_at_most+else-not-raise_marked, else-not-are_at_most-via-else-not-are_at_most}
+
+at_true : {P : Type 0} (b : Bool) → b ≡ true → OnTrue b P → P
+at_true true e p = p
+at_true false e p = absurd (true≢false (sym e))
+
+on_true_weaker : {P Q : Type 0} (b : Bool) → (P → Q) → OnTrue b P → OnTrue b Q
+on_true_weaker true f p = f p
+on_true_weaker false f p = tt
+
+-- a value that is raised already
+again : (now old e : ℕ) → now ≡ max old e → max now e ≡ max old e
+again now old e raised = omega (arith, raised)
 
 -- a slot without an exception keeps its value
 kept : (x : ℕ) (o : Option ℕ) → o ≡ None → x ≡ max x (unwrap_or o 0)
@@ -37,19 +50,20 @@ loop-place-preserved g c =
     let place = c.loop-place.place in
     let nibbles = c.args.nibbles.now in
     let exception : ℕ → ℕ = λ s. unwrap_or (value_in c.args.map.now (c.args.first + s)) 0 in
-    elim c.if-not-are_at_most.branch [
-      | then-not-are_at_most w ↦
-          let at : (s : ℕ) → slice_index c.if-not-are_at_most.values s ≡ slice_index w.raise_marked.new.values s = λ s. ap (λ vs. slice_index vs s) w.values-is in
+    elim c.else-not-are_at_most.branch [
+      | else-not-are_at_most-via-then-not-are_at_most+else-not-raise_marked w ↦
+          let raised = at_true w.raise_marked.result w.if-not-raise_marked.false w.raise_marked.ensures.raised in
+          let at : (s : ℕ) → slice_index c.else-not-are_at_most.values s ≡ slice_index w.raise_marked.new.values s = λ s. ap (λ vs. slice_index vs s) w.values-is in
           record {
             size = ap length w.values-is ∙ w.raise_marked.ensures.len ∙ before.size;
             done = λ s l some. at s ∙ elim (cases_lt s (64 * place)) [
               | inl earlier ↦ w.raise_marked.ensures.before s earlier ∙ before.done s earlier some
-              | inr from ↦ w.raise_marked.ensures.raised s from (omega (arith, l)) ∙ ap (λ v. max v (exception s)) (before.left s from)
+              | inr from ↦ raised s from (omega (arith, l)) ∙ ap (λ v. max v (exception s)) (before.left s from)
             ];
             left = λ s l. at s ∙ w.raise_marked.ensures.behind s (omega (arith, l)) ∙ before.left s (omega (arith, l));
           }
-      | else-not-are_at_most w ↦
-          let at : (s : ℕ) → slice_index c.if-not-are_at_most.values s ≡ slice_index c.loop-place.values s = λ s. ap (λ vs. slice_index vs s) w.values-is in
+      | else-not-are_at_most-via-else-not-are_at_most w ↦
+          let at : (s : ℕ) → slice_index c.else-not-are_at_most.values s ≡ slice_index c.loop-place.values s = λ s. ap (λ vs. slice_index vs s) w.values-is in
           let inside : place < length nibbles / 32 = omega (arith, c.loop-place-test.true, c.as_chunks.ensures.front_len) in
           let low : (s : ℕ) → 64 * place ≤ s → s < 64 * (place + 1) → nibble_at nibbles s ≤ 14 =
           nibbles_at_most nibbles _ place 14 (get_or-blocks 32 (length nibbles / 32) nibbles c.as_chunks.result.0.now place _ c.as_chunks.ensures.front inside) (omega (arith, inside))
@@ -69,9 +83,18 @@ returns-clause-raised g c =
     let before = c.loop-place.invariant in
     let nibbles = c.args.nibbles.now in
     let all : c.loop-place.place ≡ length nibbles / 32 = omega (arith, c.loop-place-test.false, c.loop-place.auto.place-end, c.as_chunks.ensures.front_len) in
-    λ s some. elim (cases_lt s (64 * c.loop-place.place)) [
+    on_true_weaker c.raise_marked-2.result (λ raised s some. elim (cases_lt s (64 * c.loop-place.place)) [
       | inl earlier ↦ c.raise_marked-2.ensures.before s (omega (arith, earlier, all, c.as_chunks.ensures.front_len)) ∙ before.done s earlier some
       | inr from ↦
-          c.raise_marked-2.ensures.raised s (omega (arith, from, all, c.as_chunks.ensures.front_len)) (omega (arith, some, c.requires.size))
+          raised s (omega (arith, from, all, c.as_chunks.ensures.front_len)) (omega (arith, some, c.requires.size))
           ∙ ap (λ v. max v (unwrap_or (value_in c.args.map.now (c.args.first + s)) 0)) (before.left s from)
+    ]) c.raise_marked-2.ensures.raised
+
+pub returns-clause-some : goal.returns-clause-some
+returns-clause-some g c s some =
+    let before = c.loop-place.invariant in
+    let e : ℕ = unwrap_or (value_in c.args.map.now (c.args.first + s)) 0 in
+    c.raise_marked-2.ensures.some s ∙ elim (cases_lt s (64 * c.loop-place.place)) [
+      | inl earlier ↦ again (slice_index c.loop-place.values s) (slice_index c.args.values.now s) e (before.done s earlier some)
+      | inr from ↦ ap (λ v. max v e) (before.left s from)
     ]

@@ -8,17 +8,17 @@ use Rattle.hll_registers.specs.Store.{Stored, IsStored}
 use Rattle.hll_registers.proofs.registers.Registers.weight_sums_at.Goals as goal
 
 abbrev zeros : List ℕ
-zeros = replicate 256 0
+zeros = replicate 16384 0
 
 -- zeros raised to some registers are these registers
-raised : (x : Stored) (first n : ℕ) (W rest : List ℕ) → IsStored x → first + n ≤ 2 ^ x.lg_k → n ≤ 256 →
+raised : (x : Stored) (first n : ℕ) (W rest : List ℕ) → IsStored x → first + n ≤ 2 ^ x.lg_k → n ≤ 16384 →
     W ≡ join (take n zeros) (take (length (take n zeros)) (drop first x.registers)) → take n (W ++ rest) ≡ take n (drop first x.registers)
 raised x first n W rest legal within few e =
     let behind : List ℕ = drop first x.registers in
     let many : n ≤ length behind = omega (arith, length-drop first x.registers, within, legal.registers.size) in
     let long : length (take n behind) ≡ n = length-take-le n behind many in
-    let lent : length (take n zeros) ≡ n = length-take-le n zeros (omega (arith, few, length-replicate {A = ℕ} 256 0)) in
-    let is : W ≡ take n behind = e ∙ (λ i. join (take n zeros) (take (lent i) behind)) ∙ join_zeros 256 n (take n behind) few long in
+    let lent : length (take n zeros) ≡ n = length-take-le n zeros (omega (arith, few, length-replicate {A = ℕ} 16384 0)) in
+    let is : W ≡ take n behind = e ∙ (λ i. join (take n zeros) (take (lent i) behind)) ∙ join_zeros 16384 n (take n behind) few long in
     take_at W rest n (ap length is ∙ long) ∙ is
 
 pub weight_sums-requires-clause-small : goal.weight_sums-requires-clause-small

@@ -6,7 +6,7 @@ use Rattle.hll_registers.specs.Store.{Stored}
 use Rattle.hll_kernels.specs.Packed.{AreRegisters}
 use Rattle.hll_registers.proofs.Folding.{block-within, block-aligned, power-groups, folded-none, joined-next, joined-all, AreRegisters-fold_to}
 use Rattle.hll_kernels.proofs.Registers.{AreRegisters-join}
-use Rattle.hll_registers.proofs.registers.join_folds.Goals as goal
+use Rattle.hll_registers.proofs.registers.join_blocks.Goals as goal
 
 pub loop-block-init : goal.loop-block-init
 loop-block-init g c = folded-none c.args.values.now (g.R.Registers.stored c.args.src.now).registers c.args.lg_k c.requires.size

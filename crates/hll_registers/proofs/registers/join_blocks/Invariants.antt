@@ -1,7 +1,7 @@
 use Rattle.std.proofs.Common.{◌≡◌, ◌*◌, ◌^◌}
 use Rattle.hll_base.specs.Join.{join}
 use Rattle.hll_registers.proofs.Folding.{folded}
-use Rattle.hll_registers.proofs.registers.join_folds.Given as goal
+use Rattle.hll_registers.proofs.registers.join_blocks.Given as goal
 
 -- the blocks so far are joined
 abbrev pub invariant-loop-block : goal.invariant-loop-block

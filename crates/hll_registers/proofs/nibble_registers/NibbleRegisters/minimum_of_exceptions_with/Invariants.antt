@@ -1,6 +1,6 @@
 use Rattle.std.proofs.Common.{◌≡◌, take, slice_set}
 use Rattle.std.specs.Prelude.{min, fold}
-use Rattle.hll_registers.proofs.nibble_registers.NibbleRegisters.minimum_with.Given as goal
+use Rattle.hll_registers.proofs.nibble_registers.NibbleRegisters.minimum_of_exceptions_with.Given as goal
 
 -- the least so far
 abbrev pub invariant-loop-other : goal.invariant-loop-other

@@ -1,0 +1,151 @@
+//! Maps of exceptions while they are filled.
+ghost use Rattle.std.specs.Prelude.{◌≡◌, ◌≢◌, ◌↔◌, ◌*◌, ◌^◌, ◌<◌, ◌≤◌, ◌==◌, ℕ, if◌then◌else◌, length, None, Some, IsTrue, IfOk, IfErr, IfSome, OnOk, OnErr};
+ghost use Rattle.hll_base.specs.declared.error.Reason.TheVariants.{Memory};
+ghost use Rattle.hll_coupons.specs.AuxMap.{empty_map, value_in, IsMap, MarksValues};
+ghost use Rattle.hll_coupons.specs.Words.{bit_of};
+
+use crate::aux_map::AuxMap;
+use crate::long_searches::LongSearches;
+use crate::words::{is_set, set};
+use hll_base::error::Error;
+use std::alloc::{Allocator, Global};
+use std::marker::Model;
+
+/// A map of exceptions that is filled entry by entry, in time that the number of entries bounds, wherever their searches
+/// go. Contracts see the map.
+///
+/// Takes the memory of the map. Where searches have become dear, takes more: a bit for each slot, and bitmaps of places
+/// (docs/LIMITS.md).
+#[derive(Drop)]
+pub struct AuxMapBuilder<A: Allocator = Global> {
+    map: AuxMap<A>,
+    searches: LongSearches<A>,
+    /// The bits of the slots that have a value, once a search for one was cut off.
+    marks: Option<Vec<u64, A>>,
+}
+
+impl<A: Allocator> Model for AuxMapBuilder<A> {
+    ghost use Rattle.std.specs.Prelude.{IfSome};
+    ghost use Rattle.hll_coupons.specs.AuxMap.{ExceptionMap, MarksValues};
+    ghost use Rattle.hll_coupons.specs.LongSearches.{AreFor};
+
+    ghost Value = { ExceptionMap };
+
+    ghost view = { λ b. b.map };
+
+    ghost invariant = { λ b. AreFor b.map.table.lg_size b.map.table.places b.searches × IfSome b.marks (λ words. MarksValues b.map words.items) };
+}
+
+impl<A: Allocator> AuxMapBuilder<A> {
+    /// The map. Takes no memory.
+    pub fn build(self) -> AuxMap<A>
+        ensures { result ≡ self }
+    {
+        let AuxMapBuilder { map, .. } = self;
+        map
+    }
+}
+
+impl<A: Allocator + Clone> AuxMapBuilder<A> {
+    /// No entries.
+    ///
+    /// `lg_config_k` is 4 to 21. Fails with `Memory`.
+    pub fn new(alloc: A, lg_config_k: u8) -> Result<AuxMapBuilder<A>, Error>
+        requires least { 4 ≤ lg_config_k }
+        requires most { lg_config_k ≤ 21 }
+        ensures ok { IfOk result (λ m. m ≡ empty_map lg_config_k) }
+        ensures map { IfOk result IsMap }
+        ensures err { IfErr result (λ e. e ≡ Memory) }
+    {
+        let map = AuxMap::new(alloc.clone()?, lg_config_k)?;
+        Ok(AuxMapBuilder {
+            map,
+            searches: LongSearches::new(alloc),
+            marks: None,
+        })
+    }
+
+    /// Whether a slot below 2^`lg_config_k` has a value.
+    ///
+    /// Fails with `Memory`, only where a search was cut off.
+    pub fn has(&mut self, slot: u32) -> Result<bool, Error>
+        requires { slot < 2 ^ self.old.lg_k }
+        ensures has { IfOk result (λ has. IsTrue has ↔ (value_in self.old slot ≢ None)) }
+        ensures unchanged { self.new ≡ self.old }
+        ensures err { IfErr result (λ e. e ≡ Memory) }
+    {
+        if let Some(value) = self.map.get_shortly(slot) {
+            return Ok(value.is_some());
+        }
+        has_mark(&self.map, &mut self.marks, slot)
+    }
+
+    /// Gives a slot without a value one.
+    ///
+    /// `slot` is below 2^`lg_config_k` and has no value, and `value` is 1 to 63. Fails with `Memory`, and then changes
+    /// nothing.
+    pub fn insert(&mut self, slot: u32, value: u8) -> Result<(), Error>
+        requires within { slot < 2 ^ self.old.lg_k }
+        requires least { 1 ≤ value }
+        requires most { value ≤ 63 }
+        requires absent { value_in self.old slot ≡ None }
+        ensures lg_k { OnOk result (self.new.lg_k ≡ self.old.lg_k) }
+        ensures values { OnOk result ((s : ℕ) → value_in self.new s ≡ (if s == slot then Some value else value_in self.old s)) }
+        ensures map { OnOk result (IsMap self.new) }
+        ensures unchanged { OnErr result (self.new ≡ self.old) }
+        ensures err { IfErr result (λ e. e ≡ Memory) }
+    {
+        self.map.insert_by(&mut self.searches, slot, value)?;
+        if let Some(words) = &mut self.marks {
+            set(words, slot as usize);
+        }
+        Ok(())
+    }
+}
+
+/// Whether a slot of the map has a mark, in marks that are made where there are none.
+///
+/// Fails with `Memory`.
+#[inline(never)]
+fn has_mark<A: Allocator + Clone>(
+    map: &AuxMap<A>,
+    marks: &mut Option<Vec<u64, A>>,
+    slot: u32,
+) -> Result<bool, Error>
+    requires within { slot < 2 ^ map.now.lg_k }
+    requires marks { IfSome marks.old (λ words. MarksValues map.now words.items) }
+    ensures has { IfOk result (λ has. IsTrue has ↔ (value_in map.now slot ≢ None)) }
+    ensures marks { IfSome marks.new (λ words. MarksValues map.now words.items) }
+    ensures err { IfErr result (λ e. e ≡ Memory) }
+{
+    if let Some(words) = &*marks {
+        return Ok(is_set(words, slot as usize));
+    }
+    let words = marks_of(map)?;
+    let has = is_set(&words, slot as usize);
+    *marks = Some(words);
+    Ok(has)
+}
+
+/// A bit for each slot, which is set where it has a value. Fails with `Memory`.
+fn marks_of<A: Allocator + Clone>(map: &AuxMap<A>) -> Result<Vec<u64, A>, Error>
+    ensures ok { IfOk result (λ words. MarksValues map.now words.items) }
+    ensures err { IfErr result (λ e. e ≡ Memory) }
+{
+    let size = (1usize << map.lg_config_k()) / 64 + 1;
+    let mut words = vec![in map.allocator().clone()?; 0u64; size]?;
+    mark_slots(&mut words, map);
+    Ok(words)
+}
+
+/// Sets the bit of each slot that has a value.
+fn mark_slots<A: Allocator>(words: &mut [u64], map: &AuxMap<A>)
+    requires map { IsMap map.now }
+    requires room { 2 ^ map.now.lg_k ≤ 64 * length words.old }
+    requires none { (s : ℕ) → bit_of words.old s ≡ 0 }
+    ensures { MarksValues map.now words.new }
+{
+    for (slot, _) in map.iter() {
+        set(words, slot as usize);
+    }
+}
