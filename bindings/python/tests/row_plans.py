@@ -13,6 +13,15 @@ class NoCall(Exception):
     """A line is refused for its text, or for sketches that are not there: no call is made of it."""
 
 
+def with_words(answer):
+    """The answer of a row with the words of its registers set where they are zero, as the package
+    writes it; the program leaves them."""
+    mark, _, digits = answer.partition(" ")
+    if mark not in ("=", "+"):
+        return answer
+    return "= " + Sketch.from_bytes(bytes.fromhex(digits)).to_bytes().hex()
+
+
 def rows(path):
     """Each row of a text of rows: its plan as bytes, and its answer."""
     lines = []

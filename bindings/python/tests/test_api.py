@@ -278,13 +278,23 @@ class SketchTest(unittest.TestCase):
         self.assertFalse(self.filled(count=10).agrees_with(self.filled(count=11)))
 
     def test_estimator_words(self):
-        image = self.filled(8).with_estimator_words().to_bytes()
-        registers = image[40:]
-        low = sum(2.0**-value for value in registers if value < 32)
+        sketch = self.filled(8)
+        image, plain = sketch.to_bytes(), sketch.to_bytes(plain=True)
+        low = sum(2.0**-value for value in image[40:] if value < 32)
         self.assertEqual(struct.unpack("<3d", image[8:32]), (0.0, low, 0.0))
-        self.assertEqual(self.filled(8).to_bytes()[8:32], bytes(24))
+        self.assertEqual(sketch.with_estimator_words(), sketch)
+        self.assertEqual(plain, image[:8] + bytes(24) + image[32:])
+        self.assertEqual(Sketch.from_bytes(plain).to_bytes(), image)
+        foreign = bytearray(image)
+        foreign[5] &= ~16
+        foreign[8:32] = struct.pack("<3d", 5.0, 6.0, 7.0)
+        kept = Sketch.from_bytes(foreign)
+        self.assertEqual(kept.to_bytes(), foreign)
+        self.assertEqual(kept.to_bytes(plain=True), plain)
+        self.assertEqual(kept.with_estimator_words().to_bytes(), image)
         few = self.filled(8, count=5)
         self.assertEqual(few.with_estimator_words(), few)
+        self.assertEqual(few.to_bytes(plain=True), few.to_bytes())
 
     def test_images(self):
         places = "0201070a030002080000000007000008000000000500000c" + "00" * 16

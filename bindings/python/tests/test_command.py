@@ -32,7 +32,7 @@ def sketch_of(values, lg_k=12, width=8):
 
 def image_of(values, lg_k=12, width=8):
     """An image as the command writes it."""
-    return sketch_of(values, lg_k, width).with_estimator_words().to_bytes()
+    return sketch_of(values, lg_k, width).to_bytes()
 
 
 def foreign(image):
@@ -188,11 +188,11 @@ class AddTest(CommandTest):
         wanted = sketch_of(given.split(), 4)
         out = self.succeeds("add", "a.hll", "-o", "b.hll", "--plain", "--json", given=given)
         self.assertEqual(json.loads(out)["lines"], 100)
-        self.assertEqual(self.read("b.hll"), wanted.to_bytes())
+        self.assertEqual(self.read("b.hll"), wanted.to_bytes(plain=True))
         out = self.succeeds("add", "a.hll", "-o", "-", given=given)
-        self.assertEqual(out, wanted.with_estimator_words().to_bytes())
+        self.assertEqual(out, wanted.to_bytes())
         self.assertEqual(self.read("a.hll"), Sketch(4).to_bytes())
-        self.assertNotEqual(wanted, wanted.with_estimator_words())
+        self.assertNotEqual(out, self.read("b.hll"))
 
     def test_refusals(self):
         self.write("bad.hll", b"\x02\x01")
@@ -221,7 +221,7 @@ class InfoTest(CommandTest):
             for width in (4, 6, 8):
                 made = sketch_of(range(count), 12, width)
                 name = f"{count}-{width}.hll"
-                self.write(name, made.with_estimator_words().to_bytes() + b"behind")
+                self.write(name, made.to_bytes() + b"behind")
                 wanted.append((name, made))
         records = json.loads(self.succeeds("info", "--json", *(name for name, _ in wanted)))
         self.assertEqual(len(records), len(wanted))
@@ -267,8 +267,9 @@ class InfoTest(CommandTest):
         self.assertEqual((rows["flags"], rows["words"][:4]), ("out of order", "set:"))
 
     def test_words(self):
-        image = sketch_of(range(30_000)).to_bytes()
-        pairs = ((image, "zero"), (foreign(image), "other"), (image_of(range(30_000)), "set"))
+        made = sketch_of(range(30_000))
+        image = made.to_bytes()
+        pairs = ((made.to_bytes(plain=True), "zero"), (foreign(image), "other"), (image, "set"))
         for data, word in pairs:
             self.assertEqual(layout.words_of(data), word)
         self.assertEqual(layout.words_of(Sketch().to_bytes()), "none")
@@ -360,13 +361,12 @@ class OneFromAnotherTest(CommandTest):
             made = sketch_of(range(count))
             self.write("a.hll", made.to_bytes())
             self.succeeds("fold", "a.hll", "--lg-k", 7, "-o", "b.hll", "--plain")
-            self.assertEqual(self.read("b.hll"), made.fold(7).to_bytes())
+            self.assertEqual(self.read("b.hll"), made.fold(7).to_bytes(plain=True))
             out = self.succeeds("fold", "-", "--lg-k", 12, "-o", "-", given=self.read("a.hll"))
-            self.assertEqual(out, made.with_estimator_words().to_bytes())
+            self.assertEqual(out, made.to_bytes())
             for width in (4, 6, 8):
                 self.succeeds("convert", "a.hll", "--width", width, "-o", "c.hll")
-                wanted = made.convert(width).with_estimator_words()
-                self.assertEqual(self.read("c.hll"), wanted.to_bytes())
+                self.assertEqual(self.read("c.hll"), made.convert(width).to_bytes())
 
     def test_words_of_others_are_kept(self):
         image = foreign(sketch_of(range(30_000)).to_bytes())

@@ -342,12 +342,12 @@ class ScriptTest(LaidOut):
     def test_merge_folder(self):
         self.lay_out(LARGE[1:])
         self.write("all/a name with spaces", LARGE[0])
-        wanted = union_of(LARGE, 13, 6).to_bytes()
+        wanted = union_of(LARGE, 13, 6).to_bytes(plain=True)
         for files_in_group in (7, 100):
             self.assertEqual(self.merge_folder("all", 13, 6, files_in_group), (0, wanted, ""))
         options = ["--plain", "--lg-k", 13, "--width", 6]
         self.assertEqual(self.succeeds("merge", "all", "-o", "-", *options), wanted)
-        self.assertEqual(self.merge_folder("all")[1], union_of(LARGE).to_bytes())
+        self.assertEqual(self.merge_folder("all")[1], union_of(LARGE).to_bytes(plain=True))
 
     def test_merge_folder_names_a_bad_file_of_each_group(self):
         """The first, the last and one in the midst of a group; nothing is printed then."""
@@ -378,9 +378,9 @@ class ScriptTest(LaidOut):
         status, out, err = self.run_script("merge_lines.sh", 11, 4, given=b"".join(
             answer for _, answer, _ in answers
         ))
-        wanted = f"image {union_of(LARGE, 11, 4).to_bytes().hex()}\n".encode()
+        wanted = f"image {union_of(LARGE, 11, 4).to_bytes(plain=True).hex()}\n".encode()
         self.assertEqual((status, out, err), (0, wanted, ""))
-        wanted = f"image {union_of(LARGE[:13]).to_bytes().hex()}\n".encode()
+        wanted = f"image {union_of(LARGE[:13]).to_bytes(plain=True).hex()}\n".encode()
         self.assertEqual(self.run_script("merge_lines.sh", given=groups[0]), (0, wanted, ""))
 
     def test_merge_lines_refuses(self):

@@ -190,7 +190,7 @@ typedef unsigned char u8;
 #define EMPTY(name) int name(void) { return 0; }
 EMPTY(hll_image_new) EMPTY(hll_image_add) EMPTY(hll_image_add_coupon) EMPTY(hll_image_merge)
 EMPTY(hll_images_union) EMPTY(hll_image_fold) EMPTY(hll_image_convert) EMPTY(hll_image_check)
-EMPTY(hll_image_set_estimator_words) EMPTY(hll_images_agree) EMPTY(hll_coupon) EMPTY(hll_coupons)
+EMPTY(hll_image_size) EMPTY(hll_image_set_estimator_words) EMPTY(hll_image_clear_estimator_words) EMPTY(hll_images_agree) EMPTY(hll_coupon) EMPTY(hll_coupons)
 EMPTY(hll_estimate) EMPTY(hll_hip_estimate)
 EMPTY(hll_registers_add) EMPTY(hll_registers_add_coupons)
 EMPTY(hll_registers_join) EMPTY(hll_registers_join_registers) EMPTY(hll_registers_fold)
@@ -200,8 +200,8 @@ uint32_t hll_version(void) { return VERSION; }
 u8 hll_image_histogram(const u8 *image, size_t len, uint64_t *counts)
 { memset(counts, 0, 512); counts[0] = 1023; counts[COUNT] = 1; return 0; }
 #endif
-u8 hll_image_info(const u8 *image, size_t len, u8 *info)
-{ memset(info, 0, SIZE); info[0] = 1; info[56] = 10; info[57] = 8; return 0; }
+u8 hll_image_info(const u8 *image, size_t len, u8 *info, size_t size)
+{ if (size != SIZE) return 12; memset(info, 0, SIZE); info[0] = 1; info[56] = 10; info[57] = 8; return 0; }
 """
 
 

@@ -17,7 +17,7 @@ class RowsTest(unittest.TestCase):
                 continue
             ran += 1
             with self.subTest(plan=plan[:200]):
-                self.assertEqual(answer, wanted.replace("+", "=", 1))
+                self.assertEqual(answer, row_plans.with_words(wanted))
         print(f"{ran} rows were run, {passed_over} of the text alone were passed over")
         self.assertGreater(ran, 1000)
         self.assertLess(passed_over, 100)
