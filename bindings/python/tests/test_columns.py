@@ -170,14 +170,14 @@ class MemoryTest(ColumnTest):
 
         writer = threading.Thread(target=write)
         writer.start()
+        self.addCleanup(writer.join)
+        self.addCleanup(stop.set)
         for _ in range(20):
             Sketch().update_many(values)
             try:
                 Registers().update_bytes(data, ends)
             except ArgumentError:
                 pass
-        stop.set()
-        writer.join()
 
     def test_threads(self):
         parts = [array("q", range(first, first + 50_000)) for first in range(0, 200_000, 50_000)]
