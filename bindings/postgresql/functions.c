@@ -190,7 +190,7 @@ hll_pg_info(PG_FUNCTION_ARGS)
 	hll_info	info;
 	Datum		values[5];
 
-	check_status(hll_image_info(IMAGE(image), &info));
+	check_status(hll_image_info(IMAGE(image), &info, sizeof info));
 	values[0] = Int32GetDatum(info.lg_k);
 	values[1] = Int32GetDatum(info.width);
 	values[2] = CStringGetTextDatum(stages[info.stage]);

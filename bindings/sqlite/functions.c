@@ -228,7 +228,7 @@ static void info(sqlite3_context *context, int n, sqlite3_value **values)
     (void)n;
     if (!image_in(context, values[0], &image))
         return;
-    status = hll_image_info(IMAGE(image), &told);
+    status = hll_image_info(IMAGE(image), &told, sizeof told);
     if (status == HLL_OK)
         answer_text(context, sqlite3_mprintf("{\"lg_k\":%d,\"width\":%d,\"stage\":\"%s\",\"coupons\":%lld,\"zeros\":%lld}",
                                              told.lg_k, told.width, stages[told.stage], (sqlite3_int64)told.coupons,
