@@ -1,6 +1,5 @@
 /* SPDX-License-Identifier: Apache-2.0 */
-/* The union of sketches in files: example OUT FILE.. writes it to OUT, with the words from which other libraries
- * estimate, and prints an estimate of its values. */
+/* The union of sketches in files: example OUT FILE.. writes it to OUT, and prints an estimate of its values. */
 #include "hll.h"
 
 #include <stdio.h>
@@ -19,7 +18,7 @@ static void end_with(const char *name, const char *what)
 
 int main(int argc, char **argv)
 {
-    size_t size, merged_size = 0, failed, i;
+    size_t size, merged_size, i;
     hll_estimation found;
     hll_status status = hll_image_new(LG_MAX_K, WIDTH, sketch, sizeof sketch, &size);
 
@@ -29,20 +28,18 @@ int main(int argc, char **argv)
         if (source == NULL || ferror(source) || fclose(source) != 0)
             end_with(argv[i], "can't be read");
         status = hll_image_merge(LG_MAX_K, WIDTH, sketch, size, file, len, merged, sizeof merged, &merged_size,
-                                 &failed);
+                                 NULL);
         if (status != HLL_OK)
             end_with(argv[i], hll_reason(status));
         status = hll_image_convert(merged, merged_size, WIDTH, sketch, sizeof sketch, &size);
     }
     if (status == HLL_OK)
-        status = hll_image_set_estimator_words(sketch, size, merged, sizeof merged, &merged_size);
-    if (status == HLL_OK)
-        status = hll_estimate(merged, merged_size, &found);
+        status = hll_estimate(sketch, size, &found);
     if (argc < 3 || status != HLL_OK)
         end_with(argv[0], argc < 3 ? "usage: example OUT FILE.." : hll_reason(status));
 
     FILE *target = fopen(argv[1], "wb");
-    if (target == NULL || fwrite(merged, 1, merged_size, target) != merged_size || fclose(target) != 0)
+    if (target == NULL || fwrite(sketch, 1, size, target) != size || fclose(target) != 0)
         end_with(argv[1], "can't be written");
     printf("%.0f distinct values; with 95%% certainty %.0f to %.0f\n", found.estimate, found.lower[1], found.upper[1]);
     return 0;
