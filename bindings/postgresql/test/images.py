@@ -33,9 +33,18 @@ def random_registers(numbers, lg_k, load):
     return bytes(value() for _ in range(2**lg_k))
 
 
+def with_words(image):
+    """The image as the extension writes it: registers whose words are 0 get the sums of 2^-v over their values v."""
+    if image[7] & 3 != 2 or any(image[8:32]) or not image[5] & 16:
+        return image
+    values = sketch_of(image).content.values
+    sums = [sum(2.0**-v for v in values if v < 32), sum(2.0**-v for v in values if v >= 32)]
+    return image[:8] + struct.pack("<3d", 0, *sums) + image[32:]
+
+
 def image_of_coupons(lg_k, width, coupons):
     """The image of coupons, in the stage that so many have."""
-    return written(Sketch(lg_k, width, content_of(lg_k, frozenset(coupons), LIST_SIZE)))
+    return with_words(written(Sketch(lg_k, width, content_of(lg_k, frozenset(coupons), LIST_SIZE))))
 
 
 def random_image(numbers, lg_k=None):

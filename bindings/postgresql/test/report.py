@@ -5,7 +5,7 @@ import os
 import subprocess
 import sys
 
-from images import built_program
+from images import built_program, with_words
 
 SEED = 9001
 REASONS = "truncated family version lgk width stage preamble lgarr count coupon register".split()
@@ -76,9 +76,9 @@ def program():
 
 
 def answer_of(plan):
-    """The image that the program prints for the lines of a plan."""
+    """The image that the program prints for the lines of a plan, with the words that it leaves."""
     done = subprocess.run([program()], input="\n".join(plan).encode(), stdout=subprocess.PIPE, check=True)
-    return bytes.fromhex(done.stdout.decode())
+    return with_words(bytes.fromhex(done.stdout.decode()))
 
 
 def union_of(images, lg_max_k, width):
