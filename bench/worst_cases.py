@@ -4,8 +4,7 @@
 The paths of a table are part of the format (docs/FORMAT.md, "Probing"), so whoever writes an image can choose coupons
 that all search the same places. Tables are filled to three quarters, the most that updates leave. Each row is a plan: one
 image, and lines behind it that search its table again. Printed are the seconds of processor time of both plans and their
-ratio; what the program prints is compared with the image that it has to be. The rows whose names end in `(largest)` take
-a minute or more each, and run with `--largest` alone.
+ratio; what the program prints is compared with the image that it has to be.
 
 A second table has the seconds and the least address space, the program itself included, of plans that make much of few
 bytes. Without the program's path it is built if need be.
@@ -14,6 +13,7 @@ import argparse
 import pathlib
 import random
 import statistics
+import struct
 import sys
 from dataclasses import dataclass
 from typing import Callable
@@ -24,7 +24,6 @@ from shared import (built_program, check_printed, coupon_line, image_line, image
 
 SEED = 9001
 SLOTS = 1 << 26
-LARGEST = " (largest)"
 # How many coupons have one start place and one stride: those of each value, and of two slots.
 KINDS = 126
 LINES = 4
@@ -57,10 +56,29 @@ def path_coupons(lg_size):
     return coupons
 
 
-def random_coupons(lg_size):
+def stride_coupons(lg_size):
+    """Coupons that fill all places of a table but one, on one path of each stride, in turn."""
+    strides = [2 * number + 1 for number in range(1 << (25 - lg_size))]
+    places = 1 << lg_size
+    coupons = []
+    for number in range(places - 1):
+        on_path, which = divmod(number, len(strides))
+        step, kind = divmod(on_path, KINDS)
+        high = strides[which] - kind % 2
+        coupons.append((kind // 2 + 1) * SLOTS + (high << lg_size) + step * strides[which] % places)
+    return coupons
+
+
+def unsorted_set(lg_size, coupons):
+    """The image of a set whose coupons stand in this order."""
+    words = struct.pack("<%dI" % (len(coupons) + 1), len(coupons), *coupons)
+    return bytes([3, 1, 7, lg_size + 3, lg_size, 8, 0, 9]) + words
+
+
+def random_coupons(lg_size, count=0):
     numbers = random.Random(SEED)
     coupons = set()
-    while len(coupons) < filled(lg_size):
+    while len(coupons) < (count or filled(lg_size)):
         coupons.add(numbers.randint(1, 63) * SLOTS + numbers.randrange(SLOTS))
     return list(coupons)
 
@@ -91,6 +109,12 @@ def set_plan(lg_size, is_path, more=""):
     coupons = path_coupons(lg_size) if is_path else random_coupons(lg_size)
     image = set_image(lg_size + 3, lg_size, coupons)
     return image_line(image) + more, image
+
+
+def strides_plan(lg_size, is_path):
+    """A set of all places but one, in an order of its own."""
+    coupons = stride_coupons(lg_size) if is_path else random_coupons(lg_size, (1 << lg_size) - 1)
+    return image_line(unsorted_set(lg_size, coupons)), set_image(lg_size + 3, lg_size, coupons)
 
 
 def folded_plan(lg_size, is_path):
@@ -136,6 +160,13 @@ def converted_plan(lg_k, is_path):
     return text, image_of(lg_k, 4, registers)
 
 
+def lowered_to(lg_k, is_path):
+    """Exceptions at lg_k 21, and a line that folds them to a smaller lg_k."""
+    text, _ = exceptions_plan(21, is_path)
+    slots = {slot % (1 << lg_k) for slot in slots_of(21, is_path)}
+    return text + "union 1 %d 8\n" % lg_k, image_of(lg_k, 8, registers_with(lg_k, slots, 40))
+
+
 def rising_plan(lg_k, is_path):
     """Registers of four bits, one each at the values from 0 on, and lines that raise the least of them."""
     slots = slots_of(lg_k, is_path)
@@ -154,19 +185,22 @@ def set_row(lg_size):
 
 
 def exceptions_row(lg_k):
-    return Row("exceptions at lg_k %d" % lg_k + LARGEST * (lg_k > 18), lambda is_path: exceptions_plan(lg_k, is_path))
+    return Row("exceptions at lg_k %d" % lg_k, lambda is_path: exceptions_plan(lg_k, is_path))
 
 
 ROWS = [
     *map(set_row, (9, 11, 13, 16, 17, 18)),
-    *map(exceptions_row, (12, 14, 16, 17, 18, 19)),
-    Row("exceptions at lg_k 17, the minimum too low", lambda is_path: lowered_plan(17, is_path)),
+    Row("a set of 2^18 places but one, each stride", lambda is_path: strides_plan(18, is_path)),
+    *map(exceptions_row, (12, 14, 16, 18, 20, 21)),
+    Row("exceptions at lg_k 21, the minimum too low", lambda is_path: lowered_plan(21, is_path)),
     Row("a set of 2^16 places, 4 lines `fold 19`", lambda is_path: set_plan(16, is_path, LINES * "fold 19\n")),
     Row("a set of 2^16 places, `fold 20`, `fold 19`", lambda is_path: folded_plan(16, is_path)),
     Row("a set of 2^16 places, 1,000 lines `coupon`", lambda is_path: held_plan(16, is_path)),
     Row("a set of 2^16 places twice, `union 2 19 8`", lambda is_path: joined_plan(16, is_path)),
-    Row("registers of lg_k 17, 4 lines `union 1 17 4`", lambda is_path: converted_plan(17, is_path)),
-    Row("exceptions at lg_k 17, 4 lines `coupon`", lambda is_path: rising_plan(17, is_path)),
+    Row("registers of lg_k 21, 4 lines `union 1 21 4`", lambda is_path: converted_plan(21, is_path)),
+    Row("exceptions at lg_k 21, 4 lines `coupon`", lambda is_path: rising_plan(21, is_path)),
+    Row("exceptions at lg_k 21, `union 1 4 8`", lambda is_path: lowered_to(4, is_path)),
+    Row("exceptions at lg_k 21, `union 1 12 8`", lambda is_path: lowered_to(12, is_path)),
 ]
 EMPTY_SET = image_line(set_image(21, 18, []))
 
@@ -226,7 +260,6 @@ def arguments():
     parser.add_argument("program", nargs="?", type=pathlib.Path, help="the program hll_merge")
     parser.add_argument("--only", default="", metavar="WORDS", help="the rows whose names have these words")
     parser.add_argument("--runs", type=int, default=1, help="how often each plan runs")
-    parser.add_argument("--largest", action="store_true", help="the rows that take a minute or more, too")
     return parser.parse_args()
 
 
@@ -236,7 +269,7 @@ def main():
     print(machine())
     print("%-48s %9s %9s %9s %8s" % ("plan", "bytes", "one path", "random", "ratio"))
     for row in ROWS:
-        if given.only in row.name and (given.largest or LARGEST not in row.name):
+        if given.only in row.name:
             measure(program, row, given.runs)
     print("\n%-48s %9s %9s %9s" % ("plan", "bytes", "seconds", "kilobytes"))
     for name, text in SPACES.items():

@@ -13,6 +13,9 @@
  */
 #define MOST_STEPS ((uint64) 1 << 29)
 
+/* So many of them, on the average, does each coupon of the slowest set take, and each exception a tenth. */
+#define MOST_EACH ((uint64) 1 << 11)
+
 /* The places of the largest table of a set, as a power of two. */
 #define LG_PLACES 18
 
@@ -82,14 +85,14 @@ places_of(const uint8 *image, size_t size)
 
 /*
  * How many steps it may take to read an image, beside its bytes. The table is made, and each search passes all that came
- * before it, where they share one path (docs/LIMITS.md).
+ * before it, where they share one path, until that has become dear (docs/LIMITS.md).
  */
 static uint64
 steps_of(const uint8 *image, size_t size)
 {
 	uint64		searched = searched_in(image, size);
 
-	return places_of(image, size) + searched * searched / 2;
+	return places_of(image, size) + searched * Min(searched / 2, MOST_EACH);
 }
 
 /* Makes room for so many bytes, and for one that waits. The room doubles, up to that of the image and a batch. */

@@ -9,33 +9,32 @@ import time
 from images import image_of
 from report import CANCELLED, CHECKED, check, equal, literal, load, refused
 from server import HERE, Session
-from worst_cases import SLOTS, path_coupons, path_slots, registers_with
+from worst_cases import SLOTS, path_coupons, path_slots, registers_with, stride_coupons, unsorted_set
 
-LG_K, COUNT = 16, 100
+LG_PLACES, COUNT = 17, 100
 SECONDS = 0.5           # until a query is stopped
 LATEST = 2              # seconds until it ends
 EMPTY_SET = bytes.fromhex("030107151208000900000000")
 
 
 def slow_image():
-    """Registers of four bits whose exceptions share one path, so that each passes all before it."""
-    return image_of(LG_K, 4, registers_with(LG_K, path_slots(LG_K), 40))
+    """A set whose coupons are all on one path of their stride: the slowest image for its bytes."""
+    return unsorted_set(LG_PLACES, stride_coupons(LG_PLACES))
 
 
-def set_on_one_path(lg_places, coupons):
-    """The image of a set whose coupons share one path. They don't ascend: such are read without a table."""
-    words = struct.pack("<%dI" % (len(coupons) + 1), len(coupons), *coupons)
-    return bytes([3, 1, 7, lg_places + 3, lg_places, 8, 0, 9]) + words
+def large_exceptions():
+    """The most registers of four bits, whose exceptions share one path: some megabytes."""
+    return image_of(21, 4, registers_with(21, path_slots(21), 40))
 
 
 def small_image(n):
-    return bytes([2, 1, 7, 12, 3, 8, 1, 8]) + struct.pack("<I", 2 * SLOTS + n)
+    return bytes([2, 1, 7, 12, 3, 8, 1, 8]) + struct.pack("<I", 50 * SLOTS + n)
 
 
 # The server itself looks for interrupts at each row that it reads. It doesn't where it hands over rows that it sorted for
 # an aggregate, nor while one call joins images that waited for each other.
 QUERIES = {
-    "rows that were sorted": "SELECT hll_image_union_agg(image ORDER BY image) FROM slow_images",
+    "rows that were sorted": "SELECT hll_image_union_agg(image ORDER BY n) FROM slow_images",
     "images that wait for others": """SELECT hll_image_union_agg(image, 21 ORDER BY n) FROM (TABLE large_image UNION ALL
         TABLE slow_images) x""",
     "few bytes": """SELECT hll_image_union_agg(image, 21 ORDER BY n) FROM (TABLE large_image UNION ALL
@@ -48,10 +47,10 @@ SORTS = """SELECT set_config(name, 'off', false) FROM pg_settings WHERE name = '
 
 def interrupts(server):
     """A query is stopped by a timeout, a cancel and a termination."""
-    slow = slow_image()
-    server.ask("CREATE TABLE large_image (n int, image bytea); CREATE TABLE slow_images (n int, image bytea)")
+    server.ask("CREATE TABLE large_image (n int, image bytea); CREATE TABLE slow_image (image bytea)")
+    server.ask("CREATE VIEW slow_images AS SELECT n, image FROM slow_image, generate_series(1, %d) n" % COUNT)
     load(server, "large_image", [(0, image_of(21, 8, bytes([1]) * 2**21))])
-    load(server, "slow_images", [(n, slow) for n in range(1, COUNT + 1)])
+    load(server, "slow_image", [(slow_image(),)])
     with Session(server) as session:
         session.ask(SORTS)
         _, took = timed(session, "SELECT hll_image_union_agg(image) FROM slow_images WHERE n <= 4;")
@@ -99,11 +98,11 @@ def stopped(name, said, took):
 def made_again(server):
     """A call that has to be made again, as its room was too small, isn't where the query was stopped meanwhile."""
     server.ask("CREATE TABLE many_exceptions (image bytea)")
-    load(server, "many_exceptions", [(slow_image(),)])
+    load(server, "many_exceptions", [(large_exceptions(),)])
     query = "SELECT length(hll_merge(image, image)) FROM many_exceptions;"
     with Session(server) as session:
         said, twice = timed(session, query)
-        check("an image for which the first room is too small", int(said) > 2**16 + 64, said)
+        check("an image for which the first room is too small", int(said) > 2**21 + 64, said)
         said, took = timed(session, "SET statement_timeout = 100; " + query)
         refused("a call that would be made again", said, CANCELLED)
         check("a call that isn't made again", took < 0.75 * twice, "%.2f s in place of %.2f s" % (took, twice))
@@ -114,7 +113,7 @@ def made_again(server):
 
 def windows(server):
     """As a window function the aggregate joins each image once, though it answers for each row."""
-    slow = slow_image()
+    slow = large_exceptions()
     rows = [(0, image_of(18, 8, bytes([1]) * 2**18)), (1, slow)] + [(n, small_image(20000 + n)) for n in range(2, 102)]
     server.ask("CREATE TABLE window_rows (n int, image bytea)")
     load(server, "window_rows", rows)
@@ -129,7 +128,7 @@ def windows(server):
 
 def behind_slow(server):
     """Small images behind slow ones wait for each other as ever."""
-    slow = slow_image()
+    slow = large_exceptions()
     server.ask("CREATE TABLE behind_slow (n int, image bytea)")
     load(server, "behind_slow", [(0, image_of(18, 8, bytes([1]) * 2**18))] + [(n, slow) for n in range(1, 5)])
     query = "SELECT md5(hll_image_union_agg(image, 18 ORDER BY n)) FROM (TABLE behind_slow %s) x;"
@@ -147,9 +146,9 @@ def strangers(server):
     """The domain of README.md takes no image that is slow to read, nor reads it to find that out."""
     domain, = re.findall(r"^CREATE DOMAIN stranger_image .*?;$", (HERE / "README.md").read_text(), re.S | re.M)
     server.ask(domain + "CREATE TABLE sent (name text, image bytea); CREATE TABLE taken_in (image stranger_image)")
-    small = set_on_one_path(11, path_coupons(11))
-    bad = {"the largest set": set_on_one_path(18, path_coupons(18)), "exceptions": four_bits(21), "too long": small + bytes(20000),
-           "lg_k 15": set_on_one_path(12, path_coupons(12)), "three bytes": small[:3], "none": b"", "cut": small[:-1],
+    small = unsorted_set(11, path_coupons(11))
+    bad = {"the largest set": unsorted_set(18, path_coupons(18)), "exceptions": four_bits(21), "too long": small + bytes(20000),
+           "lg_k 15": unsorted_set(12, path_coupons(12)), "three bytes": small[:3], "none": b"", "cut": small[:-1],
            "another family": bytes(8)}
     load(server, "sent", list(bad.items()))
     with Session(server) as session:

@@ -1,7 +1,7 @@
 # SPDX-License-Identifier: Apache-2.0
 """Signals that end the command.
 
-Python's own handlers run only between its instructions, and a call of the library can take minutes.
+Python's own handlers run only between its instructions, and a call of the library over many images can take minutes.
 So the command has none: the kernel ends it at once, wherever it is.
 """
 from __future__ import annotations

@@ -74,7 +74,7 @@ def is_small(
 ) -> bool:
     """Whether an image of a stranger's is quick to read.
 
-    An image can be made to hold its reader for minutes. Its ``lg_k`` and its size bound that, and
+    An image can be made to hold its reader for a second and more. Its ``lg_k`` and its size bound that, and
     are told without reading it; those that are the defaults mean milliseconds, and leave room for
     the images of honest programs with an ``lg_k`` of 12.
 

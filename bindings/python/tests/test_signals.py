@@ -14,8 +14,7 @@ from unittest import mock
 import common
 from command import COMMAND, CommandTest, environment, interruptible
 from hll_sketches import Sketch, files, merging
-from shared import image_of
-from worst_cases import path_slots, registers_with
+from worst_cases import stride_coupons, unsorted_set
 
 TICK = 1 / os.sysconf("SC_CLK_TCK")
 BEFORE, AFTER = b"as it was", Sketch(12).to_bytes()
@@ -46,8 +45,8 @@ os.{step} = called
 
 
 def hostile_image():
-    """Registers of four bits whose exceptions are all on one path: half a minute of work for a call."""
-    return image_of(19, 4, registers_with(19, path_slots(19), 40))
+    """A set whose coupons are all on one path of their stride: half a second of work for a call that reads it."""
+    return unsorted_set(18, stride_coupons(18))
 
 
 def children_of(process):
@@ -111,7 +110,7 @@ class LongCallTest(CommandTest):
         self.write("hostile.hll", hostile_image())
         self.write("one.hll", BEFORE)
         self.write("small.hll", AFTER)
-        group = ["hostile.hll"] + ["small.hll"] * (merging.GROUP - 1)
+        group = ["hostile.hll"] * merging.GROUP
         self.write("names", "".join(f"{name}\n" for name in 4 * group).encode())
         self.before = self.listed()
 
@@ -138,9 +137,9 @@ class LongCallTest(CommandTest):
         self.assertEqual((self.read("one.hll"), self.listed()), (BEFORE, self.before))
 
     def test_one_process(self):
+        hostile = 16 * ["hostile.hll"]
         for words in (
-            ("info", "hostile.hll"), ("check", "hostile.hll"),
-            ("merge", "hostile.hll", "-o", "one.hll"),
+            ("info", "hostile.hll"), ("check", *hostile), ("merge", *hostile, "-o", "one.hll"),
         ):
             for number in (signal.SIGINT, signal.SIGTERM):
                 with self.subTest(words=words, signal=number):

@@ -14,7 +14,7 @@ ghost use Rattle.hll_coupons.specs.Table.{coupons_in, coupons_of, IsTable};
 
 use crate::container::{Container, ContainerIter};
 use crate::coupon::Coupon;
-use crate::filling::{put_absent, put_all};
+use crate::filling::{put_all, put_one};
 use crate::long_searches::LongSearches;
 use crate::search::{Key, SHORT_BY_SLOT, put_entry, search, search_within};
 use hll_base::error::Error;
@@ -237,7 +237,7 @@ impl<A: Allocator + Clone> AuxMap<A> {
             put_growing(&mut self.table, entry)?;
             searches.forget();
         } else {
-            put_absent(&mut self.table, searches, Key::Slot, entry)?;
+            put_one(&mut self.table, searches, Key::Slot, entry)?;
         }
         Ok(())
     }

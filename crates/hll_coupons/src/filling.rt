@@ -1,5 +1,5 @@
 //! Tables that are filled with distinct keys, at the places that probing one by one gives.
-ghost use Rattle.std.specs.Prelude.{◌≡◌, ◌^◌, ◌<◌, ◌≤◌, All, length, map, OnOk, OnErr, IfErr};
+ghost use Rattle.std.specs.Prelude.{◌≡◌, ◌^◌, ◌<◌, ◌≤◌, false, All, length, map, OnOk, OnErr, IfErr};
 ghost use Rattle.std.specs.Bool.{OnTrue};
 ghost use Rattle.std.specs.FinSet.{len};
 ghost use Rattle.hll_base.specs.declared.error.Reason.TheVariants.{Memory};
@@ -19,7 +19,7 @@ use std::alloc::Allocator;
 /// Puts an entry into the empty place where the search for its key ends.
 ///
 /// Its value is at least 1, its key is absent, and a place is empty. Fails with `Memory`, and then changes no place.
-pub(crate) fn put_absent<A: Allocator + Clone>(
+fn put_absent<A: Allocator + Clone>(
     table: &mut Container<A>,
     searches: &mut LongSearches<A>,
     by: Key,
@@ -42,6 +42,31 @@ pub(crate) fn put_absent<A: Allocator + Clone>(
     Ok(())
 }
 
+/// The same, by a short search where that is enough and there are no cycles yet.
+#[inline(always)]
+pub(crate) fn put_one<A: Allocator + Clone>(
+    table: &mut Container<A>,
+    searches: &mut LongSearches<A>,
+    by: Key,
+    entry: Coupon,
+) -> Result<(), Error>
+    requires valued { 1 ≤ value_of entry }
+    requires absent { IsAbsent (key_of by) table.old.places (key_of by entry) }
+    requires room { length (coupons_in table.old.places) < 2 ^ table.old.lg_size }
+    requires cycles { AreFor table.old.lg_size table.old.places searches.old }
+    ensures size { OnOk result (table.new.lg_size ≡ table.old.lg_size) }
+    ensures places { OnOk result (Puts (key_of by) table.old.lg_size table.old.places entry table.new.places) }
+    ensures table { OnOk result (IsTable table.new) }
+    ensures cycles { AreFor table.new.lg_size table.new.places searches.new }
+    ensures unchanged { OnErr result (table.new ≡ table.old) }
+    ensures err { IfErr result (λ e. e ≡ Memory) }
+{
+    if searches.are_none() && put_shortly(table, by, entry) {
+        return Ok(());
+    }
+    put_absent(table, searches, by, entry)
+}
+
 /// Puts an entry into the empty place where a short search for its key ends. Says whether that wasn't cut off.
 ///
 /// Its value is at least 1, and its key is absent.
@@ -51,6 +76,7 @@ fn put_shortly<A: Allocator>(table: &mut Container<A>, by: Key, entry: Coupon) -
     ensures size { table.new.lg_size ≡ table.old.lg_size }
     ensures places { OnTrue result (Puts (key_of by) table.old.lg_size table.old.places entry table.new.places) }
     ensures table { IsTable table.new }
+    ensures unchanged { result ≡ false → table.new ≡ table.old }
 {
     let places = table.places();
     let limit = SHORT.min(places.len());

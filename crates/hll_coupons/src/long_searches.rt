@@ -34,6 +34,13 @@ impl<A: Allocator> LongSearches<A> {
         }
     }
 
+    /// Whether there are no cycles.
+    pub(crate) fn are_none(&self) -> bool
+        ensures { IsTrue result → (lg : ℕ) (places : List ℕ) → AreFor lg places self.now }
+    {
+        self.cycles.is_empty()
+    }
+
     /// Forgets all cycles, as of a table that is no more.
     pub(crate) fn forget(&mut self)
         ensures { (lg : ℕ) (places : List ℕ) → AreFor lg places self.new }

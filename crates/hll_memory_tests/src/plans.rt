@@ -136,7 +136,7 @@ const PLANS: [(&str, [u64; 4]); 7] = [
     ),
     (
         "new 4 4\ncoupon 0 20\ncoupon 1 16\ncoupon 2 1\ncoupon 3 1\ncoupon 4 1\ncoupon 5 1\ncoupon 6 1\ncoupon 7 1\n",
-        [6, 8, 0, 6],
+        [7, 9, 0, 7],
     ),
     // the eighth coupon makes a set
     (

@@ -19,6 +19,7 @@ use crate::stage::stage;
 use hll_arrays::array4::Array4;
 use hll_arrays::array6::Array6;
 use hll_arrays::array8::Array8;
+use hll_arrays::convert::convert;
 use hll_arrays::register_store::RegisterStore;
 use hll_base::error::Error;
 use hll_base::hll_type::HllType;
@@ -93,10 +94,28 @@ pub(crate) fn mode_of_table<A: Allocator + Clone>(
 {
     let alloc = table.allocator().clone()?;
     match hll_type {
-        HllType::Hll4 => Ok(Mode::Array4(registers_of_table(alloc, lg_k, table, more)?)),
+        HllType::Hll4 => Ok(Mode::Array4(four_bits_of_table(alloc, lg_k, table, more)?)),
         HllType::Hll6 => Ok(Mode::Array6(registers_of_table(alloc, lg_k, table, more)?)),
         HllType::Hll8 => Ok(Mode::Array8(registers_of_table(alloc, lg_k, table, more)?)),
     }
+}
+
+/// The registers of four bits of the coupons of a table, and of one more where there is one, with the cleared state: by those
+/// of eight bits, so that all exceptions are put at once.
+///
+/// Fails with `Memory`.
+fn four_bits_of_table<A: Allocator + Clone>(
+    alloc: A,
+    lg_k: u8,
+    table: &Container<A>,
+    more: Option<Coupon>,
+) -> Result<Array4<A>, Error>
+    requires { IsLgK lg_k }
+    ensures ok { IfOk result (λ a. a.stored ≡ record { lg_k = lg_k; registers = fold_to (with_more (coupons_of table.now) more) lg_k; state = cleared_state }) }
+    ensures err { IfErr result (λ e. e ≡ Memory) }
+{
+    let wide: Array8<A> = registers_of_table(alloc, lg_k, table, more)?;
+    convert(&wide)
 }
 
 /// The registers of the coupons of a table, and of one more where there is one, with the cleared state.

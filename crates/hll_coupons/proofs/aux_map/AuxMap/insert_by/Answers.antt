@@ -8,14 +8,14 @@ use Rattle.hll_coupons.proofs.MapChanges.{IsWord, word_of, absent_word, IsInsert
 use Rattle.hll_coupons.proofs.Maps.{room_in_map, small_table}
 use Rattle.hll_coupons.proofs.aux_map.AuxMap.insert_by.Given.{Over}
 use Rattle.hll_coupons.proofs.aux_map.AuxMap.insert_by.Goals as goal
-use Rattle.hll_coupons.proofs.aux_map.AuxMap.insert_by.Goals.{else-capacity-len+in_ok-put_absent, then-capacity-len+in_ok-put_growing}
+use Rattle.hll_coupons.proofs.aux_map.AuxMap.insert_by.Goals.{else-capacity-len+in_ok-put_one, then-capacity-len+in_ok-put_growing}
 
 -- the word, of the map as it was
 word : (m now : ExceptionMap) (slot value w : ℕ) → m ≡ now → IsMap m → slot < 2 ^ now.lg_k → w ≡ pair (slot_of slot) value → IsWord slot value w
 word m now slot value w same is within e = word_of m.lg_k slot value w is.high (subst (λ (n : ExceptionMap). slot < 2 ^ n.lg_k) (sym same) within) e
 
-pub put_absent-requires-clause-absent : goal.put_absent-requires-clause-absent
-put_absent-requires-clause-absent g c =
+pub put_one-requires-clause-absent : goal.put_one-requires-clause-absent
+put_one-requires-clause-absent g c =
     absent_word _ _ c.args.slot c.args.value _ c.self.view_is c.self.invariant (word _ _ c.args.slot c.args.value _ c.self.view_is c.self.invariant c.requires.within c.pack-entry.ensures) c.requires.absent
 
 pub put_growing-requires-clause-absent : goal.put_growing-requires-clause-absent
@@ -34,7 +34,7 @@ invariant_of-self-in-Continue-branch-2 g c =
     (inserted_fits _ c.self.invariant c.args.slot c.args.value c.pack-entry.result is c.requires.least
     (subst (λ (n : ExceptionMap). c.args.slot < 2 ^ n.lg_k) (sym c.self.view_is) c.requires.within)
     (absent_word _ _ c.args.slot c.args.value _ c.self.view_is c.self.invariant is c.requires.absent)
-    c.put_absent.new.table c.in_ok-put_absent.ensures.table c.in_ok-put_absent.ensures.size c.in_ok-put_absent.ensures.places (omega (arith, c.if-capacity-len.false, c.len.ensures.count, c.capacity.ensures))).map
+    c.put_one.new.table c.in_ok-put_one.ensures.table c.in_ok-put_one.ensures.size c.in_ok-put_one.ensures.places (omega (arith, c.if-capacity-len.false, c.len.ensures.count, c.capacity.ensures))).map
 
 pub invariant_of-self-then-capacity-len : goal.invariant_of-self-then-capacity-len
 invariant_of-self-then-capacity-len g c =
@@ -53,10 +53,10 @@ inserted g c =
     let within = subst (λ (n : ExceptionMap). c.args.slot < 2 ^ n.lg_k) (sym c.self.view_is) c.requires.within in
     let none = absent_word _ _ c.args.slot c.args.value _ c.self.view_is c.self.invariant is c.requires.absent in
     elim c.if-capacity-len.branch [
-      | else-capacity-len+in_ok-put_absent w ↦
+      | else-capacity-len+in_ok-put_one w ↦
           subst (IsInserted m c.pack-entry.result) (sym w.self-is)
           (inserted_fits m c.self.invariant c.args.slot c.args.value c.pack-entry.result is c.requires.least within none
-          w.put_absent.new.table w.in_ok-put_absent.ensures.table w.in_ok-put_absent.ensures.size w.in_ok-put_absent.ensures.places (omega (arith, w.if-capacity-len.false, c.len.ensures.count, c.capacity.ensures)))
+          w.put_one.new.table w.in_ok-put_one.ensures.table w.in_ok-put_one.ensures.size w.in_ok-put_one.ensures.places (omega (arith, w.if-capacity-len.false, c.len.ensures.count, c.capacity.ensures)))
       | then-capacity-len+in_ok-put_growing w ↦
           let grown = w.in_ok-put_growing.ensures in
           subst (IsInserted m c.pack-entry.result) (sym w.self-is)
@@ -86,9 +86,9 @@ returns-clause-map g c = (inserted g c).map
 
 pub returns-clause-cycles : goal.returns-clause-cycles
 returns-clause-cycles g c = elim c.if-capacity-len.branch [
-  | else-capacity-len+in_ok-put_absent w ↦
+  | else-capacity-len+in_ok-put_one w ↦
       subst (λ (m : ExceptionMap). AreFor m.table.lg_size m.table.places c.if-capacity-len.searches) (sym w.self-is)
-      (subst (λ s. AreFor w.put_absent.new.table.lg_size w.put_absent.new.table.places s) (sym w.searches-is) w.put_absent.ensures.cycles)
+      (subst (λ s. AreFor w.put_one.new.table.lg_size w.put_one.new.table.places s) (sym w.searches-is) w.put_one.ensures.cycles)
   | then-capacity-len+in_ok-put_growing w ↦
       subst (λ s. AreFor c.if-capacity-len.self.table.lg_size c.if-capacity-len.self.table.places s) (sym w.searches-is)
       (w.forget.ensures c.if-capacity-len.self.table.lg_size c.if-capacity-len.self.table.places)
