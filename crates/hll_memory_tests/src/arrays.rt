@@ -296,7 +296,10 @@ impl<'h> Trial for ArrayTrial<'h> {
             ArrayCall::Deserialize4OnAPath => {
                 let payload = path_payload(heap)?;
                 let (bytes, compact) = (SketchSlice::new(&payload), AuxFormat::Compact);
-                shown(heap, Array4::deserialize(heap, bytes, 0, 11, compact, false))
+                shown(
+                    heap,
+                    Array4::deserialize(heap, bytes, 0, 11, compact, false),
+                )
             }
             ArrayCall::Deserialize6 => {
                 shown(heap, Array6::deserialize_registers(heap, zeros, 4, false))

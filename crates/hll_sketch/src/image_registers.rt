@@ -118,10 +118,7 @@ fn registers_behind<A: Allocator + Clone>(
 }
 
 /// The values of registers.
-fn values_of<R: Registers, A: Allocator>(
-    alloc: A,
-    source: &R,
-) -> Result<ImageRegisters<A>, Error>
+fn values_of<R: Registers, A: Allocator>(alloc: A, source: &R) -> Result<ImageRegisters<A>, Error>
     ensures ok { IfOk result (λ r. (r.lg_k ≡ (R.stored source.now).lg_k) × (r.values.items ≡ fold_to (pairs (R.stored source.now).registers) r.lg_k)) }
     ensures legal { IfOk result (λ r. IsLgK r.lg_k) }
     ensures err { IfErr result (λ e. e ≡ Memory) }

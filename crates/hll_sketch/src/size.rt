@@ -18,6 +18,7 @@ const PREAMBLE_SIZE: usize = 40;
 
 /// Where the count of a set stands, and that of exceptions.
 const SET_COUNT_AT: usize = 8;
+
 const EXCEPTION_COUNT_AT: usize = 36;
 
 /// How many of the bytes are the image that they begin with. Looks at its header and counts alone.

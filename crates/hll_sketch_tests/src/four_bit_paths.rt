@@ -21,7 +21,11 @@ fn on_a_path(alloc: Global, lg_k: u8, reversed: bool) -> Result<Vec<Coupon>, All
     let mut coupons = Vec::new(alloc);
     for index in 0..count {
         let number = if reversed { count - 1 - index } else { index };
-        let value = if number == 0 { 15 } else { 20 + (number % 40) as u8 };
+        let value = if number == 0 {
+            15
+        } else {
+            20 + (number % 40) as u8
+        };
         coupons.push(Coupon::pack(number / 2 + number % 2 * half, value))?;
     }
     Ok(coupons)
