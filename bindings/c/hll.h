@@ -20,7 +20,7 @@
  * An image is grown where its list or set has the table that its coupons need (a list up to seven, a set the least
  * table that they fill to at most three quarters), or where its registers have the out-of-order flag and words that
  * follow from them: those that calls set here, or 0. New images are grown, and what calls make of grown images is too.
- * Images of other programs often aren't.
+ * Images of other programs often aren't. (docs/MODEL.md calls registers grown only where their words are 0.)
  *
  * Answers
  *     HLL_OK (0) where the call did what was asked. On every other status the output is as it was: the buffer, *info,
@@ -54,9 +54,10 @@
  * two sizes.
  *
  * Registers are written with the words from which other DataSketches libraries estimate, and the out-of-order flag, where
- * a call has changed or united them, or their words were 0. The words follow from the registers, so the same registers
- * have the same bytes. Other words, which an image brings and a call keeps (of hll_image_convert, or of the union of one
- * image), stay as they are. hll_image_clear_estimator_words gives words of 0, as the program hll_merge writes them; from
+ * a call has changed a register, or they had words of 0 with the flag. These words follow from the registers, so the same
+ * registers have the same bytes. Other words that an image brings stay where no register changes: at another width, in a
+ * fold to its own lg_k, in a union of it alone or with empty ones, and where no added value is new.
+ * hll_image_clear_estimator_words gives words of 0, as the program hll_merge writes them; from
  * those the formula of other libraries, a division by kxq0 + kxq1, gives infinity.
  *
  * What the caller owes, which no call can test

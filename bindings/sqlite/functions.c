@@ -154,7 +154,7 @@ static hll_status write_merged(void *given, Output *out)
 /* The union, with the greater width of both, and the greater lg_k or the one that is given. */
 static void merge(sqlite3_context *context, int n, sqlite3_value **values)
 {
-    Call call;
+    Call call = {.failed = 0};
     Output out;
     hll_status status;
 
@@ -173,7 +173,7 @@ static void merge(sqlite3_context *context, int n, sqlite3_value **values)
 
 static void agree(sqlite3_context *context, int n, sqlite3_value **values)
 {
-    Call call;
+    Call call = {.failed = 0};
     uint8_t same;
     hll_status status;
 

@@ -112,14 +112,18 @@ static hll_status join(Group *group, hll_bytes image)
     return hll_registers_join(group->registers, group->count, image.bytes, image.len, &lg_k);
 }
 
-/* Keeps the registers of the image of all so far. */
+/* Keeps the registers of the image of all so far, and no room for what waits. */
 static hll_status keep_registers(Group *group, hll_bytes image)
 {
+    static const Batch none;
+
     group->count = (size_t)1 << image.bytes[3];
     group->registers = sqlite3_malloc64(group->count);
     if (group->registers == NULL)
         return HLL_MEMORY;
     memset(group->registers, 0, group->count);
+    free_batch(&group->batch);
+    group->batch = none;
     return join(group, image);
 }
 
@@ -186,7 +190,10 @@ hll_status take_image(Group *group, hll_bytes image)
     if (group->registers != NULL)
         return join(group, image);
     status = append(&group->batch, image, group->rows);
-    return status == HLL_OK && is_in_registers(image) ? settle_images(group) : status;
+    if (status != HLL_OK || !is_in_registers(image))
+        return status;
+    /* Behind a union it waits for a full batch: were its registers all 0, that would be read again for each such image. */
+    return union_size(&group->batch) == 0 ? settle_images(group) : HLL_OK;
 }
 
 hll_status finish_images(Group *group, Output *out)
@@ -232,7 +239,12 @@ static hll_status settle_values(Group *group)
     clear(&group->batch);
     sqlite3_free(group->image.bytes);
     group->image = out;
-    return is_in_registers(bytes_of(&out)) ? keep_registers(group, bytes_of(&out)) : HLL_OK;
+    if (!is_in_registers(bytes_of(&out)))
+        return HLL_OK;
+    status = keep_registers(group, bytes_of(&out));
+    sqlite3_free(group->image.bytes);
+    group->image = (Output){NULL, 0, 0};
+    return status;
 }
 
 hll_status take_value(Group *group, hll_bytes value)

@@ -93,6 +93,10 @@ _SIGNS = bytes(128) + b"\xff" * 128
 """For the highest byte of a number, those above it in eight bytes."""
 
 
+_TRUTHS = b"\0" + b"\1" * 255
+"""For the byte of a boolean, 0 or 1."""
+
+
 def _is_little(view: memoryview) -> bool:
     """Whether the lowest byte of a number is the first one."""
     order = view.format[:1]
@@ -112,7 +116,7 @@ def _in_eight(data: bytes, width: int, is_little: bool, is_signed: bool) -> byte
 
 
 def _integers(view: memoryview, is_signed: bool) -> Part:
-    """Integers, or booleans as 0 and 1."""
+    """Integers."""
     width, is_little = view.itemsize, _is_little(view)
     if width == 8 and is_little:
         return _bytes_of(view)
@@ -140,7 +144,9 @@ def _numbers(source: Any, view: memoryview) -> Optional[Part]:
     code = view.format.lstrip("@=<>!")
     if code in ("b", "h", "i", "l", "q", "n"):
         return _integers(view, True)
-    if code in ("?", "B", "H", "I", "L", "Q", "N"):
+    if code == "?":
+        return lambda at, stop: _in_eight(view[at:stop].tobytes().translate(_TRUTHS), 1, True, False)
+    if code in ("B", "H", "I", "L", "Q", "N"):
         return _integers(view, False)
     return _floats(source, view) if code in ("e", "f", "d") else None
 
@@ -181,7 +187,7 @@ def column_of(values: Any) -> Optional[Column]:
         raise TypeError(f"many values, not {table if view.ndim else 'one'}")
     if re.fullmatch(r"\d*x", view.format) and view.itemsize:
         return Column(len(view), view.itemsize, _bytes_of(view))
-    if re.fullmatch(r"\d*s", view.format) and view.itemsize and hasattr(values, "tolist"):
+    if re.fullmatch(r"\d*s", view.format) and view.itemsize and hasattr(values, "astype"):
         stripped = _lists_of(values)
         return Column(len(view), view.itemsize, _bytes_of(view), stripped)
     part = _numbers(values, view)
@@ -194,8 +200,11 @@ def _lists_of(values: Any) -> Callable[[int, int], List[Any]]:
 
 
 def singly(values: Any) -> Iterable[Any]:
-    """Values as objects of Python, those of an array of NumPy a batch at a time."""
-    if not hasattr(values, "dtype") or not hasattr(values, "tolist") or hasattr(values, "iloc"):
+    """Values as objects of Python, those of an array of NumPy a batch at a time; dates one by one,
+    as lists would make numbers of some."""
+    is_of_dates = getattr(getattr(values, "dtype", None), "kind", "") in ("M", "m")
+    is_array = hasattr(values, "dtype") and hasattr(values, "tolist")
+    if is_of_dates or not is_array or hasattr(values, "iloc"):
         return values       # type: ignore[no-any-return]
     lists, step = _lists_of(values), 1 << 12
     return chain.from_iterable(lists(at, at + step) for at in range(0, len(values), step))
@@ -208,7 +217,7 @@ def single_of(value: Any) -> Union[float, int, bytes, None]:
         return None
     if view.format == "?":
         return int(bool(value))
-    if view.format in ("e", "f"):
+    if view.format in ("e", "f", "d"):
         return float(value)
     return view.tobytes() if re.fullmatch(r"\d*x", view.format) else None
 

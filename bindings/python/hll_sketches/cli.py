@@ -71,7 +71,7 @@ def _with_output(parser: argparse.ArgumentParser, **more: Any) -> None:
 
 
 def _with_plain(parser: argparse.ArgumentParser) -> None:
-    help_ = "leave the words from which other libraries estimate at zero, as hll_merge does"
+    help_ = "set the words from which other libraries estimate to zero, as hll_merge does"
     parser.add_argument("--plain", action="store_true", help=help_)
 
 

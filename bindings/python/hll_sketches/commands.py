@@ -73,8 +73,13 @@ def each(names: List[str], call: Callable[[str], None]) -> int:
 
 
 def finished(image: bytes, plain: bool) -> bytes:
-    """The image as it is written: with words of zero, if it is to be plain."""
-    return _library.clear_estimator_words(image) if plain else image
+    """The image as it is written: other libraries can estimate from it, unless it is to be plain.
+
+    Words that another library put there are kept.
+    """
+    if plain:
+        return _library.clear_estimator_words(image)
+    return _library.set_estimator_words(image) if words_of(image) == "zero" else image
 
 
 def put(options: Namespace, image: bytes, **more: object) -> int:

@@ -264,8 +264,8 @@ class Sketch:
         data : bytes, or what shows bytes
             All of them, without a gap. Bytes behind the last end are not looked at.
         ends : iterable of int, or integers in memory
-            The end of each; the first one begins at 0. (Offsets of Arrow begin with that 0: leave
-            it out.)
+            The end of each; the first one begins at 0. (Offsets of Arrow begin with that 0, unless
+            the array is a slice: leave it out.)
 
         Raises
         ------

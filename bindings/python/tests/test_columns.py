@@ -305,7 +305,8 @@ class NumPyTest(ColumnTest):
 
     def test_refused(self):
         """Whole arrays that are refused as their values are; tables, one value, masked values."""
-        for values in (numpy.array([1j]), numpy.array(["2026-11-26"], "M8[D]"), numpy.zeros(3, "g"),
+        dates = [numpy.array([1], kind) for kind in ("M8[ns]", "M8[D]", "m8[ns]", "m8")]
+        for values in (*dates, numpy.array([1j]), numpy.zeros(3, "g"),
                        numpy.zeros(3, "i4,f8"), numpy.zeros((2, 2)), numpy.array(5), numpy.int64(5),
                        numpy.ma.array([1, 2, 3], mask=[0, 1, 0])):
             for call in (Sketch().update_many, Registers().update_many, coupons):
