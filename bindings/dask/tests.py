@@ -19,7 +19,7 @@ from distributed import Client, LocalCluster
 
 from hll_sketches import ArgumentError, Sketch
 from hll_sketches.dask import PlacedImageError, union_by_key, union_of_bag, union_of_files
-from images import built_program, random_image
+from images import built_program, random_image, with_words
 from report import check, counts, equal
 from slow import SlowPath, opened
 
@@ -51,10 +51,10 @@ def program():
 
 
 def union_by_program(images, lg_max_k=12, width=8):
-    """The image of a union, as the program prints it."""
+    """The image of a union, as the program prints it, with the words that it leaves."""
     plan = ["image " + image.hex() for image in images] + ["union %d %d %d" % (len(images), lg_max_k, width)]
     done = subprocess.run([program()], input="\n".join(plan).encode(), stdout=subprocess.PIPE, check=True)
-    return bytes.fromhex(done.stdout.decode())
+    return with_words(bytes.fromhex(done.stdout.decode()))
 
 
 def image_by(lazy):
