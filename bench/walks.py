@@ -12,6 +12,7 @@ import sys
 sys.dont_write_bytecode = True
 from plain_plans import ROWS, WIDTHS, Coupons, Registers, Sketch, answer_of, greatest, rows_in, written
 from plain_reader import Refused, read
+from worst_cases import path_coupons, path_slots, registers_with, unsorted_set
 
 MARK = "// ==== Walks ====\n\n"
 WORDS = struct.pack("<QQQ", 1, 2, 3)
@@ -353,11 +354,38 @@ def walk_stages(rows):
         rows.image(image, "coupon 3 40")
 
 
+def walk_paths(rows):
+    rows.note("== Coupons and exceptions whose searches all go one way ==")
+    for lg_size in (5, 6, 7):
+        lg_k, words = lg_size + 3, path_coupons(lg_size)
+        image, half = unsorted_set(lg_size, words), unsorted_set(lg_size, words[::-2])
+        rows.note(f"a set of 2^{lg_size} places, in the order of the path")
+        rows.image(image)
+        rows.image(unsorted_set(lg_size, words[::-1]))
+        rows.image(unsorted_set(lg_size, words[:-1] + words[:1]))
+        for line in (f"fold {lg_k - 1}", "fold 4", "coupon 67108863 1", f"coupon {words[7] % 2**26} {words[7] >> 26}"):
+            rows.image(image, line)
+        rows.image(image, f"image {half.hex()}", f"union 2 {lg_k} 8")
+        rows.image(half, f"image {image.hex()}", f"union 2 {lg_k - 1} 4")
+    for lg_k in (6, 7, 8):
+        registers = registers_with(lg_k, path_slots(lg_k), 20, 1)
+        registers[-1] = 0
+        image, front = sketch_with(lg_k, 4, registers), 40 + 2 ** (lg_k - 1)
+        entries = [image[at : at + 4] for at in range(front, len(image), 4)]
+        rows.note(f"exceptions in a table of 2^{lg_k - 1} places, in both orders")
+        for order in (entries, entries[::-1]):
+            data = image[:front] + b"".join(order)
+            rows.image(data)
+            for line in (f"coupon {2**lg_k - 1} 5", f"coupon {2**lg_k - 1} 40", f"union 1 {lg_k} 8", f"union 1 {lg_k - 2} 4", "fold 4"):
+                rows.image(data, line)
+        rows.image(image[:front] + b"".join(entries[:-1] + entries[:1]))
+
+
 def main():
     own, _, standing = ROWS.read_text().partition(MARK)
     rows = Rows({plan for plan, _ in rows_in(own.encode())})
     for walk in (walk_four_bits, walk_changes, walk_headers, walk_groups, walk_values, walk_minimums, walk_updates,
-                 walk_merges, walk_places, walk_stages):  # fmt: skip
+                 walk_merges, walk_places, walk_stages, walk_paths):  # fmt: skip
         walk(rows)
     walks = "\n".join(rows.lines).rstrip("\n") + "\n"
     if sys.argv[1:] != ["--check"]:
