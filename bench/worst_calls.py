@@ -1,0 +1,119 @@
+#!/usr/bin/env python3
+# SPDX-License-Identifier: Apache-2.0
+"""Measures calls of C, Python and PostgreSQL over the images of bench/worst_cases.py that take longest.
+
+Prints the seconds of each call, over coupons or exceptions on one path and over random ones, for docs/LIMITS.md. Each answer
+is compared with that of the same call over the same image in the order in which it is written.
+Needs bindings/c built; without a PostgreSQL server its rows are left out.
+"""
+import argparse
+import pathlib
+import statistics
+import sys
+import time
+
+sys.dont_write_bytecode = True
+ROOT = pathlib.Path(__file__).resolve().parent.parent
+sys.path[:0] = [str(ROOT / "bindings" / "python"), str(ROOT / "bindings" / "postgresql" / "test")]
+from shared import image_line, machine  # noqa: E402
+from worst_cases import exceptions_plan, set_plan, strides_plan  # noqa: E402
+
+PLANS = {"a set of 2^18 places": lambda is_path: set_plan(18, is_path),
+         "a set of 2^18 places but one, each stride": lambda is_path: strides_plan(18, is_path),
+         "exceptions at `lg_k` 21": lambda is_path: exceptions_plan(21, is_path)}
+
+
+def given_and_canonical(plan, is_path):
+    """The image that a plan gives, and the one that it prints."""
+    text, canonical = plan(is_path)
+    prefix = len(image_line(b"")) - 1
+    return bytes.fromhex(text[prefix:].strip()), canonical
+
+
+# ---- contestants: what each call answers, beside what it has to
+
+
+def calls_of_c(image, canonical):
+    from hll_sketches import _library as library
+    yield "C, hll_image_check", lambda: library.check(image), library.OK
+    yield "C, hll_image_fold to lg_k 4", lambda: library.fold(image, 4), library.fold(canonical, 4)
+
+
+def calls_of_python(image, canonical):
+    from hll_sketches import Sketch, check, union_of
+    yield "Python, check", lambda: check(image), None
+    yield "Python, Sketch and its estimate", lambda: Sketch.from_bytes(image).estimate(), \
+        Sketch.from_bytes(canonical).estimate()
+    width = Sketch.from_bytes(canonical).width
+    yield "Python, union_of twice the image", lambda: union_of([image, image], 21, width).to_bytes(), \
+        union_of([canonical, canonical], 21, width).to_bytes()
+
+
+QUERIES = {"hll_check": "hll_check(image) IS NULL", "hll_estimate": "hll_estimate(image)",
+           "hll_fold to lg_k 4": "md5(hll_fold(image, 4))", "hll_image_union_agg": "md5(hll_image_union_agg(image))"}
+
+
+def calls_of_postgresql(server, session, image, canonical):
+    session.ask("TRUNCATE images;")
+    path = server.file("image")
+    for name, data in (("given", image), ("canonical", canonical)):
+        path.write_bytes(data)
+        session.ask("INSERT INTO images VALUES ('%s', pg_read_binary_file('%s'));" % (name, path))
+    for call, expression in QUERIES.items():
+        query = "SELECT %s FROM images WHERE name = '%%s';" % expression
+        wanted = session.ask(query % "canonical")
+        if "ERROR" in wanted:
+            raise SystemExit(wanted)
+        yield "PostgreSQL, " + call, lambda query=query: session.ask(query % "given"), wanted
+
+
+# ---- rows
+
+
+def seconds(call, wanted, runs):
+    times = []
+    for _ in range(runs):
+        start = time.perf_counter()
+        answer = call()
+        times.append(time.perf_counter() - start)
+        if answer != wanted:
+            raise SystemExit("a call answers otherwise than over the image in its own order")
+    return statistics.median(times)
+
+
+def measure(name, plan, calls_of, runs):
+    """A row for each call: its seconds on one path and on random ones."""
+    rows = {}
+    for is_path in (True, False):
+        for call_name, call, wanted in calls_of(*given_and_canonical(plan, is_path)):
+            rows.setdefault(call_name, []).append(seconds(call, wanted, runs))
+    for call_name, (path, usual) in rows.items():
+        print("| %s | %s | %.3f | %.3f | %.1f |" % (name, call_name, path, usual, path / usual), flush=True)
+
+
+def measure_postgresql(runs):
+    from server import Refused, Server, Session
+    try:
+        with Server() as server, Session(server) as session:
+            session.ask("CREATE EXTENSION hll_sketches; CREATE TABLE images (name text, image bytea);"
+                        " ALTER TABLE images ALTER image SET STORAGE EXTERNAL;")
+            for name, plan in PLANS.items():
+                measure(name, plan, lambda *images: calls_of_postgresql(server, session, *images), runs)
+    except Refused as why:
+        print("PostgreSQL is left out: %s\n" % why)
+
+
+def main():
+    parser = argparse.ArgumentParser(description="Measures calls over the images that take longest.")
+    parser.add_argument("--runs", type=int, default=3, help="how often each call is made")
+    runs = parser.parse_args().runs
+    print(machine())
+    print("| image | call | seconds, one path | seconds, random | ratio |\n|---|---|---|---|---|")
+    for name, plan in PLANS.items():
+        for calls_of in (calls_of_c, calls_of_python):
+            measure(name, plan, calls_of, runs)
+    measure_postgresql(runs)
+
+
+if __name__ == "__main__":
+    main()
