@@ -37,7 +37,7 @@
  *     width            4, 6 or 8: the bits of a register.
  *     image, len       the bytes of an image. Others may follow it within len; they are not read. Every image is
  *                      checked whole, so the bytes may come from anywhere. (An image can be made to be slow: a set of
- *                      a megabyte takes half a second, and a call that reads it twice a whole one. A call can't be
+ *                      a megabyte takes up to a second, and a call that reads it twice up to two. A call can't be
  *                      stopped. So ask hll_is_small of a stranger's image before a call. docs/LIMITS.md)
  *     out, room, size  a buffer of room bytes, and where the size of the image is put. The bytes behind the image
  *                      stay as they were. HLL_IMAGE_MAX(lg_k) bytes are enough for each answer of that lg_k or less.

@@ -9,7 +9,7 @@
 
 /*
  * A call of the library can't be interrupted. So images that wait are joined before reading them could take more steps
- * than these: about half a second, whoever made them.
+ * than these: about a second, whoever made them.
  */
 #define MOST_STEPS ((uint64) 1 << 29)
 

@@ -45,7 +45,7 @@ os.{step} = called
 
 
 def hostile_image():
-    """A set whose coupons are all on one path of their stride: half a second of work for a call that reads it."""
+    """A set whose coupons are all on one path of their stride: most of a second of work for a call that reads it."""
     return unsorted_set(18, stride_coupons(18))
 
 
