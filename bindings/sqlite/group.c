@@ -168,6 +168,7 @@ static hll_status settle_images(Group *group)
     if (status != HLL_OK)
         return status;
     clear(&group->batch);
+    group->has_registers = false;
     status = is_in_registers(bytes_of(&out)) ? keep_registers(group, bytes_of(&out)) : append(&group->batch, bytes_of(&out), 0);
     sqlite3_free(out.bytes);
     return status;
@@ -182,6 +183,7 @@ static size_t union_size(const Batch *batch)
 hll_status take_image(Group *group, hll_bytes image)
 {
     hll_status status = HLL_OK;
+    bool had_registers;
 
     if (group->registers == NULL && is_full(&group->batch, image.len, union_size(&group->batch)))
         status = settle_images(group);
@@ -189,11 +191,14 @@ hll_status take_image(Group *group, hll_bytes image)
         return status;
     if (group->registers != NULL)
         return join(group, image);
+    had_registers = group->has_registers;
     status = append(&group->batch, image, group->rows);
     if (status != HLL_OK || !is_in_registers(image))
         return status;
-    /* Behind a union it waits for a full batch: were its registers all 0, that would be read again for each such image. */
-    return union_size(&group->batch) == 0 ? settle_images(group) : HLL_OK;
+    group->has_registers = true;
+    /* The first one waits, since the union of one image keeps words that another program set. Behind a union all wait for a
+     * full batch: were their registers all 0, that would be read again for each. */
+    return had_registers && union_size(&group->batch) == 0 ? settle_images(group) : HLL_OK;
 }
 
 hll_status finish_images(Group *group, Output *out)

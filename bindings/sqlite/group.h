@@ -29,6 +29,7 @@ typedef struct Group {
     uint8_t width;
     sqlite3_int64 rows;     /* how many came, those with NULL among them */
     Batch batch;            /* of images the first may be the union of all before */
+    bool has_registers;     /* of images: whether one that waits is in registers */
     Output image;           /* of values: the image so far, once there is one */
     uint8_t *registers;     /* NULL before there are any */
     size_t count;           /* of registers */

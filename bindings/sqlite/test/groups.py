@@ -1,6 +1,7 @@
 # SPDX-License-Identifier: Apache-2.0
 """Aggregates over groups: beside unions of the Python package; what lowers an lg_k, NULLs, options, rows and windows."""
 import random
+import struct
 
 from base import ask, db, plain, refused, table_of
 from calls import GOOD, bad_images
@@ -45,6 +46,21 @@ def registers_of(image):
     """An image by what it means: at eight bits, and as registers."""
     sketch = Sketch.from_bytes(image)
     return sketch.lg_k, sketch.width, sketch.histogram(), plain(sketch.convert(8).to_bytes()) if sketch.stage == "registers" else None
+
+
+def words():
+    """Words that another program set stay in the union of one image, alone or beside empty ones; of two they are set anew."""
+    counted = bytearray(image_of_values(10, 8, [b"%d" % number for number in range(3000)]))
+    counted[5] &= ~16
+    counted[8:16] = struct.pack("<d", 3000.5)
+    counted, empty = bytes(counted), image_of_values(10, 8, [])
+    for images in ([counted], [None, counted, None], [counted, empty], [empty, counted, empty], [counted, counted]):
+        group_table([images])
+        given = [image for image in images if image is not None]
+        for lg_k, width in ((12, 8), (10, 4), (9, 8)):
+            found = ask("SELECT hll_image_union_agg(image, ?, ?) FROM g", lg_k, width)
+            equal("words of a union", found, union_of(given, lg_k, width).to_bytes())
+    equal("kept", ask("SELECT hll_hip_estimate(hll_union_agg(?))", counted), 3000.5)
 
 
 def added():
