@@ -62,7 +62,7 @@ impl<A: Allocator> Array4<A> {
         })
     }
 
-    /// The `lg_k`, 4 to 21. Takes no memory.
+    /// The `lg_k`, 4 to 21.
     pub fn lg_k(&self) -> u8
         ensures lg_k { result ≡ self.now.stored.lg_k }
         ensures legal { IsStored self.now.stored }
@@ -70,28 +70,28 @@ impl<A: Allocator> Array4<A> {
         self.registers.lg_k()
     }
 
-    /// How many registers there are: 2^`lg_k`. Takes no memory.
+    /// How many registers there are: 2^`lg_k`.
     pub fn num_registers(&self) -> usize
         ensures { result ≡ 2 ^ self.now.stored.lg_k }
     {
         two_to(self.registers.lg_k())
     }
 
-    /// The least register. Takes no memory.
+    /// The least register.
     pub fn cur_min(&self) -> u8
         ensures { result ≡ minimum self.now.stored.registers }
     {
         self.registers.minimum()
     }
 
-    /// How many registers are at the least one. Takes no memory.
+    /// How many registers are at the least one.
     pub fn num_at_cur_min(&self) -> u32
         ensures { result ≡ count_at_minimum self.now.stored.registers }
     {
         self.registers.count_at_minimum()
     }
 
-    /// The nibble of a slot below 2^`lg_k`. Takes no memory.
+    /// The nibble of a slot below 2^`lg_k`.
     pub fn nibble(&self, slot: u32) -> u8
         requires { slot < 2 ^ self.now.stored.lg_k }
         ensures { result ≡ nibble (minimum self.now.stored.registers) (slice_index self.now.stored.registers slot) }
@@ -99,7 +99,7 @@ impl<A: Allocator> Array4<A> {
         self.registers.nibble(slot)
     }
 
-    /// The exception of a slot below 2^`lg_k`, if it has one. Takes no memory.
+    /// The exception of a slot below 2^`lg_k`, if it has one.
     pub fn exception(&self, slot: u32) -> Option<u8>
         requires { slot < 2 ^ self.now.stored.lg_k }
         ensures { result ≡ exception_of (minimum self.now.stored.registers) (slice_index self.now.stored.registers slot) }
@@ -107,7 +107,7 @@ impl<A: Allocator> Array4<A> {
         self.registers.exception(slot)
     }
 
-    /// The register of a slot below 2^`lg_k`. Takes no memory.
+    /// The register of a slot below 2^`lg_k`.
     pub fn get(&self, slot: u32) -> u8
         requires { slot < 2 ^ self.now.stored.lg_k }
         ensures register { result ≡ slice_index self.now.stored.registers slot }
@@ -116,14 +116,14 @@ impl<A: Allocator> Array4<A> {
         self.registers.get(slot)
     }
 
-    /// Whether all registers are 0. Takes no memory.
+    /// Whether all registers are 0.
     pub fn is_empty(&self) -> bool
         ensures { result ≡ list_all (λ v. v == 0) self.now.stored.registers }
     {
         self.num_zeros() as usize == two_to(self.lg_k())
     }
 
-    /// How many registers are 0. Takes no memory.
+    /// How many registers are 0.
     pub fn num_zeros(&self) -> u32
         ensures { result ≡ zeros self.now.stored.registers }
     {
@@ -139,14 +139,14 @@ impl<A: Allocator> Array4<A> {
         units_of(self)
     }
 
-    /// The estimate state. Takes no memory.
+    /// The estimate state.
     pub fn estimate_state(&self) -> EstimateState
         ensures { result ≡ self.now.stored.state }
     {
         self.state
     }
 
-    /// Sets the estimate state, and keeps the registers. Takes no memory.
+    /// Sets the estimate state, and keeps the registers.
     pub fn restore_estimate_state(&mut self, state: EstimateState)
         ensures { self.new ≡ record { stored = record self.old.stored { state = state }; exceptions = self.old.exceptions } }
     {
@@ -173,7 +173,7 @@ impl<A: Allocator> Array4<A> {
         }
     }
 
-    /// The allocator that made them. Takes no memory.
+    /// The allocator that made them.
     pub fn allocator(&self) -> &A {
         self.registers.allocator()
     }
@@ -347,7 +347,7 @@ impl<A: Allocator + Clone> RegisterStore<A> for Array4<A> {
     ghost equal = { λ x y. (same_stored-from x.stored y.stored, same_stored-to x.stored y.stored) };
 }
 
-/// Two arrays are equal if their `lg_k`, registers and states are; the places of exceptions don't count. Takes no memory.
+/// Two arrays are equal if their `lg_k`, registers and states are; the places of exceptions don't count.
 impl<A: Allocator> PartialEq for Array4<A> {
     ghost use Rattle.hll_arrays.specs.Same.{same_four_bits, same_four_bits-partial};
 

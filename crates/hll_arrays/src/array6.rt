@@ -101,7 +101,7 @@ impl<A: Allocator> Array6<A> {
         })
     }
 
-    /// The `lg_k`, 4 to 21. Takes no memory.
+    /// The `lg_k`, 4 to 21.
     pub fn lg_k(&self) -> u8
         ensures lg_k { result ≡ self.now.lg_k }
         ensures legal { IsStored self.now }
@@ -109,14 +109,14 @@ impl<A: Allocator> Array6<A> {
         self.lg_config_k
     }
 
-    /// How many registers there are: 2^`lg_k`. Takes no memory.
+    /// How many registers there are: 2^`lg_k`.
     pub fn num_registers(&self) -> usize
         ensures { result ≡ 2 ^ self.now.lg_k }
     {
         two_to(self.lg_config_k)
     }
 
-    /// The register of a slot below 2^`lg_k`. Takes no memory.
+    /// The register of a slot below 2^`lg_k`.
     pub fn get(&self, slot: u32) -> u8
         requires { slot < 2 ^ self.now.lg_k }
         ensures { result ≡ slice_index self.now.registers slot }
@@ -125,7 +125,7 @@ impl<A: Allocator> Array6<A> {
     }
 
     /// Raises the register at the coupon's slot modulo 2^`lg_k` to the coupon's value. If it changes, the state is
-    /// cleared. Takes no memory.
+    /// cleared.
     pub fn update(&mut self, coupon: Coupon)
         ensures { self.new ≡ update_with_coupon self.old coupon }
     {
@@ -163,28 +163,28 @@ impl<A: Allocator> Array6<A> {
         units_of(self)
     }
 
-    /// The estimate state. Takes no memory.
+    /// The estimate state.
     pub fn estimate_state(&self) -> EstimateState
         ensures { result ≡ self.now.state }
     {
         self.state
     }
 
-    /// Sets the estimate state, and keeps the registers. Takes no memory.
+    /// Sets the estimate state, and keeps the registers.
     pub fn restore_estimate_state(&mut self, state: EstimateState)
         ensures { self.new ≡ record self.old { state = state } }
     {
         self.state = state;
     }
 
-    /// How many bytes the registers take in an image. Takes no memory.
+    /// How many bytes the registers take in an image.
     pub fn estimated_size(&self) -> usize
         ensures { result ≡ size_in_registers self.now.lg_k Hll6 self.now.registers }
     {
         packed_size(self.lg_config_k)
     }
 
-    /// The allocator that made them. Takes no memory.
+    /// The allocator that made them.
     pub fn allocator(&self) -> &A {
         self.groups.allocator()
     }
@@ -305,7 +305,7 @@ impl<A: Allocator + Clone> RegisterStore<A> for Array6<A> {
     ghost equal = { λ x y. (same_stored-from x y, same_stored-to x y) };
 }
 
-/// Two arrays are equal if their `lg_k`, registers and states are. Takes no memory.
+/// Two arrays are equal if their `lg_k`, registers and states are.
 impl<A: Allocator> PartialEq for Array6<A> {
     ghost use Rattle.hll_arrays.specs.Same.{same_stored, same_stored-partial};
 
@@ -330,7 +330,7 @@ impl<A: Allocator> Eq for Array6<A> {
 /// their state (docs/FORMAT.md, "HLL"). The zero count is checked against its bound, and not used. The last byte has to be
 /// there, and may be any.
 ///
-/// `lg_config_k` is 4 to 21. Fails with `Truncated` or `Count`. Takes no memory.
+/// `lg_config_k` is 4 to 21. Fails with `Truncated` or `Count`.
 pub fn read_groups(
     cursor: SketchSlice<'_>,
     lg_config_k: u8,

@@ -103,7 +103,7 @@ impl<A: Allocator> Array8<A> {
         })
     }
 
-    /// The `lg_k`, 4 to 21. Takes no memory.
+    /// The `lg_k`, 4 to 21.
     pub fn lg_k(&self) -> u8
         ensures lg_k { result ≡ self.now.lg_k }
         ensures legal { IsStored self.now }
@@ -111,14 +111,14 @@ impl<A: Allocator> Array8<A> {
         self.lg_config_k
     }
 
-    /// How many registers there are: 2^`lg_k`. Takes no memory.
+    /// How many registers there are: 2^`lg_k`.
     pub fn num_registers(&self) -> usize
         ensures { result ≡ 2 ^ self.now.lg_k }
     {
         two_to(self.lg_config_k)
     }
 
-    /// The register of a slot below 2^`lg_k`. Takes no memory.
+    /// The register of a slot below 2^`lg_k`.
     pub fn get(&self, slot: u32) -> u8
         requires { slot < 2 ^ self.now.lg_k }
         ensures { result ≡ slice_index self.now.registers slot }
@@ -126,7 +126,7 @@ impl<A: Allocator> Array8<A> {
         self.registers[slot as usize]
     }
 
-    /// The registers. Takes no memory.
+    /// The registers.
     pub fn values(&self) -> &[u8]
         ensures values { result.now ≡ self.now.registers }
         ensures registers { AreRegisters self.now.lg_k self.now.registers }
@@ -134,7 +134,7 @@ impl<A: Allocator> Array8<A> {
         &self.registers
     }
 
-    /// The registers, without their `lg_k` and state. Takes no memory.
+    /// The registers, without their `lg_k` and state.
     pub fn into_values(self) -> Vec<u8, A>
         ensures { result.items ≡ self.registers }
     {
@@ -142,7 +142,7 @@ impl<A: Allocator> Array8<A> {
     }
 
     /// Raises the register at the coupon's slot modulo 2^`lg_k` to the coupon's value. If it changes, the state is
-    /// cleared. Takes no memory.
+    /// cleared.
     pub fn update(&mut self, coupon: Coupon)
         ensures { self.new ≡ update_with_coupon self.old coupon }
     {
@@ -198,7 +198,7 @@ impl<A: Allocator> Array8<A> {
         self.rebuild_estimator_from_registers();
     }
 
-    /// Sets one register, and keeps the state. Takes no memory.
+    /// Sets one register, and keeps the state.
     ///
     /// `slot` is below 2^`lg_k`, and `value` at most 63.
     pub fn set_register(&mut self, slot: usize, value: u8)
@@ -210,14 +210,14 @@ impl<A: Allocator> Array8<A> {
         self.registers[slot] = value;
     }
 
-    /// Clears the state, and keeps the registers. Takes no memory.
+    /// Clears the state, and keeps the registers.
     pub fn rebuild_estimator_from_registers(&mut self)
         ensures { self.new ≡ record self.old { state = cleared_state } }
     {
         self.state = EstimateState::CLEARED;
     }
 
-    /// How many bytes the registers take: 2^`lg_k`. Takes no memory.
+    /// How many bytes the registers take: 2^`lg_k`.
     pub fn estimated_size(&self) -> usize
         ensures { result ≡ size_in_registers self.now.lg_k Hll8 self.now.registers }
     {
@@ -253,21 +253,21 @@ impl<A: Allocator> Array8<A> {
         units(&self.registers)
     }
 
-    /// The estimate state. Takes no memory.
+    /// The estimate state.
     pub fn estimate_state(&self) -> EstimateState
         ensures { result ≡ self.now.state }
     {
         self.state
     }
 
-    /// Sets the estimate state, and keeps the registers. Takes no memory.
+    /// Sets the estimate state, and keeps the registers.
     pub fn restore_estimate_state(&mut self, state: EstimateState)
         ensures { self.new ≡ record self.old { state = state } }
     {
         self.state = state;
     }
 
-    /// The allocator that made them. Takes no memory.
+    /// The allocator that made them.
     pub fn allocator(&self) -> &A {
         self.registers.allocator()
     }
@@ -394,7 +394,7 @@ impl<A: Allocator + Clone> RegisterStore<A> for Array8<A> {
     ghost equal = { λ x y. (same_stored-from x y, same_stored-to x y) };
 }
 
-/// Two arrays are equal if their `lg_k`, registers and states are. Takes no memory.
+/// Two arrays are equal if their `lg_k`, registers and states are.
 impl<A: Allocator> PartialEq for Array8<A> {
     ghost use Rattle.hll_arrays.specs.Same.{same_stored, same_stored-partial};
 

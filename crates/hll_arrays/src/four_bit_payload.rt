@@ -107,7 +107,7 @@ struct Frame<'a> {
     entries: &'a [u8],
 }
 
-/// Reads the counts, and checks them and the number of bytes. Takes no memory.
+/// Reads the counts, and checks them and the number of bytes.
 fn frame_of<'a>(cursor: SketchSlice<'a>, header: Hll4Header) -> Result<Frame<'a>, Error>
     requires least { 4 ≤ header.lg_config_k }
     requires most { header.lg_config_k ≤ 21 }

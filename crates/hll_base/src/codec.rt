@@ -73,7 +73,7 @@ impl<A: Allocator> SketchBytes<A> {
         Ok(())
     }
 
-    /// The bytes written. Takes no memory.
+    /// The bytes written.
     pub fn into_bytes(self) -> Vec<u8, A>
         ensures { result.items ≡ self }
     {

@@ -52,7 +52,7 @@ impl Reason {
     ghost use Rattle.std.specs.Prelude.{◌≡◌};
     ghost use Rattle.hll_base.specs.Reason.{number_of, word_of};
 
-    /// The number of the reason, from 1 to 13. Takes no memory.
+    /// The number of the reason, from 1 to 13.
     pub fn number(self) -> u8
         ensures { result ≡ number_of self }
     {
@@ -73,7 +73,7 @@ impl Reason {
         }
     }
 
-    /// The word that is printed for the reason. Takes no memory.
+    /// The word that is printed for the reason.
     pub fn word(self) -> &'static str
         ensures { result.now ≡ word_of self }
     {
@@ -112,14 +112,14 @@ impl Model for Error {
 }
 
 impl Error {
-    /// The error with this reason. Takes no memory.
+    /// The error with this reason.
     pub fn new(reason: Reason) -> Error
         ensures { result ≡ reason }
     {
         Error { reason }
     }
 
-    /// The reason. Takes no memory.
+    /// The reason.
     pub fn reason(&self) -> Reason
         ensures { result ≡ self.now }
     {
@@ -127,7 +127,7 @@ impl Error {
     }
 
     /// The kind of the reason: `InvalidArgument` for `Argument`, `OutOfMemory` for `Memory`, and
-    /// `InvalidData` for all others. Takes no memory.
+    /// `InvalidData` for all others.
     pub fn kind(&self) -> ErrorKind
         ensures { result ≡ kind_of self.now }
     {

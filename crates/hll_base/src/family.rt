@@ -17,7 +17,7 @@ impl Family {
 
     /// Checks that an image's number is that of this family.
     ///
-    /// Fails with `Family` if it is another. Takes no memory.
+    /// Fails with `Family` if it is another.
     pub fn validate_id(self, id: u8) -> Result<(), Error>
         ensures ok { IsOk result ↔ (id ≡ self.id) }
         ensures err { IfErr result (λ e. e ≡ reasons.Family) }

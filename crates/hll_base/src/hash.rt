@@ -132,7 +132,7 @@ fn count_of(bytes: &[u8]) -> u64
     bytes.len() as u64
 }
 
-/// The 128-bit hash of bytes with a seed, in one go, as two 64-bit words. Takes no memory.
+/// The 128-bit hash of bytes with a seed, in one go, as two 64-bit words.
 pub fn hash_of_bytes(seed: u64, bytes: &[u8]) -> (u64, u64)
     ensures first { result.0 ≡ (hash seed bytes.now).first }
     ensures second { result.1 ≡ (hash seed bytes.now).second }

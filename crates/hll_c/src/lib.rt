@@ -304,7 +304,7 @@ pub extern "C" fn hll_registers_add(registers: &mut [u8], values: &[u8], ends: &
 
 /// Raises registers of the caller by coupons, raw words of which each has a value.
 ///
-/// Answers `Argument` for a word without, or a number of registers that is not 2^`lg_k`. Takes no memory.
+/// Answers `Argument` for a word without, or a number of registers that is not 2^`lg_k`.
 #[unsafe(no_mangle)]
 pub extern "C" fn hll_registers_add_coupons(registers: &mut [u8], coupons: &[u32]) -> u8
     ensures { AddsCoupons coupons.now registers.old registers.new result }
@@ -333,7 +333,7 @@ pub extern "C" fn hll_registers_join(
 /// Raises registers of the caller by as many others, or by what more of them fold to.
 ///
 /// Answers 15 where the others are not all 0, and fewer; then `fewer` is their `lg_k`. Answers `Argument` for a number of
-/// registers or of others that is not 2^`lg_k`, or `Register` where one of the others is above 63. Takes no memory.
+/// registers or of others that is not 2^`lg_k`, or `Register` where one of the others is above 63.
 #[unsafe(no_mangle)]
 pub extern "C" fn hll_registers_join_registers(
     registers: &mut [u8],
@@ -358,7 +358,7 @@ pub extern "C" fn hll_registers_fold(registers: &mut [u8], to: u8) -> u8
 
 /// How many registers of the caller have each value from 0 to 63.
 ///
-/// Answers `Argument` for a number of registers that is not 2^`lg_k`, or `Register` where one is above 63. Takes no memory.
+/// Answers `Argument` for a number of registers that is not 2^`lg_k`, or `Register` where one is above 63.
 #[unsafe(no_mangle)]
 pub extern "C" fn hll_registers_histogram(registers: &[u8], histogram: &mut HllHistogram) -> u8
     ensures { Tells HllHistogram (SaysCounts registers.now) (RefusesRegisters registers.now) histogram.old histogram.new result }
@@ -383,7 +383,7 @@ pub extern "C" fn hll_registers_image(
     put_image(byte_registers::sketch(alloc, registers, width), out, size)
 }
 
-/// The coupon of a value: its raw word, value * 2^26 + slot (docs/FORMAT.md, "Coupons"). Takes no memory.
+/// The coupon of a value: its raw word, value * 2^26 + slot (docs/FORMAT.md, "Coupons").
 #[unsafe(no_mangle)]
 pub extern "C" fn hll_coupon(value: &[u8]) -> u32
     ensures { result ≡ coupon_of_bytes value.now }
@@ -394,7 +394,7 @@ pub extern "C" fn hll_coupon(value: &[u8]) -> u32
 /// The coupons of the values that stand in `values` up to each of `ends`, at the front of `coupons`.
 ///
 /// Answers `Argument` for ends that descend or go past the values, or 14 where there are more of them than `coupons` has room
-/// for. Takes no memory.
+/// for.
 #[unsafe(no_mangle)]
 pub extern "C" fn hll_coupons(values: &[u8], ends: &[usize], coupons: &mut [u32]) -> u8
     ensures { PutsCoupons values.now ends.now coupons.old coupons.new result }

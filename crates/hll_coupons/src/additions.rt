@@ -1,5 +1,5 @@
 //! The coupons of a table beside those of a set: counted with them, and added to them. Each is sought by a short
-//! search. Where one is cut off, a copy of the set's coupons in ascending order tells which of them it has (docs/LIMITS.md).
+//! search. Where one is cut off, a copy of the set's coupons in ascending order tells which of them it has (docs/OPERATING.md).
 ghost use Rattle.std.specs.Prelude.{◌≡◌, ◌^◌, ◌<◌, ◌≤◌, true, false, length, IfOk, IfErr};
 ghost use Rattle.std.specs.FinSet.{contains, insert, len, union};
 ghost use Rattle.std.specs.List.Sorted.{IsStrictlyIncreasing};

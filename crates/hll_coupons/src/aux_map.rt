@@ -58,7 +58,7 @@ impl<A: Allocator> AuxMap<A> {
         })
     }
 
-    /// The `lg_k` of the slots, 4 to 21. Takes no memory.
+    /// The `lg_k` of the slots, 4 to 21.
     pub fn lg_config_k(&self) -> u8
         ensures lg_k { result ≡ self.now.lg_k }
         ensures map { IsMap self.now }
@@ -66,7 +66,7 @@ impl<A: Allocator> AuxMap<A> {
         self.lg_config_k
     }
 
-    /// How many entries there are. Takes no memory.
+    /// How many entries there are.
     pub fn len(&self) -> usize
         ensures count { result ≡ length (coupons_in self.now.table.places) }
         ensures map { IsMap self.now }
@@ -74,7 +74,7 @@ impl<A: Allocator> AuxMap<A> {
         self.table.len()
     }
 
-    /// The value of a slot below 2^`lg_config_k`, if it has one. Takes no memory.
+    /// The value of a slot below 2^`lg_config_k`, if it has one.
     pub fn get(&self, slot: u32) -> Option<u8>
         requires { slot < 2 ^ self.now.lg_k }
         ensures value { result ≡ value_in self.now slot }
@@ -85,7 +85,7 @@ impl<A: Allocator> AuxMap<A> {
         value_of_place(places[place])
     }
 
-    /// The same by a short search; nothing where it was cut off. Takes no memory.
+    /// The same by a short search; nothing where it was cut off.
     pub fn get_shortly(&self, slot: u32) -> Option<Option<u8>>
         requires { slot < 2 ^ self.now.lg_k }
         ensures value { IfSome result (λ value. value ≡ value_in self.now slot) }
@@ -97,7 +97,7 @@ impl<A: Allocator> AuxMap<A> {
         Some(value_of_place(places[place]))
     }
 
-    /// Gives a slot that has a value another one, at the same place. Takes no memory.
+    /// Gives a slot that has a value another one, at the same place.
     ///
     /// `slot` is below 2^`lg_config_k` and has a value, and `value` is 1 to 63.
     pub fn replace(&mut self, slot: u32, value: u8)
@@ -158,7 +158,7 @@ impl<A: Allocator> AuxMap<A> {
         self.table.ascending(alloc)
     }
 
-    /// The entries in the order of their places, each once. Takes no memory.
+    /// The entries in the order of their places, each once.
     pub fn iter(&self) -> AuxMapRefIter<'_>
         ensures { result ≡ entries_in self.now }
     {
@@ -167,12 +167,12 @@ impl<A: Allocator> AuxMap<A> {
         }
     }
 
-    /// The allocator that made it. Takes no memory.
+    /// The allocator that made it.
     pub(crate) fn allocator(&self) -> &A {
         self.table.allocator()
     }
 
-    /// The bytes of all places, four each. Takes no memory.
+    /// The bytes of all places, four each.
     pub fn estimated_size(&self) -> usize
         ensures { result ≡ 4 * 2 ^ self.now.table.lg_size }
     {
@@ -341,7 +341,7 @@ impl<A: Allocator> IntoIterator for AuxMap<A> {
 
     ghost into_iter_gives = { λ m entries. entries ≡ entries_in m };
 
-    /// The entries in the order of their places, each once. Takes no memory.
+    /// The entries in the order of their places, each once.
     fn into_iter(self) -> AuxMapIter<A> {
         let AuxMap { table, .. } = self;
         AuxMapIter { table, place: 0 }

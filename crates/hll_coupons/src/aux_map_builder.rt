@@ -15,7 +15,7 @@ use std::marker::Model;
 /// go. Contracts see the map.
 ///
 /// Takes the memory of the map. Where searches have become dear, takes more: a bit for each slot, and bitmaps of places
-/// (docs/LIMITS.md).
+/// (docs/OPERATING.md).
 #[derive(Drop)]
 pub struct AuxMapBuilder<A: Allocator = Global> {
     map: AuxMap<A>,
@@ -37,7 +37,7 @@ impl<A: Allocator> Model for AuxMapBuilder<A> {
 }
 
 impl<A: Allocator> AuxMapBuilder<A> {
-    /// The map. Takes no memory.
+    /// The map.
     pub fn build(self) -> AuxMap<A>
         ensures { result ≡ self }
     {

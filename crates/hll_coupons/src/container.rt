@@ -51,7 +51,7 @@ impl<A: Allocator> Model for Container<A> {
 }
 
 impl<A: Allocator> Container<A> {
-    /// Eight empty places. Takes no memory.
+    /// Eight empty places.
     pub(crate) fn eight(alloc: A) -> Container<A>
         ensures { result ≡ empty_table 3 }
     {
@@ -78,7 +78,7 @@ impl<A: Allocator> Container<A> {
         })
     }
 
-    /// These places, of which `len` are filled. Takes no memory.
+    /// These places, of which `len` are filled.
     ///
     /// `lg_size` is at most 26, there are 2^`lg_size` places, and the filled ones are distinct and of
     /// value 1 to 63.
@@ -94,7 +94,7 @@ impl<A: Allocator> Container<A> {
         }
     }
 
-    /// The allocator that made it. Takes no memory.
+    /// The allocator that made it.
     pub fn allocator(&self) -> &A {
         self.places.allocator()
     }
@@ -113,7 +113,7 @@ impl<A: Allocator> Container<A> {
         })
     }
 
-    /// How many coupons there are, at most the number of places. Takes no memory.
+    /// How many coupons there are, at most the number of places.
     pub fn len(&self) -> usize
         ensures count { result ≡ length (coupons_in self.now.places) }
         ensures within { result ≤ 2 ^ self.now.lg_size }
@@ -131,14 +131,14 @@ impl<A: Allocator> Container<A> {
         let _len = self.len;
     }
 
-    /// Whether there is no coupon. Takes no memory.
+    /// Whether there is no coupon.
     pub fn is_empty(&self) -> bool
         ensures { IsTrue result ↔ (coupons_in self.now.places ≡ []) }
     {
         self.len == 0
     }
 
-    /// Whether each place has a coupon. Takes no memory.
+    /// Whether each place has a coupon.
     pub fn is_full(&self) -> bool
         ensures full { IsTrue result ↔ (length (coupons_in self.now.places) ≡ 2 ^ self.now.lg_size) }
         ensures room { OnFalse result (length (coupons_in self.now.places) < 2 ^ self.now.lg_size) }
@@ -146,7 +146,7 @@ impl<A: Allocator> Container<A> {
         self.len == self.capacity()
     }
 
-    /// The logarithm of the number of places, at most 26. Takes no memory.
+    /// The logarithm of the number of places, at most 26.
     pub fn lg_size(&self) -> usize
         ensures size { result ≡ self.now.lg_size }
         ensures small { result ≤ 26 }
@@ -154,14 +154,14 @@ impl<A: Allocator> Container<A> {
         self.lg_size
     }
 
-    /// The number of places. Takes no memory.
+    /// The number of places.
     pub fn capacity(&self) -> usize
         ensures { result ≡ 2 ^ self.now.lg_size }
     {
         places_of(self.lg_size)
     }
 
-    /// The bytes of all places, four each. Takes no memory.
+    /// The bytes of all places, four each.
     pub fn estimated_size(&self) -> usize
         ensures { result ≡ 4 * 2 ^ self.now.lg_size }
     {
@@ -175,7 +175,7 @@ impl<A: Allocator> Container<A> {
         !coupon.is_empty() && self.places.as_slice().contains(&coupon)
     }
 
-    /// The coupons in the order of their places, each once. Takes no memory.
+    /// The coupons in the order of their places, each once.
     pub fn iter(&self) -> ContainerIter<'_>
         ensures { result ≡ coupons_in self.now.places }
     {

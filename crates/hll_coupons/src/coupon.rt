@@ -39,7 +39,7 @@ impl Coupon {
     /// The content of an empty place.
     pub const EMPTY: Coupon = Coupon { raw: 0 };
 
-    /// The coupon of a value at the slot modulo 2^26. Takes no memory.
+    /// The coupon of a value at the slot modulo 2^26.
     ///
     /// The value is at most 63.
     pub fn pack(slot: u32, value: u8) -> Coupon
@@ -51,7 +51,7 @@ impl Coupon {
         }
     }
 
-    /// The coupon of the two words of a hash (docs/MODEL.md, "Coupons of values"). Takes no memory.
+    /// The coupon of the two words of a hash (docs/MODEL.md, "Coupons of values").
     pub fn from_words(lo: u64, hi: u64) -> Coupon
         ensures words { result ≡ coupon_of_words lo hi }
         ensures pair { IsPair result }
@@ -61,7 +61,7 @@ impl Coupon {
         Coupon::pack(slot, value)
     }
 
-    /// The coupon of the hash of bytes at the default seed. Takes no memory.
+    /// The coupon of the hash of bytes at the default seed.
     pub fn from_bytes(bytes: &[u8]) -> Coupon
         ensures bytes { result ≡ coupon_of_bytes bytes.now }
         ensures pair { IsPair result }
@@ -70,7 +70,7 @@ impl Coupon {
         Coupon::from_words(lo, hi)
     }
 
-    /// The coupon of a value: that of the pieces of bytes that its own `hash` writes. Takes no memory.
+    /// The coupon of a value: that of the pieces of bytes that its own `hash` writes.
     ///
     /// A type of one piece gives the coupon of these bytes, as `from_bytes` does.
     pub fn from_value<T: Hash + Drop>(value: T) -> Coupon
@@ -98,21 +98,21 @@ impl Coupon {
         Coupon { raw }
     }
 
-    /// Whether the raw word is 0. Takes no memory.
+    /// Whether the raw word is 0.
     pub fn is_empty(self) -> bool
         ensures { IsTrue result ↔ (self ≡ 0) }
     {
         self.raw == 0
     }
 
-    /// The raw word. Takes no memory.
+    /// The raw word.
     pub fn raw(self) -> u32
         ensures { result ≡ self }
     {
         self.raw
     }
 
-    /// The slot, below 2^26. Takes no memory.
+    /// The slot, below 2^26.
     pub fn slot(self) -> u32
         ensures slot { result ≡ slot_of self }
         ensures small { result < 2 ^ 26 }
@@ -120,7 +120,7 @@ impl Coupon {
         self.raw & SLOT_MASK
     }
 
-    /// The value, from 0 to 63. Takes no memory.
+    /// The value, from 0 to 63.
     pub fn value(self) -> u8
         ensures value { result ≡ value_of self }
         ensures small { result ≤ 63 }

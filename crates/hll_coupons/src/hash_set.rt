@@ -74,7 +74,7 @@ impl<A: Allocator> HashSet<A> {
         HashSet::new(alloc, usize::from(LG_LEAST_SET_PLACES))
     }
 
-    /// Puts a coupon where a search for it ends, unless the set has it. Takes no memory.
+    /// Puts a coupon where a search for it ends, unless the set has it.
     ///
     /// Its value is at least 1, and a place is free if the set doesn't have it.
     pub fn update(&mut self, coupon: Coupon)
@@ -145,7 +145,7 @@ impl<A: Allocator> HashSet<A> {
         Insertion::Added
     }
 
-    /// Whether the set has the coupon, by a search for it. Takes no memory.
+    /// Whether the set has the coupon, by a search for it.
     pub fn contains(&self, coupon: Coupon) -> bool
         ensures { result ≡ set.contains (coupons_of self.now) coupon }
     {
@@ -167,7 +167,7 @@ impl<A: Allocator> HashSet<A> {
         Some(!places[place].is_empty())
     }
 
-    /// The places. Takes no memory.
+    /// The places.
     pub fn container(&self) -> &Container<A>
         ensures same { result.now ≡ self.now }
         ensures set { IsHashSet self.now }
@@ -204,7 +204,7 @@ impl<A: Allocator + Clone> HashSet<A> {
     /// The coupons of a container, put in the order of its places into 2^`lg_size` empty ones.
     ///
     /// `lg_size` is at most 26, and there are no more coupons than places. Takes memory for the places, and for
-    /// bitmaps where searches have become dear (docs/LIMITS.md). Fails with `Memory`.
+    /// bitmaps where searches have become dear (docs/OPERATING.md). Fails with `Memory`.
     pub fn from_container(
         alloc: A,
         lg_size: usize,
@@ -229,7 +229,7 @@ impl<A: Allocator + Clone> HashSet<A> {
     ///
     /// `lg_arr` is at most 26. Fails with `Truncated`, `Count` or `Coupon` where that fault stands, in the
     /// order of checks, or else with `Memory`. Takes memory only once the bytes are known to be there: for the places, and
-    /// where searches have become dear for copies of the coupons and for bitmaps (docs/LIMITS.md).
+    /// where searches have become dear for copies of the coupons and for bitmaps (docs/OPERATING.md).
     pub fn deserialize(
         alloc: A,
         mut cursor: SketchSlice<'_>,
@@ -296,7 +296,7 @@ impl<A: Allocator + Clone> HashSet<A> {
 }
 
 /// Sets are equal where they have the same coupons, whatever their sizes and places: as many, and each of one found in
-/// the other. Takes no memory.
+/// the other.
 impl<A: Allocator> PartialEq for HashSet<A> {
     ghost use Rattle.hll_coupons.specs.Same.{have_same_coupons, have_same_coupons-partial};
 

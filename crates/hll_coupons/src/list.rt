@@ -56,7 +56,7 @@ impl<A: Allocator> List<A> {
         })
     }
 
-    /// No coupons, and eight places. Takes no memory.
+    /// No coupons, and eight places.
     pub fn default_in(alloc: A) -> List<A>
         ensures { result ≡ empty_table 3 }
     {
@@ -104,7 +104,7 @@ impl<A: Allocator> List<A> {
         }
     }
 
-    /// Puts a coupon into the first empty place, unless the list has it. Takes no memory.
+    /// Puts a coupon into the first empty place, unless the list has it.
     ///
     /// Its value is at least 1, and a place is free if the list doesn't have it.
     pub fn update(&mut self, coupon: Coupon)
@@ -172,7 +172,7 @@ impl<A: Allocator> List<A> {
         coupon.raw() <= greatest && self.contains(coupon)
     }
 
-    /// The places. Takes no memory.
+    /// The places.
     pub fn container(&self) -> &Container<A>
         ensures same { result.now ≡ self.now }
         ensures front { IsFilledFromFront self.now }

@@ -24,7 +24,7 @@ pub(crate) struct LongSearches<A: Allocator> {
 }
 
 impl<A: Allocator> LongSearches<A> {
-    /// No steps and no cycles. Takes no memory.
+    /// No steps and no cycles.
     pub(crate) fn new(alloc: A) -> LongSearches<A>
         ensures { (lg : ℕ) (places : List ℕ) → AreFor lg places result }
     {

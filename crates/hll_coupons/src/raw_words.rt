@@ -74,7 +74,7 @@ impl<'a> RawWords<'a> {
     }
 }
 
-/// The bytes of the first `count` words, which are there. Takes no memory.
+/// The bytes of the first `count` words, which are there.
 pub fn bytes_of_words(bytes: &[u8], count: usize) -> &[u8]
     requires { 4 * count ≤ length bytes.now }
     ensures { result.now ≡ coupon_bytes (words count bytes.now) }

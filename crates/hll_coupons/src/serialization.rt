@@ -63,21 +63,21 @@ pub const TGT_HLL8: u8 = 2;
 /// The bytes of a coupon.
 pub const COUPON_SIZE_BYTES: usize = 4;
 
-/// The stage in a mode byte, from 0 to 3. Takes no memory.
+/// The stage in a mode byte, from 0 to 3.
 pub fn extract_cur_mode(mode_byte: u8) -> u8
     ensures { result ≡ mode_byte % 4 }
 {
     mode_byte & 3
 }
 
-/// The width in a mode byte, from 0 to 3. Takes no memory.
+/// The width in a mode byte, from 0 to 3.
 pub fn extract_tgt_hll_type(mode_byte: u8) -> u8
     ensures { result ≡ mode_byte / 4 % 4 }
 {
     mode_byte >> 2 & 3
 }
 
-/// The mode byte of a stage and a width, each modulo 4. Takes no memory.
+/// The mode byte of a stage and a width, each modulo 4.
 pub fn encode_mode_byte(cur_mode: u8, tgt_hll_type: u8) -> u8
     ensures { result ≡ cur_mode % 4 + 4 * (tgt_hll_type % 4) }
 {

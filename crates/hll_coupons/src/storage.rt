@@ -53,7 +53,7 @@ impl<A: Allocator> Storage<A> {
         Ok(Storage::Allocated(vec![in alloc; Coupon::EMPTY; 1 << lg_size]?))
     }
 
-    /// The allocator. Takes no memory.
+    /// The allocator.
     pub(crate) fn allocator(&self) -> &A {
         match self {
             Storage::InValue { alloc, .. } => alloc,

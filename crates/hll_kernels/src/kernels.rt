@@ -444,7 +444,7 @@ pub(crate) fn zeros_of(byte: u8) -> u32
     u32::from(byte % 16 == 0) + u32::from(byte / 16 == 0)
 }
 
-/// The four registers of a group of three bytes. Takes no memory.
+/// The four registers of a group of three bytes.
 pub fn unpack_group(group: [u8; 3]) -> [u8; 4]
     ensures fields { result ≡ group_fields group }
     ensures small { All (λ v. v ≤ 63) result }
@@ -459,7 +459,7 @@ pub fn unpack_group(group: [u8; 3]) -> [u8; 4]
     ]
 }
 
-/// The group of three bytes of four registers, each at most 63. Takes no memory.
+/// The group of three bytes of four registers, each at most 63.
 pub fn pack_group(registers: [u8; 4]) -> [u8; 3]
     requires { All (λ v. v ≤ 63) registers }
     ensures bytes { result ≡ group_bytes (slice_index registers 0) (slice_index registers 1) (slice_index registers 2) (slice_index registers 3) }

@@ -106,7 +106,7 @@ impl<A: Allocator> Model for PlanFeed<A> {
 }
 
 impl<A: Allocator> PlanFeed<A> {
-    /// The bytes of the line that has not ended: what follows the last LF, none after a fault. Takes no memory.
+    /// The bytes of the line that has not ended: what follows the last LF, none after a fault.
     pub fn pending(&self) -> &[u8]
         ensures { result.now ≡ self.now.pending }
     {

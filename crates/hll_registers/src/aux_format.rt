@@ -15,7 +15,7 @@ pub enum AuxFormat {
 }
 
 impl AuxFormat {
-    /// The format that a header names by its compact flag and its table size. Takes no memory.
+    /// The format that a header names by its compact flag and its table size.
     pub fn from_header(compact: bool, lg_arr: u8) -> AuxFormat
         ensures { result ≡ (if compact then Compact else Updatable lg_arr) }
     {

@@ -24,7 +24,7 @@ impl EstimateState {
     /// The state from which a composite estimator computes, of registers with these sums (docs/FORMAT.md, "Estimator
     /// words"): 0 and the two sums as binary64 numbers, with the flag set.
     ///
-    /// Each sum is below 2^53, so no number is rounded. Takes no memory.
+    /// Each sum is below 2^53, so no number is rounded.
     pub fn of_sums(sums: WeightSums) -> EstimateState
         requires low { sums.low < 2 ^ 53 }
         requires high { sums.high < 2 ^ 53 }

@@ -47,7 +47,7 @@ pub trait RegisterStore<A: Allocator>: Registers + PartialEq + Drop {
         ensures memory { IfErr result (λ e. e ≡ Memory) }
         ensures never { IsTrue NEVER_REFUSES → IsOk result };
 
-    /// Sets the estimate state, and keeps the registers. Takes no memory.
+    /// Sets the estimate state, and keeps the registers.
     fn restore(&mut self, state: EstimateState)
         ensures { Self.stored self.new ≡ record (Self.stored self.old) { state = state } };
 

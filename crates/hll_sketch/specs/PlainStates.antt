@@ -1,4 +1,4 @@
--- Sketches whose registers alone say what their state is (docs/MODEL.md, "Estimator words").
+-- Sketches whose registers have a plain state: cleared, or with its words set (docs/MODEL.md, "Estimator words").
 use Rattle.std.specs.Prelude.{◌≡◌, ℕ, ◌⊎◌, List, map}
 use Rattle.std.specs.List.{AllByRecursion}
 use Rattle.hll_registers.specs.EstimatorWords.{AreEstimatorWords}

@@ -154,7 +154,7 @@ impl<'a> Words<'a> {
         self.differ()
     }
 
-    /// Raises registers of eight bits by these coupons in turn. Takes no memory.
+    /// Raises registers of eight bits by these coupons in turn.
     // (a loop of its own, for all callers)
     #[inline(never)]
     pub(crate) fn raise<A: Allocator>(&self, array: &mut Array8<A>)
@@ -169,7 +169,7 @@ impl<'a> Words<'a> {
         }
     }
 
-    /// Raises 2^`lg_k` bytes by these coupons in turn. Takes no memory.
+    /// Raises 2^`lg_k` bytes by these coupons in turn.
     pub(crate) fn join_into(&self, registers: &mut [u8], lg_k: u8)
         requires most { lg_k ≤ 21 }
         requires size { length registers.old ≡ 2 ^ lg_k }
@@ -188,7 +188,7 @@ impl<'a> Words<'a> {
     }
 }
 
-/// The coupons of an image of a list or a set, if it has some, is compact, and they ascend or are few. Takes no memory.
+/// The coupons of an image of a list or a set, if it has some, is compact, and they ascend or are few.
 // (in each of its callers, so that what it gives isn't put into memory for them)
 #[inline(always)]
 pub(crate) fn compact_coupons(bytes: &[u8]) -> Option<Words<'_>>
@@ -254,7 +254,7 @@ pub(crate) fn set_coupons(bytes: &[u8], header: Header) -> Option<Words<'_>>
     Words::front(cursor.remaining(), count)
 }
 
-/// The header of an image of registers; `None` for another stage. Takes no memory.
+/// The header of an image of registers; `None` for another stage.
 ///
 /// Fails with the reason of the first check that the header fails.
 pub(crate) fn header_of_registers(bytes: &[u8]) -> Result<Option<Header>, Error>
@@ -269,7 +269,7 @@ pub(crate) fn header_of_registers(bytes: &[u8]) -> Result<Option<Header>, Error>
     }
 }
 
-/// The registers of an image of eight bits. Takes no memory.
+/// The registers of an image of eight bits.
 ///
 /// Fails with the reason of the first check that they fail.
 pub(crate) fn eight_bit_registers(bytes: &[u8], header: Header) -> Result<RegisterSlice<'_>, Error>
@@ -284,7 +284,7 @@ pub(crate) fn eight_bit_registers(bytes: &[u8], header: Header) -> Result<Regist
     Ok(RegisterSlice::new(header.lg_k, registers))
 }
 
-/// The registers of an image of six bits. Takes no memory.
+/// The registers of an image of six bits.
 ///
 /// Fails with the reason of the first check that they fail.
 pub(crate) fn six_bit_registers(bytes: &[u8], header: Header) -> Result<GroupSlice<'_>, Error>

@@ -37,7 +37,7 @@ use hll_coupons::container::Container;
 use hll_coupons::coupon::Coupon;
 use std::alloc::Allocator;
 
-/// Raises the register at the coupon's slot modulo 2^`lg_k` to the coupon's value. Takes no memory.
+/// Raises the register at the coupon's slot modulo 2^`lg_k` to the coupon's value.
 pub fn join_coupon(registers: &mut [u8], lg_k: u8, coupon: Coupon)
     requires most { lg_k ≤ 21 }
     requires size { length registers.old ≡ 2 ^ lg_k }
@@ -117,7 +117,7 @@ fn join_image_of_registers<A: Allocator + Clone>(
 }
 
 /// Raises registers by those of a sketch, folded to their `lg_k`. Answers the sketch's `lg_k`, and changes nothing, where it
-/// has registers that are not all 0, and fewer of them. Takes no memory.
+/// has registers that are not all 0, and fewer of them.
 pub fn join_sketch<A: Allocator + Clone>(
     registers: &mut [u8],
     lg_k: u8,
@@ -155,7 +155,7 @@ fn join_table<A: Allocator>(registers: &mut [u8], lg_k: u8, table: &Container<A>
 }
 
 /// Raises registers by those of a source, folded to their `lg_k`, of which it is known whether all are 0. Answers the source's
-/// `lg_k`, and changes nothing, where they are not, and it has fewer. Takes no memory.
+/// `lg_k`, and changes nothing, where they are not, and it has fewer.
 pub fn join_registers<R: Registers>(
     registers: &mut [u8],
     lg_k: u8,
@@ -178,7 +178,7 @@ pub fn join_registers<R: Registers>(
     None
 }
 
-/// Folds registers to an `lg_k` that is at most theirs, at the front of their bytes; the bytes behind stay. Takes no memory.
+/// Folds registers to an `lg_k` that is at most theirs, at the front of their bytes; the bytes behind stay.
 pub fn fold_in_place(registers: &mut [u8], lg_k: u8, to: u8)
     requires most { lg_k ≤ 21 }
     requires within { to ≤ lg_k }

@@ -110,7 +110,7 @@ pub fn ascending_image_at<A: Allocator>(
     Ok(Some(coupon_image(alloc, image.lg_k, hll_type, image.lg_size, coupons)?))
 }
 
-/// What an image says, if its coupons ascend, and there are some. Takes no memory.
+/// What an image says, if its coupons ascend, and there are some.
 fn ascending_image(bytes: &[u8]) -> Option<AscendingImage<'_>>
     ensures some { IfSome result (λ a. IsOfAscending bytes.now a.lg_k a.lg_size (words a.words.count a.words.bytes.now)) }
     ensures says { IfSome result (λ a. (a.lg_k ≡ lg_k_byte bytes.now) × (a.lg_size ≡ table_byte bytes.now) × (words a.words.count a.words.bytes.now ≡ words_in bytes.now)) }

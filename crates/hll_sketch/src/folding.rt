@@ -62,7 +62,7 @@ pub(crate) fn fold_of_registers<R: Registers, A: Allocator>(
     Ok(made)
 }
 
-/// Whether a table has the size that its coupons need from the start at an `lg_k`. Takes no memory.
+/// Whether a table has the size that its coupons need from the start at an `lg_k`.
 pub(crate) fn has_least_size<A: Allocator>(lg_k: u8, table: &Container<A>) -> bool
     requires { IsLgK lg_k }
     ensures { IsTrue result ↔ (stages.stage lg_k 3 (len (coupons_of table.now)) ≡ Some table.now.lg_size) }

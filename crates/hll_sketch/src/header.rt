@@ -53,7 +53,7 @@ pub(crate) struct Header {
 }
 
 impl Header {
-    /// Reads the header of an image. Takes no memory.
+    /// Reads the header of an image.
     ///
     /// Fails, in this order, with `Truncated` where there are fewer than eight bytes, `Family`, `Version`, `LgK`,
     /// `Width`, `Stage`, or `Preamble` where the preamble words are not those of the stage.

@@ -118,7 +118,7 @@ impl<A: Allocator + Clone> HllSketch<A> {
     }
 
     /// Merges a compact image of coupons into a gadget in registers, without a table. Whether it did; else nothing has
-    /// changed. Takes no memory.
+    /// changed.
     pub(crate) fn merge_compact(&mut self, bound: u8, image: &[u8]) -> bool
         requires bound { IsLgK bound }
         requires gadget { IsGadget bound (sketch_of self.old) }
@@ -139,7 +139,7 @@ impl<A: Allocator + Clone> HllSketch<A> {
     }
 
     /// Merges an updatable image of few coupons into a gadget in registers, without a table. Whether it did; else nothing has
-    /// changed. Takes no memory.
+    /// changed.
     pub(crate) fn merge_updatable(&mut self, bound: u8, image: &[u8]) -> bool
         requires bound { IsLgK bound }
         requires gadget { IsGadget bound (sketch_of self.old) }
@@ -302,7 +302,6 @@ impl<A: Allocator + Clone> HllSketch<A> {
     }
 
     /// Whether the table stays as large as it is with the coupons of another one, as registers of six and eight bits do.
-    /// Takes no memory.
     fn has_room_for(&self, table: &Container<A>) -> bool
         ensures { result ≡ can_hold_all self.now.layout (coupons_of table.now) }
     {

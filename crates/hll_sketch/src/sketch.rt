@@ -61,7 +61,7 @@ impl<A: Allocator> Model for HllSketch<A> {
 impl<A: Allocator> HllSketch<A> {
     /// An empty sketch: a list, which keeps the width that its registers are to have.
     ///
-    /// Fails with `Argument` if `lg_config_k` is not 4 to 21. Takes no memory.
+    /// Fails with `Argument` if `lg_config_k` is not 4 to 21.
     pub fn new(alloc: A, lg_config_k: u8, hll_type: HllType) -> Result<HllSketch<A>, Error>
         ensures ok { IfOk result (λ s. sketch_of s ≡ empty_sketch lg_config_k hll_type) }
         ensures lg_k { OnOk result (IsLgK lg_config_k) }
@@ -78,7 +78,7 @@ impl<A: Allocator> HllSketch<A> {
         })
     }
 
-    /// The `lg_k`, 4 to 21. Takes no memory.
+    /// The `lg_k`, 4 to 21.
     pub fn lg_config_k(&self) -> u8
         ensures lg_k { result ≡ self.now.lg_k }
         ensures legal { IsLgK self.now.lg_k }
@@ -86,7 +86,7 @@ impl<A: Allocator> HllSketch<A> {
         self.lg_config_k
     }
 
-    /// The width of registers. Takes no memory.
+    /// The width of registers.
     pub fn target_type(&self) -> HllType
         ensures { result ≡ width_of self.now.layout }
     {
@@ -98,14 +98,14 @@ impl<A: Allocator> HllSketch<A> {
         }
     }
 
-    /// The mode. Takes no memory.
+    /// The mode.
     pub fn mode(&self) -> &Mode<A>
         ensures { layout_of result.now ≡ self.now.layout }
     {
         &self.mode
     }
 
-    /// Whether there are no coupons, or registers that are all 0. Takes no memory.
+    /// Whether there are no coupons, or registers that are all 0.
     pub fn is_empty(&self) -> bool
         ensures { result ≡ is_empty (sketch_of self.now) }
     {
@@ -118,7 +118,7 @@ impl<A: Allocator> HllSketch<A> {
         }
     }
 
-    /// How many coupons a list or a set has, none of registers. Takes no memory.
+    /// How many coupons a list or a set has, none of registers.
     pub fn num_coupons(&self) -> Option<usize>
         ensures { result ≡ count_in (content_in self.now.layout) }
     {
@@ -147,7 +147,7 @@ impl<A: Allocator> HllSketch<A> {
     /// Sets the words of registers from which a composite estimator computes, and the out-of-order flag (docs/FORMAT.md,
     /// "Estimator words"). A list or a set stays as it is.
     ///
-    /// Registers, places and size stay. One pass over registers. Takes no memory.
+    /// Registers, places and size stay. One pass over registers.
     pub fn set_estimator_words(&mut self)
         ensures words { SetsWords (sketch_of self.old) (sketch_of self.new) }
         ensures rest { (s : EstimateState) × (self.new ≡ record self.old { layout = with_state self.old.layout s }) }
@@ -211,7 +211,7 @@ impl<A: Allocator> HllSketch<A> {
         }
     }
 
-    /// The bytes of the table or of the registers. Takes no memory.
+    /// The bytes of the table or of the registers.
     pub fn estimated_size(&self) -> usize
         ensures { result ≡ size_of (sketch_of self.now) }
     {
@@ -224,7 +224,7 @@ impl<A: Allocator> HllSketch<A> {
         }
     }
 
-    /// The allocator of its table or registers. Takes no memory.
+    /// The allocator of its table or registers.
     pub(crate) fn allocator(&self) -> &A {
         match &self.mode {
             Mode::List { list, .. } => list.container().allocator(),
@@ -402,7 +402,7 @@ impl<A: Allocator + Clone> HllSketch<A> {
     }
 
     /// Whether the sketch is its own fold to an `lg_k`, so that `folded` would make a copy: at its own `lg_k`, registers, or
-    /// coupons in a table of the size that they need from the start. Takes no memory.
+    /// coupons in a table of the size that they need from the start.
     pub fn is_own_fold(&self, lg_k: u8) -> bool
         ensures { IsTrue result ↔ (folding.folded (sketch_of self.now) lg_k ≡ sketch_of self.now) }
     {
@@ -517,7 +517,6 @@ impl<A: Allocator> fmt::Debug for HllSketch<A> {
 }
 
 /// Sketches are equal if `lg_k`, kind, width and coupons are, or registers and state; the places of tables don't count.
-/// Takes no memory.
 impl<A: Allocator> PartialEq for HllSketch<A> {
     ghost use Rattle.hll_sketch.specs.Same.{same_sketch, same_sketch-partial};
 

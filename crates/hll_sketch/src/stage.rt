@@ -5,7 +5,7 @@ ghost use Rattle.hll_sketch.specs.Stage as stages;
 use hll_coupons::serialization::{LG_LEAST_SET_PLACES, LG_LIST_PLACES, LG_SET_BELOW_LG_K};
 
 /// The most coupons that a table of 2^`size` places, with `size` at most 26, keeps before the next stage takes over: seven
-/// at size 3, else three quarters of its places. Takes no memory.
+/// at size 3, else three quarters of its places.
 pub fn most_kept(size: u8) -> usize
     requires { size ≤ 26 }
     ensures most { (n : ℕ) → stages.can_hold size n ≡ nat_le n result }
@@ -18,7 +18,7 @@ pub fn most_kept(size: u8) -> usize
     }
 }
 
-/// Whether a table of 2^`size` places, with `size` at most 26, keeps this number of coupons. Takes no memory.
+/// Whether a table of 2^`size` places, with `size` at most 26, keeps this number of coupons.
 pub fn can_hold(size: u8, count: usize) -> bool
     requires { size ≤ 26 }
     ensures { result ≡ stages.can_hold size count }
@@ -27,7 +27,7 @@ pub fn can_hold(size: u8, count: usize) -> bool
 }
 
 /// The least size from `from` up that keeps this number of coupons, or none: then registers take over
-/// (docs/MODEL.md, "Stages"). `lg_k` is at most 21. Takes no memory.
+/// (docs/MODEL.md, "Stages"). `lg_k` is at most 21.
 pub fn stage(lg_k: u8, from: u8, count: usize) -> Option<u8>
     requires { lg_k ≤ 21 }
     ensures { result ≡ stages.stage lg_k from count }

@@ -49,7 +49,7 @@ impl<A: Allocator> Model for HllUnion<A> {
 impl<A: Allocator> HllUnion<A> {
     /// A union of nothing: an empty list at the bound.
     ///
-    /// Fails with `Argument` if `lg_max_k` is not 4 to 21. Takes no memory.
+    /// Fails with `Argument` if `lg_max_k` is not 4 to 21.
     pub fn new(alloc: A, lg_max_k: u8) -> Result<HllUnion<A>, Error>
         ensures ok { IfOk result (λ u. (u.lg_max_k ≡ lg_max_k) × (gadget_of u ≡ empty_union lg_max_k)) }
         ensures lg_k { OnOk result (IsLgK lg_max_k) }
@@ -63,7 +63,7 @@ impl<A: Allocator> HllUnion<A> {
     }
 
     /// The `lg_k` of the gadget: the least of the bound and of the `lg_k` of all merged sketches in registers that are not
-    /// all 0. Takes no memory.
+    /// all 0.
     pub fn lg_config_k(&self) -> u8
         ensures lg_k { result ≡ (gadget_of self.now).lg_k }
         ensures legal { IsLgK result }
@@ -71,7 +71,7 @@ impl<A: Allocator> HllUnion<A> {
         self.gadget.lg_config_k()
     }
 
-    /// The bound. Takes no memory.
+    /// The bound.
     pub fn lg_max_k(&self) -> u8
         ensures lg_max_k { result ≡ self.now.lg_max_k }
         ensures legal { IsLgK result }
@@ -79,14 +79,14 @@ impl<A: Allocator> HllUnion<A> {
         self.lg_max_k
     }
 
-    /// Whether nothing was merged but empty sketches. Takes no memory.
+    /// Whether nothing was merged but empty sketches.
     pub fn is_empty(&self) -> bool
         ensures { result ≡ is_empty (gadget_of self.now) }
     {
         self.gadget.is_empty()
     }
 
-    /// The bytes of the gadget's table or registers. Takes no memory.
+    /// The bytes of the gadget's table or registers.
     pub fn estimated_size(&self) -> usize
         ensures { result ≡ size_of (gadget_of self.now) }
     {
@@ -266,7 +266,7 @@ pub fn union_of<A: Allocator + Clone>(
 /// where the first has registers of eight bits that are not all 0, at an `lg_k` up to the bound and up to that of each
 /// other sketch. Otherwise nothing changes.
 ///
-/// `lg_max_k` is 4 to 21. Takes no memory.
+/// `lg_max_k` is 4 to 21.
 pub fn union_in_place<A: Allocator + Clone>(
     lg_max_k: u8,
     first: &mut HllSketch<A>,

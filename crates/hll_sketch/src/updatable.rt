@@ -53,7 +53,7 @@ impl<'a> Places<'a> {
     }
 
     /// Raises registers of eight bits by the coupons in these places in turn, if they hold so many. Whether it did; else
-    /// nothing has changed. Takes no memory.
+    /// nothing has changed.
     // (a caller that had the room among its own values would clear it at each call)
     #[inline(never)]
     fn raise<A: Allocator>(&self, array: &mut Array8<A>) -> bool
@@ -75,7 +75,7 @@ impl<'a> Places<'a> {
     }
 
     /// Raises 2^`lg_k` bytes by the coupons in these places in turn, if they hold so many. Whether it did; else nothing has
-    /// changed. Takes no memory.
+    /// changed.
     // (a caller that had the room among its own values would clear it at each call)
     #[inline(never)]
     fn join_into(&self, registers: &mut [u8], lg_k: u8) -> bool
@@ -154,7 +154,7 @@ fn put(room: &mut [u8; ROOM], count: usize, word: u32)
 }
 
 /// Raises registers of eight bits by the coupons of an updatable image of a list or a set, if there are 1 to `FEW`. Whether it
-/// did; else nothing has changed. Takes no memory.
+/// did; else nothing has changed.
 // (a caller of it would clear its values for compact images too)
 #[inline(never)]
 pub(crate) fn raise_by_updatable<A: Allocator>(array: &mut Array8<A>, bytes: &[u8]) -> bool
@@ -170,7 +170,7 @@ pub(crate) fn raise_by_updatable<A: Allocator>(array: &mut Array8<A>, bytes: &[u
 }
 
 /// Raises 2^`lg_k` bytes by the coupons of an updatable image of a list or a set, if there are 1 to `FEW`. Whether it did;
-/// else nothing has changed. Takes no memory.
+/// else nothing has changed.
 // (a caller of it would clear its values for compact images too)
 #[inline(never)]
 pub(crate) fn join_updatable(registers: &mut [u8], lg_k: u8, bytes: &[u8]) -> bool
@@ -186,7 +186,7 @@ pub(crate) fn join_updatable(registers: &mut [u8], lg_k: u8, bytes: &[u8]) -> bo
     }
 }
 
-/// Whether bytes begin with an updatable image of a list or a set of 1 to `FEW` coupons. Takes no memory.
+/// Whether bytes begin with an updatable image of a list or a set of 1 to `FEW` coupons.
 pub(crate) fn has_updatable_coupons(bytes: &[u8]) -> bool
     ensures image { result ≡ true → (x : Sketch) × IsReadAs bytes.now x }
     ensures other { result ≡ false → HasUpdatableCoupons bytes.now → ⊥ }
@@ -198,7 +198,7 @@ pub(crate) fn has_updatable_coupons(bytes: &[u8]) -> bool
 }
 
 /// The places of an updatable image of a list or a set. `None` where a check but those of coupons fails, or it has none, or
-/// more than `FEW`. Takes no memory.
+/// more than `FEW`.
 // (in each of its callers, so that what it gives isn't put into memory for them)
 #[inline(always)]
 fn updatable_places(bytes: &[u8]) -> Option<Places<'_>>

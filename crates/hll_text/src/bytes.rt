@@ -7,7 +7,7 @@ use std::simd::prelude::*;
 /// How many bytes are looked at together.
 const LANES: usize = 64;
 
-/// Where a byte first stands in a text, by lanes, and byte by byte where less than a block is left. Takes no memory.
+/// Where a byte first stands in a text, by lanes, and byte by byte where less than a block is left.
 pub(crate) fn first_of(byte: u8, text: &[u8]) -> Option<usize>
     ensures { result ≡ position (λ b. b == byte) text.now }
 {

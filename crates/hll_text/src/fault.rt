@@ -38,7 +38,7 @@ pub struct MergeError {
 }
 
 impl Fault {
-    /// The refusal of a plan for this fault at this line. Takes no memory.
+    /// The refusal of a plan for this fault at this line.
     pub fn at(self, line: u64) -> MergeError
         ensures { result ≡ record { line = line; fault = self } }
     {

@@ -31,7 +31,7 @@ pub fn read_step<A: Allocator>(alloc: A, line: &[u8]) -> Result<Option<Step<A>>,
 }
 
 /// What a line of a plan, without its end, says, the digits of an image left as they are. `Syntax` and `Range` as
-/// `read_step`. Takes no memory.
+/// `read_step`.
 pub fn read_line<A: Allocator>(line: &[u8]) -> Result<Line<'_, A>, Fault>
     ensures reading { line_reading_of result ≡ reading line.now }
     ensures image { IfOk result (λ said. IfImage said (names_image (words line.now) ≡ true)) }
