@@ -5,7 +5,7 @@ use Rattle.hll_coupons.proofs.Registers.{fold_to-pairs-fold_to}
 use Rattle.hll_coupons.specs.Fold.{fold_to, pairs}
 use Rattle.hll_sketch.specs.Agree.{Agree}
 use Rattle.hll_sketch.specs.ByteRegisters.{AreRegistersOf}
-use Rattle.hll_sketch.specs.Value.{Sketch, pairs_of, IsLgK}
+use Rattle.hll_sketch.specs.Value.{pairs_of, IsLgK}
 
 pub size_of_registers : (b : List ℕ) (k : ℕ) (R : List ℕ) → AreRegistersOf b k R → length R ≡ 2 ^ k
 size_of_registers b k R of = ap length of.are ∙ length-fold_to (pairs_of of.sketch) k

@@ -4,7 +4,7 @@ ghost use Rattle.hll_base.specs.declared.error.Reason.TheVariants as reasons;
 ghost use Rattle.hll_coupons.specs.Hashed.{coupon_of_bytes};
 ghost use Rattle.hll_coupons.specs.Fold.{fold_to, pairs};
 ghost use Rattle.hll_sketch.specs.ByteRegisters.{AreRegistersOf};
-ghost use Rattle.hll_sketch.specs.EstimatorWords.{SetsWords};
+ghost use Rattle.hll_sketch.specs.EstimatorWords.{SetsWords, FillsWords};
 ghost use Rattle.hll_sketch.specs.Image.{IsReadAs, IsSizeOfImage};
 ghost use Rattle.hll_sketch.specs.Laws.{add_in_turn};
 ghost use Rattle.hll_sketch.specs.Layout.{sketch_of};
@@ -13,6 +13,7 @@ ghost use Rattle.hll_c.specs.Answers.{IsImageOf, WithWords, RefusesArguments, Re
 ghost use Rattle.hll_c.specs.Batches.{AreEnds, strings};
 ghost use Rattle.hll_c.specs.Calls.{bit, bits_of, IsWidth, AreNewArguments, IsEmptyAt, IsMadeOf, IsFoldOf, RefusesFold, IsAtWidth, IsCleared, AreOfCoupon, HasCoupon, HasValues, AreUnionArguments, IsUnionOf, AreBatchArguments, IsUnionOfBatch, SaysAgreement};
 ghost use Rattle.hll_sketch.specs.TakenIn.{TakesIn};
+ghost use Rattle.hll_sketch.specs.Union.{gadget_of};
 ghost use Rattle.hll_c.specs.Steps.{TakesInAll, IsRefusedAt, FailsToTakeIn};
 
 use crate::answer::image_with_words;
@@ -159,7 +160,7 @@ pub(crate) fn merged(
     }
 }
 
-/// The union of two images.
+/// The union of two images, its words set where its state is cleared.
 fn union_of_two(
     alloc: Global,
     lg_max_k: u8,
@@ -168,17 +169,28 @@ fn union_of_two(
     right: &[u8],
     failed: &mut usize,
 ) -> Result<HllSketch, Error>
-    ensures ok { IfOk result (λ s. IsUnionOf lg_max_k width (left.now ∷ right.now ∷ []) failed.old failed.new (sketch_of s)) }
+    ensures ok { IfOk result (λ s. WithWords (IsUnionOf lg_max_k width (left.now ∷ right.now ∷ []) failed.old failed.new) (sketch_of s)) }
     ensures err { IfErr result (λ e. RefusesImages (AreUnionArguments lg_max_k width) (left.now ∷ right.now ∷ []) failed.old failed.new e) }
 {
     let width = width_of(width)?;
     let mut union = HllUnion::new(alloc, lg_max_k)?;
     take_in(&mut union, left, 0, failed)?;
     take_in(&mut union, right, 1, failed)?;
-    union.into_sketch(width)
+    read_out(union, width)
 }
 
-/// The union of the images that end at `ends`.
+/// The sketch of a union at a width, its words set where its state is cleared: before the width changes, as the sums are
+/// made fastest of registers of eight bits.
+fn read_out(union: HllUnion, width: HllType) -> Result<HllSketch, Error>
+    ensures ok { IfOk result (λ s. FillsWords (record (gadget_of union) { width = width }) (sketch_of s)) }
+    ensures err { IfErr result (λ e. e ≡ reasons.Memory) }
+{
+    let mut sketch = union.into_sketch(HllType::Hll8)?;
+    sketch.fill_estimator_words();
+    sketch.into_width(width)
+}
+
+/// The union of the images that end at `ends`, its words set where its state is cleared.
 pub(crate) fn united(
     alloc: Global,
     lg_max_k: u8,
@@ -187,7 +199,7 @@ pub(crate) fn united(
     ends: &[usize],
     failed: &mut usize,
 ) -> Result<HllSketch, Error>
-    ensures ok { IfOk result (λ s. IsUnionOfBatch lg_max_k width images.now ends.now failed.old failed.new (sketch_of s)) }
+    ensures ok { IfOk result (λ s. WithWords (IsUnionOfBatch lg_max_k width images.now ends.now failed.old failed.new) (sketch_of s)) }
     ensures err { IfErr result (λ e. RefusesImages (AreBatchArguments lg_max_k width (length images.now) ends.now) (strings images.now ends.now) failed.old failed.new e) }
 {
     let width = width_of(width)?;
@@ -196,7 +208,7 @@ pub(crate) fn united(
         return Err(Error::new(Reason::Argument));
     }
     take_in_all(&mut union, images, ends, failed)?;
-    union.into_sketch(width)
+    read_out(union, width)
 }
 
 /// Merges images in turn into a union.
@@ -218,7 +230,7 @@ fn take_in_all(
     Ok(())
 }
 
-/// The union of images that lie anywhere.
+/// The union of images that lie anywhere, its words set where its state is cleared.
 pub(crate) fn united_parts(
     alloc: Global,
     lg_max_k: u8,
@@ -226,13 +238,13 @@ pub(crate) fn united_parts(
     parts: &[&[u8]],
     failed: &mut usize,
 ) -> Result<HllSketch, Error>
-    ensures ok { IfOk result (λ s. IsUnionOf lg_max_k width (map (λ part. part.now) parts.now) failed.old failed.new (sketch_of s)) }
+    ensures ok { IfOk result (λ s. WithWords (IsUnionOf lg_max_k width (map (λ part. part.now) parts.now) failed.old failed.new) (sketch_of s)) }
     ensures err { IfErr result (λ e. RefusesImages (AreUnionArguments lg_max_k width) (map (λ part. part.now) parts.now) failed.old failed.new e) }
 {
     let width = width_of(width)?;
     let mut union = HllUnion::new(alloc, lg_max_k)?;
     take_in_parts(&mut union, parts, failed)?;
-    union.into_sketch(width)
+    read_out(union, width)
 }
 
 /// Merges images that lie anywhere in turn into a union.

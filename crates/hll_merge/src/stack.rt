@@ -161,7 +161,7 @@ impl<A: Allocator + Clone> Stack<A> {
     }
 
     /// Adds a coupon to the last sketch. `Stack` where there is none; `Memory` as the sketch says.
-    fn push_coupon(&mut self, coupon: Coupon) -> Result<(), Fault>
+    fn add_coupon(&mut self, coupon: Coupon) -> Result<(), Fault>
         requires { 1 ≤ value_of coupon }
         ensures ok { OnOk result (ReplacesLast self.old (λ x y. y ≡ add x (set_of (coupon ∷ []))) self.new) }
         ensures err { IfErr result (λ e. (e ≡ Memory) ⊎ ((self.old ≡ []) × (e ≡ faults.Stack))) }
@@ -176,7 +176,7 @@ impl<A: Allocator + Clone> Stack<A> {
 
     /// Folds the last sketch to an `lg_k`, in place where it stays as it is. `Stack` where there is none, `Fold` where its own
     /// is below, or `Memory`.
-    fn push_fold(&mut self, lg_k: u8) -> Result<(), Fault>
+    fn fold_last(&mut self, lg_k: u8) -> Result<(), Fault>
         requires { IsLgK lg_k }
         ensures ok { OnOk result (ReplacesLast self.old (λ x y. (lg_k ≤ x.lg_k) × (y ≡ folding.folded x lg_k)) self.new) }
         ensures err { IfErr result (λ e. (e ≡ Memory) ⊎ (((self.old ≡ []) × (e ≡ faults.Stack)) ⊎ (LastIsBelow self.old lg_k × (e ≡ faults.Fold)))) }
@@ -209,11 +209,11 @@ impl<A: Allocator + Clone> Stack<A> {
         match step {
             Step::New(lg_k, hll_type) => self.push_new(*lg_k, *hll_type),
             Step::Image(bytes) => self.push_image(bytes.as_slice()),
-            Step::Coupon(slot, value) => self.push_coupon(Coupon::pack(*slot, *value)),
+            Step::Coupon(slot, value) => self.add_coupon(Coupon::pack(*slot, *value)),
             Step::Union(count, lg_max_k, hll_type) => {
                 self.push_union(*count, *lg_max_k, *hll_type)
             }
-            Step::Fold(lg_k) => self.push_fold(*lg_k),
+            Step::Fold(lg_k) => self.fold_last(*lg_k),
         }
     }
 

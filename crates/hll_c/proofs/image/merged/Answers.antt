@@ -6,7 +6,7 @@ use Rattle.hll_sketch.specs.CouponImages.{IsImageOfUnion}
 use Rattle.hll_sketch.specs.Layout.{sketch_of}
 use Rattle.hll_c.specs.Answers.{IsImageOf, WithWords, RefusesImages}
 use Rattle.hll_c.specs.Calls.{AreUnionArguments, IsUnionOf}
-use Rattle.hll_c.proofs.Answers.{made_with_words}
+use Rattle.hll_c.proofs.Answers.{made_again}
 use Rattle.hll_c.proofs.Images.{refuses_arguments, no_memory_to_unite, union_in_bytes, refuses_union_in_bytes}
 use Rattle.hll_c.proofs.image.merged.Goals as goal
 
@@ -34,7 +34,7 @@ pub returns-in_ok-union_of_two-in-None-clause-ok : goal.returns-in_ok-union_of_t
 returns-in_ok-union_of_two-in-None-clause-ok c =
     let Made = IsUnionOf c.args.lg_max_k c.args.width (c.args.left.now ∷ c.args.right.now ∷ []) c.args.failed.now c.union_of_two.new.failed in
     IfOk-weaker c.image_with_words.result _ (λ v. IsImageOf (WithWords Made) v.items)
-    (λ v is. made_with_words Made (sketch_of c.in_ok-union_of_two-in-None.field-0) v.items c.in_ok-union_of_two-in-None.ensures.ok is) c.image_with_words.ensures.ok
+    (λ v is. made_again Made (sketch_of c.in_ok-union_of_two-in-None.field-0) v.items c.in_ok-union_of_two-in-None.ensures.ok is) c.image_with_words.ensures.ok
 
 pub returns-in_ok-union_of_two-in-None-clause-err : goal.returns-in_ok-union_of_two-in-None-clause-err
 returns-in_ok-union_of_two-in-None-clause-err c =
@@ -42,5 +42,5 @@ returns-in_ok-union_of_two-in-None-clause-err c =
     let Refuses = RefusesImages (AreUnionArguments c.args.lg_max_k c.args.width) all c.args.failed.now c.union_of_two.new.failed in
     IfErr-weaker c.image_with_words.result _ Refuses
     (λ e memory. subst Refuses (sym memory)
-    (no_memory_to_unite c.args.lg_max_k c.args.width all c.args.failed.now c.union_of_two.new.failed (sketch_of c.in_ok-union_of_two-in-None.field-0) c.in_ok-union_of_two-in-None.ensures.ok))
+    (no_memory_to_unite c.args.lg_max_k c.args.width all c.args.failed.now c.union_of_two.new.failed c.in_ok-union_of_two-in-None.ensures.ok.0 c.in_ok-union_of_two-in-None.ensures.ok.1))
     c.image_with_words.ensures.err

@@ -2,9 +2,10 @@ use Rattle.std.proofs.Common.{[], ◌∷◌, refl, ◌∙◌}
 use Rattle.std.proofs.lemmas.Result.{IfOk-weaker, IfErr-weaker}
 use Rattle.hll_base.proofs.Errors.{IfErr-passed}
 use Rattle.hll_sketch.specs.Layout.{sketch_of}
-use Rattle.hll_c.specs.Answers.{RefusesImages}
+use Rattle.hll_c.specs.Answers.{WithWords, RefusesImages}
 use Rattle.hll_c.specs.Calls.{AreUnionArguments, IsUnionOf}
 use Rattle.hll_sketch.specs.Union.{gadget_of}
+use Rattle.hll_sketch.specs.Value.{Sketch}
 use Rattle.hll_c.proofs.Batches.{united_two, is_union}
 use Rattle.hll_c.proofs.Images.{asked_behind, refuses_arguments, refuses_first, refuses_second, refuses_more_memory}
 use Rattle.hll_c.proofs.image.union_of_two.Goals as goal
@@ -51,17 +52,18 @@ returns-clause-ok c =
     let one = c.in_ok-take_in.ensures.ok in
     let two = c.in_ok-take_in-2.ensures.ok in
     let both = united_two c.args.lg_max_k c.in_ok-union.union c.in_ok-union.ensures.ok.0 c.in_ok-union.ensures.ok.1 c.take_in.new.union c.take_in-2.new.union c.args.left.now c.args.right.now one.0 two.0 in
-    IfOk-weaker c.into_sketch.result _ (λ s. IsUnionOf c.args.lg_max_k c.args.width all c.args.failed.now c.take_in-2.new.failed (sketch_of s))
-    (λ s is. is_union c.args.lg_max_k c.args.width all c.args.failed.now c.take_in-2.new.failed (gadget_of c.take_in-2.new.union) (sketch_of s) are both is (two.1 ∙ one.1))
-    c.into_sketch.ensures.ok
+    let at : Sketch = record (gadget_of c.take_in-2.new.union) { width = c.in_ok-width.width } in
+    IfOk-weaker c.read_out.result _ (λ s. WithWords (IsUnionOf c.args.lg_max_k c.args.width all c.args.failed.now c.take_in-2.new.failed) (sketch_of s))
+    (λ s fills. (at, is_union c.args.lg_max_k c.args.width all c.args.failed.now c.take_in-2.new.failed (gadget_of c.take_in-2.new.union) at are both refl (two.1 ∙ one.1), fills))
+    c.read_out.ensures.ok
 
 pub returns-clause-err : goal.returns-clause-err
 returns-clause-err c =
     let all = c.args.left.now ∷ c.args.right.now ∷ [] in
     let Are = AreUnionArguments c.args.lg_max_k c.args.width in
     let are : Are = record { lg_max_k_is = c.in_ok-union.ensures.lg_k; width_is = record { width = c.in_ok-width.width; is = c.in_ok-width.ensures.ok } } in
-    IfErr-weaker c.into_sketch.result _ (RefusesImages Are all c.args.failed.now c.take_in-2.new.failed)
+    IfErr-weaker c.read_out.result _ (RefusesImages Are all c.args.failed.now c.take_in-2.new.failed)
     (λ e memory. refuses_more_memory Are all c.args.failed.now c.take_in-2.new.failed e 2 memory are
     (asked_behind all (c.in_ok-take_in.ensures.ok.0.sketch ∷ c.in_ok-take_in-2.ensures.ok.0.sketch ∷ []) (c.in_ok-take_in.ensures.ok.0.read, (c.in_ok-take_in-2.ensures.ok.0.read, tt)))
     (c.in_ok-take_in-2.ensures.ok.1 ∙ c.in_ok-take_in.ensures.ok.1))
-    c.into_sketch.ensures.err
+    c.read_out.ensures.err

@@ -3,7 +3,8 @@ use Rattle.std.proofs.lemmas.Result.{IfOk-weaker, IfErr-weaker}
 use Rattle.hll_base.proofs.Errors.{IfErr-passed}
 use Rattle.hll_sketch.specs.Layout.{sketch_of}
 use Rattle.hll_sketch.specs.Union.{gadget_of}
-use Rattle.hll_c.specs.Answers.{RefusesImages}
+use Rattle.hll_sketch.specs.Value.{Sketch}
+use Rattle.hll_c.specs.Answers.{WithWords, RefusesImages}
 use Rattle.hll_c.specs.Batches.{AreEnds, strings}
 use Rattle.hll_c.specs.Calls.{AreUnionArguments, AreBatchArguments, IsUnionOfBatch}
 use Rattle.hll_c.proofs.Batches.{not_so, united_all, is_union, refuses_batch}
@@ -51,12 +52,17 @@ returns-clause-ok c =
     let are : AreUnionArguments c.args.lg_max_k c.args.width = record { lg_max_k_is = c.in_ok-union.ensures.lg_k; width_is = record { width = c.in_ok-width.width; is = c.in_ok-width.ensures.ok } } in
     let taken = c.in_ok-take_in_all.ensures.ok in
     let united = united_all c.args.lg_max_k c.in_ok-union.union c.in_ok-union.ensures.ok.0 c.in_ok-union.ensures.ok.1 c.take_in_all.new.union all taken.0 in
-    IfOk-weaker c.into_sketch.result _ (λ s. IsUnionOfBatch c.args.lg_max_k c.args.width c.args.images.now c.args.ends.now c.args.failed.now c.take_in_all.new.failed (sketch_of s))
-    (λ s is. record {
-      are = c.are_ends.ensures.0 c.if-not-are_ends.false;
-      is = is_union c.args.lg_max_k c.args.width all c.args.failed.now c.take_in_all.new.failed (gadget_of c.take_in_all.new.union) (sketch_of s) are united is taken.1;
-    })
-    c.into_sketch.ensures.ok
+    let at : Sketch = record (gadget_of c.take_in_all.new.union) { width = c.in_ok-width.width } in
+    IfOk-weaker c.read_out.result _ (λ s. WithWords (IsUnionOfBatch c.args.lg_max_k c.args.width c.args.images.now c.args.ends.now c.args.failed.now c.take_in_all.new.failed) (sketch_of s))
+    (λ s fills. (
+      at,
+      record {
+        are = c.are_ends.ensures.0 c.if-not-are_ends.false;
+        is = is_union c.args.lg_max_k c.args.width all c.args.failed.now c.take_in_all.new.failed (gadget_of c.take_in_all.new.union) at are united refl taken.1;
+      },
+      fills,
+    ))
+    c.read_out.ensures.ok
 
 pub returns-clause-err : goal.returns-clause-err
 returns-clause-err c =
@@ -66,6 +72,6 @@ returns-clause-err c =
       union = record { lg_max_k_is = c.in_ok-union.ensures.lg_k; width_is = record { width = c.in_ok-width.width; is = c.in_ok-width.ensures.ok } };
       are = c.are_ends.ensures.0 c.if-not-are_ends.false;
     } in
-    IfErr-weaker c.into_sketch.result _ (RefusesImages Are all c.args.failed.now c.take_in_all.new.failed)
+    IfErr-weaker c.read_out.result _ (RefusesImages Are all c.args.failed.now c.take_in_all.new.failed)
     (λ e memory. refuses_more_memory Are all c.args.failed.now c.take_in_all.new.failed e (length all) memory are (asked_behind all c.in_ok-take_in_all.ensures.ok.0.sketches c.in_ok-take_in_all.ensures.ok.0.read) c.in_ok-take_in_all.ensures.ok.1)
-    c.into_sketch.ensures.err
+    c.read_out.ensures.err

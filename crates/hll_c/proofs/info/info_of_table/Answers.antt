@@ -1,5 +1,4 @@
-use Rattle.std.proofs.Common.{Some, ap, sym, ◌∙◌}
-use Rattle.std.specs.FinSet.{len}
+use Rattle.std.proofs.Common.{ap, sym, ◌∙◌}
 use Rattle.std.specs.Option.{unwrap_or}
 use Rattle.hll_sketch.specs.Layout.{count_in, sketch_of}
 use Rattle.hll_c.proofs.info.info_of_table.Goals as goal

@@ -7,7 +7,7 @@ use Rattle.hll_sketch.specs.Adding.{add}
 use Rattle.hll_sketch.specs.Layout.{SketchLayout}
 use Rattle.hll_merge.specs.Stack.{ReplacesLast}
 use Rattle.hll_merge.proofs.StackLemmas.{replaces_last}
-use Rattle.hll_merge.proofs.stack.Stack.push_coupon.Goals as goal
+use Rattle.hll_merge.proofs.stack.Stack.add_coupon.Goals as goal
 
 pub returns-clause-ok : goal.returns-clause-ok
 returns-clause-ok g c =

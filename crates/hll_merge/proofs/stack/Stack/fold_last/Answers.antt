@@ -6,7 +6,7 @@ use Rattle.hll_sketch.specs.Folding.{folded}
 use Rattle.hll_sketch.specs.Layout.{SketchLayout}
 use Rattle.hll_merge.specs.Stack.{ReplacesLast}
 use Rattle.hll_merge.proofs.StackLemmas.{replaces_last}
-use Rattle.hll_merge.proofs.stack.Stack.push_fold.Goals as goal
+use Rattle.hll_merge.proofs.stack.Stack.fold_last.Goals as goal
 
 pub returns-clause-ok : goal.returns-clause-ok
 returns-clause-ok g c =
