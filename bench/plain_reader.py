@@ -72,8 +72,9 @@ def read_six(image, k, low, excepted):
     check(low <= 2**k and excepted == 0, "count")
     size = 3 * 2**k // 4 + 1
     check(len(image) >= 40 + size, "truncated")
-    bits = int.from_bytes(image[40 : 40 + size], "little")
-    return [bits >> 6 * slot & 63 for slot in range(2**k)]
+    packed = image[40 : 40 + size - 1]
+    words = (low | middle << 8 | high << 16 for low, middle, high in zip(packed[::3], packed[1::3], packed[2::3]))
+    return [word >> shift & 63 for word in words for shift in (0, 6, 12, 18)]
 
 
 def read_eight(image, k, low, excepted):

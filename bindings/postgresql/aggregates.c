@@ -1,10 +1,8 @@
 /* SPDX-License-Identifier: Apache-2.0 */
 /*
- * The aggregates hll_image_union_agg and hll_image_add_agg.
+ * The aggregates: the step of a union, and what all of them share. values.c has the steps of values.
  */
 #include "state.h"
-
-#include "mb/pg_wchar.h"
 
 /* The context in which states live as long as their group. */
 static MemoryContext
@@ -40,7 +38,7 @@ check_same(const State *state, int32 lg_k, int32 width)
 }
 
 /* The state for the next row: arguments are the state, what the row brings, lg_k and width. */
-static State *
+State *
 next_row(FunctionCallInfo fcinfo, const char *lg_k_name)
 {
 	int32		lg_k = option(fcinfo, 2, lg_k_name, 12);
@@ -72,61 +70,6 @@ hll_pg_union_trans(PG_FUNCTION_ARGS)
 	PG_RETURN_POINTER(state);
 }
 
-PG_FUNCTION_INFO_V1(hll_pg_add_bytea_trans);
-
-Datum
-hll_pg_add_bytea_trans(PG_FUNCTION_ARGS)
-{
-	State	   *state = next_row(fcinfo, "lg_k");
-
-	if (!PG_ARGISNULL(1))
-	{
-		bytea	   *value = PG_GETARG_BYTEA_PP(1);
-
-		take_value(state, BYTES(value), LENGTH(value));
-	}
-	PG_RETURN_POINTER(state);
-}
-
-PG_FUNCTION_INFO_V1(hll_pg_add_text_trans);
-
-/* A text counts by its bytes in UTF-8, whatever the encoding of the database. */
-Datum
-hll_pg_add_text_trans(PG_FUNCTION_ARGS)
-{
-	State	   *state = next_row(fcinfo, "lg_k");
-
-	if (!PG_ARGISNULL(1))
-	{
-		text	   *value = PG_GETARG_TEXT_PP(1);
-		const char *own = (const char *) BYTES(value);
-		const char *utf8 = pg_server_to_any(own, (int) LENGTH(value), PG_UTF8);
-
-		take_value(state, (const uint8 *) utf8, utf8 == own ? LENGTH(value) : strlen(utf8));
-	}
-	PG_RETURN_POINTER(state);
-}
-
-PG_FUNCTION_INFO_V1(hll_pg_add_int8_trans);
-
-/* An integer counts by its eight bytes, the lowest first. */
-Datum
-hll_pg_add_int8_trans(PG_FUNCTION_ARGS)
-{
-	State	   *state = next_row(fcinfo, "lg_k");
-
-	if (!PG_ARGISNULL(1))
-	{
-		uint64		value = (uint64) PG_GETARG_INT64(1);
-		uint8		bytes[8];
-
-		for (int i = 0; i < 8; i++)
-			bytes[i] = (uint8) (value >> (8 * i));
-		take_value(state, bytes, sizeof(bytes));
-	}
-	PG_RETURN_POINTER(state);
-}
-
 PG_FUNCTION_INFO_V1(hll_pg_combine);
 
 /* Takes the second state's image into the first. */
@@ -136,6 +79,7 @@ hll_pg_combine(PG_FUNCTION_ARGS)
 	MemoryContext context = aggregate_context(fcinfo);
 	State	   *state = PG_ARGISNULL(0) ? NULL : (State *) PG_GETARG_POINTER(0);
 	State	   *other = PG_ARGISNULL(1) ? NULL : (State *) PG_GETARG_POINTER(1);
+	bytea	   *image;
 
 	if (other == NULL)
 	{
@@ -146,9 +90,9 @@ hll_pg_combine(PG_FUNCTION_ARGS)
 	if (state == NULL)
 		state = new_state(context, other->lg_k, other->width);
 	check_same(state, other->lg_k, other->width);
-	settle(other);
-	if (!is_vacant(other))
-		take_image(state, other->bytes, other->image_size, 0);
+	image = image_of(other);
+	if (image != NULL)
+		take_image(state, IMAGE(image), 0);
 	PG_RETURN_POINTER(state);
 }
 
@@ -159,18 +103,21 @@ Datum
 hll_pg_serial(PG_FUNCTION_ARGS)
 {
 	State	   *state = (State *) PG_GETARG_POINTER(0);
+	bytea	   *image;
 	bytea	   *bytes;
+	size_t		size;
 	uint8	   *at;
 
 	(void) aggregate_context(fcinfo);
-	settle(state);
-	bytes = palloc(VARHDRSZ + 2 + state->image_size);
-	SET_VARSIZE(bytes, VARHDRSZ + 2 + state->image_size);
+	image = image_of(state);
+	size = image == NULL ? 0 : LENGTH(image);
+	bytes = palloc(VARHDRSZ + 2 + size);
+	SET_VARSIZE(bytes, VARHDRSZ + 2 + size);
 	at = (uint8 *) VARDATA(bytes);
 	at[0] = state->lg_k;
 	at[1] = state->width;
-	if (state->image_size > 0)
-		memcpy(at + 2, state->bytes, state->image_size);
+	if (size > 0)
+		memcpy(at + 2, BYTES(image), size);
 	PG_RETURN_BYTEA_P(bytes);
 }
 

@@ -2,7 +2,7 @@
 /*
  * Functions of one image or two. Each is one call of the library.
  */
-#include "hll_pg.h"
+#include "registers.h"
 
 #include "access/htup_details.h"
 #include "funcapi.h"
@@ -31,53 +31,35 @@ hll_pg_empty(PG_FUNCTION_ARGS)
 	PG_RETURN_BYTEA_P(end_output(&out));
 }
 
-/* The lg_k that the header names; where the bytes are no image, any that is in range: reading them refuses them. */
-static uint8
-named_lg_k(bytea *image)
+/* The image of a union of two, in the current context. */
+bytea *
+merged_image(uint8 lg_max_k, uint8 width, const uint8 *left, size_t left_size, const uint8 *right, size_t right_size)
 {
-	uint8		lg_k = LENGTH(image) < 8 ? 4 : BYTES(image)[3];
+	size_t		failed = 0;
+	hll_status	status;
+	Output		out;
 
-	return lg_k < 4 || lg_k > 21 ? 4 : lg_k;
-}
-
-/* The width that the header names, likewise. */
-static uint8
-named_width(bytea *image)
-{
-	uint8		bits = LENGTH(image) < 8 ? 0 : (BYTES(image)[7] >> 2) & 3;
-
-	return bits == 3 ? 8 : 4 + 2 * bits;
-}
-
-/* The bound of a union of two images: the third argument, or else the greater lg_k, so that only registers lower it. */
-static uint8
-lg_max_k_of(FunctionCallInfo fcinfo, bytea *left, bytea *right)
-{
-	if (PG_NARGS() > 2)
-		return checked_lg_k("lg_max_k", PG_GETARG_INT32(2));
-	return Max(named_lg_k(left), named_lg_k(right));
+	start_output(&out, Min(left_size + right_size, (size_t) 1 << lg_max_k) + 64);
+	do
+		status = hll_image_merge(lg_max_k, width, left, left_size, right, right_size, OUTPUT(out), &failed);
+	while (grow_output(&out, status));
+	check_argument_status(status, failed);
+	return end_output(&out);
 }
 
 PG_FUNCTION_INFO_V1(hll_pg_merge);
 
-/* The union, with the greater width of both. */
+/* The union, with the greater width of both, and without a bound the greater lg_k, so that only registers lower it. */
 Datum
 hll_pg_merge(PG_FUNCTION_ARGS)
 {
 	bytea	   *left = PG_GETARG_BYTEA_PP(0);
 	bytea	   *right = PG_GETARG_BYTEA_PP(1);
-	uint8		lg_max_k = lg_max_k_of(fcinfo, left, right);
-	uint8		width = Max(named_width(left), named_width(right));
-	size_t		failed = 0;
-	hll_status	status;
-	Output		out;
+	uint8		width = Max(named_width(IMAGE(left)), named_width(IMAGE(right)));
+	uint8		lg_max_k = PG_NARGS() > 2 ? checked_lg_k("lg_max_k", PG_GETARG_INT32(2))
+		: Max(named_lg_k(IMAGE(left)), named_lg_k(IMAGE(right)));
 
-	start_output(&out, Min(LENGTH(left) + LENGTH(right), (size_t) 1 << lg_max_k) + 64);
-	do
-		status = hll_image_merge(lg_max_k, width, IMAGE(left), IMAGE(right), OUTPUT(out), &failed);
-	while (grow_output(&out, status));
-	check_argument_status(status, failed);
-	PG_RETURN_BYTEA_P(end_output(&out));
+	PG_RETURN_BYTEA_P(merged_image(lg_max_k, width, IMAGE(left), IMAGE(right)));
 }
 
 PG_FUNCTION_INFO_V1(hll_pg_fold);

@@ -51,4 +51,7 @@ extern void check_row_status(hll_status status, int64 row);
 extern uint8 checked_lg_k(const char *name, int32 lg_k);
 extern uint8 checked_width(int32 width);
 
+extern bytea *merged_image(uint8 lg_max_k, uint8 width, const uint8 *left, size_t left_size, const uint8 *right,
+						   size_t right_size);
+
 #endif

@@ -16,10 +16,11 @@
 /* So many of them, on the average, does each coupon of the slowest set take, and each exception a tenth. */
 #define MOST_EACH ((uint64) 1 << 11)
 
+/* So many coupons of values wait. */
+#define COUPON_COUNT 64
+
 /* The places of the largest table of a set, as a power of two. */
 #define LG_PLACES 18
-
-#define HEADER_SIZE ((size_t) 40)	/* of an image of registers */
 
 /* Registers of eight bits, and their header. A list or a set is smaller than the registers in its place. */
 #define MOST_ROOM(lg_k) (((size_t) 1 << (lg_k)) + 64)
@@ -35,11 +36,17 @@ new_state(MemoryContext context, uint8 lg_k, uint8 width)
 	return state;
 }
 
+static bool
+keeps_registers(const State *state)
+{
+	return state->registers.bytes != NULL;
+}
+
 /* Whether neither an image nor a value has come. */
 bool
 is_vacant(const State *state)
 {
-	return state->image_size == 0 && state->n == 0;
+	return !keeps_registers(state) && state->image_size == 0 && state->n == 0;
 }
 
 /* An array of the state with room for `count` elements, which keeps what it has. */
@@ -58,13 +65,6 @@ batch_size(const State *state)
 	return Max(BATCH_SIZE, 2 * state->image_size);
 }
 
-/* Whether bytes begin as an image of registers, and not as a list or a set. */
-static bool
-has_registers(const uint8 *image, size_t size)
-{
-	return size >= HEADER_SIZE && (image[7] & 3) == HLL_REGISTERS;
-}
-
 /* How many coupons, or exceptions of four bits, bytes may have. Each is searched for in a table. */
 static uint64
 searched_in(const uint8 *image, size_t size)
@@ -72,7 +72,7 @@ searched_in(const uint8 *image, size_t size)
 	size_t		plain = 0;
 
 	if (has_registers(image, size))
-		plain = (image[7] & 12) != 0 ? size : HEADER_SIZE + ((size_t) 1 << Min(image[3], 21)) / 2;
+		plain = named_width(image, size) > 4 ? size : 40 + ((size_t) 1 << named_lg_k(image, size)) / 2;
 	return size > plain ? (size - plain) / 4 : 0;
 }
 
@@ -85,7 +85,7 @@ places_of(const uint8 *image, size_t size)
 
 /*
  * How many steps it may take to read an image, beside its bytes. The table is made, and each search passes all that came
- * before it, where they share one path, until that has become dear (docs/LIMITS.md).
+ * before it, where they share one path, until that has become expensive (docs/OPERATING.md).
  */
 static uint64
 steps_of(const uint8 *image, size_t size)
@@ -192,7 +192,22 @@ joined(State *state, uint8 width)
 	return end_output(&out);
 }
 
-/* Joins what waits to the image. */
+/* Gives back the image, and the room for what waits. */
+static void
+drop_batch(State *state)
+{
+	pfree(state->bytes);
+	pfree(state->ends);
+	pfree(state->rows_of);
+	state->bytes = NULL;
+	state->ends = NULL;
+	state->rows_of = NULL;
+	state->image_size = state->used = state->room = 0;
+	state->n = state->n_room = 0;
+	state->steps = 0;
+}
+
+/* Joins what waits to the image, or makes registers of both. */
 void
 settle(State *state)
 {
@@ -201,7 +216,10 @@ settle(State *state)
 	if (state->n == 0)
 		return;
 	image = joined(state, 8);
-	set_image(state, (uint8 *) VARDATA(image), VARSIZE(image) - VARHDRSZ);
+	if (take_registers(&state->registers, state->context, IMAGE(image)))
+		drop_batch(state);
+	else
+		set_image(state, IMAGE(image));
 	pfree(image);
 }
 
@@ -210,9 +228,15 @@ take_image(State *state, const uint8 *image, size_t size, int64 row)
 {
 	uint64		steps = steps_of(image, size);
 
-	if (state->has_values || is_full(state, size, steps))
+	if (!keeps_registers(state) && (state->has_values || is_full(state, size, steps)))
 		settle(state);
 	state->has_values = false;
+	if (keeps_registers(state))
+	{
+		CHECK_FOR_INTERRUPTS();
+		check_row_status(join_image(&state->registers, image, size), row);
+		return;
+	}
 	state->steps += steps;
 	append(state, image, size, row);
 }
@@ -227,15 +251,63 @@ set_empty_image(State *state)
 	set_image(state, image, size);
 }
 
+/* Puts the coupons that wait into the registers. */
+static void
+add_coupons(State *state)
+{
+	check_status(hll_registers_add_coupons(state->registers.bytes, state->registers.count, state->coupons, state->n_coupons));
+	state->n_coupons = 0;
+}
+
+/* The image of the registers and of the coupons that wait, in the current context. */
+static bytea *
+image_of_both(State *state, uint8 width)
+{
+	add_coupons(state);
+	return image_of_registers(&state->registers, width);
+}
+
+static void
+take_coupon(State *state, uint32 coupon)
+{
+	if (state->coupons == NULL)
+		state->coupons = MemoryContextAlloc(state->context, COUPON_COUNT * sizeof(uint32));
+	state->coupons[state->n_coupons++] = coupon;
+	if (state->n_coupons == COUPON_COUNT)
+		add_coupons(state);
+}
+
 void
 take_value(State *state, const uint8 *value, size_t size)
 {
-	if (!state->has_values || is_full(state, size, 0))
+	if (!keeps_registers(state) && (!state->has_values || is_full(state, size, 0)))
 		settle(state);
+	if (keeps_registers(state))
+	{
+		take_coupon(state, hll_coupon(value, size));
+		return;
+	}
 	state->has_values = true;
 	if (state->image_size == 0)
 		set_empty_image(state);
 	append(state, value, size, 0);
+}
+
+/* The image of all that came, at eight bits and in the current context; NULL where nothing did. */
+bytea *
+image_of(State *state)
+{
+	bytea	   *image;
+
+	if (is_vacant(state))
+		return NULL;
+	settle(state);
+	if (keeps_registers(state))
+		return image_of_both(state, 8);
+	image = palloc(VARHDRSZ + state->image_size);
+	SET_VARSIZE(image, VARHDRSZ + state->image_size);
+	memcpy(VARDATA(image), state->bytes, state->image_size);
+	return image;
 }
 
 /* The answer, in the current context. Of values the batch is joined before, as their call keeps the width. */
@@ -247,5 +319,7 @@ answer_of(State *state)
 		settle(state);
 		state->has_values = false;
 	}
+	if (keeps_registers(state))
+		return image_of_both(state, state->width);
 	return joined(state, state->width);
 }

@@ -15,6 +15,13 @@ SELECT hll_agree(image, hll_convert(image, 4)) AS agree, hll_agree(image, hll_im
 -- estimates
 SELECT n, hll_estimate(image) BETWEEN b.lower AND b.upper AS is_between, 2000 BETWEEN b.lower AND b.upper AS is_near FROM shards, hll_estimate_bounds(image, 3) b ORDER BY n;
 SELECT hll_hip_estimate(hll_image_empty()) IS NULL AS of_none, hll_hip_estimate('\x0a0107040000000a0000000000000840' || decode(repeat('00', 40), 'hex')) AS kept;
+-- the type
+CREATE TABLE days (day int, sketch hyperloglog(10));
+INSERT INTO days SELECT x % 3, hyperloglog_agg(x, 10, 4) FROM generate_series(1, 9) x GROUP BY 1;
+SELECT day, sketch, round(# sketch) AS estimate FROM days ORDER BY day;
+SELECT round(# hyperloglog_union_agg(sketch)) AS of_all, pg_typeof(hyperloglog_union_agg(sketch)) FROM days;
+SELECT a.sketch || b.sketch = b.sketch || a.sketch AS commutes, count(*) FROM days a, days b GROUP BY 1;
+SELECT round(# hyperloglog_agg(v)) AS dates FROM unnest(ARRAY['2026-11-01', 'infinity', NULL]::date[]) v;
 -- refusals
 SELECT hll_check('\x0201070a030801080500000c') AS image, hll_check('\x0201070a') AS cut, hll_check('\x0201080a00000000') AS other;
 \set VERBOSITY terse
@@ -23,5 +30,8 @@ SELECT hll_fold(hll_image_empty(10), 11);
 SELECT hll_image_union_agg(i) FROM (VALUES (hll_image_empty()), (NULL), ('\x0301070c04080009')) x(i);
 SELECT hll_image_add_agg('a', 22);
 SELECT '\x00'::bytea::hll_image;
-DROP TABLE shards;
+INSERT INTO days VALUES (3, hyperloglog_empty(12));
+SELECT '\x0201070c030c000800'::hyperloglog;
+SELECT hyperloglog_agg(1.5);
+DROP TABLE shards, days;
 DROP EXTENSION hll_sketches;

@@ -79,8 +79,8 @@ def as_mallory(server, database, statements):
     return [line for line in said.split("\n") if "ERROR" in line]
 
 
-def plant(server, database, schema, own):
-    statements = [HEAR.replace("%(schema)s", schema), *operators(schema), *casts(schema), *functions(schema, own)]
+def plant(server, database, schema, own, more_types=()):
+    statements = [HEAR.replace("%(schema)s", schema), *operators(schema), *casts(schema), *functions(schema, own, more_types)]
     equal("planted in %s of %s" % (schema, database), as_mallory(server, database, statements), [])
 
 
@@ -91,7 +91,7 @@ def signatures(server, database):
     """The names and arguments of all functions of both extensions."""
     found = server.ask("""SELECT proname, oidvectortypes(proargtypes) FROM pg_proc JOIN pg_depend ON objid = pg_proc.oid
         JOIN pg_extension e ON refobjid = e.oid WHERE extname ~ '^hll_sketches' AND classid = 'pg_proc'::regclass""", database)
-    short = {"integer": "int4", "bigint": "int8"}
+    short = {"integer": "int4", "bigint": "int8", "boolean": "bool"}
     for line in found.split("\n"):
         name, arguments = line.split("|")
         yield name, ", ".join(short.get(kind, kind) for kind in arguments.split(", "))
@@ -99,9 +99,9 @@ def signatures(server, database):
 
 TABLE = """
 SET search_path = pg_catalog;
-CREATE TABLE safe.sketches (n int4, x int8, t text, image bytea, kept OWN.hll_image);
+CREATE TABLE safe.sketches (n int4, x int8, t text, image bytea, kept OWN.hll_image, typed OWN.hyperloglog(9, 4));
 INSERT INTO safe.sketches
-    SELECT x % 20, x, x, i, i
+    SELECT x % 20, x, x, i, i, i
     FROM (SELECT x, OWN.hll_image_add_agg(y, 9, 4) i
           FROM generate_series(1::int8, 900) x, generate_series(x, x + x % 40) y GROUP BY x) s;
 ALTER TABLE safe.sketches SET (parallel_workers = 3);
@@ -109,7 +109,14 @@ SET search_path = mallory, public;
 """
 CALLS = ("hll_check(image)", "hll_info(image)", "hll_estimate(image)", "hll_estimate_bounds(image, 2)", "hll_fold(image, 5)",
          "hll_convert(image, 6)", "hll_words(image)", "hll_merge(image, image)", "hll_merge(image, image, 10)",
-         "hll_agree(image, image)")
+         "hll_agree(image, image)", "hll_merge(typed, image)", "hll_merge(image, typed)",
+         *("%s(typed%s)" % call for call in (
+             ("hll_info", ""), ("hll_estimate", ""), ("hll_hip_estimate", ""), ("hll_estimate_bounds", ", 2"), ("hll_fold", ", 5"),
+             ("hll_convert", ", 6"), ("hll_words", ""), ("hll_merge", ", typed"), ("hll_merge", ", typed, 10"), ("hll_agree", ", typed"),
+             ("hyperloglog_hash", ""), ("hyperloglog_hash_extended", ", 7::int8"), ("hyperloglog_cmp", ", typed"), ("hyperloglog_send", ""))))
+OPERATORS_OF_TYPE = "= <> < <= > >= ||".split()
+COUNTED = ("x::int2", "x::int4", "x > 3", "x::float4", "x::float8", "date '2026-11-01' + n", "timestamp '2026-11-01' + x * interval '1 s'",
+           "timestamptz '2026-11-01' + x * interval '1 s'", "md5(t)::uuid", "t::\"char\"")
 
 
 def uses(own, short):
@@ -117,7 +124,17 @@ def uses(own, short):
     yield TABLE.replace("OWN", own)
     for call in CALLS:
         yield "SELECT %s.%s FROM safe.sketches;" % (own, call)
-    yield "SELECT %s.hll_image_empty(10, 4);" % own
+    yield "SELECT %s.hll_image_empty(10, 4), %s.hyperloglog_empty(10, 4);" % (own, own)
+    for operator in OPERATORS_OF_TYPE:
+        yield "SELECT typed OPERATOR(%s.%s) typed FROM safe.sketches;" % (own, operator)
+    yield "SELECT OPERATOR(%s.#) typed, typed OPERATOR(%s.||) image, image OPERATOR(%s.||) typed FROM safe.sketches;" % (own, own, own)
+    yield "SELECT typed, count(*) FROM safe.sketches GROUP BY typed ORDER BY typed;"
+    yield "SELECT image::%s.hyperloglog(9), typed::bytea, typed::text::%s.hyperloglog(9, 4) FROM safe.sketches;" % (own, own)
+    for more in ("", ", 10", ", 10, 6"):
+        yield "SELECT n, %s.hyperloglog_union_agg(typed%s) FROM safe.sketches GROUP BY n ORDER BY n;" % (own, more)
+        for value in COUNTED:
+            yield "SET search_path = pg_catalog; SELECT %s.hyperloglog_agg(%s%s), %s.hll_image_add_agg(%s%s), %s.hll_add_agg(%s%s) " \
+                "FROM safe.sketches; SET search_path = mallory, public;" % (own, value, more, own, value, more, short, value, more)
     yield "SELECT CAST(image AS %s.hll_image), kept FROM safe.sketches;" % own
     for agg, arguments, more in itertools.product(
             (own + ".hll_image_%s_agg", short + ".hll_%s_agg"), ("image", "t", "x"), ("", ", 10", ", 10, 6")):
@@ -161,10 +178,19 @@ def attack(server):
         database = "attacked_%s_%s" % schemas
         install_attacked(server, database, schemas, own)
         use_attacked(server, database, schemas, own, wanted)
+    for schemas in ("public", "public"), ("mallory", "mallory"):
+        database = "updated_%s_%s" % schemas
+        update_attacked(server, database, schemas, own)
+        use_attacked(server, database, schemas, own, wanted)
+    database = "attacked_safe_mallory"
     # where mallory may create beside the extension, a function of the domain would fit better (README.md, "Names")
     said = server.run("SELECT safe.hll_image_union_agg(kept), safe.hll_image_union_agg(image) FROM safe.sketches;", database)
     unheard(server, "a column of the domain", database, said)
     equal("a column of the domain", *said.split("|"))
+    said = server.run("SET search_path = safe, mallory, public; SELECT hyperloglog_union_agg(typed), hll_image_union_agg(typed::bytea, 12), "
+                      "bool_and(typed = typed AND # typed < 50 AND hll_agree(typed, typed || typed)) FROM safe.sketches;", database)
+    unheard(server, "a column of the type", database, said)
+    equal("a column of the type", *said.split("|")[:2])
 
 
 def install_attacked(server, database, schemas, own):
@@ -172,11 +198,25 @@ def install_attacked(server, database, schemas, own):
     for schema in ("mallory", "public"):
         plant(server, database, schema, own)
         if schema not in schemas:
-            equal("the same in " + schema, as_mallory(server, database, exact(schema, own)), [])
+            equal("the same in " + schema, as_mallory(server, database, exact(schema, without_type(own))), [])
     live(server, database)
     said = install(server, database, *schemas)
     equal("installed in %s and %s" % schemas, said, "")
     unheard(server, "installing in %s and %s" % schemas, database, said)
+
+
+def update_attacked(server, database, schemas, own):
+    """Version 0.1, with what is planted before its update."""
+    new_database(server, database)
+    equal("0.1 in %s and %s" % schemas, install(server, database, *("%s VERSION '0.1'" % schema for schema in schemas)), "")
+    for schema in ("mallory", "public"):
+        plant(server, database, schema, own, [schemas[0] + ".hll_image"])
+        if schema not in schemas:
+            equal("the same in " + schema, as_mallory(server, database, exact(schema, without_type(own))), [])
+    said = server.run("""SET search_path = mallory, public;
+        ALTER EXTENSION hll_sketches UPDATE; ALTER EXTENSION hll_sketches_agg UPDATE;""", database)
+    equal("updated in %s and %s" % schemas, said, "")
+    unheard(server, "updating in %s and %s" % schemas, database, said)
 
 
 def use_attacked(server, database, schemas, own, wanted):
@@ -202,13 +242,25 @@ def live(server, database):
 
 def exact(schema, own):
     """The extensions' own names and arguments, but for those that only a superuser can give a function."""
-    return [function('%s."%s"' % (schema, name), arguments) for name, arguments in sorted(own) if "internal" not in arguments]
+    return [function('%s."%s"' % (schema, name), arguments) for name, arguments in sorted(own)
+            if "internal" not in arguments and "cstring" not in arguments]
+
+
+def without_type(own):
+    """Those that can be planted before the type is there."""
+    return {(name, arguments) for name, arguments in own if "hyperloglog" not in arguments}
+
+
+def of_type(own_schema, own):
+    """Those of the type, which stands in a schema."""
+    return {(name, arguments.replace("hyperloglog", own_schema + ".hyperloglog")) for name, arguments in own}
 
 
 def plant_later(server, database, own_schema, own):
     """What can be planted once the extensions are there: their own names elsewhere, and arguments of the domain."""
+    own = of_type(own_schema, own)
     for schema in ("mallory", "public"):
-        as_mallory(server, database, [*exact(schema, own), *functions(schema, own, [own_schema + ".hll_image"])])
+        as_mallory(server, database, [*exact(schema, own), *functions(schema, own, [own_schema + ".hll_image", own_schema + ".hyperloglog"])])
 
 
 # ---- names that are taken
@@ -224,17 +276,18 @@ def taken(server):
     new_database(server, "taken")
     for schema in ("public", "mallory"):
         equal("planted in " + schema, as_mallory(server, "taken", [HEAR.replace("%(schema)s", schema)]), [])
-    for name, arguments in own:
-        if "internal" not in arguments:
+    for name, arguments in sorted(without_type(own)):
+        if "internal" not in arguments and "cstring" not in arguments:
             try_taken(server, function("public." + name, arguments), "public", "42723")
     try_taken(server, function("public.hll_check", "bytea, more int4 DEFAULT 1"), "public", "42725")
     for kind in ("DOMAIN public.hll_image AS bytea", "TABLE public.hll_image ()", "TYPE public.hll_image AS ENUM ()"):
         try_taken(server, "CREATE %s;" % kind, "public", "42710")
+        try_taken(server, "CREATE %s;" % kind.replace("hll_image", "hyperloglog"), "public", "42710")
     for language, body in ("plpgsql", "BEGIN END"), ("sql", "SELECT 1"):
         said = as_mallory(server, "taken", ["CREATE FUNCTION mallory.f(internal) RETURNS int4 LANGUAGE %s AS '%s';" % (language, body)])
         check("no function of internal in " + language, len(said) == 1 and "type internal" in said[0], said)
-    for name, arguments in own:
-        if "internal" in arguments:
+    for name, arguments in sorted(without_type(own)):
+        if "internal" in arguments and "_recv" not in name:
             try_taken(server, aggregate("mallory." + name, arguments), "mallory", "42883")
 
 
@@ -330,12 +383,12 @@ def qualified(server):
             "DO $$ BEGIN PERFORM CAST('public' AS regnamespace); END $$",
             "DO $$ BEGIN PERFORM extname FROM pg_extension; END $$")):
         check("decoys are found, %d" % number, decoys_in(server, statement + ";", "ROLLBACK") != "", statement)
-    for script in ("hll_sketches--0.1.sql", "hll_sketches_agg--0.1.sql"):
+    for script in ("hll_sketches--0.1.sql", "hll_sketches--0.1--0.2.sql", "hll_sketches_agg--0.1.sql", "hll_sketches_agg--0.1--0.2.sql"):
         text = re.sub(r"^\\echo.*$", "", (HERE / script).read_text(), flags=re.M)
         equal("decoys in " + script, decoys_in(server, text.replace("MODULE_PATHNAME", "$libdir/hll_sketches"), "COMMIT"), "")
 
 
 def decoys_in(server, script, end):
     """What of a script's work leans on decoys, and errors."""
-    return server.run("SET search_path = own, decoys, pg_catalog;\nBEGIN;\n%s\nSET LOCAL search_path = pg_catalog;\n%s;\n%s;"
+    return server.run("SET client_min_messages = warning; SET search_path = own, decoys, pg_catalog;\nBEGIN;\n%s\nSET LOCAL search_path = pg_catalog;\n%s;\n%s;"
                       % (script, LEANING, end), "decoys")

@@ -12,6 +12,7 @@ REASONS = "truncated family version lgk width stage preamble lgarr count coupon 
 QUICK = "--quick" in sys.argv
 GROUPS, IMAGES, REFUSALS = (500, 5000, 1000) if QUICK else (5000, 100000, 10000)
 IMAGE, ARGUMENT, NULL, CANCELLED, MEMORY, CHECKED = "22P03", "22023", "22004", "57014", "53200", "23514"
+DATA, DATATYPE, UNDEFINED = "22000", "42804", "42883"
 counts = {"passed": 0, "failed": 0}
 
 

@@ -109,6 +109,8 @@ class Server:
     def __enter__(self):
         self.root = pathlib.Path(tempfile.mkdtemp(prefix="hll-"))
         self.root.chmod(0o755)
+        self.file("").mkdir()
+        self.file("").chmod(0o777)
         try:
             self.copy()
             self.link()
@@ -218,8 +220,8 @@ class Server:
                               stderr=subprocess.PIPE, text=True, check=True).stdout
 
     def file(self, name):
-        """The path of a file that both this process and the server may read."""
-        return self.root / name
+        """The path of a file that both this process and the server may write."""
+        return self.root / "files" / name
 
 
 class Session:

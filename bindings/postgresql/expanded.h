@@ -1,0 +1,35 @@
+/* SPDX-License-Identifier: Apache-2.0 */
+/*
+ * Expanded values of the type hyperloglog: those that a merge leaves in registers, so that a merge after it, in a loop or
+ * in an aggregate, needs not read and write an image of them again.
+ */
+#ifndef HLL_EXPANDED_H
+#define HLL_EXPANDED_H
+
+#include "registers.h"
+
+#include "utils/expandeddatum.h"
+
+/* A value that is both forms or one of them: an image, and its registers. */
+typedef struct ExpandedSketch
+{
+	ExpandedObjectHeader header;
+	Registers	registers;		/* none before the first merge, nor where they don't say all of the image */
+	bool		is_tried;		/* whether they were asked for */
+	uint8		width;
+	bytea	   *image;			/* NULL where the registers have changed since it was written */
+} ExpandedSketch;
+
+/* What a value's header says. */
+typedef struct Header
+{
+	uint8		lg_k;
+	uint8		width;
+	size_t		size;			/* of the image; 0 where it isn't written yet */
+} Header;
+
+/* The object of a value, or NULL where that is flat. */
+extern ExpandedSketch *expanded_of(Datum value);
+extern Header header_of(Datum value);
+
+#endif

@@ -1,0 +1,134 @@
+# SPDX-License-Identifier: Apache-2.0
+"""Values of each type, beside the bytes that docs/FORMAT.md says ("What values are hashed as") and its hash."""
+import datetime
+import random
+import struct
+import uuid
+
+from images import image_of_values
+from report import DATATYPE, SEED, bytes_of, check, equal, refused
+
+AGGREGATES = "hll_image_add_agg", "hyperloglog_agg"
+LEAST, GREATEST = -2**63, 2**63 - 1
+EPOCH = datetime.datetime(1970, 1, 1)
+MICROSECOND = datetime.timedelta(microseconds=1)
+NAN = bytes.fromhex("000000000000f87f")
+
+
+def integer(number):
+    """Its eight bytes; from 2^63 on its own."""
+    return struct.pack("<Q", number % 2**64)
+
+
+def real(number):
+    return NAN if number != number else struct.pack("<d", number + 0.0)
+
+
+def single(number):
+    return struct.unpack("<f", struct.pack("<f", number))[0]
+
+
+def random_times(numbers, count):
+    for _ in range(count):
+        seconds = numbers.randrange(-62135596800, 253402300800)
+        yield EPOCH + datetime.timedelta(seconds=seconds, microseconds=numbers.randrange(10**6))
+
+
+def kinds():
+    """Each type, and texts of its values with their bytes."""
+    numbers = random.Random(SEED)
+    for name, bits in ("int2", 16), ("int4", 32), ("int8", 64):
+        some = [0, 1, -1, 2**(bits - 1) - 1, -2**(bits - 1)] + [numbers.randrange(-2**(bits - 1), 2**(bits - 1)) for _ in range(2000)]
+        yield name, [(str(n), integer(n)) for n in some]
+    yield "bool", [("true", integer(1)), ("false", integer(0))]
+    some = [0.0, -0.0, 1.0, 1.5, 5e-324, 1.7e308, float("inf"), float("-inf"), float("nan")] + [numbers.gauss(0, 1e9) for _ in range(2000)]
+    yield "float8", [(repr(x), real(x)) for x in some]
+    some = [single(x) for x in some if abs(x) < 1e38 or x != x or abs(x) == float("inf")]
+    yield "float4", [(repr(x), real(x)) for x in some]
+    days = [datetime.date(1, 1, 1), datetime.date(1970, 1, 1), datetime.date(1969, 12, 31), datetime.date(9999, 12, 31)]
+    days += [day.date() for day in random_times(numbers, 2000)]
+    yield "date", [(day.isoformat(), integer(day.toordinal() - 719163)) for day in days] + [
+        ("4713-01-01 BC", integer(-2440550)), ("5874897-12-31", integer(2145042905)),
+        ("-infinity", integer(LEAST)), ("infinity", integer(GREATEST))]
+    times = [EPOCH, EPOCH - MICROSECOND, datetime.datetime(9999, 12, 31, 23, 59, 59, 999999), *random_times(numbers, 2000)]
+    micros = [(time.isoformat(" "), integer((time - EPOCH) // MICROSECOND)) for time in times]
+    ends = [("-infinity", integer(LEAST)), ("infinity", integer(GREATEST)),
+            ("294276-12-31 23:59:59.999999%s", integer(9224318015999999999))]
+    yield "timestamp", micros + [(text.replace("%s", ""), value) for text, value in ends]
+    yield "timestamptz", [(text + "+00", value) for text, value in micros] + [(text.replace("%s", "+00"), value) for text, value in ends]
+    ids = [uuid.UUID(int=numbers.getrandbits(128)) for _ in range(2000)] + [uuid.UUID(int=0)]
+    yield "uuid", [(str(one), one.bytes) for one in ids]
+    yield '"char"', [(chr(n), bytes([n])) for n in range(48, 58)]
+    yield "text", [("v%d" % n, b"v%d" % n) for n in range(2000)] + [("ä€😀", "ä€😀".encode())]
+    yield "bytea", [("\\x%04x" % n, struct.pack(">H", n)) for n in range(2000)]
+
+
+def array_of(kind, texts):
+    return "CAST(ARRAY[%s] AS %s[])" % (", ".join("'%s'" % text for text in texts), kind)
+
+
+def kinds_of_values(server):
+    """One value, a few and many of each type, by each aggregate."""
+    for kind, values in kinds():
+        for some, lg_k, width in ((values, 11, 6), (values[:5], 12, 8), (values[-3:], 10, 4)):
+            wanted = image_of_values(lg_k, width, [value for _, value in some])
+            for name in AGGREGATES:
+                query = "SELECT %s(v, %d, %d) FROM unnest(%s) v" % (name, lg_k, width, array_of(kind, [text for text, _ in some]))
+                equal("%s of %d values of %s" % (name, len(some), kind), bytes_of(server.ask(query)), wanted)
+        for text, value in values[:12] + values[-4:]:
+            found = server.ask("SELECT hyperloglog_agg(%s '%s')" % (kind, text))
+            equal("%s %s" % (kind, text), bytes_of(found), image_of_values(12, 8, [value]))
+    alike(server)
+
+
+ALIKE = ("5::int2", "5::int4", "5::int8"), ("true", "1"), ("false", "0", "0::float8", "'-0'::float8", "'-0'::float4"), (
+    "'NaN'::float8", "'NaN'::float4"), ("1.5::float4", "1.5::float8"), ("'x'", "'x'::text", "'x'::varchar(9)", "'x'::char(5)",
+    "'x'::name", "'x'::word", "'x'::\"char\"", "'\\x78'::bytea"), ("7::small", "7"), ("date '1970-01-08'", "7"), (
+    "timestamp '1970-01-01 00:00:00.000007'", "timestamptz '1970-01-01 05:30:00.000007+05:30'", "7"), (
+    "date 'infinity'", "timestamp 'infinity'", "timestamptz 'infinity'", str(GREATEST))
+
+
+def alike(server):
+    """Values that count as one, though their types differ, and those that don't."""
+    server.ask("CREATE DOMAIN word AS text; CREATE DOMAIN small AS int4 CHECK (VALUE > 0); CREATE TYPE color AS ENUM ('red')")
+    for values in ALIKE:
+        for name in AGGREGATES:
+            found = server.ask("SELECT count(DISTINCT v) FROM unnest(ARRAY[%s]) v" % ", ".join(
+                "(SELECT %s(%s)::bytea)" % (name, value) for value in values))
+            equal("%s: one value is %s" % (name, " and ".join(values)), found, "1")
+    found = server.ask("SELECT count(DISTINCT v) FROM unnest(ARRAY[%s]) v" % ", ".join(
+        "(SELECT hyperloglog_agg(%s))" % value for value in ("7", "7::float8", "'7'", "'\\x07'::bytea", "NULL::text", "''")))
+    equal("values that differ", found, "5")
+    for name in AGGREGATES:
+        for arguments in ("v", "v, 9", "v, 9, 4"):
+            for kind, _ in kinds():
+                found = server.ask("SELECT %s(%s) IS NULL FROM unnest(ARRAY[NULL]::%s[]) v" % (name, arguments, kind))
+                equal("%s(%s) of a %s that is NULL" % (name, arguments, kind), found, "t")
+
+
+OTHERS = {"numeric": "1.5", "oid": "1::oid", "color": "'red'::color", "money": "1::money", "interval": "interval '1 s'",
+          "time without time zone": "localtime", "regclass": "'pg_class'::regclass", "json": "'{}'::json", "jsonb": "'{}'::jsonb",
+          "inet": "inet '::1'", "bit": "B'1'", "integer[]": "ARRAY[1]", "record": "ROW(1, 2)", "xid": "'1'::xid", "point": "point(1, 2)",
+          "int4range": "int4range(1, 2)", "pg_lsn": "'0/1'::pg_lsn", "macaddr": "macaddr '08:00:2b:01:02:03'"}
+
+
+def refused_kinds(server):
+    """All other types are refused with their names, and not counted as what they could be cast to."""
+    for name in AGGREGATES:
+        for arguments in ("%s", "%s, 9", "%s, 9, 4"):
+            for kind, value in OTHERS.items():
+                said = server.run("SELECT %s(%s);" % (name, arguments % value))
+                refused("%s of %s" % (name, kind), said, DATATYPE, "values of type %s cannot be counted" % kind)
+                check("a cast for " + kind, "CAST(value AS text)" in said, said)
+            said = server.run("SELECT %s(%s);" % (name, arguments % "hyperloglog_empty()"))
+            refused("%s of sketches" % name, said, DATATYPE, "sketches are not counted as values")
+        said = server.run("SELECT %s(v) FROM unnest(ARRAY[NULL]::numeric[]) v;" % name)
+        refused("%s of a numeric that is NULL" % name, said, DATATYPE)
+    found = server.ask("SELECT hyperloglog_agg(v) IS NULL FROM unnest(ARRAY[]::numeric[]) v")
+    equal("no numeric", found, "t")
+    if server.run("CREATE EXTENSION citext;"):
+        print("skipped: citext, as it is not here")
+        return
+    found = server.ask("SELECT hyperloglog_agg('Ann'::citext) = hyperloglog_agg('Ann'), "
+                       "hll_image_add_agg('Ann'::citext, 9, 4) = hll_image_add_agg('Ann', 9, 4)")
+    equal("a citext counts as it is written", found, "t|t")
