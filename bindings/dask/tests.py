@@ -18,7 +18,8 @@ import pandas
 from distributed import Client, LocalCluster
 
 from hll_sketches import ArgumentError, Sketch
-from hll_sketches.dask import PlacedImageError, union_by_key, union_of_bag, union_of_files
+from hll_sketches.dask import (
+    LeftOut, PlacedImageError, sketch_aggregation, union_aggregation, union_by_key, union_of_bag, union_of_files)
 from images import built_program, random_image, with_words
 from report import check, counts, equal
 from slow import SlowPath, opened
@@ -115,6 +116,87 @@ def refused_files(client, folder, images, paths):
         equal("missing file", error.filename, missing)
 
 
+def patterns(client, folder, images, paths):
+    """A name or a pattern, of the local file system and of another one that has options of its own."""
+    wanted = union_by_program(images)
+    equal("a pattern", image_by(union_of_files(str(folder / "image *.bin"))), wanted)
+    equal("one name", image_by(union_of_files(paths[7])), union_by_program(images[7:8]))
+    options = {"target_protocol": "file", "cache_storage": str(folder / "cache")}
+    found = image_by(union_of_files("simplecache://" + str(folder / "image 0000*.bin"), storage_options=options))
+    equal("storage_options with a pattern", found, union_by_program(images[:10]))
+    urls = ["simplecache://" + path for path in paths[:10]]
+    equal("storage_options with names", image_by(union_of_files(urls, storage_options=options)), union_by_program(images[:10]))
+    check("the other file system was asked", len(os.listdir(folder / "cache")) >= 10)
+    for pattern in ("none*.bin", "none.bin"):
+        try:
+            union_of_files(str(folder / pattern)).compute()
+            check("no file, " + pattern, False)
+        except FileNotFoundError as error:
+            check("no file, " + pattern, str(folder / pattern) in str(error), error)
+
+
+def skipped(client, folder, images, paths):
+    """With on_error="skip" what is refused is left out, and named in the answer."""
+    cut, missing = folder / "cut.bin", folder / "missing"
+    cut.write_bytes(images[3][:5])
+    some = paths[:200] + [str(cut)] + paths[200:300] + [str(missing)]
+    found = union_of_files(some, on_error="skip", files_per_task=9, split_every=2).compute()
+    equal("files skipped: the union", found.union.to_bytes(), union_by_program(images[:300]))
+    equal("files skipped: names", found.refused, [(str(cut), "truncated"), (str(missing), "No such file or directory")])
+    equal("none skipped", union_of_files(paths[:300], on_error="skip").compute(), LeftOut(found.union, []))
+
+    bag = dask.bag.from_sequence([images[0], images[1][:4], images[2]], npartitions=3)
+    found = union_of_bag(bag, on_error="skip").compute()
+    equal("items skipped", (found.union.to_bytes(), found.refused),
+          (union_by_program([images[0], images[2]]), [("partition 1, item 0", "truncated")]))
+
+    frame = pandas.DataFrame({"day": [1, 1, 2, 2], "image": [images[0], b"", images[1], images[2]]})
+    found = union_by_key(dask.dataframe.from_pandas(frame, npartitions=1), "day", "image", on_error="skip").compute()
+    equal("rows skipped", (found.union.to_dict(), found.refused),
+          ({1: union_by_program(images[:1]), 2: union_by_program(images[1:3])}, [("partition 0, row 1", "truncated")]))
+    frame = pandas.DataFrame({"day": [n % 2 for n in range(40)], "image": [images[n] if n % 9 else b"" for n in range(40)]})
+    parts = dask.dataframe.from_pandas(frame, npartitions=10)
+    found = union_by_key(parts, "day", "image", on_error="skip", split_every=2).compute()
+    wanted = [("partition %d, row %d" % divmod(n, 4), "truncated") for n in range(0, 40, 9)]
+    equal("rows skipped in a tree", found.refused, wanted)
+    try:
+        union_of_files(paths, on_error="ignore")
+        check("on_error", False)
+    except ArgumentError as error:
+        equal("on_error", str(error), "on_error is 'raise' or 'skip', not 'ignore'")
+
+
+def aggregations(client, folder, images, paths):
+    """groupby(..).agg(..) beside sketches that are made by group, in any tree; what is missing is passed over."""
+    numbers, count = random.Random(6), 20000
+    frame = pandas.DataFrame({
+        "day": [numbers.randrange(9) for _ in range(count)], "page": [numbers.choice("abc") for _ in range(count)],
+        "number": [numbers.randrange(5000) for _ in range(count)], "real": [numbers.choice([0.5, -0.0, None]) for _ in range(count)],
+        "text": [numbers.choice(["ann", "bob", None, "\u00e9"]) for _ in range(count)],
+        "image": [numbers.choice(images[:300]) for _ in range(count)]})
+    frame.loc[:50, "image"] = None
+    parts = dask.dataframe.from_pandas(frame, npartitions=13)
+    whole = dask.dataframe.from_pandas(frame, npartitions=1)
+    for source, column, lg_k, width in ((whole, "number", 14, 6), (parts, "number", 10, 4), (parts, "real", 12, 8), (parts, "text", 4, 8)):
+        wanted = {}
+        for day, rows in frame.groupby("day")[column]:
+            made = Sketch(lg_k, width)
+            made.update_many(rows.dropna())
+            wanted[day] = made.to_bytes()
+        found = source.groupby("day")[column].agg(sketch_aggregation(lg_k, width), split_every=3).compute()
+        equal("sketches of %s, lg_k %d" % (column, lg_k), found.to_dict(), wanted)
+
+    keys = ["page", "day"]
+    wanted = {key: union_by_program(list(rows.dropna()), 11, 6) for key, rows in frame.groupby(keys)["image"]}
+    found = parts.groupby(keys).agg({"image": union_aggregation(11, 6), "number": "max"}, split_out=3).compute()
+    equal("unions by two keys", found["image"].to_dict(), wanted)
+    equal("beside another aggregation", found["number"].to_dict(), frame.groupby(keys)["number"].max().to_dict())
+
+    frame.loc[777, "image"] = images[5][:6]
+    bad = dask.dataframe.from_pandas(frame, npartitions=13).groupby("day")["image"].agg(union_aggregation())
+    equal("a refused row of a group", error_of(bad)[::2], ("truncated", "row 777"))
+
+
 def arguments(client, folder, images, paths):
     for some in ((3,), (22,), (12, 5)):
         try:
@@ -207,7 +289,7 @@ def lost_worker(client, folder, images, paths):
     print("  %d files, opened %d times, by %d processes" % (len(paths), sum(times.values()), len(times)))
 
 
-PARTS = [files, refused_files, arguments, bags, keys, columns, lost_worker]
+PARTS = [files, refused_files, patterns, skipped, aggregations, arguments, bags, keys, columns, lost_worker]
 
 
 def run(part, *arguments_of_all):

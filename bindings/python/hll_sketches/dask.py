@@ -1,13 +1,18 @@
 # SPDX-License-Identifier: Apache-2.0
-"""Unions of many images over a Dask cluster.
+"""Unions of many images, and sketches of many values, over a Dask cluster.
 
-Each function builds a tree of tasks and returns it as a ``dask.delayed.Delayed``; ``compute()``
-runs it, on the cluster of the current ``distributed.Client`` if there is one.
+The functions ``union_of_*`` and ``union_by_key`` build a tree of tasks and return it as a
+``dask.delayed.Delayed``; ``compute()`` runs it, on the cluster of the current
+``distributed.Client`` if there is one.
 
     >>> from distributed import Client
-    >>> from hll_sketches.dask import union_of_files
+    >>> from hll_sketches.dask import sketch_aggregation, union_of_files
     >>> with Client("scheduler:8786"):
-    ...     sketch = union_of_files(paths).compute()
+    ...     sketch = union_of_files("s3://bucket/2026-11-*/*.hll").compute()
+    ...     by_day = visits.groupby("day")["visitor"].agg(sketch_aggregation()).compute()
+
+``sketch_aggregation`` and ``union_aggregation`` are for ``groupby(..).agg(..)`` of a Dask data
+frame, where ``split_every`` and ``split_out`` say how its tree is built.
 
 A task reads images and gives the image of their union; the tasks above join such images, a few at a
 time. The union is the same however images are grouped, ordered or repeated. So a task that is run
@@ -19,21 +24,37 @@ The package and its library have to be on each worker. Needs ``dask`` 2022.12 or
 """
 from __future__ import annotations
 
+import errno
 import os
 from functools import partial
-from typing import Any, Callable, Dict, Hashable, Iterable, List, Optional, Sequence, Tuple
-from typing import Union as Either, cast
+from typing import Any, Callable, Dict, Hashable, Iterable, Iterator, List, NamedTuple, Optional
+from typing import Sequence, Tuple, Union as Either, cast
 
+import fsspec
 from dask.delayed import delayed
 
-from ._errors import ImageError
-from .sketch import Sketch, checked_lg_k, checked_width
+from ._errors import ArgumentError, ImageError
+from .sketch import Sketch, check, checked_lg_k, checked_width
 from .union import Source, joined
 
-__all__ = ["PlacedImageError", "union_by_key", "union_of_bag", "union_of_files"]
+__all__ = [
+    "LeftOut",
+    "PlacedImageError",
+    "sketch_aggregation",
+    "union_aggregation",
+    "union_by_key",
+    "union_of_bag",
+    "union_of_files",
+]
 
 Path = Either[str, "os.PathLike[str]"]
+File = Either[Path, fsspec.core.OpenFile]
 Key = Either[str, Sequence[str]]
+Refused = List[Tuple[str, str]]
+Part = Tuple[bytes, Refused]
+"""The image of a union, and what was left out of it."""
+Parts = Tuple[Dict[Hashable, bytes], Refused]
+"""The image of each key, and what was left out."""
 
 LEAST_FILES, MOST_FILES, TASKS_PER_THREAD, SPLIT_EVERY = 64, 4096, 2, 8
 
@@ -63,7 +84,35 @@ class PlacedImageError(ImageError):
         return type(self), (self.reason, self.number, self.place)
 
 
+class LeftOut(NamedTuple):
+    """What ``on_error="skip"`` answers.
+
+    Attributes
+    ----------
+    union : Sketch or pandas.Series
+        What would have been answered without the images that are refused.
+    refused : list of (str, str)
+        The place of each of these, and why it is refused.
+    """
+
+    union: Any
+    refused: Refused
+
+
 # ---- tasks
+
+
+class _Bounds(NamedTuple):
+    """The bound of a union, and whether images that are refused are left out of it."""
+
+    lg_max_k: int
+    skips: bool
+
+
+def _bounds(lg_max_k: int, on_error: str) -> _Bounds:
+    if on_error not in ("raise", "skip"):
+        raise ArgumentError(f"on_error is 'raise' or 'skip', not {on_error!r}")
+    return _Bounds(checked_lg_k(lg_max_k), on_error == "skip")
 
 
 def _image_of(images: Iterable[Source], lg_max_k: int) -> bytes:
@@ -71,41 +120,75 @@ def _image_of(images: Iterable[Source], lg_max_k: int) -> bytes:
     return joined(images, lg_max_k).to_bytes()
 
 
+def _accepted(
+    sources: Iterable[Either[Source, OSError]],
+    place_of: Callable[[int], Tuple[int, str]],
+    refused: Refused,
+) -> Iterator[Source]:
+    """Those that are images; the places of the others, and why, go to ``refused``."""
+    for number, source in enumerate(sources):
+        if isinstance(source, OSError):
+            reason: Optional[str] = source.strerror or str(source)
+        else:
+            reason = None if isinstance(source, Sketch) else check(source)
+        if reason is not None:
+            refused.append((place_of(number)[1], reason))
+        else:
+            yield cast(Source, source)
+
+
 def _placed(
-    images: Iterable[Source], lg_max_k: int, place_of: Callable[[int], Tuple[int, str]]
-) -> bytes:
-    """The image of a union. Of one that is refused, ``place_of`` gives number and place."""
+    sources: Iterable[Either[Source, OSError]],
+    bounds: _Bounds,
+    place_of: Callable[[int], Tuple[int, str]],
+) -> Part:
+    """The union of sources. Of one that is refused, ``place_of`` gives number and place."""
+    refused: Refused = []
+    if bounds.skips:
+        return _image_of(_accepted(sources, place_of, refused), bounds.lg_max_k), refused
     try:
-        return _image_of(images, lg_max_k)
+        return _image_of(cast(Iterable[Source], sources), bounds.lg_max_k), refused
     except ImageError as error:
         number, place = place_of(error.number or 0)
         raise PlacedImageError(error.reason, number, place) from None
 
 
-def _bytes_of_file(path: Path) -> bytes:
-    name = os.fspath(path)
-    if "://" in name:
-        import fsspec
-
-        with fsspec.open(name, "rb") as file:
-            return bytes(file.read())
-    with open(name, "rb") as file:
-        return file.read()
+def _name_of(file: File) -> str:
+    return file.full_name if isinstance(file, fsspec.core.OpenFile) else os.fspath(file)
 
 
-def _union_of_files(paths: Sequence[Path], first: int, lg_max_k: int) -> bytes:
-    return _placed(
-        map(_bytes_of_file, paths), lg_max_k, lambda n: (first + n, os.fspath(paths[n]))
-    )
+def _bytes_of_file(file: File, options: Dict[str, Any]) -> bytes:
+    if not isinstance(file, fsspec.core.OpenFile) and "://" not in os.fspath(file):
+        with open(file, "rb") as local:
+            return local.read()
+    if not isinstance(file, fsspec.core.OpenFile):
+        file = fsspec.open(os.fspath(file), "rb", **options)
+    with file as remote:
+        return bytes(remote.read())
 
 
-def _union_of_items(items: Iterable[Source], partition: int, lg_max_k: int) -> bytes:
-    return _placed(items, lg_max_k, lambda n: (n, f"partition {partition}, item {n}"))
+def _read(file: File, options: Dict[str, Any], skips: bool) -> Either[bytes, OSError]:
+    """The bytes of a file, or why it can't be read, where that may be left out."""
+    try:
+        return _bytes_of_file(file, options)
+    except OSError as error:
+        if skips:
+            return error
+        raise
 
 
-def _union_by_key(
-    frame: Any, key: Key, image: str, partition: int, lg_max_k: int
-) -> Dict[Hashable, bytes]:
+def _union_of_files(
+    files: Sequence[File], first: int, options: Dict[str, Any], bounds: _Bounds
+) -> Part:
+    read = (_read(file, options, bounds.skips) for file in files)
+    return _placed(read, bounds, lambda n: (first + n, _name_of(files[n])))
+
+
+def _union_of_items(items: Iterable[Source], partition: int, bounds: _Bounds) -> Part:
+    return _placed(items, bounds, lambda n: (n, f"partition {partition}, item {n}"))
+
+
+def _union_by_key(frame: Any, key: Key, image: str, partition: int, bounds: _Bounds) -> Parts:
     """The image of the union of each key's images in a pandas data frame."""
     columns = [key] if isinstance(key, str) else list(key)
     missing = frame[columns + [image]].isna().any(axis=1)
@@ -115,43 +198,55 @@ def _union_by_key(
     for row, (one, is_missing) in enumerate(zip(keys, missing)):
         if not is_missing:
             rows.setdefault(one, []).append(row)
-    return {
-        one: _placed(
+    unions: Dict[Hashable, bytes] = {}
+    refused: Refused = []
+    for one, of_key in rows.items():
+        unions[one], left_out = _placed(
             [images[n] for n in of_key],
-            lg_max_k,
+            bounds,
             lambda n: (of_key[n], f"partition {partition}, row {of_key[n]}"),
         )
-        for one, of_key in rows.items()
-    }
+        refused += left_out
+    return unions, refused
 
 
-def _joined(parts: List[bytes], lg_max_k: int) -> bytes:
-    return _image_of(parts, lg_max_k)
+def _all_refused(parts: Sequence[Tuple[Any, Refused]]) -> Refused:
+    return [one for _, refused in parts for one in refused]
 
 
-def _sketch_of(parts: List[bytes], lg_max_k: int, width: int) -> Sketch:
-    return joined(parts, lg_max_k, width)
+def _answer(union: Any, parts: Sequence[Tuple[Any, Refused]], bounds: _Bounds) -> Any:
+    return LeftOut(union, _all_refused(parts)) if bounds.skips else union
 
 
-def _collected(parts: List[Dict[Hashable, bytes]]) -> Dict[Hashable, List[bytes]]:
+def _joined(parts: List[Part], bounds: _Bounds) -> Part:
+    return _image_of((image for image, _ in parts), bounds.lg_max_k), _all_refused(parts)
+
+
+def _sketch_of(parts: List[Part], bounds: _Bounds, width: int) -> Any:
+    union = joined((image for image, _ in parts), bounds.lg_max_k, width)
+    return _answer(union, parts, bounds)
+
+
+def _collected(parts: List[Parts]) -> Dict[Hashable, List[bytes]]:
     collected: Dict[Hashable, List[bytes]] = {}
-    for part in parts:
+    for part, _ in parts:
         for key, image in part.items():
             collected.setdefault(key, []).append(image)
     return collected
 
 
-def _joined_by_key(parts: List[Dict[Hashable, bytes]], lg_max_k: int) -> Dict[Hashable, bytes]:
-    return {key: _image_of(images, lg_max_k) for key, images in _collected(parts).items()}
+def _joined_by_key(parts: List[Parts], bounds: _Bounds) -> Parts:
+    joined_parts = {
+        key: _image_of(images, bounds.lg_max_k) for key, images in _collected(parts).items()
+    }
+    return joined_parts, _all_refused(parts)
 
 
-def _series_of(
-    parts: List[Dict[Hashable, bytes]], lg_max_k: int, width: int, key: Key, image: str
-) -> Any:
+def _series_of(parts: List[Parts], bounds: _Bounds, width: int, key: Key, image: str) -> Any:
     import pandas
 
     images = {
-        one: joined(of_key, lg_max_k, width).to_bytes()
+        one: joined(of_key, bounds.lg_max_k, width).to_bytes()
         for one, of_key in _collected(parts).items()
     }
     if isinstance(key, str):
@@ -160,7 +255,7 @@ def _series_of(
         columns = list(zip(*cast(Iterable[Sequence[Hashable]], images))) or [() for _ in key]
         index = pandas.MultiIndex.from_arrays(columns, names=list(key))
     series = pandas.Series(list(images.values()), index=index, name=image, dtype=object)
-    return series.sort_index()
+    return _answer(series.sort_index(), parts, bounds)
 
 
 # ---- trees
@@ -193,11 +288,23 @@ def _tree(
     return finish(parts)
 
 
+def _files_of(paths: Either[str, Iterable[Path]], options: Dict[str, Any]) -> List[File]:
+    """The files of a pattern, in the order of their names, or of a list."""
+    if not isinstance(paths, str):
+        return list(paths)
+    found = sorted(fsspec.open_files(paths, "rb", **options), key=_name_of)
+    if not found:
+        raise FileNotFoundError(errno.ENOENT, "no file has this name, or fits this pattern", paths)
+    return found
+
+
 def union_of_files(
-    paths: Iterable[Path],
+    paths: Either[str, Iterable[Path]],
     lg_max_k: int = 12,
     width: int = 8,
     *,
+    storage_options: Optional[Dict[str, Any]] = None,
+    on_error: str = "raise",
     files_per_task: Optional[int] = None,
     split_every: int = SPLIT_EVERY,
 ) -> Any:
@@ -205,12 +312,19 @@ def union_of_files(
 
     Parameters
     ----------
-    paths : iterable of str or path
-        The files, as the workers see them. A text with ``://`` is a URL, which ``fsspec`` opens.
+    paths : str, or iterable of str or path
+        A text is one name or a pattern, as ``days/*.hll`` or ``s3://bucket/**/*.hll``, that
+        ``fsspec`` looks up here. Of several, each is the name of a file, as the workers see it; one
+        with ``://`` is a URL, which ``fsspec`` opens.
     lg_max_k : int
         The largest ``lg_k`` of the union, 4 to 21.
     width : int
         The bits of a register of the union, 4, 6 or 8.
+    storage_options : dict, optional
+        What ``fsspec`` passes to the file system of patterns and URLs, as keys and endpoints.
+    on_error : str
+        What becomes of files that are no image, or can't be read: ``"raise"`` raises, ``"skip"``
+        leaves them out and answers ``LeftOut``.
     files_per_task : int, optional
         How many files a task reads. By default there are two tasks for each thread of the cluster,
         of 64 to 4,096 files.
@@ -220,27 +334,40 @@ def union_of_files(
     Returns
     -------
     dask.delayed.Delayed
-        Of a ``Sketch``. Its ``compute`` raises ``PlacedImageError`` where a file is no image:
-        ``place`` is its path and ``number`` its number among the paths.
+        Of a ``Sketch``, or of ``LeftOut``. Its ``compute`` raises ``PlacedImageError`` where a file
+        is no image: ``place`` is its path and ``number`` its number among the paths.
+
+    Raises
+    ------
+    FileNotFoundError
+        If no file fits the pattern.
     """
-    lg_max_k, width, paths = checked_lg_k(lg_max_k), checked_width(width), list(paths)
+    bounds, width = _bounds(lg_max_k, on_error), checked_width(width)
+    options = storage_options or {}
+    files = _files_of(paths, options)
     if files_per_task is None:
-        files_per_task = _files_per_task(len(paths))
+        files_per_task = _files_per_task(len(files))
     parts = []
-    for first in range(0, len(paths), files_per_task):
+    for first in range(0, len(files), files_per_task):
         # `partial`, as arguments of a task are searched for tasks, one by one
-        read = partial(_union_of_files, paths[first : first + files_per_task], first, lg_max_k)
+        some = files[first : first + files_per_task]
+        read = partial(_union_of_files, some, first, options, bounds)
         parts.append(delayed(read, name=False, pure=False)())
     return _tree(
         parts,
-        partial(_joined, lg_max_k=lg_max_k),
-        partial(_sketch_of, lg_max_k=lg_max_k, width=width),
+        partial(_joined, bounds=bounds),
+        partial(_sketch_of, bounds=bounds, width=width),
         split_every,
     )
 
 
 def union_of_bag(
-    bag: Any, lg_max_k: int = 12, width: int = 8, *, split_every: int = SPLIT_EVERY
+    bag: Any,
+    lg_max_k: int = 12,
+    width: int = 8,
+    *,
+    on_error: str = "raise",
+    split_every: int = SPLIT_EVERY,
 ) -> Any:
     """Return the union of the images in a bag.
 
@@ -248,22 +375,22 @@ def union_of_bag(
     ----------
     bag : dask.bag.Bag
         Of images as bytes, or of ``Sketch``.
-    lg_max_k, width, split_every : int
+    lg_max_k, width, on_error, split_every
         As for ``union_of_files``.
 
     Returns
     -------
     dask.delayed.Delayed
-        Of a ``Sketch``. Its ``compute`` raises ``PlacedImageError`` where an item is no image:
-        ``place`` has the numbers of the partition and of the item in it.
+        Of a ``Sketch``, or of ``LeftOut``. Its ``compute`` raises ``PlacedImageError`` where an
+        item is no image: ``place`` has the numbers of the partition and of the item in it.
     """
-    lg_max_k, width = checked_lg_k(lg_max_k), checked_width(width)
-    union = delayed(partial(_union_of_items, lg_max_k=lg_max_k), pure=False)
+    bounds, width = _bounds(lg_max_k, on_error), checked_width(width)
+    union = delayed(partial(_union_of_items, bounds=bounds), pure=False)
     parts = [union(items, partition=number) for number, items in enumerate(bag.to_delayed())]
     return _tree(
         parts,
-        partial(_joined, lg_max_k=lg_max_k),
-        partial(_sketch_of, lg_max_k=lg_max_k, width=width),
+        partial(_joined, bounds=bounds),
+        partial(_sketch_of, bounds=bounds, width=width),
         split_every,
     )
 
@@ -275,6 +402,7 @@ def union_by_key(
     lg_max_k: int = 12,
     width: int = 8,
     *,
+    on_error: str = "raise",
     split_every: int = SPLIT_EVERY,
 ) -> Any:
     """Return the union of the images of each key.
@@ -290,22 +418,116 @@ def union_by_key(
         The column of the key, or several.
     image : str
         The column of the images.
-    lg_max_k, width, split_every : int
+    lg_max_k, width, on_error, split_every
         As for ``union_of_files``.
 
     Returns
     -------
     dask.delayed.Delayed
-        Of a ``pandas.Series`` of images as bytes, with the keys as its index, in their order. Its
-        ``compute`` raises ``PlacedImageError`` where a row has no image: ``place`` has the numbers
-        of the partition and of the row in it.
+        Of a ``pandas.Series`` of images as bytes, with the keys as its index, in their order, or of
+        ``LeftOut``. Its ``compute`` raises ``PlacedImageError`` where a row has no image: ``place``
+        has the numbers of the partition and of the row in it.
     """
-    lg_max_k, width = checked_lg_k(lg_max_k), checked_width(width)
-    union = delayed(partial(_union_by_key, key=key, image=image, lg_max_k=lg_max_k), pure=False)
+    bounds, width = _bounds(lg_max_k, on_error), checked_width(width)
+    union = delayed(partial(_union_by_key, key=key, image=image, bounds=bounds), pure=False)
     parts = [union(frame, partition=number) for number, frame in enumerate(dataframe.to_delayed())]
     return _tree(
         parts,
-        partial(_joined_by_key, lg_max_k=lg_max_k),
-        partial(_series_of, lg_max_k=lg_max_k, width=width, key=key, image=image),
+        partial(_joined_by_key, bounds=bounds),
+        partial(_series_of, bounds=bounds, width=width, key=key, image=image),
         split_every,
     )
+
+
+# ---- aggregations
+
+
+def _each(grouped: Any, image_of: Callable[[Any], bytes]) -> Any:
+    """What a function makes of the column of each group, without what is missing."""
+    return grouped.apply(lambda column: image_of(column.dropna()))
+
+
+def _image_of_values(column: Any, lg_k: int) -> bytes:
+    sketch = Sketch(lg_k)
+    sketch.update_many(column)
+    return sketch.to_bytes()
+
+
+def _is_sample(column: Any) -> bool:
+    """Whether a column is what Dask tries an aggregation on before it has data: one text for all."""
+    from dask.dataframe.dispatch import meta_nonempty
+
+    sample = meta_nonempty(column[:0].astype(object))
+    return len(column) <= len(sample) and all(value is sample.iloc[0] for value in column)
+
+
+def _image_of_column(column: Any, lg_max_k: int) -> bytes:
+    if _is_sample(column):
+        return _image_of([], lg_max_k)
+    labels = column.index
+
+    def place_of(number: int) -> Tuple[int, str]:
+        return number, f"row {labels[number]}"
+
+    return _placed(list(column), _Bounds(lg_max_k, False), place_of)[0]
+
+
+def _at_width(image: bytes, lg_max_k: int, width: int) -> bytes:
+    return joined([image], lg_max_k, width).to_bytes()
+
+
+def _aggregation(name: str, of_column: Callable[[Any], bytes], lg_max_k: int, width: int) -> Any:
+    """An aggregation whose parts are images, which are joined and get their width at the end."""
+    from dask.dataframe import Aggregation
+
+    return Aggregation(
+        name,
+        chunk=partial(_each, image_of=of_column),
+        agg=partial(_each, image_of=partial(_image_of_column, lg_max_k=lg_max_k)),
+        finalize=lambda images: images.map(partial(_at_width, lg_max_k=lg_max_k, width=width)),
+    )
+
+
+def sketch_aggregation(lg_k: int = 12, width: int = 8) -> Any:
+    """Return an aggregation that makes a sketch of each group's values.
+
+        frame.groupby("day").agg({"visitor": sketch_aggregation()})
+
+    Parameters
+    ----------
+    lg_k : int
+        The ``lg_k`` of the sketches, 4 to 21.
+    width : int
+        The bits of a register, 4, 6 or 8.
+
+    Returns
+    -------
+    dask.dataframe.Aggregation
+        Its answer has an image, as bytes, for each group. Values count as for
+        ``Sketch.update_many``; those that are missing are passed over.
+    """
+    lg_k, width = checked_lg_k(lg_k), checked_width(width)
+    return _aggregation("hll_sketch", partial(_image_of_values, lg_k=lg_k), lg_k, width)
+
+
+def union_aggregation(lg_max_k: int = 12, width: int = 8) -> Any:
+    """Return an aggregation that joins the images of each group.
+
+        frame.groupby("day").agg({"image": union_aggregation()}, split_out=4)
+
+    Parameters
+    ----------
+    lg_max_k : int
+        The largest ``lg_k`` of the unions, 4 to 21.
+    width : int
+        The bits of a register, 4, 6 or 8.
+
+    Returns
+    -------
+    dask.dataframe.Aggregation
+        Its answer has an image, as bytes, for each group. Rows without an image are passed over. It
+        raises ``PlacedImageError`` where a row has no image: ``place`` has its label.
+    """
+    lg_max_k, width = checked_lg_k(lg_max_k), checked_width(width)
+    of_column = partial(_image_of_column, lg_max_k=lg_max_k)
+    return _aggregation("hll_union", of_column, lg_max_k, width)
