@@ -1,9 +1,10 @@
 #!/bin/sh
-# Runs one of the programs, `hll_merge` or `hll_words`, over standard input. On first use, and after a change of any
-# source, it first proves and builds the program, which needs the command rt.
+# Runs one of the programs, `hll_merge` or `hll_words`, over standard input, or tells its version (arguments.sh). On first
+# use, and after a change of any source, it first proves and builds the program, which needs the command rt.
 set -u
 
 name=${1:-}
+[ $# -eq 0 ] || shift
 root=$(CDPATH='' cd -- "$(dirname -- "$0")/.." && pwd -P) || exit 2
 kept=$root/.$name
 program=$kept/$name
@@ -142,6 +143,8 @@ build_once() {
     } 9<"$kept/lock"
 }
 
+version=$(sed -n 's/^#define HLL_VERSION_[A-Z]* \([0-9]*\)$/\1/p' "$root/bindings/c/hll.h" | paste -sd. -)
+. "$root/scripts/arguments.sh"
 if is_stale && ! build_once >&2 </dev/null; then
     echo "$name: the program was not built" >&2
     exit 2

@@ -1,6 +1,6 @@
 /* SPDX-License-Identifier: Apache-2.0 */
 /*
- * Estimates of the number of distinct values, with bounds, and the version. Plain C, not proved; docs/ESTIMATES.md says
+ * Estimates of the number of distinct values, with bounds, and the version. Plain C, not proved; docs/NUMBERS.md says
  * where the formulas come from, and how far they are off.
  */
 #include "hll.h"

@@ -1,7 +1,6 @@
 /* SPDX-License-Identifier: Apache-2.0 */
 /*
- * What the archive of the crate hll_c calls for memory, over malloc. The toolchain has these calls for x86-64 alone, so this
- * file stands in for them on other processors (make TARGET=..).
+ * What the archive of the crate hll_c calls for memory, over malloc. Plain C, not proved.
  */
 #include <stddef.h>
 #include <stdint.h>

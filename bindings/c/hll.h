@@ -24,10 +24,11 @@
  *
  * Answers
  *     HLL_OK (0) where the call did what was asked. On every other status the output is as it was: the buffer, *info,
- *     *histogram, *same, *estimation, registers, and *size but where the status is HLL_BUFFER.
+ *     *histogram, *same, *estimation, coupons, registers, *size but where the status is HLL_BUFFER, and *lg_k but where
+ *     it is HLL_FEWER.
  *     HLL_TRUNCATED to HLL_REGISTER (1 to 11): an image is refused, for the first check that it fails.
  *     HLL_ARGUMENT: an argument is out of its range. This comes first, whatever the images are; only a fold above the
- *     lg_k of the image is found once that is read.
+ *     lg_k of the image, and an image without a HIP estimate, are found once that is read.
  *     HLL_MEMORY: malloc answered NULL. The same call can be made again.
  *     HLL_BUFFER: the buffer is too small; *size is the number of bytes that are needed.
  *     HLL_FEWER: what is to be joined has fewer registers; *lg_k is that of what has them.
@@ -37,8 +38,8 @@
  *     width            4, 6 or 8: the bits of a register.
  *     image, len       the bytes of an image. Others may follow it within len; they are not read. Every image is
  *                      checked whole, so the bytes may come from anywhere. (An image can be made to be slow: a set of
- *                      a megabyte takes up to a second, and a call that reads it twice up to two. A call can't be
- *                      stopped. So ask hll_is_small of a stranger's image before a call. docs/LIMITS.md)
+ *                      a megabyte takes about a second, and a union of it twice up to three. A call can't be
+ *                      stopped. So ask hll_is_small of a stranger's image before a call. docs/OPERATING.md)
  *     out, room, size  a buffer of room bytes, and where the size of the image is put. The bytes behind the image
  *                      stay as they were. HLL_IMAGE_MAX(lg_k) bytes are enough for each answer of that lg_k or less.
  *     ends, n          of n byte strings that stand one after another in the bytes before this argument: string i
@@ -80,11 +81,12 @@
  *
  * What is proved
  *     Of the calls from hll_image_info to hll_coupons it is proved what they answer, write and leave as it was, for
- *     all inputs of a caller who keeps to the above; of unions that order, repetition and grouping of grown images
- *     under one lg_max_k make no difference; and that registers that are not all 0, into which an image is joined,
- *     written as an image, are the union of theirs with it, its words set. Not proved is what is said of time, of
- *     threads, of NULL, of other libraries, and of memory, but for which images may be refused for want of it. Estimates,
- *     hll_version and what this header defines itself are plain C, tested and not proved.
+ *     all inputs of a caller who keeps to the above; and that registers that are not all 0, into which an image is
+ *     joined, written as an image, are the union of theirs with it, its words set. That order, repetition and grouping
+ *     of grown images under one lg_max_k make no difference follows from laws that are proved of sketches; no clause of
+ *     a call says it. Not proved is what is said of time, of threads, of NULL, of other libraries, and of memory, but for
+ *     which images may be refused for want of it. Estimates, hll_version and what this header defines itself are plain
+ *     C, tested and not proved.
  */
 #ifndef HLL_H
 #define HLL_H
@@ -327,8 +329,8 @@ hll_status hll_registers_image(const uint8_t *registers, size_t count, uint8_t w
 
 /* ---- coupons ---- */
 
-/* The coupon of a value: its raw word, from the MurmurHash3 (x64, 128 bits, seed 9001) of these bytes alone. No bytes
- * are a value like any other. Takes no memory. */
+/* The coupon of a value: its raw word, from the MurmurHash3 (x64, 128 bits, seed 9001) of these bytes alone. The
+ * empty string is a value like any other. Takes no memory. */
 uint32_t hll_coupon(const uint8_t *value, size_t len);
 
 /* The coupons of n values, told by their ends, into room places.
@@ -367,7 +369,7 @@ static inline const char *hll_reason(hll_status status)
 
 /* Whether an image of a stranger's is quick to read: it has at most so many bytes, and byte 3, which says its lg_k, is at
  * most this. 12 and 8192 leave room for honest images of lg_k 12; the worst of these takes milliseconds
- * (docs/LIMITS.md, "Images of strangers"). No other byte is looked at. */
+ * (docs/OPERATING.md, "Images of strangers"). No other byte is looked at. */
 static inline int hll_is_small(const uint8_t *image, size_t len, uint8_t lg_k, size_t most)
 {
     return 4 <= len && len <= most && image[3] <= lg_k;

@@ -1,6 +1,6 @@
 #!/usr/bin/env python3
 # SPDX-License-Identifier: Apache-2.0
-"""Prints expected.h: estimates of histograms and of numbers of coupons, by the formulas of docs/ESTIMATES.md in
+"""Prints expected.h: estimates of histograms and of numbers of coupons, by the formulas of docs/NUMBERS.md in
 decimal numbers of 60 digits. With --check it compares them with the file."""
 import pathlib
 import sys

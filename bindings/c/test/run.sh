@@ -13,6 +13,9 @@ strict='-Wall -Wextra -pedantic -Werror'
 test_flags="$strict -Wno-unused-function -O1 -g -std=c99"
 wraps='-Wl,--wrap=malloc,--wrap=calloc,--wrap=realloc,--wrap=aligned_alloc,--wrap=posix_memalign,--wrap=free'
 rows=../../crates/hll_vectors/stdin
+proved=${LIBHLL_C:-$(cd ../../crates/hll_c && pwd)/out/libhll_c.a}
+arm=aarch64-unknown-linux-gnu
+version=$(sed -n 's/^#define HLL_VERSION_[A-Z]* \([0-9]*\)$/\1/p' hll.h | paste -sd. -)
 passed=0
 failed=0
 mkdir -p "$tests" || exit 1
@@ -73,7 +76,7 @@ test_header() {
         expect "header as $standard" $CC $strict -std=$standard -x c -fsyntax-only hll.h
     done
     expect "estimate.c as c99" $CC $strict -std=c99 -c -o "$tests/estimate.o" estimate.c
-    expect "example.c as c99" $CC $strict -std=c99 -c -o "$tests/example.o" example.c
+    expect "merge.c as c99" $CC $strict -std=c99 -I. -c -o "$tests/example.o" ../../examples/merge.c
     if ! has "$CXX"; then
         skip 'header as C++' "$CXX"
         return
@@ -211,16 +214,14 @@ try_readme() {
 make_in() {
     rm -rf "$1"
     mkdir "$1" || return 1
-    cp Makefile estimate.c unwanted.c hll.h hll.map hll.pc.in "$1" || return 1
-    make -s -C "$1" LIBHLL_C="$2" LIBC_C="$(dirname "$(rt doc)")/c/liblibc_c.a" all
+    cp Makefile ./*.[ch] hll.map hll.pc.in "$1" || return 1
+    make -s -C "$1" LIBHLL_C="$2" all
 }
 
 # Builds the libraries in two folders, of the same archive: they are the same bytes.
 try_two_folders() {
-    archive=$(cd ../../crates/hll_c/out 2>/dev/null && pwd)/libhll_c.a
-    archive=${LIBHLL_C:-$archive}
     for place in one another-folder; do
-        make_in "$tests/$place" "$archive" || return 1
+        make_in "$tests/$place" "$proved" || return 1
     done
     cmp "$tests/one/build/libhll.so" "$tests/another-folder/build/libhll.so" || return 1
     cmp "$tests/one/build/libhll.a" "$tests/another-folder/build/libhll.a"
@@ -253,7 +254,7 @@ test_other_compiler() {
     run 'registers, other compiler' "$tests/registers-other" 500
 }
 
-# Without the command rt, make ends with a line that says so and what to do: the first one where nothing is proved.
+# Without the command rt, make ends with a line that says so and what to do, but where it is given what was proved elsewhere.
 # (The links to the tools that there are go again: `rt ci` takes none in a checkout.)
 make_without_rt() {
     PATH=$place/tools make -C "$place/bindings/c" --no-print-directory "$@" >"$tests/said" 2>&1
@@ -263,13 +264,13 @@ try_without_rt() {
     place=$(pwd)/$tests/without-rt
     rm -rf "$place"
     mkdir -p "$place/tools" "$place/crates/hll_c" "$place/bindings/c" || return 1
-    touch "$place/crates.txt" "$place/libhll_c.a"
-    cp Makefile estimate.c unwanted.c hll.h hll.map hll.pc.in "$place/bindings/c" || return 1
-    for tool in make sh mkdir find getconf sed cc as ld; do
+    touch "$place/crates.txt"
+    cp Makefile ./*.[ch] hll.map hll.pc.in "$place/bindings/c" || return 1
+    for tool in make sh mkdir find getconf sed cc as ld ar objcopy cp mv rm; do
         ln -s "$(command -v $tool)" "$place/tools/$tool" || return 1
     done
     ! make_without_rt && head -n 1 "$tests/said" | grep '^The command rt is not on the path' &&
-        ! make_without_rt -s LIBHLL_C="$place/libhll_c.a" && head -n 1 "$tests/said" | grep 'LIBHLL_C=FILE LIBC_C=FILE$'
+        make_without_rt -s LIBHLL_C="$proved" && cmp "$place/bindings/c/build/libhll.so" "$build/libhll.so"
     found=$?
     rm -rf "$place"
     return $found
@@ -296,12 +297,32 @@ test_processors() {
     unset LD_LIBRARY_PATH
 }
 
+# The calls on 64-bit ARM, by an emulator; each of the tests that it runs prints its counts.
+test_arm() {
+    for tool in aarch64-linux-gnu-gcc qemu-aarch64; do
+        has $tool || { skip 'the library for 64-bit ARM' $tool; return; }
+    done
+    if ! has rt && [ ! -f "../../crates/hll_c/out/libhll_c-$arm.a" ]; then
+        skip 'the library for 64-bit ARM' 'its archive, as rt,'
+        return
+    fi
+    env -u MAKEFLAGS -u LIBHLL_C -u CC -u CXX make -s emulated TARGET=$arm >"$tests/arm" 2>&1
+    status=$?
+    sed 's/^/64-bit ARM, /' "$tests/arm"
+    grep ' passed, [0-9]* failed$' "$tests/arm" >"$tests/counts"
+    while read -r line; do
+        echo "$line" >"$tests/log"
+        count 0
+    done <"$tests/counts"
+    expect 'all on 64-bit ARM' test "$status" -eq 0
+}
+
 # Installs below a folder, builds the example by the flags of the file for pkg-config, and takes all away again.
 try_install() {
     place=$(pwd)/$tests/installed
     rm -rf "$place"
     make -s install DESTDIR="$place" PREFIX=/usr || return 1
-    for file in include/hll.h lib/libhll.a lib/libhll.so lib/libhll.so.0 lib/libhll.so.0.2.0 lib/pkgconfig/hll.pc; do
+    for file in include/hll.h lib/libhll.a lib/libhll.so lib/libhll.so.0 "lib/libhll.so.$version" lib/pkgconfig/hll.pc; do
         [ -f "$place/usr/$file" ] || { echo "$file is missing"; return 1; }
     done
     flags="-I$place/usr/include -L$place/usr/lib -lhll"
@@ -311,9 +332,9 @@ try_install() {
         [ "$(echo $said)" = "$flags" ] || { echo "pkg-config says $said"; return 1; }
     fi
     compiled="$CC $strict -std=c99 -I$place/usr/include"
-    $compiled -o "$tests/installed-shared" example.c $flags || return 1
+    $compiled -o "$tests/installed-shared" ../../examples/merge.c $flags || return 1
     LD_LIBRARY_PATH=$place/usr/lib try_example "$tests/installed-shared" || return 1
-    $compiled -o "$tests/installed-static" example.c "$place/usr/lib/libhll.a" || return 1
+    $compiled -o "$tests/installed-static" ../../examples/merge.c "$place/usr/lib/libhll.a" || return 1
     try_example "$tests/installed-static" || return 1
     make -s uninstall DESTDIR="$place" PREFIX=/usr || return 1
     [ -z "$(find "$place" ! -type d)" ]
@@ -331,11 +352,8 @@ expect 'install and uninstall' try_install
 expect 'without rt' try_without_rt
 test_processors
 test_other_compiler
-if has rt; then
-    expect 'the same bytes from two folders' try_two_folders
-else
-    skip 'the same bytes from two folders' rt
-fi
+expect 'the same bytes from two folders' try_two_folders
+test_arm
 
 echo "$passed passed, $failed failed"
 [ "$failed" -eq 0 ] && [ "$passed" -gt 0 ]

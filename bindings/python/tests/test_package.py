@@ -124,7 +124,7 @@ class BuildTest(CommandTest):
         self.put_library()
         (self.root / "bindings/python/hll_sketches/libhll.so").write_bytes(b"an old one")
         wheel, python = self.wheel()
-        self.assertRegex(wheel.name, r"^hll_sketches-[\d.]+-py3-none-linux_\w+\.whl$")
+        self.assertRegex(wheel.name, r"^hll_sketches-[\d.]+-py3-none-(manylinux_2_\d+|linux)_\w+\.whl$")
         names, done = self.run_from(wheel, python, "new", "a.hll")
         self.assertEqual((done.returncode, done.stderr), (0, ""))
         with zipfile.ZipFile(wheel) as archive:

@@ -1,6 +1,6 @@
 /* SPDX-License-Identifier: Apache-2.0 */
-/* The union of sketches in files: example OUT FILE.. writes it to OUT, and prints an estimate of its values. */
-#include "hll.h"
+/* The union of sketches in files: merge OUT FILE.. writes it to OUT, and prints an estimate of its values. */
+#include <hll.h>
 
 #include <stdio.h>
 #include <stdlib.h>
@@ -36,7 +36,7 @@ int main(int argc, char **argv)
     if (status == HLL_OK)
         status = hll_estimate(sketch, size, &found);
     if (argc < 3 || status != HLL_OK)
-        end_with(argv[0], argc < 3 ? "usage: example OUT FILE.." : hll_reason(status));
+        end_with(argv[0], argc < 3 ? "usage: merge OUT FILE.." : hll_reason(status));
 
     FILE *target = fopen(argv[1], "wb");
     if (target == NULL || fwrite(sketch, 1, size, target) != size || fclose(target) != 0)

@@ -1,0 +1,234 @@
+#!/usr/bin/env python3
+# SPDX-License-Identifier: Apache-2.0
+"""Makes all packages of a release in dist/: the proved archives and programs with the prover's verdict, a source package,
+Debian packages, wheels, META.json, TRUST.md, a bill of materials of each, and SHA256SUMS. `make dist` calls it, in a checkout of git.
+
+    packaging/dist.py [--kept]
+
+What is proved is taken from an earlier run over the same sources (scripts/keep_built.py), or else proved by `rt ci` first;
+with --kept it is never proved here. From there on a C compiler, binutils, Python and Debian's tools build the rest, in a
+folder of their own without rt on the path. Two runs over one commit give the same bytes, wherever they are made, by tools of
+the same versions.
+"""
+import datetime
+import email.utils
+import functools
+import gzip
+import hashlib
+import io
+import os
+import pathlib
+import re
+import shutil
+import subprocess
+import sys
+import tarfile
+import tempfile
+
+ROOT = pathlib.Path(__file__).resolve().parent.parent
+sys.dont_write_bytecode = True
+sys.path[:0] = [str(ROOT / "scripts"), str(ROOT / "packaging")]
+import keep_built  # noqa: E402
+import sbom  # noqa: E402
+import trust  # noqa: E402
+
+NAME = "hll-sketches"
+SYSTEM_PATH = "/usr/sbin:/usr/bin:/sbin:/bin"
+PYTHON = "/usr/bin/python3"
+NEEDED = {"git": "git", "make": "make", "cc": "gcc", "readelf": "binutils", "dpkg-buildpackage": "dpkg-dev", "dh": "debhelper",
+          "aarch64-linux-gnu-gcc": "gcc-aarch64-linux-gnu"}
+MODULES = {"pip": "python3-pip", "setuptools": "python3-setuptools", "wheel": "python3-wheel"}
+
+
+class Failed(Exception):
+    """Why there is no release."""
+
+
+@functools.lru_cache(None)
+def version():
+    """That of hll.h, which is the one place where it stands."""
+    return ".".join(re.findall(r"^#define HLL_VERSION_[A-Z]+ (\d+)$", (ROOT / "bindings/c/hll.h").read_text(), re.M))
+
+
+def output(*words, cwd=ROOT):
+    return subprocess.run(words, cwd=cwd, stdout=subprocess.PIPE, text=True, check=True).stdout
+
+
+@functools.lru_cache(None)
+def epoch():
+    """The time of the commit, by which every file of a package is dated."""
+    return int(os.environ.get("SOURCE_DATE_EPOCH") or output("git", "log", "-1", "--format=%ct"))
+
+
+def run(words, cwd, **more):
+    """Runs a build in a plain environment, without rt; `Failed` with the end of what it said."""
+    environment = dict(PATH=SYSTEM_PATH, LC_ALL="C.UTF-8", TZ="UTC", HOME=str(cwd), SOURCE_DATE_EPOCH=str(epoch()), PYTHONHASHSEED="0")
+    ran = subprocess.run(list(map(str, words)), cwd=cwd, env={**environment, **more}, stdin=subprocess.DEVNULL,
+                         stdout=subprocess.PIPE, stderr=subprocess.STDOUT, text=True, errors="replace")
+    if ran.returncode:
+        raise Failed("%s failed:\n%s" % (words[0], ran.stdout[-3000:]))
+    return ran.stdout
+
+
+def missing_tools():
+    """The packages of the distribution that are missing."""
+    missing = [package for tool, package in NEEDED.items() if not shutil.which(tool, path=SYSTEM_PATH)]
+    missing += [package for module, package in MODULES.items()
+                if not os.path.exists(PYTHON) or subprocess.run([PYTHON, "-c", "import " + module], stderr=subprocess.DEVNULL).returncode]
+    if "dpkg-dev" not in missing:
+        told = subprocess.run(["dpkg-checkbuilddeps"], cwd=ROOT, stderr=subprocess.PIPE, text=True).stderr
+        missing += "".join(re.findall("Unmet build dependencies: (.*)", told)).split()
+    return missing
+
+
+def test_commit():
+    """Says so where the files are not those of a commit."""
+    if not (ROOT / ".git").exists():
+        raise Failed("a release is made in a checkout of git")
+    if output("git", "status", "--porcelain", "--untracked-files=no"):
+        print("dist: files differ from the commit, so what is made here is not to be published")
+
+
+# ---- what is proved
+
+
+def proved(is_kept):
+    """What is told of the kept archives and programs, which are proved and built first where a source has changed."""
+    found = keep_built.kept()
+    if found or is_kept:
+        return found
+    if not shutil.which("rt"):
+        raise Failed("the command rt, which proves the library, is not on the path: docs/INSTALL.md")
+    if subprocess.run(["rt", "ci"], cwd=ROOT).returncode == 0:
+        keep_built.main()
+    return keep_built.kept()
+
+
+def put_proved(told, dist):
+    """Copies archives and programs to dist/, and writes the verdicts."""
+    lines = ["prover: %s" % told["kit"], "sources: SHA-256 %s" % told["sources"]]
+    for target in keep_built.ARCHIVES:
+        shutil.copyfile(keep_built.kept_archive(target), dist / ("libhll_c-%s-%s.a" % (version(), target)))
+        lines += ["", "libhll_c for %s:" % target, *told["said"][target]]
+    for name in keep_built.PROGRAMS:
+        program = dist / ("%s-%s-%s" % (name, version(), keep_built.X86))
+        shutil.copyfile(keep_built.kept_program(name), program)
+        program.chmod(0o755)
+    (dist / ("libhll_c-%s.verdict" % version())).write_text("\n".join(lines) + "\n")
+
+
+def archive_in(dist, target=keep_built.X86):
+    return dist / ("libhll_c-%s-%s.a" % (version(), target))
+
+
+# ---- sources
+
+
+def meta():
+    """META.json of the extension, for PGXN."""
+    return (ROOT / "packaging" / "META.json.in").read_text().replace("@VERSION@", version())
+
+
+def changelog():
+    """debian/changelog: one entry, of the time of the commit."""
+    maintainer = re.search(r"^Maintainer: (.*)$", (ROOT / "debian" / "control").read_text(), re.M)[1]
+    date = email.utils.format_datetime(datetime.datetime.fromtimestamp(epoch(), datetime.timezone.utc))
+    return "%s (%s-1) unstable; urgency=medium\n\n  * Version %s: the file changelog tells what has changed.\n\n -- %s  %s\n" % (
+        NAME, version(), version(), maintainer, date)
+
+
+def put_sources(dist):
+    """The source package: all files of the checkout, META.json and debian/changelog."""
+    files = {name: (ROOT / name).read_bytes() for name in output("git", "ls-files", "-z").split("\0") if name and (ROOT / name).is_file()}
+    files.update({"META.json": meta().encode(), "debian/changelog": changelog().encode()})
+    with open(dist / ("%s-%s.tar.gz" % (NAME, version())), "wb") as raw, gzip.GzipFile("", "wb", 9, raw, epoch()) as packed, \
+            tarfile.open(fileobj=packed, mode="w", format=tarfile.GNU_FORMAT) as tar:
+        for name in sorted(files):
+            entry = tarfile.TarInfo("%s-%s/%s" % (NAME, version(), name))
+            entry.size, entry.mtime = len(files[name]), epoch()
+            entry.mode = 0o755 if os.access(ROOT / name, os.X_OK) else 0o644
+            tar.addfile(entry, io.BytesIO(files[name]))
+    (dist / "META.json").write_text(meta())
+
+
+def unpacked(dist, room):
+    """The source package, unpacked in a folder."""
+    room.mkdir()
+    with tarfile.open(dist / ("%s-%s.tar.gz" % (NAME, version()))) as tar:
+        tar.extractall(room)
+    return room / ("%s-%s" % (NAME, version()))
+
+
+# ---- packages
+
+
+def put_debian(dist, room):
+    """Debian packages, from the source package."""
+    tree = unpacked(dist, room)
+    programs = room / "programs"
+    programs.mkdir()
+    for name in keep_built.PROGRAMS:
+        shutil.copy2(dist / ("%s-%s-%s" % (name, version(), keep_built.X86)), programs / name)
+    run(["dpkg-buildpackage", "-b", "-us", "-uc"], tree, LIBHLL_C=str(archive_in(dist)), PROGRAMS=str(programs),
+        DEB_BUILD_OPTIONS="noautodbgsym nocheck parallel=2")
+    for package in room.glob("*.deb"):
+        shutil.copyfile(package, dist / package.name)
+
+
+def put_wheel(dist, room, target):
+    """A wheel for a processor, from the source package."""
+    tree = unpacked(dist, room)
+    is_other = target != keep_built.X86
+    words = ["make", "-s", "-C", "bindings/c", "all", "CFLAGS=-O2", "LIBHLL_C=%s" % archive_in(dist, target)]
+    run(words + ["TARGET=" + target] * is_other, tree)
+    library = tree / "bindings" / "c" / "build" / (target if is_other else "") / "libhll.so"
+    run([PYTHON, "-m", "pip", "wheel", "-q", "--no-build-isolation", "--no-deps", "--no-index", "--no-cache-dir", "-w", room / "wheels",
+         tree / "bindings" / "python"], tree, LIBHLL=str(library), PYTHONDONTWRITEBYTECODE="1")
+    for wheel in (room / "wheels").iterdir():
+        shutil.copyfile(wheel, dist / wheel.name)
+
+
+def put_sums(dist):
+    sums = ["%s  %s\n" % (hashlib.sha256(file.read_bytes()).hexdigest(), file.name) for file in sorted(dist.iterdir())]
+    (dist / "SHA256SUMS").write_text("".join(sums))
+
+
+def make(is_kept):
+    """All of dist/, which takes the place of an earlier one once it is whole."""
+    test_commit()
+    missing = missing_tools()
+    if missing:
+        raise Failed("tools are missing: apt-get install %s" % " ".join(missing))
+    told = proved(is_kept)
+    if told is None:
+        raise Failed("what is proved is not kept for the sources as they stand: run ./check proofs")
+    os.umask(0o022)
+    with tempfile.TemporaryDirectory() as room:
+        room = pathlib.Path(room)
+        dist = room / "dist"
+        dist.mkdir()
+        put_proved(told, dist)
+        put_sources(dist)
+        put_debian(dist, room / "debian")
+        for target in keep_built.ARCHIVES:
+            put_wheel(dist, room / target, target)
+        (dist / "TRUST.md").write_text(trust.table(told) + "\n")
+        sbom.put(dist, version(), epoch(), told)
+        put_sums(dist)
+        shutil.rmtree(ROOT / "dist", ignore_errors=True)
+        shutil.copytree(dist, ROOT / "dist")
+    for file in sorted((ROOT / "dist").iterdir()):
+        print("%10d dist/%s" % (file.stat().st_size, file.name))
+
+
+def main():
+    try:
+        make("--kept" in sys.argv[1:])
+    except Failed as why:
+        print("dist: %s" % why, file=sys.stderr)
+        return 1
+    return 0
+
+
+if __name__ == "__main__":
+    sys.exit(main())

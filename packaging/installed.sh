@@ -1,0 +1,68 @@
+#!/bin/sh
+# SPDX-License-Identifier: Apache-2.0
+# What a user does with the installed packages, on a machine without rt: installed.sh INSTALL.md. Prints 'ok: ' and a name for
+# each thing that works, and ends with the first that doesn't. ROOT is where the packages are unpacked, if they are not
+# installed.
+set -eu
+page=$1
+ROOT=${ROOT:-}
+cd "$(mktemp -d)"
+! command -v rt >/dev/null || { echo 'rt is here'; exit 1; }
+
+near_1000() {
+    [ "${1%%.*}" -gt 950 ] && [ "${1%%.*}" -lt 1050 ] || { echo "$1 is not near 1000"; exit 1; }
+}
+
+awk '/^    for day/ { on = 1 } on && !/^    / { exit } on' "$page" >lines
+[ "$(wc -l <lines)" -ge 5 ]
+sh -e lines >said
+for number in $(cat said); do
+    near_1000 "$number"
+done
+[ "$(wc -w <said)" -eq 2 ]
+echo 'ok: the lines of INSTALL.md'
+
+for name in hll hll_merge hll_words; do
+    [ "$($name --version | cut -d' ' -f1)" = $name ]
+done
+[ "$(hll --version | cut -d' ' -f2)" = "$(hll_merge --version | cut -d' ' -f2)" ]
+! hll_merge --other 2>said && [ "$(wc -l <said)" -eq 1 ]
+echo 'ok: versions of the commands'
+
+[ "$(printf 'new 10 8\ncoupon 5 3\n' | hll_merge | hll_words)" = 0201070a030801080500000c ]
+echo 'ok: a plan'
+
+for name in hll hll_merge hll_words; do
+    man $name | grep -q '^NAME'
+done
+echo 'ok: manual pages'
+
+# shellcheck disable=SC2046
+cc -o example "$ROOT"/usr/share/doc/libhll-dev/examples/merge.c $(pkg-config --cflags --libs hll)
+near_1000 "$(./example merged.hll monday.hll tuesday.hll | cut -d' ' -f1)"
+hll diff --quiet merged.hll both.hll
+# shellcheck disable=SC2046
+cc -o example -static "$ROOT"/usr/share/doc/libhll-dev/examples/merge.c $(pkg-config --cflags --libs --static hll)
+near_1000 "$(./example merged.hll monday.hll tuesday.hll | cut -d' ' -f1)"
+echo 'ok: the example in C, shared and static'
+
+[ "$(sqlite3 :memory: '.load hll_sketches' 'SELECT hll_estimate(hll_add_agg(value)) BETWEEN 950 AND 1050 FROM generate_series(1, 1000)')" = 1 ]
+echo 'ok: SQLite'
+
+[ -z "$ROOT" ] || exit 0
+data=$(mktemp -d)
+chown postgres "$data"
+as_postgres() {
+    su postgres -s /bin/sh -c "cd $data && PATH=/usr/lib/postgresql/15/bin:\$PATH && $1"
+}
+as_postgres 'initdb -D data >log 2>&1'
+as_postgres "pg_ctl -D data -w -l log -o \"-k $data -c listen_addresses='' -c dynamic_shared_memory_type=mmap\" start >>log" || { cat "$data/log"; exit 1; }
+as_postgres "psql -h $data -qAt" <<'END' >said
+CREATE EXTENSION hll_sketches;
+SELECT hll_estimate(hll_image_union_agg(image)) BETWEEN 950 AND 1050
+FROM (SELECT hll_image_add_agg(x) image FROM generate_series(1, 1000) x GROUP BY x % 7) days;
+CREATE EXTENSION hll_sketches_agg;
+END
+as_postgres 'pg_ctl -D data -w -m immediate stop >>log'
+[ "$(cat said)" = t ]
+echo 'ok: PostgreSQL'

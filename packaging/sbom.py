@@ -1,0 +1,133 @@
+# SPDX-License-Identifier: Apache-2.0
+"""Bills of materials, as SPDX 2.3 in JSON: for each package of dist/ what it is made of, by what, and what it needs."""
+import hashlib
+import json
+import re
+import subprocess
+import time
+import uuid
+
+LICENCE = "Apache-2.0"
+KINDS = {".deb": "INSTALL", ".whl": "LIBRARY", ".a": "LIBRARY", ".gz": "SOURCE"}
+
+
+def sum_of(file):
+    return hashlib.sha256(file.read_bytes()).hexdigest()
+
+
+def first_line(*words):
+    """What a tool says of its version; None where it is not here."""
+    try:
+        return subprocess.run(words, stdout=subprocess.PIPE, text=True, check=True).stdout.splitlines()[0]
+    except (OSError, subprocess.CalledProcessError, IndexError):
+        return None
+
+
+def part(name, version, licence=LICENCE, **more):
+    """A package of SPDX."""
+    told = {"name": name, "SPDXID": "SPDXRef-" + re.sub(r"[^A-Za-z0-9.-]+", "-", name), "versionInfo": version,
+            "downloadLocation": "NOASSERTION", "filesAnalyzed": False, "licenseConcluded": licence, "licenseDeclared": licence,
+            "copyrightText": "NOASSERTION"}
+    return {**told, **more}
+
+
+def summed(file):
+    return [{"algorithm": "SHA256", "checksumValue": sum_of(file)}]
+
+
+# ---- what packages are made of
+
+
+def of_file(name, file, version, **more):
+    """A part that is a file of dist/."""
+    return part(name, version, checksums=summed(file), packageFileName=file.name, **more)
+
+
+def archives(dist, version, told):
+    """The archive for each processor, with its verdict."""
+    for target, lines in told["said"].items():
+        file = dist / ("libhll_c-%s-%s.a" % (version, target))
+        yield of_file("libhll_c-" + target, file, version, comment="proved: " + lines[-1])
+
+
+def holds(package, part_name):
+    """Whether a package holds the archive for a processor, or what is linked from it."""
+    if package.suffix == ".deb":
+        return "x86_64" in part_name and not package.name.endswith("_all.deb") and not package.name.startswith("hll-sketches_")
+    return package.suffix == ".whl" and re.search("x86_64|aarch64", package.name)[0] in part_name
+
+
+def contents(package, dist, version, told):
+    """The proved parts of a package."""
+    yield from (one for one in archives(dist, version, told) if holds(package, one["name"]))
+    if package.name.startswith("hll-sketches_"):
+        for file in sorted(dist.glob("hll_[mw]*-gnu")):
+            yield of_file(file.name.partition("-")[0], file, version, comment="proved, and linked by the prover")
+
+
+def tools(package, told):
+    """What built it: the prover, which compiles what it has proved, and for what stands around that the others."""
+    kit, _, logic = told["kit"].partition(" logic ")
+    yield part(kit, logic, "NOASSERTION", comment="proves the crates, and compiles them with its libraries")
+    python = ["/usr/bin/python3", "-c", "import sys, importlib; print(importlib.import_module(sys.argv[1]).__version__)"]
+    asked = {"aarch64-linux-gnu-gcc" if "aarch64" in package.name else "gcc": ["-dumpfullversion"], "ld": ["--version"]}
+    asked = {name: [name, *words] for name, words in asked.items() if not package.name.endswith("_all.deb")}
+    if package.suffix == ".deb":
+        asked["dpkg-buildpackage"] = ["dpkg-buildpackage", "--version"]
+    if package.suffix == ".whl":
+        asked.update({name: [*python, name] for name in ("setuptools", "wheel", "pip")})
+    if package.suffix in (".deb", ".whl"):
+        for name, words in asked.items():
+            yield part(name, first_line(*words) or "NOASSERTION", "NOASSERTION")
+
+
+def needed_by(file):
+    """Names and versions of what a package needs where it runs."""
+    if file.suffix == ".deb":
+        said = first_line("dpkg-deb", "--field", str(file), "Depends") or ""
+        for one in filter(None, re.split(r", *", said)):
+            name, _, version = one.partition(" ")
+            yield name.partition(":")[0], version.strip("()") or "NOASSERTION"
+    elif file.suffix == ".whl":
+        yield "python3", ">= 3.9"
+        yield "glibc", ">= %s.%s" % tuple(re.search(r"manylinux_(\d+)_(\d+)", file.name).groups()) if "manylinux" in file.name else "NOASSERTION"
+
+
+def related(file, dist, version, told):
+    """Parts and relations of a package: triples of a part, a relation, and whether that is said of the package."""
+    yield from ((one, "CONTAINS", True) for one in contents(file, dist, version, told))
+    yield part("datasketches", "0.6.0", comment="the Rust crate whose module hll is ported"), "DESCENDANT_OF", True
+    yield from ((one, "BUILD_TOOL_OF", False) for one in tools(file, told))
+    wanted = {}
+    for name, one in needed_by(file):
+        wanted.setdefault(name, []).append(one)
+    for name, versions in wanted.items():
+        yield part(name, ", ".join(versions), "NOASSERTION"), "DEPENDS_ON", True
+
+
+def relation(left, kind, right):
+    return {"spdxElementId": left, "relationshipType": kind, "relatedSpdxElement": right}
+
+
+def document(file, dist, version, epoch, told):
+    """The bill of one package."""
+    root = of_file(file.name, file, version, primaryPackagePurpose=KINDS.get(file.suffix, "APPLICATION"))
+    own = root["SPDXID"] = "SPDXRef-Package"
+    parts, relations = [root], [relation("SPDXRef-DOCUMENT", "DESCRIBES", own)]
+    for one, kind, is_of_package in related(file, dist, version, told):
+        parts.append(one)
+        relations.append(relation(own, kind, one["SPDXID"]) if is_of_package else relation(one["SPDXID"], kind, own))
+    return {
+        "spdxVersion": "SPDX-2.3", "dataLicense": "CC0-1.0", "SPDXID": "SPDXRef-DOCUMENT", "name": file.name,
+        "documentNamespace": "urn:uuid:%s" % uuid.uuid5(uuid.NAMESPACE_OID, sum_of(file)),
+        "creationInfo": {"created": time.strftime("%Y-%m-%dT%H:%M:%SZ", time.gmtime(epoch)), "creators": ["Tool: packaging/sbom.py"]},
+        "packages": parts, "relationships": relations,
+    }
+
+
+def put(dist, version, epoch, told):
+    """Writes the bill of each package beside it."""
+    for file in sorted(dist.iterdir()):
+        if file.suffix not in (".json", ".md", ".verdict"):
+            bill = json.dumps(document(file, dist, version, epoch, told), indent=1)
+            (dist / (file.name + ".spdx.json")).write_text(bill + "\n")
