@@ -5,7 +5,7 @@
     bench/beside.py [--crate FOLDER]
 
 FOLDER has the source of the crate, version 0.6.0, as its registry gives it; without it the rows of the crate are left out.
-Needs bindings/c built, a C compiler, and for the crate `cargo`. Prints tables for docs/MEASUREMENTS.md, "Beside other code".
+Needs bindings/c built, a C compiler, and for the crate `cargo`. Prints tables for docs/NUMBERS.md, "Beside other code".
 """
 import argparse
 import pathlib

@@ -12,7 +12,7 @@ take turns, and each number is the median over the rounds; so is each ratio, ove
 the time of a scan alone (`count`) is taken off. Dask reads a folder of 20,000 files, and so does the process beside it.
 
 Needs bindings/c built, a PostgreSQL server with its headers, and for Dask a Python with `distributed`; what is missing is
-left out. The random numbers are the same at each run. Prints tables for docs/SCALE.md.
+left out. The random numbers are the same at each run. Prints tables for docs/NUMBERS.md.
 """
 import argparse
 import array

@@ -3,11 +3,11 @@
 they scatter, and how often their bounds hold.
 
 It compiles bench/estimates.c, runs it on 4,000 streams of a million values by two processes, prints
-the tables of docs/ESTIMATES.md, and draws docs/estimates.svg. Each lg_k of bench/estimates.c counts
-in the summary, and those with a color have a table. Call it with another number of
-streams for a shorter run, which draws nothing; with --write the tables go into docs/ESTIMATES.md
-too. It needs a C compiler, and the library: bindings/c/build, which `make` in bindings/c makes, or
-the folder that HLL_BUILD names.
+tables, and draws docs/estimates.svg. Each lg_k of bench/estimates.c counts in the summary, and those
+with a color have a table. Call it with another number of streams for a shorter run, which draws
+nothing; with --write the summary, and the worst of each lg_k, go into docs/NUMBERS.md too. It needs
+a C compiler, and the library: bindings/c/build, which `make` in bindings/c makes, or the folder that
+HLL_BUILD names.
 """
 import argparse
 import math
@@ -19,7 +19,7 @@ import tempfile
 
 ROOT = pathlib.Path(__file__).resolve().parent.parent
 BUILD = pathlib.Path(os.environ.get("HLL_BUILD", ROOT / "bindings" / "c" / "build"))
-PAGE, PICTURE = ROOT / "docs" / "ESTIMATES.md", ROOT / "docs" / "estimates.svg"
+PAGE, PICTURE = ROOT / "docs" / "NUMBERS.md", ROOT / "docs" / "estimates.svg"
 STREAMS, PROCESSES = 4000, 2
 BEGIN, END = "<!-- tables -->", "<!-- end of tables -->"
 COLORS = {4: "#b5352c", 8: "#b07a12", 12: "#2b6cb0", 14: "#2f855a"}
@@ -111,10 +111,19 @@ def worst(rows):
     )
 
 
+def in_registers(rows):
+    """What was measured of 100 values and more from registers, by lg_k."""
+    found = {}
+    for (lg_k, values), row in sorted(rows.items()):
+        if values >= 100 and row.told > COUPONS:
+            found.setdefault(lg_k, []).append(row)
+    return found
+
+
 def summary(rows):
     """The worst from coupons, and from registers of 100 values on, over all lg_k."""
     coupons = [row for (_, values), row in rows.items() if values > 1 and row.told < COUPONS]
-    registers = [row for (_, values), row in rows.items() if values >= 100 and row.told > COUPONS]
+    registers = [row for own in in_registers(rows).values() for row in own]
     widest = max(row.scatter / row.told for row in registers)
     measured_at = ", ".join(str(lg_k) for lg_k in sorted({lg_k for lg_k, _ in rows}))
     return (
@@ -123,8 +132,27 @@ def summary(rows):
     )
 
 
+def table_of_worst(rows):
+    """The worst of each lg_k from registers, of 100 values and more."""
+    lines = [
+        "| `lg_k` | bias | scatter, of the error told | within 1 | within 2 | within 3 |",
+        "|---|---|---|---|---|---|",
+    ]
+    for lg_k, own in in_registers(rows).items():
+        bias = max((row.off for row in own), key=abs)
+        ratios = [row.scatter / row.told for row in own]
+        shares = " | ".join(f"{min(row.within[d] for row in own):.1f} %" for d in range(3))
+        lines.append(f"| {lg_k} | {bias:+.3f} | {min(ratios):.2f} to {max(ratios):.2f} | {shares} |")
+    return lines
+
+
+def page_of(rows, streams):
+    """What the page has of it."""
+    return "\n".join([f"{streams:,} streams. {summary(rows)}", "", *table_of_worst(rows)])
+
+
 def tables(rows, streams):
-    lines = [f"{streams:,} streams. {summary(rows)}", ""]
+    lines = [page_of(rows, streams), ""]
     for lg_k in sorted(COLORS):
         lines += table(rows, lg_k)
     return "\n".join(lines)
@@ -179,7 +207,8 @@ class Chart:
 STYLE = (
     "<style>text{font:12px sans-serif;fill:#333}.title{font-weight:bold}.right{text-anchor:end}"
     ".middle{text-anchor:middle}.grid{stroke:#ddd}.band{fill:#cfe8cf;opacity:.6}"
-    "polyline{fill:none;stroke-width:1.5}</style>"
+    "polyline{fill:none;stroke-width:1.5}.ground{fill:white}@media(prefers-color-scheme:dark)"
+    "{.ground{fill:#0d1117}text{fill:#ddd}.grid{stroke:#444}}</style>"
 )
 BIAS = "Bias of the estimate, in standard errors (green: a tenth)"
 SCATTER = "Scatter of the estimate times √2^lg_k (dots), and the standard error told (lines)"
@@ -202,12 +231,12 @@ def picture(rows):
     parts.append('<text x="390" y="590" class="middle">distinct values</text>')
     size = 'width="800" height="600" viewBox="0 0 800 600"'
     head = f'<svg xmlns="http://www.w3.org/2000/svg" {size}>{STYLE}'
-    background = '<rect width="800" height="600" fill="white"/>'
+    background = '<rect width="800" height="600" class="ground"/>'
     return "\n".join([head, background, *parts, "</svg>", ""])
 
 
 def write(text):
-    """Puts the tables between the marks of the page."""
+    """Puts the text between the marks of the page."""
     page = PAGE.read_text("utf-8")
     before, rest = page.split(BEGIN)
     after = rest.split(END)[1]
@@ -220,12 +249,11 @@ def main():
     parser.add_argument("--write", action="store_true", help="put the tables into the page")
     chosen = parser.parse_args()
     rows = {key: Row(*numbers) for key, numbers in measured(chosen.streams).items()}
-    text = tables(rows, chosen.streams)
-    print(text)
+    print(tables(rows, chosen.streams))
     if chosen.streams >= STREAMS or chosen.write:
         PICTURE.write_text(picture(rows), "utf-8")
     if chosen.write:
-        write(text)
+        write(page_of(rows, chosen.streams))
 
 
 if __name__ == "__main__":

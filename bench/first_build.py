@@ -5,7 +5,7 @@ and of the processors (user and system, of all that it starts), at the end of ea
 
     bench/first_build.py COMMIT ..
 
-It takes ten minutes and more a commit; leave the machine alone meanwhile. docs/MEASUREMENTS.md, "Proofs", has what it printed.
+It takes ten minutes and more a commit; leave the machine alone meanwhile. docs/NUMBERS.md, "Proofs", has what it printed.
 """
 import os
 import pathlib

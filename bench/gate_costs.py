@@ -6,7 +6,7 @@ its tests.
     bench/gate_costs.py [FOLDER]
 
 It looks once a second at the processes of the prover that `rt ci` has started, so what ends within a second is missed. It
-takes as long as `rt ci`, whose lines go to standard error. docs/MEASUREMENTS.md, "Proofs", has what it printed.
+takes as long as `rt ci`, whose lines go to standard error. docs/NUMBERS.md, "Proofs", has what it printed.
 """
 import collections
 import os

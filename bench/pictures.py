@@ -1,6 +1,6 @@
 #!/usr/bin/env python3
 # SPDX-License-Identifier: Apache-2.0
-"""Draws docs/layers.svg, docs/histogram.svg and docs/speed.svg.
+"""Draws the pictures of docs/: layers.svg, union.svg, stages.svg, histogram.svg and speed.svg.
 
     pictures.py [--check]
 
@@ -21,7 +21,11 @@ STYLE = (
     "<style>text{font:13px sans-serif;fill:#222}.title{font-size:16px;font-weight:bold}"
     ".name{font-weight:bold}.right{text-anchor:end}.grid{stroke:#999}.proved{fill:#d5ecd2;stroke:#2f7d32;"
     "stroke-width:2}.tested{fill:#fdf0d0;stroke:#a86a00;stroke-width:2;stroke-dasharray:6 4}"
-    ".trusted{fill:#e8e8e8;stroke:#666;stroke-width:2;stroke-dasharray:2 3}</style>"
+    ".trusted{fill:#e8e8e8;stroke:#666;stroke-width:2;stroke-dasharray:2 3}.middle{text-anchor:middle}"
+    ".cell{fill:#eef3f9;stroke:#4a7db5}.chosen{fill:#bcd4ee;stroke:#4a7db5;stroke-width:2}"
+    ".arrow{stroke:#999;stroke-width:2;fill:none}"
+    "@media(prefers-color-scheme:dark){.proved{fill:#1b3a1d}.tested{fill:#3d3113}.trusted{fill:#2a2a2a}"
+    ".cell{fill:#17222f}.chosen{fill:#274a6e}}</style>"
 )
 
 # ---- layers
@@ -40,7 +44,7 @@ LAYERS = (
         "hll_merge: a plan in,", "one image out", "hll_words: the words from", "which others estimate"),
     (0, 1, 3, 7, TESTED, "Python: hll_sketches", "the package, the command hll"),
     (0, 1, 7, 9, TESTED, "Dask", "a tree of tasks"),
-    (0, 1, 9, 12, TESTED, "PostgreSQL", "aggregates over bytea"),
+    (0, 1, 9, 12, TESTED, "PostgreSQL, SQLite", "a type, aggregates"),
     (1, 1, 3, 10, PROVED, "C library: calls over images",
         "make, add, union, fold, convert, compare"),
     (1, 1, 10, 12, TESTED, "Estimates", "in plain C"),
@@ -77,6 +81,58 @@ def layers():
     return plot.document(WHOLE + 2 * LEFT, TOP + 7 * (ROW + GAP) + 10, STYLE, parts)
 
 
+# ---- a union
+
+REGISTERS = ((3, 0, 2, 0, 7, 1, 0, 4), (1, 5, 0, 0, 7, 2, 0, 1))
+CELL = 52
+
+
+def cells(y, name, values, others=None):
+    """A row of registers; those chosen that are above the others'."""
+    yield plot.words(LEFT, y + 32, name, "name")
+    for slot, value in enumerate(values):
+        x = 150 + slot * (CELL + 6)
+        kind = "cell" if others is None or value <= others[slot] else "chosen"
+        yield f'<rect x="{x}" y="{y}" width="{CELL}" height="{CELL}" rx="4" class="{kind}"/>'
+        yield plot.words(x + CELL / 2, y + 32, str(value), "middle")
+
+
+def union():
+    here, there = REGISTERS
+    parts = [plot.words(LEFT, 30, "A union has at each slot the greater register", "title")]
+    parts += cells(56, "one sketch", here, there)
+    parts += cells(124, "another", there, here)
+    parts.append(f'<path d="M{LEFT} 193H620" class="grid"/>')
+    parts += cells(210, "their union", [max(pair) for pair in zip(here, there)])
+    told = "The greatest of many numbers doesn't depend on their order, their groups, or repeats."
+    parts.append(plot.words(LEFT, 292, told))
+    return plot.document(640, 312, STYLE, parts)
+
+
+# ---- stages
+
+# Of a sketch of 2^12 registers of eight bits: the stage, what it keeps at most, and how many bytes its image then has.
+STAGES = (
+    ("list", "up to 7 coupons", "8 to 36 bytes"),
+    ("set of 2^5 places", "up to 24", "44 to 108 bytes"),
+    ("set of 2^6 to 2^8", "up to 192", "112 to 780 bytes"),
+    ("set of 2^9 places", "up to 384", "784 to 1,548 bytes"),
+    ("registers", "any number", "4,136 bytes"),
+)
+
+
+def stages():
+    parts = [plot.words(LEFT, 30, "How a sketch of 2^12 registers of eight bits grows", "title")]
+    for number, (name, most, size) in enumerate(STAGES):
+        x = LEFT + number * 176
+        parts.append(f'<rect x="{x}" y="56" width="146" height="84" rx="4" class="cell"/>')
+        parts.append(plot.words(x + 12, 82, name, "name"))
+        parts += [plot.words(x + 12, 104, most), plot.words(x + 12, 124, size)]
+        if number:
+            parts.append(f'<path d="M{x - 28} 98h24m-7 -6l7 6l-7 6" class="arrow"/>')
+    return plot.document(LEFT + 5 * 176, 162, STYLE, parts)
+
+
 # ---- a histogram
 
 
@@ -88,23 +144,27 @@ def histogram():
 
 # ---- speed
 
-# Images a second of the tables in docs/SCALE.md: one process, images in memory or in pages that are cached.
 SPEED_TITLE = "Unions of 100,000 sketches of 4,096 registers: images a second, one process"
-SPEED_NOTE = "26 November 2026; virtual processors (Xeon, 2.5 GHz): docs/SCALE.md, which has sketches of few values too"
-SPEED = (
-    ("8 bits", (("C", 1_440_000), ("Python", 709_000), ("PostgreSQL", 1_070_000))),
-    ("6 bits", (("C", 910_000), ("Python", 651_000), ("PostgreSQL", 587_000))),
-    ("4 bits", (("C", 598_000), ("Python", 438_000), ("PostgreSQL", 531_000))),
-    ("postgresql-hll, 5 bits", (("PostgreSQL", 103_000),)),
-)
+SPEED_NOTE = "26 November 2026; virtual processors (Xeon, 2.5 GHz): docs/NUMBERS.md"
+SHOWN = ("8 bits", "6 bits", "4 bits", "postgresql-hll, 5 bits")
 COLORS = {"C": "#4a7db5", "Python": "#8fb56a", "PostgreSQL": "#c08a4a"}
 AXIS, SCALE = 190, 560 / 1_600_000
+
+
+def speeds():
+    """What is merged, with images a second by engine: rows of the table of docs/NUMBERS.md, "Unions"."""
+    table = (ROOT / "docs" / "NUMBERS.md").read_text("utf-8").split("\n## Unions\n")[1]
+    head, *rows = [[cell.strip() for cell in line.strip("|").split("|")] for line in table.splitlines() if line[:1] == "|"]
+    for name in SHOWN:
+        row = next(row for row in rows if row[0] == name)
+        found = ((engine, row[head.index(engine)]) for engine in COLORS)
+        yield name, [(engine, int(number.replace(",", ""))) for engine, number in found if number]
 
 
 def bars(top):
     """Bars in groups, and where they end."""
     parts, y = [], top
-    for name, rows in SPEED:
+    for name, rows in speeds():
         parts.append(plot.words(AXIS - 12, y + 11 * len(rows) + 4, name, "right"))
         for engine, number in rows:
             width = number * SCALE
@@ -129,7 +189,7 @@ def main():
     if sys.argv[1:] and not only_check:
         sys.exit("usage: pictures.py [--check]")
     status = 0
-    for draw in (layers, histogram, speed):
+    for draw in (layers, union, stages, histogram, speed):
         path, text = ROOT / "docs" / f"{draw.__name__}.svg", draw()
         if not only_check:
             path.write_text(text, "utf-8")

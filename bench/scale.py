@@ -1,6 +1,6 @@
 #!/usr/bin/env python3
 # SPDX-License-Identifier: Apache-2.0
-"""Runs the commands of docs/SCALE.md as they stand there, on 3,000 files of sketches, and compares what they print.
+"""Runs the commands of docs/OPERATING.md as they stand there, on 3,000 files of sketches, and compares what they print.
 
     scale.py [FILES]
 
@@ -101,7 +101,7 @@ def run_spark(folder, line, wanted):
 
 def main():
     count = int(sys.argv[1]) if len(sys.argv) > 1 else 3000
-    blocks = blocks_of((ROOT / "docs" / "SCALE.md").read_text())
+    blocks = blocks_of((ROOT / "docs" / "OPERATING.md").read_text())
     with tempfile.TemporaryDirectory(prefix="hll-") as name:
         folder = pathlib.Path(name)
         lay_out(folder, count)

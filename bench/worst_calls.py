@@ -2,7 +2,7 @@
 # SPDX-License-Identifier: Apache-2.0
 """Measures calls of C, Python and PostgreSQL over the images of bench/worst_cases.py that take longest.
 
-Prints the seconds of each call, over coupons or exceptions on one path and over random ones, for docs/LIMITS.md. Each answer
+Prints the seconds of each call, over coupons or exceptions on one path and over random ones, for docs/NUMBERS.md. Each answer
 is compared with that of the same call over the same image in the order in which it is written.
 Needs bindings/c built; without a PostgreSQL server its rows are left out.
 """

@@ -5,7 +5,7 @@
 #
 # Each group of FILES files (500) becomes one plan, with a union of bound BOUND (12) and WIDTH (8) bits; as many plans run
 # at a time as there are processors. What they print is the `image` lines of the last plan, whose image gets the words from
-# which other libraries estimate. docs/SCALE.md says why the groups make no difference. Where a file is no sketch, it says
+# which other libraries estimate. docs/OPERATING.md says why the groups make no difference. Where a file is no sketch, it says
 # `FILE: ` and why on standard error, for one file of each group; then nothing is written and the status is 1. Needs sh,
 # find, sort, xargs, od and xxd.
 set -eu

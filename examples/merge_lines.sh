@@ -3,7 +3,7 @@
 #
 #     examples/merge_lines.sh [BOUND [WIDTH]] < lines > line
 #
-# Its answers are its own input again, so it serves at every stage of a merge (docs/SCALE.md). Needs sh, awk and sed.
+# Its answers are its own input again, so it serves at every stage of a merge (docs/OPERATING.md). Needs sh, awk and sed.
 set -eu
 root=$(CDPATH='' cd -- "$(dirname -- "$0")/.." && pwd -P)
 plan=$(mktemp)

@@ -2,14 +2,15 @@
 # SPDX-License-Identifier: Apache-2.0
 """Checks the documents, and prints 'N passed, M failed' in the end.
 
-    scripts/documents.py [names] [commands] [plans]
+    scripts/documents.py [names] [words] [commands] [plans]
 
-names     Files and sections that a page names are there; names in backticks are in the sources, and on the pages for
-          reviewers are declared there; a clause is one of the function that it is said of; commands name programs, parts
-          and options that there are.
-commands  The blocks of README.md and CALLING.md run as they stand, each page in a folder without a reader's files, and
-          print what these say; so do commands of docs/PLAN.md and docs/SCALE.md, by bench/scale.py where they need an
-          engine.
+names     Files and sections that a page or a source names are there; names in backticks are in the sources, and on the
+          pages for reviewers are declared there; a clause is one of the function that it is said of; commands name programs,
+          parts and options that there are; tables that are made from the sources are theirs (scripts/tables.py); what
+          README.md tells of speed is in docs/NUMBERS.md.
+words     Each page has at most the words that it may have (`MOST_WORDS`).
+commands  The blocks of README.md run as they stand, in a folder without a reader's files, and print what these say; so do
+          commands of docs/PLAN.md and docs/OPERATING.md, by bench/scale.py where they need an engine.
 plans     The plans of docs/FAULTS.md have the answers told there.
 
 Commands and plans need the library of bindings/c and the programs, which are built where they are not up to date.
@@ -20,6 +21,7 @@ import functools
 import os
 import pathlib
 import re
+import shutil
 import subprocess
 import sys
 import tempfile
@@ -28,20 +30,37 @@ ROOT = pathlib.Path(__file__).resolve().parent.parent
 
 # On these pages each name in backticks is declared in a crate, but for those that are others'.
 DECLARED = {
-    "PROVED.md": {"hex"},
+    "PROVED.md": {"dac8208d650f15bf", "hex", "linked_list_allocator", "memchr"},
     "MODEL.md": set(),
-    "SCALE.md": {"bytea", "distributed", "find", "hll", "hll_sketches", "od", "pipe", "postgres_fdw", "xxd"},
 }
 # What the command rt does.
 TOOLCHAIN = {"check", "ci", "doc", "lib", "must-fail", "plant", "run", "test", "tidy", "try", "verdict", "version"}
 # Names that are not the project's.
 KNOWN = {"as_chunks_mut", "postgres_fdw"}
-SKIPPED_FOLDERS = {"out", "build", ".git", "target", "__pycache__"}
+SKIPPED_FOLDERS = {"out", "build", "dist", ".git", "target", "__pycache__"}
 SOURCES = {".rt", ".antt", ".py", ".c", ".h", ".sh", ".sql", ".rs", ".edit", ".map", ".control", ".toml", ".txt", ".plan", ""}
 # These pages speak of another library's names.
 OTHERS = {"DIFFERENCES.md", "FAULTS.md"}
 # The check itself.
 NO_COMMANDS = ("./check",)
+# How many words pages may have together, code apart. Each page is in one row.
+MOST_WORDS = (
+    (900, "README.md"),
+    (400, "docs/INSTALL.md"),
+    (3500, "bindings/*/README.md"),
+    (2800, "docs/FORMAT.md"),
+    (1300, "docs/PLAN.md"),
+    (2000, "docs/OPERATING.md", "SECURITY.md"),
+    (2500, "docs/PROVED.md"),
+    (4000, "docs/MODEL.md"),
+    (4500, "docs/ARCHITECTURE.md", "CONTRIBUTING.md", "CALLING.md"),
+    (2000, "docs/NUMBERS.md"),
+    (2500, "docs/DECISIONS.md"),
+    (2000, "docs/DIFFERENCES.md", "docs/FAULTS.md"),
+    (1600, "crates/*/README.md"),
+    (1200, "CHANGELOG.md"),
+    (120, "examples/README.md"),
+)
 
 
 def files_of_project():
@@ -61,7 +80,7 @@ def pages():
 
 def named_files(text):
     """Paths that a page names: those in one of the project's folders, and pages."""
-    folders = r"(?:docs|bindings|bench|crates|examples|scripts)"
+    folders = r"(?:docs|bindings|bench|crates|debian|examples|man|packaging|scripts)"
     for match in re.finditer(rf"(?<![\w./-])({folders}/[\w./-]*\w/?)", text):
         yield match.group(1)
     for match in re.finditer(r"\]\(([^)#:]+)\)", text):
@@ -131,6 +150,35 @@ def faults_of_files(page, text):
     for pattern in patterns_in(text):
         if not fnmatch.filter(stems, pattern):
             yield f"no file or folder {pattern}"
+    yield from (f"{word} stands for what is to come" for word in re.findall(r"^(?:.*: )?([A-Z]{3,})$", text, re.M))
+
+
+def comments_of(path):
+    """The lines of a source that can name a page: those of its comments, joined as one text."""
+    marks = {".rt": "//", ".antt": "--", ".c": r"\*", ".h": r"\*", ".rs": "//", ".sql": "--"}.get(path.suffix, "#?")
+    return " ".join(re.sub(rf"^\s*(?:{marks}[/!]*)\s?", "", line) for line in path.read_text(errors="ignore").splitlines())
+
+
+def faults_of_sources():
+    """Sections and pages of docs/ that sources name, and that are not there."""
+    for path in files_of_project():
+        if path.suffix not in SOURCES:
+            continue
+        text = comments_of(path)
+        names = {match.group(1) for match in re.finditer(r"\b(docs/[A-Z]+\.md)\b", text)}
+        yield from (f"{path.relative_to(ROOT)}: no file {name}" for name in sorted(names) if not (ROOT / name).exists())
+        for name, title in named_sections(text):
+            if name.startswith("docs/") and (ROOT / name).exists() and title not in titles_of(ROOT / name):
+                yield f'{path.relative_to(ROOT)}: no section "{title}" in {name}'
+
+
+def faults_of_numbers():
+    """Numbers that README.md tells of speed, and that docs/NUMBERS.md has not."""
+    told = (ROOT / "README.md").read_text().split("\n## How fast\n")[1].split("\n## ")[0]
+    known = set(re.findall(r"[\d,.]*\d", (ROOT / "docs" / "NUMBERS.md").read_text()))
+    for number in re.findall(r"\d{1,3}(?:,\d{3})+|\d+\.\d+", told):
+        if number not in known:
+            yield f"README.md: docs/NUMBERS.md doesn't have {number}"
 
 
 # ---- declarations
@@ -345,7 +393,38 @@ def check_names():
         for fault in sorted(faults):
             print(f"{page.relative_to(ROOT)}: {fault}")
         failed += bool(faults)
-    return len(pages()) - failed, failed
+    of_sources = [*faults_of_sources(), *faults_of_numbers()]
+    print("".join(fault + "\n" for fault in of_sources), end="")
+    made = subprocess.run([sys.executable, "-B", ROOT / "scripts" / "tables.py", "check"], capture_output=True, text=True)
+    print(made.stdout if made.returncode else "", end="")
+    failed += bool(of_sources) + bool(made.returncode)
+    return len(pages()) + 2 - failed, failed
+
+
+# ---- words
+
+
+def words_of_page(page):
+    """How many words a page has, outside of code: what has a letter or a digit, between spaces."""
+    text = re.sub(r"^```.*?^```$", "", page.read_text(), flags=re.M | re.S)
+    text = re.sub(r"^    .*$", "", text, flags=re.M)
+    return sum(1 for word in text.split() if re.search(r"\w", word))
+
+
+def check_words():
+    """One test for each row of pages: they have no more words than they may; and each page is in a row."""
+    failed, seen = 0, set()
+    for most, *patterns in MOST_WORDS:
+        found = [page for pattern in patterns for page in sorted(ROOT.glob(pattern))]
+        count = sum(map(words_of_page, found))
+        seen.update(found)
+        if count > most or not found:
+            print(f"{', '.join(patterns)}: {count} words, and {most} at most")
+            failed += 1
+    others = [page for page in pages() if page not in seen]
+    print("".join(f"{page.relative_to(ROOT)}: no row of MOST_WORDS has it\n" for page in others), end="")
+    failed += bool(others)
+    return len(MOST_WORDS) + 1 - failed, failed
 
 
 # ---- commands
@@ -375,7 +454,7 @@ def steps_of(block):
 
 
 def make_scratch(folder):
-    """A folder that looks like the checkout, and has the command `hll` in a folder of programs."""
+    """A folder that looks like the checkout, and has the command `hll` in a folder of programs; nothing is installed by it."""
     named = {"hll_merge": os.environ.get("HLL_MERGE"), "hll_words": os.environ.get("HLL_WORDS")}
     for path in ROOT.iterdir():
         if path.name != ".git":
@@ -384,14 +463,16 @@ def make_scratch(folder):
     hll = folder / ".bin" / "hll"
     hll.write_text(f'#!/bin/sh\nPYTHONPATH={ROOT}/bindings/python exec {sys.executable} -B -m hll_sketches "$@"\n')
     hll.chmod(0o755)
+    (folder / ".bin" / "apt-get").symlink_to(shutil.which("false"))
 
 
-def run_step(command, wanted, folder):
-    """Whether a command ends well, and prints what it should."""
-    path = os.pathsep.join([str(folder / ".bin"), os.environ["PATH"]])
-    ran = subprocess.run(
-        ["bash", "-c", "set -e -o pipefail\n" + command], cwd=folder, capture_output=True, text=True, env=dict(os.environ, PATH=path)
-    )
+def run_step(command, wanted, folder, environment):
+    """Whether a command ends well, and prints what it should. What it exports is there for the next."""
+    exported = folder / ".exported"
+    script = f"set -e -o pipefail\n{command}\nenv -0 > '{exported}'"
+    ran = subprocess.run(["bash", "-c", script], cwd=folder, capture_output=True, text=True, env=environment)
+    if ran.returncode == 0:
+        environment.update(line.split("=", 1) for line in exported.read_text().split("\0") if line)
     is_right = ran.returncode == 0 and (wanted is None or ran.stdout.rstrip() == wanted.rstrip())
     if not is_right:
         print(f"{command}\n  status {ran.returncode}, printed:\n{ran.stdout}{ran.stderr}")
@@ -404,26 +485,27 @@ def run_page(name, begin="", before=""):
     with tempfile.TemporaryDirectory() as scratch:
         folder = pathlib.Path(scratch)
         make_scratch(folder)
-        run_step(before, None, folder)
+        environment = dict(os.environ, PATH=os.pathsep.join([str(folder / ".bin"), os.environ["PATH"]]))
+        run_step(before, None, folder, environment)
         blocks = [block for block in indented_blocks((ROOT / name).read_text()) if block.startswith(begin)]
         steps = [step for block in blocks if not block.startswith(NO_COMMANDS) for step in steps_of(block)]
-        return [run_step(command, wanted, folder) for command, wanted in steps]
+        return [run_step(command, wanted, folder, environment) for command, wanted in steps]
 
 
 def run_scale():
-    """Whether each command of docs/SCALE.md does what it should: those for engines by bench/scale.py, on few files."""
+    """Whether each command of docs/OPERATING.md does what it should: those for engines by bench/scale.py, on few files."""
     ran = subprocess.run([sys.executable, ROOT / "bench" / "scale.py", "60"], capture_output=True, text=True)
     counts = re.search(r"^(\d+) passed, (\d+) failed$", ran.stdout, re.M)
     passed, failed = map(int, counts.groups()) if counts else (0, 1)
     if ran.returncode or failed:
-        print(f"docs/SCALE.md\n{ran.stdout}{ran.stderr}")
+        print(f"docs/OPERATING.md\n{ran.stdout}{ran.stderr}")
     return [True] * passed + [False] * failed
 
 
 def check_commands():
     """One test for each command of the pages for users."""
-    results = run_page("README.md") + run_page("CALLING.md") + run_page("docs/PLAN.md", "./")
-    results += run_page("docs/SCALE.md", "hll ", "mkdir sketches && hll new sketches/1.hll") + run_scale()
+    results = run_page("README.md") + run_page("docs/PLAN.md", "./")
+    results += run_page("docs/OPERATING.md", "hll ", "mkdir sketches && hll new sketches/1.hll") + run_scale()
     return results.count(True), results.count(False)
 
 
@@ -459,7 +541,7 @@ def check_plans():
 
 
 def main():
-    parts = {"names": check_names, "commands": check_commands, "plans": check_plans}
+    parts = {"names": check_names, "words": check_words, "commands": check_commands, "plans": check_plans}
     passed = failed = 0
     for part in sys.argv[1:] or parts:
         more_passed, more_failed = parts[part]()

@@ -135,7 +135,7 @@ def patterns(client, folder, images, paths):
             check("no file, " + pattern, str(folder / pattern) in str(error), error)
 
 
-def skipped(client, folder, images, paths):
+def left_out(client, folder, images, paths):
     """With on_error="skip" what is refused is left out, and named in the answer."""
     cut, missing = folder / "cut.bin", folder / "missing"
     cut.write_bytes(images[3][:5])
@@ -289,7 +289,7 @@ def lost_worker(client, folder, images, paths):
     print("  %d files, opened %d times, by %d processes" % (len(paths), sum(times.values()), len(times)))
 
 
-PARTS = [files, refused_files, patterns, skipped, aggregations, arguments, bags, keys, columns, lost_worker]
+PARTS = [files, refused_files, patterns, left_out, aggregations, arguments, bags, keys, columns, lost_worker]
 
 
 def run(part, *arguments_of_all):

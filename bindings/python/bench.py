@@ -3,11 +3,12 @@
 """Times calls of the package at lg_k 12, beside the calls of the library alone, and prints a table.
 
 Times are of this process's processor time. Both calls of a row run in turn; what is told is the
-median of eleven turns, and that of the ratios.
+median of eleven turns, and that of the ratios. Threads are timed by the clock on the wall.
 """
 import pathlib
 import statistics
 import sys
+import threading
 import time
 from array import array
 
@@ -16,7 +17,7 @@ sys.path.insert(0, str(pathlib.Path(__file__).resolve().parent))
 
 from hll_sketches import Registers, Sketch, Union, _library, coupons, union_of  # noqa: E402
 
-IMAGES, TURNS = 1000, 11
+IMAGES, TURNS, THREADS = 1000, 11, 4
 
 
 def seconds_of(call):
@@ -96,6 +97,24 @@ def row(name, count, call, alone=None):
     print(f"| {name} | {each:.0f} | {beside} |")
 
 
+def in_threads(values):
+    """How many times as many values threads add, each to a sketch of its own, as one of them."""
+
+    def waited(threads):
+        start = time.perf_counter()
+        for thread in threads:
+            thread.start()
+        for thread in threads:
+            thread.join()
+        return time.perf_counter() - start
+
+    def some(count):
+        return [threading.Thread(target=lambda: Sketch(12).update_many(values)) for _ in range(count)]
+
+    turns = [(waited(some(1)), waited(some(THREADS))) for _ in range(TURNS)]
+    return statistics.median(THREADS * one / all_of_them for one, all_of_them in turns)
+
+
 def main():
     print("| lg_k 12, ns each | Python | the C call | ratio |\n|---|---|---|---|")
     for width in (8, 6, 4):
@@ -124,6 +143,7 @@ def main():
     row("`Registers.update_many` of an array of int64", len(ints), lambda: registers.update_many(eights), add_to_alone(eights))
     row("`update` of an int", 100_000, lambda: one_by_one(ints[:100_000]))
     row("`coupons` of a million int", len(ints), lambda: coupons(ints))
+    print(f"\n{THREADS} threads add {in_threads(array('q', range(8_000_000))):.2f} times as many int64 as one.")
 
 
 if __name__ == "__main__":

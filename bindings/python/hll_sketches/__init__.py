@@ -11,7 +11,7 @@ into that of all their values.
     >>> round(union_of([monday, tuesday]).estimate())
     4
 
-Sketches, and their images as bytes, are read, made and merged by a shared library that is proved.
+Sketches, and their images as bytes, are read, made and merged by proved calls of a shared library.
 Estimates, and this package itself, are tested and not proved.
 """
 from ._errors import ArgumentError, FilesError, HllError, ImageError, PrecisionError

@@ -154,7 +154,7 @@ def _placed(
 
 
 def _name_of(file: File) -> str:
-    return file.full_name if isinstance(file, fsspec.core.OpenFile) else os.fspath(file)
+    return str(file.full_name) if isinstance(file, fsspec.core.OpenFile) else os.fspath(file)
 
 
 def _bytes_of_file(file: File, options: Dict[str, Any]) -> bytes:

@@ -23,6 +23,11 @@ STYLE = (
     ".right{text-anchor:end}.middle{text-anchor:middle}.grid{stroke:#ddd}.bar{fill:#7fa8d8}"
     ".theory{stroke:#b03a2e;stroke-width:1.5;fill:none}.dot{fill:#b03a2e}</style>"
 )
+GROUND = (
+    "<style>.ground{fill:white}@media(prefers-color-scheme:dark){.ground{fill:#0d1117}"
+    "text{fill:#ddd}.grid{stroke:#444}}</style>"
+)
+"""The ground, and the colors in a dark page."""
 
 
 # ---- theory
@@ -60,10 +65,10 @@ def deviation(count: float, registers: int) -> float:
 
 
 def document(width: int, height: int, style: str, parts: List[str]) -> str:
-    """A picture on a white ground."""
+    """A picture on a white ground, or on a dark one in a dark page."""
     size = f'width="{width}" height="{height}" viewBox="0 0 {width} {height}"'
-    head = f'<svg xmlns="http://www.w3.org/2000/svg" {size}>{style}'
-    ground = f'<rect width="{width}" height="{height}" fill="white"/>'
+    head = f'<svg xmlns="http://www.w3.org/2000/svg" {size}>{style}{GROUND}'
+    ground = f'<rect width="{width}" height="{height}" class="ground"/>'
     return "\n".join([head, ground, *parts, "</svg>", ""])
 
 

@@ -18,7 +18,7 @@ from unittest import mock
 
 import common  # noqa: F401, for the path
 from command import COMMAND, CommandTest, environment, interruptible
-from hll_sketches import Sketch, _library, adding, check, cli, files, layout
+from hll_sketches import Sketch, __version__, _library, adding, check, cli, files, layout
 from mutants import KINDS, Mutants
 
 NAMES = "merge info estimate check fold convert diff plot new add".split()
@@ -66,8 +66,7 @@ class HelpTest(CommandTest):
             self.assertRegex(out, rf"example:\n  .*hll {name} ")
 
     def test_version(self):
-        version = common.PACKAGE.joinpath("pyproject.toml").read_text().split('version = "')[1]
-        self.assertEqual(self.succeeds("--version"), f"hll {version.split(chr(34))[0]}\n".encode())
+        self.assertEqual(self.succeeds("--version"), f"hll {__version__}\n".encode())
 
     def test_wrong_command_lines(self):
         self.assertEqual(self.run_hll()[:2], (2, b""))

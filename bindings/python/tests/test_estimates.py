@@ -1,5 +1,5 @@
 # SPDX-License-Identifier: Apache-2.0
-"""Estimates and bounds beside the formulas of docs/ESTIMATES.md, computed by Python's own functions."""
+"""Estimates and bounds beside the formulas of docs/NUMBERS.md, computed by Python's own functions."""
 import math
 import random
 import struct

@@ -35,7 +35,8 @@ class PictureTest(CommandTest):
         for height, count in zip(heights, counts):
             self.assertAlmostEqual(height / max(heights), count / max(counts), 2)
         ground = ElementTree.fromstring(data).find(SVG + "rect")
-        self.assertEqual((ground.get("fill"), ground.get("width")), ("white", str(plot.WIDTH)))
+        self.assertEqual((ground.get("class"), ground.get("width")), ("ground", str(plot.WIDTH)))
+        self.assertIn(".ground{fill:white}", data.decode())
         self.assertIn(f"{made.estimate():,.0f} values", data.decode())
 
     def test_names(self):

@@ -54,6 +54,31 @@ class ReadmeTest(CommandTest):
         self.assertEqual(self.listed(), [".bin", "both.hll", "seen.hll"])
 
 
+class ExampleTest(CommandTest):
+    """examples/merge.py, as a user calls it."""
+
+    def example(self, *words):
+        done = subprocess.run(
+            [sys.executable, common.ROOT / "examples" / "merge.py", *words], cwd=self.folder,
+            env=environment(), capture_output=True, text=True,
+        )
+        return done.returncode, done.stdout, done.stderr
+
+    def test_merges_files(self):
+        for name, values in (("one.hll", b"a\nb\n"), ("two.hll", b"b\nc\n")):
+            self.succeeds("new", name)
+            self.succeeds("add", name, given=values)
+        said = "3 distinct values; with 95% certainty 3 to 3\n"
+        self.assertEqual(self.example("out.hll", "one.hll", "two.hll", "one.hll"), (0, said, ""))
+        self.assertEqual(self.succeeds("estimate", "out.hll"), b"3\n")
+
+    def test_refuses(self):
+        self.write("none.hll", b"no")
+        self.assertEqual(self.example("out.hll", "none.hll"), (1, "", "none.hll: image truncated\n"))
+        self.assertEqual(self.example(), (1, "", "usage: merge.py OUT FILE..\n"))
+        self.assertEqual(self.listed(), ["none.hll"])
+
+
 class PicturesTest(unittest.TestCase):
     def test_pictures_are_those_of_the_script(self):
         script = common.ROOT / "bench" / "pictures.py"

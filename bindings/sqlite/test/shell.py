@@ -39,14 +39,20 @@ def old_processor():
     equal("a processor of x86-64-v2", said.stdout, "1.0\n")
 
 
+def runs_as_shown(name, text):
+    """Queries, in their order: none fails, and each prints the lines that stand behind `-->`."""
+    said = run("sqlite3", "-batch", ":memory:", input=text, cwd=FOLDER.parent.parent)
+    shown = re.findall(r"^--> (.*)$", text, re.M)
+    check(name + " shows answers", shown, text)
+    equal(name, (said.stdout.splitlines(), said.returncode), (shown, 0))
+
+
 def readme():
-    """The queries of README.md, in their order: none fails, and each prints the lines that stand behind `-->`."""
+    """The queries of README.md, and the example."""
     blocks = re.findall(r"^```sql\n(.*?)^```$", (FOLDER / "README.md").read_text(), re.S | re.M)
     check("README has queries", len(blocks) >= 4, len(blocks))
-    text = "".join(blocks)
-    said = run("sqlite3", "-batch", ":memory:", input=text, cwd=FOLDER.parent.parent)
-    equal("README", said.stdout.splitlines(), re.findall(r"^--> (.*)$", text, re.M))
-    equal("status of README", said.returncode, 0)
+    runs_as_shown("README", "".join(blocks))
+    runs_as_shown("examples/rollup.sql", (FOLDER.parent.parent / "examples" / "rollup.sql").read_text())
 
 
 def installed():
