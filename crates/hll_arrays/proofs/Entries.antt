@@ -1,3 +1,4 @@
+-- SPDX-License-Identifier: Apache-2.0
 -- The exceptions of registers as entries of an image: each slot occurs once.
 use Rattle.std.proofs.Common.{◌≡◌, ℕ, ◌+◌, ◌%◌, ◌^◌, ◌<◌, ◌≤◌, true, false, cond, eqb, List, [], ◌∷◌, length, get_or, All, sym, ap, ◌∙◌, arith}
 use Rattle.std.specs.Prelude.{nat_le}

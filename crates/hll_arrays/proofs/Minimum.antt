@@ -1,3 +1,4 @@
+-- SPDX-License-Identifier: Apache-2.0
 -- The minimum over a run of updates.
 use Rattle.std.proofs.Common.{◌≡◌, ℕ, ◌^◌, ◌≤◌, List, [], ◌∷◌, ◌++◌, length, get_or, sym, subst, ◌∙◌, arith}
 use Rattle.std.specs.Prelude.{fold}

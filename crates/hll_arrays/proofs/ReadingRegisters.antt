@@ -1,3 +1,4 @@
+-- SPDX-License-Identifier: Apache-2.0
 -- Lemmas on reading the registers of an image.
 use Rattle.std.proofs.Common.{◌≡◌, ℕ, ◌+◌, ◌-◌, ◌^◌, ◌≤◌, List, length, take, drop, true, All, Result, Ok, Err, IfErr, sym, subst, ◌∙◌, arith}
 use Rattle.std.specs.Prelude.{nat_le}

@@ -1,3 +1,4 @@
+-- SPDX-License-Identifier: Apache-2.0
 -- What is written for registers is read back (docs/MODEL.md, "Packed forms").
 use Rattle.std.specs.Prelude.{◌≡◌, ℕ, ◌+◌, ◌^◌, List, ◌++◌, take, drop}
 use Rattle.hll_coupons.specs.Pair.{set_of}

@@ -1,3 +1,4 @@
+-- SPDX-License-Identifier: Apache-2.0
 -- When two stores are the same (docs/MODEL.md, "Laws of a store").
 use Rattle.std.specs.Prelude.{◌≡◌, ◌&&◌, nat_eq, Bool, true, false, refl}
 use Rattle.std.proofs.Common.{sym, ◌∙◌, subst, eqb-true, eq-eqb}

@@ -1,3 +1,4 @@
+// SPDX-License-Identifier: Apache-2.0
 //! Registers of eight bits: one byte each.
 ghost use Rattle.std.specs.Prelude.{◌≡◌, ◌+◌, ◌^◌, ◌<◌, ◌≤◌, ◌==◌, ◌⊎◌, nat_le, take, drop, slice_index, slice_set, IfOk, IfErr};
 ghost use Rattle.std.specs.List.{list_all};

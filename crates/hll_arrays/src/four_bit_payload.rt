@@ -1,3 +1,4 @@
+// SPDX-License-Identifier: Apache-2.0
 //! Reads registers of four bits from the part of an image that follows the header (docs/FORMAT.md, "HLL").
 ghost use Rattle.std.specs.Prelude.{◌≡◌, ◌≢◌, ◌+◌, ◌-◌, ◌*◌, ◌%◌, ◌^◌, ◌<◌, ◌≤◌, ◌==◌, ◌⊎◌, ℕ, if◌then◌else◌, length, take, drop, true, false, None, Some, IfOk, IfErr, OnOk};
 ghost use Rattle.hll_base.specs.declared.error.Reason.TheVariants.{Memory};

@@ -1,3 +1,4 @@
+// SPDX-License-Identifier: Apache-2.0
 //! Laws of packed registers, each a clause of a function that does nothing (docs/MODEL.md, "Packed forms").
 ghost use Rattle.hll_registers.specs.EstimatorWords.{OneEstimatorState};
 ghost use Rattle.hll_registers.specs.FourBits.{MinimumNeverFalls, PackedIsOfRegisters};

@@ -1,3 +1,4 @@
+// SPDX-License-Identifier: Apache-2.0
 //! Registers: their representations behind traits with laws, merges and conversions, and packed forms
 //! (docs/ARCHITECTURE.md, "Registers").
 #![tactic(auto)]

@@ -1,3 +1,4 @@
+// SPDX-License-Identifier: Apache-2.0
 //! Merges of registers from any source (docs/MODEL.md, "Merges and conversions").
 ghost use Rattle.std.specs.Prelude.{◌≡◌, ◌≤◌};
 ghost use Rattle.hll_registers.specs.Store.{merge_with};

@@ -1,3 +1,4 @@
+-- SPDX-License-Identifier: Apache-2.0
 -- Lemmas on errors that are passed on.
 use Rattle.std.proofs.Common.{◌≡◌, Result, Ok, Err, sym, subst}
 use Rattle.std.specs.Result.{IfErr, OnErr, IsErrAnd}

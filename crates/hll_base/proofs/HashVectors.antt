@@ -1,3 +1,4 @@
+-- SPDX-License-Identifier: Apache-2.0
 -- The hash of two known texts at seed 0.
 use Rattle.std.specs.Prelude.{◌≡◌, [], refl, codes}
 use Rattle.hll_base.specs.Hash.{hash}

@@ -1,3 +1,4 @@
+-- SPDX-License-Identifier: Apache-2.0
 -- Joins of registers: order, grouping and repetition.
 use Rattle.std.proofs.Common.{◌≡◌, ℕ, ◌<◌, zero, suc, List, [], ◌∷◌, length, get_or, refl, sym, ap, ◌∙◌, arith}
 use Rattle.std.specs.Prelude.{max}

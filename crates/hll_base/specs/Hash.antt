@@ -1,3 +1,4 @@
+-- SPDX-License-Identifier: Apache-2.0
 -- The hash of a whole list of bytes: MurmurHash3 x64 128 (docs/FORMAT.md, "The hash").
 use Rattle.std.specs.Prelude.{◌≡◌, ℕ, ◌+◌, ◌*◌, ◌/◌, ◌%◌, ◌^◌, List, [], ◌++◌, length, take, drop, fold, bit_xor, nat_lt, if◌then◌else◌}
 use Rattle.std.specs.Simd.{first_chunks}

@@ -1,3 +1,4 @@
+-- SPDX-License-Identifier: Apache-2.0
 -- The join of registers (docs/MODEL.md, "Folds").
 use Rattle.std.specs.Prelude.{ℕ, List, [], ◌∷◌, max}
 

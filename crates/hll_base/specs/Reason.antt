@@ -1,3 +1,4 @@
+-- SPDX-License-Identifier: Apache-2.0
 -- The numbers, words and kinds of the reasons for a refusal.
 use Rattle.std.specs.Prelude.{ℕ, List, codes}
 use Rattle.hll_base.specs.declared.error.Reason.{Reason}

@@ -1,3 +1,4 @@
+// SPDX-License-Identifier: Apache-2.0
 //! The bounds of a sketch (docs/MODEL.md, "Pairs"): of its `lg_k`, and of the slots and values of its coupons.
 
 /// The least `lg_k` of a sketch.

@@ -1,3 +1,4 @@
+// SPDX-License-Identifier: Apache-2.0
 //! A growing buffer that image fields are appended to.
 ghost use Rattle.std.specs.Prelude.{◌≡◌, ◌≢◌, ℕ, ◌++◌, ◌∷◌, [], List, IfOk, OnOk, OnErr, IfErr};
 ghost use Rattle.std.specs.Int.{to_le_bytes, w32, w64};

@@ -1,3 +1,4 @@
+// SPDX-License-Identifier: Apache-2.0
 //! A cursor over the bytes of an image.
 ghost use Rattle.std.specs.Prelude.{◌≡◌, ℕ, ◌≤◌, ◌<◌, ◌++◌, ◌∷◌, [], List, length, drop, IfOk, OnOk, IfErr};
 ghost use Rattle.std.specs.Int.{from_le_bytes, w32, w64};

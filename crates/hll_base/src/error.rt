@@ -1,3 +1,4 @@
+// SPDX-License-Identifier: Apache-2.0
 //! Errors and their numbered reasons (docs/FORMAT.md, "Reasons").
 ghost use Rattle.std.specs.Prelude.{◌≡◌};
 ghost use Rattle.hll_base.specs.Reason.{number_of, word_of, kind_of};

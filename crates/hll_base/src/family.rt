@@ -1,3 +1,4 @@
+// SPDX-License-Identifier: Apache-2.0
 //! The family byte of an image (docs/FORMAT.md, "The image").
 ghost use Rattle.std.specs.Prelude.{◌≡◌, ◌↔◌, IsOk, IfErr};
 ghost use Rattle.hll_base.specs.declared.error.Reason.TheVariants as reasons;

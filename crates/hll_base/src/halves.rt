@@ -1,3 +1,4 @@
+// SPDX-License-Identifier: Apache-2.0
 //! The state of MurmurHash3 x64 128 and its mixing steps (docs/FORMAT.md, "The hash").
 ghost use Rattle.std.specs.Prelude.{◌≡◌, ℕ, ◌++◌, ◌-◌, ◌<◌, ◌≤◌, ◌^◌, List, length, replicate, fold};
 ghost use Rattle.std.specs.Int.{w64, from_le_bytes};

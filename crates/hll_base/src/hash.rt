@@ -1,3 +1,4 @@
+// SPDX-License-Identifier: Apache-2.0
 //! MurmurHash3 x64 128 (docs/FORMAT.md, "The hash").
 ghost use Rattle.std.specs.Prelude.{◌≡◌, ◌+◌, ◌%◌, ◌^◌, ◌≤◌, ◌<◌, ◌++◌, [], length, take, drop};
 ghost use Rattle.hll_base.specs.Hash.{initial_state, after_bytes, after_piece, hash, hash_of, default_seed};

@@ -1,3 +1,4 @@
+// SPDX-License-Identifier: Apache-2.0
 //! How many bits a register takes (docs/MODEL.md, "Registers").
 
 /// The width of the registers of a sketch.

@@ -1,3 +1,4 @@
+// SPDX-License-Identifier: Apache-2.0
 //! Laws of the hash. Each is the contract of a function with an empty body, which a caller that needs it calls
 //! (docs/FORMAT.md, "The hash").
 ghost use Rattle.hll_base.specs.Hash.{PiecesAreOne, HashOfPiece};

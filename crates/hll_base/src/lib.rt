@@ -1,3 +1,4 @@
+// SPDX-License-Identifier: Apache-2.0
 //! What the sketches are built on: errors, the hash, and readers and writers of image bytes
 //! (docs/ARCHITECTURE.md, "The crates").
 #![tactic(auto)]

@@ -1,3 +1,4 @@
+// SPDX-License-Identifier: Apache-2.0
 //! Work on images of registers: each function fills registers, reads or writes their image `rounds` times, and returns a
 //! number that depends on the outcome.
 ghost use Rattle.std.specs.Prelude.{◌≤◌};

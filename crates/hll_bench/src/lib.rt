@@ -1,3 +1,4 @@
+// SPDX-License-Identifier: Apache-2.0
 //! Exports over the public calls of the crates below, for the measurements of bench/rust (docs/ARCHITECTURE.md,
 //! "Measurements"). A width is 4, 6 or 8 bits; any other number stands for 8.
 #![tactic(auto)]

@@ -1,3 +1,4 @@
+// SPDX-License-Identifier: Apache-2.0
 //! Work on registers: each function makes its own, does the work `rounds` times, and returns a number that depends on all
 //! of it, such as how many registers are 0 in the end.
 ghost use Rattle.std.specs.Prelude.{◌≡◌, ◌≤◌, IfOk};

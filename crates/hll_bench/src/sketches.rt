@@ -1,3 +1,4 @@
+// SPDX-License-Identifier: Apache-2.0
 //! Sketches: what an image is read as, and work on whole sketches, done `rounds` times.
 ghost use Rattle.std.specs.Prelude.{◌≤◌};
 

@@ -1,3 +1,4 @@
+// SPDX-License-Identifier: Apache-2.0
 //! Sketches that are merged into one union, and the registers of the same sketches merged alone.
 ghost use Rattle.std.specs.Prelude.{◌≤◌};
 

@@ -1,3 +1,4 @@
+-- SPDX-License-Identifier: Apache-2.0
 -- When the registers of two images agree.
 use Rattle.std.proofs.Common.{arith, ◌≡◌, ◌↔◌, ℕ, ◌^◌, ◌≤◌, min, List, length, sym, ap, subst, ◌∙◌}
 use Rattle.hll_coupons.proofs.Folds.{length-fold_to}

@@ -1,3 +1,4 @@
+-- SPDX-License-Identifier: Apache-2.0
 -- Lemmas on byte strings that are told by their ends: what is left of them from an index on.
 use Rattle.std.proofs.Common.{◌≡◌, ◌⊎◌, ◌↔◌, arith, Bool, true, false, ℕ, suc, ◌+◌, ◌-◌, ◌<◌, ◌≤◌, List, [], ◌∷◌, ◌++◌, length, take, drop, get_or, set, map, inl, inr, refl, sym, ◌∙◌, ap, subst, append_assoc}
 use Rattle.std.proofs.lemmas.List.{drop_more, drop_all, take_more_set, length-set, drop-set-lt, take-append-drop}

@@ -1,3 +1,4 @@
+-- SPDX-License-Identifier: Apache-2.0
 -- Lemmas on counts of registers by their value.
 use Rattle.std.proofs.Common.{◌≡◌, ◌≢◌, arith, ℕ, ◌+◌, ◌<◌, ◌≤◌, Bool, true, false, nat_eq, List, [], length, take, get_or, set, replicate, refl, sym, ◌∙◌, ap, subst}
 use Rattle.std.specs.List.{count_by}

@@ -1,3 +1,4 @@
+-- SPDX-License-Identifier: Apache-2.0
 mod Agreement
 pub mod Answers
 pub mod Batches

@@ -1,3 +1,4 @@
+-- SPDX-License-Identifier: Apache-2.0
 -- Counts that are powers of two.
 use Rattle.std.proofs.Common.{◌≡◌, ◌⊎◌, arith, ℕ, suc, ◌+◌, ◌-◌, ◌*◌, ◌<◌, ◌≤◌, ◌^◌, List, length, inl, inr, sym, subst, ap, ◌∙◌}
 use Rattle.std.specs.Int.Count.{count_leading_zeros}

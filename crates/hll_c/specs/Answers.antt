@@ -1,3 +1,4 @@
+-- SPDX-License-Identifier: Apache-2.0
 -- The answers of calls over images (docs/MODEL.md, "Calls over images").
 use Rattle.std.specs.Prelude.{◌≡◌, ℕ, ◌≤◌, ◌<◌, List, ◌++◌, length, drop, Some, None}
 use Rattle.hll_base.specs.Reason.{number_of}

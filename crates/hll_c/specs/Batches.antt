@@ -1,3 +1,4 @@
+-- SPDX-License-Identifier: Apache-2.0
 -- Byte strings that stand one after another, told by their ends (docs/MODEL.md, "Calls over images").
 use Rattle.std.specs.Prelude.{◌≡◌, ℕ, zero, suc, ◌-◌, ◌≤◌, List, [], ◌∷◌, take, drop, Some, None}
 use Rattle.hll_base.specs.declared.error.Reason.{Reason}

@@ -1,3 +1,4 @@
+-- SPDX-License-Identifier: Apache-2.0
 -- What the calls do with registers that a caller keeps as bytes (docs/MODEL.md, "Registers of the caller").
 use Rattle.std.specs.Prelude.{◌≡◌, ℕ, ◌^◌, ◌≤◌, List, ◌++◌, length, drop, map, Some, None, All}
 use Rattle.hll_base.specs.Join.{join}

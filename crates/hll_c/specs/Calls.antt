@@ -1,3 +1,4 @@
+-- SPDX-License-Identifier: Apache-2.0
 -- What the calls over images write, tell and refuse (docs/MODEL.md, "Calls over images").
 use Rattle.std.specs.Prelude.{◌≡◌, ℕ, ◌^◌, ◌≤◌, ◌<◌, ◌↔◌, Bool, true, false, List, [], ◌∷◌, ◌++◌, length, drop, map}
 use Rattle.hll_base.specs.Reason.{number_of}

@@ -1,3 +1,4 @@
+-- SPDX-License-Identifier: Apache-2.0
 -- What calls tell of an image (docs/MODEL.md, "Calls over images").
 use Rattle.std.specs.Prelude.{◌≡◌, ℕ, ◌+◌, ◌*◌, ◌^◌, ◌<◌, ◌==◌, if◌then◌else◌, List, [], ◌∷◌, count_by, slice_index}
 use Rattle.std.specs.FinSet.{len}

@@ -1,3 +1,4 @@
+// SPDX-License-Identifier: Apache-2.0
 //! The codes of answers, and how an image gets into a buffer.
 ghost use Rattle.std.specs.Prelude.{◌≡◌, MatchResult, IfOk, IfErr};
 ghost use Rattle.hll_base.specs.declared.error.Reason.TheVariants.{Memory};

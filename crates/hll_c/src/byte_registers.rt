@@ -1,3 +1,4 @@
+// SPDX-License-Identifier: Apache-2.0
 //! Registers that the caller keeps: 2^`lg_k` bytes, one for each register.
 ghost use Rattle.std.specs.Prelude.{◌≡◌, ◌^◌, ◌≤◌, ◌↔◌, length, map, IsTrue, IfOk, IfErr};
 ghost use Rattle.hll_base.specs.declared.error.Reason.TheVariants as reasons;

@@ -1,3 +1,4 @@
+// SPDX-License-Identifier: Apache-2.0
 //! What the calls make of images.
 ghost use Rattle.std.specs.Prelude.{◌≡◌, ◌≢◌, ◌^◌, ◌≤◌, ◌⊎◌, ◌↔◌, ◌∷◌, [], Bool, true, min, length, map, IsTrue, IfOk, IfErr, OnOk};
 ghost use Rattle.hll_base.specs.declared.error.Reason.TheVariants as reasons;

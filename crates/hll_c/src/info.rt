@@ -1,3 +1,4 @@
+// SPDX-License-Identifier: Apache-2.0
 //! What an image says.
 ghost use Rattle.std.specs.Prelude.{◌≡◌, ◌^◌, ◌<◌, ◌≤◌, length, IfOk, IfErr};
 ghost use Rattle.hll_coupons.specs.Pair.{Pairs};

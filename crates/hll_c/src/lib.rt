@@ -1,3 +1,4 @@
+// SPDX-License-Identifier: Apache-2.0
 //! The library for C: calls over images, and over registers of the caller, which keep nothing. bindings/c/hll.h says what
 //! each call owes its caller, and docs/MODEL.md, "Calls over images", what the contracts say.
 //!

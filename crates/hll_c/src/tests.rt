@@ -1,3 +1,4 @@
+// SPDX-License-Identifier: Apache-2.0
 //! Each call on images whose bytes are known. They have memory enough, so a call that gives up fails.
 use crate::info::{HllHistogram, HllInfo};
 use crate::{

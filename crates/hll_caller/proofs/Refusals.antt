@@ -1,3 +1,4 @@
+-- SPDX-License-Identifier: Apache-2.0
 -- What a refusal says of a plan where no stream failed.
 use Rattle.std.proofs.Common.{◌≡◌, ◌⊎◌, ℕ, true, false, List, Option, Some, inl, inr, sym, ◌∙◌, subst}
 use Rattle.hll_text.specs.declared.fault.Fault.TheVariants.{Memory}

@@ -1,3 +1,4 @@
+// SPDX-License-Identifier: Apache-2.0
 //! A proved caller of the library: what CALLING.md shows.
 #![tactic(auto)]
 

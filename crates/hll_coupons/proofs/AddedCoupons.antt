@@ -1,3 +1,4 @@
+-- SPDX-License-Identifier: Apache-2.0
 -- The coupons of a list beside those of a set.
 use Rattle.std.proofs.Common.{◌≡◌, ℕ, ◌+◌, ◌≤◌, ◌<◌, ◌||◌, ◌≢◌, Bool, true, false, not, cond, nat_eq, nat_lt, zero, suc, List, [], ◌∷◌, ◌++◌, length, get_or, Result, Ok, Err, refl, sym, ap, ◌∙◌, arith, inl, inr}
 use mir.Val.{bool_byte}

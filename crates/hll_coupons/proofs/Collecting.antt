@@ -1,3 +1,4 @@
+-- SPDX-License-Identifier: Apache-2.0
 -- Coupons of a list that come one after another.
 use Rattle.hll_coupons.proofs.TableLemmas.{length-between}
 use Rattle.std.proofs.Common.{◌≡◌, ℕ, ◌+◌, ◌≤◌, ◌<◌, ◌^◌, ◌||◌, nat_eq, true, false, cond, List, [], ◌∷◌, ◌++◌, length, All, refl, sym, ap, ◌∙◌, arith, inl, inr}

@@ -1,3 +1,4 @@
+-- SPDX-License-Identifier: Apache-2.0
 -- A path is a part of its stride's cycle, so the first bit that is set shows the first empty place of the path.
 use Rattle.std.proofs.Common.{◌≡◌, ℕ, ◌+◌, ◌-◌, ◌*◌, ◌/◌, ◌%◌, ◌^◌, ◌<◌, ◌≤◌, List, length, get_or, set, sym, ap, subst, zero-add, pow-add, ◌∙◌, arith, inl, inr}
 use Rattle.std.specs.Prelude.{◌==◌, if◌then◌else◌}

@@ -1,3 +1,4 @@
+-- SPDX-License-Identifier: Apache-2.0
 -- A worked fold, as docs/MODEL.md tells it.
 use Rattle.std.proofs.Common.{◌≡◌, [], ◌∷◌}
 use Rattle.hll_coupons.specs.Pair.{pair, set_of}

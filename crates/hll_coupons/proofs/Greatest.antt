@@ -1,3 +1,4 @@
+-- SPDX-License-Identifier: Apache-2.0
 -- The greatest of a function over a list or a set.
 use Rattle.std.proofs.Common.{◌≡◌, ℕ, ◌≤◌, true, List, [], ◌∷◌, refl, sym, ap, ◌∙◌, arith, inl, inr}
 use Rattle.std.specs.Prelude.{max}

@@ -1,3 +1,4 @@
+-- SPDX-License-Identifier: Apache-2.0
 -- Images of known coupons, written and read.
 use Rattle.std.specs.Prelude.{◌≡◌, true, false, [], ◌∷◌, refl}
 use Rattle.hll_coupons.specs.Pair.{pair}

@@ -1,3 +1,4 @@
+-- SPDX-License-Identifier: Apache-2.0
 -- A map with an entry more, and with another value at a slot.
 use Rattle.std.proofs.Common.{◌≡◌, ◌≢◌, ℕ, ◌+◌, ◌*◌, ◌%◌, ◌^◌, ◌<◌, ◌≤◌, true, false, eqb, cond, List, Option, Some, None, length, map, get_or, set, refl, sym, subst, ap, ◌∙◌, arith, inl, inr}
 use Rattle.std.specs.Prelude.{find}

@@ -1,3 +1,4 @@
+-- SPDX-License-Identifier: Apache-2.0
 -- The set of the coupons of a list or of places.
 use Rattle.std.proofs.lemmas.Bool.{and_parts}
 use Rattle.std.proofs.Math.Bool.{or-true}

@@ -1,3 +1,4 @@
+-- SPDX-License-Identifier: Apache-2.0
 -- The entries of a map as pairs of a slot and a value.
 use Rattle.std.proofs.Common.{◌≡◌, ℕ, true, ◌^◌, ◌<◌, ◌≤◌, List, All, Some, length, get_or, sym, ap, ◌∙◌, subst, arith}
 use Rattle.std.proofs.lemmas.List.{length-map, get_or-map}

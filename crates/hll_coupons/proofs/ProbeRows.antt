@@ -1,3 +1,4 @@
+-- SPDX-License-Identifier: Apache-2.0
 -- Worked searches: eight coupons of value 1 in 32 places, which all start at place 0.
 use Rattle.std.proofs.Common.{◌≡◌, [], ◌∷◌, map, refl}
 use Rattle.hll_coupons.specs.Pair.{pair}

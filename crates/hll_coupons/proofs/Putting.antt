@@ -1,3 +1,4 @@
+-- SPDX-License-Identifier: Apache-2.0
 -- Entries that are put by a search for their key: what the table then holds.
 use Rattle.std.proofs.Common.{◌≡◌, ℕ, zero, suc, ◌+◌, ◌^◌, ◌<◌, Bool, true, false, ◌||◌, List, [], ◌∷◌, ◌++◌, All, map, nat_eq, length, get_or, set, refl, sym, subst, ap, ◌∙◌, arith, inl, inr}
 use Rattle.std.specs.List.{list_any}

@@ -1,3 +1,4 @@
+-- SPDX-License-Identifier: Apache-2.0
 -- Searches by a key along their paths: what they find, and what an entry more leaves to be found.
 use Rattle.std.proofs.Common.{◌≡◌, ℕ, ◌+◌, ◌*◌, ◌/◌, ◌%◌, ◌^◌, ◌<◌, List, [], ◌∷◌, ◌++◌, length, get_or, set, refl, sym, ap, ◌∙◌, subst, arith, inl, inr}
 use Rattle.std.specs.Prelude.{bit_or}

@@ -1,3 +1,4 @@
+-- SPDX-License-Identifier: Apache-2.0
 -- The least number of a range that passes a test.
 use Rattle.std.proofs.Common.{◌≡◌, ℕ, zero, suc, ◌+◌, ◌<◌, ◌≤◌, Bool, true, false, Some, sym, ap, ◌∙◌, arith, inl, inr}
 use Rattle.std.specs.Prelude.{find}

@@ -1,3 +1,4 @@
+-- SPDX-License-Identifier: Apache-2.0
 -- Tables: empty, with a coupon put, and filled from the front.
 use Rattle.std.proofs.Common.{◌≡◌, ℕ, ◌+◌, ◌-◌, ◌<◌, ◌≤◌, ◌^◌, true, false, Bool, cond, List, nat_lt, [], ◌∷◌, ◌++◌, length, replicate, get_or, sym, ◌∙◌, ap, subst, arith, All, length-append}
 use Rattle.std.proofs.Math.ListN.{set}

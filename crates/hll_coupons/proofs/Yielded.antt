@@ -1,3 +1,4 @@
+-- SPDX-License-Identifier: Apache-2.0
 -- Iterators that give a list from its first item on.
 use Rattle.std.proofs.Common.{◌≡◌, ◌∙◌, ap, sym, List, [], ◌∷◌, ◌++◌}
 use Rattle.std.specs.Iterator.{Yields, YieldsFirst}

@@ -1,3 +1,4 @@
+-- SPDX-License-Identifier: Apache-2.0
 -- A map from slots to values, the exceptions of registers of four bits, in a table of places: its entries, and the size
 -- that the table takes (docs/MODEL.md, "Maps of exceptions"; docs/FORMAT.md, "Probing").
 use Rattle.std.specs.Prelude.{ℕ, ◌≡◌, ◌≢◌, ◌+◌, ◌-◌, ◌*◌, ◌%◌, ◌^◌, ◌<◌, ◌≤◌, ◌==◌, nat_le, if◌then◌else◌, List, length, map, All, None, unwrap_or, find}

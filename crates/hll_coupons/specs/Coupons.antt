@@ -1,3 +1,4 @@
+-- SPDX-License-Identifier: Apache-2.0
 -- Coupons in the bytes of an image: how places are read, and what is written for a list and a set
 -- (docs/FORMAT.md, "The image"; docs/MODEL.md, "Images").
 use Rattle.std.specs.Prelude.{◌≡◌, ℕ, ◌+◌, ◌*◌, ◌≤◌, ◌==◌, Bool, if◌then◌else◌, List, [], ◌∷◌, ◌++◌, length, drop, All}

@@ -1,3 +1,4 @@
+-- SPDX-License-Identifier: Apache-2.0
 -- The cycle of a stride: the places of a table in the order of steps from place 0, and a bitmap of those that are empty.
 use Rattle.std.specs.Prelude.{◌≡◌, ℕ, ◌+◌, ◌*◌, ◌%◌, ◌^◌, ◌≢◌, ◌<◌, ◌≤◌, ◌==◌, if◌then◌else◌, List, length, slice_index, slice_index_or, slice_set}
 use Rattle.hll_coupons.specs.Probe.{stride_of, IsAbsent, EndsAt}

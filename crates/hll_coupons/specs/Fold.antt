@@ -1,3 +1,4 @@
+-- SPDX-License-Identifier: Apache-2.0
 -- Folds of sets of pairs, and registers (docs/MODEL.md, "Folds" and "Registers").
 use Rattle.std.specs.Prelude.{ℕ, ◌+◌, ◌%◌, ◌^◌, ◌==◌, if◌then◌else◌, List, [], ◌∷◌, map, max}
 use Rattle.std.specs.List.{range_with_len}

@@ -1,3 +1,4 @@
+-- SPDX-License-Identifier: Apache-2.0
 -- Sets of coupons in a table that is searched by raw words (docs/MODEL.md, "Tables" and "Probing").
 use Rattle.hll_coupons.specs.Probe.{IsProbed}
 use Rattle.hll_coupons.specs.Table.{Table, IsTable}

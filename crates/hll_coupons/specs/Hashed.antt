@@ -1,3 +1,4 @@
+-- SPDX-License-Identifier: Apache-2.0
 -- The coupon of hashed bytes (docs/MODEL.md, "Coupons of values").
 use Rattle.std.specs.Prelude.{ℕ, ◌+◌, List, min}
 use Rattle.std.specs.Int.{w64, leading_zeros}

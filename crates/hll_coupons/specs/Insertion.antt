@@ -1,3 +1,4 @@
+-- SPDX-License-Identifier: Apache-2.0
 -- What a table does with a coupon that it may take up to a number of coupons (docs/MODEL.md, "Tables").
 use Rattle.std.specs.Prelude.{◌≡◌, ℕ, ◌<◌, ◌≤◌, true, false}
 use Rattle.std.specs.FinSet.{contains, insert, len}

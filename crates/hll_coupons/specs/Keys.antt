@@ -1,3 +1,4 @@
+-- SPDX-License-Identifier: Apache-2.0
 -- The key of an entry: the raw word in a set, the slot in a table of exceptions (docs/MODEL.md, "Probing").
 use Rattle.std.specs.Prelude.{ℕ}
 use Rattle.hll_coupons.specs.Pair.{slot_of}

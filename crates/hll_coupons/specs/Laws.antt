@@ -1,3 +1,4 @@
+-- SPDX-License-Identifier: Apache-2.0
 -- The laws of folding, registers and probing (docs/MODEL.md, "Laws of folding and probing").
 use Rattle.std.specs.Prelude.{◌≡◌, ◌≢◌, ℕ, ◌%◌, ◌^◌, ◌<◌, ◌≤◌, List, length, slice_index, slice_set}
 use Rattle.std.specs.FinSet.{union}

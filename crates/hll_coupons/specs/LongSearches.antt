@@ -1,3 +1,4 @@
+-- SPDX-License-Identifier: Apache-2.0
 -- The cycles of several strides through the places of a table (docs/MODEL.md, "Cycles").
 use Rattle.std.specs.Prelude.{◌≡◌, ℕ, ◌^◌, List, All, length}
 use Rattle.hll_coupons.specs.Cycle.{IsFor}

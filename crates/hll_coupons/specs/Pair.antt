@@ -1,3 +1,4 @@
+-- SPDX-License-Identifier: Apache-2.0
 -- A pair of a slot and a value, and finite sets of pairs (docs/MODEL.md, "Pairs").
 use Rattle.std.specs.Prelude.{ℕ, ◌+◌, ◌*◌, ◌/◌, ◌%◌, ◌^◌, ◌≤◌, List}
 use Rattle.std.specs.Ordering.{nat_cmp}

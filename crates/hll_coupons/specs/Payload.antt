@@ -1,3 +1,4 @@
+-- SPDX-License-Identifier: Apache-2.0
 -- What stands behind the header in an image of a list and of a set, and what can be wrong with it
 -- (docs/FORMAT.md, "LIST" and "SET"; docs/MODEL.md, "Images").
 use Rattle.std.specs.Prelude.{◌≡◌, ◌≢◌, ℕ, ◌+◌, ◌*◌, ◌^◌, ◌≤◌, ◌<◌, ◌↔◌, Bool, if◌then◌else◌, IsTrue, List, length, drop, replicate}

@@ -1,3 +1,4 @@
+-- SPDX-License-Identifier: Apache-2.0
 -- The path of a search through a table, and what it finds (docs/MODEL.md, "Probing").
 use Rattle.std.specs.Prelude.{◌≡◌, ◌≢◌, ℕ, ◌+◌, ◌*◌, ◌/◌, ◌%◌, ◌^◌, ◌<◌, List, [], ◌∷◌, length, map, slice_index, slice_set, bit_or}
 use Rattle.std.specs.List.{range_with_len}

@@ -1,3 +1,4 @@
+-- SPDX-License-Identifier: Apache-2.0
 -- How the places of an image were read.
 use Rattle.hll_coupons.specs.declared.hash_set.Reading.{Reading}
 use Rattle.hll_coupons.specs.declared.hash_set.Reading.TheVariants.{Whole, Cut}

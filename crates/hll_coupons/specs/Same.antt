@@ -1,3 +1,4 @@
+-- SPDX-License-Identifier: Apache-2.0
 -- When two tables hold the same coupons, and two maps the same entries, and that these are equivalences: the laws of
 -- `PartialEq` and `Eq` have to stand in specs (docs/MODEL.md, "Tables" and "Maps of exceptions").
 use Rattle.std.specs.Prelude.{Bool, true, false, ◌≡◌, ◌&&◌, nat_eq, refl}

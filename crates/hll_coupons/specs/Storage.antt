@@ -1,3 +1,4 @@
+-- SPDX-License-Identifier: Apache-2.0
 -- Places for coupons, in the value itself or in memory of their own.
 use Rattle.std.specs.Prelude.{ℕ, List}
 use Rattle.hll_coupons.specs.declared.storage.Storage.{Storage}

@@ -1,3 +1,4 @@
+-- SPDX-License-Identifier: Apache-2.0
 -- A table of places for coupons, in their order (docs/MODEL.md, "Tables").
 use Rattle.std.specs.Prelude.{ℕ, ◌≡◌, ◌-◌, ◌^◌, ◌≤◌, List, [], ◌∷◌, ◌++◌, filter, nat_lt, length, All, replicate, if◌then◌else◌}
 use Rattle.std.specs.FinSet as set

@@ -1,3 +1,4 @@
+// SPDX-License-Identifier: Apache-2.0
 //! The coupons of a table beside those of a set: counted with them, and added to them. Each is sought by a short
 //! search. Where one is cut off, a copy of the set's coupons in ascending order tells which of them it has (docs/OPERATING.md).
 ghost use Rattle.std.specs.Prelude.{◌≡◌, ◌^◌, ◌<◌, ◌≤◌, true, false, length, IfOk, IfErr};

@@ -1,3 +1,4 @@
+// SPDX-License-Identifier: Apache-2.0
 //! The exceptions of registers of four bits: a map from slots to values (docs/MODEL.md, "Maps of exceptions").
 ghost use Rattle.std.specs.Prelude.{◌≡◌, ◌≢◌, ◌+◌, ◌*◌, ◌^◌, ◌<◌, ◌≤◌, ◌==◌, ℕ, if◌then◌else◌, length, map, None, Some, IsOk, IfOk, IfErr, OnOk, OnErr, IfSome};
 ghost use Rattle.std.specs.FinSet as set;

@@ -1,3 +1,4 @@
+// SPDX-License-Identifier: Apache-2.0
 //! Maps of exceptions while they are filled.
 ghost use Rattle.std.specs.Prelude.{◌≡◌, ◌≢◌, ◌↔◌, ◌*◌, ◌^◌, ◌<◌, ◌≤◌, ◌==◌, ℕ, if◌then◌else◌, length, None, Some, IsTrue, IfOk, IfErr, IfSome, OnOk, OnErr};
 ghost use Rattle.hll_base.specs.declared.error.Reason.TheVariants.{Memory};

@@ -1,3 +1,4 @@
+// SPDX-License-Identifier: Apache-2.0
 //! A table of places for coupons (docs/MODEL.md, "Tables").
 ghost use Rattle.std.specs.Prelude.{◌≡◌, ◌≢◌, ℕ, ◌+◌, ◌*◌, ◌^◌, ◌<◌, ◌≤◌, ◌↔◌, ◌++◌, [], length, slice_set, slice_index, false, IsTrue, IfOk, IfErr, OnOk, OnErr};
 ghost use Rattle.std.specs.Bool.{OnFalse};

@@ -1,3 +1,4 @@
+// SPDX-License-Identifier: Apache-2.0
 //! Coupons (docs/MODEL.md, "Pairs").
 ghost use Rattle.std.specs.Prelude.{◌≡◌, ◌↔◌, ◌≤◌, ◌<◌, ◌^◌, IsTrue};
 ghost use Rattle.std.specs.Prelude.{fold};

@@ -1,3 +1,4 @@
+// SPDX-License-Identifier: Apache-2.0
 //! Tables that are filled with distinct keys, at the places that probing one by one gives.
 ghost use Rattle.std.specs.Prelude.{◌≡◌, ◌^◌, ◌<◌, ◌≤◌, false, All, length, map, OnOk, OnErr, IfErr};
 ghost use Rattle.std.specs.Bool.{OnTrue};

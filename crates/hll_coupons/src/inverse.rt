@@ -1,3 +1,4 @@
+// SPDX-License-Identifier: Apache-2.0
 //! The inverse of an odd number modulo a power of two.
 ghost use Rattle.std.specs.Prelude.{◌≡◌, ◌+◌, ◌-◌, ◌*◌, ◌%◌, ◌^◌, ◌<◌, ◌≤◌};
 ghost use Rattle.hll_coupons.specs.Cycle.{IsInverse};

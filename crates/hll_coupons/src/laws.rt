@@ -1,3 +1,4 @@
+// SPDX-License-Identifier: Apache-2.0
 //! The laws of folding, registers and probing, each a clause of a function that does nothing: a caller that needs one calls
 //! it (docs/MODEL.md, "Laws of folding and probing").
 ghost use Rattle.hll_coupons.specs.Laws.{OneAscendingOrder, FoldOfFold, FoldOfUnion, JoinLaws, FoldOfRegisters, MeetsEachPlaceOnce, FoundAfterInsert, AbsentAtEmpty, AbsentFromFull, KeysAreDistinct};

@@ -1,3 +1,4 @@
+// SPDX-License-Identifier: Apache-2.0
 //! Coupons, the containers that hold them, and their bytes in an image (docs/ARCHITECTURE.md,
 //! "The crates").
 #![tactic(auto)]

@@ -1,3 +1,4 @@
+// SPDX-License-Identifier: Apache-2.0
 //! A list of coupons in order of arrival (docs/MODEL.md, "Tables").
 ghost use Rattle.std.specs.Prelude.{◌≡◌, ◌≢◌, ℕ, ◌^◌, ◌<◌, ◌≤◌, length, true, false, IfOk, IfErr, ◌*◌, ◌⊎◌, take, OnOk, OnErr, Bool, IsTrue, ◌↔◌};
 ghost use Rattle.std.specs.FinSet as set;

@@ -1,3 +1,4 @@
+// SPDX-License-Identifier: Apache-2.0
 //! Long searches for absent keys, shortened by cycles (docs/MODEL.md, "Cycles").
 ghost use Rattle.std.specs.Prelude.{◌≡◌, ℕ, List, ◌%◌, ◌^◌, ◌<◌, ◌≤◌, All, length, IsTrue, IfOk, OnOk, IfErr, IfSome};
 ghost use Rattle.hll_base.specs.declared.error.Reason.TheVariants.{Memory};

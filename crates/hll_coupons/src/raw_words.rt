@@ -1,3 +1,4 @@
+// SPDX-License-Identifier: Apache-2.0
 //! Coupons that ascend, as they stand in images that are written here, merged in one pass and written without a table
 //! (docs/FORMAT.md, "What is written").
 ghost use Rattle.std.specs.Prelude.{◌≡◌, ℕ, List, ◌*◌, ◌^◌, ◌<◌, ◌≤◌, ◌∷◌, ◌++◌, [], drop, length, IfSome, IfNone, IfOk, IfErr};

@@ -1,3 +1,4 @@
+// SPDX-License-Identifier: Apache-2.0
 //! Searches through a table of places by a key, and entries put where they end (docs/MODEL.md, "Probing").
 ghost use Rattle.std.specs.Prelude.{◌≡◌, ◌%◌, ◌^◌, ◌<◌, ◌≤◌, length, slice_index, slice_set, IfSome, IfNone};
 ghost use Rattle.std.specs.FinSet.{len};

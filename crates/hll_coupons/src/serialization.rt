@@ -1,3 +1,4 @@
+// SPDX-License-Identifier: Apache-2.0
 //! The constants of tables and of an image, and its mode byte (docs/FORMAT.md, "The image"). Names that begin
 //! with `LG` are logarithms of numbers of places, those that end in `PREINTS` count words of four bytes, those that end
 //! in `SIZE` or `BYTES` count bytes.

@@ -1,3 +1,4 @@
+// SPDX-License-Identifier: Apache-2.0
 //! Bits in words of 64.
 ghost use Rattle.std.specs.Prelude.{◌≡◌, ◌≢◌, ◌↔◌, ℕ, ◌*◌, ◌^◌, ◌<◌, ◌≤◌, length, IsTrue, IfSome, IfNone};
 ghost use Rattle.std.specs.Int.{bit_at};

@@ -1,3 +1,4 @@
+// SPDX-License-Identifier: Apache-2.0
 //! Streams for tests: a reader and a writer that fail at a given call.
 #![tactic(auto)]
 

@@ -1,3 +1,4 @@
+// SPDX-License-Identifier: Apache-2.0
 //! The least work on the text of a plan on standard input: it is read in pieces, its lines are found, the word of an
 //! `image` line is decoded into one buffer, and the numbers of every other line are read. Prints a sum of what was read.
 #![tactic(auto)]

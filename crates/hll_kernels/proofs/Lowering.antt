@@ -1,3 +1,4 @@
+-- SPDX-License-Identifier: Apache-2.0
 -- Lemmas on nibbles that are lowered.
 use Rattle.std.proofs.Common.{◌≡◌, ℕ, ◌+◌, ◌-◌, ◌*◌, ◌/◌, ◌%◌, ◌^◌, ◌<◌, ◌≤◌, ◌==◌, zero, suc, List, [], ◌∷◌, ◌++◌, length, get_or, take, drop, replicate, cond, count_by, bit_and, Bool, true, false, not, nat_lt, refl, sym, ap, ◌∙◌, arith, w8}
 use Rattle.std.specs.Prelude.{if◌then◌else◌}

@@ -1,3 +1,4 @@
+-- SPDX-License-Identifier: Apache-2.0
 -- Lemmas on nibbles of 15, and on all nibbles.
 use Rattle.std.proofs.Common.{◌≡◌, ℕ, ◌+◌, ◌/◌, ◌%◌, ◌==◌, cond, List, ◌++◌, arith}
 use Rattle.std.proofs.lemmas.List.Sums.{sum_by-append}

@@ -1,3 +1,4 @@
+-- SPDX-License-Identifier: Apache-2.0
 -- Single nibbles of bytes, and nibbles that are lowered.
 use Rattle.std.proofs.Common.{◌≡◌, ◌≢◌, ℕ, ◌+◌, ◌-◌, ◌*◌, ◌/◌, ◌%◌, ◌^◌, ◌<◌, ◌⊎◌, zero, suc, true, false, eqb, cond, List, [], ◌∷◌, All, length, map, get_or, refl, sym, ap, ◌∙◌, arith, inl, inr}
 use Rattle.std.proofs.lemmas.Bool.{cases_Bool, cases_eq, cond-true, cond-false, eqb-true, eq-eqb, ne_eqb}

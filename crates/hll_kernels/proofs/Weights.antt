@@ -1,3 +1,4 @@
+-- SPDX-License-Identifier: Apache-2.0
 -- Lemmas on sums of weights by classes of eight values.
 use Rattle.std.proofs.Common.{◌≡◌, ℕ, ◌+◌, ◌-◌, ◌*◌, ◌/◌, ◌%◌, ◌^◌, ◌<◌, ◌≤◌, ◌≢◌, ◌==◌, zero, suc, List, [], ◌∷◌, length, get_or, take, drop, replicate, All, Bool, true, false, cond, bit_and, T, refl, sym, ap, subst, ◌∙◌, arith, inl, inr, w8}
 use Rattle.std.specs.Prelude.{if◌then◌else◌, sum_by}

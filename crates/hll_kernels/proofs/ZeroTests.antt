@@ -1,3 +1,4 @@
+-- SPDX-License-Identifier: Apache-2.0
 -- Lemmas on counts and tests of zeros by blocks.
 use Rattle.std.proofs.Common.{◌≡◌, ℕ, ◌+◌, ◌*◌, ◌%◌, ◌^◌, ◌<◌, ◌≤◌, ◌==◌, zero, suc, List, [], ◌∷◌, length, get_or, take, drop, count_by, cond, nat_lt, Bool, true, false, replicate, refl, sym, ap, ◌∙◌, arith, w8}
 use Rattle.std.specs.Prelude.{◌&&◌, ◌≢◌, nat_le, not}

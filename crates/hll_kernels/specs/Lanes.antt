@@ -1,3 +1,4 @@
+-- SPDX-License-Identifier: Apache-2.0
 -- Bytes of registers as lanes of words, and parts of lists that lanes change.
 use Rattle.std.specs.Prelude.{ℕ, ◌+◌, ◌-◌, ◌*◌, ◌/◌, ◌%◌, ◌^◌, ◌==◌, if◌then◌else◌, max, zero, suc, List, [], ◌∷◌, sum_by}
 use Rattle.std.specs.List.{flat_map}

@@ -1,3 +1,4 @@
+-- SPDX-License-Identifier: Apache-2.0
 -- The packed forms of registers, and their numbers (docs/FORMAT.md, "Packed registers"; docs/MODEL.md, "Packed forms").
 use Rattle.std.specs.Prelude.{◌≡◌, ℕ, ◌+◌, ◌-◌, ◌*◌, ◌/◌, ◌%◌, ◌^◌, ◌<◌, ◌≤◌, ◌==◌, if◌then◌else◌, nat_lt, min, List, [], ◌∷◌, ◌++◌, length, count_by, sum_by, slice_index, fold, All}
 use Rattle.hll_kernels.specs.Groups.{group_fields}

@@ -1,3 +1,4 @@
+-- SPDX-License-Identifier: Apache-2.0
 -- The sums of the weights of registers, in the two parts that estimators keep (docs/MODEL.md, "Packed forms").
 use Rattle.std.specs.Prelude.{◌≡◌, ℕ, List}
 use Rattle.hll_kernels.specs.declared.kernels.WeightSums.{WeightSums}

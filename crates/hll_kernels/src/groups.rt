@@ -1,3 +1,4 @@
+// SPDX-License-Identifier: Apache-2.0
 //! Registers of six bits: four of them in three bytes (docs/FORMAT.md, "Packed registers").
 ghost use Rattle.std.specs.Prelude.{◌≡◌, ℕ, ◌+◌, ◌*◌, ◌/◌, ◌%◌, ◌^◌, ◌<◌, ◌≤◌, ◌==◌, [], ◌∷◌, length, map, take, slice_index, slice_set, All, IfOk};
 ghost use Rattle.std.specs.List.{list_all};

@@ -1,3 +1,4 @@
+// SPDX-License-Identifier: Apache-2.0
 //! Registers of each width.
 use crate::harness::{Heap, Trial, requests_of, shown, text};
 use hll_arrays::array4::Array4;

@@ -1,3 +1,4 @@
+// SPDX-License-Identifier: Apache-2.0
 //! Buffers of image fields, and what precedes registers in them.
 use crate::harness::{Heap, Trial, requests_of, shown, text};
 use hll_base::codec::SketchBytes;

@@ -1,3 +1,4 @@
+// SPDX-License-Identifier: Apache-2.0
 //! The calls of a caller of the library, on two shards.
 use crate::harness::{Heap, Trial, requests_of, shown};
 use crate::sketches::{Shape, coupon_at, sketch_in, sketch_text};

@@ -1,3 +1,4 @@
+// SPDX-License-Identifier: Apache-2.0
 //! Tables of coupons, and maps of exceptions.
 ghost use Rattle.std.specs.Prelude.{◌≤◌};
 

@@ -1,3 +1,4 @@
+// SPDX-License-Identifier: Apache-2.0
 //! The filter, with each of its requests refused.
 use crate::harness::Heap;
 use hll_text::fault::{Fault, MergeError};

@@ -1,3 +1,4 @@
+// SPDX-License-Identifier: Apache-2.0
 //! A call made again and again, with one request for memory refused each time.
 use crate::refusing::Refusing;
 use hll_base::error::Error;

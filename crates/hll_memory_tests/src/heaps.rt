@@ -1,3 +1,4 @@
+// SPDX-License-Identifier: Apache-2.0
 //! Two heaps, of which one is full: `agree` asks that of its first argument alone, and what is given an allocator, and a
 //! union, its own.
 use crate::harness::Heap;

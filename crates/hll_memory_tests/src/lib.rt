@@ -1,3 +1,4 @@
+// SPDX-License-Identifier: Apache-2.0
 //! Calls whose requests for memory are refused, one after the other.
 #![tactic(auto)]
 

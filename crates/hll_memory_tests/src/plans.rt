@@ -1,3 +1,4 @@
+// SPDX-License-Identifier: Apache-2.0
 //! Lines, plans in pieces, lists of steps, and whole runs.
 ghost use Rattle.std.specs.Prelude.{All};
 ghost use Rattle.hll_text.specs.Step.{step_of, IsInRange};

@@ -1,3 +1,4 @@
+// SPDX-License-Identifier: Apache-2.0
 //! An allocator that counts requests for memory, and refuses some of them.
 use std::alloc::{AllocError, Allocator};
 use std::cell::Cell;

@@ -1,3 +1,4 @@
+// SPDX-License-Identifier: Apache-2.0
 //! Sketches of each stage and width.
 ghost use Rattle.std.specs.Prelude.{◌≤◌};
 ghost use Rattle.hll_coupons.specs.Pair.{value_of};

@@ -1,3 +1,4 @@
+// SPDX-License-Identifier: Apache-2.0
 //! Unions, and what is made of sketches together.
 use crate::harness::{Heap, Trial, requests_of, shown, text};
 use crate::sketches::{Shape, coupon_at, shown_sketch, sketch_in, with_places};

@@ -1,3 +1,4 @@
+-- SPDX-License-Identifier: Apache-2.0
 -- Two feeds of one text agree.
 use Rattle.std.proofs.Common.{◌≡◌, [], Option, Some, None, inl, inr, sym, ◌∙◌, subst}
 use Rattle.hll_text.specs.declared.fault.MergeError.{MergeError}

@@ -1,3 +1,4 @@
+-- SPDX-License-Identifier: Apache-2.0
 -- The outcome of a plan has the effective lg_k.
 use Rattle.std.proofs.Common.{◌≡◌, ℕ, refl, ap, ◌∙◌}
 use Rattle.std.specs.Prelude.{min, if◌then◌else◌}

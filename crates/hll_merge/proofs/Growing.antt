@@ -1,3 +1,4 @@
+-- SPDX-License-Identifier: Apache-2.0
 -- Over grown images every outcome is grown, and a union has the value of its children.
 use Rattle.std.proofs.Common.{ap, sym, subst, [], ◌∷◌}
 use Rattle.std.specs.List.{list_any, AllByRecursion}

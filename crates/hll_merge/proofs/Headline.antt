@@ -1,3 +1,4 @@
+-- SPDX-License-Identifier: Apache-2.0
 -- The plan of an accepted text or list of steps is legal, and so its outcome is.
 use Rattle.std.proofs.Common.{◌≡◌, All, ℕ, zero, suc, ◌^◌, ◌<◌, ◌≤◌, inl, List, [], ◌∷◌, ◌++◌, length, get_or, take, Some, Ok, refl, sym, subst, arith}
 use Rattle.std.specs.Str.Lines.{lines}

@@ -1,3 +1,4 @@
+-- SPDX-License-Identifier: Apache-2.0
 pub mod Accepted
 pub mod CutLemmas
 pub mod EffectiveLgK

@@ -1,3 +1,4 @@
+-- SPDX-License-Identifier: Apache-2.0
 -- The outcome of a plan has the effective lg_k, and means its inputs.
 use Rattle.std.proofs.Common.{◌≡◌, ℕ, ◌^◌, ◌<◌, ◌≤◌, true, false, cond, not, ◌&&◌, nat_eq, eqb, [], ◌∷◌, length, get_or, refl, sym, ap, subst, ◌∙◌, arith, inl, inr}
 use Rattle.std.specs.Prelude.{min}

@@ -1,3 +1,4 @@
+-- SPDX-License-Identifier: Apache-2.0
 -- Carrying out the lines of a text on a stack of plans: texts that are accepted, and first faults
 -- (docs/PLAN.md, "Steps" and "Refusals"; docs/MODEL.md, "Plan texts").
 use Rattle.std.specs.Prelude.{◌≡◌, ◌≢◌, ℕ, ◌+◌, ◌<◌, ◌≤◌, ◌⊎◌, List, [], ◌∷◌, ◌++◌, length, Some, None, Ok, Err}

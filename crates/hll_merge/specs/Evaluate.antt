@@ -1,3 +1,4 @@
+-- SPDX-License-Identifier: Apache-2.0
 -- Carrying out a list of steps, and comparing two (docs/MODEL.md, "Plan texts").
 use Rattle.std.specs.Prelude.{◌≡◌, ℕ, Bool, true, ◌↔◌, List, All, [], length}
 use Rattle.hll_sketch.specs.Agree.{Agree}

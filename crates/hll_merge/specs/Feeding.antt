@@ -1,3 +1,4 @@
+-- SPDX-License-Identifier: Apache-2.0
 -- A plan that comes in pieces (docs/PLAN.md, "In pieces").
 use Rattle.std.specs.Prelude.{ℕ, ◌≡◌, ◌⊎◌, ◌+◌, List, [], ◌∷◌, ◌++◌, length, Option, Some, None}
 use Rattle.hll_sketch.specs.Layout.{SketchLayout, sketch_of}

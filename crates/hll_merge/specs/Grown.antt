@@ -1,3 +1,4 @@
+-- SPDX-License-Identifier: Apache-2.0
 -- Plans over grown images (docs/MODEL.md, "Convergence").
 use Rattle.std.specs.Prelude.{◌≡◌}
 use Rattle.hll_sketch.specs.Grown.{IsGrown}

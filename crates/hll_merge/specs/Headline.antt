@@ -1,3 +1,4 @@
+-- SPDX-License-Identifier: Apache-2.0
 -- What an accepted plan promises of its outcome (docs/MODEL.md, "The meaning of a plan").
 use Rattle.std.specs.Prelude.{◌≡◌, ℕ, List, All}
 use Rattle.hll_sketch.specs.Grown.{IsGrown}

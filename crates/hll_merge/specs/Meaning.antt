@@ -1,3 +1,4 @@
+-- SPDX-License-Identifier: Apache-2.0
 -- What the outcome of a plan means (docs/MODEL.md, "The meaning of a plan").
 use Rattle.std.specs.Prelude.{◌≡◌, ℕ, ◌≤◌, min, true}
 use Rattle.hll_coupons.specs.Fold.{fold_to}

@@ -1,3 +1,4 @@
+-- SPDX-License-Identifier: Apache-2.0
 -- Merge plans as trees, their inputs and their outcome (docs/MODEL.md, "Plans").
 use Rattle.std.specs.Prelude.{◌≡◌, ℕ, min, ◌⊎◌, if◌then◌else◌, List, [], ◌∷◌}
 use Rattle.std.specs.FinSet.{empty, union}

@@ -1,3 +1,4 @@
+-- SPDX-License-Identifier: Apache-2.0
 -- Plans that differ in the order, repetition and grouping of children (docs/MODEL.md, "Convergence").
 use Rattle.std.specs.Prelude.{◌≡◌, ℕ, ◌⊎◌}
 use Rattle.hll_base.specs.declared.hll_type.HllType.{HllType}

@@ -1,3 +1,4 @@
+-- SPDX-License-Identifier: Apache-2.0
 -- What a run leaves (docs/PLAN.md, "A run").
 use Rattle.std.specs.Prelude.{ℕ, ◌<◌, Bool, true, false, ◌≡◌, ◌⊎◌, List, [], length, take, Option, Some, None}
 use Rattle.std.specs.Str.Lines.{lines}

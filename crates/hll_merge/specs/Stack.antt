@@ -1,3 +1,4 @@
+-- SPDX-License-Identifier: Apache-2.0
 -- The sketches of a run, and the plans that they are outcomes of (docs/ARCHITECTURE.md, "A run").
 use Rattle.std.specs.Prelude.{◌≡◌, ◌<◌, ◌⊎◌, ℕ, List, [], ◌∷◌, ◌++◌, map, take, drop}
 use Rattle.hll_base.specs.declared.hll_type.HllType.{HllType}

@@ -1,3 +1,4 @@
+-- SPDX-License-Identifier: Apache-2.0
 -- Laws of plan texts and of lists of steps (docs/MODEL.md, "Plan texts").
 use Rattle.std.specs.Prelude.{◌≡◌, ◌≢◌, ℕ, List}
 use Rattle.hll_base.specs.declared.error.Reason.{Reason}

@@ -1,3 +1,4 @@
+// SPDX-License-Identifier: Apache-2.0
 //! Carrying out a list of steps, and comparing two (docs/MODEL.md, "Plan texts").
 ghost use Rattle.std.specs.Prelude.{◌≡◌, ◌<◌, ◌⊎◌, length, map, IfErr, MatchResult};
 ghost use Rattle.std.specs.List.{All};

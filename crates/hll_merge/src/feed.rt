@@ -1,3 +1,4 @@
+// SPDX-License-Identifier: Apache-2.0
 //! A plan that comes in pieces (docs/PLAN.md, "In pieces").
 ghost use Rattle.std.specs.Prelude.{◌≡◌, ◌≢◌, ◌+◌, ◌++◌, List, ℕ, length, Ok, None, MatchResult, MatchOption, IfOk, IfErr, IfSome};
 ghost use Rattle.hll_text.specs.declared.fault.Fault.TheVariants.{Memory};

@@ -1,3 +1,4 @@
+// SPDX-License-Identifier: Apache-2.0
 //! The laws of merge plans, each a clause of a function that does nothing (docs/MODEL.md, "The meaning of a plan",
 //! "Convergence" and "Plan texts").
 ghost use Rattle.hll_merge.specs.Meaning.{PlansHaveMeaning, SameInputsAgree};

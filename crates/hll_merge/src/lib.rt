@@ -1,3 +1,4 @@
+// SPDX-License-Identifier: Apache-2.0
 //! Plans of sketches: text in, the image of one sketch out.
 #![tactic(auto)]
 

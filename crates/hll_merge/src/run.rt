@@ -1,3 +1,4 @@
+// SPDX-License-Identifier: Apache-2.0
 //! Running a plan: its text is read, and the image of its sketch is written.
 ghost use Rattle.std.specs.Prelude.{◌≡◌, ℕ, List, None, Some, length, false, MatchResult, IfErr, OnOk};
 ghost use Rattle.std.specs.Io.KnownBytes.{Consumes, IsAtEnd};

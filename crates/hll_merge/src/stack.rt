@@ -1,3 +1,4 @@
+// SPDX-License-Identifier: Apache-2.0
 //! The sketches of a plan while its lines are carried out, the last one on top.
 ghost use Rattle.std.specs.Prelude.{◌≡◌, ◌≢◌, ◌+◌, ◌≤◌, ◌<◌, ◌⊎◌, ◌++◌, ◌∷◌, [], length, map, take, drop, true, false, Ok, Err, None, OnOk, OnErr, IfOk, IfErr, IfSome, IfNone};
 ghost use Rattle.hll_coupons.specs.Pair.{value_of, set_of};

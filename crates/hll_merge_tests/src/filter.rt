@@ -1,3 +1,4 @@
+// SPDX-License-Identifier: Apache-2.0
 //! Lines and what is printed for them, whole and over streams that move a byte at a time and fail.
 use hll_base::error::Reason;
 use hll_fakes::{Failing, Narrow};

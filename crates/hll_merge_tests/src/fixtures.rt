@@ -1,3 +1,4 @@
+// SPDX-License-Identifier: Apache-2.0
 //! Plans run over memory.
 use hll_merge::run::run;
 use hll_text::fault::MergeError;

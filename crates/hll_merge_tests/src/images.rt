@@ -1,3 +1,4 @@
+// SPDX-License-Identifier: Apache-2.0
 //! The image of two million registers over memory.
 use crate::fixtures::{line_of, run_over};
 use std::test::Fail;

@@ -1,3 +1,4 @@
+// SPDX-License-Identifier: Apache-2.0
 //! Tests through public calls of `hll_text`, `hll_merge` and `hll_words`: lines, streams, plans, and the filter of images.
 #![tactic(auto)]
 

@@ -1,3 +1,4 @@
+// SPDX-License-Identifier: Apache-2.0
 //! Lines of plans and of texts, and the bytes of images.
 use hll_base::hll_type::HllType;
 use hll_text::fault::{Fault, MergeError};

@@ -1,3 +1,4 @@
+// SPDX-License-Identifier: Apache-2.0
 //! Plans that come in pieces: what is pending, a fault that stays, and many lines.
 use hll_merge::feed::{PlanFeed, cuts_agree};
 use hll_text::fault::Fault;

@@ -1,3 +1,4 @@
+// SPDX-License-Identifier: Apache-2.0
 //! Watched streams that work and that fail, what is printed over them, and the lines of refusals.
 use hll_base::error::Reason;
 use hll_fakes::{Failing, Narrow};

@@ -1,3 +1,4 @@
+// SPDX-License-Identifier: Apache-2.0
 //! Texts of plans over memory: long lines, and readers that fail.
 use crate::fixtures::run_over;
 use hll_fakes::Failing;

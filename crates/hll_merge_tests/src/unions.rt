@@ -1,3 +1,4 @@
+// SPDX-License-Identifier: Apache-2.0
 //! Unions of a thousand sketches of eight bits over memory.
 use crate::fixtures::prints;
 use std::test::Fail;

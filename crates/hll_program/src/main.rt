@@ -1,3 +1,4 @@
+// SPDX-License-Identifier: Apache-2.0
 //! Reads a plan on standard input, and prints the image of its sketch (docs/PLAN.md, "The program").
 #![tactic(auto)]
 

@@ -1,3 +1,4 @@
+// SPDX-License-Identifier: Apache-2.0
 //! The line that the program prints for a refusal.
 ghost use Rattle.hll_text.specs.Refusal.{Sends, refusal_line};
 

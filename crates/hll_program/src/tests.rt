@@ -1,3 +1,4 @@
+// SPDX-License-Identifier: Apache-2.0
 //! The lines of refusals.
 use crate::refusal::write_refusal;
 use hll_base::error::Reason;

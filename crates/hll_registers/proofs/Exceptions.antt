@@ -1,3 +1,4 @@
+-- SPDX-License-Identifier: Apache-2.0
 -- A nibble and the exceptions give a register back.
 use Rattle.std.proofs.Common.{◌≡◌, ℕ, ◌+◌, ◌%◌, ◌^◌, ◌<◌, ◌≤◌, Bool, true, false, cond, eqb, leb, List, [], ◌∷◌, All, Option, Some, None, length, get_or, filter, refl, sym, ap, ◌∙◌, arith, inl, inr}
 use Rattle.std.specs.Prelude.{find}

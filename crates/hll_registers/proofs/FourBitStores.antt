@@ -1,3 +1,4 @@
+-- SPDX-License-Identifier: Apache-2.0
 -- Registers of four bits as a store: their size, equality and image.
 use Rattle.std.proofs.Common.{◌≡◌, ◌≢◌, ℕ, ◌+◌, ◌-◌, ◌*◌, ◌/◌, ◌%◌, ◌^◌, ◌<◌, ◌≤◌, zero, suc, All, take, drop, Bool, true, false, eqb, cond, List, [], ◌∷◌, ◌++◌, Option, None, length, get_or, refl, sym, ap, subst, ◌∙◌, arith, inl, inr, append_assoc}
 use Rattle.std.specs.Prelude.{nat_eq, filter, count_by, max, unwrap_or}

@@ -1,3 +1,4 @@
+-- SPDX-License-Identifier: Apache-2.0
 pub mod Binary64
 pub mod Exceptions
 pub mod Filling

@@ -1,3 +1,4 @@
+-- SPDX-License-Identifier: Apache-2.0
 -- The packed forms of registers are read back.
 use Rattle.std.proofs.Common.{◌≡◌, ℕ, ◌/◌, ◌%◌, ◌^◌, ◌<◌, ◌≤◌, zero, suc, List, [], ◌∷◌, ◌++◌, length, get_or, All, refl, sym, ◌∙◌, subst, arith}
 use Rattle.std.specs.Prelude.{min, fold}

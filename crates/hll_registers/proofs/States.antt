@@ -1,3 +1,4 @@
+-- SPDX-License-Identifier: Apache-2.0
 -- Lemmas on the estimate state after an update.
 use Rattle.std.proofs.Common.{◌≡◌, ℕ, zero, suc, ◌^◌, ◌<◌, true, false, cond, nat_eq, List, [], ◌∷◌, All, refl, arith}
 use Rattle.std.specs.Bool.{Decides}

@@ -1,3 +1,4 @@
+-- SPDX-License-Identifier: Apache-2.0
 -- The words that a composite estimator reads (docs/FORMAT.md, "Estimator words").
 use Rattle.std.specs.Prelude.{◌≡◌, ℕ, ◌+◌, ◌*◌, ◌/◌, ◌%◌, ◌^◌, ◌<◌, ◌≤◌, true, List, slice_index}
 use Rattle.hll_kernels.specs.Packed.{low_units, high_units}

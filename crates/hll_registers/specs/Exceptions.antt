@@ -1,3 +1,4 @@
+-- SPDX-License-Identifier: Apache-2.0
 -- The exceptions of registers of four bits (docs/MODEL.md, "Packed forms").
 use Rattle.std.specs.Prelude.{ℕ, ◌+◌, nat_le, List, filter}
 use Rattle.hll_coupons.specs.Pair.{value_of}

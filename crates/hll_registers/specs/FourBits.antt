@@ -1,3 +1,4 @@
+-- SPDX-License-Identifier: Apache-2.0
 -- Registers of four bits as they are kept: nibbles above a minimum, and a map of exceptions where there are any
 -- (docs/MODEL.md, "Registers of four bits").
 use Rattle.std.specs.Prelude.{◌≡◌, ◌≢◌, ℕ, Bool, true, ◌+◌, ◌-◌, ◌*◌, ◌^◌, ◌<◌, ◌≤◌, ◌==◌, nat_le, if◌then◌else◌, List, length, map, slice_index, count_by, ◌++◌, All, Option, Some, None, Box}

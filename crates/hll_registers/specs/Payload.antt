@@ -1,3 +1,4 @@
+-- SPDX-License-Identifier: Apache-2.0
 -- What follows the header in an image of registers, what can be wrong with it, and what is written
 -- (docs/FORMAT.md, "HLL" and "What is written"; docs/MODEL.md, "Images").
 use Rattle.std.specs.Prelude.{◌≡◌, ◌≢◌, ℕ, ◌+◌, ◌-◌, ◌*◌, ◌/◌, ◌%◌, ◌^◌, ◌≤◌, ◌<◌, ◌==◌, Bool, true, false, if◌then◌else◌, List, [], ◌∷◌, ◌++◌, length, drop, take, map, slice_index, All, Option, Some, None}

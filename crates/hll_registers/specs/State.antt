@@ -1,3 +1,4 @@
+-- SPDX-License-Identifier: Apache-2.0
 -- The estimate state (docs/MODEL.md, "Estimate state").
 use Rattle.std.specs.Prelude.{◌≡◌, ℕ, ◌^◌, ◌<◌, nat_eq, true, if◌then◌else◌, List, [], ◌∷◌, length, All}
 use Rattle.std.specs.Cmp.Lexicographic.{pointwise}

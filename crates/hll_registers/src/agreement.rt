@@ -1,3 +1,4 @@
+// SPDX-License-Identifier: Apache-2.0
 //! Whether nibbles above a minimum and exceptions agree, as those of an image have to (docs/MODEL.md, "Registers of four
 //! bits"). The exceptions have distinct slots: where each has a nibble of 15, and there are as many such nibbles as
 //! exceptions, no other slot has one. So no slot is sought in the map.

@@ -1,3 +1,4 @@
+// SPDX-License-Identifier: Apache-2.0
 //! How an image stores the exceptions of registers of four bits (docs/FORMAT.md, "HLL").
 ghost use Rattle.std.specs.Prelude.{◌≡◌, if◌then◌else◌};
 ghost use Rattle.hll_registers.specs.declared.aux_format.AuxFormat.TheVariants.{Compact, Updatable};

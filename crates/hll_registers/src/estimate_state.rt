@@ -1,3 +1,4 @@
+// SPDX-License-Identifier: Apache-2.0
 //! The state that other implementations' estimators keep beside registers.
 ghost use Rattle.std.specs.Prelude.{◌≡◌, ℕ, ◌^◌, ◌<◌, ◌≤◌, List};
 ghost use Rattle.hll_kernels.specs.WeightSums.{AreSumsOf};

@@ -1,3 +1,4 @@
+// SPDX-License-Identifier: Apache-2.0
 //! A slice of groups of three bytes as registers of six bits.
 ghost use Rattle.std.specs.Prelude.{◌≡◌, ◌≤◌, ◌==◌};
 ghost use Rattle.std.specs.List.{list_all};

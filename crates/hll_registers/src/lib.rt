@@ -1,3 +1,4 @@
+// SPDX-License-Identifier: Apache-2.0
 //! Registers that can be read and made, and those of four bits (docs/ARCHITECTURE.md, "Registers").
 #![tactic(auto)]
 

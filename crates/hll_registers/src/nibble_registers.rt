@@ -1,3 +1,4 @@
+// SPDX-License-Identifier: Apache-2.0
 //! Registers as nibbles above the least of them, with a map of exceptions (docs/MODEL.md, "Registers of four bits").
 ghost use Rattle.std.specs.Prelude.{◌≡◌, ◌≢◌, ◌+◌, ◌*◌, ◌^◌, ◌<◌, ◌≤◌, ◌==◌, ◌%◌, ◌++◌, ◌⊎◌, ℕ, take, drop, min, length, count_by, nat_eq, slice_index, slice_set, IfOk, IfErr, OnOk, OnErr, Some, None};
 ghost use Rattle.std.specs.Cmp.Lexicographic.{pointwise};

@@ -1,3 +1,4 @@
+// SPDX-License-Identifier: Apache-2.0
 //! A slice of nibbles above a minimum, with a map of exceptions, as registers of four bits (docs/MODEL.md, "Registers of
 //! four bits").
 ghost use Rattle.std.specs.Prelude.{◌≡◌, ◌*◌, ◌^◌, ◌<◌, ◌≤◌, ◌==◌, ℕ, length, IfSome, IfOk, IfErr, OnOk};

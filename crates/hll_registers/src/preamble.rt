@@ -1,3 +1,4 @@
+// SPDX-License-Identifier: Apache-2.0
 //! The estimate state and counts that precede the registers in an image (docs/FORMAT.md, "HLL").
 ghost use Rattle.std.specs.Prelude.{◌≡◌, ◌+◌, ◌≤◌, ◌<◌, ◌∷◌, [], ◌++◌, length, drop, OnOk, OnErr, IfOk, IfErr};
 ghost use Rattle.hll_base.specs.declared.error.Reason.TheVariants.{Truncated, Memory};

@@ -1,3 +1,4 @@
+// SPDX-License-Identifier: Apache-2.0
 //! A slice of bytes as registers.
 ghost use Rattle.std.specs.Prelude.{◌≡◌, ◌≤◌, ◌==◌};
 ghost use Rattle.std.specs.List.{list_all};

@@ -1,3 +1,4 @@
+-- SPDX-License-Identifier: Apache-2.0
 -- The union of two images of coupons that ascend.
 use Rattle.std.proofs.Common.{◌≡◌, ◌≢◌, ℕ, suc, inl, ◌+◌, ◌-◌, ◌/◌, ◌%◌, ◌^◌, ◌<◌, ◌∷◌, ◌&&◌, true, false, nat_eq, List, length, take, drop, get_or, Some, None, refl, sym, ap, subst, ◌∙◌, arith}
 use Rattle.std.specs.FinSet.{union, len, len-empty}

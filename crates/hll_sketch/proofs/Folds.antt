@@ -1,3 +1,4 @@
+-- SPDX-License-Identifier: Apache-2.0
 -- Folds of sketches: the laws.
 use Rattle.std.proofs.Common.{◌≡◌, ℕ, ◌≤◌, true, false, cond, eqb, Option, Some, None, refl, sym, ap, ◌∙◌, arith}
 use Rattle.std.specs.FinSet.{len}

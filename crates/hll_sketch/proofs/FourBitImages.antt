@@ -1,3 +1,4 @@
+-- SPDX-License-Identifier: Apache-2.0
 -- What the reader of registers of four bits gives and asks for, of an image.
 use Rattle.std.proofs.Common.{◌≡◌, Bool, List, ℕ, take, drop, cond, ap, subst, ◌∙◌, None}
 use Rattle.hll_registers.specs.Payload.{Hll4Shape, hll4_size, registers_of, shape_of_hll4, state_at, IsHll4Payload, IsWhole}

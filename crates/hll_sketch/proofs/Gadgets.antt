@@ -1,3 +1,4 @@
+-- SPDX-License-Identifier: Apache-2.0
 -- The gadget of a union stays one: empty, with pairs added, and with a sketch merged.
 use Rattle.std.proofs.Common.{◌≡◌, ℕ, ◌%◌, ◌^◌, ◌≤◌, ◌<◌, Bool, true, false, ◌&&◌, nat_eq, eqb, List, [], ◌∷◌, Option, Some, None, All, get_or, zero, suc, refl, sym, ap, subst, ◌∙◌, arith, inl, inr}
 use Rattle.std.specs.Prelude.{min}

@@ -1,3 +1,4 @@
+-- SPDX-License-Identifier: Apache-2.0
 -- Worked images: what they mean, what is written, and a fault of each kind.
 use Rattle.std.proofs.Common.{◌≡◌, ℕ, false, List, [], ◌∷◌, length, drop, Some, None, refl, arith}
 use Rattle.std.specs.Prelude.{replicate}

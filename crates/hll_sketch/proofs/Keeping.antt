@@ -1,3 +1,4 @@
+-- SPDX-License-Identifier: Apache-2.0
 -- A table and a coupon more, in the words of the definitions.
 use Rattle.std.proofs.Common.{◌≡◌, ℕ, ◌&&◌, true, false, leb, [], ◌∷◌, Result, Ok, Err, OnOk, OnErr, refl, sym, ap, ◌∙◌}
 use Rattle.std.specs.FinSet.{insert, union, len}

@@ -1,3 +1,4 @@
+-- SPDX-License-Identifier: Apache-2.0
 -- The table, or the registers, that have the coupons of two tables.
 use Rattle.std.proofs.Common.{◌≡◌, ℕ, ◌+◌, ◌-◌, ◌*◌, ◌^◌, ◌≤◌, ◌<◌, true, false, cond, ◌&&◌, leb, eqb, List, [], ◌∷◌, Some, sym, ap, ◌∙◌, arith, inl, inr}
 use Rattle.std.specs.FinSet.{insert, union}

@@ -1,3 +1,4 @@
+-- SPDX-License-Identifier: Apache-2.0
 -- Legal sketches stay legal when pairs are added, or a sketch is merged.
 use Rattle.std.proofs.Common.{◌≡◌, ℕ, ◌+◌, ◌-◌, ◌*◌, ◌^◌, ◌<◌, ◌≤◌, inl, inr, zero, suc, Bool, true, false, cond, ◌&&◌, nat_eq, eqb, leb, List, [], ◌∷◌, Option, Some, None, length, get_or, All, refl, sym, ap, subst, ◌∙◌, arith}
 use Rattle.std.specs.Prelude.{min, find}

@@ -1,3 +1,4 @@
+-- SPDX-License-Identifier: Apache-2.0
 -- Sketches that mean pairs: empty ones, with pairs added, with sketches merged.
 use Rattle.std.proofs.Common.{◌≡◌, ℕ, ◌≤◌, true, ◌&&◌, nat_eq, eqb, List, Option, Some, None, refl, sym, ap, ◌∙◌, arith, inl, inr}
 use Rattle.std.specs.Prelude.{min}

@@ -1,3 +1,4 @@
+-- SPDX-License-Identifier: Apache-2.0
 -- Merges into a gadget, in the words of the definitions.
 use Rattle.std.proofs.Common.{◌≡◌, ◌+◌, ℕ, ◌-◌, ◌^◌, ◌≤◌, ◌<◌, Bool, true, false, cond, ◌&&◌, nat_eq, leb, List, [], ◌∷◌, ◌++◌, Option, Some, None, length, refl, sym, ap, subst, ◌∙◌, arith, inl, inr, map, take, get_or, zero, suc}
 use Rattle.std.specs.Prelude.{min}

@@ -1,3 +1,4 @@
+-- SPDX-License-Identifier: Apache-2.0
 -- Images of coupons in the places of a table.
 use Rattle.std.proofs.Common.{◌≡◌, ℕ, ◌+◌, ◌*◌, ◌^◌, ◌<◌, ◌≤◌, false, cond, eqb, List, length, take, drop, sym, ap, subst, ◌∙◌, arith}
 use Rattle.std.specs.FinSet.{len}

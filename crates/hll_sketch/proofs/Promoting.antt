@@ -1,3 +1,4 @@
+-- SPDX-License-Identifier: Apache-2.0
 -- Registers that take over from a table.
 use Rattle.std.proofs.Common.{◌≡◌, ℕ, ◌^◌, List, [], ◌∷◌, ◌++◌, Option, Some, None, replicate, sym, ap, ◌∙◌}
 use Rattle.std.proofs.lemmas.List.{append-nil}

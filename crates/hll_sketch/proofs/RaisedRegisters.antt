@@ -1,3 +1,4 @@
+-- SPDX-License-Identifier: Apache-2.0
 -- Registers of eight bits that are raised, as sketches.
 use Rattle.std.proofs.Common.{◌≡◌, ℕ, List, None, sym, ap, ◌∙◌}
 use Rattle.hll_base.specs.declared.hll_type.HllType.TheVariants.{Hll8}

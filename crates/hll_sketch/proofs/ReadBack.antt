@@ -1,3 +1,4 @@
+-- SPDX-License-Identifier: Apache-2.0
 -- What is written for a sketch is read back.
 use Rattle.std.proofs.Common.{◌≡◌, ◌++◌, length, take, drop, refl, sym, subst}
 use Rattle.std.proofs.lemmas.List.{take-append-drop, take_at}

@@ -1,3 +1,4 @@
+-- SPDX-License-Identifier: Apache-2.0
 -- What a reader's refusal says of the bytes.
 use Rattle.std.proofs.Common.{◌≡◌, ℕ, ◌⊎◌, List, Some, Result, inl, inr}
 use Rattle.std.proofs.lemmas.Result.{IfErr-weaker}

@@ -1,3 +1,4 @@
+-- SPDX-License-Identifier: Apache-2.0
 -- The value of a union depends on neither the order, nor the repetition, nor the grouping of the sketches.
 use Rattle.std.specs.Cmp.{both_ways}
 use Rattle.std.proofs.Common.{◌≡◌, ℕ, ◌<◌, ◌≤◌, zero, suc, Bool, true, false, cond, not, ◌||◌, eqb, List, [], ◌∷◌, ◌++◌, Option, Some, None, length, refl, sym, ap, ◌∙◌, arith, inl, inr}

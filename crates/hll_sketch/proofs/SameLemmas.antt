@@ -1,3 +1,4 @@
+-- SPDX-License-Identifier: Apache-2.0
 -- The boolean equality of sketches is the equality of their values.
 use Rattle.std.proofs.Common.{◌≡◌, ℕ, sym, ap, ◌∙◌, arith}
 use Rattle.hll_coupons.specs.Table.{coupons_of}

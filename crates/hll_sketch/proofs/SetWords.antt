@@ -1,3 +1,4 @@
+-- SPDX-License-Identifier: Apache-2.0
 -- Lemmas on sketches with the words that a composite estimator reads.
 use Rattle.std.proofs.Common.{◌≡◌, ℕ, false, List, None, refl, sym, ap, subst, ◌∙◌}
 use Rattle.std.proofs.lemmas.Bool.{true≢false}

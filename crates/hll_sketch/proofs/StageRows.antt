@@ -1,3 +1,4 @@
+-- SPDX-License-Identifier: Apache-2.0
 -- Worked stages at lg_k 8, 10 and 4, as docs/MODEL.md tells them.
 use Rattle.std.proofs.Common.{◌≡◌, Some, None, refl}
 use Rattle.hll_sketch.specs.Stage.{stage}

@@ -1,3 +1,4 @@
+-- SPDX-License-Identifier: Apache-2.0
 -- One step suffices: where a table holds its coupons its size stays, else the next size holds them, or registers take over.
 use Rattle.std.proofs.Common.{◌≡◌, ℕ, ◌+◌, ◌-◌, ◌*◌, ◌^◌, ◌≤◌, ◌<◌, zero, suc, Bool, true, false, ◌&&◌, eqb, leb, length, Some, None, refl, sym, ap, subst, ◌∙◌, arith, inl, inr}
 use Rattle.std.specs.Prelude.{find}

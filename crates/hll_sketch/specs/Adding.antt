@@ -1,3 +1,4 @@
+-- SPDX-License-Identifier: Apache-2.0
 -- Adding pairs to a sketch (docs/MODEL.md, "Adding").
 use Rattle.std.specs.Prelude.{ℕ, Option, Some, None}
 use Rattle.std.specs.FinSet.{union, len}

@@ -1,3 +1,4 @@
+-- SPDX-License-Identifier: Apache-2.0
 -- When two sketches agree (docs/MODEL.md, "Sketch values").
 use Rattle.std.specs.Prelude.{◌≡◌, min}
 use Rattle.hll_coupons.specs.Fold.{fold_to}

@@ -1,3 +1,4 @@
+-- SPDX-License-Identifier: Apache-2.0
 -- Registers that a caller keeps as bytes (docs/MODEL.md, "Registers of the caller").
 use Rattle.std.specs.Prelude.{◌≡◌, ℕ, ◌≤◌, ◌<◌, true, false, List, Option, Some, None}
 use Rattle.hll_base.specs.Join.{join}

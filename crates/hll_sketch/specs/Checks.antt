@@ -1,3 +1,4 @@
+-- SPDX-License-Identifier: Apache-2.0
 -- The checks of an image in their order, and the first that fails (docs/FORMAT.md, "Order of checks"; docs/MODEL.md,
 -- "Faults of images").
 use Rattle.std.specs.Prelude.{◌≡◌, ℕ, zero, suc, ◌+◌, ◌*◌, ◌^◌, ◌%◌, ◌==◌, ◌↔◌, Bool, true, ◌&&◌, ◌||◌, if◌then◌else◌, nat_le, nat_lt, List, [], ◌∷◌, ◌++◌, length, drop, take, map, Option, Some, None}

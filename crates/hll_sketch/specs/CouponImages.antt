@@ -1,3 +1,4 @@
+-- SPDX-License-Identifier: Apache-2.0
 -- Images of coupons that ascend, and the image of their union (docs/MODEL.md, "Written images").
 use Rattle.std.specs.Prelude.{◌≡◌, ◌≢◌, ℕ, ◌-◌, ◌^◌, ◌≤◌, ◌<◌, true, false, List, ◌∷◌, length, None}
 use Rattle.std.specs.FinSet.{len, union}

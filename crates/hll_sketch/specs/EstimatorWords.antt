@@ -1,3 +1,4 @@
+-- SPDX-License-Identifier: Apache-2.0
 -- Sketches with the words that a composite estimator reads (docs/MODEL.md, "Estimator words").
 use Rattle.std.specs.Prelude.{◌≡◌, ℕ, List, Option, Some, None}
 use Rattle.hll_registers.specs.declared.estimate_state.EstimateState.{EstimateState}

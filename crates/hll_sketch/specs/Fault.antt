@@ -1,3 +1,4 @@
+-- SPDX-License-Identifier: Apache-2.0
 -- What can be wrong with an image (docs/FORMAT.md, "Order of checks"; docs/MODEL.md, "Faults of images").
 use Rattle.std.specs.Prelude.{◌≡◌, ◌≢◌, ℕ, ◌≤◌, ◌<◌, List, length, take, drop}
 use Rattle.hll_base.specs.declared.error.Reason.{Reason}

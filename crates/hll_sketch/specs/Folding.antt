@@ -1,3 +1,4 @@
+-- SPDX-License-Identifier: Apache-2.0
 -- Folding a sketch to a smaller lg_k (docs/MODEL.md, "Folding").
 use Rattle.std.specs.Prelude.{◌≡◌, ℕ, ◌==◌, ◌≤◌, if◌then◌else◌}
 use Rattle.std.specs.FinSet.{len}

@@ -1,3 +1,4 @@
+-- SPDX-License-Identifier: Apache-2.0
 -- What the header of an image says (docs/FORMAT.md, "The image").
 use Rattle.std.specs.Prelude.{ℕ, ◌==◌, if◌then◌else◌, List}
 use Rattle.hll_sketch.specs.declared.header.Header.{Header}

@@ -1,3 +1,4 @@
+-- SPDX-License-Identifier: Apache-2.0
 -- The grammar of images, by cases (docs/FORMAT.md, "The image"; docs/MODEL.md, "Images").
 use Rattle.std.specs.Prelude.{◌≡◌, ℕ, ◌+◌, ◌*◌, ◌^◌, ◌/◌, ◌%◌, ◌≤◌, ◌<◌, ◌==◌, Bool, if◌then◌else◌, List, length, take, drop, slice_index, All, ◌++◌}
 use Rattle.hll_coupons.specs.Pair.{set_of}

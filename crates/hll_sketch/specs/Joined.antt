@@ -1,3 +1,4 @@
+-- SPDX-License-Identifier: Apache-2.0
 -- The join of many sketches (docs/MODEL.md, "Convergence").
 use Rattle.std.specs.Prelude.{◌≡◌, ℕ, ◌≤◌, min, Bool, true, false, if◌then◌else◌, List, [], ◌∷◌, ◌++◌, Contains}
 use Rattle.std.specs.List.{list_any, AllByRecursion}

@@ -1,3 +1,4 @@
+-- SPDX-License-Identifier: Apache-2.0
 -- The laws of adding and merging (docs/MODEL.md, "Laws of adding and merging").
 use Rattle.std.specs.Prelude.{◌≡◌, ℕ, true, List, [], ◌∷◌, ◌++◌}
 use Rattle.std.specs.FinSet.{union}

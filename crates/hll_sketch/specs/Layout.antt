@@ -1,3 +1,4 @@
+-- SPDX-License-Identifier: Apache-2.0
 -- What a sketch keeps, as contracts see it, and the sketch value that it stands for (docs/MODEL.md, "Sketch values").
 use Rattle.std.specs.Prelude.{◌≡◌, ◌≢◌, ℕ, ◌+◌, ◌^◌, ◌≤◌, ◌<◌, ◌==◌, ◌⊎◌, Bool, true, false, Option, Some, None, if◌then◌else◌, [], ◌∷◌, length}
 use Rattle.std.specs.FinSet.{insert, union, len}

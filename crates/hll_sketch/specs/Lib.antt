@@ -1,3 +1,4 @@
+-- SPDX-License-Identifier: Apache-2.0
 pub mod Adding
 pub mod Agree
 pub mod Borrowed

@@ -1,3 +1,4 @@
+-- SPDX-License-Identifier: Apache-2.0
 -- The pairs that a content means (docs/MODEL.md, "The meaning of a plan").
 use Rattle.std.specs.Prelude.{◌≡◌, ℕ}
 use Rattle.hll_coupons.specs.Pair.{Pairs}

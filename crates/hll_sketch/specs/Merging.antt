@@ -1,3 +1,4 @@
+-- SPDX-License-Identifier: Apache-2.0
 -- Merging a sketch into a union: a bound, and a gadget that is a sketch of width 8 (docs/MODEL.md, "Merging").
 use Rattle.std.specs.Prelude.{ℕ, ◌==◌, nat_le, min, ◌&&◌, if◌then◌else◌, List, [], ◌∷◌}
 use Rattle.std.specs.FinSet.{union}

@@ -1,3 +1,4 @@
+-- SPDX-License-Identifier: Apache-2.0
 -- Sketches whose registers have a plain state: cleared, or with its words set (docs/MODEL.md, "Estimator words").
 use Rattle.std.specs.Prelude.{◌≡◌, ℕ, ◌⊎◌, List, map}
 use Rattle.std.specs.List.{AllByRecursion}

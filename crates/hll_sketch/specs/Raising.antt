@@ -1,3 +1,4 @@
+-- SPDX-License-Identifier: Apache-2.0
 -- Registers that are raised by the coupons of an image.
 use Rattle.std.specs.Prelude.{◌≡◌, ℕ, List}
 use Rattle.hll_sketch.specs.Laws.{add_in_turn}

@@ -1,3 +1,4 @@
+-- SPDX-License-Identifier: Apache-2.0
 -- What a reader promises of the reason that it answers (docs/FORMAT.md, "Order of checks").
 use Rattle.std.specs.Prelude.{◌≡◌, ℕ, ◌⊎◌, List, Some, None}
 use Rattle.hll_base.specs.declared.error.Reason.{Reason}

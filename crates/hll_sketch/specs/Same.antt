@@ -1,3 +1,4 @@
+-- SPDX-License-Identifier: Apache-2.0
 -- When two sketches are the same (docs/MODEL.md, "Sketch values").
 use Rattle.std.specs.Prelude.{◌≡◌, ◌↔◌, ◌&&◌, nat_eq, Bool, true, false, refl}
 use Rattle.std.proofs.Common.{sym, ◌∙◌, eqb-true, eq-eqb}

@@ -1,3 +1,4 @@
+-- SPDX-License-Identifier: Apache-2.0
 -- The stages of a sketch: table sizes, and registers after them (docs/MODEL.md, "Stages").
 use Rattle.std.specs.Prelude.{ℕ, ◌-◌, ◌*◌, ◌^◌, ◌==◌, nat_le, Bool, ◌&&◌, if◌then◌else◌, List, ◌∷◌, Option, find}
 use Rattle.std.specs.List.{range_with_len}

@@ -1,3 +1,4 @@
+-- SPDX-License-Identifier: Apache-2.0
 -- What a union keeps, as contracts see it (docs/MODEL.md, "Merging").
 use Rattle.std.specs.Prelude.{◌≡◌, ◌≢◌, ℕ, ◌≤◌, ◌<◌, ◌==◌, ◌&&◌, ◌⊎◌, Bool, true, false, Some, List, All}
 use Rattle.std.specs.FinSet.{empty, union, len}

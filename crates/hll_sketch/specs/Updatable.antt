@@ -1,3 +1,4 @@
+-- SPDX-License-Identifier: Apache-2.0
 -- Coupons in the places of a table, as an updatable image has them (docs/FORMAT.md, "LIST" and "SET").
 use Rattle.std.specs.Prelude.{◌≡◌, ℕ, ◌<◌, ◌≤◌, ◌==◌, if◌then◌else◌, false, List, length, drop, None}
 use Rattle.hll_coupons.specs.Coupons.{AreCoupons}

@@ -1,3 +1,4 @@
+-- SPDX-License-Identifier: Apache-2.0
 -- What is written for a sketch (docs/FORMAT.md, "What is written"; docs/MODEL.md, "Written images").
 use Rattle.std.specs.Prelude.{◌≡◌, ◌↔◌, ℕ, ◌+◌, ◌*◌, ◌≤◌, ◌==◌, if◌then◌else◌, List, ◌++◌, length, drop, All}
 use Rattle.std.specs.FinSet.{len}

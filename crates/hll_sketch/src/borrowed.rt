@@ -1,3 +1,4 @@
+// SPDX-License-Identifier: Apache-2.0
 //! What an image says, as it stands in its bytes: coupons that ascend, as they are written, or are few, in any order, and
 //! registers. One pass over the bytes tells what they mean, without a table or a copy.
 ghost use Rattle.std.specs.Prelude.{◌≡◌, ◌≢◌, ◌*◌, ◌^◌, ◌-◌, ◌<◌, ◌≤◌, ◌↔◌, ◌∷◌, false, nat_eq, Some, IsTrue, IfSome, IfNone, IfOk, IfErr, length};

@@ -1,3 +1,4 @@
+// SPDX-License-Identifier: Apache-2.0
 //! Registers that a caller keeps: 2^`lg_k` bytes, one for each register, wherever they lie (docs/MODEL.md, "Registers of the
 //! caller"). Nothing of them is kept here.
 ghost use Rattle.std.specs.Prelude.{◌≡◌, ◌^◌, ◌≤◌, ◌==◌, ◌++◌, [], ◌∷◌, length, drop, Some, None, IfOk, IfErr, OnErr};

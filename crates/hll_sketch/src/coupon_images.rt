@@ -1,3 +1,4 @@
+// SPDX-License-Identifier: Apache-2.0
 //! Images of coupons that ascend, as those that are written here do, made from bytes to bytes: the union of two, and one at
 //! another width, without a table.
 ghost use Rattle.std.specs.Prelude.{◌≡◌, ℕ, List, ◌≤◌, ◌<◌, IfSome, IfNone, IfOk, IfErr, OnErr, length};

@@ -1,3 +1,4 @@
+// SPDX-License-Identifier: Apache-2.0
 //! What a mode becomes at a smaller `lg_k` (docs/MODEL.md, "Folding").
 ghost use Rattle.std.specs.Prelude.{◌≡◌, ◌≤◌, ◌↔◌, IsTrue, Some, IfOk, IfErr};
 ghost use Rattle.std.specs.FinSet.{len};

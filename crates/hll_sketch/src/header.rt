@@ -1,3 +1,4 @@
+// SPDX-License-Identifier: Apache-2.0
 //! The first eight bytes of an image (docs/FORMAT.md, "The image").
 ghost use Rattle.std.specs.Prelude.{◌≡◌, ◌<◌, ◌≤◌, ◌/◌, ◌%◌, ◌==◌, ◌↔◌, Some, IsOk, IfOk, IfErr, ◌*◌};
 ghost use Rattle.hll_base.specs.declared.error.Reason.TheVariants as reasons;

@@ -1,3 +1,4 @@
+// SPDX-License-Identifier: Apache-2.0
 //! Sketches from the payload of an image, whose header has been read (docs/FORMAT.md, "The image"): one reader for each
 //! stage and width. Each looks at a front of the bytes alone, fails with the first check that they fail, or else with
 //! `Memory`, and takes memory only once the bytes are known to be there.

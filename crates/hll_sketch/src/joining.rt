@@ -1,3 +1,4 @@
+// SPDX-License-Identifier: Apache-2.0
 //! Merging a sketch into the gadget of a union (docs/MODEL.md, "Merging"). What needs memory is made aside, and then takes
 //! the place of what was there.
 ghost use Rattle.std.specs.Prelude.{◌≡◌, ◌⊎◌, ◌^◌, ◌<◌, ◌≤◌, ◌==◌, nat_le, true, false, Some, IfOk, IfErr, OnOk, OnErr};

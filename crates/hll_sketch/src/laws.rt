@@ -1,3 +1,4 @@
+// SPDX-License-Identifier: Apache-2.0
 //! The laws of adding, merging and images, each a clause of a function that does nothing (docs/MODEL.md, "Laws of adding
 //! and merging" and "Images").
 ghost use Rattle.hll_sketch.specs.Laws.{AddOfAdd, AddEach, MergeOfEmpty, UnionLgK, AddIsLegal, MergeIsLegal, WrittenIsReadBack};

@@ -1,3 +1,4 @@
+// SPDX-License-Identifier: Apache-2.0
 //! Sketches, their values and images, and the laws of adding and merging (docs/ARCHITECTURE.md, "Sketches").
 #![tactic(auto)]
 

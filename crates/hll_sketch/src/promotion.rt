@@ -1,3 +1,4 @@
+// SPDX-License-Identifier: Apache-2.0
 //! The next stage, where a table overflows with one more coupon (docs/MODEL.md, "Stages").
 ghost use Rattle.std.specs.Prelude.{◌≡◌, ◌+◌, ◌^◌, ◌<◌, ◌≤◌, length, false, IfOk, IfErr, IfSome, IfNone};
 ghost use Rattle.std.specs.FinSet.{len, insert, union};

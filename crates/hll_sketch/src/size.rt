@@ -1,3 +1,4 @@
+// SPDX-License-Identifier: Apache-2.0
 //! How many bytes an image has (docs/FORMAT.md, "The image").
 ghost use Rattle.std.specs.Prelude.{◌≡◌, ◌≢◌, ℕ, ◌+◌, ◌^◌, ◌<◌, ◌≤◌, false, List, length, drop};
 ghost use Rattle.std.specs.Int.{w32, from_le_bytes};

@@ -1,3 +1,4 @@
+// SPDX-License-Identifier: Apache-2.0
 //! Sketches (docs/MODEL.md, "Sketch values" and "Adding").
 ghost use Rattle.std.specs.Prelude.{◌≡◌, ◌≤◌, ◌⊎◌, ◌↔◌, [], ◌∷◌, true, false, IsTrue, fold, Some, None, IfOk, IfErr, IfSome, IfNone, OnOk, OnErr};
 ghost use Rattle.hll_base.specs.declared.error.Reason.TheVariants.{Memory};

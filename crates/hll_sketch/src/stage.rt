@@ -1,3 +1,4 @@
+// SPDX-License-Identifier: Apache-2.0
 //! The stages of a sketch: table sizes, and registers after them (docs/MODEL.md, "Stages").
 ghost use Rattle.std.specs.Prelude.{◌≡◌, ℕ, ◌^◌, ◌<◌, ◌≤◌, nat_le};
 ghost use Rattle.hll_sketch.specs.Stage as stages;

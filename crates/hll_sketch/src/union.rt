@@ -1,3 +1,4 @@
+// SPDX-License-Identifier: Apache-2.0
 //! Unions of sketches (docs/MODEL.md, "Merging").
 ghost use Rattle.std.specs.Prelude.{◌≡◌, ◌≢◌, ◌≤◌, ◌⊎◌, ◌↔◌, true, false, IsTrue, Some, All, List, map, [], ◌∷◌, ◌++◌, fold, IfOk, IfErr, OnOk, OnErr};
 ghost use Rattle.hll_base.specs.declared.error.Reason.TheVariants.{Memory};

@@ -1,3 +1,4 @@
+// SPDX-License-Identifier: Apache-2.0
 //! Coupons in the places of a table, as an updatable image has them, where 0 stands for an empty place. Where they are few,
 //! they are gathered as a compact image has them, and go on from there: no table is made.
 ghost use Rattle.std.specs.Prelude.{◌≡◌, ◌+◌, ◌*◌, ◌^◌, ◌<◌, ◌≤◌, ◌↔◌, ◌++◌, [], ◌∷◌, true, false, None, IsTrue, IfSome, IfNone, length};

@@ -1,3 +1,4 @@
+// SPDX-License-Identifier: Apache-2.0
 //! The same sketch at another width: coupons at the size of their table, registers with their state.
 ghost use Rattle.std.specs.Prelude.{◌≡◌, ◌≢◌, true, false, IfOk, IfErr, OnErr};
 ghost use Rattle.hll_base.specs.declared.error.Reason.TheVariants.{Memory};

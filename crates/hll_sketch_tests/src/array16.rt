@@ -1,3 +1,4 @@
+// SPDX-License-Identifier: Apache-2.0
 //! A representation of registers that `hll_arrays` does not know: two bytes each, with the required methods alone.
 ghost use Rattle.std.specs.Prelude.{◌≡◌, ◌^◌, ◌≤◌, IfOk, IfErr};
 ghost use Rattle.hll_base.specs.declared.error.Reason.TheVariants.{Memory};

@@ -1,3 +1,4 @@
+// SPDX-License-Identifier: Apache-2.0
 //! Bytes of images: what is written, and what is read.
 use hll_base::codec::SketchBytes;
 use hll_base::cursor::SketchSlice;

@@ -1,3 +1,4 @@
+// SPDX-License-Identifier: Apache-2.0
 //! Images of coupons that ascend, made into others from bytes to bytes, beside the sketches that they are read as.
 use crate::fixtures::{WIDTHS, filled};
 use hll_base::error::Error;

@@ -1,3 +1,4 @@
+// SPDX-License-Identifier: Apache-2.0
 //! Registers of eight bits: the calls that they alone have, at values worked out by hand.
 ghost use Rattle.std.specs.Prelude.{◌≡◌, IfOk};
 

@@ -1,3 +1,4 @@
+// SPDX-License-Identifier: Apache-2.0
 //! Errors: their numbers and kinds.
 use hll_base::error::{Error, ErrorKind, Reason};
 

@@ -1,3 +1,4 @@
+// SPDX-License-Identifier: Apache-2.0
 //! Sketches that the tests share.
 ghost use Rattle.std.specs.Prelude.{◌≤◌};
 

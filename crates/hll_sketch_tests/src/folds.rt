@@ -1,3 +1,4 @@
+// SPDX-License-Identifier: Apache-2.0
 //! Sketches folded to a smaller `lg_k`.
 ghost use Rattle.std.specs.Prelude.{◌≤◌};
 

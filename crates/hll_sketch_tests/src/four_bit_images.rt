@@ -1,3 +1,4 @@
+// SPDX-License-Identifier: Apache-2.0
 //! Registers of four bits read from what follows the header of an image, beside those that made it.
 ghost use Rattle.std.specs.Prelude.{◌≤◌};
 

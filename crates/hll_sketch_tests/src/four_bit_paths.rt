@@ -1,3 +1,4 @@
+// SPDX-License-Identifier: Apache-2.0
 //! Registers of four bits whose exceptions meet on one path of their table, beside registers of eight bits.
 ghost use Rattle.std.specs.Prelude.{◌≤◌};
 

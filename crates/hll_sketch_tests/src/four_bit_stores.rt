@@ -1,3 +1,4 @@
+// SPDX-License-Identifier: Apache-2.0
 //! Registers of four bits as a store: sizes, equality, values and weights, worked out by hand.
 ghost use Rattle.std.specs.Prelude.{◌≤◌};
 ghost use Rattle.hll_kernels.specs.Packed.{AreRegisters};

@@ -1,3 +1,4 @@
+// SPDX-License-Identifier: Apache-2.0
 //! Registers of four bits: the minimum, nibbles and exceptions, at values worked out by hand.
 ghost use Rattle.std.specs.Prelude.{◌≤◌};
 

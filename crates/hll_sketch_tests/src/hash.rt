@@ -1,3 +1,4 @@
+// SPDX-License-Identifier: Apache-2.0
 //! The hash: vectors at several seeds, and the same bytes cut differently.
 use hll_base::hash::{DEFAULT_SEED, MurmurHash3X64128, hash_of_bytes};
 

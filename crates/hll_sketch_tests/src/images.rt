@@ -1,3 +1,4 @@
+// SPDX-License-Identifier: Apache-2.0
 //! The order of coupons in sketches that are read from images of lists.
 use hll_base::error::Error;
 use hll_coupons::coupon::Coupon;

@@ -1,3 +1,4 @@
+// SPDX-License-Identifier: Apache-2.0
 //! The loops over bytes, at values worked out by hand, and beside plain loops at every length up to 130.
 ghost use Rattle.std.specs.Prelude.{◌≡◌, ◌↔◌, ◌^◌, ◌<◌, ◌≤◌, length, All, IsTrue};
 ghost use Rattle.hll_kernels.specs.Packed.{zero_nibbles};

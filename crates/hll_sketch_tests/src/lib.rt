@@ -1,3 +1,4 @@
+// SPDX-License-Identifier: Apache-2.0
 //! Tests through public calls of `hll_sketch` and of the crates below it: bytes and hashes, tables of coupons, registers,
 //! sketches and unions.
 #![tactic(auto)]

@@ -1,3 +1,4 @@
+// SPDX-License-Identifier: Apache-2.0
 //! Containers and lists: what they hold, what is written and read.
 ghost use Rattle.std.specs.Prelude.{◌≡◌, IfOk};
 

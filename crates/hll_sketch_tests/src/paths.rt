@@ -1,3 +1,4 @@
+// SPDX-License-Identifier: Apache-2.0
 //! Sets whose coupons meet on one path or on a few: the places are those that a walk gives, step by step.
 ghost use Rattle.std.specs.Prelude.{◌≤◌};
 

@@ -1,3 +1,4 @@
+// SPDX-License-Identifier: Apache-2.0
 //! Values and calls that several tests use.
 ghost use Rattle.std.specs.Prelude.{◌≤◌};
 

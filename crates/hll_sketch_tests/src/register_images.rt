@@ -1,3 +1,4 @@
+// SPDX-License-Identifier: Apache-2.0
 //! Registers of eight and six bits: images written and read back, and copies.
 ghost use Rattle.std.specs.Prelude.{◌≤◌, length};
 

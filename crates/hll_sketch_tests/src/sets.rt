@@ -1,3 +1,4 @@
+// SPDX-License-Identifier: Apache-2.0
 //! Sets: places along the paths of searches, what is written and read, and memory that is asked for once bytes are there.
 ghost use Rattle.std.specs.Prelude.{◌≡◌, ◌≤◌};
 

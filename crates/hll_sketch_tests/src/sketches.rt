@@ -1,3 +1,4 @@
+// SPDX-License-Identifier: Apache-2.0
 //! Sketches of every width through their stages: what they keep, count and write.
 ghost use Rattle.std.specs.Prelude.{◌≤◌};
 

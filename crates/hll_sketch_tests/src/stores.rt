@@ -1,3 +1,4 @@
+// SPDX-License-Identifier: Apache-2.0
 //! Registers of each width and of a representation that `hll_arrays` does not know: updates, merges and conversions, beside
 //! plain loops.
 ghost use Rattle.std.specs.Prelude.{◌≤◌};

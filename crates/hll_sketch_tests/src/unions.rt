@@ -1,3 +1,4 @@
+// SPDX-License-Identifier: Apache-2.0
 //! Unions: widths, orders and values that are merged into them.
 ghost use Rattle.std.specs.Prelude.{◌≤◌};
 

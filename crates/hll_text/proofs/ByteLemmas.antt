@@ -1,3 +1,4 @@
+-- SPDX-License-Identifier: Apache-2.0
 -- Lemmas on the first byte that passes a test, found block by block.
 use Rattle.std.proofs.Common.{◌≡◌, ℕ, ◌+◌, ◌-◌, ◌<◌, ◌≤◌, ◌^◌, inl, inr, Bool, true, false, cond, nat_lt, List, length, drop, get_or, map, sym, ◌∙◌, ap, subst, arith, Some, None, length-drop, w64}
 use Rattle.std.specs.List.{position, position_or_len}

@@ -1,3 +1,4 @@
+-- SPDX-License-Identifier: Apache-2.0
 -- The fault of a line is Syntax, Range or Hex.
 use Rattle.std.proofs.Common.{ℕ, Bool, true, false, cond, List, [], ◌∷◌, Result, Ok, Err, refl, inl, inr, codes, nat_lt, nat_le, nat_eq, length, ◌&&◌, ◌==◌, ◌^◌}
 use Rattle.std.specs.Prelude.{IfErr}

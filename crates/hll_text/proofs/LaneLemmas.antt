@@ -1,3 +1,4 @@
+-- SPDX-License-Identifier: Apache-2.0
 -- Lemmas on the digits among eight bytes in lanes.
 use Rattle.std.proofs.Common.{◌≡◌, ℕ, ◌+◌, ◌-◌, ◌*◌, ◌%◌, ◌^◌, ◌<◌, ◌≤◌, zero, suc, Bool, true, false, cond, nat_lt, List, [], ◌∷◌, length, take, drop, get_or, map, replicate, refl, sym, ap, subst, ◌∙◌, arith, w8, w32, w64, Fits}
 use Rattle.std.specs.Prelude.{not, fold, ◌&&◌}

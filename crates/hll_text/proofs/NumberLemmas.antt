@@ -1,3 +1,4 @@
+-- SPDX-License-Identifier: Apache-2.0
 -- Lemmas on the numbers of a line.
 use Rattle.std.proofs.Common.{◌≡◌, ℕ, ◌<◌, ◌≤◌, ◌^◌, false, cond, nat_eq, List, [], ◌∷◌, length, get_or, Ok, Err, None, arith, refl, sym, ap}
 use Rattle.std.proofs.Math.Nat.{pow-le-pow_right}

@@ -1,3 +1,4 @@
+-- SPDX-License-Identifier: Apache-2.0
 -- Lemmas on the parts of a list between marks: words between spaces, lines between newlines.
 use Rattle.std.proofs.Common.{◌≡◌, ℕ, ◌+◌, ◌-◌, ◌<◌, ◌≤◌, Bool, true, false, cond, nat_eq, List, [], ◌∷◌, length, take, drop, refl, ◌∙◌, ap, subst, arith, Some, None, length-drop}
 use Rattle.std.specs.List.{slice_split, position, position_or_len}

@@ -1,3 +1,4 @@
+-- SPDX-License-Identifier: Apache-2.0
 -- Lemmas on bytes that go out piece by piece.
 use Rattle.std.proofs.Common.{arith, ◌≡◌, ℕ, List, ◌++◌, sym, ◌∙◌, ap, append_assoc, Option, Result, Ok, Err}
 use Rattle.std.specs.Prelude.{IsErrAnd}

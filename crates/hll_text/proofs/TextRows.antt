@@ -1,3 +1,4 @@
+-- SPDX-License-Identifier: Apache-2.0
 -- Examples of lines and what they say, each proved by computing it.
 use Rattle.std.specs.Prelude.{◌≡◌, refl, [], ◌∷◌, ◌++◌, Some, None, Ok, Err, codes}
 use Rattle.std.specs.Str.Lines.{lines}

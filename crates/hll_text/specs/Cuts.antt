@@ -1,3 +1,4 @@
+-- SPDX-License-Identifier: Apache-2.0
 -- Texts that come in pieces (docs/PLAN.md, "In pieces").
 use Rattle.std.specs.Prelude.{ℕ, ◌≡◌, ◌==◌, false, List, ◌++◌}
 use Rattle.std.specs.List.{All}

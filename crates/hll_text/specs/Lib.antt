@@ -1,3 +1,4 @@
+-- SPDX-License-Identifier: Apache-2.0
 pub mod Cuts
 pub mod Refusal
 pub mod Step

@@ -1,3 +1,4 @@
+-- SPDX-License-Identifier: Apache-2.0
 -- The line that is printed for a refusal (docs/PLAN.md, "Refusals").
 use Rattle.std.specs.Prelude.{◌≡◌, ◌<◌, ℕ, length, List, [], ◌∷◌, ◌++◌, Option, Result, MatchResult, codes, decimal}
 use Rattle.std.specs.Io.KnownBytes.{Appends}

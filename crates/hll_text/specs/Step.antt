@@ -1,3 +1,4 @@
+-- SPDX-License-Identifier: Apache-2.0
 -- What contracts see of a step: the plan's step, without its allocator (docs/PLAN.md, "The text").
 use Rattle.std.specs.Prelude.{◌≡◌, ◌⊎◌, ℕ, true, List, All, ◌<◌, ◌≤◌, ◌^◌, Option, Some, None, Result, Ok, Err}
 use denote.Ref.{Bor}

@@ -1,3 +1,4 @@
+-- SPDX-License-Identifier: Apache-2.0
 -- The text of a plan: its lines, its words, and what a line says (docs/PLAN.md, "The text").
 use Rattle.std.specs.Prelude as std
 use Rattle.std.specs.Prelude.{ℕ, ◌≡◌, ◌⊎◌, IfErr, ◌+◌, ◌-◌, ◌*◌, ◌^◌, min, Bool, false, ◌&&◌, ◌==◌, nat_lt, nat_le, nat_eq, if◌then◌else◌, List, [], ◌∷◌, ◌++◌, length, Option, Some, None, Result, Ok, Err, codes}

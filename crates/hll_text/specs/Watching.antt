@@ -1,3 +1,4 @@
+-- SPDX-License-Identifier: Apache-2.0
 -- What contracts see of a watched stream (docs/PLAN.md, "Streams").
 use Rattle.std.specs.Prelude.{ℕ, ◌+◌, ◌-◌, ◌^◌, min, Bool}
 

@@ -1,3 +1,4 @@
+// SPDX-License-Identifier: Apache-2.0
 //! Finding a byte in a text.
 ghost use Rattle.std.specs.Prelude.{◌≡◌, ◌+◌, ◌≤◌, ◌==◌, length, map, position, MatchOption};
 ghost use Rattle.std.specs.Simd.Lanes.{chunk, mask_l};

@@ -1,3 +1,4 @@
+// SPDX-License-Identifier: Apache-2.0
 //! Why a plan is refused, and at which line.
 ghost use Rattle.std.specs.Prelude.{◌≡◌};
 ghost use Rattle.hll_text.specs.declared.fault.Fault.TheVariants.{Memory};

@@ -1,3 +1,4 @@
+// SPDX-License-Identifier: Apache-2.0
 //! The text of plans: its lines and their words, the steps that lines say, faults, and streams that are watched for
 //! failures (docs/ARCHITECTURE.md, "The crates").
 #![tactic(auto)]

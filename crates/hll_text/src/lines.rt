@@ -1,3 +1,4 @@
+// SPDX-License-Identifier: Apache-2.0
 //! The lines of a text, whole or in pieces.
 ghost use Rattle.std.specs.Prelude.{◌≡◌, ◌<◌, ◌∷◌, [], length, position, ◌==◌, MatchOption};
 ghost use Rattle.std.specs.Str.Lines.{strip_carriage_return};

@@ -1,3 +1,4 @@
+// SPDX-License-Identifier: Apache-2.0
 //! The steps of a plan.
 use hll_base::hll_type::HllType;
 use std::alloc::{Allocator, Global};

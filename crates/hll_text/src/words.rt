@@ -1,3 +1,4 @@
+// SPDX-License-Identifier: Apache-2.0
 //! The words of a line, and the numbers among them.
 ghost use Rattle.std.specs.Prelude.{◌≡◌, ◌<◌, ◌≤◌, ◌∷◌, ◌==◌, [], ℕ, List, length, map, slice_index, take, true, false, not, position, MatchResult, Ok, Err};
 ghost use Rattle.std.specs.List.{list_all};

@@ -1,3 +1,4 @@
+// SPDX-License-Identifier: Apache-2.0
 //! Coupons of words, of bytes and of values.
 ghost use Rattle.std.specs.Prelude.{◌≡◌, ◌^◌, ◌<◌, ◌≤◌, OnOk};
 

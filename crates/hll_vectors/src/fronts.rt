@@ -1,3 +1,4 @@
+// SPDX-License-Identifier: Apache-2.0
 //! Fronts of images: each that lacks something is refused as `Truncated`.
 use crate::row::{Answer, Row};
 use crate::wrong::Wrong;

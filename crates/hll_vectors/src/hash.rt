@@ -1,3 +1,4 @@
+// SPDX-License-Identifier: Apache-2.0
 //! The hash: known vectors, and the same bytes cut differently.
 use hll_base::hash::MurmurHash3X64128;
 use std::hash::Hasher;

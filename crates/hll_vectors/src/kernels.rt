@@ -1,3 +1,4 @@
+// SPDX-License-Identifier: Apache-2.0
 //! The loops over bytes of registers, at values worked out by hand.
 use hll_arrays::kernels::{lower_nibbles, pack_group, units};
 

@@ -1,3 +1,4 @@
+// SPDX-License-Identifier: Apache-2.0
 //! Runs the rows of standard input, each a plan with its answer (docs/PLAN.md, "Rows"), prints those that are wrong, and
 //! then how many rows there were and how many of them are wrong.
 #![tactic(auto)]

@@ -1,3 +1,4 @@
+// SPDX-License-Identifier: Apache-2.0
 //! Plans that are run whole, and fed in pieces.
 use crate::row::{Answer, Row};
 use crate::wrong::Wrong;

@@ -1,3 +1,4 @@
+// SPDX-License-Identifier: Apache-2.0
 //! A row: the lines of a plan, and its answer.
 use crate::wrong::Wrong;
 use std::alloc::{AllocError, Global};

@@ -1,3 +1,4 @@
+// SPDX-License-Identifier: Apache-2.0
 //! Sketches: stages, arguments, places, texts, values and folds.
 use crate::coupons::Piece;
 use crate::hash::TEXT;

@@ -1,3 +1,4 @@
+// SPDX-License-Identifier: Apache-2.0
 //! Plans over streams that fail, and that move one byte at a time.
 use crate::pieces::Printed;
 use crate::wrong::Wrong;

@@ -1,3 +1,4 @@
+// SPDX-License-Identifier: Apache-2.0
 //! Rows that are right, and what is said of rows that are wrong.
 use crate::run_row;
 use std::test::Fail;

@@ -1,3 +1,4 @@
+// SPDX-License-Identifier: Apache-2.0
 //! Lists of steps: what they give, their faults, and lists that are compared.
 use hll_base::hll_type::HllType;
 use hll_merge::evaluate::{compare, evaluate};

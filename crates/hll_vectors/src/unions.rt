@@ -1,3 +1,4 @@
+// SPDX-License-Identifier: Apache-2.0
 //! Unions: their `lg_k`, the tables that they take, and sketches that agree.
 use crate::sketches::sketch_with;
 use hll_base::error::Error;

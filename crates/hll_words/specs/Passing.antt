@@ -1,3 +1,4 @@
+-- SPDX-License-Identifier: Apache-2.0
 -- What the filter of images makes of lines (docs/PLAN.md, "Estimator words").
 use Rattle.std.specs.Prelude.{◌≡◌, ◌⊎◌, ℕ, ◌+◌, ◌<◌, true, false, Bool, List, [], ◌∷◌, ◌++◌, length, take, Option, Some, Ok, Err}
 use Rattle.std.specs.Io.KnownBytes.{Appends}

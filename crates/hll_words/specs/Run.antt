@@ -1,3 +1,4 @@
+-- SPDX-License-Identifier: Apache-2.0
 -- What a run of the filter leaves (docs/PLAN.md, "Estimator words").
 use Rattle.std.specs.Prelude.{◌≡◌, ◌⊎◌, ℕ, true, false, Bool, List, length, Option}
 use Rattle.std.specs.Str.Lines.{lines}

@@ -1,3 +1,4 @@
+// SPDX-License-Identifier: Apache-2.0
 //! Running the filter: lines are read, and their images are written with their words set.
 ghost use Rattle.std.specs.Prelude.{◌≡◌, ℕ, List, [], false, MatchResult};
 ghost use Rattle.std.specs.Io.KnownBytes.{Consumes, IsAtEnd};

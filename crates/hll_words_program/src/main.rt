@@ -1,3 +1,4 @@
+// SPDX-License-Identifier: Apache-2.0
 //! Reads lines of images on standard input, and prints each with the words of an estimator set (docs/PLAN.md, "Estimator
 //! words").
 #![tactic(auto)]

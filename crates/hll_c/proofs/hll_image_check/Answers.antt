@@ -1,3 +1,4 @@
+-- SPDX-License-Identifier: Apache-2.0
 use Rattle.hll_sketch.specs.Image.{IsReadAs}
 use Rattle.hll_sketch.specs.Value.{Sketch}
 use Rattle.hll_c.specs.Answers.{RefusesImage}

@@ -1,3 +1,4 @@
+-- SPDX-License-Identifier: Apache-2.0
 use Rattle.hll_c.specs.Answers.{WithWords, RefusesWith}
 use Rattle.hll_c.specs.Calls.{IsWidth, IsMadeOf, IsAtWidth}
 use Rattle.hll_c.proofs.Answers.{answers_with}

@@ -1,3 +1,4 @@
+-- SPDX-License-Identifier: Apache-2.0
 use Rattle.hll_c.specs.Calls.{IsMadeOf, IsFoldOf, RefusesFold}
 use Rattle.hll_c.proofs.Answers.{answers_of}
 use Rattle.hll_c.proofs.Images.{no_memory_to_fold}

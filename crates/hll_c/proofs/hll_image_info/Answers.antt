@@ -1,3 +1,4 @@
+-- SPDX-License-Identifier: Apache-2.0
 use Rattle.std.proofs.Common.{◌≡◌}
 use Rattle.hll_c.specs.Answers.{RefusesWith}
 use Rattle.hll_c.specs.Info.{SaysInfo}

@@ -1,3 +1,4 @@
+-- SPDX-License-Identifier: Apache-2.0
 use Rattle.hll_sketch.specs.EstimatorWords.{SetsWords}
 use Rattle.hll_c.specs.Answers.{RefusesImage}
 use Rattle.hll_c.specs.Calls.{IsMadeOf}

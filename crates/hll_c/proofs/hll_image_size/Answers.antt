@@ -1,3 +1,4 @@
+-- SPDX-License-Identifier: Apache-2.0
 use Rattle.hll_sketch.specs.Image.{IsSizeOfImage}
 use Rattle.hll_c.specs.Answers.{RefusesImage}
 use Rattle.hll_c.proofs.Answers.{tells_of}

@@ -1,3 +1,4 @@
+-- SPDX-License-Identifier: Apache-2.0
 use Rattle.std.proofs.Common.{[], ◌∷◌}
 use Rattle.hll_c.specs.Answers.{RefusesImages}
 use Rattle.hll_c.specs.Calls.{SaysAgreement}

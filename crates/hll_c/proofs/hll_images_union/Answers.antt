@@ -1,3 +1,4 @@
+-- SPDX-License-Identifier: Apache-2.0
 use Rattle.std.proofs.Common.{length}
 use Rattle.hll_c.specs.Answers.{RefusesImages}
 use Rattle.hll_c.specs.Batches.{strings}

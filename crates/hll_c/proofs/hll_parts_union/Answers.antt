@@ -1,3 +1,4 @@
+-- SPDX-License-Identifier: Apache-2.0
 use Rattle.hll_c.specs.Answers.{RefusesImages}
 use Rattle.hll_c.specs.Calls.{AreUnionArguments, IsUnionOf}
 use Rattle.hll_c.proofs.Answers.{answers_again}

@@ -1,3 +1,4 @@
+-- SPDX-License-Identifier: Apache-2.0
 use Rattle.hll_c.specs.ByteRegisters.{RefusesRegisters, SaysCounts}
 use Rattle.hll_c.proofs.Answers.{tells_of}
 use Rattle.hll_c.proofs.hll_registers_histogram.Goals as goal

@@ -1,3 +1,4 @@
+-- SPDX-License-Identifier: Apache-2.0
 use Rattle.hll_c.specs.ByteRegisters.{IsOfBytes, RefusesBytes, bytes_memory}
 use Rattle.hll_c.proofs.Answers.{answers_of}
 use Rattle.hll_c.proofs.hll_registers_image.Goals as goal

@@ -1,3 +1,4 @@
+-- SPDX-License-Identifier: Apache-2.0
 use Rattle.std.proofs.Common.{ap, sym, ◌∙◌, arith}
 use Rattle.hll_coupons.specs.Pair.{Pairs, set_of}
 use Rattle.hll_coupons.specs.Fold.{fold_to, pairs}

@@ -1,3 +1,4 @@
+-- SPDX-License-Identifier: Apache-2.0
 use Rattle.std.proofs.Common.{◌≡◌, take}
 use Rattle.hll_coupons.specs.Pair.{set_of}
 use Rattle.hll_sketch.proofs.Promoting.{folded}

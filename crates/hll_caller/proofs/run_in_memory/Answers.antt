@@ -1,3 +1,4 @@
+-- SPDX-License-Identifier: Apache-2.0
 use Rattle.std.proofs.Common.{◌≡◌, false, Some, refl}
 use Rattle.hll_caller.proofs.Refusals.{refused_by_text}
 use Rattle.hll_caller.proofs.run_in_memory.Goals as goal

@@ -1,3 +1,4 @@
+-- SPDX-License-Identifier: Apache-2.0
 use Rattle.std.proofs.Common.{◌≡◌, ◌*◌, ◌≤◌, ℕ, drop, length}
 use Rattle.hll_coupons.specs.AuxMap.{entry_at}
 use Rattle.hll_coupons.specs.Coupons.{coupons_at}

@@ -1,3 +1,4 @@
+-- SPDX-License-Identifier: Apache-2.0
 use Rattle.std.proofs.Common.{arith, ◌≡◌, ◌+◌, ◌-◌, ◌*◌, ◌^◌, ◌⊎◌, ℕ, length, inl, inr, sym, ap, subst, ◌∙◌}
 use Rattle.std.proofs.lemmas.List.{length-drop}
 use Rattle.hll_base.proofs.Errors.{IfErr-passed}

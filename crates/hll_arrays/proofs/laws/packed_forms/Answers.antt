@@ -1,3 +1,4 @@
+-- SPDX-License-Identifier: Apache-2.0
 use Rattle.hll_registers.proofs.Packing.{nibbles_read_back, fields_read_back, exceptions_read_back}
 use Rattle.hll_registers.proofs.FourBits.{packed_is_of_registers}
 use Rattle.hll_arrays.proofs.Minimum.{minimum_rises}

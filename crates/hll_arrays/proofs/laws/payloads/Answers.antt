@@ -1,3 +1,4 @@
+-- SPDX-License-Identifier: Apache-2.0
 use Rattle.hll_arrays.proofs.ReadBackLemmas.{hll8_read_back, hll6_read_back, hll4_read_back}
 use Rattle.hll_arrays.proofs.Tail.{packed_is_written}
 use Rattle.hll_arrays.proofs.laws.payloads.Goals as goal

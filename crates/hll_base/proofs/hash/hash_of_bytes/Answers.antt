@@ -1,3 +1,4 @@
+-- SPDX-License-Identifier: Apache-2.0
 use Rattle.std.proofs.Common.{◌≡◌, ℕ, ◌/◌, ◌*◌, ◌%◌, ◌^◌, List, length, drop, fold, ap, ◌∙◌}
 use Rattle.hll_base.specs.Hash.{Halves, hash, final_halves, after_rest, after_block}
 use Rattle.hll_base.proofs.hash.hash_of_bytes.Goals as goal

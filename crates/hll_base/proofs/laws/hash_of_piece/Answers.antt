@@ -1,3 +1,4 @@
+-- SPDX-License-Identifier: Apache-2.0
 use Rattle.hll_base.proofs.Hashing.{hash_of_piece}
 use Rattle.hll_base.proofs.laws.hash_of_piece.Goals as goal
 

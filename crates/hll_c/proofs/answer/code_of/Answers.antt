@@ -1,3 +1,4 @@
+-- SPDX-License-Identifier: Apache-2.0
 use Rattle.std.proofs.Common.{ap, ◌∙◌}
 use Rattle.hll_base.specs.Reason.{number_of}
 use Rattle.hll_c.proofs.Answers.{tests_passed, tests_failed}

@@ -1,3 +1,4 @@
+-- SPDX-License-Identifier: Apache-2.0
 use Rattle.std.proofs.Common.{◌<◌, ◌≤◌, ◌++◌, length, drop, ap, subst, ◌∙◌}
 use Rattle.hll_base.specs.Reason.{number_of}
 use Rattle.hll_c.proofs.Answers.{puts, wants, puts_nothing}

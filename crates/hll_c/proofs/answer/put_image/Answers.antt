@@ -1,3 +1,4 @@
+-- SPDX-License-Identifier: Apache-2.0
 use Rattle.std.proofs.lemmas.Result.{IfOk-weaker}
 use Rattle.hll_c.specs.Answers.{IsImageOf, WithWords}
 use Rattle.hll_c.proofs.Answers.{IsOf, IsFor, answers_with, image_of_made}

@@ -1,3 +1,4 @@
+-- SPDX-License-Identifier: Apache-2.0
 use Rattle.hll_c.proofs.batch.are_ends.Goals as goal
 
 pub loop-end-init : goal.loop-end-init

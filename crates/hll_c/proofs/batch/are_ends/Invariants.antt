@@ -1,3 +1,4 @@
+-- SPDX-License-Identifier: Apache-2.0
 use Rattle.std.proofs.Common.{◌↔◌, drop}
 use Rattle.hll_c.specs.Batches.{AreEnds, AreEndsFrom}
 use Rattle.hll_c.proofs.batch.are_ends.Given as goal

@@ -1,3 +1,4 @@
+-- SPDX-License-Identifier: Apache-2.0
 use Rattle.std.proofs.Common.{arith, ◌≡◌, ◌∙◌, length, refl, sym, subst}
 use Rattle.hll_c.specs.Batches.{AreEnds}
 use Rattle.hll_c.specs.Calls.{PutsCoupons, wrote, too_small, argument}

@@ -1,3 +1,4 @@
+-- SPDX-License-Identifier: Apache-2.0
 use Rattle.hll_c.proofs.Batches.{PutsRest}
 use Rattle.hll_c.proofs.batch.put_coupons.Given as goal
 

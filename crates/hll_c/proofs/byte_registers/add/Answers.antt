@@ -1,3 +1,4 @@
+-- SPDX-License-Identifier: Apache-2.0
 use Rattle.std.proofs.Common.{length, refl, sym, subst}
 use Rattle.hll_c.specs.Batches.{AreEnds}
 use Rattle.hll_c.specs.ByteRegisters.{AddsValues, added, values_argument}

@@ -1,3 +1,4 @@
+-- SPDX-License-Identifier: Apache-2.0
 use Rattle.std.proofs.Common.{refl, sym, subst}
 use Rattle.hll_c.specs.ByteRegisters.{AddsCoupons, HaveValues, added_coupons, coupons_argument}
 use Rattle.hll_c.proofs.Batches.{not_so}

@@ -1,3 +1,4 @@
+-- SPDX-License-Identifier: Apache-2.0
 use Rattle.std.proofs.Common.{sym, ◌∙◌}
 use Rattle.hll_arrays.proofs.ReadingRegisters.{small-from, small-to}
 use Rattle.hll_c.proofs.byte_registers.are_small.Goals as goal

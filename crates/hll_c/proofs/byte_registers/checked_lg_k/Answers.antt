@@ -1,3 +1,4 @@
+-- SPDX-License-Identifier: Apache-2.0
 use Rattle.std.proofs.Common.{sym, subst}
 use Rattle.hll_base.proofs.Errors.{IfErr-passed}
 use Rattle.hll_kernels.specs.Packed.{AreRegisters}

@@ -1,3 +1,4 @@
+-- SPDX-License-Identifier: Apache-2.0
 use Rattle.std.proofs.Common.{refl, sym, subst, arith, inl, inr}
 use Rattle.hll_kernels.specs.Packed.{AreRegisters}
 use Rattle.hll_c.specs.ByteRegisters.{FoldsInPlace, folded, fold_argument, fold_register}

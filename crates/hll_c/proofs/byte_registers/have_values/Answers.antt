@@ -1,3 +1,4 @@
+-- SPDX-License-Identifier: Apache-2.0
 use Rattle.std.proofs.Common.{arith}
 use Rattle.hll_c.proofs.JoinedValues.{values_further, values_broken, values_end}
 use Rattle.hll_c.proofs.byte_registers.have_values.Goals as goal

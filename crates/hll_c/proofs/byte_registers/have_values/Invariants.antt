@@ -1,3 +1,4 @@
+-- SPDX-License-Identifier: Apache-2.0
 use Rattle.std.proofs.Common.{◌↔◌, drop}
 use Rattle.hll_c.specs.ByteRegisters.{HaveValues}
 use Rattle.hll_c.proofs.byte_registers.have_values.Given as goal

@@ -1,3 +1,4 @@
+-- SPDX-License-Identifier: Apache-2.0
 use Rattle.std.proofs.Common.{ℕ, List, refl, sym, ap, subst}
 use Rattle.hll_kernels.specs.Packed.{AreRegisters}
 use Rattle.hll_registers.specs.State.{cleared_state}

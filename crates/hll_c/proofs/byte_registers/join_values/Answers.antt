@@ -1,3 +1,4 @@
+-- SPDX-License-Identifier: Apache-2.0
 use Rattle.std.proofs.Common.{refl, length, ap, ◌∙◌, [], ◌∷◌}
 use Rattle.hll_base.specs.Join.{join}
 use Rattle.hll_coupons.specs.Fold.{fold_to}

@@ -1,3 +1,4 @@
+-- SPDX-License-Identifier: Apache-2.0
 use Rattle.hll_c.proofs.JoinedValues.{JoinsRest}
 use Rattle.hll_c.proofs.byte_registers.join_values.Given as goal
 

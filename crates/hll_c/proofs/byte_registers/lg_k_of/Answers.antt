@@ -1,3 +1,4 @@
+-- SPDX-License-Identifier: Apache-2.0
 use Rattle.std.proofs.Common.{length, sym, ◌∙◌, arith, inl, inr}
 use Rattle.hll_c.proofs.Powers.{top_of, few_or_many, no_power, its_power}
 use Rattle.hll_c.proofs.byte_registers.lg_k_of.Goals as goal

@@ -1,3 +1,4 @@
+-- SPDX-License-Identifier: Apache-2.0
 use Rattle.hll_sketch.specs.Layout.{sketch_of}
 use Rattle.hll_c.proofs.Batches.{AddsRest}
 use Rattle.hll_c.proofs.image.add_values.Given as goal

@@ -1,3 +1,4 @@
+-- SPDX-License-Identifier: Apache-2.0
 use Rattle.hll_sketch.specs.Refusal.{IsRefusal}
 use Rattle.hll_sketch.proofs.FirstFailing.{IfErr-with}
 use Rattle.hll_c.specs.Answers.{RefusesImage}

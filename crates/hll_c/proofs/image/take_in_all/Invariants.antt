@@ -1,3 +1,4 @@
+-- SPDX-License-Identifier: Apache-2.0
 use Rattle.hll_c.proofs.Batches.{TakesInRest}
 use Rattle.hll_c.proofs.image.take_in_all.Given as goal
 

@@ -1,3 +1,4 @@
+-- SPDX-License-Identifier: Apache-2.0
 use Rattle.hll_base.proofs.Errors.{IfErr-passed}
 use Rattle.hll_c.specs.Steps.{FailsToTakeIn}
 use Rattle.hll_c.proofs.JoinedValues.{bytes_of, part_at, part_inside, parts_end, parts_none, parts_more, parts_all, part_fails}

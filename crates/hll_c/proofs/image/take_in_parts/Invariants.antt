@@ -1,3 +1,4 @@
+-- SPDX-License-Identifier: Apache-2.0
 use Rattle.std.proofs.Common.{map}
 use Rattle.hll_c.proofs.JoinedValues.{TakesParts}
 use Rattle.hll_c.proofs.image.take_in_parts.Given as goal

@@ -1,3 +1,4 @@
+-- SPDX-License-Identifier: Apache-2.0
 use Rattle.hll_base.proofs.Errors.{IfErr-passed}
 use Rattle.hll_c.specs.Answers.{RefusesImage}
 use Rattle.hll_c.proofs.Images.{refuses_image}

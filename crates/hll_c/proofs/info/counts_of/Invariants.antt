@@ -1,3 +1,4 @@
+-- SPDX-License-Identifier: Apache-2.0
 use Rattle.std.proofs.Common.{◌≡◌, take, length}
 use Rattle.hll_c.specs.Info.{AreCountsOf}
 use Rattle.hll_c.proofs.info.counts_of.Given as goal

@@ -1,3 +1,4 @@
+-- SPDX-License-Identifier: Apache-2.0
 use Rattle.std.proofs.Common.{ap, sym, ◌∙◌}
 use Rattle.hll_coupons.specs.Table.{Table, coupons_of}
 use Rattle.hll_sketch.specs.Layout.{layout_of, content_in}

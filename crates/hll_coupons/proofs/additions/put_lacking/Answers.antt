@@ -1,3 +1,4 @@
+-- SPDX-License-Identifier: Apache-2.0
 use Rattle.std.proofs.Common.{◌≡◌, ◌^◌, ◌≤◌, ◌<◌, All, length, refl, sym, ap, subst, ◌∙◌}
 use Rattle.std.specs.FinSet.{contains, len, union}
 use Rattle.std.proofs.lemmas.List.{append-nil}

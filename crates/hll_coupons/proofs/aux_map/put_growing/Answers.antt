@@ -1,3 +1,4 @@
+-- SPDX-License-Identifier: Apache-2.0
 use Rattle.std.proofs.Common.{arith, ◌≡◌, ◌+◌, ◌*◌, ◌^◌, ◌<◌, ◌∙◌, ℕ, suc, sym, ap, subst, map, length, get_or, set}
 use Rattle.std.proofs.Math.Nat.{pow-suc}
 use Rattle.std.specs.FinSet.{len}

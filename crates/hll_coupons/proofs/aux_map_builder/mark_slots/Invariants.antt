@@ -1,3 +1,4 @@
+-- SPDX-License-Identifier: Apache-2.0
 use Rattle.hll_coupons.proofs.Marks.{MarkedSoFar}
 use Rattle.hll_coupons.proofs.aux_map_builder.mark_slots.Given as goal
 

@@ -1,3 +1,4 @@
+-- SPDX-License-Identifier: Apache-2.0
 use Rattle.std.proofs.Common.{◌≡◌, ◌++◌, take}
 use Rattle.hll_coupons.specs.Coupons.{coupon_bytes}
 use Rattle.hll_coupons.proofs.container.with_coupons.Given as goal

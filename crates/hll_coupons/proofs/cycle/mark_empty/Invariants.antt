@@ -1,3 +1,4 @@
+-- SPDX-License-Identifier: Apache-2.0
 use Rattle.std.proofs.Common.{◌≡◌, ℕ, ◌*◌, ◌^◌, ◌<◌, ◌≤◌, get_or, length}
 use Rattle.std.specs.Prelude.{◌==◌, if◌then◌else◌}
 use Rattle.hll_coupons.specs.Words.{bit_of}

@@ -1,3 +1,4 @@
+-- SPDX-License-Identifier: Apache-2.0
 use Rattle.std.proofs.Common.{ℕ, ◌≡◌, ◌*◌, ◌^◌, length}
 use Rattle.std.proofs.lemmas.Option.{IfSome_then}
 use Rattle.hll_coupons.specs.Words.{IsNext}

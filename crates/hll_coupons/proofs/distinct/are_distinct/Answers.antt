@@ -1,3 +1,4 @@
+-- SPDX-License-Identifier: Apache-2.0
 use Rattle.std.proofs.Common.{refl, subst, sym}
 use Rattle.std.specs.List.Sorted.{IsStrictlyIncreasing}
 use Rattle.hll_coupons.proofs.Ascending.{ascending_from_sort, distinct-ascending, distinct-sorted}

@@ -1,3 +1,4 @@
+-- SPDX-License-Identifier: Apache-2.0
 use Rattle.std.proofs.Common.{arith, ℕ, All, ap, sym, subst}
 use Rattle.hll_coupons.specs.Cycle.{IsFor}
 use Rattle.hll_coupons.specs.Keys.{key_of}

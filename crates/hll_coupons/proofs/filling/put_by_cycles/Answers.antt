@@ -1,3 +1,4 @@
+-- SPDX-License-Identifier: Apache-2.0
 use Rattle.std.proofs.Common.{arith, ◌≡◌, ◌<◌, ◌^◌, ◌∙◌, ◌++◌, ◌∷◌, [], ℕ, List, All, refl, sym, ap, subst, length, map}
 use Rattle.std.specs.Cmp.{nat_cmp_total}
 use Rattle.std.specs.Iterator.{Yields, YieldsFirst}

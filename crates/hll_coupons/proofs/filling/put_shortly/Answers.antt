@@ -1,3 +1,4 @@
+-- SPDX-License-Identifier: Apache-2.0
 use Rattle.std.proofs.Common.{ℕ, ap}
 use Rattle.hll_coupons.specs.Keys.{key_of}
 use Rattle.hll_coupons.specs.Probe.{EndsAt, placed}

@@ -1,3 +1,4 @@
+-- SPDX-License-Identifier: Apache-2.0
 use Rattle.std.proofs.Common.{arith, ℕ, List, All, ◌≡◌, ◌≤◌, ◌^◌, ◌∙◌, ap, length, subst, sym}
 use Rattle.std.specs.FinSet.{len}
 use Rattle.std.proofs.lemmas.List.{map-id}

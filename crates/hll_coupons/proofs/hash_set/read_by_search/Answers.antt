@@ -1,3 +1,4 @@
+-- SPDX-License-Identifier: Apache-2.0
 use Rattle.std.proofs.Common.{arith, ℕ, ◌≡◌, ◌≤◌, ◌∙◌, true, sym, ap, subst}
 use Rattle.std.specs.FinSet.{contains, insert}
 use Rattle.std.proofs.lemmas.Bool.{true≢false}

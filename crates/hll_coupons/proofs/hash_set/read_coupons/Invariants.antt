@@ -1,3 +1,4 @@
+-- SPDX-License-Identifier: Apache-2.0
 use Rattle.hll_coupons.specs.Coupons.{coupons_at}
 use Rattle.hll_coupons.proofs.SetReading.{CopiedSoFar}
 use Rattle.hll_coupons.proofs.hash_set.read_coupons.Given as goal

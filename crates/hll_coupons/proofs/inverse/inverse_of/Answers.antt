@@ -1,3 +1,4 @@
+-- SPDX-License-Identifier: Apache-2.0
 use Rattle.std.proofs.Common.{arith, ◌≡◌, ◌+◌, ◌*◌, ◌%◌, ◌^◌, ◌∙◌, ap, sym}
 use Rattle.hll_coupons.proofs.Inverses.{doubled, fewer}
 use Rattle.hll_coupons.proofs.inverse.inverse_of.Goals as goal

@@ -1,3 +1,4 @@
+-- SPDX-License-Identifier: Apache-2.0
 use Rattle.hll_coupons.proofs.Ascending.{one_ascending_order}
 use Rattle.hll_coupons.proofs.Registers.{fold_to-pairs-fold_to, fold_to-pairs}
 use Rattle.hll_coupons.proofs.Folds.{fold_to-union}

@@ -1,3 +1,4 @@
+-- SPDX-License-Identifier: Apache-2.0
 use Rattle.hll_coupons.proofs.Probing.{meets_each_place_once}
 use Rattle.hll_coupons.proofs.Searching.{found_after_insert, absent_at_empty, absent_from_full, keys_are_distinct}
 use Rattle.hll_coupons.proofs.laws.probing.Goals as goal

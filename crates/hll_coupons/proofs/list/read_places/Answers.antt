@@ -1,3 +1,4 @@
+-- SPDX-License-Identifier: Apache-2.0
 use Rattle.std.proofs.Common.{◌≡◌, ℕ, ◌+◌, ◌-◌, ◌^◌, ◌≤◌, max, Bool, true, false, List, [], ◌∷◌, ◌++◌, length, ap, sym, subst, refl, ◌∙◌, arith, append_assoc, replicate}
 use Rattle.std.specs.FinSet.{contains, insert, contains-from_list_nat}
 use Rattle.std.proofs.lemmas.Bool.{cond-false, true≢false}

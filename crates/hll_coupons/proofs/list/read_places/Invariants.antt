@@ -1,3 +1,4 @@
+-- SPDX-License-Identifier: Apache-2.0
 use Rattle.std.proofs.Common.{◌≡◌, ℕ, ◌-◌, ◌*◌, ◌≤◌, ◌++◌, length, true}
 use Rattle.std.specs.FinSet.{contains}
 use Rattle.hll_coupons.specs.Table.{coupons_in, coupons_of, filled_from_front}

@@ -1,3 +1,4 @@
+-- SPDX-License-Identifier: Apache-2.0
 use Rattle.std.proofs.Common.{◌<◌, ◌^◌}
 use Rattle.hll_coupons.specs.Cycle.{IsSound}
 use Rattle.hll_coupons.proofs.Fillings.{filled_none, next_of, filled_more, filled_all}

@@ -1,3 +1,4 @@
+-- SPDX-License-Identifier: Apache-2.0
 use Rattle.hll_coupons.proofs.Fillings.{FilledSoFar}
 use Rattle.hll_coupons.proofs.long_searches.fill_each.Given as goal
 

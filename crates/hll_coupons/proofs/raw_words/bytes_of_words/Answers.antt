@@ -1,3 +1,4 @@
+-- SPDX-License-Identifier: Apache-2.0
 use Rattle.std.proofs.Common.{◌≡◌, ℕ, List, ◌*◌, take, ap, ◌∙◌, arith}
 use Rattle.hll_coupons.proofs.Merging.{words_written_back}
 use Rattle.hll_coupons.proofs.raw_words.bytes_of_words.Goals as goal

@@ -1,3 +1,4 @@
+-- SPDX-License-Identifier: Apache-2.0
 use Rattle.std.proofs.Common.{sym, subst}
 use Rattle.std.specs.FinSet.{union}
 use Rattle.hll_coupons.specs.Coupons.{coupon_bytes, WritesAscending}

@@ -1,3 +1,4 @@
+-- SPDX-License-Identifier: Apache-2.0
 use Rattle.std.proofs.Common.{◌+◌, length}
 use Rattle.hll_coupons.proofs.Merging.{WritesRest}
 use Rattle.hll_coupons.proofs.raw_words.union_of_ascending.Given as goal

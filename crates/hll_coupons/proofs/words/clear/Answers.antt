@@ -1,3 +1,4 @@
+-- SPDX-License-Identifier: Apache-2.0
 use Rattle.hll_coupons.proofs.Bits.{bit_of-set_same, bit_of-set_other}
 use Rattle.hll_coupons.proofs.words.clear.Goals as goal
 

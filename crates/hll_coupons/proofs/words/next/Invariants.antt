@@ -1,3 +1,4 @@
+-- SPDX-License-Identifier: Apache-2.0
 use Rattle.std.proofs.Common.{◌≡◌, ℕ, ◌*◌, ◌<◌, ◌≤◌}
 use Rattle.hll_coupons.specs.Words.{bit_of}
 use Rattle.hll_coupons.proofs.words.next.Given as goal

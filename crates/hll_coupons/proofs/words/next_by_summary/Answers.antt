@@ -1,3 +1,4 @@
+-- SPDX-License-Identifier: Apache-2.0
 use Rattle.std.proofs.Common.{arith}
 use Rattle.hll_coupons.proofs.Bits.{next_in_summary, none_in_rest}
 use Rattle.hll_coupons.proofs.words.next_by_summary.Goals as goal

@@ -1,3 +1,4 @@
+-- SPDX-License-Identifier: Apache-2.0
 use Rattle.std.proofs.Common.{◌==◌, ◌∙◌, ap}
 use Rattle.std.specs.List.{list_all}
 use Rattle.hll_kernels.proofs.Grouping.{list_all-registers_in}

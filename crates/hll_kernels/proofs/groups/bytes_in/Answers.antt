@@ -1,3 +1,4 @@
+-- SPDX-License-Identifier: Apache-2.0
 use Rattle.std.proofs.Common.{arith, w32}
 use Rattle.std.proofs.lemmas.Simd.{below_from_Fits}
 use Rattle.hll_kernels.proofs.SixBitLanes.{digits_bytes}

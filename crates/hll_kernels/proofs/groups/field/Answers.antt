@@ -1,3 +1,4 @@
+-- SPDX-License-Identifier: Apache-2.0
 use Rattle.hll_kernels.proofs.SixBitLanes.{field_lanes}
 use Rattle.hll_kernels.proofs.groups.field.Goals as goal
 

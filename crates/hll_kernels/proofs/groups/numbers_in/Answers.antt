@@ -1,3 +1,4 @@
+-- SPDX-License-Identifier: Apache-2.0
 use Rattle.std.proofs.Common.{◌≡◌, ◌∙◌, ◌/◌, ◌%◌, ◌+◌, ◌*◌, ◌^◌, ap, replicate}
 use Rattle.std.specs.Simd.Lanes.{zip2}
 use Rattle.hll_kernels.specs.Lanes.{words_of}

@@ -1,3 +1,4 @@
+-- SPDX-License-Identifier: Apache-2.0
 use Rattle.std.proofs.Common.{◌≡◌, ◌*◌, take}
 use Rattle.hll_kernels.specs.Lanes.{raise_at}
 use Rattle.hll_kernels.specs.Packed.{fields}

@@ -1,3 +1,4 @@
+-- SPDX-License-Identifier: Apache-2.0
 use Rattle.std.proofs.Common.{◌≡◌, ◌+◌, ℕ, List, ap, ◌∙◌, sym, arith, refl, get_or, ◌∷◌, []}
 use Rattle.hll_kernels.specs.Groups.{group_fields}
 use Rattle.hll_kernels.specs.Lanes.{raise_at}

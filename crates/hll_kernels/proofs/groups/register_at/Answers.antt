@@ -1,3 +1,4 @@
+-- SPDX-License-Identifier: Apache-2.0
 use Rattle.std.proofs.Common.{◌%◌, [], get_or, sym, ap, ◌∙◌}
 use Rattle.hll_kernels.proofs.Grouping.{get_or-registers_in}
 use Rattle.hll_kernels.proofs.groups.register_at.Goals as goal

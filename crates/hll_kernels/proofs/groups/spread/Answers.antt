@@ -1,3 +1,4 @@
+-- SPDX-License-Identifier: Apache-2.0
 use Rattle.std.proofs.Common.{◌≡◌, w8, ◌∙◌, ◌/◌, ◌%◌, ◌+◌, ◌*◌, ◌^◌, ap, replicate}
 use Rattle.std.specs.Simd.Lanes.{zip2}
 use Rattle.std.proofs.lemmas.Simd.{below_from_Fits}

@@ -1,3 +1,4 @@
+-- SPDX-License-Identifier: Apache-2.0
 use Rattle.std.proofs.Common.{subst, ap, ◌∙◌}
 use Rattle.hll_kernels.specs.Packed.{fields}
 use Rattle.hll_kernels.specs.WeightSums.{AreSumsOf}

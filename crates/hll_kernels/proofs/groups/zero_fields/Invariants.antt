@@ -1,3 +1,4 @@
+-- SPDX-License-Identifier: Apache-2.0
 use Rattle.std.proofs.Common.{◌≡◌, ◌*◌, take}
 use Rattle.hll_kernels.specs.Packed.{zeros, fields}
 use Rattle.hll_kernels.proofs.groups.zero_fields.Given as goal

@@ -1,3 +1,4 @@
+-- SPDX-License-Identifier: Apache-2.0
 use Rattle.std.proofs.Common.{◌≡◌, ◌<◌, ◌/◌, ◌*◌, ◌==◌, ◌∙◌, ap, sym, arith, length, take, true}
 use Rattle.std.specs.List.{list_all}
 use Rattle.hll_kernels.proofs.ZeroTests.{all_zero-not, all_zero-more, all_zero-rest}

@@ -1,3 +1,4 @@
+-- SPDX-License-Identifier: Apache-2.0
 use Rattle.std.proofs.Common.{◌≡◌, ◌*◌, ◌==◌, true, take}
 use Rattle.std.specs.List.{list_all}
 use Rattle.hll_kernels.proofs.kernels.all_zero.Given as goal

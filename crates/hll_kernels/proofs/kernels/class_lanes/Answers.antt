@@ -1,3 +1,4 @@
+-- SPDX-License-Identifier: Apache-2.0
 use Rattle.hll_kernels.proofs.Weights.{class_by_dots, dots_fit}
 use Rattle.hll_kernels.proofs.kernels.class_lanes.Goals as goal
 

@@ -1,3 +1,4 @@
+-- SPDX-License-Identifier: Apache-2.0
 use Rattle.hll_kernels.proofs.Weights.{class_by_mask}
 use Rattle.hll_kernels.proofs.kernels.class_weights.Goals as goal
 

@@ -1,3 +1,4 @@
+-- SPDX-License-Identifier: Apache-2.0
 use Rattle.std.proofs.Common.{◌≡◌, ◌*◌, ◌==◌, count_by, take}
 use Rattle.hll_kernels.proofs.kernels.count_zeros.Given as goal
 

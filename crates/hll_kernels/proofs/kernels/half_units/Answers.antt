@@ -1,3 +1,4 @@
+-- SPDX-License-Identifier: Apache-2.0
 use Rattle.std.proofs.Common.{◌≡◌, ◌<◌, ◌+◌, ◌*◌, ◌/◌, zero, suc, length, take, drop, sym, ap, ◌∙◌, arith}
 use Rattle.hll_kernels.proofs.Weights.{class_more, class_small, half_by_classes, half_sum-rest, half_sum-le, class_same}
 use Rattle.hll_kernels.proofs.kernels.half_units.Goals as goal

@@ -1,3 +1,4 @@
+-- SPDX-License-Identifier: Apache-2.0
 use Rattle.std.proofs.Common.{◌+◌, ◌*◌}
 use Rattle.hll_kernels.proofs.Weights.{ClassLanes}
 use Rattle.hll_kernels.proofs.kernels.half_units.Given as goal

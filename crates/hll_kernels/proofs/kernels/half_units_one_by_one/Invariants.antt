@@ -1,3 +1,4 @@
+-- SPDX-License-Identifier: Apache-2.0
 use Rattle.std.proofs.Common.{◌≡◌, take}
 use Rattle.hll_kernels.specs.Lanes.{half_sum}
 use Rattle.hll_kernels.proofs.kernels.half_units_one_by_one.Given as goal

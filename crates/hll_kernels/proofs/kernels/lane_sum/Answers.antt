@@ -1,3 +1,4 @@
+-- SPDX-License-Identifier: Apache-2.0
 use Rattle.std.proofs.Common.{◌∙◌, w32, arith}
 use Rattle.std.proofs.lemmas.Simd.{sum_fits, fold-sum}
 use Rattle.hll_kernels.proofs.kernels.lane_sum.Goals as goal

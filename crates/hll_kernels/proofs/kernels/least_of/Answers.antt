@@ -1,3 +1,4 @@
+-- SPDX-License-Identifier: Apache-2.0
 use Rattle.std.proofs.Common.{arith, ◌∙◌, sym, ap, get_or}
 use Rattle.std.specs.Prelude.{min, fold}
 use Rattle.std.proofs.lemmas.List.{take_all}

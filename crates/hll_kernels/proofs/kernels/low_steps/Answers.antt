@@ -1,3 +1,4 @@
+-- SPDX-License-Identifier: Apache-2.0
 use Rattle.hll_kernels.proofs.Lowering.{low_step_lanes}
 use Rattle.hll_kernels.proofs.kernels.low_steps.Goals as goal
 

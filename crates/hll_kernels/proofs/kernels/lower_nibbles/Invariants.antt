@@ -1,3 +1,4 @@
+-- SPDX-License-Identifier: Apache-2.0
 use Rattle.std.proofs.Common.{◌≡◌, ◌*◌, take}
 use Rattle.std.specs.Simd.Lanes.{put_chunk}
 use Rattle.hll_kernels.specs.Packed.{lowered_byte, zero_nibbles}

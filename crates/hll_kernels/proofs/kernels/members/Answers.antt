@@ -1,3 +1,4 @@
+-- SPDX-License-Identifier: Apache-2.0
 use Rattle.hll_kernels.proofs.Weights.{members_by_mask}
 use Rattle.hll_kernels.proofs.kernels.members.Goals as goal
 

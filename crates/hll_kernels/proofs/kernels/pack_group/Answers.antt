@@ -1,3 +1,4 @@
+-- SPDX-License-Identifier: Apache-2.0
 use Rattle.std.proofs.Common.{◌≡◌, ℕ, ◌+◌, ◌*◌, ◌/◌, ◌%◌, ◌≤◌, List, [], ◌∷◌, get_or, sym, ap, ◌∙◌, arith}
 use Rattle.hll_kernels.specs.Groups.{group_fields}
 use Rattle.hll_kernels.proofs.Grouping.{four, group_fields-group_bytes}

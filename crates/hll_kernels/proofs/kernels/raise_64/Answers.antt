@@ -1,3 +1,4 @@
+-- SPDX-License-Identifier: Apache-2.0
 use Rattle.hll_kernels.proofs.Parts.{raise_lanes}
 use Rattle.hll_kernels.proofs.kernels.raise_64.Goals as goal
 

@@ -1,3 +1,4 @@
+-- SPDX-License-Identifier: Apache-2.0
 use Rattle.std.proofs.Common.{arith}
 use Rattle.hll_base.proofs.Joins.{is_join}
 use Rattle.hll_kernels.proofs.kernels.raise_one_by_one.Goals as goal

@@ -1,3 +1,4 @@
+-- SPDX-License-Identifier: Apache-2.0
 use Rattle.std.proofs.Common.{arith}
 use Rattle.hll_kernels.proofs.Grouping.{units-le}
 use Rattle.hll_kernels.proofs.WeightParts.{units-parts}

@@ -1,3 +1,4 @@
+-- SPDX-License-Identifier: Apache-2.0
 use Rattle.std.proofs.Common.{◌∙◌}
 use Rattle.hll_kernels.proofs.WeightParts.{low_units-half, high_units-half}
 use Rattle.hll_kernels.proofs.kernels.weight_sums.Goals as goal

@@ -1,3 +1,4 @@
+-- SPDX-License-Identifier: Apache-2.0
 use Rattle.hll_kernels.proofs.Weights.{weights_by_table, table_has_each}
 use Rattle.hll_kernels.proofs.kernels.weights.Goals as goal
 

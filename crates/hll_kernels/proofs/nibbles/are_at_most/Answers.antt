@@ -1,3 +1,4 @@
+-- SPDX-License-Identifier: Apache-2.0
 use Rattle.std.proofs.Common.{arith}
 use Rattle.hll_kernels.proofs.FourBitLanes.{at_most_by_mask}
 use Rattle.hll_kernels.proofs.nibbles.are_at_most.Goals as goal

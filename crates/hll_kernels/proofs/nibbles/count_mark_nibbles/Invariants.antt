@@ -1,3 +1,4 @@
+-- SPDX-License-Identifier: Apache-2.0
 use Rattle.std.proofs.Common.{◌≡◌, ◌*◌, take}
 use Rattle.hll_kernels.specs.Packed.{mark_nibbles}
 use Rattle.hll_kernels.proofs.nibbles.count_mark_nibbles.Given as goal

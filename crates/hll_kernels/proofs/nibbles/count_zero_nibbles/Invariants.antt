@@ -1,3 +1,4 @@
+-- SPDX-License-Identifier: Apache-2.0
 use Rattle.std.proofs.Common.{◌≡◌, ◌*◌, take}
 use Rattle.hll_kernels.specs.Packed.{zero_nibbles}
 use Rattle.hll_kernels.proofs.nibbles.count_zero_nibbles.Given as goal

@@ -1,3 +1,4 @@
+-- SPDX-License-Identifier: Apache-2.0
 use Rattle.std.proofs.Common.{◌≡◌, ℕ, ◌*◌, ◌<◌, All, length}
 use Rattle.hll_kernels.specs.Packed.{lowered_by}
 use Rattle.hll_kernels.specs.Packed.{nibble_at}

@@ -1,3 +1,4 @@
+-- SPDX-License-Identifier: Apache-2.0
 use Rattle.std.proofs.Common.{w8}
 use Rattle.std.proofs.lemmas.Simd.{below_from_Fits}
 use Rattle.hll_kernels.proofs.FourBitLanes.{nibbles_in_turn}

@@ -1,3 +1,4 @@
+-- SPDX-License-Identifier: Apache-2.0
 use Rattle.std.proofs.Common.{◌≡◌, ◌+◌, ap, ◌∙◌, arith}
 use Rattle.hll_kernels.specs.Lanes.{raise_at}
 use Rattle.hll_kernels.proofs.Parts.{raise_more}

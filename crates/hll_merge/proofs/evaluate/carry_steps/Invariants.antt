@@ -1,3 +1,4 @@
+-- SPDX-License-Identifier: Apache-2.0
 use Rattle.std.proofs.Common.{map, take}
 use Rattle.hll_text.specs.Step.{step_of}
 use Rattle.hll_merge.specs.Evaluate.{RunsSteps}

@@ -1,3 +1,4 @@
+-- SPDX-License-Identifier: Apache-2.0
 use Rattle.std.proofs.Common.{◌≡◌, ◌⊎◌, List, map, inl, inr, subst}
 use Rattle.std.specs.Prelude.{◌↔◌, true}
 use Rattle.hll_sketch.specs.Agree.{Agree}

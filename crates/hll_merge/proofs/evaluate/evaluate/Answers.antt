@@ -1,3 +1,4 @@
+-- SPDX-License-Identifier: Apache-2.0
 use Rattle.std.proofs.Common.{◌≡◌, ◌⊎◌, List, [], ◌∙◌, map, inl, inr, refl, sym, subst}
 use Rattle.hll_text.specs.declared.fault.Fault.TheVariants.{Memory}
 use Rattle.hll_text.specs.Step.{step_of}

@@ -1,3 +1,4 @@
+-- SPDX-License-Identifier: Apache-2.0
 use Rattle.std.proofs.Common.{◌≡◌, ◌+◌, ◌++◌, ℕ, List, length}
 use Rattle.hll_text.specs.Text.{line_number, ended_lines, open_line}
 use Rattle.hll_merge.specs.Stack.{StackRuns}

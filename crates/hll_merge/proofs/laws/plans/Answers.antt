@@ -1,3 +1,4 @@
+-- SPDX-License-Identifier: Apache-2.0
 use Rattle.hll_merge.proofs.Outcomes.{plans_have_meaning, same_inputs_agree}
 use Rattle.hll_merge.proofs.Growing.{converges}
 use Rattle.hll_merge.proofs.Rearranging.{rearranged_plans_agree}

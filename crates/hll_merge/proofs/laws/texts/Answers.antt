@@ -1,3 +1,4 @@
+-- SPDX-License-Identifier: Apache-2.0
 use Rattle.hll_merge.proofs.Accepted.{one_plan, one_first_fault, accepted_is_faultless, first_faults_are_own}
 use Rattle.hll_merge.proofs.Headline.{accepted_plans_hold}
 use Rattle.hll_merge.proofs.laws.texts.Goals as goal

@@ -1,3 +1,4 @@
+-- SPDX-License-Identifier: Apache-2.0
 use Rattle.std.proofs.Common.{◌≡◌, ◌-◌, ◌^◌, ℕ, List, None, false}
 use Rattle.std.specs.Io.KnownBytes.{Consumes}
 use Rattle.hll_merge.specs.Feeding.{IsFedBy}

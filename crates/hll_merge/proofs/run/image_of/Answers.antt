@@ -1,3 +1,4 @@
+-- SPDX-License-Identifier: Apache-2.0
 use Rattle.std.proofs.Common.{refl}
 use Rattle.hll_text.specs.Text.{printed_line}
 use Rattle.hll_merge.proofs.FeedingLemmas.{finishes-stream, lines-counted, refuses_end-stream}

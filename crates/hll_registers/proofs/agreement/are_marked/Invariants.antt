@@ -1,3 +1,4 @@
+-- SPDX-License-Identifier: Apache-2.0
 use Rattle.std.proofs.Common.{All, Some}
 use Rattle.hll_kernels.specs.Packed.{nibble_at}
 use Rattle.hll_registers.specs.Payload.{Agrees}

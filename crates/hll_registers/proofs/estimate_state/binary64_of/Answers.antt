@@ -1,3 +1,4 @@
+-- SPDX-License-Identifier: Apache-2.0
 use Rattle.std.proofs.Common.{◌≡◌, ◌-◌, ◌*◌, ◌^◌, ◌<◌, ℕ, arith}
 use Rattle.std.specs.Int.Count.{count_leading_zeros}
 use Rattle.hll_registers.proofs.Binary64.{IsShifted, shifted_top, normal_word}

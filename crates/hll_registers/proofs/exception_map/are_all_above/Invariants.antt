@@ -1,3 +1,4 @@
+-- SPDX-License-Identifier: Apache-2.0
 use Rattle.std.proofs.Common.{◌+◌, ◌≤◌, All}
 use Rattle.hll_registers.proofs.exception_map.are_all_above.Given as goal
 

@@ -1,3 +1,4 @@
+-- SPDX-License-Identifier: Apache-2.0
 use Rattle.std.proofs.Common.{arith}
 use Rattle.hll_kernels.proofs.ZeroTests.{below_by_mask}
 use Rattle.hll_registers.proofs.exception_map.are_below.Goals as goal

@@ -1,3 +1,4 @@
+-- SPDX-License-Identifier: Apache-2.0
 use Rattle.std.proofs.Common.{◌≤◌, ◌^◌, ◌∙◌, arith, sym, ap, subst, length}
 use Rattle.std.specs.FinSet.{len, len-empty}
 use Rattle.std.specs.Ordering.{nat_cmp}

@@ -1,3 +1,4 @@
+-- SPDX-License-Identifier: Apache-2.0
 use Rattle.hll_registers.specs.FourBits.{unboxed}
 use Rattle.hll_registers.proofs.FourBitChanges.{stays_above}
 use Rattle.hll_registers.proofs.exception_map.exceptions_after.Goals as goal

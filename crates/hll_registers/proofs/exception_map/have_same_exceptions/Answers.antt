@@ -1,3 +1,4 @@
+-- SPDX-License-Identifier: Apache-2.0
 use Rattle.std.proofs.Common.{◌≡◌, ℕ, ◌∙◌, nat_eq, arith, sym, ap, subst, Some, None}
 use Rattle.std.specs.Prelude.{◌&&◌}
 use Rattle.std.specs.FinSet.{len, len-empty}

@@ -1,3 +1,4 @@
+-- SPDX-License-Identifier: Apache-2.0
 use Rattle.std.proofs.Common.{◌∙◌, ap, sym, subst}
 use Rattle.hll_registers.specs.FourBits.{exception_in, unboxed}
 use Rattle.hll_coupons.specs.AuxMap.{value_in, IsMap}

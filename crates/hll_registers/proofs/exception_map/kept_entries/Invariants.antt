@@ -1,3 +1,4 @@
+-- SPDX-License-Identifier: Apache-2.0
 use Rattle.hll_registers.proofs.FourBits.{KeptSoFar}
 use Rattle.hll_registers.proofs.exception_map.kept_entries.Given as goal
 

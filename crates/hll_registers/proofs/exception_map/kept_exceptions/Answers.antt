@@ -1,3 +1,4 @@
+-- SPDX-License-Identifier: Apache-2.0
 use Rattle.std.proofs.Common.{◌≡◌, ◌+◌, ◌≤◌, ℕ, Some, sym, subst, ap, ◌∙◌}
 use Rattle.std.specs.Prelude.{OnErr}
 use Rattle.hll_registers.specs.FourBits.{exception_in, unboxed}

@@ -1,3 +1,4 @@
+-- SPDX-License-Identifier: Apache-2.0
 use Rattle.std.proofs.Common.{◌∙◌, Some, eqb, cond, ap}
 use Rattle.hll_registers.proofs.FourBits.{value_in-empty}
 use Rattle.hll_registers.proofs.exception_map.one_entry.Goals as goal

@@ -1,3 +1,4 @@
+-- SPDX-License-Identifier: Apache-2.0
 use Rattle.std.proofs.Common.{◌≡◌, ◌<◌, ◌≤◌, ℕ, None, slice_index}
 use Rattle.hll_registers.specs.FourBits.{exception_in, exception_of, IsMapFor}
 use Rattle.hll_registers.proofs.exception_map.put_exceptions_of.Given as goal

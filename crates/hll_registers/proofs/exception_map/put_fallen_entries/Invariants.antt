@@ -1,3 +1,4 @@
+-- SPDX-License-Identifier: Apache-2.0
 use Rattle.std.proofs.Common.{◌<◌, All}
 use Rattle.hll_registers.proofs.FourBits.{FallenSoFar}
 use Rattle.hll_registers.proofs.exception_map.put_fallen_entries.Given as goal

@@ -1,3 +1,4 @@
+-- SPDX-License-Identifier: Apache-2.0
 use Rattle.hll_registers.proofs.RaisedEntries.{RaisedSoFar}
 use Rattle.hll_registers.proofs.exception_map.raise_by_entries.Given as goal
 

@@ -1,3 +1,4 @@
+-- SPDX-License-Identifier: Apache-2.0
 use Rattle.std.proofs.Common.{Bool, true, false, ◌≡◌, ◌+◌, ◌-◌, ◌*◌, ◌/◌, ◌<◌, ◌≤◌, ℕ, Option, None, inl, inr, length, slice_index, sym, ap, subst, ◌∙◌, arith}
 use Rattle.std.specs.Bool.{OnTrue}
 use Rattle.std.specs.Prelude.{max, unwrap_or}

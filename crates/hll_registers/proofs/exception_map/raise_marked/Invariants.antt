@@ -1,3 +1,4 @@
+-- SPDX-License-Identifier: Apache-2.0
 use Rattle.std.proofs.Common.{◌≡◌, ◌+◌, ◌<◌, ◌≤◌, ℕ, length, slice_index}
 use Rattle.std.specs.Prelude.{max, unwrap_or}
 use Rattle.hll_coupons.specs.AuxMap.{value_in}

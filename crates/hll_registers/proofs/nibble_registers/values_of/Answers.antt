@@ -1,3 +1,4 @@
+-- SPDX-License-Identifier: Apache-2.0
 use Rattle.std.proofs.Common.{◌≡◌, ◌%◌, ◌^◌, ◌∙◌, ℕ, List, length, replicate, take, arith, ap, sym}
 use Rattle.std.proofs.lemmas.List.{length-replicate, take_all, with_items_is}
 use Rattle.hll_base.specs.Join.{join}

@@ -1,3 +1,4 @@
+-- SPDX-License-Identifier: Apache-2.0
 use Rattle.std.proofs.Common.{◌≡◌, ◌^◌, ◌<◌, ◌≤◌, ◌∙◌, ℕ, zero, suc, List, length, get_or, replicate, arith, ap, sym}
 use Rattle.std.proofs.lemmas.List.{length-replicate, take_all}
 use Rattle.hll_base.specs.Join.{join}

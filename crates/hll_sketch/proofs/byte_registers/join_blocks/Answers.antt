@@ -1,3 +1,4 @@
+-- SPDX-License-Identifier: Apache-2.0
 use Rattle.std.proofs.Common.{◌∙◌, arith}
 use Rattle.hll_sketch.proofs.FoldedInPlace.{first_block, block_there, next_block, all_blocks}
 use Rattle.hll_sketch.proofs.byte_registers.join_blocks.Goals as goal

@@ -1,3 +1,4 @@
+-- SPDX-License-Identifier: Apache-2.0
 use Rattle.hll_sketch.proofs.JoinedBytes.{joined_coupons}
 use Rattle.hll_sketch.proofs.byte_registers.join_image.Goals as goal
 

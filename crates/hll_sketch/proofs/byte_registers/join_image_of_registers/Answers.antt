@@ -1,3 +1,4 @@
+-- SPDX-License-Identifier: Apache-2.0
 use Rattle.hll_sketch.proofs.JoinedBytes.{joined_registers}
 use Rattle.hll_sketch.proofs.byte_registers.join_image_of_registers.Goals as goal
 

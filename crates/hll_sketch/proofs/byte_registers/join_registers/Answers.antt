@@ -1,3 +1,4 @@
+-- SPDX-License-Identifier: Apache-2.0
 use Rattle.std.proofs.Common.{◌∙◌, sym, arith}
 use Rattle.hll_registers.specs.Store.{Stored}
 use Rattle.hll_sketch.proofs.JoinedBytes.{joined_zeros, joined_fewer, joined_folds}

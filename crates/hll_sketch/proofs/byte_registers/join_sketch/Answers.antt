@@ -1,3 +1,4 @@
+-- SPDX-License-Identifier: Apache-2.0
 use Rattle.std.proofs.Common.{◌≡◌, nat_eq, sym, ap, ◌∙◌}
 use Rattle.std.specs.FinSet.{len}
 use Rattle.hll_base.specs.Join.{join}

@@ -1,3 +1,4 @@
+-- SPDX-License-Identifier: Apache-2.0
 use Rattle.std.proofs.Common.{List, ℕ, sym, ap, subst}
 use Rattle.hll_coupons.specs.Coupons.{words, AreCoupons}
 use Rattle.hll_sketch.specs.CouponImages.{AscendAsWritten}

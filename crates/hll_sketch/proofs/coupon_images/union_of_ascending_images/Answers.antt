@@ -1,3 +1,4 @@
+-- SPDX-License-Identifier: Apache-2.0
 use Rattle.std.proofs.Common.{◌≡◌, ℕ, ◌/◌, List, length, Result, Ok, Err, sym, ap, subst, ◌∙◌}
 use Rattle.std.specs.FinSet.{union}
 use Rattle.std.specs.List.Sorted.{IsStrictlyIncreasing}

@@ -1,3 +1,4 @@
+-- SPDX-License-Identifier: Apache-2.0
 use Rattle.std.proofs.Common.{ap, ◌∙◌}
 use Rattle.hll_coupons.specs.Fold.{pairs}
 use Rattle.hll_registers.specs.State.{cleared_state}

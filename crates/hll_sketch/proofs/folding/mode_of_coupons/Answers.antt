@@ -1,3 +1,4 @@
+-- SPDX-License-Identifier: Apache-2.0
 use Rattle.std.proofs.Common.{◌≡◌, ◌≤◌, ◌<◌, ◌^◌, Some, length, sym, subst, ◌∙◌, arith, inl, inr}
 use Rattle.hll_coupons.specs.Table.{coupons_in}
 use Rattle.hll_sketch.specs.Stage as stages

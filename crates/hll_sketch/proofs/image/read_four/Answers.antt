@@ -1,3 +1,4 @@
+-- SPDX-License-Identifier: Apache-2.0
 use Rattle.std.proofs.Common.{List, ℕ, drop, cond, sym, ap, subst, ◌∙◌, inl, inr}
 use Rattle.std.proofs.lemmas.List.{take_rest}
 use Rattle.hll_base.proofs.Errors.{IfErr-passed}

@@ -1,3 +1,4 @@
+-- SPDX-License-Identifier: Apache-2.0
 use Rattle.std.proofs.lemmas.Result.{IfOk-weaker, IfErr-weaker}
 use Rattle.hll_sketch.specs.ByteRegisters.{AreRegistersOf}
 use Rattle.hll_sketch.specs.Refusal.{IsRefusal}

@@ -1,3 +1,4 @@
+-- SPDX-License-Identifier: Apache-2.0
 use Rattle.std.proofs.Common.{replicate, ap, ◌∙◌, ◌^◌}
 use Rattle.hll_coupons.specs.Coupons.{words}
 use Rattle.hll_base.specs.Join.{join}

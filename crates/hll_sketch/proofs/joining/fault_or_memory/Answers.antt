@@ -1,3 +1,4 @@
+-- SPDX-License-Identifier: Apache-2.0
 use Rattle.std.proofs.Common.{refl, sym, subst, ◌∙◌, inl}
 use Rattle.hll_sketch.specs.Refusal.{IsRefusal}
 use Rattle.hll_sketch.proofs.SizedImages.{sized_if_read}

@@ -1,3 +1,4 @@
+-- SPDX-License-Identifier: Apache-2.0
 use Rattle.hll_sketch.proofs.Adding.{add_again, add_each}
 use Rattle.hll_sketch.proofs.Steps.{one_step_suffices}
 use Rattle.hll_sketch.proofs.SameLemmas.{same_is_equal}

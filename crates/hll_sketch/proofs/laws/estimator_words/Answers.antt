@@ -1,3 +1,4 @@
+-- SPDX-License-Identifier: Apache-2.0
 use Rattle.hll_sketch.proofs.SetWords.{words_keep, words_twice, same_registers_same_bytes}
 use Rattle.hll_sketch.proofs.PlainUnions.{union_of_plain, filled_is_plain}
 use Rattle.hll_sketch.proofs.laws.estimator_words.Goals as goal

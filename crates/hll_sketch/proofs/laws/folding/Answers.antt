@@ -1,3 +1,4 @@
+-- SPDX-License-Identifier: Apache-2.0
 use Rattle.hll_sketch.proofs.Folds.{folded_is_legal, folded_is_grown, folded_has_same_folds}
 use Rattle.hll_sketch.proofs.laws.folding.Goals as goal
 

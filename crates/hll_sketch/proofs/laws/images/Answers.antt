@@ -1,3 +1,4 @@
+-- SPDX-License-Identifier: Apache-2.0
 use Rattle.hll_sketch.proofs.Images.{one_image}
 use Rattle.hll_sketch.proofs.Faults.{fault_excludes_header, fault_excludes_image}
 use Rattle.hll_sketch.proofs.FirstFaults.{first_fault_stands, faultless_is_image}

@@ -1,3 +1,4 @@
+-- SPDX-License-Identifier: Apache-2.0
 use Rattle.hll_sketch.proofs.JoinedUnions.{join_is_union}
 use Rattle.hll_sketch.proofs.laws.joining.Goals as goal
 

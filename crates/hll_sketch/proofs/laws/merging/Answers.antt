@@ -1,3 +1,4 @@
+-- SPDX-License-Identifier: Apache-2.0
 use Rattle.hll_sketch.proofs.Adding.{merge_of_empty, union_lg_k}
 use Rattle.hll_sketch.proofs.Joined.{merge_of_grown}
 use Rattle.hll_sketch.proofs.Regrouping.{union_of_same, union_of_union, joins_of_same, join_of_join}

@@ -1,3 +1,4 @@
+-- SPDX-License-Identifier: Apache-2.0
 use Rattle.hll_sketch.proofs.ReadBack.{written_is_read_back}
 use Rattle.hll_sketch.proofs.Written.{written_is_image, same_bytes, list_is_read_back}
 use Rattle.hll_sketch.proofs.laws.writing.Goals as goal

@@ -1,3 +1,4 @@
+-- SPDX-License-Identifier: Apache-2.0
 use Rattle.std.proofs.Common.{◌≡◌, ◌^◌, ◌≤◌, ◌<◌, ℕ, List, None, length, sym, ap, subst, ◌∙◌, arith}
 use Rattle.std.specs.FinSet.{len, union}
 use Rattle.hll_coupons.specs.Pair.{Pairs}

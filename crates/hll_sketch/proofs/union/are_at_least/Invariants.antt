@@ -1,3 +1,4 @@
+-- SPDX-License-Identifier: Apache-2.0
 use Rattle.std.proofs.Common.{◌≤◌, All, take}
 use Rattle.hll_sketch.specs.Layout.{SketchLayout}
 use Rattle.hll_sketch.proofs.union.are_at_least.Given as goal

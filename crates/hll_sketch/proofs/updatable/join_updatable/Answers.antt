@@ -1,3 +1,4 @@
+-- SPDX-License-Identifier: Apache-2.0
 use Rattle.hll_sketch.proofs.JoinedBytes.{joined_coupons}
 use Rattle.hll_sketch.proofs.updatable.join_updatable.Goals as goal
 

@@ -1,3 +1,4 @@
+-- SPDX-License-Identifier: Apache-2.0
 use Rattle.std.proofs.Common.{◌∙◌, arith}
 use Rattle.hll_sketch.proofs.Gathering.{kept, put_word}
 use Rattle.hll_sketch.proofs.updatable.put.Goals as goal

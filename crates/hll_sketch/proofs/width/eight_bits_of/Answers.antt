@@ -1,3 +1,4 @@
+-- SPDX-License-Identifier: Apache-2.0
 use Rattle.std.proofs.Common.{◌≡◌, ◌∙◌, ap, ℕ, List}
 use Rattle.hll_coupons.specs.Fold.{fold_to, pairs}
 use Rattle.hll_coupons.proofs.Registers.{fold_to-pairs}

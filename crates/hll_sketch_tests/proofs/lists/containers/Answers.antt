@@ -1,3 +1,4 @@
+-- SPDX-License-Identifier: Apache-2.0
 use Rattle.std.proofs.Common.{rules, ◌≡◌, [], ◌∷◌, sym, subst, arith}
 use Rattle.hll_coupons.specs.Table.{IsTable}
 use Rattle.hll_coupons.proofs.TableLemmas.{IsTable-empty}

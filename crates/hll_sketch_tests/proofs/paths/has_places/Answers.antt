@@ -1,3 +1,4 @@
+-- SPDX-License-Identifier: Apache-2.0
 use Rattle.hll_sketch_tests.proofs.paths.has_places.Goals as goal
 
 pub next-requires : goal.next-requires

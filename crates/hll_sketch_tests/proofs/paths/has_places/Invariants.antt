@@ -1,3 +1,4 @@
+-- SPDX-License-Identifier: Apache-2.0
 use Rattle.hll_sketch_tests.proofs.paths.has_places.Given as goal
 
 abbrev pub invariant-loop-place : goal.invariant-loop-place

@@ -1,3 +1,4 @@
+-- SPDX-License-Identifier: Apache-2.0
 use Rattle.std.proofs.Common.{◌==◌, ◌+◌, ◌*◌, ◌/◌, ◌≤◌, ◌≡◌, length, sym, subst, arith, ◌∙◌, ap}
 use Rattle.std.specs.List.{position}
 use Rattle.hll_text.proofs.PartLemmas.{take-rest}

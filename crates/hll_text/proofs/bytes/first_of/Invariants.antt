@@ -1,3 +1,4 @@
+-- SPDX-License-Identifier: Apache-2.0
 use Rattle.std.proofs.Common.{◌*◌, ◌==◌}
 use Rattle.hll_text.proofs.ByteLemmas.{NoneBefore}
 use Rattle.hll_text.proofs.bytes.first_of.Given as goal

@@ -1,3 +1,4 @@
+-- SPDX-License-Identifier: Apache-2.0
 use Rattle.std.proofs.Common.{arith, ◌+◌, ◌∙◌, ap, sym, ◌∷◌, List, ℕ, drop, length, length-drop}
 use Rattle.hll_text.specs.Text.{ended_lines, open_line}
 use Rattle.hll_text.proofs.PartLemmas.{ended-some, ended-none, take-rest, position-lt}

@@ -1,3 +1,4 @@
+-- SPDX-License-Identifier: Apache-2.0
 use Rattle.std.proofs.Common.{[], ◌∷◌}
 use Rattle.hll_text.specs.Refusal.{words_of}
 use Rattle.hll_text.proofs.SendLemmas.{Sends-failed, Sends-second}

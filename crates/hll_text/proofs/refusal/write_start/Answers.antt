@@ -1,3 +1,4 @@
+-- SPDX-License-Identifier: Apache-2.0
 use Rattle.std.proofs.Common.{◌++◌, codes}
 use Rattle.std.specs.Fmt.{decimal}
 use Rattle.hll_text.proofs.SendLemmas.{Sends-failed, Sends-second}

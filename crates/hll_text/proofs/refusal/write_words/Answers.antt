@@ -1,3 +1,4 @@
+-- SPDX-License-Identifier: Apache-2.0
 use Rattle.std.proofs.Common.{ℕ, List, codes, subst, ◌∙◌}
 use Rattle.hll_base.specs.Reason.{word_of}
 use Rattle.hll_text.specs.Refusal.{Sends}

@@ -1,3 +1,4 @@
+-- SPDX-License-Identifier: Apache-2.0
 use Rattle.std.proofs.Common.{arith}
 use Rattle.hll_text.proofs.LaneLemmas.{first_other-le, digits_before, first_other_is}
 use Rattle.hll_text.proofs.words.digits_of_eight.Goals as goal

@@ -1,3 +1,4 @@
+-- SPDX-License-Identifier: Apache-2.0
 use Rattle.hll_text.proofs.LaneLemmas.{other_mask}
 use Rattle.hll_text.proofs.words.other_marks.Goals as goal
 

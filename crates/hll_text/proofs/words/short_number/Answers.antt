@@ -1,3 +1,4 @@
+-- SPDX-License-Identifier: Apache-2.0
 use Rattle.std.proofs.Common.{arith, ◌<◌}
 use Rattle.hll_text.proofs.NumberLemmas.{below_seven}
 use Rattle.hll_text.proofs.words.short_number.Goals as goal

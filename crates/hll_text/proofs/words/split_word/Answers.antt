@@ -1,3 +1,4 @@
+-- SPDX-License-Identifier: Apache-2.0
 use Rattle.std.proofs.Common.{◌+◌, ◌∙◌, ap, sym, ◌∷◌, take}
 use Rattle.hll_text.specs.Text.{words}
 use Rattle.hll_text.proofs.PartLemmas.{words-some, words-none, take-rest}

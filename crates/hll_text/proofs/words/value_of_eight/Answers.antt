@@ -1,3 +1,4 @@
+-- SPDX-License-Identifier: Apache-2.0
 use Rattle.hll_text.proofs.LaneLemmas.{Each2-fits, Steps-fit, fold-products}
 use Rattle.hll_text.proofs.words.value_of_eight.Goals as goal
 

@@ -1,3 +1,4 @@
+-- SPDX-License-Identifier: Apache-2.0
 use Rattle.std.proofs.Common.{◌+◌, ℕ, List, length, sym, ap, refl, arith, length-drop}
 use Rattle.hll_text.proofs.PartLemmas.{take-rest, position-lt}
 use Rattle.hll_words.proofs.filter.split_line.Goals as goal

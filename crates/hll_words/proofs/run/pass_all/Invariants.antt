@@ -1,3 +1,4 @@
+-- SPDX-License-Identifier: Apache-2.0
 use Rattle.std.proofs.Common.{◌≡◌, ◌-◌, ◌^◌, ℕ, List, false}
 use Rattle.std.specs.Io.KnownBytes.{Consumes}
 use Rattle.hll_text.specs.Text.{ended_lines, open_line}

@@ -1,3 +1,4 @@
+-- SPDX-License-Identifier: Apache-2.0
 use Rattle.std.proofs.Common.{◌≡◌, sym, ◌∙◌}
 use Rattle.hll_words.proofs.RunLemmas.{finished}
 use Rattle.hll_words.proofs.run.run.Goals as goal

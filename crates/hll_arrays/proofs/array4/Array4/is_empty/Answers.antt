@@ -1,3 +1,4 @@
+-- SPDX-License-Identifier: Apache-2.0
 use Rattle.std.proofs.Common.{◌∙◌, ◌^◌, ap, sym, nat_eq, eqb}
 use Rattle.hll_registers.proofs.FourBits.{all_by_count}
 use Rattle.hll_arrays.proofs.array4.Array4.is_empty.Goals as goal

@@ -1,3 +1,4 @@
+-- SPDX-License-Identifier: Apache-2.0
 use Rattle.std.proofs.Common.{◌≡◌, ◌+◌, ◌∙◌, ℕ, List, ◌∷◌, ◌++◌, sym, ap, subst}
 use Rattle.hll_coupons.specs.Coupons.{coupon_bytes, mode_byte, WritesAscending}
 use Rattle.hll_coupons.specs.Pair.{set_of}

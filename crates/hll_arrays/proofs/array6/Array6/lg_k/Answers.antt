@@ -1,3 +1,4 @@
+-- SPDX-License-Identifier: Apache-2.0
 use Rattle.std.proofs.Common.{subst, arith}
 use Rattle.hll_registers.specs.Store.{IsStored}
 use Rattle.hll_kernels.proofs.Grouping.{AreRegisters-registers_in}

@@ -1,3 +1,4 @@
+-- SPDX-License-Identifier: Apache-2.0
 use Rattle.std.proofs.Common.{◌≡◌, ℕ, ◌*◌, List, length, sym, ap, ◌∙◌, arith, rules}
 use Rattle.hll_kernels.proofs.Grouping.{groups-pow, length-registers_in}
 use Rattle.hll_kernels.specs.Packed.{zeros}

@@ -1,3 +1,4 @@
+-- SPDX-License-Identifier: Apache-2.0
 use Rattle.std.proofs.Common.{List, ℕ, length, ap, arith}
 use Rattle.hll_kernels.proofs.Grouping.{few-AreGroups}
 use Rattle.hll_arrays.proofs.array6.Array6Registers.weight_sums.Goals as goal

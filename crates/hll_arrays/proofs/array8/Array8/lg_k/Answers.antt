@@ -1,3 +1,4 @@
+-- SPDX-License-Identifier: Apache-2.0
 use Rattle.std.proofs.Common.{subst}
 use Rattle.hll_registers.specs.Store.{IsStored}
 use Rattle.hll_arrays.proofs.array8.Array8.lg_k.Goals as goal

@@ -1,3 +1,4 @@
+-- SPDX-License-Identifier: Apache-2.0
 use Rattle.std.proofs.Common.{◌≤◌, ◌^◌, length, ap, arith}
 use Rattle.std.proofs.Math.Nat.{pow-le-pow_right}
 use Rattle.hll_arrays.proofs.array8.Array8Registers.weight_sums.Goals as goal

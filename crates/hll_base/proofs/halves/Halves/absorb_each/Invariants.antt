@@ -1,3 +1,4 @@
+-- SPDX-License-Identifier: Apache-2.0
 use Rattle.std.proofs.Common.{◌≡◌, take, fold}
 use Rattle.hll_base.specs.Hash.{after_block}
 use Rattle.hll_base.proofs.halves.Halves.absorb_each.Given as goal

@@ -1,3 +1,4 @@
+-- SPDX-License-Identifier: Apache-2.0
 use Rattle.std.proofs.Common.{◌≡◌, List, ℕ, ◌++◌, length, take, append_assoc, ap, refl, sym, ◌∙◌, arith}
 use Rattle.std.proofs.lemmas.List.{length-append, length-take, append-nil, take-append-drop}
 use Rattle.std.proofs.Math.ListN.{drop_of_length-le}

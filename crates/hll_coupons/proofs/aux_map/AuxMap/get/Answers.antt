@@ -1,3 +1,4 @@
+-- SPDX-License-Identifier: Apache-2.0
 use Rattle.std.proofs.Common.{arith, ◌≡◌, ◌≤◌, ◌∙◌, refl, sym, ap, subst, get_or}
 use Rattle.std.specs.Prelude.{IfSome}
 use Rattle.hll_coupons.specs.AuxMap.{value_in}

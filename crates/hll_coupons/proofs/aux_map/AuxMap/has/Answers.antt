@@ -1,3 +1,4 @@
+-- SPDX-License-Identifier: Apache-2.0
 use Rattle.std.proofs.Common.{arith, ◌≡◌, ◌∙◌, nat_eq, sym, ap, get_or}
 use Rattle.std.specs.FinSet.{contains}
 use Rattle.hll_coupons.specs.AuxMap.{ExceptionMap}

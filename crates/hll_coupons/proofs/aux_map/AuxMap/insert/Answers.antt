@@ -1,3 +1,4 @@
+-- SPDX-License-Identifier: Apache-2.0
 use Rattle.std.proofs.Common.{arith, ℕ, ◌≡◌, ◌+◌, ◌^◌, ◌<◌, ◌∙◌, Some, eqb, cond, sym, ap, subst, length}
 use Rattle.std.specs.FinSet.{insert}
 use Rattle.hll_coupons.specs.AuxMap.{ExceptionMap, IsMap, Inserts, table_size, value_in}

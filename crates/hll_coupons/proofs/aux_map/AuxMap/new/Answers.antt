@@ -1,3 +1,4 @@
+-- SPDX-License-Identifier: Apache-2.0
 use Rattle.std.proofs.Common.{◌∙◌, sym, ap, subst}
 use Rattle.hll_coupons.specs.AuxMap.{IsMap}
 use Rattle.hll_coupons.specs.Table.{empty_table}

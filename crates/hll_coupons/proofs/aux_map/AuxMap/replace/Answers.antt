@@ -1,3 +1,4 @@
+-- SPDX-License-Identifier: Apache-2.0
 use Rattle.std.proofs.Common.{arith, ℕ, ◌≡◌, ◌≢◌, ◌^◌, ◌<◌, ◌≤◌, ◌∙◌, None, Some, eqb, cond, refl, sym, ap, subst, length, get_or, set}
 use Rattle.hll_coupons.specs.AuxMap.{ExceptionMap, IsMap, value_in, with_value}
 use Rattle.hll_coupons.specs.Pair.{slot_of, pair}

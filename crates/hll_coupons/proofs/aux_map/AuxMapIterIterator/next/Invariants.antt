@@ -1,3 +1,4 @@
+-- SPDX-License-Identifier: Apache-2.0
 use Rattle.std.proofs.Common.{◌≡◌, ◌-◌, length, drop}
 use Rattle.hll_coupons.specs.Table.{coupons_in}
 use Rattle.hll_coupons.proofs.aux_map.AuxMapIterIterator.next.Given as goal

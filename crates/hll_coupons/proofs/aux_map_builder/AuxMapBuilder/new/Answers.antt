@@ -1,3 +1,4 @@
+-- SPDX-License-Identifier: Apache-2.0
 use Rattle.hll_coupons.proofs.aux_map_builder.AuxMapBuilder.new.Goals as goal
 
 pub invariant_of-result : goal.invariant_of-result

@@ -1,3 +1,4 @@
+-- SPDX-License-Identifier: Apache-2.0
 use Rattle.hll_coupons.specs.Table.{coupons_in}
 use Rattle.hll_coupons.proofs.Ascending.{ascending_from_sort}
 use Rattle.hll_coupons.proofs.container.Container.ascending.Goals as goal

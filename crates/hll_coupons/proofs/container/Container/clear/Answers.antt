@@ -1,3 +1,4 @@
+-- SPDX-License-Identifier: Apache-2.0
 use Rattle.std.proofs.Common.{◌≡◌, ◌∙◌, ◌^◌, ℕ, length, ap, subst, sym}
 use Rattle.std.specs.Prelude.{replicate}
 use Rattle.hll_coupons.specs.Storage.{places_in}

@@ -1,3 +1,4 @@
+-- SPDX-License-Identifier: Apache-2.0
 use Rattle.std.proofs.Common.{arith, ◌≡◌, ◌<◌, ◌∙◌, sym, ap, not, nat_eq}
 use Rattle.std.specs.List.{list_any}
 use Rattle.std.specs.FinSet.{contains}

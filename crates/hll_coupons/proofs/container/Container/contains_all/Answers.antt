@@ -1,3 +1,4 @@
+-- SPDX-License-Identifier: Apache-2.0
 use Rattle.std.proofs.Common.{◌∙◌, sym}
 use Rattle.hll_coupons.specs.Table.{coupons_of}
 use Rattle.hll_coupons.proofs.Yielded.{given}

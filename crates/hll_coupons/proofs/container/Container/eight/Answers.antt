@@ -1,3 +1,4 @@
+-- SPDX-License-Identifier: Apache-2.0
 use Rattle.std.proofs.Common.{arith, ap, sym, subst, ◌∙◌, length}
 use Rattle.hll_coupons.specs.Storage.{places_in}
 use Rattle.hll_coupons.specs.Table.{coupons_in, IsTable}

@@ -1,3 +1,4 @@
+-- SPDX-License-Identifier: Apache-2.0
 use Rattle.std.proofs.Common.{arith, ◌≤◌, ◌^◌, subst}
 use Rattle.hll_coupons.proofs.TableLemmas.{length-coupons_in-table}
 use Rattle.hll_coupons.proofs.container.Container.len.Goals as goal

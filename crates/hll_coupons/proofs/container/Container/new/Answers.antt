@@ -1,3 +1,4 @@
+-- SPDX-License-Identifier: Apache-2.0
 use Rattle.std.proofs.Common.{◌∙◌, ap, sym, subst, length, ◌^◌}
 use Rattle.hll_coupons.specs.Table.{coupons_in, IsTable}
 use Rattle.hll_coupons.proofs.Places.{coupons_in-replicate}

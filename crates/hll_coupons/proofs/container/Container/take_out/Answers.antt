@@ -1,3 +1,4 @@
+-- SPDX-License-Identifier: Apache-2.0
 use Rattle.std.proofs.Common.{arith, ◌<◌, ◌^◌, sym, subst}
 use Rattle.hll_coupons.specs.Table.{Table}
 use Rattle.hll_coupons.proofs.TableLemmas.{small_places}

@@ -1,3 +1,4 @@
+-- SPDX-License-Identifier: Apache-2.0
 use Rattle.std.proofs.Common.{ℕ, List, ◌≡◌, ◌*◌, ap, subst, length, ◌∙◌}
 use Rattle.hll_coupons.specs.Cycle.{IsNextRound}
 use Rattle.hll_coupons.proofs.Cycles.{ends_for}

@@ -1,3 +1,4 @@
+-- SPDX-License-Identifier: Apache-2.0
 use Rattle.std.proofs.Common.{arith, ◌≡◌, ℕ, ◌*◌, ◌^◌, ◌≤◌, ◌∙◌, List, length, sym, ap, subst}
 use Rattle.std.proofs.Math.Pow.{pow_mono}
 use Rattle.std.specs.Vec.{with_items}

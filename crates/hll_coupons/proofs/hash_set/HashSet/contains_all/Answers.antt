@@ -1,3 +1,4 @@
+-- SPDX-License-Identifier: Apache-2.0
 use Rattle.std.proofs.Common.{◌∙◌, sym, ap}
 use Rattle.hll_coupons.specs.Table.{Table, coupons_in, coupons_of}
 use Rattle.hll_coupons.proofs.Yielded.{given}

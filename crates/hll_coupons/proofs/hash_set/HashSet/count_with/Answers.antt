@@ -1,3 +1,4 @@
+-- SPDX-License-Identifier: Apache-2.0
 use Rattle.std.proofs.Common.{◌≡◌, ◌+◌, ◌≤◌, ◌^◌, ◌∷◌, not, length, sym, ap, subst, ◌∙◌, arith}
 use Rattle.std.specs.FinSet.{contains, len, union}
 use Rattle.std.proofs.Math.Pow.{pow_mono}

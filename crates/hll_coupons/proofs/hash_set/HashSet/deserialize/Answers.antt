@@ -1,3 +1,4 @@
+-- SPDX-License-Identifier: Apache-2.0
 use Rattle.std.proofs.Common.{arith, ◌≡◌, ◌≢◌, ◌+◌, ◌*◌, ◌^◌, ◌<◌, ◌≤◌, ◌∙◌, ◌⊎◌, inl, inr, cond, length, sym, ap, subst}
 use Rattle.std.specs.FinSet.{len}
 use Rattle.std.proofs.lemmas.List.{length-drop}

@@ -1,3 +1,4 @@
+-- SPDX-License-Identifier: Apache-2.0
 use Rattle.std.proofs.Common.{◌≡◌, ◌∙◌, ap, map, length, subst, sym}
 use Rattle.std.specs.FinSet.{len}
 use Rattle.std.proofs.lemmas.List.{map-id}

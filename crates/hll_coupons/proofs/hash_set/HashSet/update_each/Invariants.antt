@@ -1,3 +1,4 @@
+-- SPDX-License-Identifier: Apache-2.0
 use Rattle.std.proofs.Common.{◌≡◌}
 use Rattle.std.specs.FinSet.{union}
 use Rattle.hll_coupons.specs.HashSet.{IsHashSet}

@@ -1,3 +1,4 @@
+-- SPDX-License-Identifier: Apache-2.0
 use Rattle.std.proofs.Common.{arith, ℕ, ◌≡◌, ◌≢◌, ◌≤◌, ◌<◌, ◌+◌, ◌^◌, ◌∙◌, true, false, not, sym, ap, subst}
 use Rattle.std.specs.FinSet.{contains, insert, len}
 use Rattle.std.proofs.lemmas.Bool.{true≢false}

@@ -1,3 +1,4 @@
+-- SPDX-License-Identifier: Apache-2.0
 use Rattle.std.proofs.Common.{◌≡◌, ◌≢◌, ◌*◌, ◌^◌, ◌<◌, ◌≤◌, inr, length, ap, sym, subst, ◌∙◌, arith, IfErr, Result, Ok, Err}
 use Rattle.hll_base.specs.declared.error.Reason.{Reason}
 use Rattle.std.proofs.lemmas.Bool.{true≢false}

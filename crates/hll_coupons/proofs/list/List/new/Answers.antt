@@ -1,3 +1,4 @@
+-- SPDX-License-Identifier: Apache-2.0
 use Rattle.std.proofs.Common.{subst, sym}
 use Rattle.hll_coupons.specs.Table.{IsFilledFromFront}
 use Rattle.hll_coupons.proofs.TableLemmas.{IsFilledFromFront-empty}

@@ -1,3 +1,4 @@
+-- SPDX-License-Identifier: Apache-2.0
 use Rattle.std.proofs.Common.{arith, ℕ, ◌≡◌, ◌<◌, ◌≤◌, ◌^◌, false, sym, subst, length}
 use Rattle.std.specs.FinSet.{contains, insert, len}
 use Rattle.hll_coupons.specs.Table.{Table, coupons_in, coupons_of}

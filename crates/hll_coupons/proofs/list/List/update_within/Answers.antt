@@ -1,3 +1,4 @@
+-- SPDX-License-Identifier: Apache-2.0
 use Rattle.std.proofs.Common.{arith, ℕ, ◌≡◌, ◌+◌, ◌∙◌, Bool, not, sym, ap, length}
 use mir.Val.{bool_byte}
 use Rattle.std.specs.FinSet.{contains, insert, len}

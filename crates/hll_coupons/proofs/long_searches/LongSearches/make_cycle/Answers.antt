@@ -1,3 +1,4 @@
+-- SPDX-License-Identifier: Apache-2.0
 use Rattle.hll_coupons.specs.Cycle.{IsFor}
 use Rattle.hll_coupons.proofs.Fillings.{one_more}
 use Rattle.std.proofs.Common.{All, sym, subst}

@@ -1,3 +1,4 @@
+-- SPDX-License-Identifier: Apache-2.0
 use Rattle.std.proofs.Common.{length, sym, ap, ◌∙◌}
 use Rattle.hll_coupons.proofs.Merging.{length-words}
 use Rattle.hll_coupons.proofs.raw_words.RawWords.len.Goals as goal

@@ -1,3 +1,4 @@
+-- SPDX-License-Identifier: Apache-2.0
 use Rattle.std.proofs.Common.{◌≡◌, ℕ, ◌-◌, true, false, nat_eq, List, [], ◌∷◌, drop, get_or, Option, Some, None, sym, ap, subst, ◌∙◌}
 use Rattle.std.specs.Option.{IfSome, IfNone, option_eq}
 use Rattle.std.proofs.lemmas.Bool.{eqb-true, eq-eqb, true≢false}

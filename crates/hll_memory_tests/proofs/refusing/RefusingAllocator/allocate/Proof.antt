@@ -1,3 +1,4 @@
+-- SPDX-License-Identifier: Apache-2.0
 -- Where the tally admits the request, the inner allocator answers; elsewhere it is refused. Assumes `Logic`.
 use Rattle.std.proofs.Common.{◌≡◌, ℕ, ◌+◌, Bool, true, false, List, [], ◌∷◌, Ok, Err, refl, ap, w64}
 use Rattle.std.proofs.raw_atomic.Walks.{proved, leaves}

@@ -1,3 +1,4 @@
+-- SPDX-License-Identifier: Apache-2.0
 -- The block goes back to the inner allocator, which it came from. Assumes `Logic`.
 use Rattle.std.proofs.Common.{◌≡◌, ℕ, ◌+◌, List, [], ◌∷◌, refl, w64}
 use Rattle.std.proofs.raw_atomic.Walks.{proved, leaves}

@@ -1,3 +1,4 @@
+-- SPDX-License-Identifier: Apache-2.0
 use Rattle.std.proofs.Common.{◌≡◌, ◌+◌, [], length, false, nat_eq, sym, ap, subst, ◌∙◌, arith}
 use Rattle.hll_text.specs.Text.{line_of_rest, line_number, reading}
 use Rattle.hll_merge.specs.Feeding.{Feed}

@@ -1,3 +1,4 @@
+-- SPDX-License-Identifier: Apache-2.0
 use Rattle.std.proofs.Common.{◌<◌, ◌^◌, arith, ◌++◌, Some, sym, ap, subst, refl, ◌∙◌}
 use Rattle.hll_merge.specs.Feeding.{Feed, TakesPiece, RefusesPiece, IsFedBy}
 use Rattle.hll_text.specs.Cuts.{IsOpen}

@@ -1,3 +1,4 @@
+-- SPDX-License-Identifier: Apache-2.0
 use Rattle.std.proofs.Common.{◌≡◌, ap, Err}
 use Rattle.std.proofs.lemmas.Option.{IfSome_then}
 use Rattle.hll_merge.proofs.FeedingLemmas.{finishes-stream, refuses_end-stream}

@@ -1,3 +1,4 @@
+-- SPDX-License-Identifier: Apache-2.0
 use Rattle.std.proofs.Common.{◌≡◌, ◌≤◌, ℕ, suc, ◌-◌, List, refl, sym, subst, length, arith}
 use Rattle.std.specs.Option.{IsSome}
 use Rattle.std.specs.Vec.{vec_len}

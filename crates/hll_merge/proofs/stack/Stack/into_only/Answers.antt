@@ -1,3 +1,4 @@
+-- SPDX-License-Identifier: Apache-2.0
 use Rattle.std.proofs.Common.{◌≡◌, ◌∷◌, [], List, length, subst, arith}
 use Rattle.std.specs.Prelude.{IfSome}
 use Rattle.hll_sketch.specs.Layout.{SketchLayout}

@@ -1,3 +1,4 @@
+-- SPDX-License-Identifier: Apache-2.0
 use Rattle.std.proofs.Common.{◌≡◌, ◌+◌, ◌∷◌, [], ◌++◌, List, take, length, ap, ◌∙◌, arith}
 use Rattle.std.specs.List.{swap}
 use Rattle.hll_sketch.specs.Layout.{SketchLayout}

@@ -1,3 +1,4 @@
+-- SPDX-License-Identifier: Apache-2.0
 use Rattle.std.proofs.Common.{◌≡◌, ℕ, ◌+◌, ◌*◌, ◌-◌, ◌/◌, ◌^◌, ◌≤◌, List, length, take, drop, sym, ap, ◌∙◌, arith, rules}
 use Rattle.hll_base.specs.Join.{join}
 use Rattle.hll_kernels.specs.Groups.{registers_in}

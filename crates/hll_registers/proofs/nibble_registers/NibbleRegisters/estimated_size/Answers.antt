@@ -1,3 +1,4 @@
+-- SPDX-License-Identifier: Apache-2.0
 use Rattle.std.proofs.Common.{◌≡◌, ◌≤◌, ◌+◌, ◌^◌, ◌∙◌, length, arith, ap}
 use Rattle.std.proofs.Math.Pow.{pow_mono}
 use Rattle.hll_base.specs.declared.hll_type.HllType.TheVariants.{Hll4}

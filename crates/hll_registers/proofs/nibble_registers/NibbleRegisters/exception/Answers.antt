@@ -1,3 +1,4 @@
+-- SPDX-License-Identifier: Apache-2.0
 use Rattle.std.proofs.Common.{ℕ, ◌<◌, ◌^◌, ◌∙◌, sym, ap, subst, slice_index}
 use Rattle.hll_registers.specs.FourBits.{NibbleRegisters, exception_of, unpacked, unboxed}
 use Rattle.hll_kernels.specs.Packed.{minimum}

@@ -1,3 +1,4 @@
+-- SPDX-License-Identifier: Apache-2.0
 use Rattle.std.proofs.Common.{◌∙◌, ap}
 use Rattle.hll_registers.specs.FourBits.{NibbleRegisters}
 use Rattle.hll_kernels.specs.Packed.{minimum}

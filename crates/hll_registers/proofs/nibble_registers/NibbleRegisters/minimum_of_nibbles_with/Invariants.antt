@@ -1,3 +1,4 @@
+-- SPDX-License-Identifier: Apache-2.0
 use Rattle.std.proofs.Common.{◌≡◌, ◌+◌, take, slice_set}
 use Rattle.std.specs.Prelude.{min, fold}
 use Rattle.hll_kernels.specs.Packed.{minimum}

@@ -1,3 +1,4 @@
+-- SPDX-License-Identifier: Apache-2.0
 use Rattle.std.proofs.Common.{ℕ, ◌≡◌, ◌∙◌, ◌^◌, ◌-◌, ◌≤◌, None, List, replicate, sym, ap, subst}
 use Rattle.hll_registers.specs.FourBits.{IsPacked}
 use Rattle.hll_registers.proofs.FourBits.{packed_here, packed_zeros, unpacked_is}

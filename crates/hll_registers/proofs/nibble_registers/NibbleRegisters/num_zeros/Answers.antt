@@ -1,3 +1,4 @@
+-- SPDX-License-Identifier: Apache-2.0
 use Rattle.std.proofs.Common.{◌∙◌, ap, sym, eqb}
 use Rattle.std.proofs.lemmas.Bool.{cond-false, false_from_ne_true, eqb-true}
 use Rattle.hll_registers.specs.FourBits.{NibbleRegisters}

@@ -1,3 +1,4 @@
+-- SPDX-License-Identifier: Apache-2.0
 use Rattle.std.proofs.Common.{◌==◌, ℕ, List, ap, ◌∙◌, sym}
 use Rattle.std.specs.Cmp.{both_ways}
 use Rattle.std.specs.List.{list_all}

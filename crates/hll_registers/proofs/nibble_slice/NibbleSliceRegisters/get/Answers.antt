@@ -1,3 +1,4 @@
+-- SPDX-License-Identifier: Apache-2.0
 use Rattle.std.proofs.Common.{◌<◌, ◌^◌, ℕ, List, get_or, sym, ap, subst, ◌∙◌}
 use Rattle.hll_registers.specs.FourBits.{unboxed}
 use Rattle.hll_registers.proofs.FourBitReading.{unpacked-at}

@@ -1,3 +1,4 @@
+-- SPDX-License-Identifier: Apache-2.0
 use Rattle.std.proofs.Common.{ℕ, List, length, take, drop, ap, ◌∙◌}
 use Rattle.hll_base.specs.Join.{join}
 use Rattle.hll_registers.proofs.nibble_slice.NibbleSliceRegisters.join_into.Goals as goal

@@ -1,3 +1,4 @@
+-- SPDX-License-Identifier: Apache-2.0
 use Rattle.std.proofs.Common.{rules, ℕ, List, subst}
 use Rattle.hll_registers.specs.FourBits.{unboxed}
 use Rattle.hll_registers.specs.State.{cleared_state}

@@ -1,3 +1,4 @@
+-- SPDX-License-Identifier: Apache-2.0
 use Rattle.std.proofs.Common.{◌≡◌, ℕ, List, ap, ◌∙◌}
 use Rattle.hll_registers.specs.Store.{Stored, update_with_coupon}
 use Rattle.hll_registers.proofs.Filling.{filled, filled-next}

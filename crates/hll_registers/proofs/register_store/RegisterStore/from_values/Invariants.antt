@@ -1,3 +1,4 @@
+-- SPDX-License-Identifier: Apache-2.0
 use Rattle.std.proofs.Common.{◌≡◌}
 use Rattle.hll_registers.proofs.Filling.{filled}
 use Rattle.hll_registers.proofs.register_store.RegisterStore.from_values.Given as goal

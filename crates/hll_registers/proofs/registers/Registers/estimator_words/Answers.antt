@@ -1,3 +1,4 @@
+-- SPDX-License-Identifier: Apache-2.0
 use Rattle.hll_kernels.proofs.WeightParts.{AreSumsOf-small}
 use Rattle.hll_registers.specs.Store.{Stored}
 use Rattle.hll_registers.proofs.registers.Registers.estimator_words.Goals as goal

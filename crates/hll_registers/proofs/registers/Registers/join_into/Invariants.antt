@@ -1,3 +1,4 @@
+-- SPDX-License-Identifier: Apache-2.0
 use Rattle.std.proofs.Common.{◌≡◌, ℕ, ◌+◌, ◌<◌, ◌≤◌, length, get_or}
 use Rattle.std.specs.Prelude.{max}
 use Rattle.hll_registers.proofs.registers.Registers.join_into.Given as goal

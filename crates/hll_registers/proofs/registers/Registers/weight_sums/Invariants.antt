@@ -1,3 +1,4 @@
+-- SPDX-License-Identifier: Apache-2.0
 use Rattle.std.proofs.Common.{◌*◌, take}
 use Rattle.hll_kernels.specs.WeightSums.{AreSumsOf}
 use Rattle.hll_registers.proofs.registers.Registers.weight_sums.Given as goal

@@ -1,3 +1,4 @@
+-- SPDX-License-Identifier: Apache-2.0
 use Rattle.std.proofs.Common.{◌≡◌, ◌+◌, ◌^◌, ◌≤◌, ◌++◌, ℕ, List, All, length, take, drop, replicate, sym, ap, subst, ◌∙◌, arith}
 use Rattle.std.proofs.lemmas.List.{length-drop, length-replicate, length-take-le, take_at}
 use Rattle.std.proofs.lemmas.List.Elements.{All-drop, All-take}

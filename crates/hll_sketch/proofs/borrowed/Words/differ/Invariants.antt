@@ -1,3 +1,4 @@
+-- SPDX-License-Identifier: Apache-2.0
 use Rattle.hll_sketch.proofs.Differing.{DifferSoFar}
 use Rattle.hll_sketch.proofs.borrowed.Words.differ.Given as goal
 

@@ -1,3 +1,4 @@
+-- SPDX-License-Identifier: Apache-2.0
 use Rattle.std.proofs.Common.{◌≡◌, Bool, true, false, IsTrue, refl, sym, subst, ◌∙◌}
 use Rattle.std.specs.FinSet.{contains-from_list_nat}
 use Rattle.std.proofs.Math.Bool.{not}

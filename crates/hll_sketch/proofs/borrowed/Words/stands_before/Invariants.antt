@@ -1,3 +1,4 @@
+-- SPDX-License-Identifier: Apache-2.0
 use Rattle.std.proofs.Common.{◌≡◌, ℕ, ◌+◌, ◌*◌, ◌≤◌, nat_eq, length}
 use Rattle.std.specs.List.{list_any}
 use Rattle.hll_coupons.specs.Coupons.{words}

@@ -1,3 +1,4 @@
+-- SPDX-License-Identifier: Apache-2.0
 use Rattle.std.proofs.Common.{◌≡◌, ℕ, true, List, sym, ap, subst, ◌∙◌, inl, inr}
 use Rattle.std.specs.FinSet.{len, union}
 use Rattle.hll_coupons.specs.Pair.{Pairs}

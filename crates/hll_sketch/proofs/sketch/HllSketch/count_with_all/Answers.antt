@@ -1,3 +1,4 @@
+-- SPDX-License-Identifier: Apache-2.0
 use Rattle.std.proofs.Common.{◌≡◌, sym, ap, ◌∙◌, inl, inr}
 use Rattle.std.specs.FinSet.{empty, len, union}
 use Rattle.hll_coupons.specs.Pair.{Pairs}

@@ -1,3 +1,4 @@
+-- SPDX-License-Identifier: Apache-2.0
 use Rattle.hll_sketch.proofs.SetWords.{own_layout}
 use Rattle.hll_sketch.proofs.sketch.HllSketch.fill_estimator_words.Goals as goal
 

@@ -1,3 +1,4 @@
+-- SPDX-License-Identifier: Apache-2.0
 use Rattle.std.proofs.Common.{◌≡◌, ap, ◌∙◌}
 use Rattle.hll_sketch.specs.Folding.{folded_content}
 use Rattle.hll_sketch.specs.Layout.{SketchLayout, layout_of, content_in}

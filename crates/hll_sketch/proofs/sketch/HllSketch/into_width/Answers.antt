@@ -1,3 +1,4 @@
+-- SPDX-License-Identifier: Apache-2.0
 use Rattle.hll_sketch.proofs.sketch.HllSketch.into_width.Goals as goal
 
 pub invariant_of-result : goal.invariant_of-result

@@ -1,3 +1,4 @@
+-- SPDX-License-Identifier: Apache-2.0
 use Rattle.std.proofs.Common.{refl, sym, subst, ◌∙◌}
 use Rattle.hll_sketch.specs.Layout.{content_in, sketch_of}
 use Rattle.hll_sketch.specs.Union.{IsGadget}

@@ -1,3 +1,4 @@
+-- SPDX-License-Identifier: Apache-2.0
 use Rattle.std.proofs.Common.{◌≡◌, sym, ap, ◌∙◌, arith}
 use Rattle.hll_registers.specs.State.{cleared_state}
 use Rattle.hll_registers.specs.Store.{Stored}

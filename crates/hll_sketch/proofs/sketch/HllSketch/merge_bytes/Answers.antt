@@ -1,3 +1,4 @@
+-- SPDX-License-Identifier: Apache-2.0
 use Rattle.std.proofs.Common.{sym, ◌∙◌, arith}
 use Rattle.hll_sketch.proofs.Merges.{whole_as}
 use Rattle.hll_sketch.proofs.sketch.HllSketch.merge_bytes.Goals as goal

@@ -1,3 +1,4 @@
+-- SPDX-License-Identifier: Apache-2.0
 use Rattle.std.proofs.Common.{◌≡◌, ◌&&◌, nat_eq, false, sym, ap, ◌∙◌}
 use Rattle.hll_coupons.specs.Table.{coupons_of}
 use Rattle.hll_sketch.specs.Layout.{SketchLayout, content_in, sketch_of}

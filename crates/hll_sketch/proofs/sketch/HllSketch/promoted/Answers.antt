@@ -1,3 +1,4 @@
+-- SPDX-License-Identifier: Apache-2.0
 use Rattle.std.proofs.Common.{◌≡◌, ◌∙◌, [], ◌∷◌, refl, sym, ap}
 use Rattle.std.specs.FinSet.{insert, len}
 use Rattle.hll_coupons.specs.Pair.{set_of}

@@ -1,3 +1,4 @@
+-- SPDX-License-Identifier: Apache-2.0
 use Rattle.std.proofs.Common.{subst}
 use Rattle.hll_sketch.specs.EstimatorWords.{AreWordsIn}
 use Rattle.hll_sketch.specs.Layout.{content_in}

@@ -1,3 +1,4 @@
+-- SPDX-License-Identifier: Apache-2.0
 use Rattle.std.proofs.Common.{◌≡◌, ◌∙◌, ℕ, false, leb, [], ◌∷◌, sym, ap, subst, inl, inr}
 use Rattle.hll_base.proofs.Errors.{OnErr-of}
 use Rattle.hll_coupons.specs.declared.container.Insertion.TheVariants.{Refused}

@@ -1,3 +1,4 @@
+-- SPDX-License-Identifier: Apache-2.0
 use Rattle.std.proofs.Common.{◌≡◌, ◌≤◌, ◌^◌, ℕ, length, sym, ap, subst, ◌∙◌}
 use Rattle.hll_coupons.specs.Table.{Table, coupons_in, IsTable}
 use Rattle.hll_sketch.specs.Layout as layouts

@@ -1,3 +1,4 @@
+-- SPDX-License-Identifier: Apache-2.0
 use Rattle.std.proofs.Common.{◌≡◌, IfOk, subst}
 use Rattle.hll_sketch.specs.Layout.{sketch_of}
 use Rattle.hll_sketch.specs.Union.{UnionLayout, gadget_of}

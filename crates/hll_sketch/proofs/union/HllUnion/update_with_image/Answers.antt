@@ -1,3 +1,4 @@
+-- SPDX-License-Identifier: Apache-2.0
 use Rattle.std.proofs.Common.{◌≡◌, ℕ, true, refl, sym, subst}
 use Rattle.hll_sketch.specs.Layout.{SketchLayout, content_in}
 use Rattle.hll_sketch.specs.TakenIn.{TakesIn, HasCompactCoupons}

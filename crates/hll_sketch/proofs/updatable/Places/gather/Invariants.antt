@@ -1,3 +1,4 @@
+-- SPDX-License-Identifier: Apache-2.0
 use Rattle.hll_sketch.proofs.Gathering.{GatheredSoFar}
 use Rattle.hll_sketch.proofs.updatable.Places.gather.Given as goal
 

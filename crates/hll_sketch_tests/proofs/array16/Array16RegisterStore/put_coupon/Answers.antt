@@ -1,3 +1,4 @@
+-- SPDX-License-Identifier: Apache-2.0
 use Rattle.std.proofs.Common.{◌≡◌, ℕ, ◌%◌, ◌^◌, List, subst, arith, ◌∙◌}
 use Rattle.std.proofs.Math.ListN.{set}
 use Rattle.hll_coupons.specs.Pair.{slot_of}

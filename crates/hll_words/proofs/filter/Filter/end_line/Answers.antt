@@ -1,3 +1,4 @@
+-- SPDX-License-Identifier: Apache-2.0
 use Rattle.std.proofs.Common.{◌≡◌, ◌++◌, ◌∷◌, [], ℕ, List, sym, ap, ◌∙◌}
 use Rattle.std.specs.Str.Lines.{strip_carriage_return}
 use Rattle.hll_words.proofs.PassingLemmas.{Stops-one, Stops-same, StopsLine-of}
