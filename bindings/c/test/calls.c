@@ -342,6 +342,53 @@ static void test_words_by_default(void)
     }
 }
 
+/* Registers of which each byte is known: what is merged, folded, converted and said of them. */
+#define HEADER_OF(lg_k, flags, mode) "0a01070" lg_k "00" flags "00" mode
+#define NO_WORDS "0000000000000000" "0000000000000000" "0000000000000000"
+#define WORDS "0000000000000000" "0000080100002c40" "0000000000000000" /* kxq0 is 14 + 2^-25 + 2^-30 */
+static const char *const left = HEADER_OF("4", "10", "0a") NO_WORDS "0e00000000000000" "0a140000000000000000000000000000";
+static const char *const right = HEADER_OF("5", "10", "0a") NO_WORDS "1c00000000000000"
+                                 "0f120000000000000000000000000000" "191e0000000000000000000000000000";
+static const char *const joined = HEADER_OF("4", "10", "0a") NO_WORDS "0e00000000000000" "191e0000000000000000000000000000";
+static const char *const with_words = HEADER_OF("4", "10", "0a") WORDS "0e00000000000000" "191e0000000000000000000000000000";
+static const char *const of_four_bits = HEADER_OF("4", "18", "02") WORDS "0e00000002000000" "ff00000000000000"
+                                        "0000006401000078";
+
+static void test_known_registers(void)
+{
+    bytes a = of_hex(left), b = of_hex(right), plain = of_hex(joined), words = of_hex(with_words), four = of_hex(of_four_bits);
+    const hll_bytes parts[] = {{a.at, a.len}, {(const uint8_t *)"\2\1\7\12\3\14\0\10", 8}, {b.at, b.len}};
+    uint8_t out[96], registers[16] = {0}, same = 7;
+    size_t size = 0, failed = 5;
+    hll_info info;
+    hll_histogram histogram;
+    EXPECT("merged", hll_image_merge(12, 8, a.at, a.len, b.at, b.len, out, sizeof out, &size, &failed), out, size, with_words);
+    EXPECT("the other way", hll_image_merge(12, 8, b.at, b.len, a.at, a.len, out, sizeof out, &size, &failed), out, size,
+           with_words);
+    EXPECT("parts", hll_parts_union(12, 8, parts, 3, out, sizeof out, &size, &failed), out, size, with_words);
+    EXPECT("folded", hll_image_fold(b.at, b.len, 4, out, sizeof out, &size), out, size, with_words);
+    EXPECT("4 bits", hll_image_convert(plain.at, plain.len, 4, out, sizeof out, &size), out, size, of_four_bits);
+    EXPECT("words", hll_image_set_estimator_words(plain.at, plain.len, out, sizeof out, &size), out, size, with_words);
+    EXPECT("no words", hll_image_clear_estimator_words(words.at, words.len, out, sizeof out, &size), out, size, joined);
+    CHECK(hll_images_agree(plain.at, plain.len, four.at, four.len, &same, &failed) == HLL_OK && same == 1, "4 bits agree");
+    CHECK(hll_images_agree(plain.at, plain.len, a.at, a.len, &same, &failed) == HLL_OK && same == 0, "a part agrees");
+    CHECK(hll_registers_join(registers, 16, a.at, a.len, NULL) == HLL_OK, "registers joined");
+    CHECK(hll_registers_join(registers, 16, b.at, b.len, NULL) == HLL_OK, "more of them");
+    EXPECT("registers", hll_registers_image(registers, 16, 8, out, sizeof out, &size), out, size, with_words);
+    CHECK(failed == 5, "failed is written on success");
+    CHECK(hll_image_info(words.at, words.len, &info, sizeof info) == HLL_OK && info.zeros == 14, "info");
+    CHECK(info.hip == 0 && info.kxq0 == UINT64_C(0x402c000001080000) && info.kxq1 == 0, "the words in info");
+    /* 14 * 2^63 + 2^38 + 2^33 */
+    CHECK(info.units_high == 7 && info.units_low == (UINT64_C(1) << 38) + (UINT64_C(1) << 33), "units");
+    CHECK(hll_image_histogram(four.at, four.len, &histogram) == HLL_OK, "a histogram");
+    CHECK(histogram.counts[0] == 14 && histogram.counts[25] == 1 && histogram.counts[30] == 1, "of 4 bits");
+    free(a.at);
+    free(b.at);
+    free(plain.at);
+    free(words.at);
+    free(four.at);
+}
+
 /* An image is as long as its size says, whatever follows; and no shorter bytes are one. */
 static void test_sizes(void)
 {
@@ -469,6 +516,7 @@ int main(void)
     test_table_sizes();
     test_stale_words();
     test_words_by_default();
+    test_known_registers();
     test_sizes();
     test_other_info();
     test_null();

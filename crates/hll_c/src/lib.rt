@@ -29,8 +29,6 @@ mod batch;
 mod byte_registers;
 mod image;
 mod info;
-#[cfg(test)]
-mod tests;
 
 use crate::answer::{code_of, put_bytes, put_image, tell};
 use crate::batch::put_coupons;
