@@ -180,12 +180,12 @@ uint32_t hll_version(void);
 
 /* Tells what the image says of its sketch. info_size is sizeof *info; where it isn't that of this version, the caller was
  * compiled for another one, and the answer is HLL_ARGUMENT.
- * Answers HLL_OK, 1 to 11, HLL_ARGUMENT, or HLL_MEMORY. Takes the memory of reading, but none for 1 to 128 coupons of a
+ * Answers HLL_OK, 1 to 11, HLL_ARGUMENT, or HLL_MEMORY. Takes the memory of reading, but none for 1 to 128 distinct coupons of a
  * compact image, or for more that ascend. */
 hll_status hll_image_info(const uint8_t *image, size_t len, hll_info *info, size_t info_size);
 
 /* Whether the bytes begin with an image (HLL_OK), else why not.
- * Answers HLL_OK, 1 to 11, or HLL_MEMORY. Takes the memory of reading for coupons, but none where they are 1 to 128,
+ * Answers HLL_OK, 1 to 11, or HLL_MEMORY. Takes the memory of reading for coupons, but none where they are 1 to 128 distinct ones,
  * or ascend in a compact image; and memory for the exceptions of registers of 4 bits. */
 hll_status hll_image_check(const uint8_t *image, size_t len);
 
@@ -205,7 +205,7 @@ hll_status hll_image_histogram(const uint8_t *image, size_t len, hll_histogram *
 hll_status hll_image_new(uint8_t lg_k, uint8_t width, uint8_t *out, size_t room, size_t *size);
 
 /* The image with n more values: byte strings, told by their ends. Pass many at once, as each call reads the image and
- * writes it. A value that a grown image has already changes nothing. (An image of another program may be fuller, and
+ * writes it. A value that a grown image has already changes no register. (An image of another program may be fuller, and
  * grows then: a list of eight becomes a set; a set of more than three quarters of its places gets a larger table, or
  * becomes registers.)
  * The bytes are hashed as they are, as in Python, SQL, Java and C++. In Rust, and by the update of the Rattle crates, a
@@ -257,7 +257,7 @@ hll_status hll_image_fold(const uint8_t *image, size_t len, uint8_t lg_k, uint8_
 hll_status hll_image_convert(const uint8_t *image, size_t len, uint8_t width, uint8_t *out, size_t room, size_t *size);
 
 /* The image with the three words and the flag set from which a DataSketches library estimates, whatever they were. Lists
- * and sets have no words, and come out as they are.
+ * and sets have no words, and come out as this library writes them.
  * Answers HLL_OK, 1 to 11, HLL_MEMORY or HLL_BUFFER. Takes the memory of reading, and the image's. */
 hll_status hll_image_set_estimator_words(const uint8_t *image, size_t len, uint8_t *out, size_t room, size_t *size);
 
@@ -303,12 +303,12 @@ hll_status hll_registers_add_coupons(uint8_t *registers, size_t count, const uin
  * are all 0, which change nothing. Where the image has other registers, and fewer than the caller, the answer is
  * HLL_FEWER, and *lg_k is the image's: fold to it, and join again. *lg_k is written on no other answer.
  * Answers HLL_OK, 1 to 11, HLL_ARGUMENT, HLL_MEMORY or HLL_FEWER. Takes memory for the exceptions of registers of 4
- * bits, and the memory of reading for coupons, but none where they are 1 to 128, or ascend in a compact image; none
- * for registers of 6 and 8 bits. */
+ * bits, and the memory of reading for coupons, but none where they are 1 to 128 distinct ones, or ascend in a compact
+ * image; none for registers of 6 and 8 bits. */
 hll_status hll_registers_join(uint8_t *registers, size_t count, const uint8_t *image, size_t len, uint8_t *lg_k);
 
 /* Joins as many other registers, or more, which are folded. Where the others are fewer, and not all 0, the answer is
- * HLL_FEWER, and *lg_k is theirs. A byte of the others above 63 is HLL_REGISTER.
+ * HLL_FEWER, and *lg_k is theirs. A byte of the others above 63 is HLL_REGISTER, also where they are fewer.
  * Answers HLL_OK, HLL_REGISTER, HLL_ARGUMENT or HLL_FEWER. Takes no memory. */
 hll_status hll_registers_join_registers(uint8_t *registers, size_t count, const uint8_t *others, size_t others_count,
                                         uint8_t *lg_k);
