@@ -1,37 +1,53 @@
 # SPDX-License-Identifier: Apache-2.0
 #
-#   make            builds the C library, and the extensions for SQLite and PostgreSQL where their headers are here
-#   make install    installs them into PREFIX (/usr/local) and where this server of PostgreSQL looks, below DESTDIR if set
-#   make dist       makes all packages of a release in dist/ (docs/INSTALL.md)
-#   make check      tries everything: ./check
-#   make clean      takes away what the others built
+#   make                    builds the C library, the programs in bin/, and the extensions for SQLite and PostgreSQL where their
+#                           headers are here. It needs a C compiler, and takes seconds
+#   make install            installs all but the PostgreSQL extension into PREFIX (/usr/local), below DESTDIR if that is set
+#   make install-postgresql installs the PostgreSQL extension where the server of PG_CONFIG (pg_config) looks for it
+#   make uninstall, uninstall-postgresql
+#   make prove              proves the library and the programs, and compares what comes out with prebuilt/. It needs the command
+#                           rt, and takes 10 to 25 minutes on four processors
+#   make dist               makes all packages of a release in dist/ (docs/INSTALL.md)
+#   make check              tests everything: ./check
+#   make clean              removes what the others built
 #
-# LIBHLL_C=FILE   the archive of the proved crate, from dist/ of a release: then a C compiler is enough. Else the command rt
-#                 proves and builds it.
-# The Python package is installed by pip: pip install ./bindings/python, once the C library is built.
+# All is built from prebuilt/, the compiled text of what was proved (prebuilt/README.md). Where a proved source has changed
+# since, make says so and proves first.
+# The Python package is installed by pip: pip install ./bindings/python
 
 PG_CONFIG ?= pg_config
 CC ?= cc
 
-ifdef LIBHLL_C
-override LIBHLL_C := $(abspath $(LIBHLL_C))
-GIVEN := LIBHLL_C=$(LIBHLL_C)
-endif
 ifeq ($(shell $(CC) -include sqlite3ext.h -fsyntax-only -x c /dev/null 2>/dev/null && echo yes),yes)
-SQLITE := sqlite
+SQLITE := bindings/sqlite
 endif
 ifneq ($(wildcard $(addsuffix /postgres.h,$(shell $(PG_CONFIG) --includedir-server 2>/dev/null))),)
-POSTGRESQL := postgresql
+POSTGRESQL := bindings/postgresql
 endif
-PARTS := c $(SQLITE) $(POSTGRESQL)
+PARTS := bindings/c programs $(SQLITE)
+# Asked once for all parts, unless a source has changed: then the first part proves, and the next one asks again.
+STATE := $(filter fresh,$(shell scripts/prebuilt.sh state))
+FOUND := $(STATE:%=STATE=%)
 
-.PHONY: all install dist check clean
+.PHONY: all install uninstall install-postgresql uninstall-postgresql prove dist check clean
 
-all install clean:
-	set -e; for part in $(PARTS); do $(MAKE) -C bindings/$$part $@ $(GIVEN); done
+all clean:
+	set -e; for part in $(PARTS) $(POSTGRESQL); do $(MAKE) -C $$part $@ $(FOUND); done
+
+install uninstall:
+	set -e; for part in $(PARTS); do $(MAKE) -C $$part $@ $(FOUND); done
+
+install-postgresql:
+	$(MAKE) -C bindings/postgresql install $(FOUND)
+
+uninstall-postgresql:
+	$(MAKE) -C bindings/postgresql uninstall $(FOUND)
+
+prove:
+	python3 scripts/prebuilt.py --prove
 
 dist:
-	python3 packaging/dist.py $(DIST)
+	python3 packaging/dist.py
 
 check:
 	./check

@@ -1,4 +1,5 @@
 #!/usr/bin/env python3
+# SPDX-License-Identifier: Apache-2.0
 """Measures the estimates of bindings/c/estimate.c on random streams: how far they are off, how much
 they scatter, and how often their bounds hold.
 

@@ -10,12 +10,28 @@ takes as long as `rt ci`, whose lines go to standard error. docs/NUMBERS.md, "Pr
 """
 import collections
 import os
+import pathlib
 import subprocess
 import sys
 import time
 
-sys.dont_write_bytecode = True
-from first_build import TICKS, processes_below
+TICKS = os.sysconf("SC_CLK_TCK")
+
+
+def processes_below(top):
+    """A process and all below it: by number, the words of /proc/NUMBER/stat from the third on."""
+    stats = {}
+    for folder in pathlib.Path("/proc").glob("[0-9]*"):
+        try:
+            stats[int(folder.name)] = (folder / "stat").read_text().rsplit(")", 1)[1].split()
+        except OSError:
+            continue
+    below = {top}
+    while True:
+        more = {it for it, words in stats.items() if int(words[1]) in below} - below
+        if not more:
+            return {it: stats[it] for it in below if it in stats}
+        below |= more
 
 
 def provers(top):

@@ -1,4 +1,5 @@
 #!/usr/bin/env python3
+# SPDX-License-Identifier: Apache-2.0
 """Answers plans by a plain model that follows docs/PLAN.md, docs/MODEL.md and docs/FORMAT.md alone, and shares no code with
 the library; each row of a text of rows has to have that answer (docs/PLAN.md, "Rows").
 

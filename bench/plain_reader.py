@@ -1,3 +1,4 @@
+# SPDX-License-Identifier: Apache-2.0
 """A plain reader of images that follows docs/FORMAT.md alone; its answers are compared with those of the library.
 
 Run `mutants FILE` in bench/rust first, then this script with the same file. It prints for each kind of image how many

@@ -1,4 +1,5 @@
 #!/usr/bin/env python3
+# SPDX-License-Identifier: Apache-2.0
 """Measures the program on whole plans, beside the least work on their text: time, instructions and memory.
 
 The floor is the small program hll_floor: it reads the same text in pieces, finds its lines, decodes the words of

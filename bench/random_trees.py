@@ -1,4 +1,5 @@
 #!/usr/bin/env python3
+# SPDX-License-Identifier: Apache-2.0
 """Compares what the program prints for random trees of sketches and for rearranged forms of them.
 
 A tree has sketches made of coupons, unions, folds, and coupons added to any of these. Its other form has the children of

@@ -1,4 +1,5 @@
 #!/usr/bin/env python3
+# SPDX-License-Identifier: Apache-2.0
 """Refuses each request for memory of the program in turn, and fails each of its reads and writes, over all row plans.
 
 The plans, with what they print or the line of their refusal, are the rows of `crates/hll_vectors/stdin`.

@@ -1,3 +1,4 @@
+/* SPDX-License-Identifier: Apache-2.0 */
 /* Preloaded into a program: refuses one of its requests for memory, or fails one of its reads of standard input or writes
  * to standard output. The environment says which: REFUSE_MEMORY, REFUSE_READ and REFUSE_WRITE are numbers of calls from 1
  * on, 0 or nothing for none. With REFUSE_SHORT each read and write moves one byte. REFUSE_COUNTS names a file that takes

@@ -57,8 +57,9 @@ def lay_out(folder, count):
             (folder / "sketches" / ("%05d.bin" % number)).write_bytes(image)
             lines.write("image %s\n" % image.hex())
     shutil.copytree(ROOT / "examples", folder / "examples")
-    (folder / "hll_merge").symlink_to(os.path.abspath(os.environ.get("HLL_MERGE") or built_program()))
-    (folder / "hll_words").symlink_to(os.path.abspath(os.environ.get("HLL_WORDS") or built_filter()))
+    (folder / "bin").mkdir()
+    (folder / "bin" / "hll_merge").symlink_to(os.path.abspath(os.environ.get("HLL_MERGE") or built_program()))
+    (folder / "bin" / "hll_words").symlink_to(os.path.abspath(os.environ.get("HLL_WORDS") or built_filter()))
 
 
 # ---- the page
@@ -105,14 +106,14 @@ def main():
     with tempfile.TemporaryDirectory(prefix="hll-") as name:
         folder = pathlib.Path(name)
         lay_out(folder, count)
-        answer = run(folder, "{ cat lines; echo 'union %d 12 8'; } | ./hll_merge" % count)
+        answer = run(folder, "{ cat lines; echo 'union %d 12 8'; } | bin/hll_merge" % count)
         wanted = b"image " + answer
         assert answer.startswith(b"0a01070c"), "registers of the bound"
         records = one_block(blocks, "#!/bin/sh")
         (folder / "merge_records.sh").write_text(records + "\n")
         (folder / "merge_records.sh").chmod(0o755)
         run(folder, one_block(blocks, "examples/merge_folder.sh"))
-        with_words = run(folder, "./hll_words < <(./hll_merge < <(cat lines; echo 'union %d 12 8'))" % count)
+        with_words = run(folder, "bin/hll_words < <(bin/hll_merge < <(cat lines; echo 'union %d 12 8'))" % count)
         report("merge_folder.sh", (folder / "merged.bin").read_bytes().hex().encode() + b"\n" == with_words)
         report("two sketches at a time", run(folder, one_block(blocks, "awk ")) == answer)
         if shutil.which("parallel"):

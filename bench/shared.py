@@ -1,3 +1,4 @@
+# SPDX-License-Identifier: Apache-2.0
 """What the scripts share: the built programs, images and lines of plans, and runs with what they take."""
 import datetime
 import os
@@ -19,18 +20,18 @@ OUT_OF_ORDER = 16
 # ---- the programs
 
 
-def built(name, text):
-    """The program that the script of this name keeps, up to date, which is tried on a text."""
-    subprocess.run([ROOT / name], input=text, stdout=subprocess.DEVNULL, check=True)
-    return ROOT / ("." + name) / name
+def built(name):
+    """The program of this name in bin/, up to date."""
+    subprocess.run(["make", "-s", "-C", ROOT / "programs"], stdout=subprocess.DEVNULL, check=True)
+    return ROOT / "bin" / name
 
 
 def built_program():
-    return built("hll_merge", b"new 10 8\n")
+    return built("hll_merge")
 
 
 def built_filter():
-    return built("hll_words", b"")
+    return built("hll_words")
 
 
 def built_floor():

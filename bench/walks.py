@@ -1,4 +1,5 @@
 #!/usr/bin/env python3
+# SPDX-License-Identifier: Apache-2.0
 """Prints rows of plans that walk over images, values, orders and sizes, each with the answer of the plain model
 (docs/PLAN.md, "Rows").
 

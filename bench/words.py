@@ -1,4 +1,5 @@
 #!/usr/bin/env python3
+# SPDX-License-Identifier: Apache-2.0
 """Compares the words of an estimator that the program `hll_words` sets with sums of exact fractions.
 
 Random registers of each width become images with random words. For each the program has to print the same image with the

@@ -1,4 +1,5 @@
 #!/usr/bin/env python3
+# SPDX-License-Identifier: Apache-2.0
 """Runs the program on plans that take the most time and memory for their size.
 
 The paths of a table are part of the format (docs/FORMAT.md, "Probing"), so whoever writes an image can choose coupons

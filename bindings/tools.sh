@@ -1,12 +1,15 @@
 # SPDX-License-Identifier: Apache-2.0
-# For the scripts `check` of the bindings: are tools here, and can they be had? Source it.
+# For the scripts `check` of the bindings: are tools here, and can they be had? Source it. Packages are installed only where
+# HLL_INSTALL=yes or CI=true is in the environment (`./check --install` at the top sets it).
 
 has() {
     command -v "$1" >/dev/null 2>&1
 }
 
-# Installs packages of the distribution where this is root and apt-get is here; else, or if that fails, nothing happens.
+# Installs packages of the distribution where that was asked for, this is root and apt-get is here; else, or if that fails,
+# nothing happens.
 get() {
+    [ "${HLL_INSTALL:-}" = yes ] || [ "${CI:-}" = true ] || return 0
     [ "$(id -u)" = 0 ] && has apt-get || return 0
     echo "installing $*"
     if [ -z "${tools_updated:-}" ]; then

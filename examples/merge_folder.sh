@@ -1,4 +1,5 @@
 #!/bin/sh
+# SPDX-License-Identifier: Apache-2.0
 # Merges all sketch files of a folder in parallel, and writes the merged image to standard output:
 #
 #     examples/merge_folder.sh FOLDER [BOUND [WIDTH [FILES]]] > merged.bin
@@ -19,15 +20,15 @@ BOUND=${2:-12}
 WIDTH=${3:-8}
 files=${4:-500}
 root=$(CDPATH='' cd -- "$(dirname -- "$0")/.." && pwd -P)
-MERGE=$root/hll_merge
+# those of a checkout, once make has built them, or installed ones
+MERGE=$(command -v "$root/bin/hll_merge" || command -v hll_merge) && WORDS=$(command -v "$root/bin/hll_words" || command -v hll_words) || {
+    echo "merge_folder.sh: no hll_merge or hll_words: run make in $root, or install hll-sketches" >&2
+    exit 2
+}
 WORK=$(mktemp -d)
 export BOUND WIDTH MERGE WORK
 trap 'rm -rf "$WORK"' EXIT
 mkdir "$WORK/groups"
-
-# built before many ask for it
-echo "new 4 8" | "$MERGE" >/dev/null
-"$root/hll_words" </dev/null
 
 find "$folder" -type f -print0 >"$WORK/files"
 
@@ -63,5 +64,5 @@ sort -z "$WORK/files" | xargs -0 -n "$files" -P "$(nproc)" sh -c '
     sed 's/^/image /' "$WORK"/groups/*
     echo "union $(ls "$WORK/groups" | wc -l) $BOUND $WIDTH"
 } | "$MERGE" >"$WORK/merged"
-"$root/hll_words" <"$WORK/merged" >"$WORK/words"
+"$WORDS" <"$WORK/merged" >"$WORK/words"
 xxd -r -p "$WORK/words"

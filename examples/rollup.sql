@@ -1,5 +1,5 @@
 -- SPDX-License-Identifier: Apache-2.0
--- Visitors of days, kept as sketches and merged into a month, in SQLite. From the top of the checkout:
+-- Visitors of days, kept as sketches and merged into a month, in SQLite. From the top of the checkout, after `make`:
 --
 --     sqlite3 -batch :memory: < examples/rollup.sql
 

@@ -1,14 +1,11 @@
 #!/usr/bin/env python3
 # SPDX-License-Identifier: Apache-2.0
-"""Makes all packages of a release in dist/: the proved archives and programs with the prover's verdict, a source package,
-Debian packages, wheels, META.json, TRUST.md, a bill of materials of each, and SHA256SUMS. `make dist` calls it, in a checkout of git.
+"""Makes all packages of a release in dist/: a source package, Debian packages, wheels, the prover's verdict, META.json, TRUST.md,
+a bill of materials of each, and SHA256SUMS. `make dist` calls it, in a checkout of git.
 
-    packaging/dist.py [--kept]
-
-What is proved is taken from an earlier run over the same sources (scripts/keep_built.py), or else proved by `rt ci` first;
-with --kept it is never proved here. From there on a C compiler, binutils, Python and Debian's tools build the rest, in a
-folder of their own without rt on the path. Two runs over one commit give the same bytes, wherever they are made, by tools of
-the same versions.
+Everything is built from prebuilt/, by a C compiler, binutils, Python and Debian's tools, in a folder of its own without the
+command rt on the path. So what the gate tests is what is shipped. Two runs over one commit give the same bytes, wherever they
+are made, by tools of the same versions.
 """
 import datetime
 import email.utils
@@ -28,7 +25,7 @@ import tempfile
 ROOT = pathlib.Path(__file__).resolve().parent.parent
 sys.dont_write_bytecode = True
 sys.path[:0] = [str(ROOT / "scripts"), str(ROOT / "packaging")]
-import keep_built  # noqa: E402
+import prebuilt  # noqa: E402
 import sbom  # noqa: E402
 import trust  # noqa: E402
 
@@ -89,38 +86,6 @@ def test_commit():
         print("dist: files differ from the commit, so what is made here is not to be published")
 
 
-# ---- what is proved
-
-
-def proved(is_kept):
-    """What is told of the kept archives and programs, which are proved and built first where a source has changed."""
-    found = keep_built.kept()
-    if found or is_kept:
-        return found
-    if not shutil.which("rt"):
-        raise Failed("the command rt, which proves the library, is not on the path: docs/INSTALL.md")
-    if subprocess.run(["rt", "ci"], cwd=ROOT).returncode == 0:
-        keep_built.main()
-    return keep_built.kept()
-
-
-def put_proved(told, dist):
-    """Copies archives and programs to dist/, and writes the verdicts."""
-    lines = ["prover: %s" % told["kit"], "sources: SHA-256 %s" % told["sources"]]
-    for target in keep_built.ARCHIVES:
-        shutil.copyfile(keep_built.kept_archive(target), dist / ("libhll_c-%s-%s.a" % (version(), target)))
-        lines += ["", "libhll_c for %s:" % target, *told["said"][target]]
-    for name in keep_built.PROGRAMS:
-        program = dist / ("%s-%s-%s" % (name, version(), keep_built.X86))
-        shutil.copyfile(keep_built.kept_program(name), program)
-        program.chmod(0o755)
-    (dist / ("libhll_c-%s.verdict" % version())).write_text("\n".join(lines) + "\n")
-
-
-def archive_in(dist, target=keep_built.X86):
-    return dist / ("libhll_c-%s-%s.a" % (version(), target))
-
-
 # ---- sources
 
 
@@ -165,12 +130,7 @@ def unpacked(dist, room):
 def put_debian(dist, room):
     """Debian packages, from the source package."""
     tree = unpacked(dist, room)
-    programs = room / "programs"
-    programs.mkdir()
-    for name in keep_built.PROGRAMS:
-        shutil.copy2(dist / ("%s-%s-%s" % (name, version(), keep_built.X86)), programs / name)
-    run(["dpkg-buildpackage", "-b", "-us", "-uc"], tree, LIBHLL_C=str(archive_in(dist)), PROGRAMS=str(programs),
-        DEB_BUILD_OPTIONS="noautodbgsym nocheck parallel=2")
+    run(["dpkg-buildpackage", "-b", "-us", "-uc"], tree, DEB_BUILD_OPTIONS="noautodbgsym nocheck parallel=2")
     for package in room.glob("*.deb"):
         shutil.copyfile(package, dist / package.name)
 
@@ -178,9 +138,8 @@ def put_debian(dist, room):
 def put_wheel(dist, room, target):
     """A wheel for a processor, from the source package."""
     tree = unpacked(dist, room)
-    is_other = target != keep_built.X86
-    words = ["make", "-s", "-C", "bindings/c", "all", "CFLAGS=-O2", "LIBHLL_C=%s" % archive_in(dist, target)]
-    run(words + ["TARGET=" + target] * is_other, tree)
+    is_other = target.partition("-")[0] != os.uname().machine
+    run(["make", "-s", "-C", "bindings/c", "all", "CFLAGS=-O2"] + ["TARGET=" + target] * is_other, tree)
     library = tree / "bindings" / "c" / "build" / (target if is_other else "") / "libhll.so"
     run([PYTHON, "-m", "pip", "wheel", "-q", "--no-build-isolation", "--no-deps", "--no-index", "--no-cache-dir", "-w", room / "wheels",
          tree / "bindings" / "python"], tree, LIBHLL=str(library), PYTHONDONTWRITEBYTECODE="1")
@@ -193,27 +152,26 @@ def put_sums(dist):
     (dist / "SHA256SUMS").write_text("".join(sums))
 
 
-def make(is_kept):
+def make():
     """All of dist/, which takes the place of an earlier one once it is whole."""
     test_commit()
     missing = missing_tools()
     if missing:
         raise Failed("tools are missing: apt-get install %s" % " ".join(missing))
-    told = proved(is_kept)
-    if told is None:
-        raise Failed("what is proved is not kept for the sources as they stand: run ./check proofs")
+    if prebuilt.asked("state") != "fresh":
+        raise Failed("prebuilt/ is %s: run ./check proofs, and commit what it writes" % prebuilt.asked("state"))
     os.umask(0o022)
     with tempfile.TemporaryDirectory() as room:
         room = pathlib.Path(room)
         dist = room / "dist"
         dist.mkdir()
-        put_proved(told, dist)
+        shutil.copyfile(prebuilt.VERDICT, dist / "VERDICT")
         put_sources(dist)
         put_debian(dist, room / "debian")
-        for target in keep_built.ARCHIVES:
+        for target in (prebuilt.X86, prebuilt.ARM):
             put_wheel(dist, room / target, target)
-        (dist / "TRUST.md").write_text(trust.table(told) + "\n")
-        sbom.put(dist, version(), epoch(), told)
+        (dist / "TRUST.md").write_text(trust.table() + "\n")
+        sbom.put(dist, version(), epoch())
         put_sums(dist)
         shutil.rmtree(ROOT / "dist", ignore_errors=True)
         shutil.copytree(dist, ROOT / "dist")
@@ -223,7 +181,7 @@ def make(is_kept):
 
 def main():
     try:
-        make("--kept" in sys.argv[1:])
+        make()
     except Failed as why:
         print("dist: %s" % why, file=sys.stderr)
         return 1

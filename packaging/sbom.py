@@ -7,8 +7,13 @@ import subprocess
 import time
 import uuid
 
+import prebuilt
+
 LICENCE = "Apache-2.0"
-KINDS = {".deb": "INSTALL", ".whl": "LIBRARY", ".a": "LIBRARY", ".gz": "SOURCE"}
+KINDS = {".deb": "INSTALL", ".whl": "LIBRARY", ".gz": "SOURCE"}
+# The Rattle crate hex, a port of Rust's, which both programs contain, and functions of the toolchain's own libraries.
+HEX = ("hex", "0.4.3", "MIT OR Apache-2.0", "the crate that decodes and encodes digits, as the toolchain ports it")
+RUNTIME = ("rattle-runtime", "NOASSERTION", "NOASSERTION", "functions of the toolchain's libraries core and std_alloc, for which it shows no licence (NOTICE)")
 
 
 def sum_of(file):
@@ -43,34 +48,34 @@ def of_file(name, file, version, **more):
     return part(name, version, checksums=summed(file), packageFileName=file.name, **more)
 
 
-def archives(dist, version, told):
-    """The archive for each processor, with its verdict."""
-    for target, lines in told["said"].items():
-        file = dist / ("libhll_c-%s-%s.a" % (version, target))
-        yield of_file("libhll_c-" + target, file, version, comment="proved: " + lines[-1])
-
-
-def holds(package, part_name):
-    """Whether a package holds the archive for a processor, or what is linked from it."""
-    if package.suffix == ".deb":
-        return "x86_64" in part_name and not package.name.endswith("_all.deb") and not package.name.startswith("hll-sketches_")
-    return package.suffix == ".whl" and re.search("x86_64|aarch64", package.name)[0] in part_name
-
-
-def contents(package, dist, version, told):
-    """The proved parts of a package."""
-    yield from (one for one in archives(dist, version, told) if holds(package, one["name"]))
+def texts_in(package):
+    """The paths in prebuilt/ of the texts that a package holds, or what was built from them."""
+    if package.suffix == ".gz":
+        return sorted(prebuilt.committed().files)
+    if package.suffix == ".whl":
+        return [re.search("x86_64|aarch64", package.name)[0] + "/libhll_c.s"]
     if package.name.startswith("hll-sketches_"):
-        for file in sorted(dist.glob("hll_[mw]*-gnu")):
-            yield of_file(file.name.partition("-")[0], file, version, comment="proved, and linked by the prover")
+        return ["x86_64/hll_merge.s", "x86_64/hll_words.s"]
+    return [] if package.name.endswith("_all.deb") else ["x86_64/libhll_c.s"]
 
 
-def tools(package, told):
-    """What built it: the prover, which compiles what it has proved, and for what stands around that the others."""
-    kit, _, logic = told["kit"].partition(" logic ")
-    yield part(kit, logic, "NOASSERTION", comment="proves the crates, and compiles them with its libraries")
+def contents(package):
+    """The proved parts of a package, and what of others was compiled into them."""
+    verdict = prebuilt.committed()
+    texts = texts_in(package)
+    for path in texts:
+        checksums = [{"algorithm": "SHA256", "checksumValue": verdict.files[path]}]
+        yield part("prebuilt-" + path.replace("/", "-"), verdict.sources[:12], checksums=checksums, comment="proved: " + verdict.said[path][-1])
+    others = [RUNTIME] * bool(texts) + [HEX] * any("hll_merge" in path or "hll_words" in path for path in texts)
+    yield from (part(name, version, licence, comment=comment) for name, version, licence, comment in others)
+
+
+def tools(package):
+    """What built it: the prover, whose compiler made the text, and what assembled and packed it."""
+    kit, _, logic = prebuilt.committed().prover.partition(" logic ")
+    yield part(kit, logic, "NOASSERTION", comment="proves the crates, and compiles them to the text of prebuilt/")
     python = ["/usr/bin/python3", "-c", "import sys, importlib; print(importlib.import_module(sys.argv[1]).__version__)"]
-    asked = {"aarch64-linux-gnu-gcc" if "aarch64" in package.name else "gcc": ["-dumpfullversion"], "ld": ["--version"]}
+    asked = {"aarch64-linux-gnu-gcc" if "aarch64" in package.name else "gcc": ["-dumpfullversion"], "as": ["--version"], "ld": ["--version"]}
     asked = {name: [name, *words] for name, words in asked.items() if not package.name.endswith("_all.deb")}
     if package.suffix == ".deb":
         asked["dpkg-buildpackage"] = ["dpkg-buildpackage", "--version"]
@@ -93,11 +98,12 @@ def needed_by(file):
         yield "glibc", ">= %s.%s" % tuple(re.search(r"manylinux_(\d+)_(\d+)", file.name).groups()) if "manylinux" in file.name else "NOASSERTION"
 
 
-def related(file, dist, version, told):
+def related(file):
     """Parts and relations of a package: triples of a part, a relation, and whether that is said of the package."""
-    yield from ((one, "CONTAINS", True) for one in contents(file, dist, version, told))
-    yield part("datasketches", "0.6.0", comment="the Rust crate whose module hll is ported"), "DESCENDANT_OF", True
-    yield from ((one, "BUILD_TOOL_OF", False) for one in tools(file, told))
+    yield from ((one, "CONTAINS", True) for one in contents(file))
+    yield part("datasketches", "0.6.0", comment="the Rust crate whose module hll is ported",
+               copyrightText="Copyright 2025-2026 The Apache Software Foundation"), "DESCENDANT_OF", True
+    yield from ((one, "BUILD_TOOL_OF", False) for one in tools(file))
     wanted = {}
     for name, one in needed_by(file):
         wanted.setdefault(name, []).append(one)
@@ -109,12 +115,12 @@ def relation(left, kind, right):
     return {"spdxElementId": left, "relationshipType": kind, "relatedSpdxElement": right}
 
 
-def document(file, dist, version, epoch, told):
+def document(file, version, epoch):
     """The bill of one package."""
     root = of_file(file.name, file, version, primaryPackagePurpose=KINDS.get(file.suffix, "APPLICATION"))
     own = root["SPDXID"] = "SPDXRef-Package"
     parts, relations = [root], [relation("SPDXRef-DOCUMENT", "DESCRIBES", own)]
-    for one, kind, is_of_package in related(file, dist, version, told):
+    for one, kind, is_of_package in related(file):
         parts.append(one)
         relations.append(relation(own, kind, one["SPDXID"]) if is_of_package else relation(one["SPDXID"], kind, own))
     return {
@@ -125,9 +131,9 @@ def document(file, dist, version, epoch, told):
     }
 
 
-def put(dist, version, epoch, told):
-    """Writes the bill of each package beside it."""
+def put(dist, version, epoch):
+    """Writes the bill of each package next to it."""
     for file in sorted(dist.iterdir()):
-        if file.suffix not in (".json", ".md", ".verdict"):
-            bill = json.dumps(document(file, dist, version, epoch, told), indent=1)
+        if file.suffix in KINDS:
+            bill = json.dumps(document(file, version, epoch), indent=1)
             (dist / (file.name + ".spdx.json")).write_text(bill + "\n")

@@ -8,13 +8,12 @@ names     Files and sections that a page or a source names are there; names in b
           pages for reviewers are declared there; a clause is one of the function that it is said of; commands name programs,
           parts and options that there are; tables that are made from the sources are theirs (scripts/tables.py); what
           README.md tells of speed is in docs/NUMBERS.md.
-words     Each page has at most the words that it may have (`MOST_WORDS`).
-commands  The blocks of README.md run as they stand, in a folder without a reader's files, and print what these say; so do
-          commands of docs/PLAN.md and docs/OPERATING.md, by bench/scale.py where they need an engine.
+words     README.md has at most 1,000 words.
+commands  The blocks of README.md run as they are, in a folder without a reader's files, and print what a line `#> ..` after
+          them says; so do commands of docs/PLAN.md and docs/OPERATING.md, by bench/scale.py where they need an engine.
 plans     The plans of docs/FAULTS.md have the answers told there.
 
-Commands and plans need the library of bindings/c and the programs, which are built where they are not up to date.
-HLL_MERGE and HLL_WORDS may name programs that are built already, LIBHLL_C the archive of the library.
+Commands and plans need the programs in bin/ (make -C programs); commands build the library where it is not up to date.
 """
 import fnmatch
 import functools
@@ -41,26 +40,10 @@ SKIPPED_FOLDERS = {"out", "build", "dist", ".git", "target", "__pycache__"}
 SOURCES = {".rt", ".antt", ".py", ".c", ".h", ".sh", ".sql", ".rs", ".edit", ".map", ".control", ".toml", ".txt", ".plan", ""}
 # These pages speak of another library's names.
 OTHERS = {"DIFFERENCES.md", "FAULTS.md"}
-# The check itself.
-NO_COMMANDS = ("./check",)
-# How many words pages may have together, code apart. Each page is in one row.
-MOST_WORDS = (
-    (900, "README.md"),
-    (400, "docs/INSTALL.md"),
-    (3500, "bindings/*/README.md"),
-    (2800, "docs/FORMAT.md"),
-    (1300, "docs/PLAN.md"),
-    (2000, "docs/OPERATING.md", "SECURITY.md"),
-    (2500, "docs/PROVED.md"),
-    (4000, "docs/MODEL.md"),
-    (4500, "docs/ARCHITECTURE.md", "CONTRIBUTING.md", "CALLING.md"),
-    (2000, "docs/NUMBERS.md"),
-    (2500, "docs/DECISIONS.md"),
-    (2000, "docs/DIFFERENCES.md", "docs/FAULTS.md"),
-    (1600, "crates/*/README.md"),
-    (1200, "CHANGELOG.md"),
-    (120, "examples/README.md"),
-)
+# Not run: the check itself, and what installs packages of a release.
+NO_COMMANDS = ("./check", "apt-get")
+# How many words README.md may have, code apart.
+MOST_WORDS = 1000
 
 
 def files_of_project():
@@ -80,7 +63,7 @@ def pages():
 
 def named_files(text):
     """Paths that a page names: those in one of the project's folders, and pages."""
-    folders = r"(?:docs|bindings|bench|crates|debian|examples|man|packaging|scripts)"
+    folders = r"(?:docs|bindings|bench|crates|debian|examples|man|mutants|packaging|prebuilt|programs|scripts)"
     for match in re.finditer(rf"(?<![\w./-])({folders}/[\w./-]*\w/?)", text):
         yield match.group(1)
     for match in re.finditer(r"\]\(([^)#:]+)\)", text):
@@ -354,7 +337,8 @@ def faults_of_python(code):
 
 def faults_of_others(code):
     for words in calls_of(r"\./check", code):
-        parts = {*re.findall(r"^    (\w+)\) \1 ;;$", (ROOT / "check").read_text(), re.M), *(path.parent.name for path in ROOT.glob("bindings/*/check"))}
+        text = (ROOT / "check").read_text()
+        parts = {*re.findall(r"^ +(--[\w-]+|\w+)\) ", text, re.M), *(path.parent.name for path in ROOT.glob("bindings/*/check"))}
         yield from (f"no part {word} of ./check" for word in words if word not in parts)
     for words in calls_of("rt", code):
         yield from (f"no command rt {word}" for word in words[:1] if word not in TOOLCHAIN)
@@ -412,19 +396,11 @@ def words_of_page(page):
 
 
 def check_words():
-    """One test for each row of pages: they have no more words than they may; and each page is in a row."""
-    failed, seen = 0, set()
-    for most, *patterns in MOST_WORDS:
-        found = [page for pattern in patterns for page in sorted(ROOT.glob(pattern))]
-        count = sum(map(words_of_page, found))
-        seen.update(found)
-        if count > most or not found:
-            print(f"{', '.join(patterns)}: {count} words, and {most} at most")
-            failed += 1
-    others = [page for page in pages() if page not in seen]
-    print("".join(f"{page.relative_to(ROOT)}: no row of MOST_WORDS has it\n" for page in others), end="")
-    failed += bool(others)
-    return len(MOST_WORDS) + 1 - failed, failed
+    """README.md has no more words than it may."""
+    count = words_of_page(ROOT / "README.md")
+    if count > MOST_WORDS:
+        print(f"README.md: {count} words, and {MOST_WORDS} at most")
+    return (1, 0) if count <= MOST_WORDS else (0, 1)
 
 
 # ---- commands
@@ -446,19 +422,16 @@ def indented_blocks(text):
 
 
 def steps_of(block):
-    """Pairs of a command and what it prints; None where the block doesn't say."""
-    if not block.startswith("$ "):
-        return [(block, None)]
-    parts = re.split(r"^\$ ", block, flags=re.M)[1:]
-    return [tuple(part.split("\n", 1)) if "\n" in part else (part, "") for part in parts]
+    """Pairs of commands and what they print, which lines `#> ..` after them say; None where there are none."""
+    parts = re.findall(r"((?:^(?!#> ).*\n)+)((?:^#> .*\n)*)", block + "\n", re.M)
+    return [(commands, re.sub("^#> ", "", wanted, flags=re.M) if wanted else None) for commands, wanted in parts]
 
 
 def make_scratch(folder):
     """A folder that looks like the checkout, and has the command `hll` in a folder of programs; nothing is installed by it."""
-    named = {"hll_merge": os.environ.get("HLL_MERGE"), "hll_words": os.environ.get("HLL_WORDS")}
     for path in ROOT.iterdir():
         if path.name != ".git":
-            (folder / path.name).symlink_to(named.get(path.name) or path)
+            (folder / path.name).symlink_to(path)
     (folder / ".bin").mkdir()
     hll = folder / ".bin" / "hll"
     hll.write_text(f'#!/bin/sh\nPYTHONPATH={ROOT}/bindings/python exec {sys.executable} -B -m hll_sketches "$@"\n')
@@ -473,7 +446,7 @@ def run_step(command, wanted, folder, environment):
     ran = subprocess.run(["bash", "-c", script], cwd=folder, capture_output=True, text=True, env=environment)
     if ran.returncode == 0:
         environment.update(line.split("=", 1) for line in exported.read_text().split("\0") if line)
-    is_right = ran.returncode == 0 and (wanted is None or ran.stdout.rstrip() == wanted.rstrip())
+    is_right = ran.returncode == 0 and (wanted is None or ran.stdout == wanted)
     if not is_right:
         print(f"{command}\n  status {ran.returncode}, printed:\n{ran.stdout}{ran.stderr}")
     return is_right
@@ -504,7 +477,7 @@ def run_scale():
 
 def check_commands():
     """One test for each command of the pages for users."""
-    results = run_page("README.md") + run_page("docs/PLAN.md", "./")
+    results = run_page("README.md") + run_page("docs/PLAN.md", "bin/")
     results += run_page("docs/OPERATING.md", "hll ", "mkdir sketches && hll new sketches/1.hll") + run_scale()
     return results.count(True), results.count(False)
 
@@ -528,11 +501,9 @@ def plans_of_faults():
 
 def check_plans():
     """One test for each plan: the program answers as the page says."""
-    # what is said while the program is built is no answer
-    subprocess.run([ROOT / "hll_merge"], input="new 4 8\n", capture_output=True, text=True)
     failed = 0
     for plan, told in plans_of_faults():
-        ran = subprocess.run([ROOT / "hll_merge"], input=plan, capture_output=True, text=True)
+        ran = subprocess.run([ROOT / "bin" / "hll_merge"], input=plan, capture_output=True, text=True)
         answer = (ran.stdout + ran.stderr).strip()
         if answer != told:
             failed += 1

@@ -1,11 +1,14 @@
 #!/usr/bin/env python3
 # SPDX-License-Identifier: Apache-2.0
-"""Runs both programs at the top, hll_merge and hll_words, on texts that they accept and refuse, and compares what they print
+"""Runs both programs in bin/, hll_merge and hll_words, on texts that they accept and refuse, and compares what they print
 on either stream and their status. Prints 'N passed, M failed' at the end.
 
-A refused run prints one line on standard error and nothing for the refused line on standard output, and ends with 1.
+A refused run prints one line on standard error and nothing for the refused line on standard output, and ends with 1. The same
+runs are made with the programs for 64-bit ARM, in an emulator, where a cross compiler and qemu are here.
 """
+import os
 import pathlib
+import shutil
 import subprocess
 import sys
 
@@ -39,20 +42,36 @@ FULL = [
 
 def differs(program, given, wanted, out):
     """What a run gives in place of what is wanted, if it does."""
-    ran = subprocess.run([str(ROOT / program)], input=given, stdout=out, stderr=subprocess.PIPE, check=False)
+    ran = subprocess.run(program, input=given, stdout=out, stderr=subprocess.PIPE, check=False)
     got = (ran.stdout or b"", ran.stderr, ran.returncode)
     return None if got == wanted else got
 
 
-def main():
-    faults = []
-    for program in ("hll_merge", "hll_words"):          # builds them, which they say on standard error
-        subprocess.run([str(ROOT / program)], input=b"", capture_output=True, check=False)
+def faults_of(words, folder):
+    """Runs the programs of a folder, each by these words and its path; returns the faults, with None for each right run."""
     for program, given, out, err, status in RUNS:
-        faults.append((program, given, differs(program, given, (out, err, status), subprocess.PIPE)))
+        yield program, given, differs([*words, str(folder / program)], given, (out, err, status), subprocess.PIPE)
     with open("/dev/full", "wb") as full:
         for program, given, err, status in FULL:
-            faults.append((program, given, differs(program, given, (b"", err, status), full)))
+            yield program, given, differs([*words, str(folder / program)], given, (b"", err, status), full)
+
+
+def built_for_arm():
+    """How programs for 64-bit ARM are run here, and their folder; None where they can't be built or run."""
+    target = "aarch64-unknown-linux-gnu"
+    if os.uname().machine == "aarch64" or not (shutil.which("aarch64-linux-gnu-gcc") and shutil.which("qemu-aarch64")):
+        return None
+    subprocess.run(["make", "-s", "-C", ROOT / "programs", "TARGET=" + target], check=True)
+    return ["qemu-aarch64", "-L", "/usr/aarch64-linux-gnu"], ROOT / "bin" / target
+
+
+def main():
+    faults = list(faults_of([], ROOT / "bin"))
+    arm = built_for_arm()
+    if arm:
+        faults += faults_of(*arm)
+    else:
+        print("skipped: the programs for 64-bit ARM, as aarch64-linux-gnu-gcc or qemu-aarch64 is not here")
     for program, given, got in faults:
         if got:
             print("FAIL: %s on %r gives %r" % (program, given[:60], got))

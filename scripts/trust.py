@@ -1,12 +1,12 @@
 #!/usr/bin/env python3
 # SPDX-License-Identifier: Apache-2.0
-"""Prints, as a table, what there is to trust in libhll: what is proved and by what, what the proof takes as given, who compiles
-it, how much of the library's code is proved, and what is tested only.
+"""Prints, as a table, what has to be trusted in libhll: what is proved and by what, what the proof takes as given, who compiles
+it, how much of the library's code is proved, and what is only tested.
 
     scripts/trust.py
 
-It is made of what the prover said of the archives that are kept (scripts/keep_built.py), and of libraries that are built of
-them in a scratch folder: their symbols, and their answers on all worked rows. Needs make, a C compiler and binutils.
+The table is made from prebuilt/VERDICT, which has the prover's last lines, and from a library that is built from prebuilt/ in a
+scratch folder: its symbols, and its results on all test vectors. Needs make, a C compiler and binutils.
 """
 import collections
 import os
@@ -20,31 +20,29 @@ import tempfile
 ROOT = pathlib.Path(__file__).resolve().parent.parent
 sys.dont_write_bytecode = True
 sys.path.insert(0, str(ROOT / "scripts"))
-import keep_built  # noqa: E402
+import prebuilt  # noqa: E402
 
 C = ROOT / "bindings" / "c"
 OWN = ("estimate", "unwanted", "heap")
-COMPILERS = {"llvm": "LLVM", "rattle": "the kit's own compiler"}
+TEXT = "%s/libhll_c.s" % os.uname().machine
 
 
 def run(*words, cwd):
-    environment = {name: value for name, value in os.environ.items() if name not in ("MAKEFLAGS", "LIBHLL_C", "CFLAGS")}
+    environment = {name: value for name, value in os.environ.items() if name not in ("MAKEFLAGS", "CFLAGS")}
     ran = subprocess.run(list(map(str, words)), cwd=cwd, env=environment, stdout=subprocess.PIPE, text=True, check=True)
     return ran.stdout
 
 
-def built(room, compiler):
-    """The folder of a library, built of the archive that this compiler made."""
-    place = room / compiler
-    place.mkdir()
+def built(place):
+    """Builds the library in a scratch folder, and returns the folder of what was built."""
     for file in [*C.glob("*.[ch]"), C / "Makefile", C / "hll.map", C / "hll.pc.in"]:
         shutil.copy(file, place)
-    run("make", "-s", "all", "LIBHLL_C=%s" % keep_built.kept_archive(compiler=compiler), cwd=place)
+    run("make", "-s", "all", "PROVED=%s" % (prebuilt.PREBUILT / TEXT), cwd=place)
     return place / "build"
 
 
 def answers_on_rows(build):
-    """How many worked rows are run by a library, and how many of their checks fail."""
+    """How many test vectors a library runs, and how many of their checks fail."""
     run("cc", "-std=c99", "-O1", "-w", "-I%s" % C, "-o", build / "rows", C / "test" / "rows.c", build / "libhll.a", "-pthread", cwd=build)
     ran = subprocess.run([str(build / "rows"), str(ROOT / "crates/hll_vectors/stdin")], stdout=subprocess.PIPE, text=True)
     found = re.search(r"^(\d+) rows were run.*(?:\n.*)*: \d+ passed, (\d+) failed$", ran.stdout, re.M)
@@ -61,7 +59,7 @@ def sizes(library):
 def shares(build):
     """Bytes of the code of libhll.so: by who says what they are, the proof or a file of C."""
     left, found = sizes(build / "libhll.so"), {}
-    for part in ("proved.a", *(name + ".o" for name in OWN)):
+    for part in ("proved.o", *(name + ".o" for name in OWN)):
         taken = sizes(build / part) & left
         found[part] = sum(size * many for (_, size), many in taken.items())
         left -= taken
@@ -72,7 +70,7 @@ def shares(build):
 def calls(build):
     """The calls of the library: those that are proved, those that hand over to a proved one, and those that are C alone."""
     names = re.findall(r"^ *(hll_\w+);$", (C / "hll.map").read_text(), re.M)
-    proved = {name for name, _ in sizes(build / "proved.a")}
+    proved = {name for name, _ in sizes(build / "proved.o")}
     handed = [name for name in names if "proved_" + name in proved]
     direct = [name for name in names if name in proved]
     return direct, handed, [name for name in names if name not in direct + handed]
@@ -83,51 +81,47 @@ def words_of(verdict):
     return dict(word.split("=", 1) for word in verdict.split())
 
 
-def rows_on_proof(told):
+def rows_on_proof(verdict):
     """What the prover said."""
     libraries = re.search("^hll_c staticlib: (.*)$", (ROOT / "crates.txt").read_text(), re.M)[1].replace(" ", ", ")
-    yield "proved by", told["kit"]
-    for target, lines in told["said"].items():
+    yield "proved by", verdict.prover
+    for path, lines in sorted(verdict.said.items()):
         words = words_of(lines[-1])
-        yield "proved for " + target.partition("-")[0], "hll_c, %s functions, over the statements of %s: `%s`" % (
-            words["functions"], libraries, lines[-1])
-    words = words_of(told["said"][keep_built.X86][-1])
+        over = ", over the contracts of %s" % libraries if path.endswith("libhll_c.s") else ""
+        yield "proved: %s" % path, "%s functions%s: `%s`" % (words["functions"], over, lines[-1])
+    words = words_of(verdict.said[TEXT][-1])
     yield "taken as given by the proof", "the logic `%s`; what the prover computes by itself: %s; as they were proved before: %s" % (
         words["sum"], words["native"].replace(",", ", "), ", ".join(sorted(name for name, value in words.items() if value == "trusted")))
-    lines = [line.partition(" ")[2] for line in told["said"][keep_built.X86][:-1] if ": none reached" not in line]
+    lines = [line.partition(" ")[2] for line in verdict.said[TEXT][:-1] if ": none reached" not in line]
     yield "axioms: contracts of functions in C", "%s, which heap.c is trusted to keep: %s" % (words.get("axioms", "0"), "; ".join(lines) or "none")
 
 
-def rows_on_library(builds):
-    """What the built libraries show."""
-    answers = {name: answers_on_rows(build) for name, build in builds.items()}
-    for name, (rows, failed) in answers.items():
-        yield "compiled by %s" % COMPILERS[name], "which is not proved; %d worked rows, %d answers that differ" % (rows, failed)
-    build = builds["llvm"]
+def rows_on_library(build):
+    """What the built library shows."""
+    yield "compiled by", "LLVM, which is not proved; %d test vectors, %d results that differ" % answers_on_rows(build)
     found = shares(build)
     whole = sum(found.values())
-    yield "code of libhll.so", "%d bytes, of which %.1f %% are proved" % (whole, 100 * found["proved.a"] / whole)
-    yield "tested only", ", ".join("%s.c %d bytes" % (name, found[name + ".o"]) for name in OWN) + ", others %d" % found["rest"]
+    yield "code of libhll.so", "%d bytes, of which %.1f %% are proved" % (whole, 100 * found["proved.o"] / whole)
+    yield "only tested", ", ".join("%s.c %d bytes" % (name, found[name + ".o"]) for name in OWN) + ", others %d" % found["rest"]
     direct, handed, own = calls(build)
     yield "proved calls", "%d; and %d through unwanted.c, where NULL is allowed" % (len(direct), len(handed))
-    yield "calls that are tested only", ", ".join("`%s`" % name for name in own)
-    yield "around it, tested only", "Python, PostgreSQL, SQLite, Dask: bindings/"
+    yield "calls that are only tested", ", ".join("`%s`" % name for name in own)
+    yield "around it, only tested", "Python, PostgreSQL, SQLite, Dask: bindings/"
 
 
-def table(told):
+def table():
     """The table, in Markdown."""
     with tempfile.TemporaryDirectory() as room:
-        builds = {name: built(pathlib.Path(room), name) for name in COMPILERS}
-        rows = [*rows_on_proof(told), *rows_on_library(builds)]
+        rows = [*rows_on_proof(prebuilt.committed()), *rows_on_library(built(pathlib.Path(room)))]
     return "\n".join(["| of libhll | |", "|---|---|", *("| %s | %s |" % row for row in rows)])
 
 
 def main():
-    told = keep_built.kept()
-    if told is None:
-        print("no table of what to trust: nothing proved is kept for the sources as they stand")
+    state = prebuilt.asked("state")
+    if state != "fresh" or not (shutil.which("make") and shutil.which("cc")):
+        print("no table: prebuilt/ is %s, or make or a C compiler is not here" % state)
         return 1
-    print(table(told))
+    print(table())
     return 0
 
 

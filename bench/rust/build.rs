@@ -1,3 +1,4 @@
+// SPDX-License-Identifier: Apache-2.0
 //! Proves and builds the static library `hll_bench`, and links it and the toolchain's calls of `malloc`.
 use std::path::{Path, PathBuf};
 use std::process::Command;

@@ -1,15 +1,17 @@
 # SPDX-License-Identifier: Apache-2.0
-"""Puts the shared library of the checkout into the package, where it is built.
+"""Builds the package with the shared library of the checkout inside.
 
-A wheel with it is for one operating system and kind of processor, and for each Python 3; one
-without it is for all, and takes the library from the system. LIBHLL in the environment names
-another library; where it is empty, there is none.
+The library is built by `make` from assembler text (prebuilt/README.md), which takes a C compiler and
+a second. LIBHLL in the environment names another library; where it is empty, none is put inside, and
+the package takes the system's. Without a library that can be built or was named, nothing is built.
+A wheel with a library is for one operating system and kind of processor, and for each Python 3.
 """
 import os
 import pathlib
 import re
 import shutil
 import subprocess
+import sys
 
 from setuptools import Distribution, setup
 from setuptools.command.build_py import build_py
@@ -19,9 +21,10 @@ try:
 except ImportError:  # before setuptools 70.1
     from wheel.bdist_wheel import bdist_wheel
 
-BUILT = pathlib.Path(__file__).resolve().parent.parent / "c" / "build" / "libhll.so"
-LIBRARY = pathlib.Path(os.environ.get("LIBHLL", BUILT))
-HAS_LIBRARY = LIBRARY.is_file()
+C = pathlib.Path(__file__).resolve().parent.parent / "c"
+NAMED = os.environ.get("LIBHLL")
+HAS_LIBRARY = NAMED != ""
+LIBRARY = pathlib.Path(NAMED) if NAMED else C / "build" / "libhll.so"
 MACHINES = {"Advanced Micro Devices X86-64": "x86_64", "AArch64": "aarch64"}
 OF_GLIBC = {"libc.so.6", "libm.so.6"}
 OLDEST = 17
@@ -44,12 +47,30 @@ def platform_of(library):
     return "manylinux_2_%d_%s" % (max(OLDEST, *symbols), machine)
 
 
+def build_library():
+    """Builds the library of the checkout, or ends with a line that says why it can't be built."""
+    if not (C / "Makefile").is_file():
+        sys.exit(
+            "hll_sketches: there is no C library to put into the package, as this folder isn't in a"
+            " checkout. Install from a checkout, or name a library: LIBHLL=/path/to/libhll.so"
+        )
+    missing = [tool for tool in ("make", os.environ.get("CC", "cc")) if not shutil.which(tool)]
+    if missing:
+        sys.exit("hll_sketches: %s is needed to build the C library" % " and ".join(missing))
+    done = subprocess.run(["make", "-s", "-C", str(C), "build/libhll.so"])
+    if done.returncode:
+        sys.exit("hll_sketches: the C library can't be built in %s" % C)
+
+
 class BuildWithLibrary(build_py):
     def run(self):
         super().run()
         inside = pathlib.Path(self.build_lib, "hll_sketches", "libhll.so")
         if HAS_LIBRARY:
-            shutil.copyfile(LIBRARY, inside)
+            if NAMED is None:
+                build_library()
+            if not getattr(self, "editable_mode", False):
+                shutil.copyfile(LIBRARY, inside)
         elif inside.exists():
             inside.unlink()  # of an earlier build
 

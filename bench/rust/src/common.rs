@@ -1,3 +1,4 @@
+// SPDX-License-Identifier: Apache-2.0
 //! Registers as plain bytes, and the processor time of a piece of work beside another.
 //!
 //! Two pieces of work run in turn, and what is told of them is the median of the ratios of their pairs, with the medians of

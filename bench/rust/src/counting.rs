@@ -1,3 +1,4 @@
+// SPDX-License-Identifier: Apache-2.0
 //! The instructions of a piece of work, as callgrind counts them.
 //!
 //! A program that is called with the word `instructions` runs itself again under callgrind for each row of the smaller

@@ -1,3 +1,4 @@
+// SPDX-License-Identifier: Apache-2.0
 //! Measures the hash: nanoseconds for 8, 32 and 1,024 bytes, beside the same hash written plainly here. Both answers are
 //! compared for every length up to 1,024 first.
 #[allow(dead_code)]

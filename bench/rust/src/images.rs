@@ -1,3 +1,4 @@
+// SPDX-License-Identifier: Apache-2.0
 //! Measures images at `lg_k` 12 and 21: reads and writes of registers of eight, six and four bits, beside a plain copy of
 //! the bytes of the image. Writes are of registers that were made by updates or conversions, which know how many are 0, and
 //! at eight and six bits of registers that were read too, which have to count. The two of each pair have to agree.

@@ -1,3 +1,4 @@
+// SPDX-License-Identifier: Apache-2.0
 //! Measures the kernels over slices of bytes at `lg_k` 12 and 21: the maximum of two, the count of zeros, the test for all
 //! zeros, the sum of weights, and nibbles that are lowered, beside the same loops written plainly here. The two of each
 //! pair have to agree.

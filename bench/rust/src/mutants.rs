@@ -1,3 +1,4 @@
+// SPDX-License-Identifier: Apache-2.0
 //! Reads mutated images of every stage and width by `HllSketch::deserialize`: each that is accepted is written, read
 //! back and equal. Prints how many were answered how. With a file as argument, the first images of each kind and their
 //! answers are written there, for bench/plain_reader.py to compare.

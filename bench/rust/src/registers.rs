@@ -1,3 +1,4 @@
+// SPDX-License-Identifier: Apache-2.0
 //! Measures registers at `lg_k` 12 and 21: merges of eight, six and four bits into eight, a fold to half as many registers,
 //! conversions to six and four bits, updates, and `is_empty`, `num_zeros` and `kxq_units` on zeros and on filled registers,
 //! beside the same loops over plain slices of bytes here. Updates of four bits stand beside those of eight bits of the same

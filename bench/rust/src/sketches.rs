@@ -1,3 +1,4 @@
+// SPDX-License-Identifier: Apache-2.0
 //! Measures sketches: updates through all stages from empty, beside updates of plain bytes; updates of a set by
 //! coupons that it has, beside std's `HashSet`; and reads and writes of images of each stage and width, beside a plain
 //! copy of the bytes. The two of each pair have to agree.

@@ -1,3 +1,4 @@
+// SPDX-License-Identifier: Apache-2.0
 //! Measures unions: 1,000 sketches of each width and of `lg_k` 12, 13 and 15 into one union of bound 12, beside merges of
 //! the same registers alone. The two of each pair have to agree. Both make the sketches once, before as many rounds as make
 //! that a small part of the time, and nothing is subtracted.

@@ -1,8 +1,12 @@
 #!/bin/sh
 # SPDX-License-Identifier: Apache-2.0
-# Builds and runs all tests of the C library, where `make` has built it: run.sh BUILD, in the folder of hll.h. `make
-# check` calls it. Each test prints what it ran and 'N passed, M failed'; the last line sums them, and the status is 1
-# if one failed. What can't be run here, for want of a program, is named.
+# Builds and runs the tests of the C library, in the folder of hll.h:
+#
+#   run.sh BUILD            all tests of the library that `make` has built in BUILD; `make check` calls it so
+#   run.sh BUILD PROVED     tests of the calls, over a library that is built here from another build of the proved library
+#
+# Each test prints what it ran and 'N passed, M failed'; the last line sums them, and the status is 1 if one failed. What
+# can't be run here, for want of a program, is named.
 set -u
 
 build=$1
@@ -13,7 +17,8 @@ strict='-Wall -Wextra -pedantic -Werror'
 test_flags="$strict -Wno-unused-function -O1 -g -std=c99"
 wraps='-Wl,--wrap=malloc,--wrap=calloc,--wrap=realloc,--wrap=aligned_alloc,--wrap=posix_memalign,--wrap=free'
 rows=../../crates/hll_vectors/stdin
-proved=${LIBHLL_C:-$(cd ../../crates/hll_c && pwd)/out/libhll_c.a}
+top=$(cd ../.. && pwd)
+text=$top/prebuilt/$($CC -dumpmachine | cut -d- -f1)/libhll_c.s
 arm=aarch64-unknown-linux-gnu
 version=$(sed -n 's/^#define HLL_VERSION_[A-Z]* \([0-9]*\)$/\1/p' hll.h | paste -sd. -)
 passed=0
@@ -210,69 +215,65 @@ try_readme() {
         [ "$(wc -l <"$tests/refused")" -eq 1 ]
 }
 
-# Makes a folder anew and builds the libraries there, of an archive of the crate hll_c.
+# Builds the libraries in a new folder, from a build of the proved library.
 make_in() {
     rm -rf "$1"
     mkdir "$1" || return 1
     cp Makefile ./*.[ch] hll.map hll.pc.in "$1" || return 1
-    make -s -C "$1" LIBHLL_C="$2" all
+    make -s -C "$1" PROVED="$2" all
 }
 
-# Builds the libraries in two folders, of the same archive: they are the same bytes.
+# Builds the libraries in two folders, from the same text: they are the same bytes.
 try_two_folders() {
     for place in one another-folder; do
-        make_in "$tests/$place" "$proved" || return 1
+        make_in "$tests/$place" "$text" || return 1
     done
     cmp "$tests/one/build/libhll.so" "$tests/another-folder/build/libhll.so" || return 1
     cmp "$tests/one/build/libhll.a" "$tests/another-folder/build/libhll.a"
 }
 
-# Builds the archive by the toolchain's own compiler, beside LLVM's, if the gate has left none that is as new.
-build_other() {
-    out=$(cd ../../crates/hll_c/out && pwd) || return 1
-    [ "$out/libhll_c_rattle.a" -nt "$out/libhll_c.a" ] && return
-    cp -p "$out/libhll_c.a" "$tests/libhll_c.a" || return 1
-    (cd "$out/.." && rt lib --backend rattle) && mv "$out/libhll_c.a" "$out/libhll_c_rattle.a"
-    status=$?
-    cp -p "$tests/libhll_c.a" "$out/libhll_c.a" && return $status
-}
-
-# The calls, as that compiler builds them.
-test_other_compiler() {
-    if [ -n "${LIBHLL_C:-}" ] || ! has rt; then
-        skip 'the library by the other compiler' "$(has rt && echo 'its crate' || echo rt)"
-        return
-    fi
-    expect 'the archive by the other compiler' build_other
-    expect 'the library by the other compiler' make_in "$tests/other" "$(cd ../../crates/hll_c/out && pwd)/libhll_c_rattle.a"
+# The calls, over another build of the proved library.
+test_other_build() {
+    expect 'the library' make_in "$tests/other" "$1"
     for name in calls buffers rows registers; do
         compile "$name-other" "$tests/other/build/libhll.a"
     done
-    run 'calls, other compiler' "$tests/calls-other"
-    run 'buffers, other compiler' "$tests/buffers-other"
-    run 'rows, other compiler' "$tests/rows-other" "$rows"
-    run 'registers, other compiler' "$tests/registers-other" 500
+    run calls "$tests/calls-other"
+    run buffers "$tests/buffers-other"
+    run rows "$tests/rows-other" "$rows"
+    run registers "$tests/registers-other" 500
 }
 
-# Without the command rt, make ends with a line that says so and what to do, but where it is given what was proved elsewhere.
-# (The links to the tools that there are go again: `rt ci` takes none in a checkout.)
+# `make` where the command rt isn't, in a copy of what it needs: from prebuilt/ it builds the same library; where a source
+# or a text has changed it builds nothing, and says why.
 make_without_rt() {
+    rm -rf "$place/bindings/c/build"
     PATH=$place/tools make -C "$place/bindings/c" --no-print-directory "$@" >"$tests/said" 2>&1
 }
 
 try_without_rt() {
-    place=$(pwd)/$tests/without-rt
-    rm -rf "$place"
-    mkdir -p "$place/tools" "$place/crates/hll_c" "$place/bindings/c" || return 1
-    touch "$place/crates.txt"
-    cp Makefile ./*.[ch] hll.map hll.pc.in "$place/bindings/c" || return 1
-    for tool in make sh mkdir find getconf sed cc as ld ar objcopy cp mv rm; do
+    place=$(mktemp -d) || return 1
+    mkdir -p "$place/tools" "$place/bindings/c" || return 1
+    cp -R "$top/prebuilt" "$place" && cp Makefile ./*.[ch] hll.map hll.pc.in "$place/bindings/c" || return 1
+    (cd "$top" && tar -cf - --exclude=out --exclude=must-fail crates crates.txt HANDLES scripts/prebuilt.sh scripts/prebuilt.mk) |
+        tar -xf - -C "$place" || return 1
+    for tool in make sh mkdir find sed cc as ld ar objcopy cp mv rm awk sort tr xargs sha256sum cut cat grep dirname; do
         ln -s "$(command -v $tool)" "$place/tools/$tool" || return 1
     done
-    ! make_without_rt && head -n 1 "$tests/said" | grep '^The command rt is not on the path' &&
-        make_without_rt -s LIBHLL_C="$proved" && cmp "$place/bindings/c/build/libhll.so" "$build/libhll.so"
+    make_without_rt -s && cmp "$place/bindings/c/build/libhll.so" "$build/libhll.so" &&
+        say_why 'a proved source has changed' crates/hll_base/src/lib.rt &&
+        say_why 'not as it was made' "prebuilt/${text#"$top/prebuilt/"}" && say_why 'not as it was made' prebuilt/VERDICT
     found=$?
     rm -rf "$place"
+    return $found
+}
+
+# Whether a line that is added to a file keeps the library from being built, and `make` says why.
+say_why() {
+    cp "$place/$2" "$place/kept" && echo '# changed' >>"$place/$2"
+    ! make_without_rt && grep "^make: .*$1" "$tests/said" && [ ! -e "$place/bindings/c/build/libhll.a" ]
+    found=$?
+    mv "$place/kept" "$place/$2"
     return $found
 }
 
@@ -302,11 +303,7 @@ test_arm() {
     for tool in aarch64-linux-gnu-gcc qemu-aarch64; do
         has $tool || { skip 'the library for 64-bit ARM' $tool; return; }
     done
-    if ! has rt && [ ! -f "../../crates/hll_c/out/libhll_c-$arm.a" ]; then
-        skip 'the library for 64-bit ARM' 'its archive, as rt,'
-        return
-    fi
-    env -u MAKEFLAGS -u LIBHLL_C -u CC -u CXX make -s emulated TARGET=$arm >"$tests/arm" 2>&1
+    env -u MAKEFLAGS -u CC -u CXX make -s emulated TARGET=$arm >"$tests/arm" 2>&1
     status=$?
     sed 's/^/64-bit ARM, /' "$tests/arm"
     grep ' passed, [0-9]* failed$' "$tests/arm" >"$tests/counts"
@@ -340,20 +337,23 @@ try_install() {
     [ -z "$(find "$place" ! -type d)" ]
 }
 
-test_header
-test_names
-test_expected
-test_calls
-test_memory
-test_sanitized
-expect 'the example' try_example "$build/example"
-expect 'the program of the README' try_readme
-expect 'install and uninstall' try_install
-expect 'without rt' try_without_rt
-test_processors
-test_other_compiler
-expect 'the same bytes from two folders' try_two_folders
-test_arm
+if [ $# -gt 1 ]; then
+    test_other_build "$2"
+else
+    test_header
+    test_names
+    test_expected
+    test_calls
+    test_memory
+    test_sanitized
+    expect 'the example' try_example "$build/example"
+    expect 'the program of the README' try_readme
+    expect 'install and uninstall' try_install
+    expect 'without rt' try_without_rt
+    test_processors
+    expect 'the same bytes from two folders' try_two_folders
+    test_arm
+fi
 
 echo "$passed passed, $failed failed"
 [ "$failed" -eq 0 ] && [ "$passed" -gt 0 ]

@@ -215,10 +215,10 @@ def readme(server):
         for wanted in re.findall(r"^--> (.*)$", block, re.M):
             check("%s: %s" % (name, wanted), wanted in lines, said)
     front, = re.findall(r"^```sql\n(.*?)^```$", (HERE.parent.parent / "README.md").read_text(), re.S | re.M)
-    days = server.ask("SELECT count(DISTINCT day) FROM daily", "metrics")
+    months = server.ask("SELECT count(DISTINCT date_trunc('month', day)) FROM daily", "metrics")
     said = server.run(front, "metrics").split("\n")
-    shown = [line for line in said if re.fullmatch(r"2026-11-\d\d\|\d+(\.\d+)?", line)]
-    equal("README at the top: a line a day", (str(len(shown)), len(said)), (days, len(shown)))
+    shown = [line for line in said if re.fullmatch(r"2026-\d\d-01 00:00:00\S*\|\d+(\.\d+)?", line)]
+    equal("README at the top: a line a month", (str(len(shown)), len(said)), (months, len(shown)))
     plan = server.ask("EXPLAIN (VERBOSE, COSTS OFF) SELECT hyperloglog_union_agg(image) FROM daily_eu", "metrics")
     check("README: the other server makes the union", "Remote SQL: SELECT public.hyperloglog_union_agg(image)" in plan, plan)
 

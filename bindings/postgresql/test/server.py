@@ -52,15 +52,12 @@ def find_pg_config():
 
 
 def find_tools():
-    """What builds the extension; what it is built on is built before, or named, or made by `rt`."""
+    """What builds the extension."""
     for command, packages in (("make", ["make"]), ("cc", ["gcc", "libc6-dev"])):
         if not shutil.which(command):
             get(*packages)
         if not shutil.which(command):
             raise Refused("the command %s is not here" % command)
-    built = HERE.parent / "c" / "build" / "libhll.a"
-    if not (os.environ.get("LIBHLL") or os.environ.get("LIBHLL_C") or built.exists() or shutil.which("rt")):
-        raise Refused("the command rt is not here to build the library")
 
 
 def folder(pg_config, name):

@@ -223,9 +223,8 @@ def _load() -> Dict[str, Call]:
     places = _places()
     if not places:
         raise ImportError(
-            "the shared library libhll.so is not here: build it by `make -C bindings/c` in a"
-            " checkout (which needs a C compiler, and the command rt or the archive"
-            " crates/hll_c/out/libhll_c.a), or install it, or name it in the environment variable"
+            "the shared library libhll.so is not here: build it by `make` in a checkout (which needs"
+            " a C compiler), or install it, or name it in the environment variable"
             " HLL_SKETCHES_LIBRARY"
         )
     try:

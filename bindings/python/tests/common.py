@@ -15,17 +15,15 @@ sys.path[:0] = [str(PACKAGE), str(ROOT / "bench")]
 
 
 def program():
-    """The program hll_merge: the one that HLL_MERGE names, or what the script of the checkout
-    builds; None if neither is here."""
+    """The program hll_merge: the one that HLL_MERGE names, or what the checkout builds; None if
+    neither can be had."""
     named = os.environ.get("HLL_MERGE")
     if named:
         return named
-    kept = ROOT / ".hll_merge" / "hll_merge"
-    if shutil.which("rt") is None and not kept.exists():
+    if shutil.which("make") is None or shutil.which("cc") is None:
         return None
-    plan = b"new 4 8\n"
-    done = subprocess.run([ROOT / "hll_merge"], input=plan, stdout=subprocess.DEVNULL)
-    return kept if done.returncode == 0 else None
+    done = subprocess.run(["make", "-s", "-C", ROOT / "programs"], stdout=subprocess.DEVNULL)
+    return ROOT / "bin" / "hll_merge" if done.returncode == 0 else None
 
 
 def ignore_precision(test):

@@ -319,12 +319,13 @@ class ScriptTest(LaidOut):
     def setUp(self):
         super().setUp()
         shutil.copytree(common.ROOT / "examples", self.folder / "examples")
-        self.write("hll_words", b"#!/bin/sh\nexec cat\n").chmod(0o755)
+        (self.folder / "bin").mkdir()
+        self.write("bin/hll_words", b"#!/bin/sh\nexec cat\n").chmod(0o755)
         program = common.program()
         if program is None:
-            self.write("hll_merge", STAND_IN.encode()).chmod(0o755)
+            self.write("bin/hll_merge", STAND_IN.encode()).chmod(0o755)
         else:
-            (self.folder / "hll_merge").symlink_to(program)
+            (self.folder / "bin" / "hll_merge").symlink_to(program)
 
     def run_script(self, *words, given=b""):
         """The status, and what a script writes to standard output and standard error."""

@@ -92,18 +92,24 @@ class BuildTest(CommandTest):
         (self.c / "build").mkdir()
         shutil.copyfile(library, self.c / "build" / "libhll.so")
 
-    def wheel(self):
-        """The wheel that is built, and the Python that built it."""
+    def pip_wheel(self, **more):
+        """What pip ended with, and the Python that ran it."""
         wanted = "pip", "setuptools", "wheel"
         pythons = [one for one in (sys.executable, SYSTEM) if has(one, *wanted)]
         if not pythons:
             self.skipTest("pip, setuptools and wheel are not here")
         python = pythons[0]
         words = ["-m", "pip", "wheel", "-q", "--no-build-isolation", "--no-deps", "-w", "wheels"]
-        subprocess.run(
-            [python, *words, "hll/bindings/python"], cwd=self.folder, env=plain_environment(),
-            check=True, capture_output=True,
+        done = subprocess.run(
+            [python, *words, "hll/bindings/python"], cwd=self.folder, capture_output=True,
+            env=plain_environment(**more), text=True,
         )
+        return done, python
+
+    def wheel(self, **more):
+        """The wheel that is built, and the Python that built it."""
+        done, python = self.pip_wheel(**more)
+        self.assertEqual(done.returncode, 0, done.stdout + done.stderr)
         (made,) = (self.folder / "wheels").iterdir()
         return made, python
 
@@ -129,16 +135,41 @@ class BuildTest(CommandTest):
         self.assertEqual((done.returncode, done.stderr), (0, ""))
         with zipfile.ZipFile(wheel) as archive:
             inside = archive.read("hll_sketches/libhll.so")
-            (licence,) = (name for name in names if name.endswith("LICENSE"))
-            self.assertEqual(archive.read(licence), (common.PACKAGE / "LICENSE").read_bytes())
+            for file in ("LICENSE", "NOTICE"):
+                (licence,) = (name for name in names if name.endswith(file))
+                self.assertEqual(archive.read(licence), (common.PACKAGE / file).read_bytes())
         self.assertEqual(inside, (BUILD / "libhll.so").read_bytes())
         self.assertIn("hll_sketches/py.typed", names)
 
-    def test_without_the_library(self):
+    def test_from_the_text(self):
+        """A copy of the checkout in which nothing is built: pip builds the library."""
+        shutil.rmtree(self.c)
+        for name in ("bindings/c", "prebuilt", "scripts"):
+            shutil.copytree(common.ROOT / name, self.root / name, ignore=shutil.ignore_patterns("build", "test"))
+        for name in ("HANDLES", "crates.txt"):
+            shutil.copyfile(common.ROOT / name, self.root / name)
+        shutil.copytree(common.ROOT / "crates", self.root / "crates", ignore=shutil.ignore_patterns("out", "must-fail"))
+        wheel, python = self.wheel()
+        names, done = self.run_from(wheel, python, "new", "a.hll")
+        self.assertEqual((done.returncode, done.stderr), (0, ""))
+        self.assertIn("hll_sketches/libhll.so", names)
+
+    def test_refused_outside_a_checkout(self):
+        """No wheel is made that could not work."""
+        shutil.rmtree(self.c)
+        done, _ = self.pip_wheel()
+        self.assertNotEqual(done.returncode, 0)
+        self.assertIn("there is no C library to put into the package", done.stdout + done.stderr)
+        done, _ = self.pip_wheel(LIBHLL=str(self.folder / "none.so"))
+        self.assertNotEqual(done.returncode, 0)
+        self.assertEqual(list(self.folder.glob("wheels/*")), [])
+
+    def test_with_the_library_of_the_system(self):
+        """LIBHLL is empty."""
         stale = self.root / "bindings/python/build/lib/hll_sketches/libhll.so"
         stale.parent.mkdir(parents=True)
         stale.write_bytes(b"an old one")
-        wheel, python = self.wheel()
+        wheel, python = self.wheel(LIBHLL="")
         self.assertTrue(wheel.name.endswith("-py3-none-any.whl"), wheel.name)
         names, done = self.run_from(wheel, python, "new", "a.hll")
         self.assertFalse([name for name in names if "libhll" in name])
@@ -146,7 +177,7 @@ class BuildTest(CommandTest):
             self.assertEqual(done.returncode, 2)
             begin = "hll: the shared library libhll.so is not here: build it"
             self.assertEqual(done.stderr[: len(begin)], begin)
-            self.assertIn("the command rt or", done.stderr)
+            self.assertIn("needs a C compiler", done.stderr)
 
     def test_the_steps_of_the_readme(self):
         """As they stand, but for what only root can do."""
@@ -176,10 +207,11 @@ class BuildTest(CommandTest):
 
 class LicenceTest(CommandTest):
     def test_it_is_that_of_the_checkout(self):
-        whole = common.ROOT / "LICENSE"
-        if not whole.exists():
-            self.skipTest("the LICENSE of the checkout is not here")
-        self.assertEqual((common.PACKAGE / "LICENSE").read_bytes(), whole.read_bytes())
+        for name in ("LICENSE", "NOTICE"):
+            whole = common.ROOT / name
+            if not whole.exists():
+                self.skipTest(f"the {name} of the checkout is not here")
+            self.assertEqual((common.PACKAGE / name).read_bytes(), whole.read_bytes())
 
 
 OTHER = r"""

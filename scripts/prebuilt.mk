@@ -1,0 +1,30 @@
+# SPDX-License-Identifier: Apache-2.0
+# For Makefiles that build from prebuilt/. They set TEXT to the text that they need and TOP to the top of the checkout, and
+# then include this file. STATE=fresh on the command line says that scripts/prebuilt.sh was asked already.
+ifndef STATE
+STATE := $(shell $(TOP)/scripts/prebuilt.sh state)
+endif
+
+NO_RT := a proved source has changed since prebuilt/ was made, and the command rt, which proves it again, is not on the path
+AGAIN := a proved source has changed since prebuilt/ was made, so it is proved again, which takes minutes
+DAMAGED := a file of prebuilt/ is not as it was made. To get it back: git checkout prebuilt, or make prove
+NO_TEXT := prebuilt/ has no text for this processor, only for $(notdir $(wildcard $(TOP)/prebuilt/*64))
+
+ifeq ($(STATE),stale)
+.PHONY: proved-again
+proved-again:
+	@command -v rt >/dev/null || { echo 'make: $(NO_RT)' >&2; exit 1; }
+	@echo 'make: $(AGAIN)'
+	python3 $(TOP)/scripts/prebuilt.py --prove
+$(TEXT): proved-again ;
+else ifneq ($(STATE),fresh)
+.PHONY: damaged
+damaged:
+	@echo 'make: $(DAMAGED)' >&2; exit 1
+$(TEXT): damaged ;
+else ifneq ($(words $(wildcard $(TEXT))),$(words $(TEXT)))
+.PHONY: no-text
+no-text:
+	@echo 'make: $(NO_TEXT)' >&2; exit 1
+$(TEXT): no-text ;
+endif

@@ -1,0 +1,306 @@
+#!/usr/bin/env python3
+# SPDX-License-Identifier: Apache-2.0
+"""Makes prebuilt/: assembler text of the proved library and programs, with the prover's verdict (prebuilt/README.md).
+
+    scripts/prebuilt.py            after `rt ci`: makes the text again from what was proved, and compares it with prebuilt/
+    scripts/prebuilt.py --prove    the same after proving the library and the programs by `rt lib`
+    scripts/prebuilt.py --write    writes prebuilt/ whatever is there
+
+The last line is 'N passed, M failed'. Where a source has changed, prebuilt/ is written again; under CI=true that is a failure,
+as the commit should have had it. Another toolchain than the one that VERDICT names may give other text for the same sources:
+then a line says so, and tests run over what that toolchain builds instead (bindings/c/check --library).
+
+`rt ci` leaves the libraries with their statements alone, and `rt lib` over these would prove everything again. So this script
+calls the toolchain's own command by the arguments that rt gives it: `rattle check` proves the crate over its libraries, and
+`rattle build` compiles what was proved. Its compiler is replaced by a script that also keeps the assembler text.
+"""
+import dataclasses
+import hashlib
+import importlib.util
+import os
+import pathlib
+import re
+import subprocess
+import sys
+import tempfile
+from concurrent.futures import ThreadPoolExecutor
+
+ROOT = pathlib.Path(__file__).resolve().parent.parent
+PREBUILT = ROOT / "prebuilt"
+VERDICT = PREBUILT / "VERDICT"
+X86, ARM = "x86_64-unknown-linux-gnu", "aarch64-unknown-linux-gnu"
+PROGRAMS = {"hll_merge": "hll_program", "hll_words": "hll_words_program"}
+# Proved in this order, each over the libraries before it.
+LIBRARIES = ["hll_base", "hll_kernels", "hll_text", "hll_coupons", "hll_registers", "hll_arrays", "hll_sketch", "hll_merge", "hll_words"]
+# Other builds of the library, which only tests use: by the toolchain's own compiler, and by another toolchain than VERDICT's.
+OTHERS = ROOT / "crates" / "hll_c" / "out"
+OTHER_COMPILER = OTHERS / "other-compiler.a"
+OTHER_TOOLCHAIN = OTHERS / "other-toolchain.s"
+OTHER_ARCHIVE = OTHERS / "other-toolchain.a"
+NEED = 4_000_000_000    # bytes of memory that one proof takes at most, with its jobs
+# Takes the place of clang: compiles as asked, and where that gives an object file, writes the same code as assembler text too.
+CLANG = """#!/bin/sh
+'@CLANG@' "$@" || exit
+for word; do [ "$word" != -emit-llvm ] || exit 0; done
+exec '@CLANG@' "$@" -Wno-unused-command-line-argument -fno-addrsig -fno-verbose-asm -S -o '@TEXT@'
+"""
+
+
+class Unknown(Exception):
+    """Why this toolchain can't be used to make the text."""
+
+
+@dataclasses.dataclass(frozen=True)
+class Text:
+    """A file of prebuilt/, the crate that it is compiled from, and the processor that it is for."""
+
+    name: str
+    crate: str
+    target: str
+
+    @property
+    def path(self):
+        return "%s/%s.s" % (self.target.partition("-")[0], self.name)
+
+
+TEXTS = [Text(name, crate, target) for target in (ARM, X86) for name, crate in {"libhll_c": "hll_c", **PROGRAMS}.items()]
+
+
+# ---- the verdict
+
+
+@dataclasses.dataclass
+class Verdict:
+    """What VERDICT says: the toolchain, the checksum of the sources, the prover's last lines and the checksum of each text."""
+
+    prover: str
+    sources: str
+    said: dict
+    files: dict
+
+    def text(self):
+        lines = ["prover: %s" % self.prover, "sources: %s" % self.sources]
+        lines += ["%s: %s" % (path, line) for path, said in sorted(self.said.items()) for line in said]
+        lines += ["file: %s  %s" % (self.files[path], path) for path in sorted(self.files)]
+        above = "".join(line + "\n" for line in lines)
+        return "%slines above: %s\n" % (above, hashlib.sha256(above.encode()).hexdigest())
+
+
+def committed():
+    """Returns the verdict of prebuilt/, or None where there is none."""
+    if not VERDICT.is_file():
+        return None
+    found = Verdict("", "", {}, {})
+    for line in VERDICT.read_text().splitlines():
+        name, _, rest = line.partition(": ")
+        if name in ("prover", "sources"):
+            setattr(found, name, rest)
+        elif name == "file":
+            found.files[rest.split()[1]] = rest.split()[0]
+        elif name.endswith(".s"):
+            found.said.setdefault(name, []).append(rest)
+    return found
+
+
+def asked(word):
+    """Returns what scripts/prebuilt.sh prints for a word: `sum` or `state`."""
+    return subprocess.run([ROOT / "scripts" / "prebuilt.sh", word], capture_output=True, text=True, check=True).stdout.strip()
+
+
+def sum_of(data):
+    return hashlib.sha256(data).hexdigest()
+
+
+# ---- the toolchain
+
+
+def toolchain():
+    """Returns the module of rt that knows how a crate is built."""
+    page = subprocess.run(["rt", "doc"], capture_output=True, text=True, check=True).stdout.strip()
+    file = pathlib.Path(page).parent / "bin" / "rtlib.py"
+    if not file.is_file():
+        raise Unknown("the toolchain has no %s" % file.name)
+    spec = importlib.util.spec_from_file_location("rtlib", file)
+    module = importlib.util.module_from_spec(spec)
+    sys.modules["rtlib"] = module
+    spec.loader.exec_module(module)
+    return module
+
+
+def call(rtlib, crate, *words):
+    """Runs the toolchain's own command in a crate's folder, and returns the lines that it prints."""
+    ran = subprocess.run([rtlib.RATTLE, *words], cwd=ROOT / "crates" / crate, stdin=subprocess.DEVNULL, stdout=subprocess.PIPE,
+                         stderr=subprocess.STDOUT, text=True, errors="replace")
+    if ran.returncode:
+        raise Unknown("rattle %s in %s ended with status %d: %s" % (words[0], crate, ran.returncode, ran.stdout.strip()[-300:]))
+    return ran.stdout.splitlines() or [""]
+
+
+def without(words, *flags):
+    """Returns the words without these flags and the word after each."""
+    kept = list(words)
+    for flag in flags:
+        at = kept.index(flag)
+        del kept[at : at + 2]
+    return kept
+
+
+def put_clang(rtlib, room):
+    """Makes a toolchain of links whose clang also keeps the assembler text; returns its folder and the path of that text."""
+    tools, text = room / "toolchain", room / "text.s"
+    (tools / "bin").mkdir(parents=True)
+    real = pathlib.Path(rtlib.KIT, "toolchain")
+    (tools / "lib").symlink_to(real / "lib")
+    for file in (real / "bin").iterdir():
+        if file.name != "clang":
+            (tools / "bin" / file.name).symlink_to(file)
+    clang = tools / "bin" / "clang"
+    clang.write_text(CLANG.replace("@CLANG@", str(real / "bin" / "clang")).replace("@TEXT@", str(text)))
+    clang.chmod(0o755)
+    return tools, text
+
+
+LOCAL = re.compile(r"(\.L[A-Za-z_]+?)(\d+)(?=_\d|\b)")
+
+
+def with_stable_labels(text):
+    """Returns clang's text with each local label named by its function instead of the function's number, so that a function
+    which comes or goes changes no line of the others."""
+    names, current = {}, None
+    for line in text.splitlines():
+        start = re.match(r"\s*\.type\s+(.+),@function$", line)
+        end = re.match(r"\.Lfunc_end(\d+):", line)
+        current = start[1] if start else current
+        if end:
+            names[end[1]] = sum_of(current.encode())[:8]
+    if len(set(names.values())) != len(names):
+        raise Unknown("two functions have one label")
+    return LOCAL.sub(lambda it: it[1] + names.get(it[2], it[2]), text)
+
+
+def made(rtlib, text, jobs):
+    """Proves a text's crate for its processor and compiles it. Returns the text, and the prover's last lines: the functions in C
+    that the proof rests on, and the verdict."""
+    crate = rtlib.Crate(str(ROOT / "crates" / text.crate), str(ROOT), {}, name=None)
+    words = [*crate.words(["--jobs", str(jobs)], keeps=False), "--target", text.target]
+    with tempfile.TemporaryDirectory() as room:
+        room = pathlib.Path(room)
+        lines = call(rtlib, text.crate, "check", *words, "-o", str(room / "checked"))
+        if not lines[-1].startswith("logic=proved "):
+            raise Unknown("%s was not proved: %s" % (text.crate, lines[-1]))
+        tools, kept = put_clang(rtlib, room)
+        words = [*without(words, "--logic-built", "--jobs"), "--crate-checked", str(room / "checked")]
+        call(rtlib, text.crate, "build", *words, "--toolchain", str(tools), "--backend", "llvm", "-o", str(room / "built"))
+        if not kept.is_file():
+            raise Unknown("the compiler of the toolchain was not called as clang")
+        if (text.name, text.target) == ("libhll_c", X86):
+            OTHERS.mkdir(exist_ok=True)
+            call(rtlib, text.crate, "build", *words, "--toolchain", str(pathlib.Path(rtlib.KIT, "toolchain")), "--backend", "rattle",
+                 "-o", str(OTHER_COMPILER))
+        return with_stable_labels(kept.read_text()), [line for line in lines if line.startswith("axioms ")] + lines[-1:]
+
+
+def kit():
+    """Returns the toolchain's release and logic, as `rt version` prints them."""
+    return subprocess.run(["rt", "version"], capture_output=True, text=True, check=True).stdout.strip()
+
+
+def make_all():
+    """Makes every text. Returns a verdict, and the texts by their paths."""
+    rtlib = toolchain()
+    at_once = next((count for count in (len(TEXTS), 3, 2) if rtlib.fits(*[NEED] * count)), 1)
+    jobs = max(1, min((os.cpu_count() or 1) // at_once, 4))
+    with ThreadPoolExecutor(at_once) as runs:
+        found = dict(zip(TEXTS, runs.map(lambda text: made(rtlib, text, jobs), TEXTS)))
+    texts = {text.path: words for text, (words, _) in found.items()}
+    files = {path: sum_of(words.encode()) for path, words in texts.items()}
+    return Verdict(kit(), asked("sum"), {text.path: said for text, (_, said) in found.items()}, files), texts
+
+
+def lib(crate):
+    """Proves and builds a library by `rt lib`, by up to four processors."""
+    print("proving %s" % crate, flush=True)
+    subprocess.run(["rt", "lib", "--jobs", str(min(os.cpu_count() or 1, 4))], cwd=ROOT / "crates" / crate, stdin=subprocess.DEVNULL,
+                   stdout=subprocess.DEVNULL, check=True)
+
+
+# ---- comparing and writing
+
+
+def write(verdict, texts):
+    """Writes all texts and VERDICT, and removes texts that are no longer made."""
+    for file in PREBUILT.glob("*/*.s"):
+        if file.relative_to(PREBUILT).as_posix() not in texts:
+            file.unlink()
+    for path, words in texts.items():
+        (PREBUILT / path).parent.mkdir(parents=True, exist_ok=True)
+        (PREBUILT / path).write_text(words)
+    VERDICT.write_text(verdict.text())
+
+
+def difference(verdict, texts):
+    """Returns what differs between prebuilt/ and what was made: names of files."""
+    found = [path for path, words in texts.items() if not (PREBUILT / path).is_file() or (PREBUILT / path).read_bytes() != words.encode()]
+    found += [path for path in committed().files if path not in texts]
+    return found + ["VERDICT"] * (VERDICT.read_text() != verdict.text())
+
+
+def compare(verdict, texts):
+    """Compares prebuilt/ with what was made of the same sources, and returns how many comparisons passed and failed."""
+    differing = difference(verdict, texts)
+    old = committed()
+    if differing == ["VERDICT"] and old.prover != verdict.prover and asked("state") == "fresh":
+        print("prebuilt/ was made by %s, and %s gives the same text" % (old.prover, verdict.prover))
+        return len(texts), 0
+    if differing and old.prover != verdict.prover and asked("state") == "fresh":
+        print("not compared: prebuilt/ was made by %s, and this is %s, which gives other text for %s" % (
+            old.prover, verdict.prover, " ".join(differing)))
+        OTHER_TOOLCHAIN.write_text(texts["x86_64/libhll_c.s"])
+        return 1, 0     # the checksums of prebuilt/
+    for path in differing:
+        print("failed: prebuilt/%s is not what the sources give. To write it again: scripts/prebuilt.py --write" % path)
+    return len(texts) + 1 - len(differing), len(differing)
+
+
+def settle(verdict, texts, is_forced):
+    """Compares prebuilt/ with what was made, or writes it where a source has changed. Returns counts."""
+    old = committed()
+    if old and old.sources == verdict.sources and not is_forced:
+        return compare(verdict, texts)
+    write(verdict, texts)
+    if is_forced:
+        print("prebuilt/ is written")
+        return len(texts) + 1, 0
+    print("prebuilt/ was made from other sources. It is written again now: commit it with the sources")
+    return (0, 1) if os.environ.get("CI") == "true" else (len(texts) + 1, 0)
+
+
+def go_on_without_text(why):
+    """What is done where the toolchain can't make the text: with VERDICT's own that is a failure; of another, the library is
+    built by `rt lib` for the tests. Returns counts."""
+    old = committed()
+    if old is None or old.prover == kit() or asked("state") != "fresh":
+        print("failed: the text can't be made (%s: %s), and prebuilt/ is %s" % (type(why).__name__, why, asked("state")))
+        return 0, 1
+    print("not compared: this toolchain, %s, has other inner commands than %s, by which prebuilt/ was made (%s)" % (kit(), old.prover, why))
+    lib("hll_c")
+    os.replace(OTHERS / "libhll_c.a", OTHER_ARCHIVE)
+    return 1, 0     # the checksums of prebuilt/
+
+
+def main():
+    for file in OTHERS.glob("other-*"):
+        file.unlink()
+    if "--prove" in sys.argv[1:]:
+        for library in LIBRARIES:
+            lib(library)
+    try:
+        passed, failed = settle(*make_all(), "--write" in sys.argv[1:])
+    except Exception as why:    # of the toolchain's own code, whatever it is
+        passed, failed = go_on_without_text(why)
+    print("%d passed, %d failed" % (passed, failed))
+    return failed != 0
+
+
+if __name__ == "__main__":
+    sys.exit(main())

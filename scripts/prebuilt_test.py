@@ -1,0 +1,181 @@
+#!/usr/bin/env python3
+# SPDX-License-Identifier: Apache-2.0
+"""Tests scripts/prebuilt.py and scripts/prebuilt.sh in a scratch folder, with made-up texts in place of those that the toolchain
+gives. The last line is 'N passed, M failed'.
+"""
+import contextlib
+import io
+import os
+import pathlib
+import shutil
+import sys
+import tempfile
+import unittest
+import unittest.mock
+
+sys.dont_write_bytecode = True
+sys.path.insert(0, str(pathlib.Path(__file__).resolve().parent))
+import prebuilt  # noqa: E402
+
+SCRIPT = prebuilt.ROOT / "scripts" / "prebuilt.sh"
+OWN, OTHER = "kit-1 logic a", "kit-2 logic a"
+PATHS = [text.path for text in prebuilt.TEXTS]
+
+
+def texts_of(version):
+    return {path: "# %s %s\n" % (path, version) for path in PATHS}
+
+
+class PrebuiltTest(unittest.TestCase):
+    def setUp(self):
+        self.root = pathlib.Path(tempfile.mkdtemp())
+        self.addCleanup(shutil.rmtree, self.root)
+        (self.root / "scripts").mkdir()
+        shutil.copy(SCRIPT, self.root / "scripts")
+        (self.root / "HANDLES").write_text("none\n")
+        (self.root / "crates.txt").write_text("hll_c staticlib: hll_base\nhll_base:\nhll_tests: hll_base\n")
+        for name in ("hll_c", "hll_base", "hll_tests"):
+            for part in ("src", "specs", "must-fail"):
+                (self.root / "crates" / name / part).mkdir(parents=True)
+                (self.root / "crates" / name / part / "a").write_text(name)
+        others = self.root / "crates" / "hll_c" / "out"
+        others.mkdir()
+        places = {"ROOT": self.root, "PREBUILT": self.root / "prebuilt", "VERDICT": self.root / "prebuilt" / "VERDICT", "OTHERS": others,
+                  "OTHER_TOOLCHAIN": others / "other-toolchain.s", "OTHER_ARCHIVE": others / "other-toolchain.a"}
+        for name, value in places.items():
+            patched = unittest.mock.patch.object(prebuilt, name, value)
+            patched.start()
+            self.addCleanup(patched.stop)
+        self.others = others
+        self.put(OWN, "1")
+
+    def put(self, prover, version):
+        """Writes prebuilt/ as this toolchain makes it of the sources as they are."""
+        prebuilt.write(self.verdict(prover, version), texts_of(version))
+
+    def verdict(self, prover, version, said="logic=proved functions=2"):
+        texts = texts_of(version)
+        return prebuilt.Verdict(prover, prebuilt.asked("sum"), {path: [said] for path in PATHS},
+                                {path: prebuilt.sum_of(text.encode()) for path, text in texts.items()})
+
+    def run_main(self, prover, version, *words, ci="", said="logic=proved functions=2"):
+        """Runs the script where this toolchain is here and gives these texts, or is unknown (version None); returns the exit
+        status, the last line, and all that was printed."""
+        made = [(self.verdict(prover, version, said), texts_of(version))] if version else prebuilt.Unknown("new words")
+        with unittest.mock.patch.object(prebuilt, "make_all", side_effect=made), \
+                unittest.mock.patch.object(prebuilt, "kit", return_value=prover), \
+                unittest.mock.patch.object(prebuilt, "lib", side_effect=lambda _: (self.others / "libhll_c.a").write_text("a")), \
+                unittest.mock.patch.dict(os.environ, {"CI": ci}), \
+                unittest.mock.patch.object(sys, "argv", ["prebuilt.py", *words]), \
+                contextlib.redirect_stdout(io.StringIO()) as out:
+            status = prebuilt.main()
+        return int(status), out.getvalue().splitlines()[-1], out.getvalue()
+
+    def change(self, path, old, new):
+        file = self.root / path
+        self.assertIn(old, file.read_text())
+        file.write_text(file.read_text().replace(old, new))
+
+    def test_the_same(self):
+        self.assertEqual(prebuilt.asked("state"), "fresh")
+        self.assertEqual(self.run_main(OWN, "1", ci="true")[:2], (0, "%d passed, 0 failed" % (len(PATHS) + 1)))
+
+    def test_a_changed_text(self):
+        self.change("prebuilt/x86_64/hll_words.s", "hll_words", "hll_worts")
+        self.assertEqual(prebuilt.asked("state"), "damaged")
+        status, last, said = self.run_main(OWN, "1")
+        self.assertEqual((status, last), (1, "%d passed, 1 failed" % len(PATHS)))
+        self.assertIn("failed: prebuilt/x86_64/hll_words.s", said)
+
+    def test_a_changed_text_whose_checksums_were_changed_too(self):
+        prebuilt.write(self.verdict(OWN, "2"), texts_of("2"))
+        self.assertEqual(prebuilt.asked("state"), "fresh")
+        status, last, _ = self.run_main(OWN, "1")
+        self.assertEqual((status, last), (1, "0 passed, %d failed" % (len(PATHS) + 1)))
+
+    def test_a_missing_text(self):
+        (self.root / "prebuilt" / PATHS[0]).unlink()
+        self.assertEqual(prebuilt.asked("state"), "damaged")
+        self.assertEqual(self.run_main(OWN, "1")[0], 1)
+
+    def test_a_changed_verdict(self):
+        for old, new in (("functions=2", "functions=3"), ("kit-1", "kit-2"), ("lines above: ", "lines above: 0"), ("file: ", "file: 0")):
+            self.change("prebuilt/VERDICT", old, new)
+            self.assertEqual(prebuilt.asked("state"), "damaged", old)
+            self.assertEqual(self.run_main(OWN, "1")[0], 1, old)
+            self.put(OWN, "1")
+        self.assertEqual(self.run_main(OWN, "1", said="logic=proved functions=4")[0], 1)
+
+    def test_a_changed_source(self):
+        for source in ("crates/hll_c/src/a", "crates/hll_base/specs/a", "crates.txt", "HANDLES"):
+            for ci, wanted in (("true", 1), ("", 0)):
+                (self.root / source).write_text((self.root / source).read_text() + "\n# more\n" if source == "HANDLES" else
+                                                (self.root / source).read_text().replace("hll_base", "hll_base ", 1) + " ")
+                self.assertEqual(prebuilt.asked("state"), "stale", source)
+                status, _, said = self.run_main(OWN, "2", ci=ci)
+                self.assertEqual(status, wanted, source)
+                self.assertIn("written again now", said)
+                self.assertEqual((prebuilt.asked("state"), self.run_main(OWN, "2", ci="true")[0]), ("fresh", 0), source)
+
+    def test_what_does_not_count(self):
+        for file in ("crates/hll_tests/src/a", "crates/hll_c/must-fail/a"):
+            (self.root / file).write_text("other")
+        self.assertEqual(prebuilt.asked("state"), "fresh")
+
+    def test_another_toolchain(self):
+        status, last, said = self.run_main(OTHER, "2", ci="true")
+        self.assertEqual((status, last), (0, "1 passed, 0 failed"))
+        self.assertIn("not compared: prebuilt/ was made by kit-1", said)
+        self.assertEqual((self.others / "other-toolchain.s").read_text(), texts_of("2")["x86_64/libhll_c.s"])
+        self.change("prebuilt/x86_64/hll_words.s", "hll_words", "hll_worts")
+        self.assertEqual(self.run_main(OTHER, "2")[0], 1)
+
+    def test_another_toolchain_with_the_same_text(self):
+        status, last, said = self.run_main(OTHER, "1")
+        self.assertEqual((status, last), (0, "%d passed, 0 failed" % len(PATHS)))
+        self.assertIn("kit-2 logic a gives the same text", said)
+
+    def test_an_unknown_toolchain(self):
+        self.assertEqual(self.run_main(OTHER, None, ci="true")[:2], (0, "1 passed, 0 failed"))
+        self.assertEqual((self.others / "other-toolchain.a").read_text(), "a")
+        self.assertEqual(self.run_main(OWN, None)[:2], (1, "0 passed, 1 failed"))
+        self.change("crates/hll_c/src/a", "hll_c", "other")
+        self.assertEqual(self.run_main(OTHER, None)[:2], (1, "0 passed, 1 failed"))
+
+    def test_no_text_yet(self):
+        shutil.rmtree(self.root / "prebuilt")
+        self.assertEqual(prebuilt.asked("state"), "stale")
+        self.assertEqual(self.run_main(OWN, "1")[0], 0)
+        self.assertEqual(prebuilt.asked("state"), "fresh")
+
+    def test_write(self):
+        self.change("prebuilt/x86_64/hll_words.s", "hll_words", "hll_worts")
+        self.assertEqual(self.run_main(OWN, "1", "--write")[0], 0)
+        self.assertEqual(prebuilt.asked("state"), "fresh")
+
+
+class LabelTest(unittest.TestCase):
+    TEXT = "\t.type\t%s,@function\n%s:\n.LBB%d_1:\n\tjmp\t.LBB%d_1\n.Lfunc_end%d:\n\t.size\t%s, .Lfunc_end%d-%s\n"
+
+    def of(self, *names):
+        return prebuilt.with_stable_labels("".join(self.TEXT % (name, name, at, at, at, name, at, name) for at, name in enumerate(names)))
+
+    def test_a_function_more_changes_no_other_line(self):
+        few, more = self.of("a", "c").splitlines(), self.of("a", '"b::<x, y>"', "c").splitlines()
+        self.assertEqual([line for line in more if line in few], few)
+        self.assertEqual(len(set(more)), len(more))
+
+    def test_labels_that_clash(self):
+        with unittest.mock.patch.object(prebuilt, "sum_of", return_value="0" * 64), self.assertRaises(prebuilt.Unknown):
+            self.of("a", "b")
+
+
+def main():
+    ran = unittest.main(module=__name__, exit=False, argv=[sys.argv[0]], testRunner=unittest.TextTestRunner(stream=sys.stdout)).result
+    failed = len(ran.failures) + len(ran.errors)
+    print("%d passed, %d failed" % (ran.testsRun - failed, failed))
+    return failed != 0 or ran.testsRun == 0
+
+
+if __name__ == "__main__":
+    sys.exit(main())
