@@ -1,12 +1,12 @@
 #!/usr/bin/env python3
 # SPDX-License-Identifier: Apache-2.0
-"""Runs `rt ci` in a checkout, and says what it costs: processor seconds of each crate, for its proof, its must-fail edits and
-its tests.
+"""Runs a command in a checkout, and says what the prover costs in it: processor seconds of each crate, for its proof, the mutants
+of must-fail/, its tests, the mutants of mutants/, and prebuilt/.
 
-    bench/gate_costs.py [FOLDER]
+    bench/gate_costs.py [COMMAND ..]        rt ci, if no command is given; ./check for the whole gate
 
-It looks once a second at the processes of the prover that `rt ci` has started, so what ends within a second is missed. It
-takes as long as `rt ci`, whose lines go to standard error. docs/NUMBERS.md, "Proofs", has what it printed.
+It looks once a second at the processes of the prover that the command has started, so what ends within a second is missed. It
+takes as long as the command, whose lines go to standard error. docs/NUMBERS.md, "Proofs", has what it printed.
 """
 import collections
 import os
@@ -34,6 +34,15 @@ def processes_below(top):
         below |= more
 
 
+def kind_of(place, words):
+    """What a process of the prover works at, by its folder and its words."""
+    if "--crate-checked" in words or any(word.endswith("/checked") for word in words):
+        return "prebuilt"
+    folders = {"/rt-edit-": "must-fail", "/mutants-": "mutants"}
+    found = [kind for part, kind in folders.items() if part in place]
+    return found[0] if found else "tests" if "--test" in words else "proof"
+
+
 def provers(top):
     """Of each process of the prover below another: its number with its start, what it works at, and its processor seconds."""
     for number, numbers in processes_below(top).items():
@@ -45,9 +54,8 @@ def provers(top):
             continue
         if not words[0].endswith("/rattle") or "--crate-name" not in words:
             continue
-        kind = "edits" if "/rt-edit-" in place else "tests" if "--test" in words else "proof"
         crate = words[words.index("--crate-name") + 1]
-        yield (number, numbers[19]), (crate, kind), sum(map(int, numbers[11:13])) / TICKS
+        yield (number, numbers[19]), (crate, kind_of(place, words)), sum(map(int, numbers[11:13])) / TICKS
 
 
 def watch(ran):
@@ -63,12 +71,12 @@ def watch(ran):
     return costs
 
 
-def main(folder="."):
+def main(words):
     start = time.monotonic()
-    ran = subprocess.Popen(["rt", "ci"], cwd=folder, stdin=subprocess.DEVNULL, stdout=sys.stderr)
+    ran = subprocess.Popen(words or ["rt", "ci"], stdin=subprocess.DEVNULL, stdout=sys.stderr)
     costs = watch(ran)
-    kinds = ("proof", "edits", "tests")
-    print("| crate | %s |\n|---|---|---|---|" % " | ".join(kinds))
+    kinds = ("proof", "must-fail", "tests", "mutants", "prebuilt")
+    print("| crate | %s |\n|---|%s" % (" | ".join(kinds), "---|" * len(kinds)))
     for crate in sorted({crate for crate, _ in costs}, key=lambda it: -sum(costs[it, kind] for kind in kinds)):
         print("| `%s` | %s |" % (crate, " | ".join("%.0f" % costs[crate, kind] if costs[crate, kind] else "" for kind in kinds)))
     print("| all | %s |" % " | ".join("%.0f" % sum(costs[it] for it in costs if it[1] == kind) for kind in kinds))
@@ -77,4 +85,4 @@ def main(folder="."):
 
 
 if __name__ == "__main__":
-    sys.exit(main(*sys.argv[1:]))
+    sys.exit(main(sys.argv[1:]))
