@@ -2,7 +2,7 @@
 # SPDX-License-Identifier: Apache-2.0
 """Tries the mutants of the crates: edits that make a function wrong, each of which the prover has to refuse.
 
-    scripts/mutants.py [--anew] [--log FOLDER] [CRATE ..]       those of mutants/CRATE, of all crates if none is named
+    scripts/mutants.py [--all] [--log FOLDER] [CRATE ..]       those of mutants/CRATE, of all crates if none is named
     scripts/mutants.py [CRATE ..] --only NAME ..                these alone, of crates/CRATE/must-fail too
 
 Run `rt ci` or `rt check` first: a check reads the libraries that they leave. A mutant is a file NAME.edit with a line
@@ -15,7 +15,7 @@ mutant that a check doesn't settle in this way is tried alone, and the prover's 
 more than the body of a function, for example a contract, a type or a lemma.
 
 A refused mutant is kept under ~/.cache/hll-sketches/mutants (or $XDG_CACHE_HOME), by the checksum of all that was read, and
-not tried again while that stays the same; --anew tries all. The last line is 'N passed, M failed'. The exit status is 0 if
+not tried again while that stays the same; --all tries each of them. The last line is 'N passed, M failed'. The exit status is 0 if
 all were refused, 1 if not, and 2 if the command can't be understood.
 """
 import argparse
@@ -280,13 +280,13 @@ class Store:
     """The mutants of a crate that earlier runs saw refused, by the checksum of all that they read. `known` are those that needn't
     be tried again."""
 
-    def __init__(self, name, sum, anew):
+    def __init__(self, name, sum, is_whole):
         self.sum, self.found = sum, {}
         text = hashlib.sha256(sum.encode() + pathlib.Path(__file__).read_bytes()).hexdigest()
         self.file = cache() / ("%s-%s.json" % (name, text[:32]))
         with contextlib.suppress(OSError, ValueError):
             self.found = json.loads(self.file.read_text())
-        self.known = {} if anew else dict(self.found)
+        self.known = {} if is_whole else dict(self.found)
 
     def keep(self, verdicts):
         """Keeps the refused ones of these verdicts. A file that can't be written is no fault: the next run tries them again."""
@@ -344,11 +344,11 @@ def run_all(prover, jobs):
         pool.shutdown()
 
 
-def try_all(prover, found, anew=False):
+def try_all(prover, found, is_whole=False):
     """Tries the mutants, found by crate, and gives the verdicts on them as they come."""
     passed, works, jobs = None, [], []
     for name, mutants in found.items():
-        store = Store(name, prover.sum_of(name), anew)
+        store = Store(name, prover.sum_of(name), is_whole)
         kept = [it for it in mutants if it.sum in store.known and not it.fault]
         yield [Verdict(it, REFUSED, "kept", store.known[it.sum]) for it in kept]
         yield [Verdict(it, BAD, "alone", it.fault) for it in mutants if it.fault]
@@ -383,7 +383,7 @@ def main(words):
     if given.log:
         given.log.mkdir(parents=True, exist_ok=True)
     passed, failed = 0, len(faults)
-    for verdicts in try_all(Prover(ROOT, given.log), found, given.anew):
+    for verdicts in try_all(Prover(ROOT, given.log), found, given.all):
         refused = sum(it.word == REFUSED for it in verdicts)
         passed, failed = passed + refused, failed + len(verdicts) - refused
         tell(verdicts, given.only)
@@ -406,7 +406,7 @@ def tell(verdicts, each):
 def read_words(words):
     """Returns what the command line asks for."""
     told = argparse.ArgumentParser(prog="mutants.py", description=__doc__, formatter_class=argparse.RawDescriptionHelpFormatter)
-    told.add_argument("--anew", action="store_true", help="try also what earlier runs saw refused")
+    told.add_argument("--all", action="store_true", help="try also what earlier runs saw refused")
     told.add_argument("--log", type=pathlib.Path, metavar="FOLDER", help="write there what each check says")
     told.add_argument("--only", nargs="+", default=[], metavar="NAME", help="try these mutants alone")
     told.add_argument("crate", nargs="*", metavar="CRATE")

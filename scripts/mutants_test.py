@@ -5,7 +5,7 @@ whose answers are known. Some of them mean the same as the code, so they must be
 call a function that another mutant makes wrong. Takes some minutes, and a second where the same was tested before: what
 passed is kept as the mutants are.
 
-    scripts/mutants_test.py [--anew]
+    scripts/mutants_test.py [--all]
 
 Prints 'N passed, M failed' at the end.
 """
@@ -166,7 +166,7 @@ def verdicts_unread(work, some):
 
 def main(words):
     """Tries all that was not tried before, and prints the counts."""
-    if words not in ([], ["--anew"]):
+    if words not in ([], ["--all"]):
         sys.exit(__doc__)
     real = prover.Prover(ROOT)
     sum = hashlib.sha256(real.sum_of(CRATE).encode())
