@@ -93,6 +93,14 @@ def head_end(text, at):
                 at += 1
 
 
+def statement_end(text, at):
+    """The index behind the semicolon that ends a statement: not of one inside brackets, as in `[0; 3]`."""
+    while text[at] != ";":
+        behind = skipped(text, at)
+        at = behind if behind > at else closed(text, at) if text[at] in "([{" else at + 1
+    return at + 1
+
+
 def parted(head):
     """The signature of a function, and its clauses."""
     clauses = []
@@ -177,8 +185,8 @@ def owner_of(head):
     return head.split(" where ")[0].strip()
 
 
-def members(text, start, end, place, owner, imports, is_trait):
-    """The public names inside a trait or an impl."""
+def members(text, start, end, place, owner, imports, are_public):
+    """The public names inside a trait or an impl; in a trait or an impl of one, all are public."""
     line = re.compile(r"^    (?:pub (?:const )?|)(fn|const|type) (\w+)", re.M)
     at = start
     while True:
@@ -190,9 +198,9 @@ def members(text, start, end, place, owner, imports, is_trait):
             behind = closed(text, stop) if text[stop] == "{" else stop + 1
             signature, clauses = parted(text[found.start():stop])
         else:
-            stop = behind = text.index(";", found.end()) + 1
+            stop = behind = statement_end(text, found.end())
             signature, clauses = flat(text[found.start():stop]), []
-        if is_trait or flat(text[found.start():stop]).startswith("pub "):
+        if are_public or flat(text[found.start():stop]).startswith("pub "):
             yield Name("%s::%s::%s" % (place, owner, found[2]), signature, clauses, comment_before(text, found.start()), imports)
         at = behind
 
@@ -224,9 +232,8 @@ def names_of(text, place):
                 yield Name("%s::%s" % (place, owner), head, inside, "", imports)
             elif inside:
                 yield Name("%s::%s" % (place, owner), head, inside, "", imports)
-            if not is_of_trait:
-                short = re.match(r"\w+", owner)[0]
-                yield from members(text, brace + 1, at - 1, place, short, imports, is_trait)
+            short = owner if is_of_trait else re.match(r"\w+", owner)[0]
+            yield from members(text, brace + 1, at - 1, place, short, imports, is_trait or is_of_trait)
         elif item and item[1] == "fn":
             stop = head_end(text, item.end())
             at = closed(text, stop)
@@ -235,7 +242,7 @@ def names_of(text, place):
         elif item:
             brace = re.compile(r"[{;]").search(text, start)
             if item[1] in ("type", "const"):
-                at = text.index(";", start) + 1
+                at = statement_end(text, start)
             else:
                 at = closed(text, brace.start()) if brace[0] == "{" else brace.end()
             body = flat(text[start:at])
