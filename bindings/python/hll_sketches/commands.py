@@ -12,9 +12,10 @@ from contextlib import suppress
 from typing import Any, Callable, Dict, Iterator, List, Optional, Tuple
 
 from . import _library
+from ._errors import ArgumentError
 from ._names import shown
 from .files import STANDARD, UNUSABLE, OutputTrouble, Trouble, bytes_of_file, check_output
-from .files import image_of_file, image_trouble, write_file
+from .files import image_of_file, image_trouble, of_file, write_file
 from .finding import Tell, found, names_in
 from .layout import STAGES, flags_of, registers_of, size_of, words_of
 from .precision import DEFAULT, Precision
@@ -94,8 +95,13 @@ def put(options: Namespace, image: bytes, **more: object) -> int:
 
 
 def summary(image: bytes, deviations: int = 2) -> Record:
-    """What is told of a legal image."""
-    told, found_ = _library.info(image), _library.estimation(image)
+    """What is told of an image; ``ImageError`` if it is none.
+
+    Coupons are read once, and then as the library writes them, which is quick.
+    """
+    is_coupons = len(image) < 8 or image[7] & 3 < 2
+    quick = _library.convert(image, _library.width_in(image)) if is_coupons else image
+    told, found_ = _library.info(quick), _library.estimation(quick)
     record: Record = {
         "stage": STAGES[told.stage],
         "lg_k": told.lg_k,
@@ -156,7 +162,7 @@ def info(options: Namespace) -> int:
     records: List[Record] = []
 
     def one(name: str) -> None:
-        told = summary(image_of_file(name), options.deviations)
+        told = of_file(name, lambda image: summary(image, options.deviations))
         records.append({"file": name, **told})
         if not options.json:
             tell(described(name, told))
@@ -172,7 +178,7 @@ def estimate(options: Namespace) -> int:
     records: List[Record] = []
 
     def one(name: str) -> None:
-        told = summary(image_of_file(name), options.deviations)
+        told = of_file(name, lambda image: summary(image, options.deviations))
         keys = ("estimate", "lower", "upper", "deviations")
         records.append({"file": name, **{key: told[key] for key in keys}})
         if not options.json:
@@ -276,16 +282,20 @@ def merge(options: Namespace) -> int:
 
 def fold(options: Namespace) -> int:
     """Writes an image at a smaller ``lg_k``."""
-    image = image_of_file(options.file)
-    if options.lg_k > image[3]:
-        words = f"its lg_k is {image[3]}, and a fold goes no higher"
-        raise Trouble(options.file, words)
-    return put(options, finished(_library.fold(image, options.lg_k), options.plain))
+
+    def folded(image: bytes) -> bytes:
+        try:
+            return _library.fold(image, options.lg_k)
+        except ArgumentError:
+            words = f"its lg_k is {image[3]}, and a fold goes no higher"
+            raise Trouble(options.file, words) from None
+
+    return put(options, finished(of_file(options.file, folded), options.plain))
 
 
 def convert(options: Namespace) -> int:
     """Writes an image at a width."""
-    image = _library.convert(image_of_file(options.file), options.width)
+    image = of_file(options.file, lambda image: _library.convert(image, options.width))
     return put(options, finished(image, options.plain))
 
 

@@ -7,12 +7,15 @@ import os
 import stat
 import sys
 from contextlib import contextmanager, suppress
-from typing import Iterator, List, Optional
+from typing import Callable, Iterator, List, Optional, TypeVar
 
 from . import _library
+from ._errors import ImageError
 from ._names import shown
 from ._signals import ENDING, held_back
 from .layout import size_of
+
+T = TypeVar("T")
 
 STANDARD = "-"
 """The name of standard input, or of standard output."""
@@ -160,8 +163,10 @@ def bytes_of_file(name: str) -> bytes:
         raise Trouble(name, "no name of a file", UNUSABLE) from None
 
 
-def image_of_file(name: str) -> bytes:
-    """The image of a file, checked; a few bytes may be behind it.
+def of_file(name: str, call: Callable[[bytes], T]) -> T:
+    """What a call of the library returns for the image in a file; a few bytes may follow the image.
+
+    The file's own image is read by this call alone, as an image from elsewhere can be slow to read.
 
     Raises
     ------
@@ -169,10 +174,21 @@ def image_of_file(name: str) -> bytes:
         If the file can't be read, or is no image.
     """
     data = bytes_of_file(name)
-    status = _library.check(data)
-    if status != _library.OK:
-        raise image_trouble(name, _library.WORDS[status])
-    return data
+    try:
+        return call(data)
+    except ImageError as error:
+        raise image_trouble(name, error.reason) from None
+
+
+def image_of_file(name: str) -> bytes:
+    """The image in a file, as this library writes it: calls that read it are quick.
+
+    Raises
+    ------
+    Trouble
+        If the file can't be read, or is no image.
+    """
+    return of_file(name, lambda data: _library.convert(data, _library.width_in(data)))
 
 
 # ---- writing

@@ -136,6 +136,8 @@ class _Joined:
                 self.troubles.append(trouble)
 
     def _unite(self) -> None:
+        if not self._images:
+            return
         self.image = _library.union(self.bounds.lg_k, 8, [self.image, *self._images])
         self.precision.see(self._names, self._images)
         self.count += len(self._images)
@@ -263,12 +265,12 @@ def union_of_files(
         for trouble in part.troubles:
             refuse(trouble)
         if part.merged:
-            image = _library.union(lg_k, 8, [image, part.image])
+            image = _library.union(lg_k, 8, [image, part.image]) if count else part.image
             count += part.merged
             precision.join(part.precision)
         if more is not None:
             more(part.merged + len(part.troubles))
-    return Merged(_library.union(lg_k, width, [image]), count, precision)
+    return Merged(image if width == 8 else _library.convert(image, width), count, precision)
 
 
 # ---- for programs

@@ -483,6 +483,50 @@ class tqdm:
 """
 
 
+class OneReadingTest(CommandTest):
+    """A command reads the bytes of a file once, as those of an untrusted image can be slow to read."""
+
+    def setUp(self):
+        super().setUp()
+        written = image_of(range(100))
+        coupons = [written[at : at + 4] for at in range(12, len(written), 4)]
+        self.image = written[:12] + b"".join(reversed(coupons))  # not as the library writes it
+        self.write("a.hll", self.image)
+
+    def readings(self, *words):
+        """How many calls of the library get the file's bytes."""
+        count = [0]
+        calls = vars(_library._library)
+
+        def counting(call):
+            def counted(*arguments):
+                given = [one for one in arguments if isinstance(one, bytes)]
+                count[0] += sum(self.image in one for one in given)
+                return call(*arguments)
+
+            return counted
+
+        wrapped = {name: counting(call) for name, call in calls.items()}
+        folder = os.getcwd()
+        os.chdir(self.folder)
+        try:
+            with mock.patch.dict(calls, wrapped), redirect_stdout(io.StringIO()):
+                self.assertEqual(cli._run([str(word) for word in words]), 0)
+        finally:
+            os.chdir(folder)
+        return count[0]
+
+    def test_commands(self):
+        self.assertNotEqual(Sketch.from_bytes(self.image).to_bytes(), self.image)
+        for words in (
+            ("check", "a.hll"), ("estimate", "a.hll"), ("info", "a.hll"), ("info", "--json", "a.hll"),
+            ("convert", "a.hll", "--width", 6, "-o", "b.hll"), ("fold", "a.hll", "--lg-k", 10, "-o", "c.hll"),
+            ("plot", "a.hll", "-o", "a.svg"), ("diff", "a.hll", "b.hll"),
+            ("merge", "a.hll", "-o", "d.hll"), ("merge", "a.hll", "--width", 4, "-o", "e.hll"),
+        ):
+            self.assertEqual(self.readings(*words), 1, words)
+
+
 class StreamsTest(CommandTest):
     def test_full_disk(self):
         """Told once, whether what is printed is kept until the end or not."""
