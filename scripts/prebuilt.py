@@ -16,7 +16,6 @@ calls the toolchain's own command by the arguments that rt gives it: `rattle che
 """
 import dataclasses
 import hashlib
-import importlib.util
 import os
 import pathlib
 import re
@@ -24,6 +23,10 @@ import subprocess
 import sys
 import tempfile
 from concurrent.futures import ThreadPoolExecutor
+
+sys.dont_write_bytecode = True
+sys.path.insert(0, str(pathlib.Path(__file__).resolve().parent))
+import prover  # noqa: E402
 
 ROOT = pathlib.Path(__file__).resolve().parent.parent
 PREBUILT = ROOT / "prebuilt"
@@ -116,15 +119,10 @@ def sum_of(data):
 
 def toolchain():
     """Returns the module of rt that knows how a crate is built."""
-    page = subprocess.run(["rt", "doc"], capture_output=True, text=True, check=True).stdout.strip()
-    file = pathlib.Path(page).parent / "bin" / "rtlib.py"
+    file = pathlib.Path(prover.answer("rt", "doc")).parent / "bin" / "rtlib.py"
     if not file.is_file():
         raise Unknown("the toolchain has no %s" % file.name)
-    spec = importlib.util.spec_from_file_location("rtlib", file)
-    module = importlib.util.module_from_spec(spec)
-    sys.modules["rtlib"] = module
-    spec.loader.exec_module(module)
-    return module
+    return prover.loaded("rtlib", file)
 
 
 def call(rtlib, crate, *words):
@@ -202,7 +200,7 @@ def made(rtlib, text, jobs):
 
 def kit():
     """Returns the toolchain's release and logic, as `rt version` prints them."""
-    return subprocess.run(["rt", "version"], capture_output=True, text=True, check=True).stdout.strip()
+    return prover.answer("rt", "version")
 
 
 def make_all():
