@@ -1,9 +1,11 @@
 #!/usr/bin/env python3
 # SPDX-License-Identifier: Apache-2.0
-"""Measures calls of C, Python and PostgreSQL over the images of bench/worst_cases.py that take longest.
+"""Measures calls of C, Python and PostgreSQL over the images of bench/worst_cases.py that take longest, and unions of a set with
+many small lists.
 
-Prints the seconds of each call, over coupons or exceptions on one path and over random ones, for docs/NUMBERS.md. Each answer
-is compared with that of the same call over the same image in the order in which it is written.
+Prints the seconds of each call, over coupons or exceptions on one path and over random ones, for docs/NUMBERS.md. Each result
+is compared with that of the same call over the same image in the order in which it is written; that of many images with the
+union of one image that has all their coupons.
 Needs bindings/c built; without a PostgreSQL server its rows are left out.
 """
 import argparse
@@ -15,8 +17,8 @@ import time
 sys.dont_write_bytecode = True
 ROOT = pathlib.Path(__file__).resolve().parent.parent
 sys.path[:0] = [str(ROOT / "bindings" / "python"), str(ROOT / "bindings" / "postgresql" / "test")]
-from shared import image_line, machine  # noqa: E402
-from worst_cases import exceptions_plan, set_plan, strides_plan  # noqa: E402
+from shared import image_line, list_image, machine, set_image  # noqa: E402
+from worst_cases import exceptions_plan, path_coupons, random_coupons, set_plan, strides_plan  # noqa: E402
 
 PLANS = {"a set of 2^18 places": lambda is_path: set_plan(18, is_path),
          "a set of 2^18 places but one, each stride": lambda is_path: strides_plan(18, is_path),
@@ -67,6 +69,40 @@ def calls_of_postgresql(server, session, image, canonical):
         yield "PostgreSQL, " + call, lambda query=query: session.ask(query % "given"), wanted
 
 
+# ---- many images in one union
+
+# A set of so many coupons in 2^18 places at `lg_k` 21, and so many lists of one coupon more.
+MANY = [(66, 1_000), (66, 10_000), (196_000, 600)]
+
+
+def many_images(in_set, lists, is_path):
+    """The images of a set and of lists of one coupon each, and one image of all their coupons."""
+    coupons = path_coupons(18) if is_path else random_coupons(18)
+    some, others = coupons[:in_set], coupons[in_set : in_set + lists]
+    return [set_image(21, 18, some)] + [list_image(21, [coupon]) for coupon in others], set_image(21, 18, some + others)
+
+
+def unions_of_many(images, whole):
+    from hll_sketches import _library as library, union_of
+    yield "C, hll_images_union", lambda: library.union(21, 8, images), library.union(21, 8, [whole])
+    yield "Python, union_of", lambda: union_of(images, 21).to_bytes(), union_of([whole], 21).to_bytes()
+
+
+def measure_many(runs):
+    """A row for each union: its seconds and those for each megabyte of images."""
+    print("| images | call | seconds, one path | seconds a megabyte | seconds, random | ratio |\n|---|---|---|---|---|---|")
+    for in_set, lists in MANY:
+        rows = {}
+        for is_path in (True, False):
+            images, whole = many_images(in_set, lists, is_path)
+            for name, call, wanted in unions_of_many(images, whole):
+                rows.setdefault(name, []).append(seconds(call, wanted, runs))
+        megabytes = sum(map(len, images)) / 1e6
+        for name, (path, usual) in rows.items():
+            print("| a set of %d, %d lists of one | %s | %.3f | %.2f | %.3f | %.1f |" % (
+                in_set, lists, name, path, path / megabytes, usual, path / usual), flush=True)
+
+
 # ---- rows
 
 
@@ -106,8 +142,13 @@ def measure_postgresql(runs):
 def main():
     parser = argparse.ArgumentParser(description="Measures calls over the images that take longest.")
     parser.add_argument("--runs", type=int, default=3, help="how often each call is made")
-    runs = parser.parse_args().runs
+    parser.add_argument("--many", action="store_true", help="unions of many images alone")
+    given = parser.parse_args()
+    runs = given.runs
     print(machine())
+    measure_many(runs)
+    if given.many:
+        return
     print("| image | call | seconds, one path | seconds, random | ratio |\n|---|---|---|---|---|")
     for name, plan in PLANS.items():
         for calls_of in (calls_of_c, calls_of_python):
