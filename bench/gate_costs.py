@@ -36,7 +36,7 @@ def processes_below(top):
 
 def kind_of(place, words):
     """What a process of the prover works at, by its folder and its words."""
-    if "--crate-checked" in words or any(word.endswith("/checked") for word in words):
+    if "--target" in words:     # scripts/prebuilt.py alone names it
         return "prebuilt"
     folders = {"/rt-edit-": "must-fail", "/mutants-": "mutants"}
     found = [kind for part, kind in folders.items() if part in place]
