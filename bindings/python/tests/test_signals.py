@@ -139,7 +139,7 @@ class LongCallTest(CommandTest):
     def test_one_process(self):
         hostile = 16 * ["hostile.hll"]
         for words in (
-            ("info", "hostile.hll"), ("check", *hostile), ("merge", *hostile, "-o", "one.hll"),
+            ("info", "--json", *hostile), ("check", *hostile), ("merge", *hostile, "-o", "one.hll"),
         ):
             for number in (signal.SIGINT, signal.SIGTERM):
                 with self.subTest(words=words, signal=number):
