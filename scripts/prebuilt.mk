@@ -7,7 +7,7 @@ endif
 
 NO_RT := a proved source has changed since prebuilt/ was made, and the command rt, which proves it again, is not on the path
 AGAIN := a proved source has changed since prebuilt/ was made, so it is proved again, which takes minutes
-DAMAGED := a file of prebuilt/ is not as it was made. To get it back: git checkout prebuilt, or make prove
+DAMAGED := a file of prebuilt/ is not as it was made. To get it back: git checkout prebuilt
 NO_TEXT := prebuilt/ has no text for this processor, only for $(notdir $(wildcard $(TOP)/prebuilt/*64))
 
 ifeq ($(STATE),stale)

@@ -8,7 +8,7 @@
 
 The last line is 'N passed, M failed'. Where a source has changed, prebuilt/ is written again; under CI=true that is a failure,
 as the commit should have had it. Another toolchain than the one that VERDICT names may give other text for the same sources:
-then a line says so, and tests run over what that toolchain builds instead (bindings/c/check --library).
+then a line says so, and tests run over what that toolchain builds instead (bindings/c/check --proved).
 
 `rt ci` leaves the libraries with their statements alone, and `rt lib` over these would prove everything again. So this script
 calls the toolchain's own command by the arguments that rt gives it: `rattle check` proves the crate over its libraries, and
