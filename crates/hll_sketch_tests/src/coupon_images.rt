@@ -1,9 +1,11 @@
 // SPDX-License-Identifier: Apache-2.0
-//! Images of coupons that ascend, made into others from bytes to bytes, beside the sketches that they are read as.
-use crate::fixtures::{WIDTHS, filled};
+//! Images of coupons made into others from bytes to bytes, beside the sketches that they are read as.
+ghost use Rattle.std.specs.Prelude.{◌≤◌};
+
+use crate::fixtures::{WIDTHS, filled, updatable_image, with_bytes_twice};
 use hll_base::error::Error;
 use hll_base::hll_type::HllType;
-use hll_sketch::{HllSketch, HllUnion, ascending_image_at, union_of_ascending_images};
+use hll_sketch::{HllSketch, HllUnion, coupon_image_at, union_of_coupon_images};
 use std::alloc::Global;
 use std::test::Fail;
 
@@ -45,7 +47,7 @@ fn union_is_right(
     left: &[u8],
     right: &[u8],
 ) -> Result<bool, Error> {
-    match union_of_ascending_images(alloc, 10, hll_type, left, right)? {
+    match union_of_coupon_images(alloc, 10, hll_type, left, right)? {
         Some(image) => Ok(by_union(alloc, hll_type, left, right)? == image),
         None => Ok(true),
     }
@@ -53,7 +55,7 @@ fn union_is_right(
 
 /// Whether the union of these two images is made from their bytes.
 fn is_made(alloc: Global, left: &[u8], right: &[u8]) -> Result<bool, Error> {
-    Ok(union_of_ascending_images(alloc, 10, HllType::Hll8, left, right)?.is_some())
+    Ok(union_of_coupon_images(alloc, 10, HllType::Hll8, left, right)?.is_some())
 }
 
 /// Unions of coupons of which some, all or none are in both: what is made is what a union gives, and it is made where both
@@ -84,7 +86,7 @@ fn unions_of_coupons(rt: HostRuntime) -> Result<(), Fail> {
 
 /// Whether what is made of an image at a width is the image of its sketch at that width.
 fn image_at_is_right(alloc: Global, hll_type: HllType, image: &[u8]) -> Result<bool, Error> {
-    match ascending_image_at(alloc, hll_type, image)? {
+    match coupon_image_at(alloc, hll_type, image)? {
         Some(made) => {
             let sketch = HllSketch::deserialize(alloc, image)?.into_width(hll_type)?;
             Ok(sketch.serialize()? == made)
@@ -101,7 +103,7 @@ fn changed_images_of_coupons(rt: HostRuntime) -> Result<(), Fail> {
         let other = image_of(rt.alloc(), (5, 10), 0)?;
         let mut image = image_of(rt.alloc(), source, 0)?;
         for hll_type in WIDTHS {
-            assert!(rt; ascending_image_at(rt.alloc(), hll_type, &image)?.is_some());
+            assert!(rt; coupon_image_at(rt.alloc(), hll_type, &image)?.is_some());
         }
         for place in 0..image.len().min(28) {
             let byte = image[place];
@@ -123,6 +125,83 @@ fn changed_images_of_coupons(rt: HostRuntime) -> Result<(), Fail> {
                 );
             }
             image[place] = byte;
+        }
+    }
+    Ok(())
+}
+
+/// The bytes before the coupons of an image.
+fn head_of(image: &[u8]) -> usize
+    ensures { result ≤ 12 }
+{
+    if image.first() == Some(&2) { 8 } else { 12 }
+}
+
+/// A compact image with its coupons in descending order.
+fn descending(alloc: Global, image: &[u8]) -> Result<Vec<u8>, Error> {
+    let head = head_of(image).min(image.len());
+    let mut turned = Vec::from_slice(alloc, &image[..head])?;
+    for word in image[head..].chunks(4).rev() {
+        turned.extend_from_slice(word)?;
+    }
+    Ok(turned)
+}
+
+/// Whether an image is made of an image at each width, and of its union with another, on either side.
+fn is_made_of(alloc: Global, image: &[u8], other: &[u8]) -> Result<bool, Error> {
+    let mut made = is_made(alloc, image, other)? && is_made(alloc, other, image)?;
+    for hll_type in WIDTHS {
+        made = made && coupon_image_at(alloc, hll_type, image)?.is_some();
+    }
+    Ok(made)
+}
+
+/// Whether what is made of an image at each width, and of its union with another, on either side, is right.
+fn all_are_right(alloc: Global, image: &[u8], other: &[u8]) -> Result<bool, Error> {
+    let mut right = true;
+    for hll_type in WIDTHS {
+        right = right
+            && image_at_is_right(alloc, hll_type, image)?
+            && union_is_right(alloc, hll_type, image, other)?
+            && union_is_right(alloc, hll_type, other, image)?;
+    }
+    Ok(right)
+}
+
+/// Images as other libraries write them, whose coupons don't ascend or stand in the places of a table: what is made is what
+/// is read and written, and it is made of up to 128 coupons; of none where a coupon is there twice.
+#[test]
+fn images_of_others(rt: HostRuntime) -> Result<(), Fail> {
+    let other = image_of(rt.alloc(), (5, 10), 0)?;
+    for source in [(2, 10), (8, 10), (20, 10), (90, 10)] {
+        let turned = descending(rt.alloc(), &image_of(rt.alloc(), source, 0)?)?;
+        let placed = updatable_image(rt.alloc(), source)?;
+        for image in [&turned, &placed] {
+            assert!(rt; is_made_of(rt.alloc(), image, &other)?, "{source:?}");
+            assert!(rt; is_made_of(rt.alloc(), image, &turned)?, "{source:?}");
+            assert!(rt; all_are_right(rt.alloc(), image, &other)?, "{source:?}");
+            assert!(rt; all_are_right(rt.alloc(), image, &turned)?, "{source:?}");
+        }
+        let head = head_of(&turned);
+        let twice = with_bytes_twice(rt.alloc(), &turned, head, head + 4)?;
+        assert!(rt; !is_made(rt.alloc(), &twice, &other)?, "{source:?}");
+        assert!(rt; coupon_image_at(rt.alloc(), HllType::Hll4, &twice)?.is_none());
+    }
+    Ok(())
+}
+
+/// At most 128 coupons in any order are made into an image, and any number that ascend.
+#[test]
+fn few_coupons_of_others(rt: HostRuntime) -> Result<(), Fail> {
+    for (source, few) in [((128, 12), true), ((129, 12), false)] {
+        let written = image_of(rt.alloc(), source, 0)?;
+        let turned = descending(rt.alloc(), &written)?;
+        let placed = updatable_image(rt.alloc(), source)?;
+        assert!(rt; coupon_image_at(rt.alloc(), HllType::Hll8, &written)?.is_some());
+        for image in [&turned, &placed] {
+            let made = coupon_image_at(rt.alloc(), HllType::Hll8, image)?;
+            assert_eq!(rt; made.is_some(), few, "{source:?}");
+            assert!(rt; image_at_is_right(rt.alloc(), HllType::Hll8, image)?);
         }
     }
     Ok(())

@@ -6,7 +6,7 @@ use hll_base::error::Error;
 use hll_base::hll_type::HllType;
 use hll_coupons::coupon::Coupon;
 use hll_sketch::HllSketch;
-use std::alloc::Allocator;
+use std::alloc::{Allocator, Global};
 
 /// All widths.
 pub(crate) const WIDTHS: [HllType; 3] = [HllType::Hll4, HllType::Hll6, HllType::Hll8];
@@ -28,4 +28,56 @@ pub(crate) fn filled<A: Allocator + Clone>(
         sketch.update_with_coupon(Coupon::pack(slot, value))?;
     }
     Ok(sketch)
+}
+
+/// The last place of the table of an image of coupons.
+fn last_place(image: &[u8]) -> usize
+    ensures { result ≤ 255 }
+{
+    match image.get(4) {
+        Some(3) => 7,
+        Some(5) => 31,
+        Some(6) => 63,
+        Some(7) => 127,
+        _ => 255,
+    }
+}
+
+/// The image of a list or a set of this many coupons with all places of its table, the empty ones among the others, and more
+/// bytes behind it.
+pub(crate) fn updatable_image(alloc: Global, source: (u32, u8)) -> Result<Vec<u8>, Error> {
+    let (count, lg_k) = source;
+    let compact = filled(alloc, lg_k, HllType::Hll8, count, 63)?.serialize()?;
+    let last = last_place(&compact);
+    let head = if last == 7 { 8 } else { 12 };
+    let mut image = Vec::from_slice(alloc, &compact[..head.min(compact.len())])?;
+    if let Some(flags) = image.get_mut(5) {
+        *flags &= 0xf7;
+    }
+    image.resize(head + 4 * last + 7, 0)?;
+    for (number, byte) in compact.iter().skip(head).enumerate() {
+        let place = (number / 4).wrapping_mul(5).wrapping_add(3) & last;
+        let at = place.wrapping_mul(4).wrapping_add(head + number % 4);
+        if let Some(room) = image.get_mut(at) {
+            *room = *byte;
+        }
+    }
+    Ok(image)
+}
+
+/// An image with the four bytes at one place copied to another.
+pub(crate) fn with_bytes_twice(
+    alloc: Global,
+    image: &[u8],
+    from: usize,
+    to: usize,
+) -> Result<Vec<u8>, Error> {
+    let mut changed = Vec::from_slice(alloc, image)?;
+    for place in 0..4 {
+        let byte = image.get(from.wrapping_add(place));
+        if let (Some(byte), Some(room)) = (byte, changed.get_mut(to.wrapping_add(place))) {
+            *room = *byte;
+        }
+    }
+    Ok(changed)
 }

@@ -5,7 +5,7 @@ use Rattle.hll_coupons.specs.Pair.{slot_of}
 use Rattle.hll_registers.specs.State.{cleared_state}
 use Rattle.hll_registers.specs.Store.{Stored, update_with_coupon}
 use Rattle.hll_registers.proofs.Raising.{update_with_pairs-kept, update_with_pairs-written}
-use Rattle.hll_sketch_tests.proofs.array16.Array16RegisterStore.put_coupon.Goals as goal
+use Rattle.hll_arrays_tests.proofs.array16.Array16RegisterStore.put_coupon.Goals as goal
 
 pub returns-then-from-index-clause-ok : goal.returns-then-from-index-clause-ok
 returns-then-from-index-clause-ok g c =

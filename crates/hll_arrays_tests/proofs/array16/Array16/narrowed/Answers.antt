@@ -3,7 +3,7 @@ use Rattle.std.proofs.Common.{◌≡◌, ℕ, List, sym, ap, ◌∙◌}
 use Rattle.hll_registers.specs.State.{cleared_state}
 use Rattle.hll_registers.specs.Store.{Stored, merge_with, zero_registers}
 use Rattle.hll_registers.proofs.Filling.{merge_with-zero_registers}
-use Rattle.hll_sketch_tests.proofs.array16.Array16.narrowed.Goals as goal
+use Rattle.hll_arrays_tests.proofs.array16.Array16.narrowed.Goals as goal
 
 pub returns-clause-ok : goal.returns-clause-ok
 returns-clause-ok g c =

@@ -2,7 +2,7 @@
 use Rattle.std.proofs.Common.{rules, ◌≡◌, [], ◌∷◌, sym, subst, arith}
 use Rattle.hll_coupons.specs.Table.{IsTable}
 use Rattle.hll_coupons.proofs.TableLemmas.{IsTable-empty}
-use Rattle.hll_sketch_tests.proofs.lists.containers.Goals as goal
+use Rattle.hll_coupons_tests.proofs.lists.containers.Goals as goal
 
 pub from_coupons-container-requires-clause-table : goal.from_coupons-container-requires-clause-table
 from_coupons-container-requires-clause-table g c =

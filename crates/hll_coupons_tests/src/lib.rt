@@ -1,0 +1,18 @@
+// SPDX-License-Identifier: Apache-2.0
+//! Tests through public calls of `hll_base` and `hll_coupons`: bytes, hashes, lists, sets and exceptions.
+#![tactic(auto)]
+
+#[cfg(test)]
+mod aux_map;
+#[cfg(test)]
+mod bytes;
+#[cfg(test)]
+mod errors;
+#[cfg(test)]
+mod hash;
+#[cfg(test)]
+mod lists;
+#[cfg(test)]
+mod paths;
+#[cfg(test)]
+mod sets;
