@@ -17,10 +17,18 @@ import time
 sys.dont_write_bytecode = True
 ROOT = pathlib.Path(__file__).resolve().parent.parent
 sys.path[:0] = [str(ROOT / "bindings" / "python"), str(ROOT / "bindings" / "postgresql" / "test")]
-from shared import image_line, list_image, machine, set_image  # noqa: E402
-from worst_cases import exceptions_plan, path_coupons, random_coupons, set_plan, strides_plan  # noqa: E402
+from shared import built_program, image_line, list_image, machine, plan_file, run, set_image  # noqa: E402
+from worst_cases import exceptions_plan, path_coupons, random_coupons, set_plan, strides_plan, unsorted_set  # noqa: E402
 
-PLANS = {"a set of 2^18 places": lambda is_path: set_plan(18, is_path),
+
+def sparse_plan(is_path):
+    """A set of 2,000 coupons in 2^18 places, and the image that is printed."""
+    coupons = (path_coupons(18) if is_path else random_coupons(18))[:2_000]
+    return image_line(unsorted_set(18, coupons)), set_image(21, 18, coupons)
+
+
+PLANS = {"2,000 coupons in 2^18 places": sparse_plan,
+         "a set of 2^18 places": lambda is_path: set_plan(18, is_path),
          "a set of 2^18 places but one, each stride": lambda is_path: strides_plan(18, is_path),
          "exceptions at `lg_k` 21": lambda is_path: exceptions_plan(21, is_path)}
 
@@ -72,7 +80,7 @@ def calls_of_postgresql(server, session, image, canonical):
 # ---- many images in one union
 
 # A set of so many coupons in 2^18 places at `lg_k` 21, and so many lists of one coupon more.
-MANY = [(66, 1_000), (66, 10_000), (196_000, 600)]
+MANY = [(66, 1_000), (66, 10_000), (66, 87_000), (110_000, 50_000)]
 
 
 def many_images(in_set, lists, is_path):
@@ -82,20 +90,47 @@ def many_images(in_set, lists, is_path):
     return [set_image(21, 18, some)] + [list_image(21, [coupon]) for coupon in others], set_image(21, 18, some + others)
 
 
+def plan_of(images):
+    """A plan that unites images."""
+    return "".join(map(image_line, images)) + "union %d 21 8\n" % len(images)
+
+
+def printed(program, text):
+    """What the program prints for a plan."""
+    with plan_file() as file:
+        file.write(text)
+        file.flush()
+        return run(program, file.name)[0]
+
+
 def unions_of_many(images, whole):
     from hll_sketches import _library as library, union_of
     yield "C, hll_images_union", lambda: library.union(21, 8, images), library.union(21, 8, [whole])
     yield "Python, union_of", lambda: union_of(images, 21).to_bytes(), union_of([whole], 21).to_bytes()
+    program, text = built_program(), plan_of(images)
+    yield "a plan", lambda: printed(program, text), printed(program, plan_of([whole]))
 
 
-def measure_many(runs):
+def queries_of_many(server, session):
+    """Unions in PostgreSQL of the rows of a table."""
+    def unions(images, whole):
+        path = server.file("images")
+        path.write_text("".join("\\\\x%s\n" % image.hex() for image in images))
+        session.ask("TRUNCATE many; COPY many FROM '%s';" % path)
+        wanted = session.ask("SELECT md5(hll_image_union_agg(image, 21)) FROM (SELECT '\\x%s'::bytea AS image) AS one;" % whole.hex())
+        if "ERROR" in wanted:
+            raise SystemExit(wanted)
+        yield "PostgreSQL, hll_image_union_agg", lambda: session.ask("SELECT md5(hll_image_union_agg(image, 21)) FROM many;"), wanted
+    return unions
+
+
+def measure_many(runs, unions):
     """A row for each union: its seconds and those for each megabyte of images."""
-    print("| images | call | seconds, one path | seconds a megabyte | seconds, random | ratio |\n|---|---|---|---|---|---|")
     for in_set, lists in MANY:
         rows = {}
         for is_path in (True, False):
             images, whole = many_images(in_set, lists, is_path)
-            for name, call, wanted in unions_of_many(images, whole):
+            for name, call, wanted in unions(images, whole):
                 rows.setdefault(name, []).append(seconds(call, wanted, runs))
         megabytes = sum(map(len, images)) / 1e6
         for name, (path, usual) in rows.items():
@@ -127,14 +162,14 @@ def measure(name, plan, calls_of, runs):
         print("| %s | %s | %.3f | %.3f | %.1f |" % (name, call_name, path, usual, path / usual), flush=True)
 
 
-def measure_postgresql(runs):
+def measure_postgresql(measures):
+    """Measures in a PostgreSQL server, if there is one."""
     from server import Refused, Server, Session
     try:
         with Server() as server, Session(server) as session:
-            session.ask("CREATE EXTENSION hll_sketches; CREATE TABLE images (name text, image bytea);"
+            session.ask("CREATE EXTENSION hll_sketches; CREATE TABLE images (name text, image bytea); CREATE TABLE many (image bytea);"
                         " ALTER TABLE images ALTER image SET STORAGE EXTERNAL;")
-            for name, plan in PLANS.items():
-                measure(name, plan, lambda *images: calls_of_postgresql(server, session, *images), runs)
+            measures(server, session)
     except Refused as why:
         print("PostgreSQL is left out: %s\n" % why)
 
@@ -146,14 +181,17 @@ def main():
     given = parser.parse_args()
     runs = given.runs
     print(machine())
-    measure_many(runs)
+    print("| images | call | seconds, one path | seconds a megabyte | seconds, random | ratio |\n|---|---|---|---|---|---|")
+    measure_many(runs, unions_of_many)
+    measure_postgresql(lambda server, session: measure_many(runs, queries_of_many(server, session)))
     if given.many:
         return
     print("| image | call | seconds, one path | seconds, random | ratio |\n|---|---|---|---|---|")
     for name, plan in PLANS.items():
         for calls_of in (calls_of_c, calls_of_python):
             measure(name, plan, calls_of, runs)
-    measure_postgresql(runs)
+    measure_postgresql(lambda server, session: [
+        measure(name, plan, lambda *images: calls_of_postgresql(server, session, *images), runs) for name, plan in PLANS.items()])
 
 
 if __name__ == "__main__":

@@ -185,8 +185,9 @@ uint32_t hll_version(void);
 hll_status hll_image_info(const uint8_t *image, size_t len, hll_info *info, size_t info_size);
 
 /* Whether the bytes begin with an image (HLL_OK), else why not.
- * Answers HLL_OK, 1 to 11, or HLL_MEMORY. Takes the memory of reading for coupons, but none where they are 1 to 128 distinct ones,
- * or ascend in a compact image; and memory for the exceptions of registers of 4 bits. */
+ * Answers HLL_OK, 1 to 11, or HLL_MEMORY. Takes no memory for 1 to 128 distinct coupons, for coupons of a compact image
+ * that ascend, for registers of 6 and 8 bits, and for registers of 4 bits without exceptions. Takes the memory of reading
+ * for other coupons, and memory for the exceptions of other registers of 4 bits. */
 hll_status hll_image_check(const uint8_t *image, size_t len);
 
 /* How many of the bytes are the image that they begin with.
@@ -302,9 +303,7 @@ hll_status hll_registers_add_coupons(uint8_t *registers, size_t count, const uin
  * registers that fold to it. A list or a set has coupons alone, and is joined whatever its lg_k; so are registers that
  * are all 0, which change nothing. Where the image has other registers, and fewer than the caller, the answer is
  * HLL_FEWER, and *lg_k is the image's: fold to it, and join again. *lg_k is written on no other answer.
- * Answers HLL_OK, 1 to 11, HLL_ARGUMENT, HLL_MEMORY or HLL_FEWER. Takes memory for the exceptions of registers of 4
- * bits, and the memory of reading for coupons, but none where they are 1 to 128 distinct ones, or ascend in a compact
- * image; none for registers of 6 and 8 bits. */
+ * Answers HLL_OK, 1 to 11, HLL_ARGUMENT, HLL_MEMORY or HLL_FEWER. Takes memory as hll_image_check does. */
 hll_status hll_registers_join(uint8_t *registers, size_t count, const uint8_t *image, size_t len, uint8_t *lg_k);
 
 /* Joins as many other registers, or more, which are folded. Where the others are fewer, and not all 0, the answer is
@@ -369,7 +368,7 @@ static inline const char *hll_reason(hll_status status)
 
 /* Whether an image of a stranger's is quick to read: it has at most so many bytes, and byte 3, which says its lg_k, is at
  * most this. 12 and 8192 leave room for honest images of lg_k 12; the worst of these takes milliseconds
- * (docs/OPERATING.md, "Images of strangers"). No other byte is looked at. */
+ * (docs/OPERATING.md, "Images from others"). No other byte is looked at. */
 static inline int hll_is_small(const uint8_t *image, size_t len, uint8_t lg_k, size_t most)
 {
     return 4 <= len && len <= most && image[3] <= lg_k;

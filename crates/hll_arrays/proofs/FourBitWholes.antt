@@ -1,6 +1,6 @@
 -- SPDX-License-Identifier: Apache-2.0
 -- Images of four bits whose counts pass their checks, and whose bytes are there.
-use Rattle.std.proofs.Common.{◌≡◌, ℕ, ◌+◌, ◌-◌, ◌*◌, ◌^◌, ◌<◌, ◌≤◌, suc, cond, eqb, List, ◌++◌, Option, length, drop, take, map, sym, ap, subst, ◌∙◌, arith}
+use Rattle.std.proofs.Common.{◌≡◌, ℕ, ◌+◌, ◌-◌, ◌*◌, ◌^◌, ◌<◌, ◌≤◌, suc, Bool, true, false, cond, eqb, List, ◌++◌, Option, length, drop, take, map, sym, ap, subst, ◌∙◌, arith}
 use Rattle.std.specs.List.{range_with_len}
 use Rattle.std.proofs.Math.Nat.{pow-suc}
 use Rattle.std.proofs.lemmas.List.{length-drop, length-take, take-append-drop, take-append-le}
@@ -37,6 +37,14 @@ fault_not_memory h b e (payload.FirstHll4Fault.short l f n) is = cc
 fault_not_memory h b e (payload.FirstHll4Fault.coupon w n) is = cc
 fault_not_memory h b e (payload.FirstHll4Fault.number w d n) is = cc
 fault_not_memory h b e (payload.FirstHll4Fault.register w d m n) is = cc
+
+-- where the count of exceptions is 0, no places of them follow
+pub no_places : (h : Hll4Shape) (b : List ℕ) → exception_count b ≡ 0 → exception_places h b ≡ 0
+no_places h b none = of h.compact
+  where
+    of : (compact : Bool) → cond compact (exception_count b) (cond (eqb (exception_count b) 0) 0 (2 ^ h.lg_table)) ≡ 0
+    of true = none
+    of false = ap (λ n. cond (eqb n 0) 0 (2 ^ h.lg_table)) none
 
 -- ---- bytes that are there
 

@@ -1,13 +1,13 @@
 // SPDX-License-Identifier: Apache-2.0
 //! Registers of four bits: nibbles above a minimum, and a map of exceptions (docs/MODEL.md, "Registers of four bits").
-ghost use Rattle.std.specs.Prelude.{◌≡◌, ◌+◌, ◌^◌, ◌<◌, ◌≤◌, ◌==◌, ◌⊎◌, take, nat_eq, slice_index, IfOk, IfErr, OnOk, OnErr, None};
+ghost use Rattle.std.specs.Prelude.{◌≡◌, ◌≢◌, ◌+◌, ◌^◌, ◌<◌, ◌≤◌, ◌==◌, ◌⊎◌, take, nat_eq, slice_index, IfOk, IfErr, OnOk, OnErr, None};
 ghost use Rattle.std.specs.List.{list_all};
 ghost use Rattle.std.specs.Cmp.Lexicographic.{pointwise};
 ghost use Rattle.hll_base.specs.declared.error.Reason.TheVariants.{Memory};
 ghost use Rattle.hll_base.specs.declared.hll_type.HllType.TheVariants.{Hll4};
 ghost use Rattle.hll_kernels.specs.Packed.{minimum, count_at_minimum, nibble, units, zeros};
 ghost use Rattle.hll_registers.specs.FourBits.{exception_of, ExceptionsMove};
-ghost use Rattle.hll_registers.specs.Payload.{shape_of_hll4, hll4_size, registers_of, state_at, FirstHll4Fault, Hll4Fault, IsHll4Payload, IsWhole, WritesRegisters};
+ghost use Rattle.hll_registers.specs.Payload.{exception_count, shape_of_hll4, hll4_size, registers_of, state_at, FirstHll4Fault, Hll4Fault, IsHll4Payload, IsWhole, WritesRegisters};
 ghost use Rattle.hll_registers.specs.Store.{size_in_registers, zero_registers, update_with_coupon, IsStored};
 
 use crate::four_bit_payload::{Hll4Header, read_payload, read_slice};
@@ -375,8 +375,8 @@ impl<A: Allocator> Eq for Array4<A> {
 /// bound, and not used.
 ///
 /// `lg_config_k` is 4 to 21. Fails with the first fault in the order of checks (`Count`, `LgArr`, `Truncated`, `Coupon` or
-/// `Register`), or else with `Memory`. Takes memory only once the bytes are known to be there: for the map of exceptions, as
-/// it grows.
+/// `Register`), or else with `Memory`. Allocates only once the bytes are known to be there: the map of exceptions, as it
+/// grows, and nothing where there are no exceptions.
 pub fn read_nibbles<'a, A: Allocator + Clone>(
     alloc: &A,
     cursor: SketchSlice<'a>,
@@ -396,6 +396,7 @@ pub fn read_nibbles<'a, A: Allocator + Clone>(
         IfErr result (λ e. (e ≡ Memory) ⊎ FirstHll4Fault h cursor.entry e) }
     ensures asked { let h = shape_of_hll4 lg_config_k cur_min aux_format in
         IfErr result (λ e. e ≡ Memory → IsWhole h cursor.entry) }
+    ensures needed { IfErr result (λ e. e ≡ Memory → exception_count cursor.entry ≢ 0) }
 {
     let header = Hll4Header {
         lg_config_k,

@@ -65,7 +65,7 @@ pub(crate) fn read_payload<A: Allocator + Clone>(
 /// The registers above the minimum that the header gives, as they stand in the bytes, with a map of the exceptions by this
 /// allocator, and the estimate state.
 ///
-/// Fails with the first fault in the order of checks, or else with `Memory`.
+/// Fails with the first fault in the order of checks, or else with `Memory`, only where there are exceptions.
 pub(crate) fn read_slice<'a, A: Allocator + Clone>(
     alloc: &A,
     cursor: SketchSlice<'a>,
@@ -83,6 +83,7 @@ pub(crate) fn read_slice<'a, A: Allocator + Clone>(
         IfErr result (λ e. (e ≡ Memory) ⊎ FirstHll4Fault h cursor.entry e) }
     ensures asked { let h = shape_of_hll4 header.lg_config_k header.cur_min header.aux_format in
         IfErr result (λ e. e ≡ Memory → IsWhole h cursor.entry) }
+    ensures needed { IfErr result (λ e. e ≡ Memory → exception_count cursor.entry ≢ 0) }
 {
     let frame = frame_of(cursor, header)?;
     let exceptions = read_entries(alloc, header.lg_config_k, &frame)?;
@@ -179,7 +180,7 @@ fn places_of(aux_format: AuxFormat, count: usize) -> Result<usize, Error>
 
 /// Reads the exceptions into a map by slots modulo 2^`lg_config_k`, by this allocator.
 ///
-/// Fails with `Coupon`, `Count` or `Memory`.
+/// Fails with `Coupon`, `Count` or, only where there are places, `Memory`.
 fn read_entries<A: Allocator + Clone>(
     alloc: &A,
     lg_config_k: u8,
@@ -195,6 +196,7 @@ fn read_entries<A: Allocator + Clone>(
     ensures err { let entries = coupons_at frame.now.compact frame.now.places frame.now.entries.now in
         IfErr result (λ e. (e ≡ Memory) ⊎ (((e ≡ reasons.Coupon) × (AreEntries lg_config_k entries → ⊥))
         ⊎ ((e ≡ reasons.Count) × AreEntries lg_config_k entries × (length entries ≢ frame.now.preamble.exception_count)))) }
+    ensures needed { IfErr result (λ e. e ≡ Memory → frame.now.places ≢ 0) }
 {
     let mut cursor = SketchSlice::new(frame.entries);
     let mut map = None;

@@ -10,9 +10,8 @@ use Rattle.hll_coupons.specs.Pair.{set_of}
 use Rattle.hll_sketch.specs.Adding.{add}
 use Rattle.hll_sketch.specs.Laws.{add_in_turn}
 use Rattle.hll_sketch.specs.Merging.{merge, merge_all, empty_union}
-use Rattle.hll_sketch.specs.Union.{UnionLayout, gadget_of}
 use Rattle.hll_c.specs.Batches.{AreEndsFrom, AreEnds, strings_from, strings, AreReadAs, IsFirstFaulty, MayAskAt}
-use Rattle.hll_sketch.specs.TakenIn.{TakesIn}
+use Rattle.hll_sketch.specs.Waiting.{WaitingUnion, whole_gadget, MergesInto}
 use Rattle.hll_c.specs.Steps.{TakesInAll, IsRefusedAt, FailsToTakeIn}
 use Rattle.hll_c.specs.Answers.{RefusesImages, images_fault}
 use Rattle.hll_c.specs.Calls.{AreUnionArguments, IsUnionOf}
@@ -108,21 +107,21 @@ put_all old now values ends start i all left =
 
 -- ---- images, taken in in turn
 
-pub record TakesInRest (before now : UnionLayout) (images ends : List ℕ) (failed_old failed_now start i : ℕ) : Type 0 where
+pub record TakesInRest (before now : WaitingUnion) (images ends : List ℕ) (failed_old failed_now start i : ℕ) : Type 0 where
   pub are : AreEndsFrom start (length images) (drop i ends)
   pub bound : now.lg_max_k ≡ before.lg_max_k
   pub untold : failed_now ≡ failed_old
   pub rest : (ys : List Sketch) → AreReadAs (strings_from start images (drop i ends)) ys
-      → (xs : List Sketch) × AreReadAs (strings images ends) xs × (merge_all before.lg_max_k (gadget_of now) ys ≡ merge_all before.lg_max_k (gadget_of before) xs)
+      → (xs : List Sketch) × AreReadAs (strings images ends) xs × (merge_all before.lg_max_k (whole_gadget now) ys ≡ merge_all before.lg_max_k (whole_gadget before) xs)
   pub faulty : (n : ℕ) (r : Reason) → IsFirstFaulty (strings_from start images (drop i ends)) n r → IsFirstFaulty (strings images ends) (i + n) r
   pub asked : (n : ℕ) → MayAskAt (strings_from start images (drop i ends)) n → MayAskAt (strings images ends) (i + n)
 
-pub takes_none : (before : UnionLayout) (images ends : List ℕ) (failed : ℕ) → AreEnds (length images) ends → TakesInRest before before images ends failed failed 0 0
+pub takes_none : (before : WaitingUnion) (images ends : List ℕ) (failed : ℕ) → AreEnds (length images) ends → TakesInRest before before images ends failed failed 0 0
 takes_none before images ends failed are = record { are = are; bound = refl; untold = refl; rest = λ ys read. (ys, read, refl); faulty = λ n r f. subst (λ m. IsFirstFaulty (strings images ends) m r) (let none : n ≡ 0 + n = omega arith in none) f; asked = λ n a. subst (MayAskAt (strings images ends)) (let none : n ≡ 0 + n = omega arith in none) a }
 
-module _ (before now : UnionLayout) (images ends : List ℕ) (failed_old failed_now start i : ℕ) (left : TakesInRest before now images ends failed_old failed_now start i) where
+module _ (before now : WaitingUnion) (images ends : List ℕ) (failed_old failed_now start i : ℕ) (left : TakesInRest before now images ends failed_old failed_now start i) where
   module _ (inside : i < length ends) where
-    pub takes_more : (next : UnionLayout) (failed_next : ℕ) → TakesIn now next (string_at start images (get_or ends i 0)) → failed_next ≡ failed_now
+    pub takes_more : (next : WaitingUnion) (failed_next : ℕ) → MergesInto now next (string_at start images (get_or ends i 0)) → failed_next ≡ failed_now
         → TakesInRest before next images ends failed_old failed_next (get_or ends i 0) (i + 1)
     takes_more next failed_next one same = record {
       are = (ends_here (length images) ends i 0 inside start left.are).2;
@@ -130,7 +129,7 @@ module _ (before now : UnionLayout) (images ends : List ℕ) (failed_old failed_
       untold = same ∙ left.untold;
       rest = λ ys read.
           let found = left.rest (one.sketch ∷ ys) (subst (λ s. AreReadAs s (one.sketch ∷ ys)) (sym (strings_here start images ends i 0 inside)) (one.read, read)) in
-          (found.0, found.1, ap (λ g. merge_all before.lg_max_k g ys) (one.gadget ∙ ap (λ k. merge k (gadget_of now) one.sketch) left.bound) ∙ found.2);
+          (found.0, found.1, ap (λ g. merge_all before.lg_max_k g ys) (one.gadget ∙ ap (λ k. merge k (whole_gadget now) one.sketch) left.bound) ∙ found.2);
       faulty = λ n r f.
           subst (λ m. IsFirstFaulty (strings images ends) m r) (let next : i + suc n ≡ i + 1 + n = omega arith in next)
           (left.faulty (suc n) r (subst (λ s. IsFirstFaulty s (suc n) r) (sym (strings_here start images ends i 0 inside)) (no_fault _ one.sketch one.read, f)));
@@ -159,15 +158,15 @@ pub record IsUnited (k : ℕ) (images : List (List ℕ)) (gadget : Sketch) : Typ
   pub read : AreReadAs images sketches
   pub is : gadget ≡ merge_all k (empty_union k) sketches
 
-module _ (k : ℕ) (u : UnionLayout) (bound : u.lg_max_k ≡ k) (empty : gadget_of u ≡ empty_union k) where
-  pub united_two : (v w : UnionLayout) (left right : List ℕ) → TakesIn u v left → TakesIn v w right → IsUnited k (left ∷ right ∷ []) (gadget_of w)
+module _ (k : ℕ) (u : WaitingUnion) (bound : u.lg_max_k ≡ k) (empty : (whole_gadget u) ≡ empty_union k) where
+  pub united_two : (v w : WaitingUnion) (left right : List ℕ) → MergesInto u v left → MergesInto v w right → IsUnited k (left ∷ right ∷ []) (whole_gadget w)
   united_two v w left right one two = record {
     sketches = one.sketch ∷ two.sketch ∷ [];
     read = (one.read, (two.read, tt));
     is = two.gadget ∙ (λ i. merge ((one.bound ∙ bound) i) ((one.gadget ∙ (λ j. merge (bound j) (empty j) one.sketch)) i) two.sketch);
   }
 
-  pub united_all : (w : UnionLayout) (images : List (List ℕ)) → TakesInAll u w images → IsUnited k images (gadget_of w)
+  pub united_all : (w : WaitingUnion) (images : List (List ℕ)) → TakesInAll u w images → IsUnited k images (whole_gadget w)
   united_all w images taken = record { sketches = taken.sketches; read = taken.read; is = taken.gadget ∙ (λ i. merge_all (bound i) (empty i) taken.sketches) }
 
 pub is_union : (k bits : ℕ) (images : List (List ℕ)) (failed_old failed_new : ℕ) (gadget y : Sketch) (are : AreUnionArguments k bits) → IsUnited k images gadget

@@ -1,6 +1,6 @@
 -- SPDX-License-Identifier: Apache-2.0
 -- Lemmas on images that are read, and on what refuses them.
-use Rattle.std.proofs.Common.{arith, ◌≡◌, ◌⊎◌, ℕ, ◌<◌, ◌≤◌, List, [], ◌∷◌, ◌++◌, length, Some, None, inl, inr, refl, sym, ◌∙◌, ap, subst, append_assoc}
+use Rattle.std.proofs.Common.{arith, ◌≡◌, ◌⊎◌, ℕ, ◌<◌, ◌≤◌, List, [], ◌∷◌, ◌++◌, length, Some, None, Result, Ok, Err, IfErr, inl, inr, refl, sym, ◌∙◌, ap, subst, append_assoc}
 use Rattle.std.proofs.lemmas.Bool.{cases_lt}
 use Rattle.hll_base.specs.declared.error.Reason.{Reason}
 use Rattle.hll_base.specs.declared.error.Reason.TheVariants.{Argument, Memory}
@@ -9,11 +9,14 @@ use Rattle.hll_sketch.specs.Checks.{first_failing, header_checks, checks_behind,
 use Rattle.hll_sketch.specs.CouponImages.{IsImageOfUnion, AreBothRead, IsImageAt}
 use Rattle.hll_sketch.specs.Folding.{IsFoldLgK}
 use Rattle.hll_sketch.specs.Image.{IsReadAs}
+use Rattle.hll_sketch.specs.Refusal.{IsRefusal}
+use Rattle.hll_sketch.specs.TakenIn.{HasCompactCoupons, HasPlainRegisters}
+use Rattle.hll_sketch.specs.Updatable.{HasUpdatableCoupons}
 use Rattle.hll_sketch.specs.Value.{Sketch, IsLgK}
 use Rattle.hll_sketch.proofs.FirstFailing.{none_before}
 use Rattle.hll_sketch.proofs.FirstFaults.{faultless_is_image}
 use Rattle.hll_sketch.proofs.SetWords.{coupons_stay}
-use Rattle.hll_c.specs.Answers.{IsImageOf, WithWords, RefusesArguments, argument, memory, RefusesImage, image_fault, image_memory, RefusesWith, argument_with_image, image_refused, RefusesImages, argument_with_images, images_fault, images_memory}
+use Rattle.hll_c.specs.Answers.{IsImageOf, WithWords, RefusesArguments, argument, memory, RefusesImage, RefusesInfo, RefusesTested, image_fault, image_memory, RefusesWith, argument_with_image, image_refused, RefusesImages, argument_with_images, images_fault, images_memory}
 use Rattle.hll_c.specs.Batches.{AreReadAs, IsFirstFaulty, MayAskAt, strings}
 use Rattle.hll_c.specs.Calls.{bits_of, IsAtWidth, AreNewArguments, IsEmptyAt, IsMadeOf, IsFoldOf, RefusesFold, above, with, AreUnionArguments, IsUnionOf, AreBatchArguments, IsUnionOfBatch}
 use Rattle.hll_c.specs.Steps.{IsRefusedAt}
@@ -34,6 +37,15 @@ pub refuses_image : (image : List ℕ) (e : Reason) → (e ≡ Memory) ⊎ (firs
 refuses_image image e (inl m) asked = subst (RefusesImage image) (sym m) (image_memory (asked m))
 refuses_image image e (inr f) asked = image_fault f
 
+-- a test of the bytes as they stand that is refused
+pub refuses_tested : {T : Type 0} (image : List ℕ) (r : Result T Reason) → IfErr r (IsRefusal image) → IfErr r (λ e. e ≡ Memory → HasCompactCoupons image → ⊥) →
+    IfErr r (λ e. e ≡ Memory → HasUpdatableCoupons image → ⊥) → IfErr r (λ e. e ≡ Memory → HasPlainRegisters image → ⊥) → IfErr r (RefusesTested image)
+refuses_tested image (Ok x) refusal compact updatable plain = tt
+refuses_tested image (Err e) refusal compact updatable plain = (
+  refuses_image image e refusal.first refusal.asked,
+  λ full. record { sized = refusal.asked full; coupons = compact full; places = updatable full; registers = plain full },
+)
+
 -- memory that is refused once an image is read
 pub refuses_memory : (image : List ℕ) (x : Sketch) (e : Reason) → IsReadAs image x → e ≡ Memory → RefusesImage image e
 refuses_memory image x e read m = subst (RefusesImage image) (sym m) (image_memory (no_size_fault image x read))
@@ -45,6 +57,10 @@ refuses_new InRange e is not = subst (RefusesArguments InRange) (sym is) (argume
 
 pub refuses_argument : (InRange : Type 0) (image : List ℕ) (e : Reason) → e ≡ Argument → (InRange → ⊥) → RefusesWith InRange image e
 refuses_argument InRange image e is not = subst (RefusesWith InRange image) (sym is) (argument_with_image not)
+
+-- the size of a structure that isn't ours
+pub refuses_info : (InRange : Type 0) (image : List ℕ) (e : Reason) → e ≡ Argument → (InRange → ⊥) → RefusesInfo InRange image e
+refuses_info InRange image e is not = subst (RefusesInfo InRange image) (sym is) (argument_with_image not, λ full. absurd (cc))
 
 pub no_lg_k : (k : ℕ) → (k < 4) ⊎ (21 < k) → IsLgK k → ⊥
 no_lg_k k (inl low) is = let no : ⊥ = omega (arith, low, is.low) in no

@@ -10,8 +10,7 @@ use Rattle.hll_coupons.specs.Fold.{fold_to}
 use Rattle.hll_coupons.specs.Hashed.{coupon_of_bytes}
 use Rattle.hll_coupons.specs.Pair.{set_of}
 use Rattle.hll_sketch.specs.Merging.{merge, merge_all}
-use Rattle.hll_sketch.specs.TakenIn.{TakesIn}
-use Rattle.hll_sketch.specs.Union.{UnionLayout, gadget_of}
+use Rattle.hll_sketch.specs.Waiting.{WaitingUnion, whole_gadget, MergesInto}
 use Rattle.hll_sketch.specs.Value.{Sketch}
 use Rattle.hll_sketch.proofs.JoinedBytes.{joined-nil, joined-more}
 use Rattle.hll_c.specs.Batches.{AreEndsFrom, strings_from, strings, AreReadAs, IsFirstFaulty, MayAskAt}
@@ -91,29 +90,29 @@ part_inside parts i inside = omega (arith, inside, length-map parts (λ part. pa
 pub parts_end : (parts : List (Bor (List ℕ))) (i : ℕ) → length parts ≤ i → length (bytes_of parts) ≤ i
 parts_end parts i all = omega (arith, all, length-map parts (λ part. part.now))
 
-pub record TakesParts (before now : UnionLayout) (images : List (List ℕ)) (failed_old failed_now i : ℕ) : Type 0 where
+pub record TakesParts (before now : WaitingUnion) (images : List (List ℕ)) (failed_old failed_now i : ℕ) : Type 0 where
   pub bound : now.lg_max_k ≡ before.lg_max_k
   pub untold : failed_now ≡ failed_old
   pub rest : (ys : List Sketch) → AreReadAs (drop i images) ys
-      → (xs : List Sketch) × AreReadAs images xs × (merge_all before.lg_max_k (gadget_of now) ys ≡ merge_all before.lg_max_k (gadget_of before) xs)
+      → (xs : List Sketch) × AreReadAs images xs × (merge_all before.lg_max_k (whole_gadget now) ys ≡ merge_all before.lg_max_k (whole_gadget before) xs)
   pub faulty : (n : ℕ) (r : Reason) → IsFirstFaulty (drop i images) n r → IsFirstFaulty images (i + n) r
   pub asked : (n : ℕ) → MayAskAt (drop i images) n → MayAskAt images (i + n)
 
-pub parts_none : (before : UnionLayout) (images : List (List ℕ)) (failed : ℕ) → TakesParts before before images failed failed 0
+pub parts_none : (before : WaitingUnion) (images : List (List ℕ)) (failed : ℕ) → TakesParts before before images failed failed 0
 parts_none before images failed = record { bound = refl; untold = refl; rest = λ ys read. (ys, read, refl); faulty = λ n r f. subst (λ m. IsFirstFaulty images m r) (let none : n ≡ 0 + n = omega arith in none) f; asked = λ n a. subst (MayAskAt images) (let none : n ≡ 0 + n = omega arith in none) a }
 
-module _ (before now : UnionLayout) (images : List (List ℕ)) (failed_old failed_now i : ℕ) (left : TakesParts before now images failed_old failed_now i) where
+module _ (before now : WaitingUnion) (images : List (List ℕ)) (failed_old failed_now i : ℕ) (left : TakesParts before now images failed_old failed_now i) where
   module _ (inside : i < length images) (part : List ℕ) (at : get_or images i [] ≡ part) where
     here : drop i images ≡ part ∷ drop (i + 1) images
     here = drop_more images i [] inside ∙ ap (λ p. p ∷ drop (i + 1) images) at
 
-    pub parts_more : (next : UnionLayout) (failed_next : ℕ) → TakesIn now next part → failed_next ≡ failed_now → TakesParts before next images failed_old failed_next (i + 1)
+    pub parts_more : (next : WaitingUnion) (failed_next : ℕ) → MergesInto now next part → failed_next ≡ failed_now → TakesParts before next images failed_old failed_next (i + 1)
     parts_more next failed_next one same = record {
       bound = one.bound ∙ left.bound;
       untold = same ∙ left.untold;
       rest = λ ys read.
           let found = left.rest (one.sketch ∷ ys) (subst (λ s. AreReadAs s (one.sketch ∷ ys)) (sym here) (one.read, read)) in
-          (found.0, found.1, ap (λ g. merge_all before.lg_max_k g ys) (one.gadget ∙ ap (λ k. merge k (gadget_of now) one.sketch) left.bound) ∙ found.2);
+          (found.0, found.1, ap (λ g. merge_all before.lg_max_k g ys) (one.gadget ∙ ap (λ k. merge k (whole_gadget now) one.sketch) left.bound) ∙ found.2);
       faulty = λ n r f.
           subst (λ m. IsFirstFaulty images m r) (let next : i + suc n ≡ i + 1 + n = omega arith in next)
           (left.faulty (suc n) r (subst (λ s. IsFirstFaulty s (suc n) r) (sym here) (no_fault part one.sketch one.read, f)));

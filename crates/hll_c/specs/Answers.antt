@@ -4,8 +4,10 @@ use Rattle.std.specs.Prelude.{◌≡◌, ℕ, ◌≤◌, ◌<◌, List, ◌++◌
 use Rattle.hll_base.specs.Reason.{number_of}
 use Rattle.hll_base.specs.declared.error.Reason.{Reason}
 use Rattle.hll_base.specs.declared.error.Reason.TheVariants.{Argument, Memory}
+use Rattle.hll_sketch.specs.ByteRegisters.{JoinNeedsMemory}
 use Rattle.hll_sketch.specs.Checks.{first_fault, size_fault}
 use Rattle.hll_sketch.specs.EstimatorWords.{FillsWords}
+use Rattle.hll_sketch.specs.TakenIn.{HasCompactCoupons}
 use Rattle.hll_sketch.specs.Value.{Sketch}
 use Rattle.hll_sketch.specs.Written.{Written}
 use Rattle.hll_c.specs.Batches.{IsFirstFaulty, MayAskAt}
@@ -66,8 +68,16 @@ pub data RefusesWith (InRange : Type 0) (image : List ℕ) : Reason → Type 0 w
   argument_with_image : (InRange → ⊥) → RefusesWith InRange image Argument
   image_refused : {r : Reason} → InRange → RefusesImage image r → RefusesWith InRange image r
 
--- the same of several images: the number of the first that fails a check is told, and of another refusal none; memory is refused once the
--- bytes that an image asks for are there, and the images before it were read
+-- an image is refused, for memory only where a join of it into registers may need some
+abbrev pub RefusesTested : List ℕ → Reason → Type 0
+RefusesTested image r = RefusesImage image r × (r ≡ Memory → JoinNeedsMemory image)
+
+-- an argument is out of range, or the image is refused, for memory never where it has compact coupons that ascend or are few
+abbrev pub RefusesInfo : Type 0 → List ℕ → Reason → Type 0
+RefusesInfo InRange image r = RefusesWith InRange image r × (r ≡ Memory → HasCompactCoupons image → ⊥)
+
+-- An argument is out of range, or one of several images is refused: the number of the first that fails a check is told, and of another
+-- refusal none. Memory is refused once the bytes that an image asks for are there, and the images before it were read.
 pub data RefusesImages (InRange : Type 0) (images : List (List ℕ)) (failed_old failed_new : ℕ) : Reason → Type 0 where
   argument_with_images : (InRange → ⊥) → failed_new ≡ failed_old → RefusesImages InRange images failed_old failed_new Argument
   images_fault : {r : Reason} → InRange → IsFirstFaulty images failed_new r → RefusesImages InRange images failed_old failed_new r

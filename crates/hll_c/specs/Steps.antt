@@ -5,15 +5,15 @@ use Rattle.hll_base.specs.declared.error.Reason.{Reason}
 use Rattle.hll_base.specs.declared.error.Reason.TheVariants.{Memory}
 use Rattle.hll_sketch.specs.Checks.{first_fault, size_fault}
 use Rattle.hll_sketch.specs.Merging.{merge_all}
-use Rattle.hll_sketch.specs.Union.{UnionLayout, gadget_of}
+use Rattle.hll_sketch.specs.Waiting.{WaitingUnion, whole_gadget}
 use Rattle.hll_sketch.specs.Value.{Sketch}
 use Rattle.hll_c.specs.Batches.{AreReadAs, IsFirstFaulty, MayAskAt}
 
 -- a union took in several images in turn
-pub record TakesInAll (before after : UnionLayout) (images : List (List ℕ)) : Type 0 where
+pub record TakesInAll (before after : WaitingUnion) (images : List (List ℕ)) : Type 0 where
   pub sketches : List Sketch
   pub read : AreReadAs images sketches
-  pub gadget : gadget_of after ≡ merge_all before.lg_max_k (gadget_of before) sketches
+  pub gadget : (whole_gadget after) ≡ merge_all before.lg_max_k (whole_gadget before) sketches
 
 -- the image with this number is refused: for memory, once the bytes that it asks for are there, or by a check, and then its number is told
 abbrev pub IsRefusedAt : List ℕ → ℕ → ℕ → ℕ → Reason → Type 0

@@ -10,11 +10,10 @@ ghost use Rattle.hll_sketch.specs.Image.{IsReadAs, IsSizeOfImage};
 ghost use Rattle.hll_sketch.specs.Laws.{add_in_turn};
 ghost use Rattle.hll_sketch.specs.Layout.{sketch_of};
 ghost use Rattle.hll_sketch.specs.Value.{Sketch, IsLgK};
-ghost use Rattle.hll_c.specs.Answers.{IsImageOf, WithWords, RefusesArguments, RefusesImage, RefusesWith, RefusesImages};
+ghost use Rattle.hll_c.specs.Answers.{IsImageOf, WithWords, RefusesArguments, RefusesImage, RefusesTested, RefusesWith, RefusesImages};
 ghost use Rattle.hll_c.specs.Batches.{AreEnds, strings};
 ghost use Rattle.hll_c.specs.Calls.{bit, bits_of, IsWidth, AreNewArguments, IsEmptyAt, IsMadeOf, IsFoldOf, RefusesFold, IsAtWidth, IsCleared, AreOfCoupon, HasCoupon, HasValues, AreUnionArguments, IsUnionOf, AreBatchArguments, IsUnionOfBatch, SaysAgreement};
-ghost use Rattle.hll_sketch.specs.TakenIn.{TakesIn};
-ghost use Rattle.hll_sketch.specs.Union.{gadget_of};
+ghost use Rattle.hll_sketch.specs.Waiting.{whole_gadget, MergesInto};
 ghost use Rattle.hll_c.specs.Steps.{TakesInAll, IsRefusedAt, FailsToTakeIn};
 
 use crate::answer::image_with_words;
@@ -27,7 +26,7 @@ use hll_coupons::coupon::Coupon;
 use hll_sketch::byte_registers::fold_in_place;
 use hll_sketch::image_registers::{ImageRegisters, registers_of_image};
 use hll_sketch::size::size_of_image;
-use hll_sketch::{HllSketch, HllUnion, ascending_image_at, union_of_ascending_images};
+use hll_sketch::{HllSketch, HllUnion, UnionBuilder, coupon_image_at, union_of_coupon_images};
 use std::alloc::Global;
 
 /// The width of a number of bits. `Argument` where it is not 4, 6 or 8.
@@ -73,7 +72,7 @@ fn refused_at(e: Error, number: usize, failed: &mut usize) -> Error
 /// Whether the bytes begin with an image.
 pub(crate) fn check(alloc: Global, image: &[u8]) -> Result<(), Error>
     ensures ok { OnOk result ((x : Sketch) × IsReadAs image.now x) }
-    ensures err { IfErr result (λ e. RefusesImage image.now e) }
+    ensures err { IfErr result (λ e. RefusesTested image.now e) }
 {
     HllSketch::check(alloc, image)
 }
@@ -155,7 +154,7 @@ pub(crate) fn merged(
     ensures ok { IfOk result (λ image. IsImageOf (WithWords (IsUnionOf lg_max_k width (left.now ∷ right.now ∷ []) failed.old failed.new)) image.items) }
     ensures err { IfErr result (λ e. RefusesImages (AreUnionArguments lg_max_k width) (left.now ∷ right.now ∷ []) failed.old failed.new e) }
 {
-    match union_of_ascending_images(alloc, lg_max_k, width_of(width)?, left, right)? {
+    match union_of_coupon_images(alloc, lg_max_k, width_of(width)?, left, right)? {
         Some(image) => Ok(image),
         None => image_with_words(union_of_two(alloc, lg_max_k, width, left, right, failed)?),
     }
@@ -174,19 +173,19 @@ fn union_of_two(
     ensures err { IfErr result (λ e. RefusesImages (AreUnionArguments lg_max_k width) (left.now ∷ right.now ∷ []) failed.old failed.new e) }
 {
     let width = width_of(width)?;
-    let mut union = HllUnion::new(alloc, lg_max_k)?;
-    take_in(&mut union, left, 0, failed)?;
-    take_in(&mut union, right, 1, failed)?;
-    read_out(union, width)
+    let union = HllUnion::new(alloc, lg_max_k)?;
+    let first = take_in(UnionBuilder::new(union, alloc), left, 0, failed)?;
+    let both = take_in(first, right, 1, failed)?;
+    read_out(both, width)
 }
 
 /// The sketch of a union at a width, its words set where its state is cleared: before the width changes, as the sums are
 /// made fastest of registers of eight bits.
-fn read_out(union: HllUnion, width: HllType) -> Result<HllSketch, Error>
-    ensures ok { IfOk result (λ s. FillsWords (record (gadget_of union) { width = width }) (sketch_of s)) }
+fn read_out(union: UnionBuilder, width: HllType) -> Result<HllSketch, Error>
+    ensures ok { IfOk result (λ s. FillsWords (record (whole_gadget union) { width = width }) (sketch_of s)) }
     ensures err { IfErr result (λ e. e ≡ reasons.Memory) }
 {
-    let mut sketch = union.into_sketch(HllType::Hll8)?;
+    let mut sketch = union.build()?.into_sketch(HllType::Hll8)?;
     sketch.fill_estimator_words();
     sketch.into_width(width)
 }
@@ -204,31 +203,31 @@ pub(crate) fn united(
     ensures err { IfErr result (λ e. RefusesImages (AreBatchArguments lg_max_k width (length images.now) ends.now) (strings images.now ends.now) failed.old failed.new e) }
 {
     let width = width_of(width)?;
-    let mut union = HllUnion::new(alloc, lg_max_k)?;
+    let union = HllUnion::new(alloc, lg_max_k)?;
     if !are_ends(ends, images.len()) {
         return Err(Error::new(Reason::Argument));
     }
-    take_in_all(&mut union, images, ends, failed)?;
-    read_out(union, width)
+    let all = take_in_all(UnionBuilder::new(union, alloc), images, ends, failed)?;
+    read_out(all, width)
 }
 
-/// Merges images in turn into a union.
+/// A union with images merged in turn.
 fn take_in_all(
-    union: &mut HllUnion,
+    mut union: UnionBuilder,
     images: &[u8],
     ends: &[usize],
     failed: &mut usize,
-) -> Result<(), Error>
+) -> Result<UnionBuilder, Error>
     requires { AreEnds (length images.now) ends.now }
-    ensures ok { OnOk result (TakesInAll union.old union.new (strings images.now ends.now) × (failed.new ≡ failed.old)) }
+    ensures ok { IfOk result (λ all. TakesInAll union all (strings images.now ends.now) × (failed.new ≡ failed.old)) }
     ensures err { IfErr result (λ e. FailsToTakeIn (strings images.now ends.now) failed.old failed.new e) }
 {
     let mut start = 0;
     for (number, end) in ends.iter().enumerate() {
-        take_in(union, &images[start..*end], number, failed)?;
+        union = take_in(union, &images[start..*end], number, failed)?;
         start = *end;
     }
-    Ok(())
+    Ok(union)
 }
 
 /// The union of images that lie anywhere, its words set where its state is cleared.
@@ -243,34 +242,38 @@ pub(crate) fn united_parts(
     ensures err { IfErr result (λ e. RefusesImages (AreUnionArguments lg_max_k width) (map (λ part. part.now) parts.now) failed.old failed.new e) }
 {
     let width = width_of(width)?;
-    let mut union = HllUnion::new(alloc, lg_max_k)?;
-    take_in_parts(&mut union, parts, failed)?;
-    read_out(union, width)
+    let union = HllUnion::new(alloc, lg_max_k)?;
+    let all = take_in_parts(UnionBuilder::new(union, alloc), parts, failed)?;
+    read_out(all, width)
 }
 
-/// Merges images that lie anywhere in turn into a union.
-fn take_in_parts(union: &mut HllUnion, parts: &[&[u8]], failed: &mut usize) -> Result<(), Error>
-    ensures ok { OnOk result (TakesInAll union.old union.new (map (λ part. part.now) parts.now) × (failed.new ≡ failed.old)) }
+/// A union with images merged in turn that lie anywhere.
+fn take_in_parts(
+    mut union: UnionBuilder,
+    parts: &[&[u8]],
+    failed: &mut usize,
+) -> Result<UnionBuilder, Error>
+    ensures ok { IfOk result (λ all. TakesInAll union all (map (λ part. part.now) parts.now) × (failed.new ≡ failed.old)) }
     ensures err { IfErr result (λ e. FailsToTakeIn (map (λ part. part.now) parts.now) failed.old failed.new e) }
 {
     for (number, part) in parts.iter().enumerate() {
-        take_in(union, part, number, failed)?;
+        union = take_in(union, part, number, failed)?;
     }
-    Ok(())
+    Ok(union)
 }
 
-/// Merges the image with this number into a union.
+/// A union with the image of this number merged.
 fn take_in(
-    union: &mut HllUnion,
+    union: UnionBuilder,
     image: &[u8],
     number: usize,
     failed: &mut usize,
-) -> Result<(), Error>
-    ensures ok { OnOk result (TakesIn union.old union.new image.now × (failed.new ≡ failed.old)) }
+) -> Result<UnionBuilder, Error>
+    ensures ok { IfOk result (λ more. MergesInto union more image.now × (failed.new ≡ failed.old)) }
     ensures err { IfErr result (λ e. IsRefusedAt image.now number failed.old failed.new e) }
 {
-    match union.update_with_image(image) {
-        Ok(()) => Ok(()),
+    match union.with_image(image) {
+        Ok(more) => Ok(more),
         Err(e) => Err(refused_at(e, number, failed)),
     }
 }
@@ -291,7 +294,7 @@ pub(crate) fn converted(alloc: Global, image: &[u8], width: u8) -> Result<Vec<u8
     ensures ok { IfOk result (λ written. IsImageOf (WithWords (IsMadeOf image.now (IsAtWidth width))) written.items) }
     ensures err { IfErr result (λ e. RefusesWith (IsWidth width) image.now e) }
 {
-    match ascending_image_at(alloc, width_of(width)?, image)? {
+    match coupon_image_at(alloc, width_of(width)?, image)? {
         Some(written) => Ok(written),
         None => image_with_words(sketch_at(alloc, image, width)?),
     }
@@ -329,7 +332,7 @@ pub(crate) fn without_estimator_words(alloc: Global, image: &[u8]) -> Result<Vec
 /// How many of the bytes are the image that they begin with.
 pub(crate) fn size(alloc: Global, image: &[u8]) -> Result<usize, Error>
     ensures ok { IfOk result (IsSizeOfImage image.now) }
-    ensures err { IfErr result (RefusesImage image.now) }
+    ensures err { IfErr result (λ e. RefusesTested image.now e) }
 {
     check(alloc, image)?;
     Ok(size_of_image(image))

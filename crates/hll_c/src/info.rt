@@ -7,7 +7,7 @@ ghost use Rattle.hll_kernels.specs.Packed as packed;
 ghost use Rattle.hll_sketch.specs.Layout.{content_in, sketch_of};
 ghost use Rattle.hll_sketch.specs.Value as values;
 ghost use Rattle.hll_sketch.specs.Value.{Sketch};
-ghost use Rattle.hll_c.specs.Answers.{RefusesImage, RefusesWith};
+ghost use Rattle.hll_c.specs.Answers.{RefusesImage, RefusesInfo};
 ghost use Rattle.hll_c.specs.Calls as calls;
 ghost use Rattle.hll_c.specs.Info.{IsInfoOf, SaysInfo, AreCountsOf, SaysHistogram};
 
@@ -160,7 +160,7 @@ fn info_of_sketch(sketch: &HllSketch) -> HllInfo
 /// What an image says, where the caller's structure has the size of ours.
 pub(crate) fn info_of(alloc: Global, image: &[u8], size: usize) -> Result<HllInfo, Error>
     ensures ok { IfOk result (λ i. SaysInfo image.now i) }
-    ensures err { IfErr result (λ e. RefusesWith (size ≡ 64) image.now e) }
+    ensures err { IfErr result (λ e. RefusesInfo (size ≡ 64) image.now e) }
 {
     if size != INFO_SIZE {
         return Err(Error::new(Reason::Argument));

@@ -16,7 +16,7 @@ ghost use Rattle.hll_coupons.specs.Hashed.{coupon_of_bytes};
 ghost use Rattle.hll_sketch.specs.EstimatorWords.{SetsWords};
 ghost use Rattle.hll_sketch.specs.Image.{IsReadAs, IsSizeOfImage};
 ghost use Rattle.hll_sketch.specs.Value.{Sketch};
-ghost use Rattle.hll_c.specs.Answers.{Answers, IsImageOf, PutsBytes, Tells, Tests, RefusesArguments, RefusesImage, RefusesWith, RefusesImages};
+ghost use Rattle.hll_c.specs.Answers.{Answers, IsImageOf, PutsBytes, Tells, Tests, RefusesArguments, RefusesImage, RefusesInfo, RefusesTested, RefusesWith, RefusesImages};
 ghost use Rattle.hll_c.specs.Batches.{AreEnds, strings};
 ghost use Rattle.hll_c.specs.ByteRegisters.{JoinsImageInto, JoinsRegistersInto, AddsValues, AddsCoupons, FoldsInPlace, RefusesRegisters, SaysCounts, IsOfBytes, RefusesBytes};
 ghost use Rattle.hll_c.specs.Calls.{AreNewArguments, IsEmptyAt, IsMadeOf, IsFoldOf, RefusesFold, IsWidth, IsAtWidth, IsCleared, AreOfCoupon, HasCoupon, HasValues, AreUnionArguments, IsUnionOf, AreBatchArguments, IsUnionOfBatch, SaysAgreement, PutsCoupons};
@@ -43,18 +43,18 @@ use std::alloc::Global;
 /// its sketch, but none for coupons of a compact image that ascend or are at most 128.
 #[unsafe(no_mangle)]
 pub extern "C" fn hll_image_info(alloc: Global, image: &[u8], info: &mut HllInfo, size: usize) -> u8
-    ensures { Tells HllInfo (SaysInfo image.now) (RefusesWith (size ≡ 64) image.now) info.old info.new result }
+    ensures { Tells HllInfo (SaysInfo image.now) (RefusesInfo (size ≡ 64) image.now) info.old info.new result }
 {
     tell(info::info_of(alloc, image, size), info)
 }
 
 /// Whether bytes begin with an image; else the reason of the first check that they fail (docs/FORMAT.md, "Order of checks").
 ///
-/// Answers `Memory` too. Takes memory for a table of coupons, but not for coupons that are 1 to 128, or ascend in a compact
-/// image; and for the exceptions of registers of four bits.
+/// Answers `Memory` too. Allocates a table of coupons, but not for coupons that are 1 to 128, or ascend in a compact image; and
+/// a map for the exceptions of registers of four bits, where they have some.
 #[unsafe(no_mangle)]
 pub extern "C" fn hll_image_check(alloc: Global, image: &[u8]) -> u8
-    ensures { Tests ((x : Sketch) × IsReadAs image.now x) (RefusesImage image.now) result }
+    ensures { Tests ((x : Sketch) × IsReadAs image.now x) (RefusesTested image.now) result }
 {
     code_of(image::check(alloc, image))
 }
@@ -64,7 +64,7 @@ pub extern "C" fn hll_image_check(alloc: Global, image: &[u8]) -> u8
 /// Answers the reason of the first check that the bytes fail, or `Memory`, as `hll_image_check` does.
 #[unsafe(no_mangle)]
 pub extern "C" fn hll_image_size(alloc: Global, image: &[u8], size: &mut usize) -> u8
-    ensures { Tells ℕ (IsSizeOfImage image.now) (RefusesImage image.now) size.old size.new result }
+    ensures { Tells ℕ (IsSizeOfImage image.now) (RefusesTested image.now) size.old size.new result }
 {
     tell(image::size(alloc, image), size)
 }

@@ -25,7 +25,7 @@ use hll_merge::fault::{Fault, MergeError};
 use hll_merge::run::run;
 use hll_merge::watched::Watched;
 use hll_sketch::sketch::HllSketch;
-use hll_sketch::union::{HllUnion, union_of};
+use hll_sketch::{HllUnion, union_of};
 use std::alloc::Allocator;
 
 /// The registers of some coupons: at each slot the greatest value of those that fold to it.

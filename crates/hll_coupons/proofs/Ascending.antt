@@ -39,7 +39,7 @@ ascends (x ∷ xs) h =
     (all_above x xs (λ i l. h 0 (suc i) 0 (omega arith) (omega (arith, l))), ascends xs (λ i j d l m. h (suc i) (suc j) d (omega (arith, l)) (omega (arith, m))))
 
 -- whether q is one of the numbers
-abbrev has : List ℕ → ℕ → Bool
+abbrev pub has : List ℕ → ℕ → Bool
 has xs q = list_any (λ y. nat_eq y q) xs
 
 member_above : (x q : ℕ) (xs : List ℕ) → AllAbove x xs → has xs q ≡ true → x < q
@@ -148,7 +148,7 @@ member-permutation xs ys q p e =
     Equal-is_same : (x y : ℕ) → eq_by_cmp nat_cmp x y ≡ true → x ≡ y
     Equal-is_same x y t = eqb-true x y (sym (unsigned_tied x y) ∙ t)
 
-set_of-permutation : (xs ys : List ℕ) → IsPermutation xs ys → set_of ys ≡ set_of xs
+pub set_of-permutation : (xs ys : List ℕ) → IsPermutation xs ys → set_of ys ≡ set_of xs
 set_of-permutation xs ys p = same_set nat_cmp_total nat_cmp-IsAntisymmetric _ _
     (λ q. both_ways _ _ (member-permutation ys xs q (IsPermutation-sym xs ys p)) (member-permutation xs ys q p))
 

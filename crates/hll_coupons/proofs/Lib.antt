@@ -3,6 +3,7 @@ mod ConstantRows
 mod FoldRows
 pub mod AddedCoupons
 pub mod Ascending
+pub mod Batches
 pub mod Bits
 pub mod Collecting
 pub mod CouponRows

@@ -1,6 +1,7 @@
 // SPDX-License-Identifier: Apache-2.0
 //! The coupons of a table beside those of a set: counted with them, and added to them. Each is sought by a short
-//! search. Where one is cut off, a copy of the set's coupons in ascending order tells which of them it has (docs/OPERATING.md).
+//! search. Where one is cut off, a copy of the set's coupons in ascending order tells which of them it has (docs/OPERATING.md),
+//! unless so few are sought that their searches cost less.
 ghost use Rattle.std.specs.Prelude.{◌≡◌, ◌^◌, ◌<◌, ◌≤◌, true, false, length, IfOk, IfErr};
 ghost use Rattle.std.specs.FinSet.{contains, insert, len, union};
 ghost use Rattle.std.specs.List.Sorted.{IsStrictlyIncreasing};
@@ -19,10 +20,14 @@ use crate::search::Key;
 use hll_base::error::Error;
 use std::alloc::Allocator;
 
+/// The searches of so few coupons go on to their ends, which costs less than a sort of all that the set has.
+const WALKED: usize = 8;
+
 impl<A: Allocator + Clone> HashSet<A> {
     /// How many coupons the set has with those of a table.
     ///
-    /// Where a search is long, takes memory for a copy of its coupons, and searches on if that is refused.
+    /// Where a search is long, and the table has more than eight coupons, takes memory for a copy of its own, and searches on
+    /// if that is refused.
     pub fn count_with(&self, others: &Container<A>) -> usize
         ensures { result ≡ len (union (coupons_of self.now) (coupons_of others.now)) }
     {
@@ -31,6 +36,7 @@ impl<A: Allocator + Clone> HashSet<A> {
         for coupon in others.iter() {
             let has = match self.has_shortly(coupon) {
                 Some(has) => has,
+                None if others.len() <= WALKED => self.contains(coupon),
                 None => match self.ascending() {
                     Ok(own) => return count_of_both(&own, others),
                     Err(_) => self.contains(coupon),
@@ -53,7 +59,8 @@ impl<A: Allocator + Clone> HashSet<A> {
 
     /// Adds the coupons of a table, for which there is room.
     ///
-    /// Where a search is long, takes memory for a copy of its coupons and for bitmaps, and searches on if that is refused.
+    /// Where a search is long, and the table has more than eight coupons, takes memory for a copy of its own and for bitmaps,
+    /// and searches on if that is refused.
     pub fn update_each(&mut self, others: &Container<A>)
         requires { len (union (coupons_of self.old) (coupons_of others.now)) ≤ 2 ^ self.old.lg_size }
         ensures size { self.new.lg_size ≡ self.old.lg_size }
@@ -72,7 +79,8 @@ impl<A: Allocator + Clone> HashSet<A> {
         }
     }
 
-    /// The same, by a copy in order. Whether there was memory for that; else nothing has changed.
+    /// The same, by a copy in order, if the table has more than eight coupons. Whether it was added, as it is unless memory for
+    /// the copy is refused; else nothing has changed.
     #[inline(never)]
     fn update_by_order(&mut self, others: &Container<A>) -> bool
         requires { len (union (coupons_of self.old) (coupons_of others.now)) ≤ 2 ^ self.old.lg_size }
@@ -81,6 +89,11 @@ impl<A: Allocator + Clone> HashSet<A> {
         ensures unchanged { result ≡ false → self.new ≡ self.old }
         ensures set { IsHashSet self.new }
     {
+        // (brings the invariant of a set)
+        let _container = self.container();
+        if others.len() <= WALKED {
+            return false;
+        }
         let Ok(own) = self.ascending() else {
             return false;
         };

@@ -6,6 +6,7 @@
 mod additions;
 pub mod aux_map;
 pub mod aux_map_builder;
+pub mod batch;
 pub mod container;
 pub mod coupon;
 mod cycle;
@@ -23,6 +24,7 @@ mod storage;
 mod words;
 
 pub use aux_map::{AuxMap, AuxMapIter, AuxMapRefIter};
+pub use batch::CouponBatch;
 pub use container::{Container, ContainerIter, Insertion};
 pub use coupon::Coupon;
 pub use hash_set::HashSet;

@@ -64,6 +64,16 @@ impl<'a> RawWords<'a> {
         SketchSlice::new(self.bytes).read_u32_le().ok()
     }
 
+    /// Takes the first of them away.
+    pub(crate) fn next(&mut self) -> Option<u32>
+        ensures some { IfSome result (λ word. self.old ≡ word ∷ self.new) }
+        ensures none { IfNone result (self.old ≡ []) }
+    {
+        let word = self.first()?;
+        self.pass(word);
+        Some(word)
+    }
+
     /// Takes a word away, if it is the first.
     fn pass(&mut self, word: u32)
         ensures { self.new ≡ without_first word self.old }

@@ -5,7 +5,7 @@ use crate::sketches::{Shape, coupon_at, shown_sketch, sketch_in, with_places};
 use hll_base::error::Error;
 use hll_base::hll_type::HllType;
 use hll_sketch::{
-    HllSketch, HllUnion, agree, ascending_image_at, union_of, union_of_ascending_images,
+    HllSketch, HllUnion, UnionBuilder, agree, coupon_image_at, union_of, union_of_coupon_images,
 };
 use hll_text::fault::Fault;
 use std::alloc::Global;
@@ -27,6 +27,7 @@ enum UnionCall {
     Agree,
     ImageTwice,
     ImageAt,
+    Images,
 }
 
 /// A call on a union under a bound, of one sketch of eight bits, beside a sketch of some width.
@@ -112,17 +113,18 @@ impl<'h> UnionTrial<'h> {
         let heap = self.heap;
         match self.call {
             UnionCall::ImageTwice => {
-                let made = union_of_ascending_images(
-                    heap,
-                    self.lg_max_k,
-                    self.hll_type,
-                    image,
-                    image,
-                );
+                let made = union_of_coupon_images(heap, self.lg_max_k, self.hll_type, image, image);
                 shown(heap, made)
             }
-            _ => shown(heap, ascending_image_at(heap, self.hll_type, image)),
+            UnionCall::Images => shown_union(heap, self.union_of_image_twice(image)),
+            _ => shown(heap, coupon_image_at(heap, self.hll_type, image)),
         }
+    }
+
+    /// The union of an image twice.
+    fn union_of_image_twice(&self, image: &[u8]) -> Result<HllUnion<&'h Heap>, Error> {
+        let none = UnionBuilder::new(HllUnion::new(self.heap, self.lg_max_k)?, self.heap);
+        none.with_image(image)?.with_image(image)?.build()
     }
 
     /// What a call gives that makes a value of two sketches.
@@ -173,6 +175,7 @@ impl<'h> Trial for UnionTrial<'h> {
             },
             UnionCall::UpdateImage => shown(self.heap, union.update_with_image(image)),
             UnionCall::ImageTwice | UnionCall::ImageAt => self.image_made(image),
+            UnionCall::Images => self.image_made(image),
             UnionCall::UpdatePlaces => {
                 let image = with_all_places(self.heap.inner(), image)?;
                 shown(self.heap, union.update_with_image(&image))
@@ -213,7 +216,7 @@ const UNIONS: [(u8, Shape, Shape); 13] = [
 ];
 
 /// The calls, and the requests of each on these unions, for four bits, for six and for eight.
-const UNION_CALLS: [(UnionCall, [[u64; 13]; 3]); 13] = [
+const UNION_CALLS: [(UnionCall, [[u64; 13]; 3]); 14] = [
     (
         UnionCall::Clone,
         [[0, 0, 0, 0, 0, 0, 0, 1, 1, 1, 1, 1, 1]; 3],
@@ -265,7 +268,7 @@ const UNION_CALLS: [(UnionCall, [[u64; 13]; 3]); 13] = [
     ),
     (
         UnionCall::UnionOf,
-        [[0, 1, 1, 0, 0, 1, 1, 2, 2, 1, 1, 1, 2]; 3],
+        [[0, 4, 2, 1, 0, 1, 1, 2, 2, 1, 1, 1, 2]; 3],
     ),
     (UnionCall::Agree, [[2; 13]; 3]),
     (
@@ -275,6 +278,14 @@ const UNION_CALLS: [(UnionCall, [[u64; 13]; 3]); 13] = [
     (
         UnionCall::ImageAt,
         [[0, 1, 1, 1, 1, 1, 0, 0, 0, 1, 0, 0, 0]; 3],
+    ),
+    (
+        UnionCall::Images,
+        [
+            [0, 5, 1, 1, 2, 6, 18, 18, 6, 6, 14, 18, 6],
+            [0, 5, 1, 1, 2, 6, 2, 2, 2, 6, 2, 2, 2],
+            [0, 5, 1, 1, 2, 6, 2, 2, 2, 6, 2, 2, 2],
+        ],
     ),
 ];
 

@@ -1,10 +1,10 @@
 -- SPDX-License-Identifier: Apache-2.0
--- The union of two images of coupons that ascend.
-use Rattle.std.proofs.Common.{◌≡◌, ◌≢◌, ℕ, suc, inl, ◌+◌, ◌-◌, ◌/◌, ◌%◌, ◌^◌, ◌<◌, ◌∷◌, ◌&&◌, true, false, nat_eq, List, length, take, drop, get_or, Some, None, refl, sym, ap, subst, ◌∙◌, arith}
+-- Images of coupons in order, and the union of two.
+use Rattle.std.proofs.Common.{◌≡◌, ◌≢◌, ℕ, suc, ◌+◌, ◌-◌, ◌/◌, ◌%◌, ◌^◌, ◌<◌, ◌∷◌, ◌&&◌, true, false, nat_eq, List, length, take, drop, get_or, Option, Some, None, refl, sym, ap, subst, ◌∙◌, arith}
 use Rattle.std.specs.FinSet.{union, len, len-empty}
 use Rattle.std.specs.Ordering.{nat_cmp}
 use Rattle.std.specs.List.Sorted.{IsStrictlyIncreasing}
-use Rattle.std.proofs.lemmas.Bool.{cond-true, cond-false, eq-eqb, ne_eqb}
+use Rattle.std.proofs.lemmas.Bool.{cond-true, cond-false, eq-eqb, ne_eqb, true≢false}
 use Rattle.std.proofs.lemmas.List.{take-append-drop}
 use Rattle.hll_base.specs.declared.hll_type.HllType.{HllType}
 use Rattle.hll_base.specs.declared.hll_type.HllType.TheVariants.{Hll8}
@@ -13,13 +13,13 @@ use Rattle.hll_coupons.specs.Coupons.{coupon_bytes, IsAscending, WritesAscending
 use Rattle.hll_coupons.proofs.Ascending.{len-ascending}
 use Rattle.hll_coupons.proofs.Merging.{count_in_bytes}
 use Rattle.hll_sketch.specs.Adding.{add, content_for}
-use Rattle.hll_sketch.specs.CouponImages.{AscendAsWritten, IsOfAscending, IsImageOfTable, HasAscendingCoupons, HaveUnionInTable, IsImageOfUnion, IsImageAt}
+use Rattle.hll_sketch.specs.CouponImages.{IsInOrder, IsImageOfTable, HaveUnionInTable, IsImageOfUnion, AreBothRead, IsImageAt}
 use Rattle.hll_sketch.specs.Header.{header_of}
 use Rattle.hll_sketch.specs.declared.header.Header.{Header}
 use Rattle.hll_sketch.specs.Image.{AreBytes, byte, lg_k_byte, table_byte, width_bits, width_of_bits, HasHeader, list, set, hll8, hll6, hll4}
 use Rattle.hll_sketch.specs.Merging.{merge, merge_content, empty_union}
 use Rattle.hll_sketch.specs.Stage.{stage}
-use Rattle.hll_sketch.specs.TakenIn.{IsOfCoupons, words_in, HasCompactCoupons}
+use Rattle.hll_sketch.specs.TakenIn.{IsOfCoupons}
 use Rattle.hll_sketch.specs.Value.{Sketch, Content, coupons, registers, in_registers, pairs_in, pairs_of, is_empty, IsLgK, IsTableFor, IsLegal, IsLegalContent}
 use Rattle.hll_sketch.specs.Written.{coupon_image, Written}
 use Rattle.hll_sketch.proofs.Images.{at}
@@ -78,9 +78,9 @@ module _ (b order : List ℕ) (of : IsOfCoupons b order) where
     };
   }
 
-  -- an image whose coupons ascend
-  pub of_ascending : (k size : ℕ) → k ≡ lg_k_byte b → size ≡ table_byte b → AscendAsWritten order → IsOfAscending b k size order
-  of_ascending k size k_is size_is up = record {
+  -- an image whose coupons are in order
+  pub in_order : (k size : ℕ) → k ≡ lg_k_byte b → size ≡ table_byte b → IsStrictlyIncreasing order → IsInOrder b k size order
+  in_order k size k_is size_is up = record {
     sketch = of.sketch;
     read = of.read;
     lg_k = coupons_say.0 ∙ sym k_is;
@@ -88,6 +88,16 @@ module _ (b order : List ℕ) (of : IsOfCoupons b order) where
     some = of.some;
     ascends = up;
   }
+
+-- another list of the same coupons
+pub same_coupons : (b xs ys : List ℕ) → IsOfCoupons b xs → set_of ys ≡ set_of xs → IsOfCoupons b ys
+same_coupons b xs ys of same = record {
+  sketch = of.sketch;
+  read = of.read;
+  size = of.size;
+  content = of.content ∙ ap (λ S. coupons S of.size) (sym same);
+  some = λ none. of.some (sym (ap len same) ∙ none);
+}
 
 -- ---- the union
 
@@ -110,8 +120,8 @@ module _ (k : ℕ) (x y : Sketch) (S T : Pairs) (p q : ℕ) (at_k : x.lg_k ≡ k
       whole = (λ i. nat_eq (len-empty nat_cmp i) 0 && nat_eq k x.lg_k) ∙ eq-eqb k x.lg_k (sym at_k)
 
   -- the coupons of the second are added
-  pub merged_in_table : (size : ℕ) → stage k p (len (union S T)) ≡ Some size → merge k (merge k (empty_union k) x) y ≡ record { lg_k = k; width = Hll8; content = coupons (union S T) size }
-  merged_in_table size held =
+  pub merged : (o : Option ℕ) → stage k p (len (union S T)) ≡ o → merge k (merge k (empty_union k) x) y ≡ record { lg_k = k; width = Hll8; content = content_for k (union S T) o }
+  merged o held =
       ap (λ g. merge k g y) taken_whole
       ∙ cond-false (is_empty y) first (merge_content k first y y.content) (not_empty y T q y_is some_y)
       ∙ ap (merge_content k first y) y_is
@@ -120,20 +130,24 @@ module _ (k : ℕ) (x y : Sketch) (S T : Pairs) (p q : ℕ) (at_k : x.lg_k ≡ k
       ∙ ap (λ o. let z : Sketch = record { lg_k = k; width = Hll8; content = content_for k (union S T) o } in z) held
 
 -- what is written for the union
-module _ (k kl kr p q : ℕ) (left right xs ys bytes : List ℕ) (l : IsOfAscending left kl p xs) (r : IsOfAscending right kr q ys) (at_k : kl ≡ k)
-    (up : WritesAscending coupon_bytes (union (set_of xs) (set_of ys)) bytes) (n : ℕ) (count : n ≡ length bytes / 4) where
+module _ (k p : ℕ) (xs ys bytes : List ℕ) (up : WritesAscending coupon_bytes (union (set_of xs) (set_of ys)) bytes) (n : ℕ) (count : n ≡ length bytes / 4) where
   number : n ≡ len (union (set_of xs) (set_of ys))
   number = count ∙ count_in_bytes bytes up.order up.is ∙ len-ascending up.order (union (set_of xs) (set_of ys)) up.ascending
 
   pub table_of_union : (size : ℕ) → stage k p n ≡ Some size → (order : List ℕ) × (bytes ≡ coupon_bytes order) × IsTableFor k (length order) size
   table_of_union size held = (up.order, up.is, subst (λ m. IsTableFor k m size) (number ∙ sym (len-ascending up.order (union (set_of xs) (set_of ys)) up.ascending)) (legal_size k p n size held))
 
+module _ (k kl kr p q : ℕ) (left right xs ys bytes : List ℕ) (l : IsInOrder left kl p xs) (r : IsInOrder right kr q ys) (at_k : kl ≡ k)
+    (up : WritesAscending coupon_bytes (union (set_of xs) (set_of ys)) bytes) (n : ℕ) (count : n ≡ length bytes / 4) where
+  held_in : (o : Option ℕ) → stage k p n ≡ o → stage k p (len (union (set_of xs) (set_of ys))) ≡ o
+  held_in o held = ap (stage k p) (sym (number k p xs ys bytes up n count)) ∙ held
+
   pub image_of_union : (size : ℕ) (width : HllType) (image : List ℕ) → stage k p n ≡ Some size → IsLgK kl → ((order : List ℕ) → bytes ≡ coupon_bytes order → image ≡ coupon_image k width size order)
       → IsImageOfUnion k width left right image
   image_of_union size width image held legal is =
       let U : Pairs = union (set_of xs) (set_of ys) in
       let same : merge k (merge k (empty_union k) l.sketch) r.sketch ≡ record { lg_k = k; width = Hll8; content = coupons U size } =
-      merged_in_table k l.sketch r.sketch (set_of xs) (set_of ys) p q (l.lg_k ∙ at_k) l.content r.content l.some r.some size (ap (stage k p) (sym number) ∙ held) in
+      merged k l.sketch r.sketch (set_of xs) (set_of ys) p q (l.lg_k ∙ at_k) l.content r.content l.some r.some (Some size) (held_in (Some size) held) in
       record {
         bound_is = subst IsLgK at_k legal;
         left_sketch = l.sketch;
@@ -145,38 +159,45 @@ module _ (k kl kr p q : ℕ) (left right xs ys bytes : List ℕ) (l : IsOfAscend
       }
 
   -- no table holds it
-  pub no_table : p ≡ table_byte left → xs ≡ words_in left → ys ≡ words_in right → stage k p n ≡ None → HaveUnionInTable k left right → ⊥
-  no_table p_is xs_is ys_is none have =
-      have.held ((λ i. stage k (sym p_is i) (len (union (set_of (sym xs_is i)) (set_of (sym ys_is i))))) ∙ ap (stage k p) (sym number) ∙ none)
+  pub no_table : stage k p n ≡ None → HaveUnionInTable k left right → ⊥
+  no_table none have =
+      let full : merge k (merge k (empty_union k) l.sketch) r.sketch ≡ record { lg_k = k; width = Hll8; content = content_for k (union (set_of xs) (set_of ys)) None } =
+      merged k l.sketch r.sketch (set_of xs) (set_of ys) p q (l.lg_k ∙ at_k) l.content r.content l.some r.some None (held_in None none) in
+      true≢false (sym (ap (λ (z : Sketch). in_registers z.content) full) ∙ (have.held l.sketch r.sketch l.read r.read).in_table)
+
+module _ (k kl kr p q : ℕ) (left right xs ys : List ℕ) (l : IsInOrder left kl p xs) (r : IsInOrder right kr q ys) where
+  -- the first is not at the bound
+  pub other_bound : (kl ≡ k → ⊥) → HaveUnionInTable k left right → ⊥
+  other_bound other have = other (sym l.lg_k ∙ (have.held l.sketch r.sketch l.read r.read).lg_k)
+
+  -- both are read
+  pub both_read : kl ≡ k → IsLgK kl → AreBothRead k left right
+  both_read same legal = record { bound_is = subst IsLgK same legal; left_sketch = l.sketch; left_read = l.read; right_sketch = r.sketch; right_read = r.read }
 
 -- words that ascend from the greatest without a value ascend
-pub ascends_behind : (xs : List ℕ) → AscendAsWritten xs → IsStrictlyIncreasing xs
+pub ascends_behind : (xs : List ℕ) → IsStrictlyIncreasing ((2 ^ 26 - 1) ∷ xs) → IsStrictlyIncreasing xs
 ascends_behind xs up k within =
     let e : suc k + 1 ≡ suc (k + 1) = omega arith in subst (λ n. get_or xs k 0 < get_or ((2 ^ 26 - 1) ∷ xs) n 0) e (up (suc k) (omega (arith, within)))
 
--- the image has such coupons
-pub compact_coupons_of : (b : List ℕ) → HasAscendingCoupons b → HasCompactCoupons b
-compact_coupons_of b has = record { stage = has.stage; sized = has.sized; compact = has.compact; some = has.some; evident = inl has.ascends }
-
 -- ---- one image
 
-module _ (k size : ℕ) (b xs bytes : List ℕ) (of : IsOfAscending b k size xs) (is_bytes : bytes ≡ coupon_bytes xs) where
+module _ (k size : ℕ) (b xs : List ℕ) (of : IsInOrder b k size xs) where
   own_order : IsAscending xs (set_of xs)
-  own_order = record { increasing = ascends_behind xs of.ascends; members = refl }
+  own_order = record { increasing = of.ascends; members = refl }
 
   -- what is written at a width
-  pub image_at : (width : HllType) (image : List ℕ) → ((order : List ℕ) → bytes ≡ coupon_bytes order → image ≡ coupon_image k width size order) → IsImageAt width b image
+  pub image_at : (width : HllType) (image : List ℕ) → image ≡ coupon_image k width size xs → IsImageAt width b image
   image_at width image is = record {
     sketch = of.sketch;
     read = of.read;
     in_table = ap in_registers of.content;
     written = subst (λ (c : Content). Written image (record of.sketch { width = width; content = c })) (sym of.content)
-        (record { order = xs; ascending = own_order; is = is xs is_bytes ∙ ap (λ n. coupon_image n width size xs) (sym of.lg_k) });
+        (record { order = xs; ascending = own_order; is = is ∙ ap (λ n. coupon_image n width size xs) (sym of.lg_k) });
   }
 
   -- its table holds them
-  pub own_table : AreBytes b → (order : List ℕ) × (bytes ≡ coupon_bytes order) × IsTableFor k (length order) size
+  pub own_table : AreBytes b → IsTableFor k (length xs) size
   own_table are =
       let legal : IsLegal of.sketch = read_is_legal b of.sketch are of.read in
       let table : IsTableFor of.sketch.lg_k (len (set_of xs)) size = (subst (IsLegalContent of.sketch.lg_k) of.content legal.content).1 in
-      (xs, is_bytes, subst (λ n. IsTableFor n (length xs) size) of.lg_k (subst (λ n. IsTableFor of.sketch.lg_k n size) (sym (len-ascending xs (set_of xs) own_order)) table))
+      subst (λ n. IsTableFor n (length xs) size) of.lg_k (subst (λ n. IsTableFor of.sketch.lg_k n size) (sym (len-ascending xs (set_of xs) own_order)) table)

@@ -44,6 +44,8 @@ pub mod Regrouping
 pub mod SameLemmas
 pub mod SetWords
 mod SizedImages
+pub mod SortedCoupons
 pub mod Stages
 pub mod Steps
+pub mod Waiting
 pub mod Written

@@ -1,6 +1,6 @@
 -- SPDX-License-Identifier: Apache-2.0
 -- Images merged into a gadget as they stand: coupons into registers, and registers.
-use Rattle.std.proofs.Common.{arith, ◌≡◌, ℕ, ◌<◌, ◌==◌, ◌&&◌, true, false, cond, nat_eq, List, None, take, drop, refl, sym, ap, subst, ◌∙◌}
+use Rattle.std.proofs.Common.{arith, ◌≡◌, ◌≢◌, ℕ, ◌<◌, ◌==◌, ◌&&◌, true, false, cond, nat_eq, List, None, take, drop, refl, sym, ap, subst, ◌∙◌}
 use Rattle.std.specs.List.{list_all}
 use Rattle.std.specs.Prelude.{min, nat_le}
 use Rattle.std.specs.FinSet.{len, union}
@@ -8,6 +8,7 @@ use Rattle.std.proofs.lemmas.Bool.{cond-false, ne_eqb, true≢false}
 use Rattle.std.proofs.lemmas.List.{take-append-drop}
 use Rattle.std.proofs.lemmas.List.Elements.{All-take}
 use Rattle.hll_coupons.specs.Fold.{fold_to, pairs}
+use Rattle.hll_registers.specs.Payload.{exception_count}
 use Rattle.hll_registers.specs.State.{cleared_state}
 use Rattle.hll_registers.specs.Store.{Stored}
 use Rattle.hll_registers.specs.declared.estimate_state.EstimateState.{EstimateState}
@@ -117,7 +118,7 @@ one_read b x y here there =
 -- what a merge of the sketch needs, where one of the registers is not 0, and the gadget is in coupons or at a greater lg_k
 pub plain_registers_need : (g : Sketch) (b : List ℕ) (k : ℕ) (R : List ℕ) (s : EstimateState) (of : IsOfRegisters b k R) → is_empty of.sketch ≡ false → ContentNeedsMemory g g.content k (registers R s)
     → PlainRegistersNeedMemory g b
-plain_registers_need g b k R s of some content = λ plain x read.
+plain_registers_need g b k R s of some content = λ plain wide x read.
     subst (MergeNeedsMemory g) (one_read b of.sketch x of.read read)
     (record { some = some; content = subst (λ c. ContentNeedsMemory g g.content of.sketch.lg_k c) (sym of.content) (subst (λ n. ContentNeedsMemory g g.content n (registers R of.state)) (sym of.lg_k) (any_state g.content content)) })
   where
@@ -144,15 +145,15 @@ join_needs g b x of some content = record {
 }
 
 -- registers of four bits need it for their exceptions
-pub four_bits_need : (g : Sketch) (b : List ℕ) → HasHeader b 2 → width_bits b ≡ 0 → size_fault b ≡ None → ImageNeedsMemory g b
-four_bits_need g b has width sized = record {
+pub four_bits_need : (g : Sketch) (b : List ℕ) → HasHeader b 2 → width_bits b ≡ 0 → size_fault b ≡ None → exception_count (drop 8 b) ≢ 0 → ImageNeedsMemory g b
+four_bits_need g b has width sized some = record {
   sized = sized;
   coupons = λ inside up. omega (arith, up.stage, has.stage_is);
   places = λ inside up. omega (arith, up.stage, has.stage_is);
-  registers = λ plain x read. absurd (plain.1 width);
+  registers = λ plain wide x read. absurd (some (plain.1 width));
 }
 
--- What reading an image aside needs memory for, where no coupons go into registers without a table, and registers of eight or six bits need it.
+-- What reading an image aside needs memory for, where no coupons go into registers without a table, and plain registers need it.
 pub image_needs : (g : Sketch) (b : List ℕ) → size_fault b ≡ None → (in_registers g.content ≡ true → HasCompactCoupons b → ⊥) → (in_registers g.content ≡ true → HasUpdatableCoupons b → ⊥) →
     PlainRegistersNeedMemory g b → ImageNeedsMemory g b
 image_needs g b sized compact placed plain = record { sized = sized; coupons = compact; places = placed; registers = plain }

@@ -28,8 +28,9 @@ pub record JoinsImage (k : ℕ) (image old new : List ℕ) (answer : Option ℕ)
   pub read : IsReadAs image sketch
   pub is : JoinsSketch k sketch old new answer
 
--- A join of an image into registers may need memory only where its header, counts and length are right; it needs none for compact
--- coupons that ascend or are few, for an updatable image of few, and for registers of eight or six bits.
+-- A join of an image into registers may need memory only where its header, counts and length are right. It needs none for compact
+-- coupons that ascend or are few, for an updatable image of few, for registers of eight or six bits, and for registers of four bits
+-- without exceptions.
 pub record JoinNeedsMemory (b : List ℕ) : Type 0 where
   pub sized : size_fault b ≡ None
   pub coupons : HasCompactCoupons b → ⊥

@@ -1,30 +1,26 @@
 -- SPDX-License-Identifier: Apache-2.0
--- Images of coupons that ascend, and the image of their union (docs/MODEL.md, "Written images").
-use Rattle.std.specs.Prelude.{◌≡◌, ◌≢◌, ℕ, ◌-◌, ◌^◌, ◌≤◌, ◌<◌, true, false, List, ◌∷◌, length, None}
-use Rattle.std.specs.FinSet.{len, union}
+-- Images of coupons, and the image of their union (docs/MODEL.md, "Written images").
+use Rattle.std.specs.Prelude.{◌≡◌, ◌≢◌, ℕ, ◌⊎◌, false, List}
+use Rattle.std.specs.FinSet.{len}
 use Rattle.std.specs.List.Sorted.{IsStrictlyIncreasing}
 use Rattle.hll_base.specs.declared.hll_type.HllType.{HllType}
 use Rattle.hll_coupons.specs.Pair.{Pairs, set_of}
-use Rattle.hll_sketch.specs.Checks.{size_fault}
-use Rattle.hll_sketch.specs.Image.{IsReadAs, stage_bits, is_flagged, lg_k_byte, table_byte}
+use Rattle.hll_sketch.specs.Image.{IsReadAs}
 use Rattle.hll_sketch.specs.Merging.{merge, empty_union}
-use Rattle.hll_sketch.specs.Stage.{stage}
-use Rattle.hll_sketch.specs.TakenIn.{words_in}
+use Rattle.hll_sketch.specs.TakenIn.{HasCompactCoupons}
+use Rattle.hll_sketch.specs.Updatable.{HasUpdatableCoupons}
 use Rattle.hll_sketch.specs.Value.{Sketch, coupons, in_registers, IsLgK}
 use Rattle.hll_sketch.specs.Written.{Written}
 
--- words that have values and ascend, as all that are written here do
-abbrev pub AscendAsWritten : List ℕ → Type 0
-AscendAsWritten order = IsStrictlyIncreasing ((2 ^ 26 - 1) ∷ order)
-
--- the bytes are read as a sketch of these coupons, of which there are some, at an lg_k and in a table of 2^size places; and they ascend
-pub record IsOfAscending (b : List ℕ) (k size : ℕ) (order : List ℕ) : Type 0 where
+-- the bytes are read as a sketch of these coupons, of which there are some, at an lg_k and in a table of 2^size places; and the list of them
+-- ascends
+pub record IsInOrder (b : List ℕ) (k size : ℕ) (order : List ℕ) : Type 0 where
   pub sketch : Sketch
   pub read : IsReadAs b sketch
   pub lg_k : sketch.lg_k ≡ k
   pub content : sketch.content ≡ coupons (set_of order) size
   pub some : len (set_of order) ≢ 0
-  pub ascends : AscendAsWritten order
+  pub ascends : IsStrictlyIncreasing order
 
 -- the sketch has this lg_k and width, and so many coupons in a table of 2^size places
 pub record IsTableOf (k : ℕ) (width : HllType) (size count : ℕ) (x : Sketch) : Type 0 where
@@ -40,20 +36,20 @@ pub record IsImageOfTable (b : List ℕ) (k : ℕ) (width : HllType) (size count
   pub read : IsReadAs b sketch
   pub is : IsTableOf k width size count sketch
 
--- the bytes have the header, the counts and the length of a compact list or set, whose words, of which there are some, ascend
-pub record HasAscendingCoupons (b : List ℕ) : Type 0 where
-  pub stage : stage_bits b < 2
-  pub sized : size_fault b ≡ None
-  pub compact : is_flagged 8 b ≡ true
-  pub some : 1 ≤ length (words_in b)
-  pub ascends : AscendAsWritten (words_in b)
+-- the bytes are an image of coupons that one pass tells to be such: compact, where they ascend or are at most 128, or updatable, with 1 to 128
+abbrev pub HasEvidentCoupons : List ℕ → Type 0
+HasEvidentCoupons b = HasCompactCoupons b ⊎ HasUpdatableCoupons b
 
--- both images are of coupons that ascend, the first at this bound, and a table holds the coupons of both
+-- the first sketch is at the bound of a union, and the union of both is not in registers
+pub record HasUnionInTable (bound : ℕ) (x y : Sketch) : Type 0 where
+  pub lg_k : x.lg_k ≡ bound
+  pub in_table : in_registers (merge bound (merge bound (empty_union bound) x) y).content ≡ false
+
+-- both images are of such coupons, and are read as sketches of which that holds
 pub record HaveUnionInTable (bound : ℕ) (left right : List ℕ) : Type 0 where
-  pub left_ascends : HasAscendingCoupons left
-  pub right_ascends : HasAscendingCoupons right
-  pub left_lg_k : lg_k_byte left ≡ bound
-  pub held : stage bound (table_byte left) (len (union (set_of (words_in left)) (set_of (words_in right)))) ≢ None
+  pub left_evident : HasEvidentCoupons left
+  pub right_evident : HasEvidentCoupons right
+  pub held : (x y : Sketch) → IsReadAs left x → IsReadAs right y → HasUnionInTable bound x y
 
 -- the bytes are what is written, at a width, for the union under a bound of the sketches that two images are read as, which is not in
 -- registers

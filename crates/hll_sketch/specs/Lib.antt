@@ -26,4 +26,5 @@ pub mod TakenIn
 pub mod Union
 pub mod Updatable
 pub mod Value
+pub mod Waiting
 pub mod Written

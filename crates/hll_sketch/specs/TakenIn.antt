@@ -6,6 +6,7 @@ use Rattle.hll_coupons.specs.Coupons.{words}
 use Rattle.hll_coupons.specs.Pair.{set_of}
 use Rattle.hll_coupons.specs.Payload.{set_count}
 use Rattle.hll_registers.specs.declared.estimate_state.EstimateState.{EstimateState}
+use Rattle.hll_registers.specs.Payload.{exception_count}
 use Rattle.hll_sketch.specs.Borrowed.{AreEvidentlyCoupons}
 use Rattle.hll_sketch.specs.Checks.{size_fault}
 use Rattle.hll_sketch.specs.Grown.{IsGrown}
@@ -14,7 +15,7 @@ use Rattle.hll_sketch.specs.Joined.{IsJoinOf}
 use Rattle.hll_sketch.specs.Merging.{merge}
 use Rattle.hll_sketch.specs.Union.{UnionLayout, gadget_of, MergeNeedsMemory}
 use Rattle.hll_sketch.specs.Updatable.{HasUpdatableCoupons}
-use Rattle.hll_sketch.specs.Value.{Sketch, coupons, registers, in_registers, IsLegal}
+use Rattle.hll_sketch.specs.Value.{Sketch, coupons, registers, in_registers, is_empty, IsLegal}
 
 -- a union took in the sketch that an image is read as; the join of grown sketches and of this one, where it is grown, is the join of them all
 pub record TakesIn (before after : UnionLayout) (image : List ℕ) : Type 0 where
@@ -63,17 +64,18 @@ pub record HasCompactCoupons (b : List ℕ) : Type 0 where
   pub some : 1 ≤ length (words_in b)
   pub evident : AreEvidentlyCoupons (words_in b)
 
--- the header is that of registers of eight or six bits
+-- the header is that of registers, and where they are of four bits, the count of their exceptions is 0
 abbrev pub HasPlainRegisters : List ℕ → Type 0
-HasPlainRegisters b = (stage_bits b ≡ 2) × (width_bits b ≢ 0)
+HasPlainRegisters b = (stage_bits b ≡ 2) × (width_bits b ≡ 0 → exception_count (drop 8 b) ≡ 0)
 
--- a merge of the sketch needs memory, if bytes are read as registers of eight or six bits
+-- A merge of the sketch needs memory, if bytes are read as registers of eight or six bits, or of four bits without exceptions where the
+-- gadget isn't empty.
 abbrev pub PlainRegistersNeedMemory : Sketch → List ℕ → Type 0
-PlainRegistersNeedMemory g b = HasPlainRegisters b → (x : Sketch) → IsReadAs b x → MergeNeedsMemory g x
+PlainRegistersNeedMemory g b = HasPlainRegisters b → (is_empty g ≡ true → width_bits b ≢ 0) → (x : Sketch) → IsReadAs b x → MergeNeedsMemory g x
 
 -- A gadget may need memory for an image only where its header, counts and length are right. Into registers it needs none for compact
--- coupons that ascend or are few, none for an updatable image of few, and for registers of eight or six bits it needs what a merge of
--- their sketch does.
+-- coupons that ascend or are few, and none for an updatable image of few. For registers of eight or six bits it needs what a merge of
+-- their sketch does, and so for registers of four bits without exceptions, unless it is empty.
 pub record ImageNeedsMemory (g : Sketch) (b : List ℕ) : Type 0 where
   pub sized : size_fault b ≡ None
   pub coupons : in_registers g.content ≡ true → HasCompactCoupons b → ⊥

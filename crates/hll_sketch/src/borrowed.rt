@@ -13,7 +13,6 @@ ghost use Rattle.hll_base.specs.declared.error.Reason.TheVariants.{Memory};
 ghost use Rattle.hll_sketch.specs.Borrowed.{AreMarked, AreEvidentlyCoupons};
 ghost use Rattle.hll_sketch.specs.Checks.{first_fault};
 ghost use Rattle.hll_sketch.specs.TakenIn.{IsOfCoupons, IsOfRegisters, words_in, HasCompactCoupons};
-ghost use Rattle.hll_sketch.specs.Refusal.{IsRefusal};
 ghost use Rattle.hll_sketch.specs.Header.{header_of};
 ghost use Rattle.hll_sketch.specs.Image.{HasHeader, stage_bits, width_bits};
 ghost use Rattle.hll_sketch.specs.Laws.{add_in_turn};
@@ -21,10 +20,8 @@ ghost use Rattle.hll_sketch.specs.Union.{sketch_of_registers};
 
 use crate::byte_registers::join_coupon;
 use crate::header::{HEADER_SIZE, Header, Stage};
-use hll_arrays::array4::read_nibbles;
 use hll_arrays::array6::read_groups;
 use hll_arrays::array8::{Array8, read_registers};
-use hll_arrays::aux_format::AuxFormat;
 use hll_arrays::registers::two_to;
 use hll_base::bounds::SLOT_BITS;
 use hll_base::cursor::SketchSlice;
@@ -35,7 +32,6 @@ use hll_coupons::serialization::{
     COUPON_SIZE_BYTES, LG_LEAST_SET_PLACES, LG_LIST_PLACES, LG_SET_BELOW_LG_K,
 };
 use hll_registers::group_slice::GroupSlice;
-use hll_registers::nibble_slice::NibbleSlice;
 use hll_registers::register_slice::RegisterSlice;
 use std::alloc::Allocator;
 
@@ -195,6 +191,7 @@ impl<'a> Words<'a> {
 pub(crate) fn compact_coupons(bytes: &[u8]) -> Option<Words<'_>>
     ensures some { IfSome result (λ w. IsOfCoupons bytes.now (words w.count w.bytes.now)) }
     ensures are { IfSome result (λ w. AreCoupons (words w.count w.bytes.now)) }
+    ensures evident { IfSome result (λ w. AreEvidentlyCoupons (words w.count w.bytes.now)) }
     ensures none { IfNone result (HasCompactCoupons bytes.now → ⊥) }
 {
     let Ok(header) = Header::read(bytes) else {
@@ -298,29 +295,4 @@ pub(crate) fn six_bit_registers(bytes: &[u8], header: Header) -> Result<GroupSli
     let payload = SketchSlice::new(&bytes[HEADER_SIZE..]);
     let (groups, _) = read_groups(payload, header.lg_k, header.out_of_order)?;
     Ok(GroupSlice::new(header.lg_k, groups))
-}
-
-/// The registers of an image of four bits, with a map of their exceptions by this allocator. Takes memory for that alone.
-///
-/// Fails with the reason of the first check that they fail, or else with `Memory`.
-pub(crate) fn four_bit_registers<'a, A: Allocator + Clone>(
-    alloc: &A,
-    bytes: &'a [u8],
-    header: Header,
-) -> Result<NibbleSlice<'a, A>, Error>
-    requires has { HasHeader bytes.now 2 }
-    requires width { width_bits bytes.now ≡ 0 }
-    requires header { header ≡ header_of bytes.now }
-    ensures ok { IfOk result (λ r. IsOfRegisters bytes.now r.0 r.1) }
-    ensures err { IfErr result (IsRefusal bytes.now) }
-{
-    let (registers, _) = read_nibbles(
-        alloc,
-        SketchSlice::new(&bytes[HEADER_SIZE..]),
-        header.state_byte,
-        header.lg_k,
-        AuxFormat::from_header(header.compact, header.lg_arr),
-        header.out_of_order,
-    )?;
-    Ok(registers)
 }

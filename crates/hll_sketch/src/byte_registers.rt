@@ -20,9 +20,9 @@ ghost use Rattle.hll_sketch.specs.Value as values;
 ghost use Rattle.hll_sketch.specs.Value.{Sketch, IsLgK};
 
 use crate::borrowed::{
-    compact_coupons, eight_bit_registers, four_bit_registers, header_of_registers,
-    six_bit_registers,
+    compact_coupons, eight_bit_registers, header_of_registers, six_bit_registers,
 };
+use crate::four_bits::four_bit_registers;
 use crate::header::Header;
 use crate::mode::Mode;
 use crate::sketch::HllSketch;
@@ -54,9 +54,9 @@ pub fn join_coupon(registers: &mut [u8], lg_k: u8, coupon: Coupon)
 /// Raises registers by those of an image of any stage and width, folded to their `lg_k`. Answers the image's `lg_k`, and
 /// changes nothing, where it has registers that are not all 0, and fewer of them.
 ///
-/// Fails with the reason of the first check that the image fails, or with `Memory`, and then changes nothing. Takes memory
-/// for the exceptions of registers of four bits, and for a table of coupons, but not for coupons that are 1 to 128, or
-/// ascend in a compact image.
+/// Fails with the reason of the first check that the image fails, or with `Memory`, and then changes nothing. Allocates a map
+/// for the exceptions of registers of four bits, where they have some, and a table of coupons, but not for coupons that are 1
+/// to 128, or ascend in a compact image.
 pub fn join_image<A: Allocator + Clone>(
     alloc: A,
     registers: &mut [u8],

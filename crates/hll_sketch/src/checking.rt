@@ -10,9 +10,9 @@ ghost use Rattle.hll_sketch.specs.Updatable.{HasUpdatableCoupons};
 ghost use Rattle.hll_sketch.specs.Value.{Sketch};
 
 use crate::borrowed::{
-    compact_coupons, eight_bit_registers, four_bit_registers, header_of_registers,
-    six_bit_registers,
+    compact_coupons, eight_bit_registers, header_of_registers, six_bit_registers,
 };
+use crate::four_bits::four_bit_registers;
 use crate::header::Header;
 use crate::sketch::HllSketch;
 use crate::updatable::has_updatable_coupons;
@@ -23,9 +23,9 @@ use std::alloc::Allocator;
 impl<A: Allocator + Clone> HllSketch<A> {
     /// Tests whether bytes begin with an image. What follows the image is not looked at.
     ///
-    /// Fails as `deserialize` does, with the reason of the first check that the bytes fail, or else with `Memory`. Takes memory,
-    /// only once the bytes that the image asks for are there, for a table of coupons, but not for coupons that are 1 to
-    /// 128, or ascend in a compact image; and for the exceptions of registers of four bits.
+    /// Fails as `deserialize` does, with the reason of the first check that the bytes fail, or else with `Memory`. Allocates only
+    /// once the bytes that the image asks for are there: a table of coupons, but not for coupons that are 1 to 128, or ascend
+    /// in a compact image; and a map for the exceptions of registers of four bits, where they have some.
     pub fn check(alloc: A, bytes: &[u8]) -> Result<(), Error>
         ensures ok { OnOk result ((x : Sketch) × IsReadAs bytes.now x) }
         ensures err { IfErr result (IsRefusal bytes.now) }
@@ -46,8 +46,8 @@ impl<A: Allocator + Clone> HllSketch<A> {
 
 /// Tests whether registers stand behind the header of an image, without a copy of them.
 ///
-/// Fails with the reason of the first check that they fail, or else with `Memory`. Takes memory for the exceptions of four
-/// bits alone.
+/// Fails with the reason of the first check that they fail, or else with `Memory`. Allocates a map for the exceptions of
+/// registers of four bits alone, where they have some.
 fn check_registers<A: Allocator + Clone>(
     alloc: &A,
     bytes: &[u8],

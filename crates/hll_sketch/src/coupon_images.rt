@@ -1,32 +1,36 @@
 // SPDX-License-Identifier: Apache-2.0
-//! Images of coupons that ascend, as those that are written here do, made from bytes to bytes: the union of two, and one at
-//! another width, without a table.
-ghost use Rattle.std.specs.Prelude.{◌≡◌, ℕ, List, ◌≤◌, ◌<◌, IfSome, IfNone, IfOk, IfErr, OnErr, length};
+//! Makes images of coupons from images of coupons, without a table: the union of two, and one image at another width.
+//! Coupons that ascend, as in images that this library wrote, are read in place. Up to 128 coupons in another order are
+//! sorted first.
+ghost use Rattle.std.specs.Prelude.{◌≡◌, ℕ, List, ◌≤◌, ◌<◌, true, IfSome, IfNone, IfOk, IfErr, OnErr, length};
+ghost use Rattle.std.specs.List.Sorted.{IsStrictlyIncreasing};
 ghost use Rattle.hll_base.specs.declared.error.Reason.TheVariants.{Memory};
 ghost use Rattle.hll_coupons.specs.Coupons.{coupon_bytes, words};
-ghost use Rattle.hll_sketch.specs.CouponImages.{IsOfAscending, IsImageOfTable, HasAscendingCoupons, HaveUnionInTable, IsImageOfUnion, AreBothRead, IsImageAt};
-ghost use Rattle.hll_sketch.specs.Image.{IsReadAs, lg_k_byte, table_byte};
-ghost use Rattle.hll_sketch.specs.TakenIn.{words_in, HasCompactCoupons};
+ghost use Rattle.hll_sketch.specs.CouponImages.{IsInOrder, IsImageOfTable, HasEvidentCoupons, HaveUnionInTable, IsImageOfUnion, AreBothRead, IsImageAt};
+ghost use Rattle.hll_sketch.specs.Image.{IsReadAs};
+ghost use Rattle.hll_sketch.specs.TakenIn.{HasCompactCoupons};
 ghost use Rattle.hll_sketch.specs.Value.{Sketch, IsLgK, IsTableFor};
 ghost use Rattle.hll_sketch.specs.Written as written;
 
 use crate::borrowed::{Words, compact_coupons, list_coupons, set_coupons};
 use crate::header::{Header, Stage};
+use crate::sorted::coupons_in_order;
 use crate::stage::stage;
+use crate::updatable::ROOM;
 use hll_base::error::Error;
 use hll_base::hll_type::HllType;
 use hll_coupons::raw_words::{list_image, set_image, union_of_ascending};
 use hll_coupons::serialization::{COUPON_SIZE_BYTES, LG_LIST_PLACES};
 use std::alloc::Allocator;
 
-/// What an image of coupons that ascend says.
+/// What an image of coupons says, its coupons in ascending order.
 #[derive(Drop)]
-struct AscendingImage<'a> {
+struct OrderedImage<'a> {
     /// The logarithm of the number of registers, 4 to 21.
     lg_k: u8,
     /// The logarithm of the number of places of its table.
     lg_size: u8,
-    /// The coupons, as they stand.
+    /// The coupons, in ascending order.
     words: Words<'a>,
 }
 
@@ -60,12 +64,16 @@ pub fn image_of_coupons(bytes: &[u8]) -> Option<ImageOfCoupons>
     })
 }
 
-/// The image of the union of two images of coupons, at a width: where both are compact and ascend, as those that are
-/// written here do, the first is at the bound of the union, and a table holds the coupons of both. They are merged from
-/// bytes to bytes. `None` for others: a union takes them in.
+/// Returns the image, at a width, of the union of two images of coupons, without making a table.
 ///
-/// Takes memory in two requests: four bytes for each coupon of both, and the image. Fails with `Memory`.
-pub fn union_of_ascending_images<A: Allocator + Clone>(
+/// Returns `None`, and a union has to merge the images, unless all of these hold:
+///
+/// - each image is compact, and its coupons ascend or are at most 128, or it is updatable and has 1 to 128 coupons;
+/// - the first image is at `lg_max_k`, the bound of the union;
+/// - a table at that `lg_k` holds the coupons of both.
+///
+/// Allocates four bytes for each coupon of both images, and then the image. Fails with `Memory`.
+pub fn union_of_coupon_images<A: Allocator + Clone>(
     alloc: A,
     lg_max_k: u8,
     hll_type: HllType,
@@ -77,9 +85,64 @@ pub fn union_of_ascending_images<A: Allocator + Clone>(
     ensures read { OnErr result (AreBothRead lg_max_k left.now right.now) }
     ensures err { IfErr result (λ e. e ≡ Memory) }
 {
-    let (Some(left), Some(right)) = (ascending_image(left), ascending_image(right)) else {
+    if let (Some(left), Some(right)) = (ascending_image(left), ascending_image(right)) {
+        return union_in_order(alloc, lg_max_k, hll_type, left, right);
+    }
+    if says_registers(left) || says_registers(right) {
+        return Ok(None);
+    }
+    union_of_sorted_images(alloc, lg_max_k, hll_type, left, right)
+}
+
+/// Returns what `union_of_coupon_images` does, for coupons in any order: those that don't ascend are sorted first.
+///
+/// Allocates as that does. Fails with `Memory`.
+// (a caller that had the rooms among its own values would clear them for coupons that ascend too)
+#[inline(never)]
+fn union_of_sorted_images<A: Allocator + Clone>(
+    alloc: A,
+    lg_max_k: u8,
+    hll_type: HllType,
+    left: &[u8],
+    right: &[u8],
+) -> Result<Option<Vec<u8, A>>, Error>
+    ensures some { IfOk result (λ found. IfSome found (λ image. IsImageOfUnion lg_max_k hll_type left.now right.now image.items)) }
+    ensures none { IfOk result (λ found. IfNone found (HaveUnionInTable lg_max_k left.now right.now → ⊥)) }
+    ensures read { OnErr result (AreBothRead lg_max_k left.now right.now) }
+    ensures err { IfErr result (λ e. e ≡ Memory) }
+{
+    let mut left_room = [0; ROOM];
+    let Some(left) = sorted_image(left, &mut left_room) else {
         return Ok(None);
     };
+    let mut right_room = [0; ROOM];
+    let Some(right) = sorted_image(right, &mut right_room) else {
+        return Ok(None);
+    };
+    union_in_order(alloc, lg_max_k, hll_type, left, right)
+}
+
+/// Returns the image, at a width, of the union of two images with their coupons in ascending order. `None` if the first is
+/// not at `lg_max_k`, the bound of the union, or no table holds the coupons of both.
+///
+/// Allocates four bytes for each coupon of both, and then the image. Fails with `Memory`, only if the first is at the bound.
+// (in each of its callers, so that what it is given isn't put into memory for it)
+#[inline(always)]
+fn union_in_order<A: Allocator + Clone>(
+    alloc: A,
+    lg_max_k: u8,
+    hll_type: HllType,
+    left: OrderedImage<'_>,
+    right: OrderedImage<'_>,
+) -> Result<Option<Vec<u8, A>>, Error>
+    requires left { IsStrictlyIncreasing (words left.words.count left.words.bytes.now) }
+    requires right { IsStrictlyIncreasing (words right.words.count right.words.bytes.now) }
+    requires lg_k { IsLgK left.lg_k }
+    ensures some { IfOk result (λ found. IfSome found (λ image. (l r : List ℕ) → IsInOrder l left.entry.lg_k left.entry.lg_size (words left.entry.words.count left.entry.words.bytes.now) → IsInOrder r right.entry.lg_k right.entry.lg_size (words right.entry.words.count right.entry.words.bytes.now) → IsImageOfUnion lg_max_k hll_type l r image.items)) }
+    ensures none { IfOk result (λ found. IfNone found ((l r : List ℕ) → IsInOrder l left.entry.lg_k left.entry.lg_size (words left.entry.words.count left.entry.words.bytes.now) → IsInOrder r right.entry.lg_k right.entry.lg_size (words right.entry.words.count right.entry.words.bytes.now) → HaveUnionInTable lg_max_k l r → ⊥)) }
+    ensures bound { OnErr result (left.entry.lg_k ≡ lg_max_k) }
+    ensures err { IfErr result (λ e. e ≡ Memory) }
+{
     if left.lg_k != lg_max_k {
         return Ok(None);
     }
@@ -90,33 +153,86 @@ pub fn union_of_ascending_images<A: Allocator + Clone>(
     }
 }
 
-/// The image of the sketch of an image of coupons, at a width: where that is compact and they ascend, as in those that are
-/// written here. `None` for others.
+/// Returns the image, at a width, of the sketch of an image of coupons, without making a table.
 ///
-/// Takes memory for the image, in one request. Fails with `Memory`.
-pub fn ascending_image_at<A: Allocator>(
+/// Returns `None` unless the image is compact, and its coupons ascend or are at most 128, or it is updatable and has 1 to
+/// 128 coupons.
+///
+/// Allocates once, for the image. Fails with `Memory`.
+pub fn coupon_image_at<A: Allocator>(
     alloc: A,
     hll_type: HllType,
     image: &[u8],
 ) -> Result<Option<Vec<u8, A>>, Error>
     ensures some { IfOk result (λ found. IfSome found (λ written. IsImageAt hll_type image.now written.items)) }
-    ensures none { IfOk result (λ found. IfNone found (HasAscendingCoupons image.now → ⊥)) }
+    ensures none { IfOk result (λ found. IfNone found (HasEvidentCoupons image.now → ⊥)) }
     ensures read { OnErr result ((x : Sketch) × IsReadAs image.now x) }
     ensures err { IfErr result (λ e. e ≡ Memory) }
 {
-    let Some(image) = ascending_image(image) else {
+    if let Some(image) = ascending_image(image) {
+        return Ok(Some(image_in_order(alloc, hll_type, image)?));
+    }
+    if says_registers(image) {
         return Ok(None);
-    };
-    let coupons = image.words.as_bytes();
-    Ok(Some(coupon_image(alloc, image.lg_k, hll_type, image.lg_size, coupons)?))
+    }
+    sorted_image_at(alloc, hll_type, image)
 }
 
-/// What an image says, if its coupons ascend, and there are some.
-fn ascending_image(bytes: &[u8]) -> Option<AscendingImage<'_>>
-    ensures some { IfSome result (λ a. IsOfAscending bytes.now a.lg_k a.lg_size (words a.words.count a.words.bytes.now)) }
-    ensures says { IfSome result (λ a. (a.lg_k ≡ lg_k_byte bytes.now) × (a.lg_size ≡ table_byte bytes.now) × (words a.words.count a.words.bytes.now ≡ words_in bytes.now)) }
+/// Returns what `coupon_image_at` does, for coupons in any order: those that don't ascend are sorted first.
+///
+/// Allocates once, for the image. Fails with `Memory`.
+// (a caller that had the room among its own values would clear it for coupons that ascend too)
+#[inline(never)]
+fn sorted_image_at<A: Allocator>(
+    alloc: A,
+    hll_type: HllType,
+    image: &[u8],
+) -> Result<Option<Vec<u8, A>>, Error>
+    ensures some { IfOk result (λ found. IfSome found (λ written. IsImageAt hll_type image.now written.items)) }
+    ensures none { IfOk result (λ found. IfNone found (HasEvidentCoupons image.now → ⊥)) }
+    ensures read { OnErr result ((x : Sketch) × IsReadAs image.now x) }
+    ensures err { IfErr result (λ e. e ≡ Memory) }
+{
+    let mut room = [0; ROOM];
+    match sorted_image(image, &mut room) {
+        Some(image) => Ok(Some(image_in_order(alloc, hll_type, image)?)),
+        None => Ok(None),
+    }
+}
+
+/// Returns the image of coupons that are in ascending order, at a width.
+///
+/// Allocates once. Fails with `Memory`.
+// (in each of its callers, as `union_in_order`)
+#[inline(always)]
+fn image_in_order<A: Allocator>(
+    alloc: A,
+    hll_type: HllType,
+    image: OrderedImage<'_>,
+) -> Result<Vec<u8, A>, Error>
+    requires lg_k { IsLgK image.lg_k }
+    requires table { IsTableFor image.lg_k (length (words image.words.count image.words.bytes.now)) image.lg_size }
+    ensures ok { IfOk result (λ made. made.items ≡ written.coupon_image image.entry.lg_k hll_type image.entry.lg_size (words image.entry.words.count image.entry.words.bytes.now)) }
+    ensures err { IfErr result (λ e. e ≡ Memory) }
+{
+    let coupons = image.words.as_bytes();
+    coupon_image(alloc, image.lg_k, hll_type, image.lg_size, coupons)
+}
+
+/// Returns whether the mode byte of an image says that it is of registers, so that no room for coupons is cleared for it.
+fn says_registers(bytes: &[u8]) -> bool
+    ensures { result ≡ true → HasEvidentCoupons bytes.now → ⊥ }
+{
+    match bytes {
+        [_, _, _, _, _, _, _, mode, ..] => mode % 4 == 2,
+        _ => false,
+    }
+}
+
+/// Returns what a compact image says, if its coupons ascend and there are some. `sorted_image` reads the other images.
+fn ascending_image(bytes: &[u8]) -> Option<OrderedImage<'_>>
+    ensures some { IfSome result (λ a. IsInOrder bytes.now a.lg_k a.lg_size (words a.words.count a.words.bytes.now)) }
     ensures legal { IfSome result (λ a. IsLgK a.lg_k) }
-    ensures none { IfNone result (HasAscendingCoupons bytes.now → ⊥) }
 {
     let Ok(header) = Header::read(bytes) else {
         return None;
@@ -129,7 +245,25 @@ fn ascending_image(bytes: &[u8]) -> Option<AscendingImage<'_>>
     if !words.ascend() {
         return None;
     }
-    Some(AscendingImage {
+    Some(OrderedImage {
+        lg_k: header.lg_k,
+        lg_size: header.lg_arr,
+        words,
+    })
+}
+
+/// Returns what an image says, if it is compact and its coupons ascend or are at most 128, or if it is updatable and has 1
+/// to 128 coupons. Coupons that don't ascend are sorted into `room`.
+fn sorted_image<'a>(bytes: &'a [u8], room: &'a mut [u8; ROOM]) -> Option<OrderedImage<'a>>
+    ensures some { IfSome result (λ a. IsInOrder bytes.now a.lg_k a.lg_size (words a.words.count a.words.bytes.now)) }
+    ensures legal { IfSome result (λ a. IsLgK a.lg_k) }
+    ensures none { IfNone result (HasEvidentCoupons bytes.now → ⊥) }
+{
+    let words = coupons_in_order(bytes, room)?;
+    let Ok(header) = Header::read(bytes) else {
+        unreachable!()
+    };
+    Some(OrderedImage {
         lg_k: header.lg_k,
         lg_size: header.lg_arr,
         words,

@@ -12,10 +12,10 @@ ghost use Rattle.hll_sketch.specs.Refusal.{IsRefusal};
 ghost use Rattle.hll_sketch.specs.Value.{IsLgK};
 
 use crate::borrowed::{
-    Words, compact_coupons, eight_bit_registers, four_bit_registers, header_of_registers,
-    six_bit_registers,
+    Words, compact_coupons, eight_bit_registers, header_of_registers, six_bit_registers,
 };
 use crate::folding::fold_of_registers;
+use crate::four_bits::four_bit_registers;
 use crate::header::Header;
 use crate::sketch::HllSketch;
 use hll_arrays::registers::{Registers, two_to};

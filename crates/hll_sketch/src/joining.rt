@@ -22,10 +22,10 @@ ghost use Rattle.hll_sketch.specs.Updatable.{HasUpdatableCoupons};
 ghost use Rattle.hll_sketch.specs.Value.{IsLegal, IsLgK, coupons, in_registers, is_empty, registers};
 
 use crate::borrowed::{
-    compact_coupons, eight_bit_registers, four_bit_registers, header_of_registers,
-    six_bit_registers,
+    compact_coupons, eight_bit_registers, header_of_registers, six_bit_registers,
 };
 use crate::folding::fold_of;
+use crate::four_bits::four_bit_registers;
 use crate::header::Header;
 use crate::mode::Mode;
 use crate::promotion::mode_of_both;
@@ -108,7 +108,23 @@ impl<A: Allocator + Clone> HllSketch<A> {
         if self.is_empty() && self.lg_config_k == sketch.lg_config_k {
             *self = sketch.table_in(self.allocator(), HllType::Hll8)?;
             Ok(())
-        } else if self.has_room_for(table) {
+        } else {
+            self.add_table(table)
+        }
+    }
+
+    /// Adds the coupons of a table, of which there are some.
+    ///
+    /// Fails with `Memory`, only where its own table has no room for them, and then changes nothing.
+    pub(crate) fn add_table(&mut self, table: &Container<A>) -> Result<(), Error>
+        requires width { width_of self.old.layout ≡ Hll8 }
+        requires some { len (coupons_of table.now) ≡ 0 → ⊥ }
+        ensures ok { OnOk result (sketch_of self.new ≡ add (sketch_of self.old) (coupons_of table.now)) }
+        ensures unchanged { OnErr result (self.new ≡ self.old) }
+        ensures needed { OnErr result (can_hold_all self.old.layout (coupons_of table.now) ≡ false) }
+        ensures err { IfErr result (λ e. e ≡ Memory) }
+    {
+        if self.has_room_for(table) {
             self.add_each(table);
             Ok(())
         } else {
@@ -159,8 +175,9 @@ impl<A: Allocator + Clone> HllSketch<A> {
     /// Merges an image of registers, without a copy of them, unless the gadget is empty and takes them over. Whether it did;
     /// else nothing has changed.
     ///
-    /// Fails with the reason of the first check that the header or the registers fail, or with `Memory`, at eight and six
-    /// bits where a merge of their sketch needs it, and then changes nothing.
+    /// Fails with the reason of the first check that the header or the registers fail, or with `Memory`, and then changes
+    /// nothing. Allocates where a merge of their sketch does, and the map of exceptions of registers of four bits, where
+    /// they have some.
     pub(crate) fn merge_registers_of_image(
         &mut self,
         bound: u8,
@@ -192,7 +209,7 @@ impl<A: Allocator + Clone> HllSketch<A> {
         }
     }
 
-    /// The same at four bits: all checks come before the join.
+    /// Merges an image of registers of four bits, as `merge_registers_of_image` does. All checks come before the join.
     #[inline(never)]
     fn merge_four_bits(&mut self, bound: u8, image: &[u8], header: Header) -> Result<bool, Error>
         requires bound { IsLgK bound }
@@ -203,6 +220,7 @@ impl<A: Allocator + Clone> HllSketch<A> {
         ensures merged { IfOk result (λ did. did ≡ true → MergesImage bound (sketch_of self.old) (sketch_of self.new) image.now) }
         ensures gadget { IsGadget bound (sketch_of self.new) }
         ensures kept { IfOk result (λ did. did ≡ false → self.new ≡ self.old) }
+        ensures other { IfOk result (λ did. did ≡ false → PlainRegistersNeedMemory (sketch_of self.old) image.now) }
         ensures unchanged { OnErr result (self.new ≡ self.old) }
         ensures err { IfErr result (λ e. (e ≡ Memory) ⊎ (first_fault image.now ≡ Some e)) }
         ensures needed { IfErr result (λ e. e ≡ Memory → ImageNeedsMemory (sketch_of self.old) image.now) }

@@ -1,12 +1,13 @@
 // SPDX-License-Identifier: Apache-2.0
 //! Sketches (docs/MODEL.md, "Sketch values" and "Adding").
-ghost use Rattle.std.specs.Prelude.{◌≡◌, ◌≤◌, ◌⊎◌, ◌↔◌, [], ◌∷◌, true, false, IsTrue, fold, Some, None, IfOk, IfErr, IfSome, IfNone, OnOk, OnErr};
+ghost use Rattle.std.specs.Prelude.{◌≡◌, ◌^◌, ◌<◌, ◌≤◌, ◌⊎◌, ◌↔◌, length, [], ◌∷◌, true, false, IsTrue, fold, Some, None, IfOk, IfErr, IfSome, IfNone, OnOk, OnErr};
 ghost use Rattle.hll_base.specs.declared.error.Reason.TheVariants.{Memory};
 ghost use Rattle.hll_base.specs.declared.error.Reason.TheVariants as reasons;
 ghost use Rattle.hll_base.specs.Hash.{hash_of, initial_state, after_piece, default_seed};
 ghost use Rattle.hll_coupons.specs.Hashed.{coupon_of_halves};
 ghost use Rattle.hll_coupons.specs.Fold.{fold_to};
 ghost use Rattle.hll_coupons.specs.Pair.{value_of, set_of};
+ghost use Rattle.hll_coupons.specs.Table.{coupons_in, coupons_of};
 ghost use Rattle.hll_sketch.specs.Adding.{add, content_with};
 ghost use Rattle.hll_sketch.specs.Checks.{first_fault, size_fault};
 ghost use Rattle.hll_registers.specs.declared.estimate_state.EstimateState.{EstimateState};
@@ -17,7 +18,7 @@ ghost use Rattle.hll_sketch.specs.Folding as folding;
 ghost use Rattle.hll_sketch.specs.Folding.{IsFoldLgK};
 ghost use Rattle.hll_sketch.specs.Image.{IsReadAs};
 ghost use Rattle.hll_sketch.specs.Layout.{layout_of, content_in, width_of, sketch_of, IsLayoutFor, can_hold_with, count_in, NeedsMemory};
-ghost use Rattle.hll_sketch.specs.Value.{IsLgK, empty_sketch, in_registers, is_empty, pairs_of, size_of, IsLegal};
+ghost use Rattle.hll_sketch.specs.Value.{IsLgK, coupons, empty_sketch, in_registers, is_empty, pairs_of, size_of, IsLegal};
 ghost use Rattle.hll_sketch.specs.Written.{Written};
 
 use crate::folding::{fold_of, has_least_size, mode_of_coupons};
@@ -32,7 +33,7 @@ use hll_arrays::registers::Registers;
 use hll_base::bounds::{MAX_LG_K, MIN_LG_K};
 use hll_base::error::{Error, Reason};
 use hll_base::hll_type::HllType;
-use hll_coupons::container::Insertion;
+use hll_coupons::container::{Container, Insertion};
 use hll_coupons::coupon::Coupon;
 use hll_coupons::list::List;
 use std::alloc::{Allocator, Global};
@@ -116,6 +117,21 @@ impl<A: Allocator> HllSketch<A> {
             Mode::Array4(array) => array.is_empty(),
             Mode::Array6(array) => array.is_empty(),
             Mode::Array8(array) => array.is_empty(),
+        }
+    }
+
+    /// The table of its coupons; registers have none.
+    pub(crate) fn table(&self) -> Option<&Container<A>>
+        ensures some { IfSome result (λ table. content_in self.now.layout ≡ coupons (coupons_of table.now) table.now.lg_size) }
+        ensures legal { IfSome result (λ table. length (coupons_in table.now.places) < 2 ^ 19) }
+    {
+        match &self.mode {
+            Mode::List { list, .. } => {
+                list.container().table_is_legal();
+                Some(list.container())
+            }
+            Mode::Set { set, .. } => Some(set.container()),
+            Mode::Array4(_) | Mode::Array6(_) | Mode::Array8(_) => None,
         }
     }
 

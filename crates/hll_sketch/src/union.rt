@@ -1,26 +1,31 @@
 // SPDX-License-Identifier: Apache-2.0
 //! Unions of sketches (docs/MODEL.md, "Merging").
-ghost use Rattle.std.specs.Prelude.{◌≡◌, ◌≢◌, ◌≤◌, ◌⊎◌, ◌↔◌, true, false, IsTrue, Some, All, List, map, [], ◌∷◌, ◌++◌, fold, IfOk, IfErr, OnOk, OnErr};
+ghost use Rattle.std.specs.Prelude.{◌≡◌, ◌≢◌, ◌≤◌, ◌⊎◌, ◌↔◌, true, false, IsTrue, Some, All, List, map, [], ◌∷◌, ◌++◌, fold, IfOk, IfErr, OnOk, OnErr, IfSome, IfNone};
 ghost use Rattle.hll_base.specs.declared.error.Reason.TheVariants.{Memory};
 ghost use Rattle.hll_base.specs.declared.error.Reason.TheVariants as reasons;
 ghost use Rattle.hll_base.specs.Hash.{hash_of, initial_state, after_piece, default_seed};
 ghost use Rattle.hll_coupons.specs.Hashed.{coupon_of_halves};
+ghost use Rattle.std.specs.FinSet.{len};
 ghost use Rattle.hll_coupons.specs.Pair.{value_of, set_of};
+ghost use Rattle.hll_coupons.specs.Table.{coupons_of};
+ghost use Rattle.hll_sketch.specs.Image.{IsReadAs};
+ghost use Rattle.hll_sketch.specs.Refusal.{IsRefusal};
 ghost use Rattle.hll_base.specs.declared.hll_type.HllType.TheVariants.{Hll8};
 ghost use Rattle.hll_sketch.specs.Adding.{add};
 ghost use Rattle.hll_sketch.specs.Agree.{Agree};
 ghost use Rattle.hll_sketch.specs.Checks.{first_fault};
 ghost use Rattle.hll_sketch.specs.Grown.{IsGrown};
 ghost use Rattle.hll_sketch.specs.Layout.{sketch_of, NeedsMemory};
-ghost use Rattle.hll_sketch.specs.Joined.{least_lg_k, IsJoinOf};
+ghost use Rattle.hll_sketch.specs.Joined.{IsJoinOf};
 ghost use Rattle.hll_sketch.specs.Merging.{merge, merge_all, empty_union};
 ghost use Rattle.hll_sketch.specs.TakenIn.{TakesIn, HasCompactCoupons, ImageNeedsMemory};
-ghost use Rattle.hll_sketch.specs.Union.{gadget_of, CanTakeIn, MergeNeedsMemory};
-ghost use Rattle.hll_sketch.specs.Value.{Sketch, IsLgK, in_registers, is_empty, size_of};
+ghost use Rattle.hll_sketch.specs.Union.{gadget_of, CanTakeIn, IsGadget, MergeNeedsMemory};
+ghost use Rattle.hll_sketch.specs.Value.{Sketch, IsLegal, IsLgK, in_registers, is_empty, size_of};
 
 use crate::sketch::HllSketch;
 use hll_base::error::Error;
 use hll_base::hll_type::HllType;
+use hll_coupons::container::Container;
 use hll_coupons::coupon::Coupon;
 use std::alloc::{Allocator, Global};
 use std::hash::Hash;
@@ -155,6 +160,21 @@ impl<A: Allocator + Clone> HllUnion<A> {
         self.update(&sketch)
     }
 
+    /// Adds the coupons of a table, of which there are some.
+    ///
+    /// Fails with `Memory`, and then changes nothing.
+    pub(crate) fn update_with_table(&mut self, table: &Container<A>) -> Result<(), Error>
+        requires { len (coupons_of table.now) ≡ 0 → ⊥ }
+        ensures ok { OnOk result (gadget_of self.new ≡ add (gadget_of self.old) (coupons_of table.now)) }
+        ensures bound { self.new.lg_max_k ≡ self.old.lg_max_k }
+        ensures unchanged { OnErr result (self.new ≡ self.old) }
+        ensures err { IfErr result (λ e. e ≡ Memory) }
+    {
+        self.gadget.value_is_legal();
+        table.table_is_legal();
+        self.gadget.add_table(table)
+    }
+
     /// Adds a coupon, as to a sketch.
     ///
     /// Its value is at least 1. Fails with `Memory`, only if a table changes its size, and then changes nothing, places
@@ -209,6 +229,37 @@ impl<A: Allocator + Clone> HllUnion<A> {
         gadget.into_width(hll_type)
     }
 
+    /// How many coupons there are, where there are some and no registers.
+    pub(crate) fn coupons(&self) -> Option<usize>
+        ensures some { IfSome result (λ count. (in_registers (gadget_of self.now).content ≡ false) × (is_empty (gadget_of self.now) ≡ false)) }
+        ensures none { IfNone result ((in_registers (gadget_of self.now).content ≡ true) ⊎ (is_empty (gadget_of self.now) ≡ true)) }
+        ensures gadget { IsGadget self.now.lg_max_k (gadget_of self.now) }
+        ensures legal { IsLegal (gadget_of self.now) }
+    {
+        self.gadget.value_is_legal();
+        match self.gadget.num_coupons() {
+            None | Some(0) => None,
+            some => some,
+        }
+    }
+
+    /// A copy of the allocator.
+    ///
+    /// Fails with `Memory`.
+    pub(crate) fn cloned_allocator(&self) -> Result<A, Error>
+        ensures { IfErr result (λ e. e ≡ Memory) }
+    {
+        Ok(self.gadget.allocator().clone()?)
+    }
+
+    /// The sketch of an image, by a copy of the allocator, as `HllSketch::deserialize`.
+    pub(crate) fn read_beside(&self, image: &[u8]) -> Result<HllSketch<A>, Error>
+        ensures ok { IfOk result (λ s. IsReadAs image.now (sketch_of s)) }
+        ensures err { IfErr result (IsRefusal image.now) }
+    {
+        self.gadget.read_beside(image)
+    }
+
     /// Forgets all: an empty list at the bound.
     ///
     /// Fails with `Memory`, and then changes nothing.
@@ -235,32 +286,6 @@ impl<A: Allocator + Clone> HllUnion<A> {
             gadget: self.gadget.clone()?,
         })
     }
-}
-
-/// The union of sketches under a bound. Its `lg_k` is the least of the bound and of the `lg_k` of the sketches in registers
-/// that are not all 0. Where all sketches are grown, the gadget is their join, whatever their order, and grown.
-///
-/// Fails with `Argument` if `lg_max_k` is not 4 to 21, or else with `Memory`.
-pub fn union_of<A: Allocator + Clone>(
-    alloc: A,
-    lg_max_k: u8,
-    sketches: &[HllSketch<A>],
-) -> Result<HllUnion<A>, Error>
-    ensures merged { IfOk result (λ u. gadget_of u ≡ merge_all lg_max_k (empty_union lg_max_k) (map sketch_of sketches.now)) }
-    ensures bound { IfOk result (λ u. u.lg_max_k ≡ lg_max_k) }
-    ensures lg_k { IfOk result (λ u. (gadget_of u).lg_k ≡ least_lg_k lg_max_k (map sketch_of sketches.now)) }
-    ensures legal { OnOk result (IsLgK lg_max_k) }
-    ensures grown { IfOk result (λ u. All IsGrown (map sketch_of sketches.now) → IsJoinOf (map sketch_of sketches.now) u) }
-    ensures outside { IfErr result (λ e. e ≡ reasons.Argument → IsLgK lg_max_k → ⊥) }
-    ensures within { IfErr result (λ e. e ≡ Memory → IsLgK lg_max_k) }
-    ensures err { IfErr result (λ e. (e ≡ reasons.Argument) ⊎ (e ≡ Memory)) }
-{
-    let mut union = HllUnion::new(alloc, lg_max_k)?;
-    for sketch in sketches {
-        sketch.value_is_legal();
-        union.update(sketch)?;
-    }
-    Ok(union)
 }
 
 /// Makes the first of some sketches their union under a bound, where that takes no memory, and answers whether it did:

@@ -3,7 +3,7 @@
 //! they are gathered as a compact image has them, and go on from there: no table is made.
 ghost use Rattle.std.specs.Prelude.{◌≡◌, ◌+◌, ◌*◌, ◌^◌, ◌<◌, ◌≤◌, ◌↔◌, ◌++◌, [], ◌∷◌, true, false, None, IsTrue, IfSome, IfNone, length};
 ghost use Rattle.hll_base.specs.Join.{join};
-ghost use Rattle.hll_coupons.specs.Coupons.{words};
+ghost use Rattle.hll_coupons.specs.Coupons.{words, AreCoupons};
 ghost use Rattle.hll_coupons.specs.Fold.{fold_to};
 ghost use Rattle.hll_coupons.specs.Pair.{set_of};
 ghost use Rattle.hll_coupons.specs.Table.{coupons_in};
@@ -28,7 +28,7 @@ use hll_coupons::serialization::{
 use std::alloc::Allocator;
 
 /// The bytes of `FEW` coupons.
-const ROOM: usize = COUPON_SIZE_BYTES * FEW;
+pub(crate) const ROOM: usize = COUPON_SIZE_BYTES * FEW;
 
 /// The places of a table, and how many of them an image says are filled: 1 to `FEW`.
 #[derive(Clone, Copy)]
@@ -145,7 +145,7 @@ impl<'a> Places<'a> {
 }
 
 /// Writes a word behind the first `count` of them.
-fn put(room: &mut [u8; ROOM], count: usize, word: u32)
+pub(crate) fn put(room: &mut [u8; ROOM], count: usize, word: u32)
     requires { count < 128 }
     ensures kept { words count room.new ≡ words count room.old }
     ensures put { words (count + 1) room.new ≡ words count room.old ++ word ∷ [] }
@@ -185,6 +185,24 @@ pub(crate) fn join_updatable(registers: &mut [u8], lg_k: u8, bytes: &[u8]) -> bo
         Some(places) => places.join_into(registers, lg_k),
         None => false,
     }
+}
+
+/// Returns the coupons of an updatable image of a list or a set, gathered at the front of `room` in the order of their
+/// places. `None` unless there are 1 to `FEW`.
+pub(crate) fn gathered_coupons<'a>(bytes: &[u8], room: &'a mut [u8; ROOM]) -> Option<Words<'a>>
+    ensures some { IfSome result (λ w. IsOfCoupons bytes.now (words w.count w.bytes.now)) }
+    ensures are { IfSome result (λ w. AreCoupons (words w.count w.bytes.now)) }
+    ensures few { IfSome result (λ w. w.count ≤ 128) }
+    ensures none { IfNone result (HasUpdatableCoupons bytes.now → ⊥) }
+{
+    let places = updatable_places(bytes)?;
+    if !places.gather_coupons(room) {
+        return None;
+    }
+    Some(Words {
+        bytes: room,
+        count: places.filled,
+    })
 }
 
 /// Whether bytes begin with an updatable image of a list or a set of 1 to `FEW` coupons.

@@ -1,13 +1,17 @@
 -- SPDX-License-Identifier: Apache-2.0
 -- Lemmas on lines that are passed on.
-use Rattle.std.proofs.Common.{◌≡◌, ◌⊎◌, ℕ, ◌+◌, ◌<◌, Bool, true, false, List, [], ◌∷◌, ◌++◌, length, take, Option, Some, Result, Ok, Err, inl, inr, refl, sym, ap, subst, ◌∙◌, append_assoc, arith}
+use Rattle.std.proofs.Common.{◌≡◌, ◌⊎◌, ℕ, ◌+◌, ◌<◌, Bool, true, false, List, [], ◌∷◌, ◌++◌, length, take, Option, Some, None, Result, Ok, Err, inl, inr, refl, sym, ap, subst, ◌∙◌, append_assoc, arith}
 use Rattle.std.specs.Prelude.{◌==◌}
 use Rattle.std.specs.Io.KnownBytes.{Appends}
 use Rattle.std.specs.Result.{IsErrAnd, MatchResult, OnOk, IfErr}
 use Rattle.std.proofs.lemmas.List.{append-nil, length-append}
 use Rattle.hll_base.specs.declared.error.Reason.{Reason}
 use Rattle.hll_base.specs.declared.error.Reason.TheVariants as reasons
-use Rattle.hll_sketch.specs.Checks.{first_fault}
+use Rattle.hll_sketch.specs.Checks.{first_failing, header_checks, checks_behind, first_fault, size_fault}
+use Rattle.hll_sketch.specs.Image.{IsReadAs}
+use Rattle.hll_sketch.specs.Value.{Sketch}
+use Rattle.hll_sketch.proofs.FirstFailing.{none_before}
+use Rattle.hll_sketch.proofs.FirstFaults.{faultless_is_image}
 use Rattle.hll_text.specs.declared.fault.Fault.{Fault}
 use Rattle.hll_text.specs.declared.fault.Fault.TheVariants.{Memory, Write}
 use Rattle.hll_text.specs.declared.fault.MergeError.{MergeError}
@@ -177,6 +181,12 @@ Stops-before n a b o p f e h = elim h [
 ]
 
 -- ---- one line
+
+-- bytes that are read as a sketch have the size that they ask for
+pub sized_if_read : (bytes : List ℕ) (x : Sketch) → IsReadAs bytes x → size_fault bytes ≡ None
+sized_if_read bytes x read =
+    none_before (header_checks bytes ++ (checks_behind bytes).size) (checks_behind bytes).content
+    (ap first_failing (append_assoc (header_checks bytes) (checks_behind bytes).size (checks_behind bytes).content) ∙ (faultless_is_image bytes).1 (x, read))
 
 -- the fault of bytes that were decoded
 pub refused_bytes : (line bytes : List ℕ) (r : Reason) (e : Fault) → image_step line ≡ Ok (image bytes) → e ≡ fault_of r → (r ≡ reasons.Memory) ⊎ (first_fault bytes ≡ Some r) → (e ≡ Memory) ⊎ IsRefusedFor line e

@@ -4,7 +4,7 @@ ghost use Rattle.std.specs.Prelude.{◌≡◌, ◌⊎◌, ◌+◌, ◌^◌, ◌<
 ghost use Rattle.std.specs.Io.KnownBytes.{Appends};
 ghost use Rattle.std.specs.Str.Lines.{strip_carriage_return};
 ghost use Rattle.hll_base.specs.declared.error.Reason.TheVariants as reasons;
-ghost use Rattle.hll_sketch.specs.Checks.{first_fault};
+ghost use Rattle.hll_sketch.specs.Checks.{first_fault, size_fault};
 ghost use Rattle.hll_text.specs.Cuts.{IsOpen};
 ghost use Rattle.hll_text.specs.Text.{ended_lines, open_line, line_of_rest, image, image_step};
 ghost use Rattle.hll_text.specs.declared.fault.Fault.TheVariants as faults;
@@ -20,10 +20,14 @@ use hll_text::watched::Watched;
 use std::alloc::{AllocError, Allocator};
 use std::{io, mem};
 
-/// The image of bytes with the words of an estimator set. The reason of the first check that the bytes fail, or `Memory`.
+/// The image of bytes with the words of an estimator set.
+///
+/// Fails with the reason of the first check that the bytes fail, or with `Memory`. Allocates the sketch and its image, only
+/// once the bytes that the image asks for are there.
 fn with_words<A: Allocator + Clone>(alloc: A, bytes: &[u8]) -> Result<Vec<u8, A>, Error>
     ensures ok { IfOk result (λ new. IsWithWords bytes.now new.items) }
     ensures err { IfErr result (λ e. (e ≡ reasons.Memory) ⊎ (first_fault bytes.now ≡ Some e)) }
+    ensures asked { IfErr result (λ e. e ≡ reasons.Memory → size_fault bytes.now ≡ None) }
 {
     let mut sketch = HllSketch::deserialize(alloc, bytes)?;
     sketch.set_estimator_words();

@@ -1,5 +1,5 @@
 -- SPDX-License-Identifier: Apache-2.0
-use Rattle.std.proofs.Common.{arith, ◌≡◌, ◌≢◌, ◌+◌, ◌%◌, ◌^◌, ◌≤◌, ◌⊎◌, ℕ, true, cond, eqb, Some, None, List, [], ◌∷◌, ◌++◌, length, inl, inr, sym, ap, subst, ◌∙◌}
+use Rattle.std.proofs.Common.{arith, ◌≡◌, ◌≢◌, ◌+◌, ◌%◌, ◌^◌, ◌≤◌, ◌⊎◌, ℕ, true, cond, eqb, Some, None, List, [], ◌∷◌, ◌++◌, length, inl, inr, refl, sym, ap, subst, ◌∙◌}
 use Rattle.std.proofs.lemmas.Bool.{true≢false}
 use Rattle.std.proofs.lemmas.List.{length-append}
 use Rattle.hll_base.proofs.Errors.{IfErr-passed}
@@ -22,6 +22,7 @@ loop-init g c =
       are = entries-none k c.args.frame.now.compact c.args.frame.now.entries.now;
       number = sym (length-none c.args.frame.now.compact c.args.frame.now.entries.now);
       few = omega arith;
+      none = λ _. refl;
     }
 
 pub loop-preserved-then-not-frame : goal.loop-preserved-then-not-frame
@@ -39,6 +40,7 @@ loop-preserved-then-not-frame g c =
       are = subst (AreEntries c.args.lg_config_k) (sym same) inv.are;
       number = inv.number ∙ ap length (sym same);
       few = omega (arith, inv.few);
+      none = λ start. let no : ⊥ = omega (arith, start) in absurd no;
     }
 
 pub returns-in_err-put_entry-clause-err : goal.returns-in_err-put_entry-clause-err
@@ -88,4 +90,5 @@ loop-preserved g c =
       are = subst (AreEntries k) (sym more) (AreEntries-push k order w none inv.are valued);
       number = omega (arith, inv.number, ap length more, length-append order (w ∷ []));
       few = omega (arith, inv.few);
+      none = λ start. let no : ⊥ = omega (arith, start) in absurd no;
     }

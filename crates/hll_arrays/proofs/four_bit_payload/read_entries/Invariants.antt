@@ -1,5 +1,5 @@
 -- SPDX-License-Identifier: Apache-2.0
-use Rattle.std.proofs.Common.{◌≡◌, ◌*◌, ◌≤◌, ℕ, drop, length}
+use Rattle.std.proofs.Common.{◌≡◌, ◌*◌, ◌≤◌, ℕ, None, drop, length}
 use Rattle.hll_coupons.specs.AuxMap.{entry_at}
 use Rattle.hll_coupons.specs.Coupons.{coupons_at}
 use Rattle.hll_registers.specs.FourBits.{exception_in, IsMapFor}
@@ -15,4 +15,5 @@ invariant-loop g l = record {
   are : AreEntries l.lg_config_k (coupons_at l.frame.compact l.counter l.frame.entries.now);
   number : l.filled ≡ length (coupons_at l.frame.compact l.counter l.frame.entries.now);
   few : l.filled ≤ l.counter;
+  none : l.counter ≡ 0 → l.map ≡ None;
 }

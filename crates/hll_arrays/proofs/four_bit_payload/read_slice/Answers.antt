@@ -1,5 +1,5 @@
 -- SPDX-License-Identifier: Apache-2.0
-use Rattle.std.proofs.Common.{arith, ◌≡◌, ◌+◌, ◌-◌, ◌*◌, ◌^◌, ◌⊎◌, ℕ, length, inl, inr, sym, ap, subst, ◌∙◌}
+use Rattle.std.proofs.Common.{arith, ◌≡◌, ◌≢◌, ◌+◌, ◌-◌, ◌*◌, ◌^◌, ◌⊎◌, ℕ, length, inl, inr, sym, ap, subst, ◌∙◌}
 use Rattle.std.proofs.lemmas.List.{length-drop}
 use Rattle.hll_base.proofs.Errors.{IfErr-passed}
 use Rattle.hll_base.specs.declared.error.Reason.TheVariants.{Memory}
@@ -8,7 +8,7 @@ use Rattle.hll_coupons.specs.Coupons.{coupons_at}
 use Rattle.hll_registers.specs.FourBits.{exception_in, unboxed}
 use Rattle.hll_registers.specs.Payload.{Hll4Shape, entries_of, exception_count, nibbles_of, shape_of_hll4, AreEntries, Agrees, FirstHll4Fault, IsWhole}
 use Rattle.hll_registers.specs.Payload as payload
-use Rattle.hll_arrays.proofs.FourBitWholes.{all_agree, fault_not_memory, is_hll4_payload, nibbles-size, parts_agree, unpacked-registers}
+use Rattle.hll_arrays.proofs.FourBitWholes.{all_agree, fault_not_memory, is_hll4_payload, nibbles-size, no_places, parts_agree, unpacked-registers}
 use Rattle.hll_arrays.proofs.ReadingRegisters.{IfErr-always}
 use Rattle.hll_arrays.proofs.four_bit_payload.read_slice.Goals as goal
 
@@ -16,6 +16,12 @@ pub returns-in_err-frame-clause-asked : goal.returns-in_err-frame-clause-asked
 returns-in_err-frame-clause-asked g c =
     let h : Hll4Shape = shape_of_hll4 c.args.header.lg_config_k c.args.header.cur_min c.args.header.aux_format in
     IfErr-passed (λ e. e ≡ Memory → IsWhole h c.args.cursor) c.from_residual.result c.in_err-frame.field-0.0 c.from_residual.ensures.1
+    (λ memory. absurd (fault_not_memory h c.args.cursor c.in_err-frame.field-0.0 (c.in_err-frame.ensures.err c.args.header.cur_min) memory))
+
+pub returns-in_err-frame-clause-needed : goal.returns-in_err-frame-clause-needed
+returns-in_err-frame-clause-needed g c =
+    let h : Hll4Shape = shape_of_hll4 c.args.header.lg_config_k c.args.header.cur_min c.args.header.aux_format in
+    IfErr-passed (λ e. e ≡ Memory → exception_count c.args.cursor ≢ 0) c.from_residual.result c.in_err-frame.field-0.0 c.from_residual.ensures.1
     (λ memory. absurd (fault_not_memory h c.args.cursor c.in_err-frame.field-0.0 (c.in_err-frame.ensures.err c.args.header.cur_min) memory))
 
 pub read_entries-requires-clause-there : goal.read_entries-requires-clause-there
@@ -44,6 +50,12 @@ pub returns-in_err-exceptions-clause-asked : goal.returns-in_err-exceptions-clau
 returns-in_err-exceptions-clause-asked g c =
     let h : Hll4Shape = shape_of_hll4 c.args.header.lg_config_k c.args.header.cur_min c.args.header.aux_format in
     IfErr-always (λ e. e ≡ Memory → IsWhole h c.args.cursor) c.from_residual-in_err-exceptions.result (λ e memory. (c.in_ok-frame.ensures.ok c.args.header.cur_min).0)
+
+pub returns-in_err-exceptions-clause-needed : goal.returns-in_err-exceptions-clause-needed
+returns-in_err-exceptions-clause-needed g c =
+    let h : Hll4Shape = shape_of_hll4 c.args.header.lg_config_k c.args.header.cur_min c.args.header.aux_format in
+    IfErr-passed (λ e. e ≡ Memory → exception_count c.args.cursor ≢ 0) c.from_residual-in_err-exceptions.result c.in_err-exceptions.field-0.0 c.from_residual-in_err-exceptions.ensures.1
+    (λ memory none. c.in_err-exceptions.ensures.needed memory ((c.in_ok-frame.ensures.ok c.args.header.cur_min).2 ∙ no_places h c.args.cursor none))
 
 pub from_parts-requires-clause-size : goal.from_parts-requires-clause-size
 from_parts-requires-clause-size g c =

@@ -1,12 +1,12 @@
 -- SPDX-License-Identifier: Apache-2.0
-use Rattle.std.proofs.Common.{List, ℕ, sym, ap, subst}
+use Rattle.std.proofs.Common.{List, ℕ, ◌-◌, ◌^◌, ◌∷◌, sym, ap, subst}
+use Rattle.std.specs.List.Sorted.{IsStrictlyIncreasing}
 use Rattle.hll_coupons.specs.Coupons.{words, AreCoupons}
-use Rattle.hll_sketch.specs.CouponImages.{AscendAsWritten}
 use Rattle.hll_sketch.specs.TakenIn.{IsOfCoupons}
 use Rattle.hll_sketch.specs.declared.borrowed.Words.{Words}
 use Rattle.hll_sketch.specs.declared.header.Header.{Header}
 use Rattle.hll_sketch.proofs.BorrowedCoupons.{increasing_coupons}
-use Rattle.hll_sketch.proofs.CouponImages.{of_ascending}
+use Rattle.hll_sketch.proofs.CouponImages.{ascends_behind, in_order}
 use Rattle.hll_sketch.proofs.coupon_images.ascending_image.Goals as goal
 use Rattle.hll_sketch.proofs.coupon_images.ascending_image.Goals.{in-List+in_ok-words-in-List, in-Set+in_ok-words-in-Set}
 
@@ -18,11 +18,11 @@ pub returns-clause-some : goal.returns-clause-some
 returns-clause-some c =
     let b : List ℕ = c.args.bytes.now in
     let found : List ℕ = words c.match-header.words.count c.match-header.words.bytes.now in
-    let up : AscendAsWritten found = c.ascend.ensures.0 c.if-not-ascend.false in
+    let up : IsStrictlyIncreasing ((2 ^ 26 - 1) ∷ found) = c.ascend.ensures.0 c.if-not-ascend.false in
     let means : Means b c.match-header.words =
     elim c.match-header.branch [
       | in-List+in_ok-words-in-List w ↦ subst (Means b) (sym w.words-is) w.in_ok-words-in-List.ensures.coupons
       | in-Set+in_ok-words-in-Set w ↦ subst (Means b) (sym w.words-is) w.in_ok-words-in-Set.ensures.coupons
     ] in
     let says = c.in-Ok.ensures.ok.2 in
-    of_ascending b found (means (increasing_coupons found up)) c.in-Ok.header.lg_k c.in-Ok.header.lg_arr (ap (λ (h : Header). h.lg_k) says) (ap (λ (h : Header). h.lg_arr) says) up
+    in_order b found (means (increasing_coupons found up)) c.in-Ok.header.lg_k c.in-Ok.header.lg_arr (ap (λ (h : Header). h.lg_k) says) (ap (λ (h : Header). h.lg_arr) says) (ascends_behind found up)

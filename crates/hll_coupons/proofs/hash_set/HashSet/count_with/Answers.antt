@@ -9,7 +9,7 @@ use Rattle.hll_coupons.proofs.AddedCoupons.{at_most_one, count_more}
 use Rattle.hll_coupons.proofs.Collecting.{len-union_none, len-union_most, shorter}
 use Rattle.hll_coupons.proofs.Yielded.{given}
 use Rattle.hll_coupons.proofs.hash_set.HashSet.count_with.Goals as goal
-use Rattle.hll_coupons.proofs.hash_set.HashSet.count_with.Goals.{in-Some-has_shortly, in-None-has_shortly+in-Err}
+use Rattle.hll_coupons.proofs.hash_set.HashSet.count_with.Goals.{in-Some-has_shortly, in-None-has_shortly, in-None-2+in-Err}
 
 pub loop-coupon-init : goal.loop-coupon-init
 loop-coupon-init g c =
@@ -28,7 +28,8 @@ loop-coupon-preserved g c =
     let all = given _ _ _ _ _ (c.into_iter-coupon-iterator.ensures.into_iter_gives ∙ c.iter-coupon-items.ensures) c.loop-coupon.yielded_by c.in-Some.ensures.steps in
     let is : c.match-has_shortly.has ≡ contains (coupons_of c.args.self.now) c.in-Some.coupon = elim c.match-has_shortly.branch [
       | in-Some-has_shortly w ↦ w.has-is ∙ w.in-Some-has_shortly.ensures
-      | in-None-has_shortly+in-Err w ↦ w.has-is ∙ w.contains.ensures
+      | in-None-has_shortly w ↦ w.has-is ∙ w.contains-has.ensures
+      | in-None-2+in-Err w ↦ w.has-is ∙ w.contains.ensures
     ] in
     count_more (coupons_of c.args.self.now) c.loop-coupon.yielded c.next.new.self c.in-Some.coupon c.loop-coupon.count _ c.match-has_shortly.has
     (subst (λ order. len (set_of order) ≡ length order) all c.table_is_legal.ensures.table.distinct) c.loop-coupon.invariant is (ap (λ n. c.loop-coupon.count + n) c.from-count.ensures)

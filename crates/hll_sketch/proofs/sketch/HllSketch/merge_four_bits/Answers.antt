@@ -10,4 +10,4 @@ use Rattle.hll_sketch.proofs.sketch.HllSketch.merge_four_bits.Goals as goal
 pub returns-in_err-registers-clause-needed : goal.returns-in_err-registers-clause-needed
 returns-in_err-registers-clause-needed g c =
     IfErr-passed (λ e. e ≡ Memory → ImageNeedsMemory (sketch_of c.args.self.now) c.args.image.now) c.from_residual.result c.in_err-registers.field-0.0 c.from_residual.ensures.1
-    (λ full. four_bits_need (sketch_of c.args.self.now) c.args.image.now c.requires.has c.requires.width (c.in_err-registers.ensures.err.asked full))
+    (λ full. four_bits_need (sketch_of c.args.self.now) c.args.image.now c.requires.has c.requires.width (c.in_err-registers.ensures.err.asked full) (c.in_err-registers.ensures.needed full))

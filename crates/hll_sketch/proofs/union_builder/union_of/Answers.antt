@@ -1,18 +1,20 @@
 -- SPDX-License-Identifier: Apache-2.0
-use Rattle.std.proofs.Common.{map, ap, subst, ◌∙◌, All}
+use Rattle.std.proofs.Common.{◌≡◌, map, ap, subst, sym, ◌∙◌, All}
 use Rattle.std.proofs.lemmas.List.{take_all}
 use Rattle.std.proofs.lemmas.List.Elements.{All-more}
+use Rattle.hll_base.specs.declared.error.Reason.TheVariants.{Argument, Memory}
+use Rattle.hll_base.proofs.Errors.{IfErr-passed}
 use Rattle.hll_sketch.specs.Layout.{sketch_of}
 use Rattle.hll_sketch.specs.Merging.{merge, merge_all, empty_union}
-use Rattle.hll_sketch.specs.Value.{Sketch, IsLegal}
+use Rattle.hll_sketch.specs.Value.{Sketch, IsLegal, IsLgK}
 use Rattle.hll_sketch.proofs.Joined.{joined_list}
 use Rattle.hll_sketch.proofs.Merges.{merged_more, lg_k-merge_all}
-use Rattle.hll_sketch.proofs.union.union_of.Goals as goal
+use Rattle.hll_sketch.proofs.union_builder.union_of.Goals as goal
 
 pub loop-sketch-preserved : goal.loop-sketch-preserved
 loop-sketch-preserved g c = (
-  c.in_ok-update.ensures.bound ∙ c.loop-sketch.invariant.0,
-  c.in_ok-update.ensures.ok
+  c.in_ok-builder.ensures.bound ∙ c.loop-sketch.invariant.0,
+  c.in_ok-builder.ensures.ok
       ∙ (λ i. merge (c.loop-sketch.invariant.0 i) (c.loop-sketch.invariant.1 i) (sketch_of (c.sketch-item.is i)))
       ∙ merged_more c.args.lg_max_k (empty_union c.args.lg_max_k) c.args.sketches.now c.loop-sketch.sketch-index c.sketch-item.result c.loop-sketch-test.true,
   All-more (λ x. IsLegal (sketch_of x)) c.args.sketches.now c.loop-sketch.sketch-index c.sketch-item.result c.loop-sketch-test.true c.loop-sketch.invariant.2
@@ -21,7 +23,8 @@ loop-sketch-preserved g c = (
 
 pub returns-clause-merged : goal.returns-clause-merged
 returns-clause-merged g c =
-    c.loop-sketch.invariant.1 ∙ ap (λ xs. merge_all c.args.lg_max_k (empty_union c.args.lg_max_k) (map sketch_of xs)) (take_all c.loop-sketch.sketch-index c.args.sketches.now c.loop-sketch-test.false)
+    c.in_ok-made.ensures.ok ∙ c.loop-sketch.invariant.1
+    ∙ ap (λ xs. merge_all c.args.lg_max_k (empty_union c.args.lg_max_k) (map sketch_of xs)) (take_all c.loop-sketch.sketch-index c.args.sketches.now c.loop-sketch-test.false)
 
 pub returns-clause-lg_k : goal.returns-clause-lg_k
 returns-clause-lg_k g c =
@@ -30,5 +33,14 @@ returns-clause-lg_k g c =
 
 pub returns-clause-grown : goal.returns-clause-grown
 returns-clause-grown g c = λ grown.
-    joined_list c.args.lg_max_k c.loop-sketch.union c.args.sketches.now c.loop-sketch.invariant.0 (returns-clause-merged g c) c.in_ok-union.ensures.lg_k.high
+    joined_list c.args.lg_max_k c.in_ok-made.made c.args.sketches.now (c.in_ok-made.ensures.bound ∙ c.loop-sketch.invariant.0) (returns-clause-merged g c) c.in_ok-union.ensures.lg_k.high
     (subst (All (λ x. IsLegal (sketch_of x))) (take_all c.loop-sketch.sketch-index c.args.sketches.now c.loop-sketch-test.false) c.loop-sketch.invariant.2) grown
+
+no_argument : Memory ≡ Argument → ⊥
+no_argument e = cc
+
+pub returns-in_err-builder-clause-outside : goal.returns-in_err-builder-clause-outside
+returns-in_err-builder-clause-outside g c =
+    let e = c.in_err-builder in
+    IfErr-passed (λ r. r ≡ Argument → IsLgK c.args.lg_max_k → ⊥) c.from_residual-in_err-builder.result e.field-0.0 c.from_residual-in_err-builder.ensures.1
+    (λ is legal. no_argument (sym e.ensures.err ∙ is))

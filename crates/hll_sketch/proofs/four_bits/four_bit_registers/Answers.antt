@@ -1,8 +1,9 @@
 -- SPDX-License-Identifier: Apache-2.0
-use Rattle.std.proofs.Common.{List, ℕ, drop, cond, refl, sym, ap, subst, ◌∙◌, inl, inr}
+use Rattle.std.proofs.Common.{◌≡◌, ◌≢◌, List, ℕ, drop, cond, refl, sym, ap, subst, ◌∙◌, inl, inr}
 use Rattle.std.proofs.lemmas.List.{take_rest}
 use Rattle.hll_base.proofs.Errors.{IfErr-passed}
-use Rattle.hll_registers.specs.Payload.{shape_of_hll4, FirstHll4Fault}
+use Rattle.hll_registers.specs.Payload.{exception_count, shape_of_hll4, FirstHll4Fault}
+use Rattle.hll_base.specs.declared.error.Reason.TheVariants.{Memory}
 use Rattle.hll_registers.specs.declared.aux_format.AuxFormat.{AuxFormat}
 use Rattle.hll_registers.specs.Store.{Stored}
 use Rattle.hll_sketch.specs.Image.{lg_k_byte, is_flagged, hll4_shape}
@@ -11,7 +12,7 @@ use Rattle.hll_sketch.specs.declared.header.Header.{Header}
 use Rattle.hll_sketch.proofs.FirstFailing.{four_first}
 use Rattle.hll_sketch.proofs.FourBitImages.{Given, shape_is, given_as, asked_as}
 use Rattle.hll_sketch.proofs.FrontImages.{first_as, read_as-four}
-use Rattle.hll_sketch.proofs.borrowed.four_bit_registers.Goals as goal
+use Rattle.hll_sketch.proofs.four_bits.four_bit_registers.Goals as goal
 
 pub returns-in_err-registers-clause-err : goal.returns-in_err-registers-clause-err
 returns-in_err-registers-clause-err g c =
@@ -29,6 +30,12 @@ returns-in_err-registers-clause-err g c =
       ];
       asked = λ full. asked_as b h _ _ c.requires.header c.requires.has c.requires.width (c.new.ensures ∙ take_rest b 8) c.from_header.ensures (c.in_err-registers.ensures.asked full);
     })
+
+pub returns-in_err-registers-clause-needed : goal.returns-in_err-registers-clause-needed
+returns-in_err-registers-clause-needed g c =
+    let b : List ℕ = c.args.bytes.now in
+    IfErr-passed (λ e. e ≡ Memory → exception_count (drop 8 b) ≢ 0) c.from_residual.result c.in_err-registers.field-0.0 c.from_residual.ensures.1
+    (λ full. subst (λ xs. exception_count xs ≢ 0) (c.new.ensures ∙ take_rest b 8) (c.in_err-registers.ensures.needed full))
 
 pub returns-clause-ok : goal.returns-clause-ok
 returns-clause-ok g c =
