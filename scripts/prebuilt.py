@@ -41,6 +41,7 @@ OTHER_COMPILER = OTHERS / "other-compiler.a"
 OTHER_TOOLCHAIN = OTHERS / "other-toolchain.s"
 OTHER_ARCHIVE = OTHERS / "other-toolchain.a"
 NEED = 4_000_000_000    # bytes of memory that one proof takes at most, with its jobs
+KEPT = " incremental=trusted"       # in the prover's last line: a library was proved over what an earlier check had kept
 # Takes the place of clang: compiles as asked, and where that gives an object file, writes the same code as assembler text too.
 CLANG = """#!/bin/sh
 '@CLANG@' "$@" || exit
@@ -176,9 +177,14 @@ def with_stable_labels(text):
     return LOCAL.sub(lambda it: it[1] + names.get(it[2], it[2]), text)
 
 
+def said_of(lines):
+    """Returns what VERDICT has of the prover's lines: the functions in C that the proof rests on, and the verdict, the same
+    whatever earlier checks had kept. The gate compares them with those of `rt ci`, which proves everything from nothing."""
+    return [line for line in lines if line.startswith("axioms ")] + [lines[-1].replace(KEPT, "")]
+
+
 def made(rtlib, text, jobs):
-    """Proves a text's crate for its processor and compiles it. Returns the text, and the prover's last lines: the functions in C
-    that the proof rests on, and the verdict."""
+    """Proves a text's crate for its processor and compiles it. Returns the text, and what VERDICT has of the prover's lines."""
     crate = rtlib.Crate(str(ROOT / "crates" / text.crate), str(ROOT), {}, name=None)
     words = [*crate.words(["--jobs", str(jobs)], keeps=False), "--target", text.target]
     with tempfile.TemporaryDirectory() as room:
@@ -195,7 +201,7 @@ def made(rtlib, text, jobs):
             OTHERS.mkdir(exist_ok=True)
             call(rtlib, text.crate, "build", *words, "--toolchain", str(pathlib.Path(rtlib.KIT, "toolchain")), "--backend", "rattle",
                  "-o", str(OTHER_COMPILER))
-        return with_stable_labels(kept.read_text()), [line for line in lines if line.startswith("axioms ")] + lines[-1:]
+        return with_stable_labels(kept.read_text()), said_of(lines)
 
 
 def kit():

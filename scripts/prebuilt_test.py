@@ -142,6 +142,14 @@ class PrebuiltTest(unittest.TestCase):
         self.change("crates/hll_c/src/a", "hll_c", "other")
         self.assertEqual(self.run_main(OTHER, None)[:2], (1, "0 passed, 1 failed"))
 
+    def test_proofs_that_an_earlier_check_kept(self):
+        anew = ["checking", "axioms libc: none reached of the 128 declared", "logic=proved functions=2 statements=trusted"]
+        kept = [*anew[:2], "logic=proved functions=2 statements=trusted incremental=trusted"]
+        self.assertEqual(prebuilt.said_of(anew), anew[1:])
+        self.assertEqual(prebuilt.said_of(kept), anew[1:])
+        other = [*anew[:2], "logic=proved functions=2 statements=trusted cache=trusted"]
+        self.assertEqual(prebuilt.said_of(other), other[1:])
+
     def test_no_text_yet(self):
         shutil.rmtree(self.root / "prebuilt")
         self.assertEqual(prebuilt.asked("state"), "stale")
