@@ -32,7 +32,7 @@ import time
 
 sys.dont_write_bytecode = True
 ROOT = pathlib.Path(__file__).resolve().parent.parent
-sys.path[:0] = [str(ROOT / "bindings" / "python"), str(ROOT / "bindings" / "postgresql" / "test")]
+sys.path[:0] = [str(ROOT / "bindings" / "python"), str(ROOT / "bindings" / "postgresql" / "tests")]
 from shared import machine  # noqa: E402
 
 LG_K, WORKERS, GROUPS, SEED, BATCH = 12, 3, 500, 9001, 1 << 18

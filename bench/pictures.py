@@ -41,7 +41,7 @@ LEGEND = (
 # and a line for each thing that is told.
 LAYERS = (
     (0, 2, 0, 3, PROVED, "Programs",
-        "hll_merge: a plan in,", "one image out", "hll_words: the words from", "which others estimate"),
+        "hll_merge: a plan in,", "one image out", "hll_estimator_fields: what", "others estimate from"),
     (0, 1, 3, 7, TESTED, "Python: hll_sketches", "the package, the command hll"),
     (0, 1, 7, 9, TESTED, "Dask", "a tree of tasks"),
     (0, 1, 9, 12, TESTED, "PostgreSQL, SQLite", "a type, aggregates"),
@@ -114,9 +114,9 @@ def union():
 # Of a sketch of 2^12 registers of eight bits: the stage, what it keeps at most, and how many bytes its image then has.
 STAGES = (
     ("list", "up to 7 coupons", "8 to 36 bytes"),
-    ("set of 2^5 places", "up to 24", "44 to 108 bytes"),
-    ("set of 2^6 to 2^8", "up to 192", "112 to 780 bytes"),
-    ("set of 2^9 places", "up to 384", "784 to 1,548 bytes"),
+    ("set, 2^5 buckets", "up to 24", "44 to 108 bytes"),
+    ("set, 2^6 to 2^8", "up to 192", "112 to 780 bytes"),
+    ("set, 2^9 buckets", "up to 384", "784 to 1,548 bytes"),
     ("registers", "any number", "4,136 bytes"),
 )
 

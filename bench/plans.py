@@ -2,9 +2,9 @@
 # SPDX-License-Identifier: Apache-2.0
 """Measures the program on whole plans, beside the least work on their text: time, instructions and memory.
 
-The floor is the small program hll_floor: it reads the same text in pieces, finds its lines, decodes the words of
+The baseline is the small program hll_baseline: it reads the same text in pieces, finds its lines, decodes the words of
 `image` lines by the same crate into one buffer, and reads the numbers of other lines. Each plan is written to a
-temporary file, and program and floor run on it in turn. Printed are the medians of their processor times, the median of
+temporary file, and program and baseline run on it in turn. Printed are the medians of their processor times, the median of
 the ratios of the pairs, the instructions that callgrind counts on a smaller plan of the same kind (where valgrind is
 installed) with their ratio, and the least address space that is enough, the program itself included. What the program
 prints is compared with a plain model. The random numbers are the same at each run. Without the programs' paths they
@@ -19,8 +19,11 @@ from dataclasses import dataclass
 from typing import Callable
 
 sys.dont_write_bytecode = True
-from shared import (built_floor, built_program, check_printed, coupon_line, has_callgrind, image_line, image_of, instructions,
-                    least_space, list_image, machine, medians, plan_file, run, set_image)
+sys.path.insert(0, str(pathlib.Path(__file__).resolve().parent.parent / "tests"))
+from built import built_program  # noqa: E402
+from plain_images import coupon_line, image_line, image_of, list_image, set_image  # noqa: E402
+from shared import (built_baseline, check_printed, has_callgrind, instructions, least_space, machine, medians, plan_file,  # noqa: E402
+                    run)
 
 SEED = 9001
 PAIRS = 11
@@ -137,14 +140,14 @@ ROWS = [
 
 
 def timed_pair(name, programs, path, image):
-    """The seconds of program and floor."""
+    """The seconds of program and baseline."""
     (printed, seconds), (_, least) = [run(program, path) for program in programs]
     check_printed(name, printed, image)
     return seconds, least
 
 
 def counted(row, programs):
-    """The instructions of program and floor on a smaller plan in millions, and their ratio."""
+    """The instructions of program and baseline on a smaller plan in millions, and their ratio."""
     with plan_file() as file:
         row.write(file, row.fewer)
         file.flush()
@@ -165,17 +168,17 @@ def measure(row, programs, pairs):
 def arguments():
     parser = argparse.ArgumentParser(description="Measures the program on whole plans.")
     parser.add_argument("program", nargs="?", type=pathlib.Path, help="the program hll_merge")
-    parser.add_argument("--floor", type=pathlib.Path, help="the program hll_floor")
+    parser.add_argument("--baseline", type=pathlib.Path, help="the program hll_baseline")
     parser.add_argument("--only", default="", metavar="WORDS", help="the rows whose names have these words")
-    parser.add_argument("--pairs", type=int, default=PAIRS, help="how often program and floor run")
+    parser.add_argument("--pairs", type=int, default=PAIRS, help="how often program and baseline run")
     return parser.parse_args()
 
 
 def main():
     given = arguments()
-    programs = [path.resolve() for path in (given.program or built_program(), given.floor or built_floor())]
+    programs = [path.resolve() for path in (given.program or built_program(), given.baseline or built_baseline())]
     print(machine())
-    print("%-46s %8s %8s %6s %9s %9s %6s %9s" % ("plan", "ms", "floor", "ratio", "mega-ins.", "floor", "ratio", "kilobytes"))
+    print("%-46s %8s %8s %6s %9s %9s %6s %9s" % ("plan", "ms", "baseline", "ratio", "mega-ins.", "baseline", "ratio", "kilobytes"))
     for row in ROWS:
         if given.only in row.name:
             measure(row, programs, given.pairs)

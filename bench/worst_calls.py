@@ -16,9 +16,12 @@ import time
 
 sys.dont_write_bytecode = True
 ROOT = pathlib.Path(__file__).resolve().parent.parent
-sys.path[:0] = [str(ROOT / "bindings" / "python"), str(ROOT / "bindings" / "postgresql" / "test")]
-from shared import built_program, image_line, list_image, machine, plan_file, run, set_image  # noqa: E402
-from worst_cases import exceptions_plan, path_coupons, random_coupons, set_plan, strides_plan, unsorted_set  # noqa: E402
+sys.path[:0] = [str(ROOT / folder) for folder in ("bindings/python", "bindings/postgresql/tests", "tests")]
+from built import built_program  # noqa: E402
+from long_searches import path_coupons, random_coupons, unsorted_set  # noqa: E402
+from plain_images import image_line, list_image, set_image  # noqa: E402
+from shared import machine, plan_file, run  # noqa: E402
+from worst_cases import exceptions_plan, set_plan, strides_plan  # noqa: E402
 
 
 def sparse_plan(is_path):

@@ -4,7 +4,7 @@
 
 The paths of a table are part of the format (docs/FORMAT.md, "Probing"), so whoever writes an image can choose coupons
 that all search the same places. Tables are filled to three quarters, the most that updates leave. Each row is a plan: one
-image, and lines behind it that search its table again. Printed are the seconds of processor time of both plans and their
+image, and lines after it that search its table again. Printed are the seconds of processor time of both plans and their
 ratio; what the program prints is compared with the image that it has to be.
 
 A second table has the seconds and the least address space, the program itself included, of plans that make much of few
@@ -12,21 +12,19 @@ bytes. Without the program's path it is built if need be.
 """
 import argparse
 import pathlib
-import random
 import statistics
-import struct
 import sys
 from dataclasses import dataclass
 from typing import Callable
 
 sys.dont_write_bytecode = True
-from shared import (built_program, check_printed, coupon_line, image_line, image_of, least_space, machine, plan_file, run,
-                    set_image)
+sys.path.insert(0, str(pathlib.Path(__file__).resolve().parent.parent / "tests"))
+from built import built_program  # noqa: E402
+from long_searches import (KINDS, SLOTS, path_coupons, path_slots, random_coupons, random_slots, registers_with,  # noqa: E402
+                           stride_coupons, unsorted_set)
+from plain_images import coupon_line, image_line, image_of, set_image  # noqa: E402
+from shared import check_printed, least_space, machine, plan_file, run  # noqa: E402
 
-SEED = 9001
-SLOTS = 1 << 26
-# How many coupons have one start place and one stride: those of each value, and of two slots.
-KINDS = 126
 LINES = 4
 
 
@@ -35,71 +33,6 @@ class Row:
     """Two plans: `text` gives the one over coupons on one path or over random ones, and the image that is printed."""
     name: str
     text: Callable
-
-
-# ---- coupons
-
-
-def filled(lg_size):
-    """Three quarters of the places of a table."""
-    return 3 << lg_size >> 2
-
-
-def path_coupons(lg_size):
-    """Coupons on one path of a table that is searched by raw word: the start places follow one another by the stride."""
-    stride = (SLOTS - 1) >> lg_size
-    places = 1 << lg_size
-    coupons = []
-    for number in range(filled(lg_size)):
-        step, kind = divmod(number, KINDS)
-        high = stride - kind % 2
-        coupons.append((kind // 2 + 1) * SLOTS + (high << lg_size) + step * stride % places)
-    return coupons
-
-
-def stride_coupons(lg_size):
-    """Coupons that fill all places of a table but one, on one path of each stride, in turn."""
-    strides = [2 * number + 1 for number in range(1 << (25 - lg_size))]
-    places = 1 << lg_size
-    coupons = []
-    for number in range(places - 1):
-        on_path, which = divmod(number, len(strides))
-        step, kind = divmod(on_path, KINDS)
-        high = strides[which] - kind % 2
-        coupons.append((kind // 2 + 1) * SLOTS + (high << lg_size) + step * strides[which] % places)
-    return coupons
-
-
-def unsorted_set(lg_size, coupons):
-    """The image of a set whose coupons stand in this order."""
-    words = struct.pack("<%dI" % (len(coupons) + 1), len(coupons), *coupons)
-    return bytes([3, 1, 7, lg_size + 3, lg_size, 8, 0, 9]) + words
-
-
-def random_coupons(lg_size, count=0):
-    numbers = random.Random(SEED)
-    coupons = set()
-    while len(coupons) < (count or filled(lg_size)):
-        coupons.add(numbers.randint(1, 63) * SLOTS + numbers.randrange(SLOTS))
-    return list(coupons)
-
-
-def path_slots(lg_k):
-    """Slots on one path of the table of exceptions of half as many places as there are registers."""
-    half = 1 << (lg_k - 1)
-    return [place + side for place in range(filled(lg_k - 1) // 2) for side in (0, half)]
-
-
-def random_slots(lg_k):
-    return random.Random(SEED).sample(range(1 << lg_k), filled(lg_k - 1))
-
-
-def registers_with(lg_k, slots, value, others=0):
-    """Registers of one value at these slots, and of another elsewhere."""
-    registers = bytearray([others]) * (1 << lg_k)
-    for slot in slots:
-        registers[slot] = value
-    return registers
 
 
 # ---- plans
@@ -149,7 +82,7 @@ def exceptions_plan(lg_k, is_path):
 
 
 def lowered_plan(lg_k, is_path):
-    """The same above a minimum that is lower than they are, so that they are packed anew."""
+    """The same above a minimum that is lower than they are, so that they are packed again."""
     registers = registers_with(lg_k, slots_of(lg_k, is_path), 40, 1)
     return image_line(image_of(lg_k, 4, registers, 0)), image_of(lg_k, 4, registers)
 

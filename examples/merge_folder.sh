@@ -5,7 +5,7 @@
 #     examples/merge_folder.sh FOLDER [BOUND [WIDTH [FILES]]] > merged.bin
 #
 # Each group of FILES files (500) becomes one plan, with a union of bound BOUND (12) and WIDTH (8) bits; as many plans run
-# at a time as there are processors. What they print is the `image` lines of the last plan, whose image gets the words from
+# at a time as there are processors. What they print is the `image` lines of the last plan, whose image gets the fields from
 # which other libraries estimate. docs/OPERATING.md says why the groups make no difference. Where a file is no sketch, it says
 # `FILE: ` and why on standard error, for one file of each group; then nothing is written and the status is 1. Needs sh,
 # find, sort, xargs, od and xxd.
@@ -21,8 +21,8 @@ WIDTH=${3:-8}
 files=${4:-500}
 root=$(CDPATH='' cd -- "$(dirname -- "$0")/.." && pwd -P)
 # those of a checkout, once make has built them, or installed ones
-MERGE=$(command -v "$root/bin/hll_merge" || command -v hll_merge) && WORDS=$(command -v "$root/bin/hll_words" || command -v hll_words) || {
-    echo "merge_folder.sh: no hll_merge or hll_words: run make in $root, or install hll-sketches" >&2
+MERGE=$(command -v "$root/bin/hll_merge" || command -v hll_merge) && WORDS=$(command -v "$root/bin/hll_estimator_fields" || command -v hll_estimator_fields) || {
+    echo "merge_folder.sh: no hll_merge or hll_estimator_fields: run make in $root, or install hll-sketches" >&2
     exit 2
 }
 WORK=$(mktemp -d)

@@ -22,17 +22,17 @@ done
 [ "$(wc -w <said)" -eq 2 ]
 echo 'ok: the lines of INSTALL.md'
 
-for name in hll hll_merge hll_words; do
+for name in hll hll_merge hll_estimator_fields; do
     [ "$($name --version | cut -d' ' -f1)" = $name ]
 done
 [ "$(hll --version | cut -d' ' -f2)" = "$(hll_merge --version | cut -d' ' -f2)" ]
 ! hll_merge --other 2>said && [ "$(wc -l <said)" -eq 1 ]
 echo 'ok: versions of the commands'
 
-[ "$(printf 'new 10 8\ncoupon 5 3\n' | hll_merge | hll_words)" = 0201070a030801080500000c ]
+[ "$(printf 'new 10 8\ncoupon 5 3\n' | hll_merge | hll_estimator_fields)" = 0201070a030801080500000c ]
 echo 'ok: a plan'
 
-for name in hll hll_merge hll_words; do
+for name in hll hll_merge hll_estimator_fields; do
     man $name | grep -q '^NAME'
 done
 echo 'ok: manual pages'

@@ -55,7 +55,7 @@ def texts_in(package):
     if package.suffix == ".whl":
         return [re.search("x86_64|aarch64", package.name)[0] + "/libhll_c.s"]
     if package.name.startswith("hll-sketches_"):
-        return ["x86_64/hll_merge.s", "x86_64/hll_words.s"]
+        return ["x86_64/hll_merge.s", "x86_64/hll_estimator_fields.s"]
     return [] if package.name.endswith("_all.deb") else ["x86_64/libhll_c.s"]
 
 
@@ -66,7 +66,7 @@ def contents(package):
     for path in texts:
         checksums = [{"algorithm": "SHA256", "checksumValue": verdict.files[path]}]
         yield part("prebuilt-" + path.replace("/", "-"), verdict.sources[:12], checksums=checksums, comment="proved: " + verdict.said[path][-1])
-    others = [RUNTIME] * bool(texts) + [HEX] * any("hll_merge" in path or "hll_words" in path for path in texts)
+    others = [RUNTIME] * bool(texts) + [HEX] * any("hll_merge" in path or "hll_estimator_fields" in path for path in texts)
     yield from (part(name, version, licence, comment=comment) for name, version, licence, comment in others)
 
 

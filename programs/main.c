@@ -1,6 +1,6 @@
 /* SPDX-License-Identifier: Apache-2.0 */
 /*
- * The start of the programs hll_merge and hll_words. It handles the arguments --version and --help, and leaves everything
+ * The start of the programs hll_merge and hll_estimator_fields. It handles the arguments --version and --help, and leaves everything
  * else to the proved program, which reads standard input and writes standard output. Plain C, not proved.
  */
 #include <errno.h>

@@ -10,7 +10,7 @@ names     Files and sections that a page or a source names are there; names in b
           README.md tells of speed is in docs/NUMBERS.md.
 words     README.md has at most 1,000 words.
 commands  The blocks of README.md run as they are, in a folder without a reader's files, and print what a line `#> ..` after
-          them says; so do commands of docs/PLAN.md and docs/OPERATING.md, by bench/scale.py where they need an engine.
+          them says; so do commands of docs/PLAN.md and docs/OPERATING.md, by tests/scale.py where they need an engine.
 plans     The plans of docs/FAULTS.md have the answers told there.
 
 Commands and plans need the programs in bin/ (make -C programs); commands build the library where it is not up to date.
@@ -63,7 +63,7 @@ def pages():
 
 def named_files(text):
     """Paths that a page names: those in one of the project's folders, and pages."""
-    folders = r"(?:docs|bindings|bench|crates|debian|examples|man|mutants|packaging|prebuilt|programs|scripts)"
+    folders = r"(?:docs|bindings|bench|crates|debian|examples|man|mutants|packaging|prebuilt|programs|scripts|surface|tests)"
     for match in re.finditer(rf"(?<![\w./-])({folders}/[\w./-]*\w/?)", text):
         yield match.group(1)
     for match in re.finditer(r"\]\(([^)#:]+)\)", text):
@@ -466,8 +466,8 @@ def run_page(name, begin="", before=""):
 
 
 def run_scale():
-    """Whether each command of docs/OPERATING.md does what it should: those for engines by bench/scale.py, on few files."""
-    ran = subprocess.run([sys.executable, ROOT / "bench" / "scale.py", "60"], capture_output=True, text=True)
+    """Whether each command of docs/OPERATING.md does what it should: those for engines by tests/scale.py, on few files."""
+    ran = subprocess.run([sys.executable, ROOT / "tests" / "scale.py", "60"], capture_output=True, text=True)
     counts = re.search(r"^(\d+) passed, (\d+) failed$", ran.stdout, re.M)
     passed, failed = map(int, counts.groups()) if counts else (0, 1)
     if ran.returncode or failed:

@@ -21,7 +21,7 @@ crates() {
             uses[head[1]] = substr($0, colon + 1)
         }
         END {
-            count = split("hll_c hll_program hll_words_program", found, " ")
+            count = split("hll_c hll_program hll_estimator_fields_program", found, " ")
             for (i = 1; i <= count; i++) {
                 if (seen[found[i]]++ || !(found[i] in uses)) continue
                 print found[i]

@@ -16,6 +16,7 @@ import unittest.mock
 sys.dont_write_bytecode = True
 sys.path.insert(0, str(pathlib.Path(__file__).resolve().parent))
 import prebuilt  # noqa: E402
+import unit_tests  # noqa: E402
 
 SCRIPT = prebuilt.ROOT / "scripts" / "prebuilt.sh"
 OWN, OTHER = "kit-1 logic a", "kit-2 logic a"
@@ -81,11 +82,11 @@ class PrebuiltTest(unittest.TestCase):
         self.assertEqual(self.run_main(OWN, "1", ci="true")[:2], (0, "%d passed, 0 failed" % (len(PATHS) + 1)))
 
     def test_a_changed_text(self):
-        self.change("prebuilt/x86_64/hll_words.s", "hll_words", "hll_worts")
+        self.change("prebuilt/x86_64/hll_estimator_fields.s", "hll_estimator_fields", "hll_worts")
         self.assertEqual(prebuilt.asked("state"), "damaged")
         status, last, said = self.run_main(OWN, "1")
         self.assertEqual((status, last), (1, "%d passed, 1 failed" % len(PATHS)))
-        self.assertIn("failed: prebuilt/x86_64/hll_words.s", said)
+        self.assertIn("failed: prebuilt/x86_64/hll_estimator_fields.s", said)
 
     def test_a_changed_text_whose_checksums_were_changed_too(self):
         prebuilt.write(self.verdict(OWN, "2"), texts_of("2"))
@@ -127,7 +128,7 @@ class PrebuiltTest(unittest.TestCase):
         self.assertEqual((status, last), (0, "1 passed, 0 failed"))
         self.assertIn("not compared: prebuilt/ was made by kit-1", said)
         self.assertEqual((self.others / "other-toolchain.s").read_text(), texts_of("2")["x86_64/libhll_c.s"])
-        self.change("prebuilt/x86_64/hll_words.s", "hll_words", "hll_worts")
+        self.change("prebuilt/x86_64/hll_estimator_fields.s", "hll_estimator_fields", "hll_worts")
         self.assertEqual(self.run_main(OTHER, "2")[0], 1)
 
     def test_another_toolchain_with_the_same_text(self):
@@ -157,7 +158,7 @@ class PrebuiltTest(unittest.TestCase):
         self.assertEqual(prebuilt.asked("state"), "fresh")
 
     def test_write(self):
-        self.change("prebuilt/x86_64/hll_words.s", "hll_words", "hll_worts")
+        self.change("prebuilt/x86_64/hll_estimator_fields.s", "hll_estimator_fields", "hll_worts")
         self.assertEqual(self.run_main(OWN, "1", "--write")[0], 0)
         self.assertEqual(prebuilt.asked("state"), "fresh")
 
@@ -178,12 +179,5 @@ class LabelTest(unittest.TestCase):
             self.of("a", "b")
 
 
-def main():
-    ran = unittest.main(module=__name__, exit=False, argv=[sys.argv[0]], testRunner=unittest.TextTestRunner(stream=sys.stdout)).result
-    failed = len(ran.failures) + len(ran.errors)
-    print("%d passed, %d failed" % (ran.testsRun - failed, failed))
-    return failed != 0 or ran.testsRun == 0
-
-
 if __name__ == "__main__":
-    sys.exit(main())
+    sys.exit(unit_tests.run(__name__))

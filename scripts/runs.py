@@ -1,18 +1,23 @@
 #!/usr/bin/env python3
 # SPDX-License-Identifier: Apache-2.0
-"""Runs both programs in bin/, hll_merge and hll_words, on texts that they accept and refuse, and compares what they print
-on either stream and their status. Prints 'N passed, M failed' at the end.
+"""Runs both programs in bin/, hll_merge and hll_estimator_fields, on texts that they accept and refuse, and hll_merge on each plan of the
+worked rows and the walks (tests/rows.py). Compares what they print on either stream and their status. Prints 'N passed, M
+failed' at the end.
 
 A refused run prints one line on standard error and nothing for the refused line on standard output, and ends with 1. The same
-runs are made with the programs for 64-bit ARM, in an emulator, where a cross compiler and qemu are here.
+runs are made with the programs for 64-bit ARM, in an emulator, where a cross compiler and qemu are here, but for those of rows.
 """
 import os
 import pathlib
 import shutil
 import subprocess
 import sys
+from concurrent.futures import ThreadPoolExecutor
 
+sys.dont_write_bytecode = True
 ROOT = pathlib.Path(__file__).resolve().parent.parent
+sys.path.insert(0, str(ROOT / "tests"))
+from rows import TEXTS, rows_in  # noqa: E402
 
 ONE = b"0201070a030801080500000c"
 # registers at lg_k 4, fourteen of them 0 and two 25 and 30: without words, and with kxq0 = 14 + 2^-25 + 2^-30
@@ -26,17 +31,17 @@ RUNS = [
     ("hll_merge", b"image " + ONE[:-2] + b"\n", b"", b"line 1: image truncated\n", 1),
     ("hll_merge", b"new 10 8\nnew 10 8\n", b"", b"line 2: stack\n", 1),
     ("hll_merge", b"", b"", b"line 0: stack\n", 1),
-    ("hll_words", ONE + b"\n" + PLAIN + b"\n", ONE + b"\n" + WORDS + b"\n", b"", 0),
-    ("hll_words", b"", b"", b"", 0),
-    ("hll_words", b"0g\n", b"", b"line 1: hex\n", 1),
-    ("hll_words", ONE[:-2] + b"\n" + ONE + b"\n", b"", b"line 1: image truncated\n", 1),
-    ("hll_words", PLAIN + b"\n0201080a030c0008\n", WORDS + b"\n", b"line 2: image family\n", 1),
+    ("hll_estimator_fields", ONE + b"\n" + PLAIN + b"\n", ONE + b"\n" + WORDS + b"\n", b"", 0),
+    ("hll_estimator_fields", b"", b"", b"", 0),
+    ("hll_estimator_fields", b"0g\n", b"", b"line 1: hex\n", 1),
+    ("hll_estimator_fields", ONE[:-2] + b"\n" + ONE + b"\n", b"", b"line 1: image truncated\n", 1),
+    ("hll_estimator_fields", PLAIN + b"\n0201080a030c0008\n", WORDS + b"\n", b"line 2: image family\n", 1),
 ]
 
 # the same where standard output has no room: then it is not looked at
 FULL = [
     ("hll_merge", b"new 10 8\ncoupon 5 3\n", b"line 2: write\n", 1),
-    ("hll_words", ONE + b"\n", b"line 1: write\n", 1),
+    ("hll_estimator_fields", ONE + b"\n", b"line 1: write\n", 1),
 ]
 
 
@@ -56,6 +61,14 @@ def faults_of(words, folder):
             yield program, given, differs([*words, str(folder / program)], given, (b"", err, status), full)
 
 
+def fault_of_row(row):
+    """Runs hll_merge on the plan of a row; the fault, with None for a right run."""
+    plan, mark, answer = row
+    line = answer.encode() + b"\n"
+    wanted = (b"", line, 1) if mark == "!" else (line, b"", 0)
+    return "hll_merge", plan, differs([str(ROOT / "bin" / "hll_merge")], plan, wanted, subprocess.PIPE)
+
+
 def built_for_arm():
     """How programs for 64-bit ARM are run here, and their folder; None where they can't be built or run."""
     target = "aarch64-unknown-linux-gnu"
@@ -67,6 +80,8 @@ def built_for_arm():
 
 def main():
     faults = list(faults_of([], ROOT / "bin"))
+    with ThreadPoolExecutor(os.cpu_count()) as pool:
+        faults += pool.map(fault_of_row, (row for path in TEXTS for row in rows_in(path)))
     arm = built_for_arm()
     if arm:
         faults += faults_of(*arm)

@@ -1,6 +1,6 @@
 #!/usr/bin/env python3
 # SPDX-License-Identifier: Apache-2.0
-"""Ranks the functions of a crate by what `rt check` keeps of them: where a proof is dear, without a run.
+"""Ranks the functions of a crate by what `rt check` keeps of them: where a proof is expensive, without a run.
 
     scripts/sizes.py CRATE [COUNT]
 

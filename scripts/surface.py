@@ -7,10 +7,10 @@
 
 A text has each public name of its crate with its signature and its clauses, and then the definitions of the crate's specs/
 that clauses of any crate name, or that such definitions name in turn. So a name that moves, a clause that weakens and a
-definition that changes is seen in one diff. Two lists beside them are kept by hand, and every line of them is tried:
+definition that changes is seen in one diff. Two lists are kept by hand, and every line of them is tried:
 
-    surface/inner.txt     modules and names that are public for crates of this repository alone, and these crates
-    surface/memory.txt    each name that may answer want of memory, and the test that refuses it memory; `none` and why
+    surface/lists/inner.txt     modules and names that are public for crates of this repository alone, and these crates
+    surface/lists/memory.txt    each name that may answer want of memory, and the test that refuses it memory; `none` and why
 """
 import difflib
 import pathlib
@@ -19,6 +19,7 @@ import sys
 
 ROOT = pathlib.Path(__file__).resolve().parent.parent
 SURFACE = ROOT / "surface"
+LISTS = SURFACE / "lists"
 
 # Crates that only measure or test.
 OTHERS = re.compile(r"hll_(bench|fakes|floor|vectors)|.*_tests")
@@ -392,7 +393,7 @@ class Cited:
 def listed(file):
     """The lines 'NAME: WORDS' of a list."""
     found = {}
-    for line in (SURFACE / file).read_text().splitlines():
+    for line in (LISTS / file).read_text().splitlines():
         if line and not line.startswith("#"):
             name, _, words = line.partition(": ")
             if name in found:

@@ -19,7 +19,7 @@ CALL = r"(?:hll_status|uint32_t) (hll_\w+)\("
 def first_clause(comment):
     """What a comment says first, up to what explains it."""
     text = " ".join(comment.replace("\n *", " ").split())
-    return re.split(r"[.:;](?: |$)|, told by", text)[0]
+    return re.split(r"[.:;](?: |$)|, (?:told|delimited) by", text)[0]
 
 
 def calls_of_header():

@@ -19,11 +19,12 @@ import tempfile
 
 ROOT = pathlib.Path(__file__).resolve().parent.parent
 sys.dont_write_bytecode = True
-sys.path.insert(0, str(ROOT / "scripts"))
+sys.path[:0] = [str(ROOT / "scripts"), str(ROOT / "tests")]
 import prebuilt  # noqa: E402
+from rows import TEXTS  # noqa: E402
 
 C = ROOT / "bindings" / "c"
-OWN = ("estimate", "unwanted", "heap")
+OWN = ("estimate", "optional", "heap")
 TEXT = "%s/libhll_c.s" % os.uname().machine
 
 
@@ -43,8 +44,8 @@ def built(place):
 
 def answers_on_rows(build):
     """How many test vectors a library runs, and how many of their checks fail."""
-    run("cc", "-std=c99", "-O1", "-w", "-I%s" % C, "-o", build / "rows", C / "test" / "rows.c", build / "libhll.a", "-pthread", cwd=build)
-    ran = subprocess.run([str(build / "rows"), str(ROOT / "crates/hll_vectors/stdin")], stdout=subprocess.PIPE, text=True)
+    run("cc", "-std=c99", "-O1", "-w", "-I%s" % C, "-o", build / "rows", C / "tests" / "rows.c", build / "libhll.a", "-pthread", cwd=build)
+    ran = subprocess.run([build / "rows", *TEXTS], stdout=subprocess.PIPE, text=True)
     found = re.search(r"^(\d+) rows were run.*(?:\n.*)*: \d+ passed, (\d+) failed$", ran.stdout, re.M)
     return tuple(map(int, found.groups())) if found else (0, 1)
 
@@ -104,7 +105,7 @@ def rows_on_library(build):
     yield "code of libhll.so", "%d bytes, of which %.1f %% are proved" % (whole, 100 * found["proved.o"] / whole)
     yield "only tested", ", ".join("%s.c %d bytes" % (name, found[name + ".o"]) for name in OWN) + ", others %d" % found["rest"]
     direct, handed, own = calls(build)
-    yield "proved calls", "%d; and %d through unwanted.c, where NULL is allowed" % (len(direct), len(handed))
+    yield "proved calls", "%d; and %d through optional.c, where NULL is allowed" % (len(direct), len(handed))
     yield "calls that are only tested", ", ".join("`%s`" % name for name in own)
     yield "around it, only tested", "Python, PostgreSQL, SQLite, Dask: bindings/"
 

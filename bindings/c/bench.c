@@ -49,7 +49,7 @@ static void run_join(void)
     size_t i;
     memset(registers, 0, sizeof registers);
     for (i = 0; i < IMAGES; i++)
-        need(hll_registers_join(registers, sizeof registers, parts[i].bytes, parts[i].len, &lg_k));
+        need(hll_registers_merge(registers, sizeof registers, parts[i].bytes, parts[i].len, &lg_k));
     need(hll_registers_image(registers, sizeof registers, width, out, sizeof out, &size));
 }
 
@@ -215,14 +215,20 @@ static size_t make_image(uint8_t *to, uint64_t from, int thousands)
     return made;
 }
 
-/* A thousand images, each of twenty thousand values of its own. */
-static void make_joined(void)
+/* Allocates the memory of a thousand images. */
+static void start_joined(void)
 {
-    size_t i;
     joined_len = 0;
     joined = malloc(IMAGES * sizeof out);
     if (joined == NULL)
         need(HLL_MEMORY);
+}
+
+/* A thousand images, each of twenty thousand values of its own. */
+static void make_joined(void)
+{
+    size_t i;
+    start_joined();
     for (i = 0; i < IMAGES; i++) {
         parts[i].bytes = joined + joined_len;
         parts[i].len = make_image(joined + joined_len, i * 20000, 20);
@@ -296,7 +302,7 @@ static void run_set_joins(void)
     size_t i;
     memset(registers, 0, sizeof registers);
     for (i = 0; i < sets_of_union; i++)
-        need(hll_registers_join(registers, sizeof registers, joined + (i == 0 ? 0 : ends[i - 1]),
+        need(hll_registers_merge(registers, sizeof registers, joined + (i == 0 ? 0 : ends[i - 1]),
                                 ends[i] - (i == 0 ? 0 : ends[i - 1]), &lg_k));
 }
 
@@ -324,9 +330,7 @@ static void print_sets(void)
     double united[ORDERS], into_registers[ORDERS];
     int order;
     width = 8;
-    joined = malloc(IMAGES * sizeof out);
-    if (joined == NULL)
-        need(HLL_MEMORY);
+    start_joined();
     for (order = 0; order < ORDERS; order++) {
         united[order] = time_sets(run_sets, order);
         into_registers[order] = time_sets(run_set_joins, order);

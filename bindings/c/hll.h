@@ -4,7 +4,7 @@
  *
  * The calls keep nothing. Each takes images (or values) as bytes, and what it makes is an image again, which it puts
  * into the caller's buffer. So an image is the sketch: keep it in memory, in a file, in a column of a table. A program
- * that adds or joins many, one at a time, keeps registers instead, 2^lg_k bytes of its own ("registers of the caller").
+ * that adds or merges many, one at a time, keeps registers instead, 2^lg_k bytes of its own ("registers of the caller").
  *
  *     uint8_t empty[HLL_IMAGE_MAX(12)], image[HLL_IMAGE_MAX(12)];
  *     size_t empty_size, size, end = 5;
@@ -17,10 +17,10 @@
  * of coupons: a coupon is what is kept of a value, a slot below 2^26 and a number from 1 to 63. The width changes the
  * size of an image, and nothing else that it says.
  *
- * An image is grown where its list or set has the table that its coupons need (a list up to seven, a set the least
- * table that they fill to at most three quarters), or where its registers have the out-of-order flag and words that
- * follow from them: those that calls set here, or 0. New images are grown, and what calls make of grown images is too.
- * Images of other programs often aren't. (docs/MODEL.md calls registers grown only where their words are 0.)
+ * An image is canonical where its list or set has the table that its coupons need (a list up to seven, a set the least
+ * table that they fill to at most three quarters), or where its registers have the out-of-order flag and estimator
+ * fields that follow from them: those that calls set here, or 0. New images are canonical, and what calls make of
+ * canonical images is too. Images of other programs often aren't.
  *
  * Answers
  *     HLL_OK (0) where the call did what was asked. On every other status the output is as it was: the buffer, *info,
@@ -31,7 +31,7 @@
  *     lg_k of the image, and an image without a HIP estimate, are found once that is read.
  *     HLL_MEMORY: malloc answered NULL. The same call can be made again.
  *     HLL_BUFFER: the buffer is too small; *size is the number of bytes that are needed.
- *     HLL_FEWER: what is to be joined has fewer registers; *lg_k is that of what has them.
+ *     HLL_FEWER: what is to be merged has fewer registers; *lg_k is that of what has them.
  *
  * Arguments
  *     lg_k, lg_max_k   4 to 21: the logarithm of the number of registers.
@@ -40,12 +40,12 @@
  *                      checked whole, so the bytes may come from anywhere. (An image can be made to be slow: a set of
  *                      a megabyte takes about a second, and a union of it twice up to three. A call can't be
  *                      stopped. So ask hll_is_small of a stranger's image before a call. docs/OPERATING.md)
- *     out, room, size  a buffer of room bytes, and where the size of the image is put. The bytes behind the image
+ *     out, room, size  a buffer of room bytes, and where the size of the image is put. The bytes after the image
  *                      stay as they were. HLL_IMAGE_MAX(lg_k) bytes are enough for each answer of that lg_k or less.
  *     ends, n          of n byte strings that stand one after another in the bytes before this argument: string i
  *                      goes from ends[i - 1] (from 0 for the first) to ends[i]. Ends ascend. Two may be the same:
  *                      an empty string is a string like any other. Ends that descend, or go past the bytes, are
- *                      HLL_ARGUMENT. Bytes behind the last end are not looked at.
+ *                      HLL_ARGUMENT. Bytes after the last end are not looked at.
  *     registers, count the caller's registers, a byte for each, and how many: 2^lg_k, 16 to 2^21. Any other count is
  *                      HLL_ARGUMENT.
  *     failed           where images are refused (1 to 11), the number of the first one that is, from 0; else it is
@@ -54,12 +54,12 @@
  * What is written has its coupons in ascending order, so the same sketch has the same bytes, but for sets in tables of
  * two sizes.
  *
- * Registers are written with the words from which other DataSketches libraries estimate, and the out-of-order flag, where
- * a call has changed a register, or they had words of 0 with the flag. These words follow from the registers, so the same
- * registers have the same bytes. Other words that an image brings stay where no register changes: at another width, in a
- * fold to its own lg_k, in a union of it alone or with empty ones, and where no added value is new.
- * hll_image_clear_estimator_words gives words of 0, as the program hll_merge writes them; from
- * those the formula of other libraries, a division by kxq0 + kxq1, gives infinity.
+ * Registers are written with the estimator fields, the three from which other DataSketches libraries estimate, and the
+ * out-of-order flag, where a call has changed a register, or these fields were 0 with the flag. They follow from the
+ * registers, so the same registers have the same bytes. Other estimator fields that an image brings stay where no register
+ * changes: at another width, in a fold to its own lg_k, in a union of it alone or with empty ones, and where no added value
+ * is new. hll_image_clear_estimator_fields sets them to 0, as the program hll_merge writes them; from those the formula of
+ * other libraries, a division by kxq0 + kxq1, gives infinity.
  *
  * What the caller owes, which no call can test
  *     - A pointer leads to as many bytes (or elements) as its length says; where that is 0 it may be NULL. No other is
@@ -82,11 +82,11 @@
  * What is proved
  *     Of the calls from hll_image_info to hll_coupons it is proved what they answer, write and leave as it was, for
  *     all inputs of a caller who keeps to the above; and that registers that are not all 0, into which an image is
- *     joined, written as an image, are the union of theirs with it, its words set. That order, repetition and grouping
- *     of grown images under one lg_max_k make no difference follows from laws that are proved of sketches; no clause of
- *     a call says it. Not proved is what is said of time, of threads, of NULL, of other libraries, and of memory, but for
- *     which images may be refused for want of it. Estimates, hll_version and what this header defines itself are plain
- *     C, tested and not proved.
+ *     merged, written as an image, are the union of theirs with it, its estimator fields set. That order, repetition and
+ *     grouping of canonical images under one lg_max_k make no difference follows from laws that are proved of sketches;
+ *     no clause of a call says it. Not proved is what is said of time, of threads, of NULL, of other libraries, and of
+ *     memory, but for which images may be refused for want of it. Estimates, hll_version and what this header defines
+ *     itself are plain C, tested and not proved.
  */
 #ifndef HLL_H
 #define HLL_H
@@ -116,14 +116,14 @@ enum {
     HLL_STAGE = 6,          /* the stage bits are 3 */
     HLL_PREAMBLE = 7,       /* the preamble words don't fit the stage */
     HLL_LG_ARR = 8,         /* the size of a table is outside its range */
-    HLL_COUNT = 9,          /* a count is above its bound, or not that of the filled places */
+    HLL_COUNT = 9,          /* a count is above its bound, or not that of the filled buckets */
     HLL_COUPON = 10,        /* a coupon of value 0 where one is needed, or a coupon twice */
     HLL_REGISTER = 11,      /* a register above 63, or nibbles and exceptions that don't agree */
     /* The call is refused. */
     HLL_ARGUMENT = 12,      /* an argument is out of its range */
     HLL_MEMORY = 13,        /* malloc answered NULL */
     HLL_BUFFER = 14,        /* the buffer is too small; *size is the size needed */
-    HLL_FEWER = 15          /* what is to be joined has fewer registers; *lg_k is its own */
+    HLL_FEWER = 15          /* what is to be merged has fewer registers; *lg_k is its own */
 };
 
 /* The stage of a sketch. */
@@ -133,7 +133,7 @@ enum { HLL_LIST = 0, HLL_SET = 1, HLL_REGISTERS = 2 };
  * register, and four for each exception of four bits. */
 #define HLL_IMAGE_MAX(lg_k) ((size_t)40 + ((size_t)5 << (lg_k)))
 
-/* The raw word of a coupon is its value * 2^26 + its slot. */
+/* A raw coupon, a coupon as 32 bits, is the coupon's value * 2^26 + its slot. */
 #define HLL_COUPON_SLOT(coupon) ((uint32_t)(coupon) & UINT32_C(0x3ffffff))
 #define HLL_COUPON_VALUE(coupon) ((uint8_t)((uint32_t)(coupon) >> 26))
 
@@ -143,7 +143,7 @@ typedef struct hll_info {
     uint64_t zeros;         /* of registers: how many are 0 */
     uint64_t units_high;    /* of registers: the sum of 2^(63 - register), a number of 128 bits: its upper half */
     uint64_t units_low;     /* and its lower half */
-    uint64_t hip;           /* of registers: the three words from which others estimate, as bits of binary64 */
+    uint64_t hip;           /* of registers: the three estimator fields, as bits of binary64 */
     uint64_t kxq0;
     uint64_t kxq1;
     uint8_t lg_k;           /* 4 to 21 */
@@ -167,7 +167,7 @@ typedef struct hll_estimation {
     double upper[3];
 } hll_estimation;
 
-/* Bytes that lie anywhere; laid out as struct iovec. */
+/* A pointer and a length; laid out as struct iovec. */
 typedef struct hll_bytes {
     const uint8_t *bytes;
     size_t len;
@@ -205,12 +205,12 @@ hll_status hll_image_histogram(const uint8_t *image, size_t len, hll_histogram *
  * Answers HLL_OK, HLL_ARGUMENT, HLL_MEMORY or HLL_BUFFER. Takes no more memory than the image. */
 hll_status hll_image_new(uint8_t lg_k, uint8_t width, uint8_t *out, size_t room, size_t *size);
 
-/* The image with n more values: byte strings, told by their ends. Pass many at once, as each call reads the image and
- * writes it. A value that a grown image has already changes no register. (An image of another program may be fuller, and
- * grows then: a list of eight becomes a set; a set of more than three quarters of its places gets a larger table, or
- * becomes registers.)
+/* The image with n more values: byte strings, delimited by their ends. Pass many at once, as each call reads the image and
+ * writes it. A value that a canonical image has already changes no register. (An image of another program may be fuller,
+ * and grows then: a list of eight becomes a set; a set that fills more than three quarters of its buckets gets a larger
+ * table, or becomes registers.)
  * The bytes are hashed as they are, as in Python, SQL, Java and C++. In Rust, and by the update of the Rattle crates, a
- * str is hashed with a byte ff behind it: "ann" from there and "ann" from here are two values.
+ * str is hashed with a byte ff after it: "ann" from there and "ann" from here are two values.
  * Answers HLL_OK, 1 to 11, HLL_ARGUMENT, HLL_MEMORY or HLL_BUFFER. Takes the memory of reading, and the image's. */
 hll_status hll_image_add(const uint8_t *image, size_t len, const uint8_t *values, size_t values_len,
                          const size_t *ends, size_t n, uint8_t *out, size_t room, size_t *size);
@@ -229,18 +229,18 @@ hll_status hll_image_add_coupon(const uint8_t *image, size_t len, uint32_t slot,
 hll_status hll_image_merge(uint8_t lg_max_k, uint8_t width, const uint8_t *left, size_t left_len, const uint8_t *right,
                            size_t right_len, uint8_t *out, size_t room, size_t *size, size_t *failed);
 
-/* The image, at this width, of the union of n images, told by their ends. Its lg_k is found as for two. The union of no
- * images is the empty sketch of lg_max_k.
- * Where all images are grown, their order, how often each is there, and whether some were united first, under the
+/* The image, at this width, of the union of n images, delimited by their ends. Its lg_k is found as for two. The union of
+ * no images is the empty sketch of lg_max_k.
+ * Where all images are canonical, their order, how often each is there, and whether some were merged first, under the
  * same lg_max_k, make no difference to the bytes. Where one isn't, two such answers fold to the same registers at the
- * smaller lg_k of both, and stage, table and words may differ: a set of 31 coupons in 32 places at lg_k 8, united once,
- * stays a set, and united twice becomes registers.
+ * smaller lg_k of both, and stage, table and estimator fields may differ: a set of 31 coupons in 32 buckets at lg_k 8,
+ * merged once, stays a set, and merged twice becomes registers.
  * Answers HLL_OK, 1 to 11 (*failed is the number of the image), HLL_ARGUMENT, HLL_MEMORY or HLL_BUFFER.
  * Takes the memory of reading one image at a time, 2^lg_k bytes, and the image's. */
 hll_status hll_images_union(uint8_t lg_max_k, uint8_t width, const uint8_t *images, size_t images_len,
                             const size_t *ends, size_t n, uint8_t *out, size_t room, size_t *size, size_t *failed);
 
-/* As hll_images_union, of n images that lie anywhere, each in bytes of its own.
+/* As hll_images_union, of n images that need not be contiguous.
  * Answers and takes memory as that. */
 hll_status hll_parts_union(uint8_t lg_max_k, uint8_t width, const hll_bytes *parts, size_t n, uint8_t *out,
                            size_t room, size_t *size, size_t *failed);
@@ -257,14 +257,16 @@ hll_status hll_image_fold(const uint8_t *image, size_t len, uint8_t lg_k, uint8_
  * image's. */
 hll_status hll_image_convert(const uint8_t *image, size_t len, uint8_t width, uint8_t *out, size_t room, size_t *size);
 
-/* The image with the three words and the flag set from which a DataSketches library estimates, whatever they were. Lists
- * and sets have no words, and come out as this library writes them.
+/* The image with the three fields and the flag set from which a DataSketches library estimates, whatever they were. Lists
+ * and sets have no such fields, and come out as this library writes them.
  * Answers HLL_OK, 1 to 11, HLL_MEMORY or HLL_BUFFER. Takes the memory of reading, and the image's. */
-hll_status hll_image_set_estimator_words(const uint8_t *image, size_t len, uint8_t *out, size_t room, size_t *size);
+hll_status hll_image_set_estimator_fields(const uint8_t *image, size_t len, uint8_t *out, size_t room,
+                                          size_t *size);
 
-/* The image with words of 0 and the flag, as the program hll_merge writes it.
- * Answers and takes memory as hll_image_set_estimator_words. */
-hll_status hll_image_clear_estimator_words(const uint8_t *image, size_t len, uint8_t *out, size_t room, size_t *size);
+/* The image with these fields 0 and the flag set, as the program hll_merge writes it.
+ * Answers and takes memory as hll_image_set_estimator_fields. */
+hll_status hll_image_clear_estimator_fields(const uint8_t *image, size_t len, uint8_t *out, size_t room,
+                                            size_t *size);
 
 /* ---- comparing ---- */
 
@@ -278,41 +280,41 @@ hll_status hll_images_agree(const uint8_t *left, size_t left_len, const uint8_t 
  *
  * A byte for each of 2^lg_k registers, 0 at first: any memory of the caller's, which may be copied, sent and compared as
  * bytes. There is nothing to make and nothing to free. Register s is the greatest value, 0 to 63, of the coupons whose
- * slot is s modulo 2^lg_k; so what was added and joined gives the same bytes in every order, however often, and however
+ * slot is s modulo 2^lg_k; so what was added and merged gives the same bytes in every order, however often, and however
  * it was grouped.
  *
  *     static uint8_t registers[1 << 12];
  *     while (...)
- *         hll_registers_join(registers, sizeof registers, image, len, &lg_k);
+ *         hll_registers_merge(registers, sizeof registers, image, len, &lg_k);
  *     hll_registers_estimate(registers, sizeof registers, &found);
  *
- * hll_registers_add and the joins only raise bytes, and don't look whether those of the caller are registers; the other
+ * hll_registers_add and the merges only raise bytes, and don't look whether those of the caller are registers; the other
  * calls answer HLL_REGISTER where a byte is above 63.
  */
 
-/* Adds n values, told by their ends, as hll_image_add does.
+/* Adds n values, delimited by their ends, as hll_image_add does.
  * Answers HLL_OK or HLL_ARGUMENT. Takes no memory. */
 hll_status hll_registers_add(uint8_t *registers, size_t count, const uint8_t *values, size_t values_len,
                              const size_t *ends, size_t n);
 
-/* Adds n coupons, raw words as hll_coupons puts them. A word of value 0 is HLL_ARGUMENT.
+/* Adds n raw coupons, as hll_coupons puts them. A raw coupon of value 0 is HLL_ARGUMENT.
  * Answers HLL_OK or HLL_ARGUMENT. Takes no memory. */
 hll_status hll_registers_add_coupons(uint8_t *registers, size_t count, const uint32_t *coupons, size_t n);
 
-/* Joins an image of every stage, width and lg_k: each register becomes the greater of what it was and of the image's
- * registers that fold to it. A list or a set has coupons alone, and is joined whatever its lg_k; so are registers that
- * are all 0, which change nothing. Where the image has other registers, and fewer than the caller, the answer is
- * HLL_FEWER, and *lg_k is the image's: fold to it, and join again. *lg_k is written on no other answer.
+/* Merges an image of any stage, width and lg_k into the registers: each register becomes the greater of what it was and
+ * of the image's registers that fold to it. A list or a set has coupons alone, and is merged whatever its lg_k; so are
+ * registers that are all 0, which change nothing. Where the image has other registers, and fewer than the caller, the
+ * answer is HLL_FEWER, and *lg_k is the image's: fold to it, and merge again. *lg_k is written on no other answer.
  * Answers HLL_OK, 1 to 11, HLL_ARGUMENT, HLL_MEMORY or HLL_FEWER. Takes memory as hll_image_check does. */
-hll_status hll_registers_join(uint8_t *registers, size_t count, const uint8_t *image, size_t len, uint8_t *lg_k);
+hll_status hll_registers_merge(uint8_t *registers, size_t count, const uint8_t *image, size_t len, uint8_t *lg_k);
 
-/* Joins as many other registers, or more, which are folded. Where the others are fewer, and not all 0, the answer is
- * HLL_FEWER, and *lg_k is theirs. A byte of the others above 63 is HLL_REGISTER, also where they are fewer.
+/* Merges other registers into these, as many or more, which are folded. Where the others are fewer, and not all 0, the
+ * answer is HLL_FEWER, and *lg_k is theirs. A byte of the others above 63 is HLL_REGISTER, also where they are fewer.
  * Answers HLL_OK, HLL_REGISTER, HLL_ARGUMENT or HLL_FEWER. Takes no memory. */
-hll_status hll_registers_join_registers(uint8_t *registers, size_t count, const uint8_t *others, size_t others_count,
-                                        uint8_t *lg_k);
+hll_status hll_registers_merge_registers(uint8_t *registers, size_t count, const uint8_t *others, size_t others_count,
+                                         uint8_t *lg_k);
 
-/* Folds the registers to a smaller lg_k (or the same): they are the first 2^to bytes then, and those behind stay.
+/* Folds the registers to a smaller lg_k (or the same): they are the first 2^to bytes then, and the bytes after them stay.
  * Answers HLL_OK, HLL_REGISTER, or HLL_ARGUMENT (also where `to` is above their lg_k). Takes no memory. */
 hll_status hll_registers_fold(uint8_t *registers, size_t count, uint8_t to);
 
@@ -320,7 +322,7 @@ hll_status hll_registers_fold(uint8_t *registers, size_t count, uint8_t to);
  * Answers HLL_OK, HLL_REGISTER or HLL_ARGUMENT. Takes no memory. */
 hll_status hll_registers_histogram(const uint8_t *registers, size_t count, hll_histogram *histogram);
 
-/* The image of the registers at this width, with the words set from which a DataSketches library estimates.
+/* The image of the registers at this width, with the fields set from which a DataSketches library estimates.
  * Answers HLL_OK, HLL_REGISTER, HLL_ARGUMENT, HLL_MEMORY or HLL_BUFFER. Takes count bytes, at 4 and 6 bits the packed
  * form of the registers beside, and the image's. */
 hll_status hll_registers_image(const uint8_t *registers, size_t count, uint8_t width, uint8_t *out, size_t room,
@@ -328,11 +330,11 @@ hll_status hll_registers_image(const uint8_t *registers, size_t count, uint8_t w
 
 /* ---- coupons ---- */
 
-/* The coupon of a value: its raw word, from the MurmurHash3 (x64, 128 bits, seed 9001) of these bytes alone. The
- * empty string is a value like any other. Takes no memory. */
+/* The raw coupon of a value: from the MurmurHash3 (x64, 128 bits, seed 9001) of these bytes alone. The empty
+ * string is a value like any other. Takes no memory. */
 uint32_t hll_coupon(const uint8_t *value, size_t len);
 
-/* The coupons of n values, told by their ends, into room places.
+/* The raw coupons of n values, delimited by their ends, into an array of room elements.
  * Answers HLL_OK, HLL_ARGUMENT, or HLL_BUFFER where room is less than n (n is what is needed). Takes no memory. */
 hll_status hll_coupons(const uint8_t *values, size_t values_len, const size_t *ends, size_t n, uint32_t *coupons,
                        size_t room);
@@ -348,7 +350,7 @@ hll_status hll_estimate(const uint8_t *image, size_t len, hll_estimation *estima
 
 /* The estimate that the writer of an image kept in it while it added values one by one (the HIP accumulator), with its
  * bounds; it scatters by a fifth less than hll_estimate. HLL_ARGUMENT where there is none: for coupons, for registers that
- * were merged (with the out-of-order flag), and where the word is 0 or no number, as this library writes it. Not proved.
+ * were merged (with the out-of-order flag), and where the field is 0 or no number, as this library writes it. Not proved.
  * Answers HLL_OK, 1 to 11, HLL_ARGUMENT or HLL_MEMORY. Takes the memory of reading. */
 hll_status hll_hip_estimate(const uint8_t *image, size_t len, hll_estimation *estimation);
 

@@ -141,7 +141,7 @@ hll_pg_deserial(PG_FUNCTION_ARGS)
 
 PG_FUNCTION_INFO_V1(hll_pg_final);
 
-/* As a window function it is asked again for each row: then what waits is joined once. */
+/* As a window function it is asked again for each row: then what waits is merged once. */
 Datum
 hll_pg_final(PG_FUNCTION_ARGS)
 {

@@ -148,9 +148,9 @@ object_to_change(const Side *side, const Side *other, MemoryContext parent)
 	return copy_of(parent, side->object);
 }
 
-/* Joins the other side, the argument of this number (from 0), to the registers of this one. */
+/* Merges the other side, the argument of this number (from 0), into the registers of this one. */
 static Datum
-join_side(const Side *side, const Side *other, size_t number, uint8 lg_max_k, MemoryContext parent)
+merge_side(const Side *side, const Side *other, size_t number, uint8 lg_max_k, MemoryContext parent)
 {
 	ExpandedSketch *object = object_to_change(side, other, parent);
 	hll_status	status;
@@ -162,9 +162,9 @@ join_side(const Side *side, const Side *other, size_t number, uint8 lg_max_k, Me
 	}
 	fold_registers(&object->registers, lg_max_k);
 	if (is_in_registers(other->object))
-		status = join_registers(&object->registers, &other->object->registers);
+		status = merge_registers(&object->registers, &other->object->registers);
 	else
-		status = join_image(&object->registers, IMAGE(other->image));
+		status = merge_image(&object->registers, IMAGE(other->image));
 	check_argument_status(status, number);
 	object->width = Max(side->width, other->width);
 	return EOHPGetRWDatum(&object->header);
@@ -196,8 +196,8 @@ hll_pg_merge_sketches(PG_FUNCTION_ARGS)
 	if (!AggCheckCallContext(fcinfo, &parent))
 		parent = CurrentMemoryContext;
 	if (is_in_registers(left.object))
-		return join_side(&left, &right, 1, lg_max_k, parent);
+		return merge_side(&left, &right, 1, lg_max_k, parent);
 	if (is_in_registers(right.object))
-		return join_side(&right, &left, 0, lg_max_k, parent);
+		return merge_side(&right, &left, 0, lg_max_k, parent);
 	return merge_images(&left, &right, lg_max_k, parent);
 }

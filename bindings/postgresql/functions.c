@@ -23,10 +23,7 @@ hll_pg_empty(PG_FUNCTION_ARGS)
 	hll_status	status;
 	Output		out;
 
-	start_output(&out, 64);
-	do
-		status = hll_image_new(lg_k, width, OUTPUT(out));
-	while (grow_output(&out, status));
+	WRITE_OUTPUT(out, 64, status, hll_image_new(lg_k, width, OUTPUT(out)));
 	check_status(status);
 	PG_RETURN_BYTEA_P(end_output(&out));
 }
@@ -39,10 +36,8 @@ merged_image(uint8 lg_max_k, uint8 width, const uint8 *left, size_t left_size, c
 	hll_status	status;
 	Output		out;
 
-	start_output(&out, Min(left_size + right_size, (size_t) 1 << lg_max_k) + 64);
-	do
-		status = hll_image_merge(lg_max_k, width, left, left_size, right, right_size, OUTPUT(out), &failed);
-	while (grow_output(&out, status));
+	WRITE_OUTPUT(out, Min(left_size + right_size, (size_t) 1 << lg_max_k) + 64, status,
+				 hll_image_merge(lg_max_k, width, left, left_size, right, right_size, OUTPUT(out), &failed));
 	check_argument_status(status, failed);
 	return end_output(&out);
 }
@@ -72,10 +67,7 @@ hll_pg_fold(PG_FUNCTION_ARGS)
 	hll_status	status;
 	Output		out;
 
-	start_output(&out, CHANGED_ROOM(image));
-	do
-		status = hll_image_fold(IMAGE(image), lg_k, OUTPUT(out));
-	while (grow_output(&out, status));
+	WRITE_OUTPUT(out, CHANGED_ROOM(image), status, hll_image_fold(IMAGE(image), lg_k, OUTPUT(out)));
 	if (status == HLL_ARGUMENT)
 		ereport(ERROR,
 				(errcode(ERRCODE_INVALID_PARAMETER_VALUE),
@@ -94,27 +86,21 @@ hll_pg_convert(PG_FUNCTION_ARGS)
 	hll_status	status;
 	Output		out;
 
-	start_output(&out, CHANGED_ROOM(image));
-	do
-		status = hll_image_convert(IMAGE(image), width, OUTPUT(out));
-	while (grow_output(&out, status));
+	WRITE_OUTPUT(out, CHANGED_ROOM(image), status, hll_image_convert(IMAGE(image), width, OUTPUT(out)));
 	check_status(status);
 	PG_RETURN_BYTEA_P(end_output(&out));
 }
 
-PG_FUNCTION_INFO_V1(hll_pg_words);
+PG_FUNCTION_INFO_V1(hll_pg_set_estimator_fields);
 
 Datum
-hll_pg_words(PG_FUNCTION_ARGS)
+hll_pg_set_estimator_fields(PG_FUNCTION_ARGS)
 {
 	bytea	   *image = PG_GETARG_BYTEA_PP(0);
 	hll_status	status;
 	Output		out;
 
-	start_output(&out, LENGTH(image) + 64);
-	do
-		status = hll_image_set_estimator_words(IMAGE(image), OUTPUT(out));
-	while (grow_output(&out, status));
+	WRITE_OUTPUT(out, LENGTH(image) + 64, status, hll_image_set_estimator_fields(IMAGE(image), OUTPUT(out)));
 	check_status(status);
 	PG_RETURN_BYTEA_P(end_output(&out));
 }

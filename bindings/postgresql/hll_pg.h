@@ -22,15 +22,7 @@
 /* bytes and their length, as the library takes them */
 #define IMAGE(varlena) BYTES(varlena), LENGTH(varlena)
 
-/*
- * The bytea that a call writes an image into. The first room is a guess; where the call says that it is too small,
- * grow_output makes it as large as is needed, and the call is made again:
- *
- *     start_output(&out, room);
- *     do
- *         status = hll_image_convert(IMAGE(image), width, OUTPUT(out));
- *     while (grow_output(&out, status));
- */
+/* The bytea that a call writes an image into. */
 typedef struct Output
 {
 	bytea	   *bytes;
@@ -43,6 +35,19 @@ typedef struct Output
 extern void start_output(Output *out, size_t room);
 extern bool grow_output(Output *out, hll_status status);
 extern bytea *end_output(Output *out);
+
+/*
+ * Makes a call that writes an image into OUTPUT(out). The first room is a guess; where the call says that it is too
+ * small, the output is made as large as is needed, and the call is made again.
+ */
+#define WRITE_OUTPUT(out, guess, status, call) \
+	do \
+	{ \
+		start_output(&(out), guess); \
+		do \
+			(status) = (call); \
+		while (grow_output(&(out), status)); \
+	} while (0)
 
 /* Each raises an error unless the status is HLL_OK, or the number is in range. */
 extern void check_status(hll_status status);

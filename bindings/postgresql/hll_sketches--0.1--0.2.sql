@@ -119,9 +119,9 @@ CREATE FUNCTION hll_convert(sketch hyperloglog, width pg_catalog.int4) RETURNS h
     AS 'MODULE_PATHNAME', 'hll_pg_convert' LANGUAGE C IMMUTABLE STRICT PARALLEL SAFE COST 100;
 COMMENT ON FUNCTION hll_convert(hyperloglog, pg_catalog.int4) IS 'the sketch with registers of 4, 6 or 8 bits';
 
-CREATE FUNCTION hll_words(sketch hyperloglog) RETURNS hyperloglog
-    AS 'MODULE_PATHNAME', 'hll_pg_words' LANGUAGE C IMMUTABLE STRICT PARALLEL SAFE COST 100;
-COMMENT ON FUNCTION hll_words(hyperloglog) IS 'the sketch with the words from which other DataSketches libraries estimate';
+CREATE FUNCTION hll_set_estimator_fields(sketch hyperloglog) RETURNS hyperloglog
+    AS 'MODULE_PATHNAME', 'hll_pg_set_estimator_fields' LANGUAGE C IMMUTABLE STRICT PARALLEL SAFE COST 100;
+COMMENT ON FUNCTION hll_set_estimator_fields(hyperloglog) IS 'the sketch with the fields from which other DataSketches libraries estimate';
 
 -- ---- two sketches
 
@@ -137,7 +137,7 @@ CREATE FUNCTION hll_merge(a hyperloglog, b hyperloglog, lg_max_k pg_catalog.int4
 COMMENT ON FUNCTION hll_merge(hyperloglog, hyperloglog, pg_catalog.int4)
     IS 'the union of two sketches, of an lg_k at most and the greater width';
 
--- (Beside bytea the operator of bytea would be taken, which puts one behind the other.)
+-- (Beside bytea the operator of bytea would be taken, which puts one after the other.)
 CREATE FUNCTION hll_merge(a hyperloglog, b pg_catalog.bytea) RETURNS hyperloglog
     AS 'MODULE_PATHNAME', 'hll_pg_merge_sketches' LANGUAGE C IMMUTABLE STRICT PARALLEL SAFE COST 100;
 CREATE FUNCTION hll_merge(a pg_catalog.bytea, b hyperloglog) RETURNS hyperloglog

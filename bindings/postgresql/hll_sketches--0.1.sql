@@ -52,10 +52,10 @@ CREATE FUNCTION hll_convert(image pg_catalog.bytea, width pg_catalog.int4) RETUR
     AS 'MODULE_PATHNAME', 'hll_pg_convert' LANGUAGE C IMMUTABLE STRICT PARALLEL SAFE COST 100;
 COMMENT ON FUNCTION hll_convert(pg_catalog.bytea, pg_catalog.int4) IS 'the image with registers of 4, 6 or 8 bits';
 
-CREATE FUNCTION hll_words(image pg_catalog.bytea) RETURNS pg_catalog.bytea
-    AS 'MODULE_PATHNAME', 'hll_pg_words' LANGUAGE C IMMUTABLE STRICT PARALLEL SAFE COST 100;
-COMMENT ON FUNCTION hll_words(pg_catalog.bytea)
-    IS 'the image with the words from which other DataSketches libraries estimate';
+CREATE FUNCTION hll_set_estimator_fields(image pg_catalog.bytea) RETURNS pg_catalog.bytea
+    AS 'MODULE_PATHNAME', 'hll_pg_set_estimator_fields' LANGUAGE C IMMUTABLE STRICT PARALLEL SAFE COST 100;
+COMMENT ON FUNCTION hll_set_estimator_fields(pg_catalog.bytea)
+    IS 'the image with the fields from which other DataSketches libraries estimate';
 
 -- ---- two images
 

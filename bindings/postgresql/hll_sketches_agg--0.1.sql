@@ -5,7 +5,7 @@
 -- The aggregates of hll_sketches by shorter names. They are an extension of their own, as postgresql-hll looks up its
 -- aggregates of these names without their types, and fails where its schema has others.
 
--- What is the catalog's is named with its schema: see the script of hll_sketches. The functions behind the aggregates are
+-- What is the catalog's is named with its schema: see the script of hll_sketches. The functions after the aggregates are
 -- looked up in the target schema first, and then in that of hll_sketches. They take an `internal`, as no function of a
 -- plain user can, and a match of all types goes before any other, wherever it is. (An aggregate of his can have the name
 -- and the types; then CREATE AGGREGATE fails, as it wants a plain function.)

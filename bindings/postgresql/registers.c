@@ -63,7 +63,7 @@ take_registers(Registers *registers, MemoryContext context, const uint8 *image, 
 		return false;
 	taken.count = (size_t) 1 << named_lg_k(image, size);
 	taken.bytes = MemoryContextAllocZero(context, taken.count);
-	check_status(join_image(&taken, image, size));
+	check_status(merge_image(&taken, image, size));
 	if (are_all_zero(&taken) || !are_written_as(&taken, image, size))
 	{
 		pfree(taken.bytes);
@@ -98,29 +98,29 @@ fold_registers(Registers *registers, uint8 lg_k)
 	registers->count = (size_t) 1 << lg_k;
 }
 
-/* Joins an image, to whose lg_k the registers are folded where it has fewer. */
+/* Merges an image, to whose lg_k the registers are folded where it has fewer. */
 hll_status
-join_image(Registers *registers, const uint8 *image, size_t size)
+merge_image(Registers *registers, const uint8 *image, size_t size)
 {
 	uint8		lg_k = 0;
-	hll_status	status = hll_registers_join(registers->bytes, registers->count, image, size, &lg_k);
+	hll_status	status = hll_registers_merge(registers->bytes, registers->count, image, size, &lg_k);
 
 	if (status != HLL_FEWER)
 		return status;
 	fold_registers(registers, lg_k);
-	return hll_registers_join(registers->bytes, registers->count, image, size, &lg_k);
+	return hll_registers_merge(registers->bytes, registers->count, image, size, &lg_k);
 }
 
 hll_status
-join_registers(Registers *registers, const Registers *others)
+merge_registers(Registers *registers, const Registers *others)
 {
 	uint8		lg_k = 0;
-	hll_status	status = hll_registers_join_registers(registers->bytes, registers->count, others->bytes, others->count, &lg_k);
+	hll_status	status = hll_registers_merge_registers(registers->bytes, registers->count, others->bytes, others->count, &lg_k);
 
 	if (status != HLL_FEWER)
 		return status;
 	fold_registers(registers, lg_k);
-	return hll_registers_join_registers(registers->bytes, registers->count, others->bytes, others->count, &lg_k);
+	return hll_registers_merge_registers(registers->bytes, registers->count, others->bytes, others->count, &lg_k);
 }
 
 /* Their image, in the current context. */
@@ -130,10 +130,8 @@ image_of_registers(const Registers *registers, uint8 width)
 	hll_status	status;
 	Output		out;
 
-	start_output(&out, HEADER_SIZE + registers->count + 64);
-	do
-		status = hll_registers_image(registers->bytes, registers->count, width, OUTPUT(out));
-	while (grow_output(&out, status));
+	WRITE_OUTPUT(out, HEADER_SIZE + registers->count + 64, status,
+				 hll_registers_image(registers->bytes, registers->count, width, OUTPUT(out)));
 	check_status(status);
 	return end_output(&out);
 }

@@ -8,7 +8,7 @@
 #define BATCH_COUNT 1024
 
 /*
- * A call of the library can't be interrupted. So images that wait are joined before reading them could take more steps
+ * A call of the library can't be interrupted. So images that wait are merged before reading them could take more steps
  * than these: about a second, whoever made them.
  */
 #define MOST_STEPS ((uint64) 1 << 29)
@@ -133,7 +133,7 @@ set_image(State *state, const uint8 *image, size_t size)
 	state->rows_of[0] = 0;
 }
 
-/* Puts bytes behind what waits. */
+/* Puts bytes after what waits. */
 static void
 append(State *state, const uint8 *bytes, size_t size, int64 row)
 {
@@ -163,7 +163,7 @@ add_values(State *state, Output *out)
 }
 
 static hll_status
-join_images(State *state, uint8 width, Output *out, size_t *failed)
+merge_waiting(State *state, uint8 width, Output *out, size_t *failed)
 {
 	int			first = state->image_size == 0 ? 1 : 0;
 	hll_status	status = hll_images_union(state->lg_k, width, state->bytes, state->used, state->ends + first,
@@ -173,9 +173,9 @@ join_images(State *state, uint8 width, Output *out, size_t *failed)
 	return status;
 }
 
-/* The image with what waits joined to it, at a width (of values: at eight bits), in the current context. */
+/* The image with what waits merged into it, at a width (of values: at eight bits), in the current context. */
 static bytea *
-joined(State *state, uint8 width)
+image_with_waiting(State *state, uint8 width)
 {
 	hll_status	status;
 	size_t		failed;
@@ -186,7 +186,7 @@ joined(State *state, uint8 width)
 	do
 	{
 		failed = 0;
-		status = state->has_values ? add_values(state, &out) : join_images(state, width, &out, &failed);
+		status = state->has_values ? add_values(state, &out) : merge_waiting(state, width, &out, &failed);
 	} while (grow_output(&out, status));
 	check_row_status(status, state->rows_of[failed]);
 	return end_output(&out);
@@ -207,7 +207,7 @@ drop_batch(State *state)
 	state->steps = 0;
 }
 
-/* Joins what waits to the image, or makes registers of both. */
+/* Merges what waits into the image, or makes registers of both. */
 void
 settle(State *state)
 {
@@ -215,7 +215,7 @@ settle(State *state)
 
 	if (state->n == 0)
 		return;
-	image = joined(state, 8);
+	image = image_with_waiting(state, 8);
 	if (take_registers(&state->registers, state->context, IMAGE(image)))
 		drop_batch(state);
 	else
@@ -234,7 +234,7 @@ take_image(State *state, const uint8 *image, size_t size, int64 row)
 	if (keeps_registers(state))
 	{
 		CHECK_FOR_INTERRUPTS();
-		check_row_status(join_image(&state->registers, image, size), row);
+		check_row_status(merge_image(&state->registers, image, size), row);
 		return;
 	}
 	state->steps += steps;
@@ -310,7 +310,7 @@ image_of(State *state)
 	return image;
 }
 
-/* The answer, in the current context. Of values the batch is joined before, as their call keeps the width. */
+/* The answer, in the current context. Of values the batch is merged before, as their call keeps the width. */
 bytea *
 answer_of(State *state)
 {
@@ -321,5 +321,5 @@ answer_of(State *state)
 	}
 	if (keeps_registers(state))
 		return image_of_both(state, state->width);
-	return joined(state, state->width);
+	return image_with_waiting(state, state->width);
 }

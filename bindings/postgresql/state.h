@@ -1,6 +1,6 @@
 /* SPDX-License-Identifier: Apache-2.0 */
 /*
- * The state of an aggregate: an image and a batch that waits to be joined to it, or registers.
+ * The state of an aggregate: an image and a batch that waits to be merged into it, or registers.
  *
  * What waits are images (of a union) or values (of a count). A batch costs one call of the library, which reads the image
  * and writes it once. A batch is small, so that many groups fit in memory: 8 kilobytes and 1,024 images or values, or more
@@ -24,14 +24,14 @@ typedef struct State
 	Registers	registers;		/* once there are some, there is nothing below but coupons */
 	uint32	   *coupons;		/* of values, which wait to go into the registers */
 	int			n_coupons;
-	uint8	   *bytes;			/* the image, and what waits behind it */
+	uint8	   *bytes;			/* the image, and what waits after it */
 	size_t		image_size;		/* 0 where there is no image yet */
 	size_t		used;			/* of the bytes */
 	size_t		room;			/* for bytes */
 	int			n;				/* how many wait */
 	int			n_room;
 	size_t	   *ends;			/* the end of the image; then of each that waits: of images in the bytes, of values
-								 * behind the image */
+								 * after the image */
 	int64	   *rows_of;		/* 0 for the image; then the row of each that waits, 0 where no row brought it */
 	uint64		steps;			/* how many it may take to read the images that wait */
 } State;

@@ -114,7 +114,7 @@ hll_pg_add_sketch_trans(PG_FUNCTION_ARGS)
 	ereport(ERROR,
 			(errcode(ERRCODE_DATATYPE_MISMATCH),
 			 errmsg("sketches are not counted as values"),
-			 errhint("Unite them by hyperloglog_union_agg, or cast them to bytea to count how many different ones there are.")));
+			 errhint("Merge them with hyperloglog_union_agg, or cast them to bytea to count how many different ones there are.")));
 }
 
 PG_FUNCTION_INFO_V1(hll_pg_add_other_trans);

@@ -8,7 +8,7 @@
 
 /* ---- arguments */
 
-/* Whether the arguments behind the first are right, and those of all rows before. */
+/* Whether the arguments after the first are right, and those of all rows before. */
 static bool options_in(sqlite3_context *context, int n, sqlite3_value **values, const char *lg_k_name, Group *group)
 {
     uint8_t lg_k = 12, width = 8;

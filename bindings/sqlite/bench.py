@@ -2,7 +2,7 @@
 # SPDX-License-Identifier: Apache-2.0
 """Times the aggregates at lg_k 12 on tables in memory, beside the calls of the library alone, and prints a table.
 
-The scan of the same column, by an aggregate that only asks for its bytes (test/touch.c), is taken off. Times are of this process's processor time; what runs in
+The scan of the same column, by an aggregate that only asks for its bytes (tests/touch.c), is taken off. Times are of this process's processor time; what runs in
 a row runs in turn, and of its times and ratios the median of eleven turns is told. Needs the extension in build/ and the
 library of bindings/c.
 """
@@ -27,7 +27,7 @@ CALLS = _library._library
 
 def connect():
     touch = HERE / "build" / "touch.so"
-    subprocess.run(["cc", "-O2", "-fPIC", "-shared", "-o", touch, HERE / "test" / "touch.c"], check=True)
+    subprocess.run(["cc", "-O2", "-fPIC", "-shared", "-o", touch, HERE / "tests" / "touch.c"], check=True)
     db = sqlite3.connect(":memory:")
     db.enable_load_extension(True)
     for module in ("hll_sketches", "touch"):

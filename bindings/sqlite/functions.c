@@ -25,7 +25,7 @@ typedef struct Call {
 
 #define IMAGE(bytes_) (bytes_).bytes, (bytes_).len
 
-/* A guess at what an image needs that changes its width or lg_k: only many exceptions of four bits need more. Bytes behind
+/* A guess at what an image needs that changes its width or lg_k: only many exceptions of four bits need more. Bytes after
  * an image may be many. */
 static size_t changed_room(hll_bytes image)
 {
@@ -105,20 +105,20 @@ static void convert(sqlite3_context *context, int n, sqlite3_value **values)
         answer_written(context, write_converted, &call, changed_room(call.image));
 }
 
-static hll_status write_with_words(void *given, Output *out)
+static hll_status write_with_fields(void *given, Output *out)
 {
     const Call *call = given;
 
-    return hll_image_set_estimator_words(IMAGE(call->image), OUTPUT(out));
+    return hll_image_set_estimator_fields(IMAGE(call->image), OUTPUT(out));
 }
 
-static void words(sqlite3_context *context, int n, sqlite3_value **values)
+static void set_estimator_fields(sqlite3_context *context, int n, sqlite3_value **values)
 {
     Call call;
 
     (void)n;
     if (image_in(context, values[0], &call.image))
-        answer_written(context, write_with_words, &call, MIN(call.image.len + 64, HLL_IMAGE_MAX(21)));
+        answer_written(context, write_with_fields, &call, MIN(call.image.len + 64, HLL_IMAGE_MAX(21)));
 }
 
 /* ---- two images */
@@ -327,7 +327,7 @@ static const Entry entries[] = {
     {"hll_image_empty", 2, empty},
     {"hll_fold", 2, fold},
     {"hll_convert", 2, convert},
-    {"hll_words", 1, words},
+    {"hll_set_estimator_fields", 1, set_estimator_fields},
     {"hll_merge", 2, merge},
     {"hll_merge", 3, merge},
     {"hll_agree", 2, agree},

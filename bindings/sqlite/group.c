@@ -8,7 +8,7 @@
 
 /* So many bytes wait at most, those of their ends and rows too; or twice the image so far, where that is more. */
 #define BATCH_SIZE ((size_t)16 * 1024)
-#define BESIDE (sizeof(size_t) + sizeof(sqlite3_int64))
+#define OVERHEAD (sizeof(size_t) + sizeof(sqlite3_int64))
 
 /* ---- batches */
 
@@ -52,7 +52,7 @@ static bool has_room_for_one(Batch *batch)
 /* Whether a byte string more would be too much, beside an image of so many bytes. */
 static bool is_full(const Batch *batch, size_t len, size_t image_size)
 {
-    size_t size = batch->used + len + (batch->n + 1) * BESIDE;
+    size_t size = batch->used + len + (batch->n + 1) * OVERHEAD;
 
     return batch->n > 0 && size > MAX(BATCH_SIZE, 2 * image_size);
 }
@@ -97,11 +97,11 @@ static hll_bytes bytes_of(const Output *out)
     return bytes;
 }
 
-/* Joins an image to the registers, which are folded where it has fewer. */
-static hll_status join(Group *group, hll_bytes image)
+/* Merges an image into the registers, which are folded where it has fewer. */
+static hll_status merge_into_registers(Group *group, hll_bytes image)
 {
     uint8_t lg_k;
-    hll_status status = hll_registers_join(group->registers, group->count, image.bytes, image.len, &lg_k);
+    hll_status status = hll_registers_merge(group->registers, group->count, image.bytes, image.len, &lg_k);
 
     if (status != HLL_FEWER)
         return status;
@@ -109,7 +109,7 @@ static hll_status join(Group *group, hll_bytes image)
     if (status != HLL_OK)
         return status;
     group->count = (size_t)1 << lg_k;
-    return hll_registers_join(group->registers, group->count, image.bytes, image.len, &lg_k);
+    return hll_registers_merge(group->registers, group->count, image.bytes, image.len, &lg_k);
 }
 
 /* Keeps the registers of the image of all so far, and no room for what waits. */
@@ -124,7 +124,7 @@ static hll_status keep_registers(Group *group, hll_bytes image)
     memset(group->registers, 0, group->count);
     free_batch(&group->batch);
     group->batch = none;
-    return join(group, image);
+    return merge_into_registers(group, image);
 }
 
 static hll_status write_registers(void *given, Output *out)
@@ -154,7 +154,7 @@ static hll_status write_union(void *given, Output *out)
     return status;
 }
 
-static hll_status united(Group *group, Output *out)
+static hll_status union_of_group(Group *group, Output *out)
 {
     return write_image(write_union, group, MIN(group->batch.used, HLL_IMAGE_MAX(group->lg_k)) + 64, out);
 }
@@ -163,7 +163,7 @@ static hll_status united(Group *group, Output *out)
 static hll_status settle_images(Group *group)
 {
     Output out;
-    hll_status status = united(group, &out);
+    hll_status status = union_of_group(group, &out);
 
     if (status != HLL_OK)
         return status;
@@ -190,20 +190,20 @@ hll_status take_image(Group *group, hll_bytes image)
     if (status != HLL_OK)
         return status;
     if (group->registers != NULL)
-        return join(group, image);
+        return merge_into_registers(group, image);
     had_registers = group->has_registers;
     status = append(&group->batch, image, group->rows);
     if (status != HLL_OK || !is_in_registers(image))
         return status;
     group->has_registers = true;
-    /* The first one waits, since the union of one image keeps words that another program set. Behind a union all wait for a
+    /* The first one waits, since the union of one image keeps fields that another program set. After a union all wait for a
      * full batch: were their registers all 0, that would be read again for each. */
     return had_registers && union_size(&group->batch) == 0 ? settle_images(group) : HLL_OK;
 }
 
 hll_status finish_images(Group *group, Output *out)
 {
-    return group->registers != NULL ? image_of_registers(group, out) : united(group, out);
+    return group->registers != NULL ? image_of_registers(group, out) : union_of_group(group, out);
 }
 
 /* ---- values */

@@ -4,7 +4,7 @@
  *
  * A group begins small, as most groups stay: its images or values wait in a batch, which costs one call of the library,
  * and what comes of it is an image. Once that is in registers they are kept as bytes, a byte for each, and what comes then
- * is joined to them at once from where it lies.
+ * is merged into them at once from where it lies.
  */
 #ifndef HLL_GROUP_H
 #define HLL_GROUP_H

@@ -16,7 +16,7 @@ pub const TURNS: usize = 11;
 
 // ---- registers
 
-/// The slot and value behind a word, and the next word.
+/// The slot and value after a word, and the next word.
 fn next(word: u64) -> (usize, u8, u64) {
     let word = word.wrapping_mul(0xd134_2543_de82_ef95);
     let slot = (word >> 32 & 0x03ff_ffff) as usize;

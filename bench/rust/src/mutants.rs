@@ -1,7 +1,7 @@
 // SPDX-License-Identifier: Apache-2.0
 //! Reads mutated images of every stage and width by `HllSketch::deserialize`: each that is accepted is written, read
 //! back and equal. Prints how many were answered how. With a file as argument, the first images of each kind and their
-//! answers are written there, for bench/plain_reader.py to compare.
+//! answers are written there, for tests/plain_reader.py to compare.
 //!
 //! A record is the number of the kind (one byte), the length of the image (four bytes, little-endian) and the image,
 //! the answer (one byte, 0 or the number of the reason), and the length of the value (four bytes) and the value.
@@ -55,7 +55,7 @@ impl Random {
         (0..count).map(|_| self.byte()).collect()
     }
 
-    /// Distinct raw words of coupons.
+    /// Distinct raw coupons.
     fn coupons(&mut self, count: usize) -> Vec<u32> {
         let mut coupons: Vec<u32> = Vec::new();
         while coupons.len() < count {
@@ -140,7 +140,7 @@ impl Random {
         image
     }
 
-    /// The exception count, nibbles and exceptions behind the rest of an image.
+    /// The exception count, nibbles and exceptions after the rest of an image.
     fn four(&mut self, image: &mut Vec<u8>, lg_k: usize) {
         let minimum = if self.one_in(8) { self.within(0, 63) } else { self.within(0, 20) };
         let often = [0, 4, 16][self.below(3)];

@@ -236,7 +236,7 @@ def _ends_in(ends: Any) -> Numbers:
 
 
 def batch_of(data: Any, ends: Any) -> Batch:
-    """Byte strings that stand one after another, told by their ends."""
+    """Byte strings that stand one after another, delimited by their ends."""
     taken = _ends_in(ends)
     return data if type(data) is bytes else memoryview(data).tobytes(), taken, len(taken)
 
@@ -247,15 +247,15 @@ def batch_of(data: Any, ends: Any) -> Batch:
 _WORD = next(code for code in "IL" if array(code).itemsize == 4)
 
 
-def words_in(words: Any) -> Numbers:
-    """Raw words of coupons: an array of 32 bits as it is, a copy of other memory of 32 bits."""
-    if isinstance(words, array) and words.typecode == _WORD:
-        return words
-    view = _view_of(words)
+def raw_coupons_in(raw_coupons: Any) -> Numbers:
+    """Raw coupons: an array of 32 bits as it is, a copy of other memory of 32 bits."""
+    if isinstance(raw_coupons, array) and raw_coupons.typecode == _WORD:
+        return raw_coupons
+    view = _view_of(raw_coupons)
     if view is not None and (view.ndim, view.itemsize) == (1, 4) and view.format[-1:] in "IL":
         if _is_little(view) == (sys.byteorder == "little"):
             return array(_WORD, view.tobytes())
     try:
-        return array(_WORD, map(index, words))
+        return array(_WORD, map(index, raw_coupons))
     except OverflowError:
         raise ArgumentError("a coupon is 0 to 2^32 - 1") from None

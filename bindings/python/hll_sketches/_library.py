@@ -126,8 +126,8 @@ _CALLS = {
     "hll_images_union": [c_uint8, c_uint8] + _IMAGE + _ENDS + _OUT + [c_void_p],
     "hll_image_fold": _IMAGE + [c_uint8] + _OUT,
     "hll_image_convert": _IMAGE + [c_uint8] + _OUT,
-    "hll_image_set_estimator_words": _IMAGE + _OUT,
-    "hll_image_clear_estimator_words": _IMAGE + _OUT,
+    "hll_image_set_estimator_fields": _IMAGE + _OUT,
+    "hll_image_clear_estimator_fields": _IMAGE + _OUT,
     "hll_images_agree": _IMAGE + _IMAGE + [POINTER(c_uint8), c_void_p],
     "hll_coupon": _IMAGE,
     "hll_coupons": _IMAGE + _ENDS + [c_void_p, c_size_t],
@@ -136,8 +136,8 @@ _CALLS = {
     "hll_version": [],
     "hll_registers_add": _REGISTERS + _IMAGE + _ENDS,
     "hll_registers_add_coupons": _REGISTERS + [c_void_p, c_size_t],
-    "hll_registers_join": _REGISTERS + _IMAGE + [POINTER(c_uint8)],
-    "hll_registers_join_registers": _REGISTERS + _REGISTERS + [POINTER(c_uint8)],
+    "hll_registers_merge": _REGISTERS + _IMAGE + [POINTER(c_uint8)],
+    "hll_registers_merge_registers": _REGISTERS + _REGISTERS + [POINTER(c_uint8)],
     "hll_registers_fold": _REGISTERS + [c_uint8],
     "hll_registers_histogram": _REGISTERS + [POINTER(Histogram)],
     "hll_registers_image": _REGISTERS + [c_uint8] + _OUT,
@@ -315,6 +315,12 @@ def _refusal(status: int, number: Optional[int] = None) -> Exception:
     return ImageError(WORDS[status], number)
 
 
+def _ensure(status: int, refusal: Callable[[int], Exception] = _refusal) -> None:
+    """Raises the exception of a status, unless it is that of success."""
+    if status != OK:
+        raise refusal(status)
+
+
 class _Kept(threading.local):
     """The memory into which the last answer of a thread was written, for the next one."""
 
@@ -369,9 +375,7 @@ def new(lg_k: int, width: int) -> bytes:
 def info(image: bytes) -> Info:
     """What an image says."""
     found = Info()
-    status = _library.hll_image_info(image, len(image), byref(found), ctypes.sizeof(Info))
-    if status != OK:
-        raise _refusal(status)
+    _ensure(_library.hll_image_info(image, len(image), byref(found), ctypes.sizeof(Info)))
     return found
 
 
@@ -386,18 +390,14 @@ def check(image: bytes) -> int:
 def histogram(image: bytes) -> List[int]:
     """How many registers have each value."""
     found = Histogram()
-    status = _library.hll_image_histogram(image, len(image), byref(found))
-    if status != OK:
-        raise _refusal(status)
+    _ensure(_library.hll_image_histogram(image, len(image), byref(found)))
     return list(found.counts)
 
 
 def estimation(image: bytes) -> Estimation:
     """An estimate with its bounds."""
     found = Estimation()
-    status = _library.hll_estimate(image, len(image), byref(found))
-    if status != OK:
-        raise _refusal(status)
+    _ensure(_library.hll_estimate(image, len(image), byref(found)))
     return found
 
 
@@ -411,7 +411,7 @@ def hip_estimation(image: bytes) -> Optional[Estimation]:
 
 
 def add(image: bytes, values: bytes, ends: Numbers, count: int) -> bytes:
-    """The image with so many values, told by their ends."""
+    """The image with so many values, delimited by their ends."""
     given = image, len(image), values, len(values), _address(ends), count
     try:
         return _written(_library.hll_image_add, room_for(image[3]), *given)
@@ -454,17 +454,17 @@ def convert(image: bytes, width: int) -> bytes:
     return _written(_library.hll_image_convert, room_for(lg_k), image, len(image), width)
 
 
-def clear_estimator_words(image: bytes) -> bytes:
-    """The image with words of zero."""
+def clear_estimator_fields(image: bytes) -> bytes:
+    """The image with estimator fields of zero."""
     return _written(
-        _library.hll_image_clear_estimator_words, room_for(image[3]), image, len(image)
+        _library.hll_image_clear_estimator_fields, room_for(image[3]), image, len(image)
     )
 
 
-def set_estimator_words(image: bytes) -> bytes:
-    """The image with the words from which others estimate."""
+def set_estimator_fields(image: bytes) -> bytes:
+    """The image with the fields from which others estimate."""
     return _written(
-        _library.hll_image_set_estimator_words, room_for(image[3]), image, len(image)
+        _library.hll_image_set_estimator_fields, room_for(image[3]), image, len(image)
     )
 
 
@@ -480,19 +480,19 @@ def agree(left: bytes, right: bytes) -> bool:
 
 
 def coupon(value: bytes) -> int:
-    """The raw word of the coupon of a value."""
+    """The raw coupon of a value."""
     return _library.hll_coupon(value, len(value))
 
 
 def coupons(values: bytes, ends: Numbers, count: int) -> Numbers:
-    """The raw words of the coupons of so many values, told by their ends."""
+    """The raw coupons of so many values, delimited by their ends."""
     made = array(_COUPON, bytes(4 * count))
     if made:
-        status = _library.hll_coupons(
-            values, len(values), _address(ends), count, made.buffer_info()[0], count
+        _ensure(
+            _library.hll_coupons(
+                values, len(values), _address(ends), count, made.buffer_info()[0], count
+            )
         )
-        if status != OK:
-            raise _refusal(status)
     return made
 
 
@@ -511,7 +511,7 @@ def _refused_registers(status: int) -> Exception:
 
 
 def add_to(registers: Memory, values: bytes, ends: Numbers, count: int) -> None:
-    """Adds so many values, told by their ends, to registers."""
+    """Adds so many values, delimited by their ends, to registers."""
     status = _library.hll_registers_add(
         registers, len(registers), values, len(values), _address(ends), count
     )
@@ -519,18 +519,18 @@ def add_to(registers: Memory, values: bytes, ends: Numbers, count: int) -> None:
         raise ArgumentError(_WRONG_ENDS)
 
 
-def add_coupons_to(registers: Memory, words: Numbers) -> None:
+def add_coupons_to(registers: Memory, raw_coupons: Numbers) -> None:
     """Adds coupons to registers."""
-    count = len(words)
-    status = _library.hll_registers_add_coupons(registers, len(registers), _address(words), count)
+    count = len(raw_coupons)
+    status = _library.hll_registers_add_coupons(registers, len(registers), _address(raw_coupons), count)
     if status != OK:
         raise ArgumentError("a coupon has a value of 1 to 63")
 
 
-def join_image(registers: Memory, image: bytes) -> Optional[int]:
-    """Joins an image into registers. Its ``lg_k``, where it has fewer; then nothing is changed."""
+def merge_image(registers: Memory, image: bytes) -> Optional[int]:
+    """Merges an image into registers. Its ``lg_k``, where it has fewer; then nothing is changed."""
     fewer = c_uint8()
-    status = _library.hll_registers_join(
+    status = _library.hll_registers_merge(
         registers, len(registers), image, len(image), byref(fewer)
     )
     if status not in (OK, FEWER):
@@ -538,10 +538,10 @@ def join_image(registers: Memory, image: bytes) -> Optional[int]:
     return fewer.value if status == FEWER else None
 
 
-def join_registers(registers: Memory, others: Memory) -> Optional[int]:
-    """Joins other registers. Their ``lg_k``, where they are fewer; then nothing is changed."""
+def merge_registers(registers: Memory, others: Memory) -> Optional[int]:
+    """Merges other registers. Their ``lg_k``, where they are fewer; then nothing is changed."""
     fewer = c_uint8()
-    status = _library.hll_registers_join_registers(
+    status = _library.hll_registers_merge_registers(
         registers, len(registers), others, len(others), byref(fewer)
     )
     if status not in (OK, FEWER):
@@ -551,31 +551,29 @@ def join_registers(registers: Memory, others: Memory) -> Optional[int]:
 
 def fold_registers(registers: Memory, lg_k: int) -> None:
     """Folds registers, at the front of their bytes."""
-    status = _library.hll_registers_fold(registers, len(registers), lg_k)
-    if status != OK:
-        raise _refused_registers(status)
+    _ensure(_library.hll_registers_fold(registers, len(registers), lg_k), _refused_registers)
 
 
 def histogram_of(registers: Memory) -> List[int]:
     """How many registers have each value."""
     found = Histogram()
-    status = _library.hll_registers_histogram(registers, len(registers), byref(found))
-    if status != OK:
-        raise _refused_registers(status)
+    _ensure(
+        _library.hll_registers_histogram(registers, len(registers), byref(found)), _refused_registers
+    )
     return list(found.counts)
 
 
 def estimation_of(registers: Memory) -> Estimation:
     """An estimate from registers, with its bounds."""
     found = Estimation()
-    status = _library.hll_registers_estimate(registers, len(registers), byref(found))
-    if status != OK:
-        raise _refused_registers(status)
+    _ensure(
+        _library.hll_registers_estimate(registers, len(registers), byref(found)), _refused_registers
+    )
     return found
 
 
 def image_of(registers: Memory, width: int) -> bytes:
-    """The image of registers, with the words from which others estimate."""
+    """The image of registers, with the fields from which others estimate."""
     try:
         return _written(
             _library.hll_registers_image, 64 + len(registers), registers, len(registers), width

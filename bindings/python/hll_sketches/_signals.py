@@ -21,7 +21,7 @@ def end_at_once() -> None:
 
 @contextmanager
 def held_back(*signals: signal.Signals) -> Iterator[None]:
-    """Signals that come meanwhile are delivered behind it."""
+    """Signals that come meanwhile are delivered after it."""
     before = signal.pthread_sigmask(signal.SIG_BLOCK, signals)
     try:
         yield

@@ -22,7 +22,7 @@ def add_lines(
 ) -> Tuple[bytes, int]:
     """The image with each line of a stream as a value, and how many lines there were.
 
-    A line is its bytes without the LF. An empty line is a value like any other; behind the last LF
+    A line is its bytes without the LF. An empty line is a value like any other; after the last LF
     is no line, unless bytes follow.
 
     Parameters

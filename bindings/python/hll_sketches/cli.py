@@ -71,7 +71,7 @@ def _with_output(parser: argparse.ArgumentParser, **more: Any) -> None:
 
 
 def _with_plain(parser: argparse.ArgumentParser) -> None:
-    help_ = "set the words from which other libraries estimate to zero, as hll_merge does"
+    help_ = "set the fields from which other libraries estimate to zero, as hll_merge does"
     parser.add_argument("--plain", action="store_true", help=help_)
 
 
@@ -179,7 +179,7 @@ _COMMANDS = (
 _MORE = {
     "merge": "Each file that is refused is named; then nothing is written, but with --skip-bad. "
     "Each file that makes the answer coarser is named too.",
-    "estimate": "The number of one file stands alone; that of several has the name behind it.",
+    "estimate": "The number of one file stands alone; that of several has the name after it.",
     "check": "A file that is a sketch is passed over in silence.",
     "fold": "The answer is what the sketch would be, had it been made with that lg_k.",
     "diff": "Status 0: they agree, once folded to the smaller lg_k. 1: they differ. 2: trouble.",

@@ -17,7 +17,7 @@ from ._names import shown
 from .files import STANDARD, UNUSABLE, OutputTrouble, Trouble, bytes_of_file, check_output
 from .files import image_of_file, image_trouble, of_file, write_file
 from .finding import Tell, found, names_in
-from .layout import STAGES, flags_of, registers_of, size_of, words_of
+from .layout import STAGES, estimator_fields_of, flags_of, registers_of, size_of
 from .precision import DEFAULT, Precision
 from .progress import Bar
 
@@ -76,11 +76,11 @@ def each(names: List[str], call: Callable[[str], None]) -> int:
 def finished(image: bytes, plain: bool) -> bytes:
     """The image as it is written: other libraries can estimate from it, unless it is to be plain.
 
-    Words that another library put there are kept.
+    Estimator fields that another library put there are kept.
     """
     if plain:
-        return _library.clear_estimator_words(image)
-    return _library.set_estimator_words(image) if words_of(image) == "zero" else image
+        return _library.clear_estimator_fields(image)
+    return _library.set_estimator_fields(image) if estimator_fields_of(image) == "zero" else image
 
 
 def put(options: Namespace, image: bytes, **more: object) -> int:
@@ -120,7 +120,7 @@ def summary(image: bytes, deviations: int = 2) -> Record:
     named = dict(zip(("hip", "kxq0", "kxq1"), numbers))
     kept = _library.hip_estimation(image)
     named["hip_estimate"] = None if kept is None else kept.estimate
-    return {**record, "zeros": told.zeros, "words": words_of(image), **named}
+    return {**record, "zeros": told.zeros, "estimator_fields": estimator_fields_of(image), **named}
 
 
 def rounded(number: Optional[float]) -> str:
@@ -128,8 +128,8 @@ def rounded(number: Optional[float]) -> str:
     return "infinite" if number is None else f"{number:,.0f}"
 
 
-_WORDS = {
-    "zero": "zero: other libraries can't estimate from it",
+_FIELDS = {
+    "zero": "zero: other libraries can't estimate from them",
     "set": "set: other libraries estimate from them",
     "other": "those of another program",
 }
@@ -149,7 +149,7 @@ def described(name: str, told: Record) -> str:
     if "coupons" in told:
         rows.append(("coupons", f"{told['coupons']:,}"))
     else:
-        rows += [("zeros", f"{told['zeros']:,}"), ("words", _WORDS[told["words"]])]
+        rows += [("zeros", f"{told['zeros']:,}"), ("fields", _FIELDS[told["estimator_fields"]])]
         if told["hip_estimate"] is not None:
             rows.append(("hip", f"{rounded(told['hip_estimate'])}, as its writer counted"))
     rows.append(("flags", ", ".join(told["flags"]) or "none"))

@@ -14,8 +14,8 @@ The functions ``union_of_*`` and ``union_by_key`` build a tree of tasks and retu
 ``sketch_aggregation`` and ``union_aggregation`` are for ``groupby(..).agg(..)`` of a Dask data
 frame, where ``split_every`` and ``split_out`` say how its tree is built.
 
-A task reads images and gives the image of their union; the tasks above join such images, a few at a
-time. The union is the same however images are grouped, ordered or repeated. So a task that is run
+A task reads images and gives the image of their union; the tasks above merge such images, a few at
+a time. The union is the same however images are grouped, ordered or repeated. So a task that is run
 again, because its worker was lost, changes nothing.
 
 No task warns of sketches that make a union coarser: the ``lg_k`` of the answer tells.
@@ -35,7 +35,7 @@ from dask.delayed import delayed
 
 from ._errors import ArgumentError, ImageError
 from .sketch import Sketch, check, checked_lg_k, checked_width
-from .union import Source, joined
+from .union import Source, merged
 
 __all__ = [
     "LeftOut",
@@ -117,7 +117,7 @@ def _bounds(lg_max_k: int, on_error: str) -> _Bounds:
 
 def _image_of(images: Iterable[Source], lg_max_k: int) -> bytes:
     """The image of a union, for the tasks above."""
-    return joined(images, lg_max_k).to_bytes()
+    return merged(images, lg_max_k).to_bytes()
 
 
 def _accepted(
@@ -218,12 +218,12 @@ def _answer(union: Any, parts: Sequence[Tuple[Any, Refused]], bounds: _Bounds) -
     return LeftOut(union, _all_refused(parts)) if bounds.skips else union
 
 
-def _joined(parts: List[Part], bounds: _Bounds) -> Part:
+def _merged(parts: List[Part], bounds: _Bounds) -> Part:
     return _image_of((image for image, _ in parts), bounds.lg_max_k), _all_refused(parts)
 
 
 def _sketch_of(parts: List[Part], bounds: _Bounds, width: int) -> Any:
-    union = joined((image for image, _ in parts), bounds.lg_max_k, width)
+    union = merged((image for image, _ in parts), bounds.lg_max_k, width)
     return _answer(union, parts, bounds)
 
 
@@ -235,18 +235,18 @@ def _collected(parts: List[Parts]) -> Dict[Hashable, List[bytes]]:
     return collected
 
 
-def _joined_by_key(parts: List[Parts], bounds: _Bounds) -> Parts:
-    joined_parts = {
+def _merged_by_key(parts: List[Parts], bounds: _Bounds) -> Parts:
+    merged_parts = {
         key: _image_of(images, bounds.lg_max_k) for key, images in _collected(parts).items()
     }
-    return joined_parts, _all_refused(parts)
+    return merged_parts, _all_refused(parts)
 
 
 def _series_of(parts: List[Parts], bounds: _Bounds, width: int, key: Key, image: str) -> Any:
     import pandas
 
     images = {
-        one: joined(of_key, bounds.lg_max_k, width).to_bytes()
+        one: merged(of_key, bounds.lg_max_k, width).to_bytes()
         for one, of_key in _collected(parts).items()
     }
     if isinstance(key, str):
@@ -277,15 +277,25 @@ def _files_per_task(count: int) -> int:
 
 
 def _tree(
-    parts: List[Any], join: Callable[..., Any], finish: Callable[..., Any], split_every: int
+    parts: List[Any], merge: Callable[..., Any], finish: Callable[..., Any], split_every: int
 ) -> Any:
-    """Parts joined, so many at a time, until one task can finish the rest."""
+    """Parts merged, so many at a time, until one task can finish the rest."""
     if split_every < 2:
         raise ValueError(f"split_every is 2 or more, not {split_every}")
-    join, finish = delayed(join, pure=False), delayed(finish, pure=False)
+    merge, finish = delayed(merge, pure=False), delayed(finish, pure=False)
     while len(parts) > split_every:
-        parts = [join(parts[n : n + split_every]) for n in range(0, len(parts), split_every)]
+        parts = [merge(parts[n : n + split_every]) for n in range(0, len(parts), split_every)]
     return finish(parts)
+
+
+def _union_of_parts(parts: List[Any], bounds: _Bounds, width: int, split_every: int) -> Any:
+    """The union of parts that each are a union already."""
+    return _tree(
+        parts,
+        partial(_merged, bounds=bounds),
+        partial(_sketch_of, bounds=bounds, width=width),
+        split_every,
+    )
 
 
 def _files_of(paths: Either[str, Iterable[Path]], options: Dict[str, Any]) -> List[File]:
@@ -329,7 +339,7 @@ def union_of_files(
         How many files a task reads. By default there are two tasks for each thread of the cluster,
         of 64 to 4,096 files.
     split_every : int
-        How many images a task joins.
+        How many images a task merges.
 
     Returns
     -------
@@ -353,12 +363,7 @@ def union_of_files(
         some = files[first : first + files_per_task]
         read = partial(_union_of_files, some, first, options, bounds)
         parts.append(delayed(read, name=False, pure=False)())
-    return _tree(
-        parts,
-        partial(_joined, bounds=bounds),
-        partial(_sketch_of, bounds=bounds, width=width),
-        split_every,
-    )
+    return _union_of_parts(parts, bounds, width, split_every)
 
 
 def union_of_bag(
@@ -387,12 +392,7 @@ def union_of_bag(
     bounds, width = _bounds(lg_max_k, on_error), checked_width(width)
     union = delayed(partial(_union_of_items, bounds=bounds), pure=False)
     parts = [union(items, partition=number) for number, items in enumerate(bag.to_delayed())]
-    return _tree(
-        parts,
-        partial(_joined, bounds=bounds),
-        partial(_sketch_of, bounds=bounds, width=width),
-        split_every,
-    )
+    return _union_of_parts(parts, bounds, width, split_every)
 
 
 def union_by_key(
@@ -433,7 +433,7 @@ def union_by_key(
     parts = [union(frame, partition=number) for number, frame in enumerate(dataframe.to_delayed())]
     return _tree(
         parts,
-        partial(_joined_by_key, bounds=bounds),
+        partial(_merged_by_key, bounds=bounds),
         partial(_series_of, bounds=bounds, width=width, key=key, image=image),
         split_every,
     )
@@ -473,11 +473,11 @@ def _image_of_column(column: Any, lg_max_k: int) -> bytes:
 
 
 def _at_width(image: bytes, lg_max_k: int, width: int) -> bytes:
-    return joined([image], lg_max_k, width).to_bytes()
+    return merged([image], lg_max_k, width).to_bytes()
 
 
 def _aggregation(name: str, of_column: Callable[[Any], bytes], lg_max_k: int, width: int) -> Any:
-    """An aggregation whose parts are images, which are joined and get their width at the end."""
+    """An aggregation whose parts are images, which are merged and get their width at the end."""
     from dask.dataframe import Aggregation
 
     return Aggregation(
@@ -511,7 +511,7 @@ def sketch_aggregation(lg_k: int = 12, width: int = 8) -> Any:
 
 
 def union_aggregation(lg_max_k: int = 12, width: int = 8) -> Any:
-    """Return an aggregation that joins the images of each group.
+    """Return an aggregation that merges the images of each group.
 
         frame.groupby("day").agg({"image": union_aggregation()}, split_out=4)
 

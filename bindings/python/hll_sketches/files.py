@@ -122,7 +122,7 @@ def _read_up_to(place: int, most: int) -> bytes:
 
 
 def _read_image(place: int) -> bytes:
-    """The bytes of an image, and perhaps some behind it, but never many."""
+    """The bytes of an image, and perhaps some after it, but never many."""
     data = _read_up_to(place, PIECE)
     if len(data) < PIECE:
         return data
@@ -202,7 +202,7 @@ def _write_all(place: int, data: bytes) -> None:
 
 
 def _write_standard(data: bytes) -> None:
-    """Writes to standard output, behind what was printed."""
+    """Writes to standard output, after what was printed."""
     try:
         if sys.stdout is not None:
             sys.stdout.flush()
@@ -228,17 +228,17 @@ def _fill(place: int, data: bytes, mode: Optional[int]) -> None:
 
 
 @contextmanager
-def _beside(path: str) -> Iterator[str]:
+def _temporary(path: str) -> Iterator[str]:
     """A name in the same folder, which walks pass over. While a file has it, signals wait; at the
     end none has it."""
     name = f".hll-{os.getpid()}-{os.urandom(8).hex()}"
-    beside = os.path.join(os.path.dirname(path), name)
+    temporary = os.path.join(os.path.dirname(path), name)
     with held_back(*ENDING):
         try:
-            yield beside
+            yield temporary
         finally:
             with suppress(FileNotFoundError):
-                os.unlink(beside)
+                os.unlink(temporary)
 
 
 def _named(place: int, name: str) -> bool:
@@ -260,10 +260,10 @@ def _replace_by_link(path: str, data: bytes, mode: Optional[int]) -> bool:
         return False
     try:
         _fill(place, data, mode)
-        with _beside(path) as beside:
-            if not _named(place, beside):
+        with _temporary(path) as temporary:
+            if not _named(place, temporary):
                 return False
-            os.replace(beside, path)
+            os.replace(temporary, path)
         return True
     finally:
         os.close(place)
@@ -271,13 +271,13 @@ def _replace_by_link(path: str, data: bytes, mode: Optional[int]) -> bool:
 
 def _replace_by_name(path: str, data: bytes, mode: Optional[int]) -> None:
     """Writes a file under another name first. Signals wait until it is written."""
-    with _beside(path) as beside:
-        place = os.open(beside, os.O_WRONLY | os.O_CREAT | os.O_EXCL | os.O_CLOEXEC, 0o666)
+    with _temporary(path) as temporary:
+        place = os.open(temporary, os.O_WRONLY | os.O_CREAT | os.O_EXCL | os.O_CLOEXEC, 0o666)
         try:
             _fill(place, data, mode)
         finally:
             os.close(place)
-        os.replace(beside, path)
+        os.replace(temporary, path)
 
 
 def _sync_folder(folder: str) -> None:

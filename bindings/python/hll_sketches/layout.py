@@ -9,14 +9,14 @@ from . import _library
 
 STAGES = ("list", "set", "registers")
 HEADER = 40
-"""The bytes of a header with its words and counts; those of a list or a set are shorter."""
+"""The bytes of a header with estimator fields and counts; that of a list or a set is shorter."""
 
 _FLAGS = ((4, "empty"), (8, "compact"), (16, "out of order"))
 _MOST_COUPONS = 1 << 18
 
 
 def _list_size(image: bytes) -> int:
-    """The bytes of a list: none behind the header where it is empty."""
+    """The bytes of a list: none after the header where it is empty."""
     if image[5] & 4:
         return 8
     return 8 + 4 * (min(image[6], 8) if image[5] & 8 else 8)
@@ -42,8 +42,8 @@ def _registers_size(image: bytes) -> int:
 def size_of(image: bytes) -> int:
     """How many bytes the image takes, as its first ``HEADER`` bytes say.
 
-    Where they are refused, so many bytes are refused for the same reason. The others behind them
-    are not looked at by any call.
+    Where they are refused, so many bytes are refused for the same reason. The bytes after them are
+    not looked at by any call.
     """
     if len(image) < 8 or not _library.LEAST_LG_K <= image[3] <= _library.MOST_LG_K:
         return HEADER
@@ -69,8 +69,8 @@ def flags_of(image: bytes) -> List[str]:
     return [name for bit, name in _FLAGS if image[5] & bit]
 
 
-def words_of(image: bytes) -> str:
-    """What the estimator words of an image are.
+def estimator_fields_of(image: bytes) -> str:
+    """What the estimator fields of an image are.
 
     ``"none"`` for a list or a set, ``"zero"``, ``"set"`` where they are the sums of 2^-v over the
     values v of the registers, and ``"other"`` where another program put its own there.
@@ -79,7 +79,7 @@ def words_of(image: bytes) -> str:
         return "none"
     if not any(image[8:32]):
         return "zero"
-    summed = _library.set_estimator_words(image)
+    summed = _library.set_estimator_fields(image)
     return "set" if image[8:32] == summed[8:32] and image[5] & 16 else "other"
 
 

@@ -2,7 +2,7 @@
 """Merges of many files, as a tree over processes.
 
 Files go to processes in groups. A process reads the files of its group in batches of bounded bytes,
-and gives the image of their union; these images are joined as they come. The union is the same
+and gives the image of their union; these images are merged as they come. The union is the same
 however files are grouped, so neither the number of processes nor their order makes a difference.
 """
 from __future__ import annotations
@@ -87,7 +87,7 @@ def _trouble_of(name: str, image: bytes, min_lg_k: int) -> Optional[Trouble]:
     return None
 
 
-class _Joined:
+class _Merged:
     """The union of files, a batch of bounded bytes at a time."""
 
     def __init__(self, bounds: Bounds) -> None:
@@ -110,17 +110,17 @@ class _Joined:
         self._images.append(image)
         self._bytes += len(image)
         if self._bytes >= BATCH_BYTES:
-            self.join()
+            self.merge()
 
-    def join(self) -> None:
-        """Joins the files of the batch."""
+    def merge(self) -> None:
+        """Merges the files of the batch."""
         if may_be_below(self._images, self.bounds.min_lg_k):
             self._leave_out()
         try:
-            self._unite()
+            self._merge_images()
         except ImageError:
             self._leave_out()
-            self._unite()
+            self._merge_images()
         self._names, self._images, self._bytes = [], [], 0
 
     def _leave_out(self) -> None:
@@ -135,7 +135,7 @@ class _Joined:
             else:
                 self.troubles.append(trouble)
 
-    def _unite(self) -> None:
+    def _merge_images(self) -> None:
         if not self._images:
             return
         self.image = _library.union(self.bounds.lg_k, 8, [self.image, *self._images])
@@ -145,11 +145,11 @@ class _Joined:
 
 def union_of_group(bounds: Bounds, names: Group) -> Part:
     """The union of the files of a group at eight bits; those that are refused are left out."""
-    joined = _Joined(bounds)
+    kept = _Merged(bounds)
     for name in names:
-        joined.take(name)
-    joined.join()
-    return Part(joined.image, joined.count, joined.troubles, joined.precision)
+        kept.take(name)
+    kept.merge()
+    return Part(kept.image, kept.count, kept.troubles, kept.precision)
 
 
 # ---- the tree
@@ -267,7 +267,7 @@ def union_of_files(
         if part.merged:
             image = _library.union(lg_k, 8, [image, part.image]) if count else part.image
             count += part.merged
-            precision.join(part.precision)
+            precision.merge(part.precision)
         if more is not None:
             more(part.merged + len(part.troubles))
     return Merged(image if width == 8 else _library.convert(image, width), count, precision)

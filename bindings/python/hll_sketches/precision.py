@@ -88,8 +88,8 @@ class Precision(Generic[_Name]):
             self.names = (self.names + names)[:SHOWN]
             self.count += count
 
-    def join(self, other: Precision[_Name]) -> None:
-        """Takes in what was seen of other sketches, behind these."""
+    def merge(self, other: Precision[_Name]) -> None:
+        """Takes in what was seen of other sketches, after these."""
         self.least, self.most = min(self.least, other.least), max(self.most, other.most)
         if other.count:
             self._lower(other.lowest, other.names, other.count)

@@ -5,7 +5,7 @@ from __future__ import annotations
 from typing import Any, Iterable, List, Tuple, Type, TypeVar, Union
 
 from . import _library
-from ._columns import batch_of, words_in
+from ._columns import batch_of, raw_coupons_in
 from ._errors import ArgumentError, PrecisionError
 from ._locks import Lock
 from ._values import Value, batches, bytes_of
@@ -17,7 +17,7 @@ class Registers:
     """The registers of a sketch, a byte for each: ``2**lg_k`` bytes, all 0 at first.
 
     They count like a ``Sketch``, in constant memory: values, coupons, sketches and images are
-    joined into them where they lie. The same values give the same bytes, in every order, however
+    merged into them where they lie. The same values give the same bytes, in every order, however
     often, and however they were grouped. Any number of threads may use an object at once; where
     two objects lie over the same memory, one at a time may be changed.
 
@@ -92,12 +92,12 @@ class Registers:
         with self._lock:
             _library.add_to(self._place, *batch)
 
-    def add_coupons(self, words: Iterable[int]) -> None:
+    def add_coupons(self, raw_coupons: Iterable[int]) -> None:
         """Add coupons: what ``coupons`` gives of values.
 
         Parameters
         ----------
-        words : iterable of int
+        raw_coupons : iterable of int
             ``value * 2**26 + slot``, with a value of 1 to 63 and a slot below ``2**26``. An
             ``array`` of 32 bits is taken as it is.
 
@@ -106,13 +106,13 @@ class Registers:
         ArgumentError
             If one is no coupon. Then none was added.
         """
-        taken = words_in(words)
+        taken = raw_coupons_in(raw_coupons)
         if taken:
             with memoryview(taken), self._lock:     # no thread can resize it meanwhile
                 _library.add_coupons_to(self._place, taken)
 
-    def join(self, other: Union[Sketch, "Registers", bytes, bytearray, memoryview]) -> None:
-        """Take in a sketch, its image, or other registers, which are folded to these.
+    def merge(self, other: Union[Sketch, "Registers", bytes, bytearray, memoryview]) -> None:
+        """Merge a sketch, its image, or other registers, which are folded to these.
 
         Raises
         ------
@@ -125,11 +125,11 @@ class Registers:
         if isinstance(other, Registers):
             copied = memoryview(other._bytes())     # both may lie over the same memory
             with self._lock:
-                fewer = _library.join_registers(self._place, _library.place_of(copied))
+                fewer = _library.merge_registers(self._place, _library.place_of(copied))
         else:
             image = other.to_bytes() if isinstance(other, Sketch) else data_in(other)
             with self._lock:
-                fewer = _library.join_image(self._place, image)
+                fewer = _library.merge_image(self._place, image)
         if fewer is not None:
             raise PrecisionError(fewer, self.lg_k, 0)
 
@@ -153,7 +153,7 @@ class Registers:
     def to_bytes(self, width: int = 8) -> bytes:
         """Return the image of a sketch in these registers.
 
-        It has the words from which other DataSketches libraries estimate.
+        It has the fields from which other DataSketches libraries estimate.
 
         Parameters
         ----------

@@ -57,7 +57,7 @@ def check(image: Union[bytes, bytearray, memoryview]) -> Optional[str]:
     Parameters
     ----------
     image : bytes, bytearray or memoryview
-        Bytes behind the image are not looked at.
+        Bytes after the image are not looked at.
 
     Returns
     -------
@@ -143,7 +143,7 @@ class Sketch:
         Parameters
         ----------
         image : bytes, bytearray or memoryview
-            The image; bytes behind it are not looked at.
+            The image; bytes after it are not looked at.
 
         Raises
         ------
@@ -157,18 +157,18 @@ class Sketch:
         """Return the image: compact, with coupons in ascending order.
 
         Equal sketches have equal images, but for sets that were read in tables of two sizes.
-        Registers have the words from which other DataSketches libraries estimate; words that
+        Registers have the fields from which other DataSketches libraries estimate; fields that
         another library wrote are kept while nothing changes.
 
         Parameters
         ----------
         plain : bool
-            Whether the words are zero, as the program ``hll_merge`` writes them. Other libraries
-            estimate infinity from those.
+            Whether these fields are zero, as the program ``hll_merge`` writes them. Other
+            libraries estimate infinity from those.
         """
         if self._pending:
             self._apply()
-        return _library.clear_estimator_words(self._image) if plain else self._image
+        return _library.clear_estimator_fields(self._image) if plain else self._image
 
     def __bytes__(self) -> bytes:
         return self.to_bytes()
@@ -223,7 +223,7 @@ class Sketch:
             0.0 and one NaN for all. So ``1``, ``1.0`` and ``"1"`` are three values, and ``-1`` is
             the same as ``2**64 - 1``. The DataSketches libraries for Java and C++ hash the same
             bytes, but they pass over an empty string, which is a value like any other here. That
-            for Rust, and ``update`` of the Rattle crates, hash a ``str`` with a byte ff behind it:
+            for Rust, and ``update`` of the Rattle crates, hash a ``str`` with a byte ff after it:
             ``"ann"`` from there is another value.
 
         Raises
@@ -262,7 +262,7 @@ class Sketch:
         Parameters
         ----------
         data : bytes, or what shows bytes
-            All of them, without a gap. Bytes behind the last end are not looked at.
+            All of them, without a gap. Bytes after the last end are not looked at.
         ends : iterable of int, or integers in memory
             The end of each; the first one begins at 0. (Offsets of Arrow begin with that 0, unless
             the array is a slice: leave it out.)
@@ -370,13 +370,13 @@ class Sketch:
         """
         return self._of(_library.convert(self.to_bytes(), checked_width(width)))
 
-    def with_estimator_words(self: _S) -> _S:
-        """Return the same sketch with the words that follow from its registers.
+    def with_estimator_fields(self: _S) -> _S:
+        """Return the same sketch with the estimator fields that follow from its registers.
 
-        It has them anyway, unless it was read with words that another DataSketches library wrote
+        It has them anyway, unless it was read with fields that another DataSketches library wrote
         while it added values one by one, and was not changed since.
         """
-        return self._of(_library.set_estimator_words(self.to_bytes()))
+        return self._of(_library.set_estimator_fields(self.to_bytes()))
 
     # ---- what it is
 

@@ -63,7 +63,7 @@ class Union:
     """The union of sketches: the sketch of all values that any of them has.
 
     Order and repetition of the sketches make no difference to its registers, nor does it whether
-    some of them were joined first under the same ``lg_max_k``; nor to its bytes, where all are as
+    some of them were merged first under the same ``lg_max_k``; nor to its bytes, where all are as
     this library makes them. Any number of threads may use a union at once.
 
     Parameters
@@ -201,7 +201,7 @@ def warn_of_precision(
         warnings.warn(words, PrecisionWarning, level + 1)
 
 
-def joined(sketches: Iterable[Source], lg_max_k: int, width: int = 8) -> Sketch:
+def merged(sketches: Iterable[Source], lg_max_k: int, width: int = 8) -> Sketch:
     """The union of sketches or images, without a word about its precision."""
     taken = _Taken(lg_max_k)
     taken.take_all(sketches)

@@ -10,8 +10,7 @@ import warnings
 sys.dont_write_bytecode = True
 PACKAGE = pathlib.Path(__file__).resolve().parent.parent
 ROOT = PACKAGE.parent.parent
-ROWS = ROOT / "crates" / "hll_vectors" / "stdin"
-sys.path[:0] = [str(PACKAGE), str(ROOT / "bench")]
+sys.path[:0] = [str(PACKAGE), str(ROOT / "tests")]
 
 
 def program():

@@ -25,7 +25,7 @@ class Mutants:
         return self.random.randint(least, most)
 
     def coupons(self, count):
-        """Distinct raw words of coupons."""
+        """Distinct raw coupons."""
         made = set()
         while len(made) < count:
             made.add(self.within(1, 63) << 26 | self.random.getrandbits(26))

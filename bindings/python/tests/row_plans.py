@@ -1,7 +1,5 @@
 # SPDX-License-Identifier: Apache-2.0
 """Plans of rows, carried out by the package alone."""
-import re
-
 from hll_sketches import ArgumentError, ImageError, Sketch, check, union_of
 
 
@@ -20,24 +18,6 @@ def with_words(answer):
     if mark not in ("=", "+"):
         return answer
     return "= " + Sketch.from_bytes(bytes.fromhex(digits)).to_bytes().hex()
-
-
-def rows(path):
-    """Each row of a text of rows: its plan as bytes, and its answer."""
-    lines = []
-    for line in [*path.read_text("ascii").split("\n"), ""]:
-        if line.startswith("//"):
-            continue
-        if line:
-            lines.append(line)
-        elif lines:
-            yield b"\n".join(map(unescaped, lines[:-1])), lines[-1]
-            lines = []
-
-
-def unescaped(line):
-    byte = re.compile(rb"\\([0-9a-fA-F]{2})")
-    return byte.sub(lambda found: bytes([int(found[1], 16)]), line.encode("ascii"))
 
 
 def run_line(words, sketches):

@@ -15,48 +15,11 @@ import common
 import hll_sketches
 from hll_sketches import ArgumentError, HllError, ImageError, Sketch, Union, _library, check
 from hll_sketches import coupon, coupons, is_small, union_of
+from plain_hash import coupon_of, hash_of
 
 EMPTY = bytes.fromhex("0201070a030c0008")
 ONE = bytes.fromhex("0201070a030801080500000c")
 OUTSIDE = (-1, 0, 3, 22, 255, 256 + 12, 2**64)
-
-
-def murmur(data, seed=9001):
-    """MurmurHash3, x64, 128 bits, as docs/FORMAT.md has it."""
-    mask, c1, c2 = 2**64 - 1, 0x87C37B91114253D5, 0x4CF5AD432745937F
-
-    def rotated(x, n):
-        return (x << n | x >> (64 - n)) & mask
-
-    def first(k):
-        return rotated(k * c1 & mask, 31) * c2 & mask
-
-    def second(k):
-        return rotated(k * c2 & mask, 33) * c1 & mask
-
-    def mixed(x):
-        for factor in (0xFF51AFD7ED558CCD, 0xC4CEB9FE1A85EC53):
-            x = (x ^ x >> 33) * factor & mask
-        return x ^ x >> 33
-
-    h1 = h2 = seed
-    full = len(data) // 16 * 16
-    for at in range(0, full, 16):
-        k1, k2 = struct.unpack_from("<QQ", data, at)
-        h1 = ((rotated(h1 ^ first(k1), 27) + h2) * 5 + 0x52DCE729) & mask
-        h2 = ((rotated(h2 ^ second(k2), 31) + h1) * 5 + 0x38495AB5) & mask
-    k1, k2 = struct.unpack("<QQ", data[full:].ljust(16, b"\0"))
-    h1, h2 = h1 ^ first(k1) ^ len(data), h2 ^ second(k2) ^ len(data)
-    h1 = (h1 + h2) & mask
-    h2 = (h2 + h1) & mask
-    h1, h2 = mixed(h1), mixed(h2)
-    h1 = (h1 + h2) & mask
-    return h1, (h2 + h1) & mask
-
-
-def plain_coupon(data):
-    low, high = murmur(data)
-    return min(64 - high.bit_length(), 62) + 1 << 26 | low % 2**26
 
 
 class IsSmallTest(unittest.TestCase):
@@ -77,14 +40,14 @@ class IsSmallTest(unittest.TestCase):
 
 class ValuesTest(unittest.TestCase):
     def test_known_hashes(self):
-        self.assertEqual(murmur(b"", 0), (0, 0))
+        self.assertEqual(hash_of(b"", 0), (0, 0))
         fox = b"The quick brown fox jumps over the lazy dog"
-        self.assertEqual(murmur(fox, 0), (0xE34BBC7BBC071B6C, 0x7A433CA9C49A9347))
+        self.assertEqual(hash_of(fox, 0), (0xE34BBC7BBC071B6C, 0x7A433CA9C49A9347))
 
     def test_coupons_of_bytes(self):
         source = random.Random(3)
         values = [source.randbytes(length) for length in range(100)]
-        wanted = [plain_coupon(value) for value in values]
+        wanted = [coupon_of(value) for value in values]
         self.assertEqual([coupon(value) for value in values], wanted)
         self.assertEqual(list(coupons(values)), wanted)
         self.assertEqual(list(coupons([])), [])
@@ -101,8 +64,8 @@ class ValuesTest(unittest.TestCase):
         ]
         for value, data in rows:
             with self.subTest(value=value):
-                self.assertEqual(coupon(value), plain_coupon(data))
-                self.assertEqual(list(coupons([value])), [plain_coupon(data)])
+                self.assertEqual(coupon(value), coupon_of(data))
+                self.assertEqual(list(coupons([value])), [coupon_of(data)])
                 one, many, mixed = Sketch(), Sketch(), Sketch()
                 one.update(value)
                 many.update_many([value])
@@ -277,12 +240,12 @@ class SketchTest(unittest.TestCase):
             self.assertFalse(large.agrees_with(self.filled(8, width, 40000)))
         self.assertFalse(self.filled(count=10).agrees_with(self.filled(count=11)))
 
-    def test_estimator_words(self):
+    def test_estimator_fields(self):
         sketch = self.filled(8)
         image, plain = sketch.to_bytes(), sketch.to_bytes(plain=True)
         low = sum(2.0**-value for value in image[40:] if value < 32)
         self.assertEqual(struct.unpack("<3d", image[8:32]), (0.0, low, 0.0))
-        self.assertEqual(sketch.with_estimator_words(), sketch)
+        self.assertEqual(sketch.with_estimator_fields(), sketch)
         self.assertEqual(plain, image[:8] + bytes(24) + image[32:])
         self.assertEqual(Sketch.from_bytes(plain).to_bytes(), image)
         foreign = bytearray(image)
@@ -291,9 +254,9 @@ class SketchTest(unittest.TestCase):
         kept = Sketch.from_bytes(foreign)
         self.assertEqual(kept.to_bytes(), foreign)
         self.assertEqual(kept.to_bytes(plain=True), plain)
-        self.assertEqual(kept.with_estimator_words().to_bytes(), image)
+        self.assertEqual(kept.with_estimator_fields().to_bytes(), image)
         few = self.filled(8, count=5)
-        self.assertEqual(few.with_estimator_words(), few)
+        self.assertEqual(few.with_estimator_fields(), few)
         self.assertEqual(few.to_bytes(plain=True), few.to_bytes())
 
     def test_images(self):

@@ -235,13 +235,13 @@ class InfoTest(CommandTest):
         self.assertEqual((told["lower"], told["upper"]), made.bounds(2))
         self.assertEqual((told["estimate"], told["deviations"]), (made.estimate(), 2))
         if made.stage == "registers":
-            self.assertEqual((told["zeros"], told["words"]), (made.num_zeros, "set"))
+            self.assertEqual((told["zeros"], told["estimator_fields"]), (made.num_zeros, "set"))
             self.assertIn("out of order", told["flags"])
             sums = [0.5**value * count for value, count in enumerate(made.histogram())]
             self.assertEqual((told["kxq0"], told["hip"]), (sum(sums[:32]), 0))
             self.assertIsNone(told["hip_estimate"])
         else:
-            self.assertEqual((told["coupons"], "words" in told), (made.num_coupons, False))
+            self.assertEqual((told["coupons"], "estimator_fields" in told), (made.num_coupons, False))
             self.assertEqual("empty" in told["flags"], made.is_empty)
 
     def test_a_kept_estimate(self):
@@ -263,15 +263,15 @@ class InfoTest(CommandTest):
         self.assertEqual(rows["width"], "8 bits")
         self.assertEqual(rows["bounds"], f"{low:,.0f} to {high:,.0f}, at 1 standard deviations")
         self.assertEqual((rows["lg_k"], rows["bytes"]), ("12, so 4,096 registers", "4,136"))
-        self.assertEqual((rows["flags"], rows["words"][:4]), ("out of order", "set:"))
+        self.assertEqual((rows["flags"], rows["fields"][:4]), ("out of order", "set:"))
 
     def test_words(self):
         made = sketch_of(range(30_000))
         image = made.to_bytes()
         pairs = ((made.to_bytes(plain=True), "zero"), (foreign(image), "other"), (image, "set"))
         for data, word in pairs:
-            self.assertEqual(layout.words_of(data), word)
-        self.assertEqual(layout.words_of(Sketch().to_bytes()), "none")
+            self.assertEqual(layout.estimator_fields_of(data), word)
+        self.assertEqual(layout.estimator_fields_of(Sketch().to_bytes()), "none")
 
     def test_estimates(self):
         self.write("a.hll", image_of(range(1000)))
@@ -445,7 +445,7 @@ class DiffTest(CommandTest):
 
 class LayoutTest(unittest.TestCase):
     def test_sizes(self):
-        """An image ends where its size says, and what is behind it changes no answer."""
+        """An image ends where its size says, and what is after it changes no answer."""
         accepted = refused = 0
         for number, kind in enumerate(KINDS):
             mutants = Mutants(kind, 100 + number)

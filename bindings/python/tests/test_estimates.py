@@ -7,7 +7,7 @@ import unittest
 
 import common  # noqa: F401, for the path
 from hll_sketches import Sketch
-from shared import image_of
+from plain_images import image_of
 
 
 def sigma(x):

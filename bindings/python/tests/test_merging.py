@@ -96,7 +96,7 @@ class MergeTest(LaidOut):
                 self.assertEqual(err == "", lg_k < 8)
                 told = self.run_hll("merge", "all", "-o", "one.hll", "--plain", *options)
                 self.assertEqual((told, self.read("one.hll")), ((0, b"", err), wanted))
-                with_words = Sketch.from_bytes(wanted).with_estimator_words().to_bytes()
+                with_words = Sketch.from_bytes(wanted).with_estimator_fields().to_bytes()
                 told = self.run_hll("merge", "all", "-o", "-", *options)
                 self.assertEqual(told, (0, with_words, err))
                 self.assertNotEqual(with_words, wanted)
@@ -143,7 +143,7 @@ class MergeTest(LaidOut):
         names = self.lay_out() * 5
         self.write("bad", b"no")
         self.write("list", "".join(f"{name}\n" for name in [*names, "bad"]).encode())
-        wanted = union_of(IMAGES).with_estimator_words().to_bytes()
+        wanted = union_of(IMAGES).with_estimator_fields().to_bytes()
         extra = Sketch()
         extra.update_many(range(10**9, 10**9 + 9999))
         words = ["merge", "-", "--files-from", "list", "-o", "one.hll", "--jobs", 3, "--skip-bad"]
@@ -152,14 +152,14 @@ class MergeTest(LaidOut):
         self.assertEqual((status, err), (0, "hll: bad: image truncated (left out)\n" + lines))
         told = json.loads(out)
         self.assertEqual((told["merged"], len(told["left_out"])), (5 * FILES + 1, 1))
-        both = union_of([*IMAGES, extra]).with_estimator_words().to_bytes()
+        both = union_of([*IMAGES, extra]).with_estimator_fields().to_bytes()
         self.assertEqual(self.read("one.hll"), both)
         self.assertNotEqual(both, wanted)
 
     def test_a_process_that_is_lost(self):
         names = [str(self.folder / name) for name in self.lay_out(IMAGES[:9])]
         with mock.patch.object(merging, "GROUP", 1), \
-                mock.patch.object(merging, "_Joined", lambda bounds: os._exit(3)), \
+                mock.patch.object(merging, "_Merged", lambda bounds: os._exit(3)), \
                 self.assertRaises(files.Trouble) as caught:
             merging.union_of_files(names, Bounds(12), 8, 2, self.fail)
         words = "merge: a process ended before its work was done"
@@ -167,7 +167,7 @@ class MergeTest(LaidOut):
 
     def test_lists_of_names(self):
         names = self.lay_out(IMAGES[:20])
-        wanted = union_of(IMAGES[:20]).with_estimator_words().to_bytes()
+        wanted = union_of(IMAGES[:20]).with_estimator_fields().to_bytes()
         for end, more in (("\n", []), ("\0", ["-0"])):
             given = end.join(names).encode()
             told = self.run_hll("merge", "--files-from", "-", *more, "-o", "-", given=given)
@@ -188,7 +188,7 @@ class RefusalsTest(LaidOut):
         for number, (data, reason) in enumerate(zip(self.BAD, reasons)):
             self.write(f"all/1/bad{number}", data)
             lines.append(f"all/1/bad{number}: image {reason}")
-        return lines, union_of(good).with_estimator_words().to_bytes()
+        return lines, union_of(good).with_estimator_fields().to_bytes()
 
     def test_all_bad_files_are_named(self):
         lines, _ = self.lay_out_bad()
@@ -231,7 +231,7 @@ class RefusalsTest(LaidOut):
         for jobs in (1, 4):
             words = ("merge", "all", "--skip-bad", "-o", "one.hll", "--jobs", jobs)
             self.assertEqual(self.run_hll(*words), (0, b"", err))
-            self.assertEqual(self.read("one.hll"), union_of(IMAGES).with_estimator_words().to_bytes())
+            self.assertEqual(self.read("one.hll"), union_of(IMAGES).with_estimator_fields().to_bytes())
 
     def test_nothing_to_merge(self):
         self.write("bad", b"no")
@@ -303,7 +303,7 @@ class RefusalsTest(LaidOut):
 STAND_IN = f"""#!{sys.executable}
 import sys
 sys.dont_write_bytecode = True
-sys.path.insert(0, {str(common.ROOT / "bench")!r})
+sys.path.insert(0, {str(common.ROOT / "tests")!r})
 from plain_plans import answer_of
 answer = answer_of(sys.stdin.buffer.read())
 is_refused = answer.startswith("line ")
@@ -320,7 +320,7 @@ class ScriptTest(LaidOut):
         super().setUp()
         shutil.copytree(common.ROOT / "examples", self.folder / "examples")
         (self.folder / "bin").mkdir()
-        self.write("bin/hll_words", b"#!/bin/sh\nexec cat\n").chmod(0o755)
+        self.write("bin/hll_estimator_fields", b"#!/bin/sh\nexec cat\n").chmod(0o755)
         program = common.program()
         if program is None:
             self.write("bin/hll_merge", STAND_IN.encode()).chmod(0o755)

@@ -61,7 +61,7 @@ number: float = low + high + made.estimate() + sum(coupons(["x"]))
 merged: Sketch = merge_files(["a", pathlib.Path("b")], on_refused=print)
 copied: Union = Union(12).copy()
 kept: Registers = Registers.over(bytearray(4096)).fold(10)
-kept.join(made)
+kept.merge(made)
 kept.add_coupons(coupons(["x"]))
 made = kept.to_sketch()
 """)
@@ -145,7 +145,7 @@ class BuildTest(CommandTest):
         """A copy of the checkout in which nothing is built: pip builds the library."""
         shutil.rmtree(self.c)
         for name in ("bindings/c", "prebuilt", "scripts"):
-            shutil.copytree(common.ROOT / name, self.root / name, ignore=shutil.ignore_patterns("build", "test"))
+            shutil.copytree(common.ROOT / name, self.root / name, ignore=shutil.ignore_patterns("build", "tests"))
         for name in ("HANDLES", "crates.txt"):
             shutil.copyfile(common.ROOT / name, self.root / name)
         shutil.copytree(common.ROOT / "crates", self.root / "crates", ignore=shutil.ignore_patterns("out", "must-fail"))
@@ -222,10 +222,10 @@ typedef unsigned char u8;
 #define EMPTY(name) int name(void) { return 0; }
 EMPTY(hll_image_new) EMPTY(hll_image_add) EMPTY(hll_image_add_coupon) EMPTY(hll_image_merge)
 EMPTY(hll_images_union) EMPTY(hll_image_fold) EMPTY(hll_image_convert) EMPTY(hll_image_check)
-EMPTY(hll_image_size) EMPTY(hll_image_set_estimator_words) EMPTY(hll_image_clear_estimator_words) EMPTY(hll_images_agree) EMPTY(hll_coupon) EMPTY(hll_coupons)
+EMPTY(hll_image_size) EMPTY(hll_image_set_estimator_fields) EMPTY(hll_image_clear_estimator_fields) EMPTY(hll_images_agree) EMPTY(hll_coupon) EMPTY(hll_coupons)
 EMPTY(hll_estimate) EMPTY(hll_hip_estimate)
 EMPTY(hll_registers_add) EMPTY(hll_registers_add_coupons)
-EMPTY(hll_registers_join) EMPTY(hll_registers_join_registers) EMPTY(hll_registers_fold)
+EMPTY(hll_registers_merge) EMPTY(hll_registers_merge_registers) EMPTY(hll_registers_fold)
 EMPTY(hll_registers_histogram) EMPTY(hll_registers_image) EMPTY(hll_registers_estimate)
 uint32_t hll_version(void) { return VERSION; }
 #ifndef WITHOUT

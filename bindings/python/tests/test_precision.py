@@ -161,7 +161,7 @@ class FilesTest(CommandTest):
         err = "".join(f"hll: {line} (left out)\n" for line in lines)
         words = ["merge", "all", "-o", "one.hll", "--min-lg-k", 9, "--skip-bad"]
         self.assertEqual(self.run_hll(*words), (0, b"", err))
-        self.assertEqual(self.read("one.hll"), FINE.with_estimator_words().to_bytes())
+        self.assertEqual(self.read("one.hll"), FINE.with_estimator_fields().to_bytes())
 
 
 class MergeFilesTest(CommandTest):

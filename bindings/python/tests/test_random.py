@@ -7,8 +7,8 @@ import unittest
 
 import common  # noqa: F401, for the path
 from hll_sketches import Sketch, Union, coupons, union_of
+from plain_images import image_of
 from plain_reader import read
-from shared import image_of
 
 CASES = 20_000
 WIDTHS = (4, 6, 8)

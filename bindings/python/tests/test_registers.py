@@ -55,19 +55,19 @@ class JoinTest(unittest.TestCase):
                 elif kind == 2:
                     made.add_coupons(coupons(values))
                 elif kind == 3:
-                    made.join(other)
+                    made.merge(other)
                 elif kind == 4:
-                    made.join(memoryview(other.to_bytes()))
+                    made.merge(memoryview(other.to_bytes()))
                 else:
                     others = Registers(other.lg_k)
                     others.update_many(values)
-                    made.join(others)
+                    made.merge(others)
             self.assertEqual(bytes(made.memory), plain_registers(lg_k, words))
             union = union_of(sketches, lg_k)
             self.assertTrue(made.to_sketch().agrees_with(union))
             if union.stage == "registers":
                 for width in (4, 6, 8):
-                    image = union.convert(width).with_estimator_words().to_bytes()
+                    image = union.convert(width).with_estimator_fields().to_bytes()
                     self.assertEqual(made.to_bytes(width), image)
                 self.assertEqual(made.estimate(), union.estimate())
                 self.assertEqual(made.bounds(3), union.bounds(3))
@@ -75,7 +75,7 @@ class JoinTest(unittest.TestCase):
 
     def test_small_sketches_are_joined_at_any_lg_k(self):
         made, small = Registers(14), sketch_with(4, 8, range(5))
-        made.join(small)
+        made.merge(small)
         self.assertEqual(bytes(made.memory), plain_registers(14, coupons(range(5))))
 
     def test_fewer_registers(self):
@@ -83,21 +83,21 @@ class JoinTest(unittest.TestCase):
         made.update_many(range(40))
         fewer = sketch_with(10, 6, range(5000))
         others = Registers(10)
-        others.join(fewer)
+        others.merge(fewer)
         for other in (fewer, fewer.to_bytes(), others):
             with self.assertRaises(PrecisionError) as raised:
-                made.join(other)
+                made.merge(other)
             self.assertEqual((raised.exception.lg_k, raised.exception.min_lg_k), (10, 12))
             self.assertEqual(bytes(made.memory), before)
         folded = made.fold(10)
-        folded.join(fewer)
+        folded.merge(fewer)
         self.assertEqual(folded.to_sketch(), union_of([made.to_sketch(), fewer], 10)
-                         .with_estimator_words())
+                         .with_estimator_fields())
 
     def test_empty_ones_change_nothing(self):
         made = Registers(12)
-        made.join(Sketch(4))
-        made.join(Registers(4))
+        made.merge(Sketch(4))
+        made.merge(Registers(4))
         made.add_coupons([])
         given = array("I")
         made.add_coupons(given)
@@ -112,14 +112,14 @@ class JoinTest(unittest.TestCase):
         for image, reason in ((b"", "truncated"), (sketch_with(12, 8, range(9000)).to_bytes()[:-1],
                                                    "truncated"), (bytes(8), "preamble")):
             with self.assertRaises(ImageError) as raised:
-                made.join(image)
+                made.merge(image)
             self.assertIn(raised.exception.reason, (reason, "family", "version"))
         for words in ([5], [1 << 26, 2**26 - 1], [2**32], [-1]):
             with self.assertRaises(ArgumentError):
                 made.add_coupons(words)
         for wrong in (None, 5, "text", Registers):
             with self.assertRaises(TypeError):
-                made.join(wrong)
+                made.merge(wrong)
         with self.assertRaises(TypeError):
             made.update_many("text")
         self.assertEqual(bytes(made.memory), before)
@@ -129,10 +129,10 @@ class JoinTest(unittest.TestCase):
         made = Registers(6)
         made.update_many(range(200))
         before = bytes(made.memory)
-        made.join(made)
+        made.merge(made)
         self.assertEqual(bytes(made.memory), before)
         front = Registers.over(made.memory[:32])
-        front.join(made)
+        front.merge(made)
         self.assertEqual(bytes(front.memory), bytes(map(max, before[:32], before[32:])))
         self.assertEqual(bytes(made.memory[32:]), before[32:])
 
@@ -234,10 +234,10 @@ class MemoryTest(unittest.TestCase):
         made, good = Registers.over(memory), Registers(4)
         memory[3] = 64
         made.update_many(range(10))
-        made.join(sketch_with(4, 8, range(1000)))
+        made.merge(sketch_with(4, 8, range(1000)))
         self.assertEqual(memory[3], 64)
         for call in (made.estimate, made.histogram, made.to_bytes, made.bounds, made.to_sketch,
-                     lambda: made.fold(4), lambda: good.join(made)):
+                     lambda: made.fold(4), lambda: good.merge(made)):
             self.assertRaises(ArgumentError, call)
         self.assertEqual(bytes(good.memory), bytes(16))
 

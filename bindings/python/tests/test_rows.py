@@ -1,16 +1,18 @@
 # SPDX-License-Identifier: Apache-2.0
-"""The worked rows of plans, carried out by calls of the package alone (docs/PLAN.md, "Rows")."""
+"""The worked rows of plans and the walks, carried out by calls of the package alone (docs/PLAN.md, "Rows")."""
 import unittest
 
 import common
 import row_plans
+from rows import TEXTS, rows_in
 
 
 class RowsTest(unittest.TestCase):
     def test_rows(self):
         common.ignore_precision(self)
         ran, passed_over = 0, 0
-        for plan, wanted in row_plans.rows(common.ROWS):
+        for plan, mark, words in (row for path in TEXTS for row in rows_in(path)):
+            wanted = f"{mark} {words}"
             answer = row_plans.answer(plan, wanted)
             if answer is None:
                 passed_over += 1

@@ -14,7 +14,7 @@ from unittest import mock
 import common
 from command import COMMAND, CommandTest, environment, interruptible
 from hll_sketches import Sketch, files, merging
-from worst_cases import stride_coupons, unsorted_set
+from long_searches import stride_coupons, unsorted_set
 
 TICK = 1 / os.sysconf("SC_CLK_TCK")
 BEFORE, AFTER = b"as it was", Sketch(12).to_bytes()

@@ -8,22 +8,22 @@ use Rattle.std.proofs.lemmas.List.Sums.{count_by-le-length, length-filter}
 use Rattle.std.proofs.lemmas.List.Elements.{All-from_get_or}
 use Rattle.std.proofs.Math.Nat.{mod-eq_of_lt, zero-add}
 use Rattle.hll_coupons.specs.Pair.{pair, slot_of, value_of, set_of}
-use Rattle.hll_coupons.specs.Fold.{words_from}
+use Rattle.hll_coupons.specs.Fold.{raw_coupons_from}
 use Rattle.hll_coupons.specs.Coupons.{IsAscending}
 use Rattle.hll_coupons.proofs.Ascending.{len-ascending}
 use Rattle.hll_coupons.proofs.Listed.{has, has-at, Apart, len-map}
 use Rattle.hll_coupons.proofs.Reading.{len-set_of-le}
-use Rattle.hll_coupons.proofs.Registers.{StandsFor, in_words, slot_of-pair, value_of-pair, slot_small}
+use Rattle.hll_coupons.proofs.Registers.{StandsFor, in_raw_coupons, slot_of-pair, value_of-pair, slot_small}
 use Rattle.hll_kernels.specs.Packed.{minimum}
 use Rattle.hll_registers.specs.Exceptions.{exceptions}
 use Rattle.hll_registers.specs.Payload.{AreEntries}
 use Rattle.hll_registers.proofs.Exceptions.{kept}
 
-length-words_from : (s : ℕ) (R : List ℕ) → length (words_from s R) ≤ length R
-length-words_from s [] = omega arith
-length-words_from s (r ∷ R) = elim (eqb r 0) as (λ b. length (cond b (words_from (s + 1) R) (pair s r ∷ words_from (s + 1) R)) ≤ length (r ∷ R)) [
-  | true ↦ omega (arith, length-words_from (s + 1) R)
-  | false ↦ omega (arith, length-words_from (s + 1) R)
+length-raw_coupons_from : (s : ℕ) (R : List ℕ) → length (raw_coupons_from s R) ≤ length R
+length-raw_coupons_from s [] = omega arith
+length-raw_coupons_from s (r ∷ R) = elim (eqb r 0) as (λ b. length (cond b (raw_coupons_from (s + 1) R) (pair s r ∷ raw_coupons_from (s + 1) R)) ≤ length (r ∷ R)) [
+  | true ↦ omega (arith, length-raw_coupons_from (s + 1) R)
+  | false ↦ omega (arith, length-raw_coupons_from (s + 1) R)
 ]
 
 -- ---- the exceptions in the order that is written
@@ -39,7 +39,7 @@ module _ (k : ℕ) (R order : List ℕ) (small : k ≤ 21) (size : length R ≡ 
   entry : (c : ℕ) → has c order ≡ true → IsEntry c
   entry c h =
       let there : has c (exceptions R) ≡ true = sym (contains-from_list nat_cmp_total (exceptions R) c) ∙ ap (λ S. contains S c) (sym lists.members) ∙ contains-from_list nat_cmp_total order c ∙ h in
-      let found : (i : ℕ) × StandsFor R 0 c i = in_words R 0 c (kept _ c (words_from 0 R) there).1 in
+      let found : (i : ℕ) × StandsFor R 0 c i = in_raw_coupons R 0 c (kept _ c (raw_coupons_from 0 R) there).1 in
       record {
         slot = found.0;
         within = omega (arith, found.1.within);
@@ -76,4 +76,4 @@ module _ (k : ℕ) (R order : List ℕ) (small : k ≤ 21) (size : length R ≡ 
   are_entries = record { valued = entries_valued; distinct = len-map (λ c. slot_of c % 2 ^ k) order apart ∙ ap len lists.members ∙ sym (len-ascending order (set_of (exceptions R)) lists) }
 
   pub entries_few : length order ≤ 2 ^ k
-  entries_few = omega (arith, len-ascending order (set_of (exceptions R)) lists, len-set_of-le (exceptions R), length-filter (λ c. nat_le (minimum R + 15) (value_of c)) (words_from 0 R), count_by-le-length (λ c. nat_le (minimum R + 15) (value_of c)) (words_from 0 R), length-words_from 0 R)
+  entries_few = omega (arith, len-ascending order (set_of (exceptions R)) lists, len-set_of-le (exceptions R), length-filter (λ c. nat_le (minimum R + 15) (value_of c)) (raw_coupons_from 0 R), count_by-le-length (λ c. nat_le (minimum R + 15) (value_of c)) (raw_coupons_from 0 R), length-raw_coupons_from 0 R)

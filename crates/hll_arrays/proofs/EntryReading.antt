@@ -12,7 +12,7 @@ use Rattle.std.proofs.lemmas.List.Elements.{All-append, filter-append}
 use Rattle.std.proofs.lemmas.List.Folds.{find-append}
 use Rattle.std.proofs.Math.Nat.{zero-add}
 use Rattle.hll_coupons.specs.AuxMap.{entry_at}
-use Rattle.hll_coupons.specs.Coupons.{words, coupons_at}
+use Rattle.hll_coupons.specs.Coupons.{raw_coupons, coupons_at}
 use Rattle.hll_coupons.specs.Pair.{set_of, slot_of, value_of}
 use Rattle.hll_coupons.specs.Table.{coupons_in}
 use Rattle.hll_coupons.proofs.Listed.{has, contains-has, finds, finds_none, has-map, has-from_map, From}
@@ -22,18 +22,18 @@ use Rattle.hll_coupons.proofs.Reading.{next, next-empty, not_distinct}
 use Rattle.hll_registers.specs.Payload.{AreEntries}
 use Rattle.hll_registers.proofs.FourBits.{All-one}
 
--- ---- places
+-- ---- buckets
 
-words-split : (i n : ℕ) (b : List ℕ) → words (i + n) b ≡ words i b ++ words n (drop (4 * i) b)
-words-split zero n b = ap (λ m. words m b) (zero-add n)
-words-split (suc i) n b =
-    ap (λ m. words m b) (let e : suc i + n ≡ suc (i + n) = omega arith in e) ∙ ap (λ ws. from_le_bytes w32 b ∷ ws) (words-split i n (drop 4 b))
-    ∙ ap (λ d. words (suc i) b ++ words n d) (drop-drop (4 * i) 4 b ∙ ap (λ m. drop m b) (let e : 4 + 4 * i ≡ 4 * suc i = omega arith in e))
+raw_coupons-split : (i n : ℕ) (b : List ℕ) → raw_coupons (i + n) b ≡ raw_coupons i b ++ raw_coupons n (drop (4 * i) b)
+raw_coupons-split zero n b = ap (λ m. raw_coupons m b) (zero-add n)
+raw_coupons-split (suc i) n b =
+    ap (λ m. raw_coupons m b) (let e : suc i + n ≡ suc (i + n) = omega arith in e) ∙ ap (λ ws. from_le_bytes w32 b ∷ ws) (raw_coupons-split i n (drop 4 b))
+    ∙ ap (λ d. raw_coupons (suc i) b ++ raw_coupons n d) (drop-drop (4 * i) 4 b ∙ ap (λ m. drop m b) (let e : 4 + 4 * i ≡ 4 * suc i = omega arith in e))
 
--- the exceptions of the first places, and those of the others
+-- the exceptions of the first buckets, and those of the others
 coupons-split : (compact : Bool) (i n : ℕ) (b : List ℕ) → coupons_at compact (i + n) b ≡ coupons_at compact i b ++ coupons_at compact n (drop (4 * i) b)
-coupons-split true i n b = words-split i n b
-coupons-split false i n b = ap coupons_in (words-split i n b) ∙ filter-append _ (words i b) (words n (drop (4 * i) b))
+coupons-split true i n b = raw_coupons-split i n b
+coupons-split false i n b = ap coupons_in (raw_coupons-split i n b) ∙ filter-append _ (raw_coupons i b) (raw_coupons n (drop (4 * i) b))
 
 module _ (compact : Bool) (i w : ℕ) (b rest : List ℕ) (is : rest ≡ drop (4 * i) b) (word : w ≡ from_le_bytes w32 rest) where
   here : w ≡ from_le_bytes w32 (drop (4 * i) b)
@@ -120,7 +120,7 @@ module _ (k : ℕ) (order : List ℕ) (c : ℕ) where
       | inr f ↦ contains-has images slot ∙ f
     ]
 
-    -- a new entry behind others
+    -- a new entry after others
     pub entry_at-push : (s : ℕ) → entry_at k (order ++ c ∷ []) s ≡ cond (eqb s slot) (Some (value_of c)) (entry_at k order s)
     entry_at-push s = ap (option_map value_of) (find-append (λ d. eqb (slot_of d % 2 ^ k) s) order (c ∷ [])) ∙ elim (cases_eq s slot) [
       | inl same ↦

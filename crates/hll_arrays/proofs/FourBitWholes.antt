@@ -11,7 +11,7 @@ use Rattle.hll_coupons.specs.Coupons.{coupons_at}
 use Rattle.hll_coupons.proofs.Payloads.{front_coupons, front_number, front_rest}
 use Rattle.hll_registers.specs.FourBits.{exception_in, unpacked}
 use Rattle.hll_kernels.specs.Packed.{nibble_at}
-use Rattle.hll_registers.specs.Payload.{num_at_cur_min, exception_count, Hll4Shape, exception_places, nibbles_of, entries_of, hll4_size, register_of, registers_of, Agrees, AllAgree, AreEntries, HasEntries, IsHll4Payload, IsWhole, Hll4Fault, FirstHll4Fault}
+use Rattle.hll_registers.specs.Payload.{num_at_cur_min, exception_count, Hll4Shape, exception_buckets, nibbles_of, entries_of, hll4_size, register_of, registers_of, Agrees, AllAgree, AreEntries, HasEntries, IsHll4Payload, IsWhole, Hll4Fault, FirstHll4Fault}
 use Rattle.hll_registers.specs.Payload as payload
 
 -- ---- faults
@@ -38,9 +38,9 @@ fault_not_memory h b e (payload.FirstHll4Fault.coupon w n) is = cc
 fault_not_memory h b e (payload.FirstHll4Fault.number w d n) is = cc
 fault_not_memory h b e (payload.FirstHll4Fault.register w d m n) is = cc
 
--- where the count of exceptions is 0, no places of them follow
-pub no_places : (h : Hll4Shape) (b : List ℕ) → exception_count b ≡ 0 → exception_places h b ≡ 0
-no_places h b none = of h.compact
+-- where the count of exceptions is 0, no buckets of them follow
+pub no_buckets : (h : Hll4Shape) (b : List ℕ) → exception_count b ≡ 0 → exception_buckets h b ≡ 0
+no_buckets h b none = of h.compact
   where
     of : (compact : Bool) → cond compact (exception_count b) (cond (eqb (exception_count b) 0) 0 (2 ^ h.lg_table)) ≡ 0
     of true = none
@@ -70,13 +70,13 @@ module _ (h : Hll4Shape) (b : List ℕ) (whole : IsWhole h b) where
   counted : exception_count front ≡ exception_count b
   counted = front_number front back b whole_is 28 (omega (arith, size))
 
-  places : exception_places h front ≡ exception_places h b
-  places = ap (λ n. cond h.compact n (cond (eqb n 0) 0 (2 ^ h.lg_table))) counted
+  buckets : exception_buckets h front ≡ exception_buckets h b
+  buckets = ap (λ n. cond h.compact n (cond (eqb n 0) 0 (2 ^ h.lg_table))) counted
 
   entries : entries_of h front ≡ entries_of h b
   entries =
-      ap (λ n. coupons_at h.compact n (drop (32 + 2 ^ (h.lg_k - 1)) front)) places
-      ∙ front_coupons front back b whole_is h.compact (exception_places h b) (32 + 2 ^ (h.lg_k - 1)) (omega (arith, size))
+      ap (λ n. coupons_at h.compact n (drop (32 + 2 ^ (h.lg_k - 1)) front)) buckets
+      ∙ front_coupons front back b whole_is h.compact (exception_buckets h b) (32 + 2 ^ (h.lg_k - 1)) (omega (arith, size))
 
   nibbles : nibbles_of h front ≡ nibbles_of h b
   nibbles =
@@ -96,7 +96,7 @@ module _ (h : Hll4Shape) (b : List ℕ) (whole : IsWhole h b) where
       few = subst (λ n. n ≤ 2 ^ h.lg_k) (sym counted) whole.has_entries.few;
       table = λ loose some. whole.has_entries.table loose (λ z. some (counted ∙ z));
     };
-    size = size ∙ ap (λ n. 32 + (2 ^ (h.lg_k - 1) + 4 * n)) (sym places);
+    size = size ∙ ap (λ n. 32 + (2 ^ (h.lg_k - 1) + 4 * n)) (sym buckets);
     are_entries = subst (AreEntries h.lg_k) (sym entries) are;
     number = ap length entries ∙ number ∙ sym counted;
     agree = λ s l.

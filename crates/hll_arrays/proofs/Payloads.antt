@@ -8,7 +8,7 @@ use Rattle.hll_coupons.specs.Coupons.{coupons_at}
 use Rattle.hll_coupons.proofs.Payloads.{front_le, front_byte, front_rest, front_number, front_coupons, front_take, same_fronts}
 use Rattle.hll_kernels.specs.Packed.{nibble_at}
 use Rattle.hll_coupons.specs.AuxMap.{entry_at}
-use Rattle.hll_registers.specs.Payload.{state_at, num_at_cur_min, exception_count, IsHll8Payload, Hll8Fault, field_size, IsHll6Payload, Hll6Fault, Hll4Shape, exception_places, nibbles_of, entries_of, hll4_size, AreEntries, AllAgree, Agrees, HasEntries, IsHll4Payload, Hll4Fault}
+use Rattle.hll_registers.specs.Payload.{state_at, num_at_cur_min, exception_count, IsHll8Payload, Hll8Fault, field_size, IsHll6Payload, Hll6Fault, Hll4Shape, exception_buckets, nibbles_of, entries_of, hll4_size, AreEntries, AllAgree, Agrees, HasEntries, IsHll4Payload, Hll4Fault}
 use Rattle.hll_registers.specs.Payload as payload
 
 -- ---- the state
@@ -37,14 +37,14 @@ one_hll6 k a b s t p q e = same_fronts a b s t e (p.size ∙ sym q.size)
 front_exceptions : (a t b : List ℕ) → a ++ t ≡ b → 32 ≤ length a → exception_count a ≡ exception_count b
 front_exceptions a t b e h = front_number a t b e 28 (omega arith)
 
-pub front_places : (h : Hll4Shape) (a t b : List ℕ) → a ++ t ≡ b → 32 ≤ length a → exception_places h a ≡ exception_places h b
-front_places h a t b e w = ap (λ n. cond h.compact n (cond (eqb n 0) 0 (2 ^ h.lg_table))) (front_exceptions a t b e w)
+pub front_buckets : (h : Hll4Shape) (a t b : List ℕ) → a ++ t ≡ b → 32 ≤ length a → exception_buckets h a ≡ exception_buckets h b
+front_buckets h a t b e w = ap (λ n. cond h.compact n (cond (eqb n 0) 0 (2 ^ h.lg_table))) (front_exceptions a t b e w)
 
 pub one_hll4 : (h : Hll4Shape) (a b s t : List ℕ) → IsHll4Payload h a → IsHll4Payload h b → a ++ s ≡ b ++ t → a ≡ b
 one_hll4 h a b s t p q e =
-    let places : exception_places h a ≡ exception_places h b =
-    front_places h a s (b ++ t) e p.has_entries.whole ∙ sym (front_places h b t (b ++ t) refl q.has_entries.whole) in
-    same_fronts a b s t e (p.size ∙ ap (λ n. 32 + (2 ^ (h.lg_k - 1) + 4 * n)) places ∙ sym q.size)
+    let buckets : exception_buckets h a ≡ exception_buckets h b =
+    front_buckets h a s (b ++ t) e p.has_entries.whole ∙ sym (front_buckets h b t (b ++ t) refl q.has_entries.whole) in
+    same_fronts a b s t e (p.size ∙ ap (λ n. 32 + (2 ^ (h.lg_k - 1) + 4 * n)) buckets ∙ sym q.size)
 
 -- ---- with a fault, no front is a payload
 
@@ -65,15 +65,15 @@ hll6_fault_excludes k a t b r e p (payload.Hll6Fault.exceptions_counted w n) = n
 hll6_fault_excludes k a t b r e p (payload.Hll6Fault.short n) = omega (arith, p.size, front_le a t b e)
 
 module _ (h : Hll4Shape) (a t b : List ℕ) (e : a ++ t ≡ b) (p : IsHll4Payload h a) where
-  places : exception_places h a ≡ exception_places h b
-  places = front_places h a t b e p.has_entries.whole
+  buckets : exception_buckets h a ≡ exception_buckets h b
+  buckets = front_buckets h a t b e p.has_entries.whole
 
   counted : exception_count a ≡ exception_count b
   counted = front_exceptions a t b e p.has_entries.whole
 
   entries : entries_of h a ≡ entries_of h b
-  entries = front_coupons a t b e h.compact (exception_places h a) (32 + 2 ^ (h.lg_k - 1)) (omega (arith, p.size))
-      ∙ ap (λ n. coupons_at h.compact n (drop (32 + 2 ^ (h.lg_k - 1)) b)) places
+  entries = front_coupons a t b e h.compact (exception_buckets h a) (32 + 2 ^ (h.lg_k - 1)) (omega (arith, p.size))
+      ∙ ap (λ n. coupons_at h.compact n (drop (32 + 2 ^ (h.lg_k - 1)) b)) buckets
 
   nibbles : nibbles_of h a ≡ nibbles_of h b
   nibbles =
@@ -85,7 +85,7 @@ module _ (h : Hll4Shape) (a t b : List ℕ) (e : a ++ t ≡ b) (p : IsHll4Payloa
   hll4_fault_excludes r (payload.Hll4Fault.low_count_above w n) = omega (arith, p.low, front_number a t b e 24 (omega (arith, p.size)))
   hll4_fault_excludes r (payload.Hll4Fault.exceptions_above w n) = omega (arith, p.has_entries.few, counted)
   hll4_fault_excludes r (payload.Hll4Fault.table w f c n m) = omega (arith, p.has_entries.table c (λ z. n (sym counted ∙ z)))
-  hll4_fault_excludes r (payload.Hll4Fault.short f n) = omega (arith, p.size, places, front_le a t b e)
+  hll4_fault_excludes r (payload.Hll4Fault.short f n) = omega (arith, p.size, buckets, front_le a t b e)
   hll4_fault_excludes r (payload.Hll4Fault.coupon f l n) = n (subst (AreEntries h.lg_k) entries p.are_entries)
   hll4_fault_excludes r (payload.Hll4Fault.number f l n) = n (ap length (sym entries) ∙ p.number ∙ counted)
   hll4_fault_excludes r (payload.Hll4Fault.register f l d m n) = n (λ s w.

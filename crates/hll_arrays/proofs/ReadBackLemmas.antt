@@ -11,16 +11,16 @@ use Rattle.hll_arrays.specs.ReadBack.{Hll8ReadBack, Hll6ReadBack, Hll4ReadBack}
 use Rattle.hll_arrays.proofs.Payloads.{state_at-front}
 use Rattle.hll_arrays.proofs.Written.{written_hll8, state_hll8, registers_hll8, written_hll6, state_hll6, registers_hll6, written_hll4, state_hll4, registers_hll4}
 
--- what is behind the numbers of a payload, whatever follows
-behind : (n : ℕ) (p more : List ℕ) → length p ≡ 32 + n → take n (drop 32 (p ++ more)) ≡ drop 32 p
-behind n p more e = ap (take n) (drop-append-le 32 p more (omega arith)) ∙ take_at (drop 32 p) more n (omega (arith, length-drop 32 p))
+-- what is after the numbers of a payload, whatever follows
+after : (n : ℕ) (p more : List ℕ) → length p ≡ 32 + n → take n (drop 32 (p ++ more)) ≡ drop 32 p
+after n p more e = ap (take n) (drop-append-le 32 p more (omega arith)) ∙ take_at (drop 32 p) more n (omega (arith, length-drop 32 p))
 
 pub hll8_read_back : Hll8ReadBack
 hll8_read_back x more s =
     let p : List ℕ = number_bytes x.state (zeros x.registers) 0 ++ x.registers in
     let payload : IsHll8Payload x.lg_k p = written_hll8 x.lg_k x.registers x.state s.low s.high s.registers s.state in (
       subst (IsHll8Payload x.lg_k) (sym (take_at p more (32 + 2 ^ x.lg_k) payload.size)) payload,
-      behind (2 ^ x.lg_k) p more payload.size ∙ registers_hll8 x.lg_k x.registers x.state s.low s.high s.registers s.state,
+      after (2 ^ x.lg_k) p more payload.size ∙ registers_hll8 x.lg_k x.registers x.state s.low s.high s.registers s.state,
       sym (state_at-front x.state.out_of_order p more (p ++ more) refl (omega (arith, payload.size)))
           ∙ state_hll8 x.lg_k x.registers x.state s.low s.high s.registers s.state x.state.out_of_order refl,
     )
@@ -30,7 +30,7 @@ hll6_read_back x more s =
     let p : List ℕ = number_bytes x.state (zeros x.registers) 0 ++ field_bytes x.registers in
     let payload : IsHll6Payload x.lg_k p = written_hll6 x.lg_k x.registers x.state s.low s.high s.registers s.state in (
       subst (IsHll6Payload x.lg_k) (sym (take_at p more (32 + field_size x.lg_k) payload.size)) payload,
-      ap fields (behind (field_size x.lg_k) p more payload.size) ∙ registers_hll6 x.lg_k x.registers x.state s.low s.high s.registers s.state,
+      ap fields (after (field_size x.lg_k) p more payload.size) ∙ registers_hll6 x.lg_k x.registers x.state s.low s.high s.registers s.state,
       sym (state_at-front x.state.out_of_order p more (p ++ more) refl (omega (arith, payload.size)))
           ∙ state_hll6 x.lg_k x.registers x.state s.low s.high s.registers s.state x.state.out_of_order refl,
     )

@@ -10,8 +10,8 @@ use Rattle.std.proofs.Math.Nat.{pow-suc}
 use Rattle.std.proofs.Math.Pow.{pow_mono}
 use Rattle.std.proofs.Math.Seq.{drop-append_seam}
 use Rattle.hll_coupons.specs.Pair.{set_of}
-use Rattle.hll_coupons.specs.Coupons.{words, coupon_bytes, IsAscending}
-use Rattle.hll_coupons.proofs.Payloads.{words-written, length-coupon_bytes}
+use Rattle.hll_coupons.specs.Coupons.{raw_coupons, coupon_bytes, IsAscending}
+use Rattle.hll_coupons.proofs.Payloads.{raw_coupons-written, length-coupon_bytes}
 use Rattle.hll_registers.specs.declared.estimate_state.EstimateState.{EstimateState}
 use Rattle.hll_registers.specs.State.{IsState}
 use Rattle.hll_kernels.specs.Packed.{AreRegisters}
@@ -31,7 +31,7 @@ record Preamble (state : EstimateState) (low excepted : ℕ) (rest : List ℕ) :
   low_is : num_at_cur_min (number_bytes state low excepted ++ rest) ≡ low
   excepted_is : exception_count (number_bytes state low excepted ++ rest) ≡ excepted
   size : length (number_bytes state low excepted) ≡ 32
-  behind : drop 32 (number_bytes state low excepted ++ rest) ≡ rest
+  after : drop 32 (number_bytes state low excepted ++ rest) ≡ rest
 
 preamble : (ws : List ℕ) (flag : Bool) (low excepted : ℕ) (rest : List ℕ) → length ws ≡ 3 → All (λ w. w < 2 ^ 64) ws → low < 2 ^ 32 → excepted < 2 ^ 32
     → Preamble (record { words = ws; out_of_order = flag }) low excepted rest
@@ -47,7 +47,7 @@ preamble (a ∷ b ∷ c ∷ []) flag low excepted rest n h l e = record {
   low_is = from_le_bytes-to_le_bytes_4 low l;
   excepted_is = from_le_bytes-to_le_bytes_4 excepted e;
   size = refl;
-  behind = refl;
+  after = refl;
 }
 
 numbers_of : (state : EstimateState) (low excepted : ℕ) (rest : List ℕ) → IsState state → low < 2 ^ 32 → excepted < 2 ^ 32 → Preamble state low excepted rest
@@ -73,14 +73,14 @@ module _ (k : ℕ) (R : List ℕ) (state : EstimateState) (low_k : 4 ≤ k) (sma
     zero_count = omega (arith, numbers8.low_is, zeros_le);
     no_exceptions = numbers8.excepted_is;
     size = omega (arith, length-append (number_bytes state (zeros R) 0) R, numbers8.size, are.size);
-    small = subst (All (λ v. v ≤ 63)) (sym numbers8.behind) are.small;
+    small = subst (All (λ v. v ≤ 63)) (sym numbers8.after) are.small;
   }
 
   pub state_hll8 : (flag : Bool) → flag ≡ state.out_of_order → state_at flag (number_bytes state (zeros R) 0 ++ R) ≡ state
   state_hll8 = numbers8.state_is
 
   pub registers_hll8 : drop 32 (number_bytes state (zeros R) 0 ++ R) ≡ R
-  registers_hll8 = numbers8.behind
+  registers_hll8 = numbers8.after
 
   -- ---- six bits
 
@@ -110,7 +110,7 @@ module _ (k : ℕ) (R : List ℕ) (state : EstimateState) (low_k : 4 ≤ k) (sma
   state_hll6 = numbers6.state_is
 
   pub registers_hll6 : fields (drop 32 (number_bytes state (zeros R) 0 ++ field_bytes R)) ≡ R
-  registers_hll6 = ap fields numbers6.behind ∙ fields_read_back (2 ^ (k - 2)) R (are.size ∙ groups) are.small
+  registers_hll6 = ap fields numbers6.after ∙ fields_read_back (2 ^ (k - 2)) R (are.size ∙ groups) are.small
 
   -- ---- four bits
 
@@ -147,15 +147,15 @@ module _ (k : ℕ) (R : List ℕ) (state : EstimateState) (low_k : 4 ≤ k) (sma
     nibble_size = length-nibbles (2 ^ (k - 1)) (minimum R) R (are.size ∙ halves)
 
     nibbles_are : nibbles_of shape P ≡ nibble_bytes R
-    nibbles_are = ap (take (2 ^ (k - 1))) numbers4.behind ∙ take_at (nibble_bytes R) (coupon_bytes order) (2 ^ (k - 1)) nibble_size
+    nibbles_are = ap (take (2 ^ (k - 1))) numbers4.after ∙ take_at (nibble_bytes R) (coupon_bytes order) (2 ^ (k - 1)) nibble_size
 
-    behind_nibbles : drop (32 + 2 ^ (k - 1)) P ≡ coupon_bytes order
-    behind_nibbles = sym (drop-drop (2 ^ (k - 1)) 32 P) ∙ ap (drop (2 ^ (k - 1))) numbers4.behind
+    after_nibbles : drop (32 + 2 ^ (k - 1)) P ≡ coupon_bytes order
+    after_nibbles = sym (drop-drop (2 ^ (k - 1)) 32 P) ∙ ap (drop (2 ^ (k - 1))) numbers4.after
         ∙ ap (λ n. drop n rest) (sym nibble_size) ∙ drop-append_seam (nibble_bytes R) (coupon_bytes order)
 
     entries_are : entries_of shape P ≡ order
-    entries_are = (λ i. words (numbers4.excepted_is i) (behind_nibbles i)) ∙ ap (words (length order)) (sym (append-nil (coupon_bytes order)))
-        ∙ words-written order [] (entries_fit k R order small are.size are.small lists)
+    entries_are = (λ i. raw_coupons (numbers4.excepted_is i) (after_nibbles i)) ∙ ap (raw_coupons (length order)) (sym (append-nil (coupon_bytes order)))
+        ∙ raw_coupons-written order [] (entries_fit k R order small are.size are.small lists)
 
     at_slot : (s : ℕ) → s < 2 ^ k → Agrees (minimum R) (nibble_at (nibbles_of shape P) s) (entry_at k (entries_of shape P) s)
         × (register_of (minimum R) (nibble_at (nibbles_of shape P) s) (entry_at k (entries_of shape P) s) ≡ get_or R s 0)

@@ -71,7 +71,7 @@ same_stored-equivalence = equiv same_stored-partial (λ x. same_stored-to x x re
 
 -- ---- four bits
 
--- the same lg_k, registers and state; the places of exceptions don't count
+-- the same lg_k, registers and state; the buckets of exceptions don't count
 abbrev pub same_four_bits : FourBits → FourBits → Bool
 same_four_bits = on (λ a. a.stored) same_stored
 

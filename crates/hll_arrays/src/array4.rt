@@ -28,7 +28,7 @@ use std::marker::Model;
 
 /// 2^`lg_k` registers of 0 to 63, and their estimate state: two registers a byte, each as far above the least of all as
 /// a nibble says, and where that is 15 or more, in a map. Contracts see the `lg_k`, the list of registers, the state, and
-/// the places of the map.
+/// the buckets of the map.
 #[derive_where(Debug)]
 #[derive(Drop)]
 pub struct Array4<A: Allocator = Global> {
@@ -154,7 +154,7 @@ impl<A: Allocator> Array4<A> {
         self.state = state;
     }
 
-    /// How many bytes the registers take: 2^(`lg_k` - 1), and the places of the map where there are exceptions. Takes no
+    /// How many bytes the registers take: 2^(`lg_k` - 1), and the buckets of the map where there are exceptions. Takes no
     /// memory.
     pub fn estimated_size(&self) -> usize
         ensures { result ≡ size_in_registers self.now.stored.lg_k Hll4 self.now.stored.registers }
@@ -188,7 +188,7 @@ impl<A: Allocator + Clone> Array4<A> {
     /// `lg_config_k` is 4 to 21. Fails with the first fault in the order of checks (`Count`, `LgArr`, `Truncated`,
     /// `Coupon` or `Register`), or else with `Memory`. Takes memory only once the bytes are known to be there: the
     /// map of exceptions as it grows, then the nibbles in one request, or where the minimum is below the least register
-    /// a byte for each register, and nibbles and a map anew.
+    /// a byte for each register, and nibbles and a map again.
     pub fn deserialize(
         alloc: A,
         cursor: SketchSlice<'_>,
@@ -221,7 +221,7 @@ impl<A: Allocator + Clone> Array4<A> {
         Ok(Array4 { registers, state })
     }
 
-    /// A copy, with the same places of the map.
+    /// A copy, with the same buckets of the map.
     ///
     /// Fails with `Memory`.
     pub fn clone(&self) -> Result<Array4<A>, Error>
@@ -235,7 +235,7 @@ impl<A: Allocator + Clone> Array4<A> {
     }
 
     /// The image (docs/FORMAT.md, "What is written"): 40 bytes, two registers a byte, and four for each exception, in
-    /// ascending raw words.
+    /// ascending raw coupons.
     ///
     /// `lg_config_k` is that of the registers. Takes memory in one request for the image, and where there are exceptions
     /// for a sorted copy of them. Fails with `Memory`.
@@ -273,7 +273,7 @@ impl<A: Allocator + Clone> Array4<A> {
         if coupon.value() <= self.registers.get(slot) {
             return Ok(());
         }
-        self.registers.raise(slot, coupon.value())?;
+        self.registers.max_slot(slot, coupon.value())?;
         self.state = EstimateState::CLEARED;
         Ok(())
     }
@@ -298,13 +298,13 @@ impl<A: Allocator> Registers for Array4<A> {
         Array4::estimate_state(self)
     }
 
-    fn is_dear_in_parts(&self) -> bool {
-        self.registers.is_dear_in_parts()
+    fn is_slow_in_small_blocks(&self) -> bool {
+        self.registers.is_slow_in_small_blocks()
     }
 
     /// One pass, and a search for each exception.
-    fn join_into(&self, first: u32, values: &mut [u8]) {
-        self.registers.join_into(first, values);
+    fn max_into(&self, first: u32, values: &mut [u8]) {
+        self.registers.max_into(first, values);
     }
 }
 
@@ -348,7 +348,7 @@ impl<A: Allocator + Clone> RegisterStore<A> for Array4<A> {
     ghost equal = { λ x y. (same_stored-from x.stored y.stored, same_stored-to x.stored y.stored) };
 }
 
-/// Two arrays are equal if their `lg_k`, registers and states are; the places of exceptions don't count.
+/// Two arrays are equal if their `lg_k`, registers and states are; the buckets of exceptions don't count.
 impl<A: Allocator> PartialEq for Array4<A> {
     ghost use Rattle.hll_arrays.specs.Same.{same_four_bits, same_four_bits-partial};
 
@@ -369,8 +369,8 @@ impl<A: Allocator> Eq for Array4<A> {
     ghost laws = { same_four_bits-equivalence };
 }
 
-/// The registers in the part of an image of four bits that follows the header, as they stand there, with a map of their
-/// exceptions by this allocator, and their state (docs/FORMAT.md, "HLL"). `cur_min` is the state byte, which may be below
+/// The registers in the part of an image of four bits that follows the header, as they stand there, with their state, and
+/// with a map of their exceptions by this allocator (docs/FORMAT.md, "HLL"). `cur_min` is the state byte, which may be below
 /// the least register, and `aux_format` says how the exceptions are stored. The count at the minimum is checked against its
 /// bound, and not used.
 ///
@@ -384,12 +384,12 @@ pub fn read_nibbles<'a, A: Allocator + Clone>(
     lg_config_k: u8,
     aux_format: AuxFormat,
     ooo: bool,
-) -> Result<(NibbleSlice<'a, A>, EstimateState), Error>
+) -> Result<NibbleSlice<'a, A>, Error>
     requires least { 4 ≤ lg_config_k }
     requires most { lg_config_k ≤ 21 }
     ensures ok { let h = shape_of_hll4 lg_config_k cur_min aux_format in
         IfOk result (λ r. IsHll4Payload h (take (hll4_size h cursor.entry) cursor.entry)
-        × (r.0 ≡ (lg_config_k, registers_of h (take (hll4_size h cursor.entry) cursor.entry))) × (r.1 ≡ state_at ooo cursor.entry)) }
+        × (r ≡ record { lg_k = lg_config_k; registers = registers_of h (take (hll4_size h cursor.entry) cursor.entry); state = state_at ooo cursor.entry })) }
     ensures err { let h = shape_of_hll4 lg_config_k cur_min aux_format in
         IfErr result (λ e. (e ≡ Memory) ⊎ Hll4Fault h cursor.entry e) }
     ensures order { let h = shape_of_hll4 lg_config_k cur_min aux_format in
@@ -404,6 +404,5 @@ pub fn read_nibbles<'a, A: Allocator + Clone>(
         aux_format,
         ooo,
     };
-    let (registers, state) = read_slice(alloc, cursor, header, Use::Join)?;
-    Ok((registers, state))
+    read_slice(alloc, cursor, header, Use::Join)
 }

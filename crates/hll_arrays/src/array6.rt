@@ -255,7 +255,7 @@ impl<A: Allocator> Registers for Array6<A> {
     }
 
     /// One pass, by groups.
-    fn join_into(&self, first: u32, values: &mut [u8]) {
+    fn max_into(&self, first: u32, values: &mut [u8]) {
         let first = first as usize / 4;
         let end = first + values.len() / 4;
         let groups = &self.groups[first..end];

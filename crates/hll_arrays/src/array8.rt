@@ -23,10 +23,11 @@ use hll_kernels::kernels::{
     WeightSums, all_zero, count_zeros, greatest_of, max_into, units, weight_sums,
 };
 use hll_registers::estimate_state::EstimateState;
+use hll_registers::folds::max_folds;
 use hll_registers::preamble::{HllHeader, Preamble};
 use hll_registers::register_slice::RegisterSlice;
 use hll_registers::register_store::RegisterStore;
-use hll_registers::registers::{Registers, join_folds, two_to, zeros_left};
+use hll_registers::registers::{Registers, two_to, zeros_left};
 use std::alloc::{Allocator, Global};
 use std::marker::Model;
 
@@ -179,7 +180,7 @@ impl<A: Allocator> Array8<A> {
         ensures { self.new ≡ merge_with self.old src.now }
     {
         self.zero_count = None;
-        join_folds(
+        max_folds(
             &mut self.registers,
             self.lg_config_k,
             &RegisterSlice::new(src_lg_k, src),
@@ -195,7 +196,7 @@ impl<A: Allocator> Array8<A> {
         ensures { self.new ≡ merge_with self.old (R.stored src.now).registers }
     {
         self.zero_count = None;
-        join_folds(&mut self.registers, self.lg_config_k, src);
+        max_folds(&mut self.registers, self.lg_config_k, src);
         self.rebuild_estimator_from_registers();
     }
 
@@ -346,7 +347,7 @@ impl<A: Allocator> Registers for Array8<A> {
     }
 
     /// One pass.
-    fn join_into(&self, first: u32, values: &mut [u8]) {
+    fn max_into(&self, first: u32, values: &mut [u8]) {
         let first = first as usize;
         max_into(values, &self.registers[first..first + values.len()]);
     }

@@ -8,7 +8,7 @@ ghost use Rattle.hll_coupons.specs.Coupons.{coupons_at};
 ghost use Rattle.hll_coupons.specs.Pair.{slot_of, value_of};
 ghost use Rattle.hll_registers.specs.FourBits.{unboxed, exception_in, IsMapFor, IsSlotOf};
 ghost use Rattle.hll_kernels.specs.Packed.{nibble_at};
-ghost use Rattle.hll_registers.specs.Payload.{state_at, exception_count, exception_places, hll4_size, is_compact, lg_table_of, nibbles_of, registers_of, shape_of_hll4, Agrees, AreEntries, FirstHll4Fault, IsHll4Payload, IsWhole};
+ghost use Rattle.hll_registers.specs.Payload.{state_at, exception_count, exception_buckets, hll4_size, is_compact, lg_table_of, nibbles_of, registers_of, shape_of_hll4, Agrees, AreEntries, FirstHll4Fault, IsHll4Payload, IsWhole};
 ghost use Rattle.hll_registers.specs.State.{IsState};
 
 use hll_base::bounds::SLOT_BITS;
@@ -24,7 +24,7 @@ use hll_registers::exception_map::{
 use hll_registers::nibble_registers::NibbleRegisters;
 use hll_registers::nibble_slice::{NibbleSlice, Use};
 use hll_registers::preamble::Preamble;
-use hll_registers::registers::two_to;
+use hll_registers::registers::{Registers, two_to};
 use std::alloc::Allocator;
 
 /// What the header of an image says of registers of four bits. Its minimum may be below the least register.
@@ -58,12 +58,13 @@ pub(crate) fn read_payload<A: Allocator + Clone>(
     ensures asked { let h = shape_of_hll4 header.lg_config_k header.cur_min header.aux_format in
         IfErr result (λ e. e ≡ Memory → IsWhole h cursor.entry) }
 {
-    let (registers, state) = read_slice(&alloc, cursor, header, Use::Copy)?;
+    let registers = read_slice(&alloc, cursor, header, Use::Copy)?;
+    let state = registers.estimate_state();
     Ok((registers.into_registers(alloc)?, state))
 }
 
-/// The registers above the minimum that the header gives, as they stand in the bytes, with a map of the exceptions by this
-/// allocator, and the estimate state.
+/// The registers above the minimum that the header gives, as they stand in the bytes, with their estimate state, and with a
+/// map of the exceptions by this allocator.
 ///
 /// Fails with the first fault in the order of checks, or else with `Memory`, only where there are exceptions.
 pub(crate) fn read_slice<'a, A: Allocator + Clone>(
@@ -71,14 +72,14 @@ pub(crate) fn read_slice<'a, A: Allocator + Clone>(
     cursor: SketchSlice<'a>,
     header: Hll4Header,
     later: Use,
-) -> Result<(NibbleSlice<'a, A>, EstimateState), Error>
+) -> Result<NibbleSlice<'a, A>, Error>
     requires least { 4 ≤ header.lg_config_k }
     requires most { header.lg_config_k ≤ 21 }
-    ensures state { IfOk result (λ r. (r.1 ≡ state_at header.ooo cursor.entry) × IsState r.1) }
     ensures payload { let h = shape_of_hll4 header.lg_config_k header.cur_min header.aux_format in
         IfOk result (λ r. IsWhole h cursor.entry × IsHll4Payload h (take (hll4_size h cursor.entry) cursor.entry)) }
     ensures registers { let h = shape_of_hll4 header.lg_config_k header.cur_min header.aux_format in
-        IfOk result (λ r. r.0 ≡ (header.lg_config_k, registers_of h cursor.entry)) }
+        IfOk result (λ r. r ≡ record { lg_k = header.lg_config_k; registers = registers_of h cursor.entry; state = state_at header.ooo cursor.entry }) }
+    ensures legal { IfOk result (λ r. IsState r.state) }
     ensures err { let h = shape_of_hll4 header.lg_config_k header.cur_min header.aux_format in
         IfErr result (λ e. (e ≡ Memory) ⊎ FirstHll4Fault h cursor.entry e) }
     ensures asked { let h = shape_of_hll4 header.lg_config_k header.cur_min header.aux_format in
@@ -94,7 +95,7 @@ pub(crate) fn read_slice<'a, A: Allocator + Clone>(
         exceptions,
         later,
     )?;
-    Ok((registers, frame.preamble.state))
+    Ok(registers.with_state(frame.preamble.state))
 }
 
 // ---- sizes
@@ -104,7 +105,7 @@ pub(crate) fn read_slice<'a, A: Allocator + Clone>(
 struct Frame<'a> {
     preamble: Preamble,
     compact: bool,
-    places: usize,
+    buckets: usize,
     nibbles: &'a [u8],
     entries: &'a [u8],
 }
@@ -114,7 +115,7 @@ fn frame_of<'a>(cursor: SketchSlice<'a>, header: Hll4Header) -> Result<Frame<'a>
     requires least { 4 ≤ header.lg_config_k }
     requires most { header.lg_config_k ≤ 21 }
     ensures ok { (m : ℕ) → let h = shape_of_hll4 header.lg_config_k m header.aux_format in
-        IfOk result (λ f. IsWhole h cursor.entry × (f.compact ≡ is_compact header.aux_format) × (f.places ≡ exception_places h cursor.entry)
+        IfOk result (λ f. IsWhole h cursor.entry × (f.compact ≡ is_compact header.aux_format) × (f.buckets ≡ exception_buckets h cursor.entry)
         × (f.nibbles.now ≡ nibbles_of h cursor.entry) × (f.entries.now ≡ drop (32 + 2 ^ (header.lg_config_k - 1)) cursor.entry)) }
     ensures numbers { IfOk result (λ f. (f.preamble.state ≡ state_at header.ooo cursor.entry) × IsState f.preamble.state × (f.preamble.exception_count ≡ exception_count cursor.entry)) }
     ensures err { (m : ℕ) → IfErr result (FirstHll4Fault (shape_of_hll4 header.lg_config_k m header.aux_format) cursor.entry) }
@@ -125,26 +126,26 @@ fn frame_of<'a>(cursor: SketchSlice<'a>, header: Hll4Header) -> Result<Frame<'a>
     if preamble.num_at_cur_min as usize > size || count > size {
         return Err(Error::new(Reason::Count));
     }
-    let places = places_of(header.aux_format, count)?;
+    let buckets = buckets_of(header.aux_format, count)?;
     let Some((nibbles, entries)) = rest
         .remaining()
         .split_at_checked(two_to(header.lg_config_k - 1))
     else {
         return Err(Error::new(Reason::Truncated));
     };
-    if entries.len() < places * COUPON_SIZE_BYTES {
+    if entries.len() < buckets * COUPON_SIZE_BYTES {
         return Err(Error::new(Reason::Truncated));
     }
     Ok(Frame {
         preamble,
         compact: is_without_gaps(header.aux_format),
-        places,
+        buckets,
         nibbles,
         entries,
     })
 }
 
-/// Whether the exceptions follow one another, with no empty place.
+/// Whether the exceptions follow one another, with no empty bucket.
 fn is_without_gaps(aux_format: AuxFormat) -> bool
     ensures { result ≡ is_compact aux_format }
 {
@@ -154,10 +155,10 @@ fn is_without_gaps(aux_format: AuxFormat) -> bool
     }
 }
 
-/// How many places of exceptions there are.
+/// How many buckets of exceptions there are.
 ///
 /// Fails with `LgArr`.
-fn places_of(aux_format: AuxFormat, count: usize) -> Result<usize, Error>
+fn buckets_of(aux_format: AuxFormat, count: usize) -> Result<usize, Error>
     ensures ok { IfOk result (λ n. n ≡ (if is_compact aux_format then count else (if count == 0 then 0 else 2 ^ lg_table_of aux_format))) }
     ensures table { IfOk result (λ n. is_compact aux_format ≡ false → count ≢ 0 → lg_table_of aux_format ≤ 26) }
     ensures err { IfErr result (λ e. (e ≡ reasons.LgArr) × (is_compact aux_format ≡ false) × (count ≢ 0) × (26 < lg_table_of aux_format)) }
@@ -180,7 +181,7 @@ fn places_of(aux_format: AuxFormat, count: usize) -> Result<usize, Error>
 
 /// Reads the exceptions into a map by slots modulo 2^`lg_config_k`, by this allocator.
 ///
-/// Fails with `Coupon`, `Count` or, only where there are places, `Memory`.
+/// Fails with `Coupon`, `Count` or, only where there are buckets, `Memory`.
 fn read_entries<A: Allocator + Clone>(
     alloc: &A,
     lg_config_k: u8,
@@ -188,20 +189,20 @@ fn read_entries<A: Allocator + Clone>(
 ) -> Result<Exceptions<A>, Error>
     requires least { 4 ≤ lg_config_k }
     requires most { lg_config_k ≤ 21 }
-    requires there { 4 * frame.now.places ≤ length frame.now.entries.now }
+    requires there { 4 * frame.now.buckets ≤ length frame.now.entries.now }
     ensures map { IfOk result (λ map. IsMapFor lg_config_k (unboxed map)) }
-    ensures values { IfOk result (λ map. (s : ℕ) → exception_in (unboxed map) s ≡ entry_at lg_config_k (coupons_at frame.now.compact frame.now.places frame.now.entries.now) s) }
-    ensures entries { IfOk result (λ map. AreEntries lg_config_k (coupons_at frame.now.compact frame.now.places frame.now.entries.now)) }
-    ensures number { IfOk result (λ map. length (coupons_at frame.now.compact frame.now.places frame.now.entries.now) ≡ frame.now.preamble.exception_count) }
-    ensures err { let entries = coupons_at frame.now.compact frame.now.places frame.now.entries.now in
+    ensures values { IfOk result (λ map. (s : ℕ) → exception_in (unboxed map) s ≡ entry_at lg_config_k (coupons_at frame.now.compact frame.now.buckets frame.now.entries.now) s) }
+    ensures entries { IfOk result (λ map. AreEntries lg_config_k (coupons_at frame.now.compact frame.now.buckets frame.now.entries.now)) }
+    ensures number { IfOk result (λ map. length (coupons_at frame.now.compact frame.now.buckets frame.now.entries.now) ≡ frame.now.preamble.exception_count) }
+    ensures err { let entries = coupons_at frame.now.compact frame.now.buckets frame.now.entries.now in
         IfErr result (λ e. (e ≡ Memory) ⊎ (((e ≡ reasons.Coupon) × (AreEntries lg_config_k entries → ⊥))
         ⊎ ((e ≡ reasons.Count) × AreEntries lg_config_k entries × (length entries ≢ frame.now.preamble.exception_count)))) }
-    ensures needed { IfErr result (λ e. e ≡ Memory → frame.now.places ≢ 0) }
+    ensures needed { IfErr result (λ e. e ≡ Memory → frame.now.buckets ≢ 0) }
 {
     let mut cursor = SketchSlice::new(frame.entries);
     let mut map = None;
     let mut filled = 0;
-    for _ in 0..frame.places {
+    for _ in 0..frame.buckets {
         let entry = coupon_of(cursor.read_u32_le()?);
         if entry.is_empty() && !frame.compact {
             continue;
@@ -240,7 +241,7 @@ fn put_entry<A: Allocator + Clone>(
     add_exception(map, alloc, lg_config_k, slot, entry.value())
 }
 
-/// The coupon of a raw word.
+/// The coupon of a raw coupon.
 fn coupon_of(raw: u32) -> Coupon
     ensures { result ≡ raw }
 {

@@ -1,16 +1,16 @@
 // SPDX-License-Identifier: Apache-2.0
 //! Laws of packed registers, each a clause of a function that does nothing (docs/MODEL.md, "Packed forms").
-ghost use Rattle.hll_registers.specs.EstimatorWords.{OneEstimatorState};
+ghost use Rattle.hll_registers.specs.EstimatorFields.{OneEstimatorState};
 ghost use Rattle.hll_registers.specs.FourBits.{MinimumNeverFalls, PackedIsOfRegisters};
 ghost use Rattle.hll_kernels.specs.Packed.{NibblesReadBack, FieldsReadBack};
 ghost use Rattle.hll_registers.specs.Payload.{ExceptionsReadBack};
 ghost use Rattle.hll_arrays.specs.ReadBack.{Hll8ReadBack, Hll6ReadBack, Hll4ReadBack};
 ghost use Rattle.hll_registers.specs.Store.{PackedIsWritten};
 
-/// A law of the words that a composite estimator reads:
+/// A law of the fields that a composite estimator reads:
 ///
 /// - `one_state`: registers have one state from which a composite estimator computes.
-pub fn estimator_words()
+pub fn estimator_fields()
     ensures one_state { OneEstimatorState }
 {}
 
@@ -33,13 +33,13 @@ pub fn packed_forms()
 
 /// Laws of what is written for registers:
 ///
-/// - `hll8_read_back`: what is written for registers of eight bits is a payload behind its header, and gives registers
+/// - `hll8_read_back`: what is written for registers of eight bits is a payload after its header, and gives registers
 ///   and state back.
-/// - `hll6_read_back`: what is written for registers of six bits is a payload behind its header, and gives registers
+/// - `hll6_read_back`: what is written for registers of six bits is a payload after its header, and gives registers
 ///   and state back.
-/// - `hll4_read_back`: what is written for registers of four bits is a payload behind its header, and gives registers
+/// - `hll4_read_back`: what is written for registers of four bits is a payload after its header, and gives registers
 ///   and state back.
-/// - `packed_is_written`: what is written ends in the packed bytes and the exceptions in ascending raw words, functions
+/// - `packed_is_written`: what is written ends in the packed bytes and the exceptions in ascending raw coupons, functions
 ///   of width and registers alone.
 pub fn payloads()
     ensures hll8_read_back { Hll8ReadBack }

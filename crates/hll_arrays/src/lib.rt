@@ -1,5 +1,5 @@
 // SPDX-License-Identifier: Apache-2.0
-//! Registers: their representations behind traits with laws, merges and conversions, and packed forms
+//! Registers: their representations after traits with laws, merges and conversions, and packed forms
 //! (docs/ARCHITECTURE.md, "Registers").
 #![tactic(auto)]
 

@@ -11,8 +11,8 @@ use hll_coupons::coupon::Coupon;
 use std::alloc::{AllocError, Global};
 use std::test::Fail;
 
-/// The exceptions that fill three quarters of a table of half as many places as there are registers, two for each of the
-/// first places, so that each search goes through those that came before. The last of them is 15, the others are more.
+/// The exceptions that fill three quarters of a table of half as many buckets as there are registers, two for each of the
+/// first buckets, so that each search goes through those that came before. The last of them is 15, the others are more.
 fn on_a_path(alloc: Global, lg_k: u8, reversed: bool) -> Result<Vec<Coupon>, AllocError>
     requires least { 4 ≤ lg_k }
     requires most { lg_k ≤ 12 }
@@ -47,7 +47,7 @@ fn registers_of(alloc: Global, lg_k: u8, coupons: &[Coupon]) -> Result<Array8, E
     Ok(array)
 }
 
-/// What follows the header of their image: words of 0, the counts, nibbles, and the exceptions in their order.
+/// What follows the header of their image: fields of 0, the counts, nibbles, and the exceptions in their order.
 fn payload_of(alloc: Global, values: &[u8], coupons: &[Coupon]) -> Result<Vec<u8>, Error> {
     let mut bytes = Vec::new(alloc);
     bytes.extend_from_slice(&[0; 28])?;

@@ -145,20 +145,20 @@ fn weights(rt: HostRuntime) -> Result<(), Fail> {
 
 /// The greater of value i and register `first + i`.
 #[test]
-fn joins(rt: HostRuntime) -> Result<(), Fail> {
+fn takes_max(rt: HostRuntime) -> Result<(), Fail> {
     let array = one_in(rt.alloc(), 5, 40, 3)?;
     array.lg_k();
     assert!(rt; array.num_registers() == 16);
     let mut all = [9u8; 16];
     all[0] = 0;
-    array.join_into(0, &mut all);
+    array.max_into(0, &mut all);
     assert_eq!(rt; all, [3, 9, 9, 9, 9, 40, 9, 9, 9, 9, 9, 9, 9, 9, 9, 9]);
     let mut part = [1u8, 39, 41, 2];
-    array.join_into(4, &mut part);
+    array.max_into(4, &mut part);
     assert_eq!(rt; part, [3, 40, 41, 3]);
     let mut greater = [50u8, 50, 50, 50, 0, 0, 0, 0];
-    array.join_into(4, &mut greater);
+    array.max_into(4, &mut greater);
     assert_eq!(rt; greater, [50, 50, 50, 50, 3, 3, 3, 3]);
-    array.join_into(16, &mut []);
+    array.max_into(16, &mut []);
     Ok(())
 }

@@ -3,9 +3,9 @@
 ghost use Rattle.std.specs.Prelude.{◌≡◌, ◌↔◌, ◌^◌, ◌<◌, ◌≤◌, length, All, IsTrue};
 ghost use Rattle.hll_kernels.specs.Packed.{zero_nibbles};
 
-use hll_arrays::kernels::{
-    all_zero, count_zeros, lower_nibbles, max_into, pack_group, units, unpack_group,
-};
+use hll_kernels::groups::{pack_group, unpack_group};
+use hll_kernels::kernels::{all_zero, count_zeros, max_into, units};
+use hll_kernels::nibbles::lower_nibbles;
 
 /// Where slices begin in an array of 160 bytes, and the length of the longest.
 const OFFSETS: [usize; 4] = [0, 1, 7, 30];
@@ -18,8 +18,8 @@ fn multiples(step: usize, modulus: usize) -> [u8; 160]
     requires modulus { (0 < modulus) × (modulus ≤ 64) }
 {
     let mut bytes = [0; 160];
-    for place in 0..160 {
-        bytes[place] = (place * step % modulus) as u8;
+    for index in 0..160 {
+        bytes[index] = (index * step % modulus) as u8;
     }
     bytes
 }
@@ -27,8 +27,8 @@ fn multiples(step: usize, modulus: usize) -> [u8; 160]
 /// Bytes whose nibbles are 1 to 15.
 fn pairs() -> [u8; 160] {
     let mut bytes = [0; 160];
-    for place in 0..160 {
-        bytes[place] = (17 + place * 7 % 15 + 16 * (place * 4 % 15)) as u8;
+    for index in 0..160 {
+        bytes[index] = (17 + index * 7 % 15 + 16 * (index * 4 % 15)) as u8;
     }
     bytes
 }
@@ -180,12 +180,12 @@ fn writes_of_every_length(rt: HostRuntime) {
             let mut nibbles = pairs;
             let count = lowered(&mut nibbles[from..to]);
             assert_eq!(rt; count, Some(zeros_of(&nibbles[from..to]) as u32));
-            for place in 0..160 {
-                let inside = from <= place && place < to;
-                let most = values[place].max(others[place]);
-                assert_eq!(rt; raised[place], if inside { most } else { values[place] });
-                let less = lowered_byte(pairs[place]);
-                assert_eq!(rt; nibbles[place], if inside { less } else { pairs[place] });
+            for index in 0..160 {
+                let inside = from <= index && index < to;
+                let most = values[index].max(others[index]);
+                assert_eq!(rt; raised[index], if inside { most } else { values[index] });
+                let less = lowered_byte(pairs[index]);
+                assert_eq!(rt; nibbles[index], if inside { less } else { pairs[index] });
             }
         }
     }

@@ -6,6 +6,8 @@
 #[cfg(test)]
 mod array16;
 #[cfg(test)]
+mod copies;
+#[cfg(test)]
 mod eight_bits;
 #[cfg(test)]
 mod four_bit_images;

@@ -34,7 +34,7 @@ pub(crate) trait Images<A: Allocator>: RegisterStore<A> {
 
 impl<A: Allocator + Clone> Images<A> for Array8<A> {
     fn read(alloc: A, image: &[u8], lg_k: u8, out_of_order: bool) -> Result<Array8<A>, Error> {
-        Array8::deserialize_registers(alloc, behind_header(image)?, lg_k, out_of_order)
+        Array8::deserialize_registers(alloc, after_header(image)?, lg_k, out_of_order)
     }
 
     fn copied(&self) -> Result<Array8<A>, Error> {
@@ -44,7 +44,7 @@ impl<A: Allocator + Clone> Images<A> for Array8<A> {
 
 impl<A: Allocator + Clone> Images<A> for Array6<A> {
     fn read(alloc: A, image: &[u8], lg_k: u8, out_of_order: bool) -> Result<Array6<A>, Error> {
-        Array6::deserialize_registers(alloc, behind_header(image)?, lg_k, out_of_order)
+        Array6::deserialize_registers(alloc, after_header(image)?, lg_k, out_of_order)
     }
 
     fn copied(&self) -> Result<Array6<A>, Error> {
@@ -52,8 +52,8 @@ impl<A: Allocator + Clone> Images<A> for Array6<A> {
     }
 }
 
-/// A cursor behind the eight bytes of a header.
-fn behind_header(image: &[u8]) -> Result<SketchSlice<'_>, Error> {
+/// A cursor after the eight bytes of a header.
+fn after_header(image: &[u8]) -> Result<SketchSlice<'_>, Error> {
     let mut cursor = SketchSlice::new(image);
     cursor.read_u64_le()?;
     Ok(cursor)

@@ -1,10 +1,8 @@
 // SPDX-License-Identifier: Apache-2.0
-//! Registers of eight and six bits: images written and read back, and copies.
+//! Registers of eight and six bits: images written and read back, and states compared.
 ghost use Rattle.std.specs.Prelude.{◌≤◌, length};
 
-use crate::eight_bits::eight_in;
 use crate::register_fixtures::{Images, READ, first_of};
-use crate::six_bits::three_in;
 use hll_arrays::{EstimateState, RegisterStore, Registers};
 use hll_coupons::coupon::Coupon;
 use std::alloc::Global;
@@ -74,26 +72,6 @@ pub(crate) fn largest_in<S: Images<Global>>(
     Ok((store, image))
 }
 
-/// A copy of registers of `lg_k` 4 is equal, and independent.
-fn copied_in<S: Images<Global>>(rt: &impl Abort, mut store: S) -> Result<S, Fail> {
-    let registers = first_of(&store);
-    store.restore(READ);
-    let mut copy = store.copied()?;
-    assert!(rt; copy == store);
-    assert_eq!(rt;
-        (copy.num_registers(), first_of(&copy), copy.estimate_state()),
-        (16, registers, READ)
-    );
-    copy.put_coupon(Coupon::pack(15, 1))?;
-    assert_eq!(rt;
-        (first_of(&store), store.estimate_state()),
-        (registers, READ)
-    );
-    copy.restore(READ);
-    assert!(rt; copy != store);
-    Ok(store)
-}
-
 /// States, and whether they are `READ`.
 const STATES: [([u64; 3], bool, bool); 5] = [
     ([1, 2, 3], false, true),
@@ -120,12 +98,4 @@ pub(crate) fn compared_in<S: RegisterStore<Global>>(
     }
     assert!(rt; S::make(alloc, 4)? != S::make(alloc, 5)?);
     Ok(())
-}
-
-#[test]
-fn copies(rt: HostRuntime) -> Result<(), Fail> {
-    let eight = copied_in(&rt, eight_in(rt.alloc())?)?;
-    compared_in(&rt, rt.alloc(), &eight, eight_in(rt.alloc())?)?;
-    let six = copied_in(&rt, three_in(rt.alloc())?)?;
-    compared_in(&rt, rt.alloc(), &six, three_in(rt.alloc())?)
 }

@@ -46,11 +46,11 @@ fn new_registers(rt: HostRuntime) -> Result<(), Fail> {
 
 /// The greater of value i and register `first + i`.
 #[test]
-fn joins(rt: HostRuntime) -> Result<(), Fail> {
+fn takes_max(rt: HostRuntime) -> Result<(), Fail> {
     let array = three_in(rt.alloc())?;
     array.lg_k();
     let mut all = [50u8; 16];
-    array.join_into(0, &mut all);
+    array.max_into(0, &mut all);
     assert_eq!(rt;
         all,
         [
@@ -58,12 +58,12 @@ fn joins(rt: HostRuntime) -> Result<(), Fail> {
         ]
     );
     let mut front = [0u8, 62, 63, 51];
-    array.join_into(0, &mut front);
+    array.max_into(0, &mut front);
     assert_eq!(rt; front, [0, 63, 63, 51]);
-    let mut behind = [1u8, 2, 3, 4, 5, 6, 7, 8];
-    array.join_into(4, &mut behind);
-    assert_eq!(rt; behind, [1, 2, 3, 4, 5, 6, 7, 8]);
-    array.join_into(16, &mut []);
+    let mut after = [1u8, 2, 3, 4, 5, 6, 7, 8];
+    array.max_into(4, &mut after);
+    assert_eq!(rt; after, [1, 2, 3, 4, 5, 6, 7, 8]);
+    array.max_into(16, &mut []);
     Ok(())
 }
 

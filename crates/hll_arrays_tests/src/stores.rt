@@ -106,7 +106,7 @@ fn folded_in<S: RegisterStore<Global>>(
 }
 
 /// The updates of two halves are joined to those of all.
-fn joined_in(rt: &impl Abort, alloc: Global, lg_k: u8, coupons: &[Coupon]) -> Result<(), Fail>
+fn merged_in(rt: &impl Abort, alloc: Global, lg_k: u8, coupons: &[Coupon]) -> Result<(), Fail>
     requires least { 4 ≤ lg_k }
     requires most { lg_k ≤ 21 }
 {
@@ -128,7 +128,7 @@ fn updates_are_folds(rt: HostRuntime) -> Result<(), Fail> {
         folded_in::<Array6>(&rt, rt.alloc(), lg_k, &coupons)?;
         folded_in::<Array4>(&rt, rt.alloc(), lg_k, &coupons)?;
         folded_in::<Array16<_>>(&rt, rt.alloc(), lg_k, &coupons)?;
-        joined_in(&rt, rt.alloc(), lg_k, &coupons)?;
+        merged_in(&rt, rt.alloc(), lg_k, &coupons)?;
     }
     Ok(())
 }

@@ -59,17 +59,17 @@ pub after_bytes-block : (h : Halves) (block more : List ℕ) (count : ℕ) → l
 after_bytes-block h block more count e =
     let one_more : length (block ++ more) / 16 ≡ suc (length more / 16) = omega (arith, e, length-append block more) in
     let front : take 16 (block ++ more) ≡ block = take_at block more 16 e in
-    let behind : drop 16 (block ++ more) ≡ more = drop_at block more 16 e in
+    let after : drop 16 (block ++ more) ≡ more = drop_at block more 16 e in
     let skip : drop (suc (length more / 16) * 16) (block ++ more) ≡ drop (length more / 16 * 16) more =
     ap (λ n. drop n (block ++ more)) (let n : suc (length more / 16) * 16 ≡ 16 + length more / 16 * 16 = omega arith in n)
-    ∙ sym (drop-drop (length more / 16 * 16) 16 (block ++ more)) ∙ ap (drop (length more / 16 * 16)) behind in
+    ∙ sym (drop-drop (length more / 16 * 16) 16 (block ++ more)) ∙ ap (drop (length more / 16 * 16)) after in
     ap (λ n. let s : HashState = record { halves = fold after_block h (blocks n (block ++ more)); partial = drop (n * 16) (block ++ more); count = count } in s) one_more
-    ∙ (λ i. let s : HashState = record { halves = fold after_block (after_block h (front i)) (first_chunks 16 (length more / 16) (behind i)); partial = skip i; count = count } in s)
+    ∙ (λ i. let s : HashState = record { halves = fold after_block (after_block h (front i)) (first_chunks 16 (length more / 16) (after i)); partial = skip i; count = count } in s)
 
 -- the state after bytes in two steps
-after_bytes-behind : (n : ℕ) (h : Halves) (xs b : List ℕ) (c : ℕ) → length xs < n → after_bytes (after_bytes h xs c).halves ((after_bytes h xs c).partial ++ b) c ≡ after_bytes h (xs ++ b) c
-after_bytes-behind zero h xs b c l = absurd (omega (arith, l))
-after_bytes-behind (suc n) h xs b c l = elim (cases_lt (length xs) 16) [
+after_bytes-after : (n : ℕ) (h : Halves) (xs b : List ℕ) (c : ℕ) → length xs < n → after_bytes (after_bytes h xs c).halves ((after_bytes h xs c).partial ++ b) c ≡ after_bytes h (xs ++ b) c
+after_bytes-after zero h xs b c l = absurd (omega (arith, l))
+after_bytes-after (suc n) h xs b c l = elim (cases_lt (length xs) 16) [
   | inl few ↦
       let none : length xs / 16 ≡ 0 = omega (arith, few) in
       ap (λ full. after_bytes (fold after_block h (blocks full xs)) (drop (full * 16) xs ++ b) c) none
@@ -80,7 +80,7 @@ after_bytes-behind (suc n) h xs b c l = elim (cases_lt (length xs) 16) [
       let split : xs ≡ front ++ more = sym (take-append-drop 16 xs) in
       let first : after_bytes h xs c ≡ after_bytes (after_block h front) more c = ap (λ ys. after_bytes h ys c) split ∙ after_bytes-block h front more c size in
       ap (λ (s : HashState). after_bytes s.halves (s.partial ++ b) c) first
-      ∙ after_bytes-behind n (after_block h front) more b c (omega (arith, length-drop 16 xs, l, many))
+      ∙ after_bytes-after n (after_block h front) more b c (omega (arith, length-drop 16 xs, l, many))
       ∙ sym (after_bytes-block h front (more ++ b) c size)
       ∙ ap (λ ys. after_bytes h ys c) (sym (append_assoc front more b) ∙ ap (λ ys. ys ++ b) (sym split))
 ]
@@ -89,7 +89,7 @@ pub pieces_are_one : PiecesAreOne
 pieces_are_one s a b =
     let c : ℕ = ((s.count + length a) % 2 ^ 64 + length b) % 2 ^ 64 in
     let sum : c ≡ (s.count + length (a ++ b)) % 2 ^ 64 = omega (arith, length-append a b) in
-    after_bytes-behind (suc (length (s.partial ++ a))) s.halves (s.partial ++ a) b c (omega arith)
+    after_bytes-after (suc (length (s.partial ++ a))) s.halves (s.partial ++ a) b c (omega arith)
     ∙ (λ i. after_bytes s.halves (append_assoc s.partial a b i) (sum i))
 
 pub hash_of_piece : HashOfPiece
@@ -101,9 +101,9 @@ hash_of_piece seed bytes =
 -- ---- the partial block
 
 -- the block stays padded with zeros when bytes are appended to its first n
-pub zeros_behind : (n m : ℕ) (block others new : List ℕ) → m ≡ n + length others → new ≡ take n block ++ others ++ drop (n + length others) block
+pub zeros_after : (n m : ℕ) (block others new : List ℕ) → m ≡ n + length others → new ≡ take n block ++ others ++ drop (n + length others) block
     → n ≤ length block → drop n block ≡ replicate (16 - n) 0 → drop m new ≡ replicate (16 - m) 0
-zeros_behind n m block others new end put within zeros =
+zeros_after n m block others new end put within zeros =
     let front : List ℕ = take n block ++ others in
     let size : length front ≡ m = omega (arith, length-append (take n block) others, length-take-le n block within, end) in
     let left : replicate (16 - n - length others) 0 ≡ replicate (16 - m) 0 = ap (λ k. replicate k 0) (omega (arith, end)) in

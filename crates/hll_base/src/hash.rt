@@ -86,7 +86,7 @@ impl MurmurHash3X64128 {
     /// is still partial.
     fn fill<'a>(&mut self, bytes: &'a [u8]) -> &'a [u8]
         ensures same { after_bytes self.new.halves (self.new.partial ++ result.now) self.old.count ≡ after_bytes self.old.halves (self.old.partial ++ bytes.now) self.old.count }
-        ensures behind { 0 < length self.new.partial → result.now ≡ [] }
+        ensures after { 0 < length self.new.partial → result.now ≡ [] }
         ensures count { self.new.count ≡ self.old.count }
     {
         if self.partial == 0 {

@@ -53,7 +53,7 @@ pub(crate) fn write<S: Measured>(alloc: Global, lg_k: u8, rounds: u32) -> Result
     written(&array, rounds)
 }
 
-/// The same of registers that were read.
+/// Writes of images of registers that were read; the sum of their lengths and of the first byte of their registers.
 pub(crate) fn rewrite<S: Measured>(alloc: Global, lg_k: u8, rounds: u32) -> Result<u64, Error>
     requires { (4 ≤ lg_k) × (lg_k ≤ 21) }
 {

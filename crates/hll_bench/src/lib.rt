@@ -18,8 +18,9 @@ mod unions;
 use hll_arrays::array4::Array4;
 use hll_arrays::array6::Array6;
 use hll_arrays::array8::Array8;
-use hll_arrays::kernels::{all_zero, count_zeros, lower_nibbles, max_into, units};
 use hll_base::hash::{DEFAULT_SEED, hash_of_bytes};
+use hll_kernels::kernels::{all_zero, count_zeros, max_into, units};
+use hll_kernels::nibbles::lower_nibbles;
 use std::alloc::Global;
 
 /// What an export returns if an allocation fails.

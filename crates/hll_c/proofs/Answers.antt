@@ -7,11 +7,11 @@ use Rattle.hll_base.specs.declared.error.Reason.{Reason}
 use Rattle.hll_base.specs.declared.error.Reason.TheVariants.{Memory}
 use Rattle.hll_base.specs.declared.hll_type.HllType.{HllType}
 use Rattle.hll_base.specs.declared.hll_type.HllType.TheVariants.{Hll8}
-use Rattle.hll_sketch.proofs.SetWords.{words_twice}
-use Rattle.hll_sketch.specs.EstimatorWords.{SetsWords, SetsWordsIn, HasClearedState, FillsWords, filled, stays}
+use Rattle.hll_sketch.proofs.SetFields.{fields_twice}
+use Rattle.hll_sketch.specs.EstimatorFields.{SetsFields, SetsFieldsIn, HasClearedState, FillsFields, filled, stays}
 use Rattle.hll_sketch.specs.Layout.{SketchLayout, sketch_of}
 use Rattle.hll_sketch.specs.Value.{Sketch}
-use Rattle.hll_c.specs.Answers.{Answers, IsImageOf, WithWords, PutsBytes, wrote, too_small, refused, Tells, told, untold, Tests, passed, failed, ok_code, buffer_code}
+use Rattle.hll_c.specs.Answers.{Answers, IsImageOf, WithFields, PutsBytes, wrote, too_small, refused, Reports, reported, untold, Tests, passed, failed, ok_code, buffer_code}
 
 -- the sketch that was made, and why none was, or why no image of it is written
 abbrev pub IsOf : Result SketchLayout Reason → Sketch → Type 0
@@ -52,10 +52,10 @@ module _ {X : Type 0} (Says : X → Type 0) (Refuses : Reason → Type 0) where
   denied (Err e) r err same = subst Refuses same err
 
   -- the answer that tells what was found is one of the call
-  pub tells_of : (found : Result X Reason) (old new : X) (code : ℕ) → IfOk found Says → IfErr found Refuses
-      → Tells X (λ x. MatchResult found (λ y. x ≡ y) (λ _. ⊥)) (λ r. MatchResult found (λ _. ⊥) (λ e. e ≡ r)) old new code → Tells X Says Refuses old new code
-  tells_of found old new _ ok err (told from) = told (said found new ok from)
-  tells_of found old new _ ok err (untold r from is) = untold r (denied found r err from) is
+  pub reports_of : (found : Result X Reason) (old new : X) (code : ℕ) → IfOk found Says → IfErr found Refuses
+      → Reports X (λ x. MatchResult found (λ y. x ≡ y) (λ _. ⊥)) (λ r. MatchResult found (λ _. ⊥) (λ e. e ≡ r)) old new code → Reports X Says Refuses old new code
+  reports_of found old new _ ok err (reported from) = reported (said found new ok from)
+  reports_of found old new _ ok err (untold r from is) = untold r (denied found r err from) is
 
 -- ---- an image, put into a buffer
 
@@ -95,59 +95,59 @@ module _ {X : Type 0} (items : X → List ℕ) (image : Result X Reason) where
         → PutsBytes AreOf IsWhyNone old new size_old size_new code → PutsBytes (IsImageOf IsMade) Refuses old new size_old size_new code
     answers_with old new so sn code ok err = puts_as old new so sn code (image_in image ok) (why_in image err)
 
--- the image of what was made is what is written for it with its words
-pub image_of_made : (made : Result SketchLayout Reason) (bytes : List ℕ) → MatchResult made (λ s. IsImageOf (FillsWords (sketch_of s)) bytes) (λ _. ⊥) → IsImageOf (WithWords (λ y. IsOf made y)) bytes
+-- the image of what was made is what is written for it with its fields
+pub image_of_made : (made : Result SketchLayout Reason) (bytes : List ℕ) → MatchResult made (λ s. IsImageOf (FillsFields (sketch_of s)) bytes) (λ _. ⊥) → IsImageOf (WithFields (λ y. IsOf made y)) bytes
 image_of_made (Ok s) bytes is = (is.0, (sketch_of s, refl, is.1), is.2)
 image_of_made (Err e) bytes is = absurd is
 
--- words that are filled once stay as they are
-pub fills_twice : (x y z : Sketch) → FillsWords x y → FillsWords y z → FillsWords x z
-fills_twice x y z (stays n same) next = subst (λ v. FillsWords v z) same next
-fills_twice x y z (filled c w) (stays n same) = filled c (subst (λ v. SetsWords x v) (sym same) w)
-fills_twice x y z (filled c w) (filled d v) = filled c (subst (λ u. SetsWords x u) (sym (words_twice x y z w v)) w)
+-- fields that are filled once stay as they are
+pub fills_twice : (x y z : Sketch) → FillsFields x y → FillsFields y z → FillsFields x z
+fills_twice x y z (stays n same) next = subst (λ v. FillsFields v z) same next
+fills_twice x y z (filled c w) (stays n same) = filled c (subst (λ v. SetsFields x v) (sym same) w)
+fills_twice x y z (filled c w) (filled d v) = filled c (subst (λ u. SetsFields x u) (sym (fields_twice x y z w v)) w)
 
--- words are those of the registers, whatever the width
-pub fills_at_width : (width : HllType) (g x y z : Sketch) → x ≡ record g { width = Hll8 } → FillsWords x y → z ≡ record y { width = width } → FillsWords (record g { width = width }) z
+-- fields are those of the registers, whatever the width
+pub fills_at_width : (width : HllType) (g x y z : Sketch) → x ≡ record g { width = Hll8 } → FillsFields x y → z ≡ record y { width = width } → FillsFields (record g { width = width }) z
 fills_at_width width g x y z at (filled c w) is =
     filled (subst (λ v. HasClearedState v.content) at c)
     (record {
       lg_k = ap (λ v. v.lg_k) is ∙ w.lg_k ∙ ap (λ v. v.lg_k) at;
       width = ap (λ v. v.width) is;
-      content = subst (λ C. SetsWordsIn C z.content) (ap (λ v. v.content) at) (subst (λ C. SetsWordsIn x.content C) (sym (ap (λ v. v.content) is)) w.content);
+      content = subst (λ C. SetsFieldsIn C z.content) (ap (λ v. v.content) at) (subst (λ C. SetsFieldsIn x.content C) (sym (ap (λ v. v.content) is)) w.content);
     })
 fills_at_width width g x y z at (stays n same) is = stays (λ c. n (subst (λ v. HasClearedState v.content) (sym at) c)) (is ∙ ap {A = Sketch} (λ v. record v { width = width }) (same ∙ at))
 
 module _ (IsMade : Sketch → Type 0) where
-  again : (y : Sketch) → WithWords (WithWords IsMade) y → WithWords IsMade y
+  again : (y : Sketch) → WithFields (WithFields IsMade) y → WithFields IsMade y
   again y w = (w.1.0, w.1.1, fills_twice w.1.0 w.0 y w.1.2 w.2)
 
-  -- the image of what has its words already
-  pub made_again : (x : Sketch) (bytes : List ℕ) → WithWords IsMade x → IsImageOf (FillsWords x) bytes → IsImageOf (WithWords IsMade) bytes
+  -- the image of what has its fields already
+  pub made_again : (x : Sketch) (bytes : List ℕ) → WithFields IsMade x → IsImageOf (FillsFields x) bytes → IsImageOf (WithFields IsMade) bytes
   made_again x bytes made is = (is.0, again is.0 (x, made, is.1), is.2)
 
   module _ (Refuses : Reason → Type 0) (memory : (y : Sketch) → IsMade y → Refuses Memory) where
-    -- the answer that puts the image of what was made with its words is one of the call
+    -- the answer that puts the image of what was made with its fields is one of the call
     pub answers_again : (made : Result SketchLayout Reason) (old new : List ℕ) (size_old size_new code : ℕ)
-        → IfOk made (λ s. WithWords IsMade (sketch_of s)) → IfErr made Refuses → Answers (λ y. IsOf made y) (λ r. IsFor made r) old new size_old size_new code
+        → IfOk made (λ s. WithFields IsMade (sketch_of s)) → IfErr made Refuses → Answers (λ y. IsOf made y) (λ r. IsFor made r) old new size_old size_new code
         → Answers IsMade Refuses old new size_old size_new code
     answers_again made old new so sn code ok err answers =
         puts_as old new so sn code (λ b is. (is.0, again is.0 is.1, is.2)) (λ r from. from)
-        (answers_of (WithWords IsMade) Refuses (λ y w. memory w.0 w.1) made old new so sn code ok err answers)
+        (answers_of (WithFields IsMade) Refuses (λ y w. memory w.0 w.1) made old new so sn code ok err answers)
 
-pub made_with_words : (IsMade : Sketch → Type 0) (x : Sketch) (bytes : List ℕ) → IsMade x → IsImageOf (FillsWords x) bytes → IsImageOf (WithWords IsMade) bytes
-made_with_words IsMade x bytes made is = (is.0, (x, made, is.1), is.2)
+pub made_with_fields : (IsMade : Sketch → Type 0) (x : Sketch) (bytes : List ℕ) → IsMade x → IsImageOf (FillsFields x) bytes → IsImageOf (WithFields IsMade) bytes
+made_with_fields IsMade x bytes made is = (is.0, (x, made, is.1), is.2)
 
 -- ---- codes alone, and what is told
 
 module _ {X : Type 0} where
-  pub tells_value : (found : Result X Reason) (value old : X) → found ≡ Ok value
-      → Tells X (λ x. MatchResult found (λ y. x ≡ y) (λ _. ⊥)) (λ r. MatchResult found (λ _. ⊥) (λ e. e ≡ r)) old value ok_code
-  tells_value found value old is = told (subst (λ f. MatchResult f (λ y. value ≡ y) (λ _. ⊥)) (sym is) refl)
+  pub reports_value : (found : Result X Reason) (value old : X) → found ≡ Ok value
+      → Reports X (λ x. MatchResult found (λ y. x ≡ y) (λ _. ⊥)) (λ r. MatchResult found (λ _. ⊥) (λ e. e ≡ r)) old value ok_code
+  reports_value found value old is = reported (subst (λ f. MatchResult f (λ y. value ≡ y) (λ _. ⊥)) (sym is) refl)
 
-  pub tells_nothing : (found : Result X Reason) (e : Reason) (old : X) (code : ℕ) → found ≡ Err e → code ≡ number_of e
-      → Tells X (λ x. MatchResult found (λ y. x ≡ y) (λ _. ⊥)) (λ r. MatchResult found (λ _. ⊥) (λ e. e ≡ r)) old old code
-  tells_nothing found e old code is number =
-      subst (Tells X (λ x. MatchResult found (λ y. x ≡ y) (λ _. ⊥)) (λ r. MatchResult found (λ _. ⊥) (λ e. e ≡ r)) old old) (sym number)
+  pub reports_nothing : (found : Result X Reason) (e : Reason) (old : X) (code : ℕ) → found ≡ Err e → code ≡ number_of e
+      → Reports X (λ x. MatchResult found (λ y. x ≡ y) (λ _. ⊥)) (λ r. MatchResult found (λ _. ⊥) (λ e. e ≡ r)) old old code
+  reports_nothing found e old code is number =
+      subst (Reports X (λ x. MatchResult found (λ y. x ≡ y) (λ _. ⊥)) (λ r. MatchResult found (λ _. ⊥) (λ e. e ≡ r)) old old) (sym number)
       (untold e (subst (λ f. MatchResult f (λ _. ⊥) (λ d. d ≡ e)) (sym is) refl) refl)
 
 pub tests_passed : (answer : Result (Unit {0}) Reason) (u : Unit {0}) → answer ≡ Ok u → Tests (MatchResult answer (λ _. Unit {0}) (λ _. ⊥)) (λ r. MatchResult answer (λ _. ⊥) (λ e. e ≡ r)) ok_code

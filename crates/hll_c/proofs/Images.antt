@@ -5,18 +5,18 @@ use Rattle.std.proofs.lemmas.Bool.{cases_lt}
 use Rattle.hll_base.specs.declared.error.Reason.{Reason}
 use Rattle.hll_base.specs.declared.error.Reason.TheVariants.{Argument, Memory}
 use Rattle.hll_base.specs.declared.hll_type.HllType.{HllType}
-use Rattle.hll_sketch.specs.Checks.{first_failing, header_checks, checks_behind, first_fault, size_fault}
+use Rattle.hll_sketch.specs.Checks.{first_failing, header_checks, checks_after, first_fault, size_fault}
 use Rattle.hll_sketch.specs.CouponImages.{IsImageOfUnion, AreBothRead, IsImageAt}
 use Rattle.hll_sketch.specs.Folding.{IsFoldLgK}
 use Rattle.hll_sketch.specs.Image.{IsReadAs}
 use Rattle.hll_sketch.specs.Refusal.{IsRefusal}
-use Rattle.hll_sketch.specs.TakenIn.{HasCompactCoupons, HasPlainRegisters}
+use Rattle.hll_sketch.specs.MergedIn.{HasCompactCoupons, HasPlainRegisters}
 use Rattle.hll_sketch.specs.Updatable.{HasUpdatableCoupons}
 use Rattle.hll_sketch.specs.Value.{Sketch, IsLgK}
 use Rattle.hll_sketch.proofs.FirstFailing.{none_before}
 use Rattle.hll_sketch.proofs.FirstFaults.{faultless_is_image}
-use Rattle.hll_sketch.proofs.SetWords.{coupons_stay}
-use Rattle.hll_c.specs.Answers.{IsImageOf, WithWords, RefusesArguments, argument, memory, RefusesImage, RefusesInfo, RefusesTested, image_fault, image_memory, RefusesWith, argument_with_image, image_refused, RefusesImages, argument_with_images, images_fault, images_memory}
+use Rattle.hll_sketch.proofs.SetFields.{coupons_stay}
+use Rattle.hll_c.specs.Answers.{IsImageOf, WithFields, RefusesArguments, argument, memory, RefusesImage, RefusesInfo, RefusesTested, image_fault, image_memory, RefusesWith, argument_with_image, image_refused, RefusesImages, argument_with_images, images_fault, images_memory}
 use Rattle.hll_c.specs.Batches.{AreReadAs, IsFirstFaulty, MayAskAt, strings}
 use Rattle.hll_c.specs.Calls.{bits_of, IsAtWidth, AreNewArguments, IsEmptyAt, IsMadeOf, IsFoldOf, RefusesFold, above, with, AreUnionArguments, IsUnionOf, AreBatchArguments, IsUnionOfBatch}
 use Rattle.hll_c.specs.Steps.{IsRefusedAt}
@@ -29,8 +29,8 @@ no_fault image x read = (faultless_is_image image).1 (x, read)
 
 pub no_size_fault : (image : List ℕ) (x : Sketch) → IsReadAs image x → size_fault image ≡ None
 no_size_fault image x read =
-    none_before (header_checks image ++ (checks_behind image).size) (checks_behind image).content
-    (ap first_failing (append_assoc (header_checks image) (checks_behind image).size (checks_behind image).content) ∙ no_fault image x read)
+    none_before (header_checks image ++ (checks_after image).size) (checks_after image).content
+    (ap first_failing (append_assoc (header_checks image) (checks_after image).size (checks_after image).content) ∙ no_fault image x read)
 
 -- a read that is refused
 pub refuses_image : (image : List ℕ) (e : Reason) → (e ≡ Memory) ⊎ (first_fault image ≡ Some e) → (e ≡ Memory → size_fault image ≡ None) → RefusesImage image e
@@ -43,7 +43,7 @@ pub refuses_tested : {T : Type 0} (image : List ℕ) (r : Result T Reason) → I
 refuses_tested image (Ok x) refusal compact updatable plain = tt
 refuses_tested image (Err e) refusal compact updatable plain = (
   refuses_image image e refusal.first refusal.asked,
-  λ full. record { sized = refusal.asked full; coupons = compact full; places = updatable full; registers = plain full },
+  λ full. record { sized = refusal.asked full; coupons = compact full; buckets = updatable full; registers = plain full },
 )
 
 -- memory that is refused once an image is read
@@ -78,11 +78,11 @@ refuses_fold image x k e is read (inr m) outside = with (image_refused is (refus
 
 -- ---- several images
 
--- behind images that were read memory may be asked for
-pub asked_behind : (images : List (List ℕ)) (xs : List Sketch) → AreReadAs images xs → MayAskAt images (length images)
-asked_behind [] xs read = tt
-asked_behind (image ∷ images) [] read = absurd read
-asked_behind (image ∷ images) (x ∷ xs) read = (no_fault image x read.0, asked_behind images xs read.1)
+-- after images that were read memory may be asked for
+pub asked_after : (images : List (List ℕ)) (xs : List Sketch) → AreReadAs images xs → MayAskAt images (length images)
+asked_after [] xs read = tt
+asked_after (image ∷ images) [] read = absurd read
+asked_after (image ∷ images) (x ∷ xs) read = (no_fault image x read.0, asked_after images xs read.1)
 
 module _ (InRange : Type 0) (images : List (List ℕ)) (failed_old failed_new : ℕ) (e : Reason) where
   pub refuses_arguments : e ≡ Argument → (InRange → ⊥) → failed_new ≡ failed_old → RefusesImages InRange images failed_old failed_new e
@@ -119,19 +119,19 @@ module _ (image : List ℕ) (IsMade : Sketch → Sketch → Type 0) (y : Sketch)
 pub no_memory_to_fold : (image : List ℕ) (k : ℕ) (y : Sketch) → IsMadeOf image (IsFoldOf k) y → RefusesFold k image Memory
 no_memory_to_fold image k y made = with (no_memory_with image (IsFoldOf k) y made (IsLgK k) (λ x z fold. fold.lg_k_is))
 
-pub no_memory_to_unite : (k bits : ℕ) (images : List (List ℕ)) (failed_old failed_new : ℕ) (y : Sketch) → IsUnionOf k bits images failed_old failed_new y
+pub no_memory_to_merge : (k bits : ℕ) (images : List (List ℕ)) (failed_old failed_new : ℕ) (y : Sketch) → IsUnionOf k bits images failed_old failed_new y
     → RefusesImages (AreUnionArguments k bits) images failed_old failed_new Memory
-no_memory_to_unite k bits images fo fn y made = images_memory (length images) made.arguments (asked_behind images made.sketches made.read) made.untold
+no_memory_to_merge k bits images fo fn y made = images_memory (length images) made.arguments (asked_after images made.sketches made.read) made.untold
 
-pub no_memory_to_unite_batch : (k bits : ℕ) (images ends : List ℕ) (failed_old failed_new : ℕ) (y : Sketch) → IsUnionOfBatch k bits images ends failed_old failed_new y
+pub no_memory_to_merge_batch : (k bits : ℕ) (images ends : List ℕ) (failed_old failed_new : ℕ) (y : Sketch) → IsUnionOfBatch k bits images ends failed_old failed_new y
     → RefusesImages (AreBatchArguments k bits (length images) ends) (strings images ends) failed_old failed_new Memory
-no_memory_to_unite_batch k bits images ends fo fn y made =
-    images_memory (length (strings images ends)) (record { union = made.is.arguments; are = made.are }) (asked_behind (strings images ends) made.is.sketches made.is.read) made.is.untold
+no_memory_to_merge_batch k bits images ends fo fn y made =
+    images_memory (length (strings images ends)) (record { union = made.is.arguments; are = made.are }) (asked_after (strings images ends) made.is.sketches made.is.read) made.is.untold
 
 -- ---- images made from bytes to bytes
 
 module _ (k bits : ℕ) (width : HllType) (is_width : bits_of width ≡ bits) (left right : List ℕ) where
-  pub union_in_bytes : (bytes : List ℕ) (failed : ℕ) → IsImageOfUnion k width left right bytes → IsImageOf (WithWords (IsUnionOf k bits (left ∷ right ∷ []) failed failed)) bytes
+  pub union_in_bytes : (bytes : List ℕ) (failed : ℕ) → IsImageOfUnion k width left right bytes → IsImageOf (WithFields (IsUnionOf k bits (left ∷ right ∷ []) failed failed)) bytes
   union_in_bytes bytes failed of = (
     _,
     (
@@ -151,8 +151,8 @@ module _ (k bits : ℕ) (width : HllType) (is_width : bits_of width ≡ bits) (l
   pub refuses_union_in_bytes : (failed : ℕ) (e : Reason) → AreBothRead k left right → e ≡ Memory → RefusesImages (AreUnionArguments k bits) (left ∷ right ∷ []) failed failed e
   refuses_union_in_bytes failed e both is =
       refuses_more_memory (AreUnionArguments k bits) (left ∷ right ∷ []) failed failed e 2 is (record { lg_max_k_is = both.bound_is; width_is = record { width = width; is = is_width } })
-      (asked_behind (left ∷ right ∷ []) (both.left_sketch ∷ both.right_sketch ∷ []) (both.left_read, (both.right_read, tt))) refl
+      (asked_after (left ∷ right ∷ []) (both.left_sketch ∷ both.right_sketch ∷ []) (both.left_read, (both.right_read, tt))) refl
 
-pub image_in_bytes : (bits : ℕ) (width : HllType) (image bytes : List ℕ) → bits_of width ≡ bits → IsImageAt width image bytes → IsImageOf (WithWords (IsMadeOf image (IsAtWidth bits))) bytes
+pub image_in_bytes : (bits : ℕ) (width : HllType) (image bytes : List ℕ) → bits_of width ≡ bits → IsImageAt width image bytes → IsImageOf (WithFields (IsMadeOf image (IsAtWidth bits))) bytes
 image_in_bytes bits width image bytes is at =
     (_, (_, record { sketch = at.sketch; read = at.read; is_made = record { width_is = record { width = width; is = is }; is = refl } }, coupons_stay _ at.in_table), at.written)

@@ -4,5 +4,5 @@ pub mod Answers
 pub mod Batches
 pub mod Counts
 pub mod Images
-pub mod JoinedValues
+pub mod MaxValues
 pub mod Powers

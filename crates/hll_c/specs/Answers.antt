@@ -4,10 +4,10 @@ use Rattle.std.specs.Prelude.{◌≡◌, ℕ, ◌≤◌, ◌<◌, List, ◌++◌
 use Rattle.hll_base.specs.Reason.{number_of}
 use Rattle.hll_base.specs.declared.error.Reason.{Reason}
 use Rattle.hll_base.specs.declared.error.Reason.TheVariants.{Argument, Memory}
-use Rattle.hll_sketch.specs.ByteRegisters.{JoinNeedsMemory}
+use Rattle.hll_sketch.specs.ByteRegisters.{ReadNeedsMemory}
 use Rattle.hll_sketch.specs.Checks.{first_fault, size_fault}
-use Rattle.hll_sketch.specs.EstimatorWords.{FillsWords}
-use Rattle.hll_sketch.specs.TakenIn.{HasCompactCoupons}
+use Rattle.hll_sketch.specs.EstimatorFields.{FillsFields}
+use Rattle.hll_sketch.specs.MergedIn.{HasCompactCoupons}
 use Rattle.hll_sketch.specs.Value.{Sketch}
 use Rattle.hll_sketch.specs.Written.{Written}
 use Rattle.hll_c.specs.Batches.{IsFirstFaulty, MayAskAt}
@@ -33,18 +33,18 @@ pub data PutsBytes (ArePut : List ℕ → Type 0) (Refuses : Reason → Type 0) 
 abbrev pub IsImageOf : (Sketch → Type 0) → List ℕ → Type 0
 IsImageOf IsMade bytes = (made : Sketch) × IsMade made × Written bytes made
 
--- a sketch that is made, with its words set where its state is cleared
-abbrev pub WithWords : (Sketch → Type 0) → Sketch → Type 0
-WithWords IsMade y = (made : Sketch) × IsMade made × FillsWords made y
+-- a sketch that is made, with its fields set where its state is cleared
+abbrev pub WithFields : (Sketch → Type 0) → Sketch → Type 0
+WithFields IsMade y = (made : Sketch) × IsMade made × FillsFields made y
 
--- a call that makes a sketch, as `IsMade` says, and puts what is written for it into a buffer, its words set where its state is cleared
+-- a call that makes a sketch, as `IsMade` says, and puts what is written for it into a buffer, its fields set where its state is cleared
 abbrev pub Answers : (Sketch → Type 0) → (Reason → Type 0) → List ℕ → List ℕ → ℕ → ℕ → ℕ → Type 0
-Answers IsMade Refuses = PutsBytes (IsImageOf (WithWords IsMade)) Refuses
+Answers IsMade Refuses = PutsBytes (IsImageOf (WithFields IsMade)) Refuses
 
 -- A call that tells something through a pointer, which `Says` what is asked; or it `Refuses` for a reason, and nothing changes.
-pub data Tells (X : Type 0) (Says : X → Type 0) (Refuses : Reason → Type 0) (old new : X) : ℕ → Type 0 where
-  told : Says new → Tells X Says Refuses old new ok_code
-  untold : (r : Reason) → Refuses r → new ≡ old → Tells X Says Refuses old new (number_of r)
+pub data Reports (X : Type 0) (Says : X → Type 0) (Refuses : Reason → Type 0) (old new : X) : ℕ → Type 0 where
+  reported : Says new → Reports X Says Refuses old new ok_code
+  untold : (r : Reason) → Refuses r → new ≡ old → Reports X Says Refuses old new (number_of r)
 
 -- A call that answers its code alone.
 pub data Tests (Passes : Type 0) (Refuses : Reason → Type 0) : ℕ → Type 0 where
@@ -70,7 +70,7 @@ pub data RefusesWith (InRange : Type 0) (image : List ℕ) : Reason → Type 0 w
 
 -- an image is refused, for memory only where a join of it into registers may need some
 abbrev pub RefusesTested : List ℕ → Reason → Type 0
-RefusesTested image r = RefusesImage image r × (r ≡ Memory → JoinNeedsMemory image)
+RefusesTested image r = RefusesImage image r × (r ≡ Memory → ReadNeedsMemory image)
 
 -- an argument is out of range, or the image is refused, for memory never where it has compact coupons that ascend or are few
 abbrev pub RefusesInfo : Type 0 → List ℕ → Reason → Type 0

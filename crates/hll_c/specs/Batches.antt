@@ -1,5 +1,5 @@
 -- SPDX-License-Identifier: Apache-2.0
--- Byte strings that stand one after another, told by their ends (docs/MODEL.md, "Calls over images").
+-- Byte strings that stand one after another, delimited by their ends (docs/MODEL.md, "Calls over images").
 use Rattle.std.specs.Prelude.{◌≡◌, ℕ, zero, suc, ◌-◌, ◌≤◌, List, [], ◌∷◌, take, drop, Some, None}
 use Rattle.hll_base.specs.declared.error.Reason.{Reason}
 use Rattle.hll_sketch.specs.Checks.{first_fault, size_fault}
@@ -36,7 +36,7 @@ IsFirstFaulty (image ∷ images) zero r = first_fault image ≡ Some r
 IsFirstFaulty (image ∷ images) (suc n) r = (first_fault image ≡ None) × IsFirstFaulty images n r
 
 -- memory may be asked for at the image of this number, counted from 0: those before it fail no check, and its header, counts and length are
--- right; or behind the last one, where none fails a check
+-- right; or after the last one, where none fails a check
 abbrev pub MayAskAt : List (List ℕ) → ℕ → Type 0
 MayAskAt [] n = Unit {0}
 MayAskAt (image ∷ images) zero = size_fault image ≡ None

@@ -11,7 +11,7 @@ use Rattle.hll_coupons.specs.Pair.{set_of}
 use Rattle.hll_kernels.specs.Packed.{AreRegisters}
 use Rattle.hll_registers.specs.State.{cleared_state}
 use Rattle.hll_base.specs.declared.hll_type.HllType.TheVariants.{Hll8}
-use Rattle.hll_sketch.specs.ByteRegisters.{JoinsImage, JoinsSketch, JoinNeedsMemory, IsOfWords}
+use Rattle.hll_sketch.specs.ByteRegisters.{TakesMaxWithImage, TakesMaxWithSketch, ReadNeedsMemory, HasFieldsOf}
 use Rattle.hll_sketch.specs.Value.{Sketch, IsLgK, registers}
 use Rattle.hll_c.specs.Answers.{RefusesWith, ok_code}
 use Rattle.hll_c.specs.Batches.{AreEnds, strings}
@@ -37,24 +37,24 @@ pub record HasLgK (R : List ℕ) : Type 0 where
 
 -- The registers become the join of what they were with those that the image folds to; or the image has fewer, not all 0, and its lg_k
 -- is told; or it is refused. But in the first case nothing of them changes.
-pub data JoinsImageInto (image old new : List ℕ) (told_old told_new : ℕ) : ℕ → Type 0 where
-  joined : {k : ℕ} → IsLgKOf old k → JoinsImage k image old new None → told_new ≡ told_old → JoinsImageInto image old new told_old told_new ok_code
-  fewer : {k e : ℕ} → IsLgKOf old k → JoinsImage k image old new (Some e) → told_new ≡ e → JoinsImageInto image old new told_old told_new fewer_code
-  refused : {r : Reason} → RefusesWith (HasLgK old) image r → (r ≡ Memory → JoinNeedsMemory image) → new ≡ old → told_new ≡ told_old
-      → JoinsImageInto image old new told_old told_new (number_of r)
+pub data MergesImageInto (image old new : List ℕ) (reported_old reported_new : ℕ) : ℕ → Type 0 where
+  joined : {k : ℕ} → IsLgKOf old k → TakesMaxWithImage k image old new None → reported_new ≡ reported_old → MergesImageInto image old new reported_old reported_new ok_code
+  fewer : {k e : ℕ} → IsLgKOf old k → TakesMaxWithImage k image old new (Some e) → reported_new ≡ e → MergesImageInto image old new reported_old reported_new fewer_code
+  refused : {r : Reason} → RefusesWith (HasLgK old) image r → (r ≡ Memory → ReadNeedsMemory image) → new ≡ old → reported_new ≡ reported_old
+      → MergesImageInto image old new reported_old reported_new (number_of r)
 
 -- registers of eight bits, as a sketch
 abbrev pub sketch_of_bytes : ℕ → List ℕ → Sketch
 sketch_of_bytes l Q = record { lg_k = l; width = Hll8; content = registers Q cleared_state }
 
 -- The same of other registers in place of an image.
-pub data JoinsRegistersInto (others old new : List ℕ) (told_old told_new : ℕ) : ℕ → Type 0 where
-  joined_registers : {k l : ℕ} → IsLgKOf old k → IsLgKOf others l → AreRegisters l others → JoinsSketch k (sketch_of_bytes l others) old new None → told_new ≡ told_old
-      → JoinsRegistersInto others old new told_old told_new ok_code
-  fewer_registers : {k l e : ℕ} → IsLgKOf old k → IsLgKOf others l → AreRegisters l others → JoinsSketch k (sketch_of_bytes l others) old new (Some e) → told_new ≡ e
-      → JoinsRegistersInto others old new told_old told_new fewer_code
-  others_above : {l : ℕ} → HasLgK old → IsLgKOf others l → (AreRegisters l others → ⊥) → new ≡ old → told_new ≡ told_old → JoinsRegistersInto others old new told_old told_new (number_of Register)
-  others_argument : (HasLgK old × HasLgK others → ⊥) → new ≡ old → told_new ≡ told_old → JoinsRegistersInto others old new told_old told_new (number_of Argument)
+pub data MergesRegistersInto (others old new : List ℕ) (reported_old reported_new : ℕ) : ℕ → Type 0 where
+  merged_registers : {k l : ℕ} → IsLgKOf old k → IsLgKOf others l → AreRegisters l others → TakesMaxWithSketch k (sketch_of_bytes l others) old new None → reported_new ≡ reported_old
+      → MergesRegistersInto others old new reported_old reported_new ok_code
+  fewer_registers : {k l e : ℕ} → IsLgKOf old k → IsLgKOf others l → AreRegisters l others → TakesMaxWithSketch k (sketch_of_bytes l others) old new (Some e) → reported_new ≡ e
+      → MergesRegistersInto others old new reported_old reported_new fewer_code
+  others_above : {l : ℕ} → HasLgK old → IsLgKOf others l → (AreRegisters l others → ⊥) → new ≡ old → reported_new ≡ reported_old → MergesRegistersInto others old new reported_old reported_new (number_of Register)
+  others_argument : (HasLgK old × HasLgK others → ⊥) → new ≡ old → reported_new ≡ reported_old → MergesRegistersInto others old new reported_old reported_new (number_of Argument)
 
 -- ---- coupons
 
@@ -68,9 +68,9 @@ pub data AddsValues (values ends old new : List ℕ) : ℕ → Type 0 where
   added : {k : ℕ} → IsLgKOf old k → AreEnds (length values) ends → new ≡ join old (fold_to (set_of (map coupon_of_bytes (strings values ends))) k) → AddsValues values ends old new ok_code
   values_argument : (AreAddArguments values ends old → ⊥) → new ≡ old → AddsValues values ends old new (number_of Argument)
 
--- raw words of which each has a value
+-- raw coupons of which each has a value
 abbrev pub HaveValues : List ℕ → Type 0
-HaveValues coupons = All (λ word. 2 ^ 26 ≤ word) coupons
+HaveValues coupons = All (λ raw_coupon. 2 ^ 26 ≤ raw_coupon) coupons
 
 -- the same of coupons
 pub data AddsCoupons (coupons old new : List ℕ) : ℕ → Type 0 where
@@ -85,7 +85,7 @@ pub record AreFoldArguments (to : ℕ) (old : List ℕ) : Type 0 where
   pub to_is : IsLgK to
   pub within : to ≤ kept.lg_k
 
--- the registers fold at the front of their bytes, and the bytes behind stay; or an argument is out of range, or a byte is above 63
+-- the registers fold at the front of their bytes, and the bytes after them stay; or an argument is out of range, or a byte is above 63
 pub data FoldsInPlace (to : ℕ) (old new : List ℕ) : ℕ → Type 0 where
   folded : {k : ℕ} → IsLgKOf old k → IsLgK to → to ≤ k → AreRegisters k old → new ≡ fold_to (pairs old) to ++ drop (2 ^ to) old → FoldsInPlace to old new ok_code
   fold_argument : (AreFoldArguments to old → ⊥) → new ≡ old → FoldsInPlace to old new (number_of Argument)
@@ -111,13 +111,13 @@ pub record AreImageArguments (bits : ℕ) (R : List ℕ) : Type 0 where
   pub kept : HasLgK R
   pub width_is : IsWidth bits
 
--- a sketch of the registers, with the words from which a composite estimator computes
+-- a sketch of the registers, with the fields from which a composite estimator computes
 pub record IsOfBytes (bits : ℕ) (R : List ℕ) (y : Sketch) : Type 0 where
   pub lg_k : ℕ
   pub of : IsLgKOf R lg_k
   pub width_is : IsWidth bits
   pub are : AreRegisters lg_k R
-  pub is : IsOfWords lg_k width_is.width R y
+  pub is : HasFieldsOf lg_k width_is.width R y
 
 pub data RefusesBytes (bits : ℕ) (R : List ℕ) : Reason → Type 0 where
   bytes_argument : (AreImageArguments bits R → ⊥) → RefusesBytes bits R Argument

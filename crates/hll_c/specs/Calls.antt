@@ -10,7 +10,7 @@ use Rattle.hll_coupons.specs.Hashed.{coupon_of_bytes}
 use Rattle.hll_coupons.specs.Pair.{pair, set_of}
 use Rattle.hll_sketch.specs.Adding.{add}
 use Rattle.hll_sketch.specs.Agree.{Agree}
-use Rattle.hll_sketch.specs.EstimatorWords.{cleared}
+use Rattle.hll_sketch.specs.EstimatorFields.{cleared}
 use Rattle.hll_sketch.specs.Folding.{folded, IsFoldLgK}
 use Rattle.hll_sketch.specs.Image.{IsReadAs}
 use Rattle.hll_sketch.specs.Laws.{add_in_turn}

@@ -11,9 +11,9 @@ use Rattle.hll_c.specs.Calls.{bit, bits_of}
 use Rattle.hll_c.specs.declared.info.HllInfo.{HllInfo}
 use Rattle.hll_c.specs.declared.info.HllHistogram.{HllHistogram}
 
--- the three words of registers
-abbrev pub words_told : HllInfo → List ℕ
-words_told i = i.hip ∷ i.kxq0 ∷ i.kxq1 ∷ []
+-- the three fields of registers
+abbrev pub reported_fields : HllInfo → List ℕ
+reported_fields i = i.hip ∷ i.kxq0 ∷ i.kxq1 ∷ []
 
 -- what is told of coupons: the stage by the size of the table, how many there are, and nothing of registers
 pub record IsInfoOfCoupons (count size : ℕ) (i : HllInfo) : Type 0 where
@@ -22,7 +22,7 @@ pub record IsInfoOfCoupons (count size : ℕ) (i : HllInfo) : Type 0 where
   pub zeros_none : i.zeros ≡ 0
   pub high_none : i.units_high ≡ 0
   pub low_none : i.units_low ≡ 0
-  pub words_none : words_told i ≡ 0 ∷ 0 ∷ 0 ∷ []
+  pub fields_none : reported_fields i ≡ 0 ∷ 0 ∷ 0 ∷ []
   pub order : i.out_of_order ≡ 0
 
 -- what is told of registers: how many are 0, the sum of their weights in two halves, and their state
@@ -32,7 +32,7 @@ pub record IsInfoOfRegisters (R : List ℕ) (state : EstimateState) (i : HllInfo
   pub zeros_are : i.zeros ≡ zeros R
   pub low_half : i.units_low < 2 ^ 64
   pub sum : i.units_high * 2 ^ 64 + i.units_low ≡ units R
-  pub words : words_told i ≡ state.words
+  pub fields : reported_fields i ≡ state.words
   pub order : i.out_of_order ≡ bit state.out_of_order
 
 abbrev pub IsInfoOfContent : Content → HllInfo → Type 0

@@ -10,7 +10,7 @@ use Rattle.hll_sketch.specs.Value.{Sketch}
 use Rattle.hll_c.specs.Batches.{AreReadAs, IsFirstFaulty, MayAskAt}
 
 -- a union took in several images in turn
-pub record TakesInAll (before after : WaitingUnion) (images : List (List ℕ)) : Type 0 where
+pub record MergesInAll (before after : WaitingUnion) (images : List (List ℕ)) : Type 0 where
   pub sketches : List Sketch
   pub read : AreReadAs images sketches
   pub gadget : (whole_gadget after) ≡ merge_all before.lg_max_k (whole_gadget before) sketches
@@ -20,5 +20,5 @@ abbrev pub IsRefusedAt : List ℕ → ℕ → ℕ → ℕ → Reason → Type 0
 IsRefusedAt image number failed_old failed_new e = ((e ≡ Memory) × (size_fault image ≡ None) × (failed_new ≡ failed_old)) ⊎ ((first_fault image ≡ Some e) × (failed_new ≡ number))
 
 -- memory is refused where it may be asked for, or the first image that fails a check is, and then its number is told
-abbrev pub FailsToTakeIn : List (List ℕ) → ℕ → ℕ → Reason → Type 0
-FailsToTakeIn images failed_old failed_new e = ((e ≡ Memory) × (failed_new ≡ failed_old) × (n : ℕ) × MayAskAt images n) ⊎ IsFirstFaulty images failed_new e
+abbrev pub FailsToMergeIn : List (List ℕ) → ℕ → ℕ → Reason → Type 0
+FailsToMergeIn images failed_old failed_new e = ((e ≡ Memory) × (failed_new ≡ failed_old) × (n : ℕ) × MayAskAt images n) ⊎ IsFirstFaulty images failed_new e

@@ -3,8 +3,8 @@
 ghost use Rattle.std.specs.Prelude.{◌≡◌, MatchResult, IfOk, IfErr};
 ghost use Rattle.hll_base.specs.declared.error.Reason.TheVariants.{Memory};
 ghost use Rattle.hll_sketch.specs.Layout.{sketch_of};
-ghost use Rattle.hll_sketch.specs.EstimatorWords.{FillsWords};
-ghost use Rattle.hll_c.specs.Answers.{Answers, IsImageOf, PutsBytes, Tells, Tests};
+ghost use Rattle.hll_sketch.specs.EstimatorFields.{FillsFields};
+ghost use Rattle.hll_c.specs.Answers.{Answers, IsImageOf, PutsBytes, Reports, Tests};
 
 use hll_base::error::Error;
 use hll_sketch::HllSketch;
@@ -26,8 +26,8 @@ pub(crate) fn code_of(answer: Result<(), Error>) -> u8
 }
 
 /// Puts what was found into its place.
-pub(crate) fn tell<T: Copy>(found: Result<T, Error>, place: &mut T) -> u8
-    ensures { Tells T (λ x. MatchResult found (λ y. x ≡ y) (λ _. ⊥)) (λ r. MatchResult found (λ _. ⊥) (λ e. e ≡ r)) place.old place.new result }
+pub(crate) fn report<T: Copy>(found: Result<T, Error>, place: &mut T) -> u8
+    ensures { Reports T (λ x. MatchResult found (λ y. x ≡ y) (λ _. ⊥)) (λ r. MatchResult found (λ _. ⊥) (λ e. e ≡ r)) place.old place.new result }
 {
     match found {
         Ok(value) => {
@@ -38,7 +38,7 @@ pub(crate) fn tell<T: Copy>(found: Result<T, Error>, place: &mut T) -> u8
     }
 }
 
-/// Puts the image of what was made, its words set where its state is cleared, at the front of a buffer, if that is large enough,
+/// Puts the image of what was made, its fields set where its state is cleared, at the front of a buffer, if that is large enough,
 /// and says how large the image is.
 pub(crate) fn put_image(made: Result<HllSketch, Error>, out: &mut [u8], size: &mut usize) -> u8
     ensures { Answers (λ y. MatchResult made (λ s. y ≡ sketch_of s) (λ _. ⊥)) (λ r. MatchResult made (λ _. r ≡ Memory) (λ e. r ≡ e)) out.old out.new size.old size.new result }
@@ -65,17 +65,17 @@ pub(crate) fn put_bytes(image: Result<Vec<u8>, Error>, out: &mut [u8], size: &mu
 
 /// The image of what was made.
 fn image_of(made: Result<HllSketch, Error>) -> Result<Vec<u8>, Error>
-    ensures ok { IfOk result (λ image. MatchResult made (λ s. IsImageOf (FillsWords (sketch_of s)) image.items) (λ _. ⊥)) }
+    ensures ok { IfOk result (λ image. MatchResult made (λ s. IsImageOf (FillsFields (sketch_of s)) image.items) (λ _. ⊥)) }
     ensures err { IfErr result (λ e. MatchResult made (λ _. e ≡ Memory) (λ f. e ≡ f)) }
 {
-    image_with_words(made?)
+    image_with_fields(made?)
 }
 
-/// The image of a sketch, its words set where its state is cleared.
-pub(crate) fn image_with_words(mut sketch: HllSketch) -> Result<Vec<u8>, Error>
-    ensures ok { IfOk result (λ image. IsImageOf (FillsWords (sketch_of sketch)) image.items) }
+/// The image of a sketch, its fields set where its state is cleared.
+pub(crate) fn image_with_fields(mut sketch: HllSketch) -> Result<Vec<u8>, Error>
+    ensures ok { IfOk result (λ image. IsImageOf (FillsFields (sketch_of sketch)) image.items) }
     ensures err { IfErr result (λ e. e ≡ Memory) }
 {
-    sketch.fill_estimator_words();
+    sketch.fill_estimator_fields();
     sketch.serialize()
 }

@@ -1,5 +1,5 @@
 // SPDX-License-Identifier: Apache-2.0
-//! Batches: byte strings that stand one after another, told by their ends.
+//! Batches: byte strings that stand one after another, delimited by their ends.
 ghost use Rattle.std.specs.Prelude.{◌↔◌, length, IsTrue};
 ghost use Rattle.hll_c.specs.Batches.{AreEnds};
 ghost use Rattle.hll_c.specs.Calls.{PutsCoupons};

@@ -9,7 +9,7 @@ ghost use Rattle.hll_coupons.specs.Pair.{set_of};
 ghost use Rattle.hll_kernels.specs.Packed.{AreRegisters};
 ghost use Rattle.hll_sketch.specs.Layout.{sketch_of};
 ghost use Rattle.hll_c.specs.Batches.{AreEnds, strings};
-ghost use Rattle.hll_c.specs.ByteRegisters.{HasLgK, IsLgKOf, HaveValues, JoinsImageInto, JoinsRegistersInto, AddsValues, AddsCoupons, FoldsInPlace, RefusesRegisters, SaysCounts, IsOfBytes, RefusesBytes};
+ghost use Rattle.hll_c.specs.ByteRegisters.{HasLgK, IsLgKOf, HaveValues, MergesImageInto, MergesRegistersInto, AddsValues, AddsCoupons, FoldsInPlace, RefusesRegisters, SaysCounts, IsOfBytes, RefusesBytes};
 
 use crate::answer::OK;
 use crate::batch::are_ends;
@@ -21,10 +21,8 @@ use hll_base::bounds::{MAX_LG_K, MAX_VALUE, MIN_LG_K, SLOT_BITS};
 use hll_base::error::{Error, Reason};
 use hll_coupons::coupon::Coupon;
 use hll_registers::register_slice::RegisterSlice;
-use hll_sketch::HllSketch;
-use hll_sketch::byte_registers::{
-    fold_in_place, join_coupon, join_image, join_registers, sketch_in_registers,
-};
+use hll_sketch::max_registers::{fold_in_place, max_registers, merge_image, sketch_in_registers};
+use hll_sketch::{HllSketch, max_coupon};
 use std::alloc::Global;
 
 /// The other registers are fewer.
@@ -67,13 +65,13 @@ fn checked_lg_k(registers: &[u8]) -> Result<u8, Error>
 }
 
 /// Joins the registers of an image into those of the caller.
-pub(crate) fn join(alloc: Global, registers: &mut [u8], image: &[u8], fewer: &mut u8) -> u8
-    ensures { JoinsImageInto image.now registers.old registers.new fewer.old fewer.new result }
+pub(crate) fn merge(alloc: Global, registers: &mut [u8], image: &[u8], fewer: &mut u8) -> u8
+    ensures { MergesImageInto image.now registers.old registers.new fewer.old fewer.new result }
 {
     let Ok(lg_k) = lg_k_of(registers) else {
         return Reason::Argument.number();
     };
-    match join_image(alloc, registers, lg_k, image) {
+    match merge_image(alloc, registers, lg_k, image) {
         Ok(None) => OK,
         Ok(Some(of_image)) => {
             *fewer = of_image;
@@ -84,8 +82,8 @@ pub(crate) fn join(alloc: Global, registers: &mut [u8], image: &[u8], fewer: &mu
 }
 
 /// Joins other registers into those of the caller.
-pub(crate) fn join_others(registers: &mut [u8], others: &[u8], fewer: &mut u8) -> u8
-    ensures { JoinsRegistersInto others.now registers.old registers.new fewer.old fewer.new result }
+pub(crate) fn merge_others(registers: &mut [u8], others: &[u8], fewer: &mut u8) -> u8
+    ensures { MergesRegistersInto others.now registers.old registers.new fewer.old fewer.new result }
 {
     let Ok(lg_k) = lg_k_of(registers) else {
         return Reason::Argument.number();
@@ -97,7 +95,7 @@ pub(crate) fn join_others(registers: &mut [u8], others: &[u8], fewer: &mut u8) -
         return Reason::Register.number();
     }
     let source = RegisterSlice::new(others_lg_k, others);
-    match join_registers(registers, lg_k, &source, source.are_all_zero()) {
+    match max_registers(registers, lg_k, &source, source.are_all_zero()) {
         None => OK,
         Some(of_others) => {
             *fewer = of_others;
@@ -116,19 +114,19 @@ pub(crate) fn add(registers: &mut [u8], values: &[u8], ends: &[usize]) -> u8
     if !are_ends(ends, values.len()) {
         return Reason::Argument.number();
     }
-    join_values(registers, lg_k, values, ends);
+    max_values(registers, lg_k, values, ends);
     OK
 }
 
-/// The same, of ends that ascend.
-fn join_values(registers: &mut [u8], lg_k: u8, values: &[u8], ends: &[usize])
+/// Joins the coupons of byte strings, whose ends ascend, into registers.
+fn max_values(registers: &mut [u8], lg_k: u8, values: &[u8], ends: &[usize])
     requires lg_k { IsLgKOf registers.old lg_k }
     requires ends { AreEnds (length values.now) ends.now }
     ensures { registers.new ≡ join registers.old (fold_to (set_of (map coupon_of_bytes (strings values.now ends.now))) lg_k) }
 {
     let mut start = 0;
     for end in ends {
-        join_coupon(registers, lg_k, Coupon::from_bytes(&values[start..*end]));
+        max_coupon(registers, lg_k, Coupon::from_bytes(&values[start..*end]));
         start = *end;
     }
 }
@@ -143,7 +141,7 @@ pub(crate) fn add_coupons(registers: &mut [u8], coupons: &[u32]) -> u8
     if !have_values(coupons) {
         return Reason::Argument.number();
     }
-    join_coupons(registers, lg_k, coupons);
+    max_coupons(registers, lg_k, coupons);
     OK
 }
 
@@ -160,12 +158,12 @@ fn have_values(coupons: &[u32]) -> bool
 }
 
 /// Joins coupons, of which each has a value.
-fn join_coupons(registers: &mut [u8], lg_k: u8, coupons: &[u32])
+fn max_coupons(registers: &mut [u8], lg_k: u8, coupons: &[u32])
     requires { IsLgKOf registers.old lg_k }
     ensures { registers.new ≡ join registers.old (fold_to (set_of coupons.now) lg_k) }
 {
     for raw in coupons {
-        join_coupon(
+        max_coupon(
             registers,
             lg_k,
             Coupon::pack(*raw, (*raw >> SLOT_BITS) as u8),

@@ -5,27 +5,27 @@ ghost use Rattle.hll_base.specs.declared.error.Reason.TheVariants as reasons;
 ghost use Rattle.hll_coupons.specs.Hashed.{coupon_of_bytes};
 ghost use Rattle.hll_coupons.specs.Fold.{fold_to, pairs};
 ghost use Rattle.hll_sketch.specs.ByteRegisters.{AreRegistersOf};
-ghost use Rattle.hll_sketch.specs.EstimatorWords.{SetsWords, FillsWords};
+ghost use Rattle.hll_sketch.specs.EstimatorFields.{SetsFields, FillsFields};
 ghost use Rattle.hll_sketch.specs.Image.{IsReadAs, IsSizeOfImage};
 ghost use Rattle.hll_sketch.specs.Laws.{add_in_turn};
 ghost use Rattle.hll_sketch.specs.Layout.{sketch_of};
 ghost use Rattle.hll_sketch.specs.Value.{Sketch, IsLgK};
-ghost use Rattle.hll_c.specs.Answers.{IsImageOf, WithWords, RefusesArguments, RefusesImage, RefusesTested, RefusesWith, RefusesImages};
+ghost use Rattle.hll_c.specs.Answers.{IsImageOf, WithFields, RefusesArguments, RefusesImage, RefusesTested, RefusesWith, RefusesImages};
 ghost use Rattle.hll_c.specs.Batches.{AreEnds, strings};
 ghost use Rattle.hll_c.specs.Calls.{bit, bits_of, IsWidth, AreNewArguments, IsEmptyAt, IsMadeOf, IsFoldOf, RefusesFold, IsAtWidth, IsCleared, AreOfCoupon, HasCoupon, HasValues, AreUnionArguments, IsUnionOf, AreBatchArguments, IsUnionOfBatch, SaysAgreement};
 ghost use Rattle.hll_sketch.specs.Waiting.{whole_gadget, MergesInto};
-ghost use Rattle.hll_c.specs.Steps.{TakesInAll, IsRefusedAt, FailsToTakeIn};
+ghost use Rattle.hll_c.specs.Steps.{MergesInAll, IsRefusedAt, FailsToMergeIn};
 
-use crate::answer::image_with_words;
+use crate::answer::image_with_fields;
 use crate::batch::are_ends;
 use hll_arrays::registers::two_to;
 use hll_base::bounds::{MAX_LG_K, MAX_VALUE, MIN_LG_K, SLOT_BITS};
 use hll_base::error::{Error, Reason};
 use hll_base::hll_type::HllType;
 use hll_coupons::coupon::Coupon;
-use hll_sketch::byte_registers::fold_in_place;
 use hll_sketch::image_registers::{ImageRegisters, registers_of_image};
-use hll_sketch::size::size_of_image;
+use hll_sketch::image_size::size_of_image;
+use hll_sketch::max_registers::fold_in_place;
 use hll_sketch::{HllSketch, HllUnion, UnionBuilder, coupon_image_at, union_of_coupon_images};
 use std::alloc::Global;
 
@@ -61,7 +61,7 @@ fn read_registers(
 /// The error. Where it is one of the image with this number, and not want of memory, `failed` is that number.
 fn refused_at(e: Error, number: usize, failed: &mut usize) -> Error
     ensures same { result ≡ e }
-    ensures told { ((e ≡ reasons.Memory) × (failed.new ≡ failed.old)) ⊎ ((e ≢ reasons.Memory) × (failed.new ≡ number)) }
+    ensures reported { ((e ≡ reasons.Memory) × (failed.new ≡ failed.old)) ⊎ ((e ≢ reasons.Memory) × (failed.new ≡ number)) }
 {
     if e.reason() != Reason::Memory {
         *failed = number;
@@ -151,16 +151,16 @@ pub(crate) fn merged(
     right: &[u8],
     failed: &mut usize,
 ) -> Result<Vec<u8>, Error>
-    ensures ok { IfOk result (λ image. IsImageOf (WithWords (IsUnionOf lg_max_k width (left.now ∷ right.now ∷ []) failed.old failed.new)) image.items) }
+    ensures ok { IfOk result (λ image. IsImageOf (WithFields (IsUnionOf lg_max_k width (left.now ∷ right.now ∷ []) failed.old failed.new)) image.items) }
     ensures err { IfErr result (λ e. RefusesImages (AreUnionArguments lg_max_k width) (left.now ∷ right.now ∷ []) failed.old failed.new e) }
 {
     match union_of_coupon_images(alloc, lg_max_k, width_of(width)?, left, right)? {
         Some(image) => Ok(image),
-        None => image_with_words(union_of_two(alloc, lg_max_k, width, left, right, failed)?),
+        None => image_with_fields(union_of_two(alloc, lg_max_k, width, left, right, failed)?),
     }
 }
 
-/// The union of two images, its words set where its state is cleared.
+/// The union of two images, its fields set where its state is cleared.
 fn union_of_two(
     alloc: Global,
     lg_max_k: u8,
@@ -169,29 +169,29 @@ fn union_of_two(
     right: &[u8],
     failed: &mut usize,
 ) -> Result<HllSketch, Error>
-    ensures ok { IfOk result (λ s. WithWords (IsUnionOf lg_max_k width (left.now ∷ right.now ∷ []) failed.old failed.new) (sketch_of s)) }
+    ensures ok { IfOk result (λ s. WithFields (IsUnionOf lg_max_k width (left.now ∷ right.now ∷ []) failed.old failed.new) (sketch_of s)) }
     ensures err { IfErr result (λ e. RefusesImages (AreUnionArguments lg_max_k width) (left.now ∷ right.now ∷ []) failed.old failed.new e) }
 {
     let width = width_of(width)?;
     let union = HllUnion::new(alloc, lg_max_k)?;
-    let first = take_in(UnionBuilder::new(union, alloc), left, 0, failed)?;
-    let both = take_in(first, right, 1, failed)?;
+    let first = merge_in(UnionBuilder::new(union, alloc), left, 0, failed)?;
+    let both = merge_in(first, right, 1, failed)?;
     read_out(both, width)
 }
 
-/// The sketch of a union at a width, its words set where its state is cleared: before the width changes, as the sums are
+/// The sketch of a union at a width, its fields set where its state is cleared: before the width changes, as the sums are
 /// made fastest of registers of eight bits.
 fn read_out(union: UnionBuilder, width: HllType) -> Result<HllSketch, Error>
-    ensures ok { IfOk result (λ s. FillsWords (record (whole_gadget union) { width = width }) (sketch_of s)) }
+    ensures ok { IfOk result (λ s. FillsFields (record (whole_gadget union) { width = width }) (sketch_of s)) }
     ensures err { IfErr result (λ e. e ≡ reasons.Memory) }
 {
     let mut sketch = union.build()?.into_sketch(HllType::Hll8)?;
-    sketch.fill_estimator_words();
+    sketch.fill_estimator_fields();
     sketch.into_width(width)
 }
 
-/// The union of the images that end at `ends`, its words set where its state is cleared.
-pub(crate) fn united(
+/// The union of the images that end at `ends`, its fields set where its state is cleared.
+pub(crate) fn union_of_batch(
     alloc: Global,
     lg_max_k: u8,
     width: u8,
@@ -199,7 +199,7 @@ pub(crate) fn united(
     ends: &[usize],
     failed: &mut usize,
 ) -> Result<HllSketch, Error>
-    ensures ok { IfOk result (λ s. WithWords (IsUnionOfBatch lg_max_k width images.now ends.now failed.old failed.new) (sketch_of s)) }
+    ensures ok { IfOk result (λ s. WithFields (IsUnionOfBatch lg_max_k width images.now ends.now failed.old failed.new) (sketch_of s)) }
     ensures err { IfErr result (λ e. RefusesImages (AreBatchArguments lg_max_k width (length images.now) ends.now) (strings images.now ends.now) failed.old failed.new e) }
 {
     let width = width_of(width)?;
@@ -207,63 +207,63 @@ pub(crate) fn united(
     if !are_ends(ends, images.len()) {
         return Err(Error::new(Reason::Argument));
     }
-    let all = take_in_all(UnionBuilder::new(union, alloc), images, ends, failed)?;
+    let all = merge_in_all(UnionBuilder::new(union, alloc), images, ends, failed)?;
     read_out(all, width)
 }
 
 /// A union with images merged in turn.
-fn take_in_all(
+fn merge_in_all(
     mut union: UnionBuilder,
     images: &[u8],
     ends: &[usize],
     failed: &mut usize,
 ) -> Result<UnionBuilder, Error>
     requires { AreEnds (length images.now) ends.now }
-    ensures ok { IfOk result (λ all. TakesInAll union all (strings images.now ends.now) × (failed.new ≡ failed.old)) }
-    ensures err { IfErr result (λ e. FailsToTakeIn (strings images.now ends.now) failed.old failed.new e) }
+    ensures ok { IfOk result (λ all. MergesInAll union all (strings images.now ends.now) × (failed.new ≡ failed.old)) }
+    ensures err { IfErr result (λ e. FailsToMergeIn (strings images.now ends.now) failed.old failed.new e) }
 {
     let mut start = 0;
     for (number, end) in ends.iter().enumerate() {
-        union = take_in(union, &images[start..*end], number, failed)?;
+        union = merge_in(union, &images[start..*end], number, failed)?;
         start = *end;
     }
     Ok(union)
 }
 
-/// The union of images that lie anywhere, its words set where its state is cleared.
-pub(crate) fn united_parts(
+/// The union of images that need not be contiguous, its fields set where its state is cleared.
+pub(crate) fn union_of_parts(
     alloc: Global,
     lg_max_k: u8,
     width: u8,
     parts: &[&[u8]],
     failed: &mut usize,
 ) -> Result<HllSketch, Error>
-    ensures ok { IfOk result (λ s. WithWords (IsUnionOf lg_max_k width (map (λ part. part.now) parts.now) failed.old failed.new) (sketch_of s)) }
+    ensures ok { IfOk result (λ s. WithFields (IsUnionOf lg_max_k width (map (λ part. part.now) parts.now) failed.old failed.new) (sketch_of s)) }
     ensures err { IfErr result (λ e. RefusesImages (AreUnionArguments lg_max_k width) (map (λ part. part.now) parts.now) failed.old failed.new e) }
 {
     let width = width_of(width)?;
     let union = HllUnion::new(alloc, lg_max_k)?;
-    let all = take_in_parts(UnionBuilder::new(union, alloc), parts, failed)?;
+    let all = merge_in_parts(UnionBuilder::new(union, alloc), parts, failed)?;
     read_out(all, width)
 }
 
-/// A union with images merged in turn that lie anywhere.
-fn take_in_parts(
+/// Merges images that need not be contiguous into a union, in turn.
+fn merge_in_parts(
     mut union: UnionBuilder,
     parts: &[&[u8]],
     failed: &mut usize,
 ) -> Result<UnionBuilder, Error>
-    ensures ok { IfOk result (λ all. TakesInAll union all (map (λ part. part.now) parts.now) × (failed.new ≡ failed.old)) }
-    ensures err { IfErr result (λ e. FailsToTakeIn (map (λ part. part.now) parts.now) failed.old failed.new e) }
+    ensures ok { IfOk result (λ all. MergesInAll union all (map (λ part. part.now) parts.now) × (failed.new ≡ failed.old)) }
+    ensures err { IfErr result (λ e. FailsToMergeIn (map (λ part. part.now) parts.now) failed.old failed.new e) }
 {
     for (number, part) in parts.iter().enumerate() {
-        union = take_in(union, part, number, failed)?;
+        union = merge_in(union, part, number, failed)?;
     }
     Ok(union)
 }
 
 /// A union with the image of this number merged.
-fn take_in(
+fn merge_in(
     union: UnionBuilder,
     image: &[u8],
     number: usize,
@@ -291,12 +291,12 @@ pub(crate) fn folded(alloc: Global, image: &[u8], lg_k: u8) -> Result<HllSketch,
 
 /// The image at a width.
 pub(crate) fn converted(alloc: Global, image: &[u8], width: u8) -> Result<Vec<u8>, Error>
-    ensures ok { IfOk result (λ written. IsImageOf (WithWords (IsMadeOf image.now (IsAtWidth width))) written.items) }
+    ensures ok { IfOk result (λ written. IsImageOf (WithFields (IsMadeOf image.now (IsAtWidth width))) written.items) }
     ensures err { IfErr result (λ e. RefusesWith (IsWidth width) image.now e) }
 {
     match coupon_image_at(alloc, width_of(width)?, image)? {
         Some(written) => Ok(written),
-        None => image_with_words(sketch_at(alloc, image, width)?),
+        None => image_with_fields(sketch_at(alloc, image, width)?),
     }
 }
 
@@ -309,23 +309,23 @@ fn sketch_at(alloc: Global, image: &[u8], width: u8) -> Result<HllSketch, Error>
     HllSketch::deserialize(alloc, image)?.into_width(width)
 }
 
-/// The sketch with the words from which a composite estimator computes.
-pub(crate) fn with_estimator_words(alloc: Global, image: &[u8]) -> Result<HllSketch, Error>
-    ensures ok { IfOk result (λ s. IsMadeOf image.now SetsWords (sketch_of s)) }
+/// The sketch with the fields from which a composite estimator computes.
+pub(crate) fn with_estimator_fields(alloc: Global, image: &[u8]) -> Result<HllSketch, Error>
+    ensures ok { IfOk result (λ s. IsMadeOf image.now SetsFields (sketch_of s)) }
     ensures err { IfErr result (λ e. RefusesImage image.now e) }
 {
     let mut sketch = HllSketch::deserialize(alloc, image)?;
-    sketch.set_estimator_words();
+    sketch.set_estimator_fields();
     Ok(sketch)
 }
 
 /// The image with its state cleared.
-pub(crate) fn without_estimator_words(alloc: Global, image: &[u8]) -> Result<Vec<u8>, Error>
+pub(crate) fn without_estimator_fields(alloc: Global, image: &[u8]) -> Result<Vec<u8>, Error>
     ensures ok { IfOk result (λ written. IsImageOf (IsMadeOf image.now IsCleared) written.items) }
     ensures err { IfErr result (λ e. RefusesImage image.now e) }
 {
     let mut sketch = HllSketch::deserialize(alloc, image)?;
-    sketch.clear_estimator_words();
+    sketch.clear_estimator_fields();
     sketch.serialize()
 }
 

@@ -14,7 +14,7 @@ ghost use Rattle.hll_c.specs.Info.{IsInfoOf, SaysInfo, AreCountsOf, SaysHistogra
 use hll_arrays::registers::Registers;
 use hll_base::error::{Error, Reason};
 use hll_base::hll_type::HllType;
-use hll_coupons::serialization::LG_LIST_PLACES;
+use hll_coupons::serialization::LG_LIST_BUCKETS;
 use hll_sketch::coupon_images::ImageOfCoupons;
 use hll_sketch::image_registers::registers_of_image;
 use hll_sketch::{HllSketch, Mode, image_of_coupons};
@@ -42,7 +42,7 @@ pub struct HllInfo {
     pub units_high: u64,
     /// The lower 64 bits of that sum.
     pub units_low: u64,
-    /// Of registers: the three words of an estimator, as the bits of binary64.
+    /// Of registers: the three fields of an estimator, as the bits of binary64.
     pub hip: u64,
     pub kxq0: u64,
     pub kxq1: u64,
@@ -91,7 +91,7 @@ fn info_of_coupons(image: ImageOfCoupons) -> HllInfo
         kxq1: 0,
         lg_k: image.lg_k,
         width: bits_of(image.hll_type),
-        stage: if image.lg_size == LG_LIST_PLACES {
+        stage: if image.lg_size == LG_LIST_BUCKETS {
             LIST
         } else {
             SET

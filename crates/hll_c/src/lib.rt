@@ -4,21 +4,21 @@
 //!
 //! Each answers 0, the number of a reason (docs/FORMAT.md, "Reasons"), 14 where a buffer is too small, or 15 where what is
 //! joined has fewer registers than the caller; then `size` is the size needed, and `fewer` the other `lg_k`. On every code
-//! but 0 what was lent is as it was, but for these two and for `failed`, which is the number of the image that failed a
+//! but 0 what was borrowed is as it was, but for these two and for `failed`, which is the number of the image that failed a
 //! check, from 0. An `lg_k` is 4 to 21, a width 4, 6 or 8 bits. Arguments out of range are
-//! `Argument`, before any image is read. Registers that are written get the words of an estimator where their state is
+//! `Argument`, before any image is read. Registers that are written get the fields of an estimator where their state is
 //! cleared; another state, as an image may bring it, stays. Memory is taken by `malloc` while a call runs, for the sketches of its images and
 //! for the answer; where it is refused the reason is `Memory`.
 #![tactic(auto)]
 
 ghost use Rattle.std.specs.Prelude.{◌≡◌, ◌∷◌, [], ℕ, length, map};
 ghost use Rattle.hll_coupons.specs.Hashed.{coupon_of_bytes};
-ghost use Rattle.hll_sketch.specs.EstimatorWords.{SetsWords};
+ghost use Rattle.hll_sketch.specs.EstimatorFields.{SetsFields};
 ghost use Rattle.hll_sketch.specs.Image.{IsReadAs, IsSizeOfImage};
 ghost use Rattle.hll_sketch.specs.Value.{Sketch};
-ghost use Rattle.hll_c.specs.Answers.{Answers, IsImageOf, PutsBytes, Tells, Tests, RefusesArguments, RefusesImage, RefusesInfo, RefusesTested, RefusesWith, RefusesImages};
+ghost use Rattle.hll_c.specs.Answers.{Answers, IsImageOf, PutsBytes, Reports, Tests, RefusesArguments, RefusesImage, RefusesInfo, RefusesTested, RefusesWith, RefusesImages};
 ghost use Rattle.hll_c.specs.Batches.{AreEnds, strings};
-ghost use Rattle.hll_c.specs.ByteRegisters.{JoinsImageInto, JoinsRegistersInto, AddsValues, AddsCoupons, FoldsInPlace, RefusesRegisters, SaysCounts, IsOfBytes, RefusesBytes};
+ghost use Rattle.hll_c.specs.ByteRegisters.{MergesImageInto, MergesRegistersInto, AddsValues, AddsCoupons, FoldsInPlace, RefusesRegisters, SaysCounts, IsOfBytes, RefusesBytes};
 ghost use Rattle.hll_c.specs.Calls.{AreNewArguments, IsEmptyAt, IsMadeOf, IsFoldOf, RefusesFold, IsWidth, IsAtWidth, IsCleared, AreOfCoupon, HasCoupon, HasValues, AreUnionArguments, IsUnionOf, AreBatchArguments, IsUnionOfBatch, SaysAgreement, PutsCoupons};
 ghost use Rattle.hll_c.specs.Info.{SaysInfo, SaysHistogram};
 ghost use Rattle.hll_c.specs.declared.info.HllInfo.{HllInfo};
@@ -30,22 +30,22 @@ mod byte_registers;
 mod image;
 mod info;
 
-use crate::answer::{code_of, put_bytes, put_image, tell};
+use crate::answer::{code_of, put_bytes, put_image, report};
 use crate::batch::put_coupons;
 use crate::info::{HllHistogram, HllInfo};
 use hll_coupons::coupon::Coupon;
 use std::alloc::Global;
 
-/// What an image says: `lg_k`, width, stage, its coupons, or the sums and words of its registers. `size` is that of the
+/// What an image says: `lg_k`, width, stage, its coupons, or the sums and fields of its registers. `size` is that of the
 /// caller's structure, in bytes.
 ///
 /// Answers `Argument` where that is not 64, the reason of the first check that the bytes fail, or `Memory`. Takes memory for
 /// its sketch, but none for coupons of a compact image that ascend or are at most 128.
 #[unsafe(no_mangle)]
 pub extern "C" fn hll_image_info(alloc: Global, image: &[u8], info: &mut HllInfo, size: usize) -> u8
-    ensures { Tells HllInfo (SaysInfo image.now) (RefusesInfo (size ≡ 64) image.now) info.old info.new result }
+    ensures { Reports HllInfo (SaysInfo image.now) (RefusesInfo (size ≡ 64) image.now) info.old info.new result }
 {
-    tell(info::info_of(alloc, image, size), info)
+    report(info::info_of(alloc, image, size), info)
 }
 
 /// Whether bytes begin with an image; else the reason of the first check that they fail (docs/FORMAT.md, "Order of checks").
@@ -64,9 +64,9 @@ pub extern "C" fn hll_image_check(alloc: Global, image: &[u8]) -> u8
 /// Answers the reason of the first check that the bytes fail, or `Memory`, as `hll_image_check` does.
 #[unsafe(no_mangle)]
 pub extern "C" fn hll_image_size(alloc: Global, image: &[u8], size: &mut usize) -> u8
-    ensures { Tells ℕ (IsSizeOfImage image.now) (RefusesTested image.now) size.old size.new result }
+    ensures { Reports ℕ (IsSizeOfImage image.now) (RefusesTested image.now) size.old size.new result }
 {
-    tell(image::size(alloc, image), size)
+    report(image::size(alloc, image), size)
 }
 
 /// How many registers have each value from 0 to 63, at the image's `lg_k`; coupons count as the registers they fold to.
@@ -80,9 +80,9 @@ pub extern "C" fn hll_image_histogram(
     image: &[u8],
     histogram: &mut HllHistogram,
 ) -> u8
-    ensures { Tells HllHistogram (SaysHistogram image.now) (RefusesImage image.now) histogram.old histogram.new result }
+    ensures { Reports HllHistogram (SaysHistogram image.now) (RefusesImage image.now) histogram.old histogram.new result }
 {
-    tell(info::histogram_of(alloc, image), histogram)
+    report(info::histogram_of(alloc, image), histogram)
 }
 
 /// The image of an empty sketch, which has the width of the registers to come.
@@ -180,13 +180,14 @@ pub extern "C" fn hll_images_union(
     ensures { Answers (IsUnionOfBatch lg_max_k width images.now ends.now failed.old failed.new) (RefusesImages (AreBatchArguments lg_max_k width (length images.now) ends.now) (strings images.now ends.now) failed.old failed.new) out.old out.new size.old size.new result }
 {
     put_image(
-        image::united(alloc, lg_max_k, width, images, ends, failed),
+        image::union_of_batch(alloc, lg_max_k, width, images, ends, failed),
         out,
         size,
     )
 }
 
-/// The image of the union, under a bound of the `lg_k` and at a width, of images that lie anywhere; of none the empty sketch.
+/// The image of the union, under a bound of the `lg_k` and at a width, of images that need not be contiguous; of none
+/// the empty sketch.
 ///
 /// Answers as `hll_image_merge`. Takes memory for one sketch at a time, the union and the answer.
 #[unsafe(no_mangle)]
@@ -202,7 +203,7 @@ pub extern "C" fn hll_parts_union(
     ensures { Answers (IsUnionOf lg_max_k width (map (λ part. part.now) parts.now) failed.old failed.new) (RefusesImages (AreUnionArguments lg_max_k width) (map (λ part. part.now) parts.now) failed.old failed.new) out.old out.new size.old size.new result }
 {
     put_image(
-        image::united_parts(alloc, lg_max_k, width, parts, failed),
+        image::union_of_parts(alloc, lg_max_k, width, parts, failed),
         out,
         size,
     )
@@ -242,27 +243,27 @@ pub extern "C" fn hll_image_convert(
     put_bytes(image::converted(alloc, image, width), out, size)
 }
 
-/// The image with the words set from which a composite estimator computes (docs/FORMAT.md, "Estimator words"); a list or a
+/// The image with the fields set from which a composite estimator computes (docs/FORMAT.md, "Estimator fields"); a list or a
 /// set stays as it is.
 ///
 /// Answers the reason of the first check that the image fails, or `Memory`. Takes memory for its sketch and the answer.
 #[unsafe(no_mangle)]
-pub extern "C" fn hll_image_set_estimator_words(
+pub extern "C" fn hll_image_set_estimator_fields(
     alloc: Global,
     image: &[u8],
     out: &mut [u8],
     size: &mut usize,
 ) -> u8
-    ensures { Answers (IsMadeOf image.now SetsWords) (RefusesImage image.now) out.old out.new size.old size.new result }
+    ensures { Answers (IsMadeOf image.now SetsFields) (RefusesImage image.now) out.old out.new size.old size.new result }
 {
-    put_image(image::with_estimator_words(alloc, image), out, size)
+    put_image(image::with_estimator_fields(alloc, image), out, size)
 }
 
-/// The image with its state cleared: words of 0, with the out-of-order flag. A list or a set stays as it is.
+/// The image with its state cleared: fields of 0, with the out-of-order flag. A list or a set stays as it is.
 ///
 /// Answers the reason of the first check that the image fails, or `Memory`. Takes memory for its sketch and the answer.
 #[unsafe(no_mangle)]
-pub extern "C" fn hll_image_clear_estimator_words(
+pub extern "C" fn hll_image_clear_estimator_fields(
     alloc: Global,
     image: &[u8],
     out: &mut [u8],
@@ -270,7 +271,7 @@ pub extern "C" fn hll_image_clear_estimator_words(
 ) -> u8
     ensures { PutsBytes (IsImageOf (IsMadeOf image.now IsCleared)) (RefusesImage image.now) out.old out.new size.old size.new result }
 {
-    put_bytes(image::without_estimator_words(alloc, image), out, size)
+    put_bytes(image::without_estimator_fields(alloc, image), out, size)
 }
 
 /// Whether two images fold to the same registers at the smaller `lg_k` of both: 1 if they do, else 0.
@@ -285,9 +286,9 @@ pub extern "C" fn hll_images_agree(
     same: &mut u8,
     failed: &mut usize,
 ) -> u8
-    ensures { Tells ℕ (SaysAgreement left.now right.now failed.old failed.new) (RefusesImages (Unit {0}) (left.now ∷ right.now ∷ []) failed.old failed.new) same.old same.new result }
+    ensures { Reports ℕ (SaysAgreement left.now right.now failed.old failed.new) (RefusesImages (Unit {0}) (left.now ∷ right.now ∷ []) failed.old failed.new) same.old same.new result }
 {
-    tell(image::agree(alloc, left, right, failed), same)
+    report(image::agree(alloc, left, right, failed), same)
 }
 
 /// Raises registers of the caller by the values that stand in `values` up to each of `ends`.
@@ -301,9 +302,9 @@ pub extern "C" fn hll_registers_add(registers: &mut [u8], values: &[u8], ends: &
     byte_registers::add(registers, values, ends)
 }
 
-/// Raises registers of the caller by coupons, raw words of which each has a value.
+/// Raises registers of the caller by raw coupons, each of which has a value.
 ///
-/// Answers `Argument` for a word without, or a number of registers that is not 2^`lg_k`.
+/// Answers `Argument` for one without a value, or a number of registers that is not 2^`lg_k`.
 #[unsafe(no_mangle)]
 pub extern "C" fn hll_registers_add_coupons(registers: &mut [u8], coupons: &[u32]) -> u8
     ensures { AddsCoupons coupons.now registers.old registers.new result }
@@ -318,15 +319,15 @@ pub extern "C" fn hll_registers_add_coupons(registers: &mut [u8], coupons: &[u32
 /// `Memory`. Takes memory for the exceptions of registers of four bits, and for a table of coupons, but not for coupons that
 /// are 1 to 128, or ascend in a compact image.
 #[unsafe(no_mangle)]
-pub extern "C" fn hll_registers_join(
+pub extern "C" fn hll_registers_merge(
     alloc: Global,
     registers: &mut [u8],
     image: &[u8],
     fewer: &mut u8,
 ) -> u8
-    ensures { JoinsImageInto image.now registers.old registers.new fewer.old fewer.new result }
+    ensures { MergesImageInto image.now registers.old registers.new fewer.old fewer.new result }
 {
-    byte_registers::join(alloc, registers, image, fewer)
+    byte_registers::merge(alloc, registers, image, fewer)
 }
 
 /// Raises registers of the caller by as many others, or by what more of them fold to.
@@ -334,17 +335,17 @@ pub extern "C" fn hll_registers_join(
 /// Answers 15 where the others are not all 0, and fewer; then `fewer` is their `lg_k`. Answers `Argument` for a number of
 /// registers or of others that is not 2^`lg_k`, or `Register` where one of the others is above 63.
 #[unsafe(no_mangle)]
-pub extern "C" fn hll_registers_join_registers(
+pub extern "C" fn hll_registers_merge_registers(
     registers: &mut [u8],
     others: &[u8],
     fewer: &mut u8,
 ) -> u8
-    ensures { JoinsRegistersInto others.now registers.old registers.new fewer.old fewer.new result }
+    ensures { MergesRegistersInto others.now registers.old registers.new fewer.old fewer.new result }
 {
-    byte_registers::join_others(registers, others, fewer)
+    byte_registers::merge_others(registers, others, fewer)
 }
 
-/// Folds registers of the caller to an `lg_k` of 4 to theirs, at the front of their bytes; the bytes behind stay.
+/// Folds registers of the caller to an `lg_k` of 4 to theirs, at the front of their bytes; the bytes after them stay.
 ///
 /// Answers `Argument` for another, or a number of registers that is not 2^`lg_k`, or `Register` where one is above 63. Takes
 /// no memory.
@@ -360,12 +361,12 @@ pub extern "C" fn hll_registers_fold(registers: &mut [u8], to: u8) -> u8
 /// Answers `Argument` for a number of registers that is not 2^`lg_k`, or `Register` where one is above 63.
 #[unsafe(no_mangle)]
 pub extern "C" fn hll_registers_histogram(registers: &[u8], histogram: &mut HllHistogram) -> u8
-    ensures { Tells HllHistogram (SaysCounts registers.now) (RefusesRegisters registers.now) histogram.old histogram.new result }
+    ensures { Reports HllHistogram (SaysCounts registers.now) (RefusesRegisters registers.now) histogram.old histogram.new result }
 {
-    tell(byte_registers::histogram(registers), histogram)
+    report(byte_registers::histogram(registers), histogram)
 }
 
-/// The image of registers of the caller at a width, with the words set from which a composite estimator computes.
+/// The image of registers of the caller at a width, with the fields set from which a composite estimator computes.
 ///
 /// Answers `Argument` for a width that is none or a number of registers that is not 2^`lg_k`, `Register` where one is above
 /// 63, or `Memory`. Takes memory for a copy of the registers, at four and six bits for their packed form, and for the answer.
@@ -382,7 +383,7 @@ pub extern "C" fn hll_registers_image(
     put_image(byte_registers::sketch(alloc, registers, width), out, size)
 }
 
-/// The coupon of a value: its raw word, value * 2^26 + slot (docs/FORMAT.md, "Coupons").
+/// The raw coupon of a value: value * 2^26 + slot (docs/FORMAT.md, "Coupons").
 #[unsafe(no_mangle)]
 pub extern "C" fn hll_coupon(value: &[u8]) -> u32
     ensures { result ≡ coupon_of_bytes value.now }

@@ -9,8 +9,8 @@ ghost use Rattle.hll_base.specs.declared.error.Reason.TheVariants.{Memory};
 ghost use Rattle.hll_coupons.specs.Pair.{set_of};
 ghost use Rattle.hll_coupons.specs.Fold.{fold_to};
 ghost use Rattle.hll_registers.specs.State.{cleared_state};
-ghost use Rattle.hll_sketch.specs.Grown.{IsGrown};
-ghost use Rattle.hll_sketch.specs.Joined.{IsJoinOf};
+ghost use Rattle.hll_sketch.specs.Canonical.{IsCanonicalCleared};
+ghost use Rattle.hll_sketch.specs.Joined.{IsMergeOf};
 ghost use Rattle.hll_sketch.specs.Layout.{sketch_of};
 ghost use Rattle.hll_merge.specs.Accepting.{IsFirstFault};
 ghost use Rattle.hll_merge.specs.Run.{IsAnswer};
@@ -51,7 +51,7 @@ pub fn registers_of<A: Allocator>(
 /// The registers of the coupons of two shards: those of all of them together, whichever shard has which.
 ///
 /// `lg_k` is 4 to 21. Takes two bytes a register. Fails with `Memory`.
-pub fn join_shards<A: Allocator + Clone>(
+pub fn max_of_shards<A: Allocator + Clone>(
     alloc: A,
     lg_k: u8,
     here: &[Coupon],
@@ -68,8 +68,8 @@ pub fn join_shards<A: Allocator + Clone>(
     Ok(joined)
 }
 
-/// The union of the sketches of two shards, one of which sends the sketch of its own union at some width: where all are grown,
-/// the join of them all, whichever shard has which.
+/// The union of the sketches of two shards, one of which sends the sketch of its own union at some width: where all are canonical
+/// with cleared fields, the join of them all, whichever shard has which.
 ///
 /// Fails with `Argument` if `lg_max_k` is not 4 to 21, or else with `Memory`. Takes memory for both unions and the sketch that
 /// is sent.
@@ -80,7 +80,7 @@ pub fn union_of_shards<A: Allocator + Clone>(
     here: &[HllSketch<A>],
     there: &[HllSketch<A>],
 ) -> Result<HllUnion<A>, Error>
-    ensures grown { let all = map sketch_of here.now ++ map sketch_of there.now in IfOk result (λ u. All IsGrown all → IsJoinOf all u) }
+    ensures canonical { let all = map sketch_of here.now ++ map sketch_of there.now in IfOk result (λ u. All IsCanonicalCleared all → IsMergeOf all u) }
     ensures bound { IfOk result (λ u. u.lg_max_k ≡ lg_max_k) }
     ensures err { IfErr result (λ e. (e ≡ reasons.Argument) ⊎ (e ≡ Memory)) }
 {

@@ -15,25 +15,25 @@ use Rattle.std.proofs.lemmas.List.Kept.{AllPairs-from_increasing}
 use Rattle.std.proofs.lemmas.List.Sorted.{searched}
 use Rattle.hll_coupons.specs.Pair.{Pairs, set_of}
 use Rattle.hll_coupons.specs.Table.{Table, IsTable, coupons_in, coupons_of}
-use Rattle.hll_coupons.proofs.Collecting.{len-union_new, len-union_old, len-union_with, new_between, union_behind}
+use Rattle.hll_coupons.proofs.Collecting.{len-union_new, len-union_old, len-union_with, new_between, union_after}
 use Rattle.hll_coupons.proofs.Members.{insert-member}
 use Rattle.hll_coupons.proofs.Unions.{contains_union, same_members}
 
 -- ---- what a binary search says
 
--- a number of a list stands at a place of it, and one that stands there is of the list
+-- a number of a list stands at a bucket of it, and one that stands there is of the list
 record StandsAt (xs : List ℕ) (c : ℕ) : Type 0 where
-  place : ℕ
-  within : place < length xs
-  is : get_or xs place 0 ≡ c
+  bucket : ℕ
+  within : bucket < length xs
+  is : get_or xs bucket 0 ≡ c
 
 stands_at : (xs : List ℕ) (c : ℕ) → list_any (λ y. nat_eq y c) xs ≡ true → StandsAt xs c
 stands_at [] c any = absurd (true≢false (sym any))
 stands_at (x ∷ xs) c any = elim (cases_Bool (nat_eq x c)) [
-  | inl same ↦ record { place = 0; within = omega arith; is = eqb-true x c same }
+  | inl same ↦ record { bucket = 0; within = omega arith; is = eqb-true x c same }
   | inr other ↦
       let at = stands_at xs c (ap (λ b. b || list_any (λ y. nat_eq y c) xs) (sym other) ∙ any) in
-      record { place = suc at.place; within = omega (arith, at.within); is = at.is }
+      record { bucket = suc at.bucket; within = omega (arith, at.within); is = at.is }
 ]
 
 stands_in : (xs : List ℕ) (c i : ℕ) → i < length xs → get_or xs i 0 ≡ c → list_any (λ y. nat_eq y c) xs ≡ true
@@ -59,9 +59,9 @@ among own c (Err i) up lacks =
     sym (contains-from_list_nat own c ∙ elim (cases_Bool (list_any (λ y. nat_eq y c) own)) [
       | inl any ↦
           let at = stands_at own c any in
-          absurd (elim (cases_Bool (nat_lt at.place i)) [
-            | inl before ↦ omega (arith, at.is, around.1 at.place (ltb-true at.place i before))
-            | inr behind ↦ omega (arith, at.is, around.2 at.place (ltb-false at.place i behind) at.within)
+          absurd (elim (cases_Bool (nat_lt at.bucket i)) [
+            | inl before ↦ omega (arith, at.is, around.1 at.bucket (ltb-true at.bucket i before))
+            | inr after ↦ omega (arith, at.is, around.2 at.bucket (ltb-false at.bucket i after) at.within)
           ])
       | inr none ↦ none
     ])
@@ -80,25 +80,25 @@ count_more S xs ys c n m old distinct count is more = elim (cases_Bool (contains
   | inr new ↦ omega (arith, count, more, ap (λ b. bool_byte (not b)) (is ∙ new), len-union_new S xs ys c distinct new)
 ]
 
--- a list's coupon that the set lacks is new behind those before it
+-- a list's coupon that the set lacks is new after those before it
 pub lacking : (S : Pairs) (xs ys : List ℕ) (c : ℕ) → len (set_of (xs ++ c ∷ ys)) ≡ length (xs ++ c ∷ ys) → contains S c ≡ false → contains (union S (set_of xs)) c ≡ false
 lacking S xs ys c distinct new = contains_union S (set_of xs) c ∙ ap (λ b. b || contains (set_of xs) c) new ∙ new_between xs ys c distinct
 
--- a table that has no more than all of them has a place for a new one
-pub place_left : (S : Pairs) (xs ys : List ℕ) (c : ℕ) (t : Table) (m : ℕ) → IsTable t → coupons_of t ≡ union S (set_of xs) → len (union S (set_of (xs ++ c ∷ ys))) ≤ m →
-    contains (coupons_of t) c ≡ false → length (coupons_in t.places) < m
-place_left S xs ys c t m table members room new =
+-- a table that has no more than all of them has a bucket for a new one
+pub bucket_left : (S : Pairs) (xs ys : List ℕ) (c : ℕ) (t : Table) (m : ℕ) → IsTable t → coupons_of t ≡ union S (set_of xs) → len (union S (set_of (xs ++ c ∷ ys))) ≤ m →
+    contains (coupons_of t) c ≡ false → length (coupons_in t.buckets) < m
+bucket_left S xs ys c t m table members room new =
     let more : len (insert (union S (set_of xs)) c) ≡ len (union S (set_of xs)) + 1 =
     len-insert nat_cmp_total (union S (set_of xs)) c ∙ ap (λ b. cond b (len (union S (set_of xs))) (len (union S (set_of xs)) + 1)) (ap (λ P. contains P c) (sym members) ∙ new) in
-    omega (arith, table.distinct, ap len members, more, ap len (union_behind S xs c), len-union_with S xs ys c, room)
+    omega (arith, table.distinct, ap len members, more, ap len (union_after S xs c), len-union_with S xs ys c, room)
 
 -- the members with it, where it is put, and where the set has it
 pub members_more : (S : Pairs) (xs : List ℕ) (c : ℕ) (old new : Pairs) → old ≡ union S (set_of xs) → new ≡ insert old c → new ≡ union S (set_of (xs ++ c ∷ []))
-members_more S xs c old new before put = put ∙ ap (λ P. insert P c) before ∙ sym (union_behind S xs c)
+members_more S xs c old new before put = put ∙ ap (λ P. insert P c) before ∙ sym (union_after S xs c)
 
 pub members_same : (S : Pairs) (xs : List ℕ) (c : ℕ) (now : Pairs) → now ≡ union S (set_of xs) → contains S c ≡ true → now ≡ union S (set_of (xs ++ c ∷ []))
 members_same S xs c now before there =
-    before ∙ sym (union_behind S xs c ∙ insert-member (union S (set_of xs)) c (contains_union S (set_of xs) c ∙ or_left _ _ there))
+    before ∙ sym (union_after S xs c ∙ insert-member (union S (set_of xs)) c (contains_union S (set_of xs) c ∙ or_left _ _ there))
 
 -- those that a set has from a list already add nothing to it
 same_or : (s a b : Bool) → ((s || a) || (a || b)) ≡ (s || (a || b))

@@ -105,9 +105,9 @@ pub len-ascending : (order : List ℕ) (S : Pairs) → IsAscending order S → l
 len-ascending order S h = sym (len-Ascends order (ascends order (AllPairs-from_increasing order h.increasing))) ∙ ap len h.members
 
 -- an image whose header is made of the number of coupons
-pub written_behind : (header_of : ℕ → List ℕ) (t : Table) (n : ℕ) (header bytes : List ℕ) → IsTable t → n ≡ length (coupons_in t.places) → header ≡ header_of n →
+pub written_after : (header_of : ℕ → List ℕ) (t : Table) (n : ℕ) (header bytes : List ℕ) → IsTable t → n ≡ length (coupons_in t.buckets) → header ≡ header_of n →
     WritesAscending (λ order. header ++ coupon_bytes order) (coupons_of t) bytes → WritesAscending (λ order. header_of (length order) ++ coupon_bytes order) (coupons_of t) bytes
-written_behind header_of t n header bytes table count is w =
+written_after header_of t n header bytes table count is w =
     let number : n ≡ length w.order = count ∙ sym table.distinct ∙ sym (len-ascending w.order (coupons_of t) w.ascending) in
     record {
       order = w.order;

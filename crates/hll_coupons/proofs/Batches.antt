@@ -1,5 +1,5 @@
 -- SPDX-License-Identifier: Apache-2.0
--- Sorted numbers, each kept once, and a table that has them in its first places.
+-- Sorted numbers, each kept once, and a table that has them in its first buckets.
 use Rattle.std.proofs.Common.{◌≡◌, ℕ, suc, ◌-◌, ◌^◌, ◌<◌, ◌≤◌, Bool, true, false, ◌||◌, List, [], ◌∷◌, ◌++◌, All, length, take, replicate, nat_eq, refl, sym, ◌∙◌, ap, subst, arith, inl, inr}
 use Rattle.std.specs.Ordering.{nat_cmp}
 use Rattle.std.specs.Cmp.{nat_cmp_total}
@@ -16,15 +16,15 @@ use Rattle.hll_coupons.specs.Coupons.{IsAscending}
 use Rattle.hll_coupons.specs.Table.{IsTable, coupons_in}
 use Rattle.hll_coupons.proofs.Ascending.{has, set_of-permutation, distinct-ascending}
 use Rattle.hll_coupons.proofs.Merging.{increasing_more}
-use Rattle.hll_coupons.proofs.Places.{coupons_in-front}
+use Rattle.hll_coupons.proofs.Buckets.{coupons_in-front}
 use Rattle.hll_coupons.proofs.Reading.{coupons_in-coupons}
 
 -- numbers that do not fall
 abbrev Rises : List ℕ → Type 0
 Rises xs = IsNonDecreasingBy (λ x. x) xs
 
-behind : (x y : ℕ) (xs : List ℕ) → Rises (x ∷ y ∷ xs) → Rises (y ∷ xs)
-behind x y xs up i j d le lt = up (suc i) (suc j) d (omega (arith, le)) (omega (arith, lt))
+after : (x y : ℕ) (xs : List ℕ) → Rises (x ∷ y ∷ xs) → Rises (y ∷ xs)
+after x y xs up i j d le lt = up (suc i) (suc j) d (omega (arith, le)) (omega (arith, lt))
 
 one : (k : ℕ) → IsStrictlyIncreasing (k ∷ [])
 one k i within = absurd (omega (arith, within))
@@ -67,10 +67,10 @@ module _ (E : ℕ → ℕ → Bool) (is : (x y : ℕ) → E x y ≡ nat_eq x y) 
   climbs k [] up = ([], refl, one k)
   climbs k (x ∷ xs) up = elim (cases_Bool (E x k)) [
     | inl t ↦
-        let more : Climbs k (dedup_from E k xs) = climbs k xs (subst (λ z. Rises (z ∷ xs)) (same x k t) (behind k x xs up)) in
+        let more : Climbs k (dedup_from E k xs) = climbs k xs (subst (λ z. Rises (z ∷ xs)) (same x k t) (after k x xs up)) in
         (more.0, cond-true (E x k) (dedup_from E k xs) (k ∷ dedup_from E x xs) t ∙ more.1, more.2)
     | inr f ↦
-        let more : Climbs x (dedup_from E x xs) = climbs x xs (behind k x xs up) in
+        let more : Climbs x (dedup_from E x xs) = climbs x xs (after k x xs up) in
         let least : k ≤ x = up 0 1 0 (omega arith) (omega arith) in
         let below : k < x = omega (arith, least, apart x k f) in
         (x ∷ more.0, cond-false (E x k) (dedup_from E k xs) (k ∷ dedup_from E x xs) f ∙ ap (λ ys. k ∷ ys) more.1, (increasing_more k x more.0).1 (below, more.2))
@@ -96,16 +96,16 @@ module _ (E : ℕ → ℕ → Bool) (is : (x y : ℕ) → E x y ≡ nat_eq x y) 
 kept_all : (xs : List ℕ) → All IsPair xs → coupons_in xs ≡ xs
 kept_all xs h = coupons_in-coupons xs (All-weaker IsPair (λ c. 1 ≤ value_of c) (λ c p. p.valued) xs h)
 
--- numbers that ascend, in the first places of a table
-pub record IsTableFrom (lg : ℕ) (order places : List ℕ) : Type 0 where
-  pub table : IsTable (record { lg_size = lg; places = places })
-  pub order_is : coupons_in places ≡ order
+-- numbers that ascend, in the first buckets of a table
+pub record IsTableFrom (lg : ℕ) (order buckets : List ℕ) : Type 0 where
+  pub table : IsTable (record { lg_size = lg; buckets = buckets })
+  pub order_is : coupons_in buckets ≡ order
 
-pub table_from : (lg n m : ℕ) (order places : List ℕ) → IsStrictlyIncreasing order → All IsPair order → n ≡ 2 ^ lg → m ≡ length order → m < n → lg ≤ 26 → places ≡ take n order ++ replicate (n - m) 0
-    → IsTableFrom lg order places
-table_from lg n m order places up pairs size number room small is =
-    let e : places ≡ order ++ replicate (n - m) 0 = is ∙ ap (λ ys. ys ++ replicate (n - m) 0) (take_all n order (omega (arith, room, number))) in
-    let has_them : coupons_in places ≡ order = ap coupons_in e ∙ coupons_in-front order (n - m) ∙ kept_all order pairs in
+pub table_from : (lg n m : ℕ) (order buckets : List ℕ) → IsStrictlyIncreasing order → All IsPair order → n ≡ 2 ^ lg → m ≡ length order → m < n → lg ≤ 26 → buckets ≡ take n order ++ replicate (n - m) 0
+    → IsTableFrom lg order buckets
+table_from lg n m order buckets up pairs size number room small is =
+    let e : buckets ≡ order ++ replicate (n - m) 0 = is ∙ ap (λ ys. ys ++ replicate (n - m) 0) (take_all n order (omega (arith, room, number))) in
+    let has_them : coupons_in buckets ≡ order = ap coupons_in e ∙ coupons_in-front order (n - m) ∙ kept_all order pairs in
     record {
       table = record {
         small = small;

@@ -38,9 +38,9 @@ len-with_new xs ys c new =
     let more : len (set_of (xs ++ c ∷ [])) ≡ len (set_of (xs ++ [])) + 1 = len-between xs [] c (ap (λ zs. contains (set_of zs) c) (append-nil xs) ∙ new) in
     omega (arith, front, bare, more)
 
--- a table of eight places that has some of eight coupons has a free place for another
+-- a table of eight buckets that has some of eight coupons has a free bucket for another
 pub room_of_eight : (t : Table) (all xs ys : List ℕ) (c : ℕ) → IsTable t → t.lg_size ≡ 3 → coupons_of t ≡ set_of xs → all ≡ xs ++ c ∷ ys → len (set_of all) ≤ 8 →
-    contains (coupons_of t) c ≡ false → length (coupons_in t.places) < 2 ^ t.lg_size
+    contains (coupons_of t) c ≡ false → length (coupons_in t.buckets) < 2 ^ t.lg_size
 room_of_eight t all xs ys c table three is whole few new =
     let eight : 2 ^ t.lg_size ≡ 8 = ap (λ q. 2 ^ q) three in
     let more : len (set_of xs) + 1 ≤ len (set_of (xs ++ c ∷ ys)) = len-with_new xs ys c (ap (λ S. contains S c) (sym is) ∙ new) in
@@ -48,9 +48,9 @@ room_of_eight t all xs ys c table three is whole few new =
 
 -- ---- with a set
 
--- one more, behind others
-pub union_behind : (S : Pairs) (xs : List ℕ) (c : ℕ) → union S (set_of (xs ++ c ∷ [])) ≡ insert (union S (set_of xs)) c
-union_behind S xs c =
+-- one more, after others
+pub union_after : (S : Pairs) (xs : List ℕ) (c : ℕ) → union S (set_of (xs ++ c ∷ [])) ≡ insert (union S (set_of xs)) c
+union_after S xs c =
     ap (union S) (set_of-between xs [] c ∙ ap (λ zs. insert (set_of zs) c) (append-nil xs) ∙ insert-union (set_of xs) c)
     ∙ sym (union_assoc S (set_of xs) (set_of (c ∷ []))) ∙ sym (insert-union (union S (set_of xs)) c)
 
@@ -87,13 +87,13 @@ pub len-union_new : (S : Pairs) (xs ys : List ℕ) (c : ℕ) → len (set_of (xs
     len (union S (set_of (xs ++ c ∷ []))) ≡ len (union S (set_of xs)) + 1
 len-union_new S xs ys c distinct new =
     let out : contains (union S (set_of xs)) c ≡ false = contains_union S (set_of xs) c ∙ ap (λ b. b || contains (set_of xs) c) new ∙ new_between xs ys c distinct in
-    ap len (union_behind S xs c) ∙ len-insert nat_cmp_total (union S (set_of xs)) c
+    ap len (union_after S xs c) ∙ len-insert nat_cmp_total (union S (set_of xs)) c
     ∙ ap (λ b. cond b (len (union S (set_of xs))) (len (union S (set_of xs)) + 1)) out
 
 pub len-union_old : (S : Pairs) (xs : List ℕ) (c : ℕ) → contains S c ≡ true → len (union S (set_of (xs ++ c ∷ []))) ≡ len (union S (set_of xs))
 len-union_old S xs c old =
     let is_in : contains (union S (set_of xs)) c ≡ true = contains_union S (set_of xs) c ∙ or_left _ _ old in
-    ap len (union_behind S xs c ∙ insert-member (union S (set_of xs)) c is_in)
+    ap len (union_after S xs c ∙ insert-member (union S (set_of xs)) c is_in)
 
 pub len-union_most : (S : Pairs) (xs : List ℕ) → len (union S (set_of xs)) ≤ len S + length xs
 len-union_most S [] = omega (arith, len-union_none S)

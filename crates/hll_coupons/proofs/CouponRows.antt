@@ -1,11 +1,11 @@
 -- SPDX-License-Identifier: Apache-2.0
--- Coupons of known words.
+-- Coupons of known raw coupons.
 use Rattle.std.specs.Prelude.{◌≡◌, ◌^◌, refl}
 use Rattle.std.specs.Int.Count.{count_leading_zeros}
 use Rattle.hll_coupons.specs.Pair.{slot_of, value_of, pair}
 use Rattle.hll_coupons.specs.Hashed.{coupon_of_words}
 
--- no bit of the second word is set
+-- no bit of the second raw coupon is set
 pub coupon_of_words-zero : coupon_of_words 0 0 ≡ 0xfc000000
 unfolding count_leading_zeros
 coupon_of_words-zero = refl
@@ -32,7 +32,7 @@ pub value_of-one : value_of (coupon_of_words 0 1) ≡ 63
 unfolding count_leading_zeros
 value_of-one = refl
 
--- the slot is the first word modulo 2^26
+-- the slot is the first raw coupon modulo 2^26
 pub slot_of-folded : slot_of (coupon_of_words 67108869 (2 ^ 63)) ≡ 5
 unfolding count_leading_zeros
 slot_of-folded = refl

@@ -1,5 +1,5 @@
 -- SPDX-License-Identifier: Apache-2.0
--- Cycles of several strides: one that is made, the one of a stride, and a place that is filled in each.
+-- Cycles of several strides: one that is made, the one of a stride, and a bucket that is filled in each.
 use Rattle.std.proofs.Common.{◌≡◌, ℕ, zero, suc, ◌+◌, ◌^◌, ◌<◌, ◌≤◌, List, [], ◌∷◌, ◌++◌, All, length, get_or, set, refl, sym, ap, subst, ◌∙◌, arith, inl, inr}
 use Rattle.std.proofs.lemmas.Bool.{cases_eq}
 use Rattle.std.proofs.lemmas.List.{get_or-set_same, get_or-set_other, get_or_default}
@@ -8,15 +8,15 @@ use Rattle.hll_coupons.specs.declared.cycle.Cycle.{Cycle}
 use Rattle.hll_coupons.specs.Probe.{stride_of, IsAbsent, EndsAt}
 use Rattle.hll_coupons.specs.Cycle.{IsFor, EndsForAbsent, IsFilled, AreFilled}
 
--- the place is filled in the cycles so far, and the others are as they were
-pub record FilledSoFar {A : Type 0} (place index : ℕ) (old new : List (Cycle A)) : Type 0 where
-  pub filled : (i : ℕ) (c : Cycle A) → i < index → IsFilled (get_or old i c) place (get_or new i c)
+-- the bucket is filled in the cycles so far, and the others are as they were
+pub record FilledSoFar {A : Type 0} (bucket index : ℕ) (old new : List (Cycle A)) : Type 0 where
+  pub filled : (i : ℕ) (c : Cycle A) → i < index → IsFilled (get_or old i c) bucket (get_or new i c)
   pub others : (i : ℕ) (c : Cycle A) → index ≤ i → get_or new i c ≡ get_or old i c
 
-pub filled_none : {A : Type 0} (place : ℕ) (old : List (Cycle A)) → FilledSoFar place 0 old old
-filled_none {A} place old = record { filled = λ i c l. absurd (omega arith); others = λ i c l. refl }
+pub filled_none : {A : Type 0} (bucket : ℕ) (old : List (Cycle A)) → FilledSoFar bucket 0 old old
+filled_none {A} bucket old = record { filled = λ i c l. absurd (omega arith); others = λ i c l. refl }
 
-module _ {A : Type 0} (place index : ℕ) (old new : List (Cycle A)) (so : FilledSoFar place index old new) (size : length new ≡ length old) (left : index < length old) (d : Cycle A) where
+module _ {A : Type 0} (bucket index : ℕ) (old new : List (Cycle A)) (so : FilledSoFar bucket index old new) (size : length new ≡ length old) (left : index < length old) (d : Cycle A) where
   -- the next one is still as it was
   next_is : (c : Cycle A) → get_or new index d ≡ get_or old index c
   next_is c = so.others index d (omega arith) ∙ get_or_default old index d c left
@@ -25,35 +25,35 @@ module _ {A : Type 0} (place index : ℕ) (old new : List (Cycle A)) (so : Fille
   pub next_of : (P : Cycle A → Type 0) → All P old → P (get_or new index d)
   next_of P all = subst P (sym (next_is d)) (all index d left)
 
-  pub filled_more : (after : Cycle A) → IsFilled (get_or new index d) place after → FilledSoFar place (index + 1) old (set new index after)
+  pub filled_more : (after : Cycle A) → IsFilled (get_or new index d) bucket after → FilledSoFar bucket (index + 1) old (set new index after)
   filled_more after one = record {
     filled = λ i c l. elim (cases_eq i index) [
       | inl e ↦
           let there : get_or (set new index after) i c ≡ after = ap (λ k. get_or (set new index after) k c) e ∙ get_or-set_same new index after c (omega (arith, size, left)) in
           let before : get_or old i c ≡ get_or new index d = ap (λ k. get_or old k c) e ∙ sym (next_is c) in
-          subst (λ n. IsFilled (get_or old i c) place n) (sym there) (subst (λ o. IsFilled o place after) (sym before) one)
+          subst (λ n. IsFilled (get_or old i c) bucket n) (sym there) (subst (λ o. IsFilled o bucket after) (sym before) one)
       | inr o ↦
-          subst (λ n. IsFilled (get_or old i c) place n) (sym (get_or-set_other new index i after c o)) (so.filled i c (omega (arith, o)))
+          subst (λ n. IsFilled (get_or old i c) bucket n) (sym (get_or-set_other new index i after c o)) (so.filled i c (omega (arith, o)))
     ];
     others = λ i c l.
         let apart : i ≡ index → ⊥ = λ e. omega arith in
         get_or-set_other new index i after c apart ∙ so.others i c (omega arith);
   }
 
-pub filled_all : {A : Type 0} (place index : ℕ) (old new : List (Cycle A)) → FilledSoFar place index old new → length new ≡ length old → length old ≤ index → AreFilled old place new
-filled_all {A} place index old new so size done = record { count = size; each = λ i c l. so.filled i c (omega (arith, done)) }
+pub filled_all : {A : Type 0} (bucket index : ℕ) (old new : List (Cycle A)) → FilledSoFar bucket index old new → length new ≡ length old → length old ≤ index → AreFilled old bucket new
+filled_all {A} bucket index old new so size done = record { count = size; each = λ i c l. so.filled i c (omega (arith, done)) }
 
--- each cycle is one through the places after one is filled
-pub filled_for : {A : Type 0} (lg place entry : ℕ) (places : List ℕ) (old new : List (Cycle A)) → AreFilled old place new → length places ≡ 2 ^ lg → (entry ≡ 0 → ⊥) → All (IsFor lg places) old →
-    All (IsFor lg (set places place entry)) new
-filled_for {A} lg place entry places old new f size some all i c l =
+-- each cycle is one through the buckets after one is filled
+pub filled_for : {A : Type 0} (lg bucket entry : ℕ) (buckets : List ℕ) (old new : List (Cycle A)) → AreFilled old bucket new → length buckets ≡ 2 ^ lg → (entry ≡ 0 → ⊥) → All (IsFor lg buckets) old →
+    All (IsFor lg (set buckets bucket entry)) new
+filled_for {A} lg bucket entry buckets old new f size some all i c l =
     let before : i < length old = omega (arith, l, f.count) in
-    let was : IsFor lg places (get_or old i c) = all i c before in
-    let is : IsFilled (get_or old i c) place (get_or new i c) = f.each i c before in
+    let was : IsFor lg buckets (get_or old i c) = all i c before in
+    let is : IsFilled (get_or old i c) bucket (get_or new i c) = f.each i c before in
     record {
       sound = is.sound;
       size = is.size ∙ was.size;
-      shows = is.fills places entry (size ∙ ap (λ n. 2 ^ n) (sym was.size)) some was.shows;
+      shows = is.fills buckets entry (size ∙ ap (λ n. 2 ^ n) (sym was.size)) some was.shows;
     }
 
 -- one more
@@ -65,9 +65,9 @@ one_more {X} P xs x all one = All-append P xs (x ∷ []) all last
     last (suc i) d l = absurd (omega arith)
 
 -- the cycle of the key's stride says where its search ends
-pub ends_by : {A : Type 0} (lg key place i : ℕ) (cycles : List (Cycle A)) (known : Cycle A) → i < length cycles → known ≡ get_or cycles i known → known.stride ≡ stride_of lg key → EndsForAbsent known key place →
-    (key_of : ℕ → ℕ) (places : List ℕ) → length places ≡ 2 ^ lg → All (IsFor lg places) cycles → IsAbsent key_of places key → EndsAt key_of lg places key place
-ends_by {A} lg key place i cycles known inside is stride ends key_of places size all none =
-    let f : IsFor lg places known = subst (IsFor lg places) (sym is) (all i known inside) in
-    subst (λ n. EndsAt key_of n places key place) f.size
-    (ends key_of places (size ∙ ap (λ n. 2 ^ n) (sym f.size)) f.shows (stride ∙ ap (λ n. stride_of n key) (sym f.size)) none)
+pub ends_by : {A : Type 0} (lg key bucket i : ℕ) (cycles : List (Cycle A)) (known : Cycle A) → i < length cycles → known ≡ get_or cycles i known → known.stride ≡ stride_of lg key → EndsForAbsent known key bucket →
+    (key_of : ℕ → ℕ) (buckets : List ℕ) → length buckets ≡ 2 ^ lg → All (IsFor lg buckets) cycles → IsAbsent key_of buckets key → EndsAt key_of lg buckets key bucket
+ends_by {A} lg key bucket i cycles known inside is stride ends key_of buckets size all none =
+    let f : IsFor lg buckets known = subst (IsFor lg buckets) (sym is) (all i known inside) in
+    subst (λ n. EndsAt key_of n buckets key bucket) f.size
+    (ends key_of buckets (size ∙ ap (λ n. 2 ^ n) (sym f.size)) f.shows (stride ∙ ap (λ n. stride_of n key) (sym f.size)) none)

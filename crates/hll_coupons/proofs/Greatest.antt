@@ -10,8 +10,8 @@ use Rattle.std.proofs.lemmas.Bool.{true≢false, eqb-true, eq-eqb, or_cases, or_
 use Rattle.hll_coupons.specs.Pair.{Pairs, set_of}
 use Rattle.hll_coupons.specs.Fold.{greatest}
 
-pub same_word : (q c : ℕ) → eq_by_cmp nat_cmp q c ≡ true → q ≡ c
-same_word q c e = eqb-true q c (sym (unsigned_tied q c) ∙ e)
+pub same_raw_coupon : (q c : ℕ) → eq_by_cmp nat_cmp q c ≡ true → q ≡ c
+same_raw_coupon q c e = eqb-true q c (sym (unsigned_tied q c) ∙ e)
 
 pub itself : (q c : ℕ) → q ≡ c → eq_by_cmp nat_cmp q c ≡ true
 itself q c e = unsigned_tied q c ∙ eq-eqb q c e
@@ -26,7 +26,7 @@ bounded_list f m (c ∷ cs) h =
 reached_list : (f : ℕ → ℕ) (q : ℕ) (cs : List ℕ) → list_any (eq_by_cmp nat_cmp q) cs ≡ true → f q ≤ greatest f cs
 reached_list f q [] e = cc
 reached_list f q (c ∷ cs) e = elim (or_cases (eq_by_cmp nat_cmp q c) _ e) [
-  | inl h ↦ let same : f q ≡ f c = ap f (same_word q c h) in omega arith
+  | inl h ↦ let same : f q ≡ f c = ap f (same_raw_coupon q c h) in omega arith
   | inr h ↦ let below : f q ≤ greatest f cs = reached_list f q cs h in omega arith
 ]
 
@@ -54,7 +54,7 @@ greatest-insert f P c =
     let m : ℕ = max (f c) (greatest f (items P)) in
     let u : ℕ = greatest f (items (insert P c)) in
     let below : u ≤ m = bounded f m (insert P c) (λ d e. elim (or_cases (eq_by_cmp nat_cmp d c) (contains P d) (sym (contains-insert nat_cmp_total P c d) ∙ e)) [
-      | inl h ↦ let same : f d ≡ f c = ap f (same_word d c h) in omega arith
+      | inl h ↦ let same : f d ≡ f c = ap f (same_raw_coupon d c h) in omega arith
       | inr h ↦ omega (arith, reached f d P h)
     ]) in
     let here : f c ≤ u = reached f c (insert P c) (contains-insert nat_cmp_total P c c ∙ or_left (eq_by_cmp nat_cmp c c) (contains P c) (itself c c refl)) in

@@ -26,7 +26,7 @@ mode_byte-set = refl
 pub mode_byte-hll : mode_byte 2 Hll4 ∷ mode_byte 2 Hll6 ∷ mode_byte 2 Hll8 ∷ [] ≡ 2 ∷ 6 ∷ 10 ∷ []
 mode_byte-hll = refl
 
--- what is written is read, also with an empty place between
+-- what is written is read, also with an empty bucket between
 pub coupons_at-compact : coupons_at true 2 (16 ∷ 0 ∷ 0 ∷ 4 ∷ 17 ∷ 0 ∷ 0 ∷ 8 ∷ 255 ∷ []) ≡ pair 16 1 ∷ pair 17 2 ∷ []
 coupons_at-compact = refl
 

@@ -19,21 +19,21 @@ len-insert_new S c new is = ap (λ b. len S + bool_byte b) is ∙ decide (contai
     decide false = omega arith
 
 -- as counted in a table
-pub counted : (t : Table) (c n extra : ℕ) (new : Bool) → IsTable t → n ≡ length (coupons_in t.places) → extra ≡ bool_byte new → new ≡ not (contains (coupons_of t) c) →
+pub counted : (t : Table) (c n extra : ℕ) (new : Bool) → IsTable t → n ≡ length (coupons_in t.buckets) → extra ≡ bool_byte new → new ≡ not (contains (coupons_of t) c) →
     n + extra ≡ len (insert (coupons_of t) c)
 counted t c n extra new table count one is = omega (arith, table.distinct, count, one, len-insert_new (coupons_of t) c new is)
 
--- a full table has no place for a coupon that it lacks
-pub past_full : (t : Table) (c most : ℕ) → IsTable t → length (coupons_in t.places) ≡ 2 ^ t.lg_size → contains (coupons_of t) c ≡ false → most ≤ 2 ^ t.lg_size →
+-- a full table has no bucket for a coupon that it lacks
+pub past_full : (t : Table) (c most : ℕ) → IsTable t → length (coupons_in t.buckets) ≡ 2 ^ t.lg_size → contains (coupons_of t) c ≡ false → most ≤ 2 ^ t.lg_size →
     most < len (insert (coupons_of t) c)
 past_full t c most table full lacking within =
     let more : len (insert (coupons_of t) c) ≡ len (coupons_of t) + 1 = len-insert nat_cmp_total (coupons_of t) c ∙ ap (λ b. cond b (len (coupons_of t)) (len (coupons_of t) + 1)) lacking in
     omega (arith, table.distinct, full, more, within)
 
--- a table with a free place for a coupon that it lacks may take it
-pub within_places : (t : Table) (c : ℕ) → IsTable t → length (coupons_in t.places) ≤ 2 ^ t.lg_size → (contains (coupons_of t) c ≡ false → length (coupons_in t.places) < 2 ^ t.lg_size) →
+-- a table with a free bucket for a coupon that it lacks may take it
+pub within_buckets : (t : Table) (c : ℕ) → IsTable t → length (coupons_in t.buckets) ≤ 2 ^ t.lg_size → (contains (coupons_of t) c ≡ false → length (coupons_in t.buckets) < 2 ^ t.lg_size) →
     len (insert (coupons_of t) c) ≤ 2 ^ t.lg_size
-within_places t c table within room = decide (contains (coupons_of t) c) refl
+within_buckets t c table within room = decide (contains (coupons_of t) c) refl
   where
     refl : contains (coupons_of t) c ≡ contains (coupons_of t) c
     refl = λ i. contains (coupons_of t) c

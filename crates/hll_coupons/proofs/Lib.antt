@@ -22,7 +22,7 @@ pub mod Members
 pub mod Merging
 pub mod Pairs
 pub mod Payloads
-pub mod Places
+pub mod Buckets
 pub mod Replacing
 mod ProbeRows
 pub mod Probing

@@ -8,7 +8,7 @@ use Rattle.std.specs.Cmp.{nat_cmp_total}
 use Rattle.std.specs.FinSet.{contains, len, len-insert, contains-from_list}
 use Rattle.std.proofs.lemmas.Bool.{cases_Bool, or_cases, or_left, or_right, cond-true, cond-false, true≢false}
 use Rattle.hll_coupons.specs.Pair.{set_of}
-use Rattle.hll_coupons.proofs.Greatest.{same_word, itself}
+use Rattle.hll_coupons.proofs.Greatest.{same_raw_coupon, itself}
 
 abbrev pub has : ℕ → List ℕ → Bool
 has q xs = list_any (eq_by_cmp nat_cmp q) xs
@@ -33,7 +33,7 @@ has-at (x ∷ xs) (suc i) h = has-tail (get_or xs i 0) x xs (has-at xs i (omega 
 pub at_index : (xs : List ℕ) (q : ℕ) → has q xs ≡ true → (i : ℕ) × (i < length xs) × (get_or xs i 0 ≡ q)
 at_index [] q h = absurd (true≢false (sym h))
 at_index (x ∷ xs) q h = elim (or_cases (eq_by_cmp nat_cmp q x) (has q xs) h) [
-  | inl e ↦ (0, omega arith, sym (same_word q x e))
+  | inl e ↦ (0, omega arith, sym (same_raw_coupon q x e))
   | inr l ↦ let r = at_index xs q l in (suc r.0, omega (arith, r.1), r.2)
 ]
 
@@ -55,7 +55,7 @@ finds_none f [] c e h t = true≢false (sym h)
 finds_none f (x ∷ xs) c e h t = elim (cases_Bool (f x)) [
   | inl y ↦ let at : Some x ≡ None = sym (cond-true (f x) (Some x) (find f xs) y) ∙ e in cc
   | inr n ↦ elim (or_cases (eq_by_cmp nat_cmp c x) (has c xs) h) [
-    | inl s ↦ true≢false (sym t ∙ ap f (same_word c x s) ∙ n)
+    | inl s ↦ true≢false (sym t ∙ ap f (same_raw_coupon c x s) ∙ n)
     | inr l ↦ finds_none f xs c (sym (cond-false (f x) (Some x) (find f xs) n) ∙ e) l t
   ]
 ]
@@ -65,7 +65,7 @@ finds_none f (x ∷ xs) c e h t = elim (cases_Bool (f x)) [
 pub has-map : (f : ℕ → ℕ) (xs : List ℕ) (c : ℕ) → has c xs ≡ true → has (f c) (map f xs) ≡ true
 has-map f [] c h = h
 has-map f (x ∷ xs) c h = elim (or_cases (eq_by_cmp nat_cmp c x) (has c xs) h) [
-  | inl e ↦ or_left (eq_by_cmp nat_cmp (f c) (f x)) (has (f c) (map f xs)) (itself (f c) (f x) (ap f (same_word c x e)))
+  | inl e ↦ or_left (eq_by_cmp nat_cmp (f c) (f x)) (has (f c) (map f xs)) (itself (f c) (f x) (ap f (same_raw_coupon c x e)))
   | inr l ↦ or_right (eq_by_cmp nat_cmp (f c) (f x)) (has (f c) (map f xs)) (has-map f xs c l)
 ]
 
@@ -78,7 +78,7 @@ pub record From (f : ℕ → ℕ) (xs : List ℕ) (q : ℕ) : Type 0 where
 pub has-from_map : (f : ℕ → ℕ) (xs : List ℕ) (q : ℕ) → has q (map f xs) ≡ true → From f xs q
 has-from_map f [] q h = absurd (true≢false (sym h))
 has-from_map f (x ∷ xs) q h = elim (or_cases (eq_by_cmp nat_cmp q (f x)) (has q (map f xs)) h) [
-  | inl e ↦ record { member = x; there = has-head x xs; is = same_word q (f x) e }
+  | inl e ↦ record { member = x; there = has-head x xs; is = same_raw_coupon q (f x) e }
   | inr l ↦ let r : From f xs q = has-from_map f xs q l in record { member = r.member; there = has-tail r.member x xs r.there; is = r.is }
 ]
 

@@ -16,11 +16,11 @@ use Rattle.hll_coupons.specs.Pair.{IsPair, set_of, slot_of, value_of}
 use Rattle.hll_coupons.specs.Probe.{Passes, EndsAt, IsProbed, IsAbsent}
 use Rattle.hll_coupons.specs.Table.{Table, IsTable, coupons_in, coupons_of}
 use Rattle.hll_coupons.proofs.Listed.{has, contains-has, has-at, at_index, finds, finds_none, From, has-from_map, Apart, len-map}
-use Rattle.hll_coupons.proofs.Putting.{Stands, stands, found_at_place, absent_fresh}
+use Rattle.hll_coupons.proofs.Putting.{Stands, stands, found_at_bucket, absent_fresh}
 use Rattle.hll_coupons.proofs.Reading.{len-set_of-le}
 use Rattle.hll_coupons.proofs.Searching.{IsProbed-empty, keys_are_distinct, absent_at_empty, absent_from_full}
 use Rattle.hll_coupons.proofs.Sizes.{len-part}
-use Rattle.hll_coupons.proofs.Places.{coupons_in-replicate}
+use Rattle.hll_coupons.proofs.Buckets.{coupons_in-replicate}
 use Rattle.hll_coupons.proofs.TableLemmas.{IsTable-empty}
 use Rattle.hll_coupons.proofs.Sought.{Least, least, find_least}
 
@@ -34,20 +34,20 @@ pub for_all : (P : ℕ → Type 0) (xs : List ℕ) → ((c : ℕ) → has c xs �
 for_all P xs h = All-from_get_or P xs 0 (λ i l. h (get_or xs i 0) (has-at xs i l))
 
 -- no two entries have one slot
-pub apart_slots : (lg : ℕ) (places : List ℕ) → IsProbed slot_of lg places → Apart slot_of (coupons_in places)
-apart_slots lg places t c d hc hd same =
-    let a : Stands places c = stands places c (contains-has (coupons_in places) c ∙ hc) in
-    let b : Stands places d = stands places d (contains-has (coupons_in places) d ∙ hd) in
-    let p : a.place ≡ b.place = keys_are_distinct slot_of lg places a.place b.place t a.within b.within a.full b.full (ap slot_of a.is ∙ same ∙ sym (ap slot_of b.is)) in
-    sym a.is ∙ ap (λ q. get_or places q 0) p ∙ b.is
+pub apart_slots : (lg : ℕ) (buckets : List ℕ) → IsProbed slot_of lg buckets → Apart slot_of (coupons_in buckets)
+apart_slots lg buckets t c d hc hd same =
+    let a : Stands buckets c = stands buckets c (contains-has (coupons_in buckets) c ∙ hc) in
+    let b : Stands buckets d = stands buckets d (contains-has (coupons_in buckets) d ∙ hd) in
+    let p : a.bucket ≡ b.bucket = keys_are_distinct slot_of lg buckets a.bucket b.bucket t a.within b.within a.full b.full (ap slot_of a.is ∙ same ∙ sym (ap slot_of b.is)) in
+    sym a.is ∙ ap (λ q. get_or buckets q 0) p ∙ b.is
 
-pub distinct_slots : (t : Table) → IsTable t → IsProbed slot_of t.lg_size t.places → len (set_of (map slot_of (coupons_in t.places))) ≡ length (coupons_in t.places)
-distinct_slots t table probed = len-map slot_of (coupons_in t.places) (apart_slots t.lg_size t.places probed) ∙ table.distinct
+pub distinct_slots : (t : Table) → IsTable t → IsProbed slot_of t.lg_size t.buckets → len (set_of (map slot_of (coupons_in t.buckets))) ≡ length (coupons_in t.buckets)
+distinct_slots t table probed = len-map slot_of (coupons_in t.buckets) (apart_slots t.lg_size t.buckets probed) ∙ table.distinct
 
 -- there are no more entries than slots
-pub few_entries : (m : ExceptionMap) → IsMap m → length (coupons_in m.table.places) ≤ 2 ^ m.lg_k
+pub few_entries : (m : ExceptionMap) → IsMap m → length (coupons_in m.table.buckets) ≤ 2 ^ m.lg_k
 few_entries m is =
-    let xs : List ℕ = coupons_in m.table.places in
+    let xs : List ℕ = coupons_in m.table.buckets in
     let slots : List ℕ = range_with_len 0 (2 ^ m.lg_k) in
     let part : len (set_of (map slot_of xs)) ≤ len (set_of slots) = len-part (map slot_of xs) (set_of slots) (λ q h.
     let f : From slot_of xs q = has-from_map slot_of xs q (sym (contains-has (map slot_of xs) q) ∙ h) in
@@ -78,41 +78,41 @@ entry_absent k xs s below none = of (find (λ d. eqb (slot_of d % 2 ^ k) s) xs) 
 
 -- ---- in a map
 
-pub slot_below : (m : ExceptionMap) → IsMap m → (c : ℕ) → has c (coupons_in m.table.places) ≡ true → slot_of c < 2 ^ m.lg_k
-slot_below m is = of_all (λ c. slot_of c < 2 ^ m.lg_k) (coupons_in m.table.places) is.slots
+pub slot_below : (m : ExceptionMap) → IsMap m → (c : ℕ) → has c (coupons_in m.table.buckets) ≡ true → slot_of c < 2 ^ m.lg_k
+slot_below m is = of_all (λ c. slot_of c < 2 ^ m.lg_k) (coupons_in m.table.buckets) is.slots
 
 -- the value of an entry
-pub value_found : (m : ExceptionMap) → IsMap m → (c : ℕ) → has c (coupons_in m.table.places) ≡ true → value_in m (slot_of c) ≡ Some (value_of c)
-value_found m is c h = entry_found m.lg_k (coupons_in m.table.places) c (apart_slots m.table.lg_size m.table.places is.probed) (slot_below m is) h
+pub value_found : (m : ExceptionMap) → IsMap m → (c : ℕ) → has c (coupons_in m.table.buckets) ≡ true → value_in m (slot_of c) ≡ Some (value_of c)
+value_found m is c h = entry_found m.lg_k (coupons_in m.table.buckets) c (apart_slots m.table.lg_size m.table.buckets is.probed) (slot_below m is) h
 
 -- an absent slot has none
-pub value_absent : (m : ExceptionMap) → IsMap m → (s : ℕ) → IsAbsent slot_of m.table.places s → value_in m s ≡ None
-value_absent m is s none = entry_absent m.lg_k (coupons_in m.table.places) s (slot_below m is) (λ d h same.
-    let a : Stands m.table.places d = stands m.table.places d (contains-has (coupons_in m.table.places) d ∙ h) in
-    none a.place a.within a.full (ap slot_of a.is ∙ same))
+pub value_absent : (m : ExceptionMap) → IsMap m → (s : ℕ) → IsAbsent slot_of m.table.buckets s → value_in m s ≡ None
+value_absent m is s none = entry_absent m.lg_k (coupons_in m.table.buckets) s (slot_below m is) (λ d h same.
+    let a : Stands m.table.buckets d = stands m.table.buckets d (contains-has (coupons_in m.table.buckets) d ∙ h) in
+    none a.bucket a.within a.full (ap slot_of a.is ∙ same))
 
 -- and a slot that has none is absent
-pub absent_of_value : (m : ExceptionMap) → IsMap m → (s : ℕ) → value_in m s ≡ None → IsAbsent slot_of m.table.places s
+pub absent_of_value : (m : ExceptionMap) → IsMap m → (s : ℕ) → value_in m s ≡ None → IsAbsent slot_of m.table.buckets s
 absent_of_value m is s none p within full same =
-    let w : ℕ = get_or m.table.places p 0 in
-    let there : has w (coupons_in m.table.places) ≡ true = sym (contains-has (coupons_in m.table.places) w) ∙ found_at_place m.table.places p w within refl (omega (arith, full)) in
+    let w : ℕ = get_or m.table.buckets p 0 in
+    let there : has w (coupons_in m.table.buckets) ≡ true = sym (contains-has (coupons_in m.table.buckets) w) ∙ found_at_bucket m.table.buckets p w within refl (omega (arith, full)) in
     let both : Some (value_of w) ≡ None = sym (value_found m is w there) ∙ ap (value_in m) same ∙ none in
     cc
 
 pub differs : (a b : ℕ) → a ≢ b → eqb a b ≡ false
 differs a b h = elim (cases_Bool (eqb a b)) [ inl t ↦ absurd (h (eqb-true a b t)) | inr f ↦ f ]
 
--- where a search ends at an entry, and where it ends at an empty place or went through the table
-pub value_at_entry : (m : ExceptionMap) → IsMap m → (s p w : ℕ) → EndsAt slot_of m.table.lg_size m.table.places s p → get_or m.table.places p 0 ≡ w → (w ≡ 0 → ⊥) → value_in m s ≡ Some (value_of w)
+-- where a search ends at an entry, and where it ends at an empty bucket or went through the table
+pub value_at_entry : (m : ExceptionMap) → IsMap m → (s p w : ℕ) → EndsAt slot_of m.table.lg_size m.table.buckets s p → get_or m.table.buckets p 0 ≡ w → (w ≡ 0 → ⊥) → value_in m s ≡ Some (value_of w)
 value_at_entry m is s p w ends at full =
-    let there : has w (coupons_in m.table.places) ≡ true = sym (contains-has (coupons_in m.table.places) w) ∙ found_at_place m.table.places p w (omega (arith, ends.within, is.probed.size)) at (omega (arith, full)) in
+    let there : has w (coupons_in m.table.buckets) ≡ true = sym (contains-has (coupons_in m.table.buckets) w) ∙ found_at_bucket m.table.buckets p w (omega (arith, ends.within, is.probed.size)) at (omega (arith, full)) in
     ap (value_in m) (sym (ap slot_of (sym at) ∙ ends.same (λ z. full (sym at ∙ z)))) ∙ value_found m is w there
 
-pub value_at_empty : (m : ExceptionMap) → IsMap m → (s p : ℕ) → EndsAt slot_of m.table.lg_size m.table.places s p → get_or m.table.places p 0 ≡ 0 → value_in m s ≡ None
+pub value_at_empty : (m : ExceptionMap) → IsMap m → (s p : ℕ) → EndsAt slot_of m.table.lg_size m.table.buckets s p → get_or m.table.buckets p 0 ≡ 0 → value_in m s ≡ None
 value_at_empty m is s p ends empty =
-    value_absent m is s (absent_at_empty slot_of m.table.lg_size m.table.places s ends.first.index is.probed ends.first.passes (ap (λ q. get_or m.table.places q 0) ends.first.at ∙ empty))
+    value_absent m is s (absent_at_empty slot_of m.table.lg_size m.table.buckets s ends.first.index is.probed ends.first.passes (ap (λ q. get_or m.table.buckets q 0) ends.first.at ∙ empty))
 
-pub value_at_end : (m : ExceptionMap) → IsMap m → (s p w : ℕ) → EndsAt slot_of m.table.lg_size m.table.places s p → get_or m.table.places p 0 ≡ w →
+pub value_at_end : (m : ExceptionMap) → IsMap m → (s p w : ℕ) → EndsAt slot_of m.table.lg_size m.table.buckets s p → get_or m.table.buckets p 0 ≡ w →
     cond (eqb w 0) None (Some (value_of w)) ≡ value_in m s
 value_at_end m is s p w ends at = elim (cases_eq w 0) [
   | inl z ↦ cond-true (eqb w 0) None (Some (value_of w)) (eq-eqb w 0 z) ∙ sym (value_at_empty m is s p ends (at ∙ z))
@@ -120,38 +120,38 @@ value_at_end m is s p w ends at = elim (cases_eq w 0) [
 ]
 
 -- a place of a map has no value out of range
-pub small_value : (m : ExceptionMap) → IsMap m → (p w : ℕ) → p < length m.table.places → get_or m.table.places p 0 ≡ w → IfSome (cond (eqb w 0) None (Some (value_of w))) (λ v. (1 ≤ v) × (v ≤ 63))
+pub small_value : (m : ExceptionMap) → IsMap m → (p w : ℕ) → p < length m.table.buckets → get_or m.table.buckets p 0 ≡ w → IfSome (cond (eqb w 0) None (Some (value_of w))) (λ v. (1 ≤ v) × (v ≤ 63))
 small_value m is p w within at = elim (cases_eq w 0) [
   | inl z ↦ subst (λ o. IfSome o (λ v. (1 ≤ v) × (v ≤ 63))) (sym (cond-true (eqb w 0) None (Some (value_of w)) (eq-eqb w 0 z))) (let u : Unit {0} = tt in u)
   | inr full ↦
-      let there : has w (coupons_in m.table.places) ≡ true = sym (contains-has (coupons_in m.table.places) w) ∙ found_at_place m.table.places p w within at (omega (arith, full)) in
-      let pair : IsPair w = of_all IsPair (coupons_in m.table.places) is.table.valued w there in
+      let there : has w (coupons_in m.table.buckets) ≡ true = sym (contains-has (coupons_in m.table.buckets) w) ∙ found_at_bucket m.table.buckets p w within at (omega (arith, full)) in
+      let pair : IsPair w = of_all IsPair (coupons_in m.table.buckets) is.table.valued w there in
       subst (λ o. IfSome o (λ v. (1 ≤ v) × (v ≤ 63))) (sym (cond-false (eqb w 0) None (Some (value_of w)) (differs w 0 full))) (pair.valued, pair.small)
 ]
 
 -- whether a map has an entry, where the search for its slot ends
-pub has_at_end : (m : ExceptionMap) → IsMap m → (c p : ℕ) → 0 < c → EndsAt slot_of m.table.lg_size m.table.places (slot_of c) p → nat_eq (get_or m.table.places p 0) c ≡ contains (coupons_of m.table) c
-has_at_end m is c p some ends = elim (cases_eq (get_or m.table.places p 0) c) [
-  | inl e ↦ eq-eqb (get_or m.table.places p 0) c e ∙ sym (found_at_place m.table.places p c (omega (arith, ends.within, is.probed.size)) e some)
-  | inr other ↦ differs (get_or m.table.places p 0) c other ∙ sym (missing other (cases_Bool (contains (coupons_of m.table) c)))
+pub has_at_end : (m : ExceptionMap) → IsMap m → (c p : ℕ) → 0 < c → EndsAt slot_of m.table.lg_size m.table.buckets (slot_of c) p → nat_eq (get_or m.table.buckets p 0) c ≡ contains (coupons_of m.table) c
+has_at_end m is c p some ends = elim (cases_eq (get_or m.table.buckets p 0) c) [
+  | inl e ↦ eq-eqb (get_or m.table.buckets p 0) c e ∙ sym (found_at_bucket m.table.buckets p c (omega (arith, ends.within, is.probed.size)) e some)
+  | inr other ↦ differs (get_or m.table.buckets p 0) c other ∙ sym (missing other (cases_Bool (contains (coupons_of m.table) c)))
 ]
   where
-    missing : get_or m.table.places p 0 ≢ c → (contains (coupons_of m.table) c ≡ true) ⊎ (contains (coupons_of m.table) c ≡ false) → contains (coupons_of m.table) c ≡ false
+    missing : get_or m.table.buckets p 0 ≢ c → (contains (coupons_of m.table) c ≡ true) ⊎ (contains (coupons_of m.table) c ≡ false) → contains (coupons_of m.table) c ≡ false
     missing other (inr none) = none
     missing other (inl there) =
-        let a : Stands m.table.places c = stands m.table.places c there in
-        elim (cases_eq (get_or m.table.places p 0) 0) [
-          | inl z ↦ absurd (absent_at_empty slot_of m.table.lg_size m.table.places (slot_of c) ends.first.index is.probed ends.first.passes (ap (λ q. get_or m.table.places q 0) ends.first.at ∙ z) a.place a.within a.full (ap slot_of a.is))
+        let a : Stands m.table.buckets c = stands m.table.buckets c there in
+        elim (cases_eq (get_or m.table.buckets p 0) 0) [
+          | inl z ↦ absurd (absent_at_empty slot_of m.table.lg_size m.table.buckets (slot_of c) ends.first.index is.probed ends.first.passes (ap (λ q. get_or m.table.buckets q 0) ends.first.at ∙ z) a.bucket a.within a.full (ap slot_of a.is))
           | inr full ↦
-              let same : p ≡ a.place = keys_are_distinct slot_of m.table.lg_size m.table.places p a.place is.probed (omega (arith, ends.within, is.probed.size)) a.within full a.full (ends.same full ∙ sym (ap slot_of a.is)) in
-              absurd (other (ap (λ q. get_or m.table.places q 0) same ∙ a.is))
+              let same : p ≡ a.bucket = keys_are_distinct slot_of m.table.lg_size m.table.buckets p a.bucket is.probed (omega (arith, ends.within, is.probed.size)) a.within full a.full (ends.same full ∙ sym (ap slot_of a.is)) in
+              absurd (other (ap (λ q. get_or m.table.buckets q 0) same ∙ a.is))
         ]
 
-pub has_in_full : (m : ExceptionMap) → IsMap m → (c : ℕ) → 0 < c → Passes slot_of m.table.lg_size m.table.places (slot_of c) (2 ^ m.table.lg_size) → contains (coupons_of m.table) c ≡ false
-has_in_full m is c some passes = absent_fresh slot_of m.table.places c some (absent_from_full slot_of m.table.lg_size m.table.places (slot_of c) is.probed.size passes)
+pub has_in_full : (m : ExceptionMap) → IsMap m → (c : ℕ) → 0 < c → Passes slot_of m.table.lg_size m.table.buckets (slot_of c) (2 ^ m.table.lg_size) → contains (coupons_of m.table) c ≡ false
+has_in_full m is c some passes = absent_fresh slot_of m.table.buckets c some (absent_from_full slot_of m.table.lg_size m.table.buckets (slot_of c) is.probed.size passes)
 
-pub value_in_full : (m : ExceptionMap) → IsMap m → (s : ℕ) → Passes slot_of m.table.lg_size m.table.places s (2 ^ m.table.lg_size) → value_in m s ≡ None
-value_in_full m is s passes = value_absent m is s (absent_from_full slot_of m.table.lg_size m.table.places s is.probed.size passes)
+pub value_in_full : (m : ExceptionMap) → IsMap m → (s : ℕ) → Passes slot_of m.table.lg_size m.table.buckets s (2 ^ m.table.lg_size) → value_in m s ≡ None
+value_in_full m is s passes = value_absent m is s (absent_from_full slot_of m.table.lg_size m.table.buckets s is.probed.size passes)
 
 -- ---- sizes
 
@@ -195,13 +195,13 @@ least_size k n most few =
     })
 
 -- the table of a map has it
-pub map_size : (m : ExceptionMap) → IsMap m → IsLeastSize m.lg_k (length (coupons_in m.table.places)) m.table.lg_size
+pub map_size : (m : ExceptionMap) → IsMap m → IsLeastSize m.lg_k (length (coupons_in m.table.buckets)) m.table.lg_size
 map_size m is =
-    let few : length (coupons_in m.table.places) ≤ 2 ^ 21 = omega (arith, few_entries m is, pow_mono is.high) in
-    subst (IsLeastSize m.lg_k (length (coupons_in m.table.places))) (sym is.size) (least_size m.lg_k (length (coupons_in m.table.places)) is.high few)
+    let few : length (coupons_in m.table.buckets) ≤ 2 ^ 21 = omega (arith, few_entries m is, pow_mono is.high) in
+    subst (IsLeastSize m.lg_k (length (coupons_in m.table.buckets))) (sym is.size) (least_size m.lg_k (length (coupons_in m.table.buckets)) is.high few)
 
--- and an empty place
-pub room_in_map : (m : ExceptionMap) → IsMap m → length (coupons_in m.table.places) < 2 ^ m.table.lg_size
+-- and an empty bucket
+pub room_in_map : (m : ExceptionMap) → IsMap m → length (coupons_in m.table.buckets) < 2 ^ m.table.lg_size
 room_in_map m is = omega (arith, (map_size m is).room, pow_pos m.table.lg_size)
 
 -- it is far from the greatest table
@@ -210,7 +210,7 @@ small_table m is = elim (cases_lt m.table.lg_size 23) [
   | inl below ↦ omega (arith, below)
   | inr above ↦
       let start = start_bounds m.lg_k is.high in
-      let tight : 3 * 2 ^ 22 < 4 * length (coupons_in m.table.places) = (map_size m is).least 22 (omega (arith, start.1)) (omega (arith, above)) in
+      let tight : 3 * 2 ^ 22 < 4 * length (coupons_in m.table.buckets) = (map_size m is).least 22 (omega (arith, start.1)) (omega (arith, above)) in
       absurd (omega (arith, tight, few_entries m is, pow_mono is.high))
 ]
 
@@ -241,7 +241,7 @@ size_doubled k n q h most small tight =
 
 pub IsMap-empty : (k : ℕ) → 4 ≤ k → k ≤ 21 → IsMap (empty_map k)
 IsMap-empty k low high =
-    let none : coupons_in (empty_map k).table.places ≡ [] = coupons_in-replicate (2 ^ start_size k) in
+    let none : coupons_in (empty_map k).table.buckets ≡ [] = coupons_in-replicate (2 ^ start_size k) in
     let start = start_bounds k high in
     record {
       low = low;

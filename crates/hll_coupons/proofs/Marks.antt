@@ -4,18 +4,18 @@ use Rattle.std.proofs.Common.{◌≡◌, ◌≢◌, ℕ, ◌*◌, ◌^◌, ◌�
 use Rattle.std.proofs.lemmas.Bool.{cases_eq}
 use Rattle.std.proofs.lemmas.List.Elements.{All-weaker}
 use Rattle.hll_coupons.specs.AuxMap.{ExceptionMap, IsMap, MarksValues, entries_in, value_in}
-use Rattle.hll_coupons.specs.Words.{bit_of}
+use Rattle.hll_coupons.specs.Blocks.{bit_of}
 use Rattle.hll_coupons.proofs.Fillings.{one_more}
 use Rattle.hll_coupons.proofs.Pairs.{IsEntryOf, of_value}
 
 -- the bits of the entries so far are set, and no others
-pub record MarkedSoFar (m : ExceptionMap) (words : List ℕ) (ys : List (ℕ × ℕ)) : Type 0 where
-  pub room : 2 ^ m.lg_k ≤ 64 * length words
-  pub marked : All (λ p. bit_of words p.0 ≡ 1) ys
-  pub only : (s : ℕ) → bit_of words s ≢ 0 → value_in m s ≢ None
+pub record MarkedSoFar (m : ExceptionMap) (blocks : List ℕ) (ys : List (ℕ × ℕ)) : Type 0 where
+  pub room : 2 ^ m.lg_k ≤ 64 * length blocks
+  pub marked : All (λ p. bit_of blocks p.0 ≡ 1) ys
+  pub only : (s : ℕ) → bit_of blocks s ≢ 0 → value_in m s ≢ None
 
-pub marked_none : (m : ExceptionMap) (words : List ℕ) → 2 ^ m.lg_k ≤ 64 * length words → ((s : ℕ) → bit_of words s ≡ 0) → MarkedSoFar m words []
-marked_none m words room none = record { room = room; marked = λ i d l. absurd (omega (arith, l)); only = λ s set. absurd (set (none s)) }
+pub marked_none : (m : ExceptionMap) (blocks : List ℕ) → 2 ^ m.lg_k ≤ 64 * length blocks → ((s : ℕ) → bit_of blocks s ≡ 0) → MarkedSoFar m blocks []
+marked_none m blocks room none = record { room = room; marked = λ i d l. absurd (omega (arith, l)); only = λ s set. absurd (set (none s)) }
 
 pub marked_more : (m : ExceptionMap) (old new : List ℕ) (ys : List (ℕ × ℕ)) (s v : ℕ) → MarkedSoFar m old ys → IsEntryOf m (s, v) → length new ≡ length old → bit_of new s ≡ 1 →
     ((j : ℕ) → j ≢ s → bit_of new j ≡ bit_of old j) → MarkedSoFar m new (ys ++ (s, v) ∷ [])
@@ -33,16 +33,16 @@ marked_more m old new ys s v so entry size same others = record {
   ];
 }
 
-pub marked_whole : (m : ExceptionMap) (words : List ℕ) → IsMap m → MarkedSoFar m words (entries_in m) → MarksValues m words
-marked_whole m words is so = record {
+pub marked_whole : (m : ExceptionMap) (blocks : List ℕ) → IsMap m → MarkedSoFar m blocks (entries_in m) → MarksValues m blocks
+marked_whole m blocks is so = record {
   room = so.room;
   set = λ s within set. so.only s (λ z. omega (arith, set, z));
   clear = λ s within clear. of s clear (value_in m s) refl;
 }
   where
-    of : (s : ℕ) → bit_of words s ≢ 1 → (o : Option ℕ) → value_in m s ≡ o → o ≡ None
+    of : (s : ℕ) → bit_of blocks s ≢ 1 → (o : Option ℕ) → value_in m s ≡ o → o ≡ None
     of s clear None e = refl
-    of s clear (Some v) e = absurd (clear (of_value m is (λ p. bit_of words p.0 ≡ 1) so.marked s v e))
+    of s clear (Some v) e = absurd (clear (of_value m is (λ p. bit_of blocks p.0 ≡ 1) so.marked s v e))
 
 -- a slot more has a value
 pub marks_more : (m n : ExceptionMap) (old new : List ℕ) (slot value : ℕ) → MarksValues m old → n.lg_k ≡ m.lg_k → length new ≡ length old → bit_of new slot ≡ 1 →

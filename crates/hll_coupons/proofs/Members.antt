@@ -1,5 +1,5 @@
 -- SPDX-License-Identifier: Apache-2.0
--- The set of the coupons of a list or of places.
+-- The set of the coupons of a list or of buckets.
 use Rattle.std.proofs.lemmas.Bool.{and_parts}
 use Rattle.std.proofs.Math.Bool.{or-true}
 use Rattle.std.proofs.Common.{◌≡◌, ℕ, ◌+◌, ◌<◌, ◌≤◌, max, Bool, true, false, cond, ◌||◌, List, [], ◌∷◌, ◌++◌, nat_lt, nat_eq, refl, inl, inr, sym, ◌∙◌, ap, arith, rules}
@@ -29,18 +29,18 @@ len-between xs ys c fresh =
     ap len (set_of-between xs ys c) ∙ len-insert nat_cmp_total _ c
     ∙ ap (λ b. cond b (len (set_of (xs ++ ys))) (len (set_of (xs ++ ys)) + 1)) fresh
 
--- a search among the places finds a coupon just where it is held
-pub contains-coupons_in : (places : List ℕ) (q : ℕ) → 0 < q → list_any (λ y. nat_eq y q) places ≡ contains (set_of (coupons_in places)) q
-contains-coupons_in places q h =
-    sym (any-filter_same (λ y. nat_eq y q) (λ c. nat_lt 0 c) true (λ k e. full k e) places) ∙ sym (contains-from_list_nat (coupons_in places) q)
+-- a search among the buckets finds a coupon just where it is held
+pub contains-coupons_in : (buckets : List ℕ) (q : ℕ) → 0 < q → list_any (λ y. nat_eq y q) buckets ≡ contains (set_of (coupons_in buckets)) q
+contains-coupons_in buckets q h =
+    sym (any-filter_same (λ y. nat_eq y q) (λ c. nat_lt 0 c) true (λ k e. full k e) buckets) ∙ sym (contains-from_list_nat (coupons_in buckets) q)
   where
     full : (k : ℕ) → nat_eq k q ≡ true → nat_lt 0 k ≡ true
     full k e = grind (arith, nat_tests)
 
--- what stands for an empty place is never held
-pub contains-zero : (places : List ℕ) → contains (set_of (coupons_in places)) 0 ≡ false
-contains-zero places =
-    contains-from_list_nat (coupons_in places) 0 ∙ any-filter_same (λ y. nat_eq y 0) (λ c. nat_lt 0 c) false (λ k e. none k e) places
+-- what stands for an empty bucket is never held
+pub contains-zero : (buckets : List ℕ) → contains (set_of (coupons_in buckets)) 0 ≡ false
+contains-zero buckets =
+    contains-from_list_nat (coupons_in buckets) 0 ∙ any-filter_same (λ y. nat_eq y 0) (λ c. nat_lt 0 c) false (λ k e. none k e) buckets
   where
     none : (k : ℕ) → nat_eq k 0 ≡ true → nat_lt 0 k ≡ false
     none k e = grind (arith, nat_tests)

@@ -10,24 +10,24 @@ use Rattle.std.proofs.lemmas.Bool.{eqb-true, eq-eqb, ne_eqb, true≢false}
 use Rattle.std.proofs.lemmas.List.{append-nil}
 use Rattle.std.proofs.lemmas.List.Folds.{list_any-append}
 use Rattle.hll_coupons.specs.Ascending.{without_first, IsLeastFirst}
-use Rattle.hll_coupons.specs.Coupons.{coupon_bytes, words, IsAscending, WritesAscending}
+use Rattle.hll_coupons.specs.Coupons.{coupon_bytes, raw_coupons, IsAscending, WritesAscending}
 use Rattle.hll_coupons.specs.Pair.{set_of}
 use Rattle.hll_coupons.proofs.Payloads.{length-coupon_bytes}
 use Rattle.std.proofs.lemmas.Nat.{le_bytes_4}
 
-pub length-words : (n : ℕ) (b : List ℕ) → length (words n b) ≡ n
-length-words zero b = refl
-length-words (suc n) b = omega (arith, length-words n (drop 4 b))
+pub length-raw_coupons : (n : ℕ) (b : List ℕ) → length (raw_coupons n b) ≡ n
+length-raw_coupons zero b = refl
+length-raw_coupons (suc n) b = omega (arith, length-raw_coupons n (drop 4 b))
 
 -- ---- without the first
 
--- words without the first, where that is this one
-pub words_without : (n w : ℕ) (b : List ℕ) → words n b ≡ w ∷ drop 1 (words n b) → words (n - 1) (drop 4 b) ≡ without_first w (words n b)
-words_without zero w b e = absurd (cc)
-words_without (suc n) w b e =
+-- raw coupons without the first, where that is this one
+pub raw_coupons_without : (n w : ℕ) (b : List ℕ) → raw_coupons n b ≡ w ∷ drop 1 (raw_coupons n b) → raw_coupons (n - 1) (drop 4 b) ≡ without_first w (raw_coupons n b)
+raw_coupons_without zero w b e = absurd (cc)
+raw_coupons_without (suc n) w b e =
     let same : nat_eq (from_le_bytes w32 b) w ≡ true = eq-eqb (from_le_bytes w32 b) w (ap (λ xs. get_or xs 0 0) e) in
     let one : suc n - 1 ≡ n = omega arith in
-    ap (λ m. words m (drop 4 b)) one ∙ sym (ap (λ t. cond t (words n (drop 4 b)) (words (suc n) b)) same)
+    ap (λ m. raw_coupons m (drop 4 b)) one ∙ sym (ap (λ t. cond t (raw_coupons n (drop 4 b)) (raw_coupons (suc n) b)) same)
 
 pub without_other : (w : ℕ) (xs : List ℕ) → (xs ≡ w ∷ drop 1 xs → ⊥) → xs ≡ without_first w xs
 without_other w [] other = refl
@@ -37,10 +37,10 @@ without_other w (x ∷ xs) other = sym (ap (λ t. cond t xs (x ∷ xs)) (ne_eqb 
 
 -- one more number in front
 pub increasing_more : (a b : ℕ) (xs : List ℕ) → IsStrictlyIncreasing (a ∷ b ∷ xs) ↔ ((a < b) × IsStrictlyIncreasing (b ∷ xs))
-increasing_more a b xs = (λ up. (up 0 (omega arith), λ k within. behind up k within), λ parts k within. both parts k within)
+increasing_more a b xs = (λ up. (up 0 (omega arith), λ k within. after up k within), λ parts k within. both parts k within)
   where
-    behind : IsStrictlyIncreasing (a ∷ b ∷ xs) → IsStrictlyIncreasing (b ∷ xs)
-    behind up k within = let e : suc k + 1 ≡ suc (k + 1) = omega arith in subst (λ n. get_or (b ∷ xs) k 0 < get_or (a ∷ b ∷ xs) n 0) e (up (suc k) (omega (arith, within)))
+    after : IsStrictlyIncreasing (a ∷ b ∷ xs) → IsStrictlyIncreasing (b ∷ xs)
+    after up k within = let e : suc k + 1 ≡ suc (k + 1) = omega arith in subst (λ n. get_or (b ∷ xs) k 0 < get_or (a ∷ b ∷ xs) n 0) e (up (suc k) (omega (arith, within)))
 
     both : (a < b) × IsStrictlyIncreasing (b ∷ xs) → IsStrictlyIncreasing (a ∷ b ∷ xs)
     both parts zero within = parts.0
@@ -56,7 +56,7 @@ joined (x ∷ []) w ys front rest = (increasing_more x w ys).1 (((increasing_mor
 joined (x ∷ y ∷ xs) w ys front rest =
     let parts = (increasing_more x y (xs ++ w ∷ [])).0 front in (increasing_more x y (xs ++ w ∷ ys)).1 (parts.0, joined (y ∷ xs) w ys parts.1 rest)
 
--- the front up to a number, and what is behind the front
+-- the front up to a number, and what is after the front
 front_of : (xs : List ℕ) (w : ℕ) (ys : List ℕ) → IsStrictlyIncreasing (xs ++ w ∷ ys) → IsStrictlyIncreasing (xs ++ w ∷ [])
 front_of [] w ys up = one_ascends w
 front_of (x ∷ []) w ys up = (increasing_more x w []).1 (((increasing_more x w ys).0 up).0, one_ascends w)
@@ -67,11 +67,11 @@ rest_of [] w ys up = up
 rest_of (x ∷ []) w ys up = ((increasing_more x w ys).0 up).1
 rest_of (x ∷ y ∷ xs) w ys up = rest_of (y ∷ xs) w ys ((increasing_more x y (xs ++ w ∷ ys)).0 up).1
 
--- a number goes over from the front of one of two lists: the other one ascends behind it too
-ascends_behind : (xs : List ℕ) (w : ℕ) (ys : List ℕ) → IsStrictlyIncreasing (xs ++ w ∷ []) → ((y : ℕ) (more : List ℕ) → ys ≡ y ∷ more → w ≤ y) → IsStrictlyIncreasing (xs ++ ys)
+-- a number goes over from the front of one of two lists: the other one ascends after it too
+ascends_after : (xs : List ℕ) (w : ℕ) (ys : List ℕ) → IsStrictlyIncreasing (xs ++ w ∷ []) → ((y : ℕ) (more : List ℕ) → ys ≡ y ∷ more → w ≤ y) → IsStrictlyIncreasing (xs ++ ys)
     → IsStrictlyIncreasing ((xs ++ w ∷ []) ++ without_first w ys)
-ascends_behind xs w [] front least up = subst IsStrictlyIncreasing (sym (append-nil (xs ++ w ∷ []))) front
-ascends_behind xs w (y ∷ ys) front least up = of (nat_eq y w) refl
+ascends_after xs w [] front least up = subst IsStrictlyIncreasing (sym (append-nil (xs ++ w ∷ []))) front
+ascends_after xs w (y ∷ ys) front least up = of (nat_eq y w) refl
   where
     of : (t : Bool) → nat_eq y w ≡ t → IsStrictlyIncreasing ((xs ++ w ∷ []) ++ cond t ys (y ∷ ys))
     of true e = subst IsStrictlyIncreasing (sym (append_assoc xs (w ∷ []) ys)) (subst (λ z. IsStrictlyIncreasing (xs ++ z ∷ ys)) (eqb-true y w e) up)
@@ -136,8 +136,8 @@ module _ (xs ys taken left right : List ℕ) (rest : MergesRest xs ys taken left
         | inr r ↦ front_of taken w (without_first w right) (subst (λ z. IsStrictlyIncreasing (taken ++ z)) r rest.right_ascends)
       ] in
       record {
-        left_ascends = ascends_behind taken w left front least.least_of_left rest.left_ascends;
-        right_ascends = ascends_behind taken w right front least.least_of_right rest.right_ascends;
+        left_ascends = ascends_after taken w left front least.least_of_left rest.left_ascends;
+        right_ascends = ascends_after taken w right front least.least_of_right rest.right_ascends;
         members = λ q.
             ap (λ t. t || (has (without_first w left) q || has (without_first w right) q)) (list_any-append (λ y. nat_eq y q) taken (w ∷ []))
             ∙ moved (has taken q) (nat_eq w q) _ _ (has left q) (has right q) (with_first w q left) (with_first w q right) (some q)
@@ -194,19 +194,19 @@ module _ (xs ys bytes left right : List ℕ) (so : WritesRest xs ys bytes left r
 
 -- ---- bytes of coupons
 
--- the bytes that words were read from
-pub words_written_back : (n : ℕ) (b : List ℕ) → 4 * n ≤ length b → ((i : ℕ) → get_or b i 0 < 256) → take (4 * n) b ≡ coupon_bytes (words n b)
-words_written_back zero b there bytes = refl
-words_written_back (suc n) [] there bytes = absurd (omega (arith, there))
-words_written_back (suc n) (a ∷ []) there bytes = absurd (omega (arith, there))
-words_written_back (suc n) (a ∷ b ∷ []) there bytes = absurd (omega (arith, there))
-words_written_back (suc n) (a ∷ b ∷ c ∷ []) there bytes = absurd (omega (arith, there))
-words_written_back (suc n) (a ∷ b ∷ c ∷ d ∷ more) there bytes =
+-- the bytes that raw coupons were read from
+pub raw_coupons_written_back : (n : ℕ) (b : List ℕ) → 4 * n ≤ length b → ((i : ℕ) → get_or b i 0 < 256) → take (4 * n) b ≡ coupon_bytes (raw_coupons n b)
+raw_coupons_written_back zero b there bytes = refl
+raw_coupons_written_back (suc n) [] there bytes = absurd (omega (arith, there))
+raw_coupons_written_back (suc n) (a ∷ []) there bytes = absurd (omega (arith, there))
+raw_coupons_written_back (suc n) (a ∷ b ∷ []) there bytes = absurd (omega (arith, there))
+raw_coupons_written_back (suc n) (a ∷ b ∷ c ∷ []) there bytes = absurd (omega (arith, there))
+raw_coupons_written_back (suc n) (a ∷ b ∷ c ∷ d ∷ more) there bytes =
     let e : 4 * suc n ≡ suc (suc (suc (suc (4 * n)))) = omega arith in
     let first : to_le_bytes w32 (from_le_bytes w32 (a ∷ b ∷ c ∷ d ∷ more)) ≡ a ∷ b ∷ c ∷ d ∷ [] = le_bytes_4 (a ∷ b ∷ c ∷ d ∷ []) (from_le_bytes w32 (a ∷ b ∷ c ∷ d ∷ more)) refl small refl in
     ap (λ m. take m (a ∷ b ∷ c ∷ d ∷ more)) e
-    ∙ ap (λ z. a ∷ b ∷ c ∷ d ∷ z) (words_written_back n more (omega (arith, there)) (λ i. bytes (suc (suc (suc (suc i))))))
-    ∙ ap (λ z. z ++ coupon_bytes (words n more)) (sym first)
+    ∙ ap (λ z. a ∷ b ∷ c ∷ d ∷ z) (raw_coupons_written_back n more (omega (arith, there)) (λ i. bytes (suc (suc (suc (suc i))))))
+    ∙ ap (λ z. z ++ coupon_bytes (raw_coupons n more)) (sym first)
   where
     small : (i : ℕ) → get_or (a ∷ b ∷ c ∷ d ∷ []) i 0 < 256
     small zero = bytes 0

@@ -18,7 +18,7 @@ pub record IsEntryOf (t : ExceptionMap) (p : ℕ × ℕ) : Type 0 where
 
 pub entries_are : (t : ExceptionMap) → IsMap t → All (IsEntryOf t) (entries_in t)
 entries_are t is i d l =
-    let cs : List ℕ = coupons_in t.table.places in
+    let cs : List ℕ = coupons_in t.table.buckets in
     let within : i < length cs = omega (arith, l, length-map cs entry_of) in
     let c : ℕ = get_or cs i 0 in
     let there : has c cs ≡ true = has-at cs i within in
@@ -33,8 +33,8 @@ entries_are t is i d l =
 -- what is said of all entries is said of each value
 pub of_value : (t : ExceptionMap) → IsMap t → (P : ℕ × ℕ → Type 0) → All P (entries_in t) → (s v : ℕ) → value_in t s ≡ Some v → P (s, v)
 of_value t is P all s v e =
-    let cs : List ℕ = coupons_in t.table.places in
+    let cs : List ℕ = coupons_in t.table.buckets in
     let entry : IsEntry t s v = entry_of_value t is s v e in
-    let i = at_index cs entry.word entry.there in
+    let i = at_index cs entry.raw_coupon entry.there in
     subst P (get_or-map entry_of cs i.0 0 (0, 0) i.1 ∙ ap entry_of i.2 ∙ (λ j. (entry.slot j, entry.value j)))
     (all i.0 (0, 0) (omega (arith, i.1, length-map cs entry_of)))

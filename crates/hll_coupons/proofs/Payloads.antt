@@ -6,19 +6,19 @@ use Rattle.std.proofs.lemmas.Nat.{from_le_bytes-to_le_bytes_4}
 use Rattle.std.proofs.lemmas.List.Elements.{All-head, All-tail}
 use Rattle.std.proofs.lemmas.List.{get_or_append_left, get_or-drop, drop-append-le, take_at, length-append, length-drop}
 use Rattle.hll_base.specs.declared.error.Reason.{Reason}
-use Rattle.hll_coupons.specs.Coupons.{words, coupons_at, coupon_bytes, AreCoupons}
+use Rattle.hll_coupons.specs.Coupons.{raw_coupons, coupons_at, coupon_bytes, AreCoupons}
 use Rattle.hll_coupons.specs.Table.{coupons_in}
-use Rattle.hll_coupons.specs.Payload.{ListShape, HasListCount, list_places, list_coupons, IsListPayload, ListFault, SetShape, set_count, set_places, set_coupons, HasSetCount, IsSetPayload, SetFault}
+use Rattle.hll_coupons.specs.Payload.{ListShape, HasListCount, list_buckets, list_coupons, IsListPayload, ListFault, SetShape, set_count, set_buckets, set_coupons, HasSetCount, IsSetPayload, SetFault}
 use Rattle.hll_coupons.specs.Payload as payload
 
--- words in front of more
-words-append : (n : ℕ) (l t : List ℕ) → 4 * n ≤ length l → words n (l ++ t) ≡ words n l
-words-append zero l t h = refl
-words-append (suc n) [] t h = absurd (omega arith)
-words-append (suc n) (a ∷ []) t h = absurd (omega arith)
-words-append (suc n) (a ∷ b ∷ []) t h = absurd (omega arith)
-words-append (suc n) (a ∷ b ∷ c ∷ []) t h = absurd (omega arith)
-words-append (suc n) (a ∷ b ∷ c ∷ d ∷ l) t h = ap (λ ws. from_le_bytes w32 (a ∷ b ∷ c ∷ d ∷ l) ∷ ws) (words-append n l t (omega arith))
+-- raw coupons in front of more
+raw_coupons-append : (n : ℕ) (l t : List ℕ) → 4 * n ≤ length l → raw_coupons n (l ++ t) ≡ raw_coupons n l
+raw_coupons-append zero l t h = refl
+raw_coupons-append (suc n) [] t h = absurd (omega arith)
+raw_coupons-append (suc n) (a ∷ []) t h = absurd (omega arith)
+raw_coupons-append (suc n) (a ∷ b ∷ []) t h = absurd (omega arith)
+raw_coupons-append (suc n) (a ∷ b ∷ c ∷ []) t h = absurd (omega arith)
+raw_coupons-append (suc n) (a ∷ b ∷ c ∷ d ∷ l) t h = ap (λ ws. from_le_bytes w32 (a ∷ b ∷ c ∷ d ∷ l) ∷ ws) (raw_coupons-append n l t (omega arith))
 
 -- ---- a front of bytes
 module _ (a t b : List ℕ) (e : a ++ t ≡ b) where
@@ -38,7 +38,7 @@ module _ (a t b : List ℕ) (e : a ++ t ≡ b) where
 
   pub front_coupons : (compact : Bool) (n k : ℕ) → k + 4 * n ≤ length a → coupons_at compact n (drop k a) ≡ coupons_at compact n (drop k b)
   front_coupons compact n k h =
-      let ws : words n (drop k a) ≡ words n (drop k b) = sym (ap (words n) (sym (front_rest k (omega arith))) ∙ words-append n (drop k a) t (omega (arith, length-drop k a))) in
+      let ws : raw_coupons n (drop k a) ≡ raw_coupons n (drop k b) = sym (ap (raw_coupons n) (sym (front_rest k (omega arith))) ∙ raw_coupons-append n (drop k a) t (omega (arith, length-drop k a))) in
       ap (λ ws. cond compact ws (coupons_in ws)) ws
 
   pub front_take : (n : ℕ) → n ≡ length a → a ≡ take n b
@@ -64,34 +64,34 @@ one_set h a b s t p q e =
 pub list_fault_excludes : (h : ListShape) (a t b : List ℕ) (r : Reason) → a ++ t ≡ b → IsListPayload h a → ListFault h b r → ⊥
 list_fault_excludes h a t b r e p (payload.ListFault.count n) = n p.count
 list_fault_excludes h a t b r e p (payload.ListFault.short c n) = omega (arith, p.size, front_le a t b e)
-list_fault_excludes h a t b r e p (payload.ListFault.coupon c l n) = n (subst AreCoupons (front_coupons a t b e h.compact (list_places h) 0 (omega (arith, p.size))) p.are_coupons)
-list_fault_excludes h a t b r e p (payload.ListFault.number c l n) = n (ap length (sym (front_coupons a t b e h.compact (list_places h) 0 (omega (arith, p.size)))) ∙ p.number)
+list_fault_excludes h a t b r e p (payload.ListFault.coupon c l n) = n (subst AreCoupons (front_coupons a t b e h.compact (list_buckets h) 0 (omega (arith, p.size))) p.are_coupons)
+list_fault_excludes h a t b r e p (payload.ListFault.number c l n) = n (ap length (sym (front_coupons a t b e h.compact (list_buckets h) 0 (omega (arith, p.size)))) ∙ p.number)
 
 -- the count of a set is read from the front
 front_set_count : (h : SetShape) (a t b : List ℕ) → a ++ t ≡ b → IsSetPayload h a → set_count a ≡ set_count b
 front_set_count h a t b e p = front_number a t b e 0 (omega (arith, p.count.whole))
 
-pub front_set_places : (h : SetShape) (a t b : List ℕ) → a ++ t ≡ b → IsSetPayload h a → set_places h a ≡ set_places h b
-front_set_places h a t b e p = ap (λ n. cond h.compact n (2 ^ h.lg_size)) (front_set_count h a t b e p)
+pub front_set_buckets : (h : SetShape) (a t b : List ℕ) → a ++ t ≡ b → IsSetPayload h a → set_buckets h a ≡ set_buckets h b
+front_set_buckets h a t b e p = ap (λ n. cond h.compact n (2 ^ h.lg_size)) (front_set_count h a t b e p)
 
 pub front_set_coupons : (h : SetShape) (a t b : List ℕ) → a ++ t ≡ b → IsSetPayload h a → set_coupons h a ≡ set_coupons h b
 front_set_coupons h a t b e p =
-    front_coupons a t b e h.compact (set_places h a) 4 (omega (arith, p.size))
-    ∙ ap (λ n. coupons_at h.compact n (drop 4 b)) (front_set_places h a t b e p)
+    front_coupons a t b e h.compact (set_buckets h a) 4 (omega (arith, p.size))
+    ∙ ap (λ n. coupons_at h.compact n (drop 4 b)) (front_set_buckets h a t b e p)
 
 pub set_fault_excludes : (h : SetShape) (a t b : List ℕ) (r : Reason) → a ++ t ≡ b → IsSetPayload h a → SetFault h b r → ⊥
 set_fault_excludes h a t b r e p (payload.SetFault.no_count n) = omega (arith, p.count.whole, front_le a t b e)
 set_fault_excludes h a t b r e p (payload.SetFault.count w n) = omega (arith, p.count.low, front_set_count h a t b e p)
-set_fault_excludes h a t b r e p (payload.SetFault.short c n) = omega (arith, p.size, front_set_places h a t b e p, front_le a t b e)
+set_fault_excludes h a t b r e p (payload.SetFault.short c n) = omega (arith, p.size, front_set_buckets h a t b e p, front_le a t b e)
 set_fault_excludes h a t b r e p (payload.SetFault.coupon c l n) = n (subst AreCoupons (front_set_coupons h a t b e p) p.are_coupons)
 set_fault_excludes h a t b r e p (payload.SetFault.number c l n) = n (ap length (sym (front_set_coupons h a t b e p)) ∙ p.number ∙ front_set_count h a t b e p)
 
 -- ---- coupons that were written
 
-pub words-written : (order rest : List ℕ) → All (λ c. c < 2 ^ 32) order → words (length order) (coupon_bytes order ++ rest) ≡ order
-words-written [] rest h = refl
-words-written (c ∷ order) rest h =
-    λ i. from_le_bytes-to_le_bytes_4 c (All-head (λ c. c < 2 ^ 32) c order h) i ∷ words-written order rest (All-tail (λ c. c < 2 ^ 32) c order h) i
+pub raw_coupons-written : (order rest : List ℕ) → All (λ c. c < 2 ^ 32) order → raw_coupons (length order) (coupon_bytes order ++ rest) ≡ order
+raw_coupons-written [] rest h = refl
+raw_coupons-written (c ∷ order) rest h =
+    λ i. from_le_bytes-to_le_bytes_4 c (All-head (λ c. c < 2 ^ 32) c order h) i ∷ raw_coupons-written order rest (All-tail (λ c. c < 2 ^ 32) c order h) i
 
 pub length-coupon_bytes : (order : List ℕ) → length (coupon_bytes order) ≡ 4 * length order
 length-coupon_bytes [] = refl

@@ -1,5 +1,5 @@
 -- SPDX-License-Identifier: Apache-2.0
--- A path with an odd stride meets each place of its table once.
+-- A path with an odd stride meets each bucket of its table once.
 use Rattle.std.proofs.Common.{◌≡◌, ℕ, ◌+◌, ◌-◌, ◌*◌, ◌/◌, ◌%◌, ◌^◌, ◌<◌, ◌≤◌, ◌⊎◌, zero, suc, get_or, sym, ap, ◌∙◌, arith, inl, inr}
 use Rattle.std.proofs.lemmas.Bool.{cases_lt}
 use Rattle.std.proofs.lemmas.Nat.{pow_pos}
@@ -7,7 +7,7 @@ use Rattle.std.proofs.lemmas.List.FromFn.{get_or-map-range_with_len}
 use Rattle.std.proofs.Math.Nat.{mod-lt, mod-eq_of_lt, mod-one, mod-eq-sub-mod, add-mul-div_left, add-mul-mod_self_left, pow-suc}
 use Rattle.std.proofs.Math.Pow.{mod-pow-add, mod-mod-pow}
 use Rattle.hll_coupons.specs.Probe.{path}
-use Rattle.hll_coupons.specs.Laws.{MeetsEachPlaceOnce}
+use Rattle.hll_coupons.specs.Laws.{MeetsEachBucketOnce}
 
 -- a modulo 2^(n + 1), by its upper bit
 upper : (a n : ℕ) → a % 2 ^ suc n ≡ (a / 2 ^ n % 2) * 2 ^ n + a % 2 ^ n
@@ -38,31 +38,31 @@ twice : (n : ℕ) → 2 ^ suc n ≡ 2 * 2 ^ n
 twice n = omega (arith, pow-suc 2 n)
 
 -- a number below 2^(n + 1) is its lower part, or that and 2^n
-parts : (n place : ℕ) → place < 2 ^ suc n → (place ≡ place % 2 ^ n) ⊎ (place ≡ 2 ^ n + place % 2 ^ n)
-parts n place h = elim (cases_lt place (2 ^ n)) [
+parts : (n bucket : ℕ) → bucket < 2 ^ suc n → (bucket ≡ bucket % 2 ^ n) ⊎ (bucket ≡ 2 ^ n + bucket % 2 ^ n)
+parts n bucket h = elim (cases_lt bucket (2 ^ n)) [
   | inl below ↦ inl (sym (mod-eq_of_lt below))
   | inr above ↦
-      let rest : place - 2 ^ n < 2 ^ n = omega (arith, twice n) in
+      let rest : bucket - 2 ^ n < 2 ^ n = omega (arith, twice n) in
       inr (omega (arith, mod-eq-sub-mod above, mod-eq_of_lt rest))
 ]
 
 further : (start i d n : ℕ) → start + (i + 2 ^ n) * d ≡ start + i * d + 2 ^ n * d
 further start i d n = omega arith
 
-pub meets : (start d n place : ℕ) → d % 2 ≡ 1 → place < 2 ^ n → (i : ℕ) × (i < 2 ^ n) × ((start + i * d) % 2 ^ n ≡ place)
-meets start d zero place odd h = (0, omega arith, mod-one (start + 0 * d) ∙ omega arith)
-meets start d (suc n) place odd h =
-    let before = meets start d n (place % 2 ^ n) odd (mod-lt place (pow_pos n)) in
+pub meets : (start d n bucket : ℕ) → d % 2 ≡ 1 → bucket < 2 ^ n → (i : ℕ) × (i < 2 ^ n) × ((start + i * d) % 2 ^ n ≡ bucket)
+meets start d zero bucket odd h = (0, omega arith, mod-one (start + 0 * d) ∙ omega arith)
+meets start d (suc n) bucket odd h =
+    let before = meets start d n (bucket % 2 ^ n) odd (mod-lt bucket (pow_pos n)) in
     let i : ℕ = before.0 in
     let a : ℕ = start + i * d in
     let here : i < 2 ^ suc n = omega (arith, before.1, twice n) in
     let there : i + 2 ^ n < 2 ^ suc n = omega (arith, before.1, twice n) in
     elim (turned a d n odd) [
-      | inl t ↦ elim (parts n place h) [
+      | inl t ↦ elim (parts n bucket h) [
         | inl p ↦ (i, here, t.0 ∙ before.2 ∙ sym p)
         | inr p ↦ (i + 2 ^ n, there, ap (λ m. m % 2 ^ suc n) (further start i d n) ∙ t.1 ∙ ap (λ m. 2 ^ n + m) before.2 ∙ sym p)
       ]
-      | inr t ↦ elim (parts n place h) [
+      | inr t ↦ elim (parts n bucket h) [
         | inl p ↦ (i + 2 ^ n, there, ap (λ m. m % 2 ^ suc n) (further start i d n) ∙ t.1 ∙ before.2 ∙ sym p)
         | inr p ↦ (i, here, t.0 ∙ ap (λ m. 2 ^ n + m) before.2 ∙ sym p)
       ]
@@ -107,9 +107,9 @@ only start d (suc n) i j odd hi hj e =
 pub path_at : (start d n i : ℕ) → i < 2 ^ n → get_or (path start d n) i 0 ≡ (start + i * d) % 2 ^ n
 path_at start d n i h = get_or-map-range_with_len (λ i. (start + i * d) % 2 ^ n) 0 (2 ^ n) i i 0 h (omega arith)
 
-pub meets_each_place_once : MeetsEachPlaceOnce
-meets_each_place_once start d n place odd h =
-    let found = meets start d n place odd h in (
+pub meets_each_bucket_once : MeetsEachBucketOnce
+meets_each_bucket_once start d n bucket odd h =
+    let found = meets start d n bucket odd h in (
       found.0,
       found.1,
       path_at start d n found.0 found.1 ∙ found.2,

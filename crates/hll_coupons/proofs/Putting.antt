@@ -11,104 +11,104 @@ use Rattle.hll_coupons.specs.Table.{coupons_in}
 use Rattle.hll_coupons.specs.Probe.{stride_of, Passes, EndsAt, IsAbsent, Puts, present, placed}
 use Rattle.hll_coupons.proofs.Listed.{has, contains-has, has-map}
 use Rattle.hll_coupons.proofs.Members.{contains-coupons_in, contains-zero, set_of-between, insert-member}
-use Rattle.hll_coupons.proofs.Places.{coupons_in-full, Between, between}
+use Rattle.hll_coupons.proofs.Buckets.{coupons_in-full, Between, between}
 use Rattle.hll_coupons.proofs.Probing.{meets}
 use Rattle.hll_coupons.proofs.Reading.{len-set_of-le}
-use Rattle.hll_coupons.proofs.Searching.{odd-stride_of, place_of-path, place_of_below}
+use Rattle.hll_coupons.proofs.Searching.{odd-stride_of, bucket_of-path, bucket_of_below}
 
--- ---- what places hold
+-- ---- what buckets hold
 
--- a coupon with which no place is filled is not among them
-absent_word : (places : List ℕ) (q : ℕ) → 0 < q → IsAbsent (λ c. c) places q → list_any (λ y. nat_eq y q) places ≡ false
-absent_word [] q full none = refl
-absent_word (p ∷ ps) q full none = first (nat_eq p q) refl (absent_word ps q full (λ i h f. none (suc i) (omega arith) f))
+-- a coupon with which no bucket is filled is not among them
+absent_raw_coupon : (buckets : List ℕ) (q : ℕ) → 0 < q → IsAbsent (λ c. c) buckets q → list_any (λ y. nat_eq y q) buckets ≡ false
+absent_raw_coupon [] q full none = refl
+absent_raw_coupon (p ∷ ps) q full none = first (nat_eq p q) refl (absent_raw_coupon ps q full (λ i h f. none (suc i) (omega arith) f))
   where
     first : (b : Bool) → nat_eq p q ≡ b → list_any (λ y. nat_eq y q) ps ≡ false → (b || list_any (λ y. nat_eq y q) ps) ≡ false
     first true e rest = absurd (none 0 (omega arith) (λ z. omega (arith, full, z, eqb-true p q e)) (eqb-true p q e))
     first false e rest = rest
 
 -- nor is one whose key is absent
-pub absent_fresh : (key_of : ℕ → ℕ) (places : List ℕ) (c : ℕ) → 0 < c → IsAbsent key_of places (key_of c) → contains (set_of (coupons_in places)) c ≡ false
-absent_fresh key_of places c some none =
-    sym (contains-coupons_in places c some) ∙ absent_word places c some (λ p h full is. none p h full (ap key_of is))
+pub absent_fresh : (key_of : ℕ → ℕ) (buckets : List ℕ) (c : ℕ) → 0 < c → IsAbsent key_of buckets (key_of c) → contains (set_of (coupons_in buckets)) c ≡ false
+absent_fresh key_of buckets c some none =
+    sym (contains-coupons_in buckets c some) ∙ absent_raw_coupon buckets c some (λ p h full is. none p h full (ap key_of is))
 
--- one with which a place is filled is
-pub found_at_place : (places : List ℕ) (p q : ℕ) → p < length places → get_or places p 0 ≡ q → 0 < q → contains (set_of (coupons_in places)) q ≡ true
-found_at_place places p q within is full =
-    sym (contains-coupons_in places q full) ∙ list_any_at (λ y. nat_eq y q) places p 0 within (eq-eqb (get_or places p 0) q is)
+-- one with which a bucket is filled is
+pub found_at_bucket : (buckets : List ℕ) (p q : ℕ) → p < length buckets → get_or buckets p 0 ≡ q → 0 < q → contains (set_of (coupons_in buckets)) q ≡ true
+found_at_bucket buckets p q within is full =
+    sym (contains-coupons_in buckets q full) ∙ list_any_at (λ y. nat_eq y q) buckets p 0 within (eq-eqb (get_or buckets p 0) q is)
 
--- and each of them stands at a place
-pub record Stands (places : List ℕ) (q : ℕ) : Type 0 where
-  pub place : ℕ
-  pub within : place < length places
-  pub full : get_or places place 0 ≡ 0 → ⊥
-  pub is : get_or places place 0 ≡ q
+-- and each of them stands at a bucket
+pub record Stands (buckets : List ℕ) (q : ℕ) : Type 0 where
+  pub bucket : ℕ
+  pub within : bucket < length buckets
+  pub full : get_or buckets bucket 0 ≡ 0 → ⊥
+  pub is : get_or buckets bucket 0 ≡ q
 
-stands_word : (places : List ℕ) (q : ℕ) → 0 < q → list_any (λ y. nat_eq y q) places ≡ true → Stands places q
-stands_word [] q some h = absurd (true≢false (sym h))
-stands_word (p ∷ ps) q some h = decide (nat_eq p q) refl h (stands_word ps q some)
+stands_raw_coupon : (buckets : List ℕ) (q : ℕ) → 0 < q → list_any (λ y. nat_eq y q) buckets ≡ true → Stands buckets q
+stands_raw_coupon [] q some h = absurd (true≢false (sym h))
+stands_raw_coupon (p ∷ ps) q some h = decide (nat_eq p q) refl h (stands_raw_coupon ps q some)
   where
     decide : (b : Bool) → nat_eq p q ≡ b → (b || list_any (λ y. nat_eq y q) ps) ≡ true → (list_any (λ y. nat_eq y q) ps ≡ true → Stands ps q) → Stands (p ∷ ps) q
-    decide true e u later = let same : p ≡ q = eqb-true p q e in record { place = 0; within = omega arith; full = λ z. omega (arith, some, z, same); is = same }
-    decide false e u later = let s : Stands ps q = later u in record { place = suc s.place; within = omega (arith, s.within); full = s.full; is = s.is }
+    decide true e u later = let same : p ≡ q = eqb-true p q e in record { bucket = 0; within = omega arith; full = λ z. omega (arith, some, z, same); is = same }
+    decide false e u later = let s : Stands ps q = later u in record { bucket = suc s.bucket; within = omega (arith, s.within); full = s.full; is = s.is }
 
-pub stands : (places : List ℕ) (q : ℕ) → contains (set_of (coupons_in places)) q ≡ true → Stands places q
-stands places q h = elim (cases_lt 0 q) [
-  | inl some ↦ stands_word places q some (contains-coupons_in places q some ∙ h)
-  | inr none ↦ let z : q ≡ 0 = omega arith in absurd (true≢false (sym h ∙ ap (contains (set_of (coupons_in places))) z ∙ contains-zero places))
+pub stands : (buckets : List ℕ) (q : ℕ) → contains (set_of (coupons_in buckets)) q ≡ true → Stands buckets q
+stands buckets q h = elim (cases_lt 0 q) [
+  | inl some ↦ stands_raw_coupon buckets q some (contains-coupons_in buckets q some ∙ h)
+  | inr none ↦ let z : q ≡ 0 = omega arith in absurd (true≢false (sym h ∙ ap (contains (set_of (coupons_in buckets))) z ∙ contains-zero buckets))
 ]
 
-all_filled : (places : List ℕ) → ((p : ℕ) → p < length places → get_or places p 0 ≡ 0 → ⊥) → coupons_in places ≡ places
+all_filled : (buckets : List ℕ) → ((p : ℕ) → p < length buckets → get_or buckets p 0 ≡ 0 → ⊥) → coupons_in buckets ≡ buckets
 all_filled [] h = refl
 all_filled (p ∷ ps) h =
     let some : p ≡ 0 → ⊥ = h 0 (omega arith) in
     coupons_in-full p ps (omega (arith, some)) ∙ ap (λ xs. p ∷ xs) (all_filled ps (λ i l. h (suc i) (omega arith)))
 
 -- a table is full where a search went through the whole of it
-pub full_of_passes : (key_of : ℕ → ℕ) (lg : ℕ) (places : List ℕ) (key : ℕ) → length places ≡ 2 ^ lg → Passes key_of lg places key (2 ^ lg) →
-    length (coupons_in places) ≡ 2 ^ lg
-full_of_passes key_of lg places key size before = ap length (all_filled places filled) ∙ size
+pub full_of_passes : (key_of : ℕ → ℕ) (lg : ℕ) (buckets : List ℕ) (key : ℕ) → length buckets ≡ 2 ^ lg → Passes key_of lg buckets key (2 ^ lg) →
+    length (coupons_in buckets) ≡ 2 ^ lg
+full_of_passes key_of lg buckets key size before = ap length (all_filled buckets filled) ∙ size
   where
-    filled : (p : ℕ) → p < length places → get_or places p 0 ≡ 0 → ⊥
+    filled : (p : ℕ) → p < length buckets → get_or buckets p 0 ≡ 0 → ⊥
     filled p within z =
         let m = meets key (stride_of lg key) lg p (odd-stride_of lg key) (omega (arith, within, size)) in
-        (before m.0 m.1).0 (ap (λ q. get_or places q 0) (place_of-path lg key m.0 m.1 ∙ m.2) ∙ z)
+        (before m.0 m.1).0 (ap (λ q. get_or buckets q 0) (bucket_of-path lg key m.0 m.1 ∙ m.2) ∙ z)
 
 -- ---- one entry
 
 -- where an entry of an absent key goes
-pub record PutAt (places : List ℕ) (entry : ℕ) (new : List ℕ) : Type 0 where
-  pub place : ℕ
-  pub within : place < length places
-  pub empty : get_or places place 0 ≡ 0
-  pub is : new ≡ set places place entry
+pub record PutAt (buckets : List ℕ) (entry : ℕ) (new : List ℕ) : Type 0 where
+  pub bucket : ℕ
+  pub within : bucket < length buckets
+  pub empty : get_or buckets bucket 0 ≡ 0
+  pub is : new ≡ set buckets bucket entry
 
-pub put_at : (key_of : ℕ → ℕ) (lg : ℕ) (places : List ℕ) (c : ℕ) (new : List ℕ) → length places ≡ 2 ^ lg → IsAbsent key_of places (key_of c) →
-    Puts key_of lg places c new → PutAt places c new
-put_at key_of lg places c new size none (present p first full same is) =
-    absurd (none p (omega (arith, place_of_below lg (key_of c) first.index first.within, first.at, size)) full same)
-put_at key_of lg places c new size none (placed p first empty is) = record {
-  place = p;
-  within = omega (arith, place_of_below lg (key_of c) first.index first.within, first.at, size);
+pub put_at : (key_of : ℕ → ℕ) (lg : ℕ) (buckets : List ℕ) (c : ℕ) (new : List ℕ) → length buckets ≡ 2 ^ lg → IsAbsent key_of buckets (key_of c) →
+    Puts key_of lg buckets c new → PutAt buckets c new
+put_at key_of lg buckets c new size none (present p first full same is) =
+    absurd (none p (omega (arith, bucket_of_below lg (key_of c) first.index first.within, first.at, size)) full same)
+put_at key_of lg buckets c new size none (placed p first empty is) = record {
+  bucket = p;
+  within = omega (arith, bucket_of_below lg (key_of c) first.index first.within, first.at, size);
   empty = empty;
   is = is;
 }
 
 -- one more is held
-pub length-put : (places : List ℕ) (c : ℕ) (new : List ℕ) → 0 < c → PutAt places c new → length (coupons_in new) ≡ length (coupons_in places) + 1
-length-put places c new some put =
-    let b : Between places put.place c = between places put.place c put.within put.empty some in
+pub length-put : (buckets : List ℕ) (c : ℕ) (new : List ℕ) → 0 < c → PutAt buckets c new → length (coupons_in new) ≡ length (coupons_in buckets) + 1
+length-put buckets c new some put =
+    let b : Between buckets put.bucket c = between buckets put.bucket c put.within put.empty some in
     ap (λ xs. length (coupons_in xs)) put.is ∙ ap length b.new ∙ omega (arith, length-append b.before (c ∷ b.after), length-append b.before b.after)
     ∙ ap (λ xs. length xs + 1) (sym b.old)
 
 -- the set has it too
-pub members-put : (places : List ℕ) (c : ℕ) (new : List ℕ) → 0 < c → PutAt places c new → set_of (coupons_in new) ≡ insert (set_of (coupons_in places)) c
-members-put places c new some put =
-    let b : Between places put.place c = between places put.place c put.within put.empty some in
+pub members-put : (buckets : List ℕ) (c : ℕ) (new : List ℕ) → 0 < c → PutAt buckets c new → set_of (coupons_in new) ≡ insert (set_of (coupons_in buckets)) c
+members-put buckets c new some put =
+    let b : Between buckets put.bucket c = between buckets put.bucket c put.within put.empty some in
     ap (λ xs. set_of (coupons_in xs)) put.is ∙ ap set_of b.new ∙ set_of-between b.before b.after c ∙ ap (λ xs. insert (set_of xs) c) (sym b.old)
 
--- a place that is emptied again
-pub undone : (places : List ℕ) (p entry : ℕ) → get_or places p 0 ≡ 0 → set (set places p entry) p 0 ≡ places
+-- a bucket that is emptied again
+pub undone : (buckets : List ℕ) (p entry : ℕ) → get_or buckets p 0 ≡ 0 → set (set buckets p entry) p 0 ≡ buckets
 undone [] p entry z = refl
 undone (x ∷ xs) zero entry z = ap (λ y. y ∷ xs) (sym z)
 undone (x ∷ xs) (suc p) entry z = ap (λ ys. x ∷ ys) (undone xs p entry z)
@@ -129,10 +129,10 @@ fresh_next f ys zs c distinct = elim (cases_Bool (contains (set_of (map f ys)) (
 ]
 
 -- and so absent from a table of those before
-pub absent_next : (f : ℕ → ℕ) (places ys : List ℕ) (c : ℕ) → set_of (coupons_in places) ≡ set_of ys → contains (set_of (map f ys)) (f c) ≡ false → IsAbsent f places (f c)
-absent_next f places ys c members new p within full same =
-    let w : ℕ = get_or places p 0 in
-    let there : has w ys ≡ true = sym (contains-has ys w) ∙ ap (λ S. contains S w) (sym members) ∙ found_at_place places p w within refl (omega (arith, full)) in
+pub absent_next : (f : ℕ → ℕ) (buckets ys : List ℕ) (c : ℕ) → set_of (coupons_in buckets) ≡ set_of ys → contains (set_of (map f ys)) (f c) ≡ false → IsAbsent f buckets (f c)
+absent_next f buckets ys c members new p within full same =
+    let w : ℕ = get_or buckets p 0 in
+    let there : has w ys ≡ true = sym (contains-has ys w) ∙ ap (λ S. contains S w) (sym members) ∙ found_at_bucket buckets p w within refl (omega (arith, full)) in
     true≢false (sym (has-map f ys w there) ∙ ap (λ q. has q (map f ys)) same ∙ sym (contains-has (map f ys) (f c)) ∙ new)
 
 -- what is said of all is said of the one between two parts
@@ -145,21 +145,21 @@ last_of_all {X} P all ys zs c e h = subst P (seam ys) (subst (All P) e h (length
 
 -- ---- what a search in a table says
 
--- a search for an absent key ends at an empty place
-pub empty_end : (key_of : ℕ → ℕ) (lg : ℕ) (places : List ℕ) (key p : ℕ) → length places ≡ 2 ^ lg → IsAbsent key_of places key → EndsAt key_of lg places key p → get_or places p 0 ≡ 0
-empty_end key_of lg places key p size none ends = elim (cases_eq (get_or places p 0) 0) [
+-- a search for an absent key ends at an empty bucket
+pub empty_end : (key_of : ℕ → ℕ) (lg : ℕ) (buckets : List ℕ) (key p : ℕ) → length buckets ≡ 2 ^ lg → IsAbsent key_of buckets key → EndsAt key_of lg buckets key p → get_or buckets p 0 ≡ 0
+empty_end key_of lg buckets key p size none ends = elim (cases_eq (get_or buckets p 0) 0) [
   | inl z ↦ z
   | inr full ↦ absurd (none p (omega (arith, ends.within, size)) full (ends.same full))
 ]
 
 -- an entry that was read
-pub read_at : (ps qs : List ℕ) (place entry : ℕ) → ps ≡ qs → place < length qs → entry ≡ get_or ps place entry → get_or qs place 0 ≡ entry
-read_at ps qs place entry e within is = get_or_default qs place 0 entry within ∙ ap (λ xs. get_or xs place entry) (sym e) ∙ sym is
+pub read_at : (ps qs : List ℕ) (bucket entry : ℕ) → ps ≡ qs → bucket < length qs → entry ≡ get_or ps bucket entry → get_or qs bucket 0 ≡ entry
+read_at ps qs bucket entry e within is = get_or_default qs bucket 0 entry within ∙ ap (λ xs. get_or xs bucket entry) (sym e) ∙ sym is
 
-pub ends_as : (key_of : ℕ → ℕ) (lg n : ℕ) (ps qs : List ℕ) (key k place : ℕ) → lg ≡ n → ps ≡ qs → key ≡ k →
-    EndsAt key_of lg ps key place → EndsAt key_of n qs k place
-ends_as key_of lg n ps qs key k place l p e h =
-    subst (λ n. EndsAt key_of n qs k place) l (subst (λ xs. EndsAt key_of lg xs k place) p (subst (λ k. EndsAt key_of lg ps k place) e h))
+pub ends_as : (key_of : ℕ → ℕ) (lg n : ℕ) (ps qs : List ℕ) (key k bucket : ℕ) → lg ≡ n → ps ≡ qs → key ≡ k →
+    EndsAt key_of lg ps key bucket → EndsAt key_of n qs k bucket
+ends_as key_of lg n ps qs key k bucket l p e h =
+    subst (λ n. EndsAt key_of n qs k bucket) l (subst (λ xs. EndsAt key_of lg xs k bucket) p (subst (λ k. EndsAt key_of lg ps k bucket) e h))
 
 pub passes_as : (key_of : ℕ → ℕ) (lg n : ℕ) (ps qs : List ℕ) (key k : ℕ) → lg ≡ n → ps ≡ qs → key ≡ k →
     Passes key_of lg ps key (2 ^ lg) → Passes key_of n qs k (2 ^ n)

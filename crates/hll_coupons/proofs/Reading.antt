@@ -1,5 +1,5 @@
 -- SPDX-License-Identifier: Apache-2.0
--- Lemmas on reading the places of a list.
+-- Lemmas on reading the buckets of a list.
 use Rattle.std.proofs.Common.{◌≡◌, ◌≢◌, ℕ, zero, suc, ◌+◌, ◌-◌, ◌*◌, ◌^◌, ◌<◌, ◌≤◌, Bool, true, false, ◌||◌, cond, nat_eq, List, [], ◌∷◌, ◌++◌, length, drop, take, get_or, All, refl, sym, ◌∙◌, ap, subst, arith}
 use Rattle.std.specs.Int.{w32, from_le_bytes}
 use Rattle.std.specs.Cmp.{nat_cmp_total}
@@ -11,25 +11,25 @@ use Rattle.std.specs.List.{list_any}
 use Rattle.std.specs.Ordering.{nat_cmp}
 use Rattle.std.proofs.lemmas.List.Elements.{All-append}
 use Rattle.hll_coupons.specs.Pair.{set_of, value_of}
-use Rattle.hll_coupons.specs.Coupons.{words, coupons_at, AreCoupons}
-use Rattle.hll_coupons.specs.Payload.{ListShape, HasListCount, list_places, list_coupons, IsListPayload}
+use Rattle.hll_coupons.specs.Coupons.{raw_coupons, coupons_at, AreCoupons}
+use Rattle.hll_coupons.specs.Payload.{ListShape, HasListCount, list_buckets, list_coupons, IsListPayload}
 use Rattle.hll_coupons.specs.Table.{coupons_in}
 use Rattle.hll_coupons.specs.Payload.{list_table}
 use Rattle.hll_coupons.proofs.Payloads.{front_coupons}
-use Rattle.hll_coupons.proofs.Places.{coupons_in-front, coupons_in-full, coupons_in-empty}
+use Rattle.hll_coupons.proofs.Buckets.{coupons_in-front, coupons_in-full, coupons_in-empty}
 use Rattle.hll_coupons.proofs.Members.{set_of-between, insert-member, len-between}
 
--- ---- one place more
+-- ---- one bucket more
 
 pub next-full : (m : ℕ) (b : List ℕ) → from_le_bytes w32 b ≢ 0 → coupons_at false (suc m) b ≡ from_le_bytes w32 b ∷ coupons_at false m (drop 4 b)
-next-full m b h = coupons_in-full (from_le_bytes w32 b) (words m (drop 4 b)) (positive (from_le_bytes w32 b) h)
+next-full m b h = coupons_in-full (from_le_bytes w32 b) (raw_coupons m (drop 4 b)) (positive (from_le_bytes w32 b) h)
   where
     positive : (w : ℕ) → w ≢ 0 → 0 < w
     positive zero h = absurd (h refl)
     positive (suc n) h = omega arith
 
 pub next-empty : (m : ℕ) (b : List ℕ) → from_le_bytes w32 b ≡ 0 → coupons_at false (suc m) b ≡ coupons_at false m (drop 4 b)
-next-empty m b h = coupons_in-empty (from_le_bytes w32 b) (words m (drop 4 b)) h
+next-empty m b h = coupons_in-empty (from_le_bytes w32 b) (raw_coupons m (drop 4 b)) h
 
 pub next : (compact : Bool) (m : ℕ) (b : List ℕ) → (from_le_bytes w32 b ≡ 0 → compact ≡ true) → coupons_at compact (suc m) b ≡ from_le_bytes w32 b ∷ coupons_at compact m (drop 4 b)
 next true m b h = refl
@@ -57,7 +57,7 @@ no_value xs rest c none are =
     seam [] = refl
     seam (y ∷ ys) = seam ys
 
--- a word that stands before is not distinct
+-- a raw coupon that stands before is not distinct
 pub not_distinct : (xs rest : List ℕ) (c : ℕ) → contains (set_of xs) c ≡ true → len (set_of (xs ++ c ∷ rest)) ≡ length (xs ++ c ∷ rest) → ⊥
 not_distinct xs rest c there distinct =
     let more : contains (set_of (xs ++ rest)) c ≡ true = contains-front xs rest c there in
@@ -73,7 +73,7 @@ not_distinct xs rest c there distinct =
 pub twice : (xs rest : List ℕ) (c : ℕ) → contains (set_of xs) c ≡ true → AreCoupons (xs ++ c ∷ rest) → ⊥
 twice xs rest c there are = not_distinct xs rest c there are.distinct
 
--- a new coupon behind others
+-- a new coupon after others
 pub AreCoupons-push : (xs : List ℕ) (c : ℕ) → AreCoupons xs → 1 ≤ value_of c → contains (set_of xs) c ≡ false → AreCoupons (xs ++ c ∷ [])
 AreCoupons-push xs c are valued new = record {
   valued = All-append (λ c. 1 ≤ value_of c) xs (c ∷ []) are.valued (one c valued);
@@ -89,44 +89,44 @@ AreCoupons-push xs c are valued new = record {
 pub AreCoupons-nil : AreCoupons []
 AreCoupons-nil = record { valued = λ i d l. absurd (omega arith); distinct = len-empty nat_cmp }
 
--- the coupons of all places are those that are held, this one, and the rest
-pub all_places : (compact : Bool) (n i w : ℕ) (b drop4 all order : List ℕ) → i < n → all ≡ order ++ coupons_at compact (n - i) b → w ≡ from_le_bytes w32 b → drop4 ≡ drop 4 b
+-- the coupons of all buckets are those that are held, this one, and the rest
+pub all_buckets : (compact : Bool) (n i w : ℕ) (b drop4 all order : List ℕ) → i < n → all ≡ order ++ coupons_at compact (n - i) b → w ≡ from_le_bytes w32 b → drop4 ≡ drop 4 b
     → (w ≡ 0 → compact ≡ true) → all ≡ order ++ w ∷ coupons_at compact (n - (i + 1)) drop4
-all_places compact n i w b drop4 all order lt is word rest filled =
+all_buckets compact n i w b drop4 all order lt is raw_coupon rest filled =
     let m : ℕ = n - (i + 1) in
     let count : n - i ≡ suc m = omega arith in
-    is ∙ ap (λ k. order ++ coupons_at compact k b) count ∙ ap (λ xs. order ++ xs) (next compact m b (λ z. filled (word ∙ z)))
-    ∙ (λ j. order ++ sym word j ∷ coupons_at compact m (sym rest j))
+    is ∙ ap (λ k. order ++ coupons_at compact k b) count ∙ ap (λ xs. order ++ xs) (next compact m b (λ z. filled (raw_coupon ∙ z)))
+    ∙ (λ j. order ++ sym raw_coupon j ∷ coupons_at compact m (sym rest j))
 
--- an empty place is passed over
+-- an empty bucket is passed over
 pub passed_over : (n i w : ℕ) (b drop4 all order : List ℕ) → i < n → all ≡ order ++ coupons_at false (n - i) b → w ≡ from_le_bytes w32 b → drop4 ≡ drop 4 b → w ≡ 0
     → all ≡ order ++ coupons_at false (n - (i + 1)) drop4
-passed_over n i w b drop4 all order lt is word rest zero' =
+passed_over n i w b drop4 all order lt is raw_coupon rest zero' =
     let m : ℕ = n - (i + 1) in
     let count : n - i ≡ suc m = omega arith in
-    is ∙ ap (λ k. order ++ coupons_at false k b) count ∙ ap (λ xs. order ++ xs) (next-empty m b (sym word ∙ zero'))
+    is ∙ ap (λ k. order ++ coupons_at false k b) count ∙ ap (λ xs. order ++ xs) (next-empty m b (sym raw_coupon ∙ zero'))
     ∙ ap (λ d. order ++ coupons_at false m d) (sym rest)
 
 -- ---- a list
 
--- no more places than there are
-pub list_places-le : (h : ListShape) → HasListCount h → list_places h ≤ 2 ^ h.lg_size
-list_places-le h few = of h.empty h.compact
+-- no more buckets than there are
+pub list_buckets-le : (h : ListShape) → HasListCount h → list_buckets h ≤ 2 ^ h.lg_size
+list_buckets-le h few = of h.empty h.compact
   where
     of : (e c : Bool) → cond e 0 (cond c h.count (2 ^ h.lg_size)) ≤ 2 ^ h.lg_size
     of true c = omega arith
     of false true = few.low
     of false false = omega arith
 
--- the coupons are read from the bytes of the places alone
-pub list_coupons-front : (h : ListShape) (b : List ℕ) → 4 * list_places h ≤ length b → list_coupons h (take (4 * list_places h) b) ≡ list_coupons h b
+-- the coupons are read from the bytes of the buckets alone
+pub list_coupons-front : (h : ListShape) (b : List ℕ) → 4 * list_buckets h ≤ length b → list_coupons h (take (4 * list_buckets h) b) ≡ list_coupons h b
 list_coupons-front h b there =
-    front_coupons (take (4 * list_places h) b) (drop (4 * list_places h) b) b (take-append-drop (4 * list_places h) b) h.compact (list_places h) 0 (omega (arith, length-take (4 * list_places h) b))
+    front_coupons (take (4 * list_buckets h) b) (drop (4 * list_buckets h) b) b (take-append-drop (4 * list_buckets h) b) h.compact (list_buckets h) 0 (omega (arith, length-take (4 * list_buckets h) b))
 
-pub is_list_payload : (h : ListShape) (b : List ℕ) → HasListCount h → 4 * list_places h ≤ length b → AreCoupons (list_coupons h b) → length (list_coupons h b) ≡ h.count → IsListPayload h (take (4 * list_places h) b)
+pub is_list_payload : (h : ListShape) (b : List ℕ) → HasListCount h → 4 * list_buckets h ≤ length b → AreCoupons (list_coupons h b) → length (list_coupons h b) ≡ h.count → IsListPayload h (take (4 * list_buckets h) b)
 is_list_payload h b few there are number = record {
   count = few;
-  size = omega (arith, length-take (4 * list_places h) b);
+  size = omega (arith, length-take (4 * list_buckets h) b);
   are_coupons = subst AreCoupons (sym (list_coupons-front h b there)) are;
   number = ap length (list_coupons-front h b there) ∙ number;
 }
@@ -141,5 +141,5 @@ coupons_in-coupons (x ∷ xs) v = coupons_in-full x xs (positive x (v 0 0 (omega
     positive (suc n) h = omega arith
 
 -- the table that is read holds the coupons in their order
-pub coupons_in-list_table : (h : ListShape) (b : List ℕ) → AreCoupons (list_coupons h b) → coupons_in (list_table h b).places ≡ list_coupons h b
+pub coupons_in-list_table : (h : ListShape) (b : List ℕ) → AreCoupons (list_coupons h b) → coupons_in (list_table h b).buckets ≡ list_coupons h b
 coupons_in-list_table h b are = coupons_in-front (list_coupons h b) (2 ^ h.lg_size - length (list_coupons h b)) ∙ coupons_in-coupons (list_coupons h b) are.valued

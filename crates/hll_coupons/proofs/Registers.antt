@@ -11,13 +11,13 @@ use Rattle.std.proofs.lemmas.Nat.{mod-mul-add, div-mul-add, pow_below, pow_pos, 
 use Rattle.std.proofs.Math.Nat.{mod-eq_of_lt, zero-add}
 use Rattle.std.proofs.Math.Pow.{mod-mod-pow}
 use Rattle.hll_coupons.specs.Pair.{Pairs, set_of, slot_of, value_of, pair}
-use Rattle.hll_coupons.specs.Fold.{fold_to, greatest, value_at, pairs, words_from}
-use Rattle.hll_coupons.proofs.Greatest.{bounded, reached, same_word, itself, greatest-set_of}
+use Rattle.hll_coupons.specs.Fold.{fold_to, greatest, value_at, pairs, raw_coupons_from}
+use Rattle.hll_coupons.proofs.Greatest.{bounded, reached, same_raw_coupon, itself, greatest-set_of}
 use Rattle.hll_coupons.proofs.Folds.{length-fold_to, get_or-fold_to, is_fold_to}
 
 -- ---- the pairs of registers
 
--- a word of the list stands for a register that is not 0
+-- a raw coupon of the list stands for a register that is not 0
 pub record StandsFor (R : List ℕ) (s q i : ℕ) : Type 0 where
   pub within : i < length R
   pub positive : 0 < get_or R i 0
@@ -26,33 +26,33 @@ pub record StandsFor (R : List ℕ) (s q i : ℕ) : Type 0 where
 further : (R : List ℕ) (r s q i : ℕ) → StandsFor R (s + 1) q i → StandsFor (r ∷ R) s q (suc i)
 further R r s q i h = record { within = omega (arith, h.within); positive = h.positive; is = h.is ∙ ap (λ t. pair t (get_or R i 0)) (omega arith) }
 
-pub in_words : (R : List ℕ) (s q : ℕ) → list_any (eq_by_cmp nat_cmp q) (words_from s R) ≡ true → (i : ℕ) × StandsFor R s q i
-in_words [] s q e = cc
-in_words (r ∷ R) s q e =
+pub in_raw_coupons : (R : List ℕ) (s q : ℕ) → list_any (eq_by_cmp nat_cmp q) (raw_coupons_from s R) ≡ true → (i : ℕ) × StandsFor R s q i
+in_raw_coupons [] s q e = cc
+in_raw_coupons (r ∷ R) s q e =
     let on : (i : ℕ) × StandsFor R (s + 1) q i → (i : ℕ) × StandsFor (r ∷ R) s q i = λ h. (suc h.0, further R r s q h.0 h.1) in
-    elim (eqb r 0) as (λ b. eqb r 0 ≡ b → list_any (eq_by_cmp nat_cmp q) (cond b (words_from (s + 1) R) (pair s r ∷ words_from (s + 1) R)) ≡ true → (i : ℕ) × StandsFor (r ∷ R) s q i) [
-      | true ↦ λ z e. on (in_words R (s + 1) q e)
+    elim (eqb r 0) as (λ b. eqb r 0 ≡ b → list_any (eq_by_cmp nat_cmp q) (cond b (raw_coupons_from (s + 1) R) (pair s r ∷ raw_coupons_from (s + 1) R)) ≡ true → (i : ℕ) × StandsFor (r ∷ R) s q i) [
+      | true ↦ λ z e. on (in_raw_coupons R (s + 1) q e)
       | false ↦ λ z e. elim (or_cases (eq_by_cmp nat_cmp q (pair s r)) _ e) [
-        | inl h ↦ (0, let nz : r ≡ 0 → ⊥ = eqb-false r 0 z in record { within = omega arith; positive = omega arith; is = same_word q (pair s r) h ∙ ap (λ t. pair t r) (omega arith) })
-        | inr h ↦ on (in_words R (s + 1) q h)
+        | inl h ↦ (0, let nz : r ≡ 0 → ⊥ = eqb-false r 0 z in record { within = omega arith; positive = omega arith; is = same_raw_coupon q (pair s r) h ∙ ap (λ t. pair t r) (omega arith) })
+        | inr h ↦ on (in_raw_coupons R (s + 1) q h)
       ]
     ] refl e
 
-pub words_have : (R : List ℕ) (s q i : ℕ) → StandsFor R s q i → list_any (eq_by_cmp nat_cmp q) (words_from s R) ≡ true
-words_have [] s q i h = absurd (omega (arith, h.within))
-words_have (r ∷ R) s q zero h =
+pub raw_coupons_have : (R : List ℕ) (s q i : ℕ) → StandsFor R s q i → list_any (eq_by_cmp nat_cmp q) (raw_coupons_from s R) ≡ true
+raw_coupons_have [] s q i h = absurd (omega (arith, h.within))
+raw_coupons_have (r ∷ R) s q zero h =
     let nz : eqb r 0 ≡ false = elim (cases_Bool (eqb r 0)) [ inl t ↦ absurd (omega (arith, h.positive, eqb-true r 0 t)) | inr f ↦ f ] in
     ap (list_any (eq_by_cmp nat_cmp q)) (cond-false (eqb r 0) _ _ nz)
     ∙ or_left _ _ (itself q (pair s r) (h.is ∙ ap (λ t. pair t r) (omega arith)))
-words_have (r ∷ R) s q (suc i) h =
-    let rest : list_any (eq_by_cmp nat_cmp q) (words_from (s + 1) R) ≡ true = words_have R (s + 1) q i (record { within = omega (arith, h.within); positive = h.positive; is = h.is ∙ ap (λ t. pair t (get_or R i 0)) (omega arith) }) in
-    elim (eqb r 0) as (λ b. list_any (eq_by_cmp nat_cmp q) (cond b (words_from (s + 1) R) (pair s r ∷ words_from (s + 1) R)) ≡ true) [ true ↦ rest | false ↦ or_right _ _ rest ]
+raw_coupons_have (r ∷ R) s q (suc i) h =
+    let rest : list_any (eq_by_cmp nat_cmp q) (raw_coupons_from (s + 1) R) ≡ true = raw_coupons_have R (s + 1) q i (record { within = omega (arith, h.within); positive = h.positive; is = h.is ∙ ap (λ t. pair t (get_or R i 0)) (omega arith) }) in
+    elim (eqb r 0) as (λ b. list_any (eq_by_cmp nat_cmp q) (cond b (raw_coupons_from (s + 1) R) (pair s r ∷ raw_coupons_from (s + 1) R)) ≡ true) [ true ↦ rest | false ↦ or_right _ _ rest ]
 
 pub pairs_only : (R : List ℕ) (q : ℕ) → contains (pairs R) q ≡ true → (i : ℕ) × StandsFor R 0 q i
-pairs_only R q e = in_words R 0 q (sym (contains-from_list nat_cmp_total (words_from 0 R) q) ∙ e)
+pairs_only R q e = in_raw_coupons R 0 q (sym (contains-from_list nat_cmp_total (raw_coupons_from 0 R) q) ∙ e)
 
 pub pairs_have : (R : List ℕ) (q i : ℕ) → StandsFor R 0 q i → contains (pairs R) q ≡ true
-pairs_have R q i h = contains-from_list nat_cmp_total (words_from 0 R) q ∙ words_have R 0 q i h
+pairs_have R q i h = contains-from_list nat_cmp_total (raw_coupons_from 0 R) q ∙ raw_coupons_have R 0 q i h
 
 -- ---- a pair's parts
 

@@ -1,5 +1,5 @@
 -- SPDX-License-Identifier: Apache-2.0
--- A table in which the coupon of a filled place is another one.
+-- A table in which the coupon of a filled bucket is another one.
 use Rattle.std.proofs.Common.{◌≡◌, ◌≢◌, ℕ, zero, suc, ◌+◌, ◌^◌, ◌<◌, ◌≤◌, true, false, cond, List, [], ◌∷◌, ◌++◌, length, get_or, set, refl, sym, subst, ap, ◌∙◌, arith, inl, inr}
 use Rattle.std.specs.Cmp.{nat_cmp_total}
 use Rattle.std.specs.FinSet.{contains, insert, len, len-insert}
@@ -9,8 +9,8 @@ use Rattle.hll_coupons.specs.Pair.{Pairs, IsPair, set_of}
 use Rattle.hll_coupons.specs.Table.{Table, IsTable, coupons_in, coupons_of}
 use Rattle.hll_coupons.proofs.Listed.{contains-has}
 use Rattle.hll_coupons.proofs.Members.{set_of-between}
-use Rattle.hll_coupons.proofs.Places.{Between, between}
-use Rattle.hll_coupons.proofs.Putting.{Stands, stands, found_at_place}
+use Rattle.hll_coupons.proofs.Buckets.{Between, between}
+use Rattle.hll_coupons.proofs.Putting.{Stands, stands, found_at_bucket}
 use Rattle.hll_coupons.proofs.Reading.{len-set_of-le}
 use Rattle.hll_coupons.proofs.Maps.{of_all, for_all}
 use Rattle.hll_coupons.proofs.TableLemmas.{IsTable-put}
@@ -20,46 +20,46 @@ set-set_same [] i a b = refl
 set-set_same (x ∷ xs) zero a b = refl
 set-set_same (x ∷ xs) (suc i) a b = ap (λ ys. x ∷ ys) (set-set_same xs i a b)
 
-module _ (t : Table) (p : ℕ) (table : IsTable t) (inside : p < 2 ^ t.lg_size) (full : get_or t.places p 0 ≢ 0) where
+module _ (t : Table) (p : ℕ) (table : IsTable t) (inside : p < 2 ^ t.lg_size) (full : get_or t.buckets p 0 ≢ 0) where
   abbrev w : ℕ
-  w = get_or t.places p 0
+  w = get_or t.buckets p 0
 
   -- the table without the coupon of the place
   abbrev emptied : Table
-  emptied = record { lg_size = t.lg_size; places = set t.places p 0 }
+  emptied = record { lg_size = t.lg_size; buckets = set t.buckets p 0 }
 
-  within : p < length t.places
+  within : p < length t.buckets
   within = omega (arith, inside, table.size)
 
-  empty : get_or emptied.places p 0 ≡ 0
-  empty = get_or-set_same t.places p 0 0 within
+  empty : get_or emptied.buckets p 0 ≡ 0
+  empty = get_or-set_same t.buckets p 0 0 within
 
-  back : set emptied.places p w ≡ t.places
-  back = set-set_same t.places p 0 w ∙ set-get_or t.places p 0
+  back : set emptied.buckets p w ≡ t.buckets
+  back = set-set_same t.buckets p 0 w ∙ set-get_or t.buckets p 0
 
-  parts : Between emptied.places p w
-  parts = between emptied.places p w (omega (arith, within, length-set t.places p 0)) empty (omega (arith, full))
+  parts : Between emptied.buckets p w
+  parts = between emptied.buckets p w (omega (arith, within, length-set t.buckets p 0)) empty (omega (arith, full))
 
   -- what it holds stands at another place of the table
-  kept : (c : ℕ) → contains (coupons_of emptied) c ≡ true → (q : ℕ) × (q < length t.places) × (q ≢ p) × (get_or t.places q 0 ≡ c) × (c ≢ 0)
+  kept : (c : ℕ) → contains (coupons_of emptied) c ≡ true → (q : ℕ) × (q < length t.buckets) × (q ≢ p) × (get_or t.buckets q 0 ≡ c) × (c ≢ 0)
   kept c h =
-      let s : Stands emptied.places c = stands emptied.places c h in
-      let other : s.place ≢ p = λ e. s.full (ap (λ q. get_or emptied.places q 0) e ∙ empty) in (
-        s.place,
-        omega (arith, s.within, length-set t.places p 0),
+      let s : Stands emptied.buckets c = stands emptied.buckets c h in
+      let other : s.bucket ≢ p = λ e. s.full (ap (λ q. get_or emptied.buckets q 0) e ∙ empty) in (
+        s.bucket,
+        omega (arith, s.within, length-set t.buckets p 0),
         other,
-        sym (get_or-set_other t.places p s.place 0 0 other) ∙ s.is,
+        sym (get_or-set_other t.buckets p s.bucket 0 0 other) ∙ s.is,
         λ z. s.full (s.is ∙ z),
       )
 
-  whole : coupons_in t.places ≡ parts.before ++ w ∷ parts.after
+  whole : coupons_in t.buckets ≡ parts.before ++ w ∷ parts.after
   whole = ap coupons_in (sym back) ∙ parts.new
 
-  distinct : len (coupons_of emptied) ≡ length (coupons_in emptied.places)
+  distinct : len (coupons_of emptied) ≡ length (coupons_in emptied.buckets)
   distinct =
       let few : len (set_of (parts.before ++ parts.after)) ≤ length (parts.before ++ parts.after) = len-set_of-le (parts.before ++ parts.after) in
-      let all : len (set_of (coupons_in t.places)) ≡ length (parts.before ++ w ∷ parts.after) = table.distinct ∙ ap length whole in
-      let one : len (set_of (coupons_in t.places)) ≤ len (set_of (parts.before ++ parts.after)) + 1 = subst (λ S. len S ≤ len (set_of (parts.before ++ parts.after)) + 1)
+      let all : len (set_of (coupons_in t.buckets)) ≡ length (parts.before ++ w ∷ parts.after) = table.distinct ∙ ap length whole in
+      let one : len (set_of (coupons_in t.buckets)) ≤ len (set_of (parts.before ++ parts.after)) + 1 = subst (λ S. len S ≤ len (set_of (parts.before ++ parts.after)) + 1)
       (sym (ap set_of whole ∙ set_of-between parts.before parts.after w)) (len-insert-le (set_of (parts.before ++ parts.after)) w) in
       let same : len (set_of (parts.before ++ parts.after)) ≡ length (parts.before ++ parts.after) =
       omega (arith, few, all, one, length-append parts.before (w ∷ parts.after), length-append parts.before parts.after) in
@@ -71,24 +71,24 @@ module _ (t : Table) (p : ℕ) (table : IsTable t) (inside : p < 2 ^ t.lg_size) 
   IsTable-emptied : IsTable emptied
   IsTable-emptied = record {
     small = table.small;
-    size = length-set t.places p 0 ∙ table.size;
+    size = length-set t.buckets p 0 ∙ table.size;
     distinct = distinct;
-    valued = for_all IsPair (coupons_in emptied.places) (λ c h.
-        let k = kept c (contains-has (coupons_in emptied.places) c ∙ h) in
-        of_all IsPair (coupons_in t.places) table.valued c
-        (sym (contains-has (coupons_in t.places) c) ∙ found_at_place t.places k.0 c k.1 k.3 (omega (arith, k.4))));
+    valued = for_all IsPair (coupons_in emptied.buckets) (λ c h.
+        let k = kept c (contains-has (coupons_in emptied.buckets) c ∙ h) in
+        of_all IsPair (coupons_in t.buckets) table.valued c
+        (sym (contains-has (coupons_in t.buckets) c) ∙ found_at_bucket t.buckets k.0 c k.1 k.3 (omega (arith, k.4))));
   }
 
   -- another coupon in its place
-  pub IsTable-replace : (c : ℕ) → IsPair c → 0 < c → ((q : ℕ) → q < length t.places → q ≢ p → get_or t.places q 0 ≢ c) →
-      IsTable (record { lg_size = t.lg_size; places = set t.places p c }) × (length (coupons_in (set t.places p c)) ≡ length (coupons_in t.places))
+  pub IsTable-replace : (c : ℕ) → IsPair c → 0 < c → ((q : ℕ) → q < length t.buckets → q ≢ p → get_or t.buckets q 0 ≢ c) →
+      IsTable (record { lg_size = t.lg_size; buckets = set t.buckets p c }) × (length (coupons_in (set t.buckets p c)) ≡ length (coupons_in t.buckets))
   IsTable-replace c pair some others =
       let fresh : contains (coupons_of emptied) c ≡ false = elim (cases_Bool (contains (coupons_of emptied) c)) [
         | inl there ↦ let k = kept c there in absurd (others k.0 k.1 k.2 k.3)
         | inr none ↦ none
       ] in
       let put = IsTable-put emptied p c IsTable-emptied inside empty pair fresh in
-      let same : set emptied.places p c ≡ set t.places p c = set-set_same t.places p 0 c in (
-        subst (λ places. IsTable (record { lg_size = t.lg_size; places = places })) same put.0,
+      let same : set emptied.buckets p c ≡ set t.buckets p c = set-set_same t.buckets p 0 c in (
+        subst (λ buckets. IsTable (record { lg_size = t.lg_size; buckets = buckets })) same put.0,
         ap (λ xs. length (coupons_in xs)) (sym same) ∙ put.1 ∙ omega (arith, ap length whole, ap length parts.old, length-append parts.before (w ∷ parts.after), length-append parts.before parts.after),
       )

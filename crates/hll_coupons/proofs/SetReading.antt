@@ -1,5 +1,5 @@
 -- SPDX-License-Identifier: Apache-2.0
--- Lemmas on reading the places of a set.
+-- Lemmas on reading the buckets of a set.
 use Rattle.std.proofs.Common.{◌≡◌, ℕ, ◌+◌, ◌-◌, ◌*◌, ◌^◌, ◌<◌, ◌≤◌, Bool, true, false, List, [], ◌∷◌, ◌++◌, length, take, drop, cond, All, refl, sym, ◌∙◌, ap, subst, arith, append_assoc}
 use Rattle.std.specs.Cmp.{nat_cmp_total}
 use Rattle.std.specs.FinSet.{contains, insert, len, from_list_push, nat_cmp-IsAntisymmetric}
@@ -8,13 +8,13 @@ use Rattle.std.specs.Int.{w32, from_le_bytes}
 use Rattle.hll_coupons.specs.Coupons.{coupons_at, AreCoupons}
 use Rattle.hll_coupons.specs.HashSet.{IsHashSet}
 use Rattle.hll_coupons.specs.Pair.{IsPair, set_of, value_of}
-use Rattle.hll_coupons.specs.Payload.{SetShape, HasSetCount, IsSetPayload, IsSetTable, set_count, set_coupons, set_places}
+use Rattle.hll_coupons.specs.Payload.{SetShape, HasSetCount, IsSetPayload, IsSetTable, set_count, set_coupons, set_buckets}
 use Rattle.hll_coupons.specs.Probe.{Puts, PutsEach}
 use Rattle.hll_coupons.specs.Table.{Table, coupons_in, coupons_of, empty_table}
 use Rattle.hll_coupons.proofs.Fillings.{one_more}
 use Rattle.hll_coupons.proofs.Payloads.{front_coupons, front_number}
-use Rattle.hll_coupons.proofs.Places.{coupons_in-replicate}
-use Rattle.hll_coupons.proofs.Reading.{AreCoupons-nil, AreCoupons-push, all_places, coupons_in-coupons, passed_over}
+use Rattle.hll_coupons.proofs.Buckets.{coupons_in-replicate}
+use Rattle.hll_coupons.proofs.Reading.{AreCoupons-nil, AreCoupons-push, all_buckets, coupons_in-coupons, passed_over}
 use Rattle.hll_coupons.proofs.Searching.{IsProbed-empty, PutsEach-push}
 use Rattle.hll_coupons.proofs.TableLemmas.{IsTable-empty}
 
@@ -22,22 +22,22 @@ use Rattle.hll_coupons.proofs.TableLemmas.{IsTable-empty}
 pub IsHashSet-empty : (lg : ℕ) → lg ≤ 26 → IsHashSet (empty_table lg)
 IsHashSet-empty lg small = record { table = IsTable-empty lg small; probed = IsProbed-empty (λ c. c) lg }
 
--- the coupons of the places so far are in the set, and the rest is to come
-pub record ReadSoFar (compact : Bool) (places counter lg : ℕ) (all before : List ℕ) (t : Table) (cursor : List ℕ) : Type 0 where
+-- the coupons of the buckets so far are in the set, and the rest is to come
+pub record ReadSoFar (compact : Bool) (buckets counter lg : ℕ) (all before : List ℕ) (t : Table) (cursor : List ℕ) : Type 0 where
   pub order : List ℕ
-  pub read : all ≡ order ++ coupons_at compact (places - counter) cursor
-  pub room : 4 * (places - counter) ≤ length cursor
+  pub read : all ≡ order ++ coupons_at compact (buckets - counter) cursor
+  pub room : 4 * (buckets - counter) ≤ length cursor
   pub size : t.lg_size ≡ lg
-  pub puts : PutsEach (λ c. c) lg before order t.places
+  pub puts : PutsEach (λ c. c) lg before order t.buckets
   pub members : coupons_of t ≡ set_of order
   pub few : length order ≤ counter
   pub are : AreCoupons order
   pub set : IsHashSet t
 
-pub read_none : (compact : Bool) (places : ℕ) (t : Table) (cursor : List ℕ) → t.lg_size ≤ 26 → t ≡ empty_table t.lg_size → 4 * places ≤ length cursor →
-    ReadSoFar compact places 0 t.lg_size (coupons_at compact places cursor) t.places t cursor
-read_none compact places t cursor small none there =
-    let whole : places ≡ places - 0 = omega arith in
+pub read_none : (compact : Bool) (buckets : ℕ) (t : Table) (cursor : List ℕ) → t.lg_size ≤ 26 → t ≡ empty_table t.lg_size → 4 * buckets ≤ length cursor →
+    ReadSoFar compact buckets 0 t.lg_size (coupons_at compact buckets cursor) t.buckets t cursor
+read_none compact buckets t cursor small none there =
+    let whole : buckets ≡ buckets - 0 = omega arith in
     record {
       order = [];
       read = ap (λ n. coupons_at compact n cursor) whole;
@@ -50,23 +50,23 @@ read_none compact places t cursor small none there =
       set = subst IsHashSet (sym none) (IsHashSet-empty t.lg_size small);
     }
 
-module _ (compact : Bool) (places counter lg : ℕ) (all before : List ℕ) (t : Table) (cursor : List ℕ) (so : ReadSoFar compact places counter lg all before t cursor) (left : counter < places)
+module _ (compact : Bool) (buckets counter lg : ℕ) (all before : List ℕ) (t : Table) (cursor : List ℕ) (so : ReadSoFar compact buckets counter lg all before t cursor) (left : counter < buckets)
     (w : ℕ) (rest : List ℕ) (is : w ≡ from_le_bytes w32 cursor) (rest_is : rest ≡ drop 4 cursor) where
-  -- the set has no more coupons than places were read
-  pub few_in : length (coupons_in t.places) ≤ counter
+  -- the set has no more coupons than buckets were read
+  pub few_in : length (coupons_in t.buckets) ≤ counter
   few_in = omega (arith, so.few, so.are.distinct, so.set.table.distinct, ap len so.members)
 
-  less : 4 * (places - (counter + 1)) ≤ length rest
+  less : 4 * (buckets - (counter + 1)) ≤ length rest
   less = omega (arith, so.room, ap length rest_is, length-drop 4 cursor, left)
 
-  -- an empty place is passed over
-  pub read_over : w ≡ 0 → compact ≡ false → ReadSoFar compact places (counter + 1) lg all before t rest
+  -- an empty bucket is passed over
+  pub read_over : w ≡ 0 → compact ≡ false → ReadSoFar compact buckets (counter + 1) lg all before t rest
   read_over zero' loose =
-      let P : Bool → Type 0 = λ b. all ≡ so.order ++ coupons_at b (places - counter) cursor in
-      let Q : Bool → Type 0 = λ b. all ≡ so.order ++ coupons_at b (places - (counter + 1)) rest in
+      let P : Bool → Type 0 = λ b. all ≡ so.order ++ coupons_at b (buckets - counter) cursor in
+      let Q : Bool → Type 0 = λ b. all ≡ so.order ++ coupons_at b (buckets - (counter + 1)) rest in
       record {
         order = so.order;
-        read = subst Q (sym loose) (passed_over places counter w cursor rest all so.order left (subst P loose so.read) is rest_is zero');
+        read = subst Q (sym loose) (passed_over buckets counter w cursor rest all so.order left (subst P loose so.read) is rest_is zero');
         room = less;
         size = so.size;
         puts = so.puts;
@@ -76,19 +76,19 @@ module _ (compact : Bool) (places counter lg : ℕ) (all before : List ℕ) (t :
         set = so.set;
       }
 
-  -- a word that has to be a coupon
-  pub read_word : (w ≡ 0 → compact ≡ true) → all ≡ so.order ++ w ∷ coupons_at compact (places - (counter + 1)) rest
-  read_word filled = all_places compact places counter w cursor rest all so.order left so.read is rest_is filled
+  -- a raw coupon that has to be a coupon
+  pub read_raw_coupon : (w ≡ 0 → compact ≡ true) → all ≡ so.order ++ w ∷ coupons_at compact (buckets - (counter + 1)) rest
+  read_raw_coupon filled = all_buckets compact buckets counter w cursor rest all so.order left so.read is rest_is filled
 
   -- a new coupon is put
-  pub read_more : (new : Table) → (w ≡ 0 → compact ≡ true) → 1 ≤ value_of w → contains (coupons_of t) w ≡ false → new.lg_size ≡ t.lg_size → Puts (λ c. c) t.lg_size t.places w new.places →
-      coupons_of new ≡ insert (coupons_of t) w → IsHashSet new → ReadSoFar compact places (counter + 1) lg all before new rest
+  pub read_more : (new : Table) → (w ≡ 0 → compact ≡ true) → 1 ≤ value_of w → contains (coupons_of t) w ≡ false → new.lg_size ≡ t.lg_size → Puts (λ c. c) t.lg_size t.buckets w new.buckets →
+      coupons_of new ≡ insert (coupons_of t) w → IsHashSet new → ReadSoFar compact buckets (counter + 1) lg all before new rest
   read_more new filled valued fresh size put members set = record {
     order = so.order ++ w ∷ [];
-    read = read_word filled ∙ sym (append_assoc so.order (w ∷ []) (coupons_at compact (places - (counter + 1)) rest));
+    read = read_raw_coupon filled ∙ sym (append_assoc so.order (w ∷ []) (coupons_at compact (buckets - (counter + 1)) rest));
     room = less;
     size = size ∙ so.size;
-    puts = PutsEach-push (λ c. c) lg before so.order t.places w new.places so.puts (subst (λ n. Puts (λ c. c) n t.places w new.places) so.size put);
+    puts = PutsEach-push (λ c. c) lg before so.order t.buckets w new.buckets so.puts (subst (λ n. Puts (λ c. c) n t.buckets w new.buckets) so.size put);
     members = members ∙ ap (λ S. insert S w) so.members ∙ sym (from_list_push nat_cmp_total nat_cmp-IsAntisymmetric so.order w);
     few = omega (arith, so.few, length-append so.order (w ∷ []));
     are = AreCoupons-push so.order w so.are valued (ap (λ S. contains S w) (sym so.members) ∙ fresh);
@@ -97,57 +97,57 @@ module _ (compact : Bool) (places counter lg : ℕ) (all before : List ℕ) (t :
 
 -- ---- the coupons alone
 
--- the coupons of the places so far, and the rest is to come
-pub record CopiedSoFar (compact : Bool) (places counter : ℕ) (all order cursor : List ℕ) : Type 0 where
-  pub read : all ≡ order ++ coupons_at compact (places - counter) cursor
-  pub room : 4 * (places - counter) ≤ length cursor
+-- the coupons of the buckets so far, and the rest is to come
+pub record CopiedSoFar (compact : Bool) (buckets counter : ℕ) (all order cursor : List ℕ) : Type 0 where
+  pub read : all ≡ order ++ coupons_at compact (buckets - counter) cursor
+  pub room : 4 * (buckets - counter) ≤ length cursor
   pub pairs : All IsPair order
   pub few : length order ≤ counter
 
-pub copied_none : (compact : Bool) (places : ℕ) (order cursor : List ℕ) → order ≡ [] → 4 * places ≤ length cursor → CopiedSoFar compact places 0 (coupons_at compact places cursor) order cursor
-copied_none compact places order cursor none there =
-    let whole : places ≡ places - 0 = omega arith in
+pub copied_none : (compact : Bool) (buckets : ℕ) (order cursor : List ℕ) → order ≡ [] → 4 * buckets ≤ length cursor → CopiedSoFar compact buckets 0 (coupons_at compact buckets cursor) order cursor
+copied_none compact buckets order cursor none there =
+    let whole : buckets ≡ buckets - 0 = omega arith in
     record {
-      read = ap (λ n. coupons_at compact n cursor) whole ∙ ap (λ xs. xs ++ coupons_at compact (places - 0) cursor) (sym none);
+      read = ap (λ n. coupons_at compact n cursor) whole ∙ ap (λ xs. xs ++ coupons_at compact (buckets - 0) cursor) (sym none);
       room = omega (arith, there);
       pairs = subst (All IsPair) (sym none) (λ i d l. absurd (omega arith));
       few = omega (arith, ap length none);
     }
 
-module _ (compact : Bool) (places counter : ℕ) (all order cursor : List ℕ) (so : CopiedSoFar compact places counter all order cursor) (left : counter < places)
+module _ (compact : Bool) (buckets counter : ℕ) (all order cursor : List ℕ) (so : CopiedSoFar compact buckets counter all order cursor) (left : counter < buckets)
     (w : ℕ) (rest : List ℕ) (is : w ≡ from_le_bytes w32 cursor) (rest_is : rest ≡ drop 4 cursor) where
-  fewer : 4 * (places - (counter + 1)) ≤ length rest
+  fewer : 4 * (buckets - (counter + 1)) ≤ length rest
   fewer = omega (arith, so.room, ap length rest_is, length-drop 4 cursor, left)
 
-  -- an empty place is passed over
-  pub copied_over : w ≡ 0 → compact ≡ false → CopiedSoFar compact places (counter + 1) all order rest
+  -- an empty bucket is passed over
+  pub copied_over : w ≡ 0 → compact ≡ false → CopiedSoFar compact buckets (counter + 1) all order rest
   copied_over zero' loose =
-      let P : Bool → Type 0 = λ b. all ≡ order ++ coupons_at b (places - counter) cursor in
-      let Q : Bool → Type 0 = λ b. all ≡ order ++ coupons_at b (places - (counter + 1)) rest in
+      let P : Bool → Type 0 = λ b. all ≡ order ++ coupons_at b (buckets - counter) cursor in
+      let Q : Bool → Type 0 = λ b. all ≡ order ++ coupons_at b (buckets - (counter + 1)) rest in
       record {
-        read = subst Q (sym loose) (passed_over places counter w cursor rest all order left (subst P loose so.read) is rest_is zero');
+        read = subst Q (sym loose) (passed_over buckets counter w cursor rest all order left (subst P loose so.read) is rest_is zero');
         room = fewer;
         pairs = so.pairs;
         few = omega (arith, so.few);
       }
 
-  -- a word that has to be a coupon
-  pub copied_word : (w ≡ 0 → compact ≡ true) → all ≡ order ++ w ∷ coupons_at compact (places - (counter + 1)) rest
-  copied_word filled = all_places compact places counter w cursor rest all order left so.read is rest_is filled
+  -- a raw coupon that has to be a coupon
+  pub copied_raw_coupon : (w ≡ 0 → compact ≡ true) → all ≡ order ++ w ∷ coupons_at compact (buckets - (counter + 1)) rest
+  copied_raw_coupon filled = all_buckets compact buckets counter w cursor rest all order left so.read is rest_is filled
 
   -- one more
-  pub copied_more : (w ≡ 0 → compact ≡ true) → IsPair w → (new : List ℕ) → new ≡ order ++ w ∷ [] → CopiedSoFar compact places (counter + 1) all new rest
+  pub copied_more : (w ≡ 0 → compact ≡ true) → IsPair w → (new : List ℕ) → new ≡ order ++ w ∷ [] → CopiedSoFar compact buckets (counter + 1) all new rest
   copied_more filled pair new grown = record {
-    read = copied_word filled ∙ sym (append_assoc order (w ∷ []) (coupons_at compact (places - (counter + 1)) rest)) ∙ ap (λ xs. xs ++ coupons_at compact (places - (counter + 1)) rest) (sym grown);
+    read = copied_raw_coupon filled ∙ sym (append_assoc order (w ∷ []) (coupons_at compact (buckets - (counter + 1)) rest)) ∙ ap (λ xs. xs ++ coupons_at compact (buckets - (counter + 1)) rest) (sym grown);
     room = fewer;
     pairs = subst (All IsPair) (sym grown) (one_more IsPair order w so.pairs pair);
     few = omega (arith, so.few, ap length grown, length-append order (w ∷ []));
   }
 
 -- all were copied
-pub copied_all : (compact : Bool) (places counter : ℕ) (all order cursor : List ℕ) → CopiedSoFar compact places counter all order cursor → places ≤ counter → order ≡ all
-copied_all compact places counter all order cursor so done =
-    let none : places - counter ≡ 0 = omega arith in
+pub copied_all : (compact : Bool) (buckets counter : ℕ) (all order cursor : List ℕ) → CopiedSoFar compact buckets counter all order cursor → buckets ≤ counter → order ≡ all
+copied_all compact buckets counter all order cursor so done =
+    let none : buckets - counter ≡ 0 = omega arith in
     sym (so.read ∙ ap (λ n. order ++ coupons_at compact n cursor) none ∙ ap (λ xs. order ++ xs) (nothing compact) ∙ append-nil order)
   where
     nothing : (b : Bool) → coupons_at b 0 cursor ≡ []
@@ -156,42 +156,42 @@ copied_all compact places counter all order cursor so done =
 
 -- ---- the whole
 
--- no more places than the table has
-pub set_places-le : (h : SetShape) (b : List ℕ) → HasSetCount h b → set_places h b ≤ 2 ^ h.lg_size
-set_places-le h b few = of h.compact
+-- no more buckets than the table has
+pub set_buckets-le : (h : SetShape) (b : List ℕ) → HasSetCount h b → set_buckets h b ≤ 2 ^ h.lg_size
+set_buckets-le h b few = of h.compact
   where
     of : (c : Bool) → cond c (set_count b) (2 ^ h.lg_size) ≤ 2 ^ h.lg_size
     of true = omega (arith, few.low)
     of false = omega arith
 
 -- the front of the bytes is the payload
-pub is_set_payload : (h : SetShape) (b : List ℕ) → HasSetCount h b → 4 + 4 * set_places h b ≤ length b → AreCoupons (set_coupons h b) → length (set_coupons h b) ≡ set_count b →
-    IsSetPayload h (take (4 + 4 * set_places h b) b)
+pub is_set_payload : (h : SetShape) (b : List ℕ) → HasSetCount h b → 4 + 4 * set_buckets h b ≤ length b → AreCoupons (set_coupons h b) → length (set_coupons h b) ≡ set_count b →
+    IsSetPayload h (take (4 + 4 * set_buckets h b) b)
 is_set_payload h b few there are number =
-    let n : ℕ = 4 + 4 * set_places h b in
+    let n : ℕ = 4 + 4 * set_buckets h b in
     let a : List ℕ = take n b in
     let cut : a ++ drop n b ≡ b = take-append-drop n b in
     let size : length a ≡ n = omega (arith, length-take n b) in
     let count : set_count a ≡ set_count b = front_number a (drop n b) b cut 0 (omega (arith, size)) in
-    let places : set_places h a ≡ set_places h b = ap (λ m. cond h.compact m (2 ^ h.lg_size)) count in
+    let buckets : set_buckets h a ≡ set_buckets h b = ap (λ m. cond h.compact m (2 ^ h.lg_size)) count in
     let coupons : set_coupons h a ≡ set_coupons h b =
-    ap (λ m. coupons_at h.compact m (drop 4 a)) places ∙ front_coupons a (drop n b) b cut h.compact (set_places h b) 4 (omega (arith, size)) in
+    ap (λ m. coupons_at h.compact m (drop 4 a)) buckets ∙ front_coupons a (drop n b) b cut h.compact (set_buckets h b) 4 (omega (arith, size)) in
     record {
       count = record { whole = omega (arith, size); low = omega (arith, count, few.low) };
-      size = size ∙ ap (λ m. 4 + 4 * m) (sym places);
+      size = size ∙ ap (λ m. 4 + 4 * m) (sym buckets);
       are_coupons = subst AreCoupons (sym coupons) are;
       number = ap length coupons ∙ number ∙ sym count;
     }
 
--- what is known once the places were read
+-- what is known once the buckets were read
 pub record IsRead (h : SetShape) (b : List ℕ) (t : Table) : Type 0 where
   pub are : AreCoupons (set_coupons h b)
   pub table : IsSetTable h b t
-  pub number : length (coupons_in t.places) ≡ length (set_coupons h b)
+  pub number : length (coupons_in t.buckets) ≡ length (set_coupons h b)
 
-pub is_read : (h : SetShape) (b : List ℕ) (start t : Table) (n : ℕ) (rest : List ℕ) → start ≡ empty_table h.lg_size → t.lg_size ≡ start.lg_size → n ≡ set_places h b → rest ≡ drop 4 b →
-    PutsEach (λ c. c) start.lg_size start.places (coupons_at h.compact n rest) t.places → AreCoupons (coupons_at h.compact n rest) → coupons_of t ≡ set_of (coupons_at h.compact n rest) →
-    len (coupons_of t) ≡ length (coupons_in t.places) → IsRead h b t
+pub is_read : (h : SetShape) (b : List ℕ) (start t : Table) (n : ℕ) (rest : List ℕ) → start ≡ empty_table h.lg_size → t.lg_size ≡ start.lg_size → n ≡ set_buckets h b → rest ≡ drop 4 b →
+    PutsEach (λ c. c) start.lg_size start.buckets (coupons_at h.compact n rest) t.buckets → AreCoupons (coupons_at h.compact n rest) → coupons_of t ≡ set_of (coupons_at h.compact n rest) →
+    len (coupons_of t) ≡ length (coupons_in t.buckets) → IsRead h b t
 is_read h b start t n rest empty size n_is rest_is puts are members distinct =
     let same : coupons_at h.compact n rest ≡ set_coupons h b = λ i. coupons_at h.compact (n_is i) (rest_is i) in
     let here : AreCoupons (set_coupons h b) = subst AreCoupons same are in
@@ -199,19 +199,19 @@ is_read h b start t n rest empty size n_is rest_is puts are members distinct =
       are = here;
       table = record {
         size = size ∙ ap (λ (u : Table). u.lg_size) empty;
-        places = subst (λ (u : Table). PutsEach (λ c. c) u.lg_size u.places (set_coupons h b) t.places) empty (subst (λ cs. PutsEach (λ c. c) start.lg_size start.places cs t.places) same puts);
+        buckets = subst (λ (u : Table). PutsEach (λ c. c) u.lg_size u.buckets (set_coupons h b) t.buckets) empty (subst (λ cs. PutsEach (λ c. c) start.lg_size start.buckets cs t.buckets) same puts);
       };
       number = sym distinct ∙ ap len (members ∙ ap set_of same) ∙ here.distinct;
     }
 
 -- a copy of the coupons, as a table is filled with it
-pub record IsCopy (compact : Bool) (places : ℕ) (cursor copy : List ℕ) : Type 0 where
-  pub all : coupons_in copy ≡ coupons_at compact places cursor
+pub record IsCopy (compact : Bool) (buckets : ℕ) (cursor copy : List ℕ) : Type 0 where
+  pub all : coupons_in copy ≡ coupons_at compact buckets cursor
   pub pairs : All IsPair (coupons_in copy)
-  pub same : copy ≡ coupons_at compact places cursor
+  pub same : copy ≡ coupons_at compact buckets cursor
 
-pub is_copy : (compact : Bool) (places : ℕ) (cursor items copy : List ℕ) → items ≡ coupons_at compact places cursor → All IsPair items → copy ≡ items → IsCopy compact places cursor copy
-is_copy compact places cursor items copy is pairs copied =
+pub is_copy : (compact : Bool) (buckets : ℕ) (cursor items copy : List ℕ) → items ≡ coupons_at compact buckets cursor → All IsPair items → copy ≡ items → IsCopy compact buckets cursor copy
+is_copy compact buckets cursor items copy is pairs copied =
     let here : All IsPair copy = subst (All IsPair) (sym copied) pairs in
     let full : coupons_in copy ≡ copy = coupons_in-coupons copy (λ i d l. (here i d l).valued) in
     record { all = full ∙ copied ∙ is; pairs = subst (All IsPair) (sym full) here; same = copied ∙ is }

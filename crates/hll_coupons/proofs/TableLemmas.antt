@@ -10,16 +10,16 @@ use Rattle.std.proofs.lemmas.List.{length-set, length-replicate}
 use Rattle.std.proofs.lemmas.List.Elements.{filter-append, All-nil, All-from_recursion, recursion_from_All}
 use Rattle.hll_coupons.specs.Pair.{IsPair, value_of, set_of}
 use Rattle.hll_coupons.specs.Table.{Table, coupons_in, coupons_of, IsTable, empty_table, IsFilledFromFront, filled_from_front, coupons_with}
-use Rattle.hll_coupons.proofs.Places.{coupons_in-replicate, length-coupons_in, Between, between, set-front, coupons_in-front, coupons_in-full, coupons_in-coupons_in}
+use Rattle.hll_coupons.proofs.Buckets.{coupons_in-replicate, length-coupons_in, Between, between, set-front, coupons_in-front, coupons_in-full, coupons_in-coupons_in}
 use Rattle.hll_coupons.proofs.Members.{len-between}
 
--- no more is held than a table has places
-pub length-coupons_in-table : (t : Table) → IsTable t → length (coupons_in t.places) ≤ 2 ^ t.lg_size
-length-coupons_in-table t table = omega (arith, length-coupons_in t.places, table.size)
+-- no more is held than a table has buckets
+pub length-coupons_in-table : (t : Table) → IsTable t → length (coupons_in t.buckets) ≤ 2 ^ t.lg_size
+length-coupons_in-table t table = omega (arith, length-coupons_in t.buckets, table.size)
 
--- a table has at most 2^26 places
-pub small_places : (t : Table) → IsTable t → length t.places ≤ 2 ^ 26
-small_places t table = rw table.size (pow_mono table.small)
+-- a table has at most 2^26 buckets
+pub small_buckets : (t : Table) → IsTable t → length t.buckets ≤ 2 ^ 26
+small_buckets t table = rw table.size (pow_mono table.small)
 
 -- an empty table is a table
 pub IsTable-empty : (lg_size : ℕ) → lg_size ≤ 26 → IsTable (empty_table lg_size)
@@ -37,20 +37,20 @@ All-between P (x ∷ xs) ys c h p = (h.0, All-between P xs ys c h.1 p)
 pub length-between : (xs ys : List ℕ) (c : ℕ) → length (xs ++ c ∷ ys) ≡ length (xs ++ ys) + 1
 length-between xs ys c = omega (arith, length-append xs (c ∷ ys), length-append xs ys)
 
--- a coupon of a value is no empty place
+-- a coupon of a value is no empty bucket
 pub full_of_valued : (c : ℕ) → 1 ≤ value_of c → 0 < c
 full_of_valued c h = omega arith
 
--- a new coupon in an empty place: one more is held, and the table stays one
-pub IsTable-put : (t : Table) (i c : ℕ) → IsTable t → i < 2 ^ t.lg_size → get_or t.places i 0 ≡ 0 → IsPair c → contains (coupons_of t) c ≡ false
-    → IsTable (record { lg_size = t.lg_size; places = set t.places i c }) × (length (coupons_in (set t.places i c)) ≡ length (coupons_in t.places) + 1)
+-- a new coupon in an empty bucket: one more is held, and the table stays one
+pub IsTable-put : (t : Table) (i c : ℕ) → IsTable t → i < 2 ^ t.lg_size → get_or t.buckets i 0 ≡ 0 → IsPair c → contains (coupons_of t) c ≡ false
+    → IsTable (record { lg_size = t.lg_size; buckets = set t.buckets i c }) × (length (coupons_in (set t.buckets i c)) ≡ length (coupons_in t.buckets) + 1)
 IsTable-put t i c table inside empty pair fresh =
-    let b : Between t.places i c = between t.places i c (omega (arith, table.size)) empty (full_of_valued c pair.valued) in
-    let more : length (coupons_in (set t.places i c)) ≡ length (coupons_in t.places) + 1 =
+    let b : Between t.buckets i c = between t.buckets i c (omega (arith, table.size)) empty (full_of_valued c pair.valued) in
+    let more : length (coupons_in (set t.buckets i c)) ≡ length (coupons_in t.buckets) + 1 =
     ap length b.new ∙ length-between b.before b.after c ∙ ap (λ xs. length xs + 1) (sym b.old) in (
       record {
         small = table.small;
-        size = length-set t.places i c ∙ table.size;
+        size = length-set t.buckets i c ∙ table.size;
         distinct =
             ap (λ xs. len (set_of xs)) b.new
             ∙ len-between b.before b.after c (ap (λ xs. contains (set_of xs) c) (sym b.old) ∙ fresh)
@@ -64,13 +64,13 @@ IsTable-put t i c table inside empty pair fresh =
     )
 
 -- a front holds its coupons in their order
-pub coupons_in-filled_from_front : (lg_size : ℕ) (order : List ℕ) → coupons_in order ≡ order → coupons_in (filled_from_front lg_size order).places ≡ order
+pub coupons_in-filled_from_front : (lg_size : ℕ) (order : List ℕ) → coupons_in order ≡ order → coupons_in (filled_from_front lg_size order).buckets ≡ order
 coupons_in-filled_from_front lg_size order kept = coupons_in-front order (2 ^ lg_size - length order) ∙ kept
 
 -- so it is filled from the front
 pub IsFilledFromFront-front : (lg_size : ℕ) (order : List ℕ) → coupons_in order ≡ order → IsFilledFromFront (filled_from_front lg_size order)
 IsFilledFromFront-front lg_size order kept =
-    ap (λ xs. (filled_from_front lg_size xs).places) (sym (coupons_in-filled_from_front lg_size order kept))
+    ap (λ xs. (filled_from_front lg_size xs).buckets) (sym (coupons_in-filled_from_front lg_size order kept))
 
 -- and an empty table is
 pub IsFilledFromFront-empty : (lg_size : ℕ) → IsFilledFromFront (empty_table lg_size)
@@ -81,23 +81,23 @@ coupons_in-push xs c kept full =
     filter-append (λ x. nat_lt 0 x) xs (c ∷ []) ∙ ap (λ ys. ys ++ coupons_in (c ∷ [])) kept ∙ ap (λ ys. xs ++ ys) (coupons_in-full c [] full)
 
 -- a coupon that arrives is held with the others
-pub coupons_in-coupons_with : (places : List ℕ) (c : ℕ) → 0 < c → coupons_in (coupons_with (coupons_in places) c) ≡ coupons_with (coupons_in places) c
-coupons_in-coupons_with places c full = decide (contains (set_of (coupons_in places)) c)
+pub coupons_in-coupons_with : (buckets : List ℕ) (c : ℕ) → 0 < c → coupons_in (coupons_with (coupons_in buckets) c) ≡ coupons_with (coupons_in buckets) c
+coupons_in-coupons_with buckets c full = decide (contains (set_of (coupons_in buckets)) c)
   where
-    decide : (b : Bool) → coupons_in (cond b (coupons_in places) (coupons_in places ++ c ∷ [])) ≡ cond b (coupons_in places) (coupons_in places ++ c ∷ [])
-    decide true = coupons_in-coupons_in places
-    decide false = coupons_in-push (coupons_in places) c (coupons_in-coupons_in places) full
+    decide : (b : Bool) → coupons_in (cond b (coupons_in buckets) (coupons_in buckets ++ c ∷ [])) ≡ cond b (coupons_in buckets) (coupons_in buckets ++ c ∷ [])
+    decide true = coupons_in-coupons_in buckets
+    decide false = coupons_in-push (coupons_in buckets) c (coupons_in-coupons_in buckets) full
 
--- a coupon that is put behind a front
-set-order : (order places : List ℕ) (n c : ℕ) → places ≡ order ++ replicate (n - length order) 0 → length order < n
-    → set places (length order) c ≡ (order ++ c ∷ []) ++ replicate (n - length (order ++ c ∷ [])) 0
-set-order order places n c front room =
+-- a coupon that is put after a front
+set-order : (order buckets : List ℕ) (n c : ℕ) → buckets ≡ order ++ replicate (n - length order) 0 → length order < n
+    → set buckets (length order) c ≡ (order ++ c ∷ []) ++ replicate (n - length (order ++ c ∷ [])) 0
+set-order order buckets n c front room =
     let fewer : n - length order - 1 ≡ n - length (order ++ c ∷ []) = omega (arith, length-append order (c ∷ [])) in
     ap (λ ps. set ps (length order) c) front ∙ set-front order (n - length order) c (omega arith) ∙ ap (λ m. (order ++ c ∷ []) ++ replicate m 0) fewer
 
 -- so what a list's table is after a new coupon
-pub places-put : (t : Table) (c : ℕ) → IsFilledFromFront t → contains (coupons_of t) c ≡ false → length (coupons_in t.places) < 2 ^ t.lg_size
-    → record { lg_size = t.lg_size; places = set t.places (length (coupons_in t.places)) c } ≡ filled_from_front t.lg_size (coupons_with (coupons_in t.places) c)
-places-put t c front fresh room =
-    ap (λ places. record { lg_size = t.lg_size; places = places }) (set-order (coupons_in t.places) t.places (2 ^ t.lg_size) c front room)
-    ∙ ap (λ b. filled_from_front t.lg_size (cond b (coupons_in t.places) (coupons_in t.places ++ c ∷ []))) (sym fresh)
+pub buckets-put : (t : Table) (c : ℕ) → IsFilledFromFront t → contains (coupons_of t) c ≡ false → length (coupons_in t.buckets) < 2 ^ t.lg_size
+    → record { lg_size = t.lg_size; buckets = set t.buckets (length (coupons_in t.buckets)) c } ≡ filled_from_front t.lg_size (coupons_with (coupons_in t.buckets) c)
+buckets-put t c front fresh room =
+    ap (λ buckets. record { lg_size = t.lg_size; buckets = buckets }) (set-order (coupons_in t.buckets) t.buckets (2 ^ t.lg_size) c front room)
+    ∙ ap (λ b. filled_from_front t.lg_size (cond b (coupons_in t.buckets) (coupons_in t.buckets ++ c ∷ []))) (sym fresh)

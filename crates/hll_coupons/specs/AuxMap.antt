@@ -1,5 +1,5 @@
 -- SPDX-License-Identifier: Apache-2.0
--- A map from slots to values, the exceptions of registers of four bits, in a table of places: its entries, and the size
+-- A map from slots to values, the exceptions of registers of four bits, in a table of buckets: its entries, and the size
 -- that the table takes (docs/MODEL.md, "Maps of exceptions"; docs/FORMAT.md, "Probing").
 use Rattle.std.specs.Prelude.{ℕ, ◌≡◌, ◌≢◌, ◌+◌, ◌-◌, ◌*◌, ◌%◌, ◌^◌, ◌<◌, ◌≤◌, ◌==◌, nat_le, if◌then◌else◌, List, length, map, All, None, unwrap_or, find}
 use Rattle.std.specs.List.{range_with_len}
@@ -8,7 +8,7 @@ use Rattle.std.specs.declared.option.Option.{Option}
 use Rattle.hll_coupons.specs.Pair.{slot_of, value_of, pair}
 use Rattle.hll_coupons.specs.Table.{Table, coupons_in, empty_table, IsTable}
 use Rattle.hll_coupons.specs.Probe.{IsProbed, Puts, PutsEach}
-use Rattle.hll_coupons.specs.Words.{bit_of}
+use Rattle.hll_coupons.specs.Blocks.{bit_of}
 
 -- ---- sizes
 
@@ -37,52 +37,52 @@ entry_at k entries s = option_map value_of (find (λ c. slot_of c % 2 ^ k == s) 
 
 -- the value that a map has at a slot
 abbrev pub value_in : ExceptionMap → ℕ → Option ℕ
-value_in m s = entry_at m.lg_k (coupons_in m.table.places) s
+value_in m s = entry_at m.lg_k (coupons_in m.table.buckets) s
 
--- a word as a slot and a value
+-- a raw coupon as a slot and a value
 abbrev pub entry_of : ℕ → ℕ × ℕ
 entry_of c = (slot_of c, value_of c)
 
--- the entries of a map, in the order of their places
+-- the entries of a map, in the order of their buckets
 abbrev pub entries_in : ExceptionMap → List (ℕ × ℕ)
-entries_in m = map entry_of (coupons_in m.table.places)
+entries_in m = map entry_of (coupons_in m.table.buckets)
 
 -- slots are below 2^lg_k, a search for a slot comes to its entry, and the table has the least size
 pub record IsMap (m : ExceptionMap) : Type 0 where
   pub low : 4 ≤ m.lg_k
   pub high : m.lg_k ≤ 21
   pub table : IsTable m.table
-  pub probed : IsProbed slot_of m.table.lg_size m.table.places
-  pub slots : All (λ c. slot_of c < 2 ^ m.lg_k) (coupons_in m.table.places)
-  pub size : m.table.lg_size ≡ table_size m.lg_k (length (coupons_in m.table.places))
+  pub probed : IsProbed slot_of m.table.lg_size m.table.buckets
+  pub slots : All (λ c. slot_of c < 2 ^ m.lg_k) (coupons_in m.table.buckets)
+  pub size : m.table.lg_size ≡ table_size m.lg_k (length (coupons_in m.table.buckets))
 
 -- a map with no entry
 abbrev pub empty_map : ℕ → ExceptionMap
 empty_map k = record { lg_k = k; table = empty_table (start_size k) }
 
 -- a bit for each slot, which is set where the slot has a value
-pub record MarksValues (m : ExceptionMap) (words : List ℕ) : Type 0 where
-  pub room : 2 ^ m.lg_k ≤ 64 * length words
-  pub set : (s : ℕ) → s < 2 ^ m.lg_k → bit_of words s ≡ 1 → value_in m s ≢ None
-  pub clear : (s : ℕ) → s < 2 ^ m.lg_k → bit_of words s ≢ 1 → value_in m s ≡ None
+pub record MarksValues (m : ExceptionMap) (raw_coupons : List ℕ) : Type 0 where
+  pub room : 2 ^ m.lg_k ≤ 64 * length raw_coupons
+  pub set : (s : ℕ) → s < 2 ^ m.lg_k → bit_of raw_coupons s ≡ 1 → value_in m s ≢ None
+  pub clear : (s : ℕ) → s < 2 ^ m.lg_k → bit_of raw_coupons s ≢ 1 → value_in m s ≡ None
 
--- an entry is put, and all entries move to a table of the next size, in the order of their places
+-- an entry is put, and all entries move to a table of the next size, in the order of their buckets
 pub record IsGrownFrom (old : Table) (entry : ℕ) (new : Table) : Type 0 where
-  pub places : List ℕ
-  pub put : Puts slot_of old.lg_size old.places entry places
+  pub buckets : List ℕ
+  pub put : Puts slot_of old.lg_size old.buckets entry buckets
   pub size : new.lg_size ≡ old.lg_size + 1
-  pub moved : PutsEach slot_of new.lg_size (empty_table new.lg_size).places (coupons_in places) new.places
+  pub moved : PutsEach slot_of new.lg_size (empty_table new.lg_size).buckets (coupons_in buckets) new.buckets
 
--- an entry is put; if more than three quarters of the places are then filled, the table grows
+-- an entry is put; if more than three quarters of the buckets are then filled, the table grows
 pub data Inserts (old : Table) (entry : ℕ) (new : Table) : Type 0 where
-  fits : 4 * (length (coupons_in old.places) + 1) ≤ 3 * 2 ^ old.lg_size → new.lg_size ≡ old.lg_size
-      → Puts slot_of old.lg_size old.places entry new.places → Inserts old entry new
-  grows : 3 * 2 ^ old.lg_size < 4 * (length (coupons_in old.places) + 1) → IsGrownFrom old entry new → Inserts old entry new
+  fits : 4 * (length (coupons_in old.buckets) + 1) ≤ 3 * 2 ^ old.lg_size → new.lg_size ≡ old.lg_size
+      → Puts slot_of old.lg_size old.buckets entry new.buckets → Inserts old entry new
+  grows : 3 * 2 ^ old.lg_size < 4 * (length (coupons_in old.buckets) + 1) → IsGrownFrom old entry new → Inserts old entry new
 
--- a word, or the pair of the slot and the value where the word is an entry at that slot
+-- a raw coupon, or the pair of the slot and the value where the raw coupon is an entry at that slot
 abbrev pub replaced : ℕ → ℕ → ℕ → ℕ
 replaced slot value c = if c == 0 then 0 else (if slot_of c == slot then pair slot value else c)
 
 -- a map whose entry at a slot has another value, at the same place
 abbrev pub with_value : ExceptionMap → ℕ → ℕ → ExceptionMap
-with_value m slot value = record { lg_k = m.lg_k; table = record { lg_size = m.table.lg_size; places = map (replaced slot value) m.table.places } }
+with_value m slot value = record { lg_k = m.lg_k; table = record { lg_size = m.table.lg_size; buckets = map (replaced slot value) m.table.buckets } }

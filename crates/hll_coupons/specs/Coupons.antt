@@ -1,5 +1,5 @@
 -- SPDX-License-Identifier: Apache-2.0
--- Coupons in the bytes of an image: how places are read, and what is written for a list and a set
+-- Coupons in the bytes of an image: how buckets are read, and what is written for a list and a set
 -- (docs/FORMAT.md, "The image"; docs/MODEL.md, "Images").
 use Rattle.std.specs.Prelude.{◌≡◌, ℕ, ◌+◌, ◌*◌, ◌≤◌, ◌==◌, Bool, if◌then◌else◌, List, [], ◌∷◌, ◌++◌, length, drop, All}
 use Rattle.std.proofs.Common.{zero, suc}
@@ -14,14 +14,14 @@ use Rattle.hll_base.specs.declared.hll_type.HllType.TheVariants.{Hll4, Hll6, Hll
 
 -- ---- reading
 
--- the first n words of four bytes, the lowest byte first
-abbrev pub words : ℕ → List ℕ → List ℕ
-words zero bytes = []
-words (suc n) bytes = from_le_bytes w32 bytes ∷ words n (drop 4 bytes)
+-- the first n raw coupons of four bytes, the lowest byte first
+abbrev pub raw_coupons : ℕ → List ℕ → List ℕ
+raw_coupons zero bytes = []
+raw_coupons (suc n) bytes = from_le_bytes w32 bytes ∷ raw_coupons n (drop 4 bytes)
 
--- the coupons of the first n places: all of them where the image is compact, else those that are not empty
+-- the coupons of the first n buckets: all of them where the image is compact, else those that are not empty
 abbrev pub coupons_at : Bool → ℕ → List ℕ → List ℕ
-coupons_at compact n bytes = if compact then words n bytes else coupons_in (words n bytes)
+coupons_at compact n bytes = if compact then raw_coupons n bytes else coupons_in (raw_coupons n bytes)
 
 -- each has a value, and none stands twice
 pub record AreCoupons (coupons : List ℕ) : Type 0 where
@@ -30,12 +30,12 @@ pub record AreCoupons (coupons : List ℕ) : Type 0 where
 
 -- ---- writing
 
--- the members of a set in ascending raw words, each once
+-- the members of a set in ascending raw coupons, each once
 pub record IsAscending (order : List ℕ) (S : Pairs) : Type 0 where
   pub increasing : IsStrictlyIncreasing order
   pub members : set_of order ≡ S
 
--- the bytes that are made of a set's members in ascending raw words
+-- the bytes that are made of a set's members in ascending raw coupons
 pub record WritesAscending (bytes_of : List ℕ → List ℕ) (S : Pairs) (bytes : List ℕ) : Type 0 where
   pub order : List ℕ
   pub ascending : IsAscending order S
@@ -63,7 +63,7 @@ list_header lg_k width count = 2 ∷ 1 ∷ 7 ∷ lg_k ∷ 3 ∷ (if count == 0 t
 abbrev pub list_bytes : ℕ → HllType → List ℕ → List ℕ
 list_bytes lg_k width order = list_header lg_k width (length order) ++ coupon_bytes order
 
--- the eight bytes before the count of a set, of a table of 2^size places
+-- the eight bytes before the count of a set, of a table of 2^size buckets
 abbrev pub set_header : ℕ → HllType → ℕ → List ℕ
 set_header lg_k width size = 3 ∷ 1 ∷ 7 ∷ lg_k ∷ size ∷ 8 ∷ 0 ∷ mode_byte 1 width ∷ []
 

@@ -1,32 +1,32 @@
 -- SPDX-License-Identifier: Apache-2.0
--- The cycle of a stride: the places of a table in the order of steps from place 0, and a bitmap of those that are empty.
+-- The cycle of a stride: the buckets of a table in the order of steps from bucket 0, and a bitmap of those that are empty.
 use Rattle.std.specs.Prelude.{◌≡◌, ℕ, ◌+◌, ◌*◌, ◌%◌, ◌^◌, ◌≢◌, ◌<◌, ◌≤◌, ◌==◌, if◌then◌else◌, List, length, slice_index, slice_index_or, slice_set}
 use Rattle.hll_coupons.specs.Probe.{stride_of, IsAbsent, EndsAt}
-use Rattle.hll_coupons.specs.Words.{bit_of, IsSummary}
+use Rattle.hll_coupons.specs.Blocks.{bit_of, IsSummary}
 use Rattle.hll_coupons.specs.declared.cycle.Cycle.{Cycle}
 
 -- times the number this is 1 modulo 2^lg
 abbrev pub IsInverse : ℕ → ℕ → ℕ → Type 0
 IsInverse lg number inverse = number * inverse % 2 ^ lg ≡ 1 % 2 ^ lg
 
--- the place after so many steps from place 0
-abbrev pub place_after : ℕ → ℕ → ℕ → ℕ
-place_after lg stride steps = steps * stride % 2 ^ lg
+-- the bucket after so many steps from bucket 0
+abbrev pub bucket_after : ℕ → ℕ → ℕ → ℕ
+bucket_after lg stride steps = steps * stride % 2 ^ lg
 
 -- bit i is set where the i-th place of the cycle is empty
-pub record IsEmptyMap (lg stride : ℕ) (places words : List ℕ) : Type 0 where
-  pub size : 64 * length words ≡ 2 ^ lg
-  pub bits : (i : ℕ) → i < 2 ^ lg → bit_of words i ≡ (if slice_index places (place_after lg stride i) == 0 then 1 else 0)
+pub record IsEmptyMap (lg stride : ℕ) (buckets blocks : List ℕ) : Type 0 where
+  pub size : 64 * length blocks ≡ 2 ^ lg
+  pub bits : (i : ℕ) → i < 2 ^ lg → bit_of blocks i ≡ (if slice_index buckets (bucket_after lg stride i) == 0 then 1 else 0)
 
 -- the first bit that is set from this one on, round the end
-pub record IsNextRound (lg : ℕ) (words : List ℕ) (from next : ℕ) : Type 0 where
+pub record IsNextRound (lg : ℕ) (blocks : List ℕ) (from next : ℕ) : Type 0 where
   pub steps : ℕ
   pub within : steps < 2 ^ lg
   pub at : (from + steps) % 2 ^ lg ≡ next
-  pub set : bit_of words next ≡ 1
-  pub before : (j : ℕ) → j < steps → bit_of words ((from + j) % 2 ^ lg) ≡ 0
+  pub set : bit_of blocks next ≡ 1
+  pub before : (j : ℕ) → j < steps → bit_of blocks ((from + j) % 2 ^ lg) ≡ 0
 
--- what a cycle keeps, whatever the places are
+-- what a cycle keeps, whatever the buckets are
 pub record IsSound {A : Type 0} (cycle : Cycle A) : Type 0 where
   pub least : 6 ≤ cycle.lg_size
   pub small : cycle.lg_size ≤ 26
@@ -38,32 +38,32 @@ pub record IsSound {A : Type 0} (cycle : Cycle A) : Type 0 where
   pub summary : IsSummary cycle.empty.items cycle.summary.items
   pub summary_small : 64 * length cycle.summary.items < 2 ^ 26
 
--- it shows which of these places are empty
+-- it shows which of these buckets are empty
 abbrev pub Shows : {A : Type 0} → Cycle A → List ℕ → Type 0
-Shows cycle places = IsEmptyMap cycle.lg_size cycle.stride places cycle.empty.items
+Shows cycle buckets = IsEmptyMap cycle.lg_size cycle.stride buckets cycle.empty.items
 
 -- where a search for any absent key of this stride ends
 abbrev pub EndsForAbsent : {A : Type 0} → Cycle A → ℕ → ℕ → Type 0
-EndsForAbsent cycle key place = (key_of : ℕ → ℕ) (places : List ℕ) → length places ≡ 2 ^ cycle.lg_size → Shows cycle places →
-    cycle.stride ≡ stride_of cycle.lg_size key → IsAbsent key_of places key → EndsAt key_of cycle.lg_size places key place
+EndsForAbsent cycle key bucket = (key_of : ℕ → ℕ) (buckets : List ℕ) → length buckets ≡ 2 ^ cycle.lg_size → Shows cycle buckets →
+    cycle.stride ≡ stride_of cycle.lg_size key → IsAbsent key_of buckets key → EndsAt key_of cycle.lg_size buckets key bucket
 
--- it shows the places as they are once one is filled
+-- it shows the buckets as they are once one is filled
 abbrev pub Fills : {A : Type 0} → Cycle A → ℕ → Cycle A → Type 0
-Fills old place new = (places : List ℕ) (entry : ℕ) → length places ≡ 2 ^ old.lg_size → entry ≢ 0 → Shows old places → Shows new (slice_set places place entry)
+Fills old bucket new = (buckets : List ℕ) (entry : ℕ) → length buckets ≡ 2 ^ old.lg_size → entry ≢ 0 → Shows old buckets → Shows new (slice_set buckets bucket entry)
 
--- a cycle through these places
-pub record IsFor {A : Type 0} (lg : ℕ) (places : List ℕ) (cycle : Cycle A) : Type 0 where
+-- a cycle through these buckets
+pub record IsFor {A : Type 0} (lg : ℕ) (buckets : List ℕ) (cycle : Cycle A) : Type 0 where
   pub sound : IsSound cycle
   pub size : cycle.lg_size ≡ lg
-  pub shows : Shows cycle places
+  pub shows : Shows cycle buckets
 
--- a cycle after a place was filled
-pub record IsFilled {A : Type 0} (old : Cycle A) (place : ℕ) (new : Cycle A) : Type 0 where
+-- a cycle after a bucket was filled
+pub record IsFilled {A : Type 0} (old : Cycle A) (bucket : ℕ) (new : Cycle A) : Type 0 where
   pub sound : IsSound new
   pub size : new.lg_size ≡ old.lg_size
-  pub fills : Fills old place new
+  pub fills : Fills old bucket new
 
--- each of the cycles after a place was filled
-pub record AreFilled {A : Type 0} (old : List (Cycle A)) (place : ℕ) (new : List (Cycle A)) : Type 0 where
+-- each of the cycles after a bucket was filled
+pub record AreFilled {A : Type 0} (old : List (Cycle A)) (bucket : ℕ) (new : List (Cycle A)) : Type 0 where
   pub count : length new ≡ length old
-  pub each : (i : ℕ) (c : Cycle A) → i < length old → IsFilled (slice_index_or old i c) place (slice_index_or new i c)
+  pub each : (i : ℕ) (c : Cycle A) → i < length old → IsFilled (slice_index_or old i c) bucket (slice_index_or new i c)

@@ -19,10 +19,10 @@ abbrev pub fold_to : Pairs → ℕ → List ℕ
 fold_to P e = map (λ s. greatest (value_at e s) (items P)) (range_with_len 0 (2 ^ e))
 
 -- the pairs of registers, in ascending slots, the first of which is s
-abbrev pub words_from : ℕ → List ℕ → List ℕ
-words_from s [] = []
-words_from s (r ∷ R) = if r == 0 then words_from (s + 1) R else pair s r ∷ words_from (s + 1) R
+abbrev pub raw_coupons_from : ℕ → List ℕ → List ℕ
+raw_coupons_from s [] = []
+raw_coupons_from s (r ∷ R) = if r == 0 then raw_coupons_from (s + 1) R else pair s r ∷ raw_coupons_from (s + 1) R
 
 -- all pairs of a slot and its register where that is above 0
 abbrev pub pairs : List ℕ → Pairs
-pairs R = from_list (words_from 0 R)
+pairs R = from_list (raw_coupons_from 0 R)

@@ -5,15 +5,15 @@ use Rattle.std.specs.Int.{w64, leading_zeros}
 use Rattle.hll_base.specs.Hash.{Halves, hash, default_seed}
 use Rattle.hll_coupons.specs.Pair.{slot_of, pair}
 
--- the raw word of the two words of a hash: the slot is the low 26 bits of the first, the value is
+-- the raw coupon of the two words of a hash: the slot is the low 26 bits of the first, the value is
 -- one more than the leading zeros of the second, of which at most 62 count
 abbrev pub coupon_of_words : ℕ → ℕ → ℕ
 coupon_of_words lo hi = pair (slot_of lo) (min (leading_zeros w64 hi) 62 + 1)
 
--- the raw word of a hash
+-- the raw coupon of a hash
 abbrev pub coupon_of_halves : Halves → ℕ
 coupon_of_halves words = coupon_of_words words.first words.second
 
--- the raw word of the hash of bytes at the default seed
+-- the raw coupon of the hash of bytes at the default seed
 abbrev pub coupon_of_bytes : List ℕ → ℕ
 coupon_of_bytes bytes = coupon_of_halves (hash default_seed bytes)

@@ -6,7 +6,7 @@ use Rattle.hll_coupons.specs.Pair.{Pairs}
 use Rattle.hll_coupons.specs.Coupons.{IsAscending}
 use Rattle.hll_coupons.specs.Fold.{fold_to, pairs}
 use Rattle.hll_base.specs.Join.{join}
-use Rattle.hll_coupons.specs.Probe.{path, place_of, Passes, IsProbed, IsAbsent}
+use Rattle.hll_coupons.specs.Probe.{path, bucket_of, Passes, IsProbed, IsAbsent}
 
 -- a set has one ascending order
 abbrev pub OneAscendingOrder : Type 0
@@ -30,30 +30,30 @@ pub record JoinLaws : Type 0 where
 abbrev pub FoldOfRegisters : Type 0
 FoldOfRegisters = (R : List ℕ) (k : ℕ) → k ≤ 21 → length R ≡ 2 ^ k → fold_to (pairs R) k ≡ R
 
--- an odd stride meets each place at one index and no other
-abbrev pub MeetsEachPlaceOnce : Type 0
-MeetsEachPlaceOnce = (start stride lg place : ℕ) → stride % 2 ≡ 1 → place < 2 ^ lg →
-    (i : ℕ) × (i < 2 ^ lg) × (slice_index (path start stride lg) i ≡ place)
-    × ((j : ℕ) → j < 2 ^ lg → slice_index (path start stride lg) j ≡ place → j ≡ i)
+-- an odd stride meets each bucket at one index and no other
+abbrev pub MeetsEachBucketOnce : Type 0
+MeetsEachBucketOnce = (start stride lg bucket : ℕ) → stride % 2 ≡ 1 → bucket < 2 ^ lg →
+    (i : ℕ) × (i < 2 ^ lg) × (slice_index (path start stride lg) i ≡ bucket)
+    × ((j : ℕ) → j < 2 ^ lg → slice_index (path start stride lg) j ≡ bucket → j ≡ i)
 
--- an entry put into the empty place that its search met leaves each entry to be found
+-- an entry put into the empty bucket that its search met leaves each entry to be found
 abbrev pub FoundAfterInsert : Type 0
-FoundAfterInsert = (key_of : ℕ → ℕ) (lg : ℕ) (places : List ℕ) (entry i : ℕ) → IsProbed key_of lg places → entry ≢ 0 → i < 2 ^ lg →
-    Passes key_of lg places (key_of entry) i → slice_index places (place_of lg (key_of entry) i) ≡ 0 →
-    IsProbed key_of lg (slice_set places (place_of lg (key_of entry) i) entry)
+FoundAfterInsert = (key_of : ℕ → ℕ) (lg : ℕ) (buckets : List ℕ) (entry i : ℕ) → IsProbed key_of lg buckets → entry ≢ 0 → i < 2 ^ lg →
+    Passes key_of lg buckets (key_of entry) i → slice_index buckets (bucket_of lg (key_of entry) i) ≡ 0 →
+    IsProbed key_of lg (slice_set buckets (bucket_of lg (key_of entry) i) entry)
 
--- a search that meets an empty place shows that the key is absent
+-- a search that meets an empty bucket shows that the key is absent
 abbrev pub AbsentAtEmpty : Type 0
-AbsentAtEmpty = (key_of : ℕ → ℕ) (lg : ℕ) (places : List ℕ) (key i : ℕ) → IsProbed key_of lg places →
-    Passes key_of lg places key i → slice_index places (place_of lg key i) ≡ 0 → IsAbsent key_of places key
+AbsentAtEmpty = (key_of : ℕ → ℕ) (lg : ℕ) (buckets : List ℕ) (key i : ℕ) → IsProbed key_of lg buckets →
+    Passes key_of lg buckets key i → slice_index buckets (bucket_of lg key i) ≡ 0 → IsAbsent key_of buckets key
 
 -- so does a search that went through the whole table
 abbrev pub AbsentFromFull : Type 0
-AbsentFromFull = (key_of : ℕ → ℕ) (lg : ℕ) (places : List ℕ) (key : ℕ) → length places ≡ 2 ^ lg →
-    Passes key_of lg places key (2 ^ lg) → IsAbsent key_of places key
+AbsentFromFull = (key_of : ℕ → ℕ) (lg : ℕ) (buckets : List ℕ) (key : ℕ) → length buckets ≡ 2 ^ lg →
+    Passes key_of lg buckets key (2 ^ lg) → IsAbsent key_of buckets key
 
 -- no key stands twice
 abbrev pub KeysAreDistinct : Type 0
-KeysAreDistinct = (key_of : ℕ → ℕ) (lg : ℕ) (places : List ℕ) (p q : ℕ) → IsProbed key_of lg places →
-    p < length places → q < length places → slice_index places p ≢ 0 → slice_index places q ≢ 0 →
-    key_of (slice_index places p) ≡ key_of (slice_index places q) → p ≡ q
+KeysAreDistinct = (key_of : ℕ → ℕ) (lg : ℕ) (buckets : List ℕ) (p q : ℕ) → IsProbed key_of lg buckets →
+    p < length buckets → q < length buckets → slice_index buckets p ≢ 0 → slice_index buckets q ≢ 0 →
+    key_of (slice_index buckets p) ≡ key_of (slice_index buckets q) → p ≡ q

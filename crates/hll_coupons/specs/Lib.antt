@@ -17,4 +17,4 @@ pub mod Reading
 pub mod Same
 pub mod Storage
 pub mod Table
-pub mod Words
+pub mod Blocks

@@ -1,5 +1,5 @@
 -- SPDX-License-Identifier: Apache-2.0
--- How the places of an image were read.
+-- How the buckets of an image were read.
 use Rattle.hll_coupons.specs.declared.hash_set.Reading.{Reading}
 use Rattle.hll_coupons.specs.declared.hash_set.Reading.TheVariants.{Whole, Cut}
 

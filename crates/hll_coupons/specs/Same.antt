@@ -10,7 +10,7 @@ use Rattle.hll_coupons.specs.AuxMap.{ExceptionMap}
 use Rattle.hll_coupons.specs.Pair.{Pairs}
 use Rattle.hll_coupons.specs.Table.{Table, coupons_of}
 
--- each coupon of one is in the other; size and places don't count
+-- each coupon of one is in the other; size and buckets don't count
 abbrev pub have_same_coupons : Table → Table → Bool
 have_same_coupons t u = is_subset (coupons_of t) (coupons_of u) && is_subset (coupons_of u) (coupons_of t)
 
@@ -46,7 +46,7 @@ have_same_coupons-equivalence = equiv have_same_coupons-partial (λ t. same_coup
 
 -- ---- maps
 
--- the same lg_k and the same entries; places don't count
+-- the same lg_k and the same entries; buckets don't count
 abbrev pub have_same_entries : ExceptionMap → ExceptionMap → Bool
 have_same_entries m n = nat_eq m.lg_k n.lg_k && have_same_coupons m.table n.table
 

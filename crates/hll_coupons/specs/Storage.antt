@@ -1,10 +1,10 @@
 -- SPDX-License-Identifier: Apache-2.0
--- Places for coupons, in the value itself or in memory of their own.
+-- Buckets for coupons, in the value itself or in memory of their own.
 use Rattle.std.specs.Prelude.{ℕ, List}
 use Rattle.hll_coupons.specs.declared.storage.Storage.{Storage}
 use Rattle.hll_coupons.specs.declared.storage.Storage.TheVariants.{InValue, Allocated}
 
--- the places, in their order
-abbrev pub places_in : {A : Type 0} → Storage A → List ℕ
-places_in (InValue coupons alloc) = coupons
-places_in (Allocated coupons) = coupons.items
+-- the buckets, in their order
+abbrev pub buckets_in : {A : Type 0} → Storage A → List ℕ
+buckets_in (InValue coupons alloc) = coupons
+buckets_in (Allocated coupons) = coupons.items

@@ -1,40 +1,40 @@
 -- SPDX-License-Identifier: Apache-2.0
--- A table of places for coupons, in their order (docs/MODEL.md, "Tables").
+-- A table of buckets for coupons, in their order (docs/MODEL.md, "Tables").
 use Rattle.std.specs.Prelude.{ℕ, ◌≡◌, ◌-◌, ◌^◌, ◌≤◌, List, [], ◌∷◌, ◌++◌, filter, nat_lt, length, All, replicate, if◌then◌else◌}
 use Rattle.std.specs.FinSet as set
 use Rattle.hll_coupons.specs.Pair.{Pairs, IsPair, set_of}
 
--- the logarithm of the number of places, and the places, where 0 stands for an empty one
+-- the logarithm of the number of buckets, and the buckets, where 0 stands for an empty one
 pub record Table : Type 0 where
   pub lg_size : ℕ
-  pub places : List ℕ
+  pub buckets : List ℕ
 
--- the coupons of places, in their order
+-- the coupons of buckets, in their order
 abbrev pub coupons_in : List ℕ → List ℕ
-coupons_in places = filter (λ c. nat_lt 0 c) places
+coupons_in buckets = filter (λ c. nat_lt 0 c) buckets
 
 -- the coupons of a table as a set
 abbrev pub coupons_of : Table → Pairs
-coupons_of t = set_of (coupons_in t.places)
+coupons_of t = set_of (coupons_in t.buckets)
 
--- a table has a power of two of places, and its coupons are distinct and have values
+-- a table has a power of two of buckets, and its coupons are distinct and have values
 pub record IsTable (t : Table) : Type 0 where
   pub small : t.lg_size ≤ 26
-  pub size : length t.places ≡ 2 ^ t.lg_size
-  pub distinct : set.len (coupons_of t) ≡ length (coupons_in t.places)
-  pub valued : All IsPair (coupons_in t.places)
+  pub size : length t.buckets ≡ 2 ^ t.lg_size
+  pub distinct : set.len (coupons_of t) ≡ length (coupons_in t.buckets)
+  pub valued : All IsPair (coupons_in t.buckets)
 
 -- a table with no coupon
 abbrev pub empty_table : ℕ → Table
-empty_table lg_size = record { lg_size = lg_size; places = replicate (2 ^ lg_size) 0 }
+empty_table lg_size = record { lg_size = lg_size; buckets = replicate (2 ^ lg_size) 0 }
 
--- the coupons stand in the first places, with no gap between them
+-- the coupons stand in the first buckets, with no gap between them
 abbrev pub IsFilledFromFront : Table → Type 0
-IsFilledFromFront t = t.places ≡ coupons_in t.places ++ replicate (2 ^ t.lg_size - length (coupons_in t.places)) 0
+IsFilledFromFront t = t.buckets ≡ coupons_in t.buckets ++ replicate (2 ^ t.lg_size - length (coupons_in t.buckets)) 0
 
--- a table whose coupons stand in the first places in this order
+-- a table whose coupons stand in the first buckets in this order
 abbrev pub filled_from_front : ℕ → List ℕ → Table
-filled_from_front lg_size order = record { lg_size = lg_size; places = order ++ replicate (2 ^ lg_size - length order) 0 }
+filled_from_front lg_size order = record { lg_size = lg_size; buckets = order ++ replicate (2 ^ lg_size - length order) 0 }
 
 -- a list of coupons with one more at its end, unless it is there already
 abbrev pub coupons_with : List ℕ → ℕ → List ℕ

@@ -34,7 +34,7 @@ impl<A: Allocator + Clone> HashSet<A> {
         others.table_is_legal();
         let mut count = self.container.len();
         for coupon in others.iter() {
-            let has = match self.has_shortly(coupon) {
+            let has = match self.has_bounded(coupon) {
                 Some(has) => has,
                 None if others.len() <= WALKED => self.contains(coupon),
                 None => match self.ascending() {
@@ -50,7 +50,7 @@ impl<A: Allocator + Clone> HashSet<A> {
     /// A copy of the coupons in ascending order. Fails with `Memory`.
     fn ascending(&self) -> Result<Vec<Coupon, A>, Error>
         ensures ok { IfOk result (λ own. IsAscending own.items (coupons_of self.now)) }
-        ensures count { IfOk result (λ own. length own.items ≡ length (coupons_in self.now.places)) }
+        ensures count { IfOk result (λ own. length own.items ≡ length (coupons_in self.now.buckets)) }
         ensures err { IfErr result (λ e. e ≡ Memory) }
     {
         let alloc = self.container.allocator().clone()?;
@@ -71,7 +71,7 @@ impl<A: Allocator + Clone> HashSet<A> {
         // (brings the invariant of a set)
         let _container = self.container();
         for coupon in others.iter() {
-            match self.insert_shortly(coupon) {
+            match self.insert_bounded(coupon) {
                 Some(_) => {}
                 None if self.update_by_order(others) => return,
                 None => self.update(coupon),
@@ -79,8 +79,8 @@ impl<A: Allocator + Clone> HashSet<A> {
         }
     }
 
-    /// The same, by a copy in order, if the table has more than eight coupons. Whether it was added, as it is unless memory for
-    /// the copy is refused; else nothing has changed.
+    /// Adds the coupons of a table by a copy in order, if the table has more than eight. Returns whether it did: it does
+    /// unless the copy's memory is refused, and then nothing has changed.
     #[inline(never)]
     fn update_by_order(&mut self, others: &Container<A>) -> bool
         requires { len (union (coupons_of self.old) (coupons_of others.now)) ≤ 2 ^ self.old.lg_size }
@@ -118,7 +118,7 @@ fn count_of_both<A: Allocator>(own: &[Coupon], others: &Container<A>) -> usize
 
 /// Puts the coupons of another table that a table lacks, whose own ascend here. There is room for them.
 ///
-/// Takes memory by this allocator where long searches have become dear, and goes on without where that is refused.
+/// Takes memory by this allocator where long searches have become expensive, and goes on without where that is refused.
 fn put_lacking<A: Allocator, B: Allocator + Clone>(
     table: &mut Container<A>,
     alloc: B,
@@ -150,16 +150,21 @@ fn put_new<A: Allocator, B: Allocator + Clone>(
     requires valued { 1 ≤ value_of coupon }
     requires set { IsHashSet table.old }
     requires new { contains (coupons_of table.old) coupon ≡ false }
-    requires room { length (coupons_in table.old.places) < 2 ^ table.old.lg_size }
-    requires cycles { AreFor table.old.lg_size table.old.places searches.old }
+    requires room { length (coupons_in table.old.buckets) < 2 ^ table.old.lg_size }
+    requires cycles { AreFor table.old.lg_size table.old.buckets searches.old }
     ensures size { table.new.lg_size ≡ table.old.lg_size }
     ensures members { coupons_of table.new ≡ insert (coupons_of table.old) coupon }
     ensures set { IsHashSet table.new }
-    ensures cycles { AreFor table.new.lg_size table.new.places searches.new }
+    ensures cycles { AreFor table.new.lg_size table.new.buckets searches.new }
 {
-    let place = searches.end_or_walk(Key::Word, table.lg_size(), table.places(), coupon.raw());
-    table.put(place, coupon);
-    searches.fill(place);
+    let bucket = searches.end_or_walk(
+        Key::RawCoupon,
+        table.lg_size(),
+        table.buckets(),
+        coupon.raw(),
+    );
+    table.put(bucket, coupon);
+    searches.fill(bucket);
 }
 
 /// Whether coupons that ascend have this one.

@@ -23,8 +23,8 @@ use std::alloc::{Allocator, Global};
 use std::marker::Model;
 
 /// A map from slots below 2^`lg_config_k` to values of 1 to 63, in a table that is searched by slot. At most three
-/// quarters of the places are filled, and the table has the least such size, from the start size up (docs/FORMAT.md,
-/// "Probing"). Contracts see `lg_config_k`, the size and the list of places; the entries are a function of it.
+/// quarters of the buckets are filled, and the table has the least such size, from the start size up (docs/FORMAT.md,
+/// "Probing"). Contracts see `lg_config_k`, the size and the list of buckets; the entries are a function of it.
 #[derive_where(Debug)]
 #[derive(Drop)]
 pub struct AuxMap<A: Allocator = Global> {
@@ -43,7 +43,7 @@ impl<A: Allocator> Model for AuxMap<A> {
 }
 
 impl<A: Allocator> AuxMap<A> {
-    /// No entries, and places of the start size, four bytes each.
+    /// No entries, and buckets of the start size, four bytes each.
     ///
     /// `lg_config_k` is 4 to 21. Fails with `Memory`.
     pub fn new(alloc: A, lg_config_k: u8) -> Result<AuxMap<A>, Error>
@@ -69,7 +69,7 @@ impl<A: Allocator> AuxMap<A> {
 
     /// How many entries there are.
     pub fn len(&self) -> usize
-        ensures count { result ≡ length (coupons_in self.now.table.places) }
+        ensures count { result ≡ length (coupons_in self.now.table.buckets) }
         ensures map { IsMap self.now }
     {
         self.table.len()
@@ -81,21 +81,21 @@ impl<A: Allocator> AuxMap<A> {
         ensures value { result ≡ value_in self.now slot }
         ensures small { IfSome result (λ v. (1 ≤ v) × (v ≤ 63)) }
     {
-        let places = self.table.places();
-        let place = search(Key::Slot, self.table.lg_size(), places, slot)?;
-        value_of_place(places[place])
+        let buckets = self.table.buckets();
+        let bucket = search(Key::Slot, self.table.lg_size(), buckets, slot)?;
+        value_of_bucket(buckets[bucket])
     }
 
-    /// The same by a short search; nothing where it was cut off.
-    pub fn get_shortly(&self, slot: u32) -> Option<Option<u8>>
+    /// The value of a slot below 2^`lg_config_k`, if it has one, by a short search. `None` where the search was cut off.
+    pub fn get_bounded(&self, slot: u32) -> Option<Option<u8>>
         requires { slot < 2 ^ self.now.lg_k }
         ensures value { IfSome result (λ value. value ≡ value_in self.now slot) }
         ensures small { IfSome result (λ value. IfSome value (λ v. (1 ≤ v) × (v ≤ 63))) }
     {
-        let places = self.table.places();
-        let limit = SHORT_BY_SLOT.min(places.len());
-        let place = search_within(Key::Slot, self.table.lg_size(), places, slot, limit)?;
-        Some(value_of_place(places[place]))
+        let buckets = self.table.buckets();
+        let limit = SHORT_BY_SLOT.min(buckets.len());
+        let bucket = search_within(Key::Slot, self.table.lg_size(), buckets, slot, limit)?;
+        Some(value_of_bucket(buckets[bucket]))
     }
 
     /// Gives a slot that has a value another one, at the same place.
@@ -106,15 +106,15 @@ impl<A: Allocator> AuxMap<A> {
         requires least { 1 ≤ value }
         requires most { value ≤ 63 }
         requires present { value_in self.old slot ≢ None }
-        ensures places { self.new ≡ with_value self.old slot value }
+        ensures buckets { self.new ≡ with_value self.old slot value }
         ensures values { (s : ℕ) → value_in self.new s ≡ (if s == slot then Some value else value_in self.old s) }
         ensures map { IsMap self.new }
     {
-        let places = self.table.places();
-        let Some(place) = search(Key::Slot, self.table.lg_size(), places, slot) else {
+        let buckets = self.table.buckets();
+        let Some(bucket) = search(Key::Slot, self.table.lg_size(), buckets, slot) else {
             unreachable!()
         };
-        self.table.replace(place, Coupon::pack(slot, value));
+        self.table.replace(bucket, Coupon::pack(slot, value));
     }
 
     /// Whether the map has this entry.
@@ -122,9 +122,9 @@ impl<A: Allocator> AuxMap<A> {
         requires { 1 ≤ value_of entry }
         ensures { result ≡ set.contains (coupons_of self.now.table) entry }
     {
-        let places = self.table.places();
-        match search(Key::Slot, self.table.lg_size(), places, entry.slot()) {
-            Some(place) => places[place] == entry,
+        let buckets = self.table.buckets();
+        match search(Key::Slot, self.table.lg_size(), buckets, entry.slot()) {
+            Some(bucket) => buckets[bucket] == entry,
             None => false,
         }
     }
@@ -148,18 +148,18 @@ impl<A: Allocator> AuxMap<A> {
         self.table.len() == other.table.len() && other.has_all(self)
     }
 
-    /// A copy of the entries as coupons, in ascending raw words.
+    /// A copy of the entries as coupons, in ascending raw coupons.
     ///
     /// Takes four bytes an entry, in one request. Fails with `Memory`.
     pub fn ascending<B: Allocator>(&self, alloc: B) -> Result<Vec<Coupon, B>, Error>
         ensures ok { IfOk result (λ entries. IsAscending entries.items (coupons_of self.now.table)) }
-        ensures count { IfOk result (λ entries. length entries.items ≡ length (coupons_in self.now.table.places)) }
+        ensures count { IfOk result (λ entries. length entries.items ≡ length (coupons_in self.now.table.buckets)) }
         ensures err { IfErr result (λ e. e ≡ Memory) }
     {
         self.table.ascending(alloc)
     }
 
-    /// The entries in the order of their places, each once.
+    /// The entries in the order of their buckets, each once.
     pub fn iter(&self) -> AuxMapRefIter<'_>
         ensures { result ≡ entries_in self.now }
     {
@@ -173,7 +173,7 @@ impl<A: Allocator> AuxMap<A> {
         self.table.allocator()
     }
 
-    /// The bytes of all places, four each.
+    /// The bytes of all buckets, four each.
     pub fn estimated_size(&self) -> usize
         ensures { result ≡ 4 * 2 ^ self.now.table.lg_size }
     {
@@ -182,8 +182,8 @@ impl<A: Allocator> AuxMap<A> {
 }
 
 impl<A: Allocator + Clone> AuxMap<A> {
-    /// Gives a slot without a value one. If more than three quarters of the places are then filled, the entries move to
-    /// a table of twice as many, in the order of their places.
+    /// Gives a slot without a value one. If more than three quarters of the buckets are then filled, the entries move to
+    /// a table of twice as many, in the order of their buckets.
     ///
     /// `slot` is below 2^`lg_config_k` and has no value, and `value` is 1 to 63. Fails with `Memory`, only if the table
     /// has to grow, and then changes nothing.
@@ -193,13 +193,13 @@ impl<A: Allocator + Clone> AuxMap<A> {
         requires most { value ≤ 63 }
         requires absent { value_in self.old slot ≡ None }
         ensures lg_k { OnOk result (self.new.lg_k ≡ self.old.lg_k) }
-        ensures places { OnOk result (Inserts self.old.table (pair slot value) self.new.table) }
+        ensures buckets { OnOk result (Inserts self.old.table (pair slot value) self.new.table) }
         ensures members { OnOk result (coupons_of self.new.table ≡ set.insert (coupons_of self.old.table) (pair slot value)) }
         ensures values { OnOk result ((s : ℕ) → value_in self.new s ≡ (if s == slot then Some value else value_in self.old s)) }
         ensures map { OnOk result (IsMap self.new) }
         ensures unchanged { OnErr result (self.new ≡ self.old) }
         ensures err { IfErr result (λ e. e ≡ Memory) }
-        ensures never { table_size self.old.lg_k (length (coupons_in self.old.table.places) + 1) ≡ self.old.table.lg_size → IsOk result }
+        ensures never { table_size self.old.lg_k (length (coupons_in self.old.table.buckets) + 1) ≡ self.old.table.lg_size → IsOk result }
     {
         let entry = Coupon::pack(slot, value);
         if 4 * (self.table.len() + 1) <= 3 * self.table.capacity() {
@@ -210,7 +210,7 @@ impl<A: Allocator + Clone> AuxMap<A> {
         Ok(())
     }
 
-    /// The same by these searches of the table, which it needs no more where it grows.
+    /// Gives a slot without a value one, by these searches of the table, which it needs no more where it grows.
     ///
     /// Fails with `Memory`, and then changes nothing.
     pub(crate) fn insert_by(
@@ -223,15 +223,15 @@ impl<A: Allocator + Clone> AuxMap<A> {
         requires least { 1 ≤ value }
         requires most { value ≤ 63 }
         requires absent { value_in self.old slot ≡ None }
-        requires cycles { AreFor self.old.table.lg_size self.old.table.places searches.old }
+        requires cycles { AreFor self.old.table.lg_size self.old.table.buckets searches.old }
         ensures lg_k { OnOk result (self.new.lg_k ≡ self.old.lg_k) }
-        ensures places { OnOk result (Inserts self.old.table (pair slot value) self.new.table) }
+        ensures buckets { OnOk result (Inserts self.old.table (pair slot value) self.new.table) }
         ensures members { OnOk result (coupons_of self.new.table ≡ set.insert (coupons_of self.old.table) (pair slot value)) }
         ensures values { OnOk result ((s : ℕ) → value_in self.new s ≡ (if s == slot then Some value else value_in self.old s)) }
         ensures map { OnOk result (IsMap self.new) }
         ensures unchanged { OnErr result (self.new ≡ self.old) }
         ensures err { IfErr result (λ e. e ≡ Memory) }
-        ensures cycles { AreFor self.new.table.lg_size self.new.table.places searches.new }
+        ensures cycles { AreFor self.new.table.lg_size self.new.table.buckets searches.new }
     {
         let entry = Coupon::pack(slot, value);
         if 3 * self.table.capacity() < 4 * (self.table.len() + 1) {
@@ -243,7 +243,7 @@ impl<A: Allocator + Clone> AuxMap<A> {
         Ok(())
     }
 
-    /// A copy, with the same places.
+    /// A copy, with the same buckets.
     ///
     /// Fails with `Memory`.
     pub fn clone(&self) -> Result<AuxMap<A>, Error>
@@ -272,8 +272,8 @@ fn start_size(lg_config_k: u8) -> usize
     }
 }
 
-/// The value of an entry, none of an empty place.
-fn value_of_place(entry: Coupon) -> Option<u8>
+/// The value of an entry, none of an empty bucket.
+fn value_of_bucket(entry: Coupon) -> Option<u8>
     ensures { result ≡ (if entry == 0 then None else Some (value_of entry)) }
 {
     if entry.is_empty() {
@@ -283,39 +283,39 @@ fn value_of_place(entry: Coupon) -> Option<u8>
     }
 }
 
-/// Puts an entry into a table, and moves all entries to a table of twice as many places, in the order of their places.
+/// Puts an entry into a table, and moves all entries to a table of twice as many buckets, in the order of their buckets.
 ///
 /// A refusal changes nothing.
 fn put_growing<A: Allocator + Clone>(table: &mut Container<A>, entry: Coupon) -> Result<(), Error>
-    requires probed { IsProbed slot_of table.old.lg_size table.old.places }
+    requires probed { IsProbed slot_of table.old.lg_size table.old.buckets }
     requires valued { 1 ≤ value_of entry }
-    requires absent { IsAbsent slot_of table.old.places (slot_of entry) }
-    requires room { length (coupons_in table.old.places) < 2 ^ table.old.lg_size }
+    requires absent { IsAbsent slot_of table.old.buckets (slot_of entry) }
+    requires room { length (coupons_in table.old.buckets) < 2 ^ table.old.lg_size }
     requires small { table.old.lg_size < 26 }
     ensures ok { OnOk result (IsGrownFrom table.old entry table.new) }
-    ensures probed { OnOk result (IsProbed slot_of table.new.lg_size table.new.places) }
+    ensures probed { OnOk result (IsProbed slot_of table.new.lg_size table.new.buckets) }
     ensures members { OnOk result (coupons_of table.new ≡ set.insert (coupons_of table.old) entry) }
-    ensures count { OnOk result (length (coupons_in table.new.places) ≡ length (coupons_in table.old.places) + 1) }
+    ensures count { OnOk result (length (coupons_in table.new.buckets) ≡ length (coupons_in table.old.buckets) + 1) }
     ensures table { OnOk result (IsTable table.new) }
     ensures unchanged { OnErr result (table.new ≡ table.old) }
     ensures err { IfErr result (λ e. e ≡ Memory) }
 {
     table.table_is_legal();
     let mut larger = Container::new(table.allocator().clone()?, table.lg_size() + 1)?;
-    let place = put_entry(table, Key::Slot, entry);
-    match put_all(&mut larger, Key::Slot, table.places()) {
+    let bucket = put_entry(table, Key::Slot, entry);
+    match put_all(&mut larger, Key::Slot, table.buckets()) {
         Ok(()) => {
             *table = larger;
             Ok(())
         }
         Err(e) => {
-            table.take_out(place);
+            table.take_out(bucket);
             Err(e)
         }
     }
 }
 
-/// Maps are equal if their `lg_config_k` and entries are; places don't count. Looks up each entry of one in the other;
+/// Maps are equal if their `lg_config_k` and entries are; buckets don't count. Looks up each entry of one in the other;
 /// takes no memory.
 impl<A: Allocator> PartialEq for AuxMap<A> {
     ghost use Rattle.hll_coupons.specs.Same.{have_same_entries, have_same_entries-partial};
@@ -342,14 +342,14 @@ impl<A: Allocator> IntoIterator for AuxMap<A> {
 
     ghost into_iter_gives = { λ m entries. entries ≡ entries_in m };
 
-    /// The entries in the order of their places, each once.
+    /// The entries in the order of their buckets, each once.
     fn into_iter(self) -> AuxMapIter<A> {
         let AuxMap { table, .. } = self;
-        AuxMapIter { table, place: 0 }
+        AuxMapIter { table, bucket: 0 }
     }
 }
 
-/// The entries of a map that are left to give, in the order of their places. Contracts see the list of them.
+/// The entries of a map that are left to give, in the order of their buckets. Contracts see the list of them.
 #[derive(Debug, Drop)]
 pub struct AuxMapRefIter<'a> {
     entries: ContainerIter<'a>,
@@ -377,12 +377,12 @@ impl<'a> Iterator for AuxMapRefIter<'a> {
     }
 }
 
-/// The entries of a map that is used up, those that are left to give, in the order of their places. Contracts see the
+/// The entries of a map that is used up, those that are left to give, in the order of their buckets. Contracts see the
 /// list of them.
 #[derive(Drop)]
 pub struct AuxMapIter<A: Allocator = Global> {
     table: Container<A>,
-    place: usize,
+    bucket: usize,
 }
 
 impl<A: Allocator> Model for AuxMapIter<A> {
@@ -392,7 +392,7 @@ impl<A: Allocator> Model for AuxMapIter<A> {
 
     ghost Value = { List (ℕ × ℕ) };
 
-    ghost view = { λ r. map entry_of (coupons_in (drop r.place r.table.places)) };
+    ghost view = { λ r. map entry_of (coupons_in (drop r.bucket r.table.buckets)) };
 }
 
 impl<A: Allocator> Iterator for AuxMapIter<A> {
@@ -403,8 +403,8 @@ impl<A: Allocator> Iterator for AuxMapIter<A> {
     ghost remaining = { item_count (λ s. s) };
 
     fn next(&mut self) -> Option<(u32, u8)> {
-        while let Some(entry) = self.table.places().get(self.place) {
-            self.place += 1;
+        while let Some(entry) = self.table.buckets().get(self.bucket) {
+            self.bucket += 1;
             if !entry.is_empty() {
                 return Some((entry.slot(), entry.value()));
             }

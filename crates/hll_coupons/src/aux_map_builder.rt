@@ -3,11 +3,11 @@
 ghost use Rattle.std.specs.Prelude.{◌≡◌, ◌≢◌, ◌↔◌, ◌*◌, ◌^◌, ◌<◌, ◌≤◌, ◌==◌, ℕ, if◌then◌else◌, length, None, Some, IsTrue, IfOk, IfErr, IfSome, OnOk, OnErr};
 ghost use Rattle.hll_base.specs.declared.error.Reason.TheVariants.{Memory};
 ghost use Rattle.hll_coupons.specs.AuxMap.{empty_map, value_in, IsMap, MarksValues};
-ghost use Rattle.hll_coupons.specs.Words.{bit_of};
+ghost use Rattle.hll_coupons.specs.Blocks.{bit_of};
 
 use crate::aux_map::AuxMap;
+use crate::blocks::{is_set, set};
 use crate::long_searches::LongSearches;
-use crate::words::{is_set, set};
 use hll_base::error::Error;
 use std::alloc::{Allocator, Global};
 use std::marker::Model;
@@ -15,7 +15,7 @@ use std::marker::Model;
 /// A map of exceptions that is filled entry by entry, in time that the number of entries bounds, wherever their searches
 /// go. Contracts see the map.
 ///
-/// Takes the memory of the map. Where searches have become dear, takes more: a bit for each slot, and bitmaps of places
+/// Takes the memory of the map. Where searches have become expensive, takes more: a bit for each slot, and bitmaps of buckets
 /// (docs/OPERATING.md).
 #[derive(Drop)]
 pub struct AuxMapBuilder<A: Allocator = Global> {
@@ -34,7 +34,7 @@ impl<A: Allocator> Model for AuxMapBuilder<A> {
 
     ghost view = { λ b. b.map };
 
-    ghost invariant = { λ b. AreFor b.map.table.lg_size b.map.table.places b.searches × IfSome b.marks (λ words. MarksValues b.map words.items) };
+    ghost invariant = { λ b. AreFor b.map.table.lg_size b.map.table.buckets b.searches × IfSome b.marks (λ blocks. MarksValues b.map blocks.items) };
 }
 
 impl<A: Allocator> AuxMapBuilder<A> {
@@ -75,7 +75,7 @@ impl<A: Allocator + Clone> AuxMapBuilder<A> {
         ensures unchanged { self.new ≡ self.old }
         ensures err { IfErr result (λ e. e ≡ Memory) }
     {
-        if let Some(value) = self.map.get_shortly(slot) {
+        if let Some(value) = self.map.get_bounded(slot) {
             return Ok(value.is_some());
         }
         has_mark(&self.map, &mut self.marks, slot)
@@ -97,8 +97,8 @@ impl<A: Allocator + Clone> AuxMapBuilder<A> {
         ensures err { IfErr result (λ e. e ≡ Memory) }
     {
         self.map.insert_by(&mut self.searches, slot, value)?;
-        if let Some(words) = &mut self.marks {
-            set(words, slot as usize);
+        if let Some(blocks) = &mut self.marks {
+            set(blocks, slot as usize);
         }
         Ok(())
     }
@@ -114,39 +114,39 @@ fn has_mark<A: Allocator + Clone>(
     slot: u32,
 ) -> Result<bool, Error>
     requires within { slot < 2 ^ map.now.lg_k }
-    requires marks { IfSome marks.old (λ words. MarksValues map.now words.items) }
+    requires marks { IfSome marks.old (λ blocks. MarksValues map.now blocks.items) }
     ensures has { IfOk result (λ has. IsTrue has ↔ (value_in map.now slot ≢ None)) }
-    ensures marks { IfSome marks.new (λ words. MarksValues map.now words.items) }
+    ensures marks { IfSome marks.new (λ blocks. MarksValues map.now blocks.items) }
     ensures err { IfErr result (λ e. e ≡ Memory) }
 {
-    if let Some(words) = &*marks {
-        return Ok(is_set(words, slot as usize));
+    if let Some(blocks) = &*marks {
+        return Ok(is_set(blocks, slot as usize));
     }
-    let words = marks_of(map)?;
-    let has = is_set(&words, slot as usize);
-    *marks = Some(words);
+    let blocks = marks_of(map)?;
+    let has = is_set(&blocks, slot as usize);
+    *marks = Some(blocks);
     Ok(has)
 }
 
 /// A bit for each slot, which is set where it has a value. Fails with `Memory`.
 fn marks_of<A: Allocator + Clone>(map: &AuxMap<A>) -> Result<Vec<u64, A>, Error>
-    ensures ok { IfOk result (λ words. MarksValues map.now words.items) }
+    ensures ok { IfOk result (λ blocks. MarksValues map.now blocks.items) }
     ensures err { IfErr result (λ e. e ≡ Memory) }
 {
     let size = (1usize << map.lg_config_k()) / 64 + 1;
-    let mut words = vec![in map.allocator().clone()?; 0u64; size]?;
-    mark_slots(&mut words, map);
-    Ok(words)
+    let mut blocks = vec![in map.allocator().clone()?; 0u64; size]?;
+    mark_slots(&mut blocks, map);
+    Ok(blocks)
 }
 
 /// Sets the bit of each slot that has a value.
-fn mark_slots<A: Allocator>(words: &mut [u64], map: &AuxMap<A>)
+fn mark_slots<A: Allocator>(blocks: &mut [u64], map: &AuxMap<A>)
     requires map { IsMap map.now }
-    requires room { 2 ^ map.now.lg_k ≤ 64 * length words.old }
-    requires none { (s : ℕ) → bit_of words.old s ≡ 0 }
-    ensures { MarksValues map.now words.new }
+    requires room { 2 ^ map.now.lg_k ≤ 64 * length blocks.old }
+    requires none { (s : ℕ) → bit_of blocks.old s ≡ 0 }
+    ensures { MarksValues map.now blocks.new }
 {
     for (slot, _) in map.iter() {
-        set(words, slot as usize);
+        set(blocks, slot as usize);
     }
 }

@@ -1,6 +1,6 @@
 // SPDX-License-Identifier: Apache-2.0
 //! Coupons of many sketches, gathered in any order before they are put into a table together. So a union of many small
-//! sketches costs one sort of their coupons, however long the searches of their places are (docs/OPERATING.md,
+//! sketches costs one sort of their coupons, however long the searches of their buckets are (docs/OPERATING.md,
 //! "Images from others").
 ghost use Rattle.std.specs.Prelude.{◌≡◌, ℕ, ◌+◌, ◌*◌, ◌^◌, ◌<◌, ◌≤◌, ◌++◌, [], ◌∷◌, length, vec_len, IfOk, IfErr, OnOk, OnErr, All};
 ghost use Rattle.hll_base.specs.declared.error.Reason.TheVariants.{Memory};
@@ -8,18 +8,18 @@ ghost use Rattle.hll_coupons.specs.Coupons.{IsAscending};
 ghost use Rattle.hll_coupons.specs.Pair.{IsPair, set_of};
 ghost use Rattle.hll_coupons.specs.Table.{coupons_in, coupons_of};
 
-use crate::container::{Container, places_of};
+use crate::container::{Container, buckets_of};
 use crate::coupon::Coupon;
-use crate::raw_words::RawWords;
+use crate::raw_coupons::RawCouponIter;
 use hll_base::error::Error;
 use std::alloc::{Allocator, Global};
 use std::marker::Model;
 
-/// The most coupons of a batch: a table of 2^26 places holds them.
+/// The most coupons of a batch: a table of 2^26 buckets holds them.
 pub const MOST_IN_BATCH: usize = (1 << 26) - 1;
 
 /// Coupons in the order in which they came, up to 2^26 - 1, any of them more than once. Contracts see the list of their raw
-/// words.
+/// coupons.
 #[derive(Drop)]
 pub struct CouponBatch<A: Allocator = Global> {
     coupons: Vec<Coupon, A>,
@@ -55,12 +55,12 @@ impl<A: Allocator> CouponBatch<A> {
         self.coupons.len()
     }
 
-    /// The same coupons, and those of a table behind them.
+    /// Appends the coupons of a table.
     ///
     /// Together they are fewer than 2^26. Fails with `Memory`.
     pub fn with_table<B: Allocator>(self, table: &Container<B>) -> Result<CouponBatch<A>, Error>
-        requires room { length self + length (coupons_in table.now.places) < 2 ^ 26 }
-        ensures ok { IfOk result (λ batch. batch ≡ self ++ coupons_in table.now.places) }
+        requires room { length self + length (coupons_in table.now.buckets) < 2 ^ 26 }
+        ensures ok { IfOk result (λ batch. batch ≡ self ++ coupons_in table.now.buckets) }
         ensures pairs { IfOk result (λ batch. All IsPair batch) }
         ensures err { IfErr result (λ e. e ≡ Memory) }
     {
@@ -72,26 +72,29 @@ impl<A: Allocator> CouponBatch<A> {
         Ok(CouponBatch { coupons })
     }
 
-    /// The same coupons, and those of raw words behind them.
+    /// Appends the coupons of raw coupons.
     ///
-    /// Each word is that of a coupon, and together they are fewer than 2^26. Fails with `Memory`.
-    pub fn with_words(self, mut words: RawWords<'_>) -> Result<CouponBatch<A>, Error>
-        requires pairs { All IsPair words }
-        requires room { length self + length words < 2 ^ 26 }
-        ensures ok { IfOk result (λ batch. batch ≡ self ++ words.entry) }
+    /// Each raw coupon is that of a coupon, and together they are fewer than 2^26. Fails with `Memory`.
+    pub fn with_raw_coupons(
+        self,
+        mut raw_coupons: RawCouponIter<'_>,
+    ) -> Result<CouponBatch<A>, Error>
+        requires pairs { All IsPair raw_coupons }
+        requires room { length self + length raw_coupons < 2 ^ 26 }
+        ensures ok { IfOk result (λ batch. batch ≡ self ++ raw_coupons.entry) }
         ensures pairs { IfOk result (λ batch. All IsPair batch) }
         ensures err { IfErr result (λ e. e ≡ Memory) }
     {
         let CouponBatch { mut coupons } = self;
-        while let Some(word) = words.next() {
-            coupons.push(Coupon::from_raw(word))?;
+        while let Some(raw_coupon) = raw_coupons.next() {
+            coupons.push(Coupon::from_raw(raw_coupon))?;
         }
         Ok(CouponBatch { coupons })
     }
 
-    /// A table of the coupons, each once, in ascending order in its first places.
+    /// A table of the coupons, each once, in ascending order in its first buckets.
     ///
-    /// Sorts them, and takes memory where the batch has none left for the places. Fails with `Memory`.
+    /// Sorts them, and takes memory where the batch has none left for the buckets. Fails with `Memory`.
     pub fn into_table(self) -> Result<Container<A>, Error>
         ensures ok { IfOk result (λ table. coupons_of table ≡ set_of self) }
         ensures err { IfErr result (λ e. e ≡ Memory) }
@@ -99,7 +102,7 @@ impl<A: Allocator> CouponBatch<A> {
         let mut coupons = self.into_ascending();
         let count = coupons.len();
         let lg_size = lg_size_above(count);
-        coupons.resize(places_of(lg_size), Coupon::EMPTY)?;
+        coupons.resize(buckets_of(lg_size), Coupon::EMPTY)?;
         Ok(Container::from_coupons(lg_size, coupons, count))
     }
 
@@ -116,7 +119,7 @@ impl<A: Allocator> CouponBatch<A> {
     }
 }
 
-/// The least size of a table, as a power of two, that has more places than this.
+/// The least size of a table, as a power of two, that has more buckets than this.
 fn lg_size_above(count: usize) -> usize
     requires { count < 2 ^ 26 }
     ensures more { count < 2 ^ result }

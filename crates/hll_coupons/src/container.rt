@@ -1,5 +1,5 @@
 // SPDX-License-Identifier: Apache-2.0
-//! A table of places for coupons (docs/MODEL.md, "Tables").
+//! A table of buckets for coupons (docs/MODEL.md, "Tables").
 ghost use Rattle.std.specs.Prelude.{◌≡◌, ◌≢◌, ℕ, ◌+◌, ◌*◌, ◌^◌, ◌<◌, ◌≤◌, ◌↔◌, ◌++◌, [], length, slice_set, slice_index, false, IsTrue, IfOk, IfErr, OnOk, OnErr};
 ghost use Rattle.std.specs.Bool.{OnFalse};
 ghost use Rattle.std.specs.Iterator.{YieldsFirst, item_count};
@@ -11,7 +11,7 @@ ghost use Rattle.hll_coupons.specs.Table.{coupons_in, coupons_of, empty_table, I
 ghost use Rattle.hll_coupons.specs.Coupons.{coupon_bytes, IsAscending, WritesAscending};
 
 use crate::coupon::Coupon;
-use crate::serialization::{COUPON_SIZE_BYTES, LG_LIST_PLACES};
+use crate::serialization::{COUPON_SIZE_BYTES, LG_LIST_BUCKETS};
 use crate::storage::Storage;
 use hll_base::codec::SketchBytes;
 use hll_base::error::Error;
@@ -29,41 +29,41 @@ pub enum Insertion {
     Refused,
 }
 
-/// 2^`lg_size` places, each empty or a coupon of value 1 to 63, the coupons distinct. Contracts see
-/// the size and the list of places; the coupons are a function of it.
+/// 2^`lg_size` buckets, each empty or a coupon of value 1 to 63, the coupons distinct. Contracts see
+/// the size and the list of buckets; the coupons are a function of it.
 #[derive_where(Debug)]
 #[derive(Drop)]
 pub struct Container<A: Allocator = Global> {
     lg_size: usize,
     len: usize,
-    places: Storage<A>,
+    buckets: Storage<A>,
 }
 
 impl<A: Allocator> Model for Container<A> {
     ghost use Rattle.std.specs.Prelude.{◌≡◌, length};
-    ghost use Rattle.hll_coupons.specs.Storage.{places_in};
+    ghost use Rattle.hll_coupons.specs.Storage.{buckets_in};
     ghost use Rattle.hll_coupons.specs.Table.{Table, coupons_in, IsTable};
 
     ghost Value = { Table };
 
-    ghost view = { λ c. record { lg_size = c.lg_size; places = places_in c.places } };
+    ghost view = { λ c. record { lg_size = c.lg_size; buckets = buckets_in c.buckets } };
 
-    ghost invariant = { λ c. IsTable (record { lg_size = c.lg_size; places = places_in c.places }) × (c.len ≡ length (coupons_in (places_in c.places))) };
+    ghost invariant = { λ c. IsTable (record { lg_size = c.lg_size; buckets = buckets_in c.buckets }) × (c.len ≡ length (coupons_in (buckets_in c.buckets))) };
 }
 
 impl<A: Allocator> Container<A> {
-    /// Eight empty places.
+    /// Eight empty buckets.
     pub(crate) fn eight(alloc: A) -> Container<A>
         ensures { result ≡ empty_table 3 }
     {
         Container {
-            lg_size: usize::from(LG_LIST_PLACES),
+            lg_size: usize::from(LG_LIST_BUCKETS),
             len: 0,
-            places: Storage::eight(alloc),
+            buckets: Storage::eight(alloc),
         }
     }
 
-    /// 2^`lg_size` empty places, of four bytes each. Eight take no memory.
+    /// 2^`lg_size` empty buckets, of four bytes each. Eight take no memory.
     ///
     /// Fails with `Memory`, only if they are not eight.
     pub fn new(alloc: A, lg_size: usize) -> Result<Container<A>, Error>
@@ -75,32 +75,32 @@ impl<A: Allocator> Container<A> {
         Ok(Container {
             lg_size,
             len: 0,
-            places: Storage::new(alloc, lg_size)?,
+            buckets: Storage::new(alloc, lg_size)?,
         })
     }
 
-    /// These places, of which `len` are filled.
+    /// These buckets, of which `len` are filled.
     ///
-    /// `lg_size` is at most 26, there are 2^`lg_size` places, and the filled ones are distinct and of
+    /// `lg_size` is at most 26, there are 2^`lg_size` buckets, and the filled ones are distinct and of
     /// value 1 to 63.
     pub fn from_coupons(lg_size: usize, coupons: Vec<Coupon, A>, len: usize) -> Container<A>
-        requires table { IsTable (record { lg_size = lg_size; places = coupons.items }) }
+        requires table { IsTable (record { lg_size = lg_size; buckets = coupons.items }) }
         requires count { len ≡ length (coupons_in coupons.items) }
-        ensures { result ≡ record { lg_size = lg_size; places = coupons.items } }
+        ensures { result ≡ record { lg_size = lg_size; buckets = coupons.items } }
     {
         Container {
             lg_size,
             len,
-            places: Storage::Allocated(coupons),
+            buckets: Storage::Allocated(coupons),
         }
     }
 
     /// The allocator that made it.
     pub fn allocator(&self) -> &A {
-        self.places.allocator()
+        self.buckets.allocator()
     }
 
-    /// A copy in memory of this allocator, with the same places.
+    /// A copy in memory of this allocator, with the same buckets.
     ///
     /// Fails with `Memory`.
     pub fn clone_in(&self, alloc: A) -> Result<Container<A>, Error>
@@ -110,23 +110,23 @@ impl<A: Allocator> Container<A> {
         Ok(Container {
             lg_size: self.lg_size,
             len: self.len,
-            places: self.places.clone_in(alloc)?,
+            buckets: self.buckets.clone_in(alloc)?,
         })
     }
 
-    /// How many coupons there are, at most the number of places.
+    /// How many coupons there are, at most the number of buckets.
     pub fn len(&self) -> usize
-        ensures count { result ≡ length (coupons_in self.now.places) }
+        ensures count { result ≡ length (coupons_in self.now.buckets) }
         ensures within { result ≤ 2 ^ self.now.lg_size }
         ensures table { IsTable self.now }
     {
         self.len
     }
 
-    /// Says that the coupons are distinct, have values, and are no more than the places. Does nothing: a caller whose
+    /// Says that the coupons are distinct, have values, and are no more than the buckets. Does nothing: a caller whose
     /// proof needs the invariant calls it.
     pub fn table_is_legal(&self)
-        ensures within { length (coupons_in self.now.places) ≤ 2 ^ self.now.lg_size }
+        ensures within { length (coupons_in self.now.buckets) ≤ 2 ^ self.now.lg_size }
         ensures table { IsTable self.now }
     {
         let _len = self.len;
@@ -134,20 +134,20 @@ impl<A: Allocator> Container<A> {
 
     /// Whether there is no coupon.
     pub fn is_empty(&self) -> bool
-        ensures { IsTrue result ↔ (coupons_in self.now.places ≡ []) }
+        ensures { IsTrue result ↔ (coupons_in self.now.buckets ≡ []) }
     {
         self.len == 0
     }
 
-    /// Whether each place has a coupon.
+    /// Whether each bucket has a coupon.
     pub fn is_full(&self) -> bool
-        ensures full { IsTrue result ↔ (length (coupons_in self.now.places) ≡ 2 ^ self.now.lg_size) }
-        ensures room { OnFalse result (length (coupons_in self.now.places) < 2 ^ self.now.lg_size) }
+        ensures full { IsTrue result ↔ (length (coupons_in self.now.buckets) ≡ 2 ^ self.now.lg_size) }
+        ensures room { OnFalse result (length (coupons_in self.now.buckets) < 2 ^ self.now.lg_size) }
     {
         self.len == self.capacity()
     }
 
-    /// The logarithm of the number of places, at most 26.
+    /// The logarithm of the number of buckets, at most 26.
     pub fn lg_size(&self) -> usize
         ensures size { result ≡ self.now.lg_size }
         ensures small { result ≤ 26 }
@@ -155,93 +155,93 @@ impl<A: Allocator> Container<A> {
         self.lg_size
     }
 
-    /// The number of places.
+    /// The number of buckets.
     pub fn capacity(&self) -> usize
         ensures { result ≡ 2 ^ self.now.lg_size }
     {
-        places_of(self.lg_size)
+        buckets_of(self.lg_size)
     }
 
-    /// The bytes of all places, four each.
+    /// The bytes of all buckets, four each.
     pub fn estimated_size(&self) -> usize
         ensures { result ≡ 4 * 2 ^ self.now.lg_size }
     {
-        places_of(self.lg_size) * 4
+        buckets_of(self.lg_size) * 4
     }
 
-    /// Whether the coupon is in one of the places. Looks at each until it is found; takes no memory.
+    /// Whether the coupon is in one of the buckets. Looks at each until it is found; takes no memory.
     pub fn contains(&self, coupon: Coupon) -> bool
         ensures { result ≡ set.contains (coupons_of self.now) coupon }
     {
-        !coupon.is_empty() && self.places.as_slice().contains(&coupon)
+        !coupon.is_empty() && self.buckets.as_slice().contains(&coupon)
     }
 
-    /// The coupons in the order of their places, each once.
+    /// The coupons in the order of their buckets, each once.
     pub fn iter(&self) -> ContainerIter<'_>
-        ensures { result ≡ coupons_in self.now.places }
+        ensures { result ≡ coupons_in self.now.buckets }
     {
-        coupons_of_places(self.places.as_slice())
+        coupons_of_buckets(self.buckets.as_slice())
     }
 
-    /// The places, each empty or filled with a coupon.
-    pub(crate) fn places(&self) -> &[Coupon]
-        ensures places { result.now ≡ self.now.places }
+    /// The buckets, each empty or filled with a coupon.
+    pub(crate) fn buckets(&self) -> &[Coupon]
+        ensures buckets { result.now ≡ self.now.buckets }
         ensures table { IsTable self.now }
     {
-        self.places.as_slice()
+        self.buckets.as_slice()
     }
 
-    /// Puts a new coupon into an empty place.
-    pub(crate) fn put(&mut self, place: usize, coupon: Coupon)
-        requires inside { place < 2 ^ self.old.lg_size }
-        requires empty { slice_index self.old.places place ≡ 0 }
+    /// Puts a new coupon into an empty bucket.
+    pub(crate) fn put(&mut self, bucket: usize, coupon: Coupon)
+        requires inside { bucket < 2 ^ self.old.lg_size }
+        requires empty { slice_index self.old.buckets bucket ≡ 0 }
         requires valued { 1 ≤ value_of coupon }
         requires fresh { set.contains (coupons_of self.old) coupon ≡ false }
-        ensures places { self.new ≡ record self.old { places = slice_set self.old.places place coupon } }
+        ensures buckets { self.new ≡ record self.old { buckets = slice_set self.old.buckets bucket coupon } }
         ensures table { IsTable self.new }
     {
         prove!(1 <= coupon.value());
-        self.places.set(place, coupon);
+        self.buckets.set(bucket, coupon);
         self.len += 1;
     }
 
-    /// Puts a coupon that no other place has into a filled place.
-    pub(crate) fn replace(&mut self, place: usize, coupon: Coupon)
-        requires inside { place < 2 ^ self.old.lg_size }
-        requires filled { slice_index self.old.places place ≢ 0 }
+    /// Puts a coupon that no other bucket has into a filled bucket.
+    pub(crate) fn replace(&mut self, bucket: usize, coupon: Coupon)
+        requires inside { bucket < 2 ^ self.old.lg_size }
+        requires filled { slice_index self.old.buckets bucket ≢ 0 }
         requires valued { 1 ≤ value_of coupon }
-        requires others { (p : ℕ) → p < length self.old.places → p ≢ place → slice_index self.old.places p ≢ coupon }
-        ensures places { self.new ≡ record self.old { places = slice_set self.old.places place coupon } }
+        requires others { (p : ℕ) → p < length self.old.buckets → p ≢ bucket → slice_index self.old.buckets p ≢ coupon }
+        ensures buckets { self.new ≡ record self.old { buckets = slice_set self.old.buckets bucket coupon } }
         ensures table { IsTable self.new }
-        ensures count { length (coupons_in self.new.places) ≡ length (coupons_in self.old.places) }
+        ensures count { length (coupons_in self.new.buckets) ≡ length (coupons_in self.old.buckets) }
     {
         prove!(1 <= coupon.value());
-        self.places.set(place, coupon);
+        self.buckets.set(bucket, coupon);
     }
 
-    /// Empties a place again that was filled.
-    pub(crate) fn take_out(&mut self, place: usize)
-        requires inside { place < 2 ^ self.old.lg_size }
-        requires table { IsTable (record self.old { places = slice_set self.old.places place 0 }) }
-        requires count { length (coupons_in self.old.places) ≡ length (coupons_in (slice_set self.old.places place 0)) + 1 }
-        ensures { self.new ≡ record self.old { places = slice_set self.old.places place 0 } }
+    /// Empties a bucket again that was filled.
+    pub(crate) fn take_out(&mut self, bucket: usize)
+        requires inside { bucket < 2 ^ self.old.lg_size }
+        requires table { IsTable (record self.old { buckets = slice_set self.old.buckets bucket 0 }) }
+        requires count { length (coupons_in self.old.buckets) ≡ length (coupons_in (slice_set self.old.buckets bucket 0)) + 1 }
+        ensures { self.new ≡ record self.old { buckets = slice_set self.old.buckets bucket 0 } }
     {
-        self.places.set(place, Coupon::EMPTY);
+        self.buckets.set(bucket, Coupon::EMPTY);
         self.len -= 1;
     }
 
-    /// Empties each place.
+    /// Empties each bucket.
     pub(crate) fn clear(&mut self)
         ensures { self.new ≡ empty_table self.old.lg_size }
     {
-        self.places.clear();
+        self.buckets.clear();
         self.len = 0;
     }
 
-    /// A copy of the coupons in the order of their places, in one request for memory.
+    /// A copy of the coupons in the order of their buckets, in one request for memory.
     pub(crate) fn copied<B: Allocator>(&self, alloc: B) -> Result<Vec<Coupon, B>, Error>
-        ensures ok { IfOk result (λ coupons. coupons.items ≡ coupons_in self.now.places) }
-        ensures distinct { len (coupons_of self.now) ≡ length (coupons_in self.now.places) }
+        ensures ok { IfOk result (λ coupons. coupons.items ≡ coupons_in self.now.buckets) }
+        ensures distinct { len (coupons_of self.now) ≡ length (coupons_in self.now.buckets) }
         ensures err { IfErr result (λ e. e ≡ Memory) }
     {
         let mut coupons = Vec::with_capacity(alloc, self.len)?;
@@ -251,12 +251,12 @@ impl<A: Allocator> Container<A> {
         Ok(coupons)
     }
 
-    /// A copy of the coupons in ascending raw words.
+    /// A copy of the coupons in ascending raw coupons.
     ///
     /// Takes four bytes a coupon, in one request. Fails with `Memory`.
     pub(crate) fn ascending<B: Allocator>(&self, alloc: B) -> Result<Vec<Coupon, B>, Error>
         ensures ok { IfOk result (λ coupons. IsAscending coupons.items (coupons_of self.now)) }
-        ensures count { IfOk result (λ coupons. length coupons.items ≡ length (coupons_in self.now.places)) }
+        ensures count { IfOk result (λ coupons. length coupons.items ≡ length (coupons_in self.now.buckets)) }
         ensures err { IfErr result (λ e. e ≡ Memory) }
     {
         let mut coupons = self.copied(alloc)?;
@@ -278,7 +278,7 @@ impl<A: Allocator> Container<A> {
 }
 
 impl<A: Allocator + Clone> Container<A> {
-    /// A copy, with the same places.
+    /// A copy, with the same buckets.
     ///
     /// Fails with `Memory`.
     pub fn clone(&self) -> Result<Container<A>, Error>
@@ -288,7 +288,7 @@ impl<A: Allocator + Clone> Container<A> {
         self.clone_in(self.allocator().clone()?)
     }
 
-    /// An image: this header, and the coupons behind it, four bytes each, in ascending raw words.
+    /// An image: this header, and the coupons after it, four bytes each, in ascending raw coupons.
     ///
     /// Takes memory for a sorted copy of the coupons, and in one request for the image. Fails with `Memory`.
     pub(crate) fn image(&self, header: &[u8]) -> Result<Vec<u8, A>, Error>
@@ -301,7 +301,7 @@ impl<A: Allocator + Clone> Container<A> {
     }
 }
 
-/// Containers are equal where they hold the same coupons, whatever their sizes and places. Compares
+/// Containers are equal where they hold the same coupons, whatever their sizes and buckets. Compares
 /// by search, and takes no memory.
 impl<A: Allocator> PartialEq for Container<A> {
     ghost use Rattle.hll_coupons.specs.Same.{have_same_coupons, have_same_coupons-partial};
@@ -321,15 +321,15 @@ impl<A: Allocator> Eq for Container<A> {
     ghost laws = { have_same_coupons-equivalence };
 }
 
-/// The coupons of places, in their order.
-pub(crate) fn coupons_of_places(places: &[Coupon]) -> ContainerIter<'_>
-    ensures { result ≡ coupons_in places.now }
+/// The coupons of buckets, in their order.
+pub(crate) fn coupons_of_buckets(buckets: &[Coupon]) -> ContainerIter<'_>
+    ensures { result ≡ coupons_in buckets.now }
 {
-    ContainerIter { places }
+    ContainerIter { buckets }
 }
 
-/// The number of places of a size.
-pub(crate) fn places_of(lg_size: usize) -> usize
+/// The number of buckets of a size.
+pub(crate) fn buckets_of(lg_size: usize) -> usize
     requires { lg_size ≤ 26 }
     ensures { result ≡ 2 ^ lg_size }
 {
@@ -365,11 +365,11 @@ pub fn with_coupons<A: Allocator>(
     Ok(bytes)
 }
 
-/// The coupons of a container that are left to give, in the order of their places. Contracts see the
+/// The coupons of a container that are left to give, in the order of their buckets. Contracts see the
 /// list of them.
 #[derive(Debug, Drop)]
 pub struct ContainerIter<'a> {
-    places: &'a [Coupon],
+    buckets: &'a [Coupon],
 }
 
 impl<'a> Model for ContainerIter<'a> {
@@ -378,7 +378,7 @@ impl<'a> Model for ContainerIter<'a> {
 
     ghost Value = { List ℕ };
 
-    ghost view = { λ c. coupons_in c.places.now };
+    ghost view = { λ c. coupons_in c.buckets.now };
 }
 
 impl<'a> Iterator for ContainerIter<'a> {
@@ -389,8 +389,8 @@ impl<'a> Iterator for ContainerIter<'a> {
     ghost remaining = { item_count (λ s. s) };
 
     fn next(&mut self) -> Option<Coupon> {
-        while let Some((first, others)) = self.places.split_first() {
-            self.places = others;
+        while let Some((first, others)) = self.buckets.split_first() {
+            self.buckets = others;
             if !first.is_empty() {
                 return Some(*first);
             }

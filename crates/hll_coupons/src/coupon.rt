@@ -11,16 +11,16 @@ use hll_base::hash::{DEFAULT_SEED, MurmurHash3X64128, hash_of_bytes};
 use std::hash::Hash;
 use std::marker::Model;
 
-/// The slot in a raw word.
+/// The slot in a raw coupon.
 const SLOT_MASK: u32 = 0x03ff_ffff;
 
 /// More leading zeros than this in the second word of a hash give no greater value.
 const MOST_ZEROS: u32 = MAX_VALUE as u32 - 1;
 
-/// A slot below 2^26 and a value up to 63, in one raw word: `value * 2^26 + slot`. Contracts see the
-/// raw word.
+/// A slot below 2^26 and a value up to 63, in one raw coupon: `value * 2^26 + slot`. Contracts see the
+/// raw coupon.
 ///
-/// A coupon of value 0 is no pair; raw word 0 marks an empty place.
+/// A coupon of value 0 is no pair; raw coupon 0 marks an empty bucket.
 #[derive(Clone, Copy, Debug, PartialEq, Eq, PartialOrd, Ord, Hash)]
 pub struct Coupon {
     raw: u32,
@@ -37,7 +37,7 @@ impl Model for Coupon {
 }
 
 impl Coupon {
-    /// The content of an empty place.
+    /// The content of an empty bucket.
     pub const EMPTY: Coupon = Coupon { raw: 0 };
 
     /// The coupon of a value at the slot modulo 2^26.
@@ -92,21 +92,21 @@ impl Coupon {
         Coupon::from_words(lo, hi)
     }
 
-    /// The coupon of a raw word.
+    /// The coupon of a raw coupon.
     pub(crate) fn from_raw(raw: u32) -> Coupon
         ensures { result ≡ raw }
     {
         Coupon { raw }
     }
 
-    /// Whether the raw word is 0.
+    /// Whether the raw coupon is 0.
     pub fn is_empty(self) -> bool
         ensures { IsTrue result ↔ (self ≡ 0) }
     {
         self.raw == 0
     }
 
-    /// The raw word.
+    /// The raw coupon.
     pub fn raw(self) -> u32
         ensures { result ≡ self }
     {

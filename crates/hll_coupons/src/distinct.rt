@@ -1,5 +1,5 @@
 // SPDX-License-Identifier: Apache-2.0
-//! Whether coupons are distinct, told by their order.
+//! Whether coupons are distinct, seen from their order.
 ghost use Rattle.std.specs.Prelude.{◌≡◌, ◌↔◌, length, IsTrue, IfOk, IfErr};
 ghost use Rattle.std.specs.FinSet.{len};
 ghost use Rattle.std.specs.List.Sorted.{IsStrictlyIncreasing};

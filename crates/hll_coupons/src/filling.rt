@@ -1,5 +1,5 @@
 // SPDX-License-Identifier: Apache-2.0
-//! Tables that are filled with distinct keys, at the places that probing one by one gives.
+//! Tables that are filled with distinct keys, at the buckets that probing one by one gives.
 ghost use Rattle.std.specs.Prelude.{◌≡◌, ◌^◌, ◌<◌, ◌≤◌, false, All, length, map, OnOk, OnErr, IfErr};
 ghost use Rattle.std.specs.Bool.{OnTrue};
 ghost use Rattle.std.specs.FinSet.{len};
@@ -10,16 +10,16 @@ ghost use Rattle.hll_coupons.specs.Pair.{set_of, value_of, IsPair};
 ghost use Rattle.hll_coupons.specs.Probe.{IsProbed, IsAbsent, Puts, PutsEach};
 ghost use Rattle.hll_coupons.specs.Table.{coupons_in, coupons_of, empty_table, IsTable};
 
-use crate::container::{Container, coupons_of_places};
+use crate::container::{Container, coupons_of_buckets};
 use crate::coupon::Coupon;
 use crate::long_searches::LongSearches;
 use crate::search::{Key, SHORT, search_within};
 use hll_base::error::Error;
 use std::alloc::Allocator;
 
-/// Puts an entry into the empty place where the search for its key ends.
+/// Puts an entry into the empty bucket where the search for its key ends.
 ///
-/// Its value is at least 1, its key is absent, and a place is empty. Fails with `Memory`, and then changes no place.
+/// Its value is at least 1, its key is absent, and a bucket is empty. Fails with `Memory`, and then changes no bucket.
 fn put_absent<A: Allocator + Clone>(
     table: &mut Container<A>,
     searches: &mut LongSearches<A>,
@@ -27,23 +27,24 @@ fn put_absent<A: Allocator + Clone>(
     entry: Coupon,
 ) -> Result<(), Error>
     requires valued { 1 ≤ value_of entry }
-    requires absent { IsAbsent (key_of by) table.old.places (key_of by entry) }
-    requires room { length (coupons_in table.old.places) < 2 ^ table.old.lg_size }
-    requires cycles { AreFor table.old.lg_size table.old.places searches.old }
+    requires absent { IsAbsent (key_of by) table.old.buckets (key_of by entry) }
+    requires room { length (coupons_in table.old.buckets) < 2 ^ table.old.lg_size }
+    requires cycles { AreFor table.old.lg_size table.old.buckets searches.old }
     ensures size { OnOk result (table.new.lg_size ≡ table.old.lg_size) }
-    ensures places { OnOk result (Puts (key_of by) table.old.lg_size table.old.places entry table.new.places) }
+    ensures buckets { OnOk result (Puts (key_of by) table.old.lg_size table.old.buckets entry table.new.buckets) }
     ensures table { OnOk result (IsTable table.new) }
-    ensures cycles { AreFor table.new.lg_size table.new.places searches.new }
+    ensures cycles { AreFor table.new.lg_size table.new.buckets searches.new }
     ensures unchanged { OnErr result (table.new ≡ table.old) }
     ensures err { IfErr result (λ e. e ≡ Memory) }
 {
-    let place = searches.end_of(by, table.lg_size(), table.places(), by.of(entry))?;
-    table.put(place, entry);
-    searches.fill(place);
+    let bucket = searches.end_of(by, table.lg_size(), table.buckets(), by.of(entry))?;
+    table.put(bucket, entry);
+    searches.fill(bucket);
     Ok(())
 }
 
-/// The same, by a short search where that is enough and there are no cycles yet.
+/// Puts an entry into the empty bucket where the search for its key ends, by a short search where that is enough and there
+/// are no cycles yet.
 #[inline(always)]
 pub(crate) fn put_one<A: Allocator + Clone>(
     table: &mut Container<A>,
@@ -52,47 +53,47 @@ pub(crate) fn put_one<A: Allocator + Clone>(
     entry: Coupon,
 ) -> Result<(), Error>
     requires valued { 1 ≤ value_of entry }
-    requires absent { IsAbsent (key_of by) table.old.places (key_of by entry) }
-    requires room { length (coupons_in table.old.places) < 2 ^ table.old.lg_size }
-    requires cycles { AreFor table.old.lg_size table.old.places searches.old }
+    requires absent { IsAbsent (key_of by) table.old.buckets (key_of by entry) }
+    requires room { length (coupons_in table.old.buckets) < 2 ^ table.old.lg_size }
+    requires cycles { AreFor table.old.lg_size table.old.buckets searches.old }
     ensures size { OnOk result (table.new.lg_size ≡ table.old.lg_size) }
-    ensures places { OnOk result (Puts (key_of by) table.old.lg_size table.old.places entry table.new.places) }
+    ensures buckets { OnOk result (Puts (key_of by) table.old.lg_size table.old.buckets entry table.new.buckets) }
     ensures table { OnOk result (IsTable table.new) }
-    ensures cycles { AreFor table.new.lg_size table.new.places searches.new }
+    ensures cycles { AreFor table.new.lg_size table.new.buckets searches.new }
     ensures unchanged { OnErr result (table.new ≡ table.old) }
     ensures err { IfErr result (λ e. e ≡ Memory) }
 {
-    if searches.are_none() && put_shortly(table, by, entry) {
+    if searches.are_none() && put_bounded(table, by, entry) {
         return Ok(());
     }
     put_absent(table, searches, by, entry)
 }
 
-/// Puts an entry into the empty place where a short search for its key ends. Says whether that wasn't cut off.
+/// Puts an entry into the empty bucket where a short search for its key ends. Says whether that wasn't cut off.
 ///
 /// Its value is at least 1, and its key is absent.
-fn put_shortly<A: Allocator>(table: &mut Container<A>, by: Key, entry: Coupon) -> bool
+fn put_bounded<A: Allocator>(table: &mut Container<A>, by: Key, entry: Coupon) -> bool
     requires valued { 1 ≤ value_of entry }
-    requires absent { IsAbsent (key_of by) table.old.places (key_of by entry) }
+    requires absent { IsAbsent (key_of by) table.old.buckets (key_of by entry) }
     ensures size { table.new.lg_size ≡ table.old.lg_size }
-    ensures places { OnTrue result (Puts (key_of by) table.old.lg_size table.old.places entry table.new.places) }
+    ensures buckets { OnTrue result (Puts (key_of by) table.old.lg_size table.old.buckets entry table.new.buckets) }
     ensures table { IsTable table.new }
     ensures unchanged { result ≡ false → table.new ≡ table.old }
 {
-    let places = table.places();
-    let limit = SHORT.min(places.len());
-    let found = search_within(by, table.lg_size(), places, by.of(entry), limit);
-    let Some(place) = found else {
+    let buckets = table.buckets();
+    let limit = SHORT.min(buckets.len());
+    let found = search_within(by, table.lg_size(), buckets, by.of(entry), limit);
+    let Some(bucket) = found else {
         return false;
     };
-    table.put(place, entry);
+    table.put(bucket, entry);
     true
 }
 
-/// Puts coupons into an empty table, in their order; empty places among them are passed over.
+/// Puts coupons into an empty table, in their order; empty buckets among them are passed over.
 ///
-/// No two of them have one key, and they are no more than the table has places. Takes memory where long searches have
-/// become dear. Fails with `Memory`.
+/// No two of them have one key, and they are no more than the table has buckets. Takes memory where long searches have
+/// become expensive. Fails with `Memory`.
 // (in its callers, which have the table among their own values)
 #[inline(always)]
 pub(crate) fn put_all<A: Allocator + Clone>(
@@ -106,10 +107,10 @@ pub(crate) fn put_all<A: Allocator + Clone>(
     requires room { length (coupons_in from.now) ≤ 2 ^ into.old.lg_size }
     requires distinct { len (set_of (map (key_of by) (coupons_in from.now))) ≡ length (coupons_in from.now) }
     ensures size { OnOk result (into.new.lg_size ≡ into.old.lg_size) }
-    ensures places { OnOk result (PutsEach (key_of by) into.old.lg_size into.old.places (coupons_in from.now) into.new.places) }
-    ensures probed { OnOk result (IsProbed (key_of by) into.new.lg_size into.new.places) }
+    ensures buckets { OnOk result (PutsEach (key_of by) into.old.lg_size into.old.buckets (coupons_in from.now) into.new.buckets) }
+    ensures probed { OnOk result (IsProbed (key_of by) into.new.lg_size into.new.buckets) }
     ensures members { OnOk result (coupons_of into.new ≡ set_of (coupons_in from.now)) }
-    ensures count { OnOk result (length (coupons_in into.new.places) ≡ length (coupons_in from.now)) }
+    ensures count { OnOk result (length (coupons_in into.new.buckets) ≡ length (coupons_in from.now)) }
     ensures table { OnOk result (IsTable into.new) }
     ensures err { IfErr result (λ e. e ≡ Memory) }
 {
@@ -120,7 +121,7 @@ pub(crate) fn put_all<A: Allocator + Clone>(
     put_by_cycles(into, by, from)
 }
 
-/// The same by short searches. Says whether none was cut off.
+/// Puts coupons into an empty table, in their order, by short searches. Returns whether none was cut off.
 #[inline(always)]
 fn put_by_search<A: Allocator>(into: &mut Container<A>, by: Key, from: &[Coupon]) -> bool
     requires small { into.old.lg_size ≤ 26 }
@@ -129,21 +130,21 @@ fn put_by_search<A: Allocator>(into: &mut Container<A>, by: Key, from: &[Coupon]
     requires room { length (coupons_in from.now) ≤ 2 ^ into.old.lg_size }
     requires distinct { len (set_of (map (key_of by) (coupons_in from.now))) ≡ length (coupons_in from.now) }
     ensures size { into.new.lg_size ≡ into.old.lg_size }
-    ensures places { OnTrue result (PutsEach (key_of by) into.old.lg_size into.old.places (coupons_in from.now) into.new.places) }
-    ensures probed { OnTrue result (IsProbed (key_of by) into.new.lg_size into.new.places) }
+    ensures buckets { OnTrue result (PutsEach (key_of by) into.old.lg_size into.old.buckets (coupons_in from.now) into.new.buckets) }
+    ensures probed { OnTrue result (IsProbed (key_of by) into.new.lg_size into.new.buckets) }
     ensures members { OnTrue result (coupons_of into.new ≡ set_of (coupons_in from.now)) }
-    ensures count { OnTrue result (length (coupons_in into.new.places) ≡ length (coupons_in from.now)) }
+    ensures count { OnTrue result (length (coupons_in into.new.buckets) ≡ length (coupons_in from.now)) }
     ensures table { OnTrue result (IsTable into.new) }
 {
-    for entry in coupons_of_places(from) {
-        if !put_shortly(into, by, entry) {
+    for entry in coupons_of_buckets(from) {
+        if !put_bounded(into, by, entry) {
             return false;
         }
     }
     true
 }
 
-/// The same by cycles, where searches are long.
+/// Puts coupons into an empty table, in their order, by cycles where searches are long. Fails with `Memory`.
 #[inline(never)]
 pub(crate) fn put_by_cycles<A: Allocator + Clone>(
     into: &mut Container<A>,
@@ -156,15 +157,15 @@ pub(crate) fn put_by_cycles<A: Allocator + Clone>(
     requires room { length (coupons_in from.now) ≤ 2 ^ into.old.lg_size }
     requires distinct { len (set_of (map (key_of by) (coupons_in from.now))) ≡ length (coupons_in from.now) }
     ensures size { OnOk result (into.new.lg_size ≡ into.old.lg_size) }
-    ensures places { OnOk result (PutsEach (key_of by) into.old.lg_size into.old.places (coupons_in from.now) into.new.places) }
-    ensures probed { OnOk result (IsProbed (key_of by) into.new.lg_size into.new.places) }
+    ensures buckets { OnOk result (PutsEach (key_of by) into.old.lg_size into.old.buckets (coupons_in from.now) into.new.buckets) }
+    ensures probed { OnOk result (IsProbed (key_of by) into.new.lg_size into.new.buckets) }
     ensures members { OnOk result (coupons_of into.new ≡ set_of (coupons_in from.now)) }
-    ensures count { OnOk result (length (coupons_in into.new.places) ≡ length (coupons_in from.now)) }
+    ensures count { OnOk result (length (coupons_in into.new.buckets) ≡ length (coupons_in from.now)) }
     ensures table { OnOk result (IsTable into.new) }
     ensures err { IfErr result (λ e. e ≡ Memory) }
 {
     let mut searches = LongSearches::new(into.allocator().clone()?);
-    for entry in coupons_of_places(from) {
+    for entry in coupons_of_buckets(from) {
         put_absent(into, &mut searches, by, entry)?;
     }
     Ok(())

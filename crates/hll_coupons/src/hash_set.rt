@@ -8,7 +8,7 @@ ghost use Rattle.hll_base.specs.declared.error.Reason.TheVariants as reasons;
 ghost use Rattle.hll_coupons.specs.Coupons.{WritesAscending, set_bytes, coupons_at, AreCoupons};
 ghost use Rattle.hll_coupons.specs.Coupons as header;
 ghost use Rattle.hll_coupons.specs.Pair.{IsPair, set_of, value_of};
-ghost use Rattle.hll_coupons.specs.Payload.{shape_of_set, HasSetCount, set_coupons, set_places, IsSetPayload, IsSetTable, SetFault};
+ghost use Rattle.hll_coupons.specs.Payload.{shape_of_set, HasSetCount, set_coupons, set_buckets, IsSetPayload, IsSetTable, SetFault};
 ghost use Rattle.hll_coupons.specs.HashSet.{IsHashSet};
 ghost use Rattle.hll_coupons.specs.Insertion.{IsInsertion, IfTaken, IfRefused};
 ghost use Rattle.hll_coupons.specs.Probe.{Puts, PutsEach};
@@ -16,13 +16,13 @@ ghost use Rattle.hll_coupons.specs.Reading.{IfWhole};
 ghost use Rattle.hll_coupons.specs.Same.{have_same_coupons};
 ghost use Rattle.hll_coupons.specs.Table.{coupons_in, coupons_of, empty_table, IsTable};
 
-use crate::container::{Container, Insertion, places_of};
+use crate::container::{Container, Insertion, buckets_of};
 use crate::coupon::Coupon;
 use crate::distinct::are_distinct;
 use crate::filling::{put_all, put_by_cycles};
 use crate::search::{Key, SHORT, search, search_within};
 use crate::serialization::{
-    COMPACT_FLAG_MASK, COUPON_SIZE_BYTES, CUR_MODE_SET, HASH_SET_PREINTS, LG_LEAST_SET_PLACES,
+    COMPACT_FLAG_MASK, COUPON_SIZE_BYTES, CUR_MODE_SET, HASH_SET_PREINTS, LG_LEAST_SET_BUCKETS,
     SERIAL_VERSION, SET_PREAMBLE_SIZE, encode_mode_byte,
 };
 use hll_base::cursor::SketchSlice;
@@ -52,7 +52,7 @@ impl<A: Allocator> Model for HashSet<A> {
 }
 
 impl<A: Allocator> HashSet<A> {
-    /// No coupons, and 2^`lg_size` places of four bytes each.
+    /// No coupons, and 2^`lg_size` buckets of four bytes each.
     ///
     /// `lg_size` is at most 26. Fails with `Memory`.
     pub fn new(alloc: A, lg_size: usize) -> Result<HashSet<A>, Error>
@@ -65,24 +65,24 @@ impl<A: Allocator> HashSet<A> {
         })
     }
 
-    /// No coupons, and 32 places.
+    /// No coupons, and 32 buckets.
     ///
     /// Fails with `Memory`.
     pub fn default_in(alloc: A) -> Result<HashSet<A>, Error>
         ensures ok { IfOk result (λ s. s ≡ empty_table 5) }
         ensures err { IfErr result (λ e. e ≡ Memory) }
     {
-        HashSet::new(alloc, usize::from(LG_LEAST_SET_PLACES))
+        HashSet::new(alloc, usize::from(LG_LEAST_SET_BUCKETS))
     }
 
     /// Puts a coupon where a search for it ends, unless the set has it.
     ///
-    /// Its value is at least 1, and a place is free if the set doesn't have it.
+    /// Its value is at least 1, and a bucket is free if the set doesn't have it.
     pub fn update(&mut self, coupon: Coupon)
         requires valued { 1 ≤ value_of coupon }
-        requires room { set.contains (coupons_of self.old) coupon ≡ false → length (coupons_in self.old.places) < 2 ^ self.old.lg_size }
+        requires room { set.contains (coupons_of self.old) coupon ≡ false → length (coupons_in self.old.buckets) < 2 ^ self.old.lg_size }
         ensures size { self.new.lg_size ≡ self.old.lg_size }
-        ensures places { Puts (λ c. c) self.old.lg_size self.old.places coupon self.new.places }
+        ensures buckets { Puts (λ c. c) self.old.lg_size self.old.buckets coupon self.new.buckets }
         ensures members { coupons_of self.new ≡ set.insert (coupons_of self.old) coupon }
         ensures set { IsHashSet self.new }
     {
@@ -94,55 +94,61 @@ impl<A: Allocator> HashSet<A> {
         }
     }
 
-    /// The same by a short search. Says whether the coupon is new, nothing where the search was cut off.
-    pub(crate) fn insert_shortly(&mut self, coupon: Coupon) -> Option<bool>
+    /// Puts a coupon where a short search for it ends, unless the set has it. Returns whether the coupon is new, and `None`
+    /// where the search was cut off.
+    pub(crate) fn insert_bounded(&mut self, coupon: Coupon) -> Option<bool>
         requires valued { 1 ≤ value_of coupon }
         ensures new { IfSome result (λ new. IsTrue new ↔ (set.contains (coupons_of self.old) coupon ≡ false)) }
         ensures size { self.new.lg_size ≡ self.old.lg_size }
-        ensures places { IfSome result (λ _. Puts (λ c. c) self.old.lg_size self.old.places coupon self.new.places) }
+        ensures buckets { IfSome result (λ _. Puts (λ c. c) self.old.lg_size self.old.buckets coupon self.new.buckets) }
         ensures members { IfSome result (λ _. coupons_of self.new ≡ set.insert (coupons_of self.old) coupon) }
         ensures unchanged { IfNone result (self.new ≡ self.old) }
         ensures set { IsHashSet self.new }
     {
         let lg_size = self.container.lg_size();
-        let places = self.container.places();
-        let limit = SHORT.min(places.len());
-        let place = search_within(Key::Word, lg_size, places, coupon.raw(), limit)?;
-        if !places[place].is_empty() {
+        let buckets = self.container.buckets();
+        let limit = SHORT.min(buckets.len());
+        let bucket = search_within(Key::RawCoupon, lg_size, buckets, coupon.raw(), limit)?;
+        if !buckets[bucket].is_empty() {
             return Some(false);
         }
-        self.container.put(place, coupon);
+        self.container.put(bucket, coupon);
         Some(true)
     }
 
     /// Puts a coupon where a search for it ends, unless the set has it, or would have more than `most` coupons. One
     /// search; takes no memory.
     ///
-    /// Its value is at least 1, and `most` is no more than there are places.
+    /// Its value is at least 1, and `most` is no more than there are buckets.
     pub fn update_within(&mut self, coupon: Coupon, most: usize) -> Insertion
         requires valued { 1 ≤ value_of coupon }
         requires within { most ≤ 2 ^ self.old.lg_size }
         ensures insertion { IsInsertion (coupons_of self.old) coupon most result }
         ensures size { self.new.lg_size ≡ self.old.lg_size }
-        ensures places { IfTaken result (Puts (λ c. c) self.old.lg_size self.old.places coupon self.new.places) }
+        ensures buckets { IfTaken result (Puts (λ c. c) self.old.lg_size self.old.buckets coupon self.new.buckets) }
         ensures members { IfTaken result (coupons_of self.new ≡ set.insert (coupons_of self.old) coupon) }
         ensures unchanged { IfRefused result (self.new ≡ self.old) }
         ensures set { IsHashSet self.new }
     {
         let count = self.container.len();
-        let places = self.container.places();
-        let found = search(Key::Word, self.container.lg_size(), places, coupon.raw());
-        let Some(place) = found else {
+        let buckets = self.container.buckets();
+        let found = search(
+            Key::RawCoupon,
+            self.container.lg_size(),
+            buckets,
+            coupon.raw(),
+        );
+        let Some(bucket) = found else {
             return Insertion::Refused;
         };
-        let is_new = places[place].is_empty();
+        let is_new = buckets[bucket].is_empty();
         if count + usize::from(is_new) > most {
             return Insertion::Refused;
         }
         if !is_new {
             return Insertion::Held;
         }
-        self.container.put(place, coupon);
+        self.container.put(bucket, coupon);
         Insertion::Added
     }
 
@@ -150,25 +156,30 @@ impl<A: Allocator> HashSet<A> {
     pub fn contains(&self, coupon: Coupon) -> bool
         ensures { result ≡ set.contains (coupons_of self.now) coupon }
     {
-        let places = self.container.places();
-        match search(Key::Word, self.container.lg_size(), places, coupon.raw()) {
-            Some(place) => !places[place].is_empty(),
+        let buckets = self.container.buckets();
+        match search(
+            Key::RawCoupon,
+            self.container.lg_size(),
+            buckets,
+            coupon.raw(),
+        ) {
+            Some(bucket) => !buckets[bucket].is_empty(),
             None => false,
         }
     }
 
-    /// The same by a short search; nothing where it was cut off.
-    pub(crate) fn has_shortly(&self, coupon: Coupon) -> Option<bool>
+    /// Whether the set has the coupon, by a short search. `None` where the search was cut off.
+    pub(crate) fn has_bounded(&self, coupon: Coupon) -> Option<bool>
         ensures { IfSome result (λ has. has ≡ set.contains (coupons_of self.now) coupon) }
     {
         let lg_size = self.container.lg_size();
-        let places = self.container.places();
-        let limit = SHORT.min(places.len());
-        let place = search_within(Key::Word, lg_size, places, coupon.raw(), limit)?;
-        Some(!places[place].is_empty())
+        let buckets = self.container.buckets();
+        let limit = SHORT.min(buckets.len());
+        let bucket = search_within(Key::RawCoupon, lg_size, buckets, coupon.raw(), limit)?;
+        Some(!buckets[bucket].is_empty())
     }
 
-    /// The places.
+    /// The buckets.
     pub fn container(&self) -> &Container<A>
         ensures same { result.now ≡ self.now }
         ensures set { IsHashSet self.now }
@@ -188,7 +199,7 @@ impl<A: Allocator> HashSet<A> {
         true
     }
 
-    /// A copy in memory of this allocator, with the same places.
+    /// A copy in memory of this allocator, with the same buckets.
     ///
     /// Fails with `Memory`.
     pub fn clone_in(&self, alloc: A) -> Result<HashSet<A>, Error>
@@ -202,35 +213,35 @@ impl<A: Allocator> HashSet<A> {
 }
 
 impl<A: Allocator + Clone> HashSet<A> {
-    /// The coupons of a container, put in the order of its places into 2^`lg_size` empty ones.
+    /// The coupons of a container, put in the order of its buckets into 2^`lg_size` empty ones.
     ///
-    /// `lg_size` is at most 26, and there are no more coupons than places. Takes memory for the places, and for
-    /// bitmaps where searches have become dear (docs/OPERATING.md). Fails with `Memory`.
+    /// `lg_size` is at most 26, and there are no more coupons than buckets. Takes memory for the buckets, and for
+    /// bitmaps where searches have become expensive (docs/OPERATING.md). Fails with `Memory`.
     pub fn from_container(
         alloc: A,
         lg_size: usize,
         coupons: &Container<A>,
     ) -> Result<HashSet<A>, Error>
         requires small { lg_size ≤ 26 }
-        requires room { length (coupons_in coupons.now.places) ≤ 2 ^ lg_size }
+        requires room { length (coupons_in coupons.now.buckets) ≤ 2 ^ lg_size }
         ensures size { IfOk result (λ s. s.lg_size ≡ lg_size) }
-        ensures places { IfOk result (λ s. PutsEach (λ c. c) lg_size (empty_table lg_size).places (coupons_in coupons.now.places) s.places) }
+        ensures buckets { IfOk result (λ s. PutsEach (λ c. c) lg_size (empty_table lg_size).buckets (coupons_in coupons.now.buckets) s.buckets) }
         ensures members { IfOk result (λ s. coupons_of s ≡ coupons_of coupons.now) }
-        ensures count { IfOk result (λ s. length (coupons_in s.places) ≡ length (coupons_in coupons.now.places)) }
+        ensures count { IfOk result (λ s. length (coupons_in s.buckets) ≡ length (coupons_in coupons.now.buckets)) }
         ensures set { IfOk result IsHashSet }
         ensures err { IfErr result (λ e. e ≡ Memory) }
     {
         let mut container = Container::new(alloc, lg_size)?;
-        put_all(&mut container, Key::Word, coupons.places())?;
+        put_all(&mut container, Key::RawCoupon, coupons.buckets())?;
         Ok(HashSet { container })
     }
 
-    /// Reads what follows the header of a set's image (docs/FORMAT.md, "SET"): the count, and 2^`lg_arr` places, or
-    /// where `compact` the filled ones alone. The coupons are placed anew, in their order.
+    /// Reads what follows the header of a set's image (docs/FORMAT.md, "SET"): the count, and 2^`lg_arr` buckets, or
+    /// where `compact` the filled ones alone. The coupons are placed again, in their order.
     ///
     /// `lg_arr` is at most 26. Fails with `Truncated`, `Count` or `Coupon` where that fault stands, in the
-    /// order of checks, or else with `Memory`. Takes memory only once the bytes are known to be there: for the places, and
-    /// where searches have become dear for copies of the coupons and for bitmaps (docs/OPERATING.md).
+    /// order of checks, or else with `Memory`. Takes memory only once the bytes are known to be there: for the buckets, and
+    /// where searches have become expensive for copies of the coupons and for bitmaps (docs/OPERATING.md).
     pub fn deserialize(
         alloc: A,
         mut cursor: SketchSlice<'_>,
@@ -239,34 +250,34 @@ impl<A: Allocator + Clone> HashSet<A> {
     ) -> Result<HashSet<A>, Error>
         requires { lg_arr ≤ 26 }
         ensures ok { let h = shape_of_set lg_arr compact in
-            IfOk result (λ s. IsSetPayload h (take (4 + 4 * set_places h cursor.entry) cursor.entry) × IsSetTable h cursor.entry s) }
+            IfOk result (λ s. IsSetPayload h (take (4 + 4 * set_buckets h cursor.entry) cursor.entry) × IsSetTable h cursor.entry s) }
         ensures members { let h = shape_of_set lg_arr compact in
             IfOk result (λ s. coupons_of s ≡ set_of (set_coupons h cursor.entry)) }
-        ensures room { IfOk result (λ s. length (coupons_in s.places) < 2 ^ s.lg_size) }
+        ensures room { IfOk result (λ s. length (coupons_in s.buckets) < 2 ^ s.lg_size) }
         ensures err { let h = shape_of_set lg_arr compact in
             IfErr result (λ e. (e ≡ Memory) ⊎ SetFault h cursor.entry e) }
         ensures asked { let h = shape_of_set lg_arr compact in
-            IfErr result (λ e. e ≡ Memory → HasSetCount h cursor.entry × (4 + 4 * set_places h cursor.entry ≤ length cursor.entry)) }
+            IfErr result (λ e. e ≡ Memory → HasSetCount h cursor.entry × (4 + 4 * set_buckets h cursor.entry ≤ length cursor.entry)) }
         ensures order { let h = shape_of_set lg_arr compact in
-            IfErr result (λ e. e ≡ reasons.Count → HasSetCount h cursor.entry → AreCoupons (coupons_at compact (set_places h cursor.entry) (drop 4 cursor.entry))) }
+            IfErr result (λ e. e ≡ reasons.Count → HasSetCount h cursor.entry → AreCoupons (coupons_at compact (set_buckets h cursor.entry) (drop 4 cursor.entry))) }
     {
         let count = cursor.read_u32_le()? as usize;
-        if count >= places_of(lg_arr) {
+        if count >= buckets_of(lg_arr) {
             return Err(Error::new(Reason::Count));
         }
-        let places = places_to_read(lg_arr, count, compact);
-        if cursor.remaining().len() < places * COUPON_SIZE_BYTES {
+        let buckets = buckets_to_read(lg_arr, count, compact);
+        if cursor.remaining().len() < buckets * COUPON_SIZE_BYTES {
             return Err(Error::new(Reason::Truncated));
         }
         let mut set = HashSet::new(alloc, lg_arr)?;
-        match read_places(&mut set, cursor, places, compact) {
+        match read_buckets(&mut set, cursor, buckets, compact) {
             Ok(()) if set.container.len() == count => Ok(set),
             Ok(()) => Err(Error::new(Reason::Count)),
             Err(e) => Err(e),
         }
     }
 
-    /// A copy, with the same places.
+    /// A copy, with the same buckets.
     ///
     /// Fails with `Memory`.
     pub fn clone(&self) -> Result<HashSet<A>, Error>
@@ -277,15 +288,15 @@ impl<A: Allocator + Clone> HashSet<A> {
     }
 
     /// The compact image of a set (docs/FORMAT.md, "What is written"): twelve bytes, and four for each coupon, in
-    /// ascending raw words.
+    /// ascending raw coupons.
     ///
-    /// `lg_config_k` is 4 to 21, and the set has a size of 5 to `lg_config_k` - 3 and an empty place. Takes memory for a
+    /// `lg_config_k` is 4 to 21, and the set has a size of 5 to `lg_config_k` - 3 and an empty bucket. Takes memory for a
     /// sorted copy of the coupons, and in one request for the image. Fails with `Memory`.
     pub fn serialize(&self, lg_config_k: u8, hll_type: HllType) -> Result<Vec<u8, A>, Error>
         requires most { lg_config_k ≤ 21 }
         requires low { 5 ≤ self.now.lg_size }
         requires high { self.now.lg_size + 3 ≤ lg_config_k }
-        requires room { length (coupons_in self.now.places) < 2 ^ self.now.lg_size }
+        requires room { length (coupons_in self.now.buckets) < 2 ^ self.now.lg_size }
         ensures ok { IfOk result (λ image. WritesAscending (set_bytes lg_config_k hll_type self.now.lg_size) (coupons_of self.now) image.items) }
         ensures err { IfErr result (λ e. e ≡ Memory) }
     {
@@ -296,7 +307,7 @@ impl<A: Allocator + Clone> HashSet<A> {
     }
 }
 
-/// Sets are equal where they have the same coupons, whatever their sizes and places: as many, and each of one found in
+/// Sets are equal where they have the same coupons, whatever their sizes and buckets: as many, and each of one found in
 /// the other.
 impl<A: Allocator> PartialEq for HashSet<A> {
     ghost use Rattle.hll_coupons.specs.Same.{have_same_coupons, have_same_coupons-partial};
@@ -316,38 +327,38 @@ impl<A: Allocator> Eq for HashSet<A> {
     ghost laws = { have_same_coupons-equivalence };
 }
 
-/// How many places follow the count.
-fn places_to_read(lg_arr: usize, count: usize, compact: bool) -> usize
+/// How many buckets follow the count.
+fn buckets_to_read(lg_arr: usize, count: usize, compact: bool) -> usize
     requires { lg_arr ≤ 26 }
     ensures { result ≡ (if compact then count else (2 ^ lg_arr)) }
 {
-    if compact { count } else { places_of(lg_arr) }
+    if compact { count } else { buckets_of(lg_arr) }
 }
 
-/// Reads places into an empty set. `Coupon` where one that has to be a coupon has no value, or comes twice.
-fn read_places<A: Allocator + Clone>(
+/// Reads buckets into an empty set. `Coupon` where one that has to be a coupon has no value, or comes twice.
+fn read_buckets<A: Allocator + Clone>(
     set: &mut HashSet<A>,
     cursor: SketchSlice<'_>,
-    places: usize,
+    buckets: usize,
     compact: bool,
 ) -> Result<(), Error>
     requires small { set.old.lg_size ≤ 26 }
     requires none { set.old ≡ empty_table set.old.lg_size }
-    requires room { places ≤ 2 ^ set.old.lg_size }
-    requires there { 4 * places ≤ length cursor }
+    requires room { buckets ≤ 2 ^ set.old.lg_size }
+    requires there { 4 * buckets ≤ length cursor }
     ensures size { OnOk result (set.new.lg_size ≡ set.old.lg_size) }
-    ensures ok { OnOk result (PutsEach (λ c. c) set.old.lg_size set.old.places (coupons_at compact places cursor.entry) set.new.places × AreCoupons (coupons_at compact places cursor.entry)) }
-    ensures members { OnOk result (coupons_of set.new ≡ set_of (coupons_at compact places cursor.entry)) }
-    ensures err { IfErr result (λ e. (e ≡ Memory) ⊎ ((e ≡ reasons.Coupon) × (AreCoupons (coupons_at compact places cursor.entry) → ⊥))) }
+    ensures ok { OnOk result (PutsEach (λ c. c) set.old.lg_size set.old.buckets (coupons_at compact buckets cursor.entry) set.new.buckets × AreCoupons (coupons_at compact buckets cursor.entry)) }
+    ensures members { OnOk result (coupons_of set.new ≡ set_of (coupons_at compact buckets cursor.entry)) }
+    ensures err { IfErr result (λ e. (e ≡ Memory) ⊎ ((e ≡ reasons.Coupon) × (AreCoupons (coupons_at compact buckets cursor.entry) → ⊥))) }
 {
     let bytes = cursor.remaining();
-    match read_by_search(set, cursor, places, compact)? {
+    match read_by_search(set, cursor, buckets, compact)? {
         Reading::Whole => Ok(()),
-        Reading::Cut => read_by_order(set, SketchSlice::new(bytes), places, compact),
+        Reading::Cut => read_by_order(set, SketchSlice::new(bytes), buckets, compact),
     }
 }
 
-/// How places were read.
+/// How buckets were read.
 enum Reading {
     /// Each of them.
     Whole,
@@ -355,23 +366,23 @@ enum Reading {
     Cut,
 }
 
-/// Reads places into an empty set by short searches, until one is cut off.
+/// Reads buckets into an empty set by short searches, until one is cut off.
 fn read_by_search<A: Allocator>(
     set: &mut HashSet<A>,
     mut cursor: SketchSlice<'_>,
-    places: usize,
+    buckets: usize,
     compact: bool,
 ) -> Result<Reading, Error>
     requires small { set.old.lg_size ≤ 26 }
     requires none { set.old ≡ empty_table set.old.lg_size }
-    requires room { places ≤ 2 ^ set.old.lg_size }
-    requires there { 4 * places ≤ length cursor }
+    requires room { buckets ≤ 2 ^ set.old.lg_size }
+    requires there { 4 * buckets ≤ length cursor }
     ensures size { set.new.lg_size ≡ set.old.lg_size }
-    ensures ok { IfOk result (λ r. IfWhole r (PutsEach (λ c. c) set.old.lg_size set.old.places (coupons_at compact places cursor.entry) set.new.places × AreCoupons (coupons_at compact places cursor.entry))) }
-    ensures members { IfOk result (λ r. IfWhole r (coupons_of set.new ≡ set_of (coupons_at compact places cursor.entry))) }
-    ensures err { IfErr result (λ e. (e ≡ reasons.Coupon) × (AreCoupons (coupons_at compact places cursor.entry) → ⊥)) }
+    ensures ok { IfOk result (λ r. IfWhole r (PutsEach (λ c. c) set.old.lg_size set.old.buckets (coupons_at compact buckets cursor.entry) set.new.buckets × AreCoupons (coupons_at compact buckets cursor.entry))) }
+    ensures members { IfOk result (λ r. IfWhole r (coupons_of set.new ≡ set_of (coupons_at compact buckets cursor.entry))) }
+    ensures err { IfErr result (λ e. (e ≡ reasons.Coupon) × (AreCoupons (coupons_at compact buckets cursor.entry) → ⊥)) }
 {
-    for _ in 0..places {
+    for _ in 0..buckets {
         let coupon = Coupon::from_raw(cursor.read_u32_le()?);
         if coupon.is_empty() && !compact {
             continue;
@@ -379,7 +390,7 @@ fn read_by_search<A: Allocator>(
         if coupon.value() == 0 {
             return Err(Error::new(Reason::Coupon));
         }
-        match set.insert_shortly(coupon) {
+        match set.insert_bounded(coupon) {
             Some(true) => {}
             Some(false) => return Err(Error::new(Reason::Coupon)),
             None => return Ok(Reading::Cut),
@@ -388,55 +399,55 @@ fn read_by_search<A: Allocator>(
     Ok(Reading::Whole)
 }
 
-/// Reads places into a set, whatever it has, by copies of the coupons and the cycles of their strides. Gives the memory of
-/// its places back first.
+/// Reads buckets into a set, whatever it has, by copies of the coupons and the cycles of their strides. Gives the memory of
+/// its buckets back first.
 #[inline(never)]
 fn read_by_order<A: Allocator + Clone>(
     set: &mut HashSet<A>,
     cursor: SketchSlice<'_>,
-    places: usize,
+    buckets: usize,
     compact: bool,
 ) -> Result<(), Error>
     requires small { set.old.lg_size ≤ 26 }
-    requires room { places ≤ 2 ^ set.old.lg_size }
-    requires there { 4 * places ≤ length cursor }
+    requires room { buckets ≤ 2 ^ set.old.lg_size }
+    requires there { 4 * buckets ≤ length cursor }
     ensures size { OnOk result (set.new.lg_size ≡ set.old.lg_size) }
-    ensures ok { OnOk result (PutsEach (λ c. c) set.old.lg_size (empty_table set.old.lg_size).places (coupons_at compact places cursor.entry) set.new.places × AreCoupons (coupons_at compact places cursor.entry)) }
-    ensures members { OnOk result (coupons_of set.new ≡ set_of (coupons_at compact places cursor.entry)) }
-    ensures err { IfErr result (λ e. (e ≡ Memory) ⊎ ((e ≡ reasons.Coupon) × (AreCoupons (coupons_at compact places cursor.entry) → ⊥))) }
+    ensures ok { OnOk result (PutsEach (λ c. c) set.old.lg_size (empty_table set.old.lg_size).buckets (coupons_at compact buckets cursor.entry) set.new.buckets × AreCoupons (coupons_at compact buckets cursor.entry)) }
+    ensures members { OnOk result (coupons_of set.new ≡ set_of (coupons_at compact buckets cursor.entry)) }
+    ensures err { IfErr result (λ e. (e ≡ Memory) ⊎ ((e ≡ reasons.Coupon) × (AreCoupons (coupons_at compact buckets cursor.entry) → ⊥))) }
 {
     let lg_size = set.container.lg_size();
     let alloc = set.container.allocator().clone()?;
     *set = HashSet {
         container: Container::eight(alloc.clone()?),
     };
-    let coupons = read_coupons(alloc.clone()?, cursor, places, compact)?;
+    let coupons = read_coupons(alloc.clone()?, cursor, buckets, compact)?;
     if !are_distinct(alloc.clone()?, &coupons)? {
         return Err(Error::new(Reason::Coupon));
     }
     let mut filled = Container::new(alloc, lg_size)?;
-    put_by_cycles(&mut filled, Key::Word, &coupons)?;
+    put_by_cycles(&mut filled, Key::RawCoupon, &coupons)?;
     *set = HashSet { container: filled };
     Ok(())
 }
 
-/// The coupons of places, in their order. `Coupon` where one that has to be a coupon has no value.
+/// The coupons of buckets, in their order. `Coupon` where one that has to be a coupon has no value.
 ///
 /// Takes memory in one request. Fails with `Memory`.
 fn read_coupons<A: Allocator>(
     alloc: A,
     mut cursor: SketchSlice<'_>,
-    places: usize,
+    buckets: usize,
     compact: bool,
 ) -> Result<Vec<Coupon, A>, Error>
-    requires { 4 * places ≤ length cursor }
-    ensures ok { IfOk result (λ coupons. coupons.items ≡ coupons_at compact places cursor.entry) }
+    requires { 4 * buckets ≤ length cursor }
+    ensures ok { IfOk result (λ coupons. coupons.items ≡ coupons_at compact buckets cursor.entry) }
     ensures pairs { IfOk result (λ coupons. All IsPair coupons.items) }
-    ensures few { IfOk result (λ coupons. length coupons.items ≤ places) }
-    ensures err { IfErr result (λ e. (e ≡ Memory) ⊎ ((e ≡ reasons.Coupon) × (AreCoupons (coupons_at compact places cursor.entry) → ⊥))) }
+    ensures few { IfOk result (λ coupons. length coupons.items ≤ buckets) }
+    ensures err { IfErr result (λ e. (e ≡ Memory) ⊎ ((e ≡ reasons.Coupon) × (AreCoupons (coupons_at compact buckets cursor.entry) → ⊥))) }
 {
-    let mut coupons = Vec::with_capacity(alloc, places)?;
-    for _ in 0..places {
+    let mut coupons = Vec::with_capacity(alloc, buckets)?;
+    for _ in 0..buckets {
         let coupon = Coupon::from_raw(cursor.read_u32_le()?);
         if coupon.is_empty() && !compact {
             continue;

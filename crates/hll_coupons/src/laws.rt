@@ -1,7 +1,7 @@
 // SPDX-License-Identifier: Apache-2.0
 //! The laws of folding, registers and probing, each a clause of a function that does nothing: a caller that needs one calls
 //! it (docs/MODEL.md, "Laws of folding and probing").
-ghost use Rattle.hll_coupons.specs.Laws.{OneAscendingOrder, FoldOfFold, FoldOfUnion, JoinLaws, FoldOfRegisters, MeetsEachPlaceOnce, FoundAfterInsert, AbsentAtEmpty, AbsentFromFull, KeysAreDistinct};
+ghost use Rattle.hll_coupons.specs.Laws.{OneAscendingOrder, FoldOfFold, FoldOfUnion, JoinLaws, FoldOfRegisters, MeetsEachBucketOnce, FoundAfterInsert, AbsentAtEmpty, AbsentFromFull, KeysAreDistinct};
 
 /// Laws of sets, folds and registers:
 ///
@@ -20,13 +20,13 @@ pub fn folding()
 
 /// Laws of paths and searches:
 ///
-/// - `meets_each_place_once`: a path with an odd stride meets each place of a table at one index and no other.
-/// - `found_after_insert`: an entry put into the empty place that its search met leaves each entry to be found.
-/// - `absent_at_empty`: a search that meets an empty place shows that its key is absent.
+/// - `meets_each_bucket_once`: a path with an odd stride meets each place of a table at one index and no other.
+/// - `found_after_insert`: an entry put into the empty bucket that its search met leaves each entry to be found.
+/// - `absent_at_empty`: a search that meets an empty bucket shows that its key is absent.
 /// - `absent_from_full`: a search that went through a whole table shows that its key is absent.
 /// - `keys_are_distinct`: in a table whose entries are found no key comes twice.
 pub fn probing()
-    ensures meets_each_place_once { MeetsEachPlaceOnce }
+    ensures meets_each_bucket_once { MeetsEachBucketOnce }
     ensures found_after_insert { FoundAfterInsert }
     ensures absent_at_empty { AbsentAtEmpty }
     ensures absent_from_full { AbsentFromFull }

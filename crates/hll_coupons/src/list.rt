@@ -8,13 +8,13 @@ ghost use Rattle.hll_coupons.specs.Insertion.{IsInsertion, IfTaken, IfRefused};
 ghost use Rattle.hll_coupons.specs.Pair.{value_of};
 ghost use Rattle.hll_coupons.specs.Table.{coupons_in, coupons_of, empty_table, filled_from_front, coupons_with, IsFilledFromFront};
 ghost use Rattle.hll_coupons.specs.Coupons.{WritesAscending, list_bytes, coupons_at, AreCoupons};
-ghost use Rattle.hll_coupons.specs.Payload.{shape_of_list, HasListCount, list_places, list_table, IsListPayload, ListFault};
+ghost use Rattle.hll_coupons.specs.Payload.{shape_of_list, HasListCount, list_buckets, list_table, IsListPayload, ListFault};
 ghost use Rattle.hll_coupons.specs.Coupons as header;
 
-use crate::container::{Container, Insertion, places_of};
+use crate::container::{Container, Insertion, buckets_of};
 use crate::coupon::Coupon;
 use crate::serialization::{
-    COMPACT_FLAG_MASK, COUPON_SIZE_BYTES, CUR_MODE_LIST, EMPTY_FLAG_MASK, LG_LIST_PLACES,
+    COMPACT_FLAG_MASK, COUPON_SIZE_BYTES, CUR_MODE_LIST, EMPTY_FLAG_MASK, LG_LIST_BUCKETS,
     LIST_PREAMBLE_SIZE, LIST_PREINTS, SERIAL_VERSION, encode_mode_byte,
 };
 use hll_base::cursor::SketchSlice;
@@ -24,7 +24,7 @@ use hll_base::hll_type::HllType;
 use std::alloc::{Allocator, Global};
 use std::marker::Model;
 
-/// A container whose places are filled from the front, in order of arrival. Contracts see what they
+/// A container whose buckets are filled from the front, in order of arrival. Contracts see what they
 /// see of the container.
 #[derive_where(Debug)]
 #[derive(Drop)]
@@ -43,7 +43,7 @@ impl<A: Allocator> Model for List<A> {
 }
 
 impl<A: Allocator> List<A> {
-    /// No coupons, and 2^`lg_size` places of four bytes each. Eight take no memory.
+    /// No coupons, and 2^`lg_size` buckets of four bytes each. Eight take no memory.
     ///
     /// Fails with `Memory`, only if they are not eight.
     pub fn new(alloc: A, lg_size: usize) -> Result<List<A>, Error>
@@ -57,7 +57,7 @@ impl<A: Allocator> List<A> {
         })
     }
 
-    /// No coupons, and eight places.
+    /// No coupons, and eight buckets.
     pub fn default_in(alloc: A) -> List<A>
         ensures { result ≡ empty_table 3 }
     {
@@ -66,9 +66,9 @@ impl<A: Allocator> List<A> {
         }
     }
 
-    /// Reads what follows the header of a list's image (docs/FORMAT.md, "LIST"): 2^`lg_arr` places of
+    /// Reads what follows the header of a list's image (docs/FORMAT.md, "LIST"): 2^`lg_arr` buckets of
     /// which `coupon_count` are filled, all of them, or where `compact` the filled ones alone. Gaps between
-    /// filled places are closed, and the order is kept.
+    /// filled buckets are closed, and the order is kept.
     ///
     /// `lg_arr` is at most 26. Fails with `Count`, `Truncated` or `Coupon` where that fault stands, in the
     /// order of checks, or else with `Memory`. Takes memory only once the bytes are known to be there.
@@ -82,37 +82,37 @@ impl<A: Allocator> List<A> {
     ) -> Result<List<A>, Error>
         requires { lg_arr ≤ 26 }
         ensures ok { let h = shape_of_list lg_arr coupon_count empty compact in
-            IfOk result (λ l. IsListPayload h (take (4 * list_places h) cursor.entry) × (l ≡ list_table h cursor.entry)) }
+            IfOk result (λ l. IsListPayload h (take (4 * list_buckets h) cursor.entry) × (l ≡ list_table h cursor.entry)) }
         ensures err { let h = shape_of_list lg_arr coupon_count empty compact in
             IfErr result (λ e. (e ≡ Memory) ⊎ ListFault h cursor.entry e) }
         ensures asked { let h = shape_of_list lg_arr coupon_count empty compact in
-            IfErr result (λ e. e ≡ Memory → HasListCount h × (4 * list_places h ≤ length cursor.entry)) }
+            IfErr result (λ e. e ≡ Memory → HasListCount h × (4 * list_buckets h ≤ length cursor.entry)) }
         ensures order { let h = shape_of_list lg_arr coupon_count empty compact in
-            IfErr result (λ e. e ≡ reasons.Count → HasListCount h → AreCoupons (coupons_at compact (list_places h) cursor.entry)) }
+            IfErr result (λ e. e ≡ reasons.Count → HasListCount h → AreCoupons (coupons_at compact (list_buckets h) cursor.entry)) }
     {
         if !is_list_count(lg_arr, coupon_count, empty) {
             return Err(Error::new(Reason::Count));
         }
-        let places = places_to_read(lg_arr, coupon_count, empty, compact);
-        if cursor.remaining().len() < places * COUPON_SIZE_BYTES {
+        let buckets = buckets_to_read(lg_arr, coupon_count, empty, compact);
+        if cursor.remaining().len() < buckets * COUPON_SIZE_BYTES {
             return Err(Error::new(Reason::Truncated));
         }
         let mut list = List::new(alloc, lg_arr)?;
-        match read_places(&mut list, cursor, places, compact) {
+        match read_buckets(&mut list, cursor, buckets, compact) {
             Ok(()) if list.container.len() == coupon_count => Ok(list),
             Ok(()) => Err(Error::new(Reason::Count)),
             Err(e) => Err(e),
         }
     }
 
-    /// Puts a coupon into the first empty place, unless the list has it.
+    /// Puts a coupon into the first empty bucket, unless the list has it.
     ///
-    /// Its value is at least 1, and a place is free if the list doesn't have it.
+    /// Its value is at least 1, and a bucket is free if the list doesn't have it.
     pub fn update(&mut self, coupon: Coupon)
         requires valued { 1 ≤ value_of coupon }
-        requires room { set.contains (coupons_of self.old) coupon ≡ false → length (coupons_in self.old.places) < 2 ^ self.old.lg_size }
-        ensures places { self.new ≡ filled_from_front self.old.lg_size (coupons_with (coupons_in self.old.places) coupon) }
-        ensures order { coupons_in self.new.places ≡ coupons_with (coupons_in self.old.places) coupon }
+        requires room { set.contains (coupons_of self.old) coupon ≡ false → length (coupons_in self.old.buckets) < 2 ^ self.old.lg_size }
+        ensures buckets { self.new ≡ filled_from_front self.old.lg_size (coupons_with (coupons_in self.old.buckets) coupon) }
+        ensures order { coupons_in self.new.buckets ≡ coupons_with (coupons_in self.old.buckets) coupon }
         ensures members { coupons_of self.new ≡ set.insert (coupons_of self.old) coupon }
     {
         self.container.table_is_legal();
@@ -120,17 +120,17 @@ impl<A: Allocator> List<A> {
         self.update_within(coupon, most);
     }
 
-    /// Puts a coupon into the first empty place, unless the list has it, or would have more than `most` coupons. Looks at
+    /// Puts a coupon into the first empty bucket, unless the list has it, or would have more than `most` coupons. Looks at
     /// each coupon until it is found; takes no memory.
     ///
-    /// Its value is at least 1, and `most` is no more than there are places.
+    /// Its value is at least 1, and `most` is no more than there are buckets.
     pub fn update_within(&mut self, coupon: Coupon, most: usize) -> Insertion
         requires valued { 1 ≤ value_of coupon }
         requires within { most ≤ 2 ^ self.old.lg_size }
         ensures insertion { IsInsertion (coupons_of self.old) coupon most result }
         ensures size { self.new.lg_size ≡ self.old.lg_size }
-        ensures places { IfTaken result (self.new ≡ filled_from_front self.old.lg_size (coupons_with (coupons_in self.old.places) coupon)) }
-        ensures order { IfTaken result (coupons_in self.new.places ≡ coupons_with (coupons_in self.old.places) coupon) }
+        ensures buckets { IfTaken result (self.new ≡ filled_from_front self.old.lg_size (coupons_with (coupons_in self.old.buckets) coupon)) }
+        ensures order { IfTaken result (coupons_in self.new.buckets ≡ coupons_with (coupons_in self.old.buckets) coupon) }
         ensures members { IfTaken result (coupons_of self.new ≡ set.insert (coupons_of self.old) coupon) }
         ensures unchanged { IfRefused result (self.new ≡ self.old) }
     {
@@ -145,27 +145,27 @@ impl<A: Allocator> List<A> {
         Insertion::Added
     }
 
-    /// Puts a new coupon into the first empty place.
+    /// Puts a new coupon into the first empty bucket.
     fn push(&mut self, coupon: Coupon)
         requires valued { 1 ≤ value_of coupon }
-        requires room { length (coupons_in self.old.places) < 2 ^ self.old.lg_size }
+        requires room { length (coupons_in self.old.buckets) < 2 ^ self.old.lg_size }
         requires fresh { set.contains (coupons_of self.old) coupon ≡ false }
-        ensures places { self.new ≡ filled_from_front self.old.lg_size (coupons_with (coupons_in self.old.places) coupon) }
-        ensures order { coupons_in self.new.places ≡ coupons_with (coupons_in self.old.places) coupon }
+        ensures buckets { self.new ≡ filled_from_front self.old.lg_size (coupons_with (coupons_in self.old.buckets) coupon) }
+        ensures order { coupons_in self.new.buckets ≡ coupons_with (coupons_in self.old.buckets) coupon }
         ensures members { coupons_of self.new ≡ set.insert (coupons_of self.old) coupon }
     {
-        let place = self.container.len();
-        self.container.put(place, coupon);
+        let bucket = self.container.len();
+        self.container.put(bucket, coupon);
     }
 
     /// Whether the list has the coupon. Looks at each coupon until it is found; takes no memory.
     pub fn contains(&self, coupon: Coupon) -> bool
         ensures { result ≡ set.contains (coupons_of self.now) coupon }
     {
-        self.container.places()[..self.container.len()].contains(&coupon)
+        self.container.buckets()[..self.container.len()].contains(&coupon)
     }
 
-    /// Whether the list, which has no raw word above `greatest`, has the coupon. A greater one is not sought.
+    /// Whether the list, which has no raw coupon above `greatest`, has the coupon. A greater one is not sought.
     fn contains_up_to(&self, coupon: Coupon, greatest: u32) -> bool
         requires { (c : ℕ) → set.contains (coupons_of self.now) c ≡ true → c ≤ greatest }
         ensures { result ≡ set.contains (coupons_of self.now) coupon }
@@ -173,7 +173,7 @@ impl<A: Allocator> List<A> {
         coupon.raw() <= greatest && self.contains(coupon)
     }
 
-    /// The places.
+    /// The buckets.
     pub fn container(&self) -> &Container<A>
         ensures same { result.now ≡ self.now }
         ensures front { IsFilledFromFront self.now }
@@ -181,7 +181,7 @@ impl<A: Allocator> List<A> {
         &self.container
     }
 
-    /// A copy in memory of this allocator, with the same places.
+    /// A copy in memory of this allocator, with the same buckets.
     ///
     /// Fails with `Memory`.
     pub fn clone_in(&self, alloc: A) -> Result<List<A>, Error>
@@ -195,7 +195,7 @@ impl<A: Allocator> List<A> {
 }
 
 impl<A: Allocator + Clone> List<A> {
-    /// A copy, with the same places.
+    /// A copy, with the same buckets.
     ///
     /// Fails with `Memory`.
     pub fn clone(&self) -> Result<List<A>, Error>
@@ -205,8 +205,8 @@ impl<A: Allocator + Clone> List<A> {
         self.clone_in(self.container.allocator().clone()?)
     }
 
-    /// The compact image of a list of eight places (docs/FORMAT.md, "What is written"): eight bytes, and four for
-    /// each coupon, in ascending raw words.
+    /// The compact image of a list of eight buckets (docs/FORMAT.md, "What is written"): eight bytes, and four for
+    /// each coupon, in ascending raw coupons.
     ///
     /// `lg_config_k` is 4 to 21, and the list has size 3. Takes memory for a sorted copy of the coupons, and in one
     /// request for the image. Fails with `Memory`.
@@ -249,40 +249,40 @@ fn is_list_count(lg_arr: usize, coupon_count: usize, empty: bool) -> bool
     ensures { (compact : Bool) → let h = shape_of_list lg_arr coupon_count empty compact in
         IsTrue result ↔ HasListCount h }
 {
-    coupon_count <= places_of(lg_arr) && empty == (coupon_count == 0)
+    coupon_count <= buckets_of(lg_arr) && empty == (coupon_count == 0)
 }
 
-/// How many places follow the header.
-fn places_to_read(lg_arr: usize, coupon_count: usize, empty: bool, compact: bool) -> usize
+/// How many buckets follow the header.
+fn buckets_to_read(lg_arr: usize, coupon_count: usize, empty: bool, compact: bool) -> usize
     requires { lg_arr ≤ 26 }
     ensures { let h = shape_of_list lg_arr coupon_count empty compact in
-        result ≡ list_places h }
+        result ≡ list_buckets h }
 {
     if empty {
         0
     } else if compact {
         coupon_count
     } else {
-        places_of(lg_arr)
+        buckets_of(lg_arr)
     }
 }
 
-/// Reads places into an empty list. `Coupon` where one that has to be a coupon has no value, or comes twice. One above
+/// Reads buckets into an empty list. `Coupon` where one that has to be a coupon has no value, or comes twice. One above
 /// those before it is not sought among them, as in an image whose coupons ascend.
-fn read_places<A: Allocator>(
+fn read_buckets<A: Allocator>(
     list: &mut List<A>,
     mut cursor: SketchSlice<'_>,
-    places: usize,
+    buckets: usize,
     compact: bool,
 ) -> Result<(), Error>
     requires none { list.old ≡ empty_table list.old.lg_size }
-    requires room { places ≤ 2 ^ list.old.lg_size }
-    requires there { 4 * places ≤ length cursor }
-    ensures ok { OnOk result ((list.new ≡ filled_from_front list.old.lg_size (coupons_at compact places cursor.entry)) × AreCoupons (coupons_at compact places cursor.entry)) }
-    ensures err { IfErr result (λ e. (e ≡ reasons.Coupon) × (AreCoupons (coupons_at compact places cursor.entry) → ⊥)) }
+    requires room { buckets ≤ 2 ^ list.old.lg_size }
+    requires there { 4 * buckets ≤ length cursor }
+    ensures ok { OnOk result ((list.new ≡ filled_from_front list.old.lg_size (coupons_at compact buckets cursor.entry)) × AreCoupons (coupons_at compact buckets cursor.entry)) }
+    ensures err { IfErr result (λ e. (e ≡ reasons.Coupon) × (AreCoupons (coupons_at compact buckets cursor.entry) → ⊥)) }
 {
     let mut greatest = 0u32;
-    for _ in 0..places {
+    for _ in 0..buckets {
         let coupon = Coupon::from_raw(cursor.read_u32_le()?);
         if coupon.is_empty() && !compact {
             continue;
@@ -315,7 +315,7 @@ pub(crate) fn list_header(
         SERIAL_VERSION,
         Family::HLL.id,
         lg_config_k,
-        LG_LIST_PLACES,
+        LG_LIST_BUCKETS,
         flags,
         count as u8,
         encode_mode_byte(CUR_MODE_LIST, hll_type as u8),

@@ -14,7 +14,7 @@ use crate::search::{Key, SHORT, search, search_on, search_within, stride_of};
 use hll_base::error::Error;
 use std::alloc::Allocator;
 
-/// The logarithm of the least number of places that a cycle is made for: a word of bits.
+/// The logarithm of the least number of buckets that a cycle is made for: a block of bits.
 const LG_LEAST_CYCLE: usize = 6;
 
 /// The cycles that were made while a table is filled, and the steps of long searches since the last of them.
@@ -27,7 +27,7 @@ pub(crate) struct LongSearches<A: Allocator> {
 impl<A: Allocator> LongSearches<A> {
     /// No steps and no cycles.
     pub(crate) fn new(alloc: A) -> LongSearches<A>
-        ensures { (lg : ℕ) (places : List ℕ) → AreFor lg places result }
+        ensures { (lg : ℕ) (buckets : List ℕ) → AreFor lg buckets result }
     {
         LongSearches {
             steps: 0,
@@ -37,14 +37,14 @@ impl<A: Allocator> LongSearches<A> {
 
     /// Whether there are no cycles.
     pub(crate) fn are_none(&self) -> bool
-        ensures { IsTrue result → (lg : ℕ) (places : List ℕ) → AreFor lg places self.now }
+        ensures { IsTrue result → (lg : ℕ) (buckets : List ℕ) → AreFor lg buckets self.now }
     {
         self.cycles.is_empty()
     }
 
     /// Forgets all cycles, as of a table that is no more.
     pub(crate) fn forget(&mut self)
-        ensures { (lg : ℕ) (places : List ℕ) → AreFor lg places self.new }
+        ensures { (lg : ℕ) (buckets : List ℕ) → AreFor lg buckets self.new }
     {
         self.steps = 0;
         self.cycles.clear();
@@ -67,136 +67,136 @@ impl<A: Allocator> LongSearches<A> {
     }
 
     /// A place of the table is filled.
-    pub(crate) fn fill(&mut self, place: usize)
+    pub(crate) fn fill(&mut self, bucket: usize)
         requires sound { All IsSound self.old.cycles.items }
-        requires within { All (λ c. place < 2 ^ c.lg_size) self.old.cycles.items }
-        ensures { AreFilled self.old.cycles.items place self.new.cycles.items }
+        requires within { All (λ c. bucket < 2 ^ c.lg_size) self.old.cycles.items }
+        ensures { AreFilled self.old.cycles.items bucket self.new.cycles.items }
     {
-        fill_each(&mut self.cycles, place);
+        fill_each(&mut self.cycles, bucket);
     }
 }
 
 impl<A: Allocator + Clone> LongSearches<A> {
-    /// The place where the search for an absent key ends.
+    /// The bucket where the search for an absent key ends.
     ///
-    /// Takes memory for a cycle where long searches have become dear. Fails with `Memory`.
+    /// Takes memory for a cycle where long searches have become expensive. Fails with `Memory`.
     pub(crate) fn end_of(
         &mut self,
         by: Key,
         lg_size: usize,
-        places: &[Coupon],
+        buckets: &[Coupon],
         key: u32,
     ) -> Result<usize, Error>
         requires small { lg_size ≤ 26 }
-        requires size { length places.now ≡ 2 ^ lg_size }
-        requires absent { IsAbsent (key_of by) places.now key }
-        requires room { length (coupons_in places.now) < 2 ^ lg_size }
-        requires cycles { AreFor lg_size places.now self.old }
-        ensures ends { IfOk result (EndsAt (key_of by) lg_size places.now key) }
-        ensures cycles { AreFor lg_size places.now self.new }
+        requires size { length buckets.now ≡ 2 ^ lg_size }
+        requires absent { IsAbsent (key_of by) buckets.now key }
+        requires room { length (coupons_in buckets.now) < 2 ^ lg_size }
+        requires cycles { AreFor lg_size buckets.now self.old }
+        ensures ends { IfOk result (EndsAt (key_of by) lg_size buckets.now key) }
+        ensures cycles { AreFor lg_size buckets.now self.new }
         ensures err { IfErr result (λ e. e ≡ Memory) }
     {
         if !self.cycles.is_empty() {
-            if let Some(place) = self.end_by_cycle(lg_size, key) {
-                return Ok(place);
+            if let Some(bucket) = self.end_by_cycle(lg_size, key) {
+                return Ok(bucket);
             }
         }
-        let limit = SHORT.min(places.len());
-        match search_within(by, lg_size, places, key, limit) {
-            Some(place) => Ok(place),
-            None => self.end_of_long(by, lg_size, places, key, limit),
+        let limit = SHORT.min(buckets.len());
+        match search_within(by, lg_size, buckets, key, limit) {
+            Some(bucket) => Ok(bucket),
+            None => self.end_of_long(by, lg_size, buckets, key, limit),
         }
     }
 
-    /// The same, without a cycle where memory for it is refused.
+    /// The bucket where the search for an absent key ends, without a cycle where memory for one is refused.
     pub(crate) fn end_or_walk(
         &mut self,
         by: Key,
         lg_size: usize,
-        places: &[Coupon],
+        buckets: &[Coupon],
         key: u32,
     ) -> usize
         requires small { lg_size ≤ 26 }
-        requires size { length places.now ≡ 2 ^ lg_size }
-        requires absent { IsAbsent (key_of by) places.now key }
-        requires room { length (coupons_in places.now) < 2 ^ lg_size }
-        requires cycles { AreFor lg_size places.now self.old }
-        ensures ends { EndsAt (key_of by) lg_size places.now key result }
-        ensures cycles { AreFor lg_size places.now self.new }
+        requires size { length buckets.now ≡ 2 ^ lg_size }
+        requires absent { IsAbsent (key_of by) buckets.now key }
+        requires room { length (coupons_in buckets.now) < 2 ^ lg_size }
+        requires cycles { AreFor lg_size buckets.now self.old }
+        ensures ends { EndsAt (key_of by) lg_size buckets.now key result }
+        ensures cycles { AreFor lg_size buckets.now self.new }
     {
-        match self.end_of(by, lg_size, places, key) {
-            Ok(place) => place,
-            Err(_) => match search(by, lg_size, places, key) {
-                Some(place) => place,
+        match self.end_of(by, lg_size, buckets, key) {
+            Ok(bucket) => bucket,
+            Err(_) => match search(by, lg_size, buckets, key) {
+                Some(bucket) => bucket,
                 None => unreachable!(),
             },
         }
     }
 
-    /// As `end_of`, behind the first `passed` places of the path, where the steps are counted.
+    /// As `end_of`, after the first `passed` buckets of the path, where the steps are counted.
     #[inline(never)]
     fn end_of_long(
         &mut self,
         by: Key,
         lg_size: usize,
-        places: &[Coupon],
+        buckets: &[Coupon],
         key: u32,
         passed: usize,
     ) -> Result<usize, Error>
         requires small { lg_size ≤ 26 }
-        requires size { length places.now ≡ 2 ^ lg_size }
-        requires room { length (coupons_in places.now) < 2 ^ lg_size }
+        requires size { length buckets.now ≡ 2 ^ lg_size }
+        requires room { length (coupons_in buckets.now) < 2 ^ lg_size }
         requires within { passed ≤ 2 ^ lg_size }
-        requires passes { Passes (key_of by) lg_size places.now key passed }
-        requires cycles { AreFor lg_size places.now self.old }
-        ensures ends { IfOk result (EndsAt (key_of by) lg_size places.now key) }
-        ensures cycles { AreFor lg_size places.now self.new }
+        requires passes { Passes (key_of by) lg_size buckets.now key passed }
+        requires cycles { AreFor lg_size buckets.now self.old }
+        ensures ends { IfOk result (EndsAt (key_of by) lg_size buckets.now key) }
+        ensures cycles { AreFor lg_size buckets.now self.new }
         ensures err { IfErr result (λ e. e ≡ Memory) }
     {
-        let Some((place, more)) = search_on(by, lg_size, places, key, passed) else {
+        let Some((bucket, more)) = search_on(by, lg_size, buckets, key, passed) else {
             unreachable!()
         };
         self.steps = self.steps.saturating_add(more);
-        if are_dear(self.steps, lg_size) {
-            self.make_cycle(lg_size, stride_of(lg_size, key), places)?;
+        if are_expensive(self.steps, lg_size) {
+            self.make_cycle(lg_size, stride_of(lg_size, key), buckets)?;
         }
-        Ok(place)
+        Ok(bucket)
     }
 
-    /// Makes the cycle of a stride through these places, and counts from 0.
-    fn make_cycle(&mut self, lg_size: usize, stride: u32, places: &[Coupon]) -> Result<(), Error>
+    /// Makes the cycle of a stride through these buckets, and counts from 0.
+    fn make_cycle(&mut self, lg_size: usize, stride: u32, buckets: &[Coupon]) -> Result<(), Error>
         requires least { 6 ≤ lg_size }
         requires small { lg_size ≤ 26 }
-        requires size { length places.now ≡ 2 ^ lg_size }
+        requires size { length buckets.now ≡ 2 ^ lg_size }
         requires odd { stride % 2 ≡ 1 }
         requires few { stride < 2 ^ 26 }
-        requires cycles { AreFor lg_size places.now self.old }
-        ensures cycles { AreFor lg_size places.now self.new }
+        requires cycles { AreFor lg_size buckets.now self.old }
+        ensures cycles { AreFor lg_size buckets.now self.new }
         ensures err { IfErr result (λ e. e ≡ Memory) }
     {
         self.steps = 0;
         let alloc = self.cycles.allocator().clone()?;
-        let cycle = Cycle::new(alloc, lg_size, stride, places)?;
+        let cycle = Cycle::new(alloc, lg_size, stride, buckets)?;
         self.cycles.push(cycle)?;
         Ok(())
     }
 }
 
-/// Whether long searches took four steps for each place of a table of 64 places or more.
-fn are_dear(steps: usize, lg_size: usize) -> bool
+/// Whether long searches took four steps for each place of a table of 64 buckets or more.
+fn are_expensive(steps: usize, lg_size: usize) -> bool
     requires { lg_size ≤ 26 }
     ensures { IsTrue result → 6 ≤ lg_size }
 {
     lg_size >= LG_LEAST_CYCLE && steps >= 4 << lg_size
 }
 
-/// A place is filled in each cycle.
-fn fill_each<A: Allocator>(cycles: &mut [Cycle<A>], place: usize)
+/// A bucket is filled in each cycle.
+fn fill_each<A: Allocator>(cycles: &mut [Cycle<A>], bucket: usize)
     requires sound { All IsSound cycles.old }
-    requires within { All (λ c. place < 2 ^ c.lg_size) cycles.old }
-    ensures { AreFilled cycles.old place cycles.new }
+    requires within { All (λ c. bucket < 2 ^ c.lg_size) cycles.old }
+    ensures { AreFilled cycles.old bucket cycles.new }
 {
     for cycle in cycles.iter_mut() {
-        cycle.fill(place);
+        cycle.fill(bucket);
     }
 }

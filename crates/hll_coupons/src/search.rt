@@ -1,5 +1,5 @@
 // SPDX-License-Identifier: Apache-2.0
-//! Searches through a table of places by a key, and entries put where they end (docs/MODEL.md, "Probing").
+//! Searches through a table of buckets by a key, and entries put where they end (docs/MODEL.md, "Probing").
 ghost use Rattle.std.specs.Prelude.{◌≡◌, ◌%◌, ◌^◌, ◌<◌, ◌≤◌, length, slice_index, slice_set, IfSome, IfNone};
 ghost use Rattle.std.specs.FinSet.{len};
 ghost use Rattle.hll_coupons.specs.Pair.{set_of, value_of};
@@ -15,8 +15,8 @@ use std::alloc::Allocator;
 /// What a search compares.
 #[derive(Clone, Copy)]
 pub(crate) enum Key {
-    /// The raw word, as in a set.
-    Word,
+    /// The raw coupon, as in a set.
+    RawCoupon,
     /// The slot, as in a table of exceptions.
     Slot,
 }
@@ -27,18 +27,18 @@ impl Key {
         ensures { result ≡ key_of self entry }
     {
         match self {
-            Key::Word => entry.raw(),
+            Key::RawCoupon => entry.raw(),
             Key::Slot => entry.slot(),
         }
     }
 }
 
-/// A place modulo 2^`lg_size`.
-pub(crate) fn wrapped(lg_size: usize, place: usize) -> usize
+/// A bucket modulo 2^`lg_size`.
+pub(crate) fn wrapped(lg_size: usize, bucket: usize) -> usize
     requires { lg_size ≤ 26 }
-    ensures { result ≡ place % 2 ^ lg_size }
+    ensures { result ≡ bucket % 2 ^ lg_size }
 {
-    place & ((1 << lg_size) - 1)
+    bucket & ((1 << lg_size) - 1)
 }
 
 /// The stride of a key: the bits of its slot above the table's, made odd.
@@ -51,96 +51,97 @@ pub(crate) fn stride_of(lg_size: usize, key: u32) -> u32
     Coupon::from_raw(key).slot() >> lg_size | 1
 }
 
-/// As many places does a short search look at.
+/// As many buckets does a short search look at.
 pub(crate) const SHORT: usize = 64;
 
-/// As many does one for an exception. Slots have few bits above the table's, so most searches go to the next place, and
-/// filled places lie side by side.
+/// As many does one for an exception. Slots have few bits above the table's, so most searches go to the next bucket, and
+/// filled buckets lie side by side.
 pub(crate) const SHORT_BY_SLOT: usize = 256;
 
-/// The first place on the path of a key that is empty or filled with the key; none in a table that is full of other keys.
-pub(crate) fn search(by: Key, lg_size: usize, places: &[Coupon], key: u32) -> Option<usize>
+/// The first bucket on the path of a key that is empty or filled with the key; none in a table that is full of other keys.
+pub(crate) fn search(by: Key, lg_size: usize, buckets: &[Coupon], key: u32) -> Option<usize>
     requires small { lg_size ≤ 26 }
-    requires size { length places.now ≡ 2 ^ lg_size }
-    ensures found { IfSome result (EndsAt (key_of by) lg_size places.now key) }
-    ensures full { IfNone result (Passes (key_of by) lg_size places.now key (2 ^ lg_size)) }
+    requires size { length buckets.now ≡ 2 ^ lg_size }
+    ensures found { IfSome result (EndsAt (key_of by) lg_size buckets.now key) }
+    ensures full { IfNone result (Passes (key_of by) lg_size buckets.now key (2 ^ lg_size)) }
 {
-    search_within(by, lg_size, places, key, places.len())
+    search_within(by, lg_size, buckets, key, buckets.len())
 }
 
-/// The same among the first `limit` places of the path.
+/// The first bucket on the path of a key that is empty or filled with the key, among the first `limit` buckets of the path.
 pub(crate) fn search_within(
     by: Key,
     lg_size: usize,
-    places: &[Coupon],
+    buckets: &[Coupon],
     key: u32,
     limit: usize,
 ) -> Option<usize>
     requires small { lg_size ≤ 26 }
-    requires size { length places.now ≡ 2 ^ lg_size }
+    requires size { length buckets.now ≡ 2 ^ lg_size }
     requires limit { limit ≤ 2 ^ lg_size }
-    ensures found { IfSome result (EndsAt (key_of by) lg_size places.now key) }
-    ensures none { IfNone result (Passes (key_of by) lg_size places.now key limit) }
+    ensures found { IfSome result (EndsAt (key_of by) lg_size buckets.now key) }
+    ensures none { IfNone result (Passes (key_of by) lg_size buckets.now key limit) }
 {
     let stride = stride_of(lg_size, key) as usize;
-    let mut place = wrapped(lg_size, key as usize);
+    let mut bucket = wrapped(lg_size, key as usize);
     for _ in 0..limit {
-        let entry = places[place];
+        let entry = buckets[bucket];
         if entry.is_empty() || by.of(entry) == key {
-            return Some(place);
+            return Some(bucket);
         }
-        place = wrapped(lg_size, place + stride);
+        bucket = wrapped(lg_size, bucket + stride);
     }
     None
 }
 
-/// The same behind the first `passed` places of the path, with the number of steps from there.
+/// The first bucket on the path of a key that is empty or filled with the key, after the first `passed` buckets of the path,
+/// with the number of steps from there.
 #[inline(never)]
 pub(crate) fn search_on(
     by: Key,
     lg_size: usize,
-    places: &[Coupon],
+    buckets: &[Coupon],
     key: u32,
     passed: usize,
 ) -> Option<(usize, usize)>
     requires small { lg_size ≤ 26 }
-    requires size { length places.now ≡ 2 ^ lg_size }
+    requires size { length buckets.now ≡ 2 ^ lg_size }
     requires within { passed ≤ 2 ^ lg_size }
-    requires passes { Passes (key_of by) lg_size places.now key passed }
-    ensures found { IfSome result (λ end. EndsAt (key_of by) lg_size places.now key end.0) }
-    ensures full { IfNone result (Passes (key_of by) lg_size places.now key (2 ^ lg_size)) }
+    requires passes { Passes (key_of by) lg_size buckets.now key passed }
+    ensures found { IfSome result (λ end. EndsAt (key_of by) lg_size buckets.now key end.0) }
+    ensures full { IfNone result (Passes (key_of by) lg_size buckets.now key (2 ^ lg_size)) }
 {
     let stride = stride_of(lg_size, key) as usize;
-    let mut place = wrapped(lg_size, key as usize + passed * stride);
-    for index in passed..places.len() {
-        let entry = places[place];
+    let mut bucket = wrapped(lg_size, key as usize + passed * stride);
+    for index in passed..buckets.len() {
+        let entry = buckets[bucket];
         if entry.is_empty() || by.of(entry) == key {
-            return Some((place, index - passed));
+            return Some((bucket, index - passed));
         }
-        place = wrapped(lg_size, place + stride);
+        bucket = wrapped(lg_size, bucket + stride);
     }
     None
 }
 
-/// Puts an entry into the empty place where the search for its key ends.
+/// Puts an entry into the empty bucket where the search for its key ends.
 ///
-/// Its value is at least 1, its key is absent, and a place is empty. Says which place it was.
+/// Its value is at least 1, its key is absent, and a bucket is empty. Says which bucket it was.
 pub(crate) fn put_entry<A: Allocator>(table: &mut Container<A>, by: Key, entry: Coupon) -> usize
-    requires probed { IsProbed (key_of by) table.old.lg_size table.old.places }
+    requires probed { IsProbed (key_of by) table.old.lg_size table.old.buckets }
     requires valued { 1 ≤ value_of entry }
-    requires absent { IsAbsent (key_of by) table.old.places (key_of by entry) }
-    requires room { length (coupons_in table.old.places) < 2 ^ table.old.lg_size }
+    requires absent { IsAbsent (key_of by) table.old.buckets (key_of by entry) }
+    requires room { length (coupons_in table.old.buckets) < 2 ^ table.old.lg_size }
     ensures within { result < 2 ^ table.old.lg_size }
-    ensures empty { slice_index table.old.places result ≡ 0 }
-    ensures at { table.new.places ≡ slice_set table.old.places result entry }
+    ensures empty { slice_index table.old.buckets result ≡ 0 }
+    ensures at { table.new.buckets ≡ slice_set table.old.buckets result entry }
     ensures size { table.new.lg_size ≡ table.old.lg_size }
-    ensures places { Puts (key_of by) table.old.lg_size table.old.places entry table.new.places }
+    ensures buckets { Puts (key_of by) table.old.lg_size table.old.buckets entry table.new.buckets }
     ensures table { IsTable table.new }
 {
-    let places = table.places();
-    let Some(place) = search(by, table.lg_size(), places, by.of(entry)) else {
+    let buckets = table.buckets();
+    let Some(bucket) = search(by, table.lg_size(), buckets, by.of(entry)) else {
         unreachable!()
     };
-    table.put(place, entry);
-    place
+    table.put(bucket, entry);
+    bucket
 }

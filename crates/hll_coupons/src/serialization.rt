@@ -1,16 +1,16 @@
 // SPDX-License-Identifier: Apache-2.0
 //! The constants of tables and of an image, and its mode byte (docs/FORMAT.md, "The image"). Names that begin
-//! with `LG` are logarithms of numbers of places, those that end in `PREINTS` count words of four bytes, those that end
+//! with `LG` are logarithms of numbers of buckets, those that end in `PREINTS` count raw coupons of four bytes, those that end
 //! in `SIZE` or `BYTES` count bytes.
 ghost use Rattle.std.specs.Prelude.{◌≡◌, ◌+◌, ◌*◌, ◌/◌, ◌%◌};
 
-/// The places of a list: eight.
-pub const LG_LIST_PLACES: u8 = 3;
+/// The buckets of a list: eight.
+pub const LG_LIST_BUCKETS: u8 = 3;
 
-/// The places of the smallest set: 32.
-pub const LG_LEAST_SET_PLACES: u8 = 5;
+/// The buckets of the smallest set: 32.
+pub const LG_LEAST_SET_BUCKETS: u8 = 5;
 
-/// How far the logarithm of the number of places of a set stays below the `lg_k`.
+/// How far the logarithm of the number of buckets of a set stays below the `lg_k`.
 pub const LG_SET_BELOW_LG_K: u8 = 3;
 
 /// The version of the format, the second byte of an image.
@@ -19,19 +19,19 @@ pub const SERIAL_VERSION: u8 = 1;
 /// The flag of an image with no coupon.
 pub const EMPTY_FLAG_MASK: u8 = 4;
 
-/// The flag of an image that has coupons, or exceptions, with no empty places between them.
+/// The flag of an image that has coupons, or exceptions, with no empty buckets between them.
 pub const COMPACT_FLAG_MASK: u8 = 8;
 
 /// The flag of an estimate state that doesn't follow the order of arrival.
 pub const OUT_OF_ORDER_FLAG_MASK: u8 = 16;
 
-/// The words before the coupons of a list.
+/// The raw coupons before the coupons of a list.
 pub const LIST_PREINTS: u8 = 2;
 
-/// The words before the coupons of a set.
+/// The raw coupons before the coupons of a set.
 pub const HASH_SET_PREINTS: u8 = 3;
 
-/// The words before the registers.
+/// The raw coupons before the registers.
 pub const HLL_PREINTS: u8 = 10;
 
 /// The bytes before the coupons of a list.

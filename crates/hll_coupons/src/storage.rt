@@ -2,15 +2,15 @@
 //! Storage for coupons, in the value itself or in memory of their own.
 ghost use Rattle.std.specs.Prelude.{◌≡◌, ◌≢◌, ◌^◌, ◌<◌, ◌≤◌, length, replicate, slice_set, IfOk, IfErr, OnErr};
 ghost use Rattle.hll_base.specs.declared.error.Reason.TheVariants.{Memory};
-ghost use Rattle.hll_coupons.specs.Storage.{places_in};
+ghost use Rattle.hll_coupons.specs.Storage.{buckets_in};
 
 use crate::coupon::Coupon;
-use crate::serialization::LG_LIST_PLACES;
+use crate::serialization::LG_LIST_BUCKETS;
 use hll_base::error::Error;
 use std::alloc::{Allocator, Global};
 use std::fmt;
 
-/// 2^`lg_size` places, each empty or filled. Those of a list stand in the value itself.
+/// 2^`lg_size` buckets, each empty or filled. Those of a list stand in the value itself.
 pub(crate) enum Storage<A: Allocator = Global> {
     /// Eight, which take no memory.
     InValue { coupons: [Coupon; 8], alloc: A },
@@ -29,9 +29,9 @@ impl<A: Allocator> Drop for Storage<A> {
 }
 
 impl<A: Allocator> Storage<A> {
-    /// Eight empty places.
+    /// Eight empty buckets.
     pub(crate) fn eight(alloc: A) -> Storage<A>
-        ensures { places_in result ≡ replicate 8 0 }
+        ensures { buckets_in result ≡ replicate 8 0 }
     {
         Storage::InValue {
             coupons: [Coupon::EMPTY; 8],
@@ -39,16 +39,16 @@ impl<A: Allocator> Storage<A> {
         }
     }
 
-    /// 2^`lg_size` empty places.
+    /// 2^`lg_size` empty buckets.
     ///
     /// Fails with `Memory`, only if they are not eight.
     pub(crate) fn new(alloc: A, lg_size: usize) -> Result<Storage<A>, Error>
         requires { lg_size ≤ 26 }
-        ensures ok { IfOk result (λ p. places_in p ≡ replicate (2 ^ lg_size) 0) }
+        ensures ok { IfOk result (λ p. buckets_in p ≡ replicate (2 ^ lg_size) 0) }
         ensures needed { OnErr result (lg_size ≢ 3) }
         ensures err { IfErr result (λ e. e ≡ Memory) }
     {
-        if lg_size == usize::from(LG_LIST_PLACES) {
+        if lg_size == usize::from(LG_LIST_BUCKETS) {
             return Ok(Storage::eight(alloc));
         }
         Ok(Storage::Allocated(vec![in alloc; Coupon::EMPTY; 1 << lg_size]?))
@@ -64,9 +64,9 @@ impl<A: Allocator> Storage<A> {
 
     /// A copy, in memory of this allocator.
     ///
-    /// Fails with `Memory`, only if the places have memory of their own.
+    /// Fails with `Memory`, only if the buckets have memory of their own.
     pub(crate) fn clone_in(&self, alloc: A) -> Result<Storage<A>, Error>
-        ensures ok { IfOk result (λ p. places_in p ≡ places_in self.now) }
+        ensures ok { IfOk result (λ p. buckets_in p ≡ buckets_in self.now) }
         ensures err { IfErr result (λ e. e ≡ Memory) }
     {
         match self {
@@ -80,9 +80,9 @@ impl<A: Allocator> Storage<A> {
         }
     }
 
-    /// The places.
+    /// The buckets.
     pub(crate) fn as_slice(&self) -> &[Coupon]
-        ensures { result.now ≡ places_in self.now }
+        ensures { result.now ≡ buckets_in self.now }
     {
         match self {
             Storage::InValue { coupons, .. } => coupons,
@@ -90,9 +90,9 @@ impl<A: Allocator> Storage<A> {
         }
     }
 
-    /// Empties each place.
+    /// Empties each bucket.
     pub(crate) fn clear(&mut self)
-        ensures { places_in self.new ≡ replicate (length (places_in self.old)) 0 }
+        ensures { buckets_in self.new ≡ replicate (length (buckets_in self.old)) 0 }
     {
         match self {
             Storage::InValue { coupons, .. } => coupons.fill(Coupon::EMPTY),
@@ -100,20 +100,20 @@ impl<A: Allocator> Storage<A> {
         }
     }
 
-    /// Fills a place.
-    pub(crate) fn set(&mut self, place: usize, coupon: Coupon)
-        requires small { place < 2 ^ 26 }
-        requires within { place < length (places_in self.old) }
-        ensures { places_in self.new ≡ slice_set (places_in self.old) place coupon }
+    /// Fills a bucket.
+    pub(crate) fn set(&mut self, bucket: usize, coupon: Coupon)
+        requires small { bucket < 2 ^ 26 }
+        requires within { bucket < length (buckets_in self.old) }
+        ensures { buckets_in self.new ≡ slice_set (buckets_in self.old) bucket coupon }
     {
         match self {
-            Storage::InValue { coupons, .. } => coupons[place] = coupon,
-            Storage::Allocated(coupons) => coupons[place] = coupon,
+            Storage::InValue { coupons, .. } => coupons[bucket] = coupon,
+            Storage::Allocated(coupons) => coupons[bucket] = coupon,
         }
     }
 }
 
-/// The places, as a list.
+/// The buckets, as a list.
 impl<A: Allocator> fmt::Debug for Storage<A> {
     fn fmt<W: fmt::Write>(&self, f: &mut fmt::Formatter<W>) -> fmt::Result {
         self.as_slice().fmt(f)

@@ -1,5 +1,5 @@
 // SPDX-License-Identifier: Apache-2.0
-//! Maps of exceptions: what they hold, and in which places.
+//! Maps of exceptions: what they hold, and in which buckets.
 ghost use Rattle.std.specs.Prelude.{◌≡◌, ◌^◌, ◌<◌, ◌≤◌, IfOk, OnOk};
 
 use hll_base::error::Error;
@@ -47,33 +47,33 @@ fn map_of<A: Allocator + Clone>(
     Ok(map)
 }
 
-/// The entries in the order of their places, and the bytes of all places.
-type Places = ([Option<(u32, u8)>; 5], usize);
+/// The entries in the order of their buckets, and the bytes of all buckets.
+type Buckets = ([Option<(u32, u8)>; 5], usize);
 
-fn places_of<A: Allocator>(map: &AuxMap<A>) -> Places {
+fn buckets_of<A: Allocator>(map: &AuxMap<A>) -> Buckets {
     let mut entries = map.iter();
-    let places = [
+    let buckets = [
         entries.next(),
         entries.next(),
         entries.next(),
         entries.next(),
         entries.next(),
     ];
-    (places, map.estimated_size())
+    (buckets, map.estimated_size())
 }
 
-/// Two entries that start at place 1, and one that starts where the second of them went.
+/// Two entries that start at bucket 1, and one that starts where the second of them went.
 const THREE: [(u32, u8); 3] = [(1, 15), (5, 16), (2, 17)];
 
-const THREE_PLACES: Places = (
+const THREE_BUCKETS: Buckets = (
     [Some((1, 15)), Some((5, 16)), Some((2, 17)), None, None],
     16,
 );
 
-/// A fourth makes the table grow, to eight places.
+/// A fourth makes the table grow, to eight buckets.
 const FOUR: [(u32, u8); 4] = [(1, 15), (5, 16), (2, 17), (3, 63)];
 
-const FOUR_PLACES: Places = (
+const FOUR_BUCKETS: Buckets = (
     [
         Some((1, 15)),
         Some((2, 17)),
@@ -84,11 +84,11 @@ const FOUR_PLACES: Places = (
     32,
 );
 
-/// The places of a map to which these entries came, and those of its copy.
-fn placed(alloc: Global, entries: &[(u32, u8)]) -> Result<(Places, Places), Error> {
+/// The buckets of a map to which these entries came, and those of its copy.
+fn placed(alloc: Global, entries: &[(u32, u8)]) -> Result<(Buckets, Buckets), Error> {
     let map = map_of(alloc, 4, entries)?;
-    let places = places_of(&map);
-    Ok((places, places_of(&map.clone()?)))
+    let buckets = buckets_of(&map);
+    Ok((buckets, buckets_of(&map.clone()?)))
 }
 
 /// The first five entries that a map gives which is used up.
@@ -104,10 +104,10 @@ fn given(alloc: Global, entries: &[(u32, u8)]) -> Result<[Option<(u32, u8)>; 5],
 }
 
 #[test]
-fn places(rt: HostRuntime) {
-    for (entries, places) in [(THREE.as_slice(), THREE_PLACES), (&FOUR, FOUR_PLACES)] {
-        assert_eq!(rt; placed(rt.alloc(), entries), Ok((places, places)));
-        assert_eq!(rt; given(rt.alloc(), entries), Ok(places.0));
+fn buckets(rt: HostRuntime) {
+    for (entries, buckets) in [(THREE.as_slice(), THREE_BUCKETS), (&FOUR, FOUR_BUCKETS)] {
+        assert_eq!(rt; placed(rt.alloc(), entries), Ok((buckets, buckets)));
+        assert_eq!(rt; given(rt.alloc(), entries), Ok(buckets.0));
     }
 }
 
@@ -130,7 +130,7 @@ fn equals_three(alloc: Global, lg_k: u8, entries: &[(u32, u8)]) -> Result<(bool,
     Ok((three == map, map == three))
 }
 
-/// Places don't count, `lg_k`, slots and values do.
+/// Buckets don't count, `lg_k`, slots and values do.
 #[test]
 fn equal_by_entries(rt: HostRuntime) {
     for (entries, same) in COMPARED {

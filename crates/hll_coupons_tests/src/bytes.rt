@@ -23,8 +23,8 @@ fn fields_follow_one_another(rt: HostRuntime) -> Result<(), Fail> {
     write_fields(&mut bytes)?;
     let written = bytes.into_bytes();
     assert_eq!(rt; written.len(), 40);
-    for (place, byte) in written.iter().enumerate() {
-        assert_eq!(rt; usize::from(*byte), place + 1);
+    for (bucket, byte) in written.iter().enumerate() {
+        assert_eq!(rt; usize::from(*byte), bucket + 1);
     }
     Ok(())
 }

@@ -134,7 +134,7 @@ fn vectors(rt: HostRuntime) {
     }
 }
 
-/// The same vectors, of bytes that are hashed at once.
+/// Each vector's bytes hashed at once.
 #[test]
 fn vectors_at_once(rt: HostRuntime) {
     for (seed, end, first, second) in VECTORS {

@@ -16,7 +16,7 @@ const EMPTY_IMAGE: [u8; 8] = [2, 1, 7, 10, 3, 12, 0, 8];
 
 const IMAGE: [u8; 12] = [2, 1, 7, 10, 3, 8, 1, 8, 5, 0, 0, 12];
 
-/// Slot 5 and value 3, where a place is free or it is held.
+/// Slot 5 and value 3, where a bucket is free or it is held.
 fn add<A: Allocator>(list: &mut List<A>)
     ensures { list.new.lg_size ≡ list.old.lg_size }
 {
@@ -53,7 +53,7 @@ fn images(rt: HostRuntime) {
     assert_eq!(rt; is_written(list_in(rt.alloc()), &IMAGE), Ok(true));
 }
 
-/// A list of two coupons in descending order, and one that has them the other way round, have one image; their places
+/// A list of two coupons in descending order, and one that has them the other way round, have one image; their buckets
 /// stay as they are.
 const TWO_IMAGE: [u8; 16] = [2, 1, 7, 10, 3, 8, 2, 8, 5, 0, 0, 4, 7, 0, 0, 8];
 
@@ -79,11 +79,11 @@ fn written_in_ascending_order(rt: HostRuntime) {
     }
 }
 
-/// A container of one empty place.
+/// A container of one empty bucket.
 #[test]
 fn containers(rt: HostRuntime) -> Result<(), Fail> {
-    let places = vec![in rt.alloc(); Coupon::EMPTY; 1]?;
-    let container = Container::from_coupons(0, places, 0);
+    let buckets = vec![in rt.alloc(); Coupon::EMPTY; 1]?;
+    let container = Container::from_coupons(0, buckets, 0);
     assert_eq!(rt; (container.lg_size(), container.capacity()), (0, 1));
     assert!(rt; container.is_empty() && !container.contains(Coupon::pack(5, 3)));
     Ok(())
@@ -95,7 +95,7 @@ fn equals(list: &List, made: Result<List, Error>) -> Result<(bool, bool), Error>
     Ok((*list == other, other == *list))
 }
 
-/// A list with sixteen places, and the coupon of `add` as often.
+/// A list with sixteen buckets, and the coupon of `add` as often.
 fn larger(alloc: Global, times: u8) -> Result<List, Error> {
     let mut list = List::new(alloc, 4)?;
     for _ in 0..times {
@@ -118,13 +118,13 @@ fn sizes_do_not_count(rt: HostRuntime) {
     assert_eq!(rt; is_copied(&list), Ok(true));
 }
 
-/// Two coupons, then an empty place and the second coupon's bytes once more.
-const PLACES: [u8; 16] = [5, 0, 0, 12, 6, 0, 0, 12, 0, 0, 0, 0, 6, 0, 0, 12];
+/// Two coupons, then an empty bucket and the second coupon's bytes once more.
+const BUCKETS: [u8; 16] = [5, 0, 0, 12, 6, 0, 0, 12, 0, 0, 0, 0, 6, 0, 0, 12];
 
 /// Two coupons in descending order, and the second once more.
 const DESCENDING: [u8; 12] = [6, 0, 0, 12, 5, 0, 0, 12, 5, 0, 0, 12];
 
-/// What is wrong with these places of a list with four places, or the number of its coupons.
+/// What is wrong with these buckets of a list with four buckets, or the number of its coupons.
 fn read_in<A: Allocator>(
     alloc: A,
     bytes: &[u8],
@@ -138,16 +138,16 @@ fn read_in<A: Allocator>(
     }
 }
 
-/// Bytes behind a header, the count, the empty and the compact flag, and what is answered: the number of coupons, or
+/// Bytes after a header, the count, the empty and the compact flag, and what is answered: the number of coupons, or
 /// what is wrong.
 const READINGS: [(&[u8], usize, bool, bool, Result<usize, Reason>); 12] = [
     (&[], 0, true, false, Ok(0)),
     (&[0; 16], 0, false, false, Err(Reason::Count)),
-    (&PLACES, 5, false, true, Err(Reason::Count)),
-    (&PLACES, 3, true, true, Err(Reason::Count)),
-    (&PLACES, 2, false, true, Ok(2)),
-    (&PLACES, 3, false, true, Err(Reason::Coupon)),
-    (&PLACES, 3, false, false, Err(Reason::Coupon)),
+    (&BUCKETS, 5, false, true, Err(Reason::Count)),
+    (&BUCKETS, 3, true, true, Err(Reason::Count)),
+    (&BUCKETS, 2, false, true, Ok(2)),
+    (&BUCKETS, 3, false, true, Err(Reason::Coupon)),
+    (&BUCKETS, 3, false, false, Err(Reason::Coupon)),
     (&DESCENDING, 2, false, true, Ok(2)),
     (&DESCENDING, 3, false, true, Err(Reason::Coupon)),
     (&[5; 15], 4, false, true, Err(Reason::Truncated)),
@@ -157,7 +157,7 @@ const READINGS: [(&[u8], usize, bool, bool, Result<usize, Reason>); 12] = [
 
 #[test]
 fn lists_are_read(rt: HostRuntime) -> Result<(), Fail> {
-    let cursor = SketchSlice::new(&PLACES);
+    let cursor = SketchSlice::new(&BUCKETS);
     let list = List::deserialize(rt.alloc(), cursor, 3, 2, false, true)?;
     let mut coupons = list.container().iter();
     assert_eq!(rt; coupons.next(), Some(Coupon::pack(5, 3)));

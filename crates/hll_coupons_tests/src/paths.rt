@@ -1,5 +1,5 @@
 // SPDX-License-Identifier: Apache-2.0
-//! Sets whose coupons meet on one path or on a few: the places are those that a walk gives, step by step.
+//! Sets whose coupons meet on one path or on a few: the buckets are those that a walk gives, step by step.
 ghost use Rattle.std.specs.Prelude.{◌≤◌};
 
 use hll_base::cursor::SketchSlice;
@@ -9,13 +9,13 @@ use hll_coupons::hash_set::HashSet;
 use std::alloc::{AllocError, Global};
 use std::test::Fail;
 
-/// The logarithm of the number of places.
+/// The logarithm of the number of buckets.
 const LG_SIZE: usize = 9;
 
-/// The number of places.
-const PLACES: usize = 512;
+/// The number of buckets.
+const BUCKETS: usize = 512;
 
-/// Coupons of one of `strides` strides each, in turn: 126 of a stride begin at one place, the next at the place before it on
+/// Coupons of one of `strides` strides each, in turn: 126 of a stride begin at one bucket, the next at the place before it on
 /// the path, so that each search goes through those that came before.
 fn on_paths(index: u32, strides: u32) -> Coupon {
     let strides = strides.max(1);
@@ -44,50 +44,50 @@ fn coupons_of(
     Ok(coupons)
 }
 
-/// Puts a coupon into the first empty place of its path.
-fn put_by_steps(places: &mut [Coupon], coupon: Coupon) {
-    let size = places.len().max(1);
+/// Puts a coupon into the first empty bucket of its path.
+fn put_by_steps(buckets: &mut [Coupon], coupon: Coupon) {
+    let size = buckets.len().max(1);
     let stride = coupon.slot() as usize / size | 1;
-    let mut place = coupon.slot() as usize % size;
+    let mut bucket = coupon.slot() as usize % size;
     for _ in 0..size {
-        match places.get_mut(place) {
+        match buckets.get_mut(bucket) {
             Some(entry) if entry.is_empty() => {
                 *entry = coupon;
                 return;
             }
-            _ => place = place.wrapping_add(stride) % size,
+            _ => bucket = bucket.wrapping_add(stride) % size,
         }
     }
 }
 
-/// Places with the coupons put one by one.
-fn places_by_steps(
+/// Buckets with the coupons put one by one.
+fn buckets_by_steps(
     alloc: Global,
     size: usize,
     coupons: &[Coupon],
 ) -> Result<Vec<Coupon>, AllocError> {
-    let mut places = vec![in alloc; Coupon::EMPTY; size]?;
+    let mut buckets = vec![in alloc; Coupon::EMPTY; size]?;
     for coupon in coupons {
-        put_by_steps(&mut places, *coupon);
+        put_by_steps(&mut buckets, *coupon);
     }
-    Ok(places)
+    Ok(buckets)
 }
 
-/// Whether a set gives the coupons of these places, in their order.
-fn has_places(set: &HashSet, places: &[Coupon]) -> bool {
+/// Whether a set gives the coupons of these buckets, in their order.
+fn has_buckets(set: &HashSet, buckets: &[Coupon]) -> bool {
     let mut coupons = set.container().iter();
-    for place in places {
-        if !place.is_empty() && coupons.next() != Some(*place) {
+    for bucket in buckets {
+        if !bucket.is_empty() && coupons.next() != Some(*bucket) {
             return false;
         }
     }
     coupons.next().is_none()
 }
 
-/// The number of coupons and the coupons, as they stand behind the header of an image.
+/// The number of coupons and the coupons, as they stand after the header of an image.
 fn image_of(alloc: Global, coupons: &[Coupon]) -> Result<Vec<u8>, AllocError> {
     let mut bytes = Vec::new(alloc);
-    bytes.extend_from_slice(&u32::to_le_bytes(coupons.len().min(PLACES) as u32))?;
+    bytes.extend_from_slice(&u32::to_le_bytes(coupons.len().min(BUCKETS) as u32))?;
     for coupon in coupons {
         bytes.extend_from_slice(&u32::to_le_bytes(coupon.raw()))?;
     }
@@ -100,35 +100,35 @@ fn read(alloc: Global, coupons: &[Coupon]) -> Result<HashSet, Error> {
     HashSet::deserialize(alloc, SketchSlice::new(&image), LG_SIZE, true)
 }
 
-/// A set of twice as many places with the coupons of a set, none where they are more than these.
+/// A set of twice as many buckets with the coupons of a set, none where they are more than these.
 fn grown(alloc: Global, set: &HashSet) -> Result<Option<HashSet>, Error> {
-    if set.container().len() > 2 * PLACES {
+    if set.container().len() > 2 * BUCKETS {
         return Ok(None);
     }
     let larger = HashSet::from_container(alloc, LG_SIZE + 1, set.container())?;
     Ok(Some(larger))
 }
 
-/// Numbers of coupons and of their strides: three quarters of the places, and all but one.
+/// Numbers of coupons and of their strides: three quarters of the buckets, and all but one.
 const CASES: [(u32, u32); 6] = [(384, 1), (511, 1), (384, 4), (511, 4), (511, 8), (511, 100)];
 
 /// Read in any order, and grown, they stand where a walk puts them.
 #[test]
-fn places_on_paths(rt: HostRuntime) -> Result<(), Fail> {
+fn buckets_on_paths(rt: HostRuntime) -> Result<(), Fail> {
     for (count, strides) in CASES {
         for reversed in [false, true] {
             let mut coupons = coupons_of(rt.alloc(), count, strides, reversed)?;
             let set = read(rt.alloc(), &coupons)?;
-            let places = places_by_steps(rt.alloc(), PLACES, &coupons)?;
-            assert!(rt; has_places(&set, &places), "{count} {strides} {reversed}");
+            let buckets = buckets_by_steps(rt.alloc(), BUCKETS, &coupons)?;
+            assert!(rt; has_buckets(&set, &buckets), "{count} {strides} {reversed}");
             let larger = grown(rt.alloc(), &set)?;
-            let places = places_by_steps(rt.alloc(), 2 * PLACES, &places)?;
-            let is_same = larger.is_some_and(|larger| has_places(&larger, &places));
+            let buckets = buckets_by_steps(rt.alloc(), 2 * BUCKETS, &buckets)?;
+            let is_same = larger.is_some_and(|larger| has_buckets(&larger, &buckets));
             assert!(rt; is_same, "{count} {strides} {reversed}");
             coupons.sort_unstable();
             let set = read(rt.alloc(), &coupons)?;
-            let places = places_by_steps(rt.alloc(), PLACES, &coupons)?;
-            assert!(rt; has_places(&set, &places), "{count} {strides}");
+            let buckets = buckets_by_steps(rt.alloc(), BUCKETS, &coupons)?;
+            assert!(rt; has_buckets(&set, &buckets), "{count} {strides}");
         }
     }
     Ok(())

@@ -1,5 +1,5 @@
 // SPDX-License-Identifier: Apache-2.0
-//! Sets: places along the paths of searches, what is written and read, and memory that is asked for once bytes are there.
+//! Sets: buckets along the paths of searches, what is written and read, and memory that is asked for once bytes are there.
 ghost use Rattle.std.specs.Prelude.{◌≡◌, ◌≤◌};
 
 use hll_base::cursor::SketchSlice;
@@ -12,7 +12,7 @@ use linked_list_allocator::LocalHeap;
 use std::alloc::{Allocator, Global};
 use std::test::Fail;
 
-/// A coupon, where it has a value, and a place is free or it is there.
+/// A coupon, where it has a value, and a bucket is free or it is there.
 fn add<A: Allocator>(set: &mut HashSet<A>, coupon: Coupon) {
     let is_free = set.contains(coupon) || !set.container().is_full();
     if coupon.value() > 0 && is_free {
@@ -20,7 +20,7 @@ fn add<A: Allocator>(set: &mut HashSet<A>, coupon: Coupon) {
     }
 }
 
-/// A set of 2^`lg_size` places with these coupons.
+/// A set of 2^`lg_size` buckets with these coupons.
 fn set_of<A: Allocator>(alloc: A, lg_size: usize, coupons: &[Coupon]) -> Result<HashSet<A>, Error>
     requires { lg_size ≤ 26 }
 {
@@ -31,8 +31,8 @@ fn set_of<A: Allocator>(alloc: A, lg_size: usize, coupons: &[Coupon]) -> Result<
     Ok(set)
 }
 
-/// In four places: slots 5 and 1 start at place 1, the second goes on by 1 to place 2; slot 13 starts there too, and
-/// goes on by 3 to place 0; slot 9 goes on by 3 through places 0 and 3.
+/// In four buckets: slots 5 and 1 start at bucket 1, the second goes on by 1 to bucket 2; slot 13 starts there too, and
+/// goes on by 3 to bucket 0; slot 9 goes on by 3 through buckets 0 and 3.
 fn four() -> [Coupon; 4] {
     [
         Coupon::pack(5, 3),
@@ -43,7 +43,7 @@ fn four() -> [Coupon; 4] {
 }
 
 #[test]
-fn places(rt: HostRuntime) -> Result<(), Fail> {
+fn buckets(rt: HostRuntime) -> Result<(), Fail> {
     let [first, second, third, fourth] = four();
     let set = set_of(rt.alloc(), 2, &four())?;
     let mut coupons = set.container().iter();
@@ -66,7 +66,7 @@ fn places(rt: HostRuntime) -> Result<(), Fail> {
     Ok(())
 }
 
-/// Whether the set of `four` is the set of these coupons in 2^`lg_size` places, asked either way.
+/// Whether the set of `four` is the set of these coupons in 2^`lg_size` buckets, asked either way.
 fn equals_four(alloc: Global, lg_size: usize, coupons: &[Coupon]) -> Result<(bool, bool), Error>
     requires { lg_size ≤ 26 }
 {
@@ -81,14 +81,14 @@ fn is_copied(alloc: Global) -> Result<bool, Error> {
     Ok(set == set.clone()?)
 }
 
-/// Whether a new set is equal to one of one place.
+/// Whether a new set is equal to one of one bucket.
 fn new_sets_are_equal(alloc: Global) -> Result<bool, Error> {
     let set = HashSet::default_in(alloc)?;
     Ok(set == HashSet::new(alloc, 0)?)
 }
 
 #[test]
-fn sizes_and_places_do_not_count(rt: HostRuntime) {
+fn sizes_and_buckets_do_not_count(rt: HostRuntime) {
     let [first, second, third, fourth] = four();
     let turned = [fourth, third, second, first, fourth];
     assert_eq!(rt; equals_four(rt.alloc(), 2, &turned), Ok((true, true)));
@@ -103,7 +103,7 @@ fn sizes_and_places_do_not_count(rt: HostRuntime) {
     assert_eq!(rt; new_sets_are_equal(rt.alloc()), Ok(true));
 }
 
-/// The image at `lg_k` 12 and eight bits of slots 16 to 23 with values 1 to 8, in 32 places.
+/// The image at `lg_k` 12 and eight bits of slots 16 to 23 with values 1 to 8, in 32 buckets.
 const EIGHT_IMAGE: [u8; 44] = [
     3, 1, 7, 12, 5, 8, 0, 9, 8, 0, 0, 0, 16, 0, 0, 4, 17, 0, 0, 8, 18, 0, 0, 12, 19, 0, 0, 16, 20,
     0, 0, 20, 21, 0, 0, 24, 22, 0, 0, 28, 23, 0, 0, 32,
@@ -118,7 +118,7 @@ fn eight_in(alloc: Global) -> Result<HashSet, Error> {
     Ok(set)
 }
 
-/// The image of a set of 32 places, none where there are other places or no empty one.
+/// The image of a set of 32 buckets, none where there are other buckets or no empty one.
 fn image_of(set: &HashSet) -> Result<Option<Vec<u8>>, Error> {
     if set.container().lg_size() != 5 || set.container().is_full() {
         return Ok(None);
@@ -148,15 +148,15 @@ fn images(rt: HostRuntime) -> Result<(), Fail> {
     Ok(())
 }
 
-/// The count 2, a place, and two coupons.
-const PLACES: [u8; 20] = [2, 0, 0, 0, 0, 0, 0, 0, 5, 0, 0, 12, 0, 0, 0, 0, 1, 0, 0, 8];
+/// The count 2, a bucket, and two coupons.
+const BUCKETS: [u8; 20] = [2, 0, 0, 0, 0, 0, 0, 0, 5, 0, 0, 12, 0, 0, 0, 0, 1, 0, 0, 8];
 
-/// Four coupons behind the count 3.
+/// Four coupons after the count 3.
 const CROWDED: [u8; 20] = [
     3, 0, 0, 0, 5, 0, 0, 12, 1, 0, 0, 8, 13, 0, 0, 4, 9, 0, 0, 20,
 ];
 
-/// What is wrong with these bytes behind the header of a set with four places, or the number of its coupons.
+/// What is wrong with these bytes after the header of a set with four buckets, or the number of its coupons.
 fn read_in<A: Allocator + Clone>(alloc: A, bytes: &[u8], compact: bool) -> Result<usize, Reason> {
     match HashSet::deserialize(alloc, SketchSlice::new(bytes), 2, compact) {
         Ok(set) => Ok(set.container().len()),
@@ -164,7 +164,7 @@ fn read_in<A: Allocator + Clone>(alloc: A, bytes: &[u8], compact: bool) -> Resul
     }
 }
 
-/// Bytes behind a header, the compact flag, and what is answered: the number of coupons, or what is wrong.
+/// Bytes after a header, the compact flag, and what is answered: the number of coupons, or what is wrong.
 const READINGS: [(&[u8], bool, Result<usize, Reason>); 15] = [
     (&[0; 4], true, Ok(0)),
     (&[0; 20], false, Ok(0)),
@@ -175,8 +175,8 @@ const READINGS: [(&[u8], bool, Result<usize, Reason>); 15] = [
     (&[0; 19], false, Err(Reason::Truncated)),
     (&[1, 0, 0, 0, 5, 0, 0, 12, 9], true, Ok(1)),
     (&[1, 0, 0, 0, 5, 0, 0, 0], true, Err(Reason::Coupon)),
-    (&PLACES, false, Ok(2)),
-    (&PLACES, true, Err(Reason::Coupon)),
+    (&BUCKETS, false, Ok(2)),
+    (&BUCKETS, true, Err(Reason::Coupon)),
     (&CROWDED, true, Ok(3)),
     (&CROWDED, false, Err(Reason::Count)),
     (
@@ -200,15 +200,15 @@ fn sets_are_read(rt: HostRuntime) -> Result<(), Fail> {
             "{bytes:?} {compact}"
         );
     }
-    let cursor = SketchSlice::new(&PLACES);
+    let cursor = SketchSlice::new(&BUCKETS);
     let set = HashSet::deserialize(rt.alloc(), cursor, 2, false)?;
     assert!(rt; set.contains(Coupon::pack(5, 3)) && set.contains(Coupon::pack(1, 2)));
     Ok(())
 }
 
-/// The count 31, and slots 0 to 30 with value 1: they are placed in 32 places, and no one is left out.
+/// The count 31, and slots 0 to 30 with value 1: they are placed in 32 buckets, and no one is left out.
 #[test]
-fn one_place_is_left(rt: HostRuntime) -> Result<(), Fail> {
+fn one_bucket_is_left(rt: HostRuntime) -> Result<(), Fail> {
     let mut bytes = vec![in rt.alloc(); 0u8; 128]?;
     bytes[0] = 31;
     for slot in 0..31usize {
@@ -228,7 +228,7 @@ fn one_place_is_left(rt: HostRuntime) -> Result<(), Fail> {
     Ok(())
 }
 
-/// Places for 2^26 coupons are asked for only once the bytes are there.
+/// Buckets for 2^26 coupons are asked for only once the bytes are there.
 #[test]
 fn bytes_come_before_memory(rt: HostRuntime) -> Result<(), Fail> {
     let heap = LocalHeap::new(rt.alloc(), 64)?;
@@ -250,7 +250,7 @@ fn insertion(set: &mut HashSet, slot: u32, most: usize) -> Option<Insertion> {
     Some(set.update_within(coupon, most))
 }
 
-/// Slots, numbers of coupons, and what a set of two places does with the coupon.
+/// Slots, numbers of coupons, and what a set of two buckets does with the coupon.
 const INSERTIONS: [(u32, usize, Insertion); 7] = [
     (5, 0, Insertion::Refused),
     (5, 2, Insertion::Added),

@@ -8,88 +8,88 @@ use Rattle.std.proofs.lemmas.List.{length-append, length-drop, append-nil, take_
 use Rattle.std.proofs.lemmas.Simd.{length-put_chunk}
 use borrow.Rule.Slice.PartMut.{mid_of, put_mid}
 use Rattle.hll_base.specs.Join.{join}
-use Rattle.hll_kernels.specs.Lanes.{raise_at}
+use Rattle.hll_kernels.specs.Lanes.{max_at}
 use mathlib.Core.List.{map}
 
 -- ---- raised parts
 
-pub raise_none : (at : ℕ) (R : List ℕ) → raise_at at R [] ≡ R
-raise_none zero [] = refl
-raise_none zero (r ∷ R) = refl
-raise_none (suc at) [] = refl
-raise_none (suc at) (r ∷ R) = ap (λ S. r ∷ S) (raise_none at R)
+pub max_none : (at : ℕ) (R : List ℕ) → max_at at R [] ≡ R
+max_none zero [] = refl
+max_none zero (r ∷ R) = refl
+max_none (suc at) [] = refl
+max_none (suc at) (r ∷ R) = ap (λ S. r ∷ S) (max_none at R)
 
-pub length-raise_at : (at : ℕ) (R Q : List ℕ) → length (raise_at at R Q) ≡ length R
-length-raise_at zero [] Q = refl
-length-raise_at zero (r ∷ R) [] = refl
-length-raise_at zero (r ∷ R) (q ∷ Q) = ap suc (length-raise_at zero R Q)
-length-raise_at (suc at) [] Q = refl
-length-raise_at (suc at) (r ∷ R) Q = ap suc (length-raise_at at R Q)
+pub length-max_at : (at : ℕ) (R Q : List ℕ) → length (max_at at R Q) ≡ length R
+length-max_at zero [] Q = refl
+length-max_at zero (r ∷ R) [] = refl
+length-max_at zero (r ∷ R) (q ∷ Q) = ap suc (length-max_at zero R Q)
+length-max_at (suc at) [] Q = refl
+length-max_at (suc at) (r ∷ R) Q = ap suc (length-max_at at R Q)
 
 -- one part more
-pub raise_more : (at n : ℕ) (R P Q : List ℕ) → n ≡ at + length P → n ≤ length R → raise_at n (raise_at at R P) Q ≡ raise_at at R (P ++ Q)
-raise_more zero zero R [] Q e h = ap (λ S. raise_at zero S Q) (raise_none zero R)
-raise_more zero (suc n) R [] Q e h = absurd (omega arith)
-raise_more zero n [] (p ∷ P) Q e h = absurd (omega arith)
-raise_more zero zero (r ∷ R) (p ∷ P) Q e h = absurd (omega arith)
-raise_more zero (suc n) (r ∷ R) (p ∷ P) Q e h = ap (λ S. max r p ∷ S) (raise_more zero n R P Q (omega arith) (omega arith))
-raise_more (suc at) zero R P Q e h = absurd (omega arith)
-raise_more (suc at) (suc n) [] P Q e h = refl
-raise_more (suc at) (suc n) (r ∷ R) P Q e h = ap (λ S. r ∷ S) (raise_more at n R P Q (omega arith) (omega arith))
+pub max_more : (at n : ℕ) (R P Q : List ℕ) → n ≡ at + length P → n ≤ length R → max_at n (max_at at R P) Q ≡ max_at at R (P ++ Q)
+max_more zero zero R [] Q e h = ap (λ S. max_at zero S Q) (max_none zero R)
+max_more zero (suc n) R [] Q e h = absurd (omega arith)
+max_more zero n [] (p ∷ P) Q e h = absurd (omega arith)
+max_more zero zero (r ∷ R) (p ∷ P) Q e h = absurd (omega arith)
+max_more zero (suc n) (r ∷ R) (p ∷ P) Q e h = ap (λ S. max r p ∷ S) (max_more zero n R P Q (omega arith) (omega arith))
+max_more (suc at) zero R P Q e h = absurd (omega arith)
+max_more (suc at) (suc n) [] P Q e h = refl
+max_more (suc at) (suc n) (r ∷ R) P Q e h = ap (λ S. r ∷ S) (max_more at n R P Q (omega arith) (omega arith))
 
-pub raise_join : (R Q : List ℕ) → length Q ≤ length R → raise_at 0 R Q ≡ join R Q
-raise_join [] [] h = refl
-raise_join [] (q ∷ Q) h = absurd (omega arith)
-raise_join (r ∷ R) [] h = refl
-raise_join (r ∷ R) (q ∷ Q) h = ap (λ S. max r q ∷ S) (raise_join R Q (omega arith))
+pub max_join : (R Q : List ℕ) → length Q ≤ length R → max_at 0 R Q ≡ join R Q
+max_join [] [] h = refl
+max_join [] (q ∷ Q) h = absurd (omega arith)
+max_join (r ∷ R) [] h = refl
+max_join (r ∷ R) (q ∷ Q) h = ap (λ S. max r q ∷ S) (max_join R Q (omega arith))
 
-raise_rest : (at : ℕ) (R Q : List ℕ) → at + length Q ≤ length R → take at R ++ join (drop at R) Q ≡ raise_at at R Q
-raise_rest zero R Q h = sym (raise_join R Q (omega arith))
-raise_rest (suc at) [] Q h = absurd (omega arith)
-raise_rest (suc at) (r ∷ R) Q h = ap (λ S. r ∷ S) (raise_rest at R Q (omega arith))
+max_rest : (at : ℕ) (R Q : List ℕ) → at + length Q ≤ length R → take at R ++ join (drop at R) Q ≡ max_at at R Q
+max_rest zero R Q h = sym (max_join R Q (omega arith))
+max_rest (suc at) [] Q h = absurd (omega arith)
+max_rest (suc at) (r ∷ R) Q h = ap (λ S. r ∷ S) (max_rest at R Q (omega arith))
 
 -- one element
-pub raise_at-one : (at : ℕ) (R : List ℕ) (q : ℕ) → at < length R → set R at (max (get_or R at 0) q) ≡ raise_at at R (q ∷ [])
-raise_at-one zero [] q h = absurd (omega arith)
-raise_at-one zero (r ∷ R) q h = ap (λ S. max r q ∷ S) (sym (raise_none zero R))
-raise_at-one (suc at) [] q h = absurd (omega arith)
-raise_at-one (suc at) (r ∷ R) q h = ap (λ S. r ∷ S) (raise_at-one at R q (omega arith))
+pub max_at-one : (at : ℕ) (R : List ℕ) (q : ℕ) → at < length R → set R at (max (get_or R at 0) q) ≡ max_at at R (q ∷ [])
+max_at-one zero [] q h = absurd (omega arith)
+max_at-one zero (r ∷ R) q h = ap (λ S. max r q ∷ S) (sym (max_none zero R))
+max_at-one (suc at) [] q h = absurd (omega arith)
+max_at-one (suc at) (r ∷ R) q h = ap (λ S. r ∷ S) (max_at-one at R q (omega arith))
 
 -- the greater of two lanes
 pub greater : (x y : ℕ) → cond (top 7 (cond (nat_lt x y) 255 0)) y x ≡ max x y
 greater x y = grind (arith, nat_tests)
 
 -- n lanes
-pub raise_lanes : (at n : ℕ) (R Q : List ℕ) → length Q ≡ n → at + n ≤ length R →
-    put_chunk at R (sel_l (map (top 7) (zip2 (λ a b. cond (nat_lt a b) 255 0) (take n (drop at R)) Q)) Q (take n (drop at R))) ≡ raise_at at R Q
-raise_lanes zero zero [] [] e h = refl
-raise_lanes zero zero (r ∷ R) [] e h = refl
-raise_lanes zero zero R (q ∷ Q) e h = absurd (omega arith)
-raise_lanes zero (suc n) R [] e h = absurd (omega arith)
-raise_lanes zero (suc n) [] (q ∷ Q) e h = absurd (omega arith)
-raise_lanes zero (suc n) (r ∷ R) (q ∷ Q) e h = λ i. greater r q i ∷ raise_lanes zero n R Q (omega arith) (omega arith) i
-raise_lanes (suc at) n [] Q e h = absurd (omega arith)
-raise_lanes (suc at) n (r ∷ R) Q e h = ap (λ S. r ∷ S) (raise_lanes at n R Q e (omega arith))
+pub max_lanes : (at n : ℕ) (R Q : List ℕ) → length Q ≡ n → at + n ≤ length R →
+    put_chunk at R (sel_l (map (top 7) (zip2 (λ a b. cond (nat_lt a b) 255 0) (take n (drop at R)) Q)) Q (take n (drop at R))) ≡ max_at at R Q
+max_lanes zero zero [] [] e h = refl
+max_lanes zero zero (r ∷ R) [] e h = refl
+max_lanes zero zero R (q ∷ Q) e h = absurd (omega arith)
+max_lanes zero (suc n) R [] e h = absurd (omega arith)
+max_lanes zero (suc n) [] (q ∷ Q) e h = absurd (omega arith)
+max_lanes zero (suc n) (r ∷ R) (q ∷ Q) e h = λ i. greater r q i ∷ max_lanes zero n R Q (omega arith) (omega arith) i
+max_lanes (suc at) n [] Q e h = absurd (omega arith)
+max_lanes (suc at) n (r ∷ R) Q e h = ap (λ S. r ∷ S) (max_lanes at n R Q e (omega arith))
 
 -- the part Q after the parts P
-pub raise_step : (at : ℕ) (R V P Q : List ℕ) → V ≡ raise_at 0 R P → at ≡ length P → at ≤ length R → raise_at at V Q ≡ raise_at 0 R (P ++ Q)
-raise_step at R V P Q v long room = ap (λ S. raise_at at S Q) v ∙ raise_more 0 at R P Q (omega arith) room
+pub max_step : (at : ℕ) (R V P Q : List ℕ) → V ≡ max_at 0 R P → at ≡ length P → at ≤ length R → max_at at V Q ≡ max_at 0 R (P ++ Q)
+max_step at R V P Q v long room = ap (λ S. max_at at S Q) v ∙ max_more 0 at R P Q (omega arith) room
 
 -- all parts
-pub raise_all : (R V P : List ℕ) → V ≡ raise_at 0 R P → length P ≤ length R → V ≡ join R P
-raise_all R V P v room = v ∙ raise_join R P room
+pub max_all : (R V P : List ℕ) → V ≡ max_at 0 R P → length P ≤ length R → V ≡ join R P
+max_all R V P v room = v ∙ max_join R P room
 
--- a rest that was lent to its end
-pub raise_end : (at k : ℕ) (R V W P Q : List ℕ) → V ≡ raise_at 0 R P → at ≡ length P → at + k ≡ length V → length Q ≤ k → W ≡ join (mid_of at k V) Q →
+-- a rest that was borrowed to its end
+pub max_end : (at k : ℕ) (R V W P Q : List ℕ) → V ≡ max_at 0 R P → at ≡ length P → at + k ≡ length V → length Q ≤ k → W ≡ join (mid_of at k V) Q →
     put_mid at k V W ≡ join R (P ++ Q)
-raise_end at k R V W P Q v long e room w =
-    let same : length V ≡ length R = ap length v ∙ length-raise_at 0 R P in
-    let lent : mid_of at k V ≡ drop at V = take_all k (drop at V) (omega (arith, length-drop at V)) in
+max_end at k R V W P Q v long e room w =
+    let same : length V ≡ length R = ap length v ∙ length-max_at 0 R P in
+    let borrowed : mid_of at k V ≡ drop at V = take_all k (drop at V) (omega (arith, length-drop at V)) in
     let none : drop k (drop at V) ≡ [] = drop_all k (drop at V) (omega (arith, length-drop at V)) in
-    (λ i. take at V ++ ((w ∙ ap (λ S. join S Q) lent) i ++ none i)) ∙ ap (λ S. take at V ++ S) (append-nil (join (drop at V) Q))
-    ∙ raise_rest at V Q (omega arith)
-    ∙ raise_step at R V P Q v long (omega (arith, same))
-    ∙ raise_join R (P ++ Q) (omega (arith, same, length-append P Q))
+    (λ i. take at V ++ ((w ∙ ap (λ S. join S Q) borrowed) i ++ none i)) ∙ ap (λ S. take at V ++ S) (append-nil (join (drop at V) Q))
+    ∙ max_rest at V Q (omega arith)
+    ∙ max_step at R V P Q v long (omega (arith, same))
+    ∙ max_join R (P ++ Q) (omega (arith, same, length-append P Q))
 
 -- ---- written parts
 
@@ -130,7 +130,7 @@ take-put R [] h = refl
 take-put [] (p ∷ P) h = absurd (omega arith)
 take-put (r ∷ R) (p ∷ P) h = ap (λ S. p ∷ S) (take-put R P (omega arith))
 
--- and what is behind it
+-- and what is after it
 drop-put : {X : Type 0} (R P : List X) → drop (length P) (put_chunk 0 R P) ≡ drop (length P) R
 drop-put [] [] = refl
 drop-put (r ∷ R) [] = refl
@@ -149,7 +149,7 @@ put_left at R V P v long = (λ i. drop (long i) (v i)) ∙ drop-put R P ∙ ap (
 pub put_all : {X : Type 0} (R V P : List X) → V ≡ put_chunk 0 R P → length R ≡ length P → V ≡ P
 put_all R V P v e = v ∙ put_whole R P e
 
--- a rest that was lent to its end
+-- a rest that was borrowed to its end
 pub put_end : {X : Type 0} (at k : ℕ) (R V W P : List X) → V ≡ put_chunk 0 R P → at ≡ length P → at + k ≡ length V → put_mid at k V W ≡ P ++ W
 put_end at k R V W P v long e =
     let same : length V ≡ length R = ap length v ∙ length-put_chunk 0 R P in

@@ -15,10 +15,10 @@ use Rattle.std.proofs.lemmas.Nat.{and_mask}
 use Rattle.std.proofs.lemmas.Simd.{Each1-get_or, mask_l-mod, ones-mask_l, pick_l_whole}
 use Rattle.hll_base.specs.Join.{join}
 use Rattle.hll_kernels.specs.Groups.{IsGroup, group_fields, registers_in}
-use Rattle.hll_kernels.specs.Lanes.{raise_at, words_of, bytes_of, fields_of, numbers_of, groups_of}
+use Rattle.hll_kernels.specs.Lanes.{max_at, words_of, bytes_of, fields_of, numbers_of, groups_of}
 use Rattle.hll_kernels.specs.Packed.{group_bytes, fields, zeros}
 use Rattle.hll_kernels.proofs.Grouping.{small-group_fields, group_fields-group_bytes}
-use Rattle.hll_kernels.proofs.Parts.{raise_more}
+use Rattle.hll_kernels.proofs.Parts.{max_more}
 use mathlib.Core.List.{map}
 
 -- ---- words and their bytes
@@ -277,14 +277,14 @@ join_zeros (suc n) (suc k) [] h e = absurd (omega arith)
 join_zeros (suc n) (suc k) (q ∷ Q) h e = λ i. (let top : max 0 q ≡ q = omega arith in top) i ∷ join_zeros n k Q (omega arith) (omega arith) i
 
 -- four parts in turn
-pub raise_four : (at n1 n2 n3 m : ℕ) (R P0 P1 P2 P3 : List ℕ) → length P0 ≡ m → length P1 ≡ m → length P2 ≡ m → n1 ≡ at + m → n2 ≡ at + 2 * m → n3 ≡ at + 3 * m → n3 ≤ length R →
-    raise_at n3 (raise_at n2 (raise_at n1 (raise_at at R P0) P1) P2) P3 ≡ raise_at at R (((P0 ++ P1) ++ P2) ++ P3)
-raise_four at n1 n2 n3 m R P0 P1 P2 P3 l0 l1 l2 e1 e2 e3 h =
+pub max_four : (at n1 n2 n3 m : ℕ) (R P0 P1 P2 P3 : List ℕ) → length P0 ≡ m → length P1 ≡ m → length P2 ≡ m → n1 ≡ at + m → n2 ≡ at + 2 * m → n3 ≡ at + 3 * m → n3 ≤ length R →
+    max_at n3 (max_at n2 (max_at n1 (max_at at R P0) P1) P2) P3 ≡ max_at at R (((P0 ++ P1) ++ P2) ++ P3)
+max_four at n1 n2 n3 m R P0 P1 P2 P3 l0 l1 l2 e1 e2 e3 h =
     let l01 : length (P0 ++ P1) ≡ 2 * m = omega (arith, length-append P0 P1, l0, l1) in
     let l02 : length ((P0 ++ P1) ++ P2) ≡ 3 * m = omega (arith, length-append (P0 ++ P1) P2, l01, l2) in
-    ap (λ S. raise_at n3 (raise_at n2 S P2) P3) (raise_more at n1 R P0 P1 (omega (arith, l0)) (omega arith))
-    ∙ ap (λ S. raise_at n3 S P3) (raise_more at n2 R (P0 ++ P1) P2 (omega (arith, l01)) (omega arith))
-    ∙ raise_more at n3 R ((P0 ++ P1) ++ P2) P3 (omega (arith, l02)) h
+    ap (λ S. max_at n3 (max_at n2 S P2) P3) (max_more at n1 R P0 P1 (omega (arith, l0)) (omega arith))
+    ∙ ap (λ S. max_at n3 S P3) (max_more at n2 R (P0 ++ P1) P2 (omega (arith, l01)) (omega arith))
+    ∙ max_more at n3 R ((P0 ++ P1) ++ P2) P3 (omega (arith, l02)) h
 
 -- ---- packing
 

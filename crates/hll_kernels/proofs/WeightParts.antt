@@ -62,7 +62,7 @@ low_units-le R = sum_by-le low_weight (2 ^ 31) R (λ k d l. low_weight-le (get_o
 pub high_units-le : (R : List ℕ) → high_units R ≤ length R * 2 ^ 31
 high_units-le R = sum_by-le high_weight (2 ^ 31) R (λ k d l. high_weight-le (get_or R k d))
 
--- the sums over registers and those behind them
+-- the sums over registers and those after them
 pub AreSumsOf-append : (a b s : WeightSums) (P Q : List ℕ) → AreSumsOf a P → AreSumsOf b Q → s.low ≡ a.low + b.low → s.high ≡ a.high + b.high → AreSumsOf s (P ++ Q)
 AreSumsOf-append a b s P Q p q low high = record {
   low = omega (arith, low, p.low, q.low, sum_by-append low_weight P Q);

@@ -201,12 +201,12 @@ sum_wrapped (x ∷ xs) (y ∷ ys) e h =
     omega (arith, sum_wrapped xs ys (omega arith) (omega arith))
 
 -- four lanes with the weights of a class among the first n bytes
-pub record ClassLanes (k n : ℕ) (bytes lanes : List ℕ) : Type 0 where
+pub record PartialClassSums (k n : ℕ) (bytes lanes : List ℕ) : Type 0 where
   pub four : length lanes ≡ 4
   pub sum : sum_l lanes ≡ class_sum k (take n bytes)
 
 pub class_more : (k i n : ℕ) (bytes : List ℕ) (blocks : List (List ℕ)) (d lanes more : List ℕ) → blocks ≡ first_chunks 16 n bytes → i < n → length bytes ≤ 2 ^ 21 →
-    length more ≡ 4 → sum_l more ≡ class_sum k (get_or blocks i d) → ClassLanes k (i * 16) bytes lanes → ClassLanes k ((i + 1) * 16) bytes (zip2 (λ a b. (a + b) % 4294967296) lanes more)
+    length more ≡ 4 → sum_l more ≡ class_sum k (get_or blocks i d) → PartialClassSums k (i * 16) bytes lanes → PartialClassSums k ((i + 1) * 16) bytes (zip2 (λ a b. (a + b) % 4294967296) lanes more)
 class_more k i n bytes blocks d lanes more are inside few four here before =
     let both : class_sum k (take ((i + 1) * 16) bytes) ≡ class_sum k (take (i * 16) bytes) + class_sum k (get_or blocks i d) =
     ap (class_sum k) (take_block 16 n bytes blocks i d are inside) ∙ sum_by-append (class_weight k) (take (i * 16) bytes) (get_or blocks i d) in
@@ -236,12 +236,12 @@ no_class h k (v ∷ xs) of empty =
     omega (arith, sum_by-cons (class_weight k) v xs, no_class h k xs of (omega (arith, empty)))
 
 pub class_same : (h k i n : ℕ) (bytes : List ℕ) (blocks : List (List ℕ)) (d lanes : List ℕ) → k / 4 ≡ h → blocks ≡ first_chunks 16 n bytes → i < n →
-    mask_l (map (λ v. v / 32 == h) (get_or blocks i d)) ≡ 0 → ClassLanes k (i * 16) bytes lanes → ClassLanes k ((i + 1) * 16) bytes lanes
+    mask_l (map (λ v. v / 32 == h) (get_or blocks i d)) ≡ 0 → PartialClassSums k (i * 16) bytes lanes → PartialClassSums k ((i + 1) * 16) bytes lanes
 class_same h k i n bytes blocks d lanes of are inside empty before =
     let both : class_sum k (take ((i + 1) * 16) bytes) ≡ class_sum k (take (i * 16) bytes) + class_sum k (get_or blocks i d) =
     ap (class_sum k) (take_block 16 n bytes blocks i d are inside) ∙ sum_by-append (class_weight k) (take (i * 16) bytes) (get_or blocks i d) in
     record { four = before.four; sum = omega (arith, before.sum, both, no_class h k (get_or blocks i d) of empty) }
 
 -- at most 2^28 in each class
-pub class_small : (k n : ℕ) (bytes lanes : List ℕ) → length bytes ≤ 2 ^ 21 → ClassLanes k n bytes lanes → sum_l lanes ≤ 2 ^ 28
+pub class_small : (k n : ℕ) (bytes lanes : List ℕ) → length bytes ≤ 2 ^ 21 → PartialClassSums k n bytes lanes → sum_l lanes ≤ 2 ^ 28
 class_small k n bytes lanes few are = omega (arith, are.sum, sum_by-take-le (class_weight k) bytes n, class_sum-le k bytes)

@@ -7,12 +7,12 @@ use Rattle.hll_kernels.specs.Packed.{group_bytes}
 -- ---- parts of lists
 
 -- the values of R, those from a place on raised to the greater of themselves and those of Q
-abbrev pub raise_at : ℕ → List ℕ → List ℕ → List ℕ
-raise_at zero [] Q = []
-raise_at zero (r ∷ R) [] = r ∷ R
-raise_at zero (r ∷ R) (q ∷ Q) = max r q ∷ raise_at zero R Q
-raise_at (suc at) [] Q = []
-raise_at (suc at) (r ∷ R) Q = r ∷ raise_at at R Q
+abbrev pub max_at : ℕ → List ℕ → List ℕ → List ℕ
+max_at zero [] Q = []
+max_at zero (r ∷ R) [] = r ∷ R
+max_at zero (r ∷ R) (q ∷ Q) = max r q ∷ max_at zero R Q
+max_at (suc at) [] Q = []
+max_at (suc at) (r ∷ R) Q = r ∷ max_at at R Q
 
 -- ---- words
 

@@ -5,16 +5,17 @@ ghost use Rattle.std.specs.List.{list_all};
 ghost use Rattle.std.specs.Simd.Lanes.{chunk, put_chunk};
 ghost use Rattle.hll_base.specs.Join.{join};
 ghost use Rattle.hll_kernels.specs.Groups.{IsGroup, group_fields, registers_in};
-ghost use Rattle.hll_kernels.specs.Lanes.{raise_at, words_of, bytes_of, fields_of, numbers_of, groups_of};
+ghost use Rattle.hll_kernels.specs.Lanes.{max_at, words_of, bytes_of, fields_of, numbers_of, groups_of};
 ghost use Rattle.hll_kernels.specs.Packed as packed;
-ghost use Rattle.hll_kernels.specs.Packed.{fields, zeros};
+ghost use Rattle.hll_kernels.specs.Packed.{fields, group_bytes, zeros};
 ghost use Rattle.hll_kernels.specs.WeightSums.{AreSumsOf};
 
-use crate::kernels::{
-    WeightSums, all_zero, count_zeros, pack_group, raise_16, raise_one, unpack_group, weight_sums,
-};
+use crate::kernels::{WeightSums, all_zero, count_zeros, max_16, max_one, weight_sums};
 use std::alloc::{AllocError, Allocator};
 use std::simd::prelude::*;
+
+/// The bits of a register of six bits.
+const FIELD: u32 = 0x3f;
 
 /// The greatest byte before each one of a word whose bits of the register there are 0.
 const BELOW: [u8; 16] = [
@@ -23,6 +24,39 @@ const BELOW: [u8; 16] = [
 
 /// The bits of each byte of a word that are lower ones of the register there.
 const LOWER: [u8; 16] = [63, 15, 3, 0, 63, 15, 3, 0, 63, 15, 3, 0, 63, 15, 3, 0];
+
+// ---- one group
+
+/// The four registers of a group of three bytes.
+pub fn unpack_group(group: [u8; 3]) -> [u8; 4]
+    ensures fields { result ≡ group_fields group }
+    ensures small { All (λ v. v ≤ 63) result }
+{
+    let [low, middle, high] = group;
+    let bits = u32::from(low) | u32::from(middle) << 8 | u32::from(high) << 16;
+    [
+        (bits & FIELD) as u8,
+        (bits >> 6 & FIELD) as u8,
+        (bits >> 12 & FIELD) as u8,
+        (bits >> 18) as u8,
+    ]
+}
+
+/// The group of three bytes of four registers, each at most 63.
+pub fn pack_group(registers: [u8; 4]) -> [u8; 3]
+    requires { All (λ v. v ≤ 63) registers }
+    ensures bytes { result ≡ group_bytes (slice_index registers 0) (slice_index registers 1) (slice_index registers 2) (slice_index registers 3) }
+    ensures group { IsGroup result }
+    ensures fields { group_fields result ≡ registers }
+{
+    let [first, second, third, fourth] = registers;
+    let bits = u32::from(first)
+        + (u32::from(second) << 6)
+        + (u32::from(third) << 12)
+        + (u32::from(fourth) << 18);
+    let [low, middle, high, _] = bits.to_le_bytes();
+    [low, middle, high]
+}
 
 // ---- one register
 
@@ -148,53 +182,55 @@ pub fn max_groups_into(dst: &mut [u8], groups: &[[u8; 3]])
     requires { length dst.old ≡ 4 * length groups.now }
     ensures { dst.new ≡ join dst.old (registers_in groups.now) }
 {
-    raise_by_fields(dst, groups.as_flattened());
+    max_with_fields(dst, groups.as_flattened());
 }
 
-/// The same of the bytes of groups, sixteen groups at a time.
-fn raise_by_fields(values: &mut [u8], bytes: &[u8])
+/// Raises each byte to the greater of itself and the register at the same index, of the bytes of groups, sixteen groups at a
+/// time.
+fn max_with_fields(values: &mut [u8], bytes: &[u8])
     requires { 3 * length values.old ≡ 4 * length bytes.now }
     ensures { values.new ≡ join values.old (fields bytes.now) }
 {
     let (blocks, rest) = bytes.as_chunks::<48>();
     for place in 0..blocks.len() {
-        raise_by_block(values, 64 * place, &blocks[place]);
+        max_with_block(values, 64 * place, &blocks[place]);
     }
-    raise_one_by_one(&mut values[64 * blocks.len()..], rest);
+    max_one_by_one(&mut values[64 * blocks.len()..], rest);
 }
 
-/// The same, one group after the other.
-fn raise_one_by_one(values: &mut [u8], bytes: &[u8])
+/// Raises each byte to the greater of itself and the register at the same index, of the bytes of groups, one group after the
+/// other.
+fn max_one_by_one(values: &mut [u8], bytes: &[u8])
     requires { 3 * length values.old ≡ 4 * length bytes.now }
     ensures { values.new ≡ join values.old (fields bytes.now) }
 {
     let (groups, _) = bytes.as_chunks::<3>();
     for place in 0..groups.len() {
-        raise_by_group(values, 4 * place, groups[place]);
+        max_with_group(values, 4 * place, groups[place]);
     }
 }
 
 /// Raises the four bytes from `at` on to the registers of a group.
-fn raise_by_group(values: &mut [u8], at: usize, group: [u8; 3])
+fn max_with_group(values: &mut [u8], at: usize, group: [u8; 3])
     requires { at + 4 ≤ length values.old }
-    ensures { values.new ≡ raise_at at values.old (fields group) }
+    ensures { values.new ≡ max_at at values.old (fields group) }
 {
     let [first, second, third, fourth] = unpack_group(group);
-    raise_one(values, at, first);
-    raise_one(values, at + 1, second);
-    raise_one(values, at + 2, third);
-    raise_one(values, at + 3, fourth);
+    max_one(values, at, first);
+    max_one(values, at + 1, second);
+    max_one(values, at + 2, third);
+    max_one(values, at + 3, fourth);
 }
 
 /// Raises the 64 bytes from `at` on to the registers of sixteen groups.
-fn raise_by_block(values: &mut [u8], at: usize, block: &[u8; 48])
+fn max_with_block(values: &mut [u8], at: usize, block: &[u8; 48])
     requires { at + 64 ≤ length values.old }
-    ensures { values.new ≡ raise_at at values.old (fields block.now) }
+    ensures { values.new ≡ max_at at values.old (fields block.now) }
 {
-    raise_16(values, at, fields_at(block, 0));
-    raise_16(values, at + 16, fields_at(block, 12));
-    raise_16(values, at + 32, fields_at(block, 24));
-    raise_16(values, at + 48, last_fields(block));
+    max_16(values, at, fields_at(block, 0));
+    max_16(values, at + 16, fields_at(block, 12));
+    max_16(values, at + 32, fields_at(block, 24));
+    max_16(values, at + 48, last_fields(block));
 }
 
 /// The registers of the four groups from byte `at` on.
@@ -340,14 +376,14 @@ fn field_sums_in(bytes: &[u8]) -> WeightSums
     weight_sums(&registers[..bytes.len() / 3 * 4])
 }
 
-/// The registers of at most 64 groups, with zeros behind them.
+/// The registers of at most 64 groups, with zeros after them.
 fn unpacked(bytes: &[u8]) -> [u8; 256]
     requires whole { length bytes.now % 3 ≡ 0 }
     requires few { length bytes.now ≤ 192 }
     ensures { take (length bytes.now / 3 * 4) result ≡ fields bytes.now }
 {
     let mut registers = [0; 256];
-    raise_by_fields(&mut registers[..bytes.len() / 3 * 4], bytes);
+    max_with_fields(&mut registers[..bytes.len() / 3 * 4], bytes);
     registers
 }
 

@@ -1,21 +1,17 @@
 // SPDX-License-Identifier: Apache-2.0
 //! Loops over the bytes of registers, by lanes, and byte by byte where less than a block is left. None of them takes
 //! memory.
-ghost use Rattle.std.specs.Prelude.{◌≡◌, ℕ, ◌+◌, ◌-◌, ◌*◌, ◌/◌, ◌%◌, ◌^◌, ◌<◌, ◌≤◌, ◌==◌, if◌then◌else◌, nat_le, not, [], ◌∷◌, length, map, count_by, slice_index, All};
+ghost use Rattle.std.specs.Prelude.{◌≡◌, ℕ, ◌+◌, ◌-◌, ◌*◌, ◌/◌, ◌%◌, ◌^◌, ◌<◌, ◌≤◌, ◌==◌, if◌then◌else◌, nat_le, not, [], ◌∷◌, length, map, slice_index, All};
 ghost use Rattle.std.specs.List.{list_all};
-ghost use Rattle.std.specs.Simd.Lanes.{chunk, put_chunk, mask_l, sum_l};
+ghost use Rattle.std.specs.Simd.Lanes.{mask_l, sum_l};
 ghost use Rattle.hll_base.specs.Join.{join};
-ghost use Rattle.hll_kernels.specs.Groups.{IsGroup, group_fields};
-ghost use Rattle.hll_kernels.specs.Lanes.{raise_at, class_sum, half_sum};
+ghost use Rattle.hll_kernels.specs.Lanes.{max_at, class_sum, half_sum};
 ghost use Rattle.hll_kernels.specs.Packed as packed;
-ghost use Rattle.hll_kernels.specs.Packed.{group_bytes, zeros, lowered_byte, zero_nibbles};
+ghost use Rattle.hll_kernels.specs.Packed.{zeros};
 ghost use Rattle.hll_kernels.specs.Packed.{AreRegisters};
 ghost use Rattle.hll_kernels.specs.WeightSums.{AreSumsOf};
 
 use std::simd::prelude::*;
-
-/// The bits of a register of six bits.
-const FIELD: u32 = 0x3f;
 
 /// 2^(7 - v % 8) at the index v of a byte, twice.
 const CLASS_WEIGHTS: [u8; 16] = [128, 64, 32, 16, 8, 4, 2, 1, 128, 64, 32, 16, 8, 4, 2, 1];
@@ -30,15 +26,15 @@ pub fn max_into(dst: &mut [u8], src: &[u8])
 {
     let (blocks, rest) = src.as_chunks::<64>();
     for place in 0..blocks.len() {
-        raise_64(dst, 64 * place, &blocks[place]);
+        max_64(dst, 64 * place, &blocks[place]);
     }
-    raise_one_by_one(&mut dst[64 * blocks.len()..], rest);
+    max_one_by_one(&mut dst[64 * blocks.len()..], rest);
 }
 
 /// Raises the 64 bytes from `at` on to those of a block.
-fn raise_64(dst: &mut [u8], at: usize, block: &[u8; 64])
+fn max_64(dst: &mut [u8], at: usize, block: &[u8; 64])
     requires { at + 64 ≤ length dst.old }
-    ensures { dst.new ≡ raise_at at dst.old block.now }
+    ensures { dst.new ≡ max_at at dst.old block.now }
 {
     let old = u8x64::from_slice(&dst[at..]);
     let raised = old.simd_max(u8x64::from_array(*block));
@@ -46,24 +42,24 @@ fn raise_64(dst: &mut [u8], at: usize, block: &[u8; 64])
 }
 
 /// Raises the sixteen bytes from `at` on to the lanes.
-pub(crate) fn raise_16(dst: &mut [u8], at: usize, lanes: u8x16)
+pub(crate) fn max_16(dst: &mut [u8], at: usize, lanes: u8x16)
     requires { at + 16 ≤ length dst.old }
-    ensures { dst.new ≡ raise_at at dst.old lanes }
+    ensures { dst.new ≡ max_at at dst.old lanes }
 {
     let old = u8x16::from_slice(&dst[at..]);
     old.simd_max(lanes).copy_to_slice(&mut dst[at..]);
 }
 
 /// Raises the byte at `at`.
-pub(crate) fn raise_one(dst: &mut [u8], at: usize, value: u8)
+pub(crate) fn max_one(dst: &mut [u8], at: usize, value: u8)
     requires { at < length dst.old }
-    ensures { dst.new ≡ raise_at at dst.old (value ∷ []) }
+    ensures { dst.new ≡ max_at at dst.old (value ∷ []) }
 {
     dst[at] = dst[at].max(value);
 }
 
 /// Raises each byte to that of `src` at the same index, one after the other.
-fn raise_one_by_one(dst: &mut [u8], src: &[u8])
+fn max_one_by_one(dst: &mut [u8], src: &[u8])
     requires { length dst.old ≡ length src.now }
     ensures { dst.new ≡ join dst.old src.now }
 {
@@ -245,10 +241,10 @@ fn half_units(bytes: &[u8], half: u8) -> u64
         if members(block, half) == 0 {
             continue;
         }
-        first += class_lanes(block, 4 * half);
-        second += class_lanes(block, 4 * half + 1);
-        third += class_lanes(block, 4 * half + 2);
-        fourth += class_lanes(block, 4 * half + 3);
+        first += partial_class_sums(block, 4 * half);
+        second += partial_class_sums(block, 4 * half + 1);
+        third += partial_class_sums(block, 4 * half + 2);
+        fourth += partial_class_sums(block, 4 * half + 3);
     }
     let sums = [
         lane_sum(first),
@@ -268,7 +264,7 @@ fn members(block: &[u8; 16], half: u8) -> u64
 }
 
 /// Four parts of the sum of the weights 2^(7 - v % 8) of a class.
-fn class_lanes(block: &[u8; 16], class: u8) -> u32x4
+fn partial_class_sums(block: &[u8; 16], class: u8) -> u32x4
     ensures sum { sum_l result ≡ class_sum class block.now }
     ensures lanes { length result ≡ 4 }
 {
@@ -335,143 +331,4 @@ fn half_weight(value: u8, half: u8) -> u64
     } else {
         0
     }
-}
-
-/// Lowers each nibble below 15 by one; 15 stays. Returns how many nibbles are 0 afterwards.
-///
-/// No nibble is 0 before, and there are at most 2^20 bytes. One pass; takes no memory.
-pub fn lower_nibbles(bytes: &mut [u8]) -> u32
-    requires none { zero_nibbles bytes.old ≡ 0 }
-    requires few { length bytes.old ≤ 2 ^ 20 }
-    ensures lowered { bytes.new ≡ map lowered_byte bytes.old }
-    ensures zeros { result ≡ zero_nibbles bytes.new }
-    ensures bound { result ≤ 2 * length bytes.new }
-{
-    let blocks = bytes.len() / 32;
-    let mut zeros = 0;
-    for place in 0..blocks {
-        zeros += lower_32(bytes, 32 * place);
-    }
-    zeros + lower_one_by_one(&mut bytes[32 * blocks..])
-}
-
-/// Lowers the nibbles of the 32 bytes from `at` on.
-fn lower_32(bytes: &mut [u8], at: usize) -> u32
-    requires room { at + 32 ≤ length bytes.old }
-    requires none { zero_nibbles (chunk at 32 bytes.old) ≡ 0 }
-    ensures lowered { bytes.new ≡ put_chunk at bytes.old (map lowered_byte (chunk at 32 bytes.old)) }
-    ensures zeros { result ≡ zero_nibbles (map lowered_byte (chunk at 32 bytes.old)) }
-{
-    let lowered = lowered_lanes(u8x32::from_slice(&bytes[at..]));
-    lowered.copy_to_slice(&mut bytes[at..]);
-    low_zeros(lowered) + high_zeros(lowered)
-}
-
-fn lowered_lanes(bytes: u8x32) -> u8x32
-    requires { zero_nibbles bytes ≡ 0 }
-    ensures { result ≡ map lowered_byte bytes }
-{
-    bytes - low_steps(bytes) - high_steps(bytes)
-}
-
-/// By how much the low nibble of each byte lowers it.
-fn low_steps(bytes: u8x32) -> u8x32
-    ensures { result ≡ map (λ b. if b % 16 == 15 then 0 else 1) bytes }
-{
-    (bytes & u8x32::splat(15))
-        .simd_ne(u8x32::splat(15))
-        .select(u8x32::splat(1), u8x32::splat(0))
-}
-
-/// By how much the high nibble of each byte lowers it.
-fn high_steps(bytes: u8x32) -> u8x32
-    ensures { result ≡ map (λ b. if b / 16 == 15 then 0 else 16) bytes }
-{
-    bytes
-        .simd_lt(u8x32::splat(240))
-        .select(u8x32::splat(16), u8x32::splat(0))
-}
-
-/// How many low nibbles are 0.
-fn low_zeros(bytes: u8x32) -> u32
-    ensures count { result ≡ count_by (λ b. b % 16 == 0) bytes }
-    ensures bound { result ≤ 32 }
-{
-    (bytes & u8x32::splat(15))
-        .simd_eq(u8x32::splat(0))
-        .to_bitmask()
-        .count_ones()
-}
-
-/// How many high nibbles are 0.
-fn high_zeros(bytes: u8x32) -> u32
-    ensures count { result ≡ count_by (λ b. b / 16 == 0) bytes }
-    ensures bound { result ≤ 32 }
-{
-    bytes.simd_lt(u8x32::splat(16)).to_bitmask().count_ones()
-}
-
-/// The same as `lower_nibbles`, one byte after the other.
-fn lower_one_by_one(bytes: &mut [u8]) -> u32
-    requires none { zero_nibbles bytes.old ≡ 0 }
-    requires few { length bytes.old ≤ 2 ^ 20 }
-    ensures lowered { bytes.new ≡ map lowered_byte bytes.old }
-    ensures zeros { result ≡ zero_nibbles bytes.new }
-{
-    let mut zeros = 0;
-    for place in 0..bytes.len() {
-        let byte = lowered(bytes[place]);
-        bytes[place] = byte;
-        zeros += zeros_of(byte);
-    }
-    zeros
-}
-
-/// A byte with both nibbles lowered.
-fn lowered(byte: u8) -> u8
-    requires { (0 < byte % 16) × (0 < byte / 16) }
-    ensures { result ≡ lowered_byte byte }
-{
-    let low = if byte % 16 == 15 { 0 } else { 1 };
-    let high = if byte / 16 == 15 { 0 } else { 16 };
-    byte - low - high
-}
-
-/// How many nibbles of a byte are 0.
-pub(crate) fn zeros_of(byte: u8) -> u32
-    ensures count { result ≡ zero_nibbles (byte ∷ []) }
-    ensures bound { result ≤ 2 }
-{
-    u32::from(byte % 16 == 0) + u32::from(byte / 16 == 0)
-}
-
-/// The four registers of a group of three bytes.
-pub fn unpack_group(group: [u8; 3]) -> [u8; 4]
-    ensures fields { result ≡ group_fields group }
-    ensures small { All (λ v. v ≤ 63) result }
-{
-    let [low, middle, high] = group;
-    let bits = u32::from(low) | u32::from(middle) << 8 | u32::from(high) << 16;
-    [
-        (bits & FIELD) as u8,
-        (bits >> 6 & FIELD) as u8,
-        (bits >> 12 & FIELD) as u8,
-        (bits >> 18) as u8,
-    ]
-}
-
-/// The group of three bytes of four registers, each at most 63.
-pub fn pack_group(registers: [u8; 4]) -> [u8; 3]
-    requires { All (λ v. v ≤ 63) registers }
-    ensures bytes { result ≡ group_bytes (slice_index registers 0) (slice_index registers 1) (slice_index registers 2) (slice_index registers 3) }
-    ensures group { IsGroup result }
-    ensures fields { group_fields result ≡ registers }
-{
-    let [first, second, third, fourth] = registers;
-    let bits = u32::from(first)
-        + (u32::from(second) << 6)
-        + (u32::from(third) << 12)
-        + (u32::from(fourth) << 18);
-    let [low, middle, high, _] = bits.to_le_bytes();
-    [low, middle, high]
 }

@@ -1,17 +1,20 @@
 // SPDX-License-Identifier: Apache-2.0
 //! Registers of four bits: how far each is above a minimum, two of them in a byte, where 15 marks a register that is kept
 //! elsewhere (docs/FORMAT.md, "Packed registers").
-ghost use Rattle.std.specs.Prelude.{◌≡◌, ℕ, ◌+◌, ◌-◌, ◌*◌, ◌/◌, ◌%◌, ◌^◌, ◌<◌, ◌≤◌, ◌==◌, ◌⊎◌, ◌&&◌, nat_le, if◌then◌else◌, [], ◌∷◌, ◌++◌, length, map, All, IfOk};
+ghost use Rattle.std.specs.Prelude.{◌≡◌, ℕ, ◌+◌, ◌-◌, ◌*◌, ◌/◌, ◌%◌, ◌^◌, ◌<◌, ◌≤◌, ◌==◌, ◌⊎◌, ◌&&◌, nat_le, if◌then◌else◌, [], ◌∷◌, ◌++◌, length, map, count_by, All, IfOk};
 ghost use Rattle.std.specs.List.{list_all};
-ghost use Rattle.std.specs.Simd.Lanes.{put_chunk, Each1};
+ghost use Rattle.std.specs.Simd.Lanes.{chunk, put_chunk, Each1};
 ghost use Rattle.hll_base.specs.Join.{join};
-ghost use Rattle.hll_kernels.specs.Lanes.{raise_at, nibble_values, nibble_pairs};
-ghost use Rattle.hll_kernels.specs.Packed.{nibble, nibble_at, nibble_bytes_above, mark_nibbles, zero_nibbles};
+ghost use Rattle.hll_kernels.specs.Lanes.{max_at, nibble_values, nibble_pairs};
+ghost use Rattle.hll_kernels.specs.Packed.{nibble, nibble_at, nibble_bytes_above, mark_nibbles, lowered_byte, zero_nibbles};
 ghost use Rattle.hll_kernels.specs.Packed.{lowered_by};
 
-use crate::kernels::{lower_nibbles, raise_16, raise_one, zeros_of};
+use crate::kernels::{max_16, max_one};
 use std::alloc::{AllocError, Allocator};
 use std::simd::prelude::*;
+
+/// The nibble that marks a register kept elsewhere, which is at least so far above the minimum.
+pub const MARK: u8 = 15;
 
 // ---- single nibbles
 
@@ -121,6 +124,14 @@ fn zero_nibbles_one_by_one(bytes: &[u8]) -> u32
     count
 }
 
+/// How many nibbles of a byte are 0.
+fn zeros_of(byte: u8) -> u32
+    ensures count { result ≡ zero_nibbles (byte ∷ []) }
+    ensures bound { result ≤ 2 }
+{
+    u32::from(byte % 16 == 0) + u32::from(byte / 16 == 0)
+}
+
 /// How many nibbles of a block are 15, which a byte can count.
 fn mark_nibbles_in(block: &[u8; 64]) -> u8
     ensures count { result ≡ mark_nibbles block.now }
@@ -163,6 +174,8 @@ pub fn all_at_most(bytes: &[u8], greatest: u8) -> bool
         .all(|byte| *byte % 16 <= greatest && *byte / 16 <= greatest)
 }
 
+// ---- lowering
+
 /// Lowers each nibble below 15 by `steps`; 15 stays.
 ///
 /// Each nibble is 15, or at least `steps`.
@@ -179,45 +192,145 @@ pub fn lower_by(bytes: &mut [u8], steps: u8)
     }
 }
 
+/// Lowers each nibble below 15 by one; 15 stays. Returns how many nibbles are 0 afterwards.
+///
+/// No nibble is 0 before, and there are at most 2^20 bytes. One pass; takes no memory.
+pub fn lower_nibbles(bytes: &mut [u8]) -> u32
+    requires none { zero_nibbles bytes.old ≡ 0 }
+    requires few { length bytes.old ≤ 2 ^ 20 }
+    ensures lowered { bytes.new ≡ map lowered_byte bytes.old }
+    ensures zeros { result ≡ zero_nibbles bytes.new }
+    ensures bound { result ≤ 2 * length bytes.new }
+{
+    let blocks = bytes.len() / 32;
+    let mut zeros = 0;
+    for place in 0..blocks {
+        zeros += lower_32(bytes, 32 * place);
+    }
+    zeros + lower_one_by_one(&mut bytes[32 * blocks..])
+}
+
+/// Lowers the nibbles of the 32 bytes from `at` on.
+fn lower_32(bytes: &mut [u8], at: usize) -> u32
+    requires room { at + 32 ≤ length bytes.old }
+    requires none { zero_nibbles (chunk at 32 bytes.old) ≡ 0 }
+    ensures lowered { bytes.new ≡ put_chunk at bytes.old (map lowered_byte (chunk at 32 bytes.old)) }
+    ensures zeros { result ≡ zero_nibbles (map lowered_byte (chunk at 32 bytes.old)) }
+{
+    let lowered = lowered_lanes(u8x32::from_slice(&bytes[at..]));
+    lowered.copy_to_slice(&mut bytes[at..]);
+    low_zeros(lowered) + high_zeros(lowered)
+}
+
+fn lowered_lanes(bytes: u8x32) -> u8x32
+    requires { zero_nibbles bytes ≡ 0 }
+    ensures { result ≡ map lowered_byte bytes }
+{
+    bytes - low_steps(bytes) - high_steps(bytes)
+}
+
+/// By how much the low nibble of each byte lowers it.
+fn low_steps(bytes: u8x32) -> u8x32
+    ensures { result ≡ map (λ b. if b % 16 == 15 then 0 else 1) bytes }
+{
+    (bytes & u8x32::splat(15))
+        .simd_ne(u8x32::splat(15))
+        .select(u8x32::splat(1), u8x32::splat(0))
+}
+
+/// By how much the high nibble of each byte lowers it.
+fn high_steps(bytes: u8x32) -> u8x32
+    ensures { result ≡ map (λ b. if b / 16 == 15 then 0 else 16) bytes }
+{
+    bytes
+        .simd_lt(u8x32::splat(240))
+        .select(u8x32::splat(16), u8x32::splat(0))
+}
+
+/// How many low nibbles are 0.
+fn low_zeros(bytes: u8x32) -> u32
+    ensures count { result ≡ count_by (λ b. b % 16 == 0) bytes }
+    ensures bound { result ≤ 32 }
+{
+    (bytes & u8x32::splat(15))
+        .simd_eq(u8x32::splat(0))
+        .to_bitmask()
+        .count_ones()
+}
+
+/// How many high nibbles are 0.
+fn high_zeros(bytes: u8x32) -> u32
+    ensures count { result ≡ count_by (λ b. b / 16 == 0) bytes }
+    ensures bound { result ≤ 32 }
+{
+    bytes.simd_lt(u8x32::splat(16)).to_bitmask().count_ones()
+}
+
+/// Lowers each nibble below 15 by one, one byte after the other.
+fn lower_one_by_one(bytes: &mut [u8]) -> u32
+    requires none { zero_nibbles bytes.old ≡ 0 }
+    requires few { length bytes.old ≤ 2 ^ 20 }
+    ensures lowered { bytes.new ≡ map lowered_byte bytes.old }
+    ensures zeros { result ≡ zero_nibbles bytes.new }
+{
+    let mut zeros = 0;
+    for place in 0..bytes.len() {
+        let byte = lowered(bytes[place]);
+        bytes[place] = byte;
+        zeros += zeros_of(byte);
+    }
+    zeros
+}
+
+/// A byte with both nibbles lowered.
+fn lowered(byte: u8) -> u8
+    requires { (0 < byte % 16) × (0 < byte / 16) }
+    ensures { result ≡ lowered_byte byte }
+{
+    let low = if byte % 16 == 15 { 0 } else { 1 };
+    let high = if byte / 16 == 15 { 0 } else { 16 };
+    byte - low - high
+}
+
 // ---- maxima
 
 /// Raises each value to the greater of itself and its nibble above the minimum, in one pass.
 ///
 /// There are two values for each byte, and the minimum is at most 240. A nibble of 15 counts as 15 above the minimum,
 /// which is at most the register that it stands for.
-pub fn raise_by_nibbles(values: &mut [u8], bytes: &[u8], minimum: u8)
+pub fn max_with_nibbles(values: &mut [u8], bytes: &[u8], minimum: u8)
     requires size { length values.old ≡ 2 * length bytes.now }
     requires small { minimum ≤ 240 }
     ensures { values.new ≡ join values.old (nibble_values minimum bytes.now) }
 {
     let (blocks, rest) = bytes.as_chunks::<16>();
     for place in 0..blocks.len() {
-        raise_by_block(values, 32 * place, &blocks[place], minimum);
+        max_with_block(values, 32 * place, &blocks[place], minimum);
     }
-    raise_one_by_one(&mut values[32 * blocks.len()..], rest, minimum);
+    max_one_by_one(&mut values[32 * blocks.len()..], rest, minimum);
 }
 
-/// The same, one byte after the other.
-fn raise_one_by_one(values: &mut [u8], bytes: &[u8], minimum: u8)
+/// Raises each value to the greater of itself and its nibble above the minimum, one byte after the other.
+fn max_one_by_one(values: &mut [u8], bytes: &[u8], minimum: u8)
     requires size { length values.old ≡ 2 * length bytes.now }
     requires small { minimum ≤ 240 }
     ensures { values.new ≡ join values.old (nibble_values minimum bytes.now) }
 {
     for place in 0..bytes.len() {
-        raise_one(values, 2 * place, minimum + bytes[place] % 16);
-        raise_one(values, 2 * place + 1, minimum + bytes[place] / 16);
+        max_one(values, 2 * place, minimum + bytes[place] % 16);
+        max_one(values, 2 * place + 1, minimum + bytes[place] / 16);
     }
 }
 
 /// Raises the 32 values from `at` on to the nibbles of a block.
-fn raise_by_block(values: &mut [u8], at: usize, block: &[u8; 16], minimum: u8)
+fn max_with_block(values: &mut [u8], at: usize, block: &[u8; 16], minimum: u8)
     requires room { at + 32 ≤ length values.old }
     requires small { minimum ≤ 240 }
-    ensures { values.new ≡ raise_at at values.old (nibble_values minimum block.now) }
+    ensures { values.new ≡ max_at at values.old (nibble_values minimum block.now) }
 {
     let (first, second) = nibble_lanes(u8x16::from_array(*block), minimum);
-    raise_16(values, at, first);
-    raise_16(values, at + 16, second);
+    max_16(values, at, first);
+    max_16(values, at + 16, second);
 }
 
 /// The nibbles of sixteen bytes above the minimum.
@@ -261,7 +374,7 @@ fn pack_nibbles(bytes: &mut [u8], registers: &[u8], minimum: u8)
     pack_one_by_one(&mut bytes[16 * blocks.len()..], rest, minimum);
 }
 
-/// The same, one byte after the other.
+/// Writes the nibbles of registers above the minimum, one byte after the other. A register below it counts as the minimum.
 fn pack_one_by_one(bytes: &mut [u8], registers: &[u8], minimum: u8)
     requires { 2 * length bytes.old ≡ length registers.now }
     ensures { bytes.new ≡ nibble_bytes_above minimum registers.now }

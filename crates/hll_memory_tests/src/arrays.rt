@@ -128,7 +128,7 @@ fn refused_stores(rt: HostRuntime) -> Result<(), Fail> {
 
 /// Registers of four bits, an update, and the requests that it makes.
 const UPDATES: [([u8; 16], u32, u8, u64); 12] = [
-    // a first exception, in a map with a table of four places, and a value below that makes none
+    // a first exception, in a map with a table of four buckets, and a value below that makes none
     ([0; 16], 0, 20, 2),
     ([0; 16], 0, 14, 0),
     // another value for a slot that has an exception, and a value that is not greater
@@ -168,7 +168,7 @@ const UPDATES: [([u8; 16], u32, u8, u64); 12] = [
     ),
 ];
 
-/// The requests of each further exception, from the first to the thirteenth: for tables of 4, 16 and 32 places. Eight
+/// The requests of each further exception, from the first to the thirteenth: for tables of 4, 16 and 32 buckets. Eight
 /// stand in the value.
 const EXCEPTIONS: [u64; 13] = [2, 0, 0, 0, 0, 0, 1, 0, 0, 0, 0, 0, 1];
 
@@ -217,20 +217,21 @@ struct ArrayTrial<'h> {
 /// Registers of each width.
 type Arrays<'h> = (Array4<&'h Heap>, Array6<&'h Heap>, Array8<&'h Heap>);
 
-/// What follows the header of an image of four bits: the words, the counts, nibbles, and a table of eight places.
+/// What follows the header of an image of four bits: the words, the counts, nibbles, and a table of eight buckets.
 const PAYLOAD: [u8; 72] = [
     0, 0, 0, 0, 0, 0, 0, 0, 0, 0, 0, 0, 0, 0, 0, 0, 0, 0, 0, 0, 0, 0, 0, 0, 13, 0, 0, 0, 2, 0, 0,
     0, 0xff, 1, 0, 0, 0, 0, 0, 0, 0, 0, 0, 80, 1, 0, 0, 64, 0, 0, 0, 0, 0, 0, 0, 0, 0, 0, 0, 0, 0,
     0, 0, 0, 0, 0, 0, 0, 0, 0, 0, 0,
 ];
 
-/// The same with a minimum of 0 above which all registers are, without an exception: it is raised to 1.
+/// A payload of four bits with a minimum of 0 above which all registers are, without an exception: it is raised to 1.
 const LOW_PAYLOAD: [u8; 40] = [
     0, 0, 0, 0, 0, 0, 0, 0, 0, 0, 0, 0, 0, 0, 0, 0, 0, 0, 0, 0, 0, 0, 0, 0, 0, 0, 0, 0, 0, 0, 0, 0,
     0x11, 0x11, 0x11, 0x11, 0x11, 0x11, 0x11, 0x21,
 ];
 
-/// The same with an exception of 40, which stays one, and one of 15, which does not.
+/// A payload of four bits with a minimum of 0 above which all registers are, an exception of 40, which stays one, and one of
+/// 15, which does not.
 const LOW_PAYLOAD_WITH_EXCEPTIONS: [u8; 48] = [
     0, 0, 0, 0, 0, 0, 0, 0, 0, 0, 0, 0, 0, 0, 0, 0, 0, 0, 0, 0, 0, 0, 0, 0, 0, 0, 0, 0, 2, 0, 0, 0,
     0xff, 0x11, 0x11, 0x11, 0x11, 0x11, 0x11, 0x21, 0, 0, 0, 160, 1, 0, 0, 60,
@@ -242,8 +243,8 @@ const ZEROS: [u8; 48] = [
     0, 0, 0, 0, 0, 0, 0, 0, 0, 0, 0, 0, 0, 0, 0, 0, 0,
 ];
 
-/// The same of 2^11 registers with 768 exceptions in 1,024 places, two for each of the first 384 places, so that searches
-/// are long.
+/// A payload of four bits with 2^11 registers and 768 exceptions in 1,024 buckets, two for each of the first 384 buckets, so
+/// that searches are long.
 fn path_payload(heap: &Heap) -> Result<Vec<u8>, Fault> {
     let mut bytes = Vec::new(heap.inner());
     bytes.extend_from_slice(&[0; 28])?;
@@ -291,8 +292,8 @@ impl<'h> Trial for ArrayTrial<'h> {
                 shown(heap, Array4::deserialize(heap, bytes, 0, 4, compact, false))
             }
             ArrayCall::Deserialize4InPlaces => {
-                let places = AuxFormat::Updatable { lg_arr: 3 };
-                shown(heap, Array4::deserialize(heap, bytes, 0, 4, places, false))
+                let buckets = AuxFormat::Updatable { lg_arr: 3 };
+                shown(heap, Array4::deserialize(heap, bytes, 0, 4, buckets, false))
             }
             ArrayCall::Deserialize4OnAPath => {
                 let payload = path_payload(heap)?;

@@ -4,7 +4,7 @@ use crate::harness::{Heap, Trial, requests_of, shown};
 use crate::sketches::{Shape, coupon_at, sketch_in, sketch_text};
 use crate::unions::union_text;
 use hll_base::hll_type::HllType;
-use hll_caller::{join_shards, registers_of, union_of_shards};
+use hll_caller::{max_of_shards, registers_of, union_of_shards};
 use hll_sketch::HllSketch;
 use hll_text::fault::Fault;
 use std::test::Fail;
@@ -12,7 +12,7 @@ use std::test::Fail;
 #[derive(Clone, Copy, Debug)]
 enum ShardsCall {
     RegistersOf,
-    JoinShards,
+    MaxOfShards,
     UnionOfShards(HllType),
 }
 
@@ -40,7 +40,7 @@ impl<'h> Trial for ShardsTrial<'h> {
         let coupons = [coupon_at(0), coupon_at(5), coupon_at(70)];
         match self.call {
             ShardsCall::RegistersOf => shown(heap, registers_of(heap, 4, &coupons)),
-            ShardsCall::JoinShards => shown(heap, join_shards(heap, 4, &coupons, &coupons)),
+            ShardsCall::MaxOfShards => shown(heap, max_of_shards(heap, 4, &coupons, &coupons)),
             ShardsCall::UnionOfShards(hll_type) => {
                 let (here, there) = shards.split_at(1);
                 union_text(heap, union_of_shards(heap, 12, hll_type, here, there)?)
@@ -60,7 +60,7 @@ impl<'h> Trial for ShardsTrial<'h> {
 /// the width that is sent, the set of the other, and the registers of both.
 const SHARDS_CALLS: [(ShardsCall, u64); 5] = [
     (ShardsCall::RegistersOf, 1),
-    (ShardsCall::JoinShards, 2),
+    (ShardsCall::MaxOfShards, 2),
     (ShardsCall::UnionOfShards(HllType::Hll4), 10),
     (ShardsCall::UnionOfShards(HllType::Hll6), 4),
     (ShardsCall::UnionOfShards(HllType::Hll8), 4),

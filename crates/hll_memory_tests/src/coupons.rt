@@ -15,7 +15,7 @@ use hll_coupons::list::List;
 use hll_text::fault::Fault;
 use std::test::Fail;
 
-/// What follows the header of images of a list and of a set: three coupons, those of the set behind their count.
+/// What follows the header of images of a list and of a set: three coupons, those of the set after their count.
 const LISTED: [u8; 12] = [5, 0, 0, 12, 6, 0, 0, 12, 7, 0, 0, 4];
 
 const COUNTED: [u8; 16] = [3, 0, 0, 0, 5, 0, 0, 12, 6, 0, 0, 12, 7, 0, 0, 4];
@@ -49,7 +49,7 @@ struct TableTrial<'h> {
     call: TableCall,
 }
 
-/// A set of 64 places with the coupons of a list of at most as many.
+/// A set of 64 buckets with the coupons of a list of at most as many.
 fn set_of<'h>(heap: &'h Heap, list: &List<&'h Heap>) -> Result<HashSet<&'h Heap>, Fault> {
     if list.container().len() > 64 {
         return Err(Fault::Range);
@@ -57,7 +57,7 @@ fn set_of<'h>(heap: &'h Heap, list: &List<&'h Heap>) -> Result<HashSet<&'h Heap>
     Ok(HashSet::from_container(heap, 6, list.container())?)
 }
 
-/// The image of a list of eight places.
+/// The image of a list of eight buckets.
 fn list_image<'h>(list: &List<&'h Heap>) -> Result<Vec<u8, &'h Heap>, Fault> {
     if list.container().lg_size() != 3 {
         return Err(Fault::Range);
@@ -65,7 +65,7 @@ fn list_image<'h>(list: &List<&'h Heap>) -> Result<Vec<u8, &'h Heap>, Fault> {
     Ok(list.serialize(10, HllType::Hll8)?)
 }
 
-/// The image of a set of 32 places that is not full.
+/// The image of a set of 32 buckets that is not full.
 fn set_image<'h>(set: &HashSet<&'h Heap>) -> Result<Vec<u8, &'h Heap>, Fault> {
     if set.container().lg_size() != 5 || set.container().is_full() {
         return Err(Fault::Range);
@@ -141,10 +141,10 @@ impl<'h> Trial for TableTrial<'h> {
     }
 }
 
-/// Sizes and numbers of coupons. Eight places take no memory.
+/// Sizes and numbers of coupons. Eight buckets take no memory.
 const TABLES: [(usize, u32); 5] = [(2, 3), (3, 0), (3, 8), (4, 8), (5, 31)];
 
-/// The calls, and the requests of each on tables of these sizes: the image of a list is of eight places, that of a set of
+/// The calls, and the requests of each on tables of these sizes: the image of a list is of eight buckets, that of a set of
 /// 32, in a sorted copy and the bytes.
 const TABLE_CALLS: [(TableCall, [u64; 5]); 16] = [
     (TableCall::NewContainer, [1, 0, 0, 1, 1]),
@@ -186,17 +186,17 @@ fn refused_tables(rt: HostRuntime) -> Result<(), Fail> {
 #[derive(Clone, Copy, Debug)]
 enum PathCall {
     Read,
-    PutAnew,
+    PutAgain,
 }
 
-/// A call on a set of 128 places with 127 coupons, all but one of which begin at one place and go on by one stride.
+/// A call on a set of 128 buckets with 127 coupons, all but one of which begin at one place and go on by one stride.
 #[derive(Drop)]
 struct PathTrial<'h> {
     heap: &'h Heap,
     call: PathCall,
 }
 
-/// The number of coupons and the coupons, as they stand behind the header of an image.
+/// The number of coupons and the coupons, as they stand after the header of an image.
 fn path_image(heap: &Heap) -> Result<Vec<u8>, Fault> {
     let mut bytes = Vec::new(heap.inner());
     bytes.extend_from_slice(&u32::to_le_bytes(127))?;
@@ -214,8 +214,8 @@ fn path_set<'h>(heap: &'h Heap) -> Result<HashSet<&'h Heap>, Fault> {
     Ok(HashSet::deserialize(heap, SketchSlice::new(&image), 7, true)?)
 }
 
-/// The same coupons in another table of as many places, put in the order of their places.
-fn put_anew<'h>(heap: &'h Heap, set: &HashSet<&'h Heap>) -> Result<HashSet<&'h Heap>, Fault> {
+/// The coupons of a set in another table of as many buckets, put in the order of their buckets.
+fn put_again<'h>(heap: &'h Heap, set: &HashSet<&'h Heap>) -> Result<HashSet<&'h Heap>, Fault> {
     if set.container().len() > 128 {
         return Err(Fault::Range);
     }
@@ -232,7 +232,7 @@ impl<'h> Trial for PathTrial<'h> {
     fn call(&self, set: &mut HashSet<&'h Heap>) -> Result<String, Fault> {
         match self.call {
             PathCall::Read => text(self.heap, &path_set(self.heap)?),
-            PathCall::PutAnew => text(self.heap, &put_anew(self.heap, set)?),
+            PathCall::PutAgain => text(self.heap, &put_again(self.heap, set)?),
         }
     }
 
@@ -241,9 +241,9 @@ impl<'h> Trial for PathTrial<'h> {
     }
 }
 
-/// The calls, and the requests of each: the places, and three for the cycle of the stride; to read them also the places of a
+/// The calls, and the requests of each: the buckets, and three for the cycle of the stride; to read them also the buckets of a
 /// first try, a copy of the coupons and a sorted one.
-const PATH_CALLS: [(PathCall, u64); 2] = [(PathCall::Read, 7), (PathCall::PutAnew, 4)];
+const PATH_CALLS: [(PathCall, u64); 2] = [(PathCall::Read, 7), (PathCall::PutAgain, 4)];
 
 #[test]
 fn refused_paths(rt: HostRuntime) -> Result<(), Fail> {
@@ -308,7 +308,7 @@ impl<'h> Trial for MapTrial<'h> {
     }
 }
 
-/// Numbers of entries. Tables have 4, 8, 16 and 32 places, of which eight stand in the value; the fourth, the seventh and
+/// Numbers of entries. Tables have 4, 8, 16 and 32 buckets, of which eight stand in the value; the fourth, the seventh and
 /// the thirteenth entry make them grow.
 const MAPS: [u32; 7] = [0, 2, 3, 5, 6, 7, 12];
 

@@ -1,9 +1,9 @@
 // SPDX-License-Identifier: Apache-2.0
 //! The filter, with each of its requests refused.
 use crate::harness::Heap;
+use hll_estimator_fields::run::run;
 use hll_text::fault::{Fault, MergeError};
 use hll_text::watched::Watched;
-use hll_words::run::run;
 use std::process::Abort;
 use std::test::Fail;
 
@@ -17,7 +17,7 @@ const TEXTS: [(&str, u64); 6] = [
     ("0201070a030801080500000c\n", 4),
     ("0201070a030801080500000c", 4),
     ("0201070a030801080500000c\n0201070a030801080500000c\n", 6),
-    // registers of eight bits, with words that are set, behind a list
+    // registers of eight bits, with fields that are set, after a list
     (
         "02010704030801080500000c\n0a0107040000000a0100000000000000020000000000000003000000000000000f0000000000000005000000000000000000000000000000\n",
         8,

@@ -67,10 +67,10 @@ fn update_asks<'h>(
     full: &'h Heap,
     inside: Shape,
     hll_type: HllType,
-    beside: Shape,
+    incoming: Shape,
 ) -> Result<u64, Fault> {
     full.admit();
-    let other = sketch_in(full, hll_type, beside)?;
+    let other = sketch_in(full, hll_type, incoming)?;
     full.refuse_all();
     merge_into(heap, inside, &other)?;
     Ok(full.asked())
@@ -90,10 +90,10 @@ fn unions_ask_their_own(rt: HostRuntime) -> Result<(), Fail> {
     let heap = Heap::new(rt.alloc());
     let full = Heap::new(rt.alloc());
     for inside in UNIONS {
-        for beside in SKETCHES {
+        for incoming in SKETCHES {
             for hll_type in WIDTHS {
-                let asked = update_asks(&heap, &full, inside, hll_type, beside);
-                assert_eq!(rt; asked, Ok(0), "{inside:?} {beside:?} {hll_type:?}");
+                let asked = update_asks(&heap, &full, inside, hll_type, incoming);
+                assert_eq!(rt; asked, Ok(0), "{inside:?} {incoming:?} {hll_type:?}");
             }
         }
     }

@@ -40,7 +40,7 @@ pub(crate) fn sketch_in(
     Ok(sketch)
 }
 
-/// All of a sketch: its `lg_k`, and the places of its table or its registers and their state.
+/// All of a sketch: its `lg_k`, and the buckets of its table or its registers and their state.
 pub(crate) fn sketch_text(heap: &Heap, sketch: &HllSketch<&Heap>) -> Result<String, Fault> {
     text(heap, &(sketch.lg_config_k(), sketch.mode()))
 }
@@ -67,16 +67,16 @@ fn taken<'h>(
     Ok(mem::replace(sketch, HllSketch::new(heap, 4, HllType::Hll8)?))
 }
 
-/// An image with all places of a table of 2^`lg_arr`, empty ones too, and so many bytes.
-pub(crate) fn with_places(
+/// An image with all buckets of a table of 2^`lg_arr`, empty ones too, and so many bytes.
+pub(crate) fn with_buckets(
     alloc: Global,
     image: &[u8],
     lg_arr: u8,
     size: usize,
 ) -> Result<Vec<u8>, Fault> {
     let mut bytes = Vec::from_slice(alloc, image)?;
-    if let Some(places) = bytes.get_mut(4) {
-        *places = lg_arr;
+    if let Some(buckets) = bytes.get_mut(4) {
+        *buckets = lg_arr;
     }
     if let Some(flags) = bytes.get_mut(5) {
         *flags &= 0xf7;
@@ -94,22 +94,22 @@ enum SketchCall {
     RegistersAt,
     IntoWidth(HllType),
     Deserialize,
-    DeserializePlaces,
+    DeserializeBuckets,
     Check,
-    CheckPlaces,
+    CheckBuckets,
     UpdateNew,
     UpdateHeld,
     UpdateValue,
     Queries,
 }
 
-/// A call on a sketch, beside its image, and one with the size of a table of places and the bytes with it.
+/// A call on a sketch, beside its image, and one with the size of a table of buckets and the bytes with it.
 #[derive(Drop)]
 struct SketchTrial<'h> {
     heap: &'h Heap,
     hll_type: HllType,
     shape: Shape,
-    places: (u8, usize),
+    buckets: (u8, usize),
     call: SketchCall,
 }
 
@@ -119,7 +119,7 @@ impl<'h> Trial for SketchTrial<'h> {
     fn make(&self) -> Result<(HllSketch<&'h Heap>, Vec<u8>, Vec<u8>), Fault> {
         let sketch = sketch_in(self.heap, self.hll_type, self.shape)?;
         let image = Vec::from_slice(self.heap.inner(), &sketch.serialize()?)?;
-        let whole = with_places(self.heap.inner(), &image, self.places.0, self.places.1)?;
+        let whole = with_buckets(self.heap.inner(), &image, self.buckets.0, self.buckets.1)?;
         Ok((sketch, image, whole))
     }
 
@@ -136,11 +136,11 @@ impl<'h> Trial for SketchTrial<'h> {
                 shown_sketch(heap, taken(heap, sketch)?.into_width(hll_type))
             }
             SketchCall::Deserialize => shown_sketch(heap, HllSketch::deserialize(heap, image)),
-            SketchCall::DeserializePlaces => {
+            SketchCall::DeserializeBuckets => {
                 shown_sketch(heap, HllSketch::deserialize(heap, whole))
             }
             SketchCall::Check => shown(heap, HllSketch::check(heap, image)),
-            SketchCall::CheckPlaces => shown(heap, HllSketch::check(heap, whole)),
+            SketchCall::CheckBuckets => shown(heap, HllSketch::check(heap, whole)),
             SketchCall::Queries => {
                 let numbers = (
                     sketch.num_coupons(),
@@ -249,7 +249,7 @@ const SKETCH_CALLS: [(SketchCall, [[u64; 10]; 3]); 16] = [
         ],
     ),
     (
-        SketchCall::DeserializePlaces,
+        SketchCall::DeserializeBuckets,
         [
             [0, 0, 0, 1, 1, 1, 1, 3, 3, 7],
             [0, 0, 0, 1, 1, 1, 1, 1, 1, 1],
@@ -261,7 +261,7 @@ const SKETCH_CALLS: [(SketchCall, [[u64; 10]; 3]); 16] = [
         [[0, 0, 0, 0, 0, 0, 0, 2, 2, 6], [0; 10], [0; 10]],
     ),
     (
-        SketchCall::CheckPlaces,
+        SketchCall::CheckBuckets,
         [[0, 0, 0, 0, 0, 0, 0, 2, 2, 6], [0; 10], [0; 10]],
     ),
     (
@@ -294,7 +294,7 @@ fn refused_sketches(rt: HostRuntime) -> Result<(), Fail> {
                     heap: &heap,
                     hll_type,
                     shape: (lg_k, 0, count),
-                    places: (lg_arr, size),
+                    buckets: (lg_arr, size),
                     call,
                 };
                 let asked = requests_of(&rt, &heap, &trial);

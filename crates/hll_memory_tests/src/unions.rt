@@ -1,7 +1,7 @@
 // SPDX-License-Identifier: Apache-2.0
 //! Unions, and what is made of sketches together.
 use crate::harness::{Heap, Trial, requests_of, shown, text};
-use crate::sketches::{Shape, coupon_at, shown_sketch, sketch_in, with_places};
+use crate::sketches::{Shape, coupon_at, shown_sketch, sketch_in, with_buckets};
 use hll_base::error::Error;
 use hll_base::hll_type::HllType;
 use hll_sketch::{
@@ -20,7 +20,7 @@ enum UnionCall {
     Reset,
     Update,
     UpdateImage,
-    UpdatePlaces,
+    UpdateBuckets,
     UpdateNew,
     UpdateValue,
     UnionOf,
@@ -36,7 +36,7 @@ struct UnionTrial<'h> {
     heap: &'h Heap,
     lg_max_k: u8,
     inside: Shape,
-    beside: Shape,
+    incoming: Shape,
     hll_type: HllType,
     call: UnionCall,
 }
@@ -75,7 +75,7 @@ pub(crate) fn union_in(heap: &Heap, inside: Shape) -> Result<HllUnion<&Heap>, Fa
     union_with(heap, inside.0, &sketch)
 }
 
-/// Two sketches, one behind the other.
+/// Two sketches, one after the other.
 fn pair_of<'h>(
     alloc: Global,
     one: HllSketch<&'h Heap>,
@@ -97,12 +97,12 @@ fn taken<'h>(
     mem::replace(union, HllUnion::new(heap, lg_max_k)?).into_sketch(hll_type)
 }
 
-/// An image of coupons with all places of its table; another image as it is.
-fn with_all_places(alloc: Global, image: &[u8]) -> Result<Vec<u8>, Fault> {
+/// An image of coupons with all buckets of its table; another image as it is.
+fn with_all_buckets(alloc: Global, image: &[u8]) -> Result<Vec<u8>, Fault> {
     match image {
-        [2, _, _, _, lg_arr, ..] => with_places(alloc, image, *lg_arr, 40),
-        [3, _, _, _, 5, ..] => with_places(alloc, image, 5, 140),
-        [3, _, _, _, lg_arr, ..] => with_places(alloc, image, *lg_arr, 1036),
+        [2, _, _, _, lg_arr, ..] => with_buckets(alloc, image, *lg_arr, 40),
+        [3, _, _, _, 5, ..] => with_buckets(alloc, image, 5, 140),
+        [3, _, _, _, lg_arr, ..] => with_buckets(alloc, image, *lg_arr, 1036),
         _ => Ok(Vec::from_slice(alloc, image)?),
     }
 }
@@ -160,7 +160,7 @@ impl<'h> Trial for UnionTrial<'h> {
     fn make(&self) -> Result<Joined<'h>, Fault> {
         let one = sketch_in(self.heap, HllType::Hll8, self.inside)?;
         let union = union_with(self.heap, self.lg_max_k, &one)?;
-        let two = sketch_in(self.heap, self.hll_type, self.beside)?;
+        let two = sketch_in(self.heap, self.hll_type, self.incoming)?;
         let image = Vec::from_slice(self.heap.inner(), &two.serialize()?)?;
         Ok((union, pair_of(self.heap.inner(), one, two)?, image))
     }
@@ -176,8 +176,8 @@ impl<'h> Trial for UnionTrial<'h> {
             UnionCall::UpdateImage => shown(self.heap, union.update_with_image(image)),
             UnionCall::ImageTwice | UnionCall::ImageAt => self.image_made(image),
             UnionCall::Images => self.image_made(image),
-            UnionCall::UpdatePlaces => {
-                let image = with_all_places(self.heap.inner(), image)?;
+            UnionCall::UpdateBuckets => {
+                let image = with_all_buckets(self.heap.inner(), image)?;
                 shown(self.heap, union.update_with_image(&image))
             }
             _ => self.given(union),
@@ -245,17 +245,17 @@ const UNION_CALLS: [(UnionCall, [[u64; 13]; 3]); 14] = [
     (
         UnionCall::UpdateImage,
         [
-            [0, 2, 1, 0, 0, 2, 10, 9, 3, 0, 6, 8, 3],
-            [0, 2, 1, 0, 0, 2, 2, 1, 1, 0, 0, 0, 1],
-            [0, 2, 1, 0, 0, 2, 2, 1, 1, 0, 0, 0, 1],
+            [0, 2, 1, 0, 0, 2, 9, 9, 3, 0, 6, 8, 3],
+            [0, 2, 1, 0, 0, 2, 1, 1, 1, 0, 0, 0, 1],
+            [0, 2, 1, 0, 0, 2, 1, 1, 1, 0, 0, 0, 1],
         ],
     ),
     (
-        UnionCall::UpdatePlaces,
+        UnionCall::UpdateBuckets,
         [
-            [0, 2, 1, 0, 0, 2, 10, 9, 3, 0, 6, 8, 3],
-            [0, 2, 1, 0, 0, 2, 2, 1, 1, 0, 0, 0, 1],
-            [0, 2, 1, 0, 0, 2, 2, 1, 1, 0, 0, 0, 1],
+            [0, 2, 1, 0, 0, 2, 9, 9, 3, 0, 6, 8, 3],
+            [0, 2, 1, 0, 0, 2, 1, 1, 1, 0, 0, 0, 1],
+            [0, 2, 1, 0, 0, 2, 1, 1, 1, 0, 0, 0, 1],
         ],
     ),
     (
@@ -268,7 +268,7 @@ const UNION_CALLS: [(UnionCall, [[u64; 13]; 3]); 14] = [
     ),
     (
         UnionCall::UnionOf,
-        [[0, 4, 2, 1, 0, 1, 1, 2, 2, 1, 1, 1, 2]; 3],
+        [[0, 1, 1, 0, 0, 1, 1, 2, 2, 1, 1, 1, 2]; 3],
     ),
     (UnionCall::Agree, [[2; 13]; 3]),
     (
@@ -282,9 +282,9 @@ const UNION_CALLS: [(UnionCall, [[u64; 13]; 3]); 14] = [
     (
         UnionCall::Images,
         [
-            [0, 5, 1, 1, 2, 6, 18, 18, 6, 6, 14, 18, 6],
-            [0, 5, 1, 1, 2, 6, 2, 2, 2, 6, 2, 2, 2],
-            [0, 5, 1, 1, 2, 6, 2, 2, 2, 6, 2, 2, 2],
+            [0, 3, 0, 0, 0, 6, 17, 17, 5, 6, 13, 17, 5],
+            [0, 3, 0, 0, 0, 6, 1, 1, 1, 6, 1, 1, 1],
+            [0, 3, 0, 0, 0, 6, 1, 1, 1, 6, 1, 1, 1],
         ],
     ),
 ];
@@ -297,17 +297,17 @@ fn refuse_unions(rt: &impl Abort, heap: &Heap, hll_type: HllType) {
             HllType::Hll6 => six,
             HllType::Hll8 => eight,
         };
-        for ((lg_max_k, inside, beside), requests) in UNIONS.into_iter().zip(requests) {
+        for ((lg_max_k, inside, incoming), requests) in UNIONS.into_iter().zip(requests) {
             let trial = UnionTrial {
                 heap,
                 lg_max_k,
                 inside,
-                beside,
+                incoming,
                 hll_type,
                 call,
             };
             let asked = requests_of(rt, heap, &trial);
-            assert_eq!(rt; asked, Ok(requests), "{call:?} {inside:?} {beside:?}");
+            assert_eq!(rt; asked, Ok(requests), "{call:?} {inside:?} {incoming:?}");
         }
     }
 }

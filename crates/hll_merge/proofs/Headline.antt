@@ -25,9 +25,9 @@ use Rattle.hll_text.specs.Step.{IsWellFormed}
 use Rattle.hll_text.specs.Text.{PlanStep, Reading, reading, new, image, coupon, union, fold}
 use Rattle.hll_text.proofs.StepLemmas.{reading-well_formed}
 use Rattle.hll_merge.specs.Accepting.{Carries, Gives, Runs, itself, Accepts, AcceptsSteps, skipped, taken}
-use Rattle.hll_merge.specs.Headline.{OutcomeIsLegal, Holds, AcceptedPlansHold, GrownPlansConvergeAnywhere}
+use Rattle.hll_merge.specs.Headline.{OutcomeIsLegal, Holds, AcceptedPlansHold, CanonicalPlansConvergeAnywhere}
 use Rattle.hll_merge.proofs.EffectiveLgK.{lg_k-outcome}
-use Rattle.hll_merge.proofs.Growing.{converges}
+use Rattle.hll_merge.proofs.CanonicalPlans.{converges}
 use Rattle.hll_merge.proofs.Outcomes.{plans_have_meaning, same_inputs_agree}
 use Rattle.hll_merge.proofs.Rearranging.{rearranged_plans_agree}
 
@@ -119,9 +119,9 @@ module _ {L : Type 0} (reads : L → Reading) where
   run_legal ts [] us r h g = subst AreLegal (sym g) h
   run_legal ts (l ∷ ls) us r h g = run_legal g.0 ls us (All-tail SaysWellFormed l ls r) (line_legal ts l g.0 (r 0 l (omega arith)) h g.1) g.2
 
-pub grown_plans_converge_anywhere : GrownPlansConvergeAnywhere
-grown_plans_converge_anywhere t h = record {
-  grown = converges t h;
+pub canonical_plans_converge_anywhere : CanonicalPlansConvergeAnywhere
+canonical_plans_converge_anywhere t h = record {
+  canonical = converges t h;
   rearranged = λ u k r. sym (rearranged_plans_agree t u h k r);
   same_bytes = λ u a b k r v w. one_written (outcome t) a b v (subst (Written b) (sym (rearranged_plans_agree t u h k r)) w);
 }
@@ -135,7 +135,7 @@ legal_plans_hold t legal =
       meaning = plans_have_meaning t legal;
       image = λ bytes w. written_is_image bytes (outcome t) sketch w;
       agrees = λ u k same. same_inputs_agree t u legal k (sym same);
-      converges = grown_plans_converge_anywhere t;
+      converges = canonical_plans_converge_anywhere t;
     }
 
 pub text_holds : (text : List ℕ) (t : Plan) → Accepts text t → Holds t

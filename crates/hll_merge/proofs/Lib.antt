@@ -4,7 +4,7 @@ pub mod CutLemmas
 pub mod EffectiveLgK
 pub mod Evaluating
 pub mod FeedingLemmas
-pub mod Growing
+pub mod CanonicalPlans
 pub mod Headline
 pub mod Outcomes
 pub mod Rearranging

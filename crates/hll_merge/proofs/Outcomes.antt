@@ -15,7 +15,7 @@ use Rattle.hll_sketch.specs.Value.{Content, coupons, registers, Sketch, pairs_in
 use Rattle.hll_sketch.specs.Adding.{content_with, add}
 use Rattle.hll_sketch.specs.Folding.{folded, folded_content}
 use Rattle.hll_sketch.specs.Merging.{merge, merge_content, merge_all, empty_union}
-use Rattle.hll_merge.specs.Plan.{Plan, Plans, new, image, coupon, union_plan, fold, no_plans, more_plans, inputs, inputs_of_each, outcome, outcomes, effective_lg_k, least_of_each, Leaves, LeavesOfEach, IsImageOf, IsImageOfEach, IsLegalPlan}
+use Rattle.hll_merge.specs.Plan.{Plan, Plans, new, image, coupon, union_plan, fold, no_plans, more_plans, inputs, inputs_of_each, outcome, outcomes, effective_lg_k, least_of_each, Leaves, LeavesOfEach, IsLeafOf, IsLeafOfEach, IsLegalPlan}
 use Rattle.hll_merge.specs.Meaning.{PlansHaveMeaning, SameInputsAgree}
 use Rattle.hll_sketch.specs.Meaning.{Means}
 use Rattle.hll_sketch.proofs.Adding.{merge_of_empty, merge_of_some}
@@ -132,7 +132,7 @@ record Lowest (x : Sketch) (t : Plan) : Type 0 where
   pub low : effective_lg_k t ≤ x.lg_k
 
 mutual
-  lowest : (x : Sketch) (t : Plan) → IsLegalPlan t → has_nonzero_registers x ≡ true → IsImageOf x t → Lowest x t
+  lowest : (x : Sketch) (t : Plan) → IsLegalPlan t → has_nonzero_registers x ≡ true → IsLeafOf x t → Lowest x t
   lowest x (new k w) h r i = absurd i
   lowest x (image y) h r i = record { some = has_some y (ap has_nonzero_registers (sym i) ∙ r); low = omega (arith, ap (λ (s : Sketch). s.lg_k) i) }
   lowest x (coupon t c) h r i =
@@ -145,7 +145,7 @@ mutual
       let all = lowest_of_each x ts m (empty_union m) empty m (MeansPairs-empty m _ h.0.high) h.1 r i in
       record { some = record { inside = all.0.inside; some = all.0.some }; low = all.1 }
 
-  lowest_of_each : (x : Sketch) (ts : Plans) (m : ℕ) (g : Sketch) (P : Pairs) (k : ℕ) → MeansPairs g P → LeavesOfEach (λ _. Unit {0}) ts → has_nonzero_registers x ≡ true → IsImageOfEach x ts →
+  lowest_of_each : (x : Sketch) (ts : Plans) (m : ℕ) (g : Sketch) (P : Pairs) (k : ℕ) → MeansPairs g P → LeavesOfEach (λ _. Unit {0}) ts → has_nonzero_registers x ≡ true → IsLeafOfEach x ts →
       HasSome (merge_all m g (outcomes ts)) × (least_of_each k ts ≤ x.lg_k)
   lowest_of_each x no_plans m g P k good' h r i = absurd i
   lowest_of_each x (more_plans t ts) m g P k good' h r i =

@@ -8,13 +8,13 @@ use Rattle.hll_sketch.specs.Value.{Sketch}
 use Rattle.hll_sketch.specs.Adding.{add}
 use Rattle.hll_sketch.specs.Merging.{merge_all, empty_union}
 use Rattle.hll_merge.specs.Plan.{Plan, Plans, union_plan, no_plans, more_plans, outcome, outcomes, Leaves, LeavesOfEach}
-use Rattle.hll_sketch.specs.Grown.{IsGrown}
+use Rattle.hll_sketch.specs.Canonical.{IsCanonicalCleared}
 use Rattle.hll_sketch.specs.Joined.{join_value}
 use Rattle.hll_sketch.specs.Folding.{folded}
 use Rattle.hll_merge.specs.Rearrangement.{IsChild, both_plans, IsRearrangement, AreRearrangements, reordered, grouped, same, stored, flipped, chained, below_coupon, below_fold, below_union, none, more, RearrangedPlansAgree}
 use Rattle.hll_sketch.proofs.Joined.{merge_at_width}
 use Rattle.hll_sketch.proofs.Regrouping.{union_of_same, union_of_union}
-use Rattle.hll_merge.proofs.Growing.{fits}
+use Rattle.hll_merge.proofs.CanonicalPlans.{fits}
 
 -- ---- children and their outcomes
 
@@ -42,7 +42,7 @@ outcomes-both no_plans us = refl
 outcomes-both (more_plans t ts) us = ap (λ xs. outcome t ∷ xs) (outcomes-both ts us)
 
 -- the join of the children
-union_is : (m : ℕ) (w : HllType) (ts : Plans) → Leaves IsGrown (union_plan m w ts) → outcome (union_plan m w ts) ≡ join_value m w (outcomes ts)
+union_is : (m : ℕ) (w : HllType) (ts : Plans) → Leaves IsCanonicalCleared (union_plan m w ts) → outcome (union_plan m w ts) ≡ join_value m w (outcomes ts)
 union_is m w ts h = merge_at_width m w (outcomes ts) h.0.high (fits ts h.1)
 
 merged_as : (m : ℕ) (w : HllType) (xs ys : List Sketch) → xs ≡ ys → record (merge_all m (empty_union m) xs) { width = w } ≡ record (merge_all m (empty_union m) ys) { width = w }
@@ -51,7 +51,7 @@ merged_as m w xs ys e = ap (λ zs. let y : Sketch = record (merge_all m (empty_u
 -- ---- the law
 
 mutual
-  agree : {t u : Plan} → IsRearrangement t u → Leaves IsGrown t → Leaves IsGrown u → outcome t ≡ outcome u
+  agree : {t u : Plan} → IsRearrangement t u → Leaves IsCanonicalCleared t → Leaves IsCanonicalCleared u → outcome t ≡ outcome u
   agree (reordered {m} {w} {ts} {us} s) h k =
       union_is m w ts h ∙ union_of_same m w (outcomes ts) (outcomes us) (members ts us s.there, members us ts s.back) ∙ sym (union_is m w us k)
   agree (grouped {m} {v} {w} {ts} {us}) h k =
@@ -68,7 +68,7 @@ mutual
   agree (below_fold {t} {u} {e} r) h k = ap (λ x. folded x e) (agree r h.0 k.0)
   agree (below_union {m} {w} {ts} {us} r) h k = merged_as m w (outcomes ts) (outcomes us) (agree_each r h.1 k.1)
 
-  agree_each : {ts us : Plans} → AreRearrangements ts us → LeavesOfEach IsGrown ts → LeavesOfEach IsGrown us → outcomes ts ≡ outcomes us
+  agree_each : {ts us : Plans} → AreRearrangements ts us → LeavesOfEach IsCanonicalCleared ts → LeavesOfEach IsCanonicalCleared us → outcomes ts ≡ outcomes us
   agree_each none h k = refl
   agree_each (more r rs) h k = λ i. agree r h.0 k.0 i ∷ agree_each rs h.1 k.1 i
 

@@ -33,7 +33,7 @@ use Rattle.hll_text.specs.Text.{PlanStep, Reading}
 use Rattle.hll_merge.specs.Plan as plan
 use Rattle.hll_merge.specs.Plan.{Plan, outcome, outcomes, plans_of, effective_lg_k}
 use Rattle.hll_merge.specs.Accepting.{Gives, IsFaultOfLine, Runs, LastPlanIsBelow, IsFaultOfStep, skipped, taken, unread, refused}
-use Rattle.hll_merge.specs.Stack.{Represents, AllRepresent, ReplacesLast, UnitesFrom, LastIsBelow, StackCarries, StackRefuses, StackGives, StackFaults}
+use Rattle.hll_merge.specs.Stack.{Represents, AllRepresent, ReplacesLast, MergesTail, LastIsBelow, StackCarries, StackRefuses, StackGives, StackFaults}
 use Rattle.hll_merge.proofs.EffectiveLgK.{lg_k-outcome}
 
 -- ---- a stack and its plans
@@ -212,8 +212,8 @@ image-read digits bytes same = ap text.as_reading same
 pub carries-image : (xs : List SketchLayout) (bytes : List ℕ) (x : SketchLayout) → IsReadAs bytes (sketch_of x) → StackCarries xs (text.image bytes) (xs ++ x ∷ [])
 carries-image xs bytes x r = λ ts h. (ts ++ plan.image (sketch_of x) ∷ [], (sketch_of x, r, refl), AllRepresent-push xs ts x (plan.image (sketch_of x)) h refl)
 
-pub carries-union : (xs ys : List SketchLayout) (n at m : ℕ) (w : HllType) → n ≤ length xs → at ≡ length xs - n → UnitesFrom at m w xs ys → StackCarries xs (text.union n m w) ys
-carries-union xs ys n at m w enough is united = λ ts h.
+pub carries-union : (xs ys : List SketchLayout) (n at m : ℕ) (w : HllType) → n ≤ length xs → at ≡ length xs - n → MergesTail at m w xs ys → StackCarries xs (text.union n m w) ys
+carries-union xs ys n at m w enough is union_of_batch = λ ts h.
     let below : List Plan = take at ts in
     let top : List Plan = drop at ts in
     let high : AllRepresent (drop at xs) top = AllRepresent-drop at xs ts h in
@@ -221,8 +221,8 @@ carries-union xs ys n at m w enough is united = λ ts h.
     let number : length top ≡ n = omega (arith, length-AllRepresent (drop at xs) top high, length-drop at xs, is, enough) in (
       below ++ plan.union_plan m w (plans_of top) ∷ [],
       (below, top, sym (take-append-drop at ts), number, refl),
-      carries-push (take at xs) ys below united.made (plan.union_plan m w (plans_of top)) (AllRepresent-take at xs ts h)
-          (united.value ∙ ap (λ zs. let z : Sketch = record (merge_all m (empty_union m) zs) { width = w } in z) all) united.gives,
+      carries-push (take at xs) ys below union_of_batch.made (plan.union_plan m w (plans_of top)) (AllRepresent-take at xs ts h)
+          (union_of_batch.value ∙ ap (λ zs. let z : Sketch = record (merge_all m (empty_union m) zs) { width = w } in z) all) union_of_batch.gives,
     )
 
 -- the width of a gadget stays
@@ -244,10 +244,10 @@ width-merge_all : (m : ℕ) (g : Sketch) (xs : List Sketch) → (merge_all m g x
 width-merge_all m g [] = refl
 width-merge_all m g (x ∷ xs) = width-merge_all m (merge m g x) xs ∙ width-merge m g x
 
--- a union in the place of the first sketch, those behind it dropped
-pub united_in_place : (xs ys : List SketchLayout) (at m : ℕ) (w : HllType) (x : SketchLayout) → w ≡ Hll8 → take (at + 1) ys ≡ take at xs ++ x ∷ [] →
-    sketch_of x ≡ merge_all m (empty_union m) (map sketch_of (drop at xs)) → UnitesFrom at m w xs (take (at + 1) ys)
-united_in_place xs ys at m w x eight gives value = record {
+-- a union in the place of the first sketch, those after it dropped
+pub merged_in_first : (xs ys : List SketchLayout) (at m : ℕ) (w : HllType) (x : SketchLayout) → w ≡ Hll8 → take (at + 1) ys ≡ take at xs ++ x ∷ [] →
+    sketch_of x ≡ merge_all m (empty_union m) (map sketch_of (drop at xs)) → MergesTail at m w xs (take (at + 1) ys)
+merged_in_first xs ys at m w x eight gives value = record {
   made = x;
   value = value ∙ (let g : Sketch = merge_all m (empty_union m) (map sketch_of (drop at xs)) in λ i. record g { width = (width-merge_all m (empty_union m) (map sketch_of (drop at xs)) ∙ sym eight) i });
   gives = gives;

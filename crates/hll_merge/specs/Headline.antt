@@ -1,12 +1,12 @@
 -- SPDX-License-Identifier: Apache-2.0
 -- What an accepted plan promises of its outcome (docs/MODEL.md, "The meaning of a plan").
 use Rattle.std.specs.Prelude.{◌≡◌, ℕ, List, All}
-use Rattle.hll_sketch.specs.Grown.{IsGrown}
+use Rattle.hll_sketch.specs.Canonical.{IsCanonicalCleared}
 use Rattle.hll_sketch.specs.Value.{IsLegal}
 use Rattle.hll_sketch.specs.Image.{Image}
 use Rattle.hll_sketch.specs.Written.{Written}
 use Rattle.hll_merge.specs.Plan.{Plan, inputs, outcome, Leaves, IsLegalPlan}
-use Rattle.hll_merge.specs.Grown.{Converges}
+use Rattle.hll_merge.specs.Canonical.{Converges}
 use Rattle.hll_merge.specs.Rearrangement.{IsRearrangement}
 use Rattle.hll_merge.specs.Meaning.{HasMeaning, AgreeFolded}
 use Rattle.hll_text.specs.Step.{IsWellFormed}
@@ -17,17 +17,17 @@ use Rattle.hll_merge.specs.Accepting.{Accepts, AcceptsSteps}
 abbrev pub OutcomeIsLegal : Type 0
 OutcomeIsLegal = (t : Plan) → IsLegalPlan t → IsLegal (outcome t)
 
--- what holds of a plan over grown images
+-- what holds of a plan over canonical images with cleared fields
 pub record ConvergesAnywhere (t : Plan) : Type 0 where
-  -- the outcome is grown, and that of a union is the join of its children's
-  pub grown : Converges t
+  -- so is the outcome, and that of a union is the join of its children's
+  pub canonical : Converges t
   -- children anywhere may be reordered, repeated and grouped, and parts stored: pairs, table size, registers and state are equal
-  pub rearranged : (u : Plan) → Leaves IsGrown u → IsRearrangement t u → outcome u ≡ outcome t
+  pub rearranged : (u : Plan) → Leaves IsCanonicalCleared u → IsRearrangement t u → outcome u ≡ outcome t
   -- and so are the bytes
-  pub same_bytes : (u : Plan) (a b : List ℕ) → Leaves IsGrown u → IsRearrangement t u → Written a (outcome t) → Written b (outcome u) → a ≡ b
+  pub same_bytes : (u : Plan) (a b : List ℕ) → Leaves IsCanonicalCleared u → IsRearrangement t u → Written a (outcome t) → Written b (outcome u) → a ≡ b
 
-abbrev pub GrownPlansConvergeAnywhere : Type 0
-GrownPlansConvergeAnywhere = (t : Plan) → Leaves IsGrown t → ConvergesAnywhere t
+abbrev pub CanonicalPlansConvergeAnywhere : Type 0
+CanonicalPlansConvergeAnywhere = (t : Plan) → Leaves IsCanonicalCleared t → ConvergesAnywhere t
 
 -- what holds of the plan of an accepted text or list of steps
 pub record Holds (t : Plan) : Type 0 where
@@ -39,8 +39,8 @@ pub record Holds (t : Plan) : Type 0 where
   pub image : (bytes : List ℕ) → Written bytes (outcome t) → Image bytes (outcome t)
   -- every plan over the same inputs agrees with it, once both are folded to the smaller effective lg_k
   pub agrees : (u : Plan) → IsLegalPlan u → inputs u ≡ inputs t → AgreeFolded t u
-  -- where its images are grown, order, repetition and grouping show nowhere
-  pub converges : Leaves IsGrown t → ConvergesAnywhere t
+  -- where its images are canonical with cleared fields, order, repetition and grouping show nowhere
+  pub converges : Leaves IsCanonicalCleared t → ConvergesAnywhere t
 
 -- the plan of a text, and that of a list of steps whose numbers and bytes are in their ranges
 pub record AcceptedPlansHold : Type 0 where

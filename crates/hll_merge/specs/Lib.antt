@@ -2,7 +2,7 @@
 pub mod Accepting
 pub mod Evaluate
 pub mod Feeding
-pub mod Grown
+pub mod Canonical
 pub mod Headline
 pub mod Meaning
 pub mod Plan

@@ -4,13 +4,13 @@ use Rattle.std.specs.Prelude.{◌≡◌, ℕ, ◌≤◌, min, true}
 use Rattle.hll_coupons.specs.Fold.{fold_to}
 use Rattle.hll_sketch.specs.Meaning.{Means}
 use Rattle.hll_sketch.specs.Value.{Sketch, pairs_of, has_nonzero_registers}
-use Rattle.hll_merge.specs.Plan.{Plan, inputs, outcome, effective_lg_k, IsLegalPlan, IsImageOf}
+use Rattle.hll_merge.specs.Plan.{Plan, inputs, outcome, effective_lg_k, IsLegalPlan, IsLeafOf}
 
 -- what holds of the outcome of a plan
 pub record HasMeaning (t : Plan) : Type 0 where
   pub lg_k : (outcome t).lg_k ≡ effective_lg_k t
   -- no register image is spread
-  pub lowest : (x : Sketch) → IsImageOf x t → has_nonzero_registers x ≡ true → effective_lg_k t ≤ x.lg_k
+  pub lowest : (x : Sketch) → IsLeafOf x t → has_nonzero_registers x ≡ true → effective_lg_k t ≤ x.lg_k
   -- in coupons all inputs, whole slots included; in registers the greatest value among the inputs folded to each slot, or 0
   pub meaning : Means (effective_lg_k t) (outcome t).content (inputs t)
   -- and so at each smaller lg_k

@@ -87,13 +87,13 @@ IsLegalPlan t = Leaves (λ _. Unit {0}) t
 
 -- an image of the sketch is a leaf of the plan
 abbrev mutual
-  pub IsImageOf : Sketch → Plan → Type 0
-  IsImageOf x (new k w) = ⊥
-  IsImageOf x (image y) = x ≡ y
-  IsImageOf x (coupon t c) = IsImageOf x t
-  IsImageOf x (union_plan m w ts) = IsImageOfEach x ts
-  IsImageOf x (fold t e) = IsImageOf x t
+  pub IsLeafOf : Sketch → Plan → Type 0
+  IsLeafOf x (new k w) = ⊥
+  IsLeafOf x (image y) = x ≡ y
+  IsLeafOf x (coupon t c) = IsLeafOf x t
+  IsLeafOf x (union_plan m w ts) = IsLeafOfEach x ts
+  IsLeafOf x (fold t e) = IsLeafOf x t
 
-  pub IsImageOfEach : Sketch → Plans → Type 0
-  IsImageOfEach x no_plans = ⊥
-  IsImageOfEach x (more_plans t ts) = IsImageOf x t ⊎ IsImageOfEach x ts
+  pub IsLeafOfEach : Sketch → Plans → Type 0
+  IsLeafOfEach x no_plans = ⊥
+  IsLeafOfEach x (more_plans t ts) = IsLeafOf x t ⊎ IsLeafOfEach x ts

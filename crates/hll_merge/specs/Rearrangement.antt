@@ -3,7 +3,7 @@
 use Rattle.std.specs.Prelude.{◌≡◌, ℕ, ◌⊎◌}
 use Rattle.hll_base.specs.declared.hll_type.HllType.{HllType}
 use Rattle.hll_merge.specs.Plan.{Plan, Plans, image, coupon, union_plan, fold, no_plans, more_plans, outcome, Leaves}
-use Rattle.hll_sketch.specs.Grown.{IsGrown}
+use Rattle.hll_sketch.specs.Canonical.{IsCanonicalCleared}
 
 -- the plan is one of the children
 abbrev pub IsChild : Plan → Plans → Type 0
@@ -28,7 +28,7 @@ mutual
     same : {t : Plan} → IsRearrangement t t
     stored : {t : Plan} → IsRearrangement t (image (outcome t))
     flipped : {t u : Plan} → IsRearrangement u t → IsRearrangement t u
-    chained : {t v : Plan} → (u : Plan) → Leaves IsGrown u → IsRearrangement t u → IsRearrangement u v → IsRearrangement t v
+    chained : {t v : Plan} → (u : Plan) → Leaves IsCanonicalCleared u → IsRearrangement t u → IsRearrangement u v → IsRearrangement t v
     below_coupon : {t u : Plan} {c : ℕ} → IsRearrangement t u → IsRearrangement (coupon t c) (coupon u c)
     below_fold : {t u : Plan} {e : ℕ} → IsRearrangement t u → IsRearrangement (fold t e) (fold u e)
     below_union : {m : ℕ} {w : HllType} {ts us : Plans} → AreRearrangements ts us → IsRearrangement (union_plan m w ts) (union_plan m w us)
@@ -37,6 +37,6 @@ mutual
     none : AreRearrangements no_plans no_plans
     more : {t u : Plan} {ts us : Plans} → IsRearrangement t u → AreRearrangements ts us → AreRearrangements (more_plans t ts) (more_plans u us)
 
--- over grown images such plans give equal sketches: pairs, table size, registers and state
+-- over canonical images with cleared fields such plans give equal sketches: pairs, table size, registers and state
 abbrev pub RearrangedPlansAgree : Type 0
-RearrangedPlansAgree = (t u : Plan) → Leaves IsGrown t → Leaves IsGrown u → IsRearrangement t u → outcome t ≡ outcome u
+RearrangedPlansAgree = (t u : Plan) → Leaves IsCanonicalCleared t → Leaves IsCanonicalCleared u → IsRearrangement t u → outcome t ≡ outcome u

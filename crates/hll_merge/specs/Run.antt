@@ -70,7 +70,7 @@ pub record AllEndedRun (text : List ℕ) (e : MergeError) : Type 0 where
   pub stack : List Plan
   pub runs : Runs reading [] (ended_lines text) stack
 
--- the reader failed behind this text: the answer is the first fault of its lines that ended, or else Read; nothing was written
+-- the reader failed after this text: the answer is the first fault of its lines that ended, or else Read; nothing was written
 pub record ReaderFails (s : Streams) (e : MergeError) : Type 0 where
   pub reader : s.reader_failed ≡ true
   pub writer : s.writer_failed ≡ false

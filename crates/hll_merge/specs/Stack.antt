@@ -40,7 +40,7 @@ pub record LastIsBelow (old : List SketchLayout) (e : ℕ) : Type 0 where
   pub below : (sketch_of last).lg_k < e
 
 -- the sketches from an index on were replaced by their union under a bound, at a width, and those before it stayed
-pub record UnitesFrom (at bound : ℕ) (width : HllType) (old new : List SketchLayout) : Type 0 where
+pub record MergesTail (at bound : ℕ) (width : HllType) (old new : List SketchLayout) : Type 0 where
   pub made : SketchLayout
   pub value : sketch_of made ≡ record (merge_all bound (empty_union bound) (map sketch_of (drop at old))) { width = width }
   pub gives : new ≡ take at old ++ made ∷ []

@@ -3,7 +3,7 @@
 //! "Convergence" and "Plan texts").
 ghost use Rattle.hll_merge.specs.Meaning.{PlansHaveMeaning, SameInputsAgree};
 ghost use Rattle.hll_merge.specs.Headline.{OutcomeIsLegal, AcceptedPlansHold};
-ghost use Rattle.hll_merge.specs.Grown.{GrownPlansConverge};
+ghost use Rattle.hll_merge.specs.Canonical.{CanonicalPlansConverge};
 ghost use Rattle.hll_merge.specs.Rearrangement.{RearrangedPlansAgree};
 ghost use Rattle.hll_merge.specs.Texts.{OnePlan, OneFirstFault, AcceptedIsFaultless, FirstFaultsAreOwn};
 
@@ -12,14 +12,14 @@ ghost use Rattle.hll_merge.specs.Texts.{OnePlan, OneFirstFault, AcceptedIsFaultl
 /// - `plans_have_meaning`: the outcome of a legal plan has the effective `lg_k`, which no register image is below, and
 ///   the greatest value among the inputs at each slot.
 /// - `same_inputs_agree`: two plans over the same inputs agree once both are folded to the smaller effective `lg_k`.
-/// - `grown_plans_converge`: plans over grown images give grown sketches, and a union the join of its children.
-/// - `rearranged_plans_agree`: over grown images children may be reordered, repeated and grouped under the same bound,
+/// - `canonical_plans_converge`: plans over canonical images give canonical sketches, and a union the join of its children.
+/// - `rearranged_plans_agree`: over canonical images children may be reordered, repeated and grouped under the same bound,
 ///   anywhere in a plan.
 /// - `outcome_is_legal`: the outcome of a legal plan is a legal sketch.
 pub fn plans()
     ensures plans_have_meaning { PlansHaveMeaning }
     ensures same_inputs_agree { SameInputsAgree }
-    ensures grown_plans_converge { GrownPlansConverge }
+    ensures canonical_plans_converge { CanonicalPlansConverge }
     ensures rearranged_plans_agree { RearrangedPlansAgree }
     ensures outcome_is_legal { OutcomeIsLegal }
 {}

@@ -9,14 +9,14 @@ ghost use Rattle.hll_sketch.specs.Merging.{merge_all, empty_union};
 ghost use Rattle.hll_sketch.specs.Value.{IsLgK};
 ghost use Rattle.hll_text.specs.Step.{step_of, IsInRange, HasBytes};
 ghost use Rattle.hll_text.specs.Text.{new, image, union, reading, image_reading, image_step};
-ghost use Rattle.hll_merge.specs.Stack.{ReplacesLast, UnitesFrom, LastIsBelow, StackCarries, StackRefuses, StackGives, StackFaults};
+ghost use Rattle.hll_merge.specs.Stack.{ReplacesLast, MergesTail, LastIsBelow, StackCarries, StackRefuses, StackGives, StackFaults};
 ghost use Rattle.hll_text.specs.declared.fault.Fault.TheVariants.{Memory};
 ghost use Rattle.hll_text.specs.declared.fault.Fault.TheVariants as faults;
 
 use hll_base::hll_type::HllType;
 use hll_coupons::coupon::Coupon;
+use hll_sketch::merge::union_in_place;
 use hll_sketch::sketch::HllSketch;
-use hll_sketch::union::union_in_place;
 use hll_sketch::union_of;
 use hll_text::fault::Fault;
 use hll_text::reading::{decode_into, read_line};
@@ -110,25 +110,25 @@ impl<A: Allocator + Clone> Stack<A> {
         let Some(at) = self.sketches.len().checked_sub(count as usize) else {
             return Err(Fault::Stack);
         };
-        if self.unite_in_place(at, lg_max_k, hll_type) {
+        if self.merge_in_place(at, lg_max_k, hll_type) {
             return Ok(());
         }
-        self.unite_aside(at, lg_max_k, hll_type)
+        self.merge_aside(at, lg_max_k, hll_type)
     }
 
     /// Puts the union of the sketches from an index on in their place, where the first of them can take in the others
     /// without memory, and answers whether it did. Otherwise nothing changes.
-    fn unite_in_place(&mut self, at: usize, lg_max_k: u8, hll_type: HllType) -> bool
+    fn merge_in_place(&mut self, at: usize, lg_max_k: u8, hll_type: HllType) -> bool
         requires bound { IsLgK lg_max_k }
         requires within { at ≤ length self.old }
-        ensures united { result ≡ true → UnitesFrom at lg_max_k hll_type self.old self.new }
+        ensures union_of_batch { result ≡ true → MergesTail at lg_max_k hll_type self.old self.new }
         ensures unchanged { result ≡ false → self.new ≡ self.old }
     {
         match hll_type {
             HllType::Hll8 => {}
             HllType::Hll4 | HllType::Hll6 => return false,
         }
-        if !unite_from(&mut self.sketches, at, lg_max_k) {
+        if !merge_tail(&mut self.sketches, at, lg_max_k) {
             return false;
         }
         self.sketches.truncate(at + 1);
@@ -136,10 +136,10 @@ impl<A: Allocator + Clone> Stack<A> {
     }
 
     /// Puts the union of the sketches from an index on in their place. `Memory` where it, or a larger stack, is refused.
-    fn unite_aside(&mut self, at: usize, lg_max_k: u8, hll_type: HllType) -> Result<(), Fault>
+    fn merge_aside(&mut self, at: usize, lg_max_k: u8, hll_type: HllType) -> Result<(), Fault>
         requires bound { IsLgK lg_max_k }
         requires within { at ≤ length self.old }
-        ensures ok { OnOk result (UnitesFrom at lg_max_k hll_type self.old self.new) }
+        ensures ok { OnOk result (MergesTail at lg_max_k hll_type self.old self.new) }
         ensures err { IfErr result (λ e. e ≡ Memory) }
         ensures unchanged { OnErr result (self.new ≡ self.old) }
     {
@@ -262,10 +262,10 @@ impl<A: Allocator + Clone> Stack<A> {
 
 /// Makes the sketch at an index the union of those from there on, at eight bits, where that takes no memory, and answers
 /// whether it did. The others stay as they are, and where it didn't, so does this one.
-fn unite_from<A: Allocator + Clone>(sketches: &mut [HllSketch<A>], at: usize, lg_max_k: u8) -> bool
+fn merge_tail<A: Allocator + Clone>(sketches: &mut [HllSketch<A>], at: usize, lg_max_k: u8) -> bool
     requires bound { IsLgK lg_max_k }
     requires within { at ≤ length sketches.old }
-    ensures united { result ≡ true → (x : SketchLayout) × (take (at + 1) sketches.new ≡ take at sketches.old ++ x ∷ []) × (sketch_of x ≡ merge_all lg_max_k (empty_union lg_max_k) (map sketch_of (drop at sketches.old))) }
+    ensures union_of_batch { result ≡ true → (x : SketchLayout) × (take (at + 1) sketches.new ≡ take at sketches.old ++ x ∷ []) × (sketch_of x ≡ merge_all lg_max_k (empty_union lg_max_k) (map sketch_of (drop at sketches.old))) }
     ensures unchanged { result ≡ false → sketches.new ≡ sketches.old }
     ensures len { length sketches.new ≡ length sketches.old }
 {

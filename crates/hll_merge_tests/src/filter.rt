@@ -1,15 +1,15 @@
 // SPDX-License-Identifier: Apache-2.0
 //! Lines and what is printed for them, whole and over streams that move a byte at a time and fail.
 use hll_base::error::Reason;
+use hll_estimator_fields::run::run;
 use hll_fakes::{Failing, Narrow};
 use hll_text::fault::{Fault, MergeError};
 use hll_text::watched::Watched;
-use hll_words::run::run;
 use std::alloc::{AllocError, Global};
 use std::process::Abort;
 use std::test::Fail;
 
-/// Sixteen registers of eight bits, of which one is 5, with words of their own, and with the words of an estimator.
+/// Sixteen registers of eight bits, of which one is 5, with words of their own, and with the fields of an estimator.
 const GIVEN: &str =
     "0a0107040000000a0100000000000000020000000000000003000000000000000f0000000000000005000000000000000000000000000000";
 

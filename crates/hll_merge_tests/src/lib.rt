@@ -1,5 +1,5 @@
 // SPDX-License-Identifier: Apache-2.0
-//! Tests through public calls of `hll_text`, `hll_merge` and `hll_words`: lines, streams, plans, and the filter of images.
+//! Tests through public calls of `hll_text`, `hll_merge` and `hll_estimator_fields`: lines, streams, plans, and the filter of images.
 #![tactic(auto)]
 
 #[cfg(test)]

@@ -69,7 +69,7 @@ fn first_lines(rt: HostRuntime) {
     lines_of_cuts();
 }
 
-/// An LF at each place of texts round two blocks, and others behind it, and a text that lacks it.
+/// An LF at each place of texts round two blocks, and others after it, and a text that lacks it.
 #[test]
 fn first_ends(rt: HostRuntime) {
     for len in 0..150usize {

@@ -7,12 +7,12 @@ use std::test::Fail;
 const THOUSAND: &str =
     "0a0107070010000a00000000000000000000000000000000000000000000000000000000000000000f101112131415161718191a1b1c1d1e1f202122232425262728292a2b2c2d2e2f303132333435363738393a3b3c3d3e3f3e3f3e3f3e3f3e3f3e3f3e3f3e3f0f101112131415161718191a1b1c1d1e1f202122232425262728292a2b2c2d2e2f3031323334353637363738393a3b3c3d3e3f3e3f3e3f3e3f3e3f3e3f3e3f0d0e\n";
 
-/// The lines of a thousand sketches of one coupon each, with some lines behind each.
-fn thousand(rt: &HostRuntime, behind: &str) -> Result<String, Fail> {
+/// The lines of a thousand sketches of one coupon each, with some lines after each.
+fn thousand(rt: &HostRuntime, after: &str) -> Result<String, Fail> {
     let mut text = String::new(rt.alloc());
     for number in 0..1000u32 {
         let value = (number % 63).saturating_add(1);
-        let sketch = format!(in rt.alloc(); "new 7 8\ncoupon {number} {value}\n{behind}")?;
+        let sketch = format!(in rt.alloc(); "new 7 8\ncoupon {number} {value}\n{after}")?;
         text.push_str(&sketch)?;
     }
     Ok(text)

@@ -7,7 +7,7 @@ use Rattle.std.proofs.Math.Pow.{pow_mono}
 use Rattle.std.proofs.lemmas.Bool.{cases_lt}
 use Rattle.std.proofs.lemmas.Nat.{leading_top, pow-add, pow_pos}
 use Rattle.hll_kernels.proofs.Grouping.{three}
-use Rattle.hll_registers.specs.EstimatorWords.{IsNormal, IsBinary64, OneEstimatorState}
+use Rattle.hll_registers.specs.EstimatorFields.{IsNormal, IsBinary64, OneEstimatorState}
 
 -- a number below 2^53, shifted so that its highest bit is bit 52
 pub record IsShifted (n z : ℕ) : Type 0 where

@@ -9,10 +9,10 @@ use Rattle.std.specs.FinSet.{contains, contains-from_list}
 use Rattle.std.proofs.lemmas.Bool.{cases_Bool, cases_lt, eqb-true, eq-eqb, leb-true, le-leb, or_cases, or_left, or_right, cond-true, cond-false, true≢false}
 use Rattle.std.proofs.Math.Nat.{mod-eq_of_lt, zero-add}
 use Rattle.hll_coupons.specs.Pair.{pair, slot_of, value_of, set_of}
-use Rattle.hll_coupons.specs.Fold.{words_from}
-use Rattle.hll_coupons.proofs.Greatest.{same_word}
+use Rattle.hll_coupons.specs.Fold.{raw_coupons_from}
+use Rattle.hll_coupons.proofs.Greatest.{same_raw_coupon}
 use Rattle.hll_coupons.proofs.Listed.{has, finds, finds_none}
-use Rattle.hll_coupons.proofs.Registers.{StandsFor, in_words, words_have, slot_of-pair, value_of-pair, slot_small}
+use Rattle.hll_coupons.proofs.Registers.{StandsFor, in_raw_coupons, raw_coupons_have, slot_of-pair, value_of-pair, slot_small}
 use Rattle.hll_kernels.specs.Packed.{nibble}
 use Rattle.hll_registers.specs.Exceptions.{exceptions_above}
 use Rattle.hll_coupons.specs.AuxMap.{entry_at}
@@ -23,7 +23,7 @@ pub kept : (p : ℕ → Bool) (q : ℕ) (xs : List ℕ) → has q (filter p xs) 
 kept p q [] h = absurd (true≢false (sym h))
 kept p q (x ∷ xs) h = elim (cases_Bool (p x)) [
   | inl t ↦ elim (or_cases (eq_by_cmp nat_cmp q x) (has q (filter p xs)) (sym (ap (has q) (cond-true (p x) (x ∷ filter p xs) (filter p xs) t)) ∙ h)) [
-    | inl e ↦ (ap p (same_word q x e) ∙ t, or_left (eq_by_cmp nat_cmp q x) (has q xs) e)
+    | inl e ↦ (ap p (same_raw_coupon q x e) ∙ t, or_left (eq_by_cmp nat_cmp q x) (has q xs) e)
     | inr l ↦ let r = kept p q xs l in (r.0, or_right (eq_by_cmp nat_cmp q x) (has q xs) r.1)
   ]
   | inr f ↦ let r = kept p q xs (sym (ap (has q) (cond-false (p x) (x ∷ filter p xs) (filter p xs) f)) ∙ h) in (r.0, or_right (eq_by_cmp nat_cmp q x) (has q xs) r.1)
@@ -32,7 +32,7 @@ kept p q (x ∷ xs) h = elim (cases_Bool (p x)) [
 pub keeps : (p : ℕ → Bool) (q : ℕ) (xs : List ℕ) → p q ≡ true → has q xs ≡ true → has q (filter p xs) ≡ true
 keeps p q [] t h = absurd (true≢false (sym h))
 keeps p q (x ∷ xs) t h = elim (or_cases (eq_by_cmp nat_cmp q x) (has q xs) h) [
-  | inl e ↦ ap (has q) (cond-true (p x) (x ∷ filter p xs) (filter p xs) (ap p (sym (same_word q x e)) ∙ t)) ∙ or_left (eq_by_cmp nat_cmp q x) (has q (filter p xs)) e
+  | inl e ↦ ap (has q) (cond-true (p x) (x ∷ filter p xs) (filter p xs) (ap p (sym (same_raw_coupon q x e)) ∙ t)) ∙ or_left (eq_by_cmp nat_cmp q x) (has q (filter p xs)) e
   | inr l ↦
       let rest : has q (filter p xs) ≡ true = keeps p q xs t l in
       elim (p x) as (λ b. has q (cond b (x ∷ filter p xs) (filter p xs)) ≡ true) [ true ↦ or_right (eq_by_cmp nat_cmp q x) (has q (filter p xs)) rest | false ↦ rest ]
@@ -45,8 +45,8 @@ module _ (k m : ℕ) (R o : List ℕ) (small : k ≤ 21) (len : length R ≡ 2 ^
   -- an entry with this slot is the register's
   entry : (s c : ℕ) → has c o ≡ true → eqb (slot_of c % 2 ^ k) s ≡ true → (value_of c ≡ get_or R s 0) × (m + 15 ≤ get_or R s 0)
   entry s c h at =
-      let parts = kept (λ c. leb (m + 15) (value_of c)) c (words_from 0 R) (sym (same_has c) ∙ h) in
-      let found : (i : ℕ) × StandsFor R 0 c i = in_words R 0 c parts.1 in
+      let parts = kept (λ c. leb (m + 15) (value_of c)) c (raw_coupons_from 0 R) (sym (same_has c) ∙ h) in
+      let found : (i : ℕ) × StandsFor R 0 c i = in_raw_coupons R 0 c parts.1 in
       let i : ℕ = found.0 in
       let within : i < 2 ^ k = omega (arith, found.1.within) in
       let is : c ≡ pair i (get_or R i 0) = found.1.is ∙ ap (λ t. pair t (get_or R i 0)) (zero-add i) in
@@ -60,8 +60,8 @@ module _ (k m : ℕ) (R o : List ℕ) (small : k ≤ 21) (len : length R ≡ 2 ^
   has_entry s h high =
       let v : ℕ = get_or R s 0 in
       let value : value_of (pair s v) ≡ v = value_of-pair s v (slot_small k s small h) in (
-        same_has (pair s v) ∙ keeps (λ c. leb (m + 15) (value_of c)) (pair s v) (words_from 0 R) (le-leb (m + 15) (value_of (pair s v)) (omega arith))
-            (words_have R 0 (pair s v) s (record { within = omega arith; positive = omega arith; is = ap (λ n. pair n v) (sym (zero-add s)) })),
+        same_has (pair s v) ∙ keeps (λ c. leb (m + 15) (value_of c)) (pair s v) (raw_coupons_from 0 R) (le-leb (m + 15) (value_of (pair s v)) (omega arith))
+            (raw_coupons_have R 0 (pair s v) s (record { within = omega arith; positive = omega arith; is = ap (λ n. pair n v) (sym (zero-add s)) })),
         eq-eqb (slot_of (pair s v) % 2 ^ k) s (ap (λ n. n % 2 ^ k) (slot_of-pair s v (slot_small k s small h)) ∙ mod-eq_of_lt h),
       )
 

@@ -79,8 +79,8 @@ module _ (R : List ℕ) (e i : ℕ) (small : length R ≤ 2 ^ 22) (enough : (i +
               let folds : j % 2 ^ e ≡ s = ap (λ t. t % 2 ^ e) (sym is.1) ∙ at.0 in
               let back : j ≡ i * 2 ^ e + (j - start) = omega (arith, later) in
               let rest : (i * 2 ^ e + (j - start)) % 2 ^ e ≡ j - start = mod-mul-add i (2 ^ e) (j - start) (omega (arith, later, is.0, grows)) in
-              let place : j - start ≡ s = sym rest ∙ ap (λ t. t % 2 ^ e) (sym back) ∙ folds in
-              let there : get_or R j 0 ≡ get_or block s 0 = ap (λ t. get_or R t 0) (let t : j ≡ start + s = omega (arith, later, place) in t) ∙ sym (at_block s h) in
+              let index : j - start ≡ s = sym rest ∙ ap (λ t. t % 2 ^ e) (sym back) ∙ folds in
+              let there : get_or R j 0 ≡ get_or block s 0 = ap (λ t. get_or R t 0) (let t : j ≡ start + s = omega (arith, later, index) in t) ∙ sym (at_block s h) in
               omega (arith, at.1, is.2, there)
         ]
       ])

@@ -216,7 +216,7 @@ pub slot_within : (k : ℕ) (e : Option ExceptionMap) → IsMapFor k e → (s w 
 slot_within k None u s w is = cc
 slot_within k (Some t) (map, lg, some) s w is =
     let entry : IsEntry t s w = entry_of_value t map s w is in
-    subst (λ n. s < 2 ^ n) lg (subst (λ i. i < 2 ^ t.lg_k) entry.slot (slot_below t map entry.word entry.there))
+    subst (λ n. s < 2 ^ n) lg (subst (λ i. i < 2 ^ t.lg_k) entry.slot (slot_below t map entry.raw_coupon entry.there))
 
 -- ---- a nibble and an exception above a greater minimum
 
@@ -374,7 +374,7 @@ abbrev pub seen : ℕ → ℕ → List ℕ → Option ExceptionMap → NibbleReg
 seen k m bytes e = record { lg_k = k; registers = unpacked k m bytes e; exceptions = e }
 
 -- a greater register at a slot, as asked of what contracts see
-pub record IsRaise (x : NibbleRegisters) (slot v : ℕ) : Type 0 where
+pub record IsGreaterAt (x : NibbleRegisters) (slot v : ℕ) : Type 0 where
   pub within : slot < 2 ^ x.lg_k
   pub more : get_or x.registers slot 0 < v
   pub most : v ≤ 63
@@ -385,12 +385,12 @@ pub record IsLeft (x : NibbleRegisters) (slot v left : ℕ) : Type 0 where
   pub some : 0 < left
 
 module _ (k m n : ℕ) (bytes : List ℕ) (e : Option ExceptionMap) (small : k ≤ 21) (p : IsPacked k m n bytes e (unpacked k m bytes e)) (x : NibbleRegisters) (same : seen k m bytes e ≡ x)
-    (slot v : ℕ) (ask : IsRaise x slot v) where
+    (slot v : ℕ) (ask : IsGreaterAt x slot v) where
   abbrev R : List ℕ
   R = unpacked k m bytes e
 
-  here : IsRaise (seen k m bytes e) slot v
-  here = subst (λ x. IsRaise x slot v) (sym same) ask
+  here : IsGreaterAt (seen k m bytes e) slot v
+  here = subst (λ x. IsGreaterAt x slot v) (sym same) ask
 
   least : m ≡ minimum R
   least = (packed_is_of_registers k m n bytes e R small p).minimum_is
@@ -473,12 +473,12 @@ pub record IsRise (x : NibbleRegisters) (slot v to : ℕ) : Type 0 where
   pub least : to ≡ minimum (set x.registers slot v)
 
 module _ (k m n : ℕ) (bytes : List ℕ) (e : Option ExceptionMap) (small : k ≤ 21) (p : IsPacked k m n bytes e (unpacked k m bytes e)) (x : NibbleRegisters) (same : seen k m bytes e ≡ x)
-    (slot v to : ℕ) (ask : IsRaise x slot v) (rise : IsRise x slot v to) where
+    (slot v to : ℕ) (ask : IsGreaterAt x slot v) (rise : IsRise x slot v to) where
   abbrev S : List ℕ
   S = unpacked k m bytes e
 
-  asked : IsRaise (seen k m bytes e) slot v
-  asked = subst (λ x. IsRaise x slot v) (sym same) ask
+  asked : IsGreaterAt (seen k m bytes e) slot v
+  asked = subst (λ x. IsGreaterAt x slot v) (sym same) ask
 
   now : IsRise (seen k m bytes e) slot v to
   now = subst (λ x. IsRise x slot v to) (sym same) rise
@@ -492,8 +492,8 @@ module _ (k m n : ℕ) (bytes : List ℕ) (e : Option ExceptionMap) (small : k �
   pub rise_value : to ≤ v
   rise_value = to_value k m n bytes e S p slot v to asked.within asked.more asked.most seated now.least
 
-  pub rise_high : (lent : List ℕ) → lent ≡ bytes → (q : ℕ) → q < 2 * length lent → q ≢ slot → (nibble_at lent q ≡ 15) ⊎ (to - m ≤ nibble_at lent q)
-  rise_high lent is q l other =
+  pub rise_high : (borrowed : List ℕ) → borrowed ≡ bytes → (q : ℕ) → q < 2 * length borrowed → q ≢ slot → (nibble_at borrowed q ≡ 15) ⊎ (to - m ≤ nibble_at borrowed q)
+  rise_high borrowed is q l other =
       subst (λ bs. (nibble_at bs q ≡ 15) ⊎ (to - m ≤ nibble_at bs q)) (sym is)
       (high k m n bytes e S p slot v to asked.within asked.more asked.most seated now.least q (omega (arith, l, ap length is)) other)
 
@@ -510,8 +510,8 @@ module _ (k m n : ℕ) (bytes : List ℕ) (e : Option ExceptionMap) (small : k �
       (risen_moves k m n bytes e S p slot v to asked.within asked.more asked.most seated now.least some stays)
 
   -- with the exceptions above it
-  module _ (count : ℕ) (lent new : List ℕ) (is : lent ≡ bytes) (len : length new ≡ length lent) (fits : All (λ b. b < 256) new)
-      (put : (q : ℕ) → q < 2 * length lent → nibble_at new q ≡ cond (eqb q slot) (nibble to v) (fallen to (exception_in e q) (lowered_by (to - m) (nibble_at lent q)))) (zeros : count ≡ zero_nibbles new) where
+  module _ (count : ℕ) (borrowed new : List ℕ) (is : borrowed ≡ bytes) (len : length new ≡ length borrowed) (fits : All (λ b. b < 256) new)
+      (put : (q : ℕ) → q < 2 * length borrowed → nibble_at new q ≡ cond (eqb q slot) (nibble to v) (fallen to (exception_in e q) (lowered_by (to - m) (nibble_at borrowed q)))) (zeros : count ≡ zero_nibbles new) where
     nibbles : (q : ℕ) → q < 2 ^ k → nibble_at new q ≡ nibble to (get_or (set S slot v) q 0)
     nibbles = risen_nibbles k m n bytes e S p slot v to asked.within asked.more asked.most seated now.least new
         (subst (λ bs. (q : ℕ) → q < 2 * length bs → nibble_at new q ≡ cond (eqb q slot) (nibble to v) (fallen to (exception_in e q) (lowered_by (to - m) (nibble_at bs q)))) is put)

@@ -74,47 +74,47 @@ agrees-packed m r low small = elim (cases_lt r (m + 15)) [
 -- the nibbles of a part of bytes
 pub nibble_at-drop : (bytes : List ℕ) (n s : ℕ) → 2 * n ≤ s → nibble_at (drop n bytes) (s - 2 * n) ≡ nibble_at bytes s
 nibble_at-drop bytes n s from =
-    let place : n + (s - 2 * n) / 2 ≡ s / 2 = omega (arith, from) in
+    let index : n + (s - 2 * n) / 2 ≡ s / 2 = omega (arith, from) in
     let odd : (s - 2 * n) % 2 ≡ s % 2 = omega (arith, from) in
-    (λ i. (get_or-drop n bytes ((s - 2 * n) / 2) 0 ∙ ap (λ j. get_or bytes j 0) place) i / 16 ^ odd i % 16)
+    (λ i. (get_or-drop n bytes ((s - 2 * n) / 2) 0 ∙ ap (λ j. get_or bytes j 0) index) i / 16 ^ odd i % 16)
 
 pub nibble_at-take : (bytes : List ℕ) (n s : ℕ) → s < 2 * n → nibble_at (take n bytes) s ≡ nibble_at bytes s
 nibble_at-take bytes n s l = ap (λ b. b / 16 ^ (s % 2) % 16) (get_or-take n bytes (s / 2) 0 (omega (arith, l)))
 
 -- those of a block
-pub nibble_at-block : (bytes block : List ℕ) (place s : ℕ) → block ≡ take 32 (drop (place * 32) bytes) → 64 * place ≤ s → s < 64 * place + 64 → nibble_at block (s - 64 * place) ≡ nibble_at bytes s
-nibble_at-block bytes block place s is from to =
-    let same : s - 64 * place ≡ s - 2 * (place * 32) = omega arith in
-    ap (λ bs. nibble_at bs (s - 64 * place)) is ∙ nibble_at-take (drop (place * 32) bytes) 32 (s - 64 * place) (omega (arith, from, to))
-    ∙ ap (nibble_at (drop (place * 32) bytes)) same ∙ nibble_at-drop bytes (place * 32) s (omega (arith, from))
+pub nibble_at-block : (bytes block : List ℕ) (index s : ℕ) → block ≡ take 32 (drop (index * 32) bytes) → 64 * index ≤ s → s < 64 * index + 64 → nibble_at block (s - 64 * index) ≡ nibble_at bytes s
+nibble_at-block bytes block index s is from to =
+    let same : s - 64 * index ≡ s - 2 * (index * 32) = omega arith in
+    ap (λ bs. nibble_at bs (s - 64 * index)) is ∙ nibble_at-take (drop (index * 32) bytes) 32 (s - 64 * index) (omega (arith, from, to))
+    ∙ ap (nibble_at (drop (index * 32) bytes)) same ∙ nibble_at-drop bytes (index * 32) s (omega (arith, from))
 
 pub both_true : (a b : Bool) → (a && b) ≡ true → (a ≡ true) × (b ≡ true)
 both_true true b h = (refl, h)
 both_true false b h = absurd (true≢false (sym h))
 
 -- no register of a block is an exception
-pub no_exception_in_block : (m : ℕ) (R block : List ℕ) (place : ℕ) → block ≡ take 64 (drop (place * 64) R) → (place + 1) * 64 ≤ length R →
-    list_all (λ v. nat_lt v (m + 15)) block ≡ true → (s : ℕ) → 64 * place ≤ s → s < 64 * (place + 1) → exception_of m (get_or R s 0) ≡ None
-no_exception_in_block m R block place is room all s from to =
-    let i : ℕ = s - place * 64 in
+pub no_exception_in_block : (m : ℕ) (R block : List ℕ) (index : ℕ) → block ≡ take 64 (drop (index * 64) R) → (index + 1) * 64 ≤ length R →
+    list_all (λ v. nat_lt v (m + 15)) block ≡ true → (s : ℕ) → 64 * index ≤ s → s < 64 * (index + 1) → exception_of m (get_or R s 0) ≡ None
+no_exception_in_block m R block index is room all s from to =
+    let i : ℕ = s - index * 64 in
     let within : i < 64 = omega (arith, from, to) in
-    let long : length block ≡ 64 = omega (arith, ap length is, length-take 64 (drop (place * 64) R), length-drop (place * 64) R, room) in
+    let long : length block ≡ 64 = omega (arith, ap length is, length-take 64 (drop (index * 64) R), length-drop (index * 64) R, room) in
     let register : get_or block i 0 ≡ get_or R s 0 =
-    ap (λ ys. get_or ys i 0) is ∙ get_or-take 64 (drop (place * 64) R) i 0 within ∙ get_or-drop (place * 64) R i 0
-    ∙ ap (λ n. get_or R n 0) (let e : place * 64 + i ≡ s = omega (arith, from) in e) in
+    ap (λ ys. get_or ys i 0) is ∙ get_or-take 64 (drop (index * 64) R) i 0 within ∙ get_or-drop (index * 64) R i 0
+    ∙ ap (λ n. get_or R n 0) (let e : index * 64 + i ≡ s = omega (arith, from) in e) in
     let below : get_or block i 0 < m + 15 = ltb-true (get_or block i 0) (m + 15) (AllPass-from_list_all (λ v. nat_lt v (m + 15)) block all i 0 (omega (arith, long, within))) in
     exception_of-low m (get_or R s 0) (omega (arith, below, register))
 
 -- no nibble of a block of bytes is greater
-pub nibbles_at_most : (bytes block : List ℕ) (place g : ℕ) → block ≡ take 32 (drop (place * 32) bytes) → (place + 1) * 32 ≤ length bytes →
-    list_all (λ b. nat_le (b % 16) g && nat_le (b / 16) g) block ≡ true → (s : ℕ) → 64 * place ≤ s → s < 64 * (place + 1) → nibble_at bytes s ≤ g
-nibbles_at_most bytes block place g is room all s from to =
-    let i : ℕ = s / 2 - place * 32 in
+pub nibbles_at_most : (bytes block : List ℕ) (index g : ℕ) → block ≡ take 32 (drop (index * 32) bytes) → (index + 1) * 32 ≤ length bytes →
+    list_all (λ b. nat_le (b % 16) g && nat_le (b / 16) g) block ≡ true → (s : ℕ) → 64 * index ≤ s → s < 64 * (index + 1) → nibble_at bytes s ≤ g
+nibbles_at_most bytes block index g is room all s from to =
+    let i : ℕ = s / 2 - index * 32 in
     let within : i < 32 = omega (arith, from, to) in
-    let long : length block ≡ 32 = omega (arith, ap length is, length-take 32 (drop (place * 32) bytes), length-drop (place * 32) bytes, room) in
+    let long : length block ≡ 32 = omega (arith, ap length is, length-take 32 (drop (index * 32) bytes), length-drop (index * 32) bytes, room) in
     let byte : get_or block i 0 ≡ get_or bytes (s / 2) 0 =
-    ap (λ ys. get_or ys i 0) is ∙ get_or-take 32 (drop (place * 32) bytes) i 0 within ∙ get_or-drop (place * 32) bytes i 0
-    ∙ ap (λ n. get_or bytes n 0) (let e : place * 32 + i ≡ s / 2 = omega (arith, from) in e) in
+    ap (λ ys. get_or ys i 0) is ∙ get_or-take 32 (drop (index * 32) bytes) i 0 within ∙ get_or-drop (index * 32) bytes i 0
+    ∙ ap (λ n. get_or bytes n 0) (let e : index * 32 + i ≡ s / 2 = omega (arith, from) in e) in
     let parts = both_true _ _ (AllPass-from_list_all (λ b. nat_le (b % 16) g && nat_le (b / 16) g) block all i 0 (omega (arith, long, within))) in
     let low : get_or bytes (s / 2) 0 % 16 ≤ g = omega (arith, leb-true (get_or block i 0 % 16) g parts.0, ap (λ b. b % 16) byte) in
     let high : get_or bytes (s / 2) 0 / 16 ≤ g = omega (arith, leb-true (get_or block i 0 / 16) g parts.1, ap (λ b. b / 16) byte) in
@@ -183,12 +183,12 @@ module _ {k m : ℕ} {bytes : List ℕ} {e : Option ExceptionMap} (parts : Agree
       let first : 2 * i % 2 ≡ 0 = omega arith in
       let second : (2 * i + 1) % 2 ≡ 1 = omega arith in
       let there : 2 * i < 2 ^ k = omega (arith, l, parts.size) in
-      let behind : 2 * i + 1 < 2 ^ k = omega (arith, l, parts.size) in
+      let after : 2 * i + 1 < 2 ^ k = omega (arith, l, parts.size) in
       let b : ℕ = get_or bytes i 0 in
       let lower : nibble_at bytes (2 * i) ≡ b % 16 = (λ j. get_or bytes (even j) 0 / 16 ^ first j % 16) ∙ (let e : b / 1 % 16 ≡ b % 16 = omega arith in e) in
       let upper : nibble_at bytes (2 * i + 1) ≡ b / 16 % 16 = λ j. get_or bytes (odd j) 0 / 16 ^ second j % 16 in
       let low_none : b % 16 ≡ 0 = omega (arith, lower, (at (2 * i) there).nibble_is, none_at (2 * i) there all) in
-      let high_none : b / 16 % 16 ≡ 0 = omega (arith, upper, (at (2 * i + 1) behind).nibble_is, none_at (2 * i + 1) behind all) in
+      let high_none : b / 16 % 16 ≡ 0 = omega (arith, upper, (at (2 * i + 1) after).nibble_is, none_at (2 * i + 1) after all) in
       eq-eqb (get_or bytes i d) 0 (omega (arith, get_or_default bytes i d 0 l, low_none, high_none, parts.fits i 0 l)))
 
 -- packed registers agree

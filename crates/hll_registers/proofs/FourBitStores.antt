@@ -15,12 +15,12 @@ use Rattle.std.proofs.Math.Nat.{pow-suc}
 use Rattle.hll_coupons.specs.AuxMap.{table_bytes, ExceptionMap}
 use Rattle.hll_coupons.specs.Coupons.{coupon_bytes, mode_byte, WritesAscending}
 use Rattle.hll_base.specs.Join.{join}
-use Rattle.hll_coupons.specs.Fold.{words_from}
+use Rattle.hll_coupons.specs.Fold.{raw_coupons_from}
 use Rattle.hll_coupons.specs.Pair.{pair, set_of, slot_of}
 use Rattle.hll_base.specs.declared.hll_type.HllType.TheVariants.{Hll4}
 use Rattle.hll_coupons.proofs.Ascending.{len-ascending}
 use Rattle.hll_coupons.proofs.Listed.{has, contains-has}
-use Rattle.hll_coupons.proofs.Registers.{StandsFor, in_words, slot_of-pair}
+use Rattle.hll_coupons.proofs.Registers.{StandsFor, in_raw_coupons, slot_of-pair}
 use Rattle.hll_registers.specs.FourBits.{exception_in, exception_of, exceptions_in, unpacked, IsMapFor, IsPacked, IsOfRegisters}
 use Rattle.hll_registers.specs.Exceptions.{exceptions}
 use Rattle.hll_kernels.specs.Packed.{minimum, count_at_minimum, nibble, nibble_at, nibble_bytes, nibble_bytes_above, zero_nibbles}
@@ -57,22 +57,22 @@ one_more p c W other rest = elim (p c) as (λ b. len (set_of (cond b (c ∷ filt
     ]
 
 -- a word of registers is none of those that follow
-not_later : (s r : ℕ) (R : List ℕ) → s + length R < 2 ^ 26 → has (pair s r) (words_from (s + 1) R) ≡ true → ⊥
+not_later : (s r : ℕ) (R : List ℕ) → s + length R < 2 ^ 26 → has (pair s r) (raw_coupons_from (s + 1) R) ≡ true → ⊥
 not_later s r R h there =
-    let found : (i : ℕ) × StandsFor R (s + 1) (pair s r) i = in_words R (s + 1) (pair s r) there in
+    let found : (i : ℕ) × StandsFor R (s + 1) (pair s r) i = in_raw_coupons R (s + 1) (pair s r) there in
     let i : ℕ = found.0 in
     let within : i < length R = found.1.within in
     let slots : s ≡ s + 1 + i = sym (slot_of-pair s r (omega (arith, h))) ∙ ap slot_of found.1.is ∙ slot_of-pair (s + 1 + i) (get_or R i 0) (omega (arith, h, within)) in
     omega (arith, slots)
 
 -- so no word stands twice
-once : (p : ℕ → Bool) (s : ℕ) (R : List ℕ) → s + length R ≤ 2 ^ 26 → len (set_of (filter p (words_from s R))) ≡ length (filter p (words_from s R))
+once : (p : ℕ → Bool) (s : ℕ) (R : List ℕ) → s + length R ≤ 2 ^ 26 → len (set_of (filter p (raw_coupons_from s R))) ≡ length (filter p (raw_coupons_from s R))
 once p s [] h = len-empty nat_cmp
 once p s (r ∷ R) h =
-    let rest : len (set_of (filter p (words_from (s + 1) R))) ≡ length (filter p (words_from (s + 1) R)) = once p (s + 1) R (omega (arith, h)) in
-    elim (eqb r 0) as (λ b. len (set_of (filter p (cond b (words_from (s + 1) R) (pair s r ∷ words_from (s + 1) R)))) ≡ length (filter p (cond b (words_from (s + 1) R) (pair s r ∷ words_from (s + 1) R)))) [
+    let rest : len (set_of (filter p (raw_coupons_from (s + 1) R))) ≡ length (filter p (raw_coupons_from (s + 1) R)) = once p (s + 1) R (omega (arith, h)) in
+    elim (eqb r 0) as (λ b. len (set_of (filter p (cond b (raw_coupons_from (s + 1) R) (pair s r ∷ raw_coupons_from (s + 1) R)))) ≡ length (filter p (cond b (raw_coupons_from (s + 1) R) (pair s r ∷ raw_coupons_from (s + 1) R)))) [
       | true ↦ rest
-      | false ↦ one_more p (pair s r) (words_from (s + 1) R) (not_later s r R (omega (arith, h))) rest
+      | false ↦ one_more p (pair s r) (raw_coupons_from (s + 1) R) (not_later s r R (omega (arith, h))) rest
     ]
 
 pub len-exceptions : (k : ℕ) (R : List ℕ) → k ≤ 21 → length R ≡ 2 ^ k → len (set_of (exceptions R)) ≡ length (exceptions R)
@@ -222,12 +222,12 @@ module _ {k m : ℕ} {bytes : List ℕ} {e : Option ExceptionMap} (p : AgreeAbov
   -- and then to their exceptions, they are the join with the registers
   pub joined : (X : List ℕ) → length X ≡ length V → ((s : ℕ) → s < length V → get_or X s 0 ≡ max (max (get_or V s 0) (m + nibble_at block s)) (unwrap_or (exception_in e (first + s)) 0)) → X ≡ join V (take (length V) (drop first R))
   joined X size raised =
-      let behind : List ℕ = drop first R in
-      let many : length V ≤ length behind = omega (arith, length-drop first R, within, (legal p).size) in
-      is_join V (take (length V) behind) X (sym (length-take-le (length V) behind many)) size (λ s h.
+      let after : List ℕ = drop first R in
+      let many : length V ≤ length after = omega (arith, length-drop first R, within, (legal p).size) in
+      is_join V (take (length V) after) X (sym (length-take-le (length V) after many)) size (λ s h.
       let l : s < length V = omega (arith, h, size) in
       let r : ℕ = get_or R (first + s) 0 in
-      let there : get_or (take (length V) behind) s 0 ≡ r = get_or-take (length V) behind s 0 l ∙ get_or-drop first R s 0 in
+      let there : get_or (take (length V) after) s 0 ≡ r = get_or-take (length V) after s 0 l ∙ get_or-drop first R s 0 in
       let slot : first + s < 2 ^ k = omega (arith, l, within) in
       let low : m ≤ r = (at p (first + s) slot).least in
       let entry : exception_in e (first + s) ≡ exception_of m r = (at p (first + s) slot).exception_is in

@@ -13,16 +13,16 @@ use Rattle.std.proofs.lemmas.Nat.{pow_pos}
 use Rattle.std.proofs.lemmas.List.FromFn.{length-map-range_with_len, get_or-map-range_with_len}
 use Rattle.std.proofs.Math.Nat.{zero-add, zero-div, pow-suc}
 use Rattle.hll_coupons.specs.AuxMap.{ExceptionMap, IsMap, empty_map, entries_in, entry_at, start_size, value_in}
-use Rattle.hll_coupons.specs.Fold.{words_from}
+use Rattle.hll_coupons.specs.Fold.{raw_coupons_from}
 use Rattle.hll_coupons.specs.Pair.{pair, set_of, slot_of, value_of}
 use Rattle.hll_coupons.specs.Table.{coupons_in}
 use Rattle.hll_coupons.proofs.Listed.{has, contains-has}
 use Rattle.hll_coupons.proofs.MapChanges.{IsEntry, entry_of_value}
 use Rattle.hll_coupons.proofs.Maps.{slot_below, value_found}
 use Rattle.hll_coupons.proofs.Pairs.{IsEntryOf, of_value}
-use Rattle.hll_coupons.proofs.Places.{coupons_in-replicate}
+use Rattle.hll_coupons.proofs.Buckets.{coupons_in-replicate}
 use Rattle.hll_coupons.proofs.Putting.{last_of_all}
-use Rattle.hll_coupons.proofs.Registers.{StandsFor, in_words, words_have, slot_of-pair, value_of-pair, slot_small}
+use Rattle.hll_coupons.proofs.Registers.{StandsFor, in_raw_coupons, raw_coupons_have, slot_of-pair, value_of-pair, slot_small}
 use Rattle.hll_registers.specs.FourBits.{exception_of, exception_in, exceptions_in, kept_above, fallen, unpacked, IsMapFor, IsPacked, PackedIsOfRegisters}
 use Rattle.hll_kernels.specs.Packed.{nibble, nibble_at, nibble_bytes_above, minimum}
 use Rattle.hll_registers.specs.Exceptions.{exceptions_above}
@@ -107,7 +107,7 @@ register_of-packed m r low = elim (cases_lt r (m + 15)) [
 module _ (k m : ℕ) (R : List ℕ) (t : ExceptionMap) (small : k ≤ 21) (size : length R ≡ 2 ^ k) (is : IsMap t) (same : t.lg_k ≡ k)
     (at : (s : ℕ) → s < 2 ^ k → value_in t s ≡ exception_of m (get_or R s 0)) where
   -- an entry is an exception
-  entry_in : (c : ℕ) → has c (coupons_in t.table.places) ≡ true → has c (exceptions_above m R) ≡ true
+  entry_in : (c : ℕ) → has c (coupons_in t.table.buckets) ≡ true → has c (exceptions_above m R) ≡ true
   entry_in c h =
       let s : ℕ = slot_of c in
       let below : s < 2 ^ k = subst (λ n. s < 2 ^ n) same (slot_below t is c h) in
@@ -120,15 +120,15 @@ module _ (k m : ℕ) (R : List ℕ) (t : ExceptionMap) (small : k ≤ 21) (size 
             let v : value_of c ≡ r = cc in
             let word : c ≡ pair s r = omega (arith, v) in
             let some : 0 < r = omega (arith, high) in
-            keeps (λ c. leb (m + 15) (value_of c)) c (words_from 0 R) (le-leb (m + 15) (value_of c) (omega (arith, v, high)))
-            (words_have R 0 c s (record { within = omega (arith, below, size); positive = some; is = word ∙ ap (λ n. pair n r) (sym (zero-add s)) }))
+            keeps (λ c. leb (m + 15) (value_of c)) c (raw_coupons_from 0 R) (le-leb (m + 15) (value_of c) (omega (arith, v, high)))
+            (raw_coupons_have R 0 c s (record { within = omega (arith, below, size); positive = some; is = word ∙ ap (λ n. pair n r) (sym (zero-add s)) }))
       ]
 
   -- and an exception an entry
-  exception_is : (c : ℕ) → has c (exceptions_above m R) ≡ true → has c (coupons_in t.table.places) ≡ true
+  exception_is : (c : ℕ) → has c (exceptions_above m R) ≡ true → has c (coupons_in t.table.buckets) ≡ true
   exception_is c h =
-      let parts = kept (λ c. leb (m + 15) (value_of c)) c (words_from 0 R) h in
-      let found : (i : ℕ) × StandsFor R 0 c i = in_words R 0 c parts.1 in
+      let parts = kept (λ c. leb (m + 15) (value_of c)) c (raw_coupons_from 0 R) h in
+      let found : (i : ℕ) × StandsFor R 0 c i = in_raw_coupons R 0 c parts.1 in
       let i : ℕ = found.0 in
       let within : i < 2 ^ k = omega (arith, found.1.within, size) in
       let r : ℕ = get_or R i 0 in
@@ -137,13 +137,13 @@ module _ (k m : ℕ) (R : List ℕ) (t : ExceptionMap) (small : k ≤ 21) (size 
       let value : value_of c ≡ r = ap value_of is_word ∙ value_of-pair i r (slot_small k i small within) in
       let high : m + 15 ≤ r = omega (arith, leb-true (m + 15) (value_of c) parts.0, value) in
       let entry : IsEntry t i r = entry_of_value t is i r (at i within ∙ exception_of-high m r high) in
-      let word : entry.word ≡ c = omega (arith, entry.slot, entry.value, slot, value) in
-      ap (λ w. has w (coupons_in t.table.places)) (sym word) ∙ entry.there
+      let word : entry.raw_coupon ≡ c = omega (arith, entry.slot, entry.value, slot, value) in
+      ap (λ w. has w (coupons_in t.table.buckets)) (sym word) ∙ entry.there
 
-  pub entries_are : set_of (coupons_in t.table.places) ≡ set_of (exceptions_above m R)
+  pub entries_are : set_of (coupons_in t.table.buckets) ≡ set_of (exceptions_above m R)
   entries_are = same_set nat_cmp_total nat_cmp-IsAntisymmetric _ _ (λ c. both_ways _ _
-      (λ h. contains-has (exceptions_above m R) c ∙ entry_in c (sym (contains-has (coupons_in t.table.places) c) ∙ h))
-      (λ h. contains-has (coupons_in t.table.places) c ∙ exception_is c (sym (contains-has (exceptions_above m R) c) ∙ h)))
+      (λ h. contains-has (exceptions_above m R) c ∙ entry_in c (sym (contains-has (coupons_in t.table.buckets) c) ∙ h))
+      (λ h. contains-has (coupons_in t.table.buckets) c ∙ exception_is c (sym (contains-has (exceptions_above m R) c) ∙ h)))
 
 -- no slot has an exception
 no_exceptions : (k m : ℕ) (R : List ℕ) → k ≤ 21 → length R ≡ 2 ^ k → ((s : ℕ) → s < 2 ^ k → None ≡ exception_of m (get_or R s 0)) → set_of [] ≡ set_of (exceptions_above m R)
@@ -153,8 +153,8 @@ no_exceptions k m R small size at = same_set nat_cmp_total nat_cmp-IsAntisymmetr
   where
     none : (c : ℕ) → has c (exceptions_above m R) ≡ true → ⊥
     none c h =
-        let parts = kept (λ c. leb (m + 15) (value_of c)) c (words_from 0 R) h in
-        let found : (i : ℕ) × StandsFor R 0 c i = in_words R 0 c parts.1 in
+        let parts = kept (λ c. leb (m + 15) (value_of c)) c (raw_coupons_from 0 R) h in
+        let found : (i : ℕ) × StandsFor R 0 c i = in_raw_coupons R 0 c parts.1 in
         let i : ℕ = found.0 in
         let within : i < 2 ^ k = omega (arith, found.1.within, size) in
         let r : ℕ = get_or R i 0 in

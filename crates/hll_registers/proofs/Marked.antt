@@ -12,7 +12,7 @@ use Rattle.std.proofs.lemmas.List.Sums.{AllPass-from_list_all, list_all-from_All
 use Rattle.hll_coupons.specs.AuxMap.{ExceptionMap}
 use Rattle.hll_coupons.specs.Pair.{set_of, slot_of, value_of}
 use Rattle.hll_coupons.specs.Table.{coupons_in}
-use Rattle.hll_coupons.proofs.Greatest.{same_word}
+use Rattle.hll_coupons.proofs.Greatest.{same_raw_coupon}
 use Rattle.hll_coupons.proofs.Listed.{has, contains-has, has-head, has-map, has-tail, has-from_map, From}
 use Rattle.hll_coupons.proofs.MapChanges.{IsEntry, entry_of_value}
 use Rattle.hll_coupons.proofs.Maps.{distinct_slots, value_found}
@@ -37,7 +37,7 @@ marked s [] = []
 marked s (b ∷ bs) = put (b % 16 == 15) s (put (b / 16 == 15) (s + 1) (marked (s + 2) bs))
 
 from_put : (t : Bool) (s q : ℕ) (xs : List ℕ) → has q (put t s xs) ≡ true → ((t ≡ true) × (q ≡ s)) ⊎ (has q xs ≡ true)
-from_put true s q xs h = elim (or_cases (eq_by_cmp nat_cmp q s) (has q xs) h) [ inl e ↦ inl (refl, same_word q s e) | inr l ↦ inr l ]
+from_put true s q xs h = elim (or_cases (eq_by_cmp nat_cmp q s) (has q xs) h) [ inl e ↦ inl (refl, same_raw_coupon q s e) | inr l ↦ inr l ]
 from_put false s q xs h = inr h
 
 put_here : (t : Bool) (s : ℕ) (xs : List ℕ) → t ≡ true → has s (put t s xs) ≡ true
@@ -73,7 +73,7 @@ len-marked s (b ∷ bs) =
     let second : List ℕ = put (b / 16 == 15) (s + 1) rest in
     let high : len (set_of second) ≡ cond (b / 16 == 15) 1 0 + len (set_of rest) = len-put (b / 16 == 15) (s + 1) rest (λ h. omega (arith, not_below (s + 2) (s + 1) bs h)) in
     let low : len (set_of (put (b % 16 == 15) s second)) ≡ cond (b % 16 == 15) 1 0 + len (set_of second) = len-put (b % 16 == 15) s second (λ h.
-    elim (from_put (b / 16 == 15) (s + 1) s rest h) [ inl at ↦ omega (arith, at.1) | inr behind ↦ omega (arith, not_below (s + 2) s bs behind) ]) in
+    elim (from_put (b / 16 == 15) (s + 1) s rest h) [ inl at ↦ omega (arith, at.1) | inr after ↦ omega (arith, not_below (s + 2) s bs after) ]) in
     omega (arith, low, high, len-marked (s + 2) bs, sum_by-cons (λ b. cond (b % 16 == 15) 1 0) b bs, sum_by-cons (λ b. cond (b / 16 == 15) 1 0) b bs)
 
 -- each slot of such a nibble is one of them
@@ -90,20 +90,20 @@ has-marked s (suc (suc q)) (b ∷ bs) fits l mark =
     put_there (b % 16 == 15) s (s + suc (suc q)) _ (put_there (b / 16 == 15) (s + 1) (s + suc (suc q)) (marked (s + 2) bs) (ap (λ n. has n (marked (s + 2) bs)) (sym at) ∙ there))
 
 record IsMarked (s q : ℕ) (bs : List ℕ) : Type 0 where
-  place : ℕ
-  is : q ≡ s + place
-  within : place < 2 * length bs
-  mark : nibble_at bs place ≡ 15
+  index : ℕ
+  is : q ≡ s + index
+  within : index < 2 * length bs
+  mark : nibble_at bs index ≡ 15
 
 from_marked : (s q : ℕ) (bs : List ℕ) → All (λ b. b < 256) bs → has q (marked s bs) ≡ true → IsMarked s q bs
 from_marked s q [] fits h = absurd (true≢false (sym h))
 from_marked s q (b ∷ bs) fits h = elim (from_put (b % 16 == 15) s q (put (b / 16 == 15) (s + 1) (marked (s + 2) bs)) h) [
-  | inl low ↦ record { place = 0; is = omega (arith, low.1); within = omega arith; mark = nibble_at-low b bs ∙ eqb-true (b % 16) 15 low.0 }
+  | inl low ↦ record { index = 0; is = omega (arith, low.1); within = omega arith; mark = nibble_at-low b bs ∙ eqb-true (b % 16) 15 low.0 }
   | inr other ↦ elim (from_put (b / 16 == 15) (s + 1) q (marked (s + 2) bs) other) [
-    | inl high ↦ record { place = 1; is = high.1; within = omega arith; mark = nibble_at-high b bs (fits 0 0 (omega arith)) ∙ eqb-true (b / 16) 15 high.0 }
+    | inl high ↦ record { index = 1; is = high.1; within = omega arith; mark = nibble_at-high b bs (fits 0 0 (omega arith)) ∙ eqb-true (b / 16) 15 high.0 }
     | inr rest ↦
         let r : IsMarked (s + 2) q bs = from_marked (s + 2) q bs (All-tail (λ b. b < 256) b bs fits) rest in
-        record { place = suc (suc r.place); is = omega (arith, r.is); within = omega (arith, r.within); mark = nibble_at-tail b bs r.place ∙ r.mark }
+        record { index = suc (suc r.index); is = omega (arith, r.is); within = omega (arith, r.within); mark = nibble_at-tail b bs r.index ∙ r.mark }
   ]
 ]
 
@@ -111,7 +111,7 @@ from_marked s q (b ∷ bs) fits h = elim (from_put (b % 16 == 15) s q (put (b / 
 
 abbrev slots_in : Option ExceptionMap → List ℕ
 slots_in None = []
-slots_in (Some t) = map slot_of (coupons_in t.table.places)
+slots_in (Some t) = map slot_of (coupons_in t.table.buckets)
 
 len-slots : (k : ℕ) (e : Option ExceptionMap) → IsMapFor k e → len (set_of (slots_in e)) ≡ len (exceptions_in e)
 len-slots k None is = refl
@@ -120,14 +120,14 @@ len-slots k (Some t) (legal, lg, some) = distinct_slots t.table legal.table lega
 from_slots : (k : ℕ) (e : Option ExceptionMap) → IsMapFor k e → (q : ℕ) → has q (slots_in e) ≡ true → (v : ℕ) × (exception_in e q ≡ Some v)
 from_slots k None is q h = absurd (true≢false (sym h))
 from_slots k (Some t) (legal, lg, some) q h =
-    let r : From slot_of (coupons_in t.table.places) q = has-from_map slot_of (coupons_in t.table.places) q h in
+    let r : From slot_of (coupons_in t.table.buckets) q = has-from_map slot_of (coupons_in t.table.buckets) q h in
     (value_of r.member, ap (exception_in (Some t)) r.is ∙ value_found t legal r.member r.there)
 
 has-slot : (k : ℕ) (e : Option ExceptionMap) → IsMapFor k e → (q v : ℕ) → exception_in e q ≡ Some v → has q (slots_in e) ≡ true
 has-slot k None is q v at = cc
 has-slot k (Some t) (legal, lg, some) q v at =
     let entry : IsEntry t q v = entry_of_value t legal q v at in
-    ap (λ n. has n (slots_in (Some t))) (sym entry.slot) ∙ has-map slot_of (coupons_in t.table.places) entry.word entry.there
+    ap (λ n. has n (slots_in (Some t))) (sym entry.slot) ∙ has-map slot_of (coupons_in t.table.buckets) entry.raw_coupon entry.there
 
 -- ---- as many nibbles of 15 as exceptions
 
@@ -145,7 +145,7 @@ module _ (k : ℕ) (bytes : List ℕ) (e : Option ExceptionMap) (size : 2 * leng
       let more : len (set_of (s ∷ S)) ≡ len (set_of S) + 1 = len-between [] S s (lacks S s new) in
       let part : len (set_of (s ∷ S)) ≤ len (set_of (marked 0 bytes)) = len-part (s ∷ S) (set_of (marked 0 bytes)) (λ q h.
       contains-has (marked 0 bytes) q ∙ elim (or_cases (eq_by_cmp nat_cmp q s) (has q S) (sym (contains-has (s ∷ S) q) ∙ h)) [
-        | inl here ↦ ap (λ n. has n (marked 0 bytes)) (same_word q s here) ∙ has_at s l mark
+        | inl here ↦ ap (λ n. has n (marked 0 bytes)) (same_raw_coupon q s here) ∙ has_at s l mark
         | inr other ↦ let x = from_slots k e is q other in has_at q (slot_within k e is q x.0 x.1) (each q x.0 x.1)
       ]) in
       omega (arith, more, part, len-marked 0 bytes, len-slots k e is, many)
@@ -157,7 +157,7 @@ module _ (k : ℕ) (bytes : List ℕ) (e : Option ExceptionMap) (size : 2 * leng
       let M : List ℕ = marked 0 bytes in
       let few : len (set_of M) ≤ len (set_of S) = len-part M (set_of S) (λ q h.
       let r : IsMarked 0 q bytes = from_marked 0 q bytes fits (sym (contains-has M q) ∙ h) in
-      let at : r.place ≡ q = omega (arith, r.is) in
+      let at : r.index ≡ q = omega (arith, r.is) in
       contains-has S q ∙ excepted q (exception_in e q) refl (agree q (omega (arith, at, r.within, size))) (ap (nibble_at bytes) (sym at) ∙ r.mark)) in
       let all : len (set_of S) ≤ len (set_of M) = len-part S (set_of M) (λ q h.
       let x = from_slots k e is q (sym (contains-has S q) ∙ h) in

@@ -74,6 +74,6 @@ raised_whole t first old now is h s l = of (value_in t (first + s)) refl
     of None e = let none : unwrap_or (value_in t (first + s)) 0 ≡ 0 = ap (λ o. unwrap_or o 0) e in omega (arith, h.least s, h.most s, none)
     of (Some v) e =
         let some : unwrap_or (value_in t (first + s)) 0 ≡ v = ap (λ o. unwrap_or o 0) e in
-        let place : first + s - first ≡ s = omega arith in
+        let index : first + s - first ≡ s = omega arith in
         let reach : v ≤ get_or now (first + s - first) 0 = of_value t is (IsReached first now) h.reached (first + s) v e (omega arith) (omega (arith, l, h.size)) in
-        omega (arith, h.least s, h.most s, some, reach, ap (λ i. get_or now i 0) place)
+        omega (arith, h.least s, h.most s, some, reach, ap (λ i. get_or now i 0) index)

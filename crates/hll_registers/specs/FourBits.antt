@@ -54,7 +54,7 @@ unpacked k m bytes e = map (λ s. register_of m (nibble_at bytes s) (exception_i
 -- a map for slots below 2^k that has an entry, or none
 abbrev pub IsMapFor : ℕ → Option ExceptionMap → Type 0
 IsMapFor k None = Unit {0}
-IsMapFor k (Some t) = IsMap t × (t.lg_k ≡ k) × (0 < length (coupons_in t.table.places))
+IsMapFor k (Some t) = IsMap t × (t.lg_k ≡ k) × (0 < length (coupons_in t.table.buckets))
 
 -- the minimum is attained, and count, nibbles and exceptions are those of the registers above it
 pub record IsPacked (k m n : ℕ) (bytes : List ℕ) (e : Option ExceptionMap) (R : List ℕ) : Type 0 where
@@ -68,13 +68,13 @@ pub record IsPacked (k m n : ℕ) (bytes : List ℕ) (e : Option ExceptionMap) (
   pub map_for : IsMapFor k e
   pub excepted : (s : ℕ) → s < 2 ^ k → exception_in e s ≡ exception_of m (slice_index R s)
 
--- registers kept as nibbles and exceptions: the registers, and the map with its places
+-- registers kept as nibbles and exceptions: the registers, and the map with its buckets
 pub record NibbleRegisters : Type 0 where
   pub lg_k : ℕ
   pub registers : List ℕ
   pub exceptions : Option ExceptionMap
 
--- what contracts see of registers of four bits: the registers with their state, and the map with its places
+-- what contracts see of registers of four bits: the registers with their state, and the map with its buckets
 pub record FourBits : Type 0 where
   pub stored : Stored
   pub exceptions : Option ExceptionMap

@@ -1,5 +1,5 @@
 -- SPDX-License-Identifier: Apache-2.0
-pub mod EstimatorWords
+pub mod EstimatorFields
 pub mod Exceptions
 pub mod FourBits
 pub mod Payload

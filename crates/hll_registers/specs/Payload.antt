@@ -20,7 +20,7 @@ use Rattle.hll_registers.specs.Exceptions.{exceptions}
 
 -- ---- the numbers before the registers, 32 bytes
 
--- three raw words, and the flag that the header gives
+-- three raw fields, and the flag that the header gives
 abbrev pub state_at : Bool → List ℕ → EstimateState
 state_at out_of_order bytes = record {
   words = from_le_bytes w64 bytes ∷ from_le_bytes w64 (drop 8 bytes) ∷ from_le_bytes w64 (drop 16 bytes) ∷ [];
@@ -98,7 +98,7 @@ pub record Hll4Shape : Type 0 where
   pub compact : Bool
   pub lg_table : ℕ
 
--- the exceptions follow one another, with no empty place
+-- the exceptions follow one another, with no empty bucket
 abbrev pub is_compact : AuxFormat → Bool
 is_compact Compact = true
 is_compact (Updatable lg_arr) = false
@@ -111,8 +111,8 @@ lg_table_of (Updatable lg_arr) = lg_arr
 abbrev pub shape_of_hll4 : ℕ → ℕ → AuxFormat → Hll4Shape
 shape_of_hll4 k m format = record { lg_k = k; minimum = m; compact = is_compact format; lg_table = lg_table_of format }
 
-abbrev pub exception_places : Hll4Shape → List ℕ → ℕ
-exception_places h bytes =
+abbrev pub exception_buckets : Hll4Shape → List ℕ → ℕ
+exception_buckets h bytes =
     if h.compact then exception_count bytes else (if exception_count bytes == 0 then 0 else 2 ^ h.lg_table)
 
 -- the bytes of the nibbles
@@ -121,11 +121,11 @@ nibbles_of h bytes = take (2 ^ (h.lg_k - 1)) (drop 32 bytes)
 
 -- the exceptions, in their order
 abbrev pub entries_of : Hll4Shape → List ℕ → List ℕ
-entries_of h bytes = coupons_at h.compact (exception_places h bytes) (drop (32 + 2 ^ (h.lg_k - 1)) bytes)
+entries_of h bytes = coupons_at h.compact (exception_buckets h bytes) (drop (32 + 2 ^ (h.lg_k - 1)) bytes)
 
 -- how many bytes there are in all
 abbrev pub hll4_size : Hll4Shape → List ℕ → ℕ
-hll4_size h bytes = 32 + (2 ^ (h.lg_k - 1) + 4 * exception_places h bytes)
+hll4_size h bytes = 32 + (2 ^ (h.lg_k - 1) + 4 * exception_buckets h bytes)
 
 -- a nibble of 15 has an entry of at least 15 above the minimum, another has none
 abbrev pub Agrees : ℕ → ℕ → Option ℕ → Type 0
@@ -217,7 +217,7 @@ hll4_bytes k R state order =
     10 ∷ 1 ∷ 7 ∷ k ∷ 0 ∷ (8 + flag_of state) ∷ minimum R ∷ mode_byte 2 Hll4
     ∷ number_bytes state (count_at_minimum R) (length order) ++ (nibble_bytes R ++ coupon_bytes order)
 
--- the bytes are written for these registers, at four bits with the exceptions in ascending raw words
+-- the bytes are written for these registers, at four bits with the exceptions in ascending raw coupons
 abbrev pub WritesRegisters : List ℕ → ℕ → HllType → List ℕ → EstimateState → Type 0
 WritesRegisters bytes k Hll4 R state = WritesAscending (hll4_bytes k R state) (set_of (exceptions R)) bytes
 WritesRegisters bytes k Hll6 R state = bytes ≡ hll6_bytes k R state

@@ -8,10 +8,10 @@ ghost use Rattle.hll_kernels.specs.Packed.{mark_nibbles, nibble_at};
 ghost use Rattle.hll_registers.specs.FourBits.{unboxed, exception_in, IsMapFor};
 ghost use Rattle.hll_registers.specs.Payload.{Agrees};
 
-use crate::exception_map::{Exceptions, MARK, count_exceptions};
+use crate::exception_map::{Exceptions, count_exceptions};
 use hll_base::bounds::MAX_VALUE;
 use hll_coupons::aux_map::AuxMap;
-use hll_kernels::nibbles::{all_at_most, nibble_of};
+use hll_kernels::nibbles::{MARK, all_at_most, nibble_of};
 use std::alloc::Allocator;
 
 /// Whether each nibble of 15 has an exception of at least 15 above the minimum, each exception such a nibble, and each

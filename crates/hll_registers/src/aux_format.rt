@@ -8,9 +8,9 @@ ghost use Rattle.hll_registers.specs.declared.aux_format.AuxFormat.TheVariants.{
 pub enum AuxFormat {
     /// The exceptions, one after another.
     Compact,
-    /// The places of a table, some of them empty.
+    /// The buckets of a table, some of them empty.
     Updatable {
-        /// The table has 2^`lg_arr` places.
+        /// The table has 2^`lg_arr` buckets.
         lg_arr: u8,
     },
 }

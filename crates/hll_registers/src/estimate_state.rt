@@ -2,11 +2,11 @@
 //! The state that other implementations' estimators keep beside registers.
 ghost use Rattle.std.specs.Prelude.{◌≡◌, ℕ, ◌^◌, ◌<◌, ◌≤◌, List};
 ghost use Rattle.hll_kernels.specs.WeightSums.{AreSumsOf};
-ghost use Rattle.hll_registers.specs.EstimatorWords.{AreEstimatorWords, IsBinary64};
+ghost use Rattle.hll_registers.specs.EstimatorFields.{AreEstimatorFields, IsBinary64};
 
 use hll_kernels::kernels::WeightSums;
 
-/// Three raw 64-bit words and a flag, which are stored and never interpreted.
+/// Three raw 64-bit fields and a flag, which are stored and never interpreted.
 #[derive(Clone, Copy, Debug, PartialEq, Eq)]
 pub struct EstimateState {
     /// The words in the order of the image.
@@ -23,13 +23,13 @@ impl EstimateState {
     };
 
     /// The state from which a composite estimator computes, of registers with these sums (docs/FORMAT.md, "Estimator
-    /// words"): 0 and the two sums as binary64 numbers, with the flag set.
+    /// fields"): 0 and the two sums as binary64 numbers, with the flag set.
     ///
     /// Each sum is below 2^53, so no number is rounded.
     pub fn of_sums(sums: WeightSums) -> EstimateState
         requires low { sums.low < 2 ^ 53 }
         requires high { sums.high < 2 ^ 53 }
-        ensures { (R : List ℕ) → AreSumsOf sums R → AreEstimatorWords R result }
+        ensures { (R : List ℕ) → AreSumsOf sums R → AreEstimatorFields R result }
     {
         EstimateState {
             words: [0, binary64_of(sums.low, 31), binary64_of(sums.high, 63)],

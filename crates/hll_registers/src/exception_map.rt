@@ -1,8 +1,7 @@
 // SPDX-License-Identifier: Apache-2.0
 //! The exceptions of registers of four bits: a map, where there is one.
-ghost use Rattle.std.specs.Prelude.{◌≡◌, ◌≢◌, ◌+◌, ◌-◌, ◌*◌, ◌^◌, ◌%◌, ◌++◌, ◌<◌, ◌≤◌, ◌==◌, ◌↔◌, ◌⊎◌, nat_lt, ℕ, if◌then◌else◌, length, take, drop, max, slice_index, unwrap_or, All, true, false, None, Some, IsOk, IsTrue, IfOk, IfErr, IfSome, OnOk, OnErr};
+ghost use Rattle.std.specs.Prelude.{◌≡◌, ◌≢◌, ◌+◌, ◌-◌, ◌*◌, ◌^◌, ◌%◌, ◌++◌, ◌<◌, ◌≤◌, ◌==◌, ◌↔◌, ◌⊎◌, nat_lt, ℕ, if◌then◌else◌, length, take, drop, slice_index, unwrap_or, All, true, false, None, Some, IsOk, IsTrue, IfOk, IfErr, IfSome, OnOk, OnErr};
 ghost use Rattle.hll_base.specs.declared.error.Reason.TheVariants.{Memory};
-ghost use Rattle.std.specs.Bool.{OnTrue};
 ghost use Rattle.std.specs.FinSet.{len};
 ghost use Rattle.std.specs.List.{list_all};
 ghost use Rattle.hll_coupons.specs.AuxMap.{table_bytes, value_in, ExceptionMap, IsMap};
@@ -12,17 +11,15 @@ ghost use Rattle.hll_registers.specs.FourBits.{unboxed, exception_in, exception_
 ghost use Rattle.hll_registers.specs.Payload.{register_of, Agrees};
 ghost use Rattle.hll_kernels.specs.Packed.{lowered_by, nibble, nibble_at, AreRegisters};
 
+use crate::exception_maxima::max_with_exceptions;
 use hll_base::codec::SketchBytes;
 use hll_base::error::Error;
 use hll_coupons::aux_map::AuxMap;
 use hll_coupons::aux_map_builder::AuxMapBuilder;
 use hll_coupons::container::with_coupons;
-use hll_kernels::nibbles::{are_at_most, lower_by, nibble_of, put_nibble, raise_by_nibbles};
+use hll_kernels::nibbles::{MARK, lower_by, max_with_nibbles, nibble_of, put_nibble};
 use std::alloc::Allocator;
 use std::simd::prelude::*;
-
-/// How far above the minimum an exception is at least, and the nibble that marks one.
-pub const MARK: u8 = 15;
 
 /// A map of exceptions in memory of its own, where there are any.
 pub type Exceptions<A> = Option<Box<AuxMap<A>, A>>;
@@ -42,7 +39,7 @@ pub fn exception_at<A: Allocator>(map: &Exceptions<A>, slot: u32) -> Option<u8>
     }
 }
 
-/// A copy, with the same places, by this allocator.
+/// A copy, with the same buckets, by this allocator.
 pub(crate) fn copied<A: Allocator + Clone>(
     map: &Exceptions<A>,
     alloc: &A,
@@ -56,8 +53,8 @@ pub(crate) fn copied<A: Allocator + Clone>(
     }
 }
 
-/// The bytes of the map's places, 0 where there is no map.
-pub(crate) fn bytes_of_places<A: Allocator>(map: &Exceptions<A>) -> usize
+/// The bytes of the map's buckets, 0 where there is no map.
+pub(crate) fn bytes_of_buckets<A: Allocator>(map: &Exceptions<A>) -> usize
     ensures size { (k : ℕ) → IsMapFor k (unboxed map.now) → result ≡ table_bytes k (len (exceptions_in (unboxed map.now))) }
     ensures bound { (k : ℕ) → IsMapFor k (unboxed map.now) → result ≤ 2 ^ 28 }
 {
@@ -67,8 +64,8 @@ pub(crate) fn bytes_of_places<A: Allocator>(map: &Exceptions<A>) -> usize
     }
 }
 
-/// Whether the map has so many places that to go through them for few values is dear.
-pub(crate) fn has_many_places<A: Allocator>(map: &Exceptions<A>) -> bool {
+/// Whether the map has so many buckets that to go through them for few values is expensive.
+pub(crate) fn has_many_buckets<A: Allocator>(map: &Exceptions<A>) -> bool {
     match map {
         Some(map) => map.estimated_size() > 1 << 16,
         None => false,
@@ -86,7 +83,7 @@ pub(crate) fn count_exceptions<A: Allocator>(map: &Exceptions<A>) -> usize
     }
 }
 
-/// Whether two maps for the same slots have the same entries. Places don't count.
+/// Whether two maps for the same slots have the same entries. Buckets don't count.
 pub(crate) fn have_same_exceptions<A: Allocator>(map: &Exceptions<A>, other: &Exceptions<A>) -> bool
     ensures { (k : ℕ) → IsMapFor k (unboxed map.now) → IsMapFor k (unboxed other.now) → IsTrue result ↔ (exceptions_in (unboxed map.now) ≡ exceptions_in (unboxed other.now)) }
 {
@@ -97,7 +94,7 @@ pub(crate) fn have_same_exceptions<A: Allocator>(map: &Exceptions<A>, other: &Ex
     }
 }
 
-/// A buffer with the exceptions appended to it, as coupons in ascending raw words.
+/// A buffer with the exceptions appended to it, as coupons in ascending raw coupons.
 ///
 /// Takes memory for a sorted copy, none where there is no map. Fails with `Memory`.
 pub(crate) fn with_exceptions<A: Allocator + Clone>(
@@ -485,7 +482,7 @@ fn keeps_all_exceptions<A: Allocator>(map: &Exceptions<A>, minimum: u8, value: u
     }
 }
 
-/// Writes the nibbles anew after a rise.
+/// Writes the nibbles again after a rise.
 ///
 /// Each nibble of another slot is 15, or at least the difference of the minima; no exception is below the new one.
 pub(crate) fn repack<A: Allocator>(bytes: &mut [u8], map: &Exceptions<A>, lg_k: u8, rise: Rise)
@@ -558,9 +555,9 @@ pub(crate) fn exceptions_of<A: Allocator + Clone>(
     };
     let mut map = None;
     let (blocks, _) = values.as_chunks::<64>();
-    for place in 0..blocks.len() {
-        if !are_below(&blocks[place], minimum + MARK) {
-            put_exceptions_of(&mut map, alloc, &registers, 64 * place, 64 * place + 64)?;
+    for index in 0..blocks.len() {
+        if !are_below(&blocks[index], minimum + MARK) {
+            put_exceptions_of(&mut map, alloc, &registers, 64 * index, 64 * index + 64)?;
         }
     }
     put_exceptions_of(&mut map, alloc, &registers, 64 * blocks.len(), values.len())?;
@@ -598,7 +595,7 @@ fn put_exceptions_of<A: Allocator + Clone>(
     ensures map { OnOk result (IsMapFor registers.now.lg_k map.new) }
     ensures put { OnOk result ((s : ℕ) → from ≤ s → s < to → exception_in map.new s ≡ exception_of registers.now.minimum (slice_index registers.now.values.now s)) }
     ensures before { OnOk result ((s : ℕ) → s < from → exception_in map.new s ≡ exception_in map.old s) }
-    ensures behind { OnOk result ((s : ℕ) → to ≤ s → exception_in map.new s ≡ None) }
+    ensures after { OnOk result ((s : ℕ) → to ≤ s → exception_in map.new s ≡ None) }
     ensures err { IfErr result (λ e. e ≡ Memory) }
 {
     for slot in from..to {
@@ -636,7 +633,7 @@ pub(crate) fn register_at<A: Allocator>(
 
 /// Raises each value to the greater of itself and register `first + i`, for value i, of nibbles above a minimum and exceptions
 /// that agree. One pass, and a search for each exception, or one pass through the map where a search is long.
-pub(crate) fn raise_by_registers<A: Allocator>(
+pub(crate) fn max_with_registers<A: Allocator>(
     values: &mut [u8],
     first: u32,
     nibbles: &[u8],
@@ -654,99 +651,8 @@ pub(crate) fn raise_by_registers<A: Allocator>(
 {
     let start = first as usize / 2;
     let nibbles = &nibbles[start..start + values.len() / 2];
-    raise_by_nibbles(values, nibbles, minimum);
+    max_with_nibbles(values, nibbles, minimum);
     if let Some(map) = map {
-        raise_by_exceptions(values, nibbles, map, first);
+        max_with_exceptions(values, nibbles, map, first);
     }
-}
-
-/// Raises each value to the exception of its slot, if it has one: `first + i` for value i. Goes through the map where it has
-/// few places for so many values, as a whole array of registers has, or where a search is long, and else through the
-/// nibbles.
-///
-/// Each two values have a byte of nibbles, and a slot whose nibble isn't 15 has no exception.
-fn raise_by_exceptions<A: Allocator>(values: &mut [u8], nibbles: &[u8], map: &AuxMap<A>, first: u32)
-    requires size { length values.old ≡ 2 * length nibbles.now }
-    requires within { first + length values.old ≤ 2 ^ map.now.lg_k }
-    requires map { IsMap map.now }
-    requires marked { (s : ℕ) → s < length values.old → nibble_at nibbles.now s ≢ 15 → value_in map.now (first + s) ≡ None }
-    ensures raised { (s : ℕ) → s < length values.old → slice_index values.new s ≡ max (slice_index values.old s) (unwrap_or (value_in map.now (first + s)) 0) }
-    ensures len { length values.new ≡ length values.old }
-{
-    let has_few_places = map.estimated_size() <= values.len() / 8;
-    if has_few_places || !raise_by_marks(values, nibbles, map, first) {
-        raise_by_entries(values, map, first);
-    }
-}
-
-/// The same, by one entry of the map after the other.
-fn raise_by_entries<A: Allocator>(values: &mut [u8], map: &AuxMap<A>, first: u32)
-    requires map { IsMap map.now }
-    ensures raised { (s : ℕ) → s < length values.old → slice_index values.new s ≡ max (slice_index values.old s) (unwrap_or (value_in map.now (first + s)) 0) }
-    ensures len { length values.new ≡ length values.old }
-{
-    for (slot, value) in map.iter() {
-        if slot < first {
-            continue;
-        }
-        let place = (slot - first) as usize;
-        if place < values.len() {
-            values[place] = values[place].max(value);
-        }
-    }
-}
-
-/// The same, by a short search where a nibble is 15. Passes over blocks of 64 where none is. Says whether no search was cut
-/// off; else some values may be raised.
-fn raise_by_marks<A: Allocator>(
-    values: &mut [u8],
-    nibbles: &[u8],
-    map: &AuxMap<A>,
-    first: u32,
-) -> bool
-    requires size { length values.old ≡ 2 * length nibbles.now }
-    requires within { first + length values.old ≤ 2 ^ map.now.lg_k }
-    requires map { IsMap map.now }
-    requires marked { (s : ℕ) → s < length values.old → nibble_at nibbles.now s ≢ 15 → value_in map.now (first + s) ≡ None }
-    ensures raised { OnTrue result ((s : ℕ) → s < length values.old → slice_index values.new s ≡ max (slice_index values.old s) (unwrap_or (value_in map.now (first + s)) 0)) }
-    ensures some { (s : ℕ) → s < length values.old → max (slice_index values.new s) (unwrap_or (value_in map.now (first + s)) 0) ≡ max (slice_index values.old s) (unwrap_or (value_in map.now (first + s)) 0) }
-    ensures len { length values.new ≡ length values.old }
-{
-    let (blocks, rest) = nibbles.as_chunks::<32>();
-    for place in 0..blocks.len() {
-        let block = &blocks[place];
-        if !are_at_most(block, MARK - 1) && !raise_marked(values, 64 * place, block, map, first) {
-            return false;
-        }
-    }
-    raise_marked(values, 64 * blocks.len(), rest, map, first)
-}
-
-/// The same of the values from `at` on, two for each byte of nibbles. The others are unchanged.
-fn raise_marked<A: Allocator>(
-    values: &mut [u8],
-    at: usize,
-    nibbles: &[u8],
-    map: &AuxMap<A>,
-    first: u32,
-) -> bool
-    requires room { at + 2 * length nibbles.now ≤ length values.old }
-    requires within { first + length values.old ≤ 2 ^ map.now.lg_k }
-    requires map { IsMap map.now }
-    requires marked { (s : ℕ) → at ≤ s → s < at + 2 * length nibbles.now → nibble_at nibbles.now (s - at) ≢ 15 → value_in map.now (first + s) ≡ None }
-    ensures raised { OnTrue result ((s : ℕ) → at ≤ s → s < at + 2 * length nibbles.now → slice_index values.new s ≡ max (slice_index values.old s) (unwrap_or (value_in map.now (first + s)) 0)) }
-    ensures some { (s : ℕ) → max (slice_index values.new s) (unwrap_or (value_in map.now (first + s)) 0) ≡ max (slice_index values.old s) (unwrap_or (value_in map.now (first + s)) 0) }
-    ensures before { (s : ℕ) → s < at → slice_index values.new s ≡ slice_index values.old s }
-    ensures behind { (s : ℕ) → at + 2 * length nibbles.now ≤ s → slice_index values.new s ≡ slice_index values.old s }
-    ensures len { length values.new ≡ length values.old }
-{
-    for slot in at..at + 2 * nibbles.len() {
-        if nibble_of(nibbles, slot - at) == MARK {
-            let Some(exception) = map.get_shortly(first + slot as u32) else {
-                return false;
-            };
-            values[slot] = values[slot].max(exception.unwrap_or(0));
-        }
-    }
-    true
 }

@@ -3,52 +3,67 @@
 ghost use Rattle.std.specs.Prelude.{◌≡◌, ◌≤◌, ◌==◌};
 ghost use Rattle.std.specs.List.{list_all};
 ghost use Rattle.hll_kernels.specs.Groups.{registers_in, AreGroups};
-ghost use Rattle.hll_registers.specs.State.{cleared_state};
+ghost use Rattle.hll_registers.specs.State.{cleared_state, IsState};
 
 use crate::estimate_state::EstimateState;
 use crate::registers::{Registers, two_to};
 use hll_kernels::groups::{all_zero_in, max_groups_into, register_at};
 use std::marker::Model;
 
-/// 2^`lg_k` borrowed registers, four of them in three bytes, with the cleared state.
+/// 2^`lg_k` borrowed registers, four of them in three bytes, with their estimate state.
 #[derive(Debug, Drop)]
 pub struct GroupSlice<'a> {
     lg_k: u8,
     groups: &'a [[u8; 3]],
+    state: EstimateState,
 }
 
 impl<'a> Model for GroupSlice<'a> {
-    ghost use Rattle.std.specs.Prelude.{ℕ, List, ◌≤◌};
+    ghost use Rattle.std.specs.Prelude.{◌≤◌};
     ghost use Rattle.hll_kernels.specs.Groups.{registers_in, AreGroups};
+    ghost use Rattle.hll_registers.specs.State.{IsState};
+    ghost use Rattle.hll_registers.specs.Store.{Stored};
 
-    ghost Value = { ℕ × List ℕ };
+    ghost Value = { Stored };
 
-    ghost view = { λ l. (l.lg_k, registers_in l.groups.now) };
+    ghost view = { λ l. record { lg_k = l.lg_k; registers = registers_in l.groups.now; state = l.state } };
 
-    ghost invariant = { λ l. (4 ≤ l.lg_k) × (l.lg_k ≤ 21) × AreGroups l.lg_k l.groups.now };
+    ghost invariant = { λ l. (4 ≤ l.lg_k) × (l.lg_k ≤ 21) × AreGroups l.lg_k l.groups.now × IsState l.state };
 }
 
 impl<'a> GroupSlice<'a> {
-    /// The 2^`lg_k` registers of groups, for an `lg_k` of 4 to 21.
+    /// The 2^`lg_k` registers of groups, for an `lg_k` of 4 to 21, with the cleared state.
     pub fn new(lg_k: u8, groups: &'a [[u8; 3]]) -> GroupSlice<'a>
         requires least { 4 ≤ lg_k }
         requires most { lg_k ≤ 21 }
         requires groups { AreGroups lg_k groups.now }
-        ensures { result ≡ (lg_k, registers_in groups.now) }
+        ensures { result ≡ record { lg_k = lg_k; registers = registers_in groups.now; state = cleared_state } }
     {
-        GroupSlice { lg_k, groups }
+        GroupSlice {
+            lg_k,
+            groups,
+            state: EstimateState::CLEARED,
+        }
+    }
+
+    /// These registers with another state.
+    pub fn with_state(self, state: EstimateState) -> GroupSlice<'a>
+        requires { IsState state }
+        ensures { result ≡ record self.entry { state = state } }
+    {
+        GroupSlice { state, ..self }
     }
 
     /// Whether all registers are 0.
     pub fn are_all_zero(&self) -> bool
-        ensures { result ≡ list_all (λ v. v == 0) self.now.1 }
+        ensures { result ≡ list_all (λ v. v == 0) self.now.registers }
     {
         all_zero_in(self.groups)
     }
 }
 
 impl<'a> Registers for GroupSlice<'a> {
-    ghost stored = { λ l. record { lg_k = l.0; registers = l.1; state = cleared_state } };
+    ghost stored = { λ l. l };
 
     fn lg_k(&self) -> u8 {
         self.lg_k
@@ -63,11 +78,11 @@ impl<'a> Registers for GroupSlice<'a> {
     }
 
     fn estimate_state(&self) -> EstimateState {
-        EstimateState::CLEARED
+        self.state
     }
 
     /// One pass, by groups.
-    fn join_into(&self, first: u32, values: &mut [u8]) {
+    fn max_into(&self, first: u32, values: &mut [u8]) {
         let first = first as usize / 4;
         let end = first + values.len() / 4;
         max_groups_into(values, &self.groups[first..end]);

@@ -6,6 +6,8 @@ mod agreement;
 pub mod aux_format;
 pub mod estimate_state;
 pub mod exception_map;
+mod exception_maxima;
+pub mod folds;
 pub mod group_slice;
 pub mod nibble_registers;
 pub mod nibble_slice;

@@ -15,20 +15,20 @@ ghost use Rattle.hll_registers.specs.Payload.{Agrees};
 ghost use Rattle.hll_registers.specs.Store.{size_in_registers, zero_registers};
 
 use crate::exception_map::{
-    Exceptions, MARK, Rise, bytes_of_places, copied, count_exceptions, exception_at,
-    exceptions_after, exceptions_of, has_many_places, have_same_exceptions, put_exception,
-    raise_by_registers, register_at, repack, replace_by, with_exceptions,
+    Exceptions, Rise, bytes_of_buckets, copied, count_exceptions, exception_at, exceptions_after,
+    exceptions_of, has_many_buckets, have_same_exceptions, max_with_registers, put_exception,
+    register_at, repack, replace_by, with_exceptions,
 };
 use crate::registers::two_to;
 use hll_base::codec::SketchBytes;
 use hll_base::error::Error;
 use hll_kernels::kernels::least_of;
-use hll_kernels::nibbles::{count_zero_nibbles, nibble_of, packed_nibbles, put_nibble};
+use hll_kernels::nibbles::{MARK, count_zero_nibbles, nibble_of, packed_nibbles, put_nibble};
 use std::alloc::Allocator;
 use std::marker::Model;
 
 /// 2^`lg_k` registers of 0 to 63, two in a byte: each as far above the least of all as a nibble says, and where that is
-/// 15 or more, in a map. Contracts see the `lg_k`, the list of registers, and the places of the map.
+/// 15 or more, in a map. Contracts see the `lg_k`, the list of registers, and the buckets of the map.
 ///
 /// What reads them takes no memory.
 #[derive_where(Debug)]
@@ -155,11 +155,11 @@ impl<A: Allocator> NibbleRegisters<A> {
         count_exceptions(&self.exceptions)
     }
 
-    /// How many bytes nibbles and places take.
+    /// How many bytes nibbles and buckets take.
     pub fn estimated_size(&self) -> usize
         ensures { result ≡ size_in_registers self.now.lg_k Hll4 self.now.registers }
     {
-        self.nibbles.len() + bytes_of_places(&self.exceptions)
+        self.nibbles.len() + bytes_of_buckets(&self.exceptions)
     }
 
     /// Whether the registers are the same as others of the same `lg_k`.
@@ -172,20 +172,20 @@ impl<A: Allocator> NibbleRegisters<A> {
             && have_same_exceptions(&self.exceptions, &other.exceptions)
     }
 
-    /// Whether `join_into` is dear where there are few values.
-    pub fn is_dear_in_parts(&self) -> bool {
-        has_many_places(&self.exceptions)
+    /// Whether `max_into` is expensive where there are few values.
+    pub fn is_slow_in_small_blocks(&self) -> bool {
+        has_many_buckets(&self.exceptions)
     }
 
     /// Raises each value to the greater of itself and register `first + i`, for value i. One pass, and a search for each
     /// exception, or one through the map where a search is long.
-    pub fn join_into(&self, first: u32, values: &mut [u8])
+    pub fn max_into(&self, first: u32, values: &mut [u8])
         requires within { first + length values.old ≤ 2 ^ self.now.lg_k }
         requires aligned { first % 4 ≡ 0 }
         requires groups { length values.old % 4 ≡ 0 }
         ensures { values.new ≡ join values.old (take (length values.old) (drop first self.now.registers)) }
     {
-        raise_by_registers(
+        max_with_registers(
             values,
             first,
             &self.nibbles,
@@ -226,7 +226,7 @@ impl<A: Allocator + Clone> NibbleRegisters<A> {
     }
 
     /// The registers of nibbles above a minimum, so many of which are 0, and exceptions by the same allocator, which agree.
-    /// The minimum may be below the least register: then they are packed anew. A copy of the nibbles. Fails with
+    /// The minimum may be below the least register: then they are packed again. A copy of the nibbles. Fails with
     /// `Memory`.
     pub(crate) fn from_parts(
         alloc: A,
@@ -258,7 +258,7 @@ impl<A: Allocator + Clone> NibbleRegisters<A> {
         })
     }
 
-    /// A copy, with the same places of the map. Fails with `Memory`.
+    /// A copy, with the same buckets of the map. Fails with `Memory`.
     pub fn clone(&self) -> Result<NibbleRegisters<A>, Error>
         ensures ok { IfOk result (λ r. r ≡ self.now) }
         ensures err { IfErr result (λ e. e ≡ Memory) }
@@ -272,7 +272,7 @@ impl<A: Allocator + Clone> NibbleRegisters<A> {
         })
     }
 
-    /// A buffer with the nibbles and the exceptions appended to it, these as coupons in ascending raw words. Takes
+    /// A buffer with the nibbles and the exceptions appended to it, these as coupons in ascending raw coupons. Takes
     /// memory for a sorted copy of the exceptions, where there are any. Fails with `Memory`.
     pub fn with_written(&self, mut bytes: SketchBytes<A>) -> Result<SketchBytes<A>, Error>
         ensures ok { IfOk result (WritesAscending (λ order. (bytes ++ nibble_bytes self.now.registers) ++ coupon_bytes order) (set_of (exceptions self.now.registers))) }
@@ -290,7 +290,7 @@ impl<A: Allocator + Clone> NibbleRegisters<A> {
     ///
     /// Fails with `Memory`, only if the set of slots with an exception changes and isn't empty afterwards, and then
     /// changes nothing.
-    pub fn raise(&mut self, slot: u32, value: u8) -> Result<(), Error>
+    pub fn max_slot(&mut self, slot: u32, value: u8) -> Result<(), Error>
         requires within { slot < 2 ^ self.old.lg_k }
         requires more { slice_index self.old.registers slot < value }
         requires most { value ≤ 63 }
@@ -398,7 +398,8 @@ impl<A: Allocator + Clone> NibbleRegisters<A> {
         self.minimum_of_exceptions_with(slot, value)
     }
 
-    /// The same, or the least exception, if that is less. Stops at the first register that is one above the minimum.
+    /// The least register when that of one slot has a greater value and none is left at the minimum, or 15 above it, if that
+    /// is less. Stops at the first register that is one above the minimum.
     fn minimum_of_nibbles_with(&self, slot: u32, value: u8) -> u8
         requires within { slot < 2 ^ self.now.lg_k }
         requires more { slice_index self.now.registers slot < value }
@@ -421,8 +422,8 @@ impl<A: Allocator + Clone> NibbleRegisters<A> {
         least
     }
 
-    /// The same, where all other registers are exceptions: their table has more places than there are slots, so that each
-    /// search ends where it starts.
+    /// The least register when that of one slot has another value, where all other registers are exceptions: their table has
+    /// more buckets than there are slots, so each search ends where it starts.
     fn minimum_of_exceptions_with(&self, slot: u32, value: u8) -> u8
         requires within { slot < 2 ^ self.now.lg_k }
         ensures { result ≡ minimum (slice_set self.now.registers slot value) }
@@ -457,6 +458,6 @@ fn values_of<A: Allocator + Clone>(
     ensures err { IfErr result (λ e. e ≡ Memory) }
 {
     let mut values = vec![in alloc.clone()?; 0; two_to(lg_k)]?;
-    raise_by_registers(&mut values, 0, nibbles, map, lg_k, minimum);
+    max_with_registers(&mut values, 0, nibbles, map, lg_k, minimum);
     Ok(values)
 }

@@ -7,11 +7,11 @@ ghost use Rattle.hll_base.specs.declared.error.Reason.TheVariants.{Memory, Regis
 ghost use Rattle.hll_kernels.specs.Packed.{mark_nibbles, nibble_at, zero_nibbles};
 ghost use Rattle.hll_registers.specs.FourBits.{exception_in, unboxed, unpacked, IsMapFor};
 ghost use Rattle.hll_registers.specs.Payload.{Agrees};
-ghost use Rattle.hll_registers.specs.State.{cleared_state};
+ghost use Rattle.hll_registers.specs.State.{cleared_state, IsState};
 
 use crate::agreement::agree;
 use crate::estimate_state::EstimateState;
-use crate::exception_map::{Exceptions, has_many_places, raise_by_registers, register_at};
+use crate::exception_map::{Exceptions, has_many_buckets, max_with_registers, register_at};
 use crate::nibble_registers::NibbleRegisters;
 use crate::registers::{Registers, two_to};
 use hll_base::error::{Error, Reason};
@@ -29,7 +29,7 @@ pub enum Use {
     Copy,
 }
 
-/// 2^`lg_k` registers, two in a borrowed byte, with the cleared state: each as far above a minimum as a nibble says, and
+/// 2^`lg_k` registers, two in a borrowed byte, with their estimate state: each as far above a minimum as a nibble says, and
 /// where that is 15, in a map. The minimum may be below the least register.
 #[derive_where(Debug)]
 pub struct NibbleSlice<'a, A: Allocator> {
@@ -39,6 +39,7 @@ pub struct NibbleSlice<'a, A: Allocator> {
     /// How many nibbles are 0, where they were counted.
     zeros: Option<u32>,
     exceptions: Exceptions<A>,
+    state: EstimateState,
 }
 
 /// Written out, and not derived, so that the proof of whatever drops registers calls this and doesn't go through their parts.
@@ -50,6 +51,7 @@ impl<'a, A: Allocator> Drop for NibbleSlice<'a, A> {
             nibbles: _,
             zeros: _,
             exceptions,
+            state: _,
         } = self;
         drop(exceptions);
     }
@@ -60,17 +62,19 @@ impl<'a, A: Allocator> Model for NibbleSlice<'a, A> {
     ghost use Rattle.hll_kernels.specs.Packed.{nibble_at, zero_nibbles};
     ghost use Rattle.hll_registers.specs.FourBits.{exception_in, unboxed, unpacked, IsMapFor};
     ghost use Rattle.hll_registers.specs.Payload.{Agrees};
+    ghost use Rattle.hll_registers.specs.State.{IsState};
+    ghost use Rattle.hll_registers.specs.Store.{Stored};
 
-    ghost Value = { ℕ × List ℕ };
+    ghost Value = { Stored };
 
-    ghost view = { λ l. (l.lg_k, unpacked l.lg_k l.minimum l.nibbles.now (unboxed l.exceptions)) };
+    ghost view = { λ l. record { lg_k = l.lg_k; registers = unpacked l.lg_k l.minimum l.nibbles.now (unboxed l.exceptions); state = l.state } };
 
     ghost invariant = { λ l. (4 ≤ l.lg_k) × (l.lg_k ≤ 21) × (2 * length l.nibbles.now ≡ 2 ^ l.lg_k) × All (λ b. b < 256) l.nibbles.now × IsMapFor l.lg_k (unboxed l.exceptions)
-        × ((s : ℕ) → s < 2 ^ l.lg_k → Agrees l.minimum (nibble_at l.nibbles.now s) (exception_in (unboxed l.exceptions) s)) × IfSome l.zeros (λ n. n ≡ zero_nibbles l.nibbles.now) };
+        × ((s : ℕ) → s < 2 ^ l.lg_k → Agrees l.minimum (nibble_at l.nibbles.now s) (exception_in (unboxed l.exceptions) s)) × IfSome l.zeros (λ n. n ≡ zero_nibbles l.nibbles.now) × IsState l.state };
 }
 
 impl<'a, A: Allocator> NibbleSlice<'a, A> {
-    /// The registers of nibbles above a minimum, and exceptions, if they agree. One pass over the nibbles, where the minimum
+    /// The registers of nibbles above a minimum, and exceptions, if they agree, with the cleared state. One pass over the nibbles, where the minimum
     /// is at most 49, which counts what a later use needs; takes no memory.
     ///
     /// `lg_k` is 4 to 21. Fails with `Register` if they don't agree.
@@ -85,7 +89,7 @@ impl<'a, A: Allocator> NibbleSlice<'a, A> {
         requires most { lg_k ≤ 21 }
         requires size { 2 * length nibbles.now ≡ 2 ^ lg_k }
         requires map { IsMapFor lg_k (unboxed exceptions) }
-        ensures ok { IfOk result (λ r. r ≡ (lg_k, unpacked lg_k minimum nibbles.now (unboxed exceptions))) }
+        ensures ok { IfOk result (λ r. r ≡ record { lg_k = lg_k; registers = unpacked lg_k minimum nibbles.now (unboxed exceptions); state = cleared_state }) }
         ensures agree { OnOk result ((s : ℕ) → s < 2 ^ lg_k → Agrees minimum (nibble_at nibbles.now s) (exception_in (unboxed exceptions) s)) }
         ensures err { IfErr result (λ e. (e ≡ Register) × (((s : ℕ) → s < 2 ^ lg_k → Agrees minimum (nibble_at nibbles.now s) (exception_in (unboxed exceptions) s)) → ⊥)) }
     {
@@ -99,12 +103,36 @@ impl<'a, A: Allocator> NibbleSlice<'a, A> {
             nibbles,
             zeros,
             exceptions,
+            state: EstimateState::CLEARED,
         })
+    }
+
+    /// These registers with another state.
+    pub fn with_state(self, state: EstimateState) -> NibbleSlice<'a, A>
+        requires { IsState state }
+        ensures { result ≡ record self.entry { state = state } }
+    {
+        let NibbleSlice {
+            lg_k,
+            minimum,
+            nibbles,
+            zeros,
+            exceptions,
+            state: _,
+        } = self;
+        NibbleSlice {
+            lg_k,
+            minimum,
+            nibbles,
+            zeros,
+            exceptions,
+            state,
+        }
     }
 
     /// Whether all registers are 0.
     pub fn are_all_zero(&self) -> bool
-        ensures { result ≡ list_all (λ v. v == 0) self.now.1 }
+        ensures { result ≡ list_all (λ v. v == 0) self.now.registers }
     {
         self.minimum == 0 && all_zero(self.nibbles)
     }
@@ -116,7 +144,7 @@ impl<'a, A: Allocator + Clone> NibbleSlice<'a, A> {
     ///
     /// Fails with `Memory`.
     pub fn into_registers(self, alloc: A) -> Result<NibbleRegisters<A>, Error>
-        ensures ok { IfOk result (λ r. (r.lg_k ≡ self.entry.0) × (r.registers ≡ self.entry.1)) }
+        ensures ok { IfOk result (λ r. (r.lg_k ≡ self.entry.lg_k) × (r.registers ≡ self.entry.registers)) }
         ensures err { IfErr result (λ e. e ≡ Memory) }
     {
         let NibbleSlice {
@@ -125,6 +153,7 @@ impl<'a, A: Allocator + Clone> NibbleSlice<'a, A> {
             nibbles,
             zeros,
             exceptions,
+            state: _,
         } = self;
         let zeros = match zeros {
             Some(count) => count,
@@ -150,7 +179,7 @@ fn counts_of(nibbles: &[u8], later: Use) -> (Option<u32>, u32)
 }
 
 impl<'a, A: Allocator> Registers for NibbleSlice<'a, A> {
-    ghost stored = { λ l. record { lg_k = l.0; registers = l.1; state = cleared_state } };
+    ghost stored = { λ l. l };
 
     fn lg_k(&self) -> u8 {
         self.lg_k
@@ -165,16 +194,16 @@ impl<'a, A: Allocator> Registers for NibbleSlice<'a, A> {
     }
 
     fn estimate_state(&self) -> EstimateState {
-        EstimateState::CLEARED
+        self.state
     }
 
-    fn is_dear_in_parts(&self) -> bool {
-        has_many_places(&self.exceptions)
+    fn is_slow_in_small_blocks(&self) -> bool {
+        has_many_buckets(&self.exceptions)
     }
 
     /// One pass, and a search for each exception.
-    fn join_into(&self, first: u32, values: &mut [u8]) {
-        raise_by_registers(
+    fn max_into(&self, first: u32, values: &mut [u8]) {
+        max_with_registers(
             values,
             first,
             self.nibbles,

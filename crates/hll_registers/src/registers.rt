@@ -1,16 +1,13 @@
 // SPDX-License-Identifier: Apache-2.0
 //! Registers that can be read, however they are stored (docs/MODEL.md, "Laws of a store").
 ghost use Rattle.std.specs.Prelude.{◌≡◌, ◌+◌, ◌%◌, ◌^◌, ◌<◌, ◌≤◌, ◌==◌, if◌then◌else◌, length, take, drop, slice_index, Some, None, IfSome};
-ghost use Rattle.hll_coupons.specs.Fold.{fold_to, pairs};
 ghost use Rattle.hll_base.specs.Join.{join};
 ghost use Rattle.hll_kernels.specs.Packed as packed;
 ghost use Rattle.hll_registers.specs.Store.{Stored, IsStored};
-ghost use Rattle.hll_kernels.specs.Packed.{AreRegisters};
 ghost use Rattle.hll_kernels.specs.WeightSums.{AreSumsOf};
-ghost use Rattle.hll_registers.specs.EstimatorWords.{AreEstimatorWords};
+ghost use Rattle.hll_registers.specs.EstimatorFields.{AreEstimatorFields};
 
 use crate::estimate_state::EstimateState;
-use crate::register_slice::RegisterSlice;
 use hll_kernels::kernels::{WeightSums, weight_sums};
 
 /// 2^`lg_k` registers of 0 to 63, and their estimate state. No call takes memory.
@@ -62,23 +59,23 @@ pub trait Registers {
         ensures { AreSumsOf result (take size (drop first (stored self.now).registers)) }
     {
         let mut registers = [0; 16384];
-        self.join_into(first as u32, &mut registers[..size]);
+        self.max_into(first as u32, &mut registers[..size]);
         weight_sums(&registers[..size])
     }
 
-    /// The state from which a composite estimator computes (docs/FORMAT.md, "Estimator words"): exact numbers of the
+    /// The state from which a composite estimator computes (docs/FORMAT.md, "Estimator fields"): exact numbers of the
     /// registers. One pass.
-    fn estimator_words(&self) -> EstimateState
-        ensures { AreEstimatorWords (stored self.now).registers result }
+    fn estimator_fields(&self) -> EstimateState
+        ensures { AreEstimatorFields (stored self.now).registers result }
     {
         // brings that the registers are legal
         let _lg_k = self.lg_k();
         EstimateState::of_sums(self.weight_sums())
     }
 
-    /// Whether `join_into` is dear where there are few values, since each call goes over something that all registers share.
+    /// Whether `max_into` is expensive where there are few values, since each call goes over something that all registers share.
     /// No result depends on it.
-    fn is_dear_in_parts(&self) -> bool {
+    fn is_slow_in_small_blocks(&self) -> bool {
         false
     }
 
@@ -86,16 +83,16 @@ pub trait Registers {
     ///
     /// These registers exist, and `first` and the number of values are multiples of four. That the registers are legal
     /// is a clause of `lg_k`. An implementation may read them in groups of four; this body calls `get` for each.
-    fn join_into(&self, first: u32, values: &mut [u8])
+    fn max_into(&self, first: u32, values: &mut [u8])
         requires within { first + length values.old ≤ 2 ^ (stored self.now).lg_k }
         requires legal { IsStored (stored self.now) }
         requires aligned { first % 4 ≡ 0 }
         requires groups { length values.old % 4 ≡ 0 }
         ensures { values.new ≡ join values.old (take (length values.old) (drop first (stored self.now).registers)) }
     {
-        for place in 0..values.len() {
-            let register = self.get(first + place as u32);
-            values[place] = values[place].max(register);
+        for index in 0..values.len() {
+            let register = self.get(first + index as u32);
+            values[index] = values[index].max(register);
         }
     }
 }
@@ -117,54 +114,6 @@ pub fn zeros_left(zero_count: Option<u32>, register: u8) -> Option<u32>
     match zero_count {
         Some(count) if register == 0 => Some(count - 1),
         _ => zero_count,
-    }
-}
-
-/// Raises each of 2^`lg_k` values to the greatest of itself and the source's registers that fold to it: each block of
-/// 2^`lg_k` consecutive registers folds to all of the values. Where few registers at a time are dear, folds to 2^14 first.
-pub fn join_folds<R: Registers>(values: &mut [u8], lg_k: u8, src: &R)
-    requires least { 4 ≤ lg_k }
-    requires most { lg_k ≤ (R.stored src.now).lg_k }
-    requires size { length values.old ≡ 2 ^ lg_k }
-    ensures joined { values.new ≡ join values.old (fold_to (pairs (R.stored src.now).registers) lg_k) }
-    ensures registers { AreRegisters lg_k values.old → AreRegisters lg_k values.new }
-{
-    if lg_k < LG_PART && src.lg_k() > LG_PART && src.is_dear_in_parts() {
-        join_by_stages(values, lg_k, src);
-    } else {
-        join_blocks(values, lg_k, src);
-    }
-}
-
-/// The logarithm of the number of registers that are joined at once where few are dear.
-const LG_PART: u8 = 14;
-
-/// The same by the fold to 2^14 registers, of which the source has more.
-#[inline(never)]
-fn join_by_stages<R: Registers>(values: &mut [u8], lg_k: u8, src: &R)
-    requires least { 4 ≤ lg_k }
-    requires below { lg_k ≤ 14 }
-    requires most { 14 ≤ (R.stored src.now).lg_k }
-    requires size { length values.old ≡ 2 ^ lg_k }
-    ensures joined { values.new ≡ join values.old (fold_to (pairs (R.stored src.now).registers) lg_k) }
-    ensures registers { AreRegisters lg_k values.old → AreRegisters lg_k values.new }
-{
-    let mut parts = [0; 16384];
-    join_blocks(&mut parts, LG_PART, src);
-    join_blocks(values, lg_k, &RegisterSlice::new(LG_PART, &parts));
-}
-
-/// The same by one block after the other.
-fn join_blocks<R: Registers>(values: &mut [u8], lg_k: u8, src: &R)
-    requires least { 4 ≤ lg_k }
-    requires most { lg_k ≤ (R.stored src.now).lg_k }
-    requires size { length values.old ≡ 2 ^ lg_k }
-    ensures joined { values.new ≡ join values.old (fold_to (pairs (R.stored src.now).registers) lg_k) }
-    ensures registers { AreRegisters lg_k values.old → AreRegisters lg_k values.new }
-{
-    let size = values.len();
-    for block in 0..two_to(src.lg_k() - lg_k) {
-        src.join_into((block * size) as u32, values);
     }
 }
 

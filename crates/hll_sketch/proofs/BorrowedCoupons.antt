@@ -10,32 +10,32 @@ use Rattle.std.proofs.lemmas.Bool.{cond-false, ne_eqb}
 use Rattle.std.proofs.lemmas.List.{length-drop}
 use Rattle.std.proofs.lemmas.List.Kept.{AllPairs-from_increasing}
 use Rattle.std.specs.List.Sorted.{IsStrictlyIncreasing}
-use Rattle.hll_coupons.specs.Coupons.{words, AreCoupons}
+use Rattle.hll_coupons.specs.Coupons.{raw_coupons, AreCoupons}
 use Rattle.hll_coupons.specs.Pair.{set_of}
-use Rattle.hll_coupons.specs.Payload.{ListShape, SetShape, shape_of_list, shape_of_set, list_coupons, list_places, set_count, set_coupons, set_places, IsListPayload, IsSetPayload}
-use Rattle.hll_coupons.proofs.Merging.{length-words}
+use Rattle.hll_coupons.specs.Payload.{ListShape, SetShape, shape_of_list, shape_of_set, list_coupons, list_buckets, set_count, set_coupons, set_buckets, IsListPayload, IsSetPayload}
+use Rattle.hll_coupons.proofs.Merging.{length-raw_coupons}
 use Rattle.hll_coupons.proofs.Reading.{is_list_payload}
 use Rattle.hll_coupons.proofs.SetReading.{is_set_payload}
 use Rattle.hll_sketch.specs.Borrowed.{AreEvidentlyCoupons}
-use Rattle.hll_sketch.specs.TakenIn.{IsOfCoupons}
+use Rattle.hll_sketch.specs.MergedIn.{IsOfCoupons}
 use Rattle.hll_sketch.specs.Image.{table_byte, state_byte, is_flagged, HasHeader, HasSetTable, list_shape, set_shape}
 use Rattle.hll_sketch.specs.Value.{coupons}
 use Rattle.hll_sketch.proofs.FrontImages.{list_is_read, set_is_read}
 use Rattle.hll_sketch.proofs.ListImages.{list_image}
 
 -- coupons in a number that isn't 0 are some
-some_coupons : (n : ℕ) (b : List ℕ) → 1 ≤ n → AreCoupons (words n b) → len (set_of (words n b)) ≡ 0 → ⊥
-some_coupons n b some are none = omega (arith, some, are.distinct, none, length-words n b)
+some_coupons : (n : ℕ) (b : List ℕ) → 1 ≤ n → AreCoupons (raw_coupons n b) → len (set_of (raw_coupons n b)) ≡ 0 → ⊥
+some_coupons n b some are none = omega (arith, some, are.distinct, none, length-raw_coupons n b)
 
--- the words behind the header of a compact list, in the number that it says, are its coupons
+-- the raw coupons after the header of a compact list, in the number that it says, are its coupons
 pub list_of_coupons : (b : List ℕ) (n : ℕ) → HasHeader b 0 → table_byte b ≡ 3 → n ≡ state_byte b → is_flagged 4 b ≡ false → is_flagged 8 b ≡ true →
-    1 ≤ n → n ≤ 8 → 4 * n ≤ length (drop 8 b) → AreCoupons (words n (drop 8 b)) → IsOfCoupons b (words n (drop 8 b))
+    1 ≤ n → n ≤ 8 → 4 * n ≤ length (drop 8 b) → AreCoupons (raw_coupons n (drop 8 b)) → IsOfCoupons b (raw_coupons n (drop 8 b))
 list_of_coupons b n h table count filled compact some few there are =
     let s : ListShape = shape_of_list 3 n false true in
     let same : s ≡ list_shape b = λ i. shape_of_list 3 (count i) (sym filled i) (sym compact i) in
     let payload : IsListPayload s (take (4 * n) (drop 8 b)) =
-    is_list_payload s (drop 8 b) (record { low = few; flag = (λ e. absurd (cc), λ z. absurd (omega (arith, z, some))) }) there are (length-words n (drop 8 b)) in
-    let here : IsListPayload (list_shape b) (take (4 * list_places (list_shape b)) (drop 8 b)) = subst (λ z. IsListPayload z (take (4 * list_places z) (drop 8 b))) same payload in
+    is_list_payload s (drop 8 b) (record { low = few; flag = (λ e. absurd (cc), λ z. absurd (omega (arith, z, some))) }) there are (length-raw_coupons n (drop 8 b)) in
+    let here : IsListPayload (list_shape b) (take (4 * list_buckets (list_shape b)) (drop 8 b)) = subst (λ z. IsListPayload z (take (4 * list_buckets z) (drop 8 b))) same payload in
     record {
       sketch = _;
       read = list_is_read b (list_image b h table here);
@@ -44,18 +44,18 @@ list_of_coupons b n h table count filled compact some few there are =
       some = some_coupons n (drop 8 b) some are;
     }
 
--- the words behind the count of a compact set, in that number, are its coupons
+-- the raw coupons after the count of a compact set, in that number, are its coupons
 pub set_of_coupons : (b : List ℕ) (n : ℕ) → HasHeader b 1 → HasSetTable b → 4 ≤ length (drop 8 b) → n ≡ set_count (drop 8 b) → is_flagged 8 b ≡ true →
-    1 ≤ n → n < 2 ^ table_byte b → 4 * n ≤ length (drop 4 (drop 8 b)) → AreCoupons (words n (drop 4 (drop 8 b))) → IsOfCoupons b (words n (drop 4 (drop 8 b)))
+    1 ≤ n → n < 2 ^ table_byte b → 4 * n ≤ length (drop 4 (drop 8 b)) → AreCoupons (raw_coupons n (drop 4 (drop 8 b))) → IsOfCoupons b (raw_coupons n (drop 4 (drop 8 b)))
 set_of_coupons b n h table whole count compact some room there are =
     let p : List ℕ = drop 8 b in
     let s : SetShape = shape_of_set (table_byte b) true in
     let same : s ≡ set_shape b = λ i. shape_of_set (table_byte b) (sym compact i) in
-    let order : words n (drop 4 p) ≡ set_coupons s p = λ i. words (count i) (drop 4 p) in
-    let behind : 4 + 4 * set_places s p ≤ length p = omega (arith, whole, count, there, length-drop 4 p) in
-    let payload : IsSetPayload s (take (4 + 4 * set_places s p) p) =
-    is_set_payload s p (record { whole = whole; low = omega (arith, count, room) }) behind (subst AreCoupons order are) (length-words (set_count p) (drop 4 p)) in
-    let here : IsSetPayload (set_shape b) (take (4 + 4 * set_places (set_shape b) p) p) = subst (λ z. IsSetPayload z (take (4 + 4 * set_places z p) p)) same payload in
+    let order : raw_coupons n (drop 4 p) ≡ set_coupons s p = λ i. raw_coupons (count i) (drop 4 p) in
+    let after : 4 + 4 * set_buckets s p ≤ length p = omega (arith, whole, count, there, length-drop 4 p) in
+    let payload : IsSetPayload s (take (4 + 4 * set_buckets s p) p) =
+    is_set_payload s p (record { whole = whole; low = omega (arith, count, room) }) after (subst AreCoupons order are) (length-raw_coupons (set_count p) (drop 4 p)) in
+    let here : IsSetPayload (set_shape b) (take (4 + 4 * set_buckets (set_shape b) p) p) = subst (λ z. IsSetPayload z (take (4 + 4 * set_buckets z p) p)) same payload in
     record {
       sketch = _;
       read = set_is_read b h table here;
@@ -64,7 +64,7 @@ set_of_coupons b n h table whole count compact some room there are =
       some = some_coupons n (drop 4 p) some are;
     }
 
--- ---- ascending words
+-- ---- ascending raw coupons
 
 -- a number below all of a list is none of them
 absent : (x : ℕ) (xs : List ℕ) → All (λ y. x < y) xs → list_any (λ y. nat_eq y x) xs ≡ false
@@ -82,7 +82,7 @@ distinct (x ∷ xs) pairs =
     let more : len (set_of (x ∷ xs)) ≡ len (set_of xs) + 1 = len-insert nat_cmp_total (set_of xs) x ∙ cond-false (contains (set_of xs) x) (len (set_of xs)) (len (set_of xs) + 1) new in
     omega (arith, more, distinct xs (λ i j d less within. pairs (suc i) (suc j) d (omega (arith, less)) (omega (arith, within))))
 
--- words that increase from the last one without a value are coupons
+-- raw coupons that increase from the last one without a value are coupons
 pub increasing_coupons : (xs : List ℕ) → IsStrictlyIncreasing ((2 ^ 26 - 1) ∷ xs) → AreCoupons xs
 increasing_coupons xs up =
     let pairs = AllPairs-from_increasing ((2 ^ 26 - 1) ∷ xs) up in
@@ -91,14 +91,14 @@ increasing_coupons xs up =
       distinct = distinct xs (λ i j d less within. pairs (suc i) (suc j) d (omega (arith, less)) (omega (arith, within)));
     }
 
--- and so are words that are evidently coupons
+-- and so are raw coupons that are evidently coupons
 pub evident_coupons : (xs : List ℕ) → AreEvidentlyCoupons xs → AreCoupons xs
 evident_coupons xs (inl up) = increasing_coupons xs up
 evident_coupons xs (inr few) = few.1
 
--- ---- words that are left
+-- ---- raw coupons that are left
 
--- the first of them, and those behind it
-pub next_word : (left counter count : ℕ) (b : List ℕ) → left + counter ≡ count → counter < count → words left b ≡ from_le_bytes w32 b ∷ words (left - 1) (drop 4 b)
-next_word zero counter count b is less = absurd (omega (arith, is, less))
-next_word (suc n) counter count b is less = ap (λ m. from_le_bytes w32 b ∷ words m (drop 4 b)) (let e : n ≡ suc n - 1 = omega arith in e)
+-- the first of them, and those after it
+pub next_raw_coupon : (left counter count : ℕ) (b : List ℕ) → left + counter ≡ count → counter < count → raw_coupons left b ≡ from_le_bytes w32 b ∷ raw_coupons (left - 1) (drop 4 b)
+next_raw_coupon zero counter count b is less = absurd (omega (arith, is, less))
+next_raw_coupon (suc n) counter count b is less = ap (λ m. from_le_bytes w32 b ∷ raw_coupons m (drop 4 b)) (let e : n ≡ suc n - 1 = omega arith in e)

@@ -89,7 +89,7 @@ Decides-all_agree b = let h = hll4_shape b in Decides-below _ _ (λ s. Decides-a
 
 -- ---- the header
 
--- the checks of a header that passes them go on to those behind
+-- the checks of a header that passes them go on to those after
 pub header_passed : (b : List ℕ) (stage : ℕ) (cs : List Check) → stage < 3 → HasHeader b stage → first_failing (header_checks b ++ cs) ≡ first_failing cs
 header_passed b stage cs three h =
     passed _ _ _ (Decides-leb 8 (length b)) h.whole

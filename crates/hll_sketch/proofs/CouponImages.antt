@@ -19,7 +19,7 @@ use Rattle.hll_sketch.specs.declared.header.Header.{Header}
 use Rattle.hll_sketch.specs.Image.{AreBytes, byte, lg_k_byte, table_byte, width_bits, width_of_bits, HasHeader, list, set, hll8, hll6, hll4}
 use Rattle.hll_sketch.specs.Merging.{merge, merge_content, empty_union}
 use Rattle.hll_sketch.specs.Stage.{stage}
-use Rattle.hll_sketch.specs.TakenIn.{IsOfCoupons}
+use Rattle.hll_sketch.specs.MergedIn.{IsOfCoupons}
 use Rattle.hll_sketch.specs.Value.{Sketch, Content, coupons, registers, in_registers, pairs_in, pairs_of, is_empty, IsLgK, IsTableFor, IsLegal, IsLegalContent}
 use Rattle.hll_sketch.specs.Written.{coupon_image, Written}
 use Rattle.hll_sketch.proofs.Images.{at}
@@ -174,9 +174,9 @@ module _ (k kl kr p q : ℕ) (left right xs ys : List ℕ) (l : IsInOrder left k
   pub both_read : kl ≡ k → IsLgK kl → AreBothRead k left right
   both_read same legal = record { bound_is = subst IsLgK same legal; left_sketch = l.sketch; left_read = l.read; right_sketch = r.sketch; right_read = r.read }
 
--- words that ascend from the greatest without a value ascend
-pub ascends_behind : (xs : List ℕ) → IsStrictlyIncreasing ((2 ^ 26 - 1) ∷ xs) → IsStrictlyIncreasing xs
-ascends_behind xs up k within =
+-- raw coupons that ascend from the greatest without a value ascend
+pub ascends_after : (xs : List ℕ) → IsStrictlyIncreasing ((2 ^ 26 - 1) ∷ xs) → IsStrictlyIncreasing xs
+ascends_after xs up k within =
     let e : suc k + 1 ≡ suc (k + 1) = omega arith in subst (λ n. get_or xs k 0 < get_or ((2 ^ 26 - 1) ∷ xs) n 0) e (up (suc k) (omega (arith, within)))
 
 -- ---- one image

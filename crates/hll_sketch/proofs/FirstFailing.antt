@@ -7,13 +7,13 @@ use Rattle.std.proofs.lemmas.List.{length-drop, drop-drop, take-append-drop, len
 use Rattle.hll_base.specs.declared.error.Reason.{Reason}
 use Rattle.hll_base.specs.declared.error.Reason.TheVariants as reasons
 use Rattle.hll_coupons.specs.Coupons.{AreCoupons}
-use Rattle.hll_coupons.specs.Payload.{HasListCount, ListFault, list_places, list_coupons, set_count, set_places, set_coupons, HasSetCount, SetFault}
+use Rattle.hll_coupons.specs.Payload.{HasListCount, ListFault, list_buckets, list_coupons, set_count, set_buckets, set_coupons, HasSetCount, SetFault}
 use Rattle.hll_coupons.specs.Payload as coupons
 use Rattle.hll_coupons.proofs.Payloads.{front_number}
 use Rattle.hll_registers.specs.Payload.{num_at_cur_min, exception_count, field_size, hll4_size, entries_of, HasEntries, IsWhole, HasPlainCounts, IsHll8Payload, IsHll6Payload, FirstHll8Fault, FirstHll6Fault, FirstHll4Fault}
 use Rattle.hll_registers.specs.Payload as arrays
 use Rattle.hll_sketch.specs.Image.{lg_k_byte, table_byte, state_byte, width_bits, is_flagged, list_shape, set_shape, hll4_shape, HasHeader, HasSetTable}
-use Rattle.hll_sketch.specs.Checks.{Check, Checks, check, first_failing, checks_behind, list_checks, set_checks, plain_checks, hll4_checks, hll6_checks, hll8_checks, size_fault, first_fault}
+use Rattle.hll_sketch.specs.Checks.{Check, Checks, check, first_failing, checks_after, list_checks, set_checks, plain_checks, hll4_checks, hll6_checks, hll8_checks, size_fault, first_fault}
 use Rattle.hll_sketch.proofs.Checks.{passed, failed, header_passed, Decides-leb, Decides-list_count, Decides-set_table, Decides-coupons, Decides-entries, Decides-small, Decides-plain, Decides-counts, Decides-table, Decides-all_agree}
 
 -- a check that fails first does so whatever follows
@@ -42,31 +42,31 @@ IfErr-with (Ok x) P Q S h p q = tt
 IfErr-with (Err e) P Q S h p q = h e p q
 
 module _ (b : List ℕ) where
-  -- ---- behind a header
+  -- ---- after a header
 
-  pub behind_list : HasHeader b 0 → checks_behind b ≡ list_checks b
-  behind_list h = ap (λ s. cond (eqb s 0) (list_checks b) (cond (eqb s 1) (set_checks b) (cond (eqb (width_bits b) 0) (hll4_checks b) (cond (eqb (width_bits b) 1) (hll6_checks b) (hll8_checks b))))) h.stage_is
+  pub after_list : HasHeader b 0 → checks_after b ≡ list_checks b
+  after_list h = ap (λ s. cond (eqb s 0) (list_checks b) (cond (eqb s 1) (set_checks b) (cond (eqb (width_bits b) 0) (hll4_checks b) (cond (eqb (width_bits b) 1) (hll6_checks b) (hll8_checks b))))) h.stage_is
 
-  pub behind_set : HasHeader b 1 → checks_behind b ≡ set_checks b
-  behind_set h = ap (λ s. cond (eqb s 0) (list_checks b) (cond (eqb s 1) (set_checks b) (cond (eqb (width_bits b) 0) (hll4_checks b) (cond (eqb (width_bits b) 1) (hll6_checks b) (hll8_checks b))))) h.stage_is
+  pub after_set : HasHeader b 1 → checks_after b ≡ set_checks b
+  after_set h = ap (λ s. cond (eqb s 0) (list_checks b) (cond (eqb s 1) (set_checks b) (cond (eqb (width_bits b) 0) (hll4_checks b) (cond (eqb (width_bits b) 1) (hll6_checks b) (hll8_checks b))))) h.stage_is
 
-  pub behind_hll : (w : ℕ) → HasHeader b 2 → width_bits b ≡ w → checks_behind b ≡ cond (eqb w 0) (hll4_checks b) (cond (eqb w 1) (hll6_checks b) (hll8_checks b))
-  behind_hll w h width = λ i. cond (eqb (h.stage_is i) 0) (list_checks b) (cond (eqb (h.stage_is i) 1) (set_checks b) (cond (eqb (width i) 0) (hll4_checks b) (cond (eqb (width i) 1) (hll6_checks b) (hll8_checks b))))
+  pub after_hll : (w : ℕ) → HasHeader b 2 → width_bits b ≡ w → checks_after b ≡ cond (eqb w 0) (hll4_checks b) (cond (eqb w 1) (hll6_checks b) (hll8_checks b))
+  after_hll w h width = λ i. cond (eqb (h.stage_is i) 0) (list_checks b) (cond (eqb (h.stage_is i) 1) (set_checks b) (cond (eqb (width i) 0) (hll4_checks b) (cond (eqb (width i) 1) (hll6_checks b) (hll8_checks b))))
 
-  -- the first fault is that of the checks behind
-  pub first_behind : (s : ℕ) (cs : Checks) → s < 3 → HasHeader b s → checks_behind b ≡ cs → first_fault b ≡ first_failing (cs.size ++ cs.content)
-  first_behind s cs three h is = header_passed b s ((checks_behind b).size ++ (checks_behind b).content) three h ∙ ap (λ (cs : Checks). first_failing (cs.size ++ cs.content)) is
+  -- the first fault is that of the checks after
+  pub first_after : (s : ℕ) (cs : Checks) → s < 3 → HasHeader b s → checks_after b ≡ cs → first_fault b ≡ first_failing (cs.size ++ cs.content)
+  first_after s cs three h is = header_passed b s ((checks_after b).size ++ (checks_after b).content) three h ∙ ap (λ (cs : Checks). first_failing (cs.size ++ cs.content)) is
 
-  pub size_behind : (s : ℕ) (cs : Checks) → s < 3 → HasHeader b s → checks_behind b ≡ cs → size_fault b ≡ first_failing cs.size
-  size_behind s cs three h is = header_passed b s (checks_behind b).size three h ∙ ap (λ (cs : Checks). first_failing cs.size) is
+  pub size_after : (s : ℕ) (cs : Checks) → s < 3 → HasHeader b s → checks_after b ≡ cs → size_fault b ≡ first_failing cs.size
+  size_after s cs three h is = header_passed b s (checks_after b).size three h ∙ ap (λ (cs : Checks). first_failing cs.size) is
 
   -- ---- a list
 
-  list_sized : (cs : List Check) → 8 ≤ length b → table_byte b ≡ 3 → HasListCount (list_shape b) → 4 * list_places (list_shape b) ≤ length (drop 8 b) → first_failing ((list_checks b).size ++ cs) ≡ first_failing cs
+  list_sized : (cs : List Check) → 8 ≤ length b → table_byte b ≡ 3 → HasListCount (list_shape b) → 4 * list_buckets (list_shape b) ≤ length (drop 8 b) → first_failing ((list_checks b).size ++ cs) ≡ first_failing cs
   list_sized cs whole table count there =
       passed _ _ _ (Decides-eqb (table_byte b) 3) table
       ∙ passed _ _ _ (Decides-list_count b) count
-      ∙ passed _ _ _ (Decides-leb (8 + 4 * list_places (list_shape b)) (length b)) (omega (arith, there, whole, length-drop 8 b))
+      ∙ passed _ _ _ (Decides-leb (8 + 4 * list_buckets (list_shape b)) (length b)) (omega (arith, there, whole, length-drop 8 b))
 
   list_failing : (r : Reason) → 8 ≤ length b → table_byte b ≡ 3 → ListFault (list_shape b) (drop 8 b) r → (r ≡ reasons.Count → HasListCount (list_shape b) → AreCoupons (list_coupons (list_shape b) (drop 8 b)))
       → first_failing ((list_checks b).size ++ (list_checks b).content) ≡ Some r
@@ -76,7 +76,7 @@ module _ (b : List ℕ) where
   list_failing r whole table (coupons.ListFault.short count l) order =
       passed _ _ _ (Decides-eqb (table_byte b) 3) table
       ∙ passed _ _ _ (Decides-list_count b) count
-      ∙ failed _ _ _ (Decides-leb (8 + 4 * list_places (list_shape b)) (length b)) (λ t. omega (arith, t, l, length-drop 8 b))
+      ∙ failed _ _ _ (Decides-leb (8 + 4 * list_buckets (list_shape b)) (length b)) (λ t. omega (arith, t, l, length-drop 8 b))
   list_failing r whole table (coupons.ListFault.coupon count there n) order =
       list_sized (list_checks b).content whole table count there
       ∙ failed _ _ _ (Decides-coupons (list_coupons (list_shape b) (drop 8 b))) n
@@ -87,22 +87,22 @@ module _ (b : List ℕ) where
 
   pub list_first : (r : Reason) → HasHeader b 0 → table_byte b ≡ 3 → ListFault (list_shape b) (drop 8 b) r → (r ≡ reasons.Count → HasListCount (list_shape b) → AreCoupons (list_coupons (list_shape b) (drop 8 b)))
       → first_fault b ≡ Some r
-  list_first r h table f order = first_behind 0 (list_checks b) (omega arith) h (behind_list h) ∙ list_failing r h.whole table f order
+  list_first r h table f order = first_after 0 (list_checks b) (omega arith) h (after_list h) ∙ list_failing r h.whole table f order
 
   pub list_table_first : HasHeader b 0 → table_byte b ≢ 3 → first_fault b ≡ Some reasons.LgArr
-  list_table_first h n = first_behind 0 (list_checks b) (omega arith) h (behind_list h) ∙ failed _ _ _ (Decides-eqb (table_byte b) 3) n
+  list_table_first h n = first_after 0 (list_checks b) (omega arith) h (after_list h) ∙ failed _ _ _ (Decides-eqb (table_byte b) 3) n
 
-  pub list_asked : HasHeader b 0 → table_byte b ≡ 3 → HasListCount (list_shape b) → 4 * list_places (list_shape b) ≤ length (drop 8 b) → size_fault b ≡ None
-  list_asked h table count there = size_behind 0 (list_checks b) (omega arith) h (behind_list h) ∙ list_sized [] h.whole table count there
+  pub list_asked : HasHeader b 0 → table_byte b ≡ 3 → HasListCount (list_shape b) → 4 * list_buckets (list_shape b) ≤ length (drop 8 b) → size_fault b ≡ None
+  list_asked h table count there = size_after 0 (list_checks b) (omega arith) h (after_list h) ∙ list_sized [] h.whole table count there
 
   -- ---- a set
 
-  set_sized : (cs : List Check) → HasSetTable b → HasSetCount (set_shape b) (drop 8 b) → 4 + 4 * set_places (set_shape b) (drop 8 b) ≤ length (drop 8 b) → first_failing ((set_checks b).size ++ cs) ≡ first_failing cs
+  set_sized : (cs : List Check) → HasSetTable b → HasSetCount (set_shape b) (drop 8 b) → 4 + 4 * set_buckets (set_shape b) (drop 8 b) ≤ length (drop 8 b) → first_failing ((set_checks b).size ++ cs) ≡ first_failing cs
   set_sized cs table count there =
       passed _ _ _ (Decides-set_table b) table
       ∙ passed _ _ _ (Decides-leb 12 (length b)) (omega (arith, count.whole, length-drop 8 b))
       ∙ passed _ _ _ (Decides-ltb (set_count (drop 8 b)) (2 ^ table_byte b)) count.low
-      ∙ passed _ _ _ (Decides-leb (12 + 4 * set_places (set_shape b) (drop 8 b)) (length b)) (omega (arith, there, length-drop 8 b))
+      ∙ passed _ _ _ (Decides-leb (12 + 4 * set_buckets (set_shape b) (drop 8 b)) (length b)) (omega (arith, there, length-drop 8 b))
 
   set_failing : (r : Reason) → HasSetTable b → SetFault (set_shape b) (drop 8 b) r → (r ≡ reasons.Count → HasSetCount (set_shape b) (drop 8 b) → AreCoupons (set_coupons (set_shape b) (drop 8 b)))
       → first_failing ((set_checks b).size ++ (set_checks b).content) ≡ Some r
@@ -117,7 +117,7 @@ module _ (b : List ℕ) where
       passed _ _ _ (Decides-set_table b) table
       ∙ passed _ _ _ (Decides-leb 12 (length b)) (omega (arith, count.whole, length-drop 8 b))
       ∙ passed _ _ _ (Decides-ltb (set_count (drop 8 b)) (2 ^ table_byte b)) count.low
-      ∙ failed _ _ _ (Decides-leb (12 + 4 * set_places (set_shape b) (drop 8 b)) (length b)) (λ t. omega (arith, t, l, length-drop 8 b))
+      ∙ failed _ _ _ (Decides-leb (12 + 4 * set_buckets (set_shape b) (drop 8 b)) (length b)) (λ t. omega (arith, t, l, length-drop 8 b))
   set_failing r table (coupons.SetFault.coupon count there n) order =
       set_sized (set_checks b).content table count there
       ∙ failed _ _ _ (Decides-coupons (set_coupons (set_shape b) (drop 8 b))) n
@@ -128,13 +128,13 @@ module _ (b : List ℕ) where
 
   pub set_first : (r : Reason) → HasHeader b 1 → HasSetTable b → SetFault (set_shape b) (drop 8 b) r → (r ≡ reasons.Count → HasSetCount (set_shape b) (drop 8 b) → AreCoupons (set_coupons (set_shape b) (drop 8 b)))
       → first_fault b ≡ Some r
-  set_first r h table f order = first_behind 1 (set_checks b) (omega arith) h (behind_set h) ∙ set_failing r table f order
+  set_first r h table f order = first_after 1 (set_checks b) (omega arith) h (after_set h) ∙ set_failing r table f order
 
   pub set_table_first : HasHeader b 1 → (HasSetTable b → ⊥) → first_fault b ≡ Some reasons.LgArr
-  set_table_first h n = first_behind 1 (set_checks b) (omega arith) h (behind_set h) ∙ failed _ _ _ (Decides-set_table b) n
+  set_table_first h n = first_after 1 (set_checks b) (omega arith) h (after_set h) ∙ failed _ _ _ (Decides-set_table b) n
 
-  pub set_asked : HasHeader b 1 → HasSetTable b → HasSetCount (set_shape b) (drop 8 b) → 4 + 4 * set_places (set_shape b) (drop 8 b) ≤ length (drop 8 b) → size_fault b ≡ None
-  set_asked h table count there = size_behind 1 (set_checks b) (omega arith) h (behind_set h) ∙ set_sized [] table count there
+  pub set_asked : HasHeader b 1 → HasSetTable b → HasSetCount (set_shape b) (drop 8 b) → 4 + 4 * set_buckets (set_shape b) (drop 8 b) ≤ length (drop 8 b) → size_fault b ≡ None
+  set_asked h table count there = size_after 1 (set_checks b) (omega arith) h (after_set h) ∙ set_sized [] table count there
 
   -- ---- registers of eight and six bits
 
@@ -169,7 +169,7 @@ module _ (b : List ℕ) where
       ∙ failed _ _ _ (Decides-small (take (2 ^ lg_k_byte b) (drop 40 b))) (λ small. n (subst (All (λ v. v ≤ 63)) same small))
 
   pub eight_first : (r : Reason) → HasHeader b 2 → width_bits b ≡ 2 → FirstHll8Fault (lg_k_byte b) (drop 8 b) r → first_fault b ≡ Some r
-  eight_first r h width f = first_behind 2 (hll8_checks b) (omega arith) h (behind_hll 2 h width) ∙ eight_failing r f
+  eight_first r h width f = first_after 2 (hll8_checks b) (omega arith) h (after_hll 2 h width) ∙ eight_failing r f
 
   six_failing : (r : Reason) → FirstHll6Fault (lg_k_byte b) (drop 8 b) r → first_failing ((hll6_checks b).size ++ (hll6_checks b).content) ≡ Some r
   six_failing r (arrays.FirstHll6Fault.no_counts l) = no_counts_failing (field_size (lg_k_byte b)) [] l
@@ -178,7 +178,7 @@ module _ (b : List ℕ) where
   six_failing r (arrays.FirstHll6Fault.short counts l) = short_failing (field_size (lg_k_byte b)) [] counts l
 
   pub six_first : (r : Reason) → HasHeader b 2 → width_bits b ≡ 1 → FirstHll6Fault (lg_k_byte b) (drop 8 b) r → first_fault b ≡ Some r
-  six_first r h width f = first_behind 2 (hll6_checks b) (omega arith) h (behind_hll 1 h width) ∙ six_failing r f
+  six_first r h width f = first_after 2 (hll6_checks b) (omega arith) h (after_hll 1 h width) ∙ six_failing r f
 
   -- the counts of a front are those of the whole
   front_counts : (n : ℕ) → length (take (32 + n) (drop 8 b)) ≡ 32 + n → num_at_cur_min (take (32 + n) (drop 8 b)) ≤ 2 ^ lg_k_byte b → exception_count (take (32 + n) (drop 8 b)) ≡ 0 → HasPlainCounts (lg_k_byte b) (drop 8 b)
@@ -194,13 +194,13 @@ module _ (b : List ℕ) where
   pub eight_asked : HasHeader b 2 → width_bits b ≡ 2 → IsHll8Payload (lg_k_byte b) (take (32 + 2 ^ lg_k_byte b) (drop 8 b)) → size_fault b ≡ None
   eight_asked h width p =
       let n : ℕ = 2 ^ lg_k_byte b in
-      size_behind 2 (hll8_checks b) (omega arith) h (behind_hll 2 h width)
+      size_after 2 (hll8_checks b) (omega arith) h (after_hll 2 h width)
       ∙ plain_sized n [] (front_counts n p.size p.zero_count p.no_exceptions) (omega (arith, p.size, length-take (32 + n) (drop 8 b)))
 
   pub six_asked : HasHeader b 2 → width_bits b ≡ 1 → IsHll6Payload (lg_k_byte b) (take (32 + field_size (lg_k_byte b)) (drop 8 b)) → size_fault b ≡ None
   six_asked h width p =
       let n : ℕ = field_size (lg_k_byte b) in
-      size_behind 2 (hll6_checks b) (omega arith) h (behind_hll 1 h width)
+      size_after 2 (hll6_checks b) (omega arith) h (after_hll 1 h width)
       ∙ plain_sized n [] (front_counts n p.size p.zero_count p.no_exceptions) (omega (arith, p.size, length-take (32 + n) (drop 8 b)))
 
   -- ---- registers of four bits
@@ -254,7 +254,7 @@ module _ (b : List ℕ) where
       ∙ failed _ _ _ (Decides-all_agree b) n
 
   pub four_first : (r : Reason) → HasHeader b 2 → width_bits b ≡ 0 → FirstHll4Fault (hll4_shape b) (drop 8 b) r → first_fault b ≡ Some r
-  four_first r h width f = first_behind 2 (hll4_checks b) (omega arith) h (behind_hll 0 h width) ∙ four_failing r f
+  four_first r h width f = first_after 2 (hll4_checks b) (omega arith) h (after_hll 0 h width) ∙ four_failing r f
 
   pub four_asked : HasHeader b 2 → width_bits b ≡ 0 → IsWhole (hll4_shape b) (drop 8 b) → size_fault b ≡ None
-  four_asked h width whole = size_behind 2 (hll4_checks b) (omega arith) h (behind_hll 0 h width) ∙ four_sized [] whole
+  four_asked h width whole = size_after 2 (hll4_checks b) (omega arith) h (after_hll 0 h width) ∙ four_sized [] whole

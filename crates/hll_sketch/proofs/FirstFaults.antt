@@ -6,7 +6,7 @@ use Rattle.std.proofs.lemmas.Bool.Decides.{Decides-eqb, Decides-ltb}
 use Rattle.std.proofs.lemmas.List.{length-drop, drop-drop}
 use Rattle.hll_base.specs.declared.error.Reason.{Reason}
 use Rattle.hll_coupons.specs.Pair.{set_of}
-use Rattle.hll_coupons.specs.Payload.{HasListCount, list_places, list_coupons, list_table, shape_of_list, set_count, set_places, set_coupons, HasSetCount}
+use Rattle.hll_coupons.specs.Payload.{HasListCount, list_buckets, list_coupons, list_table, shape_of_list, set_count, set_buckets, set_coupons, HasSetCount}
 use Rattle.hll_coupons.specs.Payload as coupons
 use Rattle.hll_coupons.proofs.Reading.{is_list_payload, coupons_in-list_table}
 use Rattle.hll_coupons.proofs.SetReading.{is_set_payload}
@@ -18,7 +18,7 @@ use Rattle.hll_sketch.specs.Value.{Sketch}
 use Rattle.hll_sketch.specs.Image.{byte, lg_k_byte, table_byte, state_byte, preamble_byte, preamble_words, stage_bits, width_bits, is_flagged, list_shape, set_shape, hll4_shape, HasHeader, IsReadAs}
 use Rattle.hll_sketch.specs.Fault.{IsFault, HeaderFault}
 use Rattle.hll_sketch.specs.Fault as fault
-use Rattle.hll_sketch.specs.Checks.{Check, Checks, first_failing, header_checks, checks_behind, list_checks, set_checks, hll4_checks, hll6_checks, hll8_checks, first_fault, FirstFaultStands, FaultlessIsImage}
+use Rattle.hll_sketch.specs.Checks.{Check, Checks, first_failing, header_checks, checks_after, list_checks, set_checks, hll4_checks, hll6_checks, hll8_checks, first_fault, FirstFaultStands, FaultlessIsImage}
 use Rattle.hll_sketch.proofs.Checks.{decide, Decides-leb, Decides-lg_k, Decides-list_count, Decides-set_table, Decides-coupons, Decides-entries, Decides-small, Decides-plain, Decides-counts, Decides-table, Decides-all_agree}
 use Rattle.hll_sketch.proofs.Faults.{fault_excludes_image}
 use Rattle.hll_sketch.proofs.FrontImages.{read_as-list, read_as-set, read_as-eight, read_as-six, read_as-four}
@@ -40,7 +40,7 @@ module _ (b : List ℕ) where
   abbrev R : Option Reason → Type 0
   R = Outcome b
 
-  -- the checks behind have this outcome
+  -- the checks after have this outcome
   abbrev Gives : Checks → Type 0
   Gives cs = R (first_failing (cs.size ++ cs.content))
 
@@ -59,9 +59,9 @@ module _ (b : List ℕ) where
   by_list h =
       decide R _ _ _ (Decides-eqb (table_byte b) 3) (λ n. fault.IsFault.list_table h.whole h.stage_is n) (λ table.
       decide R _ _ _ (Decides-list_count b) (λ n. fault.IsFault.list_payload h.whole h.stage_is (coupons.ListFault.count n)) (λ count.
-      decide R _ _ _ (Decides-leb (8 + 4 * list_places (list_shape b)) (length b))
+      decide R _ _ _ (Decides-leb (8 + 4 * list_buckets (list_shape b)) (length b))
       (λ n. fault.IsFault.list_payload h.whole h.stage_is (coupons.ListFault.short count (omega (arith, n, length-drop 8 b)))) (λ long.
-      let there : 4 * list_places (list_shape b) ≤ length (drop 8 b) = omega (arith, long, length-drop 8 b) in
+      let there : 4 * list_buckets (list_shape b) ≤ length (drop 8 b) = omega (arith, long, length-drop 8 b) in
       decide R _ _ _ (Decides-coupons (list_coupons (list_shape b) (drop 8 b)))
       (λ n. fault.IsFault.list_payload h.whole h.stage_is (coupons.ListFault.coupon count there n)) (λ are.
       decide R _ _ _ (Decides-eqb (length (list_coupons (list_shape b) (drop 8 b))) (state_byte b))
@@ -76,9 +76,9 @@ module _ (b : List ℕ) where
       decide R _ _ _ (Decides-ltb (set_count (drop 8 b)) (2 ^ table_byte b))
       (λ n. fault.IsFault.set_payload h.whole h.stage_is h.lg_k table (coupons.SetFault.count whole (omega (arith, n)))) (λ low.
       let count : HasSetCount (set_shape b) (drop 8 b) = record { whole = whole; low = low } in
-      decide R _ _ _ (Decides-leb (12 + 4 * set_places (set_shape b) (drop 8 b)) (length b))
+      decide R _ _ _ (Decides-leb (12 + 4 * set_buckets (set_shape b) (drop 8 b)) (length b))
       (λ n. fault.IsFault.set_payload h.whole h.stage_is h.lg_k table (coupons.SetFault.short count (omega (arith, n, length-drop 8 b)))) (λ long.
-      let there : 4 + 4 * set_places (set_shape b) (drop 8 b) ≤ length (drop 8 b) = omega (arith, long, length-drop 8 b) in
+      let there : 4 + 4 * set_buckets (set_shape b) (drop 8 b) ≤ length (drop 8 b) = omega (arith, long, length-drop 8 b) in
       decide R _ _ _ (Decides-coupons (set_coupons (set_shape b) (drop 8 b)))
       (λ n. fault.IsFault.set_payload h.whole h.stage_is h.lg_k table (coupons.SetFault.coupon count there n)) (λ are.
       decide R _ _ _ (Decides-eqb (length (set_coupons (set_shape b) (drop 8 b))) (set_count (drop 8 b)))
@@ -144,7 +144,7 @@ module _ (b : List ℕ) where
       (λ f. fault.IsFault.hll4_payload h.whole h.stage_is width h.lg_k (arrays.Hll4Fault.register has there are number f)) (λ agree.
       (_, read_as-four b _ h width (is_hll4_payload (hll4_shape b) (drop 8 b) (record { low = counts.0; has_entries = has; there = there }) are number agree) refl))))))))
 
-  by_kind : stage_bits b < 3 → HasHeader b (stage_bits b) → Gives (checks_behind b)
+  by_kind : stage_bits b < 3 → HasHeader b (stage_bits b) → Gives (checks_after b)
   by_kind three h =
       let of : (s : ℕ) → stage_bits b ≡ s → HasHeader b s = λ s e. subst (HasHeader b) e h in
       cond_both (eqb (stage_bits b) 0) _ _ Gives (λ e. by_list (of 0 ((Decides-eqb (stage_bits b) 0).0 e))) (λ list.
@@ -155,7 +155,7 @@ module _ (b : List ℕ) where
       by_eight hll (omega (arith, hll.width, eqb-false (width_bits b) 0 four, eqb-false (width_bits b) 1 six))))))
 
   outcome : Outcome b (first_fault b)
-  outcome = by_header ((checks_behind b).size ++ (checks_behind b).content) by_kind
+  outcome = by_header ((checks_after b).size ++ (checks_after b).content) by_kind
 
 pub first_fault_stands : FirstFaultStands
 first_fault_stands b r e = subst (Outcome b) e (outcome b)

@@ -18,7 +18,7 @@ module _ (V B : List ℕ) (k e : ℕ) (small : k ≤ 21) (le : e ≤ k) (size : 
       sym (ap (λ R. fold_to (pairs R) e) (take_at V B ((0 + 1) * 2 ^ e) one) ∙ fold_to-pairs V e (omega (arith, small, le)) size)
 
   module _ (i : ℕ) (inside : i < 2 ^ (k - e) - 1) where
-    -- a block behind it lies within
+    -- a block after it lies within
     pub block_there : (i + 1) * length V ≤ length B
     block_there =
         let within : (i + 1 + 1) * 2 ^ e ≤ 2 ^ k = block-within k e (i + 1) small le (omega (arith, inside)) in
@@ -34,8 +34,8 @@ module _ (V B : List ℕ) (k e : ℕ) (small : k ≤ 21) (le : e ≤ k) (size : 
         let n : ℕ = length V in
         let one : (i + 1) * n - i * n ≡ 2 ^ e = omega (arith, size) in
         let at : n + i * n ≡ (i + 1) * 2 ^ e = (let e' : n + i * n ≡ (i + 1) * n = omega arith in e') ∙ ap (λ m. (i + 1) * m) size in
-        let behind : drop (i * n) B ≡ drop ((i + 1) * 2 ^ e) (V ++ B) = sym (drop-append-add V B (i * n)) ∙ ap (λ m. drop m (V ++ B)) at in
-        (λ t. join (is t) (take (one t) (behind t))) ∙ sym (folded-next (V ++ B) e (i + 1) few enough)
+        let after : drop (i * n) B ≡ drop ((i + 1) * 2 ^ e) (V ++ B) = sym (drop-append-add V B (i * n)) ∙ ap (λ m. drop m (V ++ B)) at in
+        (λ t. join (is t) (take (one t) (after t))) ∙ sym (folded-next (V ++ B) e (i + 1) few enough)
 
   -- and then all are
   pub all_blocks : (i : ℕ) (W : List ℕ) → 2 ^ (k - e) ≤ i + 1 → W ≡ folded (V ++ B) e ((i + 1) * 2 ^ e) → W ≡ fold_to (pairs (V ++ B)) e

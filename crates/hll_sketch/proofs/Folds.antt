@@ -8,8 +8,8 @@ use Rattle.hll_coupons.specs.Fold.{fold_to, pairs}
 use Rattle.hll_coupons.proofs.Registers.{fold_to-pairs, fold_to-pairs-fold_to}
 use Rattle.hll_registers.specs.State.{IsState, cleared_state}
 use Rattle.hll_sketch.specs.Adding.{content_for}
-use Rattle.hll_sketch.specs.Folding.{folded, folded_content, FoldedIsLegal, FoldedIsGrown, FoldedHasSameFolds}
-use Rattle.hll_sketch.specs.Grown.{IsGrownContent}
+use Rattle.hll_sketch.specs.Folding.{folded, folded_content, FoldedIsLegal, FoldedIsCanonical, FoldedHasSameFolds}
+use Rattle.hll_sketch.specs.Canonical.{IsCanonicalClearedContent}
 use Rattle.hll_sketch.specs.Stage.{stage}
 use Rattle.hll_sketch.specs.Value.{Sketch, Content, coupons, registers, pairs_in, in_registers, IsLegal, IsLegalContent}
 use Rattle.hll_sketch.proofs.LegalSketches.{settled_legal, fold_are_registers, ArePairs-pairs, IsState-cleared_state}
@@ -40,16 +40,16 @@ folded_is_legal x e legal at = record {
   content = folded_content_legal x.lg_k e x.content legal.lg_k.high legal.content;
 }
 
-grown_settled : (e : ℕ) (S : Pairs) (o : Option ℕ) → stage e 3 (len S) ≡ o → IsGrownContent e (content_for e S o)
-grown_settled e S (Some q) is = is
-grown_settled e S None is = refl
+canonical_settled : (e : ℕ) (S : Pairs) (o : Option ℕ) → stage e 3 (len S) ≡ o → IsCanonicalClearedContent e (content_for e S o)
+canonical_settled e S (Some q) is = is
+canonical_settled e S None is = refl
 
-grown_content : (k e : ℕ) (c : Content) → IsGrownContent k c → IsGrownContent e (folded_content k e c)
-grown_content k e (coupons S p) grown = grown_settled e S (stage e 3 (len S)) refl
-grown_content k e (registers R s) grown = elim (eqb e k) as (λ b. cond b s cleared_state ≡ cleared_state) [ true ↦ grown | false ↦ refl ]
+canonical_content : (k e : ℕ) (c : Content) → IsCanonicalClearedContent k c → IsCanonicalClearedContent e (folded_content k e c)
+canonical_content k e (coupons S p) canonical = canonical_settled e S (stage e 3 (len S)) refl
+canonical_content k e (registers R s) canonical = elim (eqb e k) as (λ b. cond b s cleared_state ≡ cleared_state) [ true ↦ canonical | false ↦ refl ]
 
-pub folded_is_grown : FoldedIsGrown
-folded_is_grown x e grown = grown_content x.lg_k e x.content grown
+pub folded_is_canonical : FoldedIsCanonical
+folded_is_canonical x e canonical = canonical_content x.lg_k e x.content canonical
 
 settled_folds : (e d : ℕ) (S : Pairs) (o : Option ℕ) → e ≤ 21 → d ≤ e → fold_to (pairs_in (content_for e S o)) d ≡ fold_to S d
 settled_folds e d S (Some q) small below = refl

@@ -19,7 +19,7 @@ use Rattle.hll_registers.specs.declared.estimate_state.EstimateState.{EstimateSt
 use Rattle.hll_sketch.specs.Stage.{stage}
 use Rattle.hll_sketch.specs.Value.{Sketch, Content, coupons, registers, pairs_in, pairs_of, in_registers, is_empty, ArePairs, IsLegalContent, IsLegal}
 use Rattle.hll_sketch.specs.Adding.{content_for, content_with, add}
-use Rattle.hll_sketch.specs.Merging.{merge_coupons, merge_registers, merge_content}
+use Rattle.hll_sketch.specs.Merging.{merge, merge_coupons, max_registers, merge_content}
 use Rattle.hll_sketch.specs.Union.{IsGadget}
 use Rattle.hll_sketch.proofs.LegalImages.{ArePairs-set_of}
 use Rattle.hll_coupons.proofs.Unions.{no_members, union_right}
@@ -106,9 +106,10 @@ gadget_taking m g x bare some is legal other = elim (cases_Bool (is_empty g && n
       (gadget_with m g (pairs_of x) is legal (pairs_are x.lg_k x.content other.lg_k.high other.content) (some_pairs (pairs_of x) some))
 ]
 
-gadget_joining : (m : ℕ) (g : Sketch) (k : ℕ) (R : List ℕ) (s : EstimateState) → k ≤ 21 → IsLegalContent k (registers R s) → eqb (len (pairs R)) 0 ≡ false →
-    IsGadget m g → IsLegal g → IsGadget m (merge_registers m g k R s)
-gadget_joining m g k R s small right some is legal =
+-- registers that the maximum is taken with
+pub gadget_with_registers : (m : ℕ) (g : Sketch) (k : ℕ) (R : List ℕ) (s t : EstimateState) → k ≤ 21 → IsLegalContent k (registers R s) → eqb (len (pairs R)) 0 ≡ false →
+    IsGadget m g → IsLegal g → IsGadget m (max_registers g k R t)
+gadget_with_registers m g k R s t small right some is legal =
     let P : Pairs = union (pairs_of g) (pairs R) in
     record {
       width = is.width;
@@ -123,4 +124,10 @@ gadget_joining m g k R s small right some is legal =
 pub gadget_of_content : (m : ℕ) (g x : Sketch) (c : Content) → x.content ≡ c → is_empty x ≡ false → IsGadget m g → IsLegal g → IsLegal x → IsGadget m (merge_content m g x c)
 gadget_of_content m g x (coupons S p) e some is legal other = gadget_taking m g x (ap in_registers e) some is legal other
 gadget_of_content m g x (registers R s) e some is legal other =
-    gadget_joining m g x.lg_k R s other.lg_k.high (subst (IsLegalContent x.lg_k) e other.content) (ap (λ c. eqb (len (pairs_in c)) 0) (sym e) ∙ some) is legal
+    gadget_with_registers m g x.lg_k R s _ other.lg_k.high (subst (IsLegalContent x.lg_k) e other.content) (ap (λ c. eqb (len (pairs_in c)) 0) (sym e) ∙ some) is legal
+
+pub gadget_merge : (m : ℕ) (g x : Sketch) → IsGadget m g → IsLegal g → IsLegal x → IsGadget m (merge m g x)
+gadget_merge m g x is legal other = elim (cases_Bool (is_empty x)) [
+  | inl none ↦ subst (IsGadget m) (sym (cond-true (is_empty x) g (merge_content m g x x.content) none)) is
+  | inr some ↦ subst (IsGadget m) (sym (cond-false (is_empty x) g (merge_content m g x x.content) some)) (gadget_of_content m g x x.content refl some is legal other)
+]

@@ -1,6 +1,6 @@
 -- SPDX-License-Identifier: Apache-2.0
 -- The registers of an image.
-use Rattle.std.proofs.Common.{◌≡◌, ℕ, ◌^◌, List, ◌++◌, length, take, drop, replicate, inl, refl, sym, ap, subst, ◌∙◌}
+use Rattle.std.proofs.Common.{◌≡◌, ℕ, ◌^◌, List, ◌++◌, length, take, drop, replicate, inl, sym, ap, ◌∙◌}
 use Rattle.std.proofs.Math.Seq.{take-append_seam}
 use Rattle.hll_base.specs.Join.{join}
 use Rattle.hll_base.specs.declared.error.Reason.{Reason}
@@ -8,10 +8,11 @@ use Rattle.hll_base.specs.declared.error.Reason.TheVariants.{Memory}
 use Rattle.hll_coupons.proofs.Folds.{length-fold_to}
 use Rattle.hll_coupons.specs.Fold.{fold_to, pairs}
 use Rattle.hll_coupons.specs.Pair.{Pairs, set_of}
+use Rattle.hll_registers.specs.Store.{Stored}
 use Rattle.hll_sketch.specs.ByteRegisters.{AreRegistersOf}
 use Rattle.hll_sketch.specs.Image.{lg_k_byte, IsReadAs}
 use Rattle.hll_sketch.specs.Refusal.{IsRefusal}
-use Rattle.hll_sketch.specs.TakenIn.{IsOfCoupons, IsOfRegisters}
+use Rattle.hll_sketch.specs.MergedIn.{IsOfCoupons, IsOfRegisters}
 use Rattle.hll_sketch.specs.Value.{Sketch, pairs_in}
 use Rattle.hll_sketch.proofs.CouponImages.{coupons_say}
 use Rattle.hll_sketch.proofs.Promoting.{join-zeros}
@@ -22,8 +23,8 @@ pub wants_memory : (b : List ℕ) (x : Sketch) (e : Reason) → IsReadAs b x →
 wants_memory b x e read is = record { first = inl is; asked = λ _. sized_if_read b x read }
 
 -- registers as they stand in an image
-pub of_registers : (b : List ℕ) (l k : ℕ) (R values : List ℕ) → IsOfRegisters b l R → k ≡ l → values ≡ fold_to (pairs R) k → AreRegistersOf b k values
-of_registers b l k R values of same are = record {
+pub of_registers : (b : List ℕ) (x : Stored) (k : ℕ) (values : List ℕ) → IsOfRegisters b x → k ≡ x.lg_k → values ≡ fold_to (pairs x.registers) k → AreRegistersOf b k values
+of_registers b x k values of same are = record {
   sketch = of.sketch;
   read = of.read;
   lg_k = of.lg_k ∙ sym same;

@@ -17,24 +17,24 @@ use Rattle.hll_sketch.specs.Fault.{IsFault, set_table, hll8_payload, hll4_payloa
 
 -- ---- what images mean
 
--- a list in eight places, with gaps between slot 7 with value 2 and slot 5 with value 1
+-- a list in eight buckets, with gaps between slot 7 with value 2 and slot 5 with value 1
 abbrev list_with_gaps : List ℕ
 list_with_gaps = 2 ∷ 1 ∷ 7 ∷ 10 ∷ 3 ∷ 0 ∷ 2 ∷ 8 ∷ 0 ∷ 0 ∷ 0 ∷ 0 ∷ 7 ∷ 0 ∷ 0 ∷ 8 ∷ 0 ∷ 0 ∷ 0 ∷ 0 ∷ 0 ∷ 0 ∷ 0 ∷ 0 ∷ 5 ∷ 0 ∷ 0 ∷ 4 ∷ 0 ∷ 0 ∷ 0 ∷ 0 ∷ 0 ∷ 0 ∷ 0 ∷ 0 ∷ 0 ∷ 0 ∷ 0 ∷ 0 ∷ []
 
 pub coupons-list_with_gaps : list_coupons (list_shape list_with_gaps) (drop 8 list_with_gaps) ≡ pair 7 2 ∷ pair 5 1 ∷ []
 coupons-list_with_gaps = refl
 
--- a set in 32 places, of which the first has slot 5 and value 3
-abbrev set_in_places : List ℕ
-set_in_places = 3 ∷ 1 ∷ 7 ∷ 8 ∷ 5 ∷ 0 ∷ 0 ∷ 9 ∷ 1 ∷ 0 ∷ 0 ∷ 0 ∷ 5 ∷ 0 ∷ 0 ∷ 12 ∷ replicate 124 0
+-- a set in 32 buckets, of which the first has slot 5 and value 3
+abbrev set_in_buckets : List ℕ
+set_in_buckets = 3 ∷ 1 ∷ 7 ∷ 8 ∷ 5 ∷ 0 ∷ 0 ∷ 9 ∷ 1 ∷ 0 ∷ 0 ∷ 0 ∷ 5 ∷ 0 ∷ 0 ∷ 12 ∷ replicate 124 0
 
-pub coupons-set_in_places : set_coupons (set_shape set_in_places) (drop 8 set_in_places) ≡ pair 5 3 ∷ []
-coupons-set_in_places = refl
+pub coupons-set_in_buckets : set_coupons (set_shape set_in_buckets) (drop 8 set_in_buckets) ≡ pair 5 3 ∷ []
+coupons-set_in_buckets = refl
 
-pub count-set_in_places : length (set_coupons (set_shape set_in_places) (drop 8 set_in_places)) ≡ set_count (drop 8 set_in_places)
-count-set_in_places = refl
+pub count-set_in_buckets : length (set_coupons (set_shape set_in_buckets) (drop 8 set_in_buckets)) ≡ set_count (drop 8 set_in_buckets)
+count-set_in_buckets = refl
 
--- four bits, with the one exception in a table of four places
+-- four bits, with the one exception in a table of four buckets
 abbrev four_with_table : List ℕ
 four_with_table = 10 ∷ 1 ∷ 7 ∷ 4 ∷ 2 ∷ 0 ∷ 0 ∷ 2 ∷ 0 ∷ 0 ∷ 0 ∷ 0 ∷ 0 ∷ 0 ∷ 0 ∷ 0 ∷ 0 ∷ 0 ∷ 0 ∷ 0 ∷ 0 ∷ 0 ∷ 0 ∷ 0 ∷ 0 ∷ 0 ∷ 0 ∷ 0 ∷ 0 ∷ 0 ∷ 0 ∷ 0 ∷ 15 ∷ 0 ∷ 0 ∷ 0 ∷ 1 ∷ 0 ∷ 0 ∷ 0 ∷ 15 ∷ 0 ∷ 0 ∷ 0 ∷ 0 ∷ 0 ∷ 0 ∷ 0 ∷ 0 ∷ 0 ∷ 0 ∷ 0 ∷ 0 ∷ 0 ∷ 0 ∷ 0 ∷ 0 ∷ 0 ∷ 0 ∷ 80 ∷ 0 ∷ 0 ∷ 0 ∷ 0 ∷ []
 
@@ -57,7 +57,7 @@ registers-four_all_63 = refl
 
 -- ---- what is written
 
--- three words of 0 with the flag unset
+-- three fields of 0 with the flag unset
 abbrev plain_state : EstimateState
 plain_state = record { words = 0 ∷ 0 ∷ 0 ∷ []; out_of_order = false }
 
@@ -83,7 +83,7 @@ written-exception = refl
 
 -- ---- faults
 
--- four bits with an exception, in a table of 2^27 places
+-- four bits with an exception, in a table of 2^27 buckets
 abbrev table_of_27 : List ℕ
 table_of_27 = 10 ∷ 1 ∷ 7 ∷ 4 ∷ 27 ∷ 0 ∷ 0 ∷ 2 ∷ 0 ∷ 0 ∷ 0 ∷ 0 ∷ 0 ∷ 0 ∷ 0 ∷ 0 ∷ 0 ∷ 0 ∷ 0 ∷ 0 ∷ 0 ∷ 0 ∷ 0 ∷ 0 ∷ 0 ∷ 0 ∷ 0 ∷ 0 ∷ 0 ∷ 0 ∷ 0 ∷ 0 ∷ 15 ∷ 0 ∷ 0 ∷ 0 ∷ 1 ∷ 0 ∷ 0 ∷ 0 ∷ []
 
@@ -99,7 +99,7 @@ fault-no_exception = hll4_payload (omega arith) refl refl (record { low = omega 
     (payload.register (record { whole = omega arith; few = omega arith; table = λ c n. absurd (n refl) }) (omega arith)
     (record { valued = λ i d l. absurd (omega (arith, l)); distinct = len-empty nat_cmp }) refl (λ agree. omega (arith, (agree 0 (omega arith)).0)))
 
--- a set in 64 places, at an lg_k of 8
+-- a set in 64 buckets, at an lg_k of 8
 abbrev set_of_size_6 : List ℕ
 set_of_size_6 = 3 ∷ 1 ∷ 7 ∷ 8 ∷ 6 ∷ 8 ∷ 0 ∷ 9 ∷ 0 ∷ 0 ∷ 0 ∷ 0 ∷ []
 
@@ -122,7 +122,7 @@ two_faults = 2 ∷ 2 ∷ 8 ∷ 10 ∷ 3 ∷ 12 ∷ 0 ∷ 8 ∷ []
 pub first-two_faults : first_fault two_faults ≡ Some Family
 first-two_faults = refl
 
--- a set in 64 places, at an lg_k of 8, that ends before its count
+-- a set in 64 buckets, at an lg_k of 8, that ends before its count
 abbrev short_set_of_size_6 : List ℕ
 short_set_of_size_6 = 3 ∷ 1 ∷ 7 ∷ 8 ∷ 6 ∷ 8 ∷ 0 ∷ 9 ∷ []
 

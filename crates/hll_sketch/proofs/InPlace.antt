@@ -8,7 +8,7 @@ use Rattle.std.proofs.lemmas.Bool.{cases_Bool, cond-true, cond-false, eq-eqb}
 use Rattle.hll_base.specs.declared.hll_type.HllType.{HllType}
 use Rattle.hll_sketch.specs.Adding.{add, content_with}
 use Rattle.hll_sketch.specs.Merging.{merge, merge_content, empty_union}
-use Rattle.hll_sketch.specs.Union.{IsGadget, ContentNeedsMemory, MergeNeedsMemory}
+use Rattle.hll_sketch.specs.Union.{IsGadget}
 use Rattle.hll_sketch.specs.Value.{Sketch, Content, coupons, registers, in_registers, is_empty, has_nonzero_registers, pairs_of, IsLegal}
 use Rattle.hll_sketch.proofs.Adding.{lg_k-merge}
 use Rattle.hll_sketch.proofs.Merges.{merged_whole, other_empty}
@@ -48,12 +48,3 @@ lg_k-merge_within m g x below = lg_k-merge m g x ∙ elim (cases_Bool (has_nonze
   | inl t ↦ cond-true (has_nonzero_registers x) (min g.lg_k x.lg_k) g.lg_k t ∙ (let least : min g.lg_k x.lg_k ≡ g.lg_k = omega (arith, below) in least)
   | inr f ↦ cond-false (has_nonzero_registers x) (min g.lg_k x.lg_k) g.lg_k f
 ]
-
--- a merge into registers takes no memory then
-pub no_memory_needed : (g x : Sketch) → in_registers g.content ≡ true → g.lg_k ≤ x.lg_k → MergeNeedsMemory g x → ⊥
-no_memory_needed g x inside below needs = of g.content x.content inside needs.content
-  where
-    of : (c d : Content) → in_registers c ≡ true → ContentNeedsMemory g c x.lg_k d → ⊥
-    of (coupons S p) d inside needs = absurd (cc)
-    of (registers R s) (coupons T q) inside needs = needs
-    of (registers R s) (registers Q t) inside needs = absurd (omega (arith, needs, below))

@@ -1,5 +1,5 @@
 -- SPDX-License-Identifier: Apache-2.0
--- A table and a coupon more, in the words of the definitions.
+-- A table and a coupon more, in the terms of the definitions.
 use Rattle.std.proofs.Common.{◌≡◌, ℕ, ◌&&◌, true, false, leb, [], ◌∷◌, Result, Ok, Err, OnOk, OnErr, refl, sym, ap, ◌∙◌}
 use Rattle.std.specs.FinSet.{insert, union, len}
 use Rattle.std.proofs.lemmas.Bool.{le-leb, lt-leb, and_parts, true≢false}

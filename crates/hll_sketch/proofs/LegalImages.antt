@@ -13,14 +13,14 @@ use Rattle.std.proofs.lemmas.List.Elements.{All-from_get_or, All-tail, All-filte
 use Rattle.std.proofs.lemmas.List.FromFn.{length-map-range_with_len, get_or-map-range_with_len}
 use Rattle.std.proofs.Math.Nat.{pow-suc}
 use Rattle.hll_coupons.specs.Pair.{IsPair, set_of, slot_of, value_of}
-use Rattle.hll_coupons.specs.Coupons.{words, coupons_at}
-use Rattle.hll_coupons.proofs.Greatest.{same_word}
+use Rattle.hll_coupons.specs.Coupons.{raw_coupons, coupons_at}
+use Rattle.hll_coupons.proofs.Greatest.{same_raw_coupon}
 use Rattle.hll_coupons.proofs.Listed.{has, finds}
 use Rattle.hll_registers.specs.State.{IsState}
 use Rattle.hll_kernels.specs.Packed.{AreRegisters}
 use Rattle.hll_kernels.specs.Packed.{fields, nibble_at}
 use Rattle.hll_coupons.specs.AuxMap.{entry_at}
-use Rattle.hll_registers.specs.Payload.{state_at, Hll4Shape, IsHll4Payload, Agrees, register_of, entries_of, nibbles_of, exception_places, registers_of}
+use Rattle.hll_registers.specs.Payload.{state_at, Hll4Shape, IsHll4Payload, Agrees, register_of, entries_of, nibbles_of, exception_buckets, registers_of}
 use Rattle.hll_kernels.proofs.Grouping.{length-fields}
 use Rattle.hll_sketch.specs.Value.{ArePairs}
 use Rattle.hll_sketch.specs.Image.{AreBytes, list, set, hll8, hll6, hll4, list_shape, set_shape, hll4_shape, ImageIsLegal}
@@ -47,23 +47,23 @@ word64 b h = omega (arith, byte_at b 0 h, byte_at b 1 h, byte_at b 2 h, byte_at 
 abbrev Fits : ℕ → Type 0
 Fits c = c < 2 ^ 32
 
-words_fit : (n : ℕ) (b : List ℕ) → AreBytes b → All Fits (words n b)
-words_fit n b h = All-from_get_or Fits (words n b) 0 (of n b h)
+raw_coupons_fit : (n : ℕ) (b : List ℕ) → AreBytes b → All Fits (raw_coupons n b)
+raw_coupons_fit n b h = All-from_get_or Fits (raw_coupons n b) 0 (of n b h)
   where
-    of : (n : ℕ) (b : List ℕ) → AreBytes b → (i : ℕ) → i < length (words n b) → get_or (words n b) i 0 < 2 ^ 32
+    of : (n : ℕ) (b : List ℕ) → AreBytes b → (i : ℕ) → i < length (raw_coupons n b) → get_or (raw_coupons n b) i 0 < 2 ^ 32
     of zero b h i l = absurd (omega arith)
     of (suc n) b h zero l = word32 b h
     of (suc n) b h (suc i) l = of n (drop 4 b) (AreBytes-drop 4 b h) i (omega arith)
 
 coupons_fit : (compact : Bool) (n : ℕ) (b : List ℕ) → AreBytes b → All Fits (coupons_at compact n b)
-coupons_fit true n b h = words_fit n b h
-coupons_fit false n b h = All-filter (λ c. nat_lt 0 c) Fits (words n b) (words_fit n b h)
+coupons_fit true n b h = raw_coupons_fit n b h
+coupons_fit false n b h = All-filter (λ c. nat_lt 0 c) Fits (raw_coupons n b) (raw_coupons_fit n b h)
 
 -- what each of a list has, a member has
 member : (P : ℕ → Type 0) (xs : List ℕ) (c : ℕ) → All P xs → has c xs ≡ true → P c
 member P [] c h m = absurd (true≢false (sym m))
 member P (x ∷ xs) c h m = elim (or_cases (eq_by_cmp nat_cmp c x) (has c xs) m) [
-  | inl e ↦ subst P (sym (same_word c x e)) (h 0 0 (omega arith))
+  | inl e ↦ subst P (sym (same_raw_coupon c x e)) (h 0 0 (omega arith))
   | inr l ↦ member P xs c (All-tail P x xs h) l
 ]
 
@@ -125,7 +125,7 @@ register_small m n (Some v) h a = h v refl
 
 module _ (h : Hll4Shape) (b : List ℕ) (bytes : AreBytes b) (p : IsHll4Payload h b) where
   entries_fit : All Fits (entries_of h b)
-  entries_fit = coupons_fit h.compact (exception_places h b) (drop (32 + 2 ^ (h.lg_k - 1)) b) (AreBytes-drop (32 + 2 ^ (h.lg_k - 1)) b bytes)
+  entries_fit = coupons_fit h.compact (exception_buckets h b) (drop (32 + 2 ^ (h.lg_k - 1)) b) (AreBytes-drop (32 + 2 ^ (h.lg_k - 1)) b bytes)
 
   abbrev at_slot : ℕ → ℕ
   at_slot s = register_of h.minimum (nibble_at (nibbles_of h b) s) (entry_at h.lg_k (entries_of h b) s)

@@ -23,8 +23,8 @@ mod ImageSizes
 pub mod Images
 pub mod InPlace
 pub mod Joined
-pub mod JoinedBytes
-pub mod JoinedUnions
+pub mod MaxBytes
+pub mod MaxUnions
 pub mod Keeping
 pub mod LegalImages
 pub mod LegalLayouts
@@ -37,12 +37,12 @@ pub mod Merges
 pub mod PlacedCoupons
 pub mod PlainUnions
 pub mod Promoting
-pub mod RaisedRegisters
+pub mod AddedToRegisters
 pub mod ReadBack
 pub mod Refusals
 pub mod Regrouping
 pub mod SameLemmas
-pub mod SetWords
+pub mod SetFields
 mod SizedImages
 pub mod SortedCoupons
 pub mod Stages

@@ -2,15 +2,15 @@
 -- Lemmas on reading the image of a list.
 use Rattle.std.proofs.Common.{◌≡◌, ℕ, ◌+◌, ◌*◌, ◌≤◌, List, length, take, drop, sym, subst, ◌∙◌, arith}
 use Rattle.std.proofs.lemmas.List.{take-append-drop, drop-take, length-drop, length-take}
-use Rattle.hll_coupons.specs.Payload.{list_places, IsListPayload}
+use Rattle.hll_coupons.specs.Payload.{list_buckets, IsListPayload}
 use Rattle.hll_sketch.specs.Image.{table_byte, HasHeader, list_shape, IsListImage}
 use Rattle.hll_sketch.proofs.Headers.{HasHeader-same}
 use Rattle.hll_sketch.proofs.Images.{at, same_list_shape}
 
--- a header and the payload of a list behind it are an image
-pub list_image : (b : List ℕ) → HasHeader b 0 → table_byte b ≡ 3 → IsListPayload (list_shape b) (take (4 * list_places (list_shape b)) (drop 8 b)) → IsListImage (take (8 + 4 * list_places (list_shape b)) b)
+-- a header and the payload of a list after it are an image
+pub list_image : (b : List ℕ) → HasHeader b 0 → table_byte b ≡ 3 → IsListPayload (list_shape b) (take (4 * list_buckets (list_shape b)) (drop 8 b)) → IsListImage (take (8 + 4 * list_buckets (list_shape b)) b)
 list_image b h table payload =
-    let n : ℕ = 4 * list_places (list_shape b) in
+    let n : ℕ = 4 * list_buckets (list_shape b) in
     let a : List ℕ = take (8 + n) b in
     let e = take-append-drop (8 + n) b in
     let there : n ≤ length (drop 8 b) = omega (arith, payload.size, length-take n (drop 8 b)) in

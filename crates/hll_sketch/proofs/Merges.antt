@@ -1,5 +1,5 @@
 -- SPDX-License-Identifier: Apache-2.0
--- Merges into a gadget, in the words of the definitions.
+-- Merges into a gadget, in the terms of the definitions.
 use Rattle.std.proofs.Common.{◌≡◌, ◌+◌, ℕ, ◌-◌, ◌^◌, ◌≤◌, ◌<◌, Bool, true, false, cond, ◌&&◌, nat_eq, leb, List, [], ◌∷◌, ◌++◌, Option, Some, None, length, refl, sym, ap, subst, ◌∙◌, arith, inl, inr, map, take, get_or, zero, suc}
 use Rattle.std.specs.Prelude.{min}
 use Rattle.std.specs.FinSet.{empty, union, len, empty_of_len, len-empty}
@@ -25,7 +25,7 @@ use Rattle.hll_sketch.specs.Layout.{Layout, list, set, array, SketchLayout, cont
 use Rattle.hll_sketch.specs.Union.{IsGadget, coupons_kept, can_hold_all, ContentNeedsMemory}
 use Rattle.hll_sketch.specs.Joined.{least_lg_k}
 use Rattle.hll_sketch.specs.Laws.{add_in_turn}
-use Rattle.hll_sketch.specs.Merging.{merge, merge_all, merge_content, merge_coupons, merge_registers, state_after_merge}
+use Rattle.hll_sketch.specs.Merging.{merge, merge_all, merge_content, merge_coupons, max_registers, merge_registers, state_after_merge}
 use Rattle.hll_sketch.proofs.Adding.{add_each, least-merge}
 use Rattle.hll_coupons.proofs.Collecting.{len-union_longer, len-union_none}
 use Rattle.hll_sketch.proofs.Gadgets.{false_unless}
@@ -34,29 +34,27 @@ use Rattle.hll_sketch.proofs.LegalSketches.{found_in_range}
 use Rattle.hll_sketch.proofs.Stages.{holds_fewer}
 use Rattle.hll_sketch.proofs.Steps.{stage_stays}
 
--- registers merged in place
-pub merged_in_place : (bound : ℕ) (g : Sketch) (x : Stored) (k : ℕ) (R : List ℕ) (s : EstimateState) →
-    g.content ≡ registers x.registers x.state → x.lg_k ≡ g.lg_k → g.lg_k ≤ 21 → length x.registers ≡ 2 ^ x.lg_k → is_empty g ≡ false → x.lg_k ≤ k →
-    record g { content = registers (join x.registers (fold_to (pairs R) x.lg_k)) cleared_state } ≡ merge_registers bound g k R s
-merged_in_place bound g x k R s is same small size some below =
+-- the maximum taken in place
+pub maxed_in_place : (g : Sketch) (x : Stored) (k : ℕ) (R : List ℕ) → g.content ≡ registers x.registers x.state → x.lg_k ≡ g.lg_k → g.lg_k ≤ 21 → length x.registers ≡ 2 ^ x.lg_k → x.lg_k ≤ k →
+    record g { content = registers (join x.registers (fold_to (pairs R) x.lg_k)) cleared_state } ≡ max_registers g k R cleared_state
+maxed_in_place g x k R is same small size below =
     let least : x.lg_k ≡ min g.lg_k k = omega (arith, same) in
     let P : Pairs = pairs_of g in
     let own : P ≡ pairs x.registers = ap pairs_in is in
     let all : join x.registers (fold_to (pairs R) x.lg_k) ≡ fold_to (union P (pairs R)) x.lg_k =
     ap (λ Q. join Q (fold_to (pairs R) x.lg_k)) (sym (fold_to-pairs x.registers x.lg_k (omega (arith, same)) size))
     ∙ sym (fold_to-union (pairs x.registers) (pairs R) x.lg_k) ∙ ap (λ S. fold_to (union S (pairs R)) x.lg_k) (sym own) in
-    let gone : cleared_state ≡ state_after_merge bound g k s = sym (ap (λ b. cond (b && leb k bound) s cleared_state) some) in
     λ i. record g {
       lg_k = (sym same ∙ least) i;
-      content = registers ((all ∙ ap (fold_to (union P (pairs R))) least) i) (gone i);
+      content = registers ((all ∙ ap (fold_to (union P (pairs R))) least) i) cleared_state;
     }
 
--- registers merged into the fold of the gadget
-pub merged_aside : (bound : ℕ) (g : Sketch) (e k : ℕ) (R : List ℕ) (s t : EstimateState) → e ≡ min g.lg_k k → t ≡ state_after_merge bound g k s →
-    record g { lg_k = e; content = registers (join (fold_to (pairs_of g) e) (fold_to (pairs R) e)) t } ≡ merge_registers bound g k R s
-merged_aside bound g e k R s t least state = λ i. record g {
+-- the maximum with the fold of the gadget
+maxed_aside : (g : Sketch) (e k : ℕ) (R : List ℕ) (t : EstimateState) → e ≡ min g.lg_k k →
+    record g { lg_k = e; content = registers (join (fold_to (pairs_of g) e) (fold_to (pairs R) e)) t } ≡ max_registers g k R t
+maxed_aside g e k R t least = λ i. record g {
   lg_k = least i;
-  content = registers ((sym (fold_to-union (pairs_of g) (pairs R) e) ∙ ap (fold_to (union (pairs_of g) (pairs R))) least) i) (state i);
+  content = registers ((sym (fold_to-union (pairs_of g) (pairs R) e) ∙ ap (fold_to (union (pairs_of g) (pairs R))) least) i) t;
 }
 
 -- registers taken whole by an empty gadget
@@ -146,26 +144,25 @@ state_gone_above bound g k s above = sym (ap (λ b. cond (is_empty g && b) s cle
     never true = refl
     never false = refl
 
-pub aside_as : (bound : ℕ) (x y : SketchLayout) (a b d source : Stored) (l : ℕ) → x ≡ y → width_of y.layout ≡ Hll8 → l ≡ min x.lg_k source.lg_k →
+pub max_aside_as : (x y : SketchLayout) (a b source : Stored) (l : ℕ) → x ≡ y → width_of y.layout ≡ Hll8 → l ≡ min x.lg_k source.lg_k →
     a ≡ record { lg_k = l; registers = fold_to (pairs_in (content_in x.layout)) l; state = cleared_state } → b ≡ merge_with a source.registers →
-    d.registers ≡ b.registers → d.state ≡ state_after_merge bound (sketch_of y) source.lg_k source.state →
-    sketch_of (record { lg_k = l; layout = array Hll8 d None }) ≡ merge_registers bound (sketch_of y) source.lg_k source.registers source.state
-aside_as bound x y a b d source l is width least made merged same state =
+    sketch_of (record { lg_k = l; layout = array Hll8 b None }) ≡ max_registers (sketch_of y) source.lg_k source.registers cleared_state
+max_aside_as x y a b source l is width least made merged =
     let g : Sketch = sketch_of y in
     let folded : a.registers ≡ fold_to (pairs_of g) l = ap (λ (z : Stored). z.registers) made ∙ ap (λ (z : SketchLayout). fold_to (pairs_in (content_in z.layout)) l) is in
-    let all : d.registers ≡ join (fold_to (pairs_of g) l) (fold_to (pairs source.registers) l) =
-    same ∙ ap (λ (z : Stored). z.registers) merged ∙ (λ i. join (folded i) (fold_to (pairs source.registers) (made i).lg_k)) in
-    (λ i. let z : Sketch = record { lg_k = l; width = sym width i; content = registers (all i) d.state } in z)
-    ∙ merged_aside bound g l source.lg_k source.registers source.state d.state (least ∙ ap (λ (z : SketchLayout). min z.lg_k source.lg_k) is) state
+    let all : b.registers ≡ join (fold_to (pairs_of g) l) (fold_to (pairs source.registers) l) =
+    ap (λ (z : Stored). z.registers) merged ∙ (λ i. join (folded i) (fold_to (pairs source.registers) (made i).lg_k)) in
+    (λ i. let z : Sketch = record { lg_k = l; width = sym width i; content = registers (all i) (merged i).state } in z)
+    ∙ maxed_aside g l source.lg_k source.registers cleared_state (least ∙ ap (λ (z : SketchLayout). min z.lg_k source.lg_k) is)
 
-pub in_place_as : (bound k : ℕ) (y : SketchLayout) (a b source : Stored) → record { lg_k = k; layout = array Hll8 a None } ≡ y → IsLgK k → is_empty (sketch_of y) ≡ false →
+pub max_in_place_as : (k : ℕ) (y : SketchLayout) (a b source : Stored) → record { lg_k = k; layout = array Hll8 a None } ≡ y → IsLgK k →
     a.lg_k ≡ k → length a.registers ≡ 2 ^ a.lg_k → b ≡ merge_with a source.registers → a.lg_k ≤ source.lg_k →
-    sketch_of (record { lg_k = k; layout = array Hll8 b None }) ≡ merge_registers bound (sketch_of y) source.lg_k source.registers source.state
-in_place_as bound k y a b source is lg_k some same size merged below =
+    sketch_of (record { lg_k = k; layout = array Hll8 b None }) ≡ max_registers (sketch_of y) source.lg_k source.registers cleared_state
+max_in_place_as k y a b source is lg_k same size merged below =
     let x : SketchLayout = record { lg_k = k; layout = array Hll8 a None } in
     (λ i. let z : Sketch = record { lg_k = k; width = Hll8; content = registers (merged i).registers (merged i).state } in z)
-    ∙ merged_in_place bound (sketch_of x) a source.lg_k source.registers source.state refl same lg_k.high size (ap (λ z. is_empty (sketch_of z)) is ∙ some) below
-    ∙ ap (λ z. merge_registers bound (sketch_of z) source.lg_k source.registers source.state) is
+    ∙ maxed_in_place (sketch_of x) a source.lg_k source.registers refl same lg_k.high size below
+    ∙ ap (λ z. max_registers (sketch_of z) source.lg_k source.registers cleared_state) is
 
 pub whole_as : (bound l : ℕ) (y : SketchLayout) (a source : Stored) → is_empty (sketch_of y) ≡ true → IsGadget bound (sketch_of y) → a ≡ source → l ≡ a.lg_k → source.lg_k ≤ bound →
     source.lg_k ≤ 21 → length source.registers ≡ 2 ^ source.lg_k →
@@ -237,7 +234,7 @@ merged_next m g [] i d l = absurd (omega (arith, l))
 merged_next m g (x ∷ xs) zero d l = refl
 merged_next m g (x ∷ xs) (suc i) d l = merged_next m (merge m g (sketch_of x)) xs i d (omega (arith, l))
 
--- one more, behind others
+-- one more, after others
 pub merged_more : (m : ℕ) (g : Sketch) (xs : List SketchLayout) (i : ℕ) (d : SketchLayout) → i < length xs →
     merge m (merge_all m g (map sketch_of (take i xs))) (sketch_of (get_or xs i d)) ≡ merge_all m g (map sketch_of (take (i + 1) xs))
 merged_more m g xs i d l = merged_next m g xs i d l ∙ ap (λ n. merge_all m g (map sketch_of (take n xs))) (let next : suc i ≡ i + 1 = omega arith in next)

@@ -1,30 +1,29 @@
 -- SPDX-License-Identifier: Apache-2.0
 -- Unions of sketches with plain states.
-use Rattle.std.proofs.Common.{◌≡◌, ℕ, ◌⊎◌, inl, inr, ◌^◌, ◌≤◌, Bool, true, false, cond, ◌&&◌, nat_eq, leb, min, List, [], ◌∷◌, length, map, Option, Some, None, refl, sym, ap, subst, ◌∙◌, arith}
+use Rattle.std.proofs.Common.{◌≡◌, ℕ, inl, inr, ◌^◌, ◌≤◌, Bool, true, false, cond, ◌&&◌, nat_eq, leb, min, List, [], ◌∷◌, length, map, Option, Some, None, refl, sym, ap, subst, ◌∙◌, arith}
 use Rattle.std.specs.FinSet.{union, len, contains-empty, len-empty}
 use Rattle.std.specs.List.{AllByRecursion}
 use Rattle.std.specs.Ordering.{nat_cmp}
 use Rattle.std.specs.Cmp.Lexicographic.{pointwise}
-use Rattle.std.proofs.lemmas.Bool.{cases_Bool, cond-true, cond-false, and_parts, leb-true, true≢false}
+use Rattle.std.proofs.lemmas.Bool.{cond-true, cond-false, and_parts, leb-true, true≢false}
 use Rattle.hll_base.specs.Join.{join}
 use Rattle.hll_base.specs.declared.hll_type.HllType.{HllType}
 use Rattle.hll_coupons.specs.Fold.{fold_to, pairs}
 use Rattle.hll_coupons.specs.Pair.{Pairs}
 use Rattle.hll_registers.proofs.States.{same_decides, state_after-cleared_state}
-use Rattle.hll_registers.specs.EstimatorWords.{AreEstimatorWords}
-use Rattle.hll_registers.specs.State.{cleared_state, state_after}
+use Rattle.hll_registers.specs.State.{cleared_state}
 use Rattle.hll_registers.specs.declared.estimate_state.EstimateState.{EstimateState}
 use Rattle.hll_sketch.specs.Adding.{content_for, content_with, add}
-use Rattle.hll_sketch.specs.EstimatorWords.{HasClearedState, HaveSameRegisters, SetsWordsIn, FillsWords, filled, stays, cleared_content, cleared}
+use Rattle.hll_sketch.specs.EstimatorFields.{HasClearedState, HaveSameRegisters, SetsFieldsIn, FillsFields, filled, stays, cleared_content, cleared}
 use Rattle.hll_sketch.specs.Merging.{merge, merge_all, merge_coupons, merge_registers, merge_content, state_after_merge, empty_union}
 use Rattle.hll_sketch.specs.PlainStates.{HasPlainState, IsPlain, UnionOfPlain, FilledIsPlain}
 use Rattle.hll_sketch.specs.Stage.{stage}
 use Rattle.hll_sketch.specs.Union.{IsGadget}
-use Rattle.hll_sketch.specs.Value.{Sketch, Content, coupons, registers, in_registers, pairs_in, pairs_of, is_empty, IsLgK, IsLegal, IsLegalContent}
+use Rattle.hll_sketch.specs.Value.{Sketch, Content, coupons, registers, in_registers, pairs_in, is_empty, IsLgK, IsLegal, IsLegalContent}
 use Rattle.hll_sketch.proofs.Gadgets.{gadget_of_content}
 use Rattle.hll_sketch.proofs.LegalSketches.{merge_is_legal}
 use Rattle.hll_sketch.proofs.Merges.{merged_whole}
-use Rattle.hll_sketch.proofs.SetWords.{words_keep, same_words_of_sketches}
+use Rattle.hll_sketch.proofs.SetFields.{fields_keep, same_fields_of_sketches}
 
 -- ---- one content, with its state cleared
 
@@ -144,26 +143,26 @@ all_plain m g (x ∷ xs) is plain =
     let next = all_plain m (merge m g x) xs (merge_plain m g is x plain.0) plain.1 in
     (next.0, next.1 ∙ ap (λ h. merge_all m h (map cleared xs)) (merge_cleared m g is x))
 
--- ---- words
+-- ---- fields
 
--- of registers with the cleared state, one sketch has the words set
+-- of registers with the cleared state, one sketch has the fields set
 itself : (c : Content) → HasClearedState c → HaveSameRegisters c c
 itself (coupons S size) is = absurd is
 itself (registers R s) is = refl
 
-one_filled : (x y z : Sketch) → FillsWords x y → FillsWords x z → y ≡ z
-one_filled x y z (filled c v) (filled d w) = same_words_of_sketches x x y z refl refl (itself x.content c) v w
+one_filled : (x y z : Sketch) → FillsFields x y → FillsFields x z → y ≡ z
+one_filled x y z (filled c v) (filled d w) = same_fields_of_sketches x x y z refl refl (itself x.content c) v w
 one_filled x y z (filled c v) (stays n e) = absurd (n c)
 one_filled x y z (stays n e) (filled c v) = absurd (n c)
 one_filled x y z (stays n e) (stays m f) = e ∙ sym f
 
--- with a plain state it has its words set as with the cleared one
-fills_cleared : (k : ℕ) (w : HllType) (c : Content) (y : Sketch) → HasPlainState c → let x : Sketch = record { lg_k = k; width = w; content = c } in FillsWords x y → FillsWords (cleared x) y
+-- with a plain state it has its fields set as with the cleared one
+fills_cleared : (k : ℕ) (w : HllType) (c : Content) (y : Sketch) → HasPlainState c → let x : Sketch = record { lg_k = k; width = w; content = c } in FillsFields x y → FillsFields (cleared x) y
 fills_cleared k w (coupons S size) y plain fills = fills
 fills_cleared k w (registers R s) y plain (filled c sets) = filled refl (record { lg_k = sets.lg_k; width = sets.width; content = sets.content })
 fills_cleared k w (registers R s) y (inl c) (stays n e) = absurd (n c)
-fills_cleared k w (registers R s) y (inr words) (stays n e) =
-    filled refl (record { lg_k = ap (λ (z : Sketch). z.lg_k) e; width = ap (λ (z : Sketch). z.width) e; content = (s, words, ap (λ (z : Sketch). z.content) e) })
+fills_cleared k w (registers R s) y (inr fields) (stays n e) =
+    filled refl (record { lg_k = ap (λ (z : Sketch). z.lg_k) e; width = ap (λ (z : Sketch). z.width) e; content = (s, fields, ap (λ (z : Sketch). z.content) e) })
 
 empty_plain : (m : ℕ) → IsLgK m → IsPlainGadget m (empty_union m)
 empty_plain m is = record {
@@ -176,13 +175,13 @@ pub union_of_plain : UnionOfPlain
 union_of_plain m xs y z is plain here there =
     let g : Sketch = merge_all m (empty_union m) xs in
     let both = all_plain m (empty_union m) xs (empty_plain m is) plain in
-    one_filled (cleared g) y z (fills_cleared g.lg_k g.width g.content y both.0.state here) (subst (λ (h : Sketch). FillsWords h z) (sym both.1) there)
+    one_filled (cleared g) y z (fills_cleared g.lg_k g.width g.content y both.0.state here) (subst (λ (h : Sketch). FillsFields h z) (sym both.1) there)
 
--- a content whose words are set
-set_plain : (x y : Content) → HasPlainState x → SetsWordsIn x y → HasPlainState y
+-- a content whose fields are set
+set_plain : (x y : Content) → HasPlainState x → SetsFieldsIn x y → HasPlainState y
 set_plain (coupons S size) y plain sets = subst HasPlainState (sym sets) plain
 set_plain (registers R s) y plain sets = subst HasPlainState (sym sets.2) (inr sets.1)
 
 pub filled_is_plain : FilledIsPlain
-filled_is_plain x y (filled c sets) plain = record { legal = words_keep.legal x y sets plain.legal; state = set_plain x.content y.content plain.state sets.content }
+filled_is_plain x y (filled c sets) plain = record { legal = fields_keep.legal x y sets plain.legal; state = set_plain x.content y.content plain.state sets.content }
 filled_is_plain x y (stays n e) plain = subst IsPlain (sym e) plain

@@ -36,9 +36,9 @@ folded-with_one k P c o a b one held put = put ∙ ap (λ x. update_with_coupon 
 pub folded-with_none : (k : ℕ) (P : Pairs) (o : Option ℕ) (a : Stored) → o ≡ None → a ≡ folded k P → a ≡ folded k (with_more P o)
 folded-with_none k P o a none held = held ∙ ap (λ q. folded k (with_more P q)) (sym none)
 
--- behind others
-pub folded-behind : (k : ℕ) (order : List ℕ) (c : ℕ) → update_with_coupon (folded k (set_of order)) c ≡ folded k (set_of (order ++ c ∷ []))
-folded-behind k order c = folded-more k (set_of order) c ∙ ap (folded k) (sym (set_of-between order [] c ∙ ap (λ xs. insert (set_of xs) c) (append-nil order)))
+-- after others
+pub folded-after : (k : ℕ) (order : List ℕ) (c : ℕ) → update_with_coupon (folded k (set_of order)) c ≡ folded k (set_of (order ++ c ∷ []))
+folded-after k order c = folded-more k (set_of order) c ∙ ap (folded k) (sym (set_of-between order [] c ∙ ap (λ xs. insert (set_of xs) c) (append-nil order)))
 
 -- registers of 0 joined with the fold of pairs are that fold
 pub join-zeros : (k : ℕ) (P : Pairs) → join (replicate (2 ^ k) 0) (fold_to P k) ≡ fold_to P k

@@ -20,7 +20,7 @@ use Rattle.hll_sketch.specs.Stage.{stage}
 use Rattle.hll_registers.specs.State.{cleared_state}
 use Rattle.hll_sketch.specs.Value.{registers, Sketch, pairs_of, has_nonzero_registers, ArePairs}
 use Rattle.hll_sketch.specs.Adding.{content_for}
-use Rattle.hll_sketch.specs.Joined.{all_pairs, least_lg_k, join_value_of_pairs, join_value, UnionOfSame, UnionOfUnion, IsGrownOfPairs, JoinsOfSame, JoinOfJoin}
+use Rattle.hll_sketch.specs.Joined.{all_pairs, least_lg_k, join_value_of_pairs, join_value, UnionOfSame, UnionOfUnion, IsCanonicalOfPairs, MergesOfSame, MergeOfMerge}
 use Rattle.hll_coupons.proofs.Unions.{same_members, union_assoc, contains_union, len_union_le, or_assoc, or-false, union-empty, union_none}
 use Rattle.hll_sketch.proofs.Stages.{stage_none}
 use Rattle.hll_sketch.proofs.Meanings.{nothing, folds_as}
@@ -101,7 +101,7 @@ least-append m (y ∷ ys) xs = elim (has_nonzero_registers y) as (λ b. cond b (
   | false ↦ least-append m ys xs
 ]
 
-SoFar-all : (m e : ℕ) (P : Pairs) (any : Bool) (xs : List Sketch) → SoFar m e P any → AllByRecursion IsGrownOfPairs xs → SoFar m (least_lg_k e xs) (union P (all_pairs xs)) (any || list_any has_nonzero_registers xs)
+SoFar-all : (m e : ℕ) (P : Pairs) (any : Bool) (xs : List Sketch) → SoFar m e P any → AllByRecursion IsCanonicalOfPairs xs → SoFar m (least_lg_k e xs) (union P (all_pairs xs)) (any || list_any has_nonzero_registers xs)
 SoFar-all m e P any [] h f = rw (union_none P, or-false any) h
 SoFar-all m e P any (x ∷ xs) h f =
     rw (← least-lowered e x xs, ← union_assoc P (pairs_of x) (all_pairs xs), ← or_assoc any (has_nonzero_registers x) (list_any has_nonzero_registers xs))
@@ -175,19 +175,19 @@ union_of_union m v w xs ys small f =
 
 -- ---- unions
 
-pub joins_of_same : JoinsOfSame
-joins_of_same u v xs ys bound one two same =
+pub merges_of_same : MergesOfSame
+merges_of_same u v xs ys bound one two same =
     one.value ∙ ap (λ m. join_value m Hll8 xs) bound ∙ union_of_same v.lg_max_k Hll8 xs ys same ∙ sym two.value
 
 swapped : (xs ys : List Sketch) (x : Sketch) → Contains (xs ++ ys) x → Contains (ys ++ xs) x
 swapped xs ys x h = elim (Contains-append_cases xs ys x h) [ inl l ↦ Contains-append_right ys xs x l | inr r ↦ Contains-append_left ys xs x r ]
 
-front : (xs ys zs : List Sketch) → AllByRecursion IsGrownOfPairs (xs ++ zs) → AllByRecursion IsGrownOfPairs ys → AllByRecursion IsGrownOfPairs (xs ++ ys)
+front : (xs ys zs : List Sketch) → AllByRecursion IsCanonicalOfPairs (xs ++ zs) → AllByRecursion IsCanonicalOfPairs ys → AllByRecursion IsCanonicalOfPairs (xs ++ ys)
 front [] ys zs h k = k
 front (x ∷ xs) ys zs h k = (h.0, front xs ys zs h.1 k)
 
-pub join_of_join : JoinOfJoin
-join_of_join u v w xs ys bound inner outer =
+pub merge_of_merge : MergeOfMerge
+merge_of_merge u v w xs ys bound inner outer =
     let m : ℕ = u.lg_max_k in
     let y : Sketch = record (gadget_of v) { width = w } in
     let is : y ≡ join_value m w ys =
@@ -201,5 +201,5 @@ join_of_join u v w xs ys bound inner outer =
           ∙ ap (λ z. join_value m Hll8 (z ∷ xs)) is
           ∙ union_of_union m w Hll8 xs ys outer.small inner.merged
           ∙ union_of_same m Hll8 (ys ++ xs) (xs ++ ys) (swapped ys xs, swapped xs ys);
-      grown = outer.grown;
+      canonical = outer.canonical;
     }

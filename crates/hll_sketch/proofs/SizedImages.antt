@@ -6,19 +6,19 @@ use Rattle.std.specs.Prelude.{IfNone, IfErr, Result, Ok, Err}
 use Rattle.std.proofs.lemmas.Bool.{false_from_ne_true}
 use Rattle.std.proofs.lemmas.List.{length-drop}
 use Rattle.hll_base.specs.declared.error.Reason.{Reason}
-use Rattle.hll_coupons.specs.Coupons.{words}
-use Rattle.hll_coupons.specs.Payload.{HasListCount, shape_of_list, shape_of_set, list_places, set_count, set_places}
+use Rattle.hll_coupons.specs.Coupons.{raw_coupons}
+use Rattle.hll_coupons.specs.Payload.{HasListCount, shape_of_list, shape_of_set, list_buckets, set_count, set_buckets}
 use Rattle.hll_sketch.specs.Image.{table_byte, state_byte, is_flagged, HasHeader, HasSetTable, list_shape, set_shape, IsReadAs}
-use Rattle.hll_sketch.specs.Checks.{Check, first_failing, header_checks, checks_behind, list_checks, set_checks, size_fault}
-use Rattle.hll_sketch.specs.TakenIn.{words_in, HasCompactCoupons}
+use Rattle.hll_sketch.specs.Checks.{Check, first_failing, header_checks, checks_after, list_checks, set_checks, size_fault}
+use Rattle.hll_sketch.specs.MergedIn.{raw_coupons_in, HasCompactCoupons}
 use Rattle.hll_sketch.specs.Value.{Sketch}
-use Rattle.hll_coupons.proofs.Merging.{length-words}
+use Rattle.hll_coupons.proofs.Merging.{length-raw_coupons}
 use Rattle.hll_sketch.proofs.Checks.{Decides-leb, Decides-list_count, Decides-set_table}
 use Rattle.std.proofs.lemmas.Bool.Decides.{Decides-eqb, Decides-ltb}
-use Rattle.hll_sketch.proofs.FirstFailing.{none_before, behind_list, behind_set, size_behind}
+use Rattle.hll_sketch.proofs.FirstFailing.{none_before, after_list, after_set, size_after}
 use Rattle.hll_sketch.proofs.FirstFaults.{faultless_is_image}
 
--- where a check doesn't fail, it passes, and none of those behind it fails
+-- where a check doesn't fail, it passes, and none of those after it fails
 pub passing : {P : Type 0} (t : Bool) (s : Reason) (o : Option Reason) → Decides t P → cond t o (Some s) ≡ None → P × (o ≡ None)
 passing true s o d none = (d.0 refl, none)
 passing false s o d none = let other : Some s ≡ None = none in absurd (cc)
@@ -35,19 +35,19 @@ sized_if_faultless (h ∷ hs) ss cs none = of h.passes (sized_if_faultless hs ss
 
 -- bytes that are read as a sketch have the size that they ask for
 pub sized_if_read : (b : List ℕ) (x : Sketch) → IsReadAs b x → size_fault b ≡ None
-sized_if_read b x read = sized_if_faultless (header_checks b) (checks_behind b).size (checks_behind b).content ((faultless_is_image b).1 (x, read))
+sized_if_read b x read = sized_if_faultless (header_checks b) (checks_after b).size (checks_after b).content ((faultless_is_image b).1 (x, read))
 
 -- what a right size says of a list
 pub record ListSize (b : List ℕ) : Type 0 where
   pub table : table_byte b ≡ 3
   pub count : HasListCount (list_shape b)
-  pub there : 8 + 4 * list_places (list_shape b) ≤ length b
+  pub there : 8 + 4 * list_buckets (list_shape b) ≤ length b
 
 pub list_size : (b : List ℕ) → HasHeader b 0 → size_fault b ≡ None → ListSize b
 list_size b h none =
-    let first = passing _ _ _ (Decides-eqb (table_byte b) 3) (sym (size_behind b 0 (list_checks b) (omega arith) h (behind_list b h)) ∙ none) in
+    let first = passing _ _ _ (Decides-eqb (table_byte b) 3) (sym (size_after b 0 (list_checks b) (omega arith) h (after_list b h)) ∙ none) in
     let second = passing _ _ _ (Decides-list_count b) first.1 in
-    let third = passing _ _ _ (Decides-leb (8 + 4 * list_places (list_shape b)) (length b)) second.1 in
+    let third = passing _ _ _ (Decides-leb (8 + 4 * list_buckets (list_shape b)) (length b)) second.1 in
     record { table = first.0; count = second.0; there = third.0 }
 
 -- and of a set
@@ -55,40 +55,40 @@ pub record SetSize (b : List ℕ) : Type 0 where
   pub table : HasSetTable b
   pub whole : 12 ≤ length b
   pub count : set_count (drop 8 b) < 2 ^ table_byte b
-  pub there : 12 + 4 * set_places (set_shape b) (drop 8 b) ≤ length b
+  pub there : 12 + 4 * set_buckets (set_shape b) (drop 8 b) ≤ length b
 
 pub set_size : (b : List ℕ) → HasHeader b 1 → size_fault b ≡ None → SetSize b
 set_size b h none =
-    let first = passing _ _ _ (Decides-set_table b) (sym (size_behind b 1 (set_checks b) (omega arith) h (behind_set b h)) ∙ none) in
+    let first = passing _ _ _ (Decides-set_table b) (sym (size_after b 1 (set_checks b) (omega arith) h (after_set b h)) ∙ none) in
     let second = passing _ _ _ (Decides-leb 12 (length b)) first.1 in
     let third = passing _ _ _ (Decides-ltb (set_count (drop 8 b)) (2 ^ table_byte b)) second.1 in
-    let fourth = passing _ _ _ (Decides-leb (12 + 4 * set_places (set_shape b) (drop 8 b)) (length b)) third.1 in
+    let fourth = passing _ _ _ (Decides-leb (12 + 4 * set_buckets (set_shape b) (drop 8 b)) (length b)) third.1 in
     record { table = first.0; whole = second.0; count = third.0; there = fourth.0 }
 
 -- ---- compact coupons
 
--- the words in a list and in a set
-abbrev words_by : List ℕ → ℕ → List ℕ
-words_by b stage = cond (eqb stage 0) (words (state_byte b) (drop 8 b)) (words (set_count (drop 8 b)) (drop 4 (drop 8 b)))
+-- the raw coupons in a list and in a set
+abbrev raw_coupons_by : List ℕ → ℕ → List ℕ
+raw_coupons_by b stage = cond (eqb stage 0) (raw_coupons (state_byte b) (drop 8 b)) (raw_coupons (set_count (drop 8 b)) (drop 4 (drop 8 b)))
 
 -- those of a list are there
 pub list_there : (b : List ℕ) → HasHeader b 0 → HasCompactCoupons b → (1 ≤ state_byte b) × (4 * state_byte b ≤ length (drop 8 b))
 list_there b h up =
     let size : ListSize b = list_size b h up.sized in
-    let behind : words_in b ≡ words (state_byte b) (drop 8 b) = ap (words_by b) h.stage_is in
-    let some : 1 ≤ state_byte b = omega (arith, up.some, ap length behind, length-words (state_byte b) (drop 8 b)) in
+    let after : raw_coupons_in b ≡ raw_coupons (state_byte b) (drop 8 b) = ap (raw_coupons_by b) h.stage_is in
+    let some : 1 ≤ state_byte b = omega (arith, up.some, ap length after, length-raw_coupons (state_byte b) (drop 8 b)) in
     let filled : is_flagged 4 b ≡ false = false_from_ne_true (is_flagged 4 b) (λ e. omega (arith, size.count.flag.0 e, some)) in
-    let places : list_places (list_shape b) ≡ state_byte b = λ i. list_places (shape_of_list 3 (state_byte b) (filled i) (up.compact i)) in
-    (some, omega (arith, size.there, places, length-drop 8 b, h.whole))
+    let buckets : list_buckets (list_shape b) ≡ state_byte b = λ i. list_buckets (shape_of_list 3 (state_byte b) (filled i) (up.compact i)) in
+    (some, omega (arith, size.there, buckets, length-drop 8 b, h.whole))
 
 -- and those of a set
 pub set_there : (b : List ℕ) → HasHeader b 1 → HasCompactCoupons b → (1 ≤ set_count (drop 8 b)) × (4 * set_count (drop 8 b) ≤ length (drop 4 (drop 8 b)))
 set_there b h up =
     let size : SetSize b = set_size b h up.sized in
-    let behind : words_in b ≡ words (set_count (drop 8 b)) (drop 4 (drop 8 b)) = ap (words_by b) h.stage_is in
-    let some : 1 ≤ set_count (drop 8 b) = omega (arith, up.some, ap length behind, length-words (set_count (drop 8 b)) (drop 4 (drop 8 b))) in
-    let places : set_places (set_shape b) (drop 8 b) ≡ set_count (drop 8 b) = λ i. set_places (shape_of_set (table_byte b) (up.compact i)) (drop 8 b) in
-    (some, omega (arith, size.there, size.whole, places, length-drop 8 b, length-drop 4 (drop 8 b)))
+    let after : raw_coupons_in b ≡ raw_coupons (set_count (drop 8 b)) (drop 4 (drop 8 b)) = ap (raw_coupons_by b) h.stage_is in
+    let some : 1 ≤ set_count (drop 8 b) = omega (arith, up.some, ap length after, length-raw_coupons (set_count (drop 8 b)) (drop 4 (drop 8 b))) in
+    let buckets : set_buckets (set_shape b) (drop 8 b) ≡ set_count (drop 8 b) = λ i. set_buckets (shape_of_set (table_byte b) (up.compact i)) (drop 8 b) in
+    (some, omega (arith, size.there, size.whole, buckets, length-drop 8 b, length-drop 4 (drop 8 b)))
 
 -- what follows from what holds where there is nothing
 pub IfNone_then : {X : Type 0} (r : Option X) {P Q : Type 0} → IfNone r P → (P → Q) → IfNone r Q
@@ -99,3 +99,8 @@ IfNone_then (Some x) h f = tt
 pub IfErr-each : {T E : Type 0} (r : Result T E) {P : E → Type 0} → ((e : E) → P e) → IfErr r P
 IfErr-each (Ok x) h = tt
 IfErr-each (Err e) h = h e
+
+-- two clauses of one refusal
+pub both_err : {T E : Type 0} (r : Result T E) (P Q : E → Type 0) → IfErr r P → IfErr r Q → IfErr r (λ e. P e × Q e)
+both_err (Ok x) P Q p q = tt
+both_err (Err e) P Q p q = (p, q)

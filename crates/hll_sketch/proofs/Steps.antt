@@ -44,7 +44,7 @@ stage_stays k p n (inr (low, high)) = λ h.
 not_three : (q : ℕ) → 3 < q → eqb q 3 ≡ false
 not_three q h = grind (arith, nat_tests)
 
--- the size above 3 holds three quarters of its places
+-- the size above 3 holds three quarters of its buckets
 holds_quarters : (q n : ℕ) → 3 < q → 4 * n ≤ 3 * 2 ^ q → can_hold q n ≡ true
 holds_quarters q n above few = cond-false (eqb q 3) (leb n 7) (leb (4 * n) (3 * 2 ^ q)) (not_three q above) ∙ le-leb (4 * n) (3 * 2 ^ q) few
 
@@ -86,7 +86,7 @@ stage_last k p n (inr (low, high)) = λ many last.
       | inr above ↦ let same : y ≡ p = omega (arith, after_set p low) in ap (fits p n) same ∙ too_many p n many
     ])
 
--- and they are fewer than the next size has places
+-- and they are fewer than the next size has buckets
 pub fewer : (k p n : ℕ) → IsSize k p → AtMost p n → n < 2 ^ size_after p
 fewer k p n (inl three) few = subst (λ p. n < 2 ^ size_after p) (sym three) (let below : n < 32 = omega (arith, few.0 three) in below)
 fewer k p n (inr (low, high)) few =
@@ -99,7 +99,7 @@ from_five k p (inr (low, high)) = omega (arith, after_set p low)
 
 -- ---- a table and a coupon more
 
-pub AtMost-with : (t : Table) (c n : ℕ) → IsTable t → length (coupons_in t.places) ≤ 2 ^ t.lg_size → (5 ≤ t.lg_size → length (coupons_in t.places) < 2 ^ t.lg_size) →
+pub AtMost-with : (t : Table) (c n : ℕ) → IsTable t → length (coupons_in t.buckets) ≤ 2 ^ t.lg_size → (5 ≤ t.lg_size → length (coupons_in t.buckets) < 2 ^ t.lg_size) →
     n ≡ len (insert (coupons_of t) c) → AtMost t.lg_size n
 AtMost-with t c n table within room count =
     let more : len (insert (coupons_of t) c) ≤ len (coupons_of t) + 1 = len-insert_le (coupons_of t) c in (

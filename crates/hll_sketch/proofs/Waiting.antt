@@ -1,9 +1,9 @@
 -- SPDX-License-Identifier: Apache-2.0
--- Coupons that wait to be added to a union, in the words of the definitions.
-use Rattle.std.proofs.Common.{◌≡◌, ℕ, ◌^◌, ◌≤◌, ◌<◌, Bool, true, false, ◌||◌, nat_eq, eqb, List, [], ◌∷◌, ◌++◌, Option, Some, None, All, Result, Ok, Err, IfOk, length, get_or, refl, sym, ap, subst, ◌∙◌, arith, inl, inr}
+-- Coupons that wait to be added to a union, in the terms of the definitions.
+use Rattle.std.proofs.Common.{◌≡◌, ℕ, ◌^◌, ◌≤◌, ◌<◌, true, false, ◌||◌, nat_eq, eqb, List, [], ◌∷◌, ◌++◌, Option, Some, None, All, Result, Ok, Err, IfOk, length, get_or, refl, sym, ap, subst, ◌∙◌, arith, inl, inr}
 use Rattle.std.specs.Ordering.{nat_cmp}
 use Rattle.std.specs.Cmp.{nat_cmp_total}
-use Rattle.std.specs.FinSet.{empty, union, len, len-empty, empty_of_len, contains, contains-union, contains-from_list_nat, contains-insert, contains-empty}
+use Rattle.std.specs.FinSet.{empty, union, len, len-empty, empty_of_len, contains, contains-union, contains-from_list_nat, contains-empty}
 use Rattle.std.proofs.lemmas.Bool.{cases_Bool, eqb-true, ne_eqb, true≢false}
 use Rattle.std.proofs.lemmas.List.Elements.{All-nil, All-cons, All-head, All-tail, All-from_get_or}
 use Rattle.std.proofs.lemmas.List.Folds.{list_any-append}
@@ -18,10 +18,10 @@ use Rattle.hll_coupons.proofs.Unions.{same_members, set_of-nil, union_right}
 use Rattle.hll_sketch.specs.Image.{AreBytes, IsReadAs}
 use Rattle.hll_sketch.specs.Refusal.{IsRefusal}
 use Rattle.hll_sketch.specs.Stage.{stage}
-use Rattle.hll_sketch.specs.TakenIn.{IsOfCoupons}
-use Rattle.hll_sketch.specs.Value.{Sketch, Content, coupons, registers, in_registers, is_empty, pairs_of, pairs_in, IsLegal, IsLegalContent}
+use Rattle.hll_sketch.specs.MergedIn.{IsOfCoupons}
+use Rattle.hll_sketch.specs.Value.{Sketch, Content, coupons, registers, in_registers, is_empty, pairs_in, IsLegal, IsLegalContent}
 use Rattle.hll_sketch.specs.Adding.{add, content_for, content_with}
-use Rattle.hll_sketch.specs.Merging.{merge, merge_content, merge_coupons}
+use Rattle.hll_sketch.specs.Merging.{merge, merge_content}
 use Rattle.hll_sketch.specs.Union.{IsGadget}
 use Rattle.hll_sketch.specs.Waiting.{with_coupons}
 use Rattle.hll_sketch.proofs.Adding.{add_again, merge_of_some}
@@ -65,18 +65,18 @@ module _ (m : ℕ) (g : Sketch) (gadget : IsGadget m g) (legal : IsLegal g) (tab
         | inr f ↦ in_table_some g.lg_k g.content T table (some_first c cs) f
       ]
 
-  added_behind : (W X : List ℕ) → (set_of X ≡ empty → ⊥) → with_coupons g (W ++ X) ≡ add (with_coupons g W) (set_of X)
-  added_behind [] [] other = absurd (other set_of-nil)
-  added_behind [] (x ∷ xs) other = refl
-  added_behind (c ∷ cs) X other = ap (add g) (set_of-append (c ∷ cs) X) ∙ sym (add_again g (set_of (c ∷ cs)) (set_of X))
+  added_after : (W X : List ℕ) → (set_of X ≡ empty → ⊥) → with_coupons g (W ++ X) ≡ add (with_coupons g W) (set_of X)
+  added_after [] [] other = absurd (other set_of-nil)
+  added_after [] (x ∷ xs) other = refl
+  added_after (c ∷ cs) X other = ap (add g) (set_of-append (c ∷ cs) X) ∙ sym (add_again g (set_of (c ∷ cs)) (set_of X))
 
-  -- coupons of a sketch behind those that wait: the sketch is merged
+  -- coupons of a sketch after those that wait: the sketch is merged
   pub merged_waiting : (x : Sketch) (W X : List ℕ) (size : ℕ) → All IsPair W → x.content ≡ coupons (set_of X) size → is_empty x ≡ false
       → with_coupons g (W ++ X) ≡ merge m (with_coupons g W) x
   merged_waiting x W X size pairs is other =
       let h : Sketch = with_coupons g W in
       let has : set_of X ≡ empty → ⊥ = λ e. true≢false (sym (ap (λ P. eqb (len P) 0) (ap pairs_in is ∙ e) ∙ ap (λ n. eqb n 0) (len-empty nat_cmp)) ∙ other) in
-      added_behind W X has
+      added_after W X has
       ∙ coupons_added h x (add h (set_of X)) (set_of X) (other_empty (is_empty h) h.lg_k x.lg_k (stays_some W pairs)) (ap pairs_in is) refl
       ∙ ap (λ c. merge_content m h x c) (sym is)
       ∙ sym (merge_of_some m h x other)
@@ -101,9 +101,9 @@ front_pairs (x ∷ xs) ys pairs = All-cons IsPair x xs (All-head IsPair x (xs ++
 
 -- ---- images
 
--- a refusal for memory behind an image that was read
-pub memory_behind : (b : List ℕ) (x : Sketch) (e : Reason) → IsReadAs b x → e ≡ Memory → IsRefusal b e
-memory_behind b x e read is = record { first = inl is; asked = λ memory. sized_if_read b x read }
+-- a refusal for memory after an image that was read
+pub memory_after : (b : List ℕ) (x : Sketch) (e : Reason) → IsReadAs b x → e ≡ Memory → IsRefusal b e
+memory_after b x e read is = record { first = inl is; asked = λ memory. sized_if_read b x read }
 
 module _ (b order : List ℕ) (of : IsOfCoupons b order) (are : AreCoupons order) (bytes : AreBytes b) where
   read_legal : IsLegal of.sketch
@@ -126,9 +126,9 @@ module _ (b order : List ℕ) (of : IsOfCoupons b order) (are : AreCoupons order
   some_in_image : is_empty of.sketch ≡ false
   some_in_image = ne_eqb (len (pairs_in of.sketch.content)) 0 (λ none. of.some (ap (λ c. len (pairs_in c)) (sym of.content) ∙ none))
 
-  pub merged_words : (m : ℕ) (g : Sketch) → IsGadget m g → IsLegal g → in_registers g.content ≡ false → is_empty g ≡ false → (W : List ℕ) → All IsPair W
+  pub merged_fields : (m : ℕ) (g : Sketch) → IsGadget m g → IsLegal g → in_registers g.content ≡ false → is_empty g ≡ false → (W : List ℕ) → All IsPair W
       → with_coupons g (W ++ order) ≡ merge m (with_coupons g W) of.sketch
-  merged_words m g gadget legal table some W pairs = merged_waiting m g gadget legal table some of.sketch W order of.size pairs of.content some_in_image
+  merged_fields m g gadget legal table some W pairs = merged_waiting m g gadget legal table some of.sketch W order of.size pairs of.content some_in_image
 
 -- what holds of a result where it is `Ok`, together
 pub both_ok : {X E : Type 0} (r : Result X E) (P Q : X → Type 0) → IfOk r P → IfOk r Q → IfOk r (λ x. P x × Q x)

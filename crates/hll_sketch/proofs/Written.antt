@@ -10,14 +10,14 @@ use Rattle.std.proofs.lemmas.Bool.{eqb-true, eq-eqb, ne_eqb, cond-false, cond-tr
 use Rattle.std.proofs.lemmas.List.{append-nil}
 use Rattle.std.proofs.lemmas.List.Elements.{All-from_get_or}
 use Rattle.hll_coupons.specs.Pair.{Pairs, IsPair, set_of, value_of}
-use Rattle.hll_coupons.specs.Coupons.{words, coupons_at, coupon_bytes, AreCoupons, IsAscending, mode_byte, list_bytes, set_bytes}
+use Rattle.hll_coupons.specs.Coupons.{raw_coupons, coupons_at, coupon_bytes, AreCoupons, IsAscending, mode_byte, list_bytes, set_bytes}
 use Rattle.hll_coupons.specs.Table.{filled_from_front}
-use Rattle.hll_coupons.specs.Payload.{list_places, list_coupons, set_count, set_coupons}
+use Rattle.hll_coupons.specs.Payload.{list_buckets, list_coupons, set_count, set_coupons}
 use Rattle.hll_base.specs.declared.hll_type.HllType.{HllType}
 use Rattle.hll_base.specs.declared.hll_type.HllType.TheVariants.{Hll4, Hll6, Hll8}
 use Rattle.hll_coupons.proofs.Ascending.{len-ascending, written_once}
 use Rattle.hll_coupons.proofs.Greatest.{itself}
-use Rattle.hll_coupons.proofs.Payloads.{words-written, length-coupon_bytes, front_coupons}
+use Rattle.hll_coupons.proofs.Payloads.{raw_coupons-written, length-coupon_bytes, front_coupons}
 use Rattle.hll_registers.specs.declared.estimate_state.EstimateState.{EstimateState}
 use Rattle.hll_registers.specs.State.{IsState}
 use Rattle.hll_kernels.specs.Packed.{AreRegisters}
@@ -86,8 +86,8 @@ module _ (k : ℕ) (w : HllType) (S : Pairs) (order : List ℕ) (lg_k : IsLgK k)
   are_coupons : AreCoupons order
   are_coupons = record { valued = valued; distinct = ap len lists.members ∙ sym lists.once }
 
-  back : words (length order) (coupon_bytes order) ≡ order
-  back = ap (words (length order)) (sym (append-nil (coupon_bytes order))) ∙ words-written order [] fit
+  back : raw_coupons (length order) (coupon_bytes order) ≡ order
+  back = ap (raw_coupons (length order)) (sym (append-nil (coupon_bytes order))) ∙ raw_coupons-written order [] fit
 
   -- ---- a list
 
@@ -102,15 +102,15 @@ module _ (k : ℕ) (w : HllType) (S : Pairs) (order : List ℕ) (lg_k : IsLgK k)
   is_empty_flag true = refl
   is_empty_flag false = refl
 
-  no_places : (n : ℕ) → cond (eqb n 0) 0 n ≡ n
-  no_places zero = refl
-  no_places (suc n) = cond-false (eqb (suc n) 0) 0 (suc n) (ne_eqb (suc n) 0 (λ e. omega arith))
+  no_buckets : (n : ℕ) → cond (eqb n 0) 0 n ≡ n
+  no_buckets zero = refl
+  no_buckets (suc n) = cond-false (eqb (suc n) 0) 0 (suc n) (ne_eqb (suc n) 0 (λ e. omega arith))
 
-  places : list_places (list_shape L) ≡ length order
-  places = (λ i. cond (is_empty_flag (eqb (length order) 0) i) 0 (cond (is_compact (eqb (length order) 0) i) (length order) 8)) ∙ no_places (length order)
+  buckets : list_buckets (list_shape L) ≡ length order
+  buckets = (λ i. cond (is_empty_flag (eqb (length order) 0) i) 0 (cond (is_compact (eqb (length order) 0) i) (length order) 8)) ∙ no_buckets (length order)
 
   coupons_are : list_coupons (list_shape L) (drop 8 L) ≡ order
-  coupons_are = (λ i. coupons_at (is_compact (eqb (length order) 0) i) (places i) (coupon_bytes order)) ∙ back
+  coupons_are = (λ i. coupons_at (is_compact (eqb (length order) 0) i) (buckets i) (coupon_bytes order)) ∙ back
 
   pub is_list_image : len S ≤ 8 → IsListImage L
   is_list_image few = record {
@@ -121,7 +121,7 @@ module _ (k : ℕ) (w : HllType) (S : Pairs) (order : List ℕ) (lg_k : IsLgK k)
         low = omega (arith, lists.once);
         flag = (λ t. eqb-true (length order) 0 (sym (is_empty_flag (eqb (length order) 0)) ∙ t), λ z. is_empty_flag (eqb (length order) 0) ∙ eq-eqb (length order) 0 z);
       };
-      size = length-coupon_bytes order ∙ ap (λ n. 4 * n) (sym places);
+      size = length-coupon_bytes order ∙ ap (λ n. 4 * n) (sym buckets);
       are_coupons = subst AreCoupons (sym coupons_are) are_coupons;
       number = ap length coupons_are;
     };
@@ -130,13 +130,13 @@ module _ (k : ℕ) (w : HllType) (S : Pairs) (order : List ℕ) (lg_k : IsLgK k)
   pub list_image : len S ≤ 8 → Image L (record { lg_k = k; width = w; content = coupons S 3 })
   list_image few = list (is_list_image few) (sym (λ i. let y : Sketch = record { lg_k = k; width = width_back 0 w (omega arith) i; content = coupons ((ap set_of coupons_are ∙ lists.members) i) 3 } in y))
 
-  -- bytes behind it are not looked at
+  -- bytes after it are not looked at
   pub read_back : (more : List ℕ) → len S ≤ 8 → IsReadBack L order more
   read_back more few = record {
     image = is_list_image few;
-    size = let n : length (coupon_bytes order) ≡ 4 * length order = length-coupon_bytes order in omega (arith, n, places);
-    table = ap (filled_from_front 3) (sym (front_coupons (coupon_bytes order) more (coupon_bytes order ++ more) refl (list_shape L).compact (list_places (list_shape L)) 0
-        (omega (arith, length-coupon_bytes order, places))) ∙ coupons_are);
+    size = let n : length (coupon_bytes order) ≡ 4 * length order = length-coupon_bytes order in omega (arith, n, buckets);
+    table = ap (filled_from_front 3) (sym (front_coupons (coupon_bytes order) more (coupon_bytes order ++ more) refl (list_shape L).compact (list_buckets (list_shape L)) 0
+        (omega (arith, length-coupon_bytes order, buckets))) ∙ coupons_are);
   }
 
   -- ---- a set
@@ -160,7 +160,7 @@ module _ (k : ℕ) (w : HllType) (S : Pairs) (order : List ℕ) (lg_k : IsLgK k)
       count = from_le_bytes-to_le_bytes_4 (length order) small
 
       coupons_are : set_coupons (set_shape (set_bytes k w p order)) (drop 8 (set_bytes k w p order)) ≡ order
-      coupons_are = ap (λ n. words n (coupon_bytes order)) count ∙ back
+      coupons_are = ap (λ n. raw_coupons n (coupon_bytes order)) count ∙ back
 
 -- ---- registers
 

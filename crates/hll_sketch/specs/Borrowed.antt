@@ -6,7 +6,7 @@ use Rattle.std.specs.List.Sorted.{IsStrictlyIncreasing}
 use Rattle.hll_coupons.specs.Coupons.{AreCoupons}
 use Rattle.hll_coupons.specs.Pair.{set_of}
 
--- words that one pass tells to be coupons: they have values and ascend, as all that are written here do, or they are at most 128, and differ
+-- raw coupons that one pass tells to be coupons: they have values and ascend, as all that are written here do, or they are at most 128, and differ
 abbrev pub AreEvidentlyCoupons : List ℕ → Type 0
 AreEvidentlyCoupons order = IsStrictlyIncreasing ((2 ^ 26 - 1) ∷ order) ⊎ ((length order ≤ 128) × AreCoupons order)
 

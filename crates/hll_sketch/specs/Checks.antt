@@ -9,7 +9,7 @@ use Rattle.hll_base.specs.declared.error.Reason.{Reason}
 use Rattle.hll_base.specs.declared.error.Reason.TheVariants.{Truncated, Family, Version, LgK, Width, Stage, Preamble, LgArr, Count, Coupon, Register}
 use Rattle.hll_coupons.specs.AuxMap.{entry_at}
 use Rattle.hll_coupons.specs.Pair.{slot_of, value_of, set_of}
-use Rattle.hll_coupons.specs.Payload.{list_places, list_coupons, set_count, set_places, set_coupons}
+use Rattle.hll_coupons.specs.Payload.{list_buckets, list_coupons, set_count, set_buckets, set_coupons}
 use Rattle.hll_kernels.specs.Packed.{nibble_at}
 use Rattle.hll_registers.specs.Payload.{num_at_cur_min, exception_count, field_size, hll4_size, nibbles_of, entries_of}
 use Rattle.hll_sketch.specs.Value.{Sketch}
@@ -29,7 +29,7 @@ abbrev pub first_failing : List Check → Option Reason
 first_failing [] = None
 first_failing (c ∷ cs) = if c.passes then first_failing cs else Some c.reason
 
--- the checks behind a header: of what chooses and measures the rest, with the bytes that it asks for, and of what they say
+-- the checks after a header: of what chooses and measures the rest, with the bytes that it asks for, and of what they say
 pub record Checks : Type 0 where
   pub size : List Check
   pub content : List Check
@@ -58,7 +58,7 @@ list_checks b = record {
   size =
       check LgArr (table_byte b == 3)
       ∷ check Count (nat_le (state_byte b) 8 && beq (is_flagged 4 b) (state_byte b == 0))
-      ∷ check Truncated (nat_le (8 + 4 * list_places (list_shape b)) (length b))
+      ∷ check Truncated (nat_le (8 + 4 * list_buckets (list_shape b)) (length b))
       ∷ [];
   content =
       let coupons = list_coupons (list_shape b) (drop 8 b) in
@@ -71,7 +71,7 @@ set_checks b = record {
       check LgArr (nat_le 5 (table_byte b) && nat_le (table_byte b + 3) (lg_k_byte b))
       ∷ check Truncated (nat_le 12 (length b))
       ∷ check Count (nat_lt (set_count (drop 8 b)) (2 ^ table_byte b))
-      ∷ check Truncated (nat_le (12 + 4 * set_places (set_shape b) (drop 8 b)) (length b))
+      ∷ check Truncated (nat_le (12 + 4 * set_buckets (set_shape b) (drop 8 b)) (length b))
       ∷ [];
   content =
       let coupons = set_coupons (set_shape b) (drop 8 b) in
@@ -80,7 +80,7 @@ set_checks b = record {
 
 -- ---- registers
 
--- the counts of registers of eight and six bits, and n bytes of registers behind them
+-- the counts of registers of eight and six bits, and n bytes of registers after them
 abbrev pub plain_checks : ℕ → List ℕ → List Check
 plain_checks n b =
     check Truncated (nat_le 40 (length b))
@@ -134,19 +134,19 @@ hll4_checks b =
 -- ---- an image
 
 -- by stage and width
-abbrev pub checks_behind : List ℕ → Checks
-checks_behind b =
+abbrev pub checks_after : List ℕ → Checks
+checks_after b =
     if stage_bits b == 0 then list_checks b
     else (if stage_bits b == 1 then set_checks b
     else (if width_bits b == 0 then hll4_checks b else (if width_bits b == 1 then hll6_checks b else hll8_checks b)))
 
 -- the first fault of the header, the counts or the length
 abbrev pub size_fault : List ℕ → Option Reason
-size_fault b = first_failing (header_checks b ++ (checks_behind b).size)
+size_fault b = first_failing (header_checks b ++ (checks_after b).size)
 
 -- the first fault of an image
 abbrev pub first_fault : List ℕ → Option Reason
-first_fault b = first_failing (header_checks b ++ ((checks_behind b).size ++ (checks_behind b).content))
+first_fault b = first_failing (header_checks b ++ ((checks_after b).size ++ (checks_after b).content))
 
 -- ---- laws
 

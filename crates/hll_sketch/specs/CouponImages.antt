@@ -7,12 +7,12 @@ use Rattle.hll_base.specs.declared.hll_type.HllType.{HllType}
 use Rattle.hll_coupons.specs.Pair.{Pairs, set_of}
 use Rattle.hll_sketch.specs.Image.{IsReadAs}
 use Rattle.hll_sketch.specs.Merging.{merge, empty_union}
-use Rattle.hll_sketch.specs.TakenIn.{HasCompactCoupons}
+use Rattle.hll_sketch.specs.MergedIn.{HasCompactCoupons}
 use Rattle.hll_sketch.specs.Updatable.{HasUpdatableCoupons}
 use Rattle.hll_sketch.specs.Value.{Sketch, coupons, in_registers, IsLgK}
 use Rattle.hll_sketch.specs.Written.{Written}
 
--- the bytes are read as a sketch of these coupons, of which there are some, at an lg_k and in a table of 2^size places; and the list of them
+-- the bytes are read as a sketch of these coupons, of which there are some, at an lg_k and in a table of 2^size buckets; and the list of them
 -- ascends
 pub record IsInOrder (b : List ℕ) (k size : ℕ) (order : List ℕ) : Type 0 where
   pub sketch : Sketch
@@ -22,7 +22,7 @@ pub record IsInOrder (b : List ℕ) (k size : ℕ) (order : List ℕ) : Type 0 w
   pub some : len (set_of order) ≢ 0
   pub ascends : IsStrictlyIncreasing order
 
--- the sketch has this lg_k and width, and so many coupons in a table of 2^size places
+-- the sketch has this lg_k and width, and so many coupons in a table of 2^size buckets
 pub record IsTableOf (k : ℕ) (width : HllType) (size count : ℕ) (x : Sketch) : Type 0 where
   pub lg_k : x.lg_k ≡ k
   pub width_is : x.width ≡ width

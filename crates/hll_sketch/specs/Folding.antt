@@ -5,7 +5,7 @@ use Rattle.std.specs.FinSet.{len}
 use Rattle.hll_coupons.specs.Fold.{fold_to, pairs}
 use Rattle.hll_registers.specs.State.{cleared_state}
 use Rattle.hll_sketch.specs.Adding.{content_for}
-use Rattle.hll_sketch.specs.Grown.{IsGrown}
+use Rattle.hll_sketch.specs.Canonical.{IsCanonicalCleared}
 use Rattle.hll_sketch.specs.Stage.{stage}
 use Rattle.hll_sketch.specs.Value.{Sketch, Content, coupons, registers, pairs_of, IsLegal}
 
@@ -30,9 +30,9 @@ pub record IsFoldLgK (k e : ℕ) : Type 0 where
 abbrev pub FoldedIsLegal : Type 0
 FoldedIsLegal = (x : Sketch) (e : ℕ) → IsLegal x → IsFoldLgK x.lg_k e → IsLegal (folded x e)
 
--- a grown sketch stays grown
-abbrev pub FoldedIsGrown : Type 0
-FoldedIsGrown = (x : Sketch) (e : ℕ) → IsGrown x → IsGrown (folded x e)
+-- a canonical sketch with cleared fields is folded to one
+abbrev pub FoldedIsCanonical : Type 0
+FoldedIsCanonical = (x : Sketch) (e : ℕ) → IsCanonicalCleared x → IsCanonicalCleared (folded x e)
 
 -- at an lg_k up to e the sketch and its fold have the same registers
 abbrev pub FoldedHasSameFolds : Type 0

@@ -2,7 +2,7 @@
 -- The grammar of images, by cases (docs/FORMAT.md, "The image"; docs/MODEL.md, "Images").
 use Rattle.std.specs.Prelude.{◌≡◌, ℕ, ◌+◌, ◌*◌, ◌^◌, ◌/◌, ◌%◌, ◌≤◌, ◌<◌, ◌==◌, Bool, if◌then◌else◌, List, length, take, drop, slice_index, All, ◌++◌}
 use Rattle.hll_coupons.specs.Pair.{set_of}
-use Rattle.hll_coupons.specs.Payload.{ListShape, shape_of_list, list_places, list_coupons, IsListPayload, SetShape, set_places, set_coupons, IsSetPayload}
+use Rattle.hll_coupons.specs.Payload.{ListShape, shape_of_list, list_buckets, list_coupons, IsListPayload, SetShape, set_buckets, set_coupons, IsSetPayload}
 use Rattle.hll_base.specs.declared.hll_type.HllType.{HllType}
 use Rattle.hll_base.specs.declared.hll_type.HllType.TheVariants.{Hll4, Hll6, Hll8}
 use Rattle.hll_kernels.specs.Packed.{fields}
@@ -148,11 +148,11 @@ pub record IsReadAs (b : List ℕ) (x : Sketch) : Type 0 where
 
 -- ---- how many bytes an image has
 
--- by its header, and by the counts behind that
+-- by its header, and by the counts after that
 abbrev pub asked_size : List ℕ → ℕ
 asked_size b =
-    if stage_bits b == 0 then 8 + 4 * list_places (list_shape b)
-    else (if stage_bits b == 1 then 12 + 4 * set_places (set_shape b) (drop 8 b)
+    if stage_bits b == 0 then 8 + 4 * list_buckets (list_shape b)
+    else (if stage_bits b == 1 then 12 + 4 * set_buckets (set_shape b) (drop 8 b)
     else (if width_bits b == 0 then 8 + hll4_size (hll4_shape b) (drop 8 b)
     else (if width_bits b == 1 then 40 + field_size (lg_k_byte b) else 40 + 2 ^ lg_k_byte b)))
 

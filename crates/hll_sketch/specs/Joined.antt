@@ -11,7 +11,7 @@ use Rattle.hll_registers.specs.State.{cleared_state}
 use Rattle.hll_sketch.specs.Stage.{stage}
 use Rattle.hll_sketch.specs.Value.{Sketch, registers, pairs_of, has_nonzero_registers, ArePairs}
 use Rattle.hll_sketch.specs.Adding.{content_for}
-use Rattle.hll_sketch.specs.Grown.{IsGrown}
+use Rattle.hll_sketch.specs.Canonical.{IsCanonicalCleared}
 use Rattle.hll_sketch.specs.Merging.{merge_all, empty_union}
 use Rattle.hll_sketch.specs.Union.{UnionLayout, gadget_of}
 
@@ -36,15 +36,15 @@ join_value m w xs = join_value_of_pairs m w (least_lg_k m xs) (all_pairs xs) (li
 
 -- ---- laws
 
--- a grown sketch of pairs
-pub record IsGrownOfPairs (x : Sketch) : Type 0 where
+-- a canonical sketch of pairs, with cleared fields
+pub record IsCanonicalOfPairs (x : Sketch) : Type 0 where
   pub small : x.lg_k ≤ 21
   pub are : ArePairs (pairs_of x)
-  pub grown : IsGrown x
+  pub canonical : IsCanonicalCleared x
 
--- grown sketches merged in turn into the empty union are their join
-abbrev pub MergeOfGrown : Type 0
-MergeOfGrown = (m : ℕ) (xs : List Sketch) → m ≤ 21 → AllByRecursion IsGrownOfPairs xs → merge_all m (empty_union m) xs ≡ join_value m Hll8 xs
+-- canonical sketches with cleared fields merged in turn into the empty union are their join
+abbrev pub MergeOfCanonical : Type 0
+MergeOfCanonical = (m : ℕ) (xs : List Sketch) → m ≤ 21 → AllByRecursion IsCanonicalOfPairs xs → merge_all m (empty_union m) xs ≡ join_value m Hll8 xs
 
 -- the lists have the same members
 abbrev pub SameMembers : List Sketch → List Sketch → Type 0
@@ -56,23 +56,23 @@ UnionOfSame = (m : ℕ) (w : HllType) (xs ys : List Sketch) → SameMembers xs y
 
 -- some may be joined first, under the same bound and at any width
 abbrev pub UnionOfUnion : Type 0
-UnionOfUnion = (m : ℕ) (v w : HllType) (xs ys : List Sketch) → m ≤ 21 → AllByRecursion IsGrownOfPairs ys →
+UnionOfUnion = (m : ℕ) (v w : HllType) (xs ys : List Sketch) → m ≤ 21 → AllByRecursion IsCanonicalOfPairs ys →
     join_value m w (join_value m v ys ∷ xs) ≡ join_value m w (ys ++ xs)
 
 -- ---- unions
 
--- the gadget of a union is the join of these grown sketches under its bound, and grown
-pub record IsJoinOf (xs : List Sketch) (u : UnionLayout) : Type 0 where
+-- the gadget of a union is the join of these canonical sketches with cleared fields under its bound, and is one itself
+pub record IsMergeOf (xs : List Sketch) (u : UnionLayout) : Type 0 where
   pub small : u.lg_max_k ≤ 21
-  pub merged : AllByRecursion IsGrownOfPairs xs
+  pub merged : AllByRecursion IsCanonicalOfPairs xs
   pub value : gadget_of u ≡ join_value u.lg_max_k Hll8 xs
-  pub grown : IsGrown (gadget_of u)
+  pub canonical : IsCanonicalCleared (gadget_of u)
 
 -- unions of the same bound and the same sketches have equal gadgets, in whatever order and however often each was merged
-abbrev pub JoinsOfSame : Type 0
-JoinsOfSame = (u v : UnionLayout) (xs ys : List Sketch) → u.lg_max_k ≡ v.lg_max_k → IsJoinOf xs u → IsJoinOf ys v → SameMembers xs ys → gadget_of u ≡ gadget_of v
+abbrev pub MergesOfSame : Type 0
+MergesOfSame = (u v : UnionLayout) (xs ys : List Sketch) → u.lg_max_k ≡ v.lg_max_k → IsMergeOf xs u → IsMergeOf ys v → SameMembers xs ys → gadget_of u ≡ gadget_of v
 
 -- merging what a union of the same bound gives, at any width, is merging the sketches that went into it
-abbrev pub JoinOfJoin : Type 0
-JoinOfJoin = (u v : UnionLayout) (w : HllType) (xs ys : List Sketch) → u.lg_max_k ≡ v.lg_max_k → IsJoinOf ys v →
-    IsJoinOf (xs ++ record (gadget_of v) { width = w } ∷ []) u → IsJoinOf (xs ++ ys) u
+abbrev pub MergeOfMerge : Type 0
+MergeOfMerge = (u v : UnionLayout) (w : HllType) (xs ys : List Sketch) → u.lg_max_k ≡ v.lg_max_k → IsMergeOf ys v →
+    IsMergeOf (xs ++ record (gadget_of v) { width = w } ∷ []) u → IsMergeOf (xs ++ ys) u

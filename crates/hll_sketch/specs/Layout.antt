@@ -14,7 +14,7 @@ use Rattle.hll_sketch.specs.Value.{Sketch, Content, coupons, registers}
 use Rattle.hll_sketch.specs.declared.mode.Mode.{Mode}
 use Rattle.hll_sketch.specs.declared.mode.Mode.TheVariants.{List, Set, Array4, Array6, Array8}
 
--- a list or a set with its width and its places, or registers of a width, at four bits with the map of exceptions
+-- a list or a set with its width and its buckets, or registers of a width, at four bits with the map of exceptions
 pub data Layout : Type 0 where
   list : HllType → Table → Layout
   set : HllType → Table → Layout
@@ -50,10 +50,10 @@ sketch_of x = record { lg_k = x.lg_k; width = width_of x.layout; content = conte
 
 -- ---- legal layouts
 
--- a list has eight places; a set has a size for its lg_k and an empty place; registers are as many as the lg_k says
+-- a list has eight buckets; a set has a size for its lg_k and an empty bucket; registers are as many as the lg_k says
 abbrev pub IsLayoutFor : ℕ → Layout → Type 0
 IsLayoutFor k (list width t) = t.lg_size ≡ 3
-IsLayoutFor k (set width t) = (5 ≤ t.lg_size) × (t.lg_size + 3 ≤ k) × (length (coupons_in t.places) < 2 ^ t.lg_size)
+IsLayoutFor k (set width t) = (5 ≤ t.lg_size) × (t.lg_size + 3 ≤ k) × (length (coupons_in t.buckets) < 2 ^ t.lg_size)
 IsLayoutFor k (array width x e) = x.lg_k ≡ k
 
 -- registers, if that is what is kept, are at this lg_k or a greater one
@@ -72,7 +72,7 @@ IsSize k p = (p ≡ 3) ⊎ ((5 ≤ p) × (p + 3 ≤ k))
 abbrev pub size_after : ℕ → ℕ
 size_after size = if size == 3 then 5 else size + 1
 
--- how many coupons a legal table may have once it has one more: a list nine, a set as many as it has places
+-- how many coupons a legal table may have once it has one more: a list nine, a set as many as it has buckets
 abbrev pub AtMost : ℕ → ℕ → Type 0
 AtMost p n = (p ≡ 3 → n ≤ 9) × (5 ≤ p → n ≤ 2 ^ p)
 

@@ -4,10 +4,10 @@ pub mod Agree
 pub mod Borrowed
 pub mod Checks
 pub mod CouponImages
-pub mod EstimatorWords
+pub mod EstimatorFields
 pub mod Fault
 pub mod Folding
-pub mod Grown
+pub mod Canonical
 pub mod Header
 pub mod Image
 pub mod Joined
@@ -18,11 +18,10 @@ pub mod Meaning
 pub mod Merging
 pub mod PlainStates
 pub mod Promotion
-pub mod Raising
 pub mod Refusal
 pub mod Same
 pub mod Stage
-pub mod TakenIn
+pub mod MergedIn
 pub mod Union
 pub mod Updatable
 pub mod Value

@@ -21,10 +21,14 @@ merge_coupons g x = if is_empty g && (g.lg_k == x.lg_k) then record g { content 
 abbrev pub state_after_merge : ℕ → Sketch → ℕ → EstimateState → EstimateState
 state_after_merge bound g k state = if is_empty g && nat_le k bound then state else cleared_state
 
+-- at the smaller lg_k the greater of both at each slot, with a state
+abbrev pub max_registers : Sketch → ℕ → List ℕ → EstimateState → Sketch
+max_registers g k R state = let e = min g.lg_k k in
+    record { lg_k = e; width = g.width; content = registers (fold_to (union (pairs_of g) (pairs R)) e) state }
+
 -- registers are joined at the smaller lg_k
 abbrev pub merge_registers : ℕ → Sketch → ℕ → List ℕ → EstimateState → Sketch
-merge_registers bound g k R state = let e = min g.lg_k k in
-    record { lg_k = e; width = g.width; content = registers (fold_to (union (pairs_of g) (pairs R)) e) (state_after_merge bound g k state) }
+merge_registers bound g k R state = max_registers g k R (state_after_merge bound g k state)
 
 abbrev pub merge_content : ℕ → Sketch → Sketch → Content → Sketch
 merge_content bound g x (coupons S size) = merge_coupons g x

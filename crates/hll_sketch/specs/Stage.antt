@@ -7,7 +7,7 @@ use Rattle.std.specs.List.{range_with_len}
 abbrev pub sizes : ℕ → List ℕ
 sizes k = 3 ∷ range_with_len 5 (k - 7)
 
--- size 3 holds up to seven pairs, a larger one as many as three quarters of its places
+-- size 3 holds up to seven pairs, a larger one as many as three quarters of its buckets
 abbrev pub can_hold : ℕ → ℕ → Bool
 can_hold size n = if size == 3 then nat_le n 7 else nat_le (4 * n) (3 * 2 ^ size)
 

@@ -10,7 +10,7 @@ use Rattle.hll_sketch.specs.Layout.{Layout, list, set, array, SketchLayout, cont
 use Rattle.hll_sketch.specs.Stage.{can_hold, stage}
 use Rattle.hll_sketch.specs.Value.{Sketch, Content, coupons, registers, in_registers, is_empty}
 
--- a bound, and a gadget with its places
+-- a bound, and a gadget with its buckets
 pub record UnionLayout : Type 0 where
   pub lg_max_k : ℕ
   pub gadget : SketchLayout
@@ -32,7 +32,7 @@ pub record IsGadget (bound : ℕ) (g : Sketch) : Type 0 where
 
 -- A sketch can be the gadget that takes in others without memory: it has registers of eight bits, not all 0, within the bound, and no
 -- other sketch is at a smaller lg_k.
-pub record CanTakeIn (bound : ℕ) (first : SketchLayout) (others : List SketchLayout) : Type 0 where
+pub record CanMergeIn (bound : ℕ) (first : SketchLayout) (others : List SketchLayout) : Type 0 where
   pub gadget : IsGadget bound (sketch_of first)
   pub inside : in_registers (content_in first.layout) ≡ true
   pub within : All (λ (x : SketchLayout). first.lg_k ≤ x.lg_k) others

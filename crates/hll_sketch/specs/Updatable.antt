@@ -1,5 +1,5 @@
 -- SPDX-License-Identifier: Apache-2.0
--- Coupons in the places of a table, as an updatable image has them (docs/FORMAT.md, "LIST" and "SET").
+-- Coupons in the buckets of a table, as an updatable image has them (docs/FORMAT.md, "LIST" and "SET").
 use Rattle.std.specs.Prelude.{◌≡◌, ℕ, ◌<◌, ◌≤◌, ◌==◌, if◌then◌else◌, false, List, length, drop, None}
 use Rattle.hll_coupons.specs.Coupons.{AreCoupons}
 use Rattle.hll_coupons.specs.Payload.{set_count}
@@ -7,10 +7,10 @@ use Rattle.hll_coupons.specs.Table.{coupons_in}
 use Rattle.hll_sketch.specs.Checks.{first_fault}
 use Rattle.hll_sketch.specs.Image.{stage_bits, state_byte, is_flagged}
 
--- so many of these places are filled, and they hold coupons
-pub record HoldCoupons (n : ℕ) (places : List ℕ) : Type 0 where
-  pub are : AreCoupons (coupons_in places)
-  pub number : length (coupons_in places) ≡ n
+-- so many of these buckets are filled, and they hold coupons
+pub record HoldCoupons (n : ℕ) (buckets : List ℕ) : Type 0 where
+  pub are : AreCoupons (coupons_in buckets)
+  pub number : length (coupons_in buckets) ≡ n
 
 -- how many coupons an image of a list or a set says it has
 abbrev pub number_in : List ℕ → ℕ

@@ -10,7 +10,7 @@ use Rattle.hll_registers.specs.Store.{size_in_registers}
 use Rattle.hll_registers.specs.State.{IsState}
 use Rattle.hll_kernels.specs.Packed.{AreRegisters}
 
--- what a sketch keeps: a set of pairs in a table of 2^size places, or registers with an estimate state
+-- what a sketch keeps: a set of pairs in a table of 2^size buckets, or registers with an estimate state
 pub data Content : Type 0 where
   coupons : Pairs → ℕ → Content
   registers : List ℕ → EstimateState → Content
@@ -40,7 +40,7 @@ in_registers (registers R state) = true
 abbrev pub has_nonzero_registers : Sketch → Bool
 has_nonzero_registers x = in_registers x.content && not (is_empty x)
 
--- the empty list, of eight places
+-- the empty list, of eight buckets
 abbrev pub empty_sketch : ℕ → HllType → Sketch
 empty_sketch k width = record { lg_k = k; width = width; content = coupons empty 3 }
 
@@ -59,11 +59,11 @@ pub record IsLgK (k : ℕ) : Type 0 where
   pub low : 4 ≤ k
   pub high : k ≤ 21
 
--- each word of the set is a pair
+-- each raw coupon of the set is a pair
 abbrev pub ArePairs : Pairs → Type 0
 ArePairs P = (c : ℕ) → contains P c ≡ true → IsPair c
 
--- a list has at most eight pairs; a set has fewer pairs than places, and a size for its lg_k
+-- a list has at most eight pairs; a set has fewer pairs than buckets, and a size for its lg_k
 abbrev pub IsTableFor : ℕ → ℕ → ℕ → Type 0
 IsTableFor k count size = ((size ≡ 3) × (count ≤ 8)) ⊎ ((5 ≤ size) × (size + 3 ≤ k) × (count < 2 ^ size))
 

@@ -4,7 +4,7 @@ use Rattle.std.specs.Prelude.{◌≡◌, ◌↔◌, ℕ, ◌+◌, ◌*◌, ◌�
 use Rattle.std.specs.FinSet.{len}
 use Rattle.hll_coupons.specs.Pair.{IsPair, set_of}
 use Rattle.hll_coupons.specs.Coupons.{WritesAscending, list_bytes, set_bytes}
-use Rattle.hll_coupons.specs.Payload.{list_places, list_table}
+use Rattle.hll_coupons.specs.Payload.{list_buckets, list_table}
 use Rattle.hll_coupons.specs.Table.{filled_from_front}
 use Rattle.hll_base.specs.declared.hll_type.HllType.{HllType}
 use Rattle.hll_registers.specs.Payload.{WritesRegisters}
@@ -19,7 +19,7 @@ abbrev pub WritesContent : List ℕ → ℕ → HllType → Content → Type 0
 WritesContent bytes k width (coupons S size) = WritesAscending (coupon_image k width size) S bytes
 WritesContent bytes k width (registers R state) = WritesRegisters bytes k width R state
 
--- the bytes are what is written for the sketch, with its coupons or its exceptions in ascending raw words
+-- the bytes are what is written for the sketch, with its coupons or its exceptions in ascending order
 abbrev pub Written : List ℕ → Sketch → Type 0
 Written bytes x = WritesContent bytes x.lg_k x.width x.content
 
@@ -44,7 +44,7 @@ SameBytes = (x y : Sketch) (a b : List ℕ) → IsLegal x → IsLegal y → Have
 -- an image of a list and then any bytes are read as a list with the coupons in their order
 pub record IsReadBack (written order more : List ℕ) : Type 0 where
   pub image : IsListImage written
-  pub size : 8 + 4 * list_places (list_shape (written ++ more)) ≡ length written
+  pub size : 8 + 4 * list_buckets (list_shape (written ++ more)) ≡ length written
   pub table : list_table (list_shape (written ++ more)) (drop 8 (written ++ more)) ≡ filled_from_front 3 order
 
 abbrev pub ListIsReadBack : Type 0

@@ -5,22 +5,22 @@
 ghost use Rattle.std.specs.Prelude.{◌≡◌, ℕ, List, ◌≤◌, ◌<◌, true, IfSome, IfNone, IfOk, IfErr, OnErr, length};
 ghost use Rattle.std.specs.List.Sorted.{IsStrictlyIncreasing};
 ghost use Rattle.hll_base.specs.declared.error.Reason.TheVariants.{Memory};
-ghost use Rattle.hll_coupons.specs.Coupons.{coupon_bytes, words};
+ghost use Rattle.hll_coupons.specs.Coupons.{coupon_bytes, raw_coupons};
 ghost use Rattle.hll_sketch.specs.CouponImages.{IsInOrder, IsImageOfTable, HasEvidentCoupons, HaveUnionInTable, IsImageOfUnion, AreBothRead, IsImageAt};
 ghost use Rattle.hll_sketch.specs.Image.{IsReadAs};
-ghost use Rattle.hll_sketch.specs.TakenIn.{HasCompactCoupons};
+ghost use Rattle.hll_sketch.specs.MergedIn.{HasCompactCoupons};
 ghost use Rattle.hll_sketch.specs.Value.{Sketch, IsLgK, IsTableFor};
 ghost use Rattle.hll_sketch.specs.Written as written;
 
-use crate::borrowed::{Words, compact_coupons, list_coupons, set_coupons};
 use crate::header::{Header, Stage};
+use crate::raw_coupons::{RawCoupons, compact_coupons, list_coupons, set_coupons};
 use crate::sorted::coupons_in_order;
 use crate::stage::stage;
 use crate::updatable::ROOM;
 use hll_base::error::Error;
 use hll_base::hll_type::HllType;
-use hll_coupons::raw_words::{list_image, set_image, union_of_ascending};
-use hll_coupons::serialization::{COUPON_SIZE_BYTES, LG_LIST_PLACES};
+use hll_coupons::raw_coupons::{list_image, set_image, union_of_ascending};
+use hll_coupons::serialization::{COUPON_SIZE_BYTES, LG_LIST_BUCKETS};
 use std::alloc::Allocator;
 
 /// What an image of coupons says, its coupons in ascending order.
@@ -28,10 +28,10 @@ use std::alloc::Allocator;
 struct OrderedImage<'a> {
     /// The logarithm of the number of registers, 4 to 21.
     lg_k: u8,
-    /// The logarithm of the number of places of its table.
+    /// The logarithm of the number of buckets of its table.
     lg_size: u8,
     /// The coupons, in ascending order.
-    words: Words<'a>,
+    raw_coupons: RawCoupons<'a>,
 }
 
 /// What an image of coupons says, but for the coupons.
@@ -41,7 +41,7 @@ pub struct ImageOfCoupons {
     pub lg_k: u8,
     /// The width that registers are to have.
     pub hll_type: HllType,
-    /// The logarithm of the number of places of its table.
+    /// The logarithm of the number of buckets of its table.
     pub lg_size: u8,
     /// How many coupons there are.
     pub count: usize,
@@ -52,10 +52,10 @@ pub fn image_of_coupons(bytes: &[u8]) -> Option<ImageOfCoupons>
     ensures some { IfSome result (λ i. IsImageOfTable bytes.now i.lg_k i.hll_type i.lg_size i.count) }
     ensures none { IfNone result (HasCompactCoupons bytes.now → ⊥) }
 {
-    let coupons = compact_coupons(bytes)?;
     let Ok(header) = Header::read(bytes) else {
-        unreachable!()
+        return None;
     };
+    let coupons = compact_coupons(bytes, header)?;
     Some(ImageOfCoupons {
         lg_k: header.lg_k,
         hll_type: header.hll_type,
@@ -135,18 +135,22 @@ fn union_in_order<A: Allocator + Clone>(
     left: OrderedImage<'_>,
     right: OrderedImage<'_>,
 ) -> Result<Option<Vec<u8, A>>, Error>
-    requires left { IsStrictlyIncreasing (words left.words.count left.words.bytes.now) }
-    requires right { IsStrictlyIncreasing (words right.words.count right.words.bytes.now) }
+    requires left { IsStrictlyIncreasing (raw_coupons left.raw_coupons.count left.raw_coupons.bytes.now) }
+    requires right { IsStrictlyIncreasing (raw_coupons right.raw_coupons.count right.raw_coupons.bytes.now) }
     requires lg_k { IsLgK left.lg_k }
-    ensures some { IfOk result (λ found. IfSome found (λ image. (l r : List ℕ) → IsInOrder l left.entry.lg_k left.entry.lg_size (words left.entry.words.count left.entry.words.bytes.now) → IsInOrder r right.entry.lg_k right.entry.lg_size (words right.entry.words.count right.entry.words.bytes.now) → IsImageOfUnion lg_max_k hll_type l r image.items)) }
-    ensures none { IfOk result (λ found. IfNone found ((l r : List ℕ) → IsInOrder l left.entry.lg_k left.entry.lg_size (words left.entry.words.count left.entry.words.bytes.now) → IsInOrder r right.entry.lg_k right.entry.lg_size (words right.entry.words.count right.entry.words.bytes.now) → HaveUnionInTable lg_max_k l r → ⊥)) }
+    ensures some { IfOk result (λ found. IfSome found (λ image. (l r : List ℕ) → IsInOrder l left.entry.lg_k left.entry.lg_size (raw_coupons left.entry.raw_coupons.count left.entry.raw_coupons.bytes.now) → IsInOrder r right.entry.lg_k right.entry.lg_size (raw_coupons right.entry.raw_coupons.count right.entry.raw_coupons.bytes.now) → IsImageOfUnion lg_max_k hll_type l r image.items)) }
+    ensures none { IfOk result (λ found. IfNone found ((l r : List ℕ) → IsInOrder l left.entry.lg_k left.entry.lg_size (raw_coupons left.entry.raw_coupons.count left.entry.raw_coupons.bytes.now) → IsInOrder r right.entry.lg_k right.entry.lg_size (raw_coupons right.entry.raw_coupons.count right.entry.raw_coupons.bytes.now) → HaveUnionInTable lg_max_k l r → ⊥)) }
     ensures bound { OnErr result (left.entry.lg_k ≡ lg_max_k) }
     ensures err { IfErr result (λ e. e ≡ Memory) }
 {
     if left.lg_k != lg_max_k {
         return Ok(None);
     }
-    let coupons = union_of_ascending(alloc.clone()?, left.words.all(), right.words.all())?;
+    let coupons = union_of_ascending(
+        alloc.clone()?,
+        left.raw_coupons.all(),
+        right.raw_coupons.all(),
+    )?;
     match stage(lg_max_k, left.lg_size, coupons.len() / COUPON_SIZE_BYTES) {
         Some(lg_size) => Ok(Some(coupon_image(alloc, lg_max_k, hll_type, lg_size, &coupons)?)),
         None => Ok(None),
@@ -211,11 +215,11 @@ fn image_in_order<A: Allocator>(
     image: OrderedImage<'_>,
 ) -> Result<Vec<u8, A>, Error>
     requires lg_k { IsLgK image.lg_k }
-    requires table { IsTableFor image.lg_k (length (words image.words.count image.words.bytes.now)) image.lg_size }
-    ensures ok { IfOk result (λ made. made.items ≡ written.coupon_image image.entry.lg_k hll_type image.entry.lg_size (words image.entry.words.count image.entry.words.bytes.now)) }
+    requires table { IsTableFor image.lg_k (length (raw_coupons image.raw_coupons.count image.raw_coupons.bytes.now)) image.lg_size }
+    ensures ok { IfOk result (λ made. made.items ≡ written.coupon_image image.entry.lg_k hll_type image.entry.lg_size (raw_coupons image.entry.raw_coupons.count image.entry.raw_coupons.bytes.now)) }
     ensures err { IfErr result (λ e. e ≡ Memory) }
 {
-    let coupons = image.words.as_bytes();
+    let coupons = image.raw_coupons.as_bytes();
     coupon_image(alloc, image.lg_k, hll_type, image.lg_size, coupons)
 }
 
@@ -231,46 +235,46 @@ fn says_registers(bytes: &[u8]) -> bool
 
 /// Returns what a compact image says, if its coupons ascend and there are some. `sorted_image` reads the other images.
 fn ascending_image(bytes: &[u8]) -> Option<OrderedImage<'_>>
-    ensures some { IfSome result (λ a. IsInOrder bytes.now a.lg_k a.lg_size (words a.words.count a.words.bytes.now)) }
+    ensures some { IfSome result (λ a. IsInOrder bytes.now a.lg_k a.lg_size (raw_coupons a.raw_coupons.count a.raw_coupons.bytes.now)) }
     ensures legal { IfSome result (λ a. IsLgK a.lg_k) }
 {
     let Ok(header) = Header::read(bytes) else {
         return None;
     };
-    let words = match header.stage {
+    let raw_coupons = match header.stage {
         Stage::List => list_coupons(bytes, header)?,
         Stage::Set => set_coupons(bytes, header)?,
         Stage::Hll => return None,
     };
-    if !words.ascend() {
+    if !raw_coupons.ascend() {
         return None;
     }
     Some(OrderedImage {
         lg_k: header.lg_k,
         lg_size: header.lg_arr,
-        words,
+        raw_coupons,
     })
 }
 
 /// Returns what an image says, if it is compact and its coupons ascend or are at most 128, or if it is updatable and has 1
 /// to 128 coupons. Coupons that don't ascend are sorted into `room`.
 fn sorted_image<'a>(bytes: &'a [u8], room: &'a mut [u8; ROOM]) -> Option<OrderedImage<'a>>
-    ensures some { IfSome result (λ a. IsInOrder bytes.now a.lg_k a.lg_size (words a.words.count a.words.bytes.now)) }
+    ensures some { IfSome result (λ a. IsInOrder bytes.now a.lg_k a.lg_size (raw_coupons a.raw_coupons.count a.raw_coupons.bytes.now)) }
     ensures legal { IfSome result (λ a. IsLgK a.lg_k) }
     ensures none { IfNone result (HasEvidentCoupons bytes.now → ⊥) }
 {
-    let words = coupons_in_order(bytes, room)?;
     let Ok(header) = Header::read(bytes) else {
-        unreachable!()
+        return None;
     };
+    let raw_coupons = coupons_in_order(bytes, header, room)?;
     Some(OrderedImage {
         lg_k: header.lg_k,
         lg_size: header.lg_arr,
-        words,
+        raw_coupons,
     })
 }
 
-/// The image of coupons in this order, four bytes each, whose table has 2^`lg_size` places.
+/// The image of coupons in this order, four bytes each, whose table has 2^`lg_size` buckets.
 ///
 /// Takes memory in one request. Fails with `Memory`.
 fn coupon_image<A: Allocator>(
@@ -285,7 +289,7 @@ fn coupon_image<A: Allocator>(
     ensures ok { IfOk result (λ image. (order : List ℕ) → coupons.now ≡ coupon_bytes order → image.items ≡ written.coupon_image lg_k hll_type lg_size order) }
     ensures err { IfErr result (λ e. e ≡ Memory) }
 {
-    if lg_size == LG_LIST_PLACES {
+    if lg_size == LG_LIST_BUCKETS {
         list_image(alloc, lg_k, hll_type, coupons)
     } else {
         set_image(alloc, lg_k, hll_type, lg_size, coupons)

@@ -3,7 +3,7 @@
 ghost use Rattle.std.specs.Prelude.{◌≡◌, ◌≤◌, ◌↔◌, IsTrue, Some, IfOk, IfErr};
 ghost use Rattle.std.specs.FinSet.{len};
 ghost use Rattle.hll_base.specs.declared.error.Reason.TheVariants.{Memory};
-ghost use Rattle.hll_coupons.specs.Fold.{fold_to, pairs};
+ghost use Rattle.hll_coupons.specs.Fold.{fold_to};
 ghost use Rattle.hll_coupons.specs.Table.{coupons_of};
 ghost use Rattle.hll_registers.specs.State.{cleared_state};
 ghost use Rattle.hll_sketch.specs.Adding.{content_for};
@@ -13,16 +13,15 @@ ghost use Rattle.hll_sketch.specs.Value.{IsLgK, pairs_in, registers};
 
 use crate::mode::Mode;
 use crate::promotion::{mode_of_table, registers_of_table};
+use crate::register_folds::fold_of_registers;
 use crate::stage::stage;
 use hll_arrays::array8::Array8;
-use hll_arrays::merge::merge_from;
-use hll_arrays::registers::Registers;
 use hll_base::error::Error;
 use hll_base::hll_type::HllType;
 use hll_coupons::container::Container;
 use hll_coupons::hash_set::HashSet;
 use hll_coupons::list::List;
-use hll_coupons::serialization::LG_LIST_PLACES;
+use hll_coupons::serialization::LG_LIST_BUCKETS;
 use std::alloc::Allocator;
 
 /// The registers of eight bits that all pairs of a mode fold to, with the cleared state.
@@ -47,28 +46,12 @@ pub(crate) fn fold_of<A: Allocator + Clone>(
     }
 }
 
-/// The fold of registers.
-pub(crate) fn fold_of_registers<R: Registers, A: Allocator>(
-    alloc: A,
-    lg_k: u8,
-    source: &R,
-) -> Result<Array8<A>, Error>
-    requires lg_k { IsLgK lg_k }
-    requires within { lg_k ≤ (R.stored source.now).lg_k }
-    ensures ok { IfOk result (λ a. a ≡ record { lg_k = lg_k; registers = fold_to (pairs (R.stored source.now).registers) lg_k; state = cleared_state }) }
-    ensures err { IfErr result (λ e. e ≡ Memory) }
-{
-    let mut made = Array8::new(alloc, lg_k)?;
-    merge_from(&mut made, source);
-    Ok(made)
-}
-
 /// Whether a table has the size that its coupons need from the start at an `lg_k`.
 pub(crate) fn has_least_size<A: Allocator>(lg_k: u8, table: &Container<A>) -> bool
     requires { IsLgK lg_k }
     ensures { IsTrue result ↔ (stages.stage lg_k 3 (len (coupons_of table.now)) ≡ Some table.now.lg_size) }
 {
-    stage(lg_k, LG_LIST_PLACES, table.len()) == Some(table.lg_size() as u8)
+    stage(lg_k, LG_LIST_BUCKETS, table.len()) == Some(table.lg_size() as u8)
 }
 
 /// The mode of the coupons of a table at an `lg_k`: at the size that they need from the start, or registers.
@@ -85,9 +68,9 @@ pub(crate) fn mode_of_coupons<A: Allocator + Clone>(
     ensures width { IfOk result (λ m. width_of (layout_of m) ≡ hll_type) }
     ensures err { IfErr result (λ e. e ≡ Memory) }
 {
-    match stage(lg_k, LG_LIST_PLACES, table.len()) {
+    match stage(lg_k, LG_LIST_BUCKETS, table.len()) {
         None => mode_of_table(lg_k, hll_type, table, None),
-        Some(LG_LIST_PLACES) => Ok(Mode::List {
+        Some(LG_LIST_BUCKETS) => Ok(Mode::List {
             list: list_of(table)?,
             hll_type,
         }),
@@ -99,7 +82,7 @@ pub(crate) fn mode_of_coupons<A: Allocator + Clone>(
     }
 }
 
-/// A list of eight places with the coupons of a table, at most eight.
+/// A list of eight buckets with the coupons of a table, at most eight.
 fn list_of<A: Allocator + Clone>(table: &Container<A>) -> Result<List<A>, Error>
     requires { len (coupons_of table.now) ≤ 8 }
     ensures size { IfOk result (λ l. l.lg_size ≡ 3) }

@@ -41,7 +41,7 @@ pub(crate) struct Header {
     pub hll_type: HllType,
     /// The stage, which says what follows.
     pub stage: Stage,
-    /// The logarithm of the number of places of a table, as it stands: it has no check here.
+    /// The logarithm of the number of buckets of a table, as it stands: it has no check here.
     pub lg_arr: u8,
     /// Whether the empty flag is set.
     pub empty: bool,

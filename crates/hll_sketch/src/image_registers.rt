@@ -1,26 +1,26 @@
 // SPDX-License-Identifier: Apache-2.0
 //! The registers of an image, whatever its stage and width, a byte for each.
-ghost use Rattle.std.specs.Prelude.{◌≡◌, IfOk, IfErr};
+ghost use Rattle.std.specs.Prelude.{◌≡◌, ◌<◌, IfOk, IfErr};
 ghost use Rattle.hll_base.specs.declared.error.Reason.TheVariants.{Memory};
-ghost use Rattle.hll_coupons.specs.Coupons.{words};
+ghost use Rattle.hll_coupons.specs.Coupons.{raw_coupons};
 ghost use Rattle.hll_coupons.specs.Fold.{fold_to, pairs};
 ghost use Rattle.hll_coupons.specs.Pair.{set_of};
 ghost use Rattle.hll_sketch.specs.ByteRegisters.{AreRegistersOf};
 ghost use Rattle.hll_sketch.specs.Header.{header_of};
-ghost use Rattle.hll_sketch.specs.Image.{HasHeader};
+ghost use Rattle.hll_sketch.specs.Image.{HasHeader, stage_bits};
+ghost use Rattle.hll_sketch.specs.Layout.{sketch_of};
 ghost use Rattle.hll_sketch.specs.Refusal.{IsRefusal};
-ghost use Rattle.hll_sketch.specs.Value.{IsLgK};
+ghost use Rattle.hll_sketch.specs.Value.{IsLgK, pairs_of};
 
-use crate::borrowed::{
-    Words, compact_coupons, eight_bit_registers, header_of_registers, six_bit_registers,
-};
-use crate::folding::fold_of_registers;
-use crate::four_bits::four_bit_registers;
-use crate::header::Header;
+use crate::header::{Header, Stage};
+use crate::raw_coupons::{RawCoupons, compact_coupons};
+use crate::raw_registers::with_registers;
+use crate::read_image::read_sketch;
+use crate::register_folds::fold_of_registers;
 use crate::sketch::HllSketch;
+use crate::updatable::{ROOM, updatable_coupons};
 use hll_arrays::registers::{Registers, two_to};
 use hll_base::error::Error;
-use hll_base::hll_type::HllType;
 use std::alloc::{Allocator, Global};
 
 /// Registers, a byte for each.
@@ -34,9 +34,9 @@ pub struct ImageRegisters<A: Allocator = Global> {
 
 /// The registers that the pairs of an image fold to at its `lg_k`.
 ///
-/// Fails with the reason of the first check that the image fails, or else with `Memory`. Takes memory, only once the bytes
+/// Fails with the reason of the first check that the image fails, or else with `Memory`. Allocates, only once the bytes
 /// that the image asks for are there: a byte a register; for the exceptions of registers of four bits; and for a table of
-/// coupons, but not for coupons of a compact image that ascend or are at most 128.
+/// coupons, but not for coupons that are 1 to 128, or ascend in a compact image.
 pub fn registers_of_image<A: Allocator + Clone>(
     alloc: A,
     image: &[u8],
@@ -46,28 +46,44 @@ pub fn registers_of_image<A: Allocator + Clone>(
     ensures err { IfErr result (IsRefusal image.now) }
 {
     let header = Header::read(image)?;
-    if let Some(coupons) = compact_coupons(image) {
-        return Ok(ImageRegisters {
-            lg_k: header.lg_k,
-            values: registers_of_coupons(alloc, header.lg_k, &coupons)?,
-        });
-    }
-    match header_of_registers(image)? {
-        Some(header) => registers_behind(alloc, image, header),
-        None => registers_of_table(alloc, image),
+    match header.stage {
+        Stage::List | Stage::Set => registers_of_coupons(alloc, image, header),
+        Stage::Hll => with_registers!(&alloc, image, header, source => values_of(alloc, &source)),
     }
 }
 
-/// The registers that the coupons of an image fold to, by a table of them.
-fn registers_of_table<A: Allocator + Clone>(
+/// The registers that the coupons after the header of a list or a set fold to.
+fn registers_of_coupons<A: Allocator + Clone>(
     alloc: A,
     image: &[u8],
+    header: Header,
 ) -> Result<ImageRegisters<A>, Error>
+    requires has { HasHeader image.now (stage_bits image.now) }
+    requires stage { stage_bits image.now < 2 }
+    requires header { header ≡ header_of image.now }
     ensures ok { IfOk result (λ r. AreRegistersOf image.now r.lg_k r.values.items) }
     ensures legal { IfOk result (λ r. IsLgK r.lg_k) }
     ensures err { IfErr result (IsRefusal image.now) }
 {
-    let sketch = HllSketch::deserialize(alloc, image)?;
+    if let Some(coupons) = compact_coupons(image, header) {
+        return registers_of_raw_coupons(alloc, header.lg_k, &coupons);
+    }
+    let mut room = [0; ROOM];
+    if let Some(coupons) = updatable_coupons(image, header, &mut room) {
+        return registers_of_raw_coupons(alloc, header.lg_k, &coupons);
+    }
+    let sketch = read_sketch(&alloc, image, header)?;
+    registers_of_table(&sketch)
+}
+
+/// The registers that the coupons of a table fold to.
+fn registers_of_table<A: Allocator + Clone>(
+    sketch: &HllSketch<A>,
+) -> Result<ImageRegisters<A>, Error>
+    ensures ok { IfOk result (λ r. (r.lg_k ≡ sketch.now.lg_k) × (r.values.items ≡ fold_to (pairs_of (sketch_of sketch.now)) r.lg_k)) }
+    ensures legal { IfOk result (λ r. IsLgK r.lg_k) }
+    ensures err { IfErr result (λ e. e ≡ Memory) }
+{
     let lg_k = sketch.lg_config_k();
     Ok(ImageRegisters {
         lg_k,
@@ -75,47 +91,20 @@ fn registers_of_table<A: Allocator + Clone>(
     })
 }
 
-/// The registers that coupons fold to.
-fn registers_of_coupons<A: Allocator>(
+/// The registers that coupons fold to at an `lg_k`.
+fn registers_of_raw_coupons<A: Allocator>(
     alloc: A,
     lg_k: u8,
-    coupons: &Words<'_>,
-) -> Result<Vec<u8, A>, Error>
+    coupons: &RawCoupons<'_>,
+) -> Result<ImageRegisters<A>, Error>
     requires { IsLgK lg_k }
-    ensures ok { IfOk result (λ values. values.items ≡ fold_to (set_of (words coupons.now.count coupons.now.bytes.now)) lg_k) }
+    ensures ok { IfOk result (λ r. (r.lg_k ≡ lg_k) × (r.values.items ≡ fold_to (set_of (raw_coupons coupons.now.count coupons.now.bytes.now)) lg_k)) }
+    ensures legal { IfOk result (λ r. IsLgK r.lg_k) }
     ensures err { IfErr result (λ e. e ≡ Memory) }
 {
     let mut values = vec![in alloc; 0; two_to(lg_k)]?;
-    coupons.join_into(&mut values, lg_k);
-    Ok(values)
-}
-
-/// The registers behind a header.
-fn registers_behind<A: Allocator + Clone>(
-    alloc: A,
-    image: &[u8],
-    header: Header,
-) -> Result<ImageRegisters<A>, Error>
-    requires has { HasHeader image.now 2 }
-    requires header { header ≡ header_of image.now }
-    ensures ok { IfOk result (λ r. AreRegistersOf image.now r.lg_k r.values.items) }
-    ensures legal { IfOk result (λ r. IsLgK r.lg_k) }
-    ensures err { IfErr result (IsRefusal image.now) }
-{
-    match header.hll_type {
-        HllType::Hll4 => {
-            let source = four_bit_registers(&alloc, image, header)?;
-            values_of(alloc, &source)
-        }
-        HllType::Hll6 => {
-            let source = six_bit_registers(image, header)?;
-            values_of(alloc, &source)
-        }
-        HllType::Hll8 => {
-            let source = eight_bit_registers(image, header)?;
-            values_of(alloc, &source)
-        }
-    }
+    coupons.max_into(&mut values, lg_k);
+    Ok(ImageRegisters { lg_k, values })
 }
 
 /// The values of registers.

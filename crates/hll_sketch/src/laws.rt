@@ -3,11 +3,11 @@
 //! and merging" and "Images").
 ghost use Rattle.hll_sketch.specs.Laws.{AddOfAdd, AddEach, MergeOfEmpty, UnionLgK, AddIsLegal, MergeIsLegal, WrittenIsReadBack};
 ghost use Rattle.hll_sketch.specs.Layout.{OneStepSuffices};
-ghost use Rattle.hll_sketch.specs.ByteRegisters.{JoinIsUnion};
-ghost use Rattle.hll_sketch.specs.Joined.{MergeOfGrown, UnionOfSame, UnionOfUnion, JoinsOfSame, JoinOfJoin};
-ghost use Rattle.hll_sketch.specs.EstimatorWords.{WordsKeep, WordsTwice, SameRegistersSameBytes};
+ghost use Rattle.hll_sketch.specs.ByteRegisters.{MaxIsUnion};
+ghost use Rattle.hll_sketch.specs.Joined.{MergeOfCanonical, UnionOfSame, UnionOfUnion, MergesOfSame, MergeOfMerge};
+ghost use Rattle.hll_sketch.specs.EstimatorFields.{FieldsKeep, FieldsTwice, SameRegistersSameBytes};
 ghost use Rattle.hll_sketch.specs.PlainStates.{UnionOfPlain, FilledIsPlain};
-ghost use Rattle.hll_sketch.specs.Folding.{FoldedIsLegal, FoldedIsGrown, FoldedHasSameFolds};
+ghost use Rattle.hll_sketch.specs.Folding.{FoldedIsLegal, FoldedIsCanonical, FoldedHasSameFolds};
 ghost use Rattle.hll_sketch.specs.Same.{SameIsEqual};
 ghost use Rattle.hll_sketch.specs.Image.{OneImage, ImageIsLegal};
 ghost use Rattle.hll_sketch.specs.Checks.{FirstFaultStands, FaultlessIsImage};
@@ -36,42 +36,43 @@ pub fn adding()
 /// - `merge_of_empty`: an empty sketch merged changes nothing.
 /// - `union_lg_k`: the lg_k of a union is the least of its bound and of the merged sketches in registers that are not
 ///   all 0.
-/// - `merge_of_grown`: grown sketches merged in turn into the empty union are their join.
+/// - `merge_of_canonical`: canonical sketches with cleared fields, merged in turn into the
+///   empty union, are their join.
 /// - `union_of_same`: a join does not depend on order or repetition.
 /// - `union_of_union`: some sketches may be joined first, under the same bound and at any width.
-/// - `joins_of_same`: unions of the same bound and the same grown sketches have equal gadgets, whatever the order and
-///   however often each was merged.
-/// - `join_of_join`: merging what a union of the same bound gives, at any width, is merging the grown sketches that
-///   went into it.
+/// - `merges_of_same`: unions of the same bound and the same canonical sketches with cleared fields have equal gadgets,
+///   whatever the order and however often each was merged.
+/// - `merge_of_merge`: merging what a union of the same bound gives, at any width, is merging the canonical sketches with
+///   cleared fields that went into it.
 /// - `merge_is_legal`: a legal gadget stays legal when a legal sketch is merged.
 pub fn merging()
     ensures merge_of_empty { MergeOfEmpty }
     ensures union_lg_k { UnionLgK }
-    ensures merge_of_grown { MergeOfGrown }
+    ensures merge_of_canonical { MergeOfCanonical }
     ensures union_of_same { UnionOfSame }
     ensures union_of_union { UnionOfUnion }
-    ensures joins_of_same { JoinsOfSame }
-    ensures join_of_join { JoinOfJoin }
+    ensures merges_of_same { MergesOfSame }
+    ensures merge_of_merge { MergeOfMerge }
     ensures merge_is_legal { MergeIsLegal }
 {}
 
 /// A law of registers that a caller keeps:
 ///
-/// - `join_is_union`: registers that an image was joined into, written with their words set, are the union of a sketch of
+/// - `max_is_union`: registers that an image was joined into, written with their fields set, are the union of a sketch of
 ///   the registers with the image's.
-pub fn joining()
-    ensures join_is_union { JoinIsUnion }
+pub fn registers_of_caller()
+    ensures max_is_union { MaxIsUnion }
 {}
 
 /// Laws of folding:
 ///
 /// - `folded_is_legal`: a legal sketch folded to an lg_k of 4 to its own stays legal.
-/// - `folded_is_grown`: a grown sketch stays grown when it is folded.
+/// - `folded_is_canonical`: a canonical sketch with cleared fields is folded to one.
 /// - `folded_has_same_folds`: at each lg_k up to the one that a sketch is folded to, the sketch and its fold have the
 ///   same registers.
 pub fn folding()
     ensures folded_is_legal { FoldedIsLegal }
-    ensures folded_is_grown { FoldedIsGrown }
+    ensures folded_is_canonical { FoldedIsCanonical }
     ensures folded_has_same_folds { FoldedHasSameFolds }
 {}
 
@@ -109,18 +110,18 @@ pub fn writing()
     ensures list_is_read_back { ListIsReadBack }
 {}
 
-/// Laws of the words that a composite estimator reads:
+/// Laws of the fields that a composite estimator reads:
 ///
-/// - `words_keep`: setting them keeps pairs and size, and a legal sketch legal.
-/// - `words_twice`: to set them twice is to set them once.
+/// - `fields_keep`: setting them keeps pairs and size, and a legal sketch legal.
+/// - `fields_twice`: to set them twice is to set them once.
 /// - `same_registers_same_bytes`: sketches of one `lg_k` and width with the same registers, whatever their states, have
-///   the same bytes once their words are set.
-/// - `union_of_plain`: sketches whose states are cleared, or have their words set, merged in turn, make what they make with
-///   their states cleared, once the words of both are set. So the laws of grown sketches hold of them too.
-/// - `filled_is_plain`: a sketch whose state is cleared, or has its words set, has such a state once its words are set.
-pub fn estimator_words()
-    ensures words_keep { WordsKeep }
-    ensures words_twice { WordsTwice }
+///   the same bytes once their fields are set.
+/// - `union_of_plain`: sketches whose states are cleared, or have their fields set, merged in turn, make what they make with
+///   their states cleared, once the fields of both are set. So the laws of canonical sketches hold of them too.
+/// - `filled_is_plain`: a sketch whose state is cleared, or has its fields set, has such a state once its fields are set.
+pub fn estimator_fields()
+    ensures fields_keep { FieldsKeep }
+    ensures fields_twice { FieldsTwice }
     ensures same_registers_same_bytes { SameRegistersSameBytes }
     ensures union_of_plain { UnionOfPlain }
     ensures filled_is_plain { FilledIsPlain }

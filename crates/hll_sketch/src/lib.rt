@@ -2,31 +2,34 @@
 //! Sketches, their values and images, and the laws of adding and merging (docs/ARCHITECTURE.md, "Sketches").
 #![tactic(auto)]
 
-mod borrowed;
-pub mod byte_registers;
-mod checking;
+mod additions;
+mod conversion;
 pub mod coupon_images;
 mod folding;
-mod four_bits;
 mod header;
-mod image;
+mod image_check;
 pub mod image_registers;
-mod joining;
+pub mod image_size;
 pub mod laws;
+pub mod max_registers;
+pub mod merge;
 pub mod mode;
 mod promotion;
-pub mod size;
+mod raw_coupons;
+mod raw_registers;
+mod read_image;
+mod register_folds;
 pub mod sketch;
 mod sorted;
 pub mod stage;
 pub mod union;
 pub mod union_builder;
 mod updatable;
-mod width;
 
 pub use coupon_images::{coupon_image_at, image_of_coupons, union_of_coupon_images};
 pub use header::Stage;
 pub use mode::Mode;
+pub use raw_coupons::max_coupon;
 pub use sketch::HllSketch;
 pub use union::{HllUnion, agree};
 pub use union_builder::{UnionBuilder, union_of};

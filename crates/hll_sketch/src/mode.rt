@@ -1,14 +1,17 @@
 // SPDX-License-Identifier: Apache-2.0
 //! What a sketch keeps (docs/MODEL.md, "Sketch values").
-ghost use Rattle.std.specs.Prelude.{◌≡◌, ℕ, true, IfOk, IfErr, OnErr};
+ghost use Rattle.std.specs.Prelude.{◌≡◌, ◌≢◌, ℕ, true, IfOk, IfErr, OnErr};
 ghost use Rattle.hll_base.specs.declared.error.Reason.TheVariants.{Memory};
+ghost use Rattle.hll_base.specs.declared.hll_type.HllType.TheVariants.{Hll8};
 ghost use Rattle.hll_sketch.specs.Layout.{content_in, layout_of, width_of, IsLayoutFor};
-ghost use Rattle.hll_sketch.specs.Value.{in_registers};
+ghost use Rattle.hll_sketch.specs.Value.{in_registers, registers};
 
-use crate::width::{array_into_mode, registers_to_mode};
+use crate::register_folds::eight_bits_of;
 use hll_arrays::array4::Array4;
 use hll_arrays::array6::Array6;
 use hll_arrays::array8::Array8;
+use hll_arrays::convert::convert;
+use hll_arrays::registers::Registers;
 use hll_base::error::Error;
 use hll_base::hll_type::HllType;
 use hll_coupons::hash_set::HashSet;
@@ -18,9 +21,9 @@ use std::alloc::{Allocator, Global};
 /// A list or a set of coupons with the width of the registers to come, or registers.
 #[derive_where(Debug)]
 pub enum Mode<A: Allocator = Global> {
-    /// A list of eight places.
+    /// A list of eight buckets.
     List { list: List<A>, hll_type: HllType },
-    /// A set of 32 places or more.
+    /// A set of 32 buckets or more.
     Set { set: HashSet<A>, hll_type: HllType },
     /// Registers of four bits.
     Array4(Array4<A>),
@@ -30,7 +33,7 @@ pub enum Mode<A: Allocator = Global> {
     Array8(Array8<A>),
 }
 
-/// Drops the table or the registers. Written out, since a derived drop is proved anew, kind by kind, at each place that
+/// Drops the table or the registers. Written out, since a derived drop is proved again, kind by kind, at each place that
 /// drops a sketch.
 impl<A: Allocator> Drop for Mode<A> {
     fn drop(self) {
@@ -45,7 +48,7 @@ impl<A: Allocator> Drop for Mode<A> {
 }
 
 impl<A: Allocator + Clone> Mode<A> {
-    /// The same at a width: coupons at the size of their table, or registers with their state.
+    /// The mode at another width: coupons at the size of their table, or registers with their state.
     ///
     /// Fails with `Memory`, only for registers.
     pub(crate) fn into_width(self, hll_type: HllType) -> Result<Mode<A>, Error>
@@ -64,7 +67,7 @@ impl<A: Allocator + Clone> Mode<A> {
         }
     }
 
-    /// A copy, with the same places.
+    /// A copy, with the same buckets.
     ///
     /// Fails with `Memory`.
     pub fn clone(&self) -> Result<Mode<A>, Error>
@@ -87,10 +90,12 @@ impl<A: Allocator + Clone> Mode<A> {
     }
 }
 
-/// Modes are equal if kind, width and coupons are, or registers and state; the places of tables don't count. Takes no
+/// Modes are equal if kind, width and coupons are, or registers and state; the buckets of tables don't count. Takes no
 /// memory.
 impl<A: Allocator> PartialEq for Mode<A> {
-    ghost use Rattle.hll_sketch.specs.Layout.{layout_of};
+    ghost use Rattle.hll_base.specs.declared.hll_type.HllType.TheVariants.{Hll8};
+    ghost use Rattle.hll_sketch.specs.Layout.{content_in, layout_of, width_of, IsLayoutFor};
+    ghost use Rattle.hll_sketch.specs.Value.{in_registers, registers};
     ghost use Rattle.hll_sketch.specs.Same.{same_layout, same_layout-partial};
 
     ghost eq = { λ x y. same_layout (layout_of x) (layout_of y) };
@@ -118,5 +123,59 @@ impl<A: Allocator> PartialEq for Mode<A> {
             (Mode::Array8(array), Mode::Array8(others)) => *array == *others,
             _ => false,
         }
+    }
+}
+
+/// A copy of registers as a mode of a width, with their state.
+///
+/// Takes memory of a clone of this allocator alone. Fails with `Memory`.
+pub(crate) fn registers_to_mode<R: Registers, A: Allocator + Clone>(
+    alloc: &A,
+    source: &R,
+    hll_type: HllType,
+) -> Result<Mode<A>, Error>
+    ensures content { IfOk result (λ m. content_in (layout_of m) ≡ registers (R.stored source.now).registers (R.stored source.now).state) }
+    ensures layout { IfOk result (λ m. IsLayoutFor (R.stored source.now).lg_k (layout_of m)) }
+    ensures width { IfOk result (λ m. width_of (layout_of m) ≡ hll_type) }
+    ensures err { IfErr result (λ e. e ≡ Memory) }
+{
+    array_into_mode(eight_bits_of(alloc.clone()?, source)?, hll_type)
+}
+
+/// Registers of eight bits as a mode of another width, with their state.
+///
+/// Takes no memory at eight bits. Fails with `Memory`.
+pub(crate) fn array_into_mode<A: Allocator + Clone>(
+    array: Array8<A>,
+    hll_type: HllType,
+) -> Result<Mode<A>, Error>
+    ensures content { IfOk result (λ m. content_in (layout_of m) ≡ registers array.registers array.state) }
+    ensures layout { IfOk result (λ m. IsLayoutFor array.lg_k (layout_of m)) }
+    ensures width { IfOk result (λ m. width_of (layout_of m) ≡ hll_type) }
+    ensures needed { OnErr result (hll_type ≢ Hll8) }
+    ensures err { IfErr result (λ e. e ≡ Memory) }
+{
+    match hll_type {
+        HllType::Hll8 => Ok(Mode::Array8(array)),
+        HllType::Hll4 | HllType::Hll6 => array_to_mode(&array, hll_type),
+    }
+}
+
+/// A copy of registers of eight bits as a mode of another width, with their state.
+///
+/// Fails with `Memory`.
+pub(crate) fn array_to_mode<A: Allocator + Clone>(
+    array: &Array8<A>,
+    hll_type: HllType,
+) -> Result<Mode<A>, Error>
+    ensures content { IfOk result (λ m. content_in (layout_of m) ≡ registers array.now.registers array.now.state) }
+    ensures layout { IfOk result (λ m. IsLayoutFor array.now.lg_k (layout_of m)) }
+    ensures width { IfOk result (λ m. width_of (layout_of m) ≡ hll_type) }
+    ensures err { IfErr result (λ e. e ≡ Memory) }
+{
+    match hll_type {
+        HllType::Hll4 => Ok(Mode::Array4(convert(array)?)),
+        HllType::Hll6 => Ok(Mode::Array6(convert(array)?)),
+        HllType::Hll8 => Ok(Mode::Array8(array.clone()?)),
     }
 }

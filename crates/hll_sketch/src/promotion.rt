@@ -9,12 +9,13 @@ ghost use Rattle.hll_coupons.specs.Pair.{value_of};
 ghost use Rattle.hll_coupons.specs.Table.{coupons_in, coupons_of};
 ghost use Rattle.hll_registers.specs.State.{cleared_state};
 ghost use Rattle.hll_sketch.specs.Adding.{content_for};
+ghost use Rattle.hll_sketch.specs.Laws.{add_in_turn};
 ghost use Rattle.hll_sketch.specs.Layout.{layout_of, content_in, width_of, IsLayoutFor, IsSize, size_after};
 ghost use Rattle.hll_sketch.specs.Promotion.{with_more};
 ghost use Rattle.hll_sketch.specs.Stage as stages;
+ghost use Rattle.hll_sketch.specs.Union.{sketch_of_registers};
 ghost use Rattle.hll_sketch.specs.Value.{IsLgK, registers};
 
-use crate::joining::raise_by_each;
 use crate::mode::Mode;
 use crate::stage::stage;
 use hll_arrays::array4::Array4;
@@ -27,7 +28,7 @@ use hll_base::hll_type::HllType;
 use hll_coupons::container::Container;
 use hll_coupons::coupon::Coupon;
 use hll_coupons::hash_set::HashSet;
-use hll_coupons::serialization::{LG_LEAST_SET_PLACES, LG_LIST_PLACES, LG_SET_BELOW_LG_K};
+use hll_coupons::serialization::{LG_LEAST_SET_BUCKETS, LG_LIST_BUCKETS, LG_SET_BELOW_LG_K};
 use std::alloc::Allocator;
 
 /// The next stage of a table that overflows with one more coupon: a larger set, or registers.
@@ -41,7 +42,7 @@ pub(crate) fn promoted_table<A: Allocator + Clone>(
 ) -> Result<Mode<A>, Error>
     requires lg_k { IsLgK lg_k }
     requires size { IsSize lg_k table.now.lg_size }
-    requires room { 5 ≤ table.now.lg_size → length (coupons_in table.now.places) < 2 ^ table.now.lg_size }
+    requires room { 5 ≤ table.now.lg_size → length (coupons_in table.now.buckets) < 2 ^ table.now.lg_size }
     requires valued { 1 ≤ value_of coupon }
     requires overflows { stages.can_hold table.now.lg_size (len (insert (coupons_of table.now) coupon)) ≡ false }
     ensures content { let pairs = insert (coupons_of table.now) coupon in
@@ -66,8 +67,8 @@ fn next_size(lg_k: u8, size: usize) -> Option<usize>
     ensures some { IfSome result (λ next. (next ≡ size_after size) × (next + 3 ≤ lg_k)) }
     ensures none { IfNone result (lg_k < size_after size + 3) }
 {
-    let next = if size == usize::from(LG_LIST_PLACES) {
-        usize::from(LG_LEAST_SET_PLACES)
+    let next = if size == usize::from(LG_LIST_BUCKETS) {
+        usize::from(LG_LEAST_SET_BUCKETS)
     } else {
         size + 1
     };
@@ -142,18 +143,18 @@ pub(crate) fn registers_of_table<S: RegisterStore<A>, A: Allocator>(
     Ok(registers)
 }
 
-/// A set of 2^`lg_size` places with the coupons of a table and one more.
+/// A set of 2^`lg_size` buckets with the coupons of a table and one more.
 fn set_of_size<A: Allocator + Clone>(
     lg_size: usize,
     table: &Container<A>,
     coupon: Coupon,
 ) -> Result<HashSet<A>, Error>
     requires small { lg_size ≤ 26 }
-    requires room { length (coupons_in table.now.places) < 2 ^ lg_size }
+    requires room { length (coupons_in table.now.buckets) < 2 ^ lg_size }
     requires valued { 1 ≤ value_of coupon }
     ensures size { IfOk result (λ s. s.lg_size ≡ lg_size) }
     ensures members { IfOk result (λ s. coupons_of s ≡ insert (coupons_of table.now) coupon) }
-    ensures count { IfOk result (λ s. length (coupons_in s.places) ≡ len (insert (coupons_of table.now) coupon)) }
+    ensures count { IfOk result (λ s. length (coupons_in s.buckets) ≡ len (insert (coupons_of table.now) coupon)) }
     ensures err { IfErr result (λ e. e ≡ Memory) }
 {
     let mut set = HashSet::from_container(table.allocator().clone()?, lg_size, table)?;
@@ -185,7 +186,7 @@ pub(crate) fn mode_of_both<A: Allocator + Clone>(
     match stage(lg_k, table.lg_size() as u8, count) {
         None => {
             let mut array: Array8<A> = registers_of_table(alloc, lg_k, table, None)?;
-            raise_by_each(&mut array, others);
+            add_each_to(&mut array, others);
             Ok(Mode::Array8(array))
         }
         Some(size) => {
@@ -195,5 +196,15 @@ pub(crate) fn mode_of_both<A: Allocator + Clone>(
             let hll_type = HllType::Hll8;
             Ok(Mode::Set { set, hll_type })
         }
+    }
+}
+
+/// Raises registers of eight bits by the coupons of a table in turn.
+pub(crate) fn add_each_to<A: Allocator>(array: &mut Array8<A>, table: &Container<A>)
+    ensures added { sketch_of_registers array.new ≡ add_in_turn (sketch_of_registers array.old) (coupons_in table.now.buckets) }
+    ensures lg_k { array.new.lg_k ≡ array.old.lg_k }
+{
+    for coupon in table.iter() {
+        array.update(coupon);
     }
 }

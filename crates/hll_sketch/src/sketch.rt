@@ -5,29 +5,19 @@ ghost use Rattle.hll_base.specs.declared.error.Reason.TheVariants.{Memory};
 ghost use Rattle.hll_base.specs.declared.error.Reason.TheVariants as reasons;
 ghost use Rattle.hll_base.specs.Hash.{hash_of, initial_state, after_piece, default_seed};
 ghost use Rattle.hll_coupons.specs.Hashed.{coupon_of_halves};
-ghost use Rattle.hll_coupons.specs.Fold.{fold_to};
 ghost use Rattle.hll_coupons.specs.Pair.{value_of, set_of};
 ghost use Rattle.hll_coupons.specs.Table.{coupons_in, coupons_of};
 ghost use Rattle.hll_sketch.specs.Adding.{add, content_with};
-ghost use Rattle.hll_sketch.specs.Checks.{first_fault, size_fault};
 ghost use Rattle.hll_registers.specs.declared.estimate_state.EstimateState.{EstimateState};
 ghost use Rattle.hll_registers.specs.State.{cleared_state};
-ghost use Rattle.hll_sketch.specs.EstimatorWords.{SetsWords, AreWordsIn, HasClearedState, FillsWords, cleared, with_state};
-ghost use Rattle.hll_sketch.specs.Fault.{IsFault};
-ghost use Rattle.hll_sketch.specs.Folding as folding;
-ghost use Rattle.hll_sketch.specs.Folding.{IsFoldLgK};
-ghost use Rattle.hll_sketch.specs.Image.{IsReadAs};
+ghost use Rattle.hll_sketch.specs.EstimatorFields.{SetsFields, AreFieldsIn, HasClearedState, FillsFields, cleared, with_state};
 ghost use Rattle.hll_sketch.specs.Layout.{layout_of, content_in, width_of, sketch_of, IsLayoutFor, can_hold_with, count_in, NeedsMemory};
 ghost use Rattle.hll_sketch.specs.Value.{IsLgK, coupons, empty_sketch, in_registers, is_empty, pairs_of, size_of, IsLegal};
 ghost use Rattle.hll_sketch.specs.Written.{Written};
 
-use crate::folding::{fold_of, has_least_size, mode_of_coupons};
-use crate::header::{Header, Stage};
-use crate::image::{read_eight, read_four, read_list, read_set, read_six};
 use crate::mode::Mode;
 use crate::promotion::promoted_table;
 use crate::stage::most_kept;
-use crate::width::array_into_mode;
 use hll_arrays::estimate_state::EstimateState;
 use hll_arrays::registers::Registers;
 use hll_base::bounds::{MAX_LG_K, MIN_LG_K};
@@ -41,7 +31,7 @@ use std::fmt;
 use std::hash::Hash;
 use std::marker::Model;
 
-/// A sketch: an `lg_k`, and a mode. Contracts see the `lg_k` and the layout of the mode, with the places of tables; the
+/// A sketch: an `lg_k`, and a mode. Contracts see the `lg_k` and the layout of the mode, with the buckets of tables; the
 /// sketch value is a function of them.
 #[derive(Drop)]
 pub struct HllSketch<A: Allocator = Global> {
@@ -123,7 +113,7 @@ impl<A: Allocator> HllSketch<A> {
     /// The table of its coupons; registers have none.
     pub(crate) fn table(&self) -> Option<&Container<A>>
         ensures some { IfSome result (λ table. content_in self.now.layout ≡ coupons (coupons_of table.now) table.now.lg_size) }
-        ensures legal { IfSome result (λ table. length (coupons_in table.now.places) < 2 ^ 19) }
+        ensures legal { IfSome result (λ table. length (coupons_in table.now.buckets) < 2 ^ 19) }
     {
         match &self.mode {
             Mode::List { list, .. } => {
@@ -132,6 +122,16 @@ impl<A: Allocator> HllSketch<A> {
             }
             Mode::Set { set, .. } => Some(set.container()),
             Mode::Array4(_) | Mode::Array6(_) | Mode::Array8(_) => None,
+        }
+    }
+
+    /// Whether it keeps registers.
+    pub(crate) fn in_registers(&self) -> bool
+        ensures { result ≡ in_registers (content_in self.now.layout) }
+    {
+        match &self.mode {
+            Mode::List { .. } | Mode::Set { .. } => false,
+            Mode::Array4(_) | Mode::Array6(_) | Mode::Array8(_) => true,
         }
     }
 
@@ -161,31 +161,31 @@ impl<A: Allocator> HllSketch<A> {
         }
     }
 
-    /// Sets the words of registers from which a composite estimator computes, and the out-of-order flag (docs/FORMAT.md,
-    /// "Estimator words"). A list or a set stays as it is.
+    /// Sets the fields of registers from which a composite estimator computes, and the out-of-order flag (docs/FORMAT.md,
+    /// "Estimator fields"). A list or a set stays as it is.
     ///
-    /// Registers, places and size stay. One pass over registers.
-    pub fn set_estimator_words(&mut self)
-        ensures words { SetsWords (sketch_of self.old) (sketch_of self.new) }
+    /// Registers, buckets and size stay. One pass over registers.
+    pub fn set_estimator_fields(&mut self)
+        ensures fields { SetsFields (sketch_of self.old) (sketch_of self.new) }
         ensures rest { (s : EstimateState) × (self.new ≡ record self.old { layout = with_state self.old.layout s }) }
     {
-        if let Some(words) = self.estimator_words() {
-            self.restore_estimate_state(words);
+        if let Some(fields) = self.estimator_fields() {
+            self.restore_estimate_state(fields);
         }
     }
 
-    /// Sets the words of registers whose state is cleared, as `set_estimator_words` does. Another state stays as it is.
-    pub fn fill_estimator_words(&mut self)
-        ensures words { FillsWords (sketch_of self.old) (sketch_of self.new) }
+    /// Sets the fields of registers whose state is cleared, as `set_estimator_fields` does. Another state stays as it is.
+    pub fn fill_estimator_fields(&mut self)
+        ensures fields { FillsFields (sketch_of self.old) (sketch_of self.new) }
         ensures rest { (s : EstimateState) × (self.new ≡ record self.old { layout = with_state self.old.layout s }) }
     {
         if self.has_cleared_state() {
-            self.set_estimator_words();
+            self.set_estimator_fields();
         }
     }
 
-    /// Clears the state of registers: words of 0, with the out-of-order flag. A list or a set stays as it is.
-    pub fn clear_estimator_words(&mut self)
+    /// Clears the state of registers: fields of 0, with the out-of-order flag. A list or a set stays as it is.
+    pub fn clear_estimator_fields(&mut self)
         ensures state { sketch_of self.new ≡ cleared (sketch_of self.old) }
         ensures rest { self.new ≡ record self.old { layout = with_state self.old.layout cleared_state } }
     {
@@ -205,14 +205,14 @@ impl<A: Allocator> HllSketch<A> {
     }
 
     /// The state of registers from which a composite estimator computes, none of coupons.
-    fn estimator_words(&self) -> Option<EstimateState>
-        ensures { AreWordsIn (content_in self.now.layout) result }
+    fn estimator_fields(&self) -> Option<EstimateState>
+        ensures { AreFieldsIn (content_in self.now.layout) result }
     {
         match &self.mode {
             Mode::List { .. } | Mode::Set { .. } => None,
-            Mode::Array4(array) => Some(array.estimator_words()),
-            Mode::Array6(array) => Some(array.estimator_words()),
-            Mode::Array8(array) => Some(array.estimator_words()),
+            Mode::Array4(array) => Some(array.estimator_fields()),
+            Mode::Array6(array) => Some(array.estimator_fields()),
+            Mode::Array8(array) => Some(array.estimator_fields()),
         }
     }
 
@@ -254,28 +254,7 @@ impl<A: Allocator> HllSketch<A> {
 }
 
 impl<A: Allocator + Clone> HllSketch<A> {
-    /// The sketch of an image, of any stage and width (docs/FORMAT.md, "The image"). What follows the image is not looked
-    /// at.
-    ///
-    /// Fails with the reason of the first check that the bytes fail, in the order of docs/FORMAT.md, or else with
-    /// `Memory`. Takes memory only once the counts pass their checks and the bytes that they ask for are there.
-    pub fn deserialize(alloc: A, bytes: &[u8]) -> Result<HllSketch<A>, Error>
-        ensures ok { IfOk result (λ s. IsReadAs bytes.now (sketch_of s)) }
-        ensures err { IfErr result (λ e. (e ≡ Memory) ⊎ IsFault bytes.now e) }
-        ensures order { IfErr result (λ e. (e ≡ Memory) ⊎ (first_fault bytes.now ≡ Some e)) }
-        ensures asked { IfErr result (λ e. e ≡ Memory → size_fault bytes.now ≡ None) }
-    {
-        let header = Header::read(bytes)?;
-        match (header.stage, header.hll_type) {
-            (Stage::List, _) => read_list(alloc, bytes, header),
-            (Stage::Set, _) => read_set(alloc, bytes, header),
-            (Stage::Hll, HllType::Hll4) => read_four(alloc, bytes, header),
-            (Stage::Hll, HllType::Hll6) => read_six(alloc, bytes, header),
-            (Stage::Hll, HllType::Hll8) => read_eight(alloc, bytes, header),
-        }
-    }
-
-    /// A copy, with the same places.
+    /// A copy, with the same buckets.
     ///
     /// Fails with `Memory`.
     pub fn clone(&self) -> Result<HllSketch<A>, Error>
@@ -288,7 +267,7 @@ impl<A: Allocator + Clone> HllSketch<A> {
         })
     }
 
-    /// The image (docs/FORMAT.md, "What is written"), with coupons and exceptions in ascending raw words.
+    /// The image (docs/FORMAT.md, "What is written"), with coupons and exceptions in ascending order.
     ///
     /// Takes memory for a sorted copy of these, and in one request for the image. Fails with `Memory`.
     pub fn serialize(&self) -> Result<Vec<u8, A>, Error>
@@ -307,7 +286,7 @@ impl<A: Allocator + Clone> HllSketch<A> {
     /// Adds a coupon (docs/MODEL.md, "Adding").
     ///
     /// Its value is at least 1. Fails with `Memory`, only if a table changes its size or the slots of exceptions of
-    /// registers of four bits do, and then changes nothing, places included.
+    /// registers of four bits do, and then changes nothing, buckets included.
     // (in the loops of callers)
     #[inline(always)]
     pub fn update_with_coupon(&mut self, coupon: Coupon) -> Result<(), Error>
@@ -331,7 +310,7 @@ impl<A: Allocator + Clone> HllSketch<A> {
         }
     }
 
-    /// The same, for a list or a set.
+    /// Adds a coupon to a list or a set, as `update_with_coupon` does.
     // (not in the loops of callers, which registers are for)
     #[inline(never)]
     fn update_table(&mut self, coupon: Coupon) -> Result<(), Error>
@@ -376,79 +355,6 @@ impl<A: Allocator + Clone> HllSketch<A> {
         self.update_with_coupon(Coupon::from_value(value))
     }
 
-    /// The registers that its pairs fold to at an `lg_k`: 2^`lg_k` values of 0 to 63.
-    ///
-    /// `lg_k` is 4 to the sketch's. Takes a byte a register, and one pass. Fails with `Memory`.
-    pub fn registers_at(&self, lg_k: u8) -> Result<Vec<u8, A>, Error>
-        requires least { 4 ≤ lg_k }
-        requires most { lg_k ≤ self.now.lg_k }
-        ensures ok { IfOk result (λ values. values.items ≡ fold_to (pairs_of (sketch_of self.now)) lg_k) }
-        ensures err { IfErr result (λ e. e ≡ Memory) }
-    {
-        self.registers_in(self.allocator().clone()?, lg_k)
-    }
-
-    /// As `registers_at`, in memory of this allocator.
-    pub(crate) fn registers_in(&self, alloc: A, lg_k: u8) -> Result<Vec<u8, A>, Error>
-        requires least { 4 ≤ lg_k }
-        requires most { lg_k ≤ self.now.lg_k }
-        ensures ok { IfOk result (λ values. values.items ≡ fold_to (pairs_of (sketch_of self.now)) lg_k) }
-        ensures err { IfErr result (λ e. e ≡ Memory) }
-    {
-        Ok(fold_of(alloc, &self.mode, lg_k)?.into_values())
-    }
-
-    /// The sketch folded to an `lg_k`, of the same width (docs/MODEL.md, "Folding"): coupons stay whole, and registers keep
-    /// their state only at their own `lg_k`.
-    ///
-    /// Fails with `Argument` if `lg_k` is not 4 to the sketch's, or else with `Memory`.
-    pub fn folded(&self, lg_k: u8) -> Result<HllSketch<A>, Error>
-        ensures ok { IfOk result (λ s. sketch_of s ≡ folding.folded (sketch_of self.now) lg_k) }
-        ensures lg_k { OnOk result (IsFoldLgK self.now.lg_k lg_k) }
-        ensures outside { IfErr result (λ e. e ≡ reasons.Argument → IsFoldLgK self.now.lg_k lg_k → ⊥) }
-        ensures within { IfErr result (λ e. e ≡ Memory → IsFoldLgK self.now.lg_k lg_k) }
-        ensures err { IfErr result (λ e. (e ≡ reasons.Argument) ⊎ (e ≡ Memory)) }
-    {
-        if lg_k < MIN_LG_K || self.lg_config_k < lg_k {
-            return Err(Error::new(Reason::Argument));
-        }
-        Ok(HllSketch {
-            lg_config_k: lg_k,
-            mode: self.folded_mode(lg_k)?,
-        })
-    }
-
-    /// Whether the sketch is its own fold to an `lg_k`, so that `folded` would make a copy: at its own `lg_k`, registers, or
-    /// coupons in a table of the size that they need from the start.
-    pub fn is_own_fold(&self, lg_k: u8) -> bool
-        ensures { IsTrue result ↔ (folding.folded (sketch_of self.now) lg_k ≡ sketch_of self.now) }
-    {
-        self.value_is_legal();
-        if self.lg_config_k != lg_k {
-            return false;
-        }
-        match &self.mode {
-            Mode::List { list, .. } => has_least_size(lg_k, list.container()),
-            Mode::Set { set, .. } => has_least_size(lg_k, set.container()),
-            Mode::Array4(_) | Mode::Array6(_) | Mode::Array8(_) => true,
-        }
-    }
-
-    /// The mode at an `lg_k`.
-    fn folded_mode(&self, lg_k: u8) -> Result<Mode<A>, Error>
-        requires { IsFoldLgK self.now.lg_k lg_k }
-        ensures content { IfOk result (λ m. content_in (layout_of m) ≡ folding.folded_content self.now.lg_k lg_k (content_in self.now.layout)) }
-        ensures layout { IfOk result (λ m. IsLayoutFor lg_k (layout_of m)) }
-        ensures width { IfOk result (λ m. width_of (layout_of m) ≡ width_of self.now.layout) }
-        ensures err { IfErr result (λ e. e ≡ Memory) }
-    {
-        match &self.mode {
-            Mode::List { list, hll_type } => mode_of_coupons(lg_k, *hll_type, list.container()),
-            Mode::Set { set, hll_type } => mode_of_coupons(lg_k, *hll_type, set.container()),
-            Mode::Array4(_) | Mode::Array6(_) | Mode::Array8(_) => self.folded_registers(lg_k),
-        }
-    }
-
     /// Says that the sketch value is legal. Does nothing: a caller whose proof needs the invariant calls it.
     pub(crate) fn value_is_legal(&self)
         ensures { IsLegal (sketch_of self.now) }
@@ -466,26 +372,6 @@ impl<A: Allocator + Clone> HllSketch<A> {
             Mode::Array8(array) => {
                 let _lg_k = array.lg_k();
             }
-        }
-    }
-
-    /// The registers at an `lg_k`.
-    fn folded_registers(&self, lg_k: u8) -> Result<Mode<A>, Error>
-        requires lg_k { IsFoldLgK self.now.lg_k lg_k }
-        requires registers { in_registers (content_in self.now.layout) ≡ true }
-        ensures content { IfOk result (λ m. content_in (layout_of m) ≡ folding.folded_content self.now.lg_k lg_k (content_in self.now.layout)) }
-        ensures layout { IfOk result (λ m. IsLayoutFor lg_k (layout_of m)) }
-        ensures width { IfOk result (λ m. width_of (layout_of m) ≡ width_of self.now.layout) }
-        ensures err { IfErr result (λ e. e ≡ Memory) }
-    {
-        self.value_is_legal();
-        if lg_k == self.lg_config_k {
-            self.mode.clone()
-        } else {
-            array_into_mode(
-                fold_of(self.allocator().clone()?, &self.mode, lg_k)?,
-                self.target_type(),
-            )
         }
     }
 
@@ -533,7 +419,7 @@ impl<A: Allocator> fmt::Debug for HllSketch<A> {
     }
 }
 
-/// Sketches are equal if `lg_k`, kind, width and coupons are, or registers and state; the places of tables don't count.
+/// Sketches are equal if `lg_k`, kind, width and coupons are, or registers and state; the buckets of tables don't count.
 impl<A: Allocator> PartialEq for HllSketch<A> {
     ghost use Rattle.hll_sketch.specs.Same.{same_sketch, same_sketch-partial};
 

@@ -1,27 +1,37 @@
 // SPDX-License-Identifier: Apache-2.0
 //! Puts the coupons of an image in ascending order: up to `FEW` of them are sorted in an array on the stack.
-ghost use Rattle.std.specs.Prelude.{◌≡◌, ◌≤◌, take, length, IfSome, IfNone};
+ghost use Rattle.std.specs.Prelude.{◌≡◌, ◌<◌, ◌≤◌, take, length, IfSome, IfNone};
 ghost use Rattle.std.specs.List.Sorted.{IsStrictlyIncreasing};
-ghost use Rattle.hll_coupons.specs.Coupons.{words, AreCoupons, IsAscending};
+ghost use Rattle.hll_coupons.specs.Coupons.{raw_coupons, AreCoupons, IsAscending};
 ghost use Rattle.hll_coupons.specs.Pair.{set_of};
 ghost use Rattle.hll_sketch.specs.CouponImages.{HasEvidentCoupons};
-ghost use Rattle.hll_sketch.specs.TakenIn.{IsOfCoupons};
+ghost use Rattle.hll_sketch.specs.Header.{header_of};
+ghost use Rattle.hll_sketch.specs.Image.{HasHeader, stage_bits};
+ghost use Rattle.hll_sketch.specs.MergedIn.{IsOfCoupons};
 ghost use Rattle.hll_sketch.specs.Updatable.{HasUpdatableCoupons};
 
-use crate::borrowed::{FEW, Words, compact_coupons};
-use crate::updatable::{ROOM, gathered_coupons, put};
+use crate::header::Header;
+use crate::raw_coupons::{FEW, RawCoupons, compact_coupons};
+use crate::updatable::{ROOM, put, updatable_coupons};
 use hll_base::cursor::SketchSlice;
 
 /// Returns the coupons of an image of a list or a set in ascending order. They stay in the image if it is compact and they
 /// ascend, and are sorted into `room` if not. `None` unless the image is compact, and its coupons ascend or are at most
 /// `FEW`, or it is updatable and has 1 to `FEW` coupons.
-pub(crate) fn coupons_in_order<'a>(bytes: &'a [u8], room: &'a mut [u8; ROOM]) -> Option<Words<'a>>
-    ensures some { IfSome result (λ w. IsOfCoupons bytes.now (words w.count w.bytes.now)) }
-    ensures ascend { IfSome result (λ w. IsStrictlyIncreasing (words w.count w.bytes.now)) }
+pub(crate) fn coupons_in_order<'a>(
+    bytes: &'a [u8],
+    header: Header,
+    room: &'a mut [u8; ROOM],
+) -> Option<RawCoupons<'a>>
+    requires has { HasHeader bytes.now (stage_bits bytes.now) }
+    requires stage { stage_bits bytes.now < 3 }
+    requires header { header ≡ header_of bytes.now }
+    ensures some { IfSome result (λ w. IsOfCoupons bytes.now (raw_coupons w.count w.bytes.now)) }
+    ensures ascend { IfSome result (λ w. IsStrictlyIncreasing (raw_coupons w.count w.bytes.now)) }
     ensures none { IfNone result (HasEvidentCoupons bytes.now → ⊥) }
 {
-    let Some(coupons) = compact_coupons(bytes) else {
-        return updatable_coupons_in_order(bytes, room);
+    let Some(coupons) = compact_coupons(bytes, header) else {
+        return updatable_coupons_in_order(bytes, header, room);
     };
     if coupons.ascend() {
         return Some(coupons);
@@ -32,55 +42,62 @@ pub(crate) fn coupons_in_order<'a>(bytes: &'a [u8], room: &'a mut [u8; ROOM]) ->
 /// Returns the coupons of an updatable image of a list or a set, sorted into `room`. `None` unless there are 1 to `FEW`.
 // (a caller that had what is gathered among its own values would clear it at each call)
 #[inline(never)]
-fn updatable_coupons_in_order<'a>(bytes: &[u8], room: &'a mut [u8; ROOM]) -> Option<Words<'a>>
-    ensures some { IfSome result (λ w. IsOfCoupons bytes.now (words w.count w.bytes.now)) }
-    ensures ascend { IfSome result (λ w. IsStrictlyIncreasing (words w.count w.bytes.now)) }
+fn updatable_coupons_in_order<'a>(
+    bytes: &[u8],
+    header: Header,
+    room: &'a mut [u8; ROOM],
+) -> Option<RawCoupons<'a>>
+    requires has { HasHeader bytes.now (stage_bits bytes.now) }
+    requires stage { stage_bits bytes.now < 3 }
+    requires header { header ≡ header_of bytes.now }
+    ensures some { IfSome result (λ w. IsOfCoupons bytes.now (raw_coupons w.count w.bytes.now)) }
+    ensures ascend { IfSome result (λ w. IsStrictlyIncreasing (raw_coupons w.count w.bytes.now)) }
     ensures none { IfNone result (HasUpdatableCoupons bytes.now → ⊥) }
 {
     let mut gathered = [0; ROOM];
-    let coupons = gathered_coupons(bytes, &mut gathered)?;
+    let coupons = updatable_coupons(bytes, header, &mut gathered)?;
     Some(sorted(coupons, room))
 }
 
 /// Writes coupons, at most `FEW`, to the front of `room` in ascending order, and returns them there.
 // (a caller that had the numbers among its own values would clear them at each call)
 #[inline(never)]
-fn sorted<'a>(coupons: Words<'_>, room: &'a mut [u8; ROOM]) -> Words<'a>
+fn sorted<'a>(coupons: RawCoupons<'_>, room: &'a mut [u8; ROOM]) -> RawCoupons<'a>
     requires few { coupons.count ≤ 128 }
-    requires coupons { AreCoupons (words coupons.count coupons.bytes.now) }
-    ensures { IsAscending (words result.count result.bytes.now) (set_of (words coupons.entry.count coupons.entry.bytes.now)) }
+    requires coupons { AreCoupons (raw_coupons coupons.count coupons.bytes.now) }
+    ensures { IsAscending (raw_coupons result.count result.bytes.now) (set_of (raw_coupons coupons.entry.count coupons.entry.bytes.now)) }
 {
     let mut numbers = [0; FEW];
-    read_words(coupons, &mut numbers);
+    read_raw_coupons(coupons, &mut numbers);
     let found = &mut numbers[..coupons.count];
     found.sort_unstable();
-    write_words(found, room);
-    Words {
+    write_raw_coupons(found, room);
+    RawCoupons {
         bytes: room,
         count: coupons.count,
     }
 }
 
-/// Reads words, at most `FEW`, into the front of `numbers`.
-fn read_words(coupons: Words<'_>, numbers: &mut [u32; FEW])
+/// Reads raw coupons, at most `FEW`, into the front of `numbers`.
+fn read_raw_coupons(coupons: RawCoupons<'_>, numbers: &mut [u32; FEW])
     requires { coupons.count ≤ 128 }
-    ensures { take coupons.entry.count numbers.new ≡ words coupons.entry.count coupons.entry.bytes.now }
+    ensures { take coupons.entry.count numbers.new ≡ raw_coupons coupons.entry.count coupons.entry.bytes.now }
 {
     let mut cursor = SketchSlice::new(coupons.bytes);
-    for place in 0..coupons.count {
-        let Ok(word) = cursor.read_u32_le() else {
+    for index in 0..coupons.count {
+        let Ok(raw_coupon) = cursor.read_u32_le() else {
             return;
         };
-        numbers[place] = word;
+        numbers[index] = raw_coupon;
     }
 }
 
 /// Writes numbers, at most `FEW`, to the front of `room`, four bytes each.
-fn write_words(numbers: &[u32], room: &mut [u8; ROOM])
+fn write_raw_coupons(numbers: &[u32], room: &mut [u8; ROOM])
     requires { length numbers.now ≤ 128 }
-    ensures { words (length numbers.now) room.new ≡ numbers.now }
+    ensures { raw_coupons (length numbers.now) room.new ≡ numbers.now }
 {
-    for place in 0..numbers.len() {
-        put(room, place, numbers[place]);
+    for index in 0..numbers.len() {
+        put(room, index, numbers[index]);
     }
 }

@@ -1,31 +1,22 @@
 // SPDX-License-Identifier: Apache-2.0
 //! Unions of sketches (docs/MODEL.md, "Merging").
-ghost use Rattle.std.specs.Prelude.{◌≡◌, ◌≢◌, ◌≤◌, ◌⊎◌, ◌↔◌, true, false, IsTrue, Some, All, List, map, [], ◌∷◌, ◌++◌, fold, IfOk, IfErr, OnOk, OnErr, IfSome, IfNone};
+ghost use Rattle.std.specs.Prelude.{◌≡◌, ◌≢◌, ◌≤◌, ◌⊎◌, ◌↔◌, true, false, IsTrue, [], ◌∷◌, fold, IfOk, IfErr, OnOk, OnErr, IfSome, IfNone};
 ghost use Rattle.hll_base.specs.declared.error.Reason.TheVariants.{Memory};
 ghost use Rattle.hll_base.specs.declared.error.Reason.TheVariants as reasons;
 ghost use Rattle.hll_base.specs.Hash.{hash_of, initial_state, after_piece, default_seed};
 ghost use Rattle.hll_coupons.specs.Hashed.{coupon_of_halves};
-ghost use Rattle.std.specs.FinSet.{len};
 ghost use Rattle.hll_coupons.specs.Pair.{value_of, set_of};
-ghost use Rattle.hll_coupons.specs.Table.{coupons_of};
-ghost use Rattle.hll_sketch.specs.Image.{IsReadAs};
-ghost use Rattle.hll_sketch.specs.Refusal.{IsRefusal};
 ghost use Rattle.hll_base.specs.declared.hll_type.HllType.TheVariants.{Hll8};
 ghost use Rattle.hll_sketch.specs.Adding.{add};
 ghost use Rattle.hll_sketch.specs.Agree.{Agree};
-ghost use Rattle.hll_sketch.specs.Checks.{first_fault};
-ghost use Rattle.hll_sketch.specs.Grown.{IsGrown};
 ghost use Rattle.hll_sketch.specs.Layout.{sketch_of, NeedsMemory};
-ghost use Rattle.hll_sketch.specs.Joined.{IsJoinOf};
-ghost use Rattle.hll_sketch.specs.Merging.{merge, merge_all, empty_union};
-ghost use Rattle.hll_sketch.specs.TakenIn.{TakesIn, HasCompactCoupons, ImageNeedsMemory};
-ghost use Rattle.hll_sketch.specs.Union.{gadget_of, CanTakeIn, IsGadget, MergeNeedsMemory};
-ghost use Rattle.hll_sketch.specs.Value.{Sketch, IsLegal, IsLgK, in_registers, is_empty, size_of};
+ghost use Rattle.hll_sketch.specs.Merging.{empty_union};
+ghost use Rattle.hll_sketch.specs.Union.{gadget_of, IsGadget};
+ghost use Rattle.hll_sketch.specs.Value.{IsLegal, IsLgK, in_registers, is_empty, size_of};
 
 use crate::sketch::HllSketch;
 use hll_base::error::Error;
 use hll_base::hll_type::HllType;
-use hll_coupons::container::Container;
 use hll_coupons::coupon::Coupon;
 use std::alloc::{Allocator, Global};
 use std::hash::Hash;
@@ -36,8 +27,8 @@ use std::marker::Model;
 #[derive_where(Debug)]
 #[derive(Drop)]
 pub struct HllUnion<A: Allocator = Global> {
-    lg_max_k: u8,
-    gadget: HllSketch<A>,
+    pub(crate) lg_max_k: u8,
+    pub(crate) gadget: HllSketch<A>,
 }
 
 impl<A: Allocator> Model for HllUnion<A> {
@@ -101,83 +92,9 @@ impl<A: Allocator> HllUnion<A> {
 }
 
 impl<A: Allocator + Clone> HllUnion<A> {
-    /// Merges a sketch of any stage, width and `lg_k` (docs/MODEL.md, "Merging"). One pass. The join of grown sketches and one
-    /// more is the join of them all (docs/MODEL.md, "Convergence").
-    ///
-    /// Fails with `Memory`, and then changes nothing, places included. Takes no memory for an empty sketch, for coupons
-    /// into registers, for coupons that a table with some of its own holds beside these, nor for registers into registers
-    /// at their `lg_k` or a smaller one.
-    pub fn update(&mut self, sketch: &HllSketch<A>) -> Result<(), Error>
-        ensures ok { OnOk result (gadget_of self.new ≡ merge self.old.lg_max_k (gadget_of self.old) (sketch_of sketch.now)) }
-        ensures bound { self.new.lg_max_k ≡ self.old.lg_max_k }
-        ensures grown { OnOk result ((xs : List Sketch) → IsJoinOf xs self.old → IsGrown (sketch_of sketch.now) → IsJoinOf (xs ++ sketch_of sketch.now ∷ []) self.new) }
-        ensures unchanged { OnErr result (self.new ≡ self.old) }
-        ensures needed { OnErr result (MergeNeedsMemory (gadget_of self.old) (sketch_of sketch.now)) }
-        ensures err { IfErr result (λ e. e ≡ Memory) }
-    {
-        sketch.value_is_legal();
-        self.gadget.merge(self.lg_max_k, sketch)
-    }
-
-    /// Merges the sketch of an image, as `update` does. Bytes behind the image are ignored. Coupons go into registers without a
-    /// table between, if they are at most 128, or the image is compact, and they ascend, as those that are written here do;
-    /// and registers without a copy, unless an empty union takes them over.
-    ///
-    /// Fails with the reason of the first check that the bytes fail (docs/FORMAT.md, "Order of checks"), or with `Memory`, and
-    /// then changes nothing, places included. Takes memory for the sketch, only once the bytes that the image asks for are
-    /// there, and where `update` does. Takes none for such coupons into registers, nor for registers of eight and six bits
-    /// where `update` takes none; for registers of four bits into a union that isn't empty, beside what `update` takes, a map
-    /// of their exceptions alone, where they have some.
-    pub fn update_with_image(&mut self, image: &[u8]) -> Result<(), Error>
-        ensures ok { OnOk result (TakesIn self.old self.new image.now) }
-        ensures unchanged { OnErr result (self.new ≡ self.old) }
-        ensures needed { IfErr result (λ e. e ≡ Memory → ImageNeedsMemory (gadget_of self.old) image.now) }
-        ensures err { IfErr result (λ e. (e ≡ Memory) ⊎ (first_fault image.now ≡ Some e)) }
-    {
-        if self.gadget.merge_compact(self.lg_max_k, image) {
-            return Ok(());
-        }
-        self.update_with_other_image(image)
-    }
-
-    /// The same, of an image whose coupons, if it has compact ones, don't go into registers without a table.
-    // (a caller would clear its values for compact coupons too)
-    #[inline(never)]
-    fn update_with_other_image(&mut self, image: &[u8]) -> Result<(), Error>
-        requires { in_registers (gadget_of self.old).content ≡ true → HasCompactCoupons image.now → ⊥ }
-        ensures ok { OnOk result (TakesIn self.old self.new image.now) }
-        ensures unchanged { OnErr result (self.new ≡ self.old) }
-        ensures needed { IfErr result (λ e. e ≡ Memory → ImageNeedsMemory (gadget_of self.old) image.now) }
-        ensures err { IfErr result (λ e. (e ≡ Memory) ⊎ (first_fault image.now ≡ Some e)) }
-    {
-        if self.gadget.merge_updatable(self.lg_max_k, image) {
-            return Ok(());
-        }
-        if self.gadget.merge_registers_of_image(self.lg_max_k, image)? {
-            return Ok(());
-        }
-        let sketch = self.gadget.read_beside(image)?;
-        self.update(&sketch)
-    }
-
-    /// Adds the coupons of a table, of which there are some.
-    ///
-    /// Fails with `Memory`, and then changes nothing.
-    pub(crate) fn update_with_table(&mut self, table: &Container<A>) -> Result<(), Error>
-        requires { len (coupons_of table.now) ≡ 0 → ⊥ }
-        ensures ok { OnOk result (gadget_of self.new ≡ add (gadget_of self.old) (coupons_of table.now)) }
-        ensures bound { self.new.lg_max_k ≡ self.old.lg_max_k }
-        ensures unchanged { OnErr result (self.new ≡ self.old) }
-        ensures err { IfErr result (λ e. e ≡ Memory) }
-    {
-        self.gadget.value_is_legal();
-        table.table_is_legal();
-        self.gadget.add_table(table)
-    }
-
     /// Adds a coupon, as to a sketch.
     ///
-    /// Its value is at least 1. Fails with `Memory`, only if a table changes its size, and then changes nothing, places
+    /// Its value is at least 1. Fails with `Memory`, only if a table changes its size, and then changes nothing, buckets
     /// included.
     pub fn update_with_coupon(&mut self, coupon: Coupon) -> Result<(), Error>
         requires { 1 ≤ value_of coupon }
@@ -243,6 +160,11 @@ impl<A: Allocator + Clone> HllUnion<A> {
         }
     }
 
+    /// The allocator of the gadget.
+    pub(crate) fn allocator(&self) -> &A {
+        self.gadget.allocator()
+    }
+
     /// A copy of the allocator.
     ///
     /// Fails with `Memory`.
@@ -250,14 +172,6 @@ impl<A: Allocator + Clone> HllUnion<A> {
         ensures { IfErr result (λ e. e ≡ Memory) }
     {
         Ok(self.gadget.allocator().clone()?)
-    }
-
-    /// The sketch of an image, by a copy of the allocator, as `HllSketch::deserialize`.
-    pub(crate) fn read_beside(&self, image: &[u8]) -> Result<HllSketch<A>, Error>
-        ensures ok { IfOk result (λ s. IsReadAs image.now (sketch_of s)) }
-        ensures err { IfErr result (IsRefusal image.now) }
-    {
-        self.gadget.read_beside(image)
     }
 
     /// Forgets all: an empty list at the bound.
@@ -274,7 +188,7 @@ impl<A: Allocator + Clone> HllUnion<A> {
         Ok(())
     }
 
-    /// A copy, with the same places.
+    /// A copy, with the same buckets.
     ///
     /// Fails with `Memory`.
     pub fn clone(&self) -> Result<HllUnion<A>, Error>
@@ -286,48 +200,6 @@ impl<A: Allocator + Clone> HllUnion<A> {
             gadget: self.gadget.clone()?,
         })
     }
-}
-
-/// Makes the first of some sketches their union under a bound, where that takes no memory, and answers whether it did:
-/// where the first has registers of eight bits that are not all 0, at an `lg_k` up to the bound and up to that of each
-/// other sketch. Otherwise nothing changes.
-///
-/// `lg_max_k` is 4 to 21.
-pub fn union_in_place<A: Allocator + Clone>(
-    lg_max_k: u8,
-    first: &mut HllSketch<A>,
-    others: &[HllSketch<A>],
-) -> bool
-    requires { IsLgK lg_max_k }
-    ensures can { result ≡ true → CanTakeIn lg_max_k first.old others.now }
-    ensures cannot { result ≡ false → CanTakeIn lg_max_k first.old others.now → ⊥ }
-    ensures merged { result ≡ true → sketch_of first.new ≡ merge_all lg_max_k (empty_union lg_max_k) (sketch_of first.old ∷ map sketch_of others.now) }
-    ensures unchanged { result ≡ false → first.new ≡ first.old }
-{
-    if !first.is_gadget_of_registers(lg_max_k) || !are_at_least(first.lg_config_k(), others) {
-        return false;
-    }
-    first.value_is_legal();
-    for sketch in others {
-        match first.merge(lg_max_k, sketch) {
-            Ok(()) => {}
-            Err(_) => unreachable!(),
-        }
-    }
-    true
-}
-
-/// Whether the `lg_k` of each sketch is at least this one.
-fn are_at_least<A: Allocator>(lg_k: u8, sketches: &[HllSketch<A>]) -> bool
-    ensures all { result ≡ true → All (λ x. lg_k ≤ x.lg_k) sketches.now }
-    ensures some { result ≡ false → All (λ x. lg_k ≤ x.lg_k) sketches.now → ⊥ }
-{
-    for sketch in sketches {
-        if sketch.lg_config_k() < lg_k {
-            return false;
-        }
-    }
-    true
 }
 
 /// Whether two sketches fold to the same registers at the smaller `lg_k` of both. Takes two bytes a register there.

@@ -63,7 +63,7 @@ fn is_made(alloc: Global, left: &[u8], right: &[u8]) -> Result<bool, Error> {
 #[test]
 fn unions_of_coupons(rt: HostRuntime) -> Result<(), Fail> {
     for (number, one) in SOURCES.into_iter().enumerate() {
-        for (place, other) in SOURCES.into_iter().enumerate() {
+        for (index, other) in SOURCES.into_iter().enumerate() {
             for more in [0, 5, 40] {
                 let left = image_of(rt.alloc(), one, 0)?;
                 let right = image_of(rt.alloc(), other, more)?;
@@ -73,9 +73,9 @@ fn unions_of_coupons(rt: HostRuntime) -> Result<(), Fail> {
                         "{one:?} {other:?} {more}"
                     );
                 }
-                let some = 0 < place || 0 < more;
+                let some = 0 < index || 0 < more;
                 let few = one.0.max(other.0).saturating_add(more) <= 96;
-                let held = 0 < number && number < 6 && place < 6 && some && few;
+                let held = 0 < number && number < 6 && index < 6 && some && few;
                 let made = is_made(rt.alloc(), &left, &right)?;
                 assert!(rt; made || !held, "{one:?} {other:?} {more}");
             }
@@ -105,26 +105,26 @@ fn changed_images_of_coupons(rt: HostRuntime) -> Result<(), Fail> {
         for hll_type in WIDTHS {
             assert!(rt; coupon_image_at(rt.alloc(), hll_type, &image)?.is_some());
         }
-        for place in 0..image.len().min(28) {
-            let byte = image[place];
+        for index in 0..image.len().min(28) {
+            let byte = image[index];
             for value in [0, 1, 4, byte.wrapping_add(1), byte ^ 8, byte ^ 128, 255] {
-                image[place] = value;
+                image[index] = value;
                 for hll_type in WIDTHS {
                     assert!(rt;
                         image_at_is_right(rt.alloc(), hll_type, &image)?,
-                        "{source:?} {place} {value}"
+                        "{source:?} {index} {value}"
                     );
                 }
                 assert!(rt;
                     union_is_right(rt.alloc(), HllType::Hll8, &image, &other)?,
-                    "{source:?} {place} {value}"
+                    "{source:?} {index} {value}"
                 );
                 assert!(rt;
                     union_is_right(rt.alloc(), HllType::Hll8, &other, &image)?,
-                    "{source:?} {place} {value}"
+                    "{source:?} {index} {value}"
                 );
             }
-            image[place] = byte;
+            image[index] = byte;
         }
     }
     Ok(())
@@ -168,7 +168,7 @@ fn all_are_right(alloc: Global, image: &[u8], other: &[u8]) -> Result<bool, Erro
     Ok(right)
 }
 
-/// Images as other libraries write them, whose coupons don't ascend or stand in the places of a table: what is made is what
+/// Images as other libraries write them, whose coupons don't ascend or stand in the buckets of a table: what is made is what
 /// is read and written, and it is made of up to 128 coupons; of none where a coupon is there twice.
 #[test]
 fn images_of_others(rt: HostRuntime) -> Result<(), Fail> {

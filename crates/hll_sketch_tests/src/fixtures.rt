@@ -31,7 +31,7 @@ pub(crate) fn filled<A: Allocator + Clone>(
 }
 
 /// The last place of the table of an image of coupons.
-fn last_place(image: &[u8]) -> usize
+fn last_bucket(image: &[u8]) -> usize
     ensures { result ≤ 255 }
 {
     match image.get(4) {
@@ -43,12 +43,12 @@ fn last_place(image: &[u8]) -> usize
     }
 }
 
-/// The image of a list or a set of this many coupons with all places of its table, the empty ones among the others, and more
-/// bytes behind it.
+/// The image of a list or a set of this many coupons with all buckets of its table, the empty ones among the others, and more
+/// bytes after it.
 pub(crate) fn updatable_image(alloc: Global, source: (u32, u8)) -> Result<Vec<u8>, Error> {
     let (count, lg_k) = source;
     let compact = filled(alloc, lg_k, HllType::Hll8, count, 63)?.serialize()?;
-    let last = last_place(&compact);
+    let last = last_bucket(&compact);
     let head = if last == 7 { 8 } else { 12 };
     let mut image = Vec::from_slice(alloc, &compact[..head.min(compact.len())])?;
     if let Some(flags) = image.get_mut(5) {
@@ -56,8 +56,8 @@ pub(crate) fn updatable_image(alloc: Global, source: (u32, u8)) -> Result<Vec<u8
     }
     image.resize(head + 4 * last + 7, 0)?;
     for (number, byte) in compact.iter().skip(head).enumerate() {
-        let place = (number / 4).wrapping_mul(5).wrapping_add(3) & last;
-        let at = place.wrapping_mul(4).wrapping_add(head + number % 4);
+        let index = (number / 4).wrapping_mul(5).wrapping_add(3) & last;
+        let at = index.wrapping_mul(4).wrapping_add(head + number % 4);
         if let Some(room) = image.get_mut(at) {
             *room = *byte;
         }
@@ -73,9 +73,9 @@ pub(crate) fn with_bytes_twice(
     to: usize,
 ) -> Result<Vec<u8>, Error> {
     let mut changed = Vec::from_slice(alloc, image)?;
-    for place in 0..4 {
-        let byte = image.get(from.wrapping_add(place));
-        if let (Some(byte), Some(room)) = (byte, changed.get_mut(to.wrapping_add(place))) {
+    for index in 0..4 {
+        let byte = image.get(from.wrapping_add(index));
+        if let (Some(byte), Some(room)) = (byte, changed.get_mut(to.wrapping_add(index))) {
             *room = *byte;
         }
     }

@@ -31,7 +31,7 @@ enum Kind {
     Registers(HllType),
 }
 
-/// What is kept, the number of places, and of coupons.
+/// What is kept, the number of buckets, and of coupons.
 fn table_of<A: Allocator>(sketch: &HllSketch<A>) -> (Kind, usize, Option<usize>) {
     match sketch.mode() {
         Mode::List { list, .. } => (
@@ -46,7 +46,7 @@ fn table_of<A: Allocator>(sketch: &HllSketch<A>) -> (Kind, usize, Option<usize>)
     }
 }
 
-/// At each `lg_k` how many coupons come, and what keeps them: a table, or none where registers do, its places, and the
+/// At each `lg_k` how many coupons come, and what keeps them: a table, or none where registers do, its buckets, and the
 /// size in bytes at four, six and eight bits.
 const STAGES: [(u8, u32, Option<Kind>, usize, [usize; 3]); 14] = [
     (4, 0, Some(Kind::List), 8, [32; 3]),
@@ -67,12 +67,12 @@ const STAGES: [(u8, u32, Option<Kind>, usize, [usize; 3]); 14] = [
 
 #[test]
 fn stages(rt: HostRuntime) -> Result<(), Fail> {
-    for (lg_k, count, table, places, sizes) in STAGES {
+    for (lg_k, count, table, buckets, sizes) in STAGES {
         for (hll_type, size) in WIDTHS.iter().zip(sizes.iter()) {
             let sketch = filled(rt.alloc(), lg_k, *hll_type, count, 1)?;
             let wanted = match table {
-                Some(kind) => (kind, places, Some(count as usize)),
-                None => (Kind::Registers(*hll_type), places, None),
+                Some(kind) => (kind, buckets, Some(count as usize)),
+                None => (Kind::Registers(*hll_type), buckets, None),
             };
             assert_eq!(rt; table_of(&sketch), wanted, "{lg_k} {count}");
             assert_eq!(rt; sketch.estimated_size(), *size, "{lg_k} {count}");
@@ -89,7 +89,7 @@ fn stages(rt: HostRuntime) -> Result<(), Fail> {
     Ok(())
 }
 
-/// At `lg_k` 8 a list, a set of 32 places and registers follow one another; at 4 a list and registers.
+/// At `lg_k` 8 a list, a set of 32 buckets and registers follow one another; at 4 a list and registers.
 #[test]
 fn stages_of_counts(rt: HostRuntime) {
     assert_eq!(rt; stage(8, 3, 7), Some(3));
@@ -110,7 +110,7 @@ fn turned(alloc: Global, lg_k: u8, hll_type: HllType, count: u32) -> Result<HllS
     Ok(sketch)
 }
 
-/// The same with each coupon twice.
+/// A sketch with a coupon of value 1 at each slot below a number, each added twice.
 fn twice(alloc: Global, lg_k: u8, hll_type: HllType, count: u32) -> Result<HllSketch, Error> {
     let mut sketch = turned(alloc, lg_k, hll_type, count)?;
     for slot in 0..count {
@@ -119,7 +119,7 @@ fn twice(alloc: Global, lg_k: u8, hll_type: HllType, count: u32) -> Result<HllSk
     Ok(sketch)
 }
 
-/// The same with a coupon more.
+/// A sketch with a coupon of value 1 at each slot below a number, and a coupon of value 2 at slot 0.
 fn with_another(
     alloc: Global,
     lg_k: u8,

@@ -171,7 +171,7 @@ fn merge_alike(alloc: Global, count: u32, image: &[u8]) -> Result<bool, Error> {
     Ok(merged == with_sketch(alloc, count, image)? && is_checked_alike(alloc, image))
 }
 
-/// The image of a sketch of this many coupons, with more bytes behind it.
+/// The image of a sketch of this many coupons, with more bytes after it.
 fn image_of(alloc: Global, hll_type: HllType, source: (u32, u8)) -> Result<Vec<u8>, Error> {
     let (count, lg_k) = source;
     let mut image = filled(alloc, lg_k, hll_type, count, 63)?.serialize()?;
@@ -189,8 +189,8 @@ fn changes_merge_alike(
     changed: usize,
 ) -> Result<bool, Error> {
     let mut alike = true;
-    for place in from..image.len().min(from.saturating_add(changed)) {
-        let byte = image[place];
+    for index in from..image.len().min(from.saturating_add(changed)) {
+        let byte = image[index];
         for value in [
             0,
             1,
@@ -200,10 +200,10 @@ fn changes_merge_alike(
             byte ^ 8,
             255,
         ] {
-            image[place] = value;
+            image[index] = value;
             alike = alike && merge_alike(alloc, count, image)?;
         }
-        image[place] = byte;
+        image[index] = byte;
     }
     Ok(alike)
 }
@@ -297,8 +297,8 @@ fn images_of_registers(rt: HostRuntime) -> Result<(), Fail> {
     Ok(())
 }
 
-/// Whether an image in which some places have the words of others is merged as the sketch that it is read as.
-fn words_merge_alike(alloc: Global, count: u32, image: &[u8]) -> Result<bool, Error> {
+/// Whether an image in which some buckets have the raw coupons of others is merged as the sketch that it is read as.
+fn raw_coupons_merge_alike(alloc: Global, count: u32, image: &[u8]) -> Result<bool, Error> {
     let mut alike = true;
     for from in 2u8..12 {
         for to in 2u8..9 {
@@ -335,7 +335,7 @@ fn updatable_images(rt: HostRuntime) -> Result<(), Fail> {
                 "{count} {source:?}"
             );
             assert!(rt;
-                words_merge_alike(rt.alloc(), count, &image)?,
+                raw_coupons_merge_alike(rt.alloc(), count, &image)?,
                 "{count} {source:?}"
             );
             assert!(rt;

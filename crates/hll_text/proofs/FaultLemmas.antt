@@ -8,7 +8,7 @@ use Rattle.hex.specs.Hex.{decode_of}
 use Rattle.hex.specs.declared.error.FromHexError.{FromHexError}
 use Rattle.hll_text.specs.declared.fault.Fault.{Fault}
 use Rattle.hll_text.specs.declared.fault.Fault.TheVariants.{Hex}
-use Rattle.hll_text.specs.Text.{IsLineFault, ◌>>=◌, is_number, lg_k, width, image, new_step, image_step, coupon_step, union_step, fold_step, read_words, reading, words, number, one_number, two_numbers, three_numbers, one_word}
+use Rattle.hll_text.specs.Text.{IsLineFault, ◌>>=◌, is_number, lg_k, width, image, new_step, image_step, coupon_step, union_step, fold_step, read_tokens, reading, tokens, number, one_number, two_numbers, three_numbers, one_token}
 
 module _ {X : Type 0} where
   IfErr-cond : (b : Bool) (x y : Result X Fault) → IfErr x IsLineFault → IfErr y IsLineFault → IfErr (cond b x y) IsLineFault
@@ -19,10 +19,10 @@ module _ {X : Type 0} where
   IfErr-and_then (Ok x) f h k = k x
   IfErr-and_then (Err e) f h k = h
 
--- ---- words
+-- ---- tokens
 
-IfErr-number : (word : List ℕ) → IfErr (number word) IsLineFault
-IfErr-number word = IfErr-cond (is_number word) _ _ tt (inl refl)
+IfErr-number : (token : List ℕ) → IfErr (number token) IsLineFault
+IfErr-number token = IfErr-cond (is_number token) _ _ tt (inl refl)
 
 IfErr-one_number : (ws : List (List ℕ)) → IfErr (one_number ws) IsLineFault
 IfErr-one_number [] = inl refl
@@ -39,10 +39,10 @@ IfErr-three_numbers : (ws : List (List ℕ)) → IfErr (three_numbers ws) IsLine
 IfErr-three_numbers [] = inl refl
 IfErr-three_numbers (a ∷ more) = IfErr-and_then (number a) _ (IfErr-number a) (λ l. IfErr-and_then (two_numbers more) _ (IfErr-two_numbers more) (λ p. tt))
 
-IfErr-one_word : (ws : List (List ℕ)) → IfErr (one_word ws) IsLineFault
-IfErr-one_word [] = inl refl
-IfErr-one_word (a ∷ []) = IfErr-cond (nat_eq (length a) 0) _ _ (inl refl) tt
-IfErr-one_word (a ∷ b ∷ more) = inl refl
+IfErr-one_token : (ws : List (List ℕ)) → IfErr (one_token ws) IsLineFault
+IfErr-one_token [] = inl refl
+IfErr-one_token (a ∷ []) = IfErr-cond (nat_eq (length a) 0) _ _ (inl refl) tt
+IfErr-one_token (a ∷ b ∷ more) = inl refl
 
 -- ---- steps
 
@@ -71,11 +71,11 @@ IfErr-union_step n m bits = IfErr-and_then (lg_k m) _ (IfErr-lg_k m) (λ m. IfEr
 IfErr-fold_step : (e : ℕ) → IfErr (fold_step e) IsLineFault
 IfErr-fold_step e = IfErr-and_then (lg_k e) _ (IfErr-lg_k e) (λ e. tt)
 
-IfErr-read_words : (ws : List (List ℕ)) → IfErr (read_words ws) IsLineFault
-IfErr-read_words [] = inl refl
-IfErr-read_words (first ∷ rest) =
+IfErr-read_tokens : (ws : List (List ℕ)) → IfErr (read_tokens ws) IsLineFault
+IfErr-read_tokens [] = inl refl
+IfErr-read_tokens (first ∷ rest) =
     IfErr-cond (bytes_eq first (codes "new")) _ _ (IfErr-and_then (two_numbers rest) _ (IfErr-two_numbers rest) (λ p. IfErr-new_step p.0 p.1))
-    (IfErr-cond (bytes_eq first (codes "image")) _ _ (IfErr-and_then (one_word rest) _ (IfErr-one_word rest) IfErr-image_step)
+    (IfErr-cond (bytes_eq first (codes "image")) _ _ (IfErr-and_then (one_token rest) _ (IfErr-one_token rest) IfErr-image_step)
     (IfErr-cond (bytes_eq first (codes "coupon")) _ _ (IfErr-and_then (two_numbers rest) _ (IfErr-two_numbers rest) (λ p. IfErr-coupon_step p.0 p.1))
     (IfErr-cond (bytes_eq first (codes "union")) _ _ (IfErr-and_then (three_numbers rest) _ (IfErr-three_numbers rest) (λ p. IfErr-union_step p.0 p.1 p.2))
     (IfErr-cond (bytes_eq first (codes "fold")) _ _ (IfErr-and_then (one_number rest) _ (IfErr-one_number rest) IfErr-fold_step) (inl refl)))))
@@ -83,4 +83,4 @@ IfErr-read_words (first ∷ rest) =
 -- a fault of a line
 pub IfErr-reading : (line : List ℕ) → IfErr (reading line) IsLineFault
 IfErr-reading [] = tt
-IfErr-reading (b ∷ more) = IfErr-cond (b == 35) _ _ tt (IfErr-and_then (read_words (words (b ∷ more))) _ (IfErr-read_words (words (b ∷ more))) (λ step. tt))
+IfErr-reading (b ∷ more) = IfErr-cond (b == 35) _ _ tt (IfErr-and_then (read_tokens (tokens (b ∷ more))) _ (IfErr-read_tokens (tokens (b ∷ more))) (λ step. tt))

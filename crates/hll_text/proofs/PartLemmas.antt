@@ -1,5 +1,5 @@
 -- SPDX-License-Identifier: Apache-2.0
--- Lemmas on the parts of a list between marks: words between spaces, lines between newlines.
+-- Lemmas on the parts of a list between marks: tokens between spaces, lines between newlines.
 use Rattle.std.proofs.Common.{◌≡◌, ℕ, ◌+◌, ◌-◌, ◌<◌, ◌≤◌, Bool, true, false, cond, nat_eq, List, [], ◌∷◌, length, take, drop, refl, ◌∙◌, ap, subst, arith, Some, None, length-drop}
 use Rattle.std.specs.List.{slice_split, position, position_or_len}
 use Rattle.std.specs.Str.Lines.{strip_carriage_return}
@@ -8,7 +8,7 @@ use Rattle.std.proofs.lemmas.List.{take_all}
 use Rattle.std.proofs.lemmas.List.Elements.{All-from_get_or}
 use Rattle.std.proofs.lemmas.List.Splits.{slice_split_first, slice_split_none, length-slice_split}
 use Rattle.std.proofs.lemmas.List.Sums.{fails_before_first}
-use Rattle.hll_text.specs.Text.{words, ended_parts, ended_lines}
+use Rattle.hll_text.specs.Text.{tokens, ended_parts, ended_lines}
 
 -- a test decides which of two options there is
 pub some_of : (b : Bool) (n i : ℕ) → cond b (Some n) None ≡ Some i → (b ≡ true) × (n ≡ i)
@@ -43,19 +43,19 @@ module _ (mark : ℕ) where
   pub length-parts : (xs : List ℕ) → 0 < length (slice_split (λ b. nat_eq b mark) xs)
   length-parts xs = omega (arith, length-slice_split (λ b. nat_eq b mark) xs)
 
--- ---- words
+-- ---- tokens
 
-pub words-some : (xs : List ℕ) (i : ℕ) → position (λ b. nat_eq b 32) xs ≡ Some i → words xs ≡ take i xs ∷ words (drop (i + 1) xs)
-words-some xs i e = (parts-some 32 xs i e).0
+pub tokens-some : (xs : List ℕ) (i : ℕ) → position (λ b. nat_eq b 32) xs ≡ Some i → tokens xs ≡ take i xs ∷ tokens (drop (i + 1) xs)
+tokens-some xs i e = (parts-some 32 xs i e).0
 
-pub words-within : (xs : List ℕ) (i : ℕ) → position (λ b. nat_eq b 32) xs ≡ Some i → i < length xs
-words-within xs i e = (parts-some 32 xs i e).1
+pub tokens-within : (xs : List ℕ) (i : ℕ) → position (λ b. nat_eq b 32) xs ≡ Some i → i < length xs
+tokens-within xs i e = (parts-some 32 xs i e).1
 
-pub words-none : (xs : List ℕ) → position (λ b. nat_eq b 32) xs ≡ None → words xs ≡ xs ∷ []
-words-none = parts-none 32
+pub tokens-none : (xs : List ℕ) → position (λ b. nat_eq b 32) xs ≡ None → tokens xs ≡ xs ∷ []
+tokens-none = parts-none 32
 
-pub length-words : (xs : List ℕ) → 0 < length (words xs)
-length-words = length-parts 32
+pub length-tokens : (xs : List ℕ) → 0 < length (tokens xs)
+length-tokens = length-parts 32
 
 -- ---- lines
 

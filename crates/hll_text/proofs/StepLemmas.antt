@@ -15,7 +15,7 @@ use Rattle.hex.proofs.HexLemmas.{decode_pairs-ok}
 use Rattle.hll_text.specs.declared.fault.Fault.{Fault}
 use Rattle.hll_text.specs.declared.fault.Fault.TheVariants.{Range, Hex}
 use Rattle.hll_text.specs.Step.{IsWellFormed}
-use Rattle.hll_text.specs.Text.{PlanStep, image, coupon, ◌>>=◌, words, lg_k, width, one_number, two_numbers, three_numbers, one_word, new_step, image_step, coupon_step, union_step, fold_step, read_words, reading}
+use Rattle.hll_text.specs.Text.{PlanStep, image, coupon, ◌>>=◌, tokens, lg_k, width, one_number, two_numbers, three_numbers, one_token, new_step, image_step, coupon_step, union_step, fold_step, read_tokens, reading}
 
 module _ {X : Type 0} (P : X → Type 0) where
   IfOk-cond : (b : Bool) (r s : Result X Fault) → (b ≡ true → IfOk r P) → IfOk s P → IfOk (cond b r s) P
@@ -69,11 +69,11 @@ IfOk-image_step digits = of (eqb (length digits % 2) 1)
     of true = tt
     of false = decoded (decode_pairs 0 digits) refl
 
-IfOk-read_words : (ws : List (List ℕ)) → IfOk (read_words ws) IsWellFormed
-IfOk-read_words [] = tt
-IfOk-read_words (first ∷ rest) =
+IfOk-read_tokens : (ws : List (List ℕ)) → IfOk (read_tokens ws) IsWellFormed
+IfOk-read_tokens [] = tt
+IfOk-read_tokens (first ∷ rest) =
     IfOk-cond IsWellFormed (bytes_eq first (codes "new")) _ _ (λ _. IfOk-and_then IsWellFormed Any (two_numbers rest) _ (IfOk-any (two_numbers rest)) (λ p _. IfOk-new_step p.0 p.1))
-    (IfOk-cond IsWellFormed (bytes_eq first (codes "image")) _ _ (λ _. IfOk-and_then IsWellFormed Any (one_word rest) _ (IfOk-any (one_word rest)) (λ digits _. IfOk-image_step digits))
+    (IfOk-cond IsWellFormed (bytes_eq first (codes "image")) _ _ (λ _. IfOk-and_then IsWellFormed Any (one_token rest) _ (IfOk-any (one_token rest)) (λ digits _. IfOk-image_step digits))
     (IfOk-cond IsWellFormed (bytes_eq first (codes "coupon")) _ _ (λ _. IfOk-and_then IsWellFormed Any (two_numbers rest) _ (IfOk-any (two_numbers rest)) (λ p _. IfOk-coupon_step p.0 p.1))
     (IfOk-cond IsWellFormed (bytes_eq first (codes "union")) _ _ (λ _. IfOk-and_then IsWellFormed Any (three_numbers rest) _ (IfOk-any (three_numbers rest)) (λ p _. IfOk-union_step p.0 p.1 p.2))
     (IfOk-cond IsWellFormed (bytes_eq first (codes "fold")) _ _ (λ _. IfOk-and_then IsWellFormed Any (one_number rest) _ (IfOk-any (one_number rest)) (λ e _. IfOk-fold_step e)) tt))))
@@ -87,7 +87,7 @@ IfOk-reading : (line : List ℕ) → IfOk (reading line) OfStep
 IfOk-reading [] = tt
 IfOk-reading (b ∷ more) =
     IfOk-cond OfStep (b == 35) (Ok None) _ (λ _. tt)
-    (IfOk-and_then OfStep IsWellFormed (read_words (words (b ∷ more))) _ (IfOk-read_words (words (b ∷ more))) (λ step h. h))
+    (IfOk-and_then OfStep IsWellFormed (read_tokens (tokens (b ∷ more))) _ (IfOk-read_tokens (tokens (b ∷ more))) (λ step h. h))
 
 -- the step of a line is well formed
 pub reading-well_formed : (line : List ℕ) (step : PlanStep) → reading line ≡ Ok (Some step) → IsWellFormed step

@@ -40,7 +40,7 @@ row-other_word = refl
 row-three_numbers : reading (codes "new 10 8 8") ≡ Err Syntax
 row-three_numbers = refl
 
--- a word that is no number goes before a number out of range
+-- a token that is no number goes before a number out of range
 row-syntax_first : reading (codes "new 3 x") ≡ Err Syntax
 row-syntax_first = refl
 

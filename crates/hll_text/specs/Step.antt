@@ -50,14 +50,14 @@ IfStep lines.Skipped P = Unit {0}
 IfStep (lines.Image digits) P = Unit {0}
 IfStep (lines.Step step) P = P step
 
--- the bytes of a word or the fault, of what a reader of a word returns
-abbrev pub word_of : Result (Bor (List ℕ)) Fault → Result (List ℕ) Fault
-word_of (Ok word) = Ok word.now
-word_of (Err e) = Err e
+-- the bytes of a token or the fault, of what a reader of a token returns
+abbrev pub token_of : Result (Bor (List ℕ)) Fault → Result (List ℕ) Fault
+token_of (Ok token) = Ok token.now
+token_of (Err e) = Err e
 
--- what a reader of a line returns: what its words say, or that memory was refused for the bytes of an image
+-- what a reader of a line returns: what its tokens say, or that memory was refused for the bytes of an image
 abbrev pub ReadsAs : {A : Type 0} → List (List ℕ) → Reading → Result (Option (Step A)) Fault → Type 0
-ReadsAs words reading r = (reading_of r ≡ reading) ⊎ ((names_image words ≡ true) × (r ≡ Err faults.Memory))
+ReadsAs tokens reading r = (reading_of r ≡ reading) ⊎ ((names_image tokens ≡ true) × (r ≡ Err faults.Memory))
 
 -- a step whose numbers are in their ranges
 abbrev pub IsInRange : PlanStep → Type 0

@@ -1,5 +1,5 @@
 -- SPDX-License-Identifier: Apache-2.0
--- The text of a plan: its lines, its words, and what a line says (docs/PLAN.md, "The text").
+-- The text of a plan: its lines, its tokens, and what a line says (docs/PLAN.md, "The text").
 use Rattle.std.specs.Prelude as std
 use Rattle.std.specs.Prelude.{ℕ, ◌≡◌, ◌⊎◌, IfErr, ◌+◌, ◌-◌, ◌*◌, ◌^◌, min, Bool, false, ◌&&◌, ◌==◌, nat_lt, nat_le, nat_eq, if◌then◌else◌, List, [], ◌∷◌, ◌++◌, length, Option, Some, None, Result, Ok, Err, codes}
 use Rattle.std.specs.List.{slice_split, list_all}
@@ -43,7 +43,7 @@ line_of_rest (b ∷ more) = (b ∷ more) ∷ []
 abbrev pub line_number : ℕ → ℕ
 line_number n = min n (2 ^ 64 - 1)
 
--- ---- words and numbers
+-- ---- tokens and numbers
 
 -- the `?` of the logic: the second step, if the first gave a value
 infixl 10 ◌>>=◌
@@ -51,14 +51,14 @@ abbrev pub ◌>>=◌ : {X Y : Type 0} → Result X Fault → (X → Result Y Fau
 Ok x >>= f = f x
 Err e >>= f = Err e
 
--- the words of a line: what is before, between and after its spaces
-abbrev pub words : List ℕ → List (List ℕ)
-words line = slice_split (λ b. b == 32) line
+-- the tokens of a line: what is before, between and after its spaces
+abbrev pub tokens : List ℕ → List (List ℕ)
+tokens line = slice_split (λ b. b == 32) line
 
--- the words after a space, or none where there is no space
-abbrev pub words_after : Option (List ℕ) → List (List ℕ)
-words_after None = []
-words_after (Some rest) = words rest
+-- the tokens after a space, or none where there is no space
+abbrev pub tokens_after : Option (List ℕ) → List (List ℕ)
+tokens_after None = []
+tokens_after (Some rest) = tokens rest
 
 -- the value of decimal digits
 abbrev pub decimal_value : List ℕ → ℕ
@@ -66,23 +66,23 @@ decimal_value digits = std.fold (λ n digit. 10 * n + (digit - 48)) 0 digits
 
 -- a number is 1 to 8 decimal digits
 abbrev pub is_number : List ℕ → Bool
-is_number word = (nat_le 1 (length word) && nat_le (length word) 8) && list_all is_ascii_digit word
+is_number token = (nat_le 1 (length token) && nat_le (length token) 8) && list_all is_ascii_digit token
 
 abbrev pub number : List ℕ → Result ℕ Fault
-number word = if is_number word then Ok (decimal_value word) else Err Syntax
+number token = if is_number token then Ok (decimal_value token) else Err Syntax
 
--- the first of some words, as a number
+-- the first of some tokens, as a number
 abbrev pub first_number : List (List ℕ) → Result ℕ Fault
 first_number [] = Err Syntax
-first_number (word ∷ more) = number word
+first_number (token ∷ more) = number token
 
--- one word, which is a number
+-- one token, which is a number
 abbrev pub one_number : List (List ℕ) → Result ℕ Fault
 one_number [] = Err Syntax
 one_number (a ∷ []) = number a
 one_number (a ∷ b ∷ more) = Err Syntax
 
--- two words, both of them numbers
+-- two tokens, both of them numbers
 abbrev pub two_numbers : List (List ℕ) → Result (ℕ × ℕ) Fault
 two_numbers [] = Err Syntax
 two_numbers (a ∷ []) = Err Syntax
@@ -92,7 +92,7 @@ two_numbers (a ∷ b ∷ []) = do
   Ok (m, n)
 two_numbers (a ∷ b ∷ c ∷ more) = Err Syntax
 
--- three words, all of them numbers
+-- three tokens, all of them numbers
 abbrev pub three_numbers : List (List ℕ) → Result (ℕ × ℕ × ℕ) Fault
 three_numbers [] = Err Syntax
 three_numbers (a ∷ more) = do
@@ -100,11 +100,11 @@ three_numbers (a ∷ more) = do
   p ← two_numbers more
   Ok (l, p.0, p.1)
 
--- one word, which is not empty
-abbrev pub one_word : List (List ℕ) → Result (List ℕ) Fault
-one_word [] = Err Syntax
-one_word (a ∷ []) = if nat_eq (length a) 0 then Err Syntax else Ok a
-one_word (a ∷ b ∷ more) = Err Syntax
+-- one token, which is not empty
+abbrev pub one_token : List (List ℕ) → Result (List ℕ) Fault
+one_token [] = Err Syntax
+one_token (a ∷ []) = if nat_eq (length a) 0 then Err Syntax else Ok a
+one_token (a ∷ b ∷ more) = Err Syntax
 
 -- ---- steps
 
@@ -157,12 +157,12 @@ fold_step e = do
   e ← lg_k e
   Ok (fold e)
 
--- the step of a line, from its words
-abbrev pub read_words : List (List ℕ) → Result PlanStep Fault
-read_words [] = Err Syntax
-read_words (first ∷ rest) =
+-- the step of a line, from its tokens
+abbrev pub read_tokens : List (List ℕ) → Result PlanStep Fault
+read_tokens [] = Err Syntax
+read_tokens (first ∷ rest) =
     if bytes_eq first (codes "new") then two_numbers rest >>= (λ p. new_step p.0 p.1)
-    else (if bytes_eq first (codes "image") then one_word rest >>= image_step
+    else (if bytes_eq first (codes "image") then one_token rest >>= image_step
     else (if bytes_eq first (codes "coupon") then two_numbers rest >>= (λ p. coupon_step p.0 p.1)
     else (if bytes_eq first (codes "union") then three_numbers rest >>= (λ p. union_step p.0 p.1 p.2)
     else (if bytes_eq first (codes "fold") then one_number rest >>= fold_step
@@ -183,7 +183,7 @@ image_reading digits = as_reading (image_step digits)
 -- an empty line is skipped, and so is one that begins with `#`
 abbrev pub reading : List ℕ → Reading
 reading [] = Ok None
-reading (b ∷ more) = if b == 35 then Ok None else as_reading (read_words (words (b ∷ more)))
+reading (b ∷ more) = if b == 35 then Ok None else as_reading (read_tokens (tokens (b ∷ more)))
 
 -- a fault of a line by itself
 abbrev pub IsLineFault : Fault → Type 0
@@ -195,7 +195,7 @@ FaultsOfLines = (line : List ℕ) → IfErr (reading line) IsLineFault
 
 -- ---- memory
 
--- whether the first of the words is `image`: the reading of no other line takes memory
+-- whether the first of the tokens is `image`: the reading of no other line takes memory
 abbrev pub names_image : List (List ℕ) → Bool
 names_image [] = false
 names_image (first ∷ more) = bytes_eq first (codes "image")

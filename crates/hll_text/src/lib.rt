@@ -1,5 +1,5 @@
 // SPDX-License-Identifier: Apache-2.0
-//! The text of plans: its lines and their words, the steps that lines say, faults, and streams that are watched for
+//! The text of plans: its lines and their tokens, the steps that lines say, faults, and streams that are watched for
 //! failures (docs/ARCHITECTURE.md, "The crates").
 #![tactic(auto)]
 
@@ -10,8 +10,8 @@ pub mod reading;
 pub mod refusal;
 pub mod step;
 pub mod streams;
+mod tokens;
 pub mod watched;
-mod words;
 
 pub use fault::{Fault, MergeError};
 pub use step::{Line, Step};

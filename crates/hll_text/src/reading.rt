@@ -5,11 +5,11 @@ ghost use Rattle.std.specs.Option.{option_copied};
 ghost use Rattle.hll_text.specs.declared.fault.Fault.TheVariants.{Hex, Memory};
 ghost use Rattle.hll_text.specs.Step.{step_reading_of, line_reading_of, step_of, ReadsAs, IsInRange, IfImage, IfStep};
 ghost use Rattle.hll_text.specs.Text as plan;
-ghost use Rattle.hll_text.specs.Text.{as_reading, words, words_after, reading, names_image, width, lg_k, FaultsOfLines};
+ghost use Rattle.hll_text.specs.Text.{as_reading, tokens, tokens_after, reading, names_image, width, lg_k, FaultsOfLines};
 
 use crate::fault::Fault;
 use crate::step::{Line, Step};
-use crate::words::{one_number, one_word, split_word, three_numbers, two_numbers};
+use crate::tokens::{one_number, one_token, split_token, three_numbers, two_numbers};
 use hex::FromHexError;
 use hll_base::bounds::{MAX_LG_K, MAX_VALUE, MIN_LG_K, SLOT_BITS};
 use hll_base::hll_type::HllType;
@@ -18,10 +18,10 @@ use std::alloc::Allocator;
 /// What a line of a plan, without its end, says: `None` for one that is skipped, else a step (docs/PLAN.md, "The text").
 ///
 /// `Syntax` where the line has none of the forms of a line, else `Range` where a number is out of its range, or `Hex`
-/// where the word of an `image` line is not an even number of hexadecimal digits. Only an `image` line takes memory, for
+/// where the token of an `image` line is not an even number of hexadecimal digits. Only an `image` line takes memory, for
 /// its bytes; `Memory` where that is refused.
 pub fn read_step<A: Allocator>(alloc: A, line: &[u8]) -> Result<Option<Step<A>>, Fault>
-    ensures reading { ReadsAs (words line.now) (reading line.now) result }
+    ensures reading { ReadsAs (tokens line.now) (reading line.now) result }
     ensures in_range { IfOk result (λ found. IfSome found (λ step. IsInRange (step_of step))) }
 {
     match read_line(line)? {
@@ -35,7 +35,7 @@ pub fn read_step<A: Allocator>(alloc: A, line: &[u8]) -> Result<Option<Step<A>>,
 /// `read_step`.
 pub fn read_line<A: Allocator>(line: &[u8]) -> Result<Line<'_, A>, Fault>
     ensures reading { line_reading_of result ≡ reading line.now }
-    ensures image { IfOk result (λ said. IfImage said (names_image (words line.now) ≡ true)) }
+    ensures image { IfOk result (λ said. IfImage said (names_image (tokens line.now) ≡ true)) }
     ensures in_range { IfOk result (λ said. IfStep said (λ step. IsInRange (step_of step))) }
 {
     if line.is_empty() || line[0] == b'#' {
@@ -44,17 +44,17 @@ pub fn read_line<A: Allocator>(line: &[u8]) -> Result<Line<'_, A>, Fault>
     if let Some(numbers) = line.strip_prefix(b"coupon ".as_slice()) {
         return coupon_line(Some(numbers));
     }
-    if let Some(word) = line.strip_prefix(b"image ".as_slice()) {
-        return image_line(Some(word));
+    if let Some(token) = line.strip_prefix(b"image ".as_slice()) {
+        return image_line(Some(token));
     }
-    let (first, rest) = split_word(line);
-    read_words(first, rest)
+    let (first, rest) = split_token(line);
+    read_tokens(first, rest)
 }
 
-/// What a line that is not skipped says, from its first word and what follows the space after it.
-fn read_words<'l, A: Allocator>(first: &[u8], rest: Option<&'l [u8]>) -> Result<Line<'l, A>, Fault>
-    ensures reading { line_reading_of result ≡ as_reading (plan.read_words (first.now ∷ words_after (option_copied rest.entry))) }
-    ensures image { IfOk result (λ said. IfImage said (names_image (first.now ∷ words_after (option_copied rest.entry)) ≡ true)) }
+/// What a line that is not skipped says, from its first token and what follows the space after it.
+fn read_tokens<'l, A: Allocator>(first: &[u8], rest: Option<&'l [u8]>) -> Result<Line<'l, A>, Fault>
+    ensures reading { line_reading_of result ≡ as_reading (plan.read_tokens (first.now ∷ tokens_after (option_copied rest.entry))) }
+    ensures image { IfOk result (λ said. IfImage said (names_image (first.now ∷ tokens_after (option_copied rest.entry)) ≡ true)) }
     ensures in_range { IfOk result (λ said. IfStep said (λ step. IsInRange (step_of step))) }
 {
     if first == b"new".as_slice() {
@@ -74,17 +74,17 @@ fn read_words<'l, A: Allocator>(first: &[u8], rest: Option<&'l [u8]>) -> Result<
     }
 }
 
-/// What a line says whose first word is `image`, from what follows the space after it.
+/// What a line says whose first token is `image`, from what follows the space after it.
 fn image_line<'l, A: Allocator>(rest: Option<&'l [u8]>) -> Result<Line<'l, A>, Fault>
-    ensures reading { line_reading_of result ≡ as_reading (plan.read_words (codes "image" ∷ words_after (option_copied rest.entry))) }
+    ensures reading { line_reading_of result ≡ as_reading (plan.read_tokens (codes "image" ∷ tokens_after (option_copied rest.entry))) }
     ensures in_range { IfOk result (λ said. IfStep said (λ step. IsInRange (step_of step))) }
 {
-    Ok(Line::Image(one_word(rest)?))
+    Ok(Line::Image(one_token(rest)?))
 }
 
-/// What a line says whose first word is `coupon`, from what follows the space after it.
+/// What a line says whose first token is `coupon`, from what follows the space after it.
 fn coupon_line<'l, A: Allocator>(rest: Option<&[u8]>) -> Result<Line<'l, A>, Fault>
-    ensures reading { line_reading_of result ≡ as_reading (plan.read_words (codes "coupon" ∷ words_after (option_copied rest.entry))) }
+    ensures reading { line_reading_of result ≡ as_reading (plan.read_tokens (codes "coupon" ∷ tokens_after (option_copied rest.entry))) }
     ensures image { IfOk result (λ said. IfImage said ⊥) }
     ensures in_range { IfOk result (λ said. IfStep said (λ step. IsInRange (step_of step))) }
 {
@@ -95,7 +95,7 @@ fn coupon_line<'l, A: Allocator>(rest: Option<&[u8]>) -> Result<Line<'l, A>, Fau
 /// The bytes that the digits of an image stand for, in the memory of a buffer, whatever that held. So one buffer serves
 /// line after line.
 ///
-/// `Hex` where the word is not an even number of hexadecimal digits. Takes memory only where there are more bytes than
+/// `Hex` where the token is not an even number of hexadecimal digits. Takes memory only where there are more bytes than
 /// the buffer held; `Memory` where that is refused.
 pub fn decode_into<A: Allocator>(mut buffer: Vec<u8, A>, digits: &[u8]) -> Result<Vec<u8, A>, Fault>
     ensures ok { IfOk result (λ bytes. plan.image_step digits.now ≡ Ok (plan.image bytes.items)) }

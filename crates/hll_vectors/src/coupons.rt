@@ -72,7 +72,7 @@ fn of_bytes(rt: HostRuntime) {
     }
 }
 
-/// A value of one piece has the coupon of its bytes; of two pieces, of both one behind the other.
+/// A value of one piece has the coupon of its bytes; of two pieces, of both one after the other.
 #[test]
 fn of_values(rt: HostRuntime) {
     for piece in [&TEXT[..0], &TEXT[..15], &TEXT[15..], TEXT.as_slice()] {

@@ -12,11 +12,11 @@ pub(crate) fn check_line(alloc: Global, line: &[u8]) -> Result<(), Wrong> {
     if ends_with(alloc, line.strip_suffix(b"\n").unwrap_or(line))? {
         Ok(())
     } else {
-        Err(Wrong::Behind)
+        Err(Wrong::After)
     }
 }
 
-/// The images of a plan are read, and no shorter front of them is; with `+`, bytes stand behind one of them.
+/// The images of a plan are read, and no shorter front of them is; with `+`, bytes stand after one of them.
 pub(crate) fn check_plan(alloc: Global, row: &Row) -> Result<(), Wrong> {
     let mut has_more = false;
     for line in row.plan.split(|byte| *byte == b'\n') {
@@ -27,7 +27,7 @@ pub(crate) fn check_plan(alloc: Global, row: &Row) -> Result<(), Wrong> {
     if has_more == matches!(row.answer, Answer::PrintsBefore(_)) {
         Ok(())
     } else {
-        Err(Wrong::Behind)
+        Err(Wrong::After)
     }
 }
 

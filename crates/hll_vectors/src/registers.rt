@@ -66,7 +66,7 @@ const WORDS: [([u8; 16], u64, u64); 5] = [
 ];
 
 /// A value that all of 2^21 registers have, and the sums.
-const WORDS_OF_ALL: [(u8, u64, u64); 4] = [
+const FIELDS_OF_ALL: [(u8, u64, u64); 4] = [
     // 2^21
     (0, 0x4140000000000000, 0),
     // 2^(21 - 31)
@@ -80,16 +80,16 @@ const WORDS_OF_ALL: [(u8, u64, u64); 4] = [
 /// The words of registers, converted to a width, whatever state they had.
 fn words_at<S: RegisterStore<Global>>(array: &Array8) -> Result<EstimateState, Error> {
     let converted: S = convert(array)?;
-    Ok(converted.estimator_words())
+    Ok(converted.estimator_fields())
 }
 
 /// Registers of each width have these words.
-fn assert_words(rt: &impl Abort, array: &Array8, low: u64, high: u64) {
+fn assert_fields(rt: &impl Abort, array: &Array8, low: u64, high: u64) {
     let wanted = EstimateState {
         words: [0, low, high],
         out_of_order: true,
     };
-    assert_eq!(rt; array.estimator_words(), wanted);
+    assert_eq!(rt; array.estimator_fields(), wanted);
     assert_eq!(rt; words_at::<Array6>(array), Ok(wanted));
     assert_eq!(rt; words_at::<Array4>(array), Ok(wanted));
 }
@@ -104,12 +104,12 @@ fn all_of(alloc: Global, value: u8) -> Result<Array8, Error> {
 }
 
 #[test]
-fn estimator_words(rt: HostRuntime) -> Result<(), Fail> {
+fn estimator_fields(rt: HostRuntime) -> Result<(), Fail> {
     for (values, low, high) in WORDS {
-        assert_words(&rt, &set_in(rt.alloc(), values)?, low, high);
+        assert_fields(&rt, &set_in(rt.alloc(), values)?, low, high);
     }
-    for (value, low, high) in WORDS_OF_ALL {
-        assert_words(&rt, &all_of(rt.alloc(), value)?, low, high);
+    for (value, low, high) in FIELDS_OF_ALL {
+        assert_fields(&rt, &all_of(rt.alloc(), value)?, low, high);
     }
     Ok(())
 }
@@ -139,7 +139,7 @@ const JOINS: [([u8; 16], [u8; 16], [u8; 16], u32); 4] = [
 
 /// The state is cleared, also where no register changes.
 #[test]
-fn joins(rt: HostRuntime) -> Result<(), Fail> {
+fn takes_max(rt: HostRuntime) -> Result<(), Fail> {
     for (values, others, greater, zeros) in JOINS {
         let mut array = set_in(rt.alloc(), values)?;
         let other = set_in(rt.alloc(), others)?;
@@ -179,7 +179,7 @@ fn joined<R: Registers, S: Registers>(alloc: Global, one: &R, other: &S) -> Resu
 
 /// Two sizes are joined at the smaller, in either order, and the state is cleared, also where no register changes.
 #[test]
-fn joins_of_two_sizes(rt: HostRuntime) -> Result<(), Fail> {
+fn max_of_two_sizes(rt: HostRuntime) -> Result<(), Fail> {
     let wanted =
         "0a0107040010000a0000000000000000000000000000000000000000000000000e00000000000000191e0000000000000000000000000000";
     let mut small = updated(rt.alloc(), 4, &[(0, 10), (1, 20)])?;

@@ -15,7 +15,7 @@ pub(crate) struct Row<'a> {
 pub(crate) enum Answer<'a> {
     /// `= ` and what goes to standard output.
     Prints(&'a str),
-    /// `+ ` and what goes to standard output; an image of the plan has bytes behind it.
+    /// `+ ` and what goes to standard output; an image of the plan has bytes after it.
     PrintsBefore(&'a str),
     /// `! ` and what goes to standard error.
     Refused(&'a str),

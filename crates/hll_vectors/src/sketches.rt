@@ -1,8 +1,7 @@
 // SPDX-License-Identifier: Apache-2.0
-//! Sketches: stages, arguments, places, texts, values and folds.
+//! Sketches: stages, arguments, buckets, texts, values and folds.
 use crate::coupons::Piece;
 use crate::hash::TEXT;
-use crate::unions::{digits_of, sketch_of};
 use hll_base::error::{Error, ErrorKind, Reason};
 use hll_base::hll_type::HllType;
 use hll_coupons::coupon::Coupon;
@@ -12,7 +11,7 @@ use std::alloc::{AllocError, Global};
 use std::fmt::Debug;
 use std::test::Fail;
 
-/// How many coupons, and what keeps them: a list of 8 places, a set of 32, registers of four bits; the number of coupons, and
+/// How many coupons, and what keeps them: a list of 8 buckets, a set of 32, registers of four bits; the number of coupons, and
 /// the size in bytes.
 const STAGES: [(u32, Stage, Option<usize>, usize); 4] = [
     (7, Stage::List, Some(7), 32),
@@ -41,6 +40,17 @@ pub(crate) fn sketch_with(
         sketch.update_with_coupon(Coupon::pack(slot, 1))?;
     }
     Ok(sketch)
+}
+
+/// The sketch of an image in hexadecimal.
+pub(crate) fn sketch_of(alloc: Global, digits: &str) -> Result<HllSketch, Fail> {
+    let image = hex::decode(alloc, digits)?;
+    Ok(HllSketch::deserialize(alloc, &image)?)
+}
+
+/// What is written for a sketch, in hexadecimal.
+pub(crate) fn digits_of(alloc: Global, sketch: &HllSketch) -> Result<String, Fail> {
+    Ok(hex::encode(alloc, sketch.serialize()?)?)
 }
 
 #[test]
@@ -97,7 +107,7 @@ fn folds(rt: HostRuntime) -> Result<(), Fail> {
     Ok(())
 }
 
-/// Slots that start at place 0 of 32, with the strides 1, 1, 3, 3, 5, 5, 7 and 7, and their order in the places: the
+/// Slots that start at place 0 of 32, with the strides 1, 1, 3, 3, 5, 5, 7 and 7, and their order in the buckets: the
 /// coupons of the list come first, then the eighth.
 const SLOTS: [u32; 8] = [0, 32, 64, 96, 128, 160, 192, 224];
 
@@ -112,7 +122,7 @@ fn sketch_at(alloc: Global, slots: [u32; 8]) -> Result<HllSketch, Error> {
     Ok(sketch)
 }
 
-/// The slots of the set in the order of places, of anything else none.
+/// The slots of the set in the order of buckets, of anything else none.
 fn placed(alloc: Global, sketch: &HllSketch) -> Result<Vec<u32>, AllocError> {
     let mut slots = Vec::new(alloc);
     if let Mode::Set { set, .. } = sketch.mode() {
@@ -128,9 +138,9 @@ fn written_at(alloc: Global, slots: [u32; 8]) -> Result<String, Fail> {
     digits_of(alloc, &sketch_at(alloc, slots)?)
 }
 
-/// The image has them in ascending raw words.
+/// The image has them in ascending raw coupons.
 #[test]
-fn places(rt: HostRuntime) -> Result<(), Fail> {
+fn buckets(rt: HostRuntime) -> Result<(), Fail> {
     let sketch = sketch_at(rt.alloc(), SLOTS)?;
     let slots = placed(rt.alloc(), &sketch)?;
     assert_eq!(rt; slots.as_slice(), PLACED.as_slice());
@@ -268,9 +278,9 @@ fn missing_tables(rt: HostRuntime) -> Result<(), Fail> {
     Ok(())
 }
 
-/// Images, and what they are with the words of an estimator set: slot 0 is 5 and fifteen are 0, which is 15 + 2^-5, at
+/// Images, and what they are with the fields of an estimator set: slot 0 is 5 and fifteen are 0, which is 15 + 2^-5, at
 /// eight, six and four bits with words that were read; a list and a set, which stay as they are.
-const WORDS_SET: [(&str, &str); 5] = [
+const FIELDS_SET: [(&str, &str); 5] = [
     (
         "0a0107040000000a0100000000000000020000000000000003000000000000000f0000000000000005000000000000000000000000000000",
         "0a0107040010000a00000000000000000000000000102e4000000000000000000f0000000000000005000000000000000000000000000000",
@@ -292,11 +302,11 @@ const WORDS_SET: [(&str, &str); 5] = [
 
 /// Set twice, the words are the same.
 #[test]
-fn estimator_words(rt: HostRuntime) -> Result<(), Fail> {
-    for (image, wanted) in WORDS_SET {
+fn estimator_fields(rt: HostRuntime) -> Result<(), Fail> {
+    for (image, wanted) in FIELDS_SET {
         let mut sketch = sketch_of(rt.alloc(), image)?;
         for _ in 0..2 {
-            sketch.set_estimator_words();
+            sketch.set_estimator_fields();
             let written = digits_of(rt.alloc(), &sketch)?;
             assert_eq!(rt; written.as_str(), wanted);
         }

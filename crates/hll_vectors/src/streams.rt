@@ -48,7 +48,7 @@ fn fails_at(alloc: Global, plan: &[u8], calls: usize) -> bool {
         && writer.into_inner().is_empty()
 }
 
-/// The fault of the lines that end in a text, or else the read that failed behind them.
+/// The fault of the lines that end in a text, or else the read that failed after them.
 fn fault_of_front(alloc: Global, text: &[u8]) -> MergeError {
     match fed(alloc, text) {
         Ok(()) => Fault::Read.at(lines_ended(text)),

@@ -29,11 +29,8 @@ const ROWS: [(&[&str], &str); 14] = [
         &["x", "!line 1: syntax", "x", "! line 1: syntax"],
         "NoAnswer",
     ),
-    (
-        &["image 0201070a030c00080f", "= 0201070a030c0008"],
-        "Behind",
-    ),
-    (&["image 0201070a030c0008", "+ 0201070a030c0008"], "Behind"),
+    (&["image 0201070a030c00080f", "= 0201070a030c0008"], "After"),
+    (&["image 0201070a030c0008", "+ 0201070a030c0008"], "After"),
 ];
 
 #[test]

@@ -1,6 +1,6 @@
 // SPDX-License-Identifier: Apache-2.0
 //! Unions: their `lg_k`, the tables that they take, and sketches that agree.
-use crate::sketches::sketch_with;
+use crate::sketches::{digits_of, sketch_of, sketch_with};
 use hll_base::error::Error;
 use hll_base::hll_type::HllType;
 use hll_coupons::coupon::Coupon;
@@ -26,12 +26,6 @@ const JOINED: &str =
 
 /// An empty list at `lg_k` 12.
 const EMPTY: &str = "0201070c030c0008";
-
-/// The sketch of an image in hexadecimal.
-pub(crate) fn sketch_of(alloc: Global, digits: &str) -> Result<HllSketch, Fail> {
-    let image = hex::decode(alloc, digits)?;
-    Ok(HllSketch::deserialize(alloc, &image)?)
-}
 
 /// Images that are merged in turn, and the `lg_k` of the union after each: a list of `lg_k` 6, registers that are all 0,
 /// registers of `lg_k` 6, a list of 21, and registers of 4.
@@ -70,11 +64,6 @@ fn lg_k(rt: HostRuntime) -> Result<(), Fail> {
     Ok(())
 }
 
-/// What is written for a sketch, in hexadecimal.
-pub(crate) fn digits_of(alloc: Global, sketch: &HllSketch) -> Result<String, Fail> {
-    Ok(hex::encode(alloc, sketch.serialize()?)?)
-}
-
 /// The sketch of eight bits of a union of one sketch.
 fn merged(alloc: Global, lg_max_k: u8, sketch: &HllSketch) -> Result<HllSketch, Error> {
     let mut union = HllUnion::new(alloc, lg_max_k)?;
@@ -92,7 +81,7 @@ fn slots_stay_whole(rt: HostRuntime) -> Result<(), Fail> {
     Ok(())
 }
 
-/// 25 coupons at the bound of an empty union keep their table of 64 places.
+/// 25 coupons at the bound of an empty union keep their table of 64 buckets.
 #[test]
 fn tables_are_taken_whole(rt: HostRuntime) -> Result<(), Fail> {
     let sketch = sketch_with(rt.alloc(), 10, HllType::Hll6, 25)?;

@@ -5,7 +5,7 @@ use std::alloc::{AllocError, AllocFailed};
 /// Why a row is wrong.
 #[derive(Debug, Drop)]
 pub(crate) enum Wrong {
-    /// A `\` without two hexadecimal digits behind it.
+    /// A `\` without two hexadecimal digits after it.
     Escape,
     /// The last line is no answer, or another line begins like one.
     NoAnswer,
@@ -21,8 +21,8 @@ pub(crate) enum Wrong {
     WithRoom(usize),
     /// The first so many bytes of an image are neither read nor refused as `Truncated`.
     AtFront(usize),
-    /// Bytes stand behind an image, and the answer says `=`, or behind none, and it says `+`.
-    Behind,
+    /// Bytes stand after an image, and the answer says `=`, or after none, and it says `+`.
+    After,
     /// Memory was refused.
     Memory,
 }

@@ -1,6 +1,6 @@
 -- SPDX-License-Identifier: Apache-2.0
 use Rattle.std.proofs.Common.{[], ◌∷◌}
-use Rattle.hll_c.specs.Answers.{WithWords, RefusesImages}
+use Rattle.hll_c.specs.Answers.{WithFields, RefusesImages}
 use Rattle.hll_c.specs.Calls.{AreUnionArguments, IsUnionOf}
 use Rattle.hll_c.proofs.Answers.{answers_with}
 use Rattle.hll_c.proofs.hll_image_merge.Goals as goal
@@ -8,6 +8,6 @@ use Rattle.hll_c.proofs.hll_image_merge.Goals as goal
 pub returns : goal.returns
 returns c =
     let images = c.args.left.now ∷ c.args.right.now ∷ [] in
-    answers_with (λ v. v.items) c.merged.result (WithWords (IsUnionOf c.args.lg_max_k c.args.width images c.args.failed.now c.merged.new.failed))
+    answers_with (λ v. v.items) c.merged.result (WithFields (IsUnionOf c.args.lg_max_k c.args.width images c.args.failed.now c.merged.new.failed))
     (RefusesImages (AreUnionArguments c.args.lg_max_k c.args.width) images c.args.failed.now c.merged.new.failed)
     c.args.out.now c.put_bytes.new.out c.args.size.now c.put_bytes.new.size c.put_bytes.result c.merged.ensures.ok c.merged.ensures.err c.put_bytes.ensures

@@ -3,7 +3,7 @@ use Rattle.std.proofs.Common.{◌≡◌, ℕ, suc, ◌+◌, List, [], ◌∷◌,
 use Rattle.std.proofs.Math.Seq.{take-suc}
 use Rattle.hll_coupons.specs.Pair.{set_of}
 use Rattle.hll_registers.specs.Store.{update_with_coupon}
-use Rattle.hll_sketch.proofs.Promoting.{folded, folded-none, folded-behind}
+use Rattle.hll_sketch.proofs.Promoting.{folded, folded-none, folded-after}
 use Rattle.hll_caller.proofs.registers_of.Goals as goal
 
 pub loop-coupon-init : goal.loop-coupon-init
@@ -16,5 +16,5 @@ loop-coupon-preserved g c =
     let coupon : ℕ = c.coupon-item.result in
     let longer : take (i + 1) xs ≡ take i xs ++ coupon ∷ [] =
     ap (λ n. take n xs) (let next : i + 1 ≡ suc i = omega arith in next) ∙ take-suc xs i coupon c.loop-coupon-test.true ∙ ap (λ z. take i xs ++ z ∷ []) (sym c.coupon-item.is) in
-    c.update.ensures ∙ ap (λ a. update_with_coupon a coupon) c.loop-coupon.invariant ∙ folded-behind c.args.lg_k (take i xs) coupon
+    c.update.ensures ∙ ap (λ a. update_with_coupon a coupon) c.loop-coupon.invariant ∙ folded-after c.args.lg_k (take i xs) coupon
     ∙ ap (λ ys. folded c.args.lg_k (set_of ys)) (sym longer)

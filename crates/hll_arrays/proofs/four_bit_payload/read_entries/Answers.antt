@@ -49,12 +49,12 @@ returns-in_err-put_entry-clause-err g c =
     let word = c.in_ok-read_u32_le.ensures.ok in
     let w : ℕ = c.in_ok-read_u32_le.field-0 in
     let k : ℕ = c.args.lg_config_k in
-    let all : List ℕ = coupons_at c.args.frame.now.compact c.args.frame.now.places c.args.frame.now.entries.now in
+    let all : List ℕ = coupons_at c.args.frame.now.compact c.args.frame.now.buckets c.args.frame.now.entries.now in
     let filled : w ≡ 0 → c.args.frame.now.compact ≡ true = λ z. elim c.else-is_empty.branch [
       | else-is_empty-via-then-is_empty+else-not-frame v ↦ v.if-not-frame.false
       | else-is_empty-via-else-is_empty v ↦ absurd (true≢false (sym (c.is_empty.ensures.1 (c.coupon_of-entry.ensures ∙ z)) ∙ v.if-is_empty.false))
     ] in
-    let parts = coupons-all c.args.frame.now.compact c.loop.counter w c.args.frame.now.entries.now c.loop.cursor inv.rest word.1 c.args.frame.now.places c.loop-test.true filled in
+    let parts = coupons-all c.args.frame.now.compact c.loop.counter w c.args.frame.now.entries.now c.loop.cursor inv.rest word.1 c.args.frame.now.buckets c.loop-test.true filled in
     let P : Reason → Type 0 = λ e. (e ≡ Memory) ⊎ (((e ≡ Coupon) × (AreEntries k all → ⊥)) ⊎ ((e ≡ Count) × AreEntries k all × (length all ≢ c.args.frame.now.preamble.exception_count))) in
     IfErr-passed P c.from_residual-in_err-put_entry.result c.in_err-put_entry.field-0.0 c.from_residual-in_err-put_entry.ensures.1
     (elim c.in_err-put_entry.ensures.err [

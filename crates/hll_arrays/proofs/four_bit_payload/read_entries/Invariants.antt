@@ -6,7 +6,7 @@ use Rattle.hll_registers.specs.FourBits.{exception_in, IsMapFor}
 use Rattle.hll_registers.specs.Payload.{AreEntries}
 use Rattle.hll_arrays.proofs.four_bit_payload.read_entries.Given as goal
 
--- the exceptions of the places so far are in the map
+-- the exceptions of the buckets so far are in the map
 abbrev pub invariant-loop : goal.invariant-loop
 invariant-loop g l = record {
   rest : l.cursor ≡ drop (4 * l.counter) l.frame.entries.now;

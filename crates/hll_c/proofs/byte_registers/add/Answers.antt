@@ -15,4 +15,4 @@ returns-then-not-are_ends c =
     (values_argument (λ are. not_so c.are_ends.result (AreEnds (length c.args.values.now) c.args.ends.now) c.if-not-are_ends.true c.are_ends.ensures are.are) refl)
 
 pub returns : goal.returns
-returns c = added c.in-Ok.ensures.ok (c.are_ends.ensures.0 c.if-not-are_ends.false) c.join_values.ensures
+returns c = added c.in-Ok.ensures.ok (c.are_ends.ensures.0 c.if-not-are_ends.false) c.max_values.ensures

@@ -14,4 +14,4 @@ returns-then-not-have_values c =
     (coupons_argument (λ are. not_so c.have_values.result (HaveValues c.args.coupons.now) c.if-not-have_values.true c.have_values.ensures are.1) refl)
 
 pub returns : goal.returns
-returns c = added_coupons c.in-Ok.ensures.ok (c.have_values.ensures.0 c.if-not-have_values.false) c.join_coupons.ensures
+returns c = added_coupons c.in-Ok.ensures.ok (c.have_values.ensures.0 c.if-not-have_values.false) c.max_coupons.ensures

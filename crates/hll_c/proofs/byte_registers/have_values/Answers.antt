@@ -1,6 +1,6 @@
 -- SPDX-License-Identifier: Apache-2.0
 use Rattle.std.proofs.Common.{arith}
-use Rattle.hll_c.proofs.JoinedValues.{values_further, values_broken, values_end}
+use Rattle.hll_c.proofs.MaxValues.{values_further, values_broken, values_end}
 use Rattle.hll_c.proofs.byte_registers.have_values.Goals as goal
 
 pub loop-raw-init : goal.loop-raw-init

@@ -5,9 +5,9 @@ use Rattle.std.proofs.lemmas.Result.{IfOk-weaker, IfErr-weaker}
 use Rattle.hll_base.proofs.Errors.{IfErr-passed}
 use Rattle.hll_sketch.specs.CouponImages.{IsImageAt}
 use Rattle.hll_sketch.specs.Layout.{sketch_of}
-use Rattle.hll_c.specs.Answers.{IsImageOf, WithWords, RefusesWith, image_refused}
+use Rattle.hll_c.specs.Answers.{IsImageOf, WithFields, RefusesWith, image_refused}
 use Rattle.hll_c.specs.Calls.{IsWidth, IsMadeOf, IsAtWidth}
-use Rattle.hll_c.proofs.Answers.{made_with_words}
+use Rattle.hll_c.proofs.Answers.{made_with_fields}
 use Rattle.hll_c.proofs.Images.{refuses_argument, refuses_memory, no_memory_with, image_in_bytes}
 use Rattle.hll_c.proofs.image.converted.Goals as goal
 
@@ -32,13 +32,13 @@ returns-in-Some-clause-ok c =
 pub returns-in_ok-sketch_at-in-None-clause-ok : goal.returns-in_ok-sketch_at-in-None-clause-ok
 returns-in_ok-sketch_at-in-None-clause-ok c =
     let Made = IsMadeOf c.args.image.now (IsAtWidth c.args.width) in
-    IfOk-weaker c.image_with_words.result _ (λ v. IsImageOf (WithWords Made) v.items)
-    (λ v is. made_with_words Made (sketch_of c.in_ok-sketch_at-in-None.field-0) v.items c.in_ok-sketch_at-in-None.ensures.ok is) c.image_with_words.ensures.ok
+    IfOk-weaker c.image_with_fields.result _ (λ v. IsImageOf (WithFields Made) v.items)
+    (λ v is. made_with_fields Made (sketch_of c.in_ok-sketch_at-in-None.field-0) v.items c.in_ok-sketch_at-in-None.ensures.ok is) c.image_with_fields.ensures.ok
 
 pub returns-in_ok-sketch_at-in-None-clause-err : goal.returns-in_ok-sketch_at-in-None-clause-err
 returns-in_ok-sketch_at-in-None-clause-err c =
     let Refuses = RefusesWith (IsWidth c.args.width) c.args.image.now in
-    IfErr-weaker c.image_with_words.result _ Refuses
+    IfErr-weaker c.image_with_fields.result _ Refuses
     (λ e memory. subst Refuses (sym memory)
     (no_memory_with c.args.image.now (IsAtWidth c.args.width) (sketch_of c.in_ok-sketch_at-in-None.field-0) c.in_ok-sketch_at-in-None.ensures.ok (IsWidth c.args.width) (λ x z at. at.width_is)))
-    c.image_with_words.ensures.err
+    c.image_with_fields.ensures.err

@@ -5,10 +5,10 @@ use Rattle.std.proofs.lemmas.Result.{IfOk-weaker, IfErr-weaker}
 use Rattle.hll_base.proofs.Errors.{IfErr-passed}
 use Rattle.hll_sketch.specs.CouponImages.{IsImageOfUnion}
 use Rattle.hll_sketch.specs.Layout.{sketch_of}
-use Rattle.hll_c.specs.Answers.{IsImageOf, WithWords, RefusesImages}
+use Rattle.hll_c.specs.Answers.{IsImageOf, WithFields, RefusesImages}
 use Rattle.hll_c.specs.Calls.{AreUnionArguments, IsUnionOf}
 use Rattle.hll_c.proofs.Answers.{made_again}
-use Rattle.hll_c.proofs.Images.{refuses_arguments, no_memory_to_unite, union_in_bytes, refuses_union_in_bytes}
+use Rattle.hll_c.proofs.Images.{refuses_arguments, no_memory_to_merge, union_in_bytes, refuses_union_in_bytes}
 use Rattle.hll_c.proofs.image.merged.Goals as goal
 
 pub returns-in_err-width_of-clause-err : goal.returns-in_err-width_of-clause-err
@@ -34,14 +34,14 @@ returns-in-Some-clause-ok c =
 pub returns-in_ok-union_of_two-in-None-clause-ok : goal.returns-in_ok-union_of_two-in-None-clause-ok
 returns-in_ok-union_of_two-in-None-clause-ok c =
     let Made = IsUnionOf c.args.lg_max_k c.args.width (c.args.left.now ∷ c.args.right.now ∷ []) c.args.failed.now c.union_of_two.new.failed in
-    IfOk-weaker c.image_with_words.result _ (λ v. IsImageOf (WithWords Made) v.items)
-    (λ v is. made_again Made (sketch_of c.in_ok-union_of_two-in-None.field-0) v.items c.in_ok-union_of_two-in-None.ensures.ok is) c.image_with_words.ensures.ok
+    IfOk-weaker c.image_with_fields.result _ (λ v. IsImageOf (WithFields Made) v.items)
+    (λ v is. made_again Made (sketch_of c.in_ok-union_of_two-in-None.field-0) v.items c.in_ok-union_of_two-in-None.ensures.ok is) c.image_with_fields.ensures.ok
 
 pub returns-in_ok-union_of_two-in-None-clause-err : goal.returns-in_ok-union_of_two-in-None-clause-err
 returns-in_ok-union_of_two-in-None-clause-err c =
     let all = c.args.left.now ∷ c.args.right.now ∷ [] in
     let Refuses = RefusesImages (AreUnionArguments c.args.lg_max_k c.args.width) all c.args.failed.now c.union_of_two.new.failed in
-    IfErr-weaker c.image_with_words.result _ Refuses
+    IfErr-weaker c.image_with_fields.result _ Refuses
     (λ e memory. subst Refuses (sym memory)
-    (no_memory_to_unite c.args.lg_max_k c.args.width all c.args.failed.now c.union_of_two.new.failed c.in_ok-union_of_two-in-None.ensures.ok.0 c.in_ok-union_of_two-in-None.ensures.ok.1))
-    c.image_with_words.ensures.err
+    (no_memory_to_merge c.args.lg_max_k c.args.width all c.args.failed.now c.union_of_two.new.failed c.in_ok-union_of_two-in-None.ensures.ok.0 c.in_ok-union_of_two-in-None.ensures.ok.1))
+    c.image_with_fields.ensures.err

@@ -3,12 +3,12 @@ use Rattle.std.proofs.Common.{[], ◌∷◌, refl, ◌∙◌}
 use Rattle.std.proofs.lemmas.Result.{IfOk-weaker, IfErr-weaker}
 use Rattle.hll_base.proofs.Errors.{IfErr-passed}
 use Rattle.hll_sketch.specs.Layout.{sketch_of}
-use Rattle.hll_c.specs.Answers.{WithWords, RefusesImages}
+use Rattle.hll_c.specs.Answers.{WithFields, RefusesImages}
 use Rattle.hll_c.specs.Calls.{AreUnionArguments, IsUnionOf}
 use Rattle.hll_sketch.specs.Value.{Sketch}
 use Rattle.hll_sketch.specs.Waiting.{whole_gadget}
-use Rattle.hll_c.proofs.Batches.{united_two, is_union}
-use Rattle.hll_c.proofs.Images.{asked_behind, refuses_arguments, refuses_first, refuses_second, refuses_more_memory}
+use Rattle.hll_c.proofs.Batches.{merged_two, is_union}
+use Rattle.hll_c.proofs.Images.{asked_after, refuses_arguments, refuses_first, refuses_second, refuses_more_memory}
 use Rattle.hll_c.proofs.image.union_of_two.Goals as goal
 
 pub returns-in_err-width-clause-err : goal.returns-in_err-width-clause-err
@@ -33,8 +33,8 @@ returns-in_err-first-clause-err c =
     let e = c.in_err-first in
     let Are = AreUnionArguments c.args.lg_max_k c.args.width in
     let are : Are = record { lg_max_k_is = c.in_ok-union.ensures.lg_k; width_is = record { width = c.in_ok-width.width; is = c.in_ok-width.ensures.ok } } in
-    IfErr-passed (RefusesImages Are all c.args.failed.now c.take_in.new.failed) c.from_residual-in_err-first.result e.field-0.0 c.from_residual-in_err-first.ensures.1
-    (refuses_first Are all c.args.failed.now c.take_in.new.failed e.field-0.0 c.args.left.now (c.args.right.now ∷ []) refl are e.ensures.err)
+    IfErr-passed (RefusesImages Are all c.args.failed.now c.merge_in.new.failed) c.from_residual-in_err-first.result e.field-0.0 c.from_residual-in_err-first.ensures.1
+    (refuses_first Are all c.args.failed.now c.merge_in.new.failed e.field-0.0 c.args.left.now (c.args.right.now ∷ []) refl are e.ensures.err)
 
 pub returns-in_err-both-clause-err : goal.returns-in_err-both-clause-err
 returns-in_err-both-clause-err c =
@@ -43,8 +43,8 @@ returns-in_err-both-clause-err c =
     let Are = AreUnionArguments c.args.lg_max_k c.args.width in
     let are : Are = record { lg_max_k_is = c.in_ok-union.ensures.lg_k; width_is = record { width = c.in_ok-width.width; is = c.in_ok-width.ensures.ok } } in
     let one = c.in_ok-first.ensures.ok in
-    IfErr-passed (RefusesImages Are all c.args.failed.now c.take_in-2.new.failed) c.from_residual-in_err-both.result e.field-0.0 c.from_residual-in_err-both.ensures.1
-    (refuses_second Are all c.args.failed.now c.take_in-2.new.failed e.field-0.0 c.args.left.now c.args.right.now one.0.sketch c.take_in.new.failed refl are one.0.read one.1 e.ensures.err)
+    IfErr-passed (RefusesImages Are all c.args.failed.now c.merge_in-2.new.failed) c.from_residual-in_err-both.result e.field-0.0 c.from_residual-in_err-both.ensures.1
+    (refuses_second Are all c.args.failed.now c.merge_in-2.new.failed e.field-0.0 c.args.left.now c.args.right.now one.0.sketch c.merge_in.new.failed refl are one.0.read one.1 e.ensures.err)
 
 pub returns-clause-ok : goal.returns-clause-ok
 returns-clause-ok c =
@@ -52,10 +52,10 @@ returns-clause-ok c =
     let are : AreUnionArguments c.args.lg_max_k c.args.width = record { lg_max_k_is = c.in_ok-union.ensures.lg_k; width_is = record { width = c.in_ok-width.width; is = c.in_ok-width.ensures.ok } } in
     let one = c.in_ok-first.ensures.ok in
     let two = c.in_ok-both.ensures.ok in
-    let both = united_two c.args.lg_max_k c.new-2.result (c.new-2.ensures.bound ∙ c.in_ok-union.ensures.ok.0) (c.new-2.ensures.whole ∙ c.in_ok-union.ensures.ok.1) c.in_ok-first.first c.in_ok-both.both c.args.left.now c.args.right.now one.0 two.0 in
+    let both = merged_two c.args.lg_max_k c.new-2.result (c.new-2.ensures.bound ∙ c.in_ok-union.ensures.ok.0) (c.new-2.ensures.whole ∙ c.in_ok-union.ensures.ok.1) c.in_ok-first.first c.in_ok-both.both c.args.left.now c.args.right.now one.0 two.0 in
     let at : Sketch = record (whole_gadget c.in_ok-both.both) { width = c.in_ok-width.width } in
-    IfOk-weaker c.read_out.result _ (λ s. WithWords (IsUnionOf c.args.lg_max_k c.args.width all c.args.failed.now c.take_in-2.new.failed) (sketch_of s))
-    (λ s fills. (at, is_union c.args.lg_max_k c.args.width all c.args.failed.now c.take_in-2.new.failed (whole_gadget c.in_ok-both.both) at are both refl (two.1 ∙ one.1), fills))
+    IfOk-weaker c.read_out.result _ (λ s. WithFields (IsUnionOf c.args.lg_max_k c.args.width all c.args.failed.now c.merge_in-2.new.failed) (sketch_of s))
+    (λ s fills. (at, is_union c.args.lg_max_k c.args.width all c.args.failed.now c.merge_in-2.new.failed (whole_gadget c.in_ok-both.both) at are both refl (two.1 ∙ one.1), fills))
     c.read_out.ensures.ok
 
 pub returns-clause-err : goal.returns-clause-err
@@ -63,8 +63,8 @@ returns-clause-err c =
     let all = c.args.left.now ∷ c.args.right.now ∷ [] in
     let Are = AreUnionArguments c.args.lg_max_k c.args.width in
     let are : Are = record { lg_max_k_is = c.in_ok-union.ensures.lg_k; width_is = record { width = c.in_ok-width.width; is = c.in_ok-width.ensures.ok } } in
-    IfErr-weaker c.read_out.result _ (RefusesImages Are all c.args.failed.now c.take_in-2.new.failed)
-    (λ e memory. refuses_more_memory Are all c.args.failed.now c.take_in-2.new.failed e 2 memory are
-    (asked_behind all (c.in_ok-first.ensures.ok.0.sketch ∷ c.in_ok-both.ensures.ok.0.sketch ∷ []) (c.in_ok-first.ensures.ok.0.read, (c.in_ok-both.ensures.ok.0.read, tt)))
+    IfErr-weaker c.read_out.result _ (RefusesImages Are all c.args.failed.now c.merge_in-2.new.failed)
+    (λ e memory. refuses_more_memory Are all c.args.failed.now c.merge_in-2.new.failed e 2 memory are
+    (asked_after all (c.in_ok-first.ensures.ok.0.sketch ∷ c.in_ok-both.ensures.ok.0.sketch ∷ []) (c.in_ok-first.ensures.ok.0.read, (c.in_ok-both.ensures.ok.0.read, tt)))
     (c.in_ok-both.ensures.ok.1 ∙ c.in_ok-first.ensures.ok.1))
     c.read_out.ensures.err

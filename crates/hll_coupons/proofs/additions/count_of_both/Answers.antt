@@ -17,7 +17,7 @@ loop-coupon-init g c = sym (distinct-ascending c.args.own.now c.requires.ascends
 pub overflow_add-count : goal.overflow_add-count
 overflow_add-count g c =
     let all = given _ _ _ _ _ (c.into_iter-coupon-iterator.ensures.into_iter_gives ∙ c.iter-coupon-items.ensures) c.loop-coupon.yielded_by c.in-Some.ensures.steps in
-    let part : length c.loop-coupon.yielded ≤ length (coupons_in c.args.others.now.places) = rw all (shorter c.loop-coupon.yielded (c.in-Some.coupon ∷ c.next.new.self)) in
+    let part : length c.loop-coupon.yielded ≤ length (coupons_in c.args.others.now.buckets) = rw all (shorter c.loop-coupon.yielded (c.in-Some.coupon ∷ c.next.new.self)) in
     let few : 2 ^ c.args.others.now.lg_size ≤ 2 ^ 26 = pow_mono c.table_is_legal.ensures.table.small in
     omega (arith, c.from-count.ensures, at_most_one (not c.is_among.result), c.loop-coupon.invariant, len-union_most (set_of c.args.own.now) c.loop-coupon.yielded, distinct-ascending c.args.own.now c.requires.ascends, c.requires.few, part, few, c.table_is_legal.ensures.within)
 

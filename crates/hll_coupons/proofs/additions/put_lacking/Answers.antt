@@ -4,7 +4,7 @@ use Rattle.std.specs.FinSet.{contains, len, union}
 use Rattle.std.proofs.lemmas.List.{append-nil}
 use Rattle.hll_coupons.specs.Pair.{Pairs, IsPair, set_of}
 use Rattle.hll_coupons.specs.Table.{coupons_in, coupons_of}
-use Rattle.hll_coupons.proofs.AddedCoupons.{lacking, members_more, members_same, place_left}
+use Rattle.hll_coupons.proofs.AddedCoupons.{lacking, members_more, members_same, bucket_left}
 use Rattle.hll_coupons.proofs.Collecting.{All-between}
 use Rattle.hll_coupons.proofs.Unions.{union_none}
 use Rattle.hll_coupons.proofs.Yielded.{given}
@@ -12,7 +12,7 @@ use Rattle.hll_coupons.proofs.additions.put_lacking.Goals as goal
 
 pub loop-coupon-init : goal.loop-coupon-init
 loop-coupon-init g c =
-    record { size = refl; members = sym (union_none (coupons_of c.args.table.now)); set = c.requires.set; cycles = c.new-searches.ensures c.args.table.now.lg_size c.args.table.now.places }
+    record { size = refl; members = sym (union_none (coupons_of c.args.table.now)); set = c.requires.set; cycles = c.new-searches.ensures c.args.table.now.lg_size c.args.table.now.buckets }
 
 pub put_new-requires-clause-valued : goal.put_new-requires-clause-valued
 put_new-requires-clause-valued g c =
@@ -35,8 +35,8 @@ put_new-requires-clause-room g c =
     let new = ap (λ P. contains P c.in-Some.coupon) inv.members
     ∙ lacking S c.loop-coupon.yielded c.next.new.self c.in-Some.coupon (subst (λ order. len (set_of order) ≡ length order) all c.table_is_legal.ensures.table.distinct)
     (ap (λ P. contains P c.in-Some.coupon) (sym c.requires.own.members) ∙ sym c.is_among.ensures ∙ c.if-not-is_among.true) in
-    subst (λ n. length (coupons_in c.loop-coupon.table.places) < 2 ^ n) (sym inv.size)
-    (place_left S c.loop-coupon.yielded c.next.new.self c.in-Some.coupon c.loop-coupon.table (2 ^ c.args.table.now.lg_size) inv.set.table inv.members
+    subst (λ n. length (coupons_in c.loop-coupon.table.buckets) < 2 ^ n) (sym inv.size)
+    (bucket_left S c.loop-coupon.yielded c.next.new.self c.in-Some.coupon c.loop-coupon.table (2 ^ c.args.table.now.lg_size) inv.set.table inv.members
     (subst (λ order. len (union S (set_of order)) ≤ 2 ^ c.args.table.now.lg_size) all c.requires.room) new)
 
 pub loop-coupon-preserved-then-not-is_among : goal.loop-coupon-preserved-then-not-is_among

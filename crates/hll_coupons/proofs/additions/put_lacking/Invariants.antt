@@ -13,5 +13,5 @@ invariant-loop-coupon g l = record {
   size : l.table.lg_size ≡ l.initial.table.lg_size;
   members : coupons_of l.table ≡ union (coupons_of l.initial.table) (set_of l.yielded);
   set : IsHashSet l.table;
-  cycles : AreFor l.table.lg_size l.table.places l.searches;
+  cycles : AreFor l.table.lg_size l.table.buckets l.searches;
 }

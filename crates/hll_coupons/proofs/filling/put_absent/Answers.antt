@@ -10,23 +10,23 @@ use Rattle.hll_coupons.proofs.TableLemmas.{full_of_valued}
 use Rattle.hll_coupons.proofs.filling.put_absent.Goals as goal
 
 pub put-requires-clause-fresh : goal.put-requires-clause-fresh
-put-requires-clause-fresh g c = absent_fresh (key_of c.args.by) c.args.table.now.places c.args.entry (full_of_valued c.args.entry c.requires.valued) c.requires.absent
+put-requires-clause-fresh g c = absent_fresh (key_of c.args.by) c.args.table.now.buckets c.args.entry (full_of_valued c.args.entry c.requires.valued) c.requires.absent
 
-pub returns-clause-places : goal.returns-clause-places
-returns-clause-places g c =
+pub returns-clause-buckets : goal.returns-clause-buckets
+returns-clause-buckets g c =
     let t : Table = c.args.table.now in
     let key : ℕ = key_of c.args.by c.args.entry in
-    let ends : EndsAt (key_of c.args.by) t.lg_size t.places key c.in_ok-place.place =
-    ends_as (key_of c.args.by) _ _ _ _ _ _ _ c.lg_size.ensures.size c.places.ensures.places c.of.ensures c.in_ok-place.ensures.ends in
-    placed c.in_ok-place.place ends.first (empty_end (key_of c.args.by) t.lg_size t.places key c.in_ok-place.place c.places.ensures.table.size c.requires.absent ends)
-    (ap (λ (t : Table). t.places) c.put.ensures.places)
+    let ends : EndsAt (key_of c.args.by) t.lg_size t.buckets key c.in_ok-bucket.bucket =
+    ends_as (key_of c.args.by) _ _ _ _ _ _ _ c.lg_size.ensures.size c.buckets.ensures.buckets c.of.ensures c.in_ok-bucket.ensures.ends in
+    placed c.in_ok-bucket.bucket ends.first (empty_end (key_of c.args.by) t.lg_size t.buckets key c.in_ok-bucket.bucket c.buckets.ensures.table.size c.requires.absent ends)
+    (ap (λ (t : Table). t.buckets) c.put.ensures.buckets)
 
 pub returns-clause-cycles : goal.returns-clause-cycles
 returns-clause-cycles g c =
     let t : Table = c.args.table.now in
-    let for : All (IsFor t.lg_size t.places) c.end_of.new.self.cycles.items =
-    subst (λ n. All (IsFor n t.places) c.end_of.new.self.cycles.items) c.lg_size.ensures.size
-    (subst (λ ps. All (IsFor c.lg_size.result ps) c.end_of.new.self.cycles.items) c.places.ensures.places c.in_ok-place.ensures.cycles) in
-    subst (λ (u : Table). All (IsFor u.lg_size u.places) c.fill.new.self.cycles.items) (sym c.put.ensures.places)
-    (filled_for t.lg_size c.in_ok-place.place c.args.entry t.places c.end_of.new.self.cycles.items c.fill.new.self.cycles.items c.fill.ensures c.places.ensures.table.size
+    let for : All (IsFor t.lg_size t.buckets) c.end_of.new.self.cycles.items =
+    subst (λ n. All (IsFor n t.buckets) c.end_of.new.self.cycles.items) c.lg_size.ensures.size
+    (subst (λ ps. All (IsFor c.lg_size.result ps) c.end_of.new.self.cycles.items) c.buckets.ensures.buckets c.in_ok-bucket.ensures.cycles) in
+    subst (λ (u : Table). All (IsFor u.lg_size u.buckets) c.fill.new.self.cycles.items) (sym c.put.ensures.buckets)
+    (filled_for t.lg_size c.in_ok-bucket.bucket c.args.entry t.buckets c.end_of.new.self.cycles.items c.fill.new.self.cycles.items c.fill.ensures c.buckets.ensures.table.size
     (λ z. omega (arith, z, full_of_valued c.args.entry c.requires.valued)) for)

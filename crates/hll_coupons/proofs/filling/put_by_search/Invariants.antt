@@ -10,9 +10,9 @@ use Rattle.hll_coupons.proofs.filling.put_by_search.Given as goal
 abbrev pub invariant-loop-entry : goal.invariant-loop-entry
 invariant-loop-entry g l = record {
   size : l.into.lg_size ≡ l.fn.into.lg_size;
-  places : PutsEach (key_of l.fn.by) l.fn.into.lg_size l.fn.into.places l.yielded l.into.places;
-  probed : IsProbed (key_of l.fn.by) l.fn.into.lg_size l.into.places;
-  members : set_of (coupons_in l.into.places) ≡ set_of l.yielded;
-  count : length (coupons_in l.into.places) ≡ length l.yielded;
+  buckets : PutsEach (key_of l.fn.by) l.fn.into.lg_size l.fn.into.buckets l.yielded l.into.buckets;
+  probed : IsProbed (key_of l.fn.by) l.fn.into.lg_size l.into.buckets;
+  members : set_of (coupons_in l.into.buckets) ≡ set_of l.yielded;
+  count : length (coupons_in l.into.buckets) ≡ length l.yielded;
   table : IsTable l.into;
 }

@@ -7,6 +7,6 @@ use Rattle.hll_coupons.proofs.search.search_on.Given as goal
 -- the next place of the path, and those before it are filled with other keys
 abbrev pub invariant-loop-index : goal.invariant-loop-index
 invariant-loop-index l = record {
-  place : l.place ≡ (l.fn.key + l.index * stride_of l.fn.lg_size l.fn.key) % 2 ^ l.fn.lg_size;
-  passes : Passes (key_of l.fn.by) l.fn.lg_size l.fn.places l.fn.key l.index;
+  bucket : l.bucket ≡ (l.fn.key + l.index * stride_of l.fn.lg_size l.fn.key) % 2 ^ l.fn.lg_size;
+  passes : Passes (key_of l.fn.by) l.fn.lg_size l.fn.buckets l.fn.key l.index;
 }

@@ -10,4 +10,4 @@ returns c =
     let few : 2 ^ c.args.lg_size ≤ 2 ^ 26 = pow_mono c.requires in
     let below : 1 * 2 ^ c.args.lg_size < 18446744073709551616 = omega (arith, few) in
     let shifted : 1 * 2 ^ c.args.lg_size % 18446744073709551616 ≡ 2 ^ c.args.lg_size = omega (arith, mod-eq_of_lt below) in
-    ap (λ m. bit_and c.args.place (m - 1)) shifted ∙ and_mask c.args.place c.args.lg_size
+    ap (λ m. bit_and c.args.bucket (m - 1)) shifted ∙ and_mask c.args.bucket c.args.lg_size

@@ -6,5 +6,5 @@ use Rattle.hll_coupons_tests.proofs.lists.containers.Goals as goal
 
 pub from_coupons-container-requires-clause-table : goal.from_coupons-container-requires-clause-table
 from_coupons-container-requires-clause-table g c =
-    let items : c.in_ok-places.places.items ≡ 0 ∷ [] = search rules in
-    subst (λ places. IsTable (record { lg_size = 0; places = places })) (sym items) (IsTable-empty 0 (omega arith))
+    let items : c.in_ok-buckets.buckets.items ≡ 0 ∷ [] = search rules in
+    subst (λ buckets. IsTable (record { lg_size = 0; buckets = buckets })) (sym items) (IsTable-empty 0 (omega arith))

@@ -7,5 +7,5 @@ use Rattle.hll_kernels.proofs.groups.max_groups_into.Goals as goal
 
 pub returns : goal.returns
 returns c =
-    c.raise_by_fields.ensures ∙ ap (λ B. join c.args.dst.now (fields B)) c.as_flattened.ensures.value
+    c.max_with_fields.ensures ∙ ap (λ B. join c.args.dst.now (fields B)) c.as_flattened.ensures.value
     ∙ ap (join c.args.dst.now) (fields-flat_map c.args.groups.now c.told-groups)

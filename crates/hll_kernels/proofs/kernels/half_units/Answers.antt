@@ -12,10 +12,10 @@ loop-block-preserved c =
     let v = c.loop-block.invariant in
     let inside : i < length B / 16 = omega (arith, c.loop-block-test.true, c.as_chunks.ensures.front_len) in
     record {
-      first = class_more (4 * h) i (length B / 16) B F _ c.loop-block.first c.class_lanes-first.result c.as_chunks.ensures.front inside c.requires.few c.class_lanes-first.ensures.lanes c.class_lanes-first.ensures.sum v.first;
-      second = class_more (4 * h + 1) i (length B / 16) B F _ c.loop-block.second c.class_lanes-second.result c.as_chunks.ensures.front inside c.requires.few c.class_lanes-second.ensures.lanes c.class_lanes-second.ensures.sum v.second;
-      third = class_more (4 * h + 2) i (length B / 16) B F _ c.loop-block.third c.class_lanes-third.result c.as_chunks.ensures.front inside c.requires.few c.class_lanes-third.ensures.lanes c.class_lanes-third.ensures.sum v.third;
-      fourth = class_more (4 * h + 3) i (length B / 16) B F _ c.loop-block.fourth c.class_lanes-fourth.result c.as_chunks.ensures.front inside c.requires.few c.class_lanes-fourth.ensures.lanes c.class_lanes-fourth.ensures.sum v.fourth;
+      first = class_more (4 * h) i (length B / 16) B F _ c.loop-block.first c.partial_class_sums-first.result c.as_chunks.ensures.front inside c.requires.few c.partial_class_sums-first.ensures.lanes c.partial_class_sums-first.ensures.sum v.first;
+      second = class_more (4 * h + 1) i (length B / 16) B F _ c.loop-block.second c.partial_class_sums-second.result c.as_chunks.ensures.front inside c.requires.few c.partial_class_sums-second.ensures.lanes c.partial_class_sums-second.ensures.sum v.second;
+      third = class_more (4 * h + 2) i (length B / 16) B F _ c.loop-block.third c.partial_class_sums-third.result c.as_chunks.ensures.front inside c.requires.few c.partial_class_sums-third.ensures.lanes c.partial_class_sums-third.ensures.sum v.third;
+      fourth = class_more (4 * h + 3) i (length B / 16) B F _ c.loop-block.fourth c.partial_class_sums-fourth.result c.as_chunks.ensures.front inside c.requires.few c.partial_class_sums-fourth.ensures.lanes c.partial_class_sums-fourth.ensures.sum v.fourth;
     }
 
 pub loop-block-preserved-then-members-eq0 : goal.loop-block-preserved-then-members-eq0

@@ -1,6 +1,6 @@
 -- SPDX-License-Identifier: Apache-2.0
 use Rattle.hll_merge.proofs.Outcomes.{plans_have_meaning, same_inputs_agree}
-use Rattle.hll_merge.proofs.Growing.{converges}
+use Rattle.hll_merge.proofs.CanonicalPlans.{converges}
 use Rattle.hll_merge.proofs.Rearranging.{rearranged_plans_agree}
 use Rattle.hll_merge.proofs.Headline.{outcome_is_legal}
 use Rattle.hll_merge.proofs.laws.plans.Goals as goal
@@ -11,8 +11,8 @@ returns-clause-plans_have_meaning c = plans_have_meaning
 pub returns-clause-same_inputs_agree : goal.returns-clause-same_inputs_agree
 returns-clause-same_inputs_agree c = same_inputs_agree
 
-pub returns-clause-grown_plans_converge : goal.returns-clause-grown_plans_converge
-returns-clause-grown_plans_converge c = converges
+pub returns-clause-canonical_plans_converge : goal.returns-clause-canonical_plans_converge
+returns-clause-canonical_plans_converge c = converges
 
 pub returns-clause-rearranged_plans_agree : goal.returns-clause-rearranged_plans_agree
 returns-clause-rearranged_plans_agree c = rearranged_plans_agree

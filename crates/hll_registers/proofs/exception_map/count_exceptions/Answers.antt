@@ -13,7 +13,7 @@ pub returns-in-Some-clause-bound : goal.returns-in-Some-clause-bound
 returns-in-Some-clause-bound g c k h =
     let is = (subst (λ o. IsMapFor k (unboxed o)) c.in-Some.is h).0 in
     let few : 2 ^ c.in-Some.map.value.lg_k ≤ 2 ^ 21 = pow_mono is.high in
-    omega (arith, c.len.ensures.count, few_entries c.in-Some.map.value is, few, ap (λ (t : ExceptionMap). length (coupons_in t.table.places)) c.deref.ensures)
+    omega (arith, c.len.ensures.count, few_entries c.in-Some.map.value is, few, ap (λ (t : ExceptionMap). length (coupons_in t.table.buckets)) c.deref.ensures)
 
 pub returns-in-None-clause-count : goal.returns-in-None-clause-count
 returns-in-None-clause-count g c k h = sym (ap (λ e. len (exceptions_in (unboxed e))) c.in-None.is ∙ len-empty nat_cmp)

@@ -19,8 +19,8 @@ use Rattle.hll_registers.proofs.exception_map.kept_entries.Goals as goal
 stays : (t : ExceptionMap) (m : ℕ) (kept : Option ExceptionMap) (ys : List (ℕ × ℕ)) → KeptSoFar t m kept ys → kept ≢ None → (s : ℕ) × (v : ℕ) × (value_in t s ≡ Some v) × (m + 15 ≤ v)
 stays t m None ys h some = absurd (some (λ i. None))
 stays t m (Some u) ys h some =
-    let c : ℕ = get_or (coupons_in u.table.places) 0 0 in
-    let kept = h.only (slot_of c) (value_of c) (value_found u h.map.0 c (has-at (coupons_in u.table.places) 0 h.map.2)) in
+    let c : ℕ = get_or (coupons_in u.table.buckets) 0 0 in
+    let kept = h.only (slot_of c) (value_of c) (value_found u h.map.0 c (has-at (coupons_in u.table.buckets) 0 h.map.2)) in
     (slot_of c, value_of c, kept.0, kept.1)
 
 pub loop-slot-init : goal.loop-slot-init

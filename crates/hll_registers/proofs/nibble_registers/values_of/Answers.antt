@@ -17,8 +17,8 @@ raised n zeros values registers none size is =
     ∙ ap (λ zs. join zs registers) (sym (take_all n (replicate n 0) (omega (arith, length-replicate {A = ℕ} n 0))))
     ∙ join_zeros n n registers (omega arith) size
 
-pub raise_by_registers-requires-clause-groups : goal.raise_by_registers-requires-clause-groups
-raise_by_registers-requires-clause-groups g c =
+pub max_with_registers-requires-clause-groups : goal.max_with_registers-requires-clause-groups
+max_with_registers-requires-clause-groups g c =
     let size : length c.deref_mut.result.now ≡ 2 ^ c.args.lg_k =
     ap length (c.deref_mut.ensures.value ∙ c.in_ok-values.ensures.items_if_clones_equal (λ y clone. clone)) ∙ length-replicate {A = ℕ} c.two_to.result 0 ∙ c.two_to.ensures in
     ap (λ n. n % 4) size ∙ power-groups c.args.lg_k c.requires.least
@@ -27,6 +27,6 @@ pub returns-clause-ok : goal.returns-clause-ok
 returns-clause-ok g c =
     let zeros : c.deref_mut.result.now ≡ replicate (2 ^ c.args.lg_k) 0 =
     c.deref_mut.ensures.value ∙ c.in_ok-values.ensures.items_if_clones_equal (λ y clone. clone) ∙ ap (λ n. replicate n 0) c.two_to.ensures in
-    with_items_is c.in_ok-values.values c.raise_by_registers.new.values (c.raise_by_registers.auto.values ∙ c.deref_mut.ensures.len)
-    ∙ raised (2 ^ c.args.lg_k) c.deref_mut.result.now c.raise_by_registers.new.values (unpacked c.args.lg_k c.args.minimum c.args.nibbles.now (unboxed c.args.map.now)) zeros
-    (length-unpacked c.args.lg_k c.args.minimum c.args.nibbles.now (unboxed c.args.map.now)) c.raise_by_registers.ensures
+    with_items_is c.in_ok-values.values c.max_with_registers.new.values (c.max_with_registers.auto.values ∙ c.deref_mut.ensures.len)
+    ∙ raised (2 ^ c.args.lg_k) c.deref_mut.result.now c.max_with_registers.new.values (unpacked c.args.lg_k c.args.minimum c.args.nibbles.now (unboxed c.args.map.now)) zeros
+    (length-unpacked c.args.lg_k c.args.minimum c.args.nibbles.now (unboxed c.args.map.now)) c.max_with_registers.ensures

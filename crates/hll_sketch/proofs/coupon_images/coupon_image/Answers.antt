@@ -12,7 +12,7 @@ four_each b order is = ap length is ∙ length-coupon_bytes order
 pub list_image-requires : goal.list_image-requires
 list_image-requires g c = elim c.requires.table.2 [
   | inl few ↦ omega (arith, four_each c.args.coupons.now c.requires.table.0 c.requires.table.1, few.1)
-  | inr set ↦ absurd (omega (arith, set.0, c.if-lg_size-eq-LG_LIST_PLACES.true))
+  | inr set ↦ absurd (omega (arith, set.0, c.if-lg_size-eq-LG_LIST_BUCKETS.true))
 ]
 
 pub set_image-requires : goal.set_image-requires

@@ -19,11 +19,11 @@ pub update-requires-clause-room : goal.update-requires-clause-room
 update-requires-clause-room g c =
     let all = given _ _ _ _ _ (c.into_iter-coupon-iterator.ensures.into_iter_gives ∙ c.iter-coupon-items.ensures) c.loop-coupon.yielded_by c.in-Some.ensures.steps in
     let table : IsTable c.loop-coupon.list = subst IsTable c.container.ensures.same c.table_is_legal-in-loop-coupon.ensures.table in
-    room_of_eight c.loop-coupon.list (coupons_in c.args.table.now.places) c.loop-coupon.yielded c.next.new.self c.in-Some.coupon table c.loop-coupon.invariant.0 c.loop-coupon.invariant.1 all c.requires
+    room_of_eight c.loop-coupon.list (coupons_in c.args.table.now.buckets) c.loop-coupon.yielded c.next.new.self c.in-Some.coupon table c.loop-coupon.invariant.0 c.loop-coupon.invariant.1 all c.requires
 
 pub loop-coupon-preserved : goal.loop-coupon-preserved
 loop-coupon-preserved g c = (
-  ap (λ (t : Table). t.lg_size) c.update.ensures.places ∙ c.loop-coupon.invariant.0,
+  ap (λ (t : Table). t.lg_size) c.update.ensures.buckets ∙ c.loop-coupon.invariant.0,
   c.update.ensures.members ∙ ap (λ S. insert S c.in-Some.coupon) (c.loop-coupon.invariant.1 ∙ ap set_of (sym (append-nil c.loop-coupon.yielded))) ∙ sym (set_of-between c.loop-coupon.yielded [] c.in-Some.coupon),
 )
 

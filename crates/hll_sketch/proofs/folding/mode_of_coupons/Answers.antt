@@ -26,7 +26,7 @@ from_container-requires-clause-room g c =
     let is : stages.stage c.args.lg_k 3 c.len.result ≡ Some c.in-Some.size = sym c.stage.ensures ∙ c.in-Some.is in
     elim (legal_size c.args.lg_k 3 c.len.result c.in-Some.size is) [
       | inl few ↦ absurd (c.in-Some.size-test.1 few.0)
-      | inr large ↦ subst (λ q. length (coupons_in c.args.table.now.places) ≤ 2 ^ q) (sym c.from.ensures) (omega (arith, large.2, c.len.ensures.count))
+      | inr large ↦ subst (λ q. length (coupons_in c.args.table.now.buckets) ≤ 2 ^ q) (sym c.from.ensures) (omega (arith, large.2, c.len.ensures.count))
     ]
 
 pub returns-in_ok-set-in-Some-clause-layout : goal.returns-in_ok-set-in-Some-clause-layout
@@ -38,6 +38,6 @@ returns-in_ok-set-in-Some-clause-layout g c =
       | inr large ↦ (
         omega (arith, large.0, size),
         omega (arith, large.1, size),
-        subst (λ q. length (coupons_in c.in_ok-set-in-Some.set.places) < 2 ^ q) (sym size) (omega (arith, large.2, c.in_ok-set-in-Some.ensures.count, c.len.ensures.count)),
+        subst (λ q. length (coupons_in c.in_ok-set-in-Some.set.buckets) < 2 ^ q) (sym size) (omega (arith, large.2, c.in_ok-set-in-Some.ensures.count, c.len.ensures.count)),
       )
     ]

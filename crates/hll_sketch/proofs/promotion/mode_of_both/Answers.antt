@@ -22,7 +22,7 @@ pub from_container-requires-clause-room : goal.from_container-requires-clause-ro
 from_container-requires-clause-room g c =
     let is : IsLarger c.args.lg_k c.args.count c.in-Some.size = larger c.args.lg_k c.args.table.now.lg_size c.args.count c.in-Some.size c.requires.size c.requires.overflows (ap (λ p. stage c.args.lg_k p c.args.count) (sym c.lg_size.ensures.size) ∙ sym c.in-Some.ensures) in
     let t : Table = c.args.table.now in
-    subst (λ q. length (coupons_in t.places) ≤ 2 ^ q) (sym c.from.ensures)
+    subst (λ q. length (coupons_in t.buckets) ≤ 2 ^ q) (sym c.from.ensures)
     (omega (arith, is.few, c.requires.count, len_union_le (coupons_of t) (coupons_of c.args.others.now), c.table_is_legal.ensures.table.distinct))
 
 pub update_each-requires : goal.update_each-requires
@@ -36,10 +36,10 @@ pub returns-in_ok-array-in-None-clause-content : goal.returns-in_ok-array-in-Non
 returns-in_ok-array-in-None-clause-content g c =
     let k : ℕ = c.args.lg_k in
     let S : Pairs = coupons_of c.args.table.now in
-    let order : List ℕ = coupons_in c.args.others.now.places in
+    let order : List ℕ = coupons_in c.args.others.now.buckets in
     let none : stage k c.args.table.now.lg_size (len (union S (coupons_of c.args.others.now))) ≡ None =
     ap (stage k c.args.table.now.lg_size) (sym c.requires.count) ∙ ap (λ p. stage k p c.args.count) (sym c.lg_size.ensures.size) ∙ sym c.in-None.ensures in
-    ap (λ (x : Sketch). x.content) (c.raise_by_each.ensures.added ∙ ap (λ (x : Stored). add_in_turn (sketch_of_registers x) order) c.in_ok-array-in-None.ensures.ok ∙ raised k S order)
+    ap (λ (x : Sketch). x.content) (c.add_each_to.ensures.added ∙ ap (λ (x : Stored). add_in_turn (sketch_of_registers x) order) c.in_ok-array-in-None.ensures.ok ∙ raised k S order)
     ∙ ap (content_for k (union S (coupons_of c.args.others.now))) (sym none)
 
 pub returns-in_ok-set-in-Some-clause-layout : goal.returns-in_ok-set-in-Some-clause-layout
@@ -50,6 +50,6 @@ returns-in_ok-set-in-Some-clause-layout g c =
     let size : new.lg_size ≡ c.in-Some.size = c.update_each.ensures.size ∙ set.size ∙ c.from.ensures in (
       omega (arith, size, is.low),
       omega (arith, size, is.high),
-      subst (λ n. length (coupons_in new.places) < 2 ^ n) (sym size)
-          (omega (arith, is.few, c.requires.count, c.table_is_legal-in-Some.ensures.table.distinct, ap (λ (t : Table). length (coupons_in t.places)) c.container.ensures.same, ap (λ (t : Table). len (coupons_of t)) c.container.ensures.same, ap len c.update_each.ensures.members, ap (λ P. len (union P (coupons_of c.args.others.now))) set.members)),
+      subst (λ n. length (coupons_in new.buckets) < 2 ^ n) (sym size)
+          (omega (arith, is.few, c.requires.count, c.table_is_legal-in-Some.ensures.table.distinct, ap (λ (t : Table). length (coupons_in t.buckets)) c.container.ensures.same, ap (λ (t : Table). len (coupons_of t)) c.container.ensures.same, ap len c.update_each.ensures.members, ap (λ P. len (union P (coupons_of c.args.others.now))) set.members)),
     )

@@ -37,5 +37,5 @@ returns-in_ok-set_of_size-in-Some-clause-layout g c =
     let is : c.in_ok-set_of_size-in-Some.field-0.lg_size ≡ size_after t.lg_size = set.size ∙ size in (
       omega (arith, is, from_five c.args.lg_k t.lg_size c.requires.size),
       omega (arith, set.size, c.in-Some.ensures.some.1),
-      subst (λ q. length (coupons_in c.in_ok-set_of_size-in-Some.field-0.places) < 2 ^ q) (sym is) (omega (arith, set.count, fewer c.args.lg_k t.lg_size n c.requires.size few)),
+      subst (λ q. length (coupons_in c.in_ok-set_of_size-in-Some.field-0.buckets) < 2 ^ q) (sym is) (omega (arith, set.count, fewer c.args.lg_k t.lg_size n c.requires.size few)),
     )

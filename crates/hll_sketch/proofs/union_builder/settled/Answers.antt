@@ -1,7 +1,7 @@
 -- SPDX-License-Identifier: Apache-2.0
 use Rattle.std.proofs.Common.{ap, sym, ◌∙◌}
 use Rattle.std.specs.FinSet.{len}
-use Rattle.hll_sketch.proofs.Waiting.{some_listed, added_as, added_none}
+use Rattle.hll_sketch.proofs.Waiting.{some_listed}
 use Rattle.hll_sketch.proofs.union_builder.settled.Goals as goal
 
 pub update_with_table-requires : goal.update_with_table-requires

@@ -31,10 +31,10 @@ returns-clause-lg_k g c =
     ap (λ (x : Sketch). x.lg_k) (returns-clause-merged g c)
     ∙ lg_k-merge_all c.args.lg_max_k (empty_union c.args.lg_max_k) c.args.sketches.now
 
-pub returns-clause-grown : goal.returns-clause-grown
-returns-clause-grown g c = λ grown.
+pub returns-clause-canonical : goal.returns-clause-canonical
+returns-clause-canonical g c = λ canonical.
     joined_list c.args.lg_max_k c.in_ok-made.made c.args.sketches.now (c.in_ok-made.ensures.bound ∙ c.loop-sketch.invariant.0) (returns-clause-merged g c) c.in_ok-union.ensures.lg_k.high
-    (subst (All (λ x. IsLegal (sketch_of x))) (take_all c.loop-sketch.sketch-index c.args.sketches.now c.loop-sketch-test.false) c.loop-sketch.invariant.2) grown
+    (subst (All (λ x. IsLegal (sketch_of x))) (take_all c.loop-sketch.sketch-index c.args.sketches.now c.loop-sketch-test.false) c.loop-sketch.invariant.2) canonical
 
 no_argument : Memory ≡ Argument → ⊥
 no_argument e = cc

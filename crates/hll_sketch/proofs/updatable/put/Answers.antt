@@ -1,6 +1,6 @@
 -- SPDX-License-Identifier: Apache-2.0
 use Rattle.std.proofs.Common.{◌∙◌, arith}
-use Rattle.hll_sketch.proofs.Gathering.{kept, put_word}
+use Rattle.hll_sketch.proofs.Gathering.{kept, put_raw_coupon}
 use Rattle.hll_sketch.proofs.updatable.put.Goals as goal
 
 pub returns-clause-kept : goal.returns-clause-kept
@@ -8,4 +8,4 @@ returns-clause-kept c = kept c.args.room.now c.args.count (omega (arith, c.requi
 
 pub returns-clause-put : goal.returns-clause-put
 returns-clause-put c =
-    put_word c.args.room.now c.args.count (omega (arith, c.requires, c.told-room)) c.args.word c.copy_from_slice.new.self _ (omega (arith, c.ranges.word)) (c.copy_from_slice.ensures.after ∙ c.to_le_bytes.ensures)
+    put_raw_coupon c.args.room.now c.args.count (omega (arith, c.requires, c.told-room)) c.args.raw_coupon c.copy_from_slice.new.self _ (omega (arith, c.ranges.raw_coupon)) (c.copy_from_slice.ensures.after ∙ c.to_le_bytes.ensures)

@@ -9,12 +9,12 @@ use Rattle.hll_text.proofs.reading.read_line.Goals as goal
 
 pub returns-in-Some-strip_prefix-clause-reading : goal.returns-in-Some-strip_prefix-clause-reading
 returns-in-Some-strip_prefix-clause-reading g c =
-    let word = c.in-Some-strip_prefix.word.now in
-    let front : c.args.line.now ≡ c.as_slice-2.result.now ++ word = strip_prefix_is Decides-eqb c.args.line.now c.as_slice-2.result.now (Some c.in-Some-strip_prefix.word) c.in-Some-strip_prefix.ensures.cases in
-    let whole : c.args.line.now ≡ codes "image " ++ word = front ∙ ap (λ p. p ++ word) c.as_slice-2.ensures in
+    let token = c.in-Some-strip_prefix.token.now in
+    let front : c.args.line.now ≡ c.as_slice-2.result.now ++ token = strip_prefix_is Decides-eqb c.args.line.now c.as_slice-2.result.now (Some c.in-Some-strip_prefix.token) c.in-Some-strip_prefix.ensures.cases in
+    let whole : c.args.line.now ≡ codes "image " ++ token = front ∙ ap (λ p. p ++ token) c.as_slice-2.ensures in
     c.image_line.ensures.reading ∙ ap reading (sym whole)
 
 pub returns-clause-reading : goal.returns-clause-reading
 returns-clause-reading g c =
-    c.read_words.ensures.reading ∙ ap (λ ws. as_reading (plan.read_words ws)) (sym c.split_word.ensures)
+    c.read_tokens.ensures.reading ∙ ap (λ ws. as_reading (plan.read_tokens ws)) (sym c.split_token.ensures)
     ∙ reading-taken c.args.line.now (sym c.if-is_empty.ensures) c.if-line-eq35.false

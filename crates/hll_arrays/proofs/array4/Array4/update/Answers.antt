@@ -30,15 +30,15 @@ written k R state coupon slot size old value at size_is many read value_is high 
     (λ i. record { lg_k = k; registers = set R (here i) (value_is i); state = cleared_state })
     ∙ update_with_pairs-high k R coupon many state (omega (arith, many, mod_below (slot_of coupon) (2 ^ k) (pow_pos k))) (omega (arith, high, register, value_is))
 
-pub returns-in_err-raise-clause-needed : goal.returns-in_err-raise-clause-needed
-returns-in_err-raise-clause-needed g c =
+pub returns-in_err-max_slot-clause-needed : goal.returns-in_err-max_slot-clause-needed
+returns-in_err-max_slot-clause-needed g c =
     let x = c.self.inside in
     let k : ℕ = x.registers.lg_k in
     let R : List ℕ = x.registers.registers in
     let is = written k R x.state c.args.coupon (c.slot.result % c.two_to.result) c.two_to.result c.get.result c.value-2.result (ap (λ s. s % c.two_to.result) c.slot.ensures.slot)
     (c.two_to.ensures ∙ ap (λ n. 2 ^ n) c.lg_k.ensures.lg_k) c.lg_k.ensures.registers.size c.get.ensures.register c.value-2.ensures.value (omega (arith, c.if-value-get.false, c.value.ensures.value, c.value-2.ensures.value)) in
     OnErr-of c.from_residual.result _ (subst (λ (z : FourBits). ExceptionsMove z.stored.lg_k z.stored.registers (update_with_coupon z.stored c.args.coupon).registers) c.self.view_is
-    (subst (λ (y : Stored). ExceptionsMove k R y.registers) is c.in_err-raise.ensures.needed))
+    (subst (λ (y : Stored). ExceptionsMove k R y.registers) is c.in_err-max_slot.ensures.needed))
 
 pub returns-clause-ok : goal.returns-clause-ok
 returns-clause-ok g c =
@@ -47,5 +47,5 @@ returns-clause-ok g c =
     let R : List ℕ = x.registers.registers in
     let is = written k R x.state c.args.coupon (c.slot.result % c.two_to.result) c.two_to.result c.get.result c.value-2.result (ap (λ s. s % c.two_to.result) c.slot.ensures.slot)
     (c.two_to.ensures ∙ ap (λ n. 2 ^ n) c.lg_k.ensures.lg_k) c.lg_k.ensures.registers.size c.get.ensures.register c.value-2.ensures.value (omega (arith, c.if-value-get.false, c.value.ensures.value, c.value-2.ensures.value)) in
-    subst (λ (z : FourBits). ◌≡◌ {A = Stored} (record { lg_k = c.raise.new.self.lg_k; registers = c.raise.new.self.registers; state = cleared_state }) (update_with_coupon z.stored c.args.coupon)) c.self.view_is
-    ((λ i. record { lg_k = c.in_ok-raise.ensures.lg_k i; registers = c.in_ok-raise.ensures.ok i; state = cleared_state }) ∙ is)
+    subst (λ (z : FourBits). ◌≡◌ {A = Stored} (record { lg_k = c.max_slot.new.self.lg_k; registers = c.max_slot.new.self.registers; state = cleared_state }) (update_with_coupon z.stored c.args.coupon)) c.self.view_is
+    ((λ i. record { lg_k = c.in_ok-max_slot.ensures.lg_k i; registers = c.in_ok-max_slot.ensures.ok i; state = cleared_state }) ∙ is)

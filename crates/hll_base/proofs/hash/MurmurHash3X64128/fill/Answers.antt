@@ -3,7 +3,7 @@ use Rattle.std.proofs.Common.{◌≡◌, List, ℕ, ◌++◌, length, take, appe
 use Rattle.std.proofs.lemmas.List.{length-append, length-take, append-nil, take-append-drop}
 use Rattle.std.proofs.Math.ListN.{drop_of_length-le}
 use Rattle.hll_base.specs.Hash.{Halves, HashState, after_block, after_bytes}
-use Rattle.hll_base.proofs.Hashing.{after_bytes-block, zeros_behind}
+use Rattle.hll_base.proofs.Hashing.{after_bytes-block, zeros_after}
 use Rattle.hll_base.proofs.hash.MurmurHash3X64128.fill.Goals as goal
 
 pub returns-then-end-eq-BLOCK-clause-same : goal.returns-then-end-eq-BLOCK-clause-same
@@ -24,4 +24,4 @@ returns-then-end-eq-BLOCK-clause-same c =
 
 pub invariant_of-self-else-end-eq-BLOCK : goal.invariant_of-self-else-end-eq-BLOCK
 invariant_of-self-else-end-eq-BLOCK c =
-    (omega arith, zeros_behind c.self.inside.partial _ c.self.inside.block c.split_at.result.0.now _ refl c.extend.ensures (omega arith) c.self.invariant.1)
+    (omega arith, zeros_after c.self.inside.partial _ c.self.inside.block c.split_at.result.0.now _ refl c.extend.ensures (omega arith) c.self.invariant.1)

@@ -13,16 +13,16 @@ use Rattle.hll_coupons.proofs.aux_map.AuxMap.has.Goals as goal
 pub returns-in-Some : goal.returns-in-Some
 returns-in-Some g c =
     let t : Table = c.self.inside.table in
-    let ends : EndsAt slot_of t.lg_size t.places (slot_of c.args.entry) c.in-Some.place =
-    ends_as slot_of _ _ _ _ _ _ _ c.lg_size.ensures.size c.places-places.ensures.places c.slot.ensures.slot c.in-Some.ensures.found in
-    let entry : get_or t.places c.in-Some.place 0 ≡ c.index-places-place.result =
-    read_at _ t.places _ _ c.places-places.ensures.places (omega (arith, ends.within, c.self.invariant.probed.size)) c.index-places-place.is in
+    let ends : EndsAt slot_of t.lg_size t.buckets (slot_of c.args.entry) c.in-Some.bucket =
+    ends_as slot_of _ _ _ _ _ _ _ c.lg_size.ensures.size c.buckets-buckets.ensures.buckets c.slot.ensures.slot c.in-Some.ensures.found in
+    let entry : get_or t.buckets c.in-Some.bucket 0 ≡ c.index-buckets-bucket.result =
+    read_at _ t.buckets _ _ c.buckets-buckets.ensures.buckets (omega (arith, ends.within, c.self.invariant.probed.size)) c.index-buckets-bucket.is in
     c.eq.ensures ∙ ap (λ w. nat_eq w c.args.entry) (sym entry)
-    ∙ has_at_end _ c.self.invariant c.args.entry c.in-Some.place (full_of_valued c.args.entry c.requires) ends
+    ∙ has_at_end _ c.self.invariant c.args.entry c.in-Some.bucket (full_of_valued c.args.entry c.requires) ends
     ∙ ap (λ (m : ExceptionMap). contains (coupons_of m.table) c.args.entry) c.self.view_is
 
 pub returns-in-None : goal.returns-in-None
 returns-in-None g c =
     sym (has_in_full _ c.self.invariant c.args.entry (full_of_valued c.args.entry c.requires)
-    (passes_as slot_of _ _ _ _ _ _ c.lg_size.ensures.size c.places-places.ensures.places c.slot.ensures.slot c.in-None.ensures.full))
+    (passes_as slot_of _ _ _ _ _ _ c.lg_size.ensures.size c.buckets-buckets.ensures.buckets c.slot.ensures.slot c.in-None.ensures.full))
     ∙ ap (λ (m : ExceptionMap). contains (coupons_of m.table) c.args.entry) c.self.view_is

@@ -5,23 +5,23 @@ use Rattle.hll_coupons.specs.AuxMap.{ExceptionMap, IsMap, Inserts, value_in}
 use Rattle.hll_coupons.specs.LongSearches.{AreFor}
 use Rattle.hll_coupons.specs.Pair.{slot_of, pair}
 use Rattle.hll_coupons.specs.Table.{coupons_of}
-use Rattle.hll_coupons.proofs.MapChanges.{IsWord, word_of, absent_word, IsInserted, inserted_fits, inserted_grows, values_after}
+use Rattle.hll_coupons.proofs.MapChanges.{IsRawCoupon, raw_coupon_of, absent_raw_coupon, IsInserted, inserted_fits, inserted_grows, values_after}
 use Rattle.hll_coupons.proofs.Maps.{room_in_map, small_table}
 use Rattle.hll_coupons.proofs.aux_map.AuxMap.insert_by.Given.{Over}
 use Rattle.hll_coupons.proofs.aux_map.AuxMap.insert_by.Goals as goal
 use Rattle.hll_coupons.proofs.aux_map.AuxMap.insert_by.Goals.{else-capacity-len+in_ok-put_one, then-capacity-len+in_ok-put_growing}
 
--- the word, of the map as it was
-word : (m now : ExceptionMap) (slot value w : ℕ) → m ≡ now → IsMap m → slot < 2 ^ now.lg_k → w ≡ pair (slot_of slot) value → IsWord slot value w
-word m now slot value w same is within e = word_of m.lg_k slot value w is.high (subst (λ (n : ExceptionMap). slot < 2 ^ n.lg_k) (sym same) within) e
+-- the raw coupon, of the map as it was
+raw_coupon : (m now : ExceptionMap) (slot value w : ℕ) → m ≡ now → IsMap m → slot < 2 ^ now.lg_k → w ≡ pair (slot_of slot) value → IsRawCoupon slot value w
+raw_coupon m now slot value w same is within e = raw_coupon_of m.lg_k slot value w is.high (subst (λ (n : ExceptionMap). slot < 2 ^ n.lg_k) (sym same) within) e
 
 pub put_one-requires-clause-absent : goal.put_one-requires-clause-absent
 put_one-requires-clause-absent g c =
-    absent_word _ _ c.args.slot c.args.value _ c.self.view_is c.self.invariant (word _ _ c.args.slot c.args.value _ c.self.view_is c.self.invariant c.requires.within c.pack-entry.ensures) c.requires.absent
+    absent_raw_coupon _ _ c.args.slot c.args.value _ c.self.view_is c.self.invariant (raw_coupon _ _ c.args.slot c.args.value _ c.self.view_is c.self.invariant c.requires.within c.pack-entry.ensures) c.requires.absent
 
 pub put_growing-requires-clause-absent : goal.put_growing-requires-clause-absent
 put_growing-requires-clause-absent g c =
-    absent_word _ _ c.args.slot c.args.value _ c.self.view_is c.self.invariant (word _ _ c.args.slot c.args.value _ c.self.view_is c.self.invariant c.requires.within c.pack-entry.ensures) c.requires.absent
+    absent_raw_coupon _ _ c.args.slot c.args.value _ c.self.view_is c.self.invariant (raw_coupon _ _ c.args.slot c.args.value _ c.self.view_is c.self.invariant c.requires.within c.pack-entry.ensures) c.requires.absent
 
 pub put_growing-requires-clause-room : goal.put_growing-requires-clause-room
 put_growing-requires-clause-room g c = room_in_map _ c.self.invariant
@@ -31,33 +31,33 @@ put_growing-requires-clause-small g c = omega (arith, small_table _ c.self.invar
 
 pub invariant_of-self-in-Continue-branch-2 : goal.invariant_of-self-in-Continue-branch-2
 invariant_of-self-in-Continue-branch-2 g c =
-    let is = word _ _ c.args.slot c.args.value _ c.self.view_is c.self.invariant c.requires.within c.pack-entry.ensures in
+    let is = raw_coupon _ _ c.args.slot c.args.value _ c.self.view_is c.self.invariant c.requires.within c.pack-entry.ensures in
     (inserted_fits _ c.self.invariant c.args.slot c.args.value c.pack-entry.result is c.requires.least
     (subst (λ (n : ExceptionMap). c.args.slot < 2 ^ n.lg_k) (sym c.self.view_is) c.requires.within)
-    (absent_word _ _ c.args.slot c.args.value _ c.self.view_is c.self.invariant is c.requires.absent)
-    c.put_one.new.table c.in_ok-put_one.ensures.table c.in_ok-put_one.ensures.size c.in_ok-put_one.ensures.places (omega (arith, c.if-capacity-len.false, c.len.ensures.count, c.capacity.ensures))).map
+    (absent_raw_coupon _ _ c.args.slot c.args.value _ c.self.view_is c.self.invariant is c.requires.absent)
+    c.put_one.new.table c.in_ok-put_one.ensures.table c.in_ok-put_one.ensures.size c.in_ok-put_one.ensures.buckets (omega (arith, c.if-capacity-len.false, c.len.ensures.count, c.capacity.ensures))).map
 
 pub invariant_of-self-then-capacity-len : goal.invariant_of-self-then-capacity-len
 invariant_of-self-then-capacity-len g c =
-    let is = word _ _ c.args.slot c.args.value _ c.self.view_is c.self.invariant c.requires.within c.pack-entry.ensures in
+    let is = raw_coupon _ _ c.args.slot c.args.value _ c.self.view_is c.self.invariant c.requires.within c.pack-entry.ensures in
     let grown = c.in_ok-put_growing.ensures in
     (inserted_grows _ c.self.invariant c.args.slot c.args.value c.pack-entry.result is c.requires.least
     (subst (λ (n : ExceptionMap). c.args.slot < 2 ^ n.lg_k) (sym c.self.view_is) c.requires.within)
-    (absent_word _ _ c.args.slot c.args.value _ c.self.view_is c.self.invariant is c.requires.absent)
+    (absent_raw_coupon _ _ c.args.slot c.args.value _ c.self.view_is c.self.invariant is c.requires.absent)
     c.put_growing.new.table grown.table grown.probed grown.members grown.count grown.ok (omega (arith, c.if-capacity-len.true, c.len.ensures.count, c.capacity.ensures))).map
 
 -- what is left
 inserted : (g : Over) (c : goal.Joined-capacity-len g) → IsInserted (record { lg_k = c.self.inside.lg_config_k; table = c.self.inside.table }) c.pack-entry.result c.if-capacity-len.self
 inserted g c =
     let m : ExceptionMap = record { lg_k = c.self.inside.lg_config_k; table = c.self.inside.table } in
-    let is = word _ _ c.args.slot c.args.value _ c.self.view_is c.self.invariant c.requires.within c.pack-entry.ensures in
+    let is = raw_coupon _ _ c.args.slot c.args.value _ c.self.view_is c.self.invariant c.requires.within c.pack-entry.ensures in
     let within = subst (λ (n : ExceptionMap). c.args.slot < 2 ^ n.lg_k) (sym c.self.view_is) c.requires.within in
-    let none = absent_word _ _ c.args.slot c.args.value _ c.self.view_is c.self.invariant is c.requires.absent in
+    let none = absent_raw_coupon _ _ c.args.slot c.args.value _ c.self.view_is c.self.invariant is c.requires.absent in
     elim c.if-capacity-len.branch [
       | else-capacity-len+in_ok-put_one w ↦
           subst (IsInserted m c.pack-entry.result) (sym w.self-is)
           (inserted_fits m c.self.invariant c.args.slot c.args.value c.pack-entry.result is c.requires.least within none
-          w.put_one.new.table w.in_ok-put_one.ensures.table w.in_ok-put_one.ensures.size w.in_ok-put_one.ensures.places (omega (arith, w.if-capacity-len.false, c.len.ensures.count, c.capacity.ensures)))
+          w.put_one.new.table w.in_ok-put_one.ensures.table w.in_ok-put_one.ensures.size w.in_ok-put_one.ensures.buckets (omega (arith, w.if-capacity-len.false, c.len.ensures.count, c.capacity.ensures)))
       | then-capacity-len+in_ok-put_growing w ↦
           let grown = w.in_ok-put_growing.ensures in
           subst (IsInserted m c.pack-entry.result) (sym w.self-is)
@@ -65,20 +65,20 @@ inserted g c =
           w.put_growing.new.table grown.table grown.probed grown.members grown.count grown.ok (omega (arith, w.if-capacity-len.true, c.len.ensures.count, c.capacity.ensures)))
     ]
 
-pub returns-clause-places : goal.returns-clause-places
-returns-clause-places g c =
-    let is = word _ _ c.args.slot c.args.value _ c.self.view_is c.self.invariant c.requires.within c.pack-entry.ensures in
+pub returns-clause-buckets : goal.returns-clause-buckets
+returns-clause-buckets g c =
+    let is = raw_coupon _ _ c.args.slot c.args.value _ c.self.view_is c.self.invariant c.requires.within c.pack-entry.ensures in
     subst (λ w. Inserts c.args.self.now.table w c.if-capacity-len.self.table) is.is
     (subst (λ (n : ExceptionMap). Inserts n.table c.pack-entry.result c.if-capacity-len.self.table) c.self.view_is (inserted g c).inserts)
 
 pub returns-clause-members : goal.returns-clause-members
 returns-clause-members g c =
-    let is = word _ _ c.args.slot c.args.value _ c.self.view_is c.self.invariant c.requires.within c.pack-entry.ensures in
+    let is = raw_coupon _ _ c.args.slot c.args.value _ c.self.view_is c.self.invariant c.requires.within c.pack-entry.ensures in
     (inserted g c).members ∙ ap (insert (coupons_of c.self.inside.table)) is.is ∙ ap (λ (n : ExceptionMap). insert (coupons_of n.table) (pair c.args.slot c.args.value)) c.self.view_is
 
 pub returns-clause-values : goal.returns-clause-values
 returns-clause-values g c s =
-    let is = word _ _ c.args.slot c.args.value _ c.self.view_is c.self.invariant c.requires.within c.pack-entry.ensures in
+    let is = raw_coupon _ _ c.args.slot c.args.value _ c.self.view_is c.self.invariant c.requires.within c.pack-entry.ensures in
     values_after (record { lg_k = c.self.inside.lg_config_k; table = c.self.inside.table }) c.if-capacity-len.self c.pack-entry.result c.self.invariant (inserted g c).map (inserted g c).members s
     ∙ (λ i. cond (eqb s (is.slot i)) (Some (is.value i)) (value_in (c.self.view_is i) s))
 
@@ -88,9 +88,9 @@ returns-clause-map g c = (inserted g c).map
 pub returns-clause-cycles : goal.returns-clause-cycles
 returns-clause-cycles g c = elim c.if-capacity-len.branch [
   | else-capacity-len+in_ok-put_one w ↦
-      subst (λ (m : ExceptionMap). AreFor m.table.lg_size m.table.places c.if-capacity-len.searches) (sym w.self-is)
-      (subst (λ s. AreFor w.put_one.new.table.lg_size w.put_one.new.table.places s) (sym w.searches-is) w.put_one.ensures.cycles)
+      subst (λ (m : ExceptionMap). AreFor m.table.lg_size m.table.buckets c.if-capacity-len.searches) (sym w.self-is)
+      (subst (λ s. AreFor w.put_one.new.table.lg_size w.put_one.new.table.buckets s) (sym w.searches-is) w.put_one.ensures.cycles)
   | then-capacity-len+in_ok-put_growing w ↦
-      subst (λ s. AreFor c.if-capacity-len.self.table.lg_size c.if-capacity-len.self.table.places s) (sym w.searches-is)
-      (w.forget.ensures c.if-capacity-len.self.table.lg_size c.if-capacity-len.self.table.places)
+      subst (λ s. AreFor c.if-capacity-len.self.table.lg_size c.if-capacity-len.self.table.buckets s) (sym w.searches-is)
+      (w.forget.ensures c.if-capacity-len.self.table.lg_size c.if-capacity-len.self.table.buckets)
 ]

@@ -6,13 +6,13 @@ use Rattle.hll_coupons.proofs.Batches.{IsTableFrom, table_from}
 use Rattle.hll_coupons.proofs.batch.CouponBatch.into_table.Given.{Over}
 use Rattle.hll_coupons.proofs.batch.CouponBatch.into_table.Goals as goal
 
--- the ascending coupons stand in the first places
+-- the ascending coupons stand in the first buckets
 made : (g : Over) (c : goal.In_ok-resize g) → IsTableFrom c.lg_size_above-lg_size.result c.into_ascending-coupons.result.items c.resize.new.self.items
 made g c =
     let order = c.into_ascending-coupons in
-    let room : c.len-count.result < c.places_of.result = omega (arith, c.lg_size_above-lg_size.ensures.more, c.places_of.ensures) in
-    table_from c.lg_size_above-lg_size.result c.places_of.result order.result.len order.result.items c.resize.new.self.items order.ensures.ascending.increasing order.ensures.pairs
-    c.places_of.ensures order.result.ok.0 (omega (arith, room, c.len-count.ensures)) c.lg_size_above-lg_size.ensures.small c.in_ok-resize.ensures.items
+    let room : c.len-count.result < c.buckets_of.result = omega (arith, c.lg_size_above-lg_size.ensures.more, c.buckets_of.ensures) in
+    table_from c.lg_size_above-lg_size.result c.buckets_of.result order.result.len order.result.items c.resize.new.self.items order.ensures.ascending.increasing order.ensures.pairs
+    c.buckets_of.ensures order.result.ok.0 (omega (arith, room, c.len-count.ensures)) c.lg_size_above-lg_size.ensures.small c.in_ok-resize.ensures.items
 
 pub from_coupons-requires-clause-table : goal.from_coupons-requires-clause-table
 from_coupons-requires-clause-table g c = (made g c).table

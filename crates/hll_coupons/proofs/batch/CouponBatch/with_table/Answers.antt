@@ -10,7 +10,7 @@ use Rattle.hll_coupons.proofs.batch.CouponBatch.with_table.Goals as goal
 pub invariant_of-result : goal.invariant_of-result
 invariant_of-result g c =
     let own = c.self.inside.coupons.items in
-    let others = coupons_in c.args.table.now.places in
+    let others = coupons_in c.args.table.now.buckets in
     let all = given _ _ _ _ _ (c.into_iter-coupon-iterator.ensures.into_iter_gives ∙ c.iter-coupon-items.ensures) c.loop-coupon.yielded_by c.in-None.ensures.steps.0 in
     let is : c.loop-coupon.coupons.items ≡ own ++ others =
     c.loop-coupon.invariant ∙ ap (λ xs. xs ++ c.loop-coupon.yielded) (sym c.self.view_is) ∙ ap (λ ys. own ++ ys) (sym (all ∙ append-nil c.loop-coupon.yielded)) in

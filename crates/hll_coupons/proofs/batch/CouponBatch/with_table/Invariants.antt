@@ -2,6 +2,6 @@
 use Rattle.std.proofs.Common.{◌≡◌, ◌++◌}
 use Rattle.hll_coupons.proofs.batch.CouponBatch.with_table.Given as goal
 
--- the coupons so far are behind those that were there
+-- the coupons so far are after those that were there
 abbrev pub invariant-loop-coupon : goal.invariant-loop-coupon
 invariant-loop-coupon g l = l.coupons.items ≡ l.fn.self ++ l.yielded

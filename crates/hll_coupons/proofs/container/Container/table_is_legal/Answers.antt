@@ -6,4 +6,4 @@ use Rattle.hll_coupons.proofs.container.Container.table_is_legal.Goals as goal
 
 pub returns-clause-within : goal.returns-clause-within
 returns-clause-within g c =
-    subst (λ t. length (coupons_in t.places) ≤ 2 ^ t.lg_size) c.self.view_is (length-coupons_in-table _ c.self.invariant.0)
+    subst (λ t. length (coupons_in t.buckets) ≤ 2 ^ t.lg_size) c.self.view_is (length-coupons_in-table _ c.self.invariant.0)

@@ -4,7 +4,7 @@ use Rattle.hll_coupons.specs.Table.{coupons_in}
 use Rattle.hll_coupons.proofs.container.ContainerIterIterator.next.Given as goal
 
 abbrev pub invariant-loop-first : goal.invariant-loop-first
-invariant-loop-first l = coupons_in l.self-inside.places.now ≡ coupons_in l.initial.self-inside.places.now
+invariant-loop-first l = coupons_in l.self-inside.buckets.now ≡ coupons_in l.initial.self-inside.buckets.now
 
 abbrev pub decreases-loop-first : goal.decreases-loop-first
-decreases-loop-first l = length l.self-inside.places.now
+decreases-loop-first l = length l.self-inside.buckets.now

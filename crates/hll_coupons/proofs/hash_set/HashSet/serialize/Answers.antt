@@ -4,7 +4,7 @@ use Rattle.std.proofs.Common.{◌≡◌, ◌++◌, ◌∙◌, ap, subst}
 use Rattle.std.proofs.lemmas.Result.{IfOk-weaker}
 use Rattle.hll_coupons.specs.Coupons.{WritesAscending, set_bytes, set_header}
 use Rattle.hll_coupons.specs.Table.{Table, coupons_of}
-use Rattle.hll_coupons.proofs.Ascending.{written_behind}
+use Rattle.hll_coupons.proofs.Ascending.{written_after}
 use Rattle.hll_coupons.proofs.hash_set.HashSet.serialize.Goals as goal
 
 pub returns-clause-ok : goal.returns-clause-ok
@@ -16,5 +16,5 @@ returns-clause-ok g c =
     IfOk-weaker c.image.result _ _
     (λ image w.
     subst (λ (t : Table). WritesAscending (set_bytes k width c.args.self.now.lg_size) (coupons_of t) image.items) c.self.view_is
-    (written_behind (λ n. set_header k width c.args.self.now.lg_size ++ to_le_bytes w32 n) _ _ _ _ c.len-count.ensures.table c.len-count.ensures.count header w))
+    (written_after (λ n. set_header k width c.args.self.now.lg_size ++ to_le_bytes w32 n) _ _ _ _ c.len-count.ensures.table c.len-count.ensures.count header w))
     c.image.ensures.ok

@@ -8,7 +8,7 @@ use Rattle.hll_coupons.proofs.Members.{insert-member}
 use Rattle.hll_coupons.proofs.list.List.update_within.Goals as goal
 
 -- the coupons with this one are counted
-all : (t u : Table) (w n extra : ℕ) (held : Bool) → IsTable t → n ≡ length (coupons_in t.places) → extra ≡ bool_byte (not held) → held ≡ contains (coupons_of u) w → t ≡ u →
+all : (t u : Table) (w n extra : ℕ) (held : Bool) → IsTable t → n ≡ length (coupons_in t.buckets) → extra ≡ bool_byte (not held) → held ≡ contains (coupons_of u) w → t ≡ u →
     n + extra ≡ len (insert (coupons_of u) w)
 all t u w n extra held table count one is same =
     counted t w n extra (not held) table count one (ap not (is ∙ ap (λ (v : Table). contains (coupons_of v) w) (sym same)))

@@ -6,4 +6,4 @@ use Rattle.hll_coupons.proofs.long_searches.LongSearches.end_or_walk.Goals as go
 
 pub unreachable-requires : goal.unreachable-requires
 unreachable-requires g c =
-    omega (arith, c.requires.room, full_of_passes (key_of c.args.by) c.args.lg_size c.args.places.now c.args.key c.requires.size c.in-None.ensures.full)
+    omega (arith, c.requires.room, full_of_passes (key_of c.args.by) c.args.lg_size c.args.buckets.now c.args.key c.requires.size c.in-None.ensures.full)

@@ -84,7 +84,7 @@ allocate_spec 𝓤 𝓛 𝓜 𝓡 wired Y L g d dd met _ =
     nothing ! $ move ! (1 ∷ []) $ use2 𝓛 (raw (Asks.pre asked)) (id⊢ 𝓤 _) $
     calls_at ! fm Asks (asks_met.met 𝓤 𝓛 𝓜 𝓡 (code.calls-hll_memory_tests::refusing::Tally::admits 𝓡.env wired)) asked (and_then ! (get ! refl) (no_more !)) (λ u.
     use1 𝓛 (later (some (λ (met : Bool). ((‵ (flft κ q) ⊛ ‵ ftrue) ⊛ ‵ (bool.own_val met (u ∷ []))) ⊛ some (λ (ws : Unit {0} × Unit {0}). ‵ (fsep ftrue ftrue) ⊛ ‵ ftrue)))) (id⊢ 𝓤 _) $
-    await ! tt $ pick ! (λ admitted. split ! $ split ! $ split ! $ move ! (2 ∷ []) $ feq_l ! (λ told. lands_as ! (ap only told) refl (tt, tt) $ move ! (3 ∷ 0 ∷ []) $
+    await ! tt $ pick ! (λ admitted. split ! $ split ! $ split ! $ move ! (2 ∷ []) $ feq_l ! (λ known. lands_as ! (ap only known) refl (tt, tt) $ move ! (3 ∷ 0 ∷ []) $
     -- [the inner allocator; the token of κ; nothing, twice; the other token]
     first ! $ branches ! (get ! refl)
     (λ _. sets ! (addr ! (through ! refl (fld ! refl (stop !)))) refl (tt, tt) $

@@ -15,20 +15,20 @@ zeros = replicate 16384 0
 raised : (x : Stored) (first n : ℕ) (W rest : List ℕ) → IsStored x → first + n ≤ 2 ^ x.lg_k → n ≤ 16384 →
     W ≡ join (take n zeros) (take (length (take n zeros)) (drop first x.registers)) → take n (W ++ rest) ≡ take n (drop first x.registers)
 raised x first n W rest legal within few e =
-    let behind : List ℕ = drop first x.registers in
-    let many : n ≤ length behind = omega (arith, length-drop first x.registers, within, legal.registers.size) in
-    let long : length (take n behind) ≡ n = length-take-le n behind many in
-    let lent : length (take n zeros) ≡ n = length-take-le n zeros (omega (arith, few, length-replicate {A = ℕ} 16384 0)) in
-    let is : W ≡ take n behind = e ∙ (λ i. join (take n zeros) (take (lent i) behind)) ∙ join_zeros 16384 n (take n behind) few long in
+    let after : List ℕ = drop first x.registers in
+    let many : n ≤ length after = omega (arith, length-drop first x.registers, within, legal.registers.size) in
+    let long : length (take n after) ≡ n = length-take-le n after many in
+    let borrowed : length (take n zeros) ≡ n = length-take-le n zeros (omega (arith, few, length-replicate {A = ℕ} 16384 0)) in
+    let is : W ≡ take n after = e ∙ (λ i. join (take n zeros) (take (borrowed i) after)) ∙ join_zeros 16384 n (take n after) few long in
     take_at W rest n (ap length is ∙ long) ∙ is
 
 pub weight_sums-requires-clause-small : goal.weight_sums-requires-clause-small
 weight_sums-requires-clause-small g c =
     let x : Stored = g.Self.Registers.stored c.args.self.now in
-    subst (All (λ v. v ≤ 63)) (sym (raised x c.args.first c.args.size _ _ c.requires.legal c.requires.within c.requires.few c.join_into.ensures))
+    subst (All (λ v. v ≤ 63)) (sym (raised x c.args.first c.args.size _ _ c.requires.legal c.requires.within c.requires.few c.max_into.ensures))
     (All-take (λ v. v ≤ 63) c.args.size (drop c.args.first x.registers) (All-drop (λ v. v ≤ 63) c.args.first x.registers c.requires.legal.registers.small))
 
 pub returns : goal.returns
 returns g c =
-    subst (AreSumsOf c.weight_sums.result) (raised (g.Self.Registers.stored c.args.self.now) c.args.first c.args.size _ _ c.requires.legal c.requires.within c.requires.few c.join_into.ensures)
+    subst (AreSumsOf c.weight_sums.result) (raised (g.Self.Registers.stored c.args.self.now) c.args.first c.args.size _ _ c.requires.legal c.requires.within c.requires.few c.max_into.ensures)
     c.weight_sums.ensures

@@ -11,7 +11,7 @@ use Rattle.hll_sketch.specs.Stage.{can_hold}
 use Rattle.hll_sketch.specs.Union.{can_hold_all}
 use Rattle.hll_sketch.specs.Value.{Sketch, coupons}
 use Rattle.hll_sketch.proofs.Merges.{in_turn}
-use Rattle.hll_sketch.proofs.RaisedRegisters.{in_bytes, raised_as}
+use Rattle.hll_sketch.proofs.AddedToRegisters.{in_bytes, added_as}
 use Rattle.hll_sketch.proofs.Steps.{stage_stays}
 use Rattle.hll_sketch.proofs.sketch.HllSketch.add_each.Goals as goal
 use Rattle.hll_sketch.proofs.sketch.HllSketch.add_each.Goals.{in-List, in-Set, in-Array8}
@@ -49,10 +49,10 @@ returns g c =
           ∙ ap (λ y. add (sketch_of y) T) is
       | in-Array8 w ↦
           let a : Stored = w.in-Array8.array in
-          let order : List ℕ = coupons_in c.args.table.now.places in
+          let order : List ℕ = coupons_in c.args.table.now.buckets in
           let is : in_bytes k a ≡ c.args.self.now = (λ i. let y : SketchLayout = record { lg_k = k; layout = layout_of (sym w.in-Array8.is i) } in y) ∙ c.self.view_is in
           let here : a.lg_k ≡ k = subst (IsLayoutFor k) (ap layout_of w.in-Array8.is) c.self.invariant.1 in
           ap (λ s. let y : SketchLayout = record { lg_k = s.lg_config_k; layout = layout_of s.mode } in sketch_of y) w.self-inside-is
-          ∙ raised_as k a w.raise_by_each.new.array order here w.raise_by_each.ensures.lg_k w.raise_by_each.ensures.added
+          ∙ added_as k a w.add_each_to.new.array order here w.add_each_to.ensures.lg_k w.add_each_to.ensures.added
           ∙ in_turn (sketch_of (in_bytes k a)) order c.requires.some ∙ ap (λ y. add (sketch_of y) T) is
     ]

@@ -14,5 +14,5 @@ returns-then-both-most g c =
     let kept : c.unwrap_or.result ≡ len (coupons_kept c.args.self.now.layout) =
     c.unwrap_or.ensures ∙ ap (λ o. unwrap_or o 0) c.num_coupons.ensures ∙ kept_count c.args.self.now.layout ∙ len-union_none (coupons_kept c.args.self.now.layout) in
     let most : len (union (coupons_kept c.args.self.now.layout) (coupons_of c.args.table.now)) ≤ c.args.most =
-    omega (arith, len-union_most (coupons_kept c.args.self.now.layout) (coupons_in c.args.table.now.places), kept, c.len.ensures.count, c.if-both-most.true) in
+    omega (arith, len-union_most (coupons_kept c.args.self.now.layout) (coupons_in c.args.table.now.buckets), kept, c.len.ensures.count, c.if-both-most.true) in
     le-leb _ c.args.most c.if-both-most.true ∙ sym (le-leb _ c.args.most most)

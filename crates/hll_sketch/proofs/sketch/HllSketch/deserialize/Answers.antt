@@ -2,7 +2,7 @@
 use Rattle.std.proofs.Common.{◌≡◌, ◌⊎◌, ◌++◌, List, ℕ, Some, None, inr}
 use Rattle.hll_base.proofs.Errors.{IfErr-passed}
 use Rattle.hll_base.specs.declared.error.Reason.TheVariants.{Memory}
-use Rattle.hll_sketch.specs.Checks.{header_checks, checks_behind, first_fault, size_fault}
+use Rattle.hll_sketch.specs.Checks.{header_checks, checks_after, first_fault, size_fault}
 use Rattle.hll_sketch.specs.Fault.{IsFault}
 use Rattle.hll_sketch.specs.Fault as fault
 use Rattle.hll_sketch.proofs.FaultKinds.{not_memory}
@@ -20,7 +20,7 @@ returns-in_err-header-clause-order g c =
     let b : List ℕ = c.args.bytes.now in
     let e = c.in_err-header.field-0.0 in
     IfErr-passed (λ r. (r ≡ Memory) ⊎ (first_fault b ≡ Some r)) c.from_residual.result e c.from_residual.ensures.1
-    (inr (failing_before (header_checks b) ((checks_behind b).size ++ (checks_behind b).content) e c.in_err-header.ensures.order))
+    (inr (failing_before (header_checks b) ((checks_after b).size ++ (checks_after b).content) e c.in_err-header.ensures.order))
 
 pub returns-in_err-header-clause-asked : goal.returns-in_err-header-clause-asked
 returns-in_err-header-clause-asked g c =
@@ -28,17 +28,5 @@ returns-in_err-header-clause-asked g c =
     IfErr-passed (λ r. r ≡ Memory → size_fault b ≡ None) c.from_residual.result c.in_err-header.field-0.0 c.from_residual.ensures.1
     (λ full. absurd (not_memory b c.in_err-header.field-0.0 c.in_err-header.ensures.err full))
 
-pub returns-in-List-default-clause-err : goal.returns-in-List-default-clause-err
-returns-in-List-default-clause-err g c = refusal-err c.args.bytes.now c.read_list.result c.read_list.ensures.err
-
-pub returns-in-Set-default-clause-err : goal.returns-in-Set-default-clause-err
-returns-in-Set-default-clause-err g c = refusal-err c.args.bytes.now c.read_set.result c.read_set.ensures.err
-
-pub returns-in-Hll-Hll4-clause-err : goal.returns-in-Hll-Hll4-clause-err
-returns-in-Hll-Hll4-clause-err g c = refusal-err c.args.bytes.now c.read_four.result c.read_four.ensures.err
-
-pub returns-in-Hll-Hll6-clause-err : goal.returns-in-Hll-Hll6-clause-err
-returns-in-Hll-Hll6-clause-err g c = refusal-err c.args.bytes.now c.read_six.result c.read_six.ensures.err
-
-pub returns-in-Hll-Hll8-clause-err : goal.returns-in-Hll-Hll8-clause-err
-returns-in-Hll-Hll8-clause-err g c = refusal-err c.args.bytes.now c.read_eight.result c.read_eight.ensures.err
+pub returns-clause-err : goal.returns-clause-err
+returns-clause-err g c = refusal-err c.args.bytes.now c.read_payload.result c.read_payload.ensures.err

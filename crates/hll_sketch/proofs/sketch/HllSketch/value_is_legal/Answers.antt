@@ -15,7 +15,7 @@ returns-in-List g c =
     let legal : IsLayoutFor k (layouts.list c.in-List.hll_type c.in-List.list) = subst (IsLayoutFor k) (ap layout_of c.in-List.is) c.self.invariant.1 in
     subst (λ y. IsLegal (sketch_of y)) is
     (list_legal k c.in-List.hll_type c.in-List.list c.self.invariant.0 legal (subst IsTable c.container.ensures.same c.table_is_legal.ensures.table)
-    (subst (λ (t : Table). length (coupons_in t.places) ≤ 2 ^ t.lg_size) c.container.ensures.same c.table_is_legal.ensures.within))
+    (subst (λ (t : Table). length (coupons_in t.buckets) ≤ 2 ^ t.lg_size) c.container.ensures.same c.table_is_legal.ensures.within))
 
 pub returns-in-Set : goal.returns-in-Set
 returns-in-Set g c =

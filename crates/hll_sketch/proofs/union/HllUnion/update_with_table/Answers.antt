@@ -16,6 +16,6 @@ invariant_of-self g c = (
   either_way c.add_table.result _ _ _ c.add_table.ensures.ok c.add_table.ensures.unchanged
       (λ added. subst (IsGadget c.self.inside.lg_max_k) (sym added)
       (gadget_with c.self.inside.lg_max_k (sketch_of c.self.inside.gadget) (coupons_of c.args.table.now) c.self.invariant.1 c.value_is_legal.ensures
-      (ArePairs-set_of (coupons_in c.args.table.now.places) c.table_is_legal.ensures.table.valued) (λ none. c.requires (ap len none ∙ len-empty nat_cmp))))
+      (ArePairs-set_of (coupons_in c.args.table.now.buckets) c.table_is_legal.ensures.table.valued) (λ none. c.requires (ap len none ∙ len-empty nat_cmp))))
       (λ same. subst (λ g. IsGadget c.self.inside.lg_max_k (sketch_of g)) (sym same) c.self.invariant.1),
 )

@@ -1,0 +1,64 @@
+/* SPDX-License-Identifier: Apache-2.0 */
+/*
+ * The calls that tell what a caller may not want: NULL for it gets a place that is thrown away, so the proved call that
+ * each of them makes, whose name the Makefile changes, always has one. Plain C, not proved.
+ */
+#include "hll.h"
+
+hll_status proved_hll_image_merge(uint8_t lg_max_k, uint8_t width, const uint8_t *left, size_t left_len,
+                                  const uint8_t *right, size_t right_len, uint8_t *out, size_t room, size_t *size,
+                                  size_t *failed);
+hll_status proved_hll_images_union(uint8_t lg_max_k, uint8_t width, const uint8_t *images, size_t images_len,
+                                   const size_t *ends, size_t n, uint8_t *out, size_t room, size_t *size,
+                                   size_t *failed);
+hll_status proved_hll_parts_union(uint8_t lg_max_k, uint8_t width, const hll_bytes *parts, size_t n, uint8_t *out,
+                                  size_t room, size_t *size, size_t *failed);
+hll_status proved_hll_images_agree(const uint8_t *left, size_t left_len, const uint8_t *right, size_t right_len,
+                                   uint8_t *same, size_t *failed);
+hll_status proved_hll_registers_merge(uint8_t *registers, size_t count, const uint8_t *image, size_t len,
+                                     uint8_t *lg_k);
+hll_status proved_hll_registers_merge_registers(uint8_t *registers, size_t count, const uint8_t *others,
+                                               size_t others_count, uint8_t *lg_k);
+
+hll_status hll_image_merge(uint8_t lg_max_k, uint8_t width, const uint8_t *left, size_t left_len, const uint8_t *right,
+                           size_t right_len, uint8_t *out, size_t room, size_t *size, size_t *failed)
+{
+    size_t unwanted = 0;
+    return proved_hll_image_merge(lg_max_k, width, left, left_len, right, right_len, out, room, size,
+                                  failed ? failed : &unwanted);
+}
+
+hll_status hll_images_union(uint8_t lg_max_k, uint8_t width, const uint8_t *images, size_t images_len,
+                            const size_t *ends, size_t n, uint8_t *out, size_t room, size_t *size, size_t *failed)
+{
+    size_t unwanted = 0;
+    return proved_hll_images_union(lg_max_k, width, images, images_len, ends, n, out, room, size,
+                                   failed ? failed : &unwanted);
+}
+
+hll_status hll_parts_union(uint8_t lg_max_k, uint8_t width, const hll_bytes *parts, size_t n, uint8_t *out,
+                           size_t room, size_t *size, size_t *failed)
+{
+    size_t unwanted = 0;
+    return proved_hll_parts_union(lg_max_k, width, parts, n, out, room, size, failed ? failed : &unwanted);
+}
+
+hll_status hll_images_agree(const uint8_t *left, size_t left_len, const uint8_t *right, size_t right_len,
+                            uint8_t *same, size_t *failed)
+{
+    size_t unwanted = 0;
+    return proved_hll_images_agree(left, left_len, right, right_len, same, failed ? failed : &unwanted);
+}
+
+hll_status hll_registers_merge(uint8_t *registers, size_t count, const uint8_t *image, size_t len, uint8_t *lg_k)
+{
+    uint8_t unwanted = 0;
+    return proved_hll_registers_merge(registers, count, image, len, lg_k ? lg_k : &unwanted);
+}
+
+hll_status hll_registers_merge_registers(uint8_t *registers, size_t count, const uint8_t *others, size_t others_count,
+                                        uint8_t *lg_k)
+{
+    uint8_t unwanted = 0;
+    return proved_hll_registers_merge_registers(registers, count, others, others_count, lg_k ? lg_k : &unwanted);
+}

@@ -1,0 +1,524 @@
+/* SPDX-License-Identifier: Apache-2.0 */
+/* Each call with each of its codes, and what it answers for small inputs that are known. */
+#include "test.h"
+
+/* An image for each reason. */
+static const char *const faulty[] = {
+    NULL,
+    "0201070a030c00",                                                           /* truncated */
+    "0201060a030c0008",                                                         /* family */
+    "0202070a030c0008",                                                         /* version */
+    "02010703030c0008",                                                         /* lgk */
+    "0201070a030c000c",                                                         /* width */
+    "0201070a030c000b",                                                         /* stage */
+    "0301070a030c0008",                                                         /* preamble */
+    "0201070a040c0008",                                                         /* lgarr */
+    "0201070a030809080000000000000000",                                         /* count */
+    "0201070a030801080500000000000000",                                         /* coupon */
+    "0a0107040000000a" "000000000000000000000000000000000000000000000000" "1000000000000000"
+    "40000000000000000000000000000000",                                         /* register */
+};
+
+static void test_reasons(void)
+{
+    static const char *const words[] = {"ok", "truncated", "family", "version", "lgk", "width", "stage", "preamble",
+                                        "lgarr", "count", "coupon", "register", "argument", "memory", "buffer", "fewer"};
+    int status;
+    for (status = 0; status < 256; status++)
+        CHECK(strcmp(hll_reason((hll_status)status), status < 16 ? words[status] : "unknown") == 0, "%d", status);
+}
+
+/* Byte 3 and the number of bytes alone. */
+static void test_is_small(void)
+{
+    static const uint8_t image[8] = {255, 255, 255, 12, 255, 255, 255, 255};
+    CHECK(hll_is_small(image, 8, 12, 8) && hll_is_small(image, 4, 12, 4), "at the bounds");
+    CHECK(hll_is_small(image, 8, 21, 8192), "within them");
+    CHECK(!hll_is_small(image, 8, 11, 8) && !hll_is_small(image, 8, 12, 7), "above one");
+    CHECK(!hll_is_small(image, 3, 12, 8) && !hll_is_small(NULL, 0, 12, 8), "too short to tell");
+}
+
+/* Each call refuses each faulty image for its reason, and leaves its output as it was. */
+static void test_faulty_images(void)
+{
+    uint8_t out[4200], before[4200];
+    answer told, told_before;
+    size_t i, reason, size;
+    memset(before, 0xa5, sizeof before);
+    memset(&told_before, 0xa5, sizeof told_before);
+    for (reason = 1; reason <= 11; reason++) {
+        bytes image = of_hex(faulty[reason]);
+        for (i = 0; i < WRITERS; i++) {
+            if (!writers[i].reads)
+                continue;
+            memcpy(out, before, sizeof out);
+            size = 4711;
+            hll_status status = writers[i].call(image.at, image.len, out, sizeof out, &size);
+            CHECK(status == reason, "%s: %d for a fault of %d", writers[i].name, status, (int)reason);
+            CHECK(size == 4711 && memcmp(out, before, sizeof out) == 0, "%s wrote", writers[i].name);
+        }
+        for (i = 0; i < TELLERS; i++) {
+            memcpy(&told, &told_before, sizeof told);
+            hll_status status = tellers[i].call(image.at, image.len, &told);
+            CHECK(status == reason, "%s: %d for a fault of %d", tellers[i].name, status, (int)reason);
+            CHECK(memcmp(&told, &told_before, sizeof told) == 0, "%s wrote", tellers[i].name);
+        }
+        free(image.at);
+    }
+}
+
+/* Of n images the one that is refused is told by its number, wherever it stands; of several the first. */
+static void test_failed(void)
+{
+    uint8_t images[8 * 9], out[64];
+    size_t ends[9], size, failed, i, bad;
+    for (bad = 0; bad < 9; bad++) {
+        for (i = 0; i < 9; i++) {
+            memcpy(images + 8 * i, "\2\1\7\12\3\14\0\10", 8);
+            ends[i] = 8 * (i + 1);
+        }
+        images[8 * bad + 2] = 6;
+        images[8 * 8 + 1] ^= bad % 2 ? 0 : 4;
+        failed = 99;
+        CHECK(hll_images_union(10, 8, images, sizeof images, ends, 9, out, sizeof out, &size, &failed)
+                  == HLL_FAMILY, "a bad image %d", (int)bad);
+        CHECK(failed == bad, "%d told for %d", (int)failed, (int)bad);
+        CHECK(hll_images_union(10, 8, images, sizeof images, ends, bad, out, sizeof out, &size, &failed) == HLL_OK,
+              "the images before %d", (int)bad);
+        CHECK(failed == bad, "failed is written on success");
+    }
+}
+
+/* Calls that are refused for an argument, though the image is bad too: the argument comes first. */
+static void test_arguments(void)
+{
+    static const uint8_t bad[] = {2, 1, 6, 10, 3, 12, 0, 8};
+    static const uint8_t outside[] = {0, 1, 2, 3, 22, 23, 64, 128, 255}, widths[] = {0, 1, 2, 3, 5, 7, 9, 12, 255};
+    static const size_t good_ends[] = {2, 2, 8}, descend[] = {2, 1}, past[] = {2, 9}, huge[] = {(size_t)-1};
+    static const size_t no_ends[] = {0};
+    static const struct { const size_t *ends; size_t n; } wrong[] = {{descend, 2}, {past, 2}, {huge, 1}};
+    uint8_t out[64] = {0}, before[64] = {0};
+    uint32_t coupons[4];
+    size_t size = 4711, failed = 77, i;
+    for (i = 0; i < 9; i++) {
+        CHECK(hll_image_new(outside[i], 8, out, 64, &size) == HLL_ARGUMENT, "new, lg_k %d", outside[i]);
+        CHECK(hll_image_new(10, widths[i], out, 64, &size) == HLL_ARGUMENT, "new, width %d", widths[i]);
+        CHECK(hll_image_merge(outside[i], 8, bad, 8, bad, 8, out, 64, &size, &failed) == HLL_ARGUMENT, "merge");
+        CHECK(hll_image_merge(10, widths[i], bad, 8, bad, 8, out, 64, &size, &failed) == HLL_ARGUMENT, "merge");
+        CHECK(hll_images_union(outside[i], 8, bad, 8, good_ends, 3, out, 64, &size, &failed) == HLL_ARGUMENT, "union");
+        CHECK(hll_images_union(10, widths[i], bad, 8, good_ends, 3, out, 64, &size, &failed) == HLL_ARGUMENT, "union");
+        CHECK(hll_image_fold(bad, 8, outside[i], out, 64, &size) == HLL_ARGUMENT, "fold to %d", outside[i]);
+        CHECK(hll_image_convert(bad, 8, widths[i], out, 64, &size) == HLL_ARGUMENT, "convert to %d", widths[i]);
+    }
+    for (i = 0; i < 3; i++) {
+        CHECK(hll_image_add(bad, 8, bad, 8, wrong[i].ends, wrong[i].n, out, 64, &size) == HLL_ARGUMENT, "add");
+        CHECK(hll_images_union(10, 8, bad, 8, wrong[i].ends, wrong[i].n, out, 64, &size, &failed) == HLL_ARGUMENT,
+              "union");
+        CHECK(hll_coupons(bad, 8, wrong[i].ends, wrong[i].n, coupons, 0) == HLL_ARGUMENT, "coupons");
+    }
+    CHECK(hll_image_add_coupon(bad, 8, 67108864, 1, out, 64, &size) == HLL_ARGUMENT, "slot");
+    CHECK(hll_image_add_coupon(bad, 8, UINT32_MAX, 1, out, 64, &size) == HLL_ARGUMENT, "slot");
+    CHECK(hll_image_add_coupon(bad, 8, 5, 0, out, 64, &size) == HLL_ARGUMENT, "value 0");
+    CHECK(hll_image_add_coupon(bad, 8, 5, 64, out, 64, &size) == HLL_ARGUMENT, "value 64");
+    CHECK(hll_image_fold((const uint8_t *)"\2\1\7\12\3\14\0\10", 8, 11, out, 64, &size) == HLL_ARGUMENT, "fold up");
+    CHECK(hll_image_fold((const uint8_t *)"\2\1\7\12\3\14\0\10", 8, 10, out, 64, &size) == HLL_OK, "fold to the same");
+    CHECK(size == 8, "size of an empty list");
+    memset(out, 0, sizeof out);
+    CHECK(hll_image_add((const uint8_t *)"\2\1\7\12\3\14\0\10", 8, bad, 0, no_ends, 0, out, 64, &size) == HLL_OK,
+          "no values");
+    CHECK(memcmp(out, "\2\1\7\12\3\14\0\10", 8) == 0 && memcmp(out + 8, before, 56) == 0, "no values change nothing");
+    CHECK(failed == 77, "failed is written for an argument");
+}
+
+/* Whether a call answers HLL_OK and writes these bytes. */
+#define EXPECT(what, call, out, size, digits)                                                   \
+    do {                                                                                        \
+        bytes wanted = of_hex(digits);                                                          \
+        hll_status status = call;                                                               \
+        CHECK(status == HLL_OK, "%s: %s", what, hll_reason(status));                            \
+        CHECK(size == wanted.len && memcmp(out, wanted.at, size) == 0, "%s: other bytes", what); \
+        free(wanted.at);                                                                        \
+    } while (0)
+
+static void test_small_images(void)
+{
+    uint8_t out[64], more[64];
+    size_t size = 0, more_size = 0, failed, end = 0;
+    static const size_t none[] = {0};
+    EXPECT("new", hll_image_new(10, 8, out, sizeof out, &size), out, size, "0201070a030c0008");
+    EXPECT("a coupon", hll_image_add_coupon(out, size, 5, 3, more, sizeof more, &more_size), more, more_size,
+           "0201070a030801080500000c");
+    EXPECT("to 4 bits", hll_image_convert(more, more_size, 4, out, sizeof out, &size), out, size,
+           "0201070a030801000500000c");
+    EXPECT("a union", hll_image_merge(12, 6, more, more_size, out, size, out + 32, 32, &size, &failed), out + 32, size,
+           "0201070c030801040500000c");
+    EXPECT("of none", hll_images_union(12, 4, out, 0, none, 0, out, sizeof out, &size, &failed), out, size,
+           "0201070c030c0000");
+    /* The empty string is a value like any other. */
+    CHECK(hll_image_add(out, size, out, 0, &end, 1, more, sizeof more, &more_size) == HLL_OK, "the empty string");
+    CHECK(more_size == 12 && more[6] == 1, "the empty string is no value");
+}
+
+/* hll_coupon beside coupons of another implementation of the hash. */
+static void test_coupons(void)
+{
+    static const size_t ends[] = {0, 1, 44, 44};
+    static const char text[] = "aThe quick brown fox jumps over the lazy dog";
+    uint32_t coupons[5] = {9, 9, 9, 9, 9};
+    CHECK(hll_coupons((const uint8_t *)text, 44, ends, 4, coupons, 3) == HLL_BUFFER, "room for three");
+    CHECK(coupons[0] == 9 && coupons[2] == 9, "no room, but written");
+    CHECK(hll_coupons((const uint8_t *)text, 44, ends, 4, coupons, 5) == HLL_OK, "room for five");
+    CHECK(coupons[0] == hll_coupon((const uint8_t *)text, 0) && coupons[0] == coupons[3], "of no bytes");
+    CHECK(coupons[1] == hll_coupon((const uint8_t *)text, 1), "of one byte");
+    CHECK(coupons[2] == hll_coupon((const uint8_t *)text + 1, 43), "of 43 bytes");
+    CHECK(coupons[4] == 9, "behind the last");
+    CHECK(HLL_COUPON_SLOT(UINT32_C(201326597)) == 5 && HLL_COUPON_VALUE(UINT32_C(201326597)) == 3, "slot and value");
+}
+
+/* The number of these bits of binary64. */
+static double number_of(uint64_t bits)
+{
+    double number;
+    memcpy(&number, &bits, sizeof number);
+    return number;
+}
+
+/* What info, histogram, and agree tell of images of each stage and width. */
+static void test_telling(void)
+{
+    size_t stage, failed = 0;
+    unsigned width, value;
+    for (stage = 0; stage < 3; stage++)
+        for (width = 4; width <= 8; width += 2) {
+            bytes image = image_of_values(12, (uint8_t)width, 0, values_of_stage[stage]);
+            bytes other = image_of_values(12, 8, 1000000, values_of_stage[stage]);
+            hll_info info;
+            hll_histogram histogram;
+            uint64_t sum = 0, low = 0;
+            double sums[2] = {0, 0};
+            uint8_t same = 7;
+            CHECK(hll_image_info(image.at, image.len, &info, sizeof info) == HLL_OK, "info");
+            CHECK(info.lg_k == 12 && info.width == width && info.stage == stage && !info.is_empty, "info of stage");
+            CHECK(info.coupons == (stage < 2 ? values_of_stage[stage] : 0), "%d coupons", (int)info.coupons);
+            CHECK(info.out_of_order == (stage == 2) && info.hip == 0, "words");
+            CHECK(hll_image_histogram(image.at, image.len, &histogram) == HLL_OK, "histogram");
+            for (value = 0; value < 64; value++) {
+                double part = (double)histogram.counts[value] / (double)(UINT64_C(1) << value);
+                sum += histogram.counts[value];
+                low += value >= 1 ? histogram.counts[value] << (63 - value) : 0;
+                sums[value >= 32] += part;
+            }
+            CHECK(number_of(info.kxq0) == (stage < 2 ? 0 : sums[0]), "the sum of registers below 32");
+            CHECK(number_of(info.kxq1) == (stage < 2 ? 0 : sums[1]), "the sum of others");
+            CHECK(sum == 4096, "a histogram of %d", (int)sum);
+            low += histogram.counts[0] << 63;
+            CHECK(stage < 2 || (info.zeros == histogram.counts[0] && info.units_low == low), "zeros and units");
+            CHECK(hll_images_agree(image.at, image.len, image.at, image.len, &same, &failed) == HLL_OK && same == 1,
+                  "an image agrees with itself");
+            CHECK(hll_images_agree(image.at, image.len, other.at, other.len, &same, &failed) == HLL_OK && same == 0,
+                  "an image agrees with another");
+            free(image.at);
+            free(other.at);
+        }
+}
+
+/* Images of each stage and width merged, in either order, and united: the image of all their values. */
+static void test_merges(void)
+{
+    static uint8_t merged[HLL_IMAGE_MAX(12)], united[HLL_IMAGE_MAX(12)], both[2 * HLL_IMAGE_MAX(12)];
+    size_t i, j, size = 0, united_size = 0, failed = 0, ends[2];
+    for (i = 0; i < 9; i++)
+        for (j = 0; j < 9; j++) {
+            size_t values = values_of_stage[i / 3], more = values_of_stage[j / 3];
+            uint8_t width = (uint8_t)(4 + (i + j) % 3 * 2);
+            bytes left = image_of_values(12, (uint8_t)(4 + i % 3 * 2), 0, values);
+            bytes right = image_of_values(12, (uint8_t)(4 + j % 3 * 2), values, more);
+            bytes all = image_of_values(12, width, 0, values + more);
+            hll_status status = hll_image_merge(12, width, left.at, left.len, right.at, right.len, merged,
+                                                sizeof merged, &size, &failed);
+            CHECK(status == HLL_OK && size == all.len && memcmp(merged, all.at, size) == 0, "%d, %d", (int)i, (int)j);
+            status = hll_image_merge(12, width, right.at, right.len, left.at, left.len, merged, sizeof merged, &size,
+                                     &failed);
+            CHECK(status == HLL_OK && size == all.len && memcmp(merged, all.at, size) == 0, "%d, %d", (int)j, (int)i);
+            memcpy(both, left.at, ends[0] = left.len);
+            memcpy(both + left.len, right.at, right.len);
+            ends[1] = left.len + right.len;
+            status = hll_images_union(12, width, both, ends[1], ends, 2, united, sizeof united, &united_size, &failed);
+            CHECK(status == HLL_OK && united_size == size && memcmp(united, all.at, size) == 0, "union");
+            free(left.at);
+            free(right.at);
+            free(all.at);
+        }
+}
+
+/* Images folded to each lg_k: the image of the same values at that one. */
+static void test_folds(void)
+{
+    static uint8_t out[HLL_IMAGE_MAX(12)];
+    size_t i, size = 0;
+    uint8_t lg_k;
+    for (i = 0; i < 9; i++)
+        for (lg_k = 4; lg_k <= 12; lg_k++) {
+            uint8_t width = (uint8_t)(4 + i % 3 * 2);
+            bytes whole = image_of_values(12, width, 5, values_of_stage[i / 3]);
+            bytes folded = image_of_values(lg_k, width, 5, values_of_stage[i / 3]);
+            hll_status status = hll_image_fold(whole.at, whole.len, lg_k, out, sizeof out, &size);
+            CHECK(status == HLL_OK && size == folded.len && memcmp(out, folded.at, size) == 0, "fold to %d", lg_k);
+            free(whole.at);
+            free(folded.at);
+        }
+}
+
+/* Registers of 63 are counted. */
+static void test_histogram_of_63(void)
+{
+    bytes image = of_hex("0a0107040010000a" "000000000000000000000000000000000000000000000000" "0d00000000000000"
+                         "3f0000000000000000003e000000003f");
+    hll_histogram histogram;
+    CHECK(hll_image_histogram(image.at, image.len, &histogram) == HLL_OK, "histogram");
+    CHECK(histogram.counts[63] == 2 && histogram.counts[62] == 1 && histogram.counts[0] == 13, "%d of 63",
+          (int)histogram.counts[63]);
+    free(image.at);
+}
+
+/* The estimator fields of registers, as docs/FORMAT.md has them. */
+static void test_words(void)
+{
+    bytes image = of_hex("0a0107040000000a" "111111111111111122222222222222223333333333333333" "0c00000000000000"
+                         "011f203f000000000000000000000000");
+    uint8_t out[64];
+    size_t size = 0;
+    EXPECT("words", hll_image_set_estimator_fields(image.at, image.len, out, sizeof out, &size), out, size,
+           "0a0107040010000a" "0000000000000000" "0000040000002940" "000020000000f03d" "0c00000000000000"
+           "011f203f000000000000000000000000");
+    EXPECT("no words", hll_image_clear_estimator_fields(image.at, image.len, out, sizeof out, &size), out, size,
+           "0a0107040010000a" "0000000000000000" "0000000000000000" "0000000000000000" "0c00000000000000"
+           "011f203f000000000000000000000000");
+    EXPECT("a list has none", hll_image_clear_estimator_fields((const uint8_t *)"\2\1\7\12\3\14\0\10", 8, out,
+                                                              sizeof out, &size), out, size, "0201070a030c0008");
+    free(image.at);
+}
+
+/* Whether a call writes this image. */
+static int writes_image(hll_status status, const uint8_t *out, size_t size, bytes image)
+{
+    return status == HLL_OK && size == image.len && memcmp(out, image.at, size) == 0;
+}
+
+/* Registers with estimator fields of 0 are written with those that follow from the registers, whatever the call does; other
+ * estimator fields that an image brings are kept where nothing changes, and made again where something does. */
+static void test_words_by_default(void)
+{
+    static uint8_t out[HLL_IMAGE_MAX(12)];
+    static const size_t no_ends[] = {0};
+    unsigned width;
+    for (width = 4; width <= 8; width += 2) {
+        bytes words = image_of_values(12, (uint8_t)width, 5, 5000), zero = with_room(words.len), other;
+        size_t size = 0, failed = 0, end = words.len;
+        CHECK(hll_image_set_estimator_fields(words.at, words.len, out, sizeof out, &size) == HLL_OK, "words");
+        CHECK(writes_image(HLL_OK, out, size, words), "values are written without their words");
+        CHECK(hll_image_clear_estimator_fields(words.at, words.len, zero.at, zero.len, &size) == HLL_OK, "no words");
+        CHECK(memcmp(zero.at, words.at, size) != 0 && zero.at[5] == words.at[5], "words that are not cleared");
+        other = with_room(words.len);
+        memcpy(other.at, words.at, words.len);
+        other.at[5] &= ~16;
+        memset(other.at + 8, 65, 24);
+#define WRITES(call, wanted) CHECK(writes_image(call, out, size, wanted), "%u bits: %s", width, #call)
+        WRITES(hll_image_convert(zero.at, zero.len, (uint8_t)width, out, sizeof out, &size), words);
+        WRITES(hll_image_fold(zero.at, zero.len, 12, out, sizeof out, &size), words);
+        WRITES(hll_image_add(zero.at, zero.len, zero.at, 0, no_ends, 0, out, sizeof out, &size), words);
+        WRITES(hll_image_merge(12, (uint8_t)width, zero.at, zero.len, zero.at, zero.len, out, sizeof out, &size,
+                               &failed), words);
+        WRITES(hll_images_union(12, (uint8_t)width, zero.at, zero.len, &end, 1, out, sizeof out, &size, &failed),
+               words);
+        WRITES(hll_image_convert(other.at, other.len, (uint8_t)width, out, sizeof out, &size), other);
+        WRITES(hll_images_union(12, (uint8_t)width, other.at, other.len, &end, 1, out, sizeof out, &size, &failed),
+               other);
+        WRITES(hll_image_merge(12, (uint8_t)width, other.at, other.len, other.at, other.len, out, sizeof out, &size,
+                               &failed), words);
+        free(words.at);
+        free(zero.at);
+        free(other.at);
+    }
+}
+
+/* Registers of which each byte is known: what is merged, folded, converted and said of them. */
+#define HEADER_OF(lg_k, flags, mode) "0a01070" lg_k "00" flags "00" mode
+#define NO_WORDS "0000000000000000" "0000000000000000" "0000000000000000"
+#define WORDS "0000000000000000" "0000080100002c40" "0000000000000000" /* kxq0 is 14 + 2^-25 + 2^-30 */
+static const char *const left = HEADER_OF("4", "10", "0a") NO_WORDS "0e00000000000000" "0a140000000000000000000000000000";
+static const char *const right = HEADER_OF("5", "10", "0a") NO_WORDS "1c00000000000000"
+                                 "0f120000000000000000000000000000" "191e0000000000000000000000000000";
+static const char *const joined = HEADER_OF("4", "10", "0a") NO_WORDS "0e00000000000000" "191e0000000000000000000000000000";
+static const char *const with_words = HEADER_OF("4", "10", "0a") WORDS "0e00000000000000" "191e0000000000000000000000000000";
+static const char *const of_four_bits = HEADER_OF("4", "18", "02") WORDS "0e00000002000000" "ff00000000000000"
+                                        "0000006401000078";
+
+static void test_known_registers(void)
+{
+    bytes a = of_hex(left), b = of_hex(right), plain = of_hex(joined), words = of_hex(with_words), four = of_hex(of_four_bits);
+    const hll_bytes parts[] = {{a.at, a.len}, {(const uint8_t *)"\2\1\7\12\3\14\0\10", 8}, {b.at, b.len}};
+    uint8_t out[96], registers[16] = {0}, same = 7;
+    size_t size = 0, failed = 5;
+    hll_info info;
+    hll_histogram histogram;
+    EXPECT("merged", hll_image_merge(12, 8, a.at, a.len, b.at, b.len, out, sizeof out, &size, &failed), out, size, with_words);
+    EXPECT("the other way", hll_image_merge(12, 8, b.at, b.len, a.at, a.len, out, sizeof out, &size, &failed), out, size,
+           with_words);
+    EXPECT("parts", hll_parts_union(12, 8, parts, 3, out, sizeof out, &size, &failed), out, size, with_words);
+    EXPECT("folded", hll_image_fold(b.at, b.len, 4, out, sizeof out, &size), out, size, with_words);
+    EXPECT("4 bits", hll_image_convert(plain.at, plain.len, 4, out, sizeof out, &size), out, size, of_four_bits);
+    EXPECT("words", hll_image_set_estimator_fields(plain.at, plain.len, out, sizeof out, &size), out, size, with_words);
+    EXPECT("no words", hll_image_clear_estimator_fields(words.at, words.len, out, sizeof out, &size), out, size, joined);
+    CHECK(hll_images_agree(plain.at, plain.len, four.at, four.len, &same, &failed) == HLL_OK && same == 1, "4 bits agree");
+    CHECK(hll_images_agree(plain.at, plain.len, a.at, a.len, &same, &failed) == HLL_OK && same == 0, "a part agrees");
+    CHECK(hll_registers_merge(registers, 16, a.at, a.len, NULL) == HLL_OK, "registers joined");
+    CHECK(hll_registers_merge(registers, 16, b.at, b.len, NULL) == HLL_OK, "more of them");
+    EXPECT("registers", hll_registers_image(registers, 16, 8, out, sizeof out, &size), out, size, with_words);
+    CHECK(failed == 5, "failed is written on success");
+    CHECK(hll_image_info(words.at, words.len, &info, sizeof info) == HLL_OK && info.zeros == 14, "info");
+    CHECK(info.hip == 0 && info.kxq0 == UINT64_C(0x402c000001080000) && info.kxq1 == 0, "the words in info");
+    /* 14 * 2^63 + 2^38 + 2^33 */
+    CHECK(info.units_high == 7 && info.units_low == (UINT64_C(1) << 38) + (UINT64_C(1) << 33), "units");
+    CHECK(hll_image_histogram(four.at, four.len, &histogram) == HLL_OK, "a histogram");
+    CHECK(histogram.counts[0] == 14 && histogram.counts[25] == 1 && histogram.counts[30] == 1, "of 4 bits");
+    free(a.at);
+    free(b.at);
+    free(plain.at);
+    free(words.at);
+    free(four.at);
+}
+
+/* An image is as long as its size says, whatever follows; and no shorter bytes are one. */
+static void test_sizes(void)
+{
+    size_t stage, size;
+    unsigned width;
+    for (stage = 0; stage < 3; stage++)
+        for (width = 4; width <= 8; width += 2) {
+            bytes image = image_of_values(12, (uint8_t)width, 0, values_of_stage[stage]);
+            bytes more = with_room(image.len + 9);
+            memset(more.at, 7, more.len);
+            memcpy(more.at, image.at, image.len);
+            size = 4711;
+            CHECK(hll_image_size(more.at, image.len - 1, &size) == HLL_TRUNCATED && size == 4711, "a byte too few");
+            CHECK(hll_image_size(more.at, image.len, &size) == HLL_OK && size == image.len, "%d", (int)size);
+            CHECK(hll_image_size(more.at, more.len, &size) == HLL_OK && size == image.len, "%d, more", (int)size);
+            free(more.at);
+            free(image.at);
+        }
+}
+
+/* A caller that was compiled for another hll_info is told so, and nothing is written. */
+static void test_other_info(void)
+{
+    static const uint8_t empty[] = {2, 1, 7, 10, 3, 12, 0, 8};
+    static const size_t others[] = {0, 8, sizeof(hll_info) - 1, sizeof(hll_info) + 8};
+    hll_info info, before;
+    size_t i;
+    memset(&info, 5, sizeof info);
+    memset(&before, 5, sizeof before);
+    for (i = 0; i < 4; i++)
+        CHECK(hll_image_info(empty, sizeof empty, &info, others[i]) == HLL_ARGUMENT, "an info of %d bytes", (int)others[i]);
+    CHECK(memcmp(&info, &before, sizeof info) == 0, "an info of another size is written");
+    CHECK(hll_image_info(empty, sizeof empty, &info, sizeof info) == HLL_OK && info.is_empty == 1, "an empty sketch");
+}
+
+/* NULL may stand where a length is 0, and for what is told of a refusal. */
+static void test_null(void)
+{
+    static const uint8_t empty[] = {2, 1, 7, 10, 3, 12, 0, 8}, bad[] = {2, 1, 6, 10, 3, 12, 0, 8};
+    static const size_t ends[] = {0, 0}, apart[] = {8, 16};
+    uint8_t out[64], both[16], registers[32] = {0}, few[16] = {0}, same = 7;
+    hll_bytes parts[2] = {{NULL, 0}, {NULL, 0}};
+    size_t size = 0;
+    hll_info info;
+    hll_histogram histogram;
+    memcpy(both, empty, 8);
+    memcpy(both + 8, bad, 8);
+    few[3] = 9;
+    CHECK(hll_image_check(NULL, 0) == HLL_TRUNCATED && hll_image_size(NULL, 0, &size) == HLL_TRUNCATED, "no image");
+    CHECK(hll_image_info(NULL, 0, &info, sizeof info) == HLL_TRUNCATED, "info of none");
+    CHECK(hll_image_histogram(NULL, 0, &histogram) == HLL_TRUNCATED, "a histogram of none");
+    CHECK(hll_image_new(10, 8, NULL, 0, &size) == HLL_BUFFER && size == 8, "no buffer");
+    CHECK(hll_image_add(empty, 8, NULL, 0, NULL, 0, out, sizeof out, &size) == HLL_OK && size == 8, "no values");
+    CHECK(hll_image_add(empty, 8, NULL, 0, ends, 2, out, sizeof out, &size) == HLL_OK && size == 12, "empty strings");
+    CHECK(hll_images_union(10, 8, NULL, 0, NULL, 0, out, sizeof out, &size, NULL) == HLL_OK && size == 8, "no images");
+    CHECK(hll_images_union(10, 8, both, 16, apart, 2, out, sizeof out, &size, NULL) == HLL_FAMILY, "a bad image");
+    CHECK(hll_parts_union(10, 8, NULL, 0, out, sizeof out, &size, NULL) == HLL_OK && size == 8, "no parts");
+    CHECK(hll_parts_union(10, 8, parts, 2, out, sizeof out, &size, NULL) == HLL_TRUNCATED, "parts of no bytes");
+    CHECK(hll_image_merge(10, 8, empty, 8, bad, 8, out, sizeof out, &size, NULL) == HLL_FAMILY, "merged with a bad one");
+    CHECK(hll_image_merge(10, 8, NULL, 0, empty, 8, out, sizeof out, &size, NULL) == HLL_TRUNCATED, "with none");
+    CHECK(hll_images_agree(bad, 8, empty, 8, &same, NULL) == HLL_FAMILY && same == 7, "agreement with a bad one");
+    CHECK(hll_registers_add(registers, 32, NULL, 0, NULL, 0) == HLL_OK, "no values for registers");
+    CHECK(hll_registers_add_coupons(registers, 32, NULL, 0) == HLL_OK, "no coupons");
+    CHECK(hll_registers_merge(registers, 32, NULL, 0, NULL) == HLL_TRUNCATED, "no image for registers");
+    CHECK(hll_registers_merge_registers(registers, 32, few, 16, NULL) == HLL_FEWER, "fewer registers");
+    CHECK(hll_registers_merge_registers(registers, 32, NULL, 0, NULL) == HLL_ARGUMENT, "no registers");
+    CHECK(hll_coupon(NULL, 0) == hll_coupon(empty, 0), "the coupon of no bytes");
+    CHECK(hll_coupons(NULL, 0, NULL, 0, NULL, 0) == HLL_OK, "no coupons of values");
+}
+
+/* ---- images of other versions (docs/DIFFERENCES.md) ---- */
+
+/* A list or a set whose table has the size byte 0 is refused, and with the byte that its coupons ask for it is read. */
+static void test_table_sizes(void)
+{
+    static const struct { size_t values; uint8_t lg_places; } rows[] = {
+        {0, 3}, {1, 3}, {7, 3}, {8, 5}, {24, 5}, {25, 6}, {48, 6}, {49, 7}, {384, 9},
+    };
+    size_t i;
+    for (i = 0; i < sizeof rows / sizeof rows[0]; i++) {
+        bytes image = image_of_values(12, 8, 5, rows[i].values);
+        CHECK(image.at[4] == rows[i].lg_places, "%d values: a table of 2^%d", (int)rows[i].values, image.at[4]);
+        image.at[4] = 0;
+        CHECK(hll_image_check(image.at, image.len) == HLL_LG_ARR, "%d values, size 0", (int)rows[i].values);
+        image.at[4] = rows[i].lg_places;
+        CHECK(hll_image_check(image.at, image.len) == HLL_OK, "%d values", (int)rows[i].values);
+        free(image.at);
+    }
+}
+
+/* Estimator fields that the flag 32 calls stale are kept without it, until they are made again. */
+static void test_stale_words(void)
+{
+    bytes plain = image_of_values(12, 8, 5, 5000), stale = with_room(plain.len), written = with_room(plain.len);
+    bytes wanted = with_room(plain.len);
+    size_t size = 0;
+    CHECK(hll_image_set_estimator_fields(plain.at, plain.len, wanted.at, wanted.len, &size) == HLL_OK, "words");
+    memcpy(stale.at, wanted.at, wanted.len);
+    stale.at[5] |= 32;
+    memset(stale.at + 8, 7, 24);
+    CHECK(hll_image_convert(stale.at, stale.len, 8, written.at, written.len, &size) == HLL_OK, "stale words");
+    CHECK(written.at[5] == (wanted.at[5] & ~32) && memcmp(written.at + 8, stale.at + 8, 24) == 0, "words are not kept");
+    CHECK(hll_image_set_estimator_fields(written.at, size, stale.at, stale.len, &size) == HLL_OK, "words of these");
+    CHECK(size == wanted.len && memcmp(stale.at, wanted.at, size) == 0, "words are not made again");
+    free(plain.at);
+    free(stale.at);
+    free(written.at);
+    free(wanted.at);
+}
+
+int main(void)
+{
+    test_reasons();
+    test_is_small();
+    test_faulty_images();
+    test_failed();
+    test_arguments();
+    test_small_images();
+    test_coupons();
+    test_telling();
+    test_merges();
+    test_folds();
+    test_histogram_of_63();
+    test_words();
+    test_table_sizes();
+    test_stale_words();
+    test_words_by_default();
+    test_known_registers();
+    test_sizes();
+    test_other_info();
+    test_null();
+    return finish("calls, each with its codes");
+}

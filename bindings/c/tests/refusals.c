@@ -1,0 +1,215 @@
+/* SPDX-License-Identifier: Apache-2.0 */
+/* Each request for memory of each call is refused in turn: the call answers HLL_MEMORY, leaves its output as it was and
+ * gives back what it has. Link with --wrap of malloc, calloc, realloc, aligned_alloc, posix_memalign and free. */
+#include "test.h"
+
+void *__real_malloc(size_t size);
+void *__real_calloc(size_t count, size_t size);
+void *__real_realloc(void *old, size_t size);
+void *__real_aligned_alloc(size_t alignment, size_t size);
+int __real_posix_memalign(void **made, size_t alignment, size_t size);
+void __real_free(void *old);
+
+/* How many requests are still granted before one is refused; none is where it is below 0. */
+static long granted = -1;
+
+/* What was taken and not given back. */
+static long held;
+
+static int is_refused(void)
+{
+    return granted >= 0 && granted-- == 0;
+}
+
+static void *taken(void *made)
+{
+    held += made != NULL;
+    return made;
+}
+
+void *__wrap_malloc(size_t size)
+{
+    return is_refused() ? NULL : taken(__real_malloc(size));
+}
+
+void *__wrap_calloc(size_t count, size_t size)
+{
+    return is_refused() ? NULL : taken(__real_calloc(count, size));
+}
+
+void *__wrap_realloc(void *old, size_t size)
+{
+    void *made;
+    if (is_refused())
+        return NULL;
+    made = __real_realloc(old, size);
+    held += old == NULL && made != NULL;
+    return made;
+}
+
+void *__wrap_aligned_alloc(size_t alignment, size_t size)
+{
+    return is_refused() ? NULL : taken(__real_aligned_alloc(alignment, size));
+}
+
+int __wrap_posix_memalign(void **made, size_t alignment, size_t size)
+{
+    int status = is_refused() ? 12 : __real_posix_memalign(made, alignment, size);
+    held += status == 0;
+    return status;
+}
+
+void __wrap_free(void *old)
+{
+    held -= old != NULL;
+    __real_free(old);
+}
+
+/* The union call of test.h joins its images in memory of its own, so unions are made of images that lie joined. */
+static uint8_t joined[3 * HLL_IMAGE_MAX(12)];
+static size_t joined_ends[3];
+
+static void join(bytes image)
+{
+    memcpy(joined, other_image, sizeof other_image);
+    memcpy(joined + sizeof other_image, image.at, image.len);
+    memcpy(joined + sizeof other_image + image.len, image.at, image.len);
+    joined_ends[0] = sizeof other_image;
+    joined_ends[1] = joined_ends[0] + image.len;
+    joined_ends[2] = joined_ends[1] + image.len;
+}
+
+static hll_status call_joined(const uint8_t *image, size_t len, uint8_t *out, size_t room, size_t *size)
+{
+    size_t failed = 77;
+    hll_status status = hll_images_union(12, 6, joined, joined_ends[2], joined_ends, 3, out, room, size, &failed);
+    (void)image;
+    (void)len;
+    return failed == 77 ? status : 200;
+}
+
+static hll_status call_parts(const uint8_t *image, size_t len, uint8_t *out, size_t room, size_t *size)
+{
+    const hll_bytes parts[] = {{other_image, sizeof other_image}, {image, len}, {image, len}};
+    size_t failed = 77;
+    hll_status status = hll_parts_union(12, 6, parts, 3, out, room, size, &failed);
+    return failed == 77 ? status : 200;
+}
+
+/* A join into registers of the caller, which a refusal leaves as they were, and their image. */
+static hll_status call_registers(const uint8_t *image, size_t len, uint8_t *out, size_t room, size_t *size)
+{
+    static uint8_t registers[1 << 12], zeros[sizeof registers];
+    uint8_t lg_k = 77;
+    hll_status status;
+    memset(registers, 0, sizeof registers);
+    status = hll_registers_merge(registers, sizeof registers, image, len, &lg_k);
+    if (status != HLL_OK)
+        return lg_k == 77 && memcmp(registers, zeros, sizeof zeros) == 0 ? status : 200;
+    return hll_registers_image(registers, sizeof registers, 4, out, room, size);
+}
+
+/* Sixty new values, which make a set of a list, and registers of the largest set. */
+static hll_status call_grow(const uint8_t *image, size_t len, uint8_t *out, size_t room, size_t *size)
+{
+    static uint8_t values[60];
+    static size_t ends[60];
+    size_t i;
+    for (i = 0; i < 60; i++) {
+        values[i] = (uint8_t)i;
+        ends[i] = i + 1;
+    }
+    return hll_image_add(image, len, values, 60, ends, 60, out, room, size);
+}
+
+static uint8_t out[HLL_IMAGE_MAX(12)], unchanged[sizeof out];
+static long refused;
+
+/* A call with its first requests granted and the next refused; whether there was one to refuse. */
+static int refuse_writer(const char *name, writes *call, bytes image, long first)
+{
+    size_t size = 4711;
+    long before = held;
+    hll_status status;
+    int was_refused;
+    memcpy(out, unchanged, sizeof out);
+    granted = first;
+    status = call(image.at, image.len, out, sizeof out, &size);
+    was_refused = granted < 0;
+    granted = -1;
+    CHECK(held == before, "%s, request %ld: %ld are not given back", name, first, held - before);
+    if (!was_refused) {
+        CHECK(status == HLL_OK, "%s: %s with all memory", name, hll_reason(status));
+        return 0;
+    }
+    refused++;
+    CHECK(status == HLL_MEMORY, "%s, request %ld: %s", name, first, hll_reason(status));
+    CHECK(size == 4711 && memcmp(out, unchanged, sizeof out) == 0, "%s, request %ld: output changed", name, first);
+    return 1;
+}
+
+static int refuse_teller(const struct teller *teller, bytes image, long first)
+{
+    answer told, told_before;
+    long before = held;
+    hll_status status;
+    int was_refused;
+    memset(&told_before, 0xa5, sizeof told_before);
+    memcpy(&told, &told_before, sizeof told);
+    granted = first;
+    status = teller->call(image.at, image.len, &told);
+    was_refused = granted < 0;
+    granted = -1;
+    CHECK(held == before, "%s, request %ld: %ld are not given back", teller->name, first, held - before);
+    if (!was_refused) {
+        CHECK(status == HLL_OK, "%s: %s with all memory", teller->name, hll_reason(status));
+        return 0;
+    }
+    refused++;
+    CHECK(status == HLL_MEMORY, "%s, request %ld: %s", teller->name, first, hll_reason(status));
+    CHECK(memcmp(&told, &told_before, sizeof told) == 0, "%s, request %ld: answer changed", teller->name, first);
+    return 1;
+}
+
+static void refuse_each(const char *name, writes *call, bytes image)
+{
+    long first = 0;
+    while (refuse_writer(name, call, image, first))
+        first++;
+    CHECK(first > 0 || call == call_new, "%s takes no memory, so nothing was tested", name);
+}
+
+static void test_image(bytes image)
+{
+    size_t i;
+    join(image);
+    for (i = 0; i < WRITERS; i++)
+        if (writers[i].call != call_union)
+            refuse_each(writers[i].name, writers[i].call, image);
+    refuse_each("union", call_joined, image);
+    refuse_each("union of parts", call_parts, image);
+    refuse_each("join into registers, and their image", call_registers, image);
+    refuse_each("add of sixty values", call_grow, image);
+    for (i = 0; i < TELLERS; i++) {
+        long first = 0;
+        while (refuse_teller(&tellers[i], image, first))
+            first++;
+    }
+}
+
+int main(void)
+{
+    static const size_t values[] = {0, 5, 8, 100, 380, 20000};
+    unsigned width;
+    size_t i;
+    memset(unchanged, 0xa5, sizeof unchanged);
+    for (width = 4; width <= 8; width += 2)
+        for (i = 0; i < 6; i++) {
+            bytes image = image_of_values(12, (uint8_t)width, 1000, values[i]);
+            test_image(image);
+            free(image.at);
+        }
+    CHECK(refused > 500, "only %ld requests were refused", refused);
+    printf("%ld requests for memory were refused\n", refused);
+    return finish("each request for memory refused in turn");
+}

@@ -1,0 +1,359 @@
+#!/bin/sh
+# SPDX-License-Identifier: Apache-2.0
+# Builds and runs the tests of the C library, in the folder of hll.h:
+#
+#   run.sh BUILD            all tests of the library that `make` has built in BUILD; `make check` calls it so
+#   run.sh BUILD PROVED     tests of the calls, over a library that is built here from another build of the proved library
+#
+# Each test prints what it ran and 'N passed, M failed'; the last line sums them, and the status is 1 if one failed. What
+# can't be run here, for want of a program, is named.
+set -u
+
+build=$1
+tests=$build/tests
+CC=${CC:-cc}
+CXX=${CXX:-c++}
+strict='-Wall -Wextra -pedantic -Werror'
+test_flags="$strict -Wno-unused-function -O1 -g -std=c99"
+wraps='-Wl,--wrap=malloc,--wrap=calloc,--wrap=realloc,--wrap=aligned_alloc,--wrap=posix_memalign,--wrap=free'
+rows='../../crates/hll_vectors/stdin ../../tests/walks.txt'
+top=$(cd ../.. && pwd)
+text=$top/prebuilt/$($CC -dumpmachine | cut -d- -f1)/libhll_c.s
+arm=aarch64-unknown-linux-gnu
+version=$(sed -n 's/^#define HLL_VERSION_[A-Z]* \([0-9]*\)$/\1/p' hll.h | paste -sd. -)
+passed=0
+failed=0
+mkdir -p "$tests" || exit 1
+
+# Adds what a test printed last to the sums; a test that printed no counts, or ended badly, has failed.
+count() {
+    status=$1
+    last=$(tail -n 1 "$tests/log")
+    good=$(printf '%s\n' "$last" | sed -n 's/^.*: \([0-9][0-9]*\) passed, \([0-9][0-9]*\) failed$/\1/p')
+    bad=$(printf '%s\n' "$last" | sed -n 's/^.*: \([0-9][0-9]*\) passed, \([0-9][0-9]*\) failed$/\2/p')
+    if [ -z "$good" ]; then
+        good=0
+        bad=1
+    elif [ "$status" -ne 0 ] && [ "$bad" -eq 0 ]; then
+        bad=1
+    fi
+    passed=$((passed + good))
+    failed=$((failed + bad))
+}
+
+# A program that prints its counts.
+run() {
+    name=$1
+    shift
+    "$@" >"$tests/log" 2>&1
+    status=$?
+    count "$status"
+    sed "s/^/$name: /" "$tests/log"
+    [ "$status" -eq 0 ] || echo "$name: ended with status $status"
+}
+
+# A command that has to succeed; it counts as one test.
+expect() {
+    name=$1
+    shift
+    if "$@" >"$tests/log" 2>&1; then
+        passed=$((passed + 1))
+        echo "$name: 1 passed, 0 failed"
+    else
+        failed=$((failed + 1))
+        cat "$tests/log"
+        echo "$name: 0 passed, 1 failed"
+    fi
+}
+
+has() {
+    command -v "$1" >/dev/null 2>&1
+}
+
+skip() {
+    echo "$1: skipped, as $2 is not here"
+}
+
+# ---- the header, and what the libraries show
+
+test_header() {
+    for standard in c99 c11 c17; do
+        expect "header as $standard" $CC $strict -std=$standard -x c -fsyntax-only hll.h
+    done
+    expect "estimate.c as c99" $CC $strict -std=c99 -c -o "$tests/estimate.o" estimate.c
+    expect "merge.c as c99" $CC $strict -std=c99 -I. -c -o "$tests/example.o" ../../examples/merge.c
+    if ! has "$CXX"; then
+        skip 'header as C++' "$CXX"
+        return
+    fi
+    for standard in c++11 c++17; do
+        expect "header as $standard" $CXX $strict -std=$standard -x c++ -fsyntax-only hll.h
+    done
+    expect 'a program in C++' $CXX $strict -std=c++11 -o "$tests/header" tests/header.cpp "$build/libhll.a"
+    run 'C++' "$tests/header"
+}
+
+# The calls that the header declares, and the names that a library shows.
+declared() {
+    sed -n 's/^\(hll_status\|uint32_t\) \(hll_[a-z_]*\)(.*/\2/p' hll.h | sort
+}
+
+shown() {
+    nm "$@" | sed -n 's/^[0-9a-f]* [A-TV-Za-tv-z] \([^@]*\).*$/\1/p' | grep -v '^HLL_0$' | sort
+}
+
+# The numbers that estimates are compared with are those of a computation in Python.
+test_expected() {
+    if has python3; then
+        expect 'numbers of estimates' python3 tests/expected.py --check
+    else
+        skip 'numbers of estimates' python3
+    fi
+}
+
+test_names() {
+    declared >"$tests/declared"
+    expect 'twenty-eight calls are declared' test "$(wc -l <"$tests/declared")" -eq 28
+    shown -D --defined-only "$build/libhll.so" >"$tests/shown"
+    expect 'names of the shared library' diff "$tests/declared" "$tests/shown"
+    shown -g --defined-only "$build/libhll.a" >"$tests/shown"
+    expect 'names of the archive' diff "$tests/declared" "$tests/shown"
+    sed -n 's/^ *\(hll_[a-z_]*\);$/\1/p' hll.map | sort >"$tests/shown"
+    expect 'names of the map' diff "$tests/declared" "$tests/shown"
+}
+
+# ---- the calls
+
+compile() {
+    name=$1
+    shift
+    expect "test of $name compiles" $CC $test_flags -o "$tests/$name" "tests/${name%%-*}.c" "$@"
+}
+
+test_calls() {
+    for name in calls buffers estimates rows registers; do
+        compile "$name" "$build/libhll.a"
+    done
+    compile threads "$build/libhll.a" -pthread
+    compile refusals "$build/libhll.a" "$wraps"
+    compile calls-shared -L"$build" -lhll -Wl,-rpath,"$build"
+    run calls "$tests/calls"
+    run 'calls, shared library' env LD_LIBRARY_PATH="$build" "$tests/calls-shared"
+    run buffers "$tests/buffers"
+    run refusals "$tests/refusals"
+    run threads "$tests/threads"
+    run estimates "$tests/estimates"
+    run rows "$tests/rows" $rows
+    run registers "$tests/registers"
+}
+
+test_memory() {
+    if ! has valgrind; then
+        skip 'valgrind' valgrind
+        return
+    fi
+    kinds='definite,possible'
+    clean="valgrind --quiet --error-exitcode=9 --leak-check=full"
+    clean="$clean --show-leak-kinds=$kinds --errors-for-leak-kinds=$kinds"
+    run 'calls in valgrind' $clean "$tests/calls"
+    run 'buffers in valgrind' $clean "$tests/buffers" small
+    run 'refusals in valgrind' $clean "$tests/refusals"
+    run 'estimates in valgrind' $clean "$tests/estimates"
+    run 'rows in valgrind' $clean "$tests/rows" $rows
+    run 'registers in valgrind' $clean "$tests/registers" 20 small
+}
+
+# The tests and estimate.c, with checks of gcc for each access and each sum.
+test_sanitized() {
+    flags='-fsanitize=address,undefined -fno-sanitize-recover=all -Dhll_estimate=sanitized_estimate'
+    flags="$flags -Dhll_registers_estimate=sanitized_registers_estimate"
+    flags="$flags -Dhll_hip_estimate=sanitized_hip_estimate -Dhll_version=sanitized_version"
+    if ! echo 'int main(void) { return 0; }' | $CC $flags -x c -o "$tests/probe" - 2>/dev/null || ! "$tests/probe"; then
+        skip 'sanitizers' "their library"
+        return
+    fi
+    for name in calls buffers estimates rows threads registers; do
+        compile "$name-sanitized" $flags estimate.c "$build/libhll.a" -pthread
+    done
+    # What leaks is seen by valgrind and by the test of refusals; here it takes rights that not each machine gives.
+    ASAN_OPTIONS=detect_leaks=0
+    export ASAN_OPTIONS
+    run 'calls, sanitized' "$tests/calls-sanitized"
+    run 'buffers, sanitized' "$tests/buffers-sanitized" small
+    run 'estimates, sanitized' "$tests/estimates-sanitized"
+    run 'rows, sanitized' "$tests/rows-sanitized" $rows
+    run 'threads, sanitized' "$tests/threads-sanitized"
+    run 'registers, sanitized' "$tests/registers-sanitized" 300
+}
+
+# ---- the example, and an installed library
+
+# The program merges two files into one, and refuses a file that is no image.
+try_example() {
+    program=$1
+    printf '\002\001\007\014\003\010\001\010\005\000\000\014' >"$tests/one.hll"
+    printf '\002\001\007\014\003\010\001\010\007\000\000\010' >"$tests/two.hll"
+    printf '\002\001\007\014\003\010\002\010\007\000\000\010\005\000\000\014' >"$tests/both.hll"
+    echo 'no image at all' >"$tests/none.hll"
+    "$program" "$tests/out.hll" "$tests/one.hll" "$tests/two.hll" "$tests/one.hll" >"$tests/said" || return 1
+    cmp "$tests/out.hll" "$tests/both.hll" || return 1
+    grep '^2 distinct values' "$tests/said" || return 1
+    ! "$program" "$tests/out.hll" "$tests/one.hll" "$tests/none.hll" 2>"$tests/said" || return 1
+    grep 'none.hll: family$' "$tests/said" || return 1
+    ! "$program" 2>/dev/null
+}
+
+# The program of the README joins files that are named on its input, and names one that is no image.
+try_readme() {
+    awk '/^```c$/ { on = 1; text = ""; next } /^```$/ { if (on && text ~ /hll_registers_merge/) printf "%s", text; on = 0 }
+        on { text = text $0 "\n" }' README.md >"$tests/readme.c"
+    $CC $strict -std=c99 -I. -o "$tests/readme" "$tests/readme.c" "$build/libhll.a" || return 1
+    printf '%s\n' "$tests/one.hll" "$tests/none.hll" "$tests/two.hll" "$tests/one.hll" | "$tests/readme" \
+        >"$tests/said" 2>"$tests/refused"
+    [ $? -eq 1 ] || return 1
+    grep '^2 distinct values$' "$tests/said" && grep 'none.hll: family$' "$tests/refused" &&
+        [ "$(wc -l <"$tests/refused")" -eq 1 ]
+}
+
+# Builds the libraries in a new folder, from a build of the proved library.
+make_in() {
+    rm -rf "$1"
+    mkdir "$1" || return 1
+    cp Makefile ./*.[ch] hll.map hll.pc.in "$1" || return 1
+    make -s -C "$1" PROVED="$2" all
+}
+
+# Builds the libraries in two folders, from the same text: they are the same bytes.
+try_two_folders() {
+    for place in one another-folder; do
+        make_in "$tests/$place" "$text" || return 1
+    done
+    cmp "$tests/one/build/libhll.so" "$tests/another-folder/build/libhll.so" || return 1
+    cmp "$tests/one/build/libhll.a" "$tests/another-folder/build/libhll.a"
+}
+
+# The calls, over another build of the proved library.
+test_other_build() {
+    expect 'the library' make_in "$tests/other" "$1"
+    for name in calls buffers rows registers; do
+        compile "$name-other" "$tests/other/build/libhll.a"
+    done
+    run calls "$tests/calls-other"
+    run buffers "$tests/buffers-other"
+    run rows "$tests/rows-other" $rows
+    run registers "$tests/registers-other" 500
+}
+
+# `make` where the command rt isn't, in a copy of what it needs: from prebuilt/ it builds the same library; where a source
+# or a text has changed it builds nothing, and says why.
+make_without_rt() {
+    rm -rf "$place/bindings/c/build"
+    PATH=$place/tools make -C "$place/bindings/c" --no-print-directory "$@" >"$tests/said" 2>&1
+}
+
+try_without_rt() {
+    place=$(mktemp -d) || return 1
+    mkdir -p "$place/tools" "$place/bindings/c" || return 1
+    cp -R "$top/prebuilt" "$place" && cp Makefile ./*.[ch] hll.map hll.pc.in "$place/bindings/c" || return 1
+    (cd "$top" && tar -cf - --exclude=out --exclude=must-fail crates crates.txt HANDLES scripts/prebuilt.sh scripts/prebuilt.mk) |
+        tar -xf - -C "$place" || return 1
+    for tool in make sh mkdir find sed cc as ld ar objcopy cp mv rm awk sort tr xargs sha256sum cut cat grep dirname; do
+        ln -s "$(command -v $tool)" "$place/tools/$tool" || return 1
+    done
+    make_without_rt -s && cmp "$place/bindings/c/build/libhll.so" "$build/libhll.so" &&
+        say_why 'a proved source has changed' crates/hll_base/src/lib.rt &&
+        say_why 'not as it was made' "prebuilt/${text#"$top/prebuilt/"}" && say_why 'not as it was made' prebuilt/VERDICT
+    found=$?
+    rm -rf "$place"
+    return $found
+}
+
+# Whether a line that is added to a file keeps the library from being built, and `make` says why.
+say_why() {
+    cp "$place/$2" "$place/kept" && echo '# changed' >>"$place/$2"
+    ! make_without_rt && grep "^make: .*$1" "$tests/said" && [ ! -e "$place/bindings/c/build/libhll.a" ]
+    found=$?
+    mv "$place/kept" "$place/$2"
+    return $found
+}
+
+# On a processor without the instructions of x86-64-v2 neither library is loaded, and a program that has it says why; on one
+# with no others the calls answer as they do here.
+refused_on_old() {
+    ! qemu-x86_64 -cpu core2duo "$@" >"$tests/said" 2>&1 && grep 'CPU ISA level is lower than required$' "$tests/said"
+}
+
+test_processors() {
+    [ "$(uname -m)" = x86_64 ] || return 0
+    if ! has qemu-x86_64; then
+        skip 'older processors' qemu-x86_64
+        return
+    fi
+    expect 'an older processor, archive' refused_on_old "$build/example"
+    LD_LIBRARY_PATH=$build
+    export LD_LIBRARY_PATH
+    expect 'an older processor, shared library' refused_on_old "$tests/calls-shared"
+    run 'calls on a processor of x86-64-v2' qemu-x86_64 -cpu Nehalem "$tests/calls"
+    run 'registers on a processor of x86-64-v2' qemu-x86_64 -cpu Nehalem "$tests/registers" 20 small
+    unset LD_LIBRARY_PATH
+}
+
+# The calls on 64-bit ARM, by an emulator; each of the tests that it runs prints its counts.
+test_arm() {
+    for tool in aarch64-linux-gnu-gcc qemu-aarch64; do
+        has $tool || { skip 'the library for 64-bit ARM' $tool; return; }
+    done
+    env -u MAKEFLAGS -u CC -u CXX make -s emulated TARGET=$arm >"$tests/arm" 2>&1
+    status=$?
+    sed 's/^/64-bit ARM, /' "$tests/arm"
+    grep ' passed, [0-9]* failed$' "$tests/arm" >"$tests/counts"
+    while read -r line; do
+        echo "$line" >"$tests/log"
+        count 0
+    done <"$tests/counts"
+    expect 'all on 64-bit ARM' test "$status" -eq 0
+}
+
+# Installs below a folder, builds the example by the flags of the file for pkg-config, and takes all away again.
+try_install() {
+    place=$(pwd)/$tests/installed
+    rm -rf "$place"
+    make -s install DESTDIR="$place" PREFIX=/usr || return 1
+    for file in include/hll.h lib/libhll.a lib/libhll.so lib/libhll.so.0 "lib/libhll.so.$version" lib/pkgconfig/hll.pc; do
+        [ -f "$place/usr/$file" ] || { echo "$file is missing"; return 1; }
+    done
+    flags="-I$place/usr/include -L$place/usr/lib -lhll"
+    if has pkg-config; then
+        said=$(PKG_CONFIG_SYSROOT_DIR=$place PKG_CONFIG_PATH=$place/usr/lib/pkgconfig \
+            pkg-config --cflags --libs hll) || return 1
+        [ "$(echo $said)" = "$flags" ] || { echo "pkg-config says $said"; return 1; }
+    fi
+    compiled="$CC $strict -std=c99 -I$place/usr/include"
+    $compiled -o "$tests/installed-shared" ../../examples/merge.c $flags || return 1
+    LD_LIBRARY_PATH=$place/usr/lib try_example "$tests/installed-shared" || return 1
+    $compiled -o "$tests/installed-static" ../../examples/merge.c "$place/usr/lib/libhll.a" || return 1
+    try_example "$tests/installed-static" || return 1
+    make -s uninstall DESTDIR="$place" PREFIX=/usr || return 1
+    [ -z "$(find "$place" ! -type d)" ]
+}
+
+if [ $# -gt 1 ]; then
+    test_other_build "$2"
+else
+    test_header
+    test_names
+    test_expected
+    test_calls
+    test_memory
+    test_sanitized
+    expect 'the example' try_example "$build/example"
+    expect 'the program of the README' try_readme
+    expect 'install and uninstall' try_install
+    expect 'without rt' try_without_rt
+    test_processors
+    expect 'the same bytes from two folders' try_two_folders
+    test_arm
+fi
+
+echo "$passed passed, $failed failed"
+[ "$failed" -eq 0 ] && [ "$passed" -gt 0 ]

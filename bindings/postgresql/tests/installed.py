@@ -1,0 +1,234 @@
+# SPDX-License-Identifier: Apache-2.0
+"""The extension as it is built and installed: its names, its marks, beside others, in dumps, and in its README."""
+import os
+import re
+import shutil
+import subprocess
+
+from report import CHECKED, check, equal, refused
+from server import HERE, get
+
+
+def build(server):
+    """The build has no warning, and the module shows none of the library's names."""
+    equal("warnings of the build", server.warnings, [])
+    listing = subprocess.run(["nm", "-D", "--defined-only", server.root / "build" / "hll_sketches.so"], stdout=subprocess.PIPE,
+                             text=True, check=True).stdout
+    names = [line.split()[-1] for line in listing.splitlines()]
+    check("names of the module", "hll_pg_union_trans" in names, names)
+    own = r"(pg_finfo_)?hll_pg_[a-z0-9_]+|Pg_magic_func"
+    equal("other names of the module", [name for name in names if not re.fullmatch(own, name)], [])
+    if os.uname().machine == "x86_64":
+        notes = subprocess.run(["readelf", "-n", server.root / "build" / "hll_sketches.so"], stdout=subprocess.PIPE, text=True)
+        check("the loader is told what processor it takes", "x86 ISA needed: x86-64-v2" in notes.stdout, notes.stdout)
+
+
+# ---- beside postgresql-hll
+
+
+EMPTY = "\\x0201070c030c0008"
+
+
+def beside_peer(server):
+    """With postgresql-hll in one schema: each call goes to its own."""
+    server.ask("CREATE DATABASE peers")
+    if server.run("CREATE EXTENSION hll;", "peers"):
+        get("postgresql-%s-hll" % server.ask("SELECT split_part(current_setting('server_version'), '.', 1)"))
+        server.link()
+        if server.run("CREATE EXTENSION hll;", "peers"):
+            print("skipped: the tests beside postgresql-hll, as it is not here")
+            return
+    equal("beside postgresql-hll", server.run("CREATE EXTENSION hll_sketches;", "peers"), "")
+    for question, wanted in (
+            ("hll_cardinality(hll_union_agg(p)) FROM (SELECT hll_add_agg(hll_hash_bigint(x)) p FROM x) s", "3"),
+            ("hll_estimate(hll_image_union_agg(i))::int FROM (SELECT hll_image_add_agg(x) i FROM x) s", "3"),
+            ("hll_estimate(hll_image_union_agg(i))::int FROM (SELECT hll_image_add_agg(x)::hll_image i FROM x) s", "3"),
+            ("hll_estimate(hll_image_union_agg(i, 10))::int FROM (SELECT hll_image_add_agg('u' || x, 11) i FROM x) s", "3"),
+            ("hll_cardinality(hll_add_agg(hll_hash_text('a'), 12, 5))", "1"),
+            ("hll_estimate(hll_image_add_agg('a', 12, 6))::int, hll_estimate(hll_image_add_agg(7, 12, 6))::int", "1|1"),
+            ("hll_cardinality(hll_empty(11, 5)), hll_estimate(hll_image_empty(11, 6))", "0|0"),
+            ("hll_cardinality(hll_empty() || hll_hash_integer(1)), # hll_empty()", "1|0"),
+            ("(# hyperloglog_union_agg(i))::int, pg_typeof(hyperloglog_union_agg(i)) FROM (SELECT hyperloglog_agg(x) i FROM x) s", "3|hyperloglog"),
+            ("(# (hyperloglog_agg(x) || hyperloglog_agg(x + 1)))::int, # (hll_add_agg(hll_hash_bigint(x)) || hll_hash_bigint(4)) FROM x", "4|4"),
+            ("hyperloglog_empty() = hyperloglog_empty(9), hll_empty() = hll_empty(), (hyperloglog_empty() || hll_image_empty()) = '%s'" % EMPTY, "f|t|t"),
+            ("hll_estimate('%s'), hll_fold('%s', 9) = hyperloglog_empty(9)" % (EMPTY, EMPTY), "0|t")):
+        said = server.run("WITH x AS (SELECT generate_series(1, 3) x) SELECT %s;" % question, "peers")
+        equal("beside postgresql-hll: " + question, said, wanted)
+    again = "DROP EXTENSION hll_sketches; DROP EXTENSION hll; CREATE EXTENSION hll_sketches; CREATE EXTENSION hll;"
+    equal("installed again, before it", server.run(again, "peers"), "")
+    said = server.run("CREATE EXTENSION hll_sketches_agg;", "peers")
+    refused("short names beside postgresql-hll", said, "42723", "extension hll_sketches_agg cannot be")
+    found = server.ask("""CREATE SCHEMA short;
+        CREATE EXTENSION hll_sketches_agg SCHEMA short;
+        SELECT hll_cardinality(hll_union_agg(p)), hll_estimate(short.hll_union_agg(i))::int
+        FROM (SELECT hll_add_agg(hll_hash_bigint(x)) p, short.hll_add_agg(x) i FROM generate_series(1, 3) x) s""", "peers")
+    equal("short names in another schema", found, "3|3")
+
+
+def short_names(server):
+    """The extension hll_sketches_agg: the same aggregates."""
+    server.ask("CREATE DATABASE short")
+    server.ask("""CREATE EXTENSION hll_sketches_agg CASCADE;
+        CREATE TABLE t AS SELECT x % 9 g, hll_add_agg(x) i FROM generate_series(1, 9999) x GROUP BY 1""", "short")
+    for name, values in (("union", ("i", "i, 9", "i, 10, 4")),
+                         ("add", ("i", "i, 9", "i, 10, 4", "g", "g, 9", "g, 9, 4", "g::text", "g::text, 7", "'x', 8, 6", "g::float8",
+                                  "g > 3, 9", "date '2026-11-01' + g, 9, 4"))):
+        for value in values:
+            found = server.ask("SELECT hll_image_%s_agg(%s) = hll_%s_agg(%s) FROM t" % (name, value, name, value), "short")
+            equal("short name of %s(%s)" % (name, value), found, "t")
+    found = server.ask("""SELECT count(*), count(*) FILTER (WHERE short.oid IS NOT NULL) FROM pg_proc long LEFT JOIN pg_proc short
+        ON short.proname = replace(long.proname, '_image', '') AND short.proargtypes = long.proargtypes AND short.prokind = 'a'
+        WHERE long.prokind = 'a' AND long.proname ~ '^hll_image_'""", "short")
+    equal("as many short names", found, "51|51")
+    found = server.ask("SELECT pg_typeof(hll_union_agg(i::hyperloglog)), pg_typeof(hll_union_agg(i)) FROM t", "short")
+    equal("unions of the type and of bytea", found, "hyperloglog|bytea")
+
+
+# ---- names and marks
+
+
+def marks(server):
+    """Functions are immutable and parallel safe, and strict but for those that see NULLs; another schema serves too."""
+    found = server.ask("""SELECT proname, provolatile, proparallel, proisstrict
+        FROM pg_proc JOIN pg_depend ON objid = pg_proc.oid JOIN pg_extension e ON refobjid = e.oid
+        WHERE extname = 'hll_sketches' AND classid = 'pg_proc'::regclass""").split("\n")
+    check("functions are many", len(found) > 30, len(found))
+    for line in found:
+        name, *said = line.split("|")
+        sees_nulls = re.search("_trans|_combine|_final|_agg", name) is not None
+        equal("marks of " + name, said, ["i", "s", "f" if sees_nulls else "t"])
+    server.ask("CREATE DATABASE elsewhere")
+    server.ask("""CREATE SCHEMA sketches;
+        CREATE EXTENSION hll_sketches SCHEMA sketches;
+        CREATE SCHEMA other;
+        ALTER EXTENSION hll_sketches SET SCHEMA other""", "elsewhere")
+    said = server.run("SELECT other.hll_info(x.i::other.hll_image) FROM (SELECT other.hll_image_empty(9, 6) i) x;", "elsewhere")
+    equal("in another schema", said, "(9,6,list,0,0)")
+    equal("dropped", server.run("DROP EXTENSION hll_sketches;", "elsewhere"), "")
+
+
+# ---- updates and dumps
+
+# What a database of 0.1 may have: columns of the domain and of bytea, views, indexes, constraints and defaults, a function, and
+# aggregates of its own. The aggregates hll_add_agg and hll_union_agg are those of hll_sketches_agg.
+OLD = """CREATE EXTENSION hll_sketches VERSION '0.1';
+    CREATE EXTENSION hll_sketches_agg VERSION '0.1';
+    CREATE TABLE days (day int PRIMARY KEY, image hll_image NOT NULL, plain bytea DEFAULT hll_image_empty(10),
+        CHECK ((hll_info(image)).lg_k <= 12));
+    INSERT INTO days SELECT g, hll_image_add_agg(x, 12, 4 + 2 * (g % 3)), hll_image_add_agg('v' || x)
+        FROM (SELECT x, x % 40 g FROM generate_series(1, 60000) x) s GROUP BY g;
+    CREATE MATERIALIZED VIEW month AS SELECT hll_image_union_agg(image) u, hll_union_agg(plain, 11) p FROM days;
+    CREATE VIEW estimates AS SELECT day, hll_estimate(image) e, hll_merge(image, plain, 12) m,
+        hll_fold('\\x0201070a030801080500000c', 4) f FROM days;
+    CREATE INDEX ON days ((hll_estimate(image)));
+    CREATE INDEX ON days USING hash (plain);
+    CREATE AGGREGATE merged(bytea) (SFUNC = hll_merge, STYPE = bytea);
+    CREATE FUNCTION total() RETURNS float8 LANGUAGE sql AS 'SELECT hll_estimate(hll_add_agg(day)) FROM days'"""
+TELLS = """SELECT md5(string_agg(image::text || plain::text, ',' ORDER BY day)), (SELECT u FROM month), (SELECT p FROM month), total(),
+    (SELECT string_agg(estimates::text, ',' ORDER BY day) FROM estimates), md5(merged(plain ORDER BY day)),
+    hll_merge('\\x0201070a030801080500000c', '\\x0201070c030c0008'), hll_image_add_agg(day), hll_image_add_agg(day::text, 10)
+    FROM days"""
+MIGRATED = """ALTER TABLE days ALTER image TYPE hyperloglog(12);
+    ALTER TABLE days ALTER plain DROP DEFAULT, ALTER plain TYPE hyperloglog(12, 8) USING plain::hyperloglog,
+        ALTER plain SET DEFAULT hyperloglog_empty(12)"""
+
+
+def update(server):
+    """A database of 0.1 says the same after an update, and a dump of it is restored by 0.2; its columns become the type's."""
+    server.ask("CREATE DATABASE old; CREATE DATABASE restored; CREATE DATABASE short_first")
+    server.ask(OLD, "old")
+    before, dumped = server.ask(TELLS, "old"), server.tool("pg_dump", "-d", "old")
+    equal("updated", server.run("ALTER EXTENSION hll_sketches UPDATE; ALTER EXTENSION hll_sketches_agg UPDATE;", "old"), "")
+    equal("versions", server.ask("SELECT extname, extversion FROM pg_extension WHERE extname ~ '^hll' ORDER BY 1", "old"),
+          "hll_sketches|0.2\nhll_sketches_agg|0.2")
+    equal("after an update", server.ask(TELLS, "old"), before)
+    equal("a dump of 0.1 restored by 0.2", restore(server, dumped, "restored"), "")
+    equal("after a dump of 0.1", server.ask(TELLS, "restored"), before)
+    fresh = "SELECT pg_describe_object(classid, objid, 0) FROM pg_depend WHERE refclassid = 'pg_extension'::regclass AND deptype = 'e' ORDER BY 1"
+    equal("an update has what 0.2 has", server.ask(fresh, "old"), server.ask(fresh, "restored"))
+    refused("the domain after an update", server.run("INSERT INTO days VALUES (100, '\\x00');", "old"), CHECKED)
+    said = server.run("DROP VIEW estimates; DROP MATERIALIZED VIEW month; ALTER TABLE days DROP CONSTRAINT days_image_check; %s;" % MIGRATED, "old")
+    equal("columns of the domain become the type's", said, "")
+    found = server.ask("SELECT md5(string_agg(image::text || plain::text, ',' ORDER BY day)) FROM days", "old")
+    equal("what became of them", found, before.split("|")[0])
+    server.ask("CREATE EXTENSION hll_sketches VERSION '0.1'; CREATE EXTENSION hll_sketches_agg VERSION '0.1'", "short_first")
+    said = server.run("ALTER EXTENSION hll_sketches_agg UPDATE;", "short_first")
+    check("the short names alone can't be updated", said.startswith("ERROR:  42704: type hyperloglog does not exist"), said)
+
+
+def restore(server, dumped, database):
+    return server.run("\\set ON_ERROR_STOP on\n\\o %s\n" % os.devnull + dumped, database)
+
+
+NEW = """CREATE SCHEMA sketches;
+    CREATE EXTENSION hll_sketches SCHEMA sketches;
+    SET search_path = sketches, public;
+    CREATE TABLE public.days (day int PRIMARY KEY, image hll_image NOT NULL, sketch hyperloglog(12, 8) DEFAULT hyperloglog_empty(12),
+        CHECK (# sketch < 1e9));
+    CREATE DOMAIN public.small_sketch AS hyperloglog(10) CHECK (hll_estimate(VALUE) < 1e9);
+    CREATE TABLE public.parts (n int, sketch small_sketch, several hyperloglog[], PRIMARY KEY (n));
+    INSERT INTO days SELECT g, hll_image_add_agg(x, 12, 4 + 2 * (g % 3)), hyperloglog_agg(x)
+        FROM (SELECT x, x % 40 g FROM generate_series(1, 60000) x) s GROUP BY g;
+    INSERT INTO parts SELECT day, hll_fold(sketch, 10), ARRAY[sketch, sketch || image, hyperloglog_empty(9)] FROM days;
+    CREATE MATERIALIZED VIEW public.month AS SELECT hll_image_union_agg(image) u, hyperloglog_union_agg(sketch) s FROM days;
+    CREATE VIEW public.joined AS SELECT day, sketch || image AS both_of_them, sketch = '\\x0201070c030c0008' AS is_none FROM days;
+    CREATE AGGREGATE public.merged(hyperloglog) (SFUNC = hll_merge, STYPE = hyperloglog, INITCOND = '\\x0201070c030c0008');
+    CREATE INDEX ON days ((hll_estimate(image))); CREATE INDEX ON days USING hash (sketch)"""
+ALL_OF_IT = """SET search_path = sketches, public;
+    SELECT count(*), md5(string_agg(image::text || sketch::text, ',' ORDER BY day)), md5((SELECT u FROM month)), md5((SELECT s FROM month)),
+    (SELECT md5(string_agg(joined::text, ',' ORDER BY day)) FROM joined), (SELECT md5(string_agg(parts::text, ',' ORDER BY n)) FROM parts),
+    md5(merged(sketch ORDER BY day)), (SELECT string_agg(format_type(atttypid, atttypmod), ',' ORDER BY attrelid, attnum) FROM pg_attribute
+        WHERE attrelid IN ('days'::regclass, 'parts'::regclass) AND attnum > 0) FROM days"""
+
+
+def dump(server):
+    """Tables of the domain and of the type, with what leans on them, dumped and restored, by text and by a file of pg_restore."""
+    server.ask("CREATE DATABASE before; CREATE DATABASE after; CREATE DATABASE after_custom")
+    server.ask(NEW, "before")
+    before = server.ask(ALL_OF_IT, "before")
+    check("columns with modifiers", "hyperloglog(12,8)" in before, before[-200:])
+    equal("restored without a word", restore(server, server.tool("pg_dump", "-d", "before"), "after"), "")
+    equal("dump and restore", server.ask(ALL_OF_IT, "after"), before)
+    server.tool("pg_dump", "-d", "before", "-Fc", "-f", str(server.file("dump")))
+    server.tool("pg_restore", "-d", "after_custom", "-1", str(server.file("dump")))
+    equal("dump and pg_restore", server.ask(ALL_OF_IT, "after_custom"), before)
+    refused("the domain is restored", server.run("INSERT INTO days VALUES (100, '\\x00');", "after"), CHECKED)
+    said = server.run("SET search_path = sketches, public; INSERT INTO days VALUES (100, '\\x0201070c030c0008', hyperloglog_empty(11));", "after")
+    refused("the modifier is restored", said, "22000")
+    equal("a default is restored", server.ask("INSERT INTO days(day, image) VALUES (101, '\\x0201070c030c0008') RETURNING sketch", "after"),
+          "\\x0201070c030c0008")
+
+
+# ---- texts that are run as they stand
+
+
+def readme(server):
+    """The queries of README.md, in their order: none fails, and each prints the lines that stand after `-->`. The query of the
+    README at the top is run on their table."""
+    blocks = re.findall(r"^```sql\n(.*?)^```$", (HERE / "README.md").read_text(), re.S | re.M)
+    check("README has queries", len(blocks) >= 7, len(blocks))
+    server.ask("CREATE DATABASE metrics; CREATE DATABASE metrics_eu")
+    for block in blocks:
+        said = server.run(block, "metrics_eu" if block.startswith("-- on the other server") else "metrics")
+        name, lines = "README: " + block.split("\n")[0], said.split("\n")
+        check(name, "ERROR" not in said, said)
+        for wanted in re.findall(r"^--> (.*)$", block, re.M):
+            check("%s: %s" % (name, wanted), wanted in lines, said)
+    front, = re.findall(r"^```sql\n(.*?)^```$", (HERE.parent.parent / "README.md").read_text(), re.S | re.M)
+    months = server.ask("SELECT count(DISTINCT date_trunc('month', day)) FROM daily", "metrics")
+    said = server.run(front, "metrics").split("\n")
+    shown = [line for line in said if re.fullmatch(r"2026-\d\d-01 00:00:00\S*\|\d+(\.\d+)?", line)]
+    equal("README at the top: a line a month", (str(len(shown)), len(said)), (months, len(shown)))
+    plan = server.ask("EXPLAIN (VERBOSE, COSTS OFF) SELECT hyperloglog_union_agg(image) FROM daily_eu", "metrics")
+    check("README: the other server makes the union", "Remote SQL: SELECT public.hyperloglog_union_agg(image)" in plan, plan)
+
+
+def regress(server):
+    """make installcheck, which runs the short test of sql/ and expected/."""
+    folder = server.root / "build"
+    for name in ("sql", "expected"):
+        shutil.copytree(HERE / name, folder / name)
+    make = ["make", "-s", "-C", str(folder), "PG_CONFIG=" + server.pg_config, "installcheck"]
+    done = subprocess.run(make, env=server.environment, stdout=subprocess.PIPE, stderr=subprocess.STDOUT, text=True)
+    differences = folder / "regression.diffs"
+    check("make installcheck", done.returncode == 0, differences.read_text() if differences.exists() else done.stdout)

@@ -1,0 +1,109 @@
+# SPDX-License-Identifier: Apache-2.0
+"""Refused, timed-out and cancelled queries leave the backend's memory as it was, also where memory itself is refused."""
+import itertools
+import random
+import threading
+
+from calls import bad_images
+from images import random_image
+from report import CANCELLED, IMAGES, MEMORY, QUICK, REFUSALS, array, check, equal, literal
+from server import Session
+
+SLOW = "SELECT hll_image_union_agg(image, 14), hll_image_add_agg(image) FROM slow, generate_series(1, 100000)"
+
+
+LONG = 2**29 + 2**20        # of which twice as much is more than a value may have
+KILOBYTES = 4 * 2**20       # for the backend
+FRONTS = """SELECT %s FROM (SELECT i || convert_to(repeat('x', %d), 'UTF8') long, i
+    FROM (SELECT hll_image_add_agg(x) i FROM generate_series(1, 5000) x) s OFFSET 0) x;"""
+OF_FRONT = ("hll_check(long) IS NULL", "hll_convert(long, 4) = hll_convert(i, 4)", "hll_fold(long, 9) = hll_fold(i, 9)",
+            "hll_set_estimator_fields(long) = hll_set_estimator_fields(i)", "hll_merge(long, i) = i", "hll_merge(i, long, 9) = hll_fold(i, 9)",
+            "hll_agree(i, long)", "hll_info(long) = hll_info(i)", "hll_estimate(long) = hll_estimate(i)",
+            "hll_estimate_bounds(long) = hll_estimate_bounds(i)", "(SELECT hll_image_union_agg(l) FROM (SELECT long l) y) = i")
+
+
+def has_memory(kilobytes):
+    """Whether the machine has so much to spare."""
+    with open("/proc/meminfo") as file:
+        return any(int(line.split()[1]) >= kilobytes for line in file if line.startswith("MemAvailable:"))
+
+
+def long_values(server):
+    """An image before half a gigabyte of other bytes is that image, and a text of this length is a value."""
+    if not has_memory(KILOBYTES):
+        print("skipped: values of half a gigabyte, as memory is short")
+        return
+    answers = server.run(FRONTS % (", ".join(OF_FRONT), LONG)).split("|")
+    for question, answer in itertools.zip_longest(OF_FRONT, answers, fillvalue=""):
+        equal("long: " + question, answer, "t")
+    equal("long and no image", server.run("SELECT hll_check(convert_to(repeat('x', %d), 'UTF8'));" % LONG), "family")
+    found = server.run("SELECT (hll_info(hll_image_add_agg(repeat('x', %d)))).coupons;" % LONG)
+    equal("a long text", found, "1")
+
+
+def refusals():
+    """Queries that are refused, in each kind of call."""
+    images, bad = [random_image(random.Random(n)) for n in range(6)], [image for _, image in bad_images()]
+    queries = ["SELECT hll_image_union_agg(i, 12, 8) FROM unnest(%s) i;" % array(images + [image]) for image in bad]
+    queries += ["SELECT hll_merge(%s, %s);" % (literal(image), literal(image)) for image in bad]
+    queries += ["SELECT hll_estimate(%s);" % literal(image) for image in bad]
+    return queries + ["SELECT hll_image_add_agg(x, 14, CASE x WHEN 2000 THEN 4 ELSE 8 END) FROM generate_series(1, 2000) x;"]
+
+
+def memory(server):
+    server.ask("CREATE TABLE slow AS SELECT hll_image_add_agg(x) image FROM generate_series(1, %d) x GROUP BY x %% %d"
+               % (4 * IMAGES, IMAGES // 5))
+    queries = refusals()
+    with Session(server) as session:
+        keeps_memory(session, "refused", lambda count: many_refused(session, queries, count), 200, REFUSALS)
+        keeps_memory(session, "timed out", lambda count: timed_out(session, count), 5, 5 if QUICK else 40)
+        keeps_memory(session, "cancelled", lambda count: cancelled(server, session, count), 3, 3 if QUICK else 20)
+
+
+def keeps_memory(session, name, run, first, count):
+    """Runs something as often as caches need to fill, and then more often."""
+    run(first)
+    contexts, resident = session.contexts(), session.resident()
+    run(count)
+    contexts, resident = session.contexts() - contexts, session.resident() - resident
+    check("memory contexts after %d %s" % (count, name), contexts <= 16384, "%d bytes more" % contexts)
+    check("memory of the backend after %d %s" % (count, name), resident <= 1024, "%d KB more" % resident)
+
+
+def many_refused(session, queries, count):
+    errors = 0
+    for first in range(0, count, 50):
+        said = session.ask("\n".join(queries[n % len(queries)] for n in range(first, first + 50)))
+        errors += said.count("ERROR:  22")
+    equal("refusals", errors, count)
+
+
+def timed_out(session, count):
+    for n in range(count):
+        said = session.ask("SET statement_timeout = %d; %s;" % (20 + 7 * n, SLOW))
+        check("timeout", "ERROR:  %s: " % CANCELLED in said, said)
+    session.ask("SET statement_timeout = 0;")
+
+
+def cancelled(server, session, count):
+    for n in range(count):
+        timer = threading.Timer(0.05 + 0.01 * n, server.ask, ["SELECT pg_cancel_backend(%d)" % session.pid])
+        timer.start()
+        said = session.ask(SLOW + ";")
+        timer.join()
+        check("cancel", "ERROR:  %s: " % CANCELLED in said, said)
+
+
+def refused_memory(server):
+    """Where the library's malloc is refused, the error is 53200, and the session goes on as before."""
+    server.ask("CREATE TABLE huge AS SELECT hll_image_add_agg(x, 21) image FROM generate_series(1, 400000) x")
+    query = "SELECT md5(hll_image_union_agg(image, 20, 6)) FROM huge, generate_series(1, 3);"
+    with Session(server) as session:
+        wanted = session.ask(query)
+        contexts = session.contexts()
+        outcomes = session.answers_within(query, 24 * 2**20, 2**18)
+        errors = {said for said in outcomes if said.startswith("ERROR:  %s: out of memory\n" % MEMORY)}
+        equal("answers where memory is short", outcomes - errors, {wanted})
+        check("the library's memory is refused", any("Memory for an HLL sketch was" in said for said in errors), errors)
+        equal("the answer afterwards", session.ask(query), wanted)
+        check("memory contexts after refused memory", session.contexts() - contexts <= 16384)

@@ -1,0 +1,159 @@
+# SPDX-License-Identifier: Apache-2.0
+"""Aggregates over groups: beside unions of the Python package; what lowers an lg_k, NULLs, options, rows and windows."""
+import random
+import struct
+
+from base import ask, db, plain, refused, table_of
+from calls import GOOD, bad_images
+from hll_sketches import Sketch, union_of
+from images import image_of, image_of_coupons, image_of_values, random_coupons, random_image
+from report import SEED, check, equal
+
+NUMBERS = random.Random(SEED + 1)
+POOL = [random_image(NUMBERS) for _ in range(400)]
+SMALL = [image_of_coupons(12, 8, random_coupons(NUMBERS, NUMBERS.randrange(20))) for _ in range(400)]
+
+
+def group_table(groups):
+    """A temporary table of the images of groups, in any order."""
+    db.execute("DROP TABLE IF EXISTS temp.g")
+    db.execute("CREATE TEMP TABLE g (g, image)")
+    rows = [(number, image) for number, images in enumerate(groups) for image in images]
+    NUMBERS.shuffle(rows)
+    db.executemany("INSERT INTO g VALUES (?, ?)", rows)
+
+
+def unions():
+    """Groups of few images and of many, of each kind, at each bound and width."""
+    for pool in (POOL, SMALL):
+        groups = [NUMBERS.choices(pool, k=NUMBERS.choice([1, 1, 2, 3, 5, 20])) for _ in range(300)] + [pool * 3]
+        group_table(groups)
+        for lg_k, width in ((12, 8), (12, 4), (9, 6), (21, 8), (4, 4)):
+            query = "SELECT g, hll_image_union_agg(image, ?, ?) FROM g GROUP BY g"
+            found = dict(db.execute(query, (lg_k, width)))
+            check("groups", len(found) == len(groups), len(found))
+            for number, images in enumerate(groups):
+                wanted = union_of(images, lg_k, width).to_bytes()
+                equal("union of a group", registers_of(found[number]), registers_of(wanted))
+                if all(image[7] & 3 != 2 for image in images) and lg_k == 12 and pool is SMALL:
+                    equal("bytes of a union", plain(found[number]), plain(wanted))
+        equal("short name", ask("SELECT hll_union_agg(image, 10, 6) FROM g"), ask("SELECT hll_image_union_agg(image, 10, 6) FROM g"))
+    with_options = ask("SELECT hll_image_union_agg(image) = hll_image_union_agg(image, 12, 8) FROM g")
+    equal("12 and 8 by themselves", with_options, 1)
+
+
+def registers_of(image):
+    """An image by what it means: at eight bits, and as registers."""
+    sketch = Sketch.from_bytes(image)
+    return sketch.lg_k, sketch.width, sketch.histogram(), plain(sketch.convert(8).to_bytes()) if sketch.stage == "registers" else None
+
+
+def words():
+    """Fields that another program set stay in the union of one image, alone or beside empty ones; of two they are set again."""
+    counted = bytearray(image_of_values(10, 8, [b"%d" % number for number in range(3000)]))
+    counted[5] &= ~16
+    counted[8:16] = struct.pack("<d", 3000.5)
+    counted, empty = bytes(counted), image_of_values(10, 8, [])
+    for images in ([counted], [None, counted, None], [counted, empty], [empty, counted, empty], [counted, counted]):
+        group_table([images])
+        given = [image for image in images if image is not None]
+        for lg_k, width in ((12, 8), (10, 4), (9, 8)):
+            found = ask("SELECT hll_image_union_agg(image, ?, ?) FROM g", lg_k, width)
+            equal("words of a union", found, union_of(given, lg_k, width).to_bytes())
+    equal("kept", ask("SELECT hll_hip_estimate(hll_union_agg(?))", counted), 3000.5)
+
+
+def added():
+    """Many small groups of values, and the union of their sketches."""
+    db.execute("DROP TABLE IF EXISTS temp.v")
+    db.execute("CREATE TEMP TABLE v AS WITH RECURSIVE n (i) AS (SELECT 0 UNION ALL SELECT i + 1 FROM n WHERE i < 29999) "
+               "SELECT i % 3001 AS g, 'v' || (i % 7919) AS x FROM n")
+    groups = {}
+    for group, value in db.execute("SELECT g, x FROM v"):
+        groups.setdefault(group, set()).add(value.encode())
+    for group, image in db.execute("SELECT g, hll_image_add_agg(x) FROM v GROUP BY g"):
+        equal("a small group", image, image_of_values(12, 8, groups[group]))
+    equal("the union of groups", plain(ask("SELECT hll_union_agg(i) FROM (SELECT hll_add_agg(x) AS i FROM v GROUP BY g)")),
+          plain(image_of_values(12, 8, {value for some in groups.values() for value in some})))
+    two = db.execute("SELECT hll_image_add_agg(x, 8), hll_image_add_agg(g, 9, 4) FROM v").fetchone()
+    equal("two aggregates at once", two, db.execute("SELECT (SELECT hll_add_agg(x, 8) FROM v), (SELECT hll_add_agg(g, 9, 4) FROM v)").fetchone())
+    equal("DISTINCT", ask("SELECT hll_add_agg(DISTINCT x) = hll_add_agg(x) FROM v"), 1)
+    equal("FILTER", ask("SELECT hll_add_agg(x) FILTER (WHERE g = 5) = (SELECT hll_add_agg(x) FROM v WHERE g = 5) FROM v"), 1)
+
+
+def lg_k():
+    """Registers of a smaller lg_k lower a union, whenever they come; coupons, and registers that are all 0, don't."""
+    coarse, coarser = image_of(8, 8, bytes([3] * 256)), image_of(6, 4, bytes([2] * 63 + [40]))
+    empty = image_of(5, 8, bytes(32))
+    few = image_of_coupons(12, 8, random_coupons(NUMBERS, 5))
+    many = image_of_coupons(12, 8, random_coupons(NUMBERS, 5000))
+    for images in ([few, coarse], [coarse, few], [many, coarse], [coarse, many, coarser], [coarser, coarse], [few, many],
+                   [empty], [empty, few], [few, empty], [empty, many, empty], [many, empty, coarser, few]):
+        found, wanted = ask("SELECT hll_image_union_agg(x) FROM " + table_of(images)), union_of(images, 12)
+        equal("union of lg_k %s" % [image[3] for image in images], registers_of(found), registers_of(wanted.to_bytes()))
+        equal("its stage", found[7], wanted.to_bytes()[7])
+
+
+def large():
+    """Sets that outgrow a batch many times, at lg_k 21, and images with many bytes after them."""
+    sets = [image_of_coupons(21, 8, random_coupons(NUMBERS, 3000)) for _ in range(30)]
+    found, wanted = ask("SELECT hll_image_union_agg(x, 21) FROM " + table_of(sets)), union_of(sets, 21)
+    equal("union of large sets", found, wanted.to_bytes())
+    longer = [image + bytes(NUMBERS.randrange(10**5)) for image in sets + SMALL[:50]]
+    found, wanted = ask("SELECT hll_image_union_agg(x, 14) FROM " + table_of(longer)), union_of(sets + SMALL[:50], 14)
+    equal("union of images with bytes after them", registers_of(found), registers_of(wanted.to_bytes()))
+    words = ["value %d" % number for number in range(40000)]
+    found = ask("SELECT hll_image_add_agg(x, 21, 6) FROM " + table_of(words))
+    equal("a large set of values", found, image_of_values(21, 6, [word.encode() for word in words]))
+
+
+def nulls():
+    image = image_of_coupons(12, 8, [1 << 26])
+    for values in ([], [None], [None, None]):
+        for name in ("hll_image_union_agg", "hll_image_add_agg", "hll_union_agg", "hll_add_agg"):
+            equal("%s of %r" % (name, values), ask("SELECT %s(x) FROM %s" % (name, table_of(values))), None)
+    equal("an image among NULLs", ask("SELECT hll_image_union_agg(x) FROM " + table_of([None, image, None])), image)
+    equal("a value among NULLs", ask("SELECT hll_image_add_agg(x) FROM " + table_of([None, "a", None, "a"])),
+          image_of_values(12, 8, [b"a"]))
+
+
+def options():
+    """Ranges, types, and what changes between rows."""
+    same = "lg_k and width must be the same for all rows of a group"
+    for arguments, said in (("3", "lg_max_k must be between 4 and 21, not 3"), ("22", "lg_max_k must be between 4 and 21, not 22"),
+                            ("268", "lg_max_k must be between 4 and 21, not 268"), ("12, 5", "width must be 4, 6 or 8, not 5"),
+                            ("NULL", "lg_max_k must not be null"), ("12, NULL", "width must not be null"),
+                            ("12.0", "lg_max_k must be an integer"), ("12, '8'", "width must be an integer")):
+        refused("union, " + arguments, said, "SELECT hll_image_union_agg(x'', %s)" % arguments)
+        refused("values, " + arguments, said.replace("lg_max_k", "lg_k"), "SELECT hll_image_add_agg('a', %s)" % arguments)
+    for name in ("hll_image_union_agg", "hll_image_add_agg"):
+        for arguments in ("n", "12, n - 2"):
+            refused("%s changes %s" % (name, arguments), same,
+                    "SELECT %s(NULL, %s) FROM (SELECT 10 AS n UNION ALL SELECT 8)" % (name, arguments))
+    refused("four arguments", "wrong number of arguments to function hll_image_add_agg()", "SELECT hll_image_add_agg(1, 2, 3, 4)")
+    refused("no argument", "wrong number of arguments to function hll_image_union_agg()", "SELECT hll_image_union_agg()")
+    refused("a text for an image", "an HLL image must be a blob", "SELECT hll_image_union_agg('a')")
+
+
+def rows():
+    """A refusal tells the row, NULLs counted, and spoils no other query."""
+    few = image_of_coupons(12, 8, random_coupons(NUMBERS, 3))
+    for word, image in bad_images():
+        for good in (GOOD, few):
+            for row in (1, 2, 5, 400, 3000):
+                values = [None if n % 3 == 0 else good for n in range(row + 8)]
+                values[row - 1] = image
+                refused("row %d of %s" % (row, word), "invalid HLL image in row %d: %s" % (row, word),
+                        "SELECT hll_image_union_agg(x) FROM " + table_of(values))
+    equal("afterwards", ask("SELECT hll_image_union_agg(?)", few), few)
+
+
+def windows():
+    """None is a window function: SQLite says so."""
+    for name in ("hll_image_union_agg", "hll_image_add_agg"):
+        for frame in ("()", "(ORDER BY x)", "(ORDER BY x ROWS 2 PRECEDING)"):
+            refused("%s OVER %s" % (name, frame), "%s() may not be used as a window function" % name,
+                    "SELECT %s(x) OVER %s FROM %s" % (name, frame, table_of([1, 2])))
+    running = "SELECT (SELECT hll_estimate(hll_image_add_agg(b.x)) FROM temp.t b WHERE b.x <= a.x) FROM temp.t a ORDER BY a.x"
+    table_of([1, 2, 2, 3])
+    equal("running counts", [round(count) for (count,) in db.execute(running)], [1, 2, 2, 3])

@@ -1,0 +1,169 @@
+# SPDX-License-Identifier: Apache-2.0
+"""Functions of one image or two: beside worked rows, the plain model and the Python package; their refusals."""
+import json
+import random
+import re
+import sqlite3
+import struct
+
+from base import ask, plain, refused
+from calls import GOOD, bad_images, expression_of, rows_of_calls
+from hll_sketches import Sketch, union_of
+from images import image_of, image_of_coupons, random_image, sketch_of
+from report import REASONS, SEED, check, equal
+
+NUMBERS = random.Random(SEED)
+IMAGES = [random_image(NUMBERS) for _ in range(300)]
+
+# ---- worked rows
+
+
+def union_expression(images, bound, width):
+    rows = ", ".join("(%s)" % image for image in images)
+    return "(SELECT hll_image_union_agg(column1, %s, %s) FROM (VALUES %s))" % (bound, width, rows)
+
+
+def found_by(expression):
+    """The image of an expression, or what SQLite says."""
+    try:
+        return plain(ask("SELECT hll_convert(u, json_extract(hll_info(u), '$.width')) FROM (SELECT %s AS u)" % expression))
+    except sqlite3.Error as error:
+        return str(error)
+
+
+def worked_rows():
+    """Each answers as the row says, but for what estimators read, also where an image is refused."""
+    rows = [(plan, answer, expression_of(plan, "x'%s'", union_expression)) for plan, answer in rows_of_calls()]
+    rows = [row for row in rows if row[2] and not re.search("stack|range|memory|syntax", row[1])]
+    words = set()
+    for plan, answer, expression in rows:
+        name, found = "worked row %s %s" % (plan[-1][:60], answer[:60]), found_by(expression)
+        if answer[0] in "=+":
+            equal(name, found, plain(bytes.fromhex(answer[2:])))
+        elif answer.split(": ")[1] == "fold":
+            check(name, str(found).startswith("lg_k must be"), found)
+        else:
+            words.add(answer.split(" ")[-1])
+            check(name, str(found).endswith(": " + answer.split(" ")[-1]), found)
+    equal("reasons of worked rows", sorted(words & set(REASONS)), sorted(REASONS))
+    check("many worked rows", len(rows) > 1500, len(rows))
+
+
+# ---- beside the Python package
+
+
+def functions():
+    for image, other in zip(IMAGES, IMAGES[1:]):
+        sketch, beside = Sketch.from_bytes(image), Sketch.from_bytes(other)
+        for width in (4, 6, 8):
+            equal("hll_convert", ask("SELECT hll_convert(?, ?)", image, width), sketch.convert(width).to_bytes())
+        for lg_k in (4, max(4, image[3] - 1), image[3]):
+            equal("hll_fold", ask("SELECT hll_fold(?, ?)", image, lg_k), sketch.fold(lg_k).to_bytes())
+        equal("hll_set_estimator_fields", ask("SELECT hll_set_estimator_fields(?)", image), sketch.with_estimator_fields().to_bytes())
+        width = max(sketch.width, beside.width)
+        for bound, found in ((max(image[3], other[3]), ask("SELECT hll_merge(?, ?)", image, other)),
+                             (9, ask("SELECT hll_merge(?, ?, 9)", image, other))):
+            equal("hll_merge", plain(found), plain(union_of([image, other], bound, width).to_bytes()))
+        equal("hll_agree", ask("SELECT hll_agree(?, ?)", image, other), int(sketch.agrees_with(beside)))
+        equal("hll_agree with its fold", ask("SELECT hll_agree(?1, hll_fold(?1, 4))", image), 1)
+        equal("hll_check", ask("SELECT hll_check(?)", image), None)
+        told = {"lg_k": sketch.lg_k, "width": sketch.width, "stage": sketch.stage, "coupons": sketch.num_coupons,
+                "zeros": sketch.num_zeros}
+        equal("hll_info", json.loads(ask("SELECT hll_info(?)", image)), told)
+    for lg_k, width in ((4, 4), (12, 8), (21, 6)):
+        equal("hll_image_empty", ask("SELECT hll_image_empty(?, ?)", lg_k, width), Sketch(lg_k, width).to_bytes())
+    equal("hll_image_empty of one", ask("SELECT hll_image_empty(9)"), Sketch(9).to_bytes())
+    equal("hll_image_empty of none", ask("SELECT hll_image_empty()"), Sketch().to_bytes())
+    words()
+
+
+def words():
+    """hll_set_estimator_fields beside sums of exact numbers."""
+    for image in IMAGES:
+        wanted = image
+        if image[7] & 3 == 2:
+            registers = sketch_of(image).content.values
+            sums = [sum(2.0**-v for v in registers if v < 32), sum(2.0**-v for v in registers if v >= 32)]
+            wanted = image[:8] + struct.pack("<3d", 0, *sums) + image[32:]
+        found = ask("SELECT hll_set_estimator_fields(?)", image)
+        equal("hll_set_estimator_fields beside sums", plain(found) if image[7] & 3 == 2 else found, plain(wanted))
+        equal("words of hll_set_estimator_fields", found[8:32], wanted[8:32])
+
+
+def estimates():
+    """The numbers of the Python package to the last bit, also through JSON; near the truth, and NULL where there is no HIP."""
+    for image in IMAGES:
+        sketch = Sketch.from_bytes(image)
+        equal("hll_estimate", ask("SELECT hll_estimate(?)", image), sketch.estimate())
+        for deviations in (1, 2, 3):
+            told = json.loads(ask("SELECT hll_estimate_bounds(?, ?)", image, deviations))
+            equal("hll_estimate_bounds", (told["lower"], told["upper"]), sketch.bounds(deviations))
+        equal("hll_estimate_bounds at 2", ask("SELECT hll_estimate_bounds(?)", image),
+              ask("SELECT hll_estimate_bounds(?, 2)", image))
+        equal("hll_hip_estimate", ask("SELECT hll_hip_estimate(?)", image), sketch.hip_estimate())
+    for count in (0, 1, 7, 100, 1000, 100000):
+        found = ask("WITH RECURSIVE n (i) AS (SELECT 1 UNION ALL SELECT i + 1 FROM n WHERE i < ?) "
+                    "SELECT hll_estimate(hll_image_add_agg(CASE WHEN ? THEN i END)) FROM n", count, count)
+        check("estimate of %d" % count, abs((found or 0) - count) <= 0.05 * count, found)
+    counted = bytearray(image_of(12, 8, bytes(4096)))
+    counted[5], counted[8:16] = 0, struct.pack("<d", 1234.5)
+    equal("hll_hip_estimate of one", ask("SELECT hll_hip_estimate(?)", bytes(counted)), 1234.5)
+    full = image_of(4, 8, bytes([63] * 16))
+    equal("an infinite estimate", ask("SELECT hll_estimate(?)", full), float("inf"))
+    equal("its upper bound", ask("SELECT json_extract(hll_estimate_bounds(?), '$.upper')", full), float("inf"))
+
+
+# ---- refusals
+
+
+def arguments():
+    """NULLs, types and ranges."""
+    image = image_of_coupons(12, 8, [1 << 26])
+    for call in ("hll_image_empty(NULL)", "hll_image_empty(12, NULL)", "hll_fold(NULL, 4)", "hll_fold(?1, NULL)",
+                 "hll_convert(?1, NULL)", "hll_set_estimator_fields(NULL)", "hll_merge(NULL, ?1)", "hll_merge(?1, NULL)",
+                 "hll_merge(?1, ?1, NULL)", "hll_agree(?1, NULL)", "hll_check(NULL)", "hll_info(NULL)", "hll_estimate(NULL)",
+                 "hll_hip_estimate(NULL)", "hll_estimate_bounds(NULL, 9)", "hll_estimate_bounds(?1, NULL)"):
+        equal(call, ask("SELECT " + call, *[image] * ("?1" in call)), None)
+    for call, said in (
+            ("hll_fold(?, 13)", "lg_k must be at most that of the image, not 13"),
+            ("hll_fold(?, 3)", "lg_k must be between 4 and 21, not 3"),
+            ("hll_fold(?, 268)", "lg_k must be between 4 and 21, not 268"),
+            ("hll_fold(?, 4294967300)", "lg_k must be between 4 and 21, not 4294967300"),
+            ("hll_fold(?, -9223372036854775808)", "lg_k must be between 4 and 21, not -9223372036854775808"),
+            ("hll_fold(?, 10.5)", "lg_k must be an integer"),
+            ("hll_fold(?, '10')", "lg_k must be an integer"),
+            ("hll_convert(?, 7)", "width must be 4, 6 or 8, not 7"),
+            ("hll_convert(?, 260)", "width must be 4, 6 or 8, not 260"),
+            ("hll_image_empty(22, length(?))", "lg_k must be between 4 and 21, not 22"),
+            ("hll_image_empty(12, length(?))", "width must be 4, 6 or 8, not 12"),
+            ("hll_merge(?1, ?1, 3)", "lg_max_k must be between 4 and 21, not 3"),
+            ("hll_merge(?1, ?1, 22)", "lg_max_k must be between 4 and 21, not 22"),
+            ("hll_estimate_bounds(?, 4)", "deviations must be 1, 2 or 3, not 4"),
+            ("hll_estimate_bounds(?, 4294967297)", "deviations must be 1, 2 or 3, not 4294967297"),
+            ("hll_estimate(hex(?))", "an HLL image must be a blob"),
+            ("hll_merge(?, 7)", "an HLL image must be a blob"),
+            ("hll_merge(7.5, ?)", "an HLL image must be a blob"),
+            ("hll_set_estimator_fields(?, 1)", "wrong number of arguments to function hll_set_estimator_fields()")):
+        refused(call, said, "SELECT " + call, image)
+    for value in ("'text'", "7", "7.5"):
+        equal("hll_check of no blob", ask("SELECT hll_check(%s)" % value), "type")
+    equal("hll_check of an empty blob", ask("SELECT hll_check(x'')"), "truncated")
+    longer = image + bytes(10**7)
+    equal("an image with bytes after it", ask("SELECT hll_convert(?, 8)", longer), image)
+    equal("a union of it", ask("SELECT hll_image_union_agg(?)", longer), image)
+
+
+CALLS = ("hll_info(?)", "hll_fold(?, 4)", "hll_convert(?, 4)", "hll_set_estimator_fields(?)", "hll_estimate(?)", "hll_hip_estimate(?)",
+         "hll_estimate_bounds(?)")
+
+
+def reasons():
+    """Each by its word, from each function."""
+    equal("the reasons tried", sorted({word for word, _ in bad_images()}), sorted(REASONS))
+    for word, image in bad_images():
+        equal("hll_check " + word, ask("SELECT hll_check(?)", image), word)
+        for call in CALLS:
+            refused(call + " of " + word, "invalid HLL image: " + word, "SELECT " + call, image)
+        for call in ("hll_merge(?, ?)", "hll_merge(?, ?, 9)", "hll_agree(?, ?)"):
+            for number, both in ((1, (image, GOOD)), (2, (GOOD, image))):
+                refused(call + " of " + word, "invalid HLL image in argument %d: %s" % (number, word), "SELECT " + call, *both)

@@ -1,0 +1,46 @@
+# SPDX-License-Identifier: Apache-2.0
+"""Tests of the extension in build/, and 'N passed, M failed' at the end: tests.py [PART ..]
+
+Images are compared with the plain model and hash of bench/ and bindings/postgresql/tests/images.py, which share no code
+with the library, and with the Python package.
+"""
+import pathlib
+import sys
+import warnings
+
+sys.dont_write_bytecode = True
+HERE = pathlib.Path(__file__).resolve().parent
+BINDINGS = HERE.parent.parent
+sys.path[:0] = [str(path) for path in (HERE, BINDINGS / "postgresql" / "tests", BINDINGS / "python", BINDINGS / "python" / "tests")]
+
+import attack  # noqa: E402
+import groups  # noqa: E402
+import memory  # noqa: E402
+import shell  # noqa: E402
+import single  # noqa: E402
+import values  # noqa: E402
+from hll_sketches import PrecisionWarning  # noqa: E402
+from report import check, counts  # noqa: E402
+
+PARTS = [shell.build, single.worked_rows, single.functions, single.estimates, single.arguments, single.reasons, values.types,
+         values.many, values.encodings, groups.unions, groups.words, groups.added, groups.lg_k, groups.large, groups.nulls,
+         groups.options, groups.rows, groups.windows, attack.mutants, attack.interrupts, attack.schemas, memory.limits,
+         memory.refusals, shell.old_processor, shell.readme, shell.checked, shell.installed]
+
+
+def main():
+    warnings.simplefilter("ignore", PrecisionWarning)
+    chosen = sys.argv[1:]
+    for part in PARTS:
+        if chosen and part.__name__ not in chosen:
+            continue
+        try:
+            part()
+        except Exception as fault:
+            check(part.__name__, False, "%s: %s" % (type(fault).__name__, fault))
+    print("%(passed)d passed, %(failed)d failed" % counts)
+    return 1 if counts["failed"] or not counts["passed"] else 0
+
+
+if __name__ == "__main__":
+    sys.exit(main())

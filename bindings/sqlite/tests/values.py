@@ -1,0 +1,74 @@
+# SPDX-License-Identifier: Apache-2.0
+"""What values count by: beside the hash of docs/FORMAT.md, and beside the Python package."""
+import math
+import random
+import struct
+
+from base import ask, connect, plain, table_of
+from hll_sketches import Sketch
+from images import image_of_values
+from report import SEED, check, equal
+
+NUMBERS = random.Random(SEED)
+INTEGERS = [0, 1, -1, 7, 255, 2**31, -2**31, 2**53 + 1, 2**63 - 1, -2**63]
+REALS = [0.0, -0.0, 1.0, -1.0, 7.0, 0.1, 1e300, -1e-300, 5e-324, math.inf, -math.inf, math.pi, 2.0**53, float(2**63)]
+TEXTS = ["", "a", "7", "7.0", "ä€😀", "x\0y", "\0", "y" * 15, "z" * 16, "w" * 33, "long" * 10**5]
+BLOBS = [b"", b"a", b"\0", b"\xff" * 16, bytes(range(256)), bytes(10**6)]
+
+
+def bytes_of(value):
+    """The table of docs/FORMAT.md, "What values are hashed as"."""
+    if isinstance(value, str):
+        return value.encode()
+    if isinstance(value, int):
+        return struct.pack("<q", value)
+    if isinstance(value, float):
+        return struct.pack("<d", value + 0.0)
+    return value
+
+
+def types():
+    """A value of each type, alone: its coupon is that of its bytes, and the one that Python makes of it."""
+    for value in INTEGERS + REALS + TEXTS + BLOBS:
+        found, sketch = ask("SELECT hll_image_add_agg(?)", value), Sketch()
+        sketch.update(value)
+        equal("coupon of %.40r" % (value,), found, image_of_values(12, 8, [bytes_of(value)]))
+        equal("coupon of %.40r in Python" % (value,), found, sketch.to_bytes())
+    for first, second, wanted in ((7, 7.0, 2), (7, "7", 2), (7.0, "7.0", 2), ("7", b"7", 1), (0.0, -0.0, 1), (0, 0.0, 1), ("", b"", 1)):
+        found = ask("SELECT json_extract(hll_info(hll_image_add_agg(x)), '$.coupons') FROM " + table_of([first, second]))
+        equal("%r and %r" % (first, second), found, wanted)
+    equal("a NaN is NULL in SQLite", ask("SELECT hll_image_add_agg(?)", math.nan), None)
+    equal("a column of a type", ask("SELECT hll_image_add_agg(x) FROM (SELECT CAST(7.0 AS INTEGER) AS x)"),
+          image_of_values(12, 8, [bytes_of(7)]))
+
+
+def many():
+    """Values of all types at once, few and many, at each stage and width."""
+    mixed = INTEGERS + REALS + TEXTS[:-1] + BLOBS[:-1]
+    mixed += [NUMBERS.choice([NUMBERS.randrange(-2**63, 2**63), NUMBERS.random(), "v%d" % n, b"b%d" % n]) for n in range(5000)]
+    for count in (1, 6, 7, 8, 9, 30, 100, 400, 1500, len(mixed)):
+        for lg_k, width in ((12, 8), (4, 4), (10, 6), (9, 4), (14, 6)):
+            some = NUMBERS.sample(mixed, count)
+            found = ask("SELECT hll_image_add_agg(x, ?, ?) FROM %s" % table_of(some), lg_k, width)
+            equal("%d values of all types" % count, plain(found), plain(image_of_values(lg_k, width, map(bytes_of, some))))
+            wanted = Sketch(lg_k, width)
+            wanted.update_many(some)
+            equal("%d values in Python" % count, plain(found), plain(wanted.to_bytes()))
+    again = ask("SELECT hll_image_add_agg(x) FROM (SELECT x FROM temp.t UNION ALL SELECT x FROM temp.t)")
+    equal("each twice", again, ask("SELECT hll_image_add_agg(x) FROM temp.t"))
+    check("words of what is made", again[8:32] == ask("SELECT hll_set_estimator_fields(?)", again)[8:32], again[8:32])
+    few = ask("WITH RECURSIVE n (i) AS (SELECT 1 UNION ALL SELECT i + 1 FROM n WHERE i < 200000) SELECT hll_image_add_agg(i % 5) FROM n")
+    equal("200,000 rows of five values", few, image_of_values(12, 8, map(bytes_of, range(5))))
+
+
+def encodings():
+    """A database of UTF-16 has the same bytes."""
+    for encoding in ("UTF-16le", "UTF-16be"):
+        other = connect()
+        other.execute("PRAGMA encoding = '%s'" % encoding)
+        other.execute("CREATE TABLE t (x)")
+        other.executemany("INSERT INTO t VALUES (?)", [(text,) for text in TEXTS])
+        found = ask("SELECT hll_image_add_agg(x) FROM t", on=other)
+        equal("texts of " + encoding, found, image_of_values(12, 8, map(bytes_of, TEXTS)))
+        equal("a word in " + encoding, ask("SELECT hll_check(x'02')", on=other), "truncated")
+        other.close()

@@ -1,7 +1,0 @@
--- SPDX-License-Identifier: Apache-2.0
-use Rattle.hll_c.proofs.Batches.{TakesInRest}
-use Rattle.hll_c.proofs.image.take_in_all.Given as goal
-
--- the union took in the images so far
-abbrev pub invariant-loop-number : goal.invariant-loop-number
-invariant-loop-number l = TakesInRest l.fn.union l.union l.images l.ends l.fn.failed l.failed l.start l.number

@@ -1,0 +1,25 @@
+-- SPDX-License-Identifier: Apache-2.0
+use Rattle.std.proofs.lemmas.Result.{IfOk-weaker, IfErr-weaker}
+use Rattle.hll_base.proofs.Errors.{IfErr-passed}
+use Rattle.hll_sketch.specs.Layout.{sketch_of}
+use Rattle.hll_c.specs.Answers.{IsImageOf, RefusesImage}
+use Rattle.hll_c.specs.Calls.{IsMadeOf, IsCleared}
+use Rattle.hll_c.proofs.Images.{refuses_image, refuses_memory}
+use Rattle.hll_c.proofs.image.without_estimator_fields.Goals as goal
+
+pub returns-in_err-sketch-clause-err : goal.returns-in_err-sketch-clause-err
+returns-in_err-sketch-clause-err c =
+    let e = c.in_err-sketch in
+    IfErr-passed (RefusesImage c.args.image.now) c.from_residual.result e.field-0.0 c.from_residual.ensures.1 (refuses_image c.args.image.now e.field-0.0 e.ensures.order e.ensures.asked)
+
+pub returns-clause-ok : goal.returns-clause-ok
+returns-clause-ok c =
+    IfOk-weaker c.serialize.result _ (λ v. IsImageOf (IsMadeOf c.args.image.now IsCleared) v.items)
+    (λ v written. (sketch_of c.clear_estimator_fields.new.self, record { sketch = sketch_of c.in_ok-sketch.sketch; read = c.in_ok-sketch.ensures.ok; is_made = c.clear_estimator_fields.ensures.state }, written))
+    c.serialize.ensures.ok
+
+pub returns-clause-err : goal.returns-clause-err
+returns-clause-err c =
+    IfErr-weaker c.serialize.result _ (RefusesImage c.args.image.now)
+    (λ e memory. refuses_memory c.args.image.now (sketch_of c.in_ok-sketch.sketch) e c.in_ok-sketch.ensures.ok memory)
+    c.serialize.ensures.err

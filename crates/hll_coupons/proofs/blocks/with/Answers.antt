@@ -1,0 +1,10 @@
+-- SPDX-License-Identifier: Apache-2.0
+use Rattle.std.specs.Int.{w64}
+use Rattle.std.proofs.lemmas.Nat.Bits.{bit_at_set_same, bit_at_set_other}
+use Rattle.hll_coupons.proofs.blocks.with.Goals as goal
+
+pub returns-clause-same : goal.returns-clause-same
+returns-clause-same c = bit_at_set_same w64 c.args.block c.args.bit c.requires
+
+pub returns-clause-others : goal.returns-clause-others
+returns-clause-others c = bit_at_set_other w64 c.args.block c.args.bit c.requires

@@ -1,0 +1,182 @@
+// SPDX-License-Identifier: Apache-2.0
+//! Coupons that ascend, as they stand in images that are written here, merged in one pass and written without a table
+//! (docs/FORMAT.md, "What is written").
+ghost use Rattle.std.specs.Prelude.{◌≡◌, ℕ, List, ◌*◌, ◌^◌, ◌<◌, ◌≤◌, ◌∷◌, ◌++◌, [], drop, length, IfSome, IfNone, IfOk, IfErr};
+ghost use Rattle.std.specs.FinSet.{union};
+ghost use Rattle.std.specs.List.Sorted.{IsStrictlyIncreasing};
+ghost use Rattle.hll_base.specs.declared.error.Reason.TheVariants.{Memory};
+ghost use Rattle.hll_coupons.specs.Ascending.{without_first, IsLeastFirst};
+ghost use Rattle.hll_coupons.specs.Coupons.{coupon_bytes, list_bytes, set_bytes, raw_coupons, WritesAscending};
+ghost use Rattle.hll_coupons.specs.Pair.{set_of};
+
+use crate::hash_set::set_header;
+use crate::list::list_header;
+use crate::serialization::COUPON_SIZE_BYTES;
+use hll_base::codec::SketchBytes;
+use hll_base::cursor::SketchSlice;
+use hll_base::error::Error;
+use hll_base::hll_type::HllType;
+use std::alloc::Allocator;
+use std::marker::Model;
+
+/// Raw coupons that are left to take, four bytes each. Contracts see the list of them. No call takes memory.
+#[derive(Debug, Drop)]
+pub struct RawCouponIter<'a> {
+    bytes: &'a [u8],
+    count: usize,
+}
+
+impl<'a> Model for RawCouponIter<'a> {
+    ghost use Rattle.std.specs.Prelude.{ℕ, List, ◌*◌, ◌≤◌, length};
+    ghost use Rattle.hll_coupons.specs.Coupons.{raw_coupons};
+
+    ghost Value = { List ℕ };
+
+    ghost view = { λ w. raw_coupons w.count w.bytes.now };
+
+    ghost invariant = { λ w. 4 * w.count ≤ length w.bytes.now };
+}
+
+impl<'a> RawCouponIter<'a> {
+    /// The first `count` raw coupons of some bytes, which are there.
+    pub fn new(bytes: &'a [u8], count: usize) -> RawCouponIter<'a>
+        requires { 4 * count ≤ length bytes.now }
+        ensures { result ≡ raw_coupons count bytes.now }
+    {
+        RawCouponIter { bytes, count }
+    }
+
+    /// How many are left.
+    pub fn len(&self) -> usize
+        ensures { result ≡ length self.now }
+    {
+        self.count
+    }
+
+    /// The first of them.
+    fn first(&self) -> Option<u32>
+        ensures some { IfSome result (λ raw_coupon. self.now ≡ raw_coupon ∷ drop 1 self.now) }
+        ensures none { IfNone result (self.now ≡ []) }
+    {
+        if self.count == 0 {
+            return None;
+        }
+        SketchSlice::new(self.bytes).read_u32_le().ok()
+    }
+
+    /// Takes the first of them away.
+    pub(crate) fn next(&mut self) -> Option<u32>
+        ensures some { IfSome result (λ raw_coupon. self.old ≡ raw_coupon ∷ self.new) }
+        ensures none { IfNone result (self.old ≡ []) }
+    {
+        let raw_coupon = self.first()?;
+        self.pass(raw_coupon);
+        Some(raw_coupon)
+    }
+
+    /// Takes a raw coupon away, if it is the first.
+    fn pass(&mut self, raw_coupon: u32)
+        ensures { self.new ≡ without_first raw_coupon self.old }
+    {
+        if self.first() == Some(raw_coupon) {
+            self.bytes = &self.bytes[COUPON_SIZE_BYTES..];
+            self.count -= 1;
+        }
+    }
+}
+
+/// The bytes of the first `count` raw coupons, which are there.
+pub fn bytes_of_raw_coupons(bytes: &[u8], count: usize) -> &[u8]
+    requires { 4 * count ≤ length bytes.now }
+    ensures { result.now ≡ coupon_bytes (raw_coupons count bytes.now) }
+{
+    &bytes[..count * COUPON_SIZE_BYTES]
+}
+
+/// The coupons of two lists that ascend, each once, in ascending order, four bytes each. One pass.
+///
+/// Takes four bytes for each coupon of both, in one request. Fails with `Memory`.
+pub fn union_of_ascending<A: Allocator>(
+    alloc: A,
+    mut left: RawCouponIter<'_>,
+    mut right: RawCouponIter<'_>,
+) -> Result<Vec<u8, A>, Error>
+    requires left { IsStrictlyIncreasing left }
+    requires right { IsStrictlyIncreasing right }
+    ensures ok { IfOk result (λ bytes. WritesAscending coupon_bytes (union (set_of left.entry) (set_of right.entry)) bytes.items) }
+    ensures err { IfErr result (λ e. e ≡ Memory) }
+{
+    let most = left.len().saturating_add(right.len());
+    let mut coupons = SketchBytes::with_capacity(alloc, most.saturating_mul(COUPON_SIZE_BYTES))?;
+    while let Some(raw_coupon) = least_first(&left, &right) {
+        left.pass(raw_coupon);
+        right.pass(raw_coupon);
+        coupons.write_u32_le(raw_coupon)?;
+    }
+    Ok(coupons.into_bytes())
+}
+
+/// The lesser of the first raw coupons of two lists, or the one that there is.
+fn least_first(left: &RawCouponIter<'_>, right: &RawCouponIter<'_>) -> Option<u32>
+    ensures some { IfSome result (λ raw_coupon. IsLeastFirst raw_coupon left.now right.now) }
+    ensures none { IfNone result ((left.now ≡ []) × (right.now ≡ [])) }
+{
+    match (left.first(), right.first()) {
+        (Some(a), Some(b)) => Some(a.min(b)),
+        (Some(a), None) => Some(a),
+        (None, b) => b,
+    }
+}
+
+/// The compact image of a list, of coupons in this order, four bytes each (docs/FORMAT.md, "LIST").
+///
+/// They are at most eight. Takes memory in one request. Fails with `Memory`.
+pub fn list_image<A: Allocator>(
+    alloc: A,
+    lg_config_k: u8,
+    hll_type: HllType,
+    coupons: &[u8],
+) -> Result<Vec<u8, A>, Error>
+    requires { length coupons.now ≤ 4 * 8 }
+    ensures ok { IfOk result (λ image. (order : List ℕ) → coupons.now ≡ coupon_bytes order → image.items ≡ list_bytes lg_config_k hll_type order) }
+    ensures err { IfErr result (λ e. e ≡ Memory) }
+{
+    let count = coupons.len() / COUPON_SIZE_BYTES;
+    image_of(alloc, &list_header(lg_config_k, hll_type, count), coupons)
+}
+
+/// The compact image of a set whose table has 2^`lg_size` buckets, of coupons in this order, four bytes each (docs/FORMAT.md,
+/// "SET").
+///
+/// They are fewer than 2^32. Takes memory in one request. Fails with `Memory`.
+pub fn set_image<A: Allocator>(
+    alloc: A,
+    lg_config_k: u8,
+    hll_type: HllType,
+    lg_size: u8,
+    coupons: &[u8],
+) -> Result<Vec<u8, A>, Error>
+    requires { length coupons.now < 4 * 2 ^ 32 }
+    ensures ok { IfOk result (λ image. (order : List ℕ) → coupons.now ≡ coupon_bytes order → image.items ≡ set_bytes lg_config_k hll_type lg_size order) }
+    ensures err { IfErr result (λ e. e ≡ Memory) }
+{
+    let count = (coupons.len() / COUPON_SIZE_BYTES) as u32;
+    image_of(
+        alloc,
+        &set_header(lg_config_k, hll_type, lg_size, count),
+        coupons,
+    )
+}
+
+/// A header and the bytes of coupons, in one request for memory.
+///
+/// Fails with `Memory`.
+fn image_of<A: Allocator>(alloc: A, header: &[u8], coupons: &[u8]) -> Result<Vec<u8, A>, Error>
+    ensures ok { IfOk result (λ image. image.items ≡ header.now ++ coupons.now) }
+    ensures err { IfErr result (λ e. e ≡ Memory) }
+{
+    let mut bytes = SketchBytes::with_capacity(alloc, header.len().saturating_add(coupons.len()))?;
+    bytes.write(header)?;
+    bytes.write(coupons)?;
+    Ok(bytes.into_bytes())
+}

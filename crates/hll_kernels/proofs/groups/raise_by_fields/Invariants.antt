@@ -1,9 +1,0 @@
--- SPDX-License-Identifier: Apache-2.0
-use Rattle.std.proofs.Common.{◌≡◌, ◌*◌, take}
-use Rattle.hll_kernels.specs.Lanes.{raise_at}
-use Rattle.hll_kernels.specs.Packed.{fields}
-use Rattle.hll_kernels.proofs.groups.raise_by_fields.Given as goal
-
--- the values of the groups so far are raised
-abbrev pub invariant-loop-place : goal.invariant-loop-place
-invariant-loop-place l = l.values ≡ raise_at 0 l.initial.values (fields (take (l.place * 48) l.bytes))

@@ -1,0 +1,6 @@
+-- SPDX-License-Identifier: Apache-2.0
+use Rattle.hll_kernels.proofs.Parts.{max_lanes}
+use Rattle.hll_kernels.proofs.kernels.max_64.Goals as goal
+
+pub returns : goal.returns
+returns c = max_lanes c.args.at 64 c.args.dst.now c.args.block.now c.told-block c.requires

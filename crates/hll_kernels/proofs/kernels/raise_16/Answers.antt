@@ -1,6 +1,0 @@
--- SPDX-License-Identifier: Apache-2.0
-use Rattle.hll_kernels.proofs.Parts.{raise_lanes}
-use Rattle.hll_kernels.proofs.kernels.raise_16.Goals as goal
-
-pub returns : goal.returns
-returns c = raise_lanes c.args.at 16 c.args.dst.now c.args.lanes c.fits-lanes.0 c.requires

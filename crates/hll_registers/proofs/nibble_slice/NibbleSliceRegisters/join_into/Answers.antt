@@ -1,9 +1,0 @@
--- SPDX-License-Identifier: Apache-2.0
-use Rattle.std.proofs.Common.{ℕ, List, length, take, drop, ap, ◌∙◌}
-use Rattle.hll_base.specs.Join.{join}
-use Rattle.hll_registers.proofs.nibble_slice.NibbleSliceRegisters.join_into.Goals as goal
-
-pub returns : goal.returns
-returns g c =
-    let V = c.args.values.now in
-    c.raise_by_registers.ensures ∙ ap (λ (l : ℕ × List ℕ). join V (take (length V) (drop c.args.first l.1))) c.self.view_is

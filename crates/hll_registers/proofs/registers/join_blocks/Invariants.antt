@@ -1,9 +1,0 @@
--- SPDX-License-Identifier: Apache-2.0
-use Rattle.std.proofs.Common.{◌≡◌, ◌*◌, ◌^◌}
-use Rattle.hll_base.specs.Join.{join}
-use Rattle.hll_registers.proofs.Folding.{folded}
-use Rattle.hll_registers.proofs.registers.join_blocks.Given as goal
-
--- the blocks so far are joined
-abbrev pub invariant-loop-block : goal.invariant-loop-block
-invariant-loop-block g l = l.values ≡ join l.initial.values (folded (g.R.Registers.stored l.src).registers l.lg_k (l.block * 2 ^ l.lg_k))

@@ -1,0 +1,35 @@
+-- SPDX-License-Identifier: Apache-2.0
+use Rattle.std.proofs.Common.{◌≡◌, List, ℕ, length, drop, sym, ap, subst, ◌∙◌, arith}
+use Rattle.std.proofs.lemmas.Bool.{not-false}
+use Rattle.std.proofs.lemmas.List.{take_rest}
+use Rattle.std.proofs.lemmas.Option.{IfSome_then}
+use Rattle.hll_coupons.specs.Coupons.{raw_coupons, AreCoupons}
+use Rattle.hll_sketch.specs.declared.header.Header.{Header}
+use Rattle.hll_sketch.specs.MergedIn.{IsOfCoupons}
+use Rattle.hll_sketch.proofs.BorrowedCoupons.{list_of_coupons}
+use Rattle.hll_sketch.proofs.SizedImages.{list_there, IfNone_then}
+use Rattle.hll_sketch.proofs.raw_coupons.list_coupons.Goals as goal
+
+pub returns-clause-coupons : goal.returns-clause-coupons
+returns-clause-coupons c =
+    let b : List ℕ = c.args.bytes.now in
+    let says = c.requires.header in
+    IfSome_then c.front.result c.front.ensures.some λ w is. λ are.
+    let index = is.0 ∙ take_rest b 8 in
+    let same : raw_coupons w.count w.bytes.now ≡ raw_coupons w.count (drop 8 b) = ap (raw_coupons w.count) index in
+    let number = is.1 ∙ c.from-count.ensures in
+    subst (IsOfCoupons b) (sym same) (list_of_coupons b w.count c.requires.has
+    (ap (λ (h : Header). h.lg_arr) (sym says) ∙ c.if-header-ne-LG_LIST_BUCKETS.false)
+    (number ∙ ap (λ (h : Header). h.state_byte) says)
+    (ap (λ (h : Header). h.empty) (sym says) ∙ c.if-header.false)
+    (ap (λ (h : Header). h.compact) (sym says) ∙ not-false c.args.header.compact c.if-not-header.false)
+    (omega (arith, is.2, is.1)) (omega (arith, number, c.from-count.ensures, c.if-two_to-count.false, c.two_to.ensures))
+    (omega (arith, is.3, is.1, ap length (take_rest b 8)))
+    (subst AreCoupons same are))
+
+pub returns-clause-none : goal.returns-clause-none
+returns-clause-none c = IfNone_then c.front.result c.front.ensures.none λ short up.
+    let there = list_there c.args.bytes.now c.requires.has up in
+    let count = c.from-count.ensures ∙ ap (λ (h : Header). h.state_byte) c.requires.header in
+    let less = short (omega (arith, there.0, count)) in
+    omega (arith, there.1, count, less, ap length (take_rest c.args.bytes.now 8))

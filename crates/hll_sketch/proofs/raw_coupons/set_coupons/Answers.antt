@@ -1,0 +1,44 @@
+-- SPDX-License-Identifier: Apache-2.0
+use Rattle.std.proofs.Common.{◌≡◌, ◌^◌, List, ℕ, length, drop, sym, ap, subst, ◌∙◌, arith}
+use Rattle.std.proofs.lemmas.Bool.{not-false}
+use Rattle.std.proofs.lemmas.List.{take_rest}
+use Rattle.std.proofs.lemmas.Option.{IfSome_then}
+use Rattle.hll_coupons.specs.Coupons.{raw_coupons, AreCoupons}
+use Rattle.hll_sketch.specs.declared.header.Header.{Header}
+use Rattle.hll_coupons.specs.Payload.{set_count}
+use Rattle.hll_sketch.specs.Image.{HasSetTable}
+use Rattle.hll_sketch.specs.MergedIn.{IsOfCoupons}
+use Rattle.hll_sketch.proofs.BorrowedCoupons.{set_of_coupons}
+use Rattle.hll_sketch.proofs.SizedImages.{set_there, IfNone_then}
+use Rattle.hll_sketch.proofs.raw_coupons.set_coupons.Goals as goal
+
+pub returns-clause-coupons : goal.returns-clause-coupons
+returns-clause-coupons c =
+    let b : List ℕ = c.args.bytes.now in
+    let says = c.requires.header in
+    let size = ap (λ (h : Header). h.lg_arr) says in
+    let k = ap (λ (h : Header). h.lg_k) says in
+    let table : HasSetTable b = record { low = omega (arith, c.if-header-lt-LG_LEAST_SET_BUCKETS.false, size); high = omega (arith, c.if-header.false, size, k, c.requires.has.lg_k.low) } in
+    let entry = c.new-cursor.ensures ∙ take_rest b 8 in
+    let read = c.in-Ok.ensures.ok in
+    IfSome_then c.front.result c.front.ensures.some λ w is. λ are.
+    let index : w.bytes.now ≡ drop 4 (drop 8 b) = is.0 ∙ c.remaining.ensures ∙ read.2 ∙ ap (drop 4) entry in
+    let same : raw_coupons w.count w.bytes.now ≡ raw_coupons w.count (drop 4 (drop 8 b)) = ap (raw_coupons w.count) index in
+    subst (IsOfCoupons b) (sym same) (set_of_coupons b w.count c.requires.has table
+    (omega (arith, read.0, ap length entry))
+    (is.1 ∙ read.1 ∙ ap set_count entry)
+    (ap (λ (h : Header). h.compact) (sym says) ∙ not-false c.args.header.compact c.if-not-header.false)
+    (omega (arith, is.2, is.1)) (omega (arith, is.1, c.two_to.ensures, ap (λ n. 2 ^ n) size))
+    (omega (arith, is.3, is.1, ap length (sym index)))
+    (subst AreCoupons same are))
+
+pub returns-clause-none : goal.returns-clause-none
+returns-clause-none c = IfNone_then c.front.result c.front.ensures.none λ short up.
+    let b : List ℕ = c.args.bytes.now in
+    let there = set_there b c.requires.has up in
+    let entry = c.new-cursor.ensures ∙ take_rest b 8 in
+    let read = c.in-Ok.ensures.ok in
+    let count = read.1 ∙ ap set_count entry in
+    let index = c.remaining.ensures ∙ read.2 ∙ ap (drop 4) entry in
+    let less = short (omega (arith, there.0, count)) in
+    omega (arith, there.1, count, less, ap length index)

@@ -1,0 +1,70 @@
+-- SPDX-License-Identifier: Apache-2.0
+-- Images that a union takes in (docs/MODEL.md, "Merging").
+use Rattle.std.specs.Prelude.{◌≡◌, ℕ, ◌<◌, ◌≤◌, ◌==◌, if◌then◌else◌, true, List, [], ◌∷◌, ◌++◌, length, drop, None}
+use Rattle.std.specs.FinSet.{len}
+use Rattle.hll_coupons.specs.Coupons.{raw_coupons}
+use Rattle.hll_coupons.specs.Pair.{set_of}
+use Rattle.hll_coupons.specs.Payload.{set_count}
+use Rattle.hll_registers.specs.Payload.{exception_count}
+use Rattle.hll_registers.specs.Store.{Stored}
+use Rattle.hll_sketch.specs.Borrowed.{AreEvidentlyCoupons}
+use Rattle.hll_sketch.specs.Checks.{size_fault}
+use Rattle.hll_sketch.specs.Canonical.{IsCanonicalCleared}
+use Rattle.hll_sketch.specs.Image.{IsReadAs, stage_bits, width_bits, state_byte, is_flagged}
+use Rattle.hll_sketch.specs.Joined.{IsMergeOf}
+use Rattle.hll_sketch.specs.Merging.{merge}
+use Rattle.hll_sketch.specs.Union.{UnionLayout, gadget_of, MergeNeedsMemory}
+use Rattle.hll_sketch.specs.Updatable.{HasUpdatableCoupons}
+use Rattle.hll_sketch.specs.Value.{Sketch, coupons, registers, in_registers}
+
+-- a union took in the sketch that an image is read as; the join of canonical sketches with cleared fields and of this one, where it is such, is the join of them all
+pub record MergesIn (before after : UnionLayout) (image : List ℕ) : Type 0 where
+  pub sketch : Sketch
+  pub read : IsReadAs image sketch
+  pub gadget : gadget_of after ≡ merge before.lg_max_k (gadget_of before) sketch
+  pub bound : after.lg_max_k ≡ before.lg_max_k
+  pub canonical : (xs : List Sketch) → IsMergeOf xs before → IsCanonicalCleared sketch → IsMergeOf (xs ++ sketch ∷ []) after
+
+-- the bytes are read as a sketch of these coupons, in a list or a set, and there are some
+pub record IsOfCoupons (bytes order : List ℕ) : Type 0 where
+  pub sketch : Sketch
+  pub read : IsReadAs bytes sketch
+  pub size : ℕ
+  pub content : sketch.content ≡ coupons (set_of order) size
+  pub some : len (set_of order) ≡ 0 → ⊥
+
+-- the bytes are read as a sketch of these registers with their state
+pub record IsOfRegisters (bytes : List ℕ) (x : Stored) : Type 0 where
+  pub stage : stage_bits bytes ≡ 2
+  pub sketch : Sketch
+  pub read : IsReadAs bytes sketch
+  pub lg_k : sketch.lg_k ≡ x.lg_k
+  pub content : sketch.content ≡ registers x.registers x.state
+
+-- ---- what may need memory
+
+-- the raw coupons of a compact image: after the header of a list, and after the count of a set
+abbrev pub raw_coupons_in : List ℕ → List ℕ
+raw_coupons_in b = if stage_bits b == 0 then raw_coupons (state_byte b) (drop 8 b) else raw_coupons (set_count (drop 8 b)) (drop 4 (drop 8 b))
+
+-- the bytes have the header, the counts and the length of a compact list or set, whose raw coupons, of which there are some, one pass tells to
+-- be coupons
+pub record HasCompactCoupons (b : List ℕ) : Type 0 where
+  pub stage : stage_bits b < 2
+  pub sized : size_fault b ≡ None
+  pub compact : is_flagged 8 b ≡ true
+  pub some : 1 ≤ length (raw_coupons_in b)
+  pub evident : AreEvidentlyCoupons (raw_coupons_in b)
+
+-- the header is that of registers, and where they are of four bits, the count of their exceptions is 0
+abbrev pub HasPlainRegisters : List ℕ → Type 0
+HasPlainRegisters b = (stage_bits b ≡ 2) × (width_bits b ≡ 0 → exception_count (drop 8 b) ≡ 0)
+
+-- A gadget may need memory for an image only where its header, counts and length are right. Into registers it needs none for compact
+-- coupons that ascend or are few, and none for an updatable image of few. For registers of eight or six bits, and of four bits without
+-- exceptions, it needs what a merge of their sketch does.
+pub record ImageNeedsMemory (g : Sketch) (b : List ℕ) : Type 0 where
+  pub sized : size_fault b ≡ None
+  pub coupons : in_registers g.content ≡ true → HasCompactCoupons b → ⊥
+  pub buckets : in_registers g.content ≡ true → HasUpdatableCoupons b → ⊥
+  pub registers : HasPlainRegisters b → (x : Sketch) → IsReadAs b x → MergeNeedsMemory g x

@@ -1,0 +1,91 @@
+// SPDX-License-Identifier: Apache-2.0
+//! Whether bytes begin with an image (docs/FORMAT.md, "Order of checks").
+ghost use Rattle.std.specs.Prelude.{◌≡◌, ◌<◌, OnOk, IfErr};
+ghost use Rattle.hll_base.specs.declared.error.Reason.TheVariants.{Memory};
+ghost use Rattle.hll_sketch.specs.Header.{header_of};
+ghost use Rattle.hll_sketch.specs.Image.{HasHeader, IsReadAs, stage_bits};
+ghost use Rattle.hll_sketch.specs.Refusal.{IsRefusal};
+ghost use Rattle.hll_sketch.specs.MergedIn.{HasCompactCoupons, HasPlainRegisters};
+ghost use Rattle.hll_sketch.specs.Updatable.{HasUpdatableCoupons};
+ghost use Rattle.hll_sketch.specs.Value.{Sketch};
+
+use crate::header::{Header, Stage};
+use crate::raw_coupons::compact_coupons;
+use crate::raw_registers::with_registers;
+use crate::read_image::read_sketch;
+use crate::sketch::HllSketch;
+use crate::updatable::{ROOM, updatable_coupons};
+use hll_base::error::Error;
+use std::alloc::Allocator;
+
+impl<A: Allocator + Clone> HllSketch<A> {
+    /// Tests whether bytes begin with an image. What follows the image is not looked at.
+    ///
+    /// Fails as `deserialize` does, with the reason of the first check that the bytes fail, or else with `Memory`. Allocates only
+    /// once the bytes that the image asks for are there: a table of coupons, but not for coupons that are 1 to 128, or ascend
+    /// in a compact image; and a map for the exceptions of registers of four bits, where they have some.
+    pub fn check(alloc: A, bytes: &[u8]) -> Result<(), Error>
+        ensures ok { OnOk result ((x : Sketch) × IsReadAs bytes.now x) }
+        ensures err { IfErr result (IsRefusal bytes.now) }
+        ensures compact { IfErr result (λ e. e ≡ Memory → HasCompactCoupons bytes.now → ⊥) }
+        ensures updatable { IfErr result (λ e. e ≡ Memory → HasUpdatableCoupons bytes.now → ⊥) }
+        ensures registers { IfErr result (λ e. e ≡ Memory → HasPlainRegisters bytes.now → ⊥) }
+    {
+        let header = Header::read(bytes)?;
+        match header.stage {
+            Stage::List | Stage::Set => match compact_coupons(bytes, header) {
+                Some(_) => Ok(()),
+                None => check_other_coupons(&alloc, bytes, header),
+            },
+            Stage::Hll => check_registers(&alloc, bytes, header),
+        }
+    }
+}
+
+/// Tests whether coupons that are not evident in a compact image stand after the header of a list or a set.
+///
+/// Fails with the reason of the first check that they fail, or else with `Memory`. Allocates a table, but not for 1 to 128
+/// coupons of an updatable image.
+// (a caller that had the room among its own values would clear it for compact coupons too)
+#[inline(never)]
+fn check_other_coupons<A: Allocator + Clone>(
+    alloc: &A,
+    bytes: &[u8],
+    header: Header,
+) -> Result<(), Error>
+    requires has { HasHeader bytes.now (stage_bits bytes.now) }
+    requires stage { stage_bits bytes.now < 2 }
+    requires header { header ≡ header_of bytes.now }
+    ensures ok { OnOk result ((x : Sketch) × IsReadAs bytes.now x) }
+    ensures err { IfErr result (IsRefusal bytes.now) }
+    ensures updatable { IfErr result (λ e. e ≡ Memory → HasUpdatableCoupons bytes.now → ⊥) }
+{
+    let mut room = [0; ROOM];
+    match updatable_coupons(bytes, header, &mut room) {
+        Some(_) => Ok(()),
+        None => {
+            read_sketch(alloc, bytes, header)?;
+            Ok(())
+        }
+    }
+}
+
+/// Tests whether registers stand after the header of an image, without a copy of them.
+///
+/// Fails with the reason of the first check that they fail, or else with `Memory`. Allocates a map for the exceptions of
+/// registers of four bits, where they have some.
+// (a caller would clear its values for compact coupons too)
+#[inline(never)]
+fn check_registers<A: Allocator + Clone>(
+    alloc: &A,
+    bytes: &[u8],
+    header: Header,
+) -> Result<(), Error>
+    requires has { HasHeader bytes.now 2 }
+    requires header { header ≡ header_of bytes.now }
+    ensures ok { OnOk result ((x : Sketch) × IsReadAs bytes.now x) }
+    ensures err { IfErr result (IsRefusal bytes.now) }
+    ensures plain { IfErr result (λ e. e ≡ Memory → HasPlainRegisters bytes.now → ⊥) }
+{
+    with_registers!(alloc, bytes, header, _source => Ok(()))
+}

@@ -1,0 +1,399 @@
+// SPDX-License-Identifier: Apache-2.0
+//! Merging sketches and their images into a union (docs/MODEL.md, "Merging").
+ghost use Rattle.std.specs.Prelude.{◌≡◌, ◌⊎◌, ℕ, ◌<◌, ◌≤◌, ◌==◌, true, false, Some, All, List, map, [], ◌∷◌, ◌++◌, IfErr, OnOk, OnErr};
+ghost use Rattle.std.specs.FinSet.{len};
+ghost use Rattle.std.specs.List.{list_all};
+ghost use Rattle.hll_base.specs.declared.error.Reason.TheVariants.{Memory};
+ghost use Rattle.hll_coupons.specs.Coupons.{raw_coupons};
+ghost use Rattle.hll_coupons.specs.Table.{coupons_of};
+ghost use Rattle.hll_registers.specs.State.{cleared_state};
+ghost use Rattle.hll_sketch.specs.Adding.{add};
+ghost use Rattle.hll_sketch.specs.Checks.{first_fault};
+ghost use Rattle.hll_sketch.specs.Canonical.{IsCanonicalCleared};
+ghost use Rattle.hll_sketch.specs.Header.{header_of};
+ghost use Rattle.hll_sketch.specs.Image.{HasHeader, stage_bits};
+ghost use Rattle.hll_sketch.specs.Joined.{IsMergeOf};
+ghost use Rattle.hll_sketch.specs.Layout.{content_in, sketch_of};
+ghost use Rattle.hll_sketch.specs.Merging as merging;
+ghost use Rattle.hll_sketch.specs.MergedIn.{IsOfCoupons, IsOfRegisters, MergesIn, HasCompactCoupons, ImageNeedsMemory};
+ghost use Rattle.hll_sketch.specs.Union.{gadget_of, sketch_of_registers, CanMergeIn, ContentNeedsMemory, IsGadget, MergeNeedsMemory};
+ghost use Rattle.hll_sketch.specs.Updatable.{HasUpdatableCoupons};
+ghost use Rattle.hll_sketch.specs.Value.{Sketch, IsLegal, IsLgK, coupons, in_registers, is_empty, registers};
+
+use crate::header::{Header, Stage};
+use crate::mode::Mode;
+use crate::raw_coupons::{RawCoupons, compact_coupons};
+use crate::raw_registers::with_registers;
+use crate::read_image::read_sketch;
+use crate::register_folds::eight_bits_of;
+use crate::sketch::HllSketch;
+use crate::union::HllUnion;
+use crate::updatable::{ROOM, updatable_coupons};
+use hll_arrays::array8::Array8;
+use hll_arrays::registers::Registers;
+use hll_base::error::Error;
+use hll_coupons::container::Container;
+use std::alloc::Allocator;
+
+impl<A: Allocator + Clone> HllUnion<A> {
+    /// Merges a sketch of any stage, width and `lg_k` (docs/MODEL.md, "Merging"). One pass. The join of canonical sketches with
+    /// cleared fields and one more is the join of them all (docs/MODEL.md, "Convergence").
+    ///
+    /// Fails with `Memory`, and then changes nothing, buckets included. Takes no memory for an empty sketch, for coupons
+    /// into registers, for coupons that a table with some of its own holds beside these, nor for registers into registers
+    /// at their `lg_k` or a smaller one.
+    pub fn update(&mut self, sketch: &HllSketch<A>) -> Result<(), Error>
+        ensures ok { OnOk result (gadget_of self.new ≡ merging.merge self.old.lg_max_k (gadget_of self.old) (sketch_of sketch.now)) }
+        ensures bound { self.new.lg_max_k ≡ self.old.lg_max_k }
+        ensures canonical { OnOk result ((xs : List Sketch) → IsMergeOf xs self.old → IsCanonicalCleared (sketch_of sketch.now) → IsMergeOf (xs ++ sketch_of sketch.now ∷ []) self.new) }
+        ensures unchanged { OnErr result (self.new ≡ self.old) }
+        ensures needed { OnErr result (MergeNeedsMemory (gadget_of self.old) (sketch_of sketch.now)) }
+        ensures err { IfErr result (λ e. e ≡ Memory) }
+    {
+        sketch.value_is_legal();
+        if sketch.is_empty() {
+            return Ok(());
+        }
+        self.merge_content(sketch)
+    }
+
+    /// Merges a sketch that is not empty.
+    ///
+    /// Fails with `Memory`, and then changes nothing.
+    fn merge_content(&mut self, sketch: &HllSketch<A>) -> Result<(), Error>
+        requires other { IsLegal (sketch_of sketch.now) }
+        requires some { is_empty (sketch_of sketch.now) ≡ false }
+        ensures ok { OnOk result (gadget_of self.new ≡ merging.merge_content self.old.lg_max_k (gadget_of self.old) (sketch_of sketch.now) (content_in sketch.now.layout)) }
+        ensures bound { self.new.lg_max_k ≡ self.old.lg_max_k }
+        ensures unchanged { OnErr result (self.new ≡ self.old) }
+        ensures needed { OnErr result (ContentNeedsMemory (gadget_of self.old) (gadget_of self.old).content sketch.now.lg_k (content_in sketch.now.layout)) }
+        ensures err { IfErr result (λ e. e ≡ Memory) }
+    {
+        match &sketch.mode {
+            Mode::List { list, .. } => self.merge_table(sketch, list.container()),
+            Mode::Set { set, .. } => self.merge_table(sketch, set.container()),
+            Mode::Array4(array) => self.merge_registers(array),
+            Mode::Array6(array) => self.merge_registers(array),
+            Mode::Array8(array) => self.merge_array8(array),
+        }
+    }
+
+    /// Merges a sketch of coupons, of which there are some, and which stand in this table. An empty gadget at their `lg_k` takes
+    /// them over, with the size of the table.
+    fn merge_table(&mut self, sketch: &HllSketch<A>, table: &Container<A>) -> Result<(), Error>
+        requires table { content_in sketch.now.layout ≡ coupons (coupons_of table.now) table.now.lg_size }
+        requires other { IsLegal (sketch_of sketch.now) }
+        requires some { is_empty (sketch_of sketch.now) ≡ false }
+        ensures ok { OnOk result (gadget_of self.new ≡ merging.merge_coupons (gadget_of self.old) (sketch_of sketch.now)) }
+        ensures bound { self.new.lg_max_k ≡ self.old.lg_max_k }
+        ensures unchanged { OnErr result (self.new ≡ self.old) }
+        ensures needed { OnErr result (ContentNeedsMemory (gadget_of self.old) (gadget_of self.old).content sketch.now.lg_k (content_in sketch.now.layout)) }
+        ensures err { IfErr result (λ e. e ≡ Memory) }
+    {
+        self.gadget.value_is_legal();
+        self.gadget.merge_coupons(sketch, table)
+    }
+
+    /// Merges registers of eight bits: an empty gadget takes a copy of them, where they are within the bound.
+    fn merge_array8(&mut self, source: &Array8<A>) -> Result<(), Error>
+        requires some { is_empty (sketch_of_registers source.now) ≡ false }
+        ensures ok { OnOk result (gadget_of self.new ≡ merging.merge_registers self.old.lg_max_k (gadget_of self.old) source.now.lg_k source.now.registers source.now.state) }
+        ensures bound { self.new.lg_max_k ≡ self.old.lg_max_k }
+        ensures unchanged { OnErr result (self.new ≡ self.old) }
+        ensures needed { OnErr result (ContentNeedsMemory (gadget_of self.old) (gadget_of self.old).content source.now.lg_k (registers source.now.registers source.now.state)) }
+        ensures err { IfErr result (λ e. e ≡ Memory) }
+    {
+        if !self.is_empty() || self.lg_max_k < source.lg_k() {
+            return self.merge_registers(source);
+        }
+        let copy = source.clone_in(self.gadget.allocator().clone()?)?;
+        self.take_over(copy);
+        Ok(())
+    }
+
+    /// Merges registers, of which one is not 0. An empty gadget takes over their state too, where they are within the bound.
+    ///
+    /// Fails with `Memory`, and then changes nothing.
+    fn merge_registers<R: Registers>(&mut self, source: &R) -> Result<(), Error>
+        requires some { is_empty (sketch_of_registers (R.stored source.now)) ≡ false }
+        ensures ok { let x = R.stored source.now in
+            OnOk result (gadget_of self.new ≡ merging.merge_registers self.old.lg_max_k (gadget_of self.old) x.lg_k x.registers x.state) }
+        ensures bound { self.new.lg_max_k ≡ self.old.lg_max_k }
+        ensures unchanged { OnErr result (self.new ≡ self.old) }
+        ensures needed { let x = R.stored source.now in
+            OnErr result (ContentNeedsMemory (gadget_of self.old) (gadget_of self.old).content x.lg_k (registers x.registers x.state)) }
+        ensures err { IfErr result (λ e. e ≡ Memory) }
+    {
+        if self.is_empty() && source.lg_k() <= self.lg_max_k {
+            let copy = eight_bits_of(self.gadget.allocator().clone()?, source)?;
+            self.take_over(copy);
+            return Ok(());
+        }
+        self.max_with(source)
+    }
+
+    /// Takes the maximum of the gadget and registers, of which one is not 0, with the cleared state.
+    ///
+    /// Fails with `Memory`, and then changes nothing.
+    fn max_with<R: Registers>(&mut self, source: &R) -> Result<(), Error>
+        requires some { is_empty (sketch_of_registers (R.stored source.now)) ≡ false }
+        ensures ok { let x = R.stored source.now in OnOk result (gadget_of self.new ≡ merging.max_registers (gadget_of self.old) x.lg_k x.registers cleared_state) }
+        ensures bound { self.new.lg_max_k ≡ self.old.lg_max_k }
+        ensures unchanged { OnErr result (self.new ≡ self.old) }
+        ensures needed { let x = R.stored source.now in
+            OnErr result (ContentNeedsMemory (gadget_of self.old) (gadget_of self.old).content x.lg_k (registers x.registers x.state)) }
+        ensures err { IfErr result (λ e. e ≡ Memory) }
+    {
+        self.gadget.value_is_legal();
+        let _lg_k = source.lg_k();
+        self.gadget.max_with(source)
+    }
+
+    /// Makes registers of eight bits the gadget, which is empty: they are within the bound, and one is not 0.
+    fn take_over(&mut self, array: Array8<A>)
+        requires none { is_empty (gadget_of self.old) ≡ true }
+        requires within { array.lg_k ≤ self.old.lg_max_k }
+        requires some { is_empty (sketch_of_registers array) ≡ false }
+        ensures gadget { gadget_of self.new ≡ merging.merge_registers self.old.lg_max_k (gadget_of self.old) array.lg_k array.registers array.state }
+        ensures bound { self.new.lg_max_k ≡ self.old.lg_max_k }
+    {
+        self.gadget.value_is_legal();
+        self.gadget = HllSketch {
+            lg_config_k: array.lg_k(),
+            mode: Mode::Array8(array),
+        };
+    }
+
+    /// Adds the coupons of a table, of which there are some.
+    ///
+    /// Fails with `Memory`, and then changes nothing.
+    pub(crate) fn update_with_table(&mut self, table: &Container<A>) -> Result<(), Error>
+        requires { len (coupons_of table.now) ≡ 0 → ⊥ }
+        ensures ok { OnOk result (gadget_of self.new ≡ add (gadget_of self.old) (coupons_of table.now)) }
+        ensures bound { self.new.lg_max_k ≡ self.old.lg_max_k }
+        ensures unchanged { OnErr result (self.new ≡ self.old) }
+        ensures err { IfErr result (λ e. e ≡ Memory) }
+    {
+        self.gadget.value_is_legal();
+        table.table_is_legal();
+        self.gadget.add_table(table)
+    }
+
+    /// Merges the sketch of an image, as `update` does. Bytes after the image are ignored. Coupons go into registers without a
+    /// table between, if they are at most 128, or the image is compact, and they ascend, as those that are written here do;
+    /// and registers without a copy.
+    ///
+    /// Fails with the reason of the first check that the bytes fail (docs/FORMAT.md, "Order of checks"), or with `Memory`, and
+    /// then changes nothing, buckets included. Takes memory for a table of other coupons, only once the bytes that the image
+    /// asks for are there, for a map of the exceptions of registers of four bits, where they have some, and where `update`
+    /// does.
+    pub fn update_with_image(&mut self, image: &[u8]) -> Result<(), Error>
+        ensures ok { OnOk result (MergesIn self.old self.new image.now) }
+        ensures unchanged { OnErr result (self.new ≡ self.old) }
+        ensures needed { IfErr result (λ e. e ≡ Memory → ImageNeedsMemory (gadget_of self.old) image.now) }
+        ensures err { IfErr result (λ e. (e ≡ Memory) ⊎ (first_fault image.now ≡ Some e)) }
+    {
+        let header = Header::read(image)?;
+        self.merge_image(image, header)
+    }
+
+    /// Merges the sketch of an image, as `update_with_image` does, whose header has been read.
+    pub(crate) fn merge_image(&mut self, image: &[u8], header: Header) -> Result<(), Error>
+        requires has { HasHeader image.now (stage_bits image.now) }
+        requires stage { stage_bits image.now < 3 }
+        requires header { header ≡ header_of image.now }
+        ensures ok { OnOk result (MergesIn self.old self.new image.now) }
+        ensures unchanged { OnErr result (self.new ≡ self.old) }
+        ensures needed { IfErr result (λ e. e ≡ Memory → ImageNeedsMemory (gadget_of self.old) image.now) }
+        ensures err { IfErr result (λ e. (e ≡ Memory) ⊎ (first_fault image.now ≡ Some e)) }
+    {
+        match header.stage {
+            Stage::List | Stage::Set => self.merge_image_of_coupons(image, header),
+            Stage::Hll => self.merge_image_of_registers(image, header),
+        }
+    }
+
+    /// Merges the coupons after the header of a list or a set, as `update_with_image` does.
+    fn merge_image_of_coupons(&mut self, image: &[u8], header: Header) -> Result<(), Error>
+        requires has { HasHeader image.now (stage_bits image.now) }
+        requires stage { stage_bits image.now < 2 }
+        requires header { header ≡ header_of image.now }
+        ensures ok { OnOk result (MergesIn self.old self.new image.now) }
+        ensures unchanged { OnErr result (self.new ≡ self.old) }
+        ensures needed { IfErr result (λ e. e ≡ Memory → ImageNeedsMemory (gadget_of self.old) image.now) }
+        ensures err { IfErr result (λ e. (e ≡ Memory) ⊎ (first_fault image.now ≡ Some e)) }
+    {
+        if !self.gadget.in_registers() {
+            return self.merge_table_of_image(image, header);
+        }
+        match compact_coupons(image, header) {
+            Some(coupons) => {
+                self.add_coupons(image, &coupons);
+                Ok(())
+            }
+            None => self.merge_other_coupons(image, header),
+        }
+    }
+
+    /// Merges into registers the coupons after the header of a list or a set, as `update_with_image` does, where they are not
+    /// evident in a compact image.
+    // (a caller that had the room among its own values would clear it for compact coupons too)
+    #[inline(never)]
+    fn merge_other_coupons(&mut self, image: &[u8], header: Header) -> Result<(), Error>
+        requires has { HasHeader image.now (stage_bits image.now) }
+        requires stage { stage_bits image.now < 2 }
+        requires header { header ≡ header_of image.now }
+        requires inside { in_registers (gadget_of self.old).content ≡ true }
+        requires other { HasCompactCoupons image.now → ⊥ }
+        ensures ok { OnOk result (MergesIn self.old self.new image.now) }
+        ensures unchanged { OnErr result (self.new ≡ self.old) }
+        ensures needed { IfErr result (λ e. e ≡ Memory → ImageNeedsMemory (gadget_of self.old) image.now) }
+        ensures err { IfErr result (λ e. (e ≡ Memory) ⊎ (first_fault image.now ≡ Some e)) }
+    {
+        let mut room = [0; ROOM];
+        match updatable_coupons(image, header, &mut room) {
+            Some(coupons) => {
+                self.add_coupons(image, &coupons);
+                Ok(())
+            }
+            None => self.merge_table_of_image(image, header),
+        }
+    }
+
+    /// Merges the sketch of a list or a set that is read into a table, as `update_with_image` does.
+    fn merge_table_of_image(&mut self, image: &[u8], header: Header) -> Result<(), Error>
+        requires has { HasHeader image.now (stage_bits image.now) }
+        requires stage { stage_bits image.now < 2 }
+        requires header { header ≡ header_of image.now }
+        requires compact { in_registers (gadget_of self.old).content ≡ true → HasCompactCoupons image.now → ⊥ }
+        requires updatable { in_registers (gadget_of self.old).content ≡ true → HasUpdatableCoupons image.now → ⊥ }
+        ensures ok { OnOk result (MergesIn self.old self.new image.now) }
+        ensures unchanged { OnErr result (self.new ≡ self.old) }
+        ensures needed { IfErr result (λ e. e ≡ Memory → ImageNeedsMemory (gadget_of self.old) image.now) }
+        ensures err { IfErr result (λ e. (e ≡ Memory) ⊎ (first_fault image.now ≡ Some e)) }
+    {
+        let sketch = read_sketch(self.gadget.allocator(), image, header)?;
+        self.update(&sketch)
+    }
+
+    /// Adds the coupons of an image in turn to a gadget in registers.
+    fn add_coupons(&mut self, image: &[u8], coupons: &RawCoupons<'_>)
+        requires inside { in_registers (gadget_of self.old).content ≡ true }
+        requires of { IsOfCoupons image.now (raw_coupons coupons.now.count coupons.now.bytes.now) }
+        ensures { MergesIn self.old self.new image.now }
+    {
+        self.gadget.value_is_legal();
+        self.gadget.add_in_turn(coupons);
+    }
+
+    /// Merges the registers after the header of an image, as `update_with_image` does.
+    // (a caller would clear its values for compact coupons too)
+    #[inline(never)]
+    fn merge_image_of_registers(&mut self, image: &[u8], header: Header) -> Result<(), Error>
+        requires has { HasHeader image.now 2 }
+        requires header { header ≡ header_of image.now }
+        ensures ok { OnOk result (MergesIn self.old self.new image.now) }
+        ensures unchanged { OnErr result (self.new ≡ self.old) }
+        ensures needed { IfErr result (λ e. e ≡ Memory → ImageNeedsMemory (gadget_of self.old) image.now) }
+        ensures err { IfErr result (λ e. (e ≡ Memory) ⊎ (first_fault image.now ≡ Some e)) }
+    {
+        with_registers!(self.gadget.allocator(), image, header, source => {
+            self.merge_borrowed(image, &source, source.are_all_zero())
+        })
+    }
+
+    /// Merges registers that an image has, and of which it is known whether all are 0.
+    fn merge_borrowed<R: Registers>(
+        &mut self,
+        image: &[u8],
+        source: &R,
+        are_all_zero: bool,
+    ) -> Result<(), Error>
+        requires registers { IsOfRegisters image.now (R.stored source.now) }
+        requires zeros { are_all_zero ≡ list_all (λ v. v == 0) (R.stored source.now).registers }
+        ensures ok { OnOk result (MergesIn self.old self.new image.now) }
+        ensures unchanged { OnErr result (self.new ≡ self.old) }
+        ensures needed { OnErr result (ImageNeedsMemory (gadget_of self.old) image.now) }
+        ensures err { IfErr result (λ e. e ≡ Memory) }
+    {
+        if are_all_zero {
+            return Ok(());
+        }
+        self.merge_registers(source)
+    }
+}
+
+impl<A: Allocator + Clone> HllSketch<A> {
+    /// Whether this is a gadget of a union with a bound, in registers.
+    pub(crate) fn is_gadget_of_registers(&self, bound: u8) -> bool
+        ensures gadget { result ≡ true → IsGadget bound (sketch_of self.now) }
+        ensures registers { result ≡ true → in_registers (content_in self.now.layout) ≡ true }
+        ensures other { result ≡ false → IsGadget bound (sketch_of self.now) → in_registers (content_in self.now.layout) ≡ true → ⊥ }
+    {
+        match &self.mode {
+            Mode::Array8(_) => self.lg_config_k <= bound && !self.is_empty(),
+            _ => false,
+        }
+    }
+
+    /// Merges a sketch at its `lg_k` or a greater one into registers of eight bits that are not all 0, whatever the bound of
+    /// their union.
+    fn merge_in_place(&mut self, sketch: &HllSketch<A>)
+        requires gadget { IsGadget self.old.lg_k (sketch_of self.old) }
+        requires inside { in_registers (content_in self.old.layout) ≡ true }
+        requires within { self.old.lg_k ≤ sketch.now.lg_k }
+        ensures { (bound : ℕ) → sketch_of self.new ≡ merging.merge bound (sketch_of self.old) (sketch_of sketch.now) }
+    {
+        sketch.value_is_legal();
+        if !sketch.is_empty() {
+            match &sketch.mode {
+                Mode::List { list, .. } => self.add_each(list.container()),
+                Mode::Set { set, .. } => self.add_each(set.container()),
+                Mode::Array4(array) => self.max_in_place(array),
+                Mode::Array6(array) => self.max_in_place(array),
+                Mode::Array8(array) => self.max_in_place(array),
+            }
+        }
+    }
+}
+
+/// Makes the first of some sketches their union under a bound, where that takes no memory, and answers whether it did:
+/// where the first has registers of eight bits that are not all 0, at an `lg_k` up to the bound and up to that of each
+/// other sketch. Otherwise nothing changes.
+///
+/// `lg_max_k` is 4 to 21.
+pub fn union_in_place<A: Allocator + Clone>(
+    lg_max_k: u8,
+    first: &mut HllSketch<A>,
+    others: &[HllSketch<A>],
+) -> bool
+    requires { IsLgK lg_max_k }
+    ensures can { result ≡ true → CanMergeIn lg_max_k first.old others.now }
+    ensures cannot { result ≡ false → CanMergeIn lg_max_k first.old others.now → ⊥ }
+    ensures merged { result ≡ true → sketch_of first.new ≡ merging.merge_all lg_max_k (merging.empty_union lg_max_k) (sketch_of first.old ∷ map sketch_of others.now) }
+    ensures unchanged { result ≡ false → first.new ≡ first.old }
+{
+    if !first.is_gadget_of_registers(lg_max_k) || !are_at_least(first.lg_config_k(), others) {
+        return false;
+    }
+    first.value_is_legal();
+    for sketch in others {
+        first.value_is_legal();
+        sketch.value_is_legal();
+        first.merge_in_place(sketch);
+    }
+    true
+}
+
+/// Whether the `lg_k` of each sketch is at least this one.
+fn are_at_least<A: Allocator>(lg_k: u8, sketches: &[HllSketch<A>]) -> bool
+    ensures all { result ≡ true → All (λ x. lg_k ≤ x.lg_k) sketches.now }
+    ensures some { result ≡ false → All (λ x. lg_k ≤ x.lg_k) sketches.now → ⊥ }
+{
+    for sketch in sketches {
+        if sketch.lg_config_k() < lg_k {
+            return false;
+        }
+    }
+    true
+}

@@ -1,0 +1,259 @@
+// SPDX-License-Identifier: Apache-2.0
+//! The coupons of a compact image, as they lie in its bytes: coupons that ascend, as they are written here, or are few, in any
+//! order. One pass over them shows that they are distinct, without a table or a copy.
+ghost use Rattle.std.specs.Prelude.{◌≡◌, ◌*◌, ◌^◌, ◌-◌, ◌<◌, ◌≤◌, ◌↔◌, [], ◌∷◌, false, nat_eq, IsTrue, IfSome, IfNone, length};
+ghost use Rattle.std.specs.FinSet.{contains};
+ghost use Rattle.std.specs.List.{list_any};
+ghost use Rattle.std.specs.List.Sorted.{IsStrictlyIncreasing};
+ghost use Rattle.hll_base.specs.Join.{join};
+ghost use Rattle.hll_coupons.specs.Coupons.{coupon_bytes, raw_coupons, AreCoupons};
+ghost use Rattle.hll_coupons.specs.Fold.{fold_to};
+ghost use Rattle.hll_coupons.specs.Pair.{set_of};
+ghost use Rattle.hll_sketch.specs.Borrowed.{AreMarked, AreEvidentlyCoupons};
+ghost use Rattle.hll_sketch.specs.MergedIn.{IsOfCoupons, raw_coupons_in, HasCompactCoupons};
+ghost use Rattle.hll_sketch.specs.Header.{header_of};
+ghost use Rattle.hll_sketch.specs.Image.{HasHeader, stage_bits};
+ghost use Rattle.hll_sketch.specs.Laws.{add_in_turn};
+ghost use Rattle.hll_sketch.specs.Union.{sketch_of_registers};
+
+use crate::header::{HEADER_SIZE, Header, Stage};
+use hll_arrays::array8::Array8;
+use hll_arrays::registers::two_to;
+use hll_base::bounds::SLOT_BITS;
+use hll_base::cursor::SketchSlice;
+use hll_coupons::coupon::Coupon;
+use hll_coupons::raw_coupons::{RawCouponIter, bytes_of_raw_coupons};
+use hll_coupons::serialization::{
+    COUPON_SIZE_BYTES, LG_LEAST_SET_BUCKETS, LG_LIST_BUCKETS, LG_SET_BELOW_LG_K,
+};
+use std::alloc::Allocator;
+
+/// The greatest raw coupon without a value.
+const LAST_WITHOUT_VALUE: u32 = (1 << SLOT_BITS) - 1;
+
+/// Up to so many coupons are distinguished by marks.
+pub(crate) const FEW: usize = 128;
+
+/// How many marks there are, so that few of `FEW` coupons share one.
+const MARKS: usize = 1024;
+
+/// The raw coupons at the front of some bytes.
+#[derive(Clone, Copy)]
+pub(crate) struct RawCoupons<'a> {
+    pub bytes: &'a [u8],
+    pub count: usize,
+    ghost there: { 4 * count ≤ length bytes.now },
+}
+
+impl<'a> RawCoupons<'a> {
+    /// So many raw coupons, if there are any, and the bytes are there.
+    pub(crate) fn front(bytes: &'a [u8], count: usize) -> Option<RawCoupons<'a>>
+        ensures some { IfSome result (λ w. (w.bytes.now ≡ bytes.now) × (w.count ≡ count) × (1 ≤ count) × (4 * count ≤ length bytes.now)) }
+        ensures none { IfNone result (1 ≤ count → length bytes.now < 4 * count) }
+    {
+        if count == 0 || bytes.len() / COUPON_SIZE_BYTES < count {
+            return None;
+        }
+        Some(RawCoupons { bytes, count })
+    }
+
+    /// These raw coupons, to be taken one by one.
+    pub(crate) fn all(&self) -> RawCouponIter<'a>
+        ensures { result ≡ raw_coupons self.now.count self.now.bytes.now }
+    {
+        RawCouponIter::new(self.bytes, self.count)
+    }
+
+    /// Their bytes.
+    pub(crate) fn as_bytes(&self) -> &'a [u8]
+        ensures { result.now ≡ coupon_bytes (raw_coupons self.now.count self.now.bytes.now) }
+    {
+        bytes_of_raw_coupons(self.bytes, self.count)
+    }
+
+    /// Whether each has a value, and is greater than the one before it.
+    pub(crate) fn ascend(&self) -> bool
+        ensures { IsTrue result ↔ IsStrictlyIncreasing ((2 ^ 26 - 1) ∷ raw_coupons self.now.count self.now.bytes.now) }
+    {
+        let mut cursor = SketchSlice::new(self.bytes);
+        let mut last = LAST_WITHOUT_VALUE;
+        for _ in 0..self.count {
+            match cursor.read_u32_le() {
+                Ok(raw_coupon) if last < raw_coupon => last = raw_coupon,
+                _ => return false,
+            }
+        }
+        true
+    }
+
+    /// Whether each has a value, and no two are the same. A raw coupon is compared with those before it only where one of them
+    /// has its mark.
+    // (a caller that had the marks among its own values would clear them at each call)
+    #[inline(never)]
+    pub(crate) fn differ(&self) -> bool
+        ensures { IsTrue result ↔ AreCoupons (raw_coupons self.now.count self.now.bytes.now) }
+    {
+        let mut marks = [false; MARKS];
+        let mut cursor = SketchSlice::new(self.bytes);
+        for index in 0..self.count {
+            let Ok(raw_coupon) = cursor.read_u32_le() else {
+                return false;
+            };
+            if raw_coupon <= LAST_WITHOUT_VALUE || !self.is_new(&marks, index, raw_coupon) {
+                return false;
+            }
+            marks[raw_coupon as usize % MARKS] = true;
+        }
+        true
+    }
+
+    /// Whether none of the first raw coupons is this one, if each of them has its mark.
+    fn is_new(&self, marks: &[bool; MARKS], index: usize, raw_coupon: u32) -> bool
+        requires within { index ≤ self.now.count }
+        requires marked { AreMarked 1024 (raw_coupons index self.now.bytes.now) marks.now }
+        ensures { IsTrue result ↔ (contains (set_of (raw_coupons index self.now.bytes.now)) raw_coupon ≡ false) }
+    {
+        !marks[raw_coupon as usize % MARKS] || !self.stands_before(index, raw_coupon)
+    }
+
+    /// Whether one of the first raw coupons is this one.
+    fn stands_before(&self, index: usize, raw_coupon: u32) -> bool
+        requires { index ≤ self.now.count }
+        ensures { result ≡ list_any (λ w. nat_eq w raw_coupon) (raw_coupons index self.now.bytes.now) }
+    {
+        let mut cursor = SketchSlice::new(self.bytes);
+        for _ in 0..index {
+            match cursor.read_u32_le() {
+                Ok(other) if other != raw_coupon => {}
+                _ => return true,
+            }
+        }
+        false
+    }
+
+    /// Whether these are coupons, if they ascend or are few; else it says no.
+    fn are_evidently_coupons(&self) -> bool
+        ensures { IsTrue result ↔ AreEvidentlyCoupons (raw_coupons self.now.count self.now.bytes.now) }
+    {
+        if self.ascend() {
+            return true;
+        }
+        if FEW < self.count {
+            return false;
+        }
+        self.differ()
+    }
+
+    /// Raises registers of eight bits by these coupons in turn.
+    // (a loop of its own, for all callers)
+    #[inline(never)]
+    pub(crate) fn add_to<A: Allocator>(&self, array: &mut Array8<A>)
+        ensures added { sketch_of_registers array.new ≡ add_in_turn (sketch_of_registers array.old) (raw_coupons self.now.count self.now.bytes.now) }
+        ensures lg_k { array.new.lg_k ≡ array.old.lg_k }
+    {
+        let mut cursor = SketchSlice::new(self.bytes);
+        for _ in 0..self.count {
+            if let Ok(raw_coupon) = cursor.read_u32_le() {
+                array.update(Coupon::pack(raw_coupon, (raw_coupon >> SLOT_BITS) as u8));
+            }
+        }
+    }
+
+    /// Raises 2^`lg_k` bytes by these coupons in turn.
+    pub(crate) fn max_into(&self, registers: &mut [u8], lg_k: u8)
+        requires most { lg_k ≤ 21 }
+        requires size { length registers.old ≡ 2 ^ lg_k }
+        ensures { registers.new ≡ join registers.old (fold_to (set_of (raw_coupons self.now.count self.now.bytes.now)) lg_k) }
+    {
+        let mut cursor = SketchSlice::new(self.bytes);
+        for _ in 0..self.count {
+            if let Ok(raw_coupon) = cursor.read_u32_le() {
+                max_coupon(
+                    registers,
+                    lg_k,
+                    Coupon::pack(raw_coupon, (raw_coupon >> SLOT_BITS) as u8),
+                );
+            }
+        }
+    }
+}
+
+/// Raises the register at the coupon's slot modulo 2^`lg_k` to the coupon's value.
+pub fn max_coupon(registers: &mut [u8], lg_k: u8, coupon: Coupon)
+    requires most { lg_k ≤ 21 }
+    requires size { length registers.old ≡ 2 ^ lg_k }
+    ensures { registers.new ≡ join registers.old (fold_to (set_of (coupon ∷ [])) lg_k) }
+{
+    let slot = coupon.slot() as usize % two_to(lg_k);
+    let register = registers[slot];
+    if register < coupon.value() {
+        registers[slot] = coupon.value();
+    }
+}
+
+/// The coupons after the header of a list or a set, if there are some, the image is compact, and they ascend or are few.
+// (in each of its callers, so that what it gives isn't put into memory for them)
+#[inline(always)]
+pub(crate) fn compact_coupons(bytes: &[u8], header: Header) -> Option<RawCoupons<'_>>
+    requires has { HasHeader bytes.now (stage_bits bytes.now) }
+    requires stage { stage_bits bytes.now < 3 }
+    requires header { header ≡ header_of bytes.now }
+    ensures some { IfSome result (λ w. IsOfCoupons bytes.now (raw_coupons w.count w.bytes.now)) }
+    ensures are { IfSome result (λ w. AreCoupons (raw_coupons w.count w.bytes.now)) }
+    ensures evident { IfSome result (λ w. AreEvidentlyCoupons (raw_coupons w.count w.bytes.now)) }
+    ensures none { IfNone result (HasCompactCoupons bytes.now → ⊥) }
+{
+    let coupons = match header.stage {
+        Stage::List => list_coupons(bytes, header)?,
+        Stage::Set => set_coupons(bytes, header)?,
+        Stage::Hll => return None,
+    };
+    if coupons.are_evidently_coupons() {
+        Some(coupons)
+    } else {
+        None
+    }
+}
+
+/// The raw coupons after the header of a compact list, in the number that it says. `None` where a check but that of coupons fails.
+pub(crate) fn list_coupons(bytes: &[u8], header: Header) -> Option<RawCoupons<'_>>
+    requires has { HasHeader bytes.now 0 }
+    requires header { header ≡ header_of bytes.now }
+    ensures raw_coupons { IfSome result (λ w. raw_coupons w.count w.bytes.now ≡ raw_coupons_in bytes.now) }
+    ensures coupons { IfSome result (λ w. AreCoupons (raw_coupons w.count w.bytes.now) → IsOfCoupons bytes.now (raw_coupons w.count w.bytes.now)) }
+    ensures none { IfNone result (HasCompactCoupons bytes.now → ⊥) }
+{
+    if !header.compact || header.empty || header.lg_arr != LG_LIST_BUCKETS {
+        return None;
+    }
+    let count = usize::from(header.state_byte);
+    if two_to(LG_LIST_BUCKETS) < count {
+        return None;
+    }
+    RawCoupons::front(&bytes[HEADER_SIZE..], count)
+}
+
+/// The raw coupons after the count of a compact set, in that number. `None` where a check but that of coupons fails.
+pub(crate) fn set_coupons(bytes: &[u8], header: Header) -> Option<RawCoupons<'_>>
+    requires has { HasHeader bytes.now 1 }
+    requires header { header ≡ header_of bytes.now }
+    ensures raw_coupons { IfSome result (λ w. raw_coupons w.count w.bytes.now ≡ raw_coupons_in bytes.now) }
+    ensures coupons { IfSome result (λ w. AreCoupons (raw_coupons w.count w.bytes.now) → IsOfCoupons bytes.now (raw_coupons w.count w.bytes.now)) }
+    ensures none { IfNone result (HasCompactCoupons bytes.now → ⊥) }
+{
+    if !header.compact
+        || header.lg_arr < LG_LEAST_SET_BUCKETS
+        || header.lg_k - LG_SET_BELOW_LG_K < header.lg_arr
+    {
+        return None;
+    }
+    let mut cursor = SketchSlice::new(&bytes[HEADER_SIZE..]);
+    let Ok(count) = cursor.read_u32_le() else {
+        return None;
+    };
+    let count = count as usize;
+    if two_to(header.lg_arr) <= count {
+        return None;
+    }
+    RawCoupons::front(cursor.remaining(), count)
+}
