@@ -111,7 +111,7 @@ def ratio(firsts, seconds_of):
 
 
 def joined_by_c(batches):
-    """The C calls alone: images stand one after another already, in batches that fit a cache."""
+    """The C calls alone: images are concatenated already, in batches that fit a cache."""
     from hll_sketches._library import _library as library
     out, size, failed = ctypes.create_string_buffer(1 << 16), ctypes.c_size_t(), ctypes.c_size_t()
     answer = ctypes.addressof(out), len(out), ctypes.byref(size), ctypes.byref(failed)

@@ -82,7 +82,7 @@ def exceptions_plan(lg_k, is_path):
 
 
 def lowered_plan(lg_k, is_path):
-    """The same above a minimum that is lower than they are, so that they are packed again."""
+    """4-bit registers stored with a minimum below the least of them, so reading packs them again."""
     registers = registers_with(lg_k, slots_of(lg_k, is_path), 40, 1)
     return image_line(image_of(lg_k, 4, registers, 0)), image_of(lg_k, 4, registers)
 

@@ -236,7 +236,7 @@ def _ends_in(ends: Any) -> Numbers:
 
 
 def batch_of(data: Any, ends: Any) -> Batch:
-    """Byte strings that stand one after another, delimited by their ends."""
+    """Concatenated byte strings, delimited by their ends."""
     taken = _ends_in(ends)
     return data if type(data) is bytes else memoryview(data).tobytes(), taken, len(taken)
 

@@ -255,7 +255,7 @@ _COUPON = next(code for code in "IL" if array(code).itemsize == 4)
 
 
 def ends_of(pieces: Sequence[bytes]) -> Numbers:
-    """Where each of the byte strings ends, if they stand one after another."""
+    """The end of each of the byte strings, once they are concatenated."""
     return array(_END, accumulate(map(len, pieces)))
 
 

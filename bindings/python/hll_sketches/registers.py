@@ -87,7 +87,7 @@ class Registers:
                 _library.add_to(self._place, *batch)
 
     def update_bytes(self, data: Any, ends: Any) -> None:
-        """Count byte strings that stand one after another, as ``Sketch.update_bytes`` does."""
+        """Count concatenated byte strings, as ``Sketch.update_bytes`` does."""
         batch = batch_of(data, ends)
         with self._lock:
             _library.add_to(self._place, *batch)

@@ -257,7 +257,7 @@ class Sketch:
                 self._image = _library.add(self.to_bytes(), *batch)
 
     def update_bytes(self, data: Any, ends: Any) -> None:
-        """Count byte strings that stand one after another, as in a column of strings of Arrow.
+        """Count concatenated byte strings, as in a column of strings of Arrow.
 
         Parameters
         ----------
