@@ -1,13 +1,16 @@
 // SPDX-License-Identifier: Apache-2.0
-//! Times calls of libhll at lg_k 12 beside the Rust crate `datasketches`, pair by pair: merges of two images of 20 values, and
-//! reads and writes of an image, by bytes in and bytes out. Prints a row for each: the nanoseconds of both, and the median of
-//! their ratios. bench/compare.py builds and runs it.
+//! Times calls of libhll at lg_k 12 beside the Rust crate `datasketches`, pair by pair, by bytes in and bytes out. Prints a row
+//! for each call, and for each kind of image the median of the ratios, and the nanoseconds of the call. bench/compare.py
+//! builds and runs it.
 use datasketches::hll::{HllSketch, HllType, HllUnion};
 use std::hint::black_box;
 
 const LG_K: u8 = 12;
-const IMAGES: usize = 1000;
+const IMAGES: usize = 200;
 const TURNS: usize = 31;
+const SET_VALUES: usize = 20;
+const SET_HEADER: usize = 12;
+const BUCKETS: usize = 32;
 
 #[link(name = "hll", kind = "static")]
 #[link(name = "m")]
@@ -19,6 +22,8 @@ unsafe extern "C" {
     fn hll_image_merge(lg_max_k: u8, width: u8, left: *const u8, left_len: usize, right: *const u8, right_len: usize, out: *mut u8, room: usize, size: *mut usize, failed: *mut usize) -> u8;
     #[rustfmt::skip]
     fn hll_image_convert(image: *const u8, len: usize, width: u8, out: *mut u8, room: usize, size: *mut usize) -> u8;
+    #[rustfmt::skip]
+    fn hll_images_agree(left: *const u8, left_len: usize, right: *const u8, right_len: usize, same: *mut u8, failed: *mut usize) -> u8;
     fn clock_gettime(clock: i32, time: *mut [i64; 2]) -> i32;
 }
 
@@ -29,89 +34,238 @@ fn now() -> f64 {
     time[0] as f64 * 1e9 + time[1] as f64
 }
 
-/// The image of so many values from a number on.
-fn image(width: u8, from: u64, count: usize) -> Vec<u8> {
-    let values: Vec<u8> = (from..from + count as u64).flat_map(u64::to_le_bytes).collect();
-    let ends: Vec<usize> = (1..=count).map(|end| 8 * end).collect();
-    let (mut empty, mut out, mut len, mut size) = ([0; 64], vec![0; 5000], 0, 0);
-    unsafe {
-        assert_eq!(hll_image_new(LG_K, width, empty.as_mut_ptr(), 64, &mut len), 0);
-        let code = hll_image_add(empty.as_ptr(), len, values.as_ptr(), values.len(), ends.as_ptr(), count, out.as_mut_ptr(), out.len(), &mut size);
-        assert_eq!(code, 0);
-    }
-    out.truncate(size);
-    out
+// ---- calls
+
+/// Numbers from one on, eight bytes each, and where each ends.
+struct Values {
+    numbers: Vec<u64>,
+    bytes: Vec<u8>,
+    ends: Vec<usize>,
 }
 
-fn merge(left: &[u8], right: &[u8], out: &mut [u8]) -> usize {
-    let (mut size, mut failed) = (0, 0);
+impl Values {
+    fn new(from: u64, count: usize) -> Values {
+        let numbers: Vec<u64> = (from..from + count as u64).collect();
+        let bytes = numbers.iter().flat_map(|number| number.to_le_bytes()).collect();
+        let ends = (1..=count).map(|end| 8 * end).collect();
+        Values { numbers, bytes, ends }
+    }
+}
+
+fn add(image: &[u8], values: &Values, out: &mut [u8]) -> usize {
+    let mut size = 0;
+    let (bytes, ends) = (&values.bytes, &values.ends);
     let code = unsafe {
-        hll_image_merge(LG_K, 8, left.as_ptr(), left.len(), right.as_ptr(), right.len(), out.as_mut_ptr(), out.len(), &mut size, &mut failed)
+        hll_image_add(image.as_ptr(), image.len(), bytes.as_ptr(), bytes.len(), ends.as_ptr(), ends.len(), out.as_mut_ptr(), out.len(), &mut size)
     };
     assert_eq!(code, 0);
     size
 }
 
-fn merge_by_crate(left: &[u8], right: &[u8]) -> Vec<u8> {
+fn add_by_crate(image: &[u8], values: &Values) -> Vec<u8> {
+    let mut sketch = HllSketch::deserialize(image).unwrap();
+    for number in &values.numbers {
+        sketch.update(number);
+    }
+    sketch.serialize()
+}
+
+fn merge(width: u8, left: &[u8], right: &[u8], out: &mut [u8]) -> usize {
+    let (mut size, mut failed) = (0, 0);
+    let code = unsafe {
+        hll_image_merge(LG_K, width, left.as_ptr(), left.len(), right.as_ptr(), right.len(), out.as_mut_ptr(), out.len(), &mut size, &mut failed)
+    };
+    assert_eq!(code, 0);
+    size
+}
+
+fn merge_by_crate(width: u8, left: &[u8], right: &[u8]) -> Vec<u8> {
+    let hll_type = [HllType::Hll4, HllType::Hll6, HllType::Hll8][usize::from(width) / 2 - 2];
     let mut union = HllUnion::new(LG_K).unwrap();
     union.update(&HllSketch::deserialize(left).unwrap());
     union.update(&HllSketch::deserialize(right).unwrap());
-    union.to_sketch(HllType::Hll8).serialize()
+    union.to_sketch(hll_type).serialize()
 }
 
-fn read_and_write(image: &[u8], width: u8, out: &mut [u8]) -> usize {
+fn convert(image: &[u8], width: u8, out: &mut [u8]) -> usize {
     let mut size = 0;
     let code = unsafe { hll_image_convert(image.as_ptr(), image.len(), width, out.as_mut_ptr(), out.len(), &mut size) };
     assert_eq!(code, 0);
     size
 }
 
-fn read_and_write_by_crate(image: &[u8]) -> Vec<u8> {
+fn convert_by_crate(image: &[u8]) -> Vec<u8> {
     HllSketch::deserialize(image).unwrap().serialize()
 }
+
+fn agree(left: &[u8], right: &[u8]) -> bool {
+    let (mut same, mut failed) = (0, 0);
+    assert_eq!(unsafe { hll_images_agree(left.as_ptr(), left.len(), right.as_ptr(), right.len(), &mut same, &mut failed) }, 0);
+    same == 1
+}
+
+fn agree_by_crate(left: &[u8], right: &[u8]) -> bool {
+    HllSketch::deserialize(left).unwrap() == HllSketch::deserialize(right).unwrap()
+}
+
+// ---- images
+
+/// The image of so many values from a number on.
+fn image(width: u8, from: u64, count: usize) -> Vec<u8> {
+    let (mut empty, mut out, mut len) = ([0; 64], vec![0; 30000], 0);
+    assert_eq!(unsafe { hll_image_new(LG_K, width, empty.as_mut_ptr(), 64, &mut len) }, 0);
+    let size = add(&empty[..len], &Values::new(from, count), &mut out);
+    out.truncate(size);
+    out
+}
+
+fn word(bytes: &[u8]) -> u32 {
+    u32::from_le_bytes(bytes[..4].try_into().unwrap())
+}
+
+/// The buckets of a table with these coupons, where searches find them.
+fn buckets_of(coupons: &[u8]) -> Vec<u32> {
+    let mut buckets = vec![0; BUCKETS];
+    for coupon in coupons.chunks(4).map(word) {
+        let (mut at, stride) = (coupon as usize % BUCKETS, (coupon & 0x3ff_ffff) as usize / BUCKETS | 1);
+        while buckets[at] != 0 {
+            at = (at + stride) % BUCKETS;
+        }
+        buckets[at] = coupon;
+    }
+    buckets
+}
+
+/// A set whose coupons lie in the order of the buckets of their table, or in these.
+fn placed(mut set: Vec<u8>, updatable: bool) -> Vec<u8> {
+    let buckets = buckets_of(&set[SET_HEADER..]);
+    set.truncate(SET_HEADER);
+    if updatable {
+        set[5] &= !8;
+    }
+    let kept = buckets.iter().filter(|bucket| updatable || **bucket != 0);
+    set.extend(kept.flat_map(|bucket| bucket.to_le_bytes()));
+    set
+}
+
+/// Images of one kind.
+struct Kind {
+    name: &'static str,
+    width: u8,
+    images: Vec<Vec<u8>>,
+}
+
+fn registers(name: &'static str, width: u8) -> Kind {
+    let images = (0..=IMAGES as u64).map(|i| image(width, 20000 * i, 20000)).collect();
+    Kind { name, width, images }
+}
+
+fn sets(name: &'static str, order: impl Fn(Vec<u8>) -> Vec<u8>) -> Kind {
+    let images = (0..=IMAGES as u64).map(|i| order(image(8, 1000 * i, SET_VALUES))).collect();
+    Kind { name, width: 8, images }
+}
+
+// ---- times
 
 fn median(mut of: Vec<f64>) -> f64 {
     of.sort_by(f64::total_cmp);
     of[of.len() / 2]
 }
 
-/// Times a call and the crate's in turn, each over all images.
-fn row(name: &str, mut call: impl FnMut(usize), mut other: impl FnMut(usize)) {
-    let timed = |call: &mut dyn FnMut(usize)| {
+/// Times a call and the crate's in turn, each over all images; the median of their ratios, and of the call's nanoseconds.
+fn timed(mut call: impl FnMut(usize), mut other: impl FnMut(usize)) -> String {
+    let all = |call: &mut dyn FnMut(usize)| {
         let start = now();
         (0..IMAGES).for_each(&mut *call);
         (now() - start) / IMAGES as f64
     };
-    let pairs: Vec<_> = (0..TURNS).map(|_| (timed(&mut call), timed(&mut other))).collect();
-    let (ours, theirs): (Vec<_>, Vec<_>) = pairs.iter().copied().unzip();
+    let pairs: Vec<_> = (0..TURNS).map(|_| (all(&mut call), all(&mut other))).collect();
     let ratios = pairs.iter().map(|(one, two)| one / two).collect();
-    println!("| {name} | {:.0} | {:.0} | {:.2} |", median(ours), median(theirs), median(ratios));
+    format!("{:.2} ({:.0} ns)", median(ratios), median(pairs.iter().map(|(one, _)| *one).collect()))
+}
+
+/// Values from a number on, the first of which changes an image.
+fn changing(image: &[u8], from: u64, count: usize) -> Values {
+    let mut out = vec![0; 30000];
+    let changes = |from: &u64| {
+        let size = add(image, &Values::new(*from, 1), &mut out);
+        out[..size] != *image
+    };
+    Values::new((from..).find(changes).unwrap(), count)
+}
+
+fn time_add(kind: &Kind, count: usize) -> String {
+    let mut out = vec![0; 30000];
+    let images = &kind.images;
+    let values: Vec<_> = (0..IMAGES).map(|i| changing(&images[i], 50_000_000 + 1000 * i as u64, count)).collect();
+    timed(
+        |i| _ = black_box(add(&images[i], &values[i], &mut out)),
+        |i| _ = black_box(add_by_crate(&images[i], &values[i])),
+    )
+}
+
+fn time_merge(kind: &Kind) -> String {
+    let mut out = vec![0; 30000];
+    let (images, width) = (&kind.images, kind.width);
+    assert_eq!(merge(width, &images[0], &images[1], &mut out), merge_by_crate(width, &images[0], &images[1]).len());
+    timed(
+        |i| _ = black_box(merge(width, &images[i], &images[i + 1], &mut out)),
+        |i| _ = black_box(merge_by_crate(width, &images[i], &images[i + 1])),
+    )
+}
+
+fn time_convert(kind: &Kind) -> String {
+    let mut out = vec![0; 30000];
+    let images = &kind.images;
+    timed(
+        |i| _ = black_box(convert(&images[i], kind.width, &mut out)),
+        |i| _ = black_box(convert_by_crate(&images[i])),
+    )
+}
+
+/// Beside images of the same bytes, or of the same registers without estimator fields.
+fn time_agree(kind: &Kind, without_fields: bool) -> String {
+    let images = &kind.images;
+    let mut copies = images.clone();
+    assert!(agree(&images[0], &copies[0]) && agree_by_crate(&images[0], &copies[0]));
+    if without_fields {
+        copies.iter_mut().for_each(|copy| copy[8..32].fill(0));
+        assert!(images[0] != copies[0] && agree(&images[0], &copies[0]));
+    }
+    timed(
+        |i| _ = black_box(agree(&images[i], &copies[i])),
+        |i| _ = black_box(agree_by_crate(&images[i], &copies[i])),
+    )
+}
+
+/// A row of a table: a call, and what it took for each kind.
+fn row(call: &str, kinds: &[Kind], time: impl Fn(&Kind) -> String) {
+    let cells: Vec<_> = kinds.iter().map(time).collect();
+    println!("| {call} | {} |", cells.join(" | "));
+}
+
+fn table(first: &str, kinds: &[Kind], has_fields: bool, counts: &[usize]) {
+    let names: Vec<_> = kinds.iter().map(|kind| kind.name).collect();
+    println!("| {first} | {} |\n|---|{}", names.join(" | "), "---|".repeat(kinds.len()));
+    row("`hll_image_merge` of two", kinds, time_merge);
+    row("`hll_image_convert` to the same width", kinds, time_convert);
+    row("`hll_images_agree`, of the same bytes", kinds, |kind| time_agree(kind, false));
+    if has_fields {
+        row("the same, where one has no fields", kinds, |kind| time_agree(kind, true));
+    }
+    for count in counts {
+        row(&format!("`hll_image_add` of {count}"), kinds, |kind| time_add(kind, *count));
+    }
+    println!();
 }
 
 fn main() {
-    let mut out = vec![0; 5000];
-    println!("| call | ns | the crate, ns | ratio |\n|---|---|---|---|");
-    let sets: Vec<_> = (0..=IMAGES as u64).map(|i| image(8, 20 * i, 20)).collect();
-    let size = merge(&sets[0], &sets[1], &mut out);
-    assert_eq!(size, merge_by_crate(&sets[0], &sets[1]).len());
-    row(
-        "merge of two sets of 20",
-        |i| _ = black_box(merge(&sets[i], &sets[i + 1], &mut out)),
-        |i| _ = black_box(merge_by_crate(&sets[i], &sets[i + 1])),
-    );
-    let mut out = vec![0; 5000];
-    row(
-        "read and write of a set of 20",
-        |i| _ = black_box(read_and_write(&sets[i], 8, &mut out)),
-        |i| _ = black_box(read_and_write_by_crate(&sets[i])),
-    );
-    for width in [8, 6, 4] {
-        let mut out = vec![0; 5000];
-        let registers: Vec<_> = (0..IMAGES as u64).map(|i| image(width, 20000 * i, 20000)).collect();
-        row(
-            &format!("read and write of registers of {width} bits"),
-            |i| _ = black_box(read_and_write(&registers[i], width, &mut out)),
-            |i| _ = black_box(read_and_write_by_crate(&registers[i])),
-        );
-    }
+    let widths = [registers("8 bits", 8), registers("6 bits", 6), registers("4 bits", 4)];
+    table("registers", &widths, true, &[1, 100, 1000]);
+    let orders = [
+        sets("ascending", |set| set),
+        sets("placed", |set| placed(set, false)),
+        sets("updatable", |set| placed(set, true)),
+    ];
+    table("sets of 20", &orders, false, &[1, 100, 1000]);
 }

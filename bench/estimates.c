@@ -1,6 +1,6 @@
 /* SPDX-License-Identifier: Apache-2.0 */
 /*
- * The estimator of bindings/c/estimate.c on random streams. bench/estimates.py compiles it, and calls it with the
+ * The estimates of the library on random streams. bench/estimates.py compiles it, and calls it with the
  * number of the first stream and how many there are. A stream is a million distinct values of eight bytes, which the
  * library hashes; each of its fronts of 1, 2, 5, 10 .. values is estimated at each lg_k, from coupons as long as the library
  * keeps them, and then from registers.
@@ -9,7 +9,6 @@
  * of their squares, and of the squares of the standard errors that were told, and how often the bounds at 1, 2 and 3
  * deviations had the number within.
  */
-#define hll_estimate estimate_of_image
 #include "../bindings/c/estimate.c"
 
 #include <stdio.h>
@@ -85,13 +84,12 @@ static void fold(uint8_t *at, int from, int to)
             at[slot] = at[slot] > at[half + slot] ? at[slot] : at[half + slot];
 }
 
-static hll_estimation estimation_of_registers(const uint8_t *at, int lg_k)
+static hll_estimation estimation_of_bytes(const uint8_t *at, int lg_k)
 {
-    uint64_t counts[64] = {0};
-    long slot;
-    for (slot = 0; slot < 1L << lg_k; slot++)
-        counts[at[slot]]++;
-    return estimation_of_counts(counts);
+    hll_estimation found;
+    if (hll_registers_estimate(at, (size_t)1 << lg_k, &found) != HLL_OK)
+        exit(1);
+    return found;
 }
 
 static void take(struct sums *to, hll_estimation found, double values)
@@ -136,7 +134,7 @@ static void take_front(int front)
         fold(folded, lg_k, lg_ks[k]);
         lg_k = lg_ks[k];
         take(&sums[k][front],
-             is_few ? estimation_of_coupons((uint64_t)distinct) : estimation_of_registers(folded, lg_k),
+             is_few ? estimation_of_coupons((uint64_t)distinct) : estimation_of_bytes(folded, lg_k),
              (double)fronts[front]);
     }
 }

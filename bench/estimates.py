@@ -1,6 +1,6 @@
 #!/usr/bin/env python3
 # SPDX-License-Identifier: Apache-2.0
-"""Measures the estimates of bindings/c/estimate.c on random streams: how far they are off, how much
+"""Measures the estimates of the library for C on random streams: how far they are off, how much
 they scatter, and how often their bounds hold.
 
 It compiles bench/estimates.c, runs it on 4,000 streams of a million values by two processes, prints
@@ -36,7 +36,8 @@ def compiled(folder):
     program = pathlib.Path(folder) / "estimates"
     source = ROOT / "bench" / "estimates.c"
     command = [os.environ.get("CC", "cc"), "-std=c99", "-O3", "-o", program, source]
-    subprocess.run([*command, BUILD / "libhll.so", f"-Wl,-rpath,{BUILD}"], check=True)
+    parts = [ROOT / "bindings" / "c" / "optional.c", BUILD / "heap.o", BUILD / "proved.o"]
+    subprocess.run([*command, *parts], check=True)
     return program
 
 

@@ -32,7 +32,7 @@ FIRST = (
 REAL = {
     "same": ("family.rt", ("if id == self.id {", "if self.id == id {"), MISSED, "alone"),
     "same_with_a_proof_by_hand": (
-        "hash.rt", ("    let mut halves = Halves::at_seed(seed);", "    let start = seed; let mut halves = Halves::at_seed(start);"), MISSED, "alone"),
+        "hash.rt", ("    halves.absorb_tail(rest);", "    let tail = rest; halves.absorb_tail(tail);"), MISSED, "alone"),
     "same_of_a_wrong_callee": (
         "codec.rt", ("self.write(&u32::to_le_bytes(number))", "let bytes = u32::to_le_bytes(number); self.write(&bytes)"), MISSED, "alone"),
     "same_of_a_trait": ("hash.rt", ("        self.finish128().0", "        let both = self.finish128(); both.0"), MISSED, "alone"),

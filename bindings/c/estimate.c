@@ -1,12 +1,19 @@
 /* SPDX-License-Identifier: Apache-2.0 */
 /*
- * Estimates of the number of distinct values, with bounds, and the version. Plain C, not proved; docs/NUMBERS.md says
- * where the formulas come from, and how far they are off.
+ * Bounds of estimates, estimates from coupons, and the version. Plain C, not proved; docs/NUMBERS.md says where the formulas
+ * come from, and how far they are off. The estimate from registers comes from a proved call.
  */
 #include "hll.h"
 
-/* 1 / (2 ln 2), by which the estimator is multiplied for many registers. */
-#define ALPHA 0.72134752044448170368
+/* What a proved call tells. */
+struct estimate {
+    uint64_t bits;      /* from registers, the estimate as the bits of a double; from coupons 0 */
+    uint64_t registers; /* how many there are; from coupons 0 */
+    uint64_t seen;      /* how many registers are above 0, or how many coupons there are */
+};
+
+hll_status proved_hll_estimate(const uint8_t *image, size_t len, struct estimate *estimate);
+hll_status proved_hll_registers_estimate(const uint8_t *registers, size_t count, struct estimate *estimate);
 
 /* The relative variance of one register: 3 ln 2 - 1. */
 #define REGISTER_VARIANCE 1.07944154167983593
@@ -33,55 +40,7 @@ static double square_root(double x)
     return before;
 }
 
-/* x + the sum of x^(2^i) * 2^(i - 1) over i from 1; infinite for 1. */
-static double sigma(double x)
-{
-    double power = 1.0, sum = x, before;
-    do {
-        x *= x;
-        before = sum;
-        sum += x * power;
-        power += power;
-    } while (sum != before);
-    return sum;
-}
-
-/* (1 - x - the sum of (1 - x^(2^-i))^2 * 2^-i over i from 1) / 3; 0 for 0 and for 1. */
-static double tau(double x)
-{
-    double power = 1.0, sum = 1.0 - x, before;
-    if (x <= 0.0 || x >= 1.0)
-        return 0.0;
-    do {
-        x = square_root(x);
-        before = sum;
-        power *= 0.5;
-        sum -= (1.0 - x) * (1.0 - x) * power;
-    } while (sum != before);
-    return sum / 3.0;
-}
-
 /* ---- from registers ---- */
-
-/* By how much the estimator is too high, as a part of 1 / registers, where a part of the registers is 0: from 0.5 for
- * few values to 1.08 for many. */
-static double excess(double zeros)
-{
-    return 0.5 + 0.58 * (1.0 - zeros) * (1.0 - zeros);
-}
-
-/* Ertl's improved estimator over the histogram of so many registers, not all 0, less its excess. Each value counts half
- * as much as the one below; sigma stands for the registers of 0, tau for those of 63, which may have been more. */
-static double estimate_of_counts(const uint64_t counts[64], double registers)
-{
-    double zeros = (double)counts[0] / registers;
-    double sum = registers * tau(1.0 - (double)counts[63] / registers);
-    int value;
-    for (value = 62; value >= 1; value--)
-        sum = 0.5 * (sum + (double)counts[value]);
-    sum += registers * sigma(zeros);
-    return ALPHA * registers * registers / sum / (1.0 + excess(zeros) / registers);
-}
 
 /* The relative standard error of an estimate from so many registers: sqrt(0.5 / registers) for few values, 1.04 /
  * sqrt(registers) for many, and a little more where registers are few. Between, it is fitted to what was measured. */
@@ -195,18 +154,24 @@ static void bound_by_losses(hll_estimation *found, double coupons)
     } while (shares.at_least >= tails[DEVIATIONS - 1]);
 }
 
-/* The estimation of a histogram of registers. */
-static hll_estimation estimation_of_counts(const uint64_t counts[64])
+/* The number of these bits. */
+static double number_of_bits(uint64_t bits)
 {
-    uint64_t registers = 0;
-    double estimate;
-    int value;
-    for (value = 0; value < 64; value++)
-        registers += counts[value];
-    if (counts[0] == registers)
+    union {
+        uint64_t bits;
+        double number;
+    } word;
+    word.bits = bits;
+    return word.number;
+}
+
+/* The estimation of registers, by what a proved call tells. */
+static hll_estimation estimation_of_registers(const struct estimate *found)
+{
+    double estimate = number_of_bits(found->bits);
+    if (found->seen == 0)
         return with_bounds(0.0, 0.0, 0.0);
-    estimate = estimate_of_counts(counts, (double)registers);
-    return with_bounds(estimate, error_of_registers(estimate, (double)registers), (double)(registers - counts[0]));
+    return with_bounds(estimate, error_of_registers(estimate, (double)found->registers), (double)found->seen);
 }
 
 /* The estimation of a list or a set of so many coupons. */
@@ -218,47 +183,22 @@ static hll_estimation estimation_of_coupons(uint64_t coupons)
     return found;
 }
 
-/* Whether the header of an image says that registers follow. Whoever reads the image checks it. */
-static int says_registers(const uint8_t *image, size_t len)
-{
-    return len > 7 && (image[7] & 3) == HLL_REGISTERS;
-}
-
 hll_status hll_estimate(const uint8_t *image, size_t len, hll_estimation *estimation)
 {
-    hll_histogram histogram;
-    hll_info info;
-    hll_status status;
-    if (says_registers(image, len)) {
-        status = hll_image_histogram(image, len, &histogram);
-        if (status == HLL_OK)
-            *estimation = estimation_of_counts(histogram.counts);
-        return status;
-    }
-    status = hll_image_info(image, len, &info, sizeof info);
+    struct estimate found;
+    hll_status status = proved_hll_estimate(image, len, &found);
     if (status == HLL_OK)
-        *estimation = estimation_of_coupons(info.coupons);
+        *estimation = found.registers ? estimation_of_registers(&found) : estimation_of_coupons(found.seen);
     return status;
 }
 
 hll_status hll_registers_estimate(const uint8_t *registers, size_t count, hll_estimation *estimation)
 {
-    hll_histogram histogram;
-    hll_status status = hll_registers_histogram(registers, count, &histogram);
+    struct estimate found;
+    hll_status status = proved_hll_registers_estimate(registers, count, &found);
     if (status == HLL_OK)
-        *estimation = estimation_of_counts(histogram.counts);
+        *estimation = estimation_of_registers(&found);
     return status;
-}
-
-/* The number of these bits. */
-static double number_of_bits(uint64_t bits)
-{
-    union {
-        uint64_t bits;
-        double number;
-    } word;
-    word.bits = bits;
-    return word.number;
 }
 
 hll_status hll_hip_estimate(const uint8_t *image, size_t len, hll_estimation *estimation)

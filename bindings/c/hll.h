@@ -39,10 +39,10 @@
  *     image, len       the bytes of an image. Others may follow it within len; they are not read. Every image is
  *                      checked whole, so the bytes may come from anywhere. (An image can be made to be slow: a set of
  *                      a megabyte takes about a second, and a union of it twice up to three. A call can't be
- *                      stopped. So ask hll_is_small of a stranger's image before a call. docs/OPERATING.md)
+ *                      stopped. So ask hll_is_small of an untrusted image before a call. docs/OPERATING.md)
  *     out, room, size  a buffer of room bytes, and where the size of the image is put. The bytes after the image
  *                      stay as they were. HLL_IMAGE_MAX(lg_k) bytes are enough for each answer of that lg_k or less.
- *     ends, n          of n byte strings that stand one after another in the bytes before this argument: string i
+ *     ends, n          of n byte strings, concatenated in the bytes before this argument: string i
  *                      goes from ends[i - 1] (from 0 for the first) to ends[i]. Ends ascend. Two may be the same:
  *                      an empty string is a string like any other. Ends that descend, or go past the bytes, are
  *                      HLL_ARGUMENT. Bytes after the last end are not looked at.
@@ -84,9 +84,11 @@
  *     all inputs of a caller who keeps to the above; and that registers that are not all 0, into which an image is
  *     merged, written as an image, are the union of theirs with it, its estimator fields set. That order, repetition and
  *     grouping of canonical images under one lg_max_k make no difference follows from laws that are proved of sketches;
- *     no clause of a call says it. Not proved is what is said of time, of threads, of NULL, of other libraries, and of
- *     memory, but for which images may be refused for want of it. Estimates, hll_version and what this header defines
- *     itself are plain C, tested and not proved.
+ *     no clause of a call says it. Of hll_estimate and hll_registers_estimate it is proved that the estimate from registers
+ *     is the double nearest to a number which is the estimator's value, but for one part in 2^40 and 2^-32, and which never
+ *     falls where a register is raised. Bounds, estimates from coupons and hll_hip_estimate are plain C, tested and not
+ *     proved. So are hll_version and what this header defines itself. Not proved is what is said of time, of threads, of
+ *     NULL, of other libraries, and of memory, but for which images may be refused for want of it.
  */
 #ifndef HLL_H
 #define HLL_H
@@ -132,6 +134,13 @@ enum { HLL_LIST = 0, HLL_SET = 1, HLL_REGISTERS = 2 };
 /* So many bytes are enough for an image of this lg_k, or of a smaller one, at each width: 40 of a header, one for each
  * register, and four for each exception of four bits. */
 #define HLL_IMAGE_MAX(lg_k) ((size_t)40 + ((size_t)5 << (lg_k)))
+
+/* The size of the largest image of this lg_k whose registers have this width. Of 8 and 6 bits every image of registers has
+ * this size; of 4 bits those do whose registers but one are exceptions. */
+#define HLL_IMAGE_ROOM(lg_k, width)                                                                                    \
+    ((width) == 8   ? (size_t)40 + ((size_t)1 << (lg_k))                                                               \
+     : (width) == 6 ? (size_t)41 + ((size_t)3 << (lg_k)) / 4                                                           \
+                    : (size_t)36 + ((size_t)9 << (lg_k)) / 2)
 
 /* A raw coupon, a coupon as 32 bits, is the coupon's value * 2^26 + its slot. */
 #define HLL_COUPON_SLOT(coupon) ((uint32_t)(coupon) & UINT32_C(0x3ffffff))
@@ -180,8 +189,8 @@ uint32_t hll_version(void);
 
 /* Tells what the image says of its sketch. info_size is sizeof *info; where it isn't that of this version, the caller was
  * compiled for another one, and the answer is HLL_ARGUMENT.
- * Answers HLL_OK, 1 to 11, HLL_ARGUMENT, or HLL_MEMORY. Takes the memory of reading, but none for 1 to 128 distinct coupons of a
- * compact image, or for more that ascend. */
+ * Answers HLL_OK, 1 to 11, HLL_ARGUMENT, or HLL_MEMORY. Takes memory for a table of coupons, but not for 1 to 128 distinct
+ * ones of a compact image, or for more that ascend; and for a map of the exceptions of registers of 4 bits. */
 hll_status hll_image_info(const uint8_t *image, size_t len, hll_info *info, size_t info_size);
 
 /* Whether the bytes begin with an image (HLL_OK), else why not.
@@ -271,8 +280,9 @@ hll_status hll_image_clear_estimator_fields(const uint8_t *image, size_t len, ui
 /* ---- comparing ---- */
 
 /* Whether both images have the same registers (*same is 1) or not (0), once both are folded to the smaller lg_k.
- * Answers HLL_OK, 1 to 11 (*failed is 0 for the left image, 1 for the right), or HLL_MEMORY. Takes the memory of
- * hll_image_histogram for each. */
+ * Returns HLL_OK, 1 to 11 (*failed is 0 for the left image, 1 for the right), or HLL_MEMORY. Allocates at most what
+ * hll_image_histogram does, for each image. Registers of the same lg_k and width are compared where they lie: of 6 and
+ * 8 bits without any memory, of 4 bits with a map of each image's exceptions. */
 hll_status hll_images_agree(const uint8_t *left, size_t left_len, const uint8_t *right, size_t right_len,
                             uint8_t *same, size_t *failed);
 
@@ -341,11 +351,12 @@ hll_status hll_coupons(const uint8_t *values, size_t values_len, const size_t *e
 
 /* ---- estimates ---- */
 
-/* Estimates the number of distinct values; not proved. From registers it is Ertl's improved estimator, with a relative
- * standard error of 1.04 / sqrt(2^lg_k); from a list or a set it is the number of coupons, corrected for coupons that
- * values share, and nearly exact. A lower bound is never below the number of coupons, or of registers above 0: there
+/* Estimates the number of distinct values. From registers it is Ertl's improved estimator, with a relative standard error
+ * of 1.04 / sqrt(2^lg_k), computed in whole numbers, so it is the same on every processor; and the estimate of a union is
+ * never below that of its parts at the same lg_k. From a list or a set it is the number of coupons, corrected for coupons
+ * that values share, and nearly exact. A lower bound is never below the number of coupons, or of registers above 0: there
  * were at least so many values. Where every register is 63 the estimate is infinite.
- * Answers HLL_OK, 1 to 11, or HLL_MEMORY. Takes the memory of hll_image_histogram, or of hll_image_info for coupons. */
+ * Answers HLL_OK, 1 to 11, or HLL_MEMORY. Takes the memory of hll_image_info. */
 hll_status hll_estimate(const uint8_t *image, size_t len, hll_estimation *estimation);
 
 /* The estimate that the writer of an image kept in it while it added values one by one (the HIP accumulator), with its
@@ -354,7 +365,7 @@ hll_status hll_estimate(const uint8_t *image, size_t len, hll_estimation *estima
  * Answers HLL_OK, 1 to 11, HLL_ARGUMENT or HLL_MEMORY. Takes the memory of reading. */
 hll_status hll_hip_estimate(const uint8_t *image, size_t len, hll_estimation *estimation);
 
-/* Estimates as hll_estimate does, from registers of the caller; not proved.
+/* Estimates as hll_estimate does, from registers of the caller.
  * Answers HLL_OK, HLL_REGISTER or HLL_ARGUMENT. Takes no memory. */
 hll_status hll_registers_estimate(const uint8_t *registers, size_t count, hll_estimation *estimation);
 
@@ -366,6 +377,49 @@ static inline const char *hll_reason(hll_status status)
                                         "coupon",   "register",  "argument", "memory",   "buffer",
                                         "fewer"};
     return status <= HLL_FEWER ? words[status] : "unknown";
+}
+
+/* What is wrong, in a sentence; "The status is unknown." for a number that is none. */
+static inline const char *hll_message(hll_status status)
+{
+    static const char *const sentences[] = {
+        "The call did what was asked.",
+        "The bytes end inside what the header asks for.",
+        "The family byte is not 7.",
+        "The serial version is not 1.",
+        "The lg_k byte is outside 4 to 21.",
+        "The width bits are 3.",
+        "The stage bits are 3.",
+        "The preamble words do not fit the stage.",
+        "The size of a table is outside its range.",
+        "A count is above its bound, or not the number of filled buckets.",
+        "A coupon has the value 0 where a coupon is needed, or comes twice.",
+        "A register is above 63, or nibbles and exceptions do not agree.",
+        "An argument is out of its range.",
+        "Memory was refused.",
+        "The buffer is smaller than what is to be written.",
+        "What is to be merged has fewer registers.",
+    };
+    return status <= HLL_FEWER ? sentences[status] : "The status is unknown.";
+}
+
+/* What the header of an image says, without a check of the rest: its lg_k, 4 to 21; its width, 4, 6 or 8; and its stage. 0, or
+ * for the stage HLL_LIST, where the bytes are fewer than eight, or the header says none of these. */
+static inline uint8_t hll_image_lg_k(const uint8_t *image, size_t len)
+{
+    return 8 <= len && 4 <= image[3] && image[3] <= 21 ? image[3] : 0;
+}
+
+static inline uint8_t hll_image_width(const uint8_t *image, size_t len)
+{
+    uint8_t bits = 8 <= len ? image[7] >> 2 & 3 : 3;
+    return bits == 3 ? 0 : (uint8_t)(4 + 2 * bits);
+}
+
+static inline uint8_t hll_image_stage(const uint8_t *image, size_t len)
+{
+    uint8_t stage = 8 <= len ? image[7] & 3 : 0;
+    return stage == 3 ? 0 : stage;
 }
 
 /* Whether an image of a stranger's is quick to read: it has at most so many bytes, and byte 3, which says its lg_k, is at

@@ -9,28 +9,6 @@
 
 #include "miscadmin.h"
 
-/* What is wrong with an image, by the number of the reason. */
-static const char *
-detail_of(hll_status status)
-{
-	static const char *const details[] = {
-		"",
-		"The bytes end inside what the header asks for.",
-		"The family byte is not 7.",
-		"The serial version is not 1.",
-		"The lg_k byte is outside 4 to 21.",
-		"The width bits are 3.",
-		"The stage bits are 3.",
-		"The preamble words do not fit the stage.",
-		"The size of a table is outside its range.",
-		"A count is above its bound, or not the number of filled places.",
-		"A coupon has the value 0 where a coupon is needed, or comes twice.",
-		"A register is above 63, or nibbles and exceptions do not agree."
-	};
-
-	return details[status];
-}
-
 /* Raises an error; `place` says which image was refused, where there are several. */
 static void
 refuse(hll_status status, const char *place)
@@ -45,7 +23,7 @@ refuse(hll_status status, const char *place)
 	ereport(ERROR,
 			(errcode(ERRCODE_INVALID_BINARY_REPRESENTATION),
 			 errmsg("invalid HLL image%s: %s", place, hll_reason(status)),
-			 errdetail("%s", detail_of(status))));
+			 errdetail("%s", hll_message(status))));
 }
 
 void

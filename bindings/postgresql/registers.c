@@ -12,25 +12,25 @@
 bool
 has_registers(const uint8 *image, size_t size)
 {
-	return size >= HEADER_SIZE && (image[7] & 3) == HLL_REGISTERS;
+	return size >= HEADER_SIZE && hll_image_stage(image, size) == HLL_REGISTERS;
 }
 
 /* The lg_k that the header names; where the bytes are no image, any that is in range: reading them refuses them. */
 uint8
 named_lg_k(const uint8 *image, size_t size)
 {
-	uint8		lg_k = size < 8 ? 4 : image[3];
+	uint8		lg_k = hll_image_lg_k(image, size);
 
-	return lg_k < 4 || lg_k > 21 ? 4 : lg_k;
+	return lg_k == 0 ? 4 : lg_k;
 }
 
 /* The width that the header names, likewise. */
 uint8
 named_width(const uint8 *image, size_t size)
 {
-	uint8		bits = size < 8 ? 0 : (image[7] >> 2) & 3;
+	uint8		width = hll_image_width(image, size);
 
-	return bits == 3 ? 8 : 4 + 2 * bits;
+	return width == 0 ? 8 : width;
 }
 
 /* ---- registers */

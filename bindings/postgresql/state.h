@@ -5,8 +5,8 @@
  * What waits are images (of a union) or values (of a count). A batch costs one call of the library, which reads the image
  * and writes it once. A batch is small, so that many groups fit in memory: 8 kilobytes and 1,024 images or values, or more
  * where the image is large. It is smaller where its images could be slow to read, so that a query that is cancelled ends
- * soon. Once the image is in registers, these are kept in its place, unless its words aren't theirs (registers.h). Images go
- * into them at once from where they lie, and values by their coupons: some together, as the registers of one group among
+ * soon. Once the image is in registers, these are kept in its place, unless its estimator fields aren't theirs (registers.h).
+ * Images are merged into them at once, and values by their coupons: some together, as the registers of one group among
  * many are seldom in the processor's cache.
  */
 #ifndef HLL_STATE_H

@@ -126,17 +126,17 @@ static void set_estimator_fields(sqlite3_context *context, int n, sqlite3_value 
 /* The lg_k that the header names; where the bytes are no image, any that is in range: reading them refuses them. */
 static uint8_t named_lg_k(hll_bytes image)
 {
-    uint8_t lg_k = image.len < 8 ? 4 : image.bytes[3];
+    uint8_t lg_k = hll_image_lg_k(image.bytes, image.len);
 
-    return lg_k < 4 || lg_k > 21 ? 4 : lg_k;
+    return lg_k == 0 ? 4 : lg_k;
 }
 
 /* The width that the header names, likewise. */
 static uint8_t named_width(hll_bytes image)
 {
-    uint8_t bits = image.len < 8 ? 0 : image.bytes[7] >> 2 & 3;
+    uint8_t width = hll_image_width(image.bytes, image.len);
 
-    return bits == 3 ? 8 : (uint8_t)(4 + 2 * bits);
+    return width == 0 ? 8 : width;
 }
 
 static bool two_images_in(sqlite3_context *context, sqlite3_value **values, Call *call)

@@ -87,7 +87,7 @@ static void free_batch(Batch *batch)
 
 static bool is_in_registers(hll_bytes image)
 {
-    return image.len >= 8 && (image.bytes[7] & 3) == HLL_REGISTERS;
+    return hll_image_stage(image.bytes, image.len) == HLL_REGISTERS;
 }
 
 static hll_bytes bytes_of(const Output *out)

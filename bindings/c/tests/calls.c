@@ -28,6 +28,48 @@ static void test_reasons(void)
         CHECK(strcmp(hll_reason((hll_status)status), status < 16 ? words[status] : "unknown") == 0, "%d", status);
 }
 
+/* A sentence for each, and one for all numbers that are none. */
+static void test_messages(void)
+{
+    int status, other;
+    for (status = 0; status < 256; status++) {
+        const char *message = hll_message((hll_status)status);
+        CHECK(strlen(message) > 10 && message[strlen(message) - 1] == '.', "%d", status);
+        for (other = 0; other < status && status < 16; other++)
+            CHECK(strcmp(message, hll_message((hll_status)other)) != 0, "%d as %d", status, other);
+        CHECK((strcmp(message, hll_message(255)) == 0) == (status >= 16), "%d", status);
+    }
+}
+
+/* What a header says, for each byte that it may have, and where it is cut off. */
+static void test_headers(void)
+{
+    uint8_t image[8] = {2, 1, 7, 12, 3, 12, 0, 8};
+    unsigned byte;
+    for (byte = 0; byte < 256; byte++) {
+        image[3] = image[7] = (uint8_t)byte;
+        CHECK(hll_image_lg_k(image, 8) == (4 <= byte && byte <= 21 ? byte : 0), "lg_k %u", byte);
+        CHECK(hll_image_width(image, 8) == "\4\6\10\0"[byte / 4 % 4], "width %u", byte);
+        CHECK(hll_image_stage(image, 8) == "\0\1\2\0"[byte % 4], "stage %u", byte);
+        CHECK(hll_image_lg_k(image, 7) == 0 && hll_image_width(image, 7) == 0 && hll_image_stage(image, 7) == 0, "cut off");
+    }
+}
+
+/* The largest images: registers of which one is 0, and all others are exceptions where they have four bits. */
+static void test_room(void)
+{
+    static uint8_t registers[1 << 21], out[HLL_IMAGE_MAX(21)];
+    uint8_t lg_k, width;
+    size_t size;
+    memset(registers, 63, sizeof registers);
+    registers[0] = 0;
+    for (lg_k = 4; lg_k <= 21; lg_k++)
+        for (width = 4; width <= 8; width += 2) {
+            CHECK(hll_registers_image(registers, (size_t)1 << lg_k, width, out, sizeof out, &size) == HLL_OK, "%d", lg_k);
+            CHECK(size == HLL_IMAGE_ROOM(lg_k, width) && size <= HLL_IMAGE_MAX(lg_k), "%d, %d: %d bytes", lg_k, width, (int)size);
+        }
+}
+
 /* Byte 3 and the number of bytes alone. */
 static void test_is_small(void)
 {
@@ -389,6 +431,99 @@ static void test_known_registers(void)
     free(four.at);
 }
 
+/* Registers of four bits, by the minimum in the header, the nibbles and two exceptions. */
+#define FOUR_BITS(minimum, nibbles, entries) "0a01070400" "18" minimum "02" NO_WORDS "0000000002000000" nibbles entries
+#define SIX_BITS(registers) HEADER_OF("4", "10", "06") NO_WORDS "0e00000000000000" registers
+
+/* Whether two images of hexadecimal digits agree, in either order. */
+static void check_agreement(const char *what, const char *left_digits, const char *right_digits, int expected)
+{
+    bytes a = of_hex(left_digits), b = of_hex(right_digits);
+    uint8_t same = 7;
+    size_t failed = 5;
+    CHECK(hll_images_agree(a.at, a.len, b.at, b.len, &same, &failed) == HLL_OK && same == expected && failed == 5, "%s", what);
+    same = 7;
+    CHECK(hll_images_agree(b.at, b.len, a.at, a.len, &same, &failed) == HLL_OK && same == expected && failed == 5,
+          "%s, the other way", what);
+    free(a.at);
+    free(b.at);
+}
+
+static void test_agreement(void)
+{
+    static const char *const four = FOUR_BITS("01", "ff00000000000000", "0000006401000078");
+    static const char *const six = SIX_BITS("8a4100000000000000000000" "00");
+    bytes good = of_hex(four), bad = of_hex(four);
+    uint8_t same = 7;
+    size_t failed = 5;
+    check_agreement("the same exceptions", four, four, 1);
+    check_agreement("exceptions in another order", four, FOUR_BITS("01", "ff00000000000000", "0100007800000064"), 1);
+    check_agreement("another exception", four, FOUR_BITS("01", "ff00000000000000", "000000640100007c"), 0);
+    check_agreement("exceptions exchanged", four, FOUR_BITS("01", "ff00000000000000", "0000007801000064"), 0);
+    check_agreement("exceptions of another slot", four, FOUR_BITS("01", "0f0f000000000000", "0000006402000078"), 0);
+    check_agreement("another nibble", four, FOUR_BITS("01", "ff00000000000010", "0000006401000078"), 0);
+    check_agreement("another minimum", four, FOUR_BITS("00", "ff11111111111111", "0000006401000078"), 1);
+    check_agreement("another minimum and nibble", four, FOUR_BITS("00", "ff11111111111121", "0000006401000078"), 0);
+    check_agreement("the same nibbles above another minimum", four, FOUR_BITS("00", "ff00000000000000", "0000006401000078"), 0);
+    check_agreement("another last byte", six, SIX_BITS("8a4100000000000000000000" "ff"), 1);
+    check_agreement("another register of six bits", six, SIX_BITS("8a4100000000000000000004" "00"), 0);
+    check_agreement("another register of eight bits", joined, HEADER_OF("4", "10", "0a") NO_WORDS "0e00000000000000"
+                    "191e0000000000000000000000000001", 0);
+    check_agreement("other fields", joined, with_words, 1);
+    check_agreement("another lg_k", right, joined, 1);
+    check_agreement("another width", joined, FOUR_BITS("00", "ff00000000000000", "0000006401000078"), 1);
+    bad.at[3] = 22;
+    CHECK(hll_images_agree(bad.at, bad.len, good.at, good.len, &same, &failed) == HLL_LG_K && failed == 0, "a bad left");
+    CHECK(hll_images_agree(good.at, good.len, bad.at, bad.len, &same, &failed) == HLL_LG_K && failed == 1, "a bad right");
+    CHECK(hll_images_agree(bad.at, bad.len, NULL, 0, &same, &failed) == HLL_LG_K && failed == 0, "both bad");
+    CHECK(hll_images_agree(bad.at, bad.len, bad.at, bad.len, &same, &failed) == HLL_LG_K && failed == 0, "a bad one twice");
+    CHECK(same == 7, "agreement of a bad one");
+    free(good.at);
+    free(bad.at);
+}
+
+/* An image of four bits at lg_k 18 with exceptions at slots 0 to 299 and 1024. Where 1024 comes last, a search for it passes the
+ * 300 others, and is cut off. */
+static bytes of_crowded_slots(int comes_last, uint8_t value_of_last)
+{
+    enum { SLOTS = 300, NIBBLES = 1 << 17 };
+    static const char *const start = "0a01071200180002" NO_WORDS "000000002d010000";
+    bytes header = of_hex(start), image;
+    uint8_t *entry;
+    uint32_t slot;
+    image.len = header.len + NIBBLES + 4 * (SLOTS + 1);
+    image.at = calloc(1, image.len);
+    memcpy(image.at, header.at, header.len);
+    free(header.at);
+    memset(image.at + header.len, 0xff, SLOTS / 2);
+    image.at[header.len + 1024 / 2] = 0x0f;
+    entry = image.at + header.len + NIBBLES;
+    for (slot = 0; slot <= SLOTS; slot++, entry += 4) {
+        int is_last = slot == (comes_last ? SLOTS : 0);
+        uint32_t of = is_last ? 1024 : comes_last ? slot : slot - 1;
+        uint32_t coupon = of | (uint32_t)(is_last ? value_of_last : 20) << 26;
+        entry[0] = (uint8_t)coupon, entry[1] = (uint8_t)(coupon >> 8), entry[2] = (uint8_t)(coupon >> 16);
+        entry[3] = (uint8_t)(coupon >> 24);
+    }
+    return image;
+}
+
+static void test_agreement_by_blocks(void)
+{
+    bytes one = of_crowded_slots(1, 20), two = of_crowded_slots(0, 20), three = of_crowded_slots(0, 21);
+    uint8_t same = 7;
+    size_t failed = 5;
+    CHECK(hll_images_agree(one.at, one.len, two.at, two.len, &same, &failed) == HLL_OK && same == 1, "short searches");
+    CHECK(hll_images_agree(two.at, two.len, one.at, one.len, &same, &failed) == HLL_OK && same == 1, "a long search");
+    CHECK(hll_images_agree(one.at, one.len, three.at, three.len, &same, &failed) == HLL_OK && same == 0, "another value");
+    CHECK(hll_images_agree(three.at, three.len, one.at, one.len, &same, &failed) == HLL_OK && same == 0,
+          "another value by a long search");
+    CHECK(failed == 5, "failed is written by an agreement");
+    free(one.at);
+    free(two.at);
+    free(three.at);
+}
+
 /* An image is as long as its size says, whatever follows; and no shorter bytes are one. */
 static void test_sizes(void)
 {
@@ -502,6 +637,9 @@ static void test_stale_words(void)
 int main(void)
 {
     test_reasons();
+    test_messages();
+    test_headers();
+    test_room();
     test_is_small();
     test_faulty_images();
     test_failed();
@@ -517,6 +655,8 @@ int main(void)
     test_stale_words();
     test_words_by_default();
     test_known_registers();
+    test_agreement();
+    test_agreement_by_blocks();
     test_sizes();
     test_other_info();
     test_null();

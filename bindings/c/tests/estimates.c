@@ -78,23 +78,35 @@ static void test_widths(void)
 
 /* ---- numbers that were computed elsewhere ---- */
 
-/* The same number, but for what sums in another order may differ by. */
-static int is_same(double is, double wanted)
+/* How far numbers may be off, as a part of them, and as a number. */
+struct precision {
+    double part, number;
+};
+
+/* What sums in another order may differ by; and what docs/NUMBERS.md says of estimates from registers, which are doubles
+ * beside. Bounds are made of these, and are at most eleven times as far off. */
+static const struct precision of_coupons = {1e-13, 0.0}, of_registers = {0x1p-40 + 0x1p-53, 0x1p-32};
+
+static int is_same(double is, double wanted, const struct precision *precision, double times)
 {
-    return is == wanted || is_near(is, wanted, 1e-13);
+    double off = is > wanted ? is - wanted : wanted - is;
+    return is == wanted || off <= times * (precision->part * wanted + precision->number);
 }
 
-static void check_numbers(const bytes *image, const struct numbers *wanted, const char *what, size_t row)
+static void check_numbers(const bytes *image, const struct numbers *wanted, const struct precision *precision,
+                          const char *what, size_t row)
 {
     hll_estimation found;
     int d;
     CHECK(hll_estimate(image->at, image->len, &found) == HLL_OK, "%s %d", what, (int)row);
-    CHECK(is_same(found.estimate, wanted->estimate), "%s %d: %.17g", what, (int)row, found.estimate);
-    CHECK(is_same(found.relative_standard_error, wanted->error), "%s %d: %.17g", what, (int)row,
+    CHECK(is_same(found.estimate, wanted->estimate, precision, 1), "%s %d: %.17g", what, (int)row, found.estimate);
+    CHECK(is_same(found.relative_standard_error, wanted->error, precision, 1), "%s %d: %.17g", what, (int)row,
           found.relative_standard_error);
     for (d = 0; d < 3; d++) {
-        CHECK(is_same(found.lower[d], wanted->lower[d]), "%s %d: %.17g below", what, (int)row, found.lower[d]);
-        CHECK(is_same(found.upper[d], wanted->upper[d]), "%s %d: %.17g above", what, (int)row, found.upper[d]);
+        CHECK(is_same(found.lower[d], wanted->lower[d], precision, 11), "%s %d: %.17g below", what, (int)row,
+              found.lower[d]);
+        CHECK(is_same(found.upper[d], wanted->upper[d], precision, 11), "%s %d: %.17g above", what, (int)row,
+              found.upper[d]);
     }
 }
 
@@ -147,12 +159,12 @@ static void test_numbers(void)
     size_t i;
     for (i = 0; i < sizeof histogram_rows / sizeof histogram_rows[0]; i++) {
         bytes image = image_of_runs(&histogram_rows[i]);
-        check_numbers(&image, &histogram_rows[i].wanted, "histogram", i);
+        check_numbers(&image, &histogram_rows[i].wanted, &of_registers, "histogram", i);
         free(image.at);
     }
     for (i = 0; i < sizeof coupons_rows / sizeof coupons_rows[0]; i++) {
         bytes image = image_of_coupons(&coupons_rows[i]);
-        check_numbers(&image, &coupons_rows[i].wanted, "coupons", i);
+        check_numbers(&image, &coupons_rows[i].wanted, &of_coupons, "coupons", i);
         free(image.at);
     }
 }

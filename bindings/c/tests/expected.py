@@ -62,21 +62,12 @@ def sigma(x):
     return x + (series(lambda i: x ** (2**i) * 2 ** (i - 1)) if x else 0)
 
 
-def tau(x):
-    if x in (0, 1):
-        return Decimal(0)
-    roots = [x]
-    for _ in range(250):
-        roots.append(roots[-1].sqrt())
-    return (1 - x - sum((1 - root) ** 2 / Decimal(2) ** i for i, root in enumerate(roots) if i)) / 3
-
-
 def estimate_of(counts, m):
     """That of Ertl, divided by 1 + e / m; None where it is infinite."""
-    z = sum(Decimal(count) / Decimal(2) ** value for value, count in counts.items() if 0 < value < 63)
-    z += m * sigma(counts.get(0, 0) / m) + m * tau(1 - counts.get(63, 0) / m) / Decimal(2) ** 62
+    z = sum(Decimal(count) / Decimal(2) ** value for value, count in counts.items() if value > 0)
+    z += m * sigma(counts.get(0, 0) / m)
     e = HALF + Decimal("0.58") * (1 - counts.get(0, 0) / m) ** 2
-    return m * m / (2 * LN2 * z * (1 + e / m)) if z else None
+    return m * m / (2 * LN2 * z * (1 + e / m)) if counts.get(63) != m else None
 
 
 def error_of(n, m):

@@ -163,17 +163,15 @@ test_memory() {
     run 'registers in valgrind' $clean "$tests/registers" 20 small
 }
 
-# The tests and estimate.c, with checks of gcc for each access and each sum.
+# The tests and the parts in C, with checks of gcc for each access and each sum.
 test_sanitized() {
-    flags='-fsanitize=address,undefined -fno-sanitize-recover=all -Dhll_estimate=sanitized_estimate'
-    flags="$flags -Dhll_registers_estimate=sanitized_registers_estimate"
-    flags="$flags -Dhll_hip_estimate=sanitized_hip_estimate -Dhll_version=sanitized_version"
+    flags='-fsanitize=address,undefined -fno-sanitize-recover=all'
     if ! echo 'int main(void) { return 0; }' | $CC $flags -x c -o "$tests/probe" - 2>/dev/null || ! "$tests/probe"; then
         skip 'sanitizers' "their library"
         return
     fi
     for name in calls buffers estimates rows threads registers; do
-        compile "$name-sanitized" $flags estimate.c "$build/libhll.a" -pthread
+        compile "$name-sanitized" $flags estimate.c optional.c heap.c "$build/proved.o" -pthread
     done
     # What leaks is seen by valgrind and by the test of refusals; here it takes rights that not each machine gives.
     ASAN_OPTIONS=detect_leaks=0

@@ -499,7 +499,7 @@ def coupons(values: bytes, ends: Numbers, count: int) -> Numbers:
 # ---- registers of the caller
 
 def place_of(memory: memoryview) -> Memory:
-    """The bytes of a writable view, where they lie."""
+    """The bytes of a writable view, without a copy."""
     return (c_uint8 * len(memory)).from_buffer(memory)
 
 

@@ -17,7 +17,7 @@ class Registers:
     """The registers of a sketch, a byte for each: ``2**lg_k`` bytes, all 0 at first.
 
     They count like a ``Sketch``, in constant memory: values, coupons, sketches and images are
-    merged into them where they lie. The same values give the same bytes, in every order, however
+    merged into them in place. The same values give the same bytes, in every order, however
     often, and however they were grouped. Any number of threads may use an object at once; where
     two objects lie over the same memory, one at a time may be changed.
 
@@ -51,7 +51,7 @@ class Registers:
         ----------
         memory : bytearray, mmap, array, shared memory or the like
             Writable bytes, 16 to ``2**21`` of them and a power of two, each 0 to 63. They are
-            changed where they lie; their size can't be, as long as the object is there.
+            changed in place; their size can't be, as long as the object is there.
 
         Raises
         ------

@@ -4,6 +4,7 @@ import math
 import random
 import struct
 import unittest
+from decimal import Decimal, localcontext
 
 import common  # noqa: F401, for the path
 from hll_sketches import Sketch
@@ -11,22 +12,23 @@ from plain_images import image_of
 
 
 def sigma(x):
-    return x + sum(x ** (2**i) * 2 ** (i - 1) for i in range(1, 60))
+    return x + sum(x ** (2**i) * Decimal(2) ** (i - 1) for i in range(1, 30))
 
 
-def tau(x):
-    if x in (0, 1):
-        return 0.0
-    return (1 - x - sum((1 - x ** (2.0**-i)) ** 2 * 2.0**-i for i in range(1, 60))) / 3
+def exact_estimate(counts):
+    """The estimate of a histogram, to about 50 digits."""
+    m = Decimal(sum(counts))
+    with localcontext() as context:
+        context.prec = 60
+        zeros = counts[0] / m
+        z = m * sigma(zeros) + sum(counts[v] / Decimal(2) ** v for v in range(1, 64))
+        return m * m / (2 * Decimal(2).ln() * z * (1 + (Decimal("0.5") + Decimal("0.58") * (1 - zeros) ** 2) / m))
 
 
 def of_registers(counts):
     """The estimate and the relative standard error of a histogram."""
     m = sum(counts)
-    zeros = counts[0] / m
-    z = m * sigma(zeros) + sum(counts[v] * 2.0**-v for v in range(1, 63))
-    z += m * tau(1 - counts[63] / m) * 2.0**-62
-    estimate = m * m / (2 * math.log(2) * z * (1 + (0.5 + 0.58 * (1 - zeros) ** 2) / m))
+    estimate = float(exact_estimate(counts))
     limit = (3 * math.log(2) - 1) * (1 + 2 / m)
     s = limit - (limit - 0.5) / (1 + estimate / (16 * m)) ** 4
     return estimate, math.sqrt(s / m)
@@ -72,6 +74,11 @@ class EstimatesTest(unittest.TestCase):
             self.assertAlmostEqual(lower / max(least, sketch.estimate() / (1 + d * error)), 1, 9)
             self.assertAlmostEqual(upper / (sketch.estimate() / (1 - d * error)), 1, 9)
 
+    def check_nearest(self, estimate, exact, least):
+        """As near as docs/NUMBERS.md promises, and rounded to a double."""
+        exact = max(exact, Decimal(least))
+        self.assertLessEqual(abs(Decimal(estimate) - exact), exact * (Decimal(2) ** -40 + Decimal(2) ** -53) + Decimal(2) ** -32)
+
     def test_registers(self):
         source = random.Random(8)
         for case in range(300):
@@ -83,8 +90,22 @@ class EstimatesTest(unittest.TestCase):
             sketch = Sketch.from_bytes(image_of(lg_k, source.choice((4, 6, 8)), registers))
             counts = [registers.count(value) for value in range(64)]
             self.assertEqual(sketch.histogram(), counts)
+            self.check_nearest(sketch.estimate(), exact_estimate(counts), len(registers) - counts[0])
             estimate, error = of_registers(counts)
             self.check_bounds(sketch, estimate, error, len(registers) - counts[0])
+
+    def test_raised_registers(self):
+        """No register that is raised lowers the estimate."""
+        source = random.Random(11)
+        for lg_k in (4, 7, 10):
+            registers = [0] * 2**lg_k
+            before = 0
+            for _ in range(500):
+                slot = source.randrange(2**lg_k)
+                registers[slot] = min(63, registers[slot] + source.choice((1, 1, 1, 2, 7)))
+                estimate = Sketch.from_bytes(image_of(lg_k, 8, registers)).estimate()
+                self.assertGreaterEqual(estimate, before)
+                before = estimate
 
     def test_coupons(self):
         source = random.Random(9)

@@ -74,9 +74,11 @@ def queries():
     """Each call, over good bytes and over mutants."""
     images = [Mutants(kind, SEED + number).image() for number in range(40) for kind in KINDS]
     lines = ["CREATE TABLE t (x);"] + ["INSERT INTO t VALUES (x'%s');" % image.hex() for image in images]
-    calls = ["hll_check(x)", "hll_info(x)", "hll_estimate(x)", "hll_estimate_bounds(x, 3)", "hll_hip_estimate(x)", "hll_set_estimator_fields(x)",
-             "hll_convert(x, 4)", "hll_fold(x, 4)", "hll_merge(x, hll_image_empty(9, 4))", "hll_agree(x, hll_image_empty())",
-             "hll_image_union_agg(x)", "hll_image_union_agg(x, 9, 6)", "hll_image_add_agg(x)", "hll_image_add_agg(hex(x), 21, 4)"]
+    # (the shell writes all digits of a number by long double, which valgrind has not)
+    calls = ["hll_check(x)", "hll_info(x)", "CAST(hll_estimate(x) AS INTEGER)", "hll_estimate_bounds(x, 3)",
+             "CAST(hll_hip_estimate(x) AS INTEGER)", "hll_set_estimator_fields(x)", "hll_convert(x, 4)", "hll_fold(x, 4)",
+             "hll_merge(x, hll_image_empty(9, 4))", "hll_agree(x, hll_image_empty())", "hll_image_union_agg(x)",
+             "hll_image_union_agg(x, 9, 6)", "hll_image_add_agg(x)", "hll_image_add_agg(hex(x), 21, 4)"]
     for call in calls:
         lines.append("SELECT sum(length(%s)) FROM t WHERE hll_check(x) IS NULL;" % call if "_agg" not in call else
                      "SELECT length(%s) FROM t WHERE hll_check(x) IS NULL;" % call)

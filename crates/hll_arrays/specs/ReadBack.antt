@@ -22,7 +22,7 @@ Hll6ReadBack = (x : Stored) (more : List ℕ) → IsStored x →
     let bytes = drop 8 (hll6_bytes x.lg_k x.registers x.state) ++ more in
     IsHll6Payload x.lg_k (take (32 + field_size x.lg_k) bytes) × (fields (take (field_size x.lg_k) (drop 32 bytes)) ≡ x.registers) × (state_at x.state.out_of_order bytes ≡ x.state)
 
--- and of four bits, with the exceptions in ascending raw coupons
+-- and of four bits, with the exceptions in ascending order
 abbrev pub Hll4ReadBack : Type 0
 Hll4ReadBack = (x : Stored) (order more : List ℕ) → IsStored x → IsAscending order (set_of (exceptions x.registers)) →
     let h = shape_of_hll4 x.lg_k (minimum x.registers) Compact in

@@ -16,6 +16,7 @@ use hll_base::error::Error;
 use hll_base::hll_type::HllType;
 use hll_coupons::coupon::Coupon;
 use hll_coupons::serialization::{COMPACT_FLAG_MASK, COUPON_SIZE_BYTES, HLL_PREAMBLE_SIZE};
+use hll_kernels::kernels::WeightSums;
 use hll_registers::aux_format::AuxFormat;
 use hll_registers::estimate_state::EstimateState;
 use hll_registers::nibble_registers::NibbleRegisters;
@@ -300,6 +301,10 @@ impl<A: Allocator> Registers for Array4<A> {
 
     fn is_slow_in_small_blocks(&self) -> bool {
         self.registers.is_slow_in_small_blocks()
+    }
+
+    fn weight_sums_of_few(&self, first: usize, size: usize) -> WeightSums {
+        self.registers.weight_sums_of_few(first, size)
     }
 
     /// One pass, and a search for each exception.

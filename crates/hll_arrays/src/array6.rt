@@ -22,7 +22,8 @@ use hll_kernels::groups::{
 };
 use hll_kernels::kernels::{WeightSums, count_zeros};
 use hll_registers::estimate_state::EstimateState;
-use hll_registers::preamble::{HllHeader, Preamble};
+use hll_registers::plain_images::six_bit_image;
+use hll_registers::preamble::Preamble;
 use hll_registers::register_store::RegisterStore;
 use hll_registers::registers::{Registers, two_to, units_of, zeros_left};
 use std::alloc::{Allocator, Global};
@@ -216,17 +217,13 @@ impl<A: Allocator + Clone> Array6<A> {
         ensures ok { IfOk result (λ image. image.items ≡ hll6_bytes lg_config_k self.now.registers self.now.state) }
         ensures err { IfErr result (λ e. e ≡ Memory) }
     {
-        let preamble = Preamble {
-            state: self.state,
-            num_at_cur_min: self.num_zeros(),
-            exception_count: 0,
-        };
-        let needed = HLL_PREAMBLE_SIZE + self.estimated_size();
-        let header = HllHeader::plain(lg_config_k, HllType::Hll6);
-        let mut bytes = preamble.start_image(self.allocator().clone()?, header, needed)?;
-        bytes.write(self.groups.as_flattened())?;
-        bytes.write(&[0])?;
-        Ok(bytes.into_bytes())
+        six_bit_image(
+            self.allocator().clone()?,
+            lg_config_k,
+            &self.groups,
+            self.num_zeros(),
+            self.state,
+        )
     }
 }
 

@@ -18,13 +18,13 @@ use hll_base::cursor::SketchSlice;
 use hll_base::error::{Error, Reason};
 use hll_base::hll_type::HllType;
 use hll_coupons::coupon::Coupon;
-use hll_coupons::serialization::HLL_PREAMBLE_SIZE;
 use hll_kernels::kernels::{
     WeightSums, all_zero, count_zeros, greatest_of, max_into, units, weight_sums,
 };
 use hll_registers::estimate_state::EstimateState;
 use hll_registers::folds::max_folds;
-use hll_registers::preamble::{HllHeader, Preamble};
+use hll_registers::plain_images::eight_bit_image;
+use hll_registers::preamble::Preamble;
 use hll_registers::register_slice::RegisterSlice;
 use hll_registers::register_store::RegisterStore;
 use hll_registers::registers::{Registers, two_to, zeros_left};
@@ -309,16 +309,13 @@ impl<A: Allocator + Clone> Array8<A> {
         ensures ok { IfOk result (λ image. image.items ≡ hll8_bytes lg_config_k self.now.registers self.now.state) }
         ensures err { IfErr result (λ e. e ≡ Memory) }
     {
-        let preamble = Preamble {
-            state: self.state,
-            num_at_cur_min: self.num_zeros(),
-            exception_count: 0,
-        };
-        let needed = HLL_PREAMBLE_SIZE + self.registers.len();
-        let header = HllHeader::plain(lg_config_k, HllType::Hll8);
-        let mut bytes = preamble.start_image(self.allocator().clone()?, header, needed)?;
-        bytes.write(&self.registers)?;
-        Ok(bytes.into_bytes())
+        eight_bit_image(
+            self.allocator().clone()?,
+            lg_config_k,
+            &self.registers,
+            self.num_zeros(),
+            self.state,
+        )
     }
 }
 
@@ -341,7 +338,7 @@ impl<A: Allocator> Registers for Array8<A> {
         Array8::estimate_state(self)
     }
 
-    /// Two passes.
+    /// One pass.
     fn weight_sums(&self) -> WeightSums {
         weight_sums(&self.registers)
     }

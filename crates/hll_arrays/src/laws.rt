@@ -39,7 +39,7 @@ pub fn packed_forms()
 ///   and state back.
 /// - `hll4_read_back`: what is written for registers of four bits is a payload after its header, and gives registers
 ///   and state back.
-/// - `packed_is_written`: what is written ends in the packed bytes and the exceptions in ascending raw coupons, functions
+/// - `packed_is_written`: what is written ends in the packed bytes and the exceptions in ascending order, functions
 ///   of width and registers alone.
 pub fn payloads()
     ensures hll8_read_back { Hll8ReadBack }

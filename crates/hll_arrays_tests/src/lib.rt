@@ -1,6 +1,6 @@
 // SPDX-License-Identifier: Apache-2.0
-//! Tests through public calls of `hll_kernels`, `hll_registers` and `hll_arrays`: loops over bytes, and registers of
-//! each width.
+//! Tests through public calls of `hll_kernels`, `hll_estimate`, `hll_registers` and `hll_arrays`: loops over bytes,
+//! estimates, and registers of each width.
 #![tactic(auto)]
 
 #[cfg(test)]
@@ -9,6 +9,8 @@ mod array16;
 mod copies;
 #[cfg(test)]
 mod eight_bits;
+#[cfg(test)]
+mod estimates;
 #[cfg(test)]
 mod four_bit_images;
 #[cfg(test)]

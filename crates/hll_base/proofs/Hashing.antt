@@ -6,7 +6,7 @@ use Rattle.std.specs.Simd.{first_chunks}
 use Rattle.std.proofs.lemmas.List.{length-append, length-drop, length-take-le, take_at, drop_at, take-append-drop, drop-drop, drop-replicate}
 use Rattle.std.specs.Prelude.{bit_xor}
 use Rattle.std.proofs.lemmas.Bool.{cases_lt, lt-ltb, le-ltb, cond-true, cond-false}
-use Rattle.hll_base.specs.Hash.{Halves, first_scramble, second_scramble, first_word, second_word, after_block, after_rest, final_halves, blocks, HashState, initial_state, after_bytes, after_piece, PiecesAreOne, HashOfPiece}
+use Rattle.hll_base.specs.Hash.{Halves, first_scramble, second_scramble, first_word, second_word, after_block, after_rest, final_halves, blocks, hash, HashState, initial_state, after_bytes, after_piece, PiecesAreOne, HashOfPiece}
 
 -- ---- a tail padded with zeros
 
@@ -110,3 +110,11 @@ zeros_after n m block others new end put within zeros =
     ap (drop m) put ∙ drop_at front (drop (n + length others) block) m size
     ∙ sym (drop-drop (length others) n block) ∙ ap (drop (length others)) zeros
     ∙ drop-replicate (length others) (16 - n) 0 ∙ left
+
+-- ---- eight bytes
+
+-- eight bytes have no full block: their tail is absorbed at once
+pub hash-eight : (seed : ℕ) (bytes : List ℕ) → length bytes ≡ 8 → final_halves 8 (after_rest (record { first = seed; second = seed }) bytes) ≡ hash seed bytes
+hash-eight seed bytes e =
+    let s : Halves = record { first = seed; second = seed } in
+    ap (λ n. final_halves (n % 2 ^ 64) (after_rest (fold after_block s (blocks (n / 16) bytes)) (drop (n / 16 * 16) bytes))) (sym e)

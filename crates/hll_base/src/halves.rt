@@ -173,6 +173,13 @@ impl Halves {
         self.second ^= scramble_second(word(high));
     }
 
+    /// Absorbs the last bytes, eight of them, as `absorb_tail` does.
+    pub(crate) fn absorb_eight(&mut self, rest: &[u8; 8])
+        ensures { self.new ≡ after_rest self.old rest.now }
+    {
+        self.first ^= scramble_first(u64::from_le_bytes(*rest));
+    }
+
     /// Adds the second half to the first, and then the new first half to the second.
     fn sum(&mut self)
         ensures { self.new ≡ spec.cross_sum self.old.first self.old.second }

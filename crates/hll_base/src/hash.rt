@@ -145,6 +145,18 @@ pub fn hash_of_bytes(seed: u64, bytes: &[u8]) -> (u64, u64)
     halves.end(count_of(bytes))
 }
 
+/// The 128-bit hash of eight bytes with a seed, as two 64-bit words, as `hash_of_bytes` returns it.
+// (in the loops of callers)
+#[inline(always)]
+pub fn hash_of_eight_bytes(seed: u64, bytes: &[u8; 8]) -> (u64, u64)
+    ensures first { result.0 ≡ (hash seed bytes.now).first }
+    ensures second { result.1 ≡ (hash seed bytes.now).second }
+{
+    let mut halves = Halves::at_seed(seed);
+    halves.absorb_eight(bytes);
+    halves.end(8)
+}
+
 impl Hasher for MurmurHash3X64128 {
     ghost write = { after_piece };
 

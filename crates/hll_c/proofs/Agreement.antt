@@ -1,15 +1,18 @@
 -- SPDX-License-Identifier: Apache-2.0
 -- When the registers of two images agree.
-use Rattle.std.proofs.Common.{arith, ◌≡◌, ◌↔◌, ℕ, ◌^◌, ◌≤◌, min, List, length, sym, ap, subst, ◌∙◌}
-use Rattle.hll_coupons.proofs.Folds.{length-fold_to}
+use Rattle.std.proofs.Common.{arith, ◌≡◌, ◌↔◌, ℕ, ◌≤◌, min, Bool, true, false, List, refl, sym, ap, subst, ◌∙◌}
+use mir.Val.{bool_byte}
 use Rattle.hll_coupons.proofs.Registers.{fold_to-pairs-fold_to}
 use Rattle.hll_coupons.specs.Fold.{fold_to, pairs}
+use Rattle.hll_c.specs.Calls.{bit}
 use Rattle.hll_sketch.specs.Agree.{Agree}
 use Rattle.hll_sketch.specs.ByteRegisters.{AreRegistersOf}
 use Rattle.hll_sketch.specs.Value.{pairs_of, IsLgK}
 
-pub size_of_registers : (b : List ℕ) (k : ℕ) (R : List ℕ) → AreRegistersOf b k R → length R ≡ 2 ^ k
-size_of_registers b k R of = ap length of.are ∙ length-fold_to (pairs_of of.sketch) k
+-- a truth as a byte
+pub bit_of : (b : Bool) → bool_byte b ≡ bit b
+bit_of true = refl
+bit_of false = refl
 
 -- folded further, the registers of an image are the fold of its pairs
 folded_further : (b : List ℕ) (k e : ℕ) (R : List ℕ) (of : AreRegistersOf b k R) → e ≤ k → k ≤ 21 → fold_to (pairs R) e ≡ fold_to (pairs_of of.sketch) e

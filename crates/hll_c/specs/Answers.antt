@@ -7,7 +7,7 @@ use Rattle.hll_base.specs.declared.error.Reason.TheVariants.{Argument, Memory}
 use Rattle.hll_sketch.specs.ByteRegisters.{ReadNeedsMemory}
 use Rattle.hll_sketch.specs.Checks.{first_fault, size_fault}
 use Rattle.hll_sketch.specs.EstimatorFields.{FillsFields}
-use Rattle.hll_sketch.specs.MergedIn.{HasCompactCoupons}
+use Rattle.hll_sketch.specs.MergedIn.{HasCompactCoupons, HasPlainRegisters}
 use Rattle.hll_sketch.specs.Value.{Sketch}
 use Rattle.hll_sketch.specs.Written.{Written}
 use Rattle.hll_c.specs.Batches.{IsFirstFaulty, MayAskAt}
@@ -72,9 +72,10 @@ pub data RefusesWith (InRange : Type 0) (image : List ℕ) : Reason → Type 0 w
 abbrev pub RefusesTested : List ℕ → Reason → Type 0
 RefusesTested image r = RefusesImage image r × (r ≡ Memory → ReadNeedsMemory image)
 
--- an argument is out of range, or the image is refused, for memory never where it has compact coupons that ascend or are few
+-- an argument is out of range, or the image is refused, for memory never where it has compact coupons that ascend or are few, or registers
+-- of eight or six bits, or of four bits without exceptions
 abbrev pub RefusesInfo : Type 0 → List ℕ → Reason → Type 0
-RefusesInfo InRange image r = RefusesWith InRange image r × (r ≡ Memory → HasCompactCoupons image → ⊥)
+RefusesInfo InRange image r = RefusesWith InRange image r × (r ≡ Memory → (HasCompactCoupons image → ⊥) × (HasPlainRegisters image → ⊥))
 
 -- An argument is out of range, or one of several images is refused: the number of the first that fails a check is told, and of another
 -- refusal none. Memory is refused once the bytes that an image asks for are there, and the images before it were read.

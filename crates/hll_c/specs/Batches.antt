@@ -1,5 +1,5 @@
 -- SPDX-License-Identifier: Apache-2.0
--- Byte strings that stand one after another, delimited by their ends (docs/MODEL.md, "Calls over images").
+-- Concatenated byte strings, delimited by their ends (docs/MODEL.md, "Calls over images").
 use Rattle.std.specs.Prelude.{◌≡◌, ℕ, zero, suc, ◌-◌, ◌≤◌, List, [], ◌∷◌, take, drop, Some, None}
 use Rattle.hll_base.specs.declared.error.Reason.{Reason}
 use Rattle.hll_sketch.specs.Checks.{first_fault, size_fault}
@@ -18,6 +18,11 @@ AreEnds size ends = AreEndsFrom 0 size ends
 abbrev pub strings_from : ℕ → List ℕ → List ℕ → List (List ℕ)
 strings_from start bytes [] = []
 strings_from start bytes (end ∷ ends) = take (end - start) (drop start bytes) ∷ strings_from end bytes ends
+
+-- where the last string ends, or the start where there is none
+abbrev pub end_from : ℕ → List ℕ → ℕ
+end_from start [] = start
+end_from start (end ∷ ends) = end_from end ends
 
 abbrev pub strings : List ℕ → List ℕ → List (List ℕ)
 strings bytes ends = strings_from 0 bytes ends

@@ -3,5 +3,6 @@ pub mod Answers
 pub mod Batches
 pub mod ByteRegisters
 pub mod Calls
+pub mod Estimates
 pub mod Info
 pub mod Steps

@@ -1,7 +1,8 @@
 // SPDX-License-Identifier: Apache-2.0
-//! Batches: byte strings that stand one after another, delimited by their ends.
-ghost use Rattle.std.specs.Prelude.{◌↔◌, length, IsTrue};
-ghost use Rattle.hll_c.specs.Batches.{AreEnds};
+//! Batches: concatenated byte strings, delimited by their ends.
+ghost use Rattle.std.specs.Prelude.{◌≡◌, ◌↔◌, ◌≤◌, ◌++◌, length, drop, map, IsTrue};
+ghost use Rattle.hll_coupons.specs.Hashed.{coupon_of_bytes};
+ghost use Rattle.hll_c.specs.Batches.{AreEnds, AreEndsFrom, strings_from, end_from};
 ghost use Rattle.hll_c.specs.Calls.{PutsCoupons};
 
 use crate::answer::{BUFFER, OK};
@@ -14,12 +15,12 @@ pub(crate) fn are_ends(ends: &[usize], size: usize) -> bool
 {
     let mut start = 0;
     for end in ends {
-        if *end < start || size < *end {
+        if *end < start {
             return false;
         }
         start = *end;
     }
-    true
+    start <= size
 }
 
 /// The coupons of byte strings.
@@ -32,10 +33,26 @@ pub(crate) fn put_coupons(values: &[u8], ends: &[usize], coupons: &mut [u32]) ->
     if ends.len() > coupons.len() {
         return BUFFER;
     }
-    let mut start = 0;
+    put_each(values, 0, ends, coupons);
+    OK
+}
+
+/// Writes the raw coupons of byte strings, the first of which begins at `start`, to the front of `raw_coupons`. Returns where the
+/// last one ends.
+pub(crate) fn put_each(
+    values: &[u8],
+    mut start: usize,
+    ends: &[usize],
+    raw_coupons: &mut [u32],
+) -> usize
+    requires ends { AreEndsFrom start (length values.now) ends.now }
+    requires room { length ends.now ≤ length raw_coupons.old }
+    ensures put { raw_coupons.new ≡ map coupon_of_bytes (strings_from start values.now ends.now) ++ drop (length ends.now) raw_coupons.old }
+    ensures end { result ≡ end_from start ends.now }
+{
     for (number, end) in ends.iter().enumerate() {
-        coupons[number] = Coupon::from_bytes(&values[start..*end]).raw();
+        raw_coupons[number] = Coupon::from_bytes(&values[start..*end]).raw();
         start = *end;
     }
-    OK
+    start
 }

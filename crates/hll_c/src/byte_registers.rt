@@ -53,7 +53,7 @@ fn are_small(registers: &[u8], lg_k: u8) -> bool
 }
 
 /// The `lg_k` of registers that are at most 63. `Argument` where there are not as many as of an `lg_k`, else `Register`.
-fn checked_lg_k(registers: &[u8]) -> Result<u8, Error>
+pub(crate) fn checked_lg_k(registers: &[u8]) -> Result<u8, Error>
     ensures ok { IfOk result (λ k. IsLgKOf registers.now k × AreRegisters k registers.now) }
     ensures err { IfErr result (RefusesRegisters registers.now) }
 {

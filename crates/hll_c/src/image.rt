@@ -1,10 +1,12 @@
 // SPDX-License-Identifier: Apache-2.0
 //! What the calls make of images.
-ghost use Rattle.std.specs.Prelude.{◌≡◌, ◌≢◌, ◌^◌, ◌≤◌, ◌⊎◌, ◌↔◌, ◌∷◌, [], Bool, true, min, length, map, IsTrue, IfOk, IfErr, OnOk};
+ghost use Rattle.std.specs.Prelude.{◌≡◌, ◌≢◌, ◌^◌, ◌≤◌, ◌⊎◌, ◌↔◌, ◌∷◌, [], Bool, true, min, length, map, IsTrue, IfSome, IfOk, IfErr, OnOk, OnErr};
 ghost use Rattle.hll_base.specs.declared.error.Reason.TheVariants as reasons;
 ghost use Rattle.hll_coupons.specs.Hashed.{coupon_of_bytes};
 ghost use Rattle.hll_coupons.specs.Fold.{fold_to, pairs};
+ghost use Rattle.hll_sketch.specs.BorrowedRegisters.{lg_k_of, values_of, AreWhole};
 ghost use Rattle.hll_sketch.specs.ByteRegisters.{AreRegistersOf};
+ghost use Rattle.hll_sketch.specs.CouponImages.{IsImageWith};
 ghost use Rattle.hll_sketch.specs.EstimatorFields.{SetsFields, FillsFields};
 ghost use Rattle.hll_sketch.specs.Image.{IsReadAs, IsSizeOfImage};
 ghost use Rattle.hll_sketch.specs.Laws.{add_in_turn};
@@ -17,17 +19,22 @@ ghost use Rattle.hll_sketch.specs.Waiting.{whole_gadget, MergesInto};
 ghost use Rattle.hll_c.specs.Steps.{MergesInAll, IsRefusedAt, FailsToMergeIn};
 
 use crate::answer::image_with_fields;
-use crate::batch::are_ends;
+use crate::batch::{are_ends, put_each};
 use hll_arrays::registers::two_to;
 use hll_base::bounds::{MAX_LG_K, MAX_VALUE, MIN_LG_K, SLOT_BITS};
 use hll_base::error::{Error, Reason};
 use hll_base::hll_type::HllType;
 use hll_coupons::coupon::Coupon;
-use hll_sketch::image_registers::{ImageRegisters, registers_of_image};
+use hll_sketch::borrowed_registers::BorrowedRegisters;
+use hll_sketch::coupon_images::{coupon_image_with, says_registers};
 use hll_sketch::image_size::size_of_image;
-use hll_sketch::max_registers::fold_in_place;
-use hll_sketch::{HllSketch, HllUnion, UnionBuilder, coupon_image_at, union_of_coupon_images};
+use hll_sketch::{
+    HllSketch, HllUnion, UnionBuilder, coupon_image_at, register_image_at, union_of_coupon_images,
+};
 use std::alloc::Global;
+
+/// The byte strings whose coupons are found before they are added to a sketch.
+const BLOCK: usize = 128;
 
 /// The width of a number of bits. `Argument` where it is not 4, 6 or 8.
 pub(crate) fn width_of(bits: u8) -> Result<HllType, Error>
@@ -43,17 +50,28 @@ pub(crate) fn width_of(bits: u8) -> Result<HllType, Error>
 }
 
 /// Reads the registers of the image with this number. Where it is refused by a check, `failed` is its number.
-fn read_registers(
+fn read_registers<'a>(
     alloc: Global,
-    image: &[u8],
+    image: &'a [u8],
     number: usize,
     failed: &mut usize,
-) -> Result<ImageRegisters, Error>
-    ensures ok { IfOk result (λ r. AreRegistersOf image.now r.lg_k r.values.items × IsLgK r.lg_k × (failed.new ≡ failed.old)) }
+) -> Result<BorrowedRegisters<'a>, Error>
+    ensures ok { IfOk result (λ r. AreRegistersOf image.now (lg_k_of r) (values_of r) × AreWhole r × (failed.new ≡ failed.old)) }
     ensures err { IfErr result (λ e. IsRefusedAt image.now number failed.old failed.new e) }
 {
-    match registers_of_image(alloc, image) {
+    match BorrowedRegisters::read(alloc, image) {
         Ok(registers) => Ok(registers),
+        Err(e) => Err(refused_at(e, number, failed)),
+    }
+}
+
+/// Tests the image with this number. Where it is refused by a check, `failed` is its number.
+fn check_at(alloc: Global, image: &[u8], number: usize, failed: &mut usize) -> Result<(), Error>
+    ensures ok { OnOk result (((x : Sketch) × IsReadAs image.now x) × (failed.new ≡ failed.old)) }
+    ensures err { IfErr result (λ e. IsRefusedAt image.now number failed.old failed.new e) }
+{
+    match HllSketch::check(alloc, image) {
+        Ok(()) => Ok(()),
         Err(e) => Err(refused_at(e, number, failed)),
     }
 }
@@ -110,19 +128,59 @@ fn are_of_coupon(slot: u32, value: u8) -> bool
     slot < 1 << SLOT_BITS && 0 < value && value <= MAX_VALUE
 }
 
-/// The sketch with the coupons of the byte strings that end at `ends`.
+/// The image with the coupons of the byte strings that end at `ends`, its fields set where its state is cleared.
 pub(crate) fn with_values(
     alloc: Global,
     image: &[u8],
     values: &[u8],
     ends: &[usize],
-) -> Result<HllSketch, Error>
-    ensures ok { IfOk result (λ s. IsMadeOf image.now (HasValues values.now ends.now) (sketch_of s)) }
+) -> Result<Vec<u8>, Error>
+    ensures ok { IfOk result (λ written. IsImageOf (WithFields (IsMadeOf image.now (HasValues values.now ends.now))) written.items) }
     ensures err { IfErr result (λ e. RefusesWith (AreEnds (length values.now) ends.now) image.now e) }
 {
     if !are_ends(ends, values.len()) {
         return Err(Error::new(Reason::Argument));
     }
+    match coupon_image_with_values(alloc, image, values, ends)? {
+        Some(written) => Ok(written),
+        None => image_with_fields(sketch_with_values(alloc, image, values, ends)?),
+    }
+}
+
+/// The image of coupons with those of 1 to `BLOCK` byte strings, without a table. `None` for another number of strings, or where
+/// `coupon_image_with` makes none.
+// (a caller that had the room among its own values would clear it for registers too)
+#[inline(never)]
+fn coupon_image_with_values(
+    alloc: Global,
+    image: &[u8],
+    values: &[u8],
+    ends: &[usize],
+) -> Result<Option<Vec<u8>>, Error>
+    requires { AreEnds (length values.now) ends.now }
+    ensures some { IfOk result (λ found. IfSome found (λ written. IsImageWith (map coupon_of_bytes (strings values.now ends.now)) image.now written.items)) }
+    ensures read { OnErr result ((x : Sketch) × IsReadAs image.now x) }
+    ensures err { IfErr result (λ e. e ≡ reasons.Memory) }
+{
+    if ends.is_empty() || BLOCK < ends.len() || says_registers(image) {
+        return Ok(None);
+    }
+    let mut raw_coupons = [0; BLOCK];
+    put_each(values, 0, ends, &mut raw_coupons);
+    coupon_image_with(alloc, image, &mut raw_coupons[..ends.len()])
+}
+
+/// The sketch with the coupons of the byte strings that end at `ends`.
+fn sketch_with_values(
+    alloc: Global,
+    image: &[u8],
+    values: &[u8],
+    ends: &[usize],
+) -> Result<HllSketch, Error>
+    requires { AreEnds (length values.now) ends.now }
+    ensures ok { IfOk result (λ s. IsMadeOf image.now (HasValues values.now ends.now) (sketch_of s)) }
+    ensures err { IfErr result (λ e. RefusesWith (AreEnds (length values.now) ends.now) image.now e) }
+{
     let mut sketch = HllSketch::deserialize(alloc, image)?;
     add_values(&mut sketch, values, ends)?;
     Ok(sketch)
@@ -134,10 +192,14 @@ fn add_values(sketch: &mut HllSketch, values: &[u8], ends: &[usize]) -> Result<(
     ensures ok { OnOk result (sketch_of sketch.new ≡ add_in_turn (sketch_of sketch.old) (map coupon_of_bytes (strings values.now ends.now))) }
     ensures err { IfErr result (λ e. e ≡ reasons.Memory) }
 {
+    let mut raw_coupons = [0; BLOCK];
     let mut start = 0;
-    for end in ends {
-        sketch.update_with_coupon(Coupon::from_bytes(&values[start..*end]))?;
-        start = *end;
+    let mut left = ends;
+    while !left.is_empty() {
+        let (block, later) = left.split_at(left.len().min(BLOCK));
+        start = put_each(values, start, block, &mut raw_coupons);
+        sketch.update_with_raw_coupons(&raw_coupons[..block.len()])?;
+        left = later;
     }
     Ok(())
 }
@@ -173,10 +235,10 @@ fn union_of_two(
     ensures err { IfErr result (λ e. RefusesImages (AreUnionArguments lg_max_k width) (left.now ∷ right.now ∷ []) failed.old failed.new e) }
 {
     let width = width_of(width)?;
-    let union = HllUnion::new(alloc, lg_max_k)?;
-    let first = merge_in(UnionBuilder::new(union, alloc), left, 0, failed)?;
-    let both = merge_in(first, right, 1, failed)?;
-    read_out(both, width)
+    let mut union = UnionBuilder::new(HllUnion::new(alloc, lg_max_k)?, alloc);
+    merge_in(&mut union, left, 0, failed)?;
+    merge_in(&mut union, right, 1, failed)?;
+    read_out(union, width)
 }
 
 /// The sketch of a union at a width, its fields set where its state is cleared: before the width changes, as the sums are
@@ -207,27 +269,28 @@ pub(crate) fn union_of_batch(
     if !are_ends(ends, images.len()) {
         return Err(Error::new(Reason::Argument));
     }
-    let all = merge_in_all(UnionBuilder::new(union, alloc), images, ends, failed)?;
-    read_out(all, width)
+    let mut union = UnionBuilder::new(union, alloc);
+    merge_in_all(&mut union, images, ends, failed)?;
+    read_out(union, width)
 }
 
-/// A union with images merged in turn.
+/// Merges images into a union in turn.
 fn merge_in_all(
-    mut union: UnionBuilder,
+    union: &mut UnionBuilder,
     images: &[u8],
     ends: &[usize],
     failed: &mut usize,
-) -> Result<UnionBuilder, Error>
+) -> Result<(), Error>
     requires { AreEnds (length images.now) ends.now }
-    ensures ok { IfOk result (λ all. MergesInAll union all (strings images.now ends.now) × (failed.new ≡ failed.old)) }
+    ensures ok { OnOk result (MergesInAll union.old union.new (strings images.now ends.now) × (failed.new ≡ failed.old)) }
     ensures err { IfErr result (λ e. FailsToMergeIn (strings images.now ends.now) failed.old failed.new e) }
 {
     let mut start = 0;
     for (number, end) in ends.iter().enumerate() {
-        union = merge_in(union, &images[start..*end], number, failed)?;
+        merge_in(union, &images[start..*end], number, failed)?;
         start = *end;
     }
-    Ok(union)
+    Ok(())
 }
 
 /// The union of images that need not be contiguous, its fields set where its state is cleared.
@@ -242,38 +305,38 @@ pub(crate) fn union_of_parts(
     ensures err { IfErr result (λ e. RefusesImages (AreUnionArguments lg_max_k width) (map (λ part. part.now) parts.now) failed.old failed.new e) }
 {
     let width = width_of(width)?;
-    let union = HllUnion::new(alloc, lg_max_k)?;
-    let all = merge_in_parts(UnionBuilder::new(union, alloc), parts, failed)?;
-    read_out(all, width)
+    let mut union = UnionBuilder::new(HllUnion::new(alloc, lg_max_k)?, alloc);
+    merge_in_parts(&mut union, parts, failed)?;
+    read_out(union, width)
 }
 
 /// Merges images that need not be contiguous into a union, in turn.
 fn merge_in_parts(
-    mut union: UnionBuilder,
+    union: &mut UnionBuilder,
     parts: &[&[u8]],
     failed: &mut usize,
-) -> Result<UnionBuilder, Error>
-    ensures ok { IfOk result (λ all. MergesInAll union all (map (λ part. part.now) parts.now) × (failed.new ≡ failed.old)) }
+) -> Result<(), Error>
+    ensures ok { OnOk result (MergesInAll union.old union.new (map (λ part. part.now) parts.now) × (failed.new ≡ failed.old)) }
     ensures err { IfErr result (λ e. FailsToMergeIn (map (λ part. part.now) parts.now) failed.old failed.new e) }
 {
     for (number, part) in parts.iter().enumerate() {
-        union = merge_in(union, part, number, failed)?;
+        merge_in(union, part, number, failed)?;
     }
-    Ok(union)
+    Ok(())
 }
 
-/// A union with the image of this number merged.
+/// Merges the image of this number into a union.
 fn merge_in(
-    union: UnionBuilder,
+    union: &mut UnionBuilder,
     image: &[u8],
     number: usize,
     failed: &mut usize,
-) -> Result<UnionBuilder, Error>
-    ensures ok { IfOk result (λ more. MergesInto union more image.now × (failed.new ≡ failed.old)) }
+) -> Result<(), Error>
+    ensures ok { OnOk result (MergesInto union.old union.new image.now × (failed.new ≡ failed.old)) }
     ensures err { IfErr result (λ e. IsRefusedAt image.now number failed.old failed.new e) }
 {
-    match union.with_image(image) {
-        Ok(more) => Ok(more),
+    match union.update_with_image(image) {
+        Ok(()) => Ok(()),
         Err(e) => Err(refused_at(e, number, failed)),
     }
 }
@@ -294,7 +357,11 @@ pub(crate) fn converted(alloc: Global, image: &[u8], width: u8) -> Result<Vec<u8
     ensures ok { IfOk result (λ written. IsImageOf (WithFields (IsMadeOf image.now (IsAtWidth width))) written.items) }
     ensures err { IfErr result (λ e. RefusesWith (IsWidth width) image.now e) }
 {
-    match coupon_image_at(alloc, width_of(width)?, image)? {
+    let hll_type = width_of(width)?;
+    if let Some(written) = coupon_image_at(alloc, hll_type, image)? {
+        return Ok(written);
+    }
+    match register_image_at(alloc, hll_type, image)? {
         Some(written) => Ok(written),
         None => image_with_fields(sketch_at(alloc, image, width)?),
     }
@@ -348,32 +415,12 @@ pub(crate) fn agree(
     ensures ok { IfOk result (λ same. SaysAgreement left.now right.now failed.old failed.new same) }
     ensures err { IfErr result (λ e. RefusesImages (Unit {0}) (left.now ∷ right.now ∷ []) failed.old failed.new e) }
 {
+    // the same bytes are read as the same sketch
+    if left == right {
+        check_at(alloc, left, 0, failed)?;
+        return Ok(1);
+    }
     let left = read_registers(alloc, left, 0, failed)?;
     let right = read_registers(alloc, right, 1, failed)?;
-    Ok(agreement(left, right))
-}
-
-/// 1 where registers are the same once both are folded to the smaller `lg_k`, else 0.
-fn agreement(left: ImageRegisters, right: ImageRegisters) -> u8
-    requires left { IsLgK left.lg_k × (length left.values.items ≡ 2 ^ left.lg_k) }
-    requires right { IsLgK right.lg_k × (length right.values.items ≡ 2 ^ right.lg_k) }
-    ensures { (same : Bool) × (result ≡ bit same) × (let e = min left.lg_k right.lg_k in (same ≡ true) ↔ (fold_to (pairs left.values.items) e ≡ fold_to (pairs right.values.items) e)) }
-{
-    let lg_k = left.lg_k.min(right.lg_k);
-    u8::from(folded_values(left, lg_k) == folded_values(right, lg_k))
-}
-
-/// The values of registers, folded to an `lg_k` of at most theirs.
-fn folded_values(registers: ImageRegisters, lg_k: u8) -> Vec<u8>
-    requires size { IsLgK registers.lg_k × (length registers.values.items ≡ 2 ^ registers.lg_k) }
-    requires within { lg_k ≤ registers.lg_k }
-    ensures { result.items ≡ fold_to (pairs registers.values.items) lg_k }
-{
-    let ImageRegisters {
-        lg_k: from,
-        mut values,
-    } = registers;
-    fold_in_place(&mut values, from, lg_k);
-    values.truncate(two_to(lg_k));
-    values
+    Ok(u8::from(left.agrees_with(&alloc, right)?))
 }

@@ -1,23 +1,22 @@
 // SPDX-License-Identifier: Apache-2.0
 //! What an image says.
-ghost use Rattle.std.specs.Prelude.{◌≡◌, ◌^◌, ◌<◌, ◌≤◌, length, IfOk, IfErr};
+ghost use Rattle.std.specs.Prelude.{◌≡◌, ◌^◌, ◌<◌, ◌≤◌, ℕ, List, false, length, IfOk, IfErr};
 ghost use Rattle.hll_coupons.specs.Pair.{Pairs};
 ghost use Rattle.hll_sketch.specs.CouponImages.{IsTableOf};
-ghost use Rattle.hll_kernels.specs.Packed as packed;
 ghost use Rattle.hll_sketch.specs.Layout.{content_in, sketch_of};
+ghost use Rattle.hll_sketch.specs.RegisterTotals.{AreTotalsOf};
 ghost use Rattle.hll_sketch.specs.Value as values;
-ghost use Rattle.hll_sketch.specs.Value.{Sketch};
+ghost use Rattle.hll_sketch.specs.Value.{Sketch, in_registers};
 ghost use Rattle.hll_c.specs.Answers.{RefusesImage, RefusesInfo};
 ghost use Rattle.hll_c.specs.Calls as calls;
 ghost use Rattle.hll_c.specs.Info.{IsInfoOf, SaysInfo, AreCountsOf, SaysHistogram};
 
-use hll_arrays::registers::Registers;
 use hll_base::error::{Error, Reason};
 use hll_base::hll_type::HllType;
 use hll_coupons::serialization::LG_LIST_BUCKETS;
 use hll_sketch::coupon_images::ImageOfCoupons;
 use hll_sketch::image_registers::registers_of_image;
-use hll_sketch::{HllSketch, Mode, image_of_coupons};
+use hll_sketch::{HllSketch, Mode, RegisterTotals, image_of_coupons, register_totals};
 use std::alloc::Global;
 
 /// The bytes of `HllInfo`.
@@ -115,45 +114,35 @@ fn info_of_table(sketch: &HllSketch, lg_size: usize) -> HllInfo
     })
 }
 
-/// What registers say, of which so many are 0, with this sum of weights.
-fn info_of_registers<R: Registers>(
-    sketch: &HllSketch,
-    array: &R,
-    zeros: u32,
-    units: u128,
-) -> HllInfo
-    requires content { content_in sketch.now.layout ≡ values.registers (R.stored array.now).registers (R.stored array.now).state }
-    requires zeros { zeros ≡ packed.zeros (R.stored array.now).registers }
-    requires units { units ≡ packed.units (R.stored array.now).registers }
-    ensures { IsInfoOf (sketch_of sketch.now) result }
-{
-    let state = array.estimate_state();
-    HllInfo {
-        coupons: 0,
-        zeros: u64::from(zeros),
-        units_high: (units >> 64) as u64,
-        units_low: (units & 0xffff_ffff_ffff_ffff) as u64,
-        hip: state.words[0],
-        kxq0: state.words[1],
-        kxq1: state.words[2],
-        lg_k: sketch.lg_config_k(),
-        width: bits_of(sketch.target_type()),
-        stage: REGISTERS,
-        is_empty: u8::from(sketch.is_empty()),
-        out_of_order: u8::from(state.out_of_order),
-    }
-}
-
-/// What a sketch says.
+/// What the coupons of a sketch say.
 fn info_of_sketch(sketch: &HllSketch) -> HllInfo
+    requires { in_registers (content_in sketch.now.layout) ≡ false }
     ensures { IsInfoOf (sketch_of sketch.now) result }
 {
     match sketch.mode() {
         Mode::List { list, .. } => info_of_table(sketch, list.container().lg_size()),
         Mode::Set { set, .. } => info_of_table(sketch, set.container().lg_size()),
-        Mode::Array4(a) => info_of_registers(sketch, a, a.num_zeros(), a.kxq_units()),
-        Mode::Array6(a) => info_of_registers(sketch, a, a.num_zeros(), a.kxq_units()),
-        Mode::Array8(a) => info_of_registers(sketch, a, a.num_zeros(), a.kxq_units()),
+        Mode::Array4(_) | Mode::Array6(_) | Mode::Array8(_) => unreachable!(),
+    }
+}
+
+/// What registers say, by their totals.
+fn info_of_registers(totals: RegisterTotals) -> HllInfo
+    ensures { (image : List ℕ) → AreTotalsOf image totals → SaysInfo image result }
+{
+    HllInfo {
+        coupons: 0,
+        zeros: u64::from(totals.zeros),
+        units_high: (totals.units >> 64) as u64,
+        units_low: (totals.units & 0xffff_ffff_ffff_ffff) as u64,
+        hip: totals.state.words[0],
+        kxq0: totals.state.words[1],
+        kxq1: totals.state.words[2],
+        lg_k: totals.lg_k,
+        width: bits_of(totals.hll_type),
+        stage: REGISTERS,
+        is_empty: u8::from(totals.is_empty),
+        out_of_order: u8::from(totals.state.out_of_order),
     }
 }
 
@@ -165,8 +154,11 @@ pub(crate) fn info_of(alloc: Global, image: &[u8], size: usize) -> Result<HllInf
     if size != INFO_SIZE {
         return Err(Error::new(Reason::Argument));
     }
-    match image_of_coupons(image) {
-        Some(coupons) => Ok(info_of_coupons(coupons)),
+    if let Some(coupons) = image_of_coupons(image) {
+        return Ok(info_of_coupons(coupons));
+    }
+    match register_totals(alloc, image)? {
+        Some(totals) => Ok(info_of_registers(totals)),
         None => Ok(info_of_sketch(&HllSketch::deserialize(alloc, image)?)),
     }
 }

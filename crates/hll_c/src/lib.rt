@@ -20,18 +20,22 @@ ghost use Rattle.hll_c.specs.Answers.{Answers, IsImageOf, PutsBytes, Reports, Te
 ghost use Rattle.hll_c.specs.Batches.{AreEnds, strings};
 ghost use Rattle.hll_c.specs.ByteRegisters.{MergesImageInto, MergesRegistersInto, AddsValues, AddsCoupons, FoldsInPlace, RefusesRegisters, SaysCounts, IsOfBytes, RefusesBytes};
 ghost use Rattle.hll_c.specs.Calls.{AreNewArguments, IsEmptyAt, IsMadeOf, IsFoldOf, RefusesFold, IsWidth, IsAtWidth, IsCleared, AreOfCoupon, HasCoupon, HasValues, AreUnionArguments, IsUnionOf, AreBatchArguments, IsUnionOfBatch, SaysAgreement, PutsCoupons};
+ghost use Rattle.hll_c.specs.Estimates.{SaysEstimate, SaysEstimateOfBytes};
 ghost use Rattle.hll_c.specs.Info.{SaysInfo, SaysHistogram};
+ghost use Rattle.hll_c.specs.declared.estimate.HllEstimate.{HllEstimate};
 ghost use Rattle.hll_c.specs.declared.info.HllInfo.{HllInfo};
 ghost use Rattle.hll_c.specs.declared.info.HllHistogram.{HllHistogram};
 
 mod answer;
 mod batch;
 mod byte_registers;
+mod estimate;
 mod image;
 mod info;
 
 use crate::answer::{code_of, put_bytes, put_image, report};
 use crate::batch::put_coupons;
+use crate::estimate::HllEstimate;
 use crate::info::{HllHistogram, HllInfo};
 use hll_coupons::coupon::Coupon;
 use std::alloc::Global;
@@ -40,12 +44,23 @@ use std::alloc::Global;
 /// caller's structure, in bytes.
 ///
 /// Answers `Argument` where that is not 64, the reason of the first check that the bytes fail, or `Memory`. Takes memory for
-/// its sketch, but none for coupons of a compact image that ascend or are at most 128.
+/// the exceptions of registers of four bits, and for coupons, but not for those of a compact image that ascend or are at most 128.
 #[unsafe(no_mangle)]
 pub extern "C" fn hll_image_info(alloc: Global, image: &[u8], info: &mut HllInfo, size: usize) -> u8
     ensures { Reports HllInfo (SaysInfo image.now) (RefusesInfo (size ≡ 64) image.now) info.old info.new result }
 {
     report(info::info_of(alloc, image, size), info)
+}
+
+/// The estimate of an image of registers, as the bits of the nearest number of binary64, with how many registers there are and
+/// how many of them are above 0; of an image of coupons, how many there are.
+///
+/// Answers the reason of the first check that the bytes fail, or `Memory`. Takes memory as `hll_image_info` does.
+#[unsafe(no_mangle)]
+pub extern "C" fn hll_estimate(alloc: Global, image: &[u8], estimate: &mut HllEstimate) -> u8
+    ensures { Reports HllEstimate (SaysEstimate image.now) (RefusesInfo (Unit {0}) image.now) estimate.old estimate.new result }
+{
+    report(estimate::estimate_of_image(alloc, image), estimate)
 }
 
 /// Whether bytes begin with an image; else the reason of the first check that they fail (docs/FORMAT.md, "Order of checks").
@@ -116,7 +131,7 @@ pub extern "C" fn hll_image_add(
 ) -> u8
     ensures { Answers (IsMadeOf image.now (HasValues values.now ends.now)) (RefusesWith (AreEnds (length values.now) ends.now) image.now) out.old out.new size.old size.new result }
 {
-    put_image(image::with_values(alloc, image, values, ends), out, size)
+    put_bytes(image::with_values(alloc, image, values, ends), out, size)
 }
 
 /// The image with a coupon of a slot below 2^26 and a value of 1 to 63.
@@ -276,8 +291,9 @@ pub extern "C" fn hll_image_clear_estimator_fields(
 
 /// Whether two images fold to the same registers at the smaller `lg_k` of both: 1 if they do, else 0.
 ///
-/// Answers the reason of the first check that the first faulty image fails, with its number in `failed`, or `Memory`. Takes
-/// memory as `hll_image_histogram` does, for each of both.
+/// Returns the reason of the first check that the first faulty image fails, with its number in `failed`, or `Memory`. Allocates
+/// at most what `hll_image_histogram` does, for each image. Registers of the same `lg_k` and width are compared where they lie:
+/// of six and eight bits without any memory, of four bits with a map of each image's exceptions.
 #[unsafe(no_mangle)]
 pub extern "C" fn hll_images_agree(
     alloc: Global,
@@ -354,6 +370,16 @@ pub extern "C" fn hll_registers_fold(registers: &mut [u8], to: u8) -> u8
     ensures { FoldsInPlace to registers.old registers.new result }
 {
     byte_registers::fold(registers, to)
+}
+
+/// The estimate of registers of the caller, as `hll_estimate` tells it of an image.
+///
+/// Answers `Argument` for a number of registers that is not 2^`lg_k`, or `Register` where one is above 63. Takes no memory.
+#[unsafe(no_mangle)]
+pub extern "C" fn hll_registers_estimate(registers: &[u8], estimate: &mut HllEstimate) -> u8
+    ensures { Reports HllEstimate (SaysEstimateOfBytes registers.now) (RefusesRegisters registers.now) estimate.old estimate.new result }
+{
+    report(estimate::estimate_of_bytes(registers), estimate)
 }
 
 /// How many registers of the caller have each value from 0 to 63.

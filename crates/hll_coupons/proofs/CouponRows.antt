@@ -1,11 +1,11 @@
 -- SPDX-License-Identifier: Apache-2.0
--- Coupons of known raw coupons.
+-- Coupons of known hashes.
 use Rattle.std.specs.Prelude.{◌≡◌, ◌^◌, refl}
 use Rattle.std.specs.Int.Count.{count_leading_zeros}
 use Rattle.hll_coupons.specs.Pair.{slot_of, value_of, pair}
 use Rattle.hll_coupons.specs.Hashed.{coupon_of_words}
 
--- no bit of the second raw coupon is set
+-- no bit of the second half is set
 pub coupon_of_words-zero : coupon_of_words 0 0 ≡ 0xfc000000
 unfolding count_leading_zeros
 coupon_of_words-zero = refl

@@ -30,12 +30,12 @@ pub record AreCoupons (coupons : List ℕ) : Type 0 where
 
 -- ---- writing
 
--- the members of a set in ascending raw coupons, each once
+-- the members of a set in ascending order, each once
 pub record IsAscending (order : List ℕ) (S : Pairs) : Type 0 where
   pub increasing : IsStrictlyIncreasing order
   pub members : set_of order ≡ S
 
--- the bytes that are made of a set's members in ascending raw coupons
+-- the bytes that are made of a set's members in ascending order
 pub record WritesAscending (bytes_of : List ℕ → List ℕ) (S : Pairs) (bytes : List ℕ) : Type 0 where
   pub order : List ℕ
   pub ascending : IsAscending order S

@@ -98,7 +98,7 @@ impl<A: Allocator> AuxMap<A> {
         Some(value_of_bucket(buckets[bucket]))
     }
 
-    /// Gives a slot that has a value another one, at the same place.
+    /// Gives a slot that has a value another one, in the same bucket.
     ///
     /// `slot` is below 2^`lg_config_k` and has a value, and `value` is 1 to 63.
     pub fn replace(&mut self, slot: u32, value: u8)
@@ -148,7 +148,7 @@ impl<A: Allocator> AuxMap<A> {
         self.table.len() == other.table.len() && other.has_all(self)
     }
 
-    /// A copy of the entries as coupons, in ascending raw coupons.
+    /// A copy of the entries as coupons, in ascending order.
     ///
     /// Takes four bytes an entry, in one request. Fails with `Memory`.
     pub fn ascending<B: Allocator>(&self, alloc: B) -> Result<Vec<Coupon, B>, Error>
@@ -372,6 +372,8 @@ impl<'a> Iterator for AuxMapRefIter<'a> {
     ghost remaining = { item_count (λ s. s) };
 
     fn next(&mut self) -> Option<(u32, u8)> {
+        // (a map of few exceptions is mostly empty)
+        self.entries.pass_empty();
         let entry = self.entries.next()?;
         Some((entry.slot(), entry.value()))
     }

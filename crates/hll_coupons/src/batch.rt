@@ -2,7 +2,7 @@
 //! Coupons of many sketches, gathered in any order before they are put into a table together. So a union of many small
 //! sketches costs one sort of their coupons, however long the searches of their buckets are (docs/OPERATING.md,
 //! "Images from others").
-ghost use Rattle.std.specs.Prelude.{◌≡◌, ℕ, ◌+◌, ◌*◌, ◌^◌, ◌<◌, ◌≤◌, ◌++◌, [], ◌∷◌, length, vec_len, IfOk, IfErr, OnOk, OnErr, All};
+ghost use Rattle.std.specs.Prelude.{◌≡◌, ℕ, ◌+◌, ◌*◌, ◌^◌, ◌<◌, ◌≤◌, ◌++◌, [], ◌∷◌, length, take, vec_len, IfOk, IfErr, OnOk, OnErr, All};
 ghost use Rattle.hll_base.specs.declared.error.Reason.TheVariants.{Memory};
 ghost use Rattle.hll_coupons.specs.Coupons.{IsAscending};
 ghost use Rattle.hll_coupons.specs.Pair.{IsPair, set_of};
@@ -14,9 +14,6 @@ use crate::raw_coupons::RawCouponIter;
 use hll_base::error::Error;
 use std::alloc::{Allocator, Global};
 use std::marker::Model;
-
-/// The most coupons of a batch: a table of 2^26 buckets holds them.
-pub const MOST_IN_BATCH: usize = (1 << 26) - 1;
 
 /// Coupons in the order in which they came, up to 2^26 - 1, any of them more than once. Contracts see the list of their raw
 /// coupons.
@@ -57,66 +54,110 @@ impl<A: Allocator> CouponBatch<A> {
 
     /// Appends the coupons of a table.
     ///
-    /// Together they are fewer than 2^26. Fails with `Memory`.
-    pub fn with_table<B: Allocator>(self, table: &Container<B>) -> Result<CouponBatch<A>, Error>
-        requires room { length self + length (coupons_in table.now.buckets) < 2 ^ 26 }
-        ensures ok { IfOk result (λ batch. batch ≡ self ++ coupons_in table.now.buckets) }
-        ensures pairs { IfOk result (λ batch. All IsPair batch) }
+    /// Together they are fewer than 2^26. Fails with `Memory`, and then changes nothing.
+    pub fn extend_from_table<B: Allocator>(&mut self, table: &Container<B>) -> Result<(), Error>
+        requires room { length self.old + length (coupons_in table.now.buckets) < 2 ^ 26 }
+        ensures ok { OnOk result (self.new ≡ self.old ++ coupons_in table.now.buckets) }
+        ensures unchanged { OnErr result (self.new ≡ self.old) }
         ensures err { IfErr result (λ e. e ≡ Memory) }
     {
         table.table_is_legal();
-        let CouponBatch { mut coupons } = self;
-        for coupon in table.iter() {
-            coupons.push(coupon)?;
+        let count = self.coupons.len();
+        let appended = push_coupons_of_table(&mut self.coupons, table);
+        if appended.is_err() {
+            self.coupons.truncate(count);
         }
-        Ok(CouponBatch { coupons })
+        appended
     }
 
     /// Appends the coupons of raw coupons.
     ///
-    /// Each raw coupon is that of a coupon, and together they are fewer than 2^26. Fails with `Memory`.
-    pub fn with_raw_coupons(
-        self,
-        mut raw_coupons: RawCouponIter<'_>,
-    ) -> Result<CouponBatch<A>, Error>
+    /// Each raw coupon is that of a coupon, and together they are fewer than 2^26. Fails with `Memory`, and then changes
+    /// nothing.
+    pub fn extend_from_raw_coupons(&mut self, raw_coupons: RawCouponIter<'_>) -> Result<(), Error>
         requires pairs { All IsPair raw_coupons }
-        requires room { length self + length raw_coupons < 2 ^ 26 }
-        ensures ok { IfOk result (λ batch. batch ≡ self ++ raw_coupons.entry) }
-        ensures pairs { IfOk result (λ batch. All IsPair batch) }
+        requires room { length self.old + length raw_coupons < 2 ^ 26 }
+        ensures ok { OnOk result (self.new ≡ self.old ++ raw_coupons.entry) }
+        ensures unchanged { OnErr result (self.new ≡ self.old) }
         ensures err { IfErr result (λ e. e ≡ Memory) }
     {
-        let CouponBatch { mut coupons } = self;
-        while let Some(raw_coupon) = raw_coupons.next() {
-            coupons.push(Coupon::from_raw(raw_coupon))?;
+        let count = self.coupons.len();
+        let appended = push_raw_coupons(&mut self.coupons, raw_coupons);
+        if appended.is_err() {
+            self.coupons.truncate(count);
         }
-        Ok(CouponBatch { coupons })
+        appended
     }
 
-    /// A table of the coupons, each once, in ascending order in its first buckets.
+    /// Forgets all coupons, and keeps their memory.
+    pub fn clear(&mut self)
+        ensures { self.new ≡ [] }
+    {
+        self.coupons.clear();
+    }
+
+    /// Sorts the coupons, and forgets those that came before. Takes no memory.
+    fn sort(&mut self)
+        ensures ascending { IsAscending self.new (set_of self.old) }
+    {
+        self.coupons.sort_unstable();
+        self.coupons.dedup();
+    }
+}
+
+impl<A: Allocator + Clone> CouponBatch<A> {
+    /// A table of the coupons, each once, in ascending order in its first buckets. The batch keeps its coupons, each once.
     ///
-    /// Sorts them, and takes memory where the batch has none left for the buckets. Fails with `Memory`.
-    pub fn into_table(self) -> Result<Container<A>, Error>
-        ensures ok { IfOk result (λ table. coupons_of table ≡ set_of self) }
+    /// Fails with `Memory`.
+    pub fn to_table(&mut self) -> Result<Container<A>, Error>
+        ensures ok { IfOk result (λ table. coupons_of table ≡ set_of self.old) }
+        ensures ascending { IsAscending self.new (set_of self.old) }
         ensures err { IfErr result (λ e. e ≡ Memory) }
     {
-        let mut coupons = self.into_ascending();
-        let count = coupons.len();
+        self.sort();
+        let count = self.coupons.len();
         let lg_size = lg_size_above(count);
-        coupons.resize(buckets_of(lg_size), Coupon::EMPTY)?;
-        Ok(Container::from_coupons(lg_size, coupons, count))
+        let size = buckets_of(lg_size);
+        let mut buckets = Vec::with_capacity(self.coupons.allocator().clone()?, size)?;
+        buckets.extend_from_slice(&self.coupons)?;
+        buckets.resize(size, Coupon::EMPTY)?;
+        Ok(Container::from_coupons(lg_size, buckets, count))
     }
+}
 
-    /// The coupons in ascending order, each once. Takes no memory.
-    fn into_ascending(self) -> Vec<Coupon, A>
-        ensures ascending { IsAscending result.items (set_of self) }
-        ensures pairs { All IsPair result.items }
-        ensures few { vec_len result < 2 ^ 26 }
-    {
-        let CouponBatch { mut coupons } = self;
-        coupons.sort_unstable();
-        coupons.dedup();
-        coupons
+/// Appends the coupons of a table.
+///
+/// Fails with `Memory`, and then some may have been appended.
+fn push_coupons_of_table<A: Allocator, B: Allocator>(
+    coupons: &mut Vec<Coupon, A>,
+    table: &Container<B>,
+) -> Result<(), Error>
+    ensures ok { OnOk result (coupons.new.items ≡ coupons.old.items ++ coupons_in table.now.buckets) }
+    ensures some { OnErr result (take (length coupons.old.items) coupons.new.items ≡ coupons.old.items) }
+    ensures err { IfErr result (λ e. e ≡ Memory) }
+{
+    for coupon in table.iter() {
+        coupons.push(coupon)?;
     }
+    Ok(())
+}
+
+/// Appends the coupons of raw coupons, each of which is that of a coupon.
+///
+/// Fails with `Memory`, and then some may have been appended.
+fn push_raw_coupons<A: Allocator>(
+    coupons: &mut Vec<Coupon, A>,
+    mut raw_coupons: RawCouponIter<'_>,
+) -> Result<(), Error>
+    requires { All IsPair raw_coupons }
+    ensures ok { OnOk result (coupons.new.items ≡ coupons.old.items ++ raw_coupons.entry) }
+    ensures some { OnErr result (take (length coupons.old.items) coupons.new.items ≡ coupons.old.items) }
+    ensures err { IfErr result (λ e. e ≡ Memory) }
+{
+    while let Some(raw_coupon) = raw_coupons.next() {
+        coupons.push(Coupon::from_raw(raw_coupon))?;
+    }
+    Ok(())
 }
 
 /// The least size of a table, as a power of two, that has more buckets than this.

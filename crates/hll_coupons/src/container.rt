@@ -251,7 +251,7 @@ impl<A: Allocator> Container<A> {
         Ok(coupons)
     }
 
-    /// A copy of the coupons in ascending raw coupons.
+    /// A copy of the coupons in ascending order.
     ///
     /// Takes four bytes a coupon, in one request. Fails with `Memory`.
     pub(crate) fn ascending<B: Allocator>(&self, alloc: B) -> Result<Vec<Coupon, B>, Error>
@@ -288,7 +288,7 @@ impl<A: Allocator + Clone> Container<A> {
         self.clone_in(self.allocator().clone()?)
     }
 
-    /// An image: this header, and the coupons after it, four bytes each, in ascending raw coupons.
+    /// An image: this header, and the coupons after it, four bytes each, in ascending order.
     ///
     /// Takes memory for a sorted copy of the coupons, and in one request for the image. Fails with `Memory`.
     pub(crate) fn image(&self, header: &[u8]) -> Result<Vec<u8, A>, Error>
@@ -379,6 +379,20 @@ impl<'a> Model for ContainerIter<'a> {
     ghost Value = { List ℕ };
 
     ghost view = { λ c. coupons_in c.buckets.now };
+}
+
+impl<'a> ContainerIter<'a> {
+    /// Passes over empty buckets, four at a time, where four follow one another. No coupon is left out.
+    pub(crate) fn pass_empty(&mut self)
+        ensures { self.new ≡ self.old }
+    {
+        while let [a, b, c, d, others @ ..] = self.buckets {
+            if !a.is_empty() || !b.is_empty() || !c.is_empty() || !d.is_empty() {
+                return;
+            }
+            self.buckets = others;
+        }
+    }
 }
 
 impl<'a> Iterator for ContainerIter<'a> {

@@ -7,7 +7,7 @@ ghost use Rattle.hll_coupons.specs.Pair.{slot_of, value_of, pair, IsPair};
 ghost use Rattle.hll_coupons.specs.Hashed.{coupon_of_words, coupon_of_halves, coupon_of_bytes};
 
 use hll_base::bounds::{MAX_VALUE, SLOT_BITS};
-use hll_base::hash::{DEFAULT_SEED, MurmurHash3X64128, hash_of_bytes};
+use hll_base::hash::{DEFAULT_SEED, MurmurHash3X64128, hash_of_bytes, hash_of_eight_bytes};
 use std::hash::Hash;
 use std::marker::Model;
 
@@ -63,7 +63,32 @@ impl Coupon {
     }
 
     /// The coupon of the hash of bytes at the default seed.
+    // (in the loops of callers, for values of eight bytes)
+    #[inline(always)]
     pub fn from_bytes(bytes: &[u8]) -> Coupon
+        ensures bytes { result ≡ coupon_of_bytes bytes.now }
+        ensures pair { IsPair result }
+    {
+        match bytes.as_array::<8>() {
+            Some(eight) => Coupon::from_eight_bytes(eight),
+            None => Coupon::from_any_bytes(bytes),
+        }
+    }
+
+    /// The coupon of eight bytes, as `from_bytes` returns it.
+    #[inline(always)]
+    fn from_eight_bytes(bytes: &[u8; 8]) -> Coupon
+        ensures bytes { result ≡ coupon_of_bytes bytes.now }
+        ensures pair { IsPair result }
+    {
+        let (lo, hi) = hash_of_eight_bytes(DEFAULT_SEED, bytes);
+        Coupon::from_words(lo, hi)
+    }
+
+    /// The coupon of bytes of any number, as `from_bytes` returns it.
+    // (not in the loops of callers, which would have it in each)
+    #[inline(never)]
+    fn from_any_bytes(bytes: &[u8]) -> Coupon
         ensures bytes { result ≡ coupon_of_bytes bytes.now }
         ensures pair { IsPair result }
     {

@@ -20,7 +20,7 @@ pub fn folding()
 
 /// Laws of paths and searches:
 ///
-/// - `meets_each_bucket_once`: a path with an odd stride meets each place of a table at one index and no other.
+/// - `meets_each_bucket_once`: a path with an odd stride meets each bucket of a table at one index and no other.
 /// - `found_after_insert`: an entry put into the empty bucket that its search met leaves each entry to be found.
 /// - `absent_at_empty`: a search that meets an empty bucket shows that its key is absent.
 /// - `absent_from_full`: a search that went through a whole table shows that its key is absent.

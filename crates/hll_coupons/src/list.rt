@@ -206,7 +206,7 @@ impl<A: Allocator + Clone> List<A> {
     }
 
     /// The compact image of a list of eight buckets (docs/FORMAT.md, "What is written"): eight bytes, and four for
-    /// each coupon, in ascending raw coupons.
+    /// each coupon, in ascending order.
     ///
     /// `lg_config_k` is 4 to 21, and the list has size 3. Takes memory for a sorted copy of the coupons, and in one
     /// request for the image. Fails with `Memory`.

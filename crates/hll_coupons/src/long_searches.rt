@@ -66,7 +66,7 @@ impl<A: Allocator> LongSearches<A> {
         None
     }
 
-    /// A place of the table is filled.
+    /// A bucket of the table is filled.
     pub(crate) fn fill(&mut self, bucket: usize)
         requires sound { All IsSound self.old.cycles.items }
         requires within { All (λ c. bucket < 2 ^ c.lg_size) self.old.cycles.items }
@@ -182,7 +182,7 @@ impl<A: Allocator + Clone> LongSearches<A> {
     }
 }
 
-/// Whether long searches took four steps for each place of a table of 64 buckets or more.
+/// Whether long searches took four steps for each bucket of a table of 64 or more.
 fn are_expensive(steps: usize, lg_size: usize) -> bool
     requires { lg_size ≤ 26 }
     ensures { IsTrue result → 6 ≤ lg_size }

@@ -13,7 +13,6 @@ use crate::hash_set::set_header;
 use crate::list::list_header;
 use crate::serialization::COUPON_SIZE_BYTES;
 use hll_base::codec::SketchBytes;
-use hll_base::cursor::SketchSlice;
 use hll_base::error::Error;
 use hll_base::hll_type::HllType;
 use std::alloc::Allocator;
@@ -61,7 +60,8 @@ impl<'a> RawCouponIter<'a> {
         if self.count == 0 {
             return None;
         }
-        SketchSlice::new(self.bytes).read_u32_le().ok()
+        let bytes = self.bytes;
+        Some(u32::from_le_bytes([bytes[0], bytes[1], bytes[2], bytes[3]]))
     }
 
     /// Takes the first of them away.

@@ -1,6 +1,6 @@
 // SPDX-License-Identifier: Apache-2.0
 //! The constants of tables and of an image, and its mode byte (docs/FORMAT.md, "The image"). Names that begin
-//! with `LG` are logarithms of numbers of buckets, those that end in `PREINTS` count raw coupons of four bytes, those that end
+//! with `LG` are logarithms of numbers of buckets, those that end in `PREINTS` count integers of four bytes, those that end
 //! in `SIZE` or `BYTES` count bytes.
 ghost use Rattle.std.specs.Prelude.{◌≡◌, ◌+◌, ◌*◌, ◌/◌, ◌%◌};
 
@@ -25,13 +25,13 @@ pub const COMPACT_FLAG_MASK: u8 = 8;
 /// The flag of an estimate state that doesn't follow the order of arrival.
 pub const OUT_OF_ORDER_FLAG_MASK: u8 = 16;
 
-/// The raw coupons before the coupons of a list.
+/// The preamble of a list, in integers of four bytes.
 pub const LIST_PREINTS: u8 = 2;
 
-/// The raw coupons before the coupons of a set.
+/// The preamble of a set, in integers of four bytes.
 pub const HASH_SET_PREINTS: u8 = 3;
 
-/// The raw coupons before the registers.
+/// The preamble of registers, in integers of four bytes.
 pub const HLL_PREINTS: u8 = 10;
 
 /// The bytes before the coupons of a list.

@@ -88,7 +88,7 @@ at_most_by_mask n g xs e few =
 lesser : (s : ℕ) → cond (top 7 (cond (nat_lt s 15) 255 0)) s 15 ≡ min s 15
 lesser s = grind (arith, nat_tests)
 
-above : (x m : ℕ) → x < 256 → m < 256 → (max x m + (256 - m)) % 256 ≡ x - m
+pub above : (x m : ℕ) → x < 256 → m < 256 → (max x m + (256 - m)) % 256 ≡ x - m
 above x m h k = omega arith
 
 -- saturating subtraction

@@ -5,6 +5,7 @@ pub mod FourBitLanes
 pub mod Grouping
 pub mod Lowering
 pub mod Marks
+pub mod NibbleWeights
 pub mod Parts
 pub mod Registers
 pub mod SingleNibbles

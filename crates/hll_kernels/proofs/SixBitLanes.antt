@@ -1,24 +1,25 @@
 -- SPDX-License-Identifier: Apache-2.0
 -- Lemmas on registers of six bits in lanes.
-use Rattle.std.proofs.Common.{◌≡◌, ℕ, ◌+◌, ◌*◌, ◌/◌, ◌%◌, ◌^◌, ◌<◌, ◌≤◌, zero, suc, List, [], ◌∷◌, ◌++◌, length, get_or, take, drop, replicate, cond, max, All, Bool, true, false, bit_and, refl, sym, ap, subst, ◌∙◌, arith}
-use Rattle.std.specs.Prelude.{◌&&◌, ◌==◌, nat_le}
+use Rattle.std.proofs.Common.{◌≡◌, ℕ, ◌+◌, ◌-◌, ◌*◌, ◌/◌, ◌%◌, ◌^◌, ◌<◌, ◌≤◌, zero, suc, List, [], ◌∷◌, ◌++◌, length, get_or, take, drop, replicate, cond, max, All, bit_and, bit_or, refl, sym, ap, subst, ◌∙◌, arith}
+use Rattle.std.specs.Prelude.{◌&&◌, ◌==◌, nat_le, nat_lt}
 use Rattle.std.specs.List.{flat_map}
-use Rattle.std.specs.Simd.Lanes.{pick_l, zip2, chunk, put_chunk, mask_l, top, number_l, digits_l, Each1}
-use Rattle.std.specs.Int.RustNames.{count_ones}
+use Rattle.std.specs.Simd.Lanes.{pick_l, zip2, sel_l, sum_l, chunk, put_chunk, top, number_l, digits_l, Each1}
 use Rattle.std.proofs.lemmas.Bool.Decides.{nat_tests}
 use Rattle.std.proofs.Math.ListN.{set}
 use Rattle.std.proofs.Math.Seq.{take-add}
-use Rattle.std.proofs.lemmas.List.{length-append, length-map, length-take-le, take_all}
-use Rattle.std.proofs.lemmas.List.Sums.{count_by-le-length}
+use Rattle.std.proofs.lemmas.List.{length-append, length-take-le, take_all}
+use Rattle.std.proofs.lemmas.List.Sums.{sum_by-cons}
 use Rattle.std.proofs.lemmas.List.Elements.{All-tail, All-append, All-take, All-drop}
-use Rattle.std.proofs.lemmas.Nat.{and_mask}
-use Rattle.std.proofs.lemmas.Simd.{Each1-get_or, mask_l-mod, ones-mask_l, pick_l_whole}
+use Rattle.std.proofs.lemmas.Nat.{and_mask, le_or_l}
+use Rattle.std.proofs.lemmas.Simd.{Each1-get_or, length-zip2, pick_l_whole}
 use Rattle.hll_base.specs.Join.{join}
 use Rattle.hll_kernels.specs.Groups.{IsGroup, group_fields, registers_in}
 use Rattle.hll_kernels.specs.Lanes.{max_at, words_of, bytes_of, fields_of, numbers_of, groups_of}
 use Rattle.hll_kernels.specs.Packed.{group_bytes, fields, zeros}
 use Rattle.hll_kernels.proofs.Grouping.{small-group_fields, group_fields-group_bytes}
-use Rattle.hll_kernels.proofs.Parts.{max_more}
+use Rattle.hll_kernels.proofs.Parts.{max_more, greater}
+use Rattle.hll_kernels.proofs.FourBitLanes.{above}
+use Rattle.hll_kernels.proofs.ZeroTests.{nonzero_lanes, nonzeros_by_lanes}
 use mathlib.Core.List.{map}
 
 -- ---- words and their bytes
@@ -120,20 +121,17 @@ abbrev belows : ℕ → List ℕ
 belows zero = []
 belows (suc n) = 255 ∷ 63 ∷ 15 ∷ 3 ∷ belows n
 
-abbrev lowers : ℕ → List ℕ
+abbrev pub lowers : ℕ → List ℕ
 lowers zero = []
 lowers (suc n) = 63 ∷ 15 ∷ 3 ∷ 0 ∷ lowers n
 
-abbrev no_bits : ℕ → List ℕ
-no_bits zero = []
-no_bits (suc n) = 0 ∷ 0 ∷ 0 ∷ 0 ∷ no_bits n
+either : (u l : ℕ) → (bit_or u l == 0) ≡ ((u == 0) && (l == 0))
+either zero l = refl
+either (suc u) l = grind (arith, nat_tests, le_or_l (suc u) l)
 
--- the mask of a lane where two masks are set
-both : (p q : Bool) → top 7 (bit_and (cond p 255 0) (cond q 255 0)) ≡ (p && q)
-both true true = refl
-both true false = refl
-both false true = refl
-both false false = refl
+-- what is above a bound is 0 and some bits are
+both : (y m l : ℕ) → (bit_or (y - m) l == 0) ≡ (nat_le y m && (l == 0))
+both y m l = either (y - m) l ∙ ap (λ t. t && (l == 0)) (grind (arith, nat_tests))
 
 zero_first : (y a b c : ℕ) → y < 256 → (nat_le y 255 && (bit_and a 63 == 0)) ≡ ((a + 256 * b + 65536 * c) % 64 == 0)
 zero_first y a b c h =
@@ -162,7 +160,7 @@ zero_fourth a b c d h k =
 
 -- a lane and the one before it
 zero_lanes : (n y : ℕ) (xs : List ℕ) → length xs ≡ 4 * n → y < 256 → Each1 (λ x. x < 256) xs →
-    map (top 7) (zip2 bit_and (zip2 (λ a b. cond (nat_le a b) 255 0) (y ∷ xs) (belows n)) (zip2 (λ a b. cond (a == b) 255 0) (zip2 bit_and xs (lowers n)) (no_bits n))) ≡ map (λ v. v == 0) (fields_of xs)
+    map (λ v. v == 0) (zip2 bit_or (zip2 (λ a b. a - b) (y ∷ xs) (belows n)) (zip2 bit_and xs (lowers n))) ≡ map (λ v. v == 0) (fields_of xs)
 zero_lanes zero y [] e h k = refl
 zero_lanes zero y (a ∷ xs) e h k = absurd (omega arith)
 zero_lanes (suc n) y [] e h k = absurd (omega arith)
@@ -170,10 +168,10 @@ zero_lanes (suc n) y (a ∷ []) e h k = absurd (omega arith)
 zero_lanes (suc n) y (a ∷ b ∷ []) e h k = absurd (omega arith)
 zero_lanes (suc n) y (a ∷ b ∷ c ∷ []) e h k = absurd (omega arith)
 zero_lanes (suc n) y (a ∷ b ∷ c ∷ d ∷ xs) e h k =
-    let first = both (nat_le y 255) (bit_and a 63 == 0) ∙ zero_first y a b c h in
-    let second = both (nat_le a 63) (bit_and b 15 == 0) ∙ zero_second a b c k.0 in
-    let third = both (nat_le b 15) (bit_and c 3 == 0) ∙ zero_third a b c k.0 k.1.0 in
-    let fourth = both (nat_le c 3) (bit_and d 0 == 0) ∙ zero_fourth a b c d k.0 k.1.0 in
+    let first = both y 255 (bit_and a 63) ∙ zero_first y a b c h in
+    let second = both a 63 (bit_and b 15) ∙ zero_second a b c k.0 in
+    let third = both b 15 (bit_and c 3) ∙ zero_third a b c k.0 k.1.0 in
+    let fourth = both c 3 (bit_and d 0) ∙ zero_fourth a b c d k.0 k.1.0 in
     λ i. first i ∷ second i ∷ third i ∷ fourth i ∷ zero_lanes n d xs (omega arith) k.1.1.1.0 k.1.1.1.1 i
 
 -- sixteen lanes that are rotated by one
@@ -191,19 +189,45 @@ length-fields_of (suc n) (a ∷ b ∷ []) e = absurd (omega arith)
 length-fields_of (suc n) (a ∷ b ∷ c ∷ []) e = absurd (omega arith)
 length-fields_of (suc n) (a ∷ b ∷ c ∷ d ∷ xs) e = omega (arith, length-fields_of n xs (omega arith))
 
-pub zeros_of_lanes : (xs : List ℕ) → length xs ≡ 16 → Each1 (λ x. x < 256) xs →
-    count_ones (mask_l (map (top 7) (zip2 bit_and (zip2 (λ a b. cond (nat_le a b) 255 0) (pick_l 0 (xs ++ xs) (15 ∷ 0 ∷ 1 ∷ 2 ∷ 3 ∷ 4 ∷ 5 ∷ 6 ∷ 7 ∷ 8 ∷ 9 ∷ 10 ∷ 11 ∷ 12 ∷ 13 ∷ 14 ∷ [])) (belows 4))
-    (zip2 (λ a b. cond (a == b) 255 0) (zip2 bit_and xs (lowers 4)) (no_bits 4)))) % 2 ^ 64) ≡ zeros (fields_of xs)
-zeros_of_lanes xs e k =
-    let rest : List ℕ = zip2 (λ a b. cond (a == b) 255 0) (zip2 bit_and xs (lowers 4)) (no_bits 4) in
-    let F : List ℕ = fields_of xs in
-    ap (λ us. count_ones (mask_l (map (top 7) (zip2 bit_and us rest)) % 2 ^ 64)) (before_lanes (λ a b. cond (nat_le a b) 255 0) xs e)
-    ∙ ap (λ ms. count_ones (mask_l ms % 2 ^ 64)) (zero_lanes 4 (get_or xs 15 0) xs e (Each1-get_or (λ x. x < 256) xs 15 0 (omega (arith, e)) k) k)
-    ∙ ap count_ones (mask_l-mod (map (λ v. v == 0) F) 64 (omega (arith, length-map F (λ v. v == 0), length-fields_of 4 xs e)))
-    ∙ ones-mask_l (λ v. v == 0) F
+counted : (xs : List ℕ) → sum_l (map (λ b. cond {A = ℕ} b 1 0) (map (λ v. v == 0) xs)) ≡ zeros xs
+counted [] = refl
+counted (x ∷ xs) = ap (λ n. cond (x == 0) 1 0 + n) (counted xs) ∙ sym (sum_by-cons (λ v. cond (v == 0) 1 0) x xs)
 
-pub zeros_of_lanes-le : (xs : List ℕ) → length xs ≡ 16 → zeros (fields_of xs) ≤ 16
-zeros_of_lanes-le xs e = omega (arith, count_by-le-length (λ v. v == 0) (fields_of xs), length-fields_of 4 xs e)
+-- how many zeros there are is seen from which values are 0
+zeros_by_tests : (xs ys : List ℕ) → map (λ v. v == 0) xs ≡ map (λ v. v == 0) ys → zeros xs ≡ zeros ys
+zeros_by_tests xs ys e = sym (counted xs) ∙ ap (λ bs. sum_l (map (λ b. cond {A = ℕ} b 1 0) bs)) e ∙ counted ys
+
+-- by how much the byte before each of sixteen is above the greatest that has none of the register's bits
+abbrev upper_lanes : List ℕ → List ℕ
+upper_lanes xs = zip2 (λ a b. a - b) (pick_l 0 (xs ++ xs) (15 ∷ 0 ∷ 1 ∷ 2 ∷ 3 ∷ 4 ∷ 5 ∷ 6 ∷ 7 ∷ 8 ∷ 9 ∷ 10 ∷ 11 ∷ 12 ∷ 13 ∷ 14 ∷ [])) (belows 4)
+
+-- the lanes of sixteen bytes, 0 where their registers are
+abbrev tested_lanes : List ℕ → List ℕ
+tested_lanes xs = zip2 bit_or (upper_lanes xs) (zip2 bit_and xs (lowers 4))
+
+length-upper_lanes : (xs : List ℕ) → length xs ≡ 16 → length (upper_lanes xs) ≡ 16
+length-upper_lanes xs e = length-zip2 (λ a b. a - b) (pick_l 0 (xs ++ xs) (15 ∷ 0 ∷ 1 ∷ 2 ∷ 3 ∷ 4 ∷ 5 ∷ 6 ∷ 7 ∷ 8 ∷ 9 ∷ 10 ∷ 11 ∷ 12 ∷ 13 ∷ 14 ∷ [])) (belows 4) refl
+
+length-tested_lanes : (xs : List ℕ) → length xs ≡ 16 → length (tested_lanes xs) ≡ 16
+length-tested_lanes xs e =
+    let here : List ℕ = zip2 bit_and xs (lowers 4) in
+    let few : length here ≡ 16 = length-zip2 bit_and xs (lowers 4) e ∙ e in
+    length-zip2 bit_or (upper_lanes xs) here (length-upper_lanes xs e ∙ sym few) ∙ length-upper_lanes xs e
+
+pub nonzeros_of_fields : (xs : List ℕ) → length xs ≡ 16 → Each1 (λ x. x < 256) xs → sum_l (nonzero_lanes 16 (tested_lanes xs)) + zeros (fields_of xs) ≡ 16
+nonzeros_of_fields xs e k =
+    let same : zeros (tested_lanes xs) ≡ zeros (fields_of xs) = zeros_by_tests (tested_lanes xs) (fields_of xs)
+    (ap (λ us. map (λ v. v == 0) (zip2 bit_or us (zip2 bit_and xs (lowers 4)))) (before_lanes (λ a b. a - b) xs e)
+    ∙ zero_lanes 4 (get_or xs 15 0) xs e (Each1-get_or (λ x. x < 256) xs 15 0 (omega (arith, e)) k) k) in
+    omega (arith, same, nonzeros_by_lanes 16 (tested_lanes xs) (length-tested_lanes xs e))
+
+-- what each value is above another
+pub saturated : (xs ys : List ℕ) → length xs ≡ length ys → Each1 (λ x. x < 256) xs → Each1 (λ y. y < 256) ys →
+    zip2 (λ a b. (a + (256 - b)) % 256) (sel_l (map (top 7) (zip2 (λ a b. cond (nat_lt a b) 255 0) xs ys)) ys xs) ys ≡ zip2 (λ a b. a - b) xs ys
+saturated [] [] e h k = refl
+saturated [] (y ∷ ys) e h k = absurd (omega arith)
+saturated (x ∷ xs) [] e h k = absurd (omega arith)
+saturated (x ∷ xs) (y ∷ ys) e h k = λ i. (ap (λ z. (z + (256 - y)) % 256) (greater x y) ∙ above x y h.0 k.0) i ∷ saturated xs ys (omega arith) h.1 k.1 i
 
 -- ---- fields of bytes
 

@@ -1,30 +1,27 @@
 -- SPDX-License-Identifier: Apache-2.0
 -- Lemmas on sums of weights in two parts.
-use Rattle.std.proofs.Common.{◌≡◌, ℕ, ◌+◌, ◌-◌, ◌*◌, ◌^◌, ◌<◌, ◌≤◌, ◌==◌, List, [], ◌∷◌, ◌++◌, length, get_or, All, true, false, inl, inr, refl, ap, arith}
+use Rattle.std.proofs.Common.{◌≡◌, ℕ, ◌+◌, ◌-◌, ◌*◌, ◌%◌, ◌^◌, ◌<◌, ◌≤◌, ◌==◌, List, [], ◌∷◌, ◌++◌, length, get_or, All, true, false, inl, inr, refl, sym, ap, ◌∙◌, arith}
 use Rattle.std.specs.Prelude.{if◌then◌else◌, nat_lt}
+use Rattle.std.proofs.Math.Nat.{mul-zero, mul-add}
 use Rattle.std.proofs.Math.Pow.{pow_mono}
 use Rattle.std.proofs.lemmas.Bool.{cases_lt, eqb-true, lt-ltb, le-ltb}
 use Rattle.std.proofs.lemmas.List.Elements.{All-tail}
+use Rattle.std.proofs.lemmas.Nat.{pow-add}
 use Rattle.std.proofs.lemmas.List.Sums.{sum_by-cons, sum_by-append, sum_by-le}
 use Rattle.hll_kernels.specs.declared.kernels.WeightSums.{WeightSums}
-use Rattle.hll_kernels.specs.Lanes.{half_sum}
+use Rattle.hll_kernels.specs.Lanes.{window_weight, window_units}
 use Rattle.hll_kernels.specs.Packed.{units, low_units, high_units}
 use Rattle.hll_kernels.specs.WeightSums.{AreSumsOf}
-use Rattle.hll_kernels.proofs.Weights.{below, half_weight}
+use Rattle.hll_kernels.proofs.Weights.{below}
+use mathlib.Core.List.{map}
 
-abbrev low_weight : ℕ → ℕ
+abbrev pub low_weight : ℕ → ℕ
 low_weight v = if nat_lt v 32 then (2 ^ (31 - v)) else 0
 
-abbrev high_weight : ℕ → ℕ
+abbrev pub high_weight : ℕ → ℕ
 high_weight v = if nat_lt v 32 then 0 else (2 ^ (63 - v))
 
 -- ---- one value
-
-low_is_half : (v : ℕ) → v ≤ 63 → low_weight v ≡ half_weight 0 v
-low_is_half v h = eqb-true _ _ (below (λ w. low_weight w == half_weight 0 w) 64 refl v (omega arith))
-
-high_is_half : (v : ℕ) → v ≤ 63 → high_weight v ≡ half_weight 1 v
-high_is_half v h = eqb-true _ _ (below (λ w. high_weight w == half_weight 1 w) 64 refl v (omega arith))
 
 by_parts : (v : ℕ) → v ≤ 63 → 2 ^ (63 - v) ≡ 4294967296 * low_weight v + high_weight v
 by_parts v h = eqb-true _ _ (below (λ w. (2 ^ (63 - w)) == (4294967296 * low_weight w + high_weight w)) 64 refl v (omega arith))
@@ -43,18 +40,93 @@ high_weight-le v = elim (cases_lt v 32) [
 
 -- ---- many values
 
-pub low_units-half : (R : List ℕ) → All (λ v. v ≤ 63) R → half_sum 0 R ≡ low_units R
-low_units-half [] h = refl
-low_units-half (v ∷ R) h = omega (arith, sum_by-cons low_weight v R, sum_by-cons (half_weight 0) v R, low_is_half v (h 0 0 (omega arith)), low_units-half R (All-tail (λ v. v ≤ 63) v R h))
-
-pub high_units-half : (R : List ℕ) → All (λ v. v ≤ 63) R → half_sum 1 R ≡ high_units R
-high_units-half [] h = refl
-high_units-half (v ∷ R) h = omega (arith, sum_by-cons high_weight v R, sum_by-cons (half_weight 1) v R, high_is_half v (h 0 0 (omega arith)), high_units-half R (All-tail (λ v. v ≤ 63) v R h))
-
 pub units-parts : (R : List ℕ) → All (λ v. v ≤ 63) R → units R ≡ 4294967296 * low_units R + high_units R
 units-parts [] h = refl
 units-parts (v ∷ R) h =
     omega (arith, sum_by-cons (λ v. 2 ^ (63 - v)) v R, sum_by-cons low_weight v R, sum_by-cons high_weight v R, by_parts v (h 0 0 (omega arith)), units-parts R (All-tail (λ v. v ≤ 63) v R h))
+
+-- ---- values that are less than sixteen above one of at most sixteen
+
+high_weight-zero : (v : ℕ) → v < 32 → high_weight v ≡ 0
+high_weight-zero v h = ap (λ b. if b then 0 else (2 ^ (63 - v))) (lt-ltb v 32 h)
+
+shifted_weight : (l d : ℕ) → l ≤ 16 → d < 16 → low_weight (l + d) ≡ 2 ^ (16 - l) * window_weight d
+shifted_weight l d few small =
+    let power : 31 - (l + d) ≡ (16 - l) + (15 - d) = omega arith in
+    ap (λ b. if b then (2 ^ (31 - (l + d))) else 0) (lt-ltb (l + d) 32 (omega arith)) ∙ ap (λ n. 2 ^ n) power ∙ pow-add 2 (16 - l) (15 - d)
+    ∙ sym (ap (λ b. 2 ^ (16 - l) * (if b then (2 ^ (15 - d)) else 0)) (lt-ltb d 16 small))
+
+low_units-shifted : (l : ℕ) (D : List ℕ) → l ≤ 16 → All (λ d. d < 16) D → low_units (map (λ d. l + d) D) ≡ 2 ^ (16 - l) * window_units D
+low_units-shifted l [] few small = sym (mul-zero (2 ^ (16 - l)))
+low_units-shifted l (d ∷ D) few small =
+    sum_by-cons low_weight (l + d) (map (λ e. l + e) D)
+    ∙ (λ i. shifted_weight l d few (small 0 0 (omega arith)) i + low_units-shifted l D few (All-tail (λ e. e < 16) d D small) i)
+    ∙ sym (ap (λ n. 2 ^ (16 - l) * n) (sum_by-cons window_weight d D) ∙ mul-add (2 ^ (16 - l)) (window_weight d) (window_units D))
+
+high_units-shifted : (l : ℕ) (D : List ℕ) → l ≤ 16 → All (λ d. d < 16) D → high_units (map (λ d. l + d) D) ≡ 0
+high_units-shifted l [] few small = refl
+high_units-shifted l (d ∷ D) few small =
+    sum_by-cons high_weight (l + d) (map (λ e. l + e) D)
+    ∙ (λ i. high_weight-zero (l + d) (let here : d < 16 = small 0 0 (omega arith) in omega arith) i + high_units-shifted l D few (All-tail (λ e. e < 16) d D small) i)
+
+-- the sums of such values
+pub AreSumsOf-shifted : (s : WeightSums) (l : ℕ) (R D : List ℕ) → R ≡ map (λ d. l + d) D → l ≤ 16 → All (λ d. d < 16) D → s.low ≡ 2 ^ (16 - l) * window_units D → s.high ≡ 0 → AreSumsOf s R
+AreSumsOf-shifted s l R D is few small low high = record {
+  low = low ∙ sym (ap low_units is ∙ low_units-shifted l D few small);
+  high = high ∙ sym (ap high_units is ∙ high_units-shifted l D few small);
+}
+
+-- above zero
+pub map-zero : (D : List ℕ) → D ≡ map (λ d. 0 + d) D
+map-zero [] = refl
+map-zero (d ∷ D) = let same : d ≡ 0 + d = omega arith in λ i. same i ∷ map-zero D i
+
+-- by differences that wrap
+pub map-differences : (l : ℕ) (R : List ℕ) → l ≤ 16 → All (λ v. v ≤ 63) R → All (λ d. d < 16) (map (λ v. (v + (256 - l)) % 256) R) → R ≡ map (λ d. l + d) (map (λ v. (v + (256 - l)) % 256) R)
+map-differences l [] few most small = refl
+map-differences l (v ∷ R) few most small =
+    let value : v ≤ 63 = most 0 0 (omega arith) in
+    let difference : (v + (256 - l)) % 256 < 16 = small 0 0 (omega arith) in
+    let same : v ≡ l + (v + (256 - l)) % 256 = omega arith in
+    λ i. same i ∷ map-differences l R few (All-tail (λ w. w ≤ 63) v R most) (All-tail (λ d. d < 16) ((v + (256 - l)) % 256) (map (λ w. (w + (256 - l)) % 256) R) small) i
+
+-- ---- values by windows of sixteen
+
+-- how far each value is above one, which wraps
+abbrev above : ℕ → List ℕ → List ℕ
+above l R = map (λ v. (v + (256 - l)) % 256) R
+
+low_windows : (v : ℕ) → v ≤ 63 → 65536 * window_weight ((v + 256) % 256) + window_weight ((v + 240) % 256) ≡ low_weight v
+low_windows v h = eqb-true _ _ (below (λ w. (65536 * window_weight ((w + 256) % 256) + window_weight ((w + 240) % 256)) == low_weight w) 64 refl v (omega arith))
+
+high_windows : (v : ℕ) → v ≤ 63 → 65536 * window_weight ((v + 224) % 256) + window_weight ((v + 208) % 256) ≡ high_weight v
+high_windows v h = eqb-true _ _ (below (λ w. (65536 * window_weight ((w + 224) % 256) + window_weight ((w + 208) % 256)) == high_weight w) 64 refl v (omega arith))
+
+pub low_units-windows : (R : List ℕ) → All (λ v. v ≤ 63) R → 65536 * window_units (above 0 R) + window_units (above 16 R) ≡ low_units R
+low_units-windows [] h = refl
+low_units-windows (v ∷ R) h =
+    omega (
+      arith,
+      sum_by-cons window_weight ((v + 256) % 256) (above 0 R),
+      sum_by-cons window_weight ((v + 240) % 256) (above 16 R),
+      sum_by-cons low_weight v R,
+      low_windows v (h 0 0 (omega arith)),
+      low_units-windows R (All-tail (λ w. w ≤ 63) v R h),
+    )
+
+pub high_units-windows : (R : List ℕ) → All (λ v. v ≤ 63) R → 65536 * window_units (above 32 R) + window_units (above 48 R) ≡ high_units R
+high_units-windows [] h = refl
+high_units-windows (v ∷ R) h =
+    omega (
+      arith,
+      sum_by-cons window_weight ((v + 224) % 256) (above 32 R),
+      sum_by-cons window_weight ((v + 208) % 256) (above 48 R),
+      sum_by-cons high_weight v R,
+      high_windows v (h 0 0 (omega arith)),
+      high_units-windows R (All-tail (λ w. w ≤ 63) v R h),
+    )
+
+-- ---- bounds
 
 pub low_units-le : (R : List ℕ) → low_units R ≤ length R * 2 ^ 31
 low_units-le R = sum_by-le low_weight (2 ^ 31) R (λ k d l. low_weight-le (get_or R k d))

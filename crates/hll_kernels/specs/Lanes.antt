@@ -1,6 +1,6 @@
 -- SPDX-License-Identifier: Apache-2.0
 -- Bytes of registers as lanes of words, and parts of lists that lanes change.
-use Rattle.std.specs.Prelude.{ℕ, ◌+◌, ◌-◌, ◌*◌, ◌/◌, ◌%◌, ◌^◌, ◌==◌, if◌then◌else◌, max, zero, suc, List, [], ◌∷◌, sum_by}
+use Rattle.std.specs.Prelude.{ℕ, ◌+◌, ◌-◌, ◌*◌, ◌/◌, ◌%◌, ◌^◌, ◌<◌, ◌≤◌, ◌⊎◌, if◌then◌else◌, nat_lt, max, zero, suc, List, [], ◌∷◌, sum_by}
 use Rattle.std.specs.List.{flat_map}
 use Rattle.hll_kernels.specs.Packed.{group_bytes}
 
@@ -57,10 +57,14 @@ nibble_pairs [] = []
 
 -- ---- weights
 
--- the weights 2^(7 - v % 8) of the values of one class of eight
-abbrev pub class_sum : ℕ → List ℕ → ℕ
-class_sum k R = sum_by (λ v. if v / 8 == k then (2 ^ (7 - v % 8)) else 0) R
+-- 2^(15 - v) for a value v below 16, and 0 for the others
+abbrev pub window_weight : ℕ → ℕ
+window_weight v = if nat_lt v 16 then (2 ^ (15 - v)) else 0
 
--- the weights 2^(31 - v % 32) of the values of one half: 0 to 31, or 32 to 63
-abbrev pub half_sum : ℕ → List ℕ → ℕ
-half_sum h R = sum_by (λ v. if v / 32 == h then (2 ^ (31 - v % 32)) else 0) R
+-- the weights of values
+abbrev pub window_units : List ℕ → ℕ
+window_units R = sum_by window_weight R
+
+-- an index of a table of sixteen, or one that looks up 0
+abbrev pub IsIndex : ℕ → Type 0
+IsIndex v = (v < 16) ⊎ (128 ≤ v)

@@ -1,8 +1,8 @@
 // SPDX-License-Identifier: Apache-2.0
 //! Registers of six bits: four of them in three bytes (docs/FORMAT.md, "Packed registers").
-ghost use Rattle.std.specs.Prelude.{◌≡◌, ℕ, ◌+◌, ◌*◌, ◌/◌, ◌%◌, ◌^◌, ◌<◌, ◌≤◌, ◌==◌, [], ◌∷◌, length, map, take, slice_index, slice_set, All, IfOk};
+ghost use Rattle.std.specs.Prelude.{◌≡◌, ℕ, ◌+◌, ◌-◌, ◌*◌, ◌/◌, ◌%◌, ◌^◌, ◌<◌, ◌≤◌, ◌==◌, [], ◌∷◌, length, map, take, slice_index, slice_set, All, IfOk};
 ghost use Rattle.std.specs.List.{list_all};
-ghost use Rattle.std.specs.Simd.Lanes.{chunk, put_chunk};
+ghost use Rattle.std.specs.Simd.Lanes.{chunk, put_chunk, sum_l, zip2};
 ghost use Rattle.hll_base.specs.Join.{join};
 ghost use Rattle.hll_kernels.specs.Groups.{IsGroup, group_fields, registers_in};
 ghost use Rattle.hll_kernels.specs.Lanes.{max_at, words_of, bytes_of, fields_of, numbers_of, groups_of};
@@ -10,7 +10,7 @@ ghost use Rattle.hll_kernels.specs.Packed as packed;
 ghost use Rattle.hll_kernels.specs.Packed.{fields, group_bytes, zeros};
 ghost use Rattle.hll_kernels.specs.WeightSums.{AreSumsOf};
 
-use crate::kernels::{WeightSums, all_zero, count_zeros, max_16, max_one, weight_sums};
+use crate::kernels::{WeightSums, all_zero, block_sums, count_zeros, max_16, max_one, weight_sums};
 use std::alloc::{AllocError, Allocator};
 use std::simd::prelude::*;
 
@@ -324,24 +324,52 @@ fn zero_fields_in(block: &[u8; 48]) -> u32
     ensures count { result ≡ zeros (fields block.now) }
     ensures bound { result ≤ 64 }
 {
-    zeros_in(words_at(block, 0))
-        + zeros_in(words_at(block, 12))
-        + zeros_in(words_at(block, 24))
-        + zeros_in(last_words(block))
+    let first = nonzero_fields(words_at(block, 0));
+    let second = nonzero_fields(words_at(block, 12));
+    let third = nonzero_fields(words_at(block, 24));
+    let fourth = nonzero_fields(last_words(block));
+    let nonzeros = added(added(first, second), added(third, fourth));
+    64 - u32::from(lane_sum(nonzeros))
 }
 
-/// How many of the registers in the first three of each four bytes are 0. The fourth may be any byte.
+/// 1 in the lane of each register that is not 0, of those in the first three of each four bytes. The fourth may be any byte.
 ///
 /// Each lane stands for one register: that is 0 where its lower bits are, in the byte of the lane, and its upper bits, in
 /// the byte before.
-fn zeros_in(bytes: u8x16) -> u32
-    ensures count { result ≡ zeros (fields_of bytes) }
-    ensures bound { result ≤ 16 }
+#[inline(always)]
+fn nonzero_fields(bytes: u8x16) -> u8x16
+    ensures { sum_l result + zeros (fields_of bytes) ≡ 16 }
 {
     let before = bytes.rotate_elements_right::<1>();
-    let upper = before.simd_le(u8x16::from_array(BELOW));
-    let lower = (bytes & u8x16::from_array(LOWER)).simd_eq(u8x16::splat(0));
-    (upper & lower).to_bitmask().count_ones()
+    let upper = saturating_difference(before, u8x16::from_array(BELOW));
+    let lower = bytes & u8x16::from_array(LOWER);
+    (upper | lower).simd_min(u8x16::splat(1))
+}
+
+/// Each byte less the other at the same index, and 0 where that is greater.
+#[inline(always)]
+fn saturating_difference(bytes: u8x16, others: u8x16) -> u8x16
+    ensures { result ≡ zip2 (λ a b. a - b) bytes others }
+{
+    bytes.saturating_sub(others)
+}
+
+/// The sums of lanes at the same index.
+#[inline(always)]
+fn added(lanes: u8x16, others: u8x16) -> u8x16
+    requires { sum_l lanes + sum_l others < 256 }
+    ensures { sum_l result ≡ sum_l lanes + sum_l others }
+{
+    lanes.strict_add(others)
+}
+
+/// The sum of the lanes, which a byte can hold.
+#[inline(always)]
+fn lane_sum(lanes: u8x16) -> u8
+    requires { sum_l lanes < 256 }
+    ensures { result ≡ sum_l lanes }
+{
+    lanes.strict_reduce_sum()
 }
 
 /// The sums of 2^-v over the registers v. One pass over at most 2^19 groups.
@@ -352,37 +380,53 @@ pub fn weight_sums_in(groups: &[[u8; 3]]) -> WeightSums
     field_sums(groups.as_flattened())
 }
 
-/// The sums of the weights of the registers in the bytes of groups, 64 groups at a time.
+/// The sums of the weights of the registers in the bytes of groups, sixteen groups at a time.
 fn field_sums(bytes: &[u8]) -> WeightSums
     requires whole { length bytes.now % 3 ≡ 0 }
     requires few { length bytes.now ≤ 3 * 2 ^ 19 }
     ensures { AreSumsOf result (fields bytes.now) }
 {
-    let (blocks, rest) = bytes.as_chunks::<192>();
+    let (blocks, rest) = bytes.as_chunks::<48>();
     let mut sums = WeightSums { low: 0, high: 0 };
     for block in blocks {
         sums = sums.plus(field_sums_in(block));
     }
-    sums.plus(field_sums_in(rest))
+    sums.plus(field_sums_one_by_one(rest))
 }
 
-/// The sums of the weights of the registers of at most 64 groups.
-fn field_sums_in(bytes: &[u8]) -> WeightSums
+/// The sums of the weights of the registers of sixteen groups.
+fn field_sums_in(block: &[u8; 48]) -> WeightSums
+    ensures { AreSumsOf result (fields block.now) }
+{
+    block_sums(&unpacked_block(block))
+}
+
+/// The sums of the weights of the registers of less than sixteen groups.
+fn field_sums_one_by_one(bytes: &[u8]) -> WeightSums
     requires whole { length bytes.now % 3 ≡ 0 }
-    requires few { length bytes.now ≤ 192 }
+    requires few { length bytes.now < 48 }
     ensures { AreSumsOf result (fields bytes.now) }
 {
     let registers = unpacked(bytes);
     weight_sums(&registers[..bytes.len() / 3 * 4])
 }
 
-/// The registers of at most 64 groups, with zeros after them.
-fn unpacked(bytes: &[u8]) -> [u8; 256]
+/// The registers of sixteen groups.
+fn unpacked_block(block: &[u8; 48]) -> [u8; 64]
+    ensures { result ≡ fields block.now }
+{
+    let mut registers = [0; 64];
+    max_with_block(&mut registers, 0, block);
+    registers
+}
+
+/// The registers of less than sixteen groups, with zeros after them.
+fn unpacked(bytes: &[u8]) -> [u8; 64]
     requires whole { length bytes.now % 3 ≡ 0 }
-    requires few { length bytes.now ≤ 192 }
+    requires few { length bytes.now < 48 }
     ensures { take (length bytes.now / 3 * 4) result ≡ fields bytes.now }
 {
-    let mut registers = [0; 256];
+    let mut registers = [0; 64];
     max_with_fields(&mut registers[..bytes.len() / 3 * 4], bytes);
     registers
 }

@@ -1,11 +1,11 @@
 // SPDX-License-Identifier: Apache-2.0
 //! Loops over the bytes of registers, by lanes, and byte by byte where less than a block is left. None of them takes
 //! memory.
-ghost use Rattle.std.specs.Prelude.{◌≡◌, ℕ, ◌+◌, ◌-◌, ◌*◌, ◌/◌, ◌%◌, ◌^◌, ◌<◌, ◌≤◌, ◌==◌, if◌then◌else◌, nat_le, not, [], ◌∷◌, length, map, slice_index, All};
+ghost use Rattle.std.specs.Prelude.{◌≡◌, ℕ, ◌+◌, ◌-◌, ◌*◌, ◌/◌, ◌%◌, ◌^◌, ◌<◌, ◌≤◌, ◌==◌, nat_le, nat_lt, not, [], ◌∷◌, length, map, slice_index, All};
 ghost use Rattle.std.specs.List.{list_all};
 ghost use Rattle.std.specs.Simd.Lanes.{mask_l, sum_l};
 ghost use Rattle.hll_base.specs.Join.{join};
-ghost use Rattle.hll_kernels.specs.Lanes.{max_at, class_sum, half_sum};
+ghost use Rattle.hll_kernels.specs.Lanes.{max_at, window_weight, window_units, IsIndex};
 ghost use Rattle.hll_kernels.specs.Packed as packed;
 ghost use Rattle.hll_kernels.specs.Packed.{zeros};
 ghost use Rattle.hll_kernels.specs.Packed.{AreRegisters};
@@ -13,8 +13,19 @@ ghost use Rattle.hll_kernels.specs.WeightSums.{AreSumsOf};
 
 use std::simd::prelude::*;
 
-/// 2^(7 - v % 8) at the index v of a byte, twice.
-const CLASS_WEIGHTS: [u8; 16] = [128, 64, 32, 16, 8, 4, 2, 1, 128, 64, 32, 16, 8, 4, 2, 1];
+/// The upper byte of 2^(15 - v) at the index v, 0 to 15, four times.
+const UPPER_BYTES: [u8; 64] = [
+    128, 64, 32, 16, 8, 4, 2, 1, 0, 0, 0, 0, 0, 0, 0, 0, 128, 64, 32, 16, 8, 4, 2, 1, 0, 0, 0, 0,
+    0, 0, 0, 0, 128, 64, 32, 16, 8, 4, 2, 1, 0, 0, 0, 0, 0, 0, 0, 0, 128, 64, 32, 16, 8, 4, 2, 1,
+    0, 0, 0, 0, 0, 0, 0, 0,
+];
+
+/// The lower byte of 2^(15 - v) at the index v, 0 to 15, four times.
+const LOWER_BYTES: [u8; 64] = [
+    0, 0, 0, 0, 0, 0, 0, 0, 128, 64, 32, 16, 8, 4, 2, 1, 0, 0, 0, 0, 0, 0, 0, 0, 128, 64, 32, 16,
+    8, 4, 2, 1, 0, 0, 0, 0, 0, 0, 0, 0, 128, 64, 32, 16, 8, 4, 2, 1, 0, 0, 0, 0, 0, 0, 0, 0, 128,
+    64, 32, 16, 8, 4, 2, 1,
+];
 
 /// Raises each byte of `dst` to the greater of itself and the byte of `src` at the same index.
 ///
@@ -73,7 +84,7 @@ pub fn count_zeros(bytes: &[u8]) -> usize
     ensures zeros { result ≡ zeros bytes.now }
     ensures bound { result ≤ length bytes.now }
 {
-    let (blocks, rest) = bytes.as_chunks::<64>();
+    let (blocks, rest) = bytes.as_chunks::<128>();
     let mut count = 0;
     for block in blocks {
         count += zeros_in(block);
@@ -82,11 +93,32 @@ pub fn count_zeros(bytes: &[u8]) -> usize
 }
 
 /// How many bytes of a block are 0.
-fn zeros_in(block: &[u8; 64]) -> usize
+// (128 less a sum by lanes, where the bits of masks would be counted word by word)
+fn zeros_in(block: &[u8; 128]) -> usize
     ensures { result ≡ zeros block.now }
 {
-    let zeros = u8x64::from_array(*block).simd_eq(u8x64::splat(0));
-    zeros.to_bitmask().count_ones() as usize
+    let first = nonzero_lanes(u8x64::from_slice(&block[..]));
+    let second = nonzero_lanes(u8x64::from_slice(&block[64..]));
+    usize::from(128 - sum_of_both(first, second))
+}
+
+/// 1 in each lane that is not 0.
+#[inline(always)]
+fn nonzero_lanes(bytes: u8x64) -> u8x64
+    ensures count { sum_l result + zeros bytes ≡ 64 }
+    ensures lanes { length result ≡ 64 }
+{
+    bytes.simd_min(u8x64::splat(1))
+}
+
+/// The sum of all lanes, which a byte can hold.
+#[inline(always)]
+fn sum_of_both(first: u8x64, second: u8x64) -> u8
+    requires lanes { length first ≡ length second }
+    requires small { sum_l first + sum_l second < 256 }
+    ensures { result ≡ sum_l first + sum_l second }
+{
+    first.strict_add(second).strict_reduce_sum()
 }
 
 /// How many bytes are 0, counted one after the other.
@@ -134,6 +166,17 @@ fn greatest_one_by_one(bytes: &[u8]) -> u8
         greatest = greatest.max(*byte);
     }
     greatest
+}
+
+/// Whether each byte of a block is below a bound.
+#[inline(always)]
+pub fn are_below(block: &[u8; 64], bound: u8) -> bool
+    ensures { result ≡ list_all (λ v. nat_lt v bound) block.now }
+{
+    u8x64::from_array(*block)
+        .simd_ge(u8x64::splat(bound))
+        .to_bitmask()
+        == 0
 }
 
 /// Whether all bytes are 0. Stops at the first block that has another; takes no memory.
@@ -198,21 +241,23 @@ impl WeightSums {
 
 /// The sums of 2^-v over the bytes v.
 ///
-/// There are at most 2^21 bytes, each at most 63. Two passes, one for each part; takes no memory.
+/// There are at most 2^21 bytes, each at most 63. One pass, by blocks of 64; takes no memory.
 pub fn weight_sums(bytes: &[u8]) -> WeightSums
     requires small { All (λ v. v ≤ 63) bytes.now }
     requires few { length bytes.now ≤ 2 ^ 21 }
     ensures { AreSumsOf result bytes.now }
 {
-    WeightSums {
-        low: half_units(bytes, 0),
-        high: half_units(bytes, 1),
+    let (blocks, rest) = bytes.as_chunks::<64>();
+    let mut sums = WeightSums { low: 0, high: 0 };
+    for block in blocks {
+        sums = sums.plus(block_sums(block));
     }
+    sums.plus(weight_sums_one_by_one(rest))
 }
 
 /// The sum of 2^-v over the bytes v, in units of 2^-63.
 ///
-/// There are at most 2^21 bytes, each at most 63. Two passes; takes no memory.
+/// There are at most 2^21 bytes, each at most 63. One pass; takes no memory.
 pub fn units(bytes: &[u8]) -> u128
     requires small { All (λ v. v ≤ 63) bytes.now }
     requires few { length bytes.now ≤ 2 ^ 21 }
@@ -222,113 +267,158 @@ pub fn units(bytes: &[u8]) -> u128
     weight_sums(bytes).units()
 }
 
-/// The sum of 2^(31 - v % 32) over the values v of one half: 0 to 31, or 32 to 63.
+/// The sums of 2^-v over the bytes v of a block, each at most 63.
 ///
-/// The eight values of a class have weights of one byte, and each of the four classes has a sum of its own. A block
-/// without a value of the half, as most are in the second, is passed over.
-fn half_units(bytes: &[u8], half: u8) -> u64
-    requires half { half ≤ 1 }
-    requires few { length bytes.now ≤ 2 ^ 21 }
-    ensures sum { result ≡ half_sum half bytes.now }
-    ensures bound { result ≤ 2 ^ 52 }
+/// Most blocks have no value above 15.
+#[inline(always)]
+pub(crate) fn block_sums(block: &[u8; 64]) -> WeightSums
+    requires { All (λ v. v ≤ 63) block.now }
+    ensures { AreSumsOf result block.now }
 {
-    let (blocks, rest) = bytes.as_chunks::<16>();
-    let mut first = u32x4::splat(0);
-    let mut second = u32x4::splat(0);
-    let mut third = u32x4::splat(0);
-    let mut fourth = u32x4::splat(0);
-    for block in blocks {
-        if members(block, half) == 0 {
-            continue;
-        }
-        first += partial_class_sums(block, 4 * half);
-        second += partial_class_sums(block, 4 * half + 1);
-        third += partial_class_sums(block, 4 * half + 2);
-        fourth += partial_class_sums(block, 4 * half + 3);
+    if are_below(block, 16) {
+        return shifted_sums(block, 0);
     }
-    let sums = [
-        lane_sum(first),
-        lane_sum(second),
-        lane_sum(third),
-        lane_sum(fourth),
-    ];
-    joined(sums) + half_units_one_by_one(rest, half)
+    block_sums_above_least(block)
 }
 
-/// A bit for each value of a block, set where it is of the half.
-fn members(block: &[u8; 16], half: u8) -> u64
-    ensures { result ≡ mask_l (map (λ v. v / 32 == half) block.now) }
+/// The sums over a block, by the differences from its least value where they are below 16.
+#[inline(never)]
+fn block_sums_above_least(block: &[u8; 64]) -> WeightSums
+    requires { All (λ v. v ≤ 63) block.now }
+    ensures { AreSumsOf result block.now }
 {
-    let halves = u8x16::from_array(*block) >> u8x16::splat(5);
-    halves.simd_eq(u8x16::splat(half)).to_bitmask()
+    let least = u8x64::from_array(*block).reduce_min().min(16);
+    let above = differences(block, least);
+    if are_below(&above, 16) {
+        return shifted_sums(&above, least);
+    }
+    block_sums_by_windows(block)
 }
 
-/// Four parts of the sum of the weights 2^(7 - v % 8) of a class.
-fn partial_class_sums(block: &[u8; 16], class: u8) -> u32x4
-    ensures sum { sum_l result ≡ class_sum class block.now }
-    ensures lanes { length result ≡ 4 }
+/// The sums over a block, by four windows of sixteen values.
+#[inline(never)]
+fn block_sums_by_windows(block: &[u8; 64]) -> WeightSums
+    requires { All (λ v. v ≤ 63) block.now }
+    ensures { AreSumsOf result block.now }
 {
-    class_weights(u8x16::from_array(*block), class).dot4(u8x16::splat(1))
+    WeightSums {
+        low: half_sum(block, 0),
+        high: half_sum(block, 32),
+    }
 }
 
-/// The weight of each value of a class, and 0 for the others.
-fn class_weights(values: u8x16, class: u8) -> u8x16
-    ensures { result ≡ map (λ v. if v / 8 == class then (2 ^ (7 - v % 8)) else 0) values }
+/// The sum of 2^(31 - d) over the bytes of a block that are `from + d`, for d below 32.
+fn half_sum(block: &[u8; 64], from: u8) -> u64
+    requires { from ≤ 32 }
+    ensures { result ≡ 65536 * window_units (map (λ v. (v + (256 - from)) % 256) block.now) + window_units (map (λ v. (v + (256 - (from + 16))) % 256) block.now) }
 {
-    let classes = values >> u8x16::splat(3);
-    classes
-        .simd_eq(u8x16::splat(class))
-        .select(weights(values), u8x16::splat(0))
+    let first = indices_above(block, from);
+    let second = indices_above(block, from + 16);
+    (u64::from(window_sum(first)) << 16) + u64::from(window_sum(second))
 }
 
-/// 2^(7 - v % 8) for each value v.
-fn weights(values: u8x16) -> u8x16
-    ensures { result ≡ map (λ v. 2 ^ (7 - v % 8)) values }
+/// By how much each byte of a block is above `least`. The difference wraps where a byte is less.
+#[inline(always)]
+fn differences(block: &[u8; 64], least: u8) -> [u8; 64]
+    ensures { result ≡ map (λ v. (v + (256 - least)) % 256) block.now }
 {
-    u8x16::from_array(CLASS_WEIGHTS).swizzle_dyn(values & u8x16::splat(7))
+    (u8x64::from_array(*block) - u8x64::splat(least)).to_array()
+}
+
+/// The sums of 2^-(least + d) over the bytes d of a block, each at most 15.
+pub(crate) fn shifted_sums(differences: &[u8; 64], least: u8) -> WeightSums
+    requires small { All (λ d. d < 16) differences.now }
+    requires least { least ≤ 16 }
+    ensures low { result.low ≡ 2 ^ (16 - least) * window_units differences.now }
+    ensures high { result.high ≡ 0 }
+{
+    let units = u64::from(window_sum(u8x64::from_array(*differences)));
+    WeightSums {
+        low: units << (16 - least),
+        high: 0,
+    }
+}
+
+/// By how much each byte of a block is above `from`, where that is below 16, and bytes of at least 128 for the others.
+#[inline(always)]
+fn indices_above(block: &[u8; 64], from: u8) -> u8x64
+    ensures units { window_units result ≡ window_units (map (λ v. (v + (256 - from)) % 256) block.now) }
+    ensures indices { All IsIndex result }
+{
+    let values = u8x64::from_array(differences(block, from));
+    ((values + u8x64::splat(112)) | values) & u8x64::splat(143)
+}
+
+/// The sum of 2^(15 - v) over the lanes v below 16. The others are at least 128.
+fn window_sum(values: u8x64) -> u32
+    requires { All IsIndex values }
+    ensures units { result ≡ window_units values }
+    ensures bound { result ≤ 2 ^ 21 }
+{
+    let upper = byte_sums(upper_bytes(values));
+    let lower = byte_sums(lower_bytes(values));
+    lane_sum((upper << u32x16::splat(8)) + lower)
+}
+
+/// The upper byte of 2^(15 - v) for each lane v below 16, and 0 for the others, which are at least 128.
+fn upper_bytes(values: u8x64) -> u8x64
+    requires { All IsIndex values }
+    ensures { result ≡ map (λ v. window_weight v / 256) values }
+{
+    u8x64::from_array(UPPER_BYTES).swizzle_dyn_within::<16>(values)
+}
+
+/// The lower byte of 2^(15 - v) for each lane v below 16, and 0 for the others, which are at least 128.
+fn lower_bytes(values: u8x64) -> u8x64
+    requires { All IsIndex values }
+    ensures { result ≡ map (λ v. window_weight v % 256) values }
+{
+    u8x64::from_array(LOWER_BYTES).swizzle_dyn_within::<16>(values)
+}
+
+/// The sum of the bytes, in sixteen parts.
+fn byte_sums(bytes: u8x64) -> u32x16
+    ensures sum { sum_l result ≡ sum_l bytes }
+    ensures lanes { length result ≡ 16 }
+{
+    bytes.dot4(u8x64::splat(1))
 }
 
 /// The sum of the lanes.
-fn lane_sum(lanes: u32x4) -> u32
+fn lane_sum(lanes: u32x16) -> u32
     requires { sum_l lanes < 2 ^ 32 }
     ensures { result ≡ sum_l lanes }
 {
     lanes.strict_reduce_sum()
 }
 
-/// The sum of four classes, each of which weighs 256 times as much as the next.
-fn joined(sums: [u32; 4]) -> u64
-    requires { All (λ s. s ≤ 2 ^ 28) sums }
-    ensures { result ≡ 16777216 * slice_index sums 0 + 65536 * slice_index sums 1 + 256 * slice_index sums 2 + slice_index sums 3 }
+/// The sums of 2^-v over less than 64 bytes v, one after the other.
+fn weight_sums_one_by_one(bytes: &[u8]) -> WeightSums
+    requires small { All (λ v. v ≤ 63) bytes.now }
+    requires few { length bytes.now < 64 }
+    ensures { AreSumsOf result bytes.now }
 {
-    let [first, second, third, fourth] = sums;
-    (u64::from(first) << 24)
-        + (u64::from(second) << 16)
-        + (u64::from(third) << 8)
-        + u64::from(fourth)
-}
-
-/// The sum of `half_units`, one value after the other.
-fn half_units_one_by_one(bytes: &[u8], half: u8) -> u64
-    requires { length bytes.now ≤ 2 ^ 21 }
-    ensures sum { result ≡ half_sum half bytes.now }
-    ensures bound { result ≤ length bytes.now * 2 ^ 31 }
-{
-    let mut sum = 0;
+    let mut sums = WeightSums { low: 0, high: 0 };
     for value in bytes {
-        sum += half_weight(*value, half);
+        sums = sums.plus(value_sums(*value));
     }
-    sum
+    sums
 }
 
-/// The weight of a value in its half, and 0 in the other.
-fn half_weight(value: u8, half: u8) -> u64
-    ensures weight { result ≡ if value / 32 == half then (2 ^ (31 - value % 32)) else 0 }
-    ensures bound { result ≤ 2 ^ 31 }
+/// 2^-v for one value v.
+fn value_sums(value: u8) -> WeightSums
+    requires { value ≤ 63 }
+    ensures { AreSumsOf result (value ∷ []) }
 {
-    if value / 32 == half {
-        1 << (31 - value % 32)
+    if value < 32 {
+        WeightSums {
+            low: 1 << (31 - value),
+            high: 0,
+        }
     } else {
-        0
+        WeightSums {
+            low: 0,
+            high: 1 << (63 - value),
+        }
     }
 }

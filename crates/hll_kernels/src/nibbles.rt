@@ -1,15 +1,16 @@
 // SPDX-License-Identifier: Apache-2.0
 //! Registers of four bits: how far each is above a minimum, two of them in a byte, where 15 marks a register that is kept
 //! elsewhere (docs/FORMAT.md, "Packed registers").
-ghost use Rattle.std.specs.Prelude.{◌≡◌, ℕ, ◌+◌, ◌-◌, ◌*◌, ◌/◌, ◌%◌, ◌^◌, ◌<◌, ◌≤◌, ◌==◌, ◌⊎◌, ◌&&◌, nat_le, if◌then◌else◌, [], ◌∷◌, ◌++◌, length, map, count_by, All, IfOk};
+ghost use Rattle.std.specs.Prelude.{◌≡◌, ℕ, ◌+◌, ◌-◌, ◌*◌, ◌/◌, ◌%◌, ◌^◌, ◌<◌, ◌≤◌, ◌==◌, ◌⊎◌, ◌↔◌, ◌&&◌, nat_le, if◌then◌else◌, [], ◌∷◌, ◌++◌, length, map, count_by, All, IfOk, IfSome, IsSome};
 ghost use Rattle.std.specs.List.{list_all};
 ghost use Rattle.std.specs.Simd.Lanes.{chunk, put_chunk, Each1};
 ghost use Rattle.hll_base.specs.Join.{join};
 ghost use Rattle.hll_kernels.specs.Lanes.{max_at, nibble_values, nibble_pairs};
 ghost use Rattle.hll_kernels.specs.Packed.{nibble, nibble_at, nibble_bytes_above, mark_nibbles, lowered_byte, zero_nibbles};
 ghost use Rattle.hll_kernels.specs.Packed.{lowered_by};
+ghost use Rattle.hll_kernels.specs.WeightSums.{AreSumsOf};
 
-use crate::kernels::{max_16, max_one};
+use crate::kernels::{WeightSums, are_below, max_16, max_one, shifted_sums};
 use std::alloc::{AllocError, Allocator};
 use std::simd::prelude::*;
 
@@ -132,8 +133,33 @@ fn zeros_of(byte: u8) -> u32
     u32::from(byte % 16 == 0) + u32::from(byte / 16 == 0)
 }
 
-/// How many nibbles of a block are 15, which a byte can count.
+/// How many nibbles of a block are 15, which a byte can count. Most blocks have none.
+#[inline(always)]
 fn mark_nibbles_in(block: &[u8; 64]) -> u8
+    ensures count { result ≡ mark_nibbles block.now }
+    ensures bound { result ≤ 128 }
+{
+    if is_unmarked(block) {
+        return 0;
+    }
+    some_mark_nibbles_in(block)
+}
+
+/// Whether no nibble of a block is 15.
+#[inline(always)]
+fn is_unmarked(block: &[u8; 64]) -> bool
+    ensures { result ≡ (mark_nibbles block.now == 0) }
+{
+    if !are_below(&low_nibbles(block), MARK) {
+        return false;
+    }
+    are_below(block, 16 * MARK)
+}
+
+/// How many nibbles of a block are 15, counted byte by byte.
+// (a loop over blocks, most of which have none, is shorter without it)
+#[inline(never)]
+fn some_mark_nibbles_in(block: &[u8; 64]) -> u8
     ensures count { result ≡ mark_nibbles block.now }
     ensures bound { result ≤ 128 }
 {
@@ -303,11 +329,21 @@ pub fn max_with_nibbles(values: &mut [u8], bytes: &[u8], minimum: u8)
     requires small { minimum ≤ 240 }
     ensures { values.new ≡ join values.old (nibble_values minimum bytes.now) }
 {
-    let (blocks, rest) = bytes.as_chunks::<16>();
+    let (blocks, rest) = bytes.as_chunks::<32>();
     for place in 0..blocks.len() {
-        max_with_block(values, 32 * place, &blocks[place], minimum);
+        max_with_block(values, 64 * place, &blocks[place], minimum);
     }
-    max_one_by_one(&mut values[32 * blocks.len()..], rest, minimum);
+    max_one_by_one(&mut values[64 * blocks.len()..], rest, minimum);
+}
+
+/// Raises the 64 values from `at` on to the nibbles of a block.
+fn max_with_block(values: &mut [u8], at: usize, block: &[u8; 32], minimum: u8)
+    requires room { at + 64 ≤ length values.old }
+    requires small { minimum ≤ 240 }
+    ensures { values.new ≡ max_at at values.old (nibble_values minimum block.now) }
+{
+    max_with_half(values, at, u8x16::from_slice(&block[..]), minimum);
+    max_with_half(values, at + 32, u8x16::from_slice(&block[16..]), minimum);
 }
 
 /// Raises each value to the greater of itself and its nibble above the minimum, one byte after the other.
@@ -322,13 +358,13 @@ fn max_one_by_one(values: &mut [u8], bytes: &[u8], minimum: u8)
     }
 }
 
-/// Raises the 32 values from `at` on to the nibbles of a block.
-fn max_with_block(values: &mut [u8], at: usize, block: &[u8; 16], minimum: u8)
+/// Raises the 32 values from `at` on to the nibbles of sixteen bytes.
+fn max_with_half(values: &mut [u8], at: usize, bytes: u8x16, minimum: u8)
     requires room { at + 32 ≤ length values.old }
     requires small { minimum ≤ 240 }
-    ensures { values.new ≡ max_at at values.old (nibble_values minimum block.now) }
+    ensures { values.new ≡ max_at at values.old (nibble_values minimum bytes) }
 {
-    let (first, second) = nibble_lanes(u8x16::from_array(*block), minimum);
+    let (first, second) = nibble_lanes(bytes, minimum);
     max_16(values, at, first);
     max_16(values, at + 16, second);
 }
@@ -342,6 +378,41 @@ fn nibble_lanes(bytes: u8x16, minimum: u8) -> (u8x16, u8x16)
     let low = (bytes & u8x16::splat(15)) + u8x16::splat(minimum);
     let high = (bytes >> u8x16::splat(4)) + u8x16::splat(minimum);
     low.interleave(high)
+}
+
+// ---- weights
+
+/// The sums of 2^-(minimum + n) over the nibbles n of a block, if none is 15. The minimum is at most 16.
+pub fn unmarked_sums(block: &[u8; 64], minimum: u8) -> Option<WeightSums>
+    requires { minimum ≤ 16 }
+    ensures unmarked { IsSome result ↔ All (λ n. n < 15) (nibble_values 0 block.now) }
+    ensures sums { IfSome result (λ s. AreSumsOf s (nibble_values minimum block.now)) }
+{
+    let low = low_nibbles(block);
+    let high = high_nibbles(block);
+    if !are_below(&low, MARK) {
+        return None;
+    }
+    if !are_below(&high, MARK) {
+        return None;
+    }
+    Some(shifted_sums(&low, minimum).plus(shifted_sums(&high, minimum)))
+}
+
+/// The low nibble of each byte.
+#[inline(always)]
+fn low_nibbles(block: &[u8; 64]) -> [u8; 64]
+    ensures { result ≡ map (λ b. b % 16) block.now }
+{
+    (u8x64::from_array(*block) & u8x64::splat(15)).to_array()
+}
+
+/// The high nibble of each byte.
+#[inline(always)]
+fn high_nibbles(block: &[u8; 64]) -> [u8; 64]
+    ensures { result ≡ map (λ b. b / 16) block.now }
+{
+    (u8x64::from_array(*block) >> u8x64::splat(4)).to_array()
 }
 
 // ---- packing

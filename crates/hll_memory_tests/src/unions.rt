@@ -4,8 +4,10 @@ use crate::harness::{Heap, Trial, requests_of, shown, text};
 use crate::sketches::{Shape, coupon_at, shown_sketch, sketch_in, with_buckets};
 use hll_base::error::Error;
 use hll_base::hll_type::HllType;
+use hll_sketch::coupon_images::coupon_image_with;
 use hll_sketch::{
-    HllSketch, HllUnion, UnionBuilder, agree, coupon_image_at, union_of, union_of_coupon_images,
+    HllSketch, HllUnion, UnionBuilder, agree, coupon_image_at, register_image_at, union_of,
+    union_of_coupon_images,
 };
 use hll_text::fault::Fault;
 use std::alloc::Global;
@@ -27,6 +29,8 @@ enum UnionCall {
     Agree,
     ImageTwice,
     ImageAt,
+    ImageWith,
+    RegistersAt,
     Images,
 }
 
@@ -116,6 +120,11 @@ impl<'h> UnionTrial<'h> {
                 let made = union_of_coupon_images(heap, self.lg_max_k, self.hll_type, image, image);
                 shown(heap, made)
             }
+            UnionCall::ImageWith => {
+                let mut more = [coupon_at(self.inside.2).raw()];
+                shown(heap, coupon_image_with(heap, image, &mut more))
+            }
+            UnionCall::RegistersAt => shown(heap, register_image_at(heap, self.hll_type, image)),
             UnionCall::Images => shown_union(heap, self.union_of_image_twice(image)),
             _ => shown(heap, coupon_image_at(heap, self.hll_type, image)),
         }
@@ -123,8 +132,10 @@ impl<'h> UnionTrial<'h> {
 
     /// The union of an image twice.
     fn union_of_image_twice(&self, image: &[u8]) -> Result<HllUnion<&'h Heap>, Error> {
-        let none = UnionBuilder::new(HllUnion::new(self.heap, self.lg_max_k)?, self.heap);
-        none.with_image(image)?.with_image(image)?.build()
+        let mut union = UnionBuilder::new(HllUnion::new(self.heap, self.lg_max_k)?, self.heap);
+        union.update_with_image(image)?;
+        union.update_with_image(image)?;
+        union.build()
     }
 
     /// What a call gives that makes a value of two sketches.
@@ -174,8 +185,10 @@ impl<'h> Trial for UnionTrial<'h> {
                 None => Err(Fault::Stack),
             },
             UnionCall::UpdateImage => shown(self.heap, union.update_with_image(image)),
-            UnionCall::ImageTwice | UnionCall::ImageAt => self.image_made(image),
-            UnionCall::Images => self.image_made(image),
+            UnionCall::ImageTwice | UnionCall::ImageAt | UnionCall::ImageWith => {
+                self.image_made(image)
+            }
+            UnionCall::RegistersAt | UnionCall::Images => self.image_made(image),
             UnionCall::UpdateBuckets => {
                 let image = with_all_buckets(self.heap.inner(), image)?;
                 shown(self.heap, union.update_with_image(&image))
@@ -216,7 +229,7 @@ const UNIONS: [(u8, Shape, Shape); 13] = [
 ];
 
 /// The calls, and the requests of each on these unions, for four bits, for six and for eight.
-const UNION_CALLS: [(UnionCall, [[u64; 13]; 3]); 14] = [
+const UNION_CALLS: [(UnionCall, [[u64; 13]; 3]); 16] = [
     (
         UnionCall::Clone,
         [[0, 0, 0, 0, 0, 0, 0, 1, 1, 1, 1, 1, 1]; 3],
@@ -280,11 +293,23 @@ const UNION_CALLS: [(UnionCall, [[u64; 13]; 3]); 14] = [
         [[0, 1, 1, 1, 1, 1, 0, 0, 0, 1, 0, 0, 0]; 3],
     ),
     (
+        UnionCall::ImageWith,
+        [[0, 2, 2, 2, 2, 2, 0, 0, 0, 2, 0, 0, 0]; 3],
+    ),
+    (
+        UnionCall::RegistersAt,
+        [
+            [0; 13],
+            [0, 0, 0, 0, 0, 0, 1, 1, 1, 0, 1, 1, 1],
+            [0, 0, 0, 0, 0, 0, 1, 1, 1, 0, 1, 1, 1],
+        ],
+    ),
+    (
         UnionCall::Images,
         [
-            [0, 3, 0, 0, 0, 6, 17, 17, 5, 6, 13, 17, 5],
-            [0, 3, 0, 0, 0, 6, 1, 1, 1, 6, 1, 1, 1],
-            [0, 3, 0, 0, 0, 6, 1, 1, 1, 6, 1, 1, 1],
+            [0, 3, 0, 0, 0, 7, 17, 17, 5, 7, 13, 17, 5],
+            [0, 3, 0, 0, 0, 7, 1, 1, 1, 7, 1, 1, 1],
+            [0, 3, 0, 0, 0, 7, 1, 1, 1, 7, 1, 1, 1],
         ],
     ),
 ];

@@ -12,9 +12,9 @@ use Rattle.std.proofs.Math.Nat.{zero-add, zero-div}
 use Rattle.hll_coupons.specs.AuxMap.{ExceptionMap}
 use Rattle.hll_coupons.proofs.Pairs.{entries_are, of_value}
 use Rattle.hll_registers.specs.FourBits.{exception_in, exception_of, unpacked, IsMapFor, IsPacked}
-use Rattle.hll_kernels.specs.Packed.{minimum, nibble, nibble_at, zero_nibbles, AreRegisters}
+use Rattle.hll_kernels.specs.Packed.{minimum, nibble, nibble_at, zero_nibbles, zeros, AreRegisters}
 use Rattle.hll_registers.specs.Payload.{Agrees, register_of}
-use Rattle.hll_registers.proofs.FourBits.{exception_of-high, exception_of-low, minimum_is}
+use Rattle.hll_registers.proofs.FourBits.{count_above, exception_of-high, exception_of-low, minimum_is}
 use Rattle.hll_registers.proofs.FourBitChanges.{counted_zeros, packed_least}
 
 -- ---- registers of parts
@@ -153,13 +153,23 @@ module _ {k m : ℕ} {bytes : List ℕ} {e : Option ExceptionMap} (parts : Agree
   low : (s : ℕ) → s < 2 ^ k → m ≤ get_or R s 0
   low s l = (at s l).least
 
+  -- each nibble of 0 is a register at the minimum
+  counted : zero_nibbles bytes ≡ count_by (λ r. nat_eq r m) R
+  counted = counted_zeros k m bytes R legal.size low parts.size parts.fits (λ s l. (at s l).nibble_is)
+
+  -- how many are 0
+  pub zeros_at : m ≡ 0 → zero_nibbles bytes ≡ zeros R
+  zeros_at none = counted ∙ ap (λ n. count_by (λ r. nat_eq r n) R) none
+
+  pub zeros_none : 0 < m → zeros R ≡ 0
+  zeros_none some = count_above m R some (λ s l. low s (omega (arith, l, legal.size)))
+
   -- where a nibble is 0, they are packed
   pub settled : (count : ℕ) → count ≡ zero_nibbles bytes → 0 < count → IsPacked k m count bytes e R
-  settled count zeros some =
+  settled count are some =
       let nibbles : (s : ℕ) → s < 2 ^ k → nibble_at bytes s ≡ nibble m (get_or R s 0) = λ s l. (at s l).nibble_is in
-      let counted : count ≡ count_by (λ r. nat_eq r m) R = zeros ∙ counted_zeros k m bytes R legal.size low parts.size parts.fits nibbles in
-      let least : m ≡ minimum R = minimum_is m R legal.small (λ s l. low s (omega (arith, l, legal.size))) (omega (arith, some, counted)) in
-      packed_least k m count bytes e R legal least parts.size parts.fits nibbles parts.map_for (λ s l. (at s l).exception_is) zeros
+      let least : m ≡ minimum R = minimum_is m R legal.small (λ s l. low s (omega (arith, l, legal.size))) (omega (arith, some, are, counted)) in
+      packed_least k m count bytes e R legal least parts.size parts.fits nibbles parts.map_for (λ s l. (at s l).exception_is) are
 
   -- each register is 0 where the minimum and each byte are
   pub zeros_above : m ≡ 0 → list_all (λ b. b == 0) bytes ≡ true → list_all (λ v. v == 0) R ≡ true

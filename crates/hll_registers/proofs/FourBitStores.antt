@@ -23,6 +23,7 @@ use Rattle.hll_coupons.proofs.Listed.{has, contains-has}
 use Rattle.hll_coupons.proofs.Registers.{StandsFor, in_raw_coupons, slot_of-pair}
 use Rattle.hll_registers.specs.FourBits.{exception_in, exception_of, exceptions_in, unpacked, IsMapFor, IsPacked, IsOfRegisters}
 use Rattle.hll_registers.specs.Exceptions.{exceptions}
+use Rattle.hll_kernels.proofs.FourBitLanes.{length-nibble_values}
 use Rattle.hll_kernels.specs.Packed.{minimum, count_at_minimum, nibble, nibble_at, nibble_bytes, nibble_bytes_above, zero_nibbles}
 use Rattle.hll_registers.specs.Store.{size_in_registers}
 use Rattle.hll_registers.specs.Payload.{flag_of, number_bytes, register_of, WritesRegisters}
@@ -242,3 +243,26 @@ module _ {k m : ℕ} {bytes : List ℕ} {e : Option ExceptionMap} (p : AgreeAbov
             let n : nibble m r ≡ 15 = omega (arith, over) in
             omega (arith, here, some, n, over, there)
       ])
+
+-- the values of nibbles below 15 are the registers
+pub values-unmarked : {k m : ℕ} {bytes : List ℕ} {e : Option ExceptionMap} (p : AgreeAbove k m bytes e) (first n : ℕ) (part : List ℕ) → first + n ≤ 2 ^ k → first % 4 ≡ 0 → n % 4 ≡ 0 →
+    part ≡ take (first / 2 + n / 2 - first / 2) (drop (first / 2) bytes) → All (λ v. v < 15) (nibble_values 0 part) → nibble_values m part ≡ take n (drop first (unpacked k m bytes e))
+values-unmarked {k} {m} {bytes} {e} p first n part within aligned groups is small =
+    let R : List ℕ = unpacked k m bytes e in
+    let V : List ℕ = take n (drop first R) in
+    let many : length V ≡ n = length-take-le n (drop first R) (omega (arith, length-drop first R, within, (legal p).size)) in
+    let room : first + length V ≤ 2 ^ k = omega (arith, many, within) in
+    let fours : length V % 4 ≡ 0 = ap (λ l. l % 4) many ∙ groups in
+    let B : List ℕ = block p first V room aligned fours in
+    let same : B ≡ part = ap (λ l. take (first / 2 + l / 2 - first / 2) (drop (first / 2) bytes)) many ∙ sym is in
+    let fits : All (λ b. b < 256) B = All-take (λ b. b < 256) (first / 2 + length V / 2 - first / 2) (drop (first / 2) bytes) (All-drop (λ b. b < 256) (first / 2) bytes p.fits) in
+    let half : 2 * length B ≡ n = length-block p first V room aligned fours ∙ many in
+    ap (nibble_values m) (sym same) ∙ ext_get_or 0 (nibble_values m B) V (omega (arith, length-nibble_values m B, half, many)) (λ s l.
+    let within_part : s < n = omega (arith, l, length-nibble_values m B, half) in
+    let r : ℕ = get_or R (first + s) 0 in
+    let nibble_is : nibble_at B s ≡ nibble m r = nibble_at-block p first V room aligned fours s (omega (arith, within_part, many)) in
+    let value : get_or (nibble_values 0 B) s 0 ≡ 0 + nibble_at B s = nibble_values-at 0 B s fits (omega (arith, within_part, half)) in
+    let low : get_or (nibble_values 0 B) s 0 < 15 = subst (λ P. All (λ v. v < 15) (nibble_values 0 P)) (sym same) small s 0 (omega (arith, length-nibble_values 0 B, within_part, half)) in
+    let there : get_or V s 0 ≡ r = get_or-take n (drop first R) s 0 within_part ∙ get_or-drop first R s 0 in
+    let least : m ≤ r = (at p (first + s) (omega (arith, within_part, within))).least in
+    nibble_values-at m B s fits (omega (arith, within_part, half)) ∙ omega (arith, nibble_is, value, low, there, least))

@@ -395,7 +395,7 @@ minimum_of_front m i R is all none =
 
 -- ---- counts of zeros
 
-count_above : (m : ℕ) (R : List ℕ) → 0 < m → ((s : ℕ) → s < length R → m ≤ get_or R s 0) → count_by (λ r. eqb r 0) R ≡ 0
+pub count_above : (m : ℕ) (R : List ℕ) → 0 < m → ((s : ℕ) → s < length R → m ≤ get_or R s 0) → count_by (λ r. eqb r 0) R ≡ 0
 count_above m [] some h = refl
 count_above m (r ∷ R) some h =
     let first : ◌≡◌ {A = ℕ} (cond (eqb r 0) 1 0) 0 = cond-false (eqb r 0) 1 0 (elim (cases_Bool (eqb r 0)) [ inl t ↦ absurd (omega (arith, some, h 0 (omega arith), eqb-true r 0 t)) | inr f ↦ f ]) in

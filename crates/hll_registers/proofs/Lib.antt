@@ -11,4 +11,6 @@ pub mod Marked
 pub mod Packing
 pub mod RaisedEntries
 pub mod Raising
+pub mod Reading
+pub mod SameRegisters
 pub mod States

@@ -217,7 +217,7 @@ hll4_bytes k R state order =
     10 ∷ 1 ∷ 7 ∷ k ∷ 0 ∷ (8 + flag_of state) ∷ minimum R ∷ mode_byte 2 Hll4
     ∷ number_bytes state (count_at_minimum R) (length order) ++ (nibble_bytes R ++ coupon_bytes order)
 
--- the bytes are written for these registers, at four bits with the exceptions in ascending raw coupons
+-- the bytes are written for these registers, at four bits with the exceptions in ascending order
 abbrev pub WritesRegisters : List ℕ → ℕ → HllType → List ℕ → EstimateState → Type 0
 WritesRegisters bytes k Hll4 R state = WritesAscending (hll4_bytes k R state) (set_of (exceptions R)) bytes
 WritesRegisters bytes k Hll6 R state = bytes ≡ hll6_bytes k R state

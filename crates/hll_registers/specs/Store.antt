@@ -66,7 +66,7 @@ size_in_registers k Hll8 R = 2 ^ k
 
 -- ---- laws
 
--- what is written ends in the packed bytes and the exceptions in ascending raw coupons: by width and registers alone
+-- what is written ends in the packed bytes and the exceptions in ascending order: by width and registers alone
 abbrev pub PackedIsWritten : Type 0
 PackedIsWritten = (bytes : List ℕ) (k : ℕ) (w : HllType) (R : List ℕ) (state : EstimateState) → WritesRegisters bytes k w R state →
     (front order : List ℕ) × IsAscending order (written_exceptions w R) × (bytes ≡ front ++ (packed_bytes w R ++ coupon_bytes order))

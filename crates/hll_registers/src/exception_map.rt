@@ -1,9 +1,8 @@
 // SPDX-License-Identifier: Apache-2.0
 //! The exceptions of registers of four bits: a map, where there is one.
-ghost use Rattle.std.specs.Prelude.{◌≡◌, ◌≢◌, ◌+◌, ◌-◌, ◌*◌, ◌^◌, ◌%◌, ◌++◌, ◌<◌, ◌≤◌, ◌==◌, ◌↔◌, ◌⊎◌, nat_lt, ℕ, if◌then◌else◌, length, take, drop, slice_index, unwrap_or, All, true, false, None, Some, IsOk, IsTrue, IfOk, IfErr, IfSome, OnOk, OnErr};
+ghost use Rattle.std.specs.Prelude.{◌≡◌, ◌≢◌, ◌+◌, ◌-◌, ◌*◌, ◌^◌, ◌%◌, ◌++◌, ◌<◌, ◌≤◌, ◌==◌, ◌↔◌, ◌⊎◌, ℕ, if◌then◌else◌, length, take, drop, slice_index, unwrap_or, All, true, false, None, Some, IsOk, IsTrue, IfOk, IfErr, IfSome, OnOk, OnErr};
 ghost use Rattle.hll_base.specs.declared.error.Reason.TheVariants.{Memory};
 ghost use Rattle.std.specs.FinSet.{len};
-ghost use Rattle.std.specs.List.{list_all};
 ghost use Rattle.hll_coupons.specs.AuxMap.{table_bytes, value_in, ExceptionMap, IsMap};
 ghost use Rattle.hll_base.specs.Join.{join};
 ghost use Rattle.hll_coupons.specs.Coupons.{coupon_bytes, WritesAscending};
@@ -17,9 +16,9 @@ use hll_base::error::Error;
 use hll_coupons::aux_map::AuxMap;
 use hll_coupons::aux_map_builder::AuxMapBuilder;
 use hll_coupons::container::with_coupons;
+use hll_kernels::kernels::are_below;
 use hll_kernels::nibbles::{MARK, lower_by, max_with_nibbles, nibble_of, put_nibble};
 use std::alloc::Allocator;
-use std::simd::prelude::*;
 
 /// A map of exceptions in memory of its own, where there are any.
 pub type Exceptions<A> = Option<Box<AuxMap<A>, A>>;
@@ -67,7 +66,7 @@ pub(crate) fn bytes_of_buckets<A: Allocator>(map: &Exceptions<A>) -> usize
 /// Whether the map has so many buckets that to go through them for few values is expensive.
 pub(crate) fn has_many_buckets<A: Allocator>(map: &Exceptions<A>) -> bool {
     match map {
-        Some(map) => map.estimated_size() > 1 << 16,
+        Some(map) => map.estimated_size() > 1 << 13,
         None => false,
     }
 }
@@ -94,7 +93,7 @@ pub(crate) fn have_same_exceptions<A: Allocator>(map: &Exceptions<A>, other: &Ex
     }
 }
 
-/// A buffer with the exceptions appended to it, as coupons in ascending raw coupons.
+/// A buffer with the exceptions appended to it, as coupons in ascending order.
 ///
 /// Takes memory for a sorted copy, none where there is no map. Fails with `Memory`.
 pub(crate) fn with_exceptions<A: Allocator + Clone>(
@@ -562,16 +561,6 @@ pub(crate) fn exceptions_of<A: Allocator + Clone>(
     }
     put_exceptions_of(&mut map, alloc, &registers, 64 * blocks.len(), values.len())?;
     built(map, alloc)
-}
-
-/// Whether each value of a block is below a bound.
-fn are_below(block: &[u8; 64], bound: u8) -> bool
-    ensures { result ≡ list_all (λ v. nat_lt v bound) block.now }
-{
-    u8x64::from_array(*block)
-        .simd_ge(u8x64::splat(bound))
-        .to_bitmask()
-        == 0
 }
 
 /// Puts the exceptions of the registers of the slots from `from` up to `to` into the map, which has none from there on.

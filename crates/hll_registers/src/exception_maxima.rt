@@ -11,8 +11,8 @@ use hll_kernels::nibbles::{MARK, are_at_most, nibble_of};
 use std::alloc::Allocator;
 
 /// Raises each value to the exception of its slot, if it has one: `first + i` for value i. Goes through the map where it has
-/// few buckets for so many values, as a whole array of registers has, or where a search is long, and else through the
-/// nibbles.
+/// at most 32 buckets, or few for so many values, as a whole array of registers has, or where a search is long, and else
+/// through the nibbles.
 ///
 /// Each two values have a byte of nibbles, and a slot whose nibble isn't 15 has no exception.
 pub(crate) fn max_with_exceptions<A: Allocator>(
@@ -28,7 +28,7 @@ pub(crate) fn max_with_exceptions<A: Allocator>(
     ensures raised { (s : ℕ) → s < length values.old → slice_index values.new s ≡ max (slice_index values.old s) (unwrap_or (value_in map.now (first + s)) 0) }
     ensures len { length values.new ≡ length values.old }
 {
-    let has_few_buckets = map.estimated_size() <= values.len() / 8;
+    let has_few_buckets = map.estimated_size() <= (values.len() / 8).max(128);
     if has_few_buckets || !max_by_marks(values, nibbles, map, first) {
         max_with_entries(values, map, first);
     }

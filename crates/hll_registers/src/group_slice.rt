@@ -1,13 +1,22 @@
 // SPDX-License-Identifier: Apache-2.0
 //! A slice of groups of three bytes as registers of six bits.
-ghost use Rattle.std.specs.Prelude.{◌≡◌, ◌≤◌, ◌==◌};
+ghost use Rattle.std.specs.Prelude.{◌≡◌, ◌≤◌, ◌==◌, ◌↔◌, IsTrue, IfOk, IfErr};
 ghost use Rattle.std.specs.List.{list_all};
+ghost use Rattle.hll_base.specs.declared.error.Reason.TheVariants.{Memory};
 ghost use Rattle.hll_kernels.specs.Groups.{registers_in, AreGroups};
+ghost use Rattle.hll_kernels.specs.Packed.{zeros};
+ghost use Rattle.hll_registers.specs.Payload.{hll6_bytes};
 ghost use Rattle.hll_registers.specs.State.{cleared_state, IsState};
 
 use crate::estimate_state::EstimateState;
+use crate::plain_images::six_bit_image;
 use crate::registers::{Registers, two_to};
-use hll_kernels::groups::{all_zero_in, max_groups_into, register_at};
+use hll_base::error::Error;
+use hll_kernels::groups::{
+    all_zero_in, count_zeros_in, max_groups_into, register_at, weight_sums_in,
+};
+use hll_kernels::kernels::WeightSums;
+use std::alloc::Allocator;
 use std::marker::Model;
 
 /// 2^`lg_k` borrowed registers, four of them in three bytes, with their estimate state.
@@ -54,11 +63,40 @@ impl<'a> GroupSlice<'a> {
         GroupSlice { state, ..self }
     }
 
+    /// The image of these registers with another state (docs/FORMAT.md, "What is written"). One pass that counts zeros, and
+    /// a copy.
+    ///
+    /// Fails with `Memory`.
+    pub fn image_with<A: Allocator>(
+        &self,
+        alloc: A,
+        state: EstimateState,
+    ) -> Result<Vec<u8, A>, Error>
+        ensures ok { IfOk result (λ image. image.items ≡ hll6_bytes self.now.lg_k self.now.registers state) }
+        ensures err { IfErr result (λ e. e ≡ Memory) }
+    {
+        six_bit_image(alloc, self.lg_k, self.groups, self.num_zeros(), state)
+    }
+
+    /// How many registers are 0. One pass.
+    pub fn num_zeros(&self) -> u32
+        ensures { result ≡ zeros self.now.registers }
+    {
+        count_zeros_in(self.groups) as u32
+    }
+
     /// Whether all registers are 0.
     pub fn are_all_zero(&self) -> bool
         ensures { result ≡ list_all (λ v. v == 0) self.now.registers }
     {
         all_zero_in(self.groups)
+    }
+
+    /// Whether the registers are the same as others. One pass over the groups.
+    pub fn has_same_registers(&self, other: &GroupSlice<'_>) -> bool
+        ensures { IsTrue result ↔ (self.now.registers ≡ other.now.registers) }
+    {
+        self.groups.as_flattened() == other.groups.as_flattened()
     }
 }
 
@@ -79,6 +117,11 @@ impl<'a> Registers for GroupSlice<'a> {
 
     fn estimate_state(&self) -> EstimateState {
         self.state
+    }
+
+    /// One pass.
+    fn weight_sums(&self) -> WeightSums {
+        weight_sums_in(self.groups)
     }
 
     /// One pass, by groups.

@@ -9,6 +9,7 @@ ghost use Rattle.hll_base.specs.declared.hll_type.HllType.TheVariants.{Hll4};
 ghost use Rattle.hll_coupons.specs.Coupons.{coupon_bytes, WritesAscending};
 ghost use Rattle.hll_coupons.specs.Pair.{set_of};
 ghost use Rattle.hll_kernels.specs.Packed.{minimum, count_at_minimum, nibble, nibble_at, nibble_bytes, zero_nibbles, zeros, AreRegisters};
+ghost use Rattle.hll_kernels.specs.WeightSums.{AreSumsOf};
 ghost use Rattle.hll_registers.specs.Exceptions.{exceptions};
 ghost use Rattle.hll_registers.specs.FourBits.{exception_in, exception_of, unboxed, unpacked, ExceptionsMove, IsMapFor, IsSlotOf};
 ghost use Rattle.hll_registers.specs.Payload.{Agrees};
@@ -19,10 +20,11 @@ use crate::exception_map::{
     exceptions_of, has_many_buckets, have_same_exceptions, max_with_registers, put_exception,
     register_at, repack, replace_by, with_exceptions,
 };
+use crate::nibble_sums::sums_of_few;
 use crate::registers::two_to;
 use hll_base::codec::SketchBytes;
 use hll_base::error::Error;
-use hll_kernels::kernels::least_of;
+use hll_kernels::kernels::{WeightSums, least_of};
 use hll_kernels::nibbles::{MARK, count_zero_nibbles, nibble_of, packed_nibbles, put_nibble};
 use std::alloc::Allocator;
 use std::marker::Model;
@@ -177,6 +179,26 @@ impl<A: Allocator> NibbleRegisters<A> {
         has_many_buckets(&self.exceptions)
     }
 
+    /// The sums of 2^-v over at most 128 registers v from `first` on.
+    ///
+    /// These registers exist, and `first` and their number are multiples of four.
+    pub fn weight_sums_of_few(&self, first: usize, size: usize) -> WeightSums
+        requires within { first + size ≤ 2 ^ self.now.lg_k }
+        requires aligned { first % 4 ≡ 0 }
+        requires groups { size % 4 ≡ 0 }
+        requires few { size ≤ 128 }
+        ensures { AreSumsOf result (take size (drop first self.now.registers)) }
+    {
+        sums_of_few(
+            first,
+            size,
+            &self.nibbles,
+            &self.exceptions,
+            self.lg_k,
+            self.minimum,
+        )
+    }
+
     /// Raises each value to the greater of itself and register `first + i`, for value i. One pass, and a search for each
     /// exception, or one through the map where a search is long.
     pub fn max_into(&self, first: u32, values: &mut [u8])
@@ -272,7 +294,7 @@ impl<A: Allocator + Clone> NibbleRegisters<A> {
         })
     }
 
-    /// A buffer with the nibbles and the exceptions appended to it, these as coupons in ascending raw coupons. Takes
+    /// A buffer with the nibbles and the exceptions appended to it, these as coupons in ascending order. Takes
     /// memory for a sorted copy of the exceptions, where there are any. Fails with `Memory`.
     pub fn with_written(&self, mut bytes: SketchBytes<A>) -> Result<SketchBytes<A>, Error>
         ensures ok { IfOk result (WritesAscending (λ order. (bytes ++ nibble_bytes self.now.registers) ++ coupon_bytes order) (set_of (exceptions self.now.registers))) }

@@ -1,10 +1,10 @@
 // SPDX-License-Identifier: Apache-2.0
 //! A slice of nibbles above a minimum, with a map of exceptions, as registers of four bits (docs/MODEL.md, "Registers of
 //! four bits").
-ghost use Rattle.std.specs.Prelude.{◌≡◌, ◌*◌, ◌^◌, ◌<◌, ◌≤◌, ◌==◌, ℕ, length, IfSome, IfOk, IfErr, OnOk};
+ghost use Rattle.std.specs.Prelude.{◌≡◌, ◌*◌, ◌^◌, ◌<◌, ◌≤◌, ◌==◌, ◌↔◌, ℕ, length, IsTrue, IfSome, IfOk, IfErr, OnOk};
 ghost use Rattle.std.specs.List.{list_all};
 ghost use Rattle.hll_base.specs.declared.error.Reason.TheVariants.{Memory, Register};
-ghost use Rattle.hll_kernels.specs.Packed.{mark_nibbles, nibble_at, zero_nibbles};
+ghost use Rattle.hll_kernels.specs.Packed.{mark_nibbles, nibble_at, zero_nibbles, zeros};
 ghost use Rattle.hll_registers.specs.FourBits.{exception_in, unboxed, unpacked, IsMapFor};
 ghost use Rattle.hll_registers.specs.Payload.{Agrees};
 ghost use Rattle.hll_registers.specs.State.{cleared_state, IsState};
@@ -13,9 +13,11 @@ use crate::agreement::agree;
 use crate::estimate_state::EstimateState;
 use crate::exception_map::{Exceptions, has_many_buckets, max_with_registers, register_at};
 use crate::nibble_registers::NibbleRegisters;
+use crate::nibble_sums::sums_of_few;
 use crate::registers::{Registers, two_to};
+use crate::same_registers::{are_all_in, have_same_registers};
 use hll_base::error::{Error, Reason};
-use hll_kernels::kernels::all_zero;
+use hll_kernels::kernels::{WeightSums, all_zero};
 use hll_kernels::nibbles::{count_mark_nibbles, count_zero_nibbles, count_zeros_and_marks};
 use std::alloc::Allocator;
 use std::marker::Model;
@@ -130,11 +132,51 @@ impl<'a, A: Allocator> NibbleSlice<'a, A> {
         }
     }
 
+    /// How many registers are 0. One pass, where their nibbles were not counted and the minimum is 0.
+    pub fn num_zeros(&self) -> u32
+        ensures { result ≡ zeros self.now.registers }
+    {
+        if self.minimum > 0 {
+            return 0;
+        }
+        match self.zeros {
+            Some(zeros) => zeros,
+            None => count_zero_nibbles(self.nibbles),
+        }
+    }
+
     /// Whether all registers are 0.
     pub fn are_all_zero(&self) -> bool
         ensures { result ≡ list_all (λ v. v == 0) self.now.registers }
     {
         self.minimum == 0 && all_zero(self.nibbles)
+    }
+
+    /// Whether the registers are the same as others of the same `lg_k`. One pass over the nibbles and the exceptions where the
+    /// minima are the same; else, or where a search for an exception is long, one over the registers, by blocks.
+    pub fn has_same_registers(&self, other: &NibbleSlice<'_, A>) -> bool
+        requires { self.now.lg_k ≡ other.now.lg_k }
+        ensures { IsTrue result ↔ (self.now.registers ≡ other.now.registers) }
+    {
+        match self.has_same_parts(other) {
+            Some(same) => same,
+            None => have_same_registers(self, other),
+        }
+    }
+
+    /// Whether the registers are the same as others of the same `lg_k`, where that follows from nibbles and exceptions, by short
+    /// searches. `None` where the minima differ, or a search was cut off.
+    fn has_same_parts(&self, other: &NibbleSlice<'_, A>) -> Option<bool>
+        requires { self.now.lg_k ≡ other.now.lg_k }
+        ensures { IfSome result (λ same. IsTrue same ↔ (self.now.registers ≡ other.now.registers)) }
+    {
+        if self.minimum != other.minimum {
+            return None;
+        }
+        if self.nibbles != other.nibbles {
+            return Some(false);
+        }
+        are_all_in(&self.exceptions, &other.exceptions, self.lg_k)
     }
 }
 
@@ -199,6 +241,17 @@ impl<'a, A: Allocator> Registers for NibbleSlice<'a, A> {
 
     fn is_slow_in_small_blocks(&self) -> bool {
         has_many_buckets(&self.exceptions)
+    }
+
+    fn weight_sums_of_few(&self, first: usize, size: usize) -> WeightSums {
+        sums_of_few(
+            first,
+            size,
+            self.nibbles,
+            &self.exceptions,
+            self.lg_k,
+            self.minimum,
+        )
     }
 
     /// One pass, and a search for each exception.

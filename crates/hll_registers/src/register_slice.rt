@@ -1,13 +1,18 @@
 // SPDX-License-Identifier: Apache-2.0
 //! A slice of bytes as registers.
-ghost use Rattle.std.specs.Prelude.{◌≡◌, ◌≤◌, ◌==◌};
+ghost use Rattle.std.specs.Prelude.{◌≡◌, ◌≤◌, ◌==◌, ◌↔◌, IsTrue, IfOk, IfErr};
 ghost use Rattle.std.specs.List.{list_all};
+ghost use Rattle.hll_base.specs.declared.error.Reason.TheVariants.{Memory};
+ghost use Rattle.hll_registers.specs.Payload.{hll8_bytes};
 ghost use Rattle.hll_registers.specs.State.{cleared_state, IsState};
-ghost use Rattle.hll_kernels.specs.Packed.{AreRegisters};
+ghost use Rattle.hll_kernels.specs.Packed.{AreRegisters, zeros};
 
 use crate::estimate_state::EstimateState;
+use crate::plain_images::eight_bit_image;
 use crate::registers::Registers;
-use hll_kernels::kernels::{all_zero, max_into};
+use hll_base::error::Error;
+use hll_kernels::kernels::{WeightSums, all_zero, count_zeros, max_into, weight_sums};
+use std::alloc::Allocator;
 use std::marker::Model;
 
 /// 2^`lg_k` borrowed registers, one byte each, with their estimate state.
@@ -51,11 +56,40 @@ impl<'a> RegisterSlice<'a> {
         RegisterSlice { state, ..self }
     }
 
+    /// The image of these registers with another state (docs/FORMAT.md, "What is written"). One pass that counts zeros, and
+    /// a copy.
+    ///
+    /// Fails with `Memory`.
+    pub fn image_with<A: Allocator>(
+        &self,
+        alloc: A,
+        state: EstimateState,
+    ) -> Result<Vec<u8, A>, Error>
+        ensures ok { IfOk result (λ image. image.items ≡ hll8_bytes self.now.lg_k self.now.registers state) }
+        ensures err { IfErr result (λ e. e ≡ Memory) }
+    {
+        eight_bit_image(alloc, self.lg_k, self.values, self.num_zeros(), state)
+    }
+
+    /// How many registers are 0. One pass.
+    pub fn num_zeros(&self) -> u32
+        ensures { result ≡ zeros self.now.registers }
+    {
+        count_zeros(self.values) as u32
+    }
+
     /// Whether all registers are 0.
     pub fn are_all_zero(&self) -> bool
         ensures { result ≡ list_all (λ v. v == 0) self.now.registers }
     {
         all_zero(self.values)
+    }
+
+    /// Whether the registers are the same as others. One pass.
+    pub fn has_same_registers(&self, other: &RegisterSlice<'_>) -> bool
+        ensures { IsTrue result ↔ (self.now.registers ≡ other.now.registers) }
+    {
+        self.values == other.values
     }
 }
 
@@ -76,6 +110,11 @@ impl<'a> Registers for RegisterSlice<'a> {
 
     fn estimate_state(&self) -> EstimateState {
         self.state
+    }
+
+    /// One pass.
+    fn weight_sums(&self) -> WeightSums {
+        weight_sums(self.values)
     }
 
     /// One pass.

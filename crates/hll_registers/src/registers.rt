@@ -33,12 +33,11 @@ pub trait Registers {
     fn estimate_state(&self) -> EstimateState
         ensures { result ≡ (stored self.now).state };
 
-    /// The sums of 2^-v over the registers v. One pass. An implementation may go over its own bytes; this body takes at
-    /// most 16,384 registers at a time.
+    /// The sums of 2^-v over the registers v. One pass, by blocks.
     fn weight_sums(&self) -> WeightSums
         ensures { AreSumsOf result (stored self.now).registers }
     {
-        let lg_size = self.lg_k().min(14);
+        let lg_size = self.lg_k().min(lg_block(self.is_slow_in_small_blocks()));
         let size = two_to(lg_size);
         let mut sums = WeightSums { low: 0, high: 0 };
         for block in 0..two_to(self.lg_k() - lg_size) {
@@ -58,7 +57,26 @@ pub trait Registers {
         requires legal { IsStored (stored self.now) }
         ensures { AreSumsOf result (take size (drop first (stored self.now).registers)) }
     {
+        if size <= 128 {
+            return self.weight_sums_of_few(first, size);
+        }
         let mut registers = [0; 16384];
+        self.max_into(first as u32, &mut registers[..size]);
+        weight_sums(&registers[..size])
+    }
+
+    /// The sums of 2^-v over at most 128 registers v from `first` on. An implementation may go over its own bytes.
+    ///
+    /// These registers exist, and `first` and their number are multiples of four.
+    fn weight_sums_of_few(&self, first: usize, size: usize) -> WeightSums
+        requires within { first + size ≤ 2 ^ (stored self.now).lg_k }
+        requires aligned { first % 4 ≡ 0 }
+        requires groups { size % 4 ≡ 0 }
+        requires few { size ≤ 128 }
+        requires legal { IsStored (stored self.now) }
+        ensures { AreSumsOf result (take size (drop first (stored self.now).registers)) }
+    {
+        let mut registers = [0; 128];
         self.max_into(first as u32, &mut registers[..size]);
         weight_sums(&registers[..size])
     }
@@ -103,6 +121,14 @@ pub fn two_to(lg_k: u8) -> usize
     ensures { result ≡ 2 ^ lg_k }
 {
     1 << lg_k
+}
+
+/// The logarithm of the number of registers whose weights are summed at a time.
+fn lg_block(is_slow_in_small_blocks: bool) -> u8
+    ensures least { 7 ≤ result }
+    ensures most { result ≤ 14 }
+{
+    if is_slow_in_small_blocks { 14 } else { 7 }
 }
 
 /// How many registers are 0 once this one of them is greater, where it is known how many there were before.

@@ -1,6 +1,6 @@
 -- SPDX-License-Identifier: Apache-2.0
 -- Images of coupons in order, and the union of two.
-use Rattle.std.proofs.Common.{◌≡◌, ◌≢◌, ℕ, suc, ◌+◌, ◌-◌, ◌/◌, ◌%◌, ◌^◌, ◌<◌, ◌∷◌, ◌&&◌, true, false, nat_eq, List, length, take, drop, get_or, Option, Some, None, refl, sym, ap, subst, ◌∙◌, arith}
+use Rattle.std.proofs.Common.{◌≡◌, ◌≢◌, ℕ, suc, ◌+◌, ◌-◌, ◌/◌, ◌%◌, ◌^◌, ◌<◌, ◌≤◌, [], ◌∷◌, ◌&&◌, true, false, nat_eq, List, length, take, drop, get_or, Option, Some, None, refl, sym, ap, subst, ◌∙◌, arith}
 use Rattle.std.specs.FinSet.{union, len, len-empty}
 use Rattle.std.specs.Ordering.{nat_cmp}
 use Rattle.std.specs.List.Sorted.{IsStrictlyIncreasing}
@@ -12,11 +12,11 @@ use Rattle.hll_coupons.specs.Pair.{Pairs, set_of}
 use Rattle.hll_coupons.specs.Coupons.{coupon_bytes, IsAscending, WritesAscending}
 use Rattle.hll_coupons.proofs.Ascending.{len-ascending}
 use Rattle.hll_coupons.proofs.Merging.{count_in_bytes}
-use Rattle.hll_sketch.specs.Adding.{add, content_for}
-use Rattle.hll_sketch.specs.CouponImages.{IsInOrder, IsImageOfTable, HaveUnionInTable, IsImageOfUnion, AreBothRead, IsImageAt}
+use Rattle.hll_sketch.specs.Adding.{add, content_for, content_with}
+use Rattle.hll_sketch.specs.CouponImages.{IsInOrder, IsImageOfTable, HaveUnionInTable, IsImageOfUnion, AreBothRead, IsImageAt, IsImageOfBoth, IsImageWith}
 use Rattle.hll_sketch.specs.Header.{header_of}
 use Rattle.hll_sketch.specs.declared.header.Header.{Header}
-use Rattle.hll_sketch.specs.Image.{AreBytes, byte, lg_k_byte, table_byte, width_bits, width_of_bits, HasHeader, list, set, hll8, hll6, hll4}
+use Rattle.hll_sketch.specs.Image.{AreBytes, IsReadAs, byte, lg_k_byte, table_byte, width_bits, width_of_bits, HasHeader, list, set, hll8, hll6, hll4}
 use Rattle.hll_sketch.specs.Merging.{merge, merge_content, empty_union}
 use Rattle.hll_sketch.specs.Stage.{stage}
 use Rattle.hll_sketch.specs.MergedIn.{IsOfCoupons}
@@ -24,7 +24,9 @@ use Rattle.hll_sketch.specs.Value.{Sketch, Content, coupons, registers, in_regis
 use Rattle.hll_sketch.specs.Written.{coupon_image, Written}
 use Rattle.hll_sketch.proofs.Images.{at}
 use Rattle.hll_sketch.proofs.LegalSketches.{legal_size}
-use Rattle.hll_sketch.proofs.MergedImages.{read_is_legal}
+use Rattle.hll_sketch.proofs.MergedImages.{read_is_legal, one_read}
+use Rattle.hll_sketch.proofs.Adding.{add_each}
+use Rattle.hll_sketch.specs.Laws.{add_in_turn}
 
 -- ---- what an image of coupons says
 
@@ -77,6 +79,10 @@ module _ (b order : List ℕ) (of : IsOfCoupons b order) where
       number = number;
     };
   }
+
+  -- each sketch that it is read as has the width that its header says
+  pub width_in_header : (h : Header) → h ≡ header_of b → (x : Sketch) → IsReadAs b x → x.width ≡ h.hll_type
+  width_in_header h is x read = ap (λ (y : Sketch). y.width) (one_read b x of.sketch read of.read) ∙ coupons_have ∙ sym (ap (λ (i : Header). i.hll_type) is)
 
   -- an image whose coupons are in order
   pub in_order : (k size : ℕ) → k ≡ lg_k_byte b → size ≡ table_byte b → IsStrictlyIncreasing order → IsInOrder b k size order
@@ -137,17 +143,23 @@ module _ (k p : ℕ) (xs ys bytes : List ℕ) (up : WritesAscending coupon_bytes
   pub table_of_union : (size : ℕ) → stage k p n ≡ Some size → (order : List ℕ) × (bytes ≡ coupon_bytes order) × IsTableFor k (length order) size
   table_of_union size held = (up.order, up.is, subst (λ m. IsTableFor k m size) (number ∙ sym (len-ascending up.order (union (set_of xs) (set_of ys)) up.ascending)) (legal_size k p n size held))
 
-module _ (k kl kr p q : ℕ) (left right xs ys bytes : List ℕ) (l : IsInOrder left kl p xs) (r : IsInOrder right kr q ys) (at_k : kl ≡ k)
-    (up : WritesAscending coupon_bytes (union (set_of xs) (set_of ys)) bytes) (n : ℕ) (count : n ≡ length bytes / 4) where
-  held_in : (o : Option ℕ) → stage k p n ≡ o → stage k p (len (union (set_of xs) (set_of ys))) ≡ o
-  held_in o held = ap (stage k p) (sym (number k p xs ys bytes up n count)) ∙ held
+  pub image_of_both : (size : ℕ) (width : HllType) (image : List ℕ) → stage k p n ≡ Some size → ((order : List ℕ) → bytes ≡ coupon_bytes order → image ≡ coupon_image k width size order)
+      → IsImageOfBoth k width p xs ys image
+  image_of_both size width image held is = record {
+    size_of_both = size;
+    held = ap (stage k p) (sym number) ∙ held;
+    written = record { order = up.order; ascending = up.ascending; is = is up.order up.is };
+  }
 
-  pub image_of_union : (size : ℕ) (width : HllType) (image : List ℕ) → stage k p n ≡ Some size → IsLgK kl → ((order : List ℕ) → bytes ≡ coupon_bytes order → image ≡ coupon_image k width size order)
-      → IsImageOfUnion k width left right image
-  image_of_union size width image held legal is =
+  pub none_of_both : stage k p n ≡ None → stage k p (len (union (set_of xs) (set_of ys))) ≡ None
+  none_of_both none = ap (stage k p) (sym number) ∙ none
+
+module _ (k kl kr p q : ℕ) (left right xs ys : List ℕ) (l : IsInOrder left kl p xs) (r : IsInOrder right kr q ys) (at_k : kl ≡ k) where
+  pub image_of_union : (width : HllType) (image : List ℕ) → IsLgK kl → IsImageOfBoth k width p xs ys image → IsImageOfUnion k width left right image
+  image_of_union width image legal both =
       let U : Pairs = union (set_of xs) (set_of ys) in
-      let same : merge k (merge k (empty_union k) l.sketch) r.sketch ≡ record { lg_k = k; width = Hll8; content = coupons U size } =
-      merged k l.sketch r.sketch (set_of xs) (set_of ys) p q (l.lg_k ∙ at_k) l.content r.content l.some r.some (Some size) (held_in (Some size) held) in
+      let same : merge k (merge k (empty_union k) l.sketch) r.sketch ≡ record { lg_k = k; width = Hll8; content = coupons U both.size_of_both } =
+      merged k l.sketch r.sketch (set_of xs) (set_of ys) p q (l.lg_k ∙ at_k) l.content r.content l.some r.some (Some both.size_of_both) both.held in
       record {
         bound_is = subst IsLgK at_k legal;
         left_sketch = l.sketch;
@@ -155,14 +167,14 @@ module _ (k kl kr p q : ℕ) (left right xs ys bytes : List ℕ) (l : IsInOrder 
         right_sketch = r.sketch;
         right_read = r.read;
         in_table = ap (λ (z : Sketch). in_registers z.content) same;
-        written = subst (λ (z : Sketch). Written image (record z { width = width })) (sym same) (record { order = up.order; ascending = up.ascending; is = is up.order up.is });
+        written = subst (λ (z : Sketch). Written image (record z { width = width })) (sym same) both.written;
       }
 
   -- no table holds it
-  pub no_table : stage k p n ≡ None → HaveUnionInTable k left right → ⊥
+  pub no_table : stage k p (len (union (set_of xs) (set_of ys))) ≡ None → HaveUnionInTable k left right → ⊥
   no_table none have =
       let full : merge k (merge k (empty_union k) l.sketch) r.sketch ≡ record { lg_k = k; width = Hll8; content = content_for k (union (set_of xs) (set_of ys)) None } =
-      merged k l.sketch r.sketch (set_of xs) (set_of ys) p q (l.lg_k ∙ at_k) l.content r.content l.some r.some None (held_in None none) in
+      merged k l.sketch r.sketch (set_of xs) (set_of ys) p q (l.lg_k ∙ at_k) l.content r.content l.some r.some None none in
       true≢false (sym (ap (λ (z : Sketch). in_registers z.content) full) ∙ (have.held l.sketch r.sketch l.read r.read).in_table)
 
 module _ (k kl kr p q : ℕ) (left right xs ys : List ℕ) (l : IsInOrder left kl p xs) (r : IsInOrder right kr q ys) where
@@ -201,3 +213,36 @@ module _ (k size : ℕ) (b xs : List ℕ) (of : IsInOrder b k size xs) where
       let legal : IsLegal of.sketch = read_is_legal b of.sketch are of.read in
       let table : IsTableFor of.sketch.lg_k (len (set_of xs)) size = (subst (IsLegalContent of.sketch.lg_k) of.content legal.content).1 in
       subst (λ n. IsTableFor n (length xs) size) of.lg_k (subst (λ n. IsTableFor of.sketch.lg_k n size) (sym (len-ascending xs (set_of xs) own_order)) table)
+
+-- ---- one image with more coupons
+
+all_added : (x : Sketch) (cs : List ℕ) → 1 ≤ length cs → add_in_turn x cs ≡ add x (set_of cs)
+all_added x [] some = absurd (omega (arith, some))
+all_added x (c ∷ cs) some = add_each x c cs
+
+module _ (k p : ℕ) (b xs cs ys image : List ℕ) (width : HllType) (of : IsInOrder b k p xs) (width_is : of.sketch.width ≡ width) (some : 1 ≤ length cs) (members : set_of ys ≡ set_of cs)
+    (both : IsImageOfBoth k width p xs ys image) where
+  abbrev U : Pairs
+  U = union (set_of xs) (set_of ys)
+
+  abbrev with_content : Content → Sketch
+  with_content content = record of.sketch { content = content }
+
+  added : add_in_turn of.sketch cs ≡ with_content (coupons U both.size_of_both)
+  added =
+      all_added of.sketch cs some ∙ ap (add of.sketch) (sym members)
+      ∙ ap (λ c. with_content (content_with of.sketch.lg_k c (set_of ys))) of.content
+      ∙ ap (λ n. with_content (content_for of.sketch.lg_k U (stage n p (len U)))) of.lg_k
+      ∙ ap (λ o. with_content (content_for of.sketch.lg_k U o)) both.held
+
+  pub image_with : IsImageWith cs b image
+  image_with = record {
+    sketch = of.sketch;
+    read = of.read;
+    in_table = ap (λ (z : Sketch). in_registers z.content) added;
+    written = subst (Written image) (sym added) (record {
+      order = both.written.order;
+      ascending = both.written.ascending;
+      is = both.written.is ∙ (λ i. coupon_image (sym of.lg_k i) (sym width_is i) both.size_of_both both.written.order);
+    });
+  }

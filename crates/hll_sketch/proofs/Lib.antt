@@ -21,6 +21,7 @@ pub mod Headers
 mod ImageRegisters
 mod ImageSizes
 pub mod Images
+mod ImagesOfCoupons
 pub mod InPlace
 pub mod Joined
 pub mod MaxBytes
@@ -40,6 +41,7 @@ pub mod Promoting
 pub mod AddedToRegisters
 pub mod ReadBack
 pub mod Refusals
+pub mod RegisterImages
 pub mod Regrouping
 pub mod SameLemmas
 pub mod SetFields
@@ -47,5 +49,6 @@ mod SizedImages
 pub mod SortedCoupons
 pub mod Stages
 pub mod Steps
+pub mod Turns
 pub mod Waiting
 pub mod Written

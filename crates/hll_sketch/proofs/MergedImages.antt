@@ -97,7 +97,7 @@ registers_taken u v b x of some bound merged bytes =
 -- ---- what may need memory
 
 -- bytes are read as one sketch alone
-one_read : (b : List ℕ) (x y : Sketch) → IsReadAs b x → IsReadAs b y → x ≡ y
+pub one_read : (b : List ℕ) (x y : Sketch) → IsReadAs b x → IsReadAs b y → x ≡ y
 one_read b x y here there =
     (one_image (take here.size b) (take there.size b) (drop here.size b) (drop there.size b) x y here.image there.image
     (take-append-drop here.size b ∙ sym (take-append-drop there.size b))).1

@@ -1,9 +1,23 @@
 -- SPDX-License-Identifier: Apache-2.0
--- Raw coupons that are read into numbers, and numbers that are written as raw coupons.
-use Rattle.std.proofs.Common.{◌≡◌, ℕ, ◌+◌, ◌-◌, ◌*◌, ◌<◌, ◌≤◌, List, [], ◌∷◌, ◌++◌, length, take, drop, set, refl, sym, ap, ◌∙◌, arith}
+-- Raw coupons that are read into numbers, sorted, and written as raw coupons.
+use Rattle.std.proofs.Common.{◌≡◌, ℕ, ◌+◌, ◌-◌, ◌*◌, ◌^◌, ◌<◌, ◌≤◌, true, List, [], ◌∷◌, ◌++◌, length, take, drop, set, inl, inr, refl, sym, ap, subst, ◌∙◌, arith}
+use Rattle.std.specs.Ordering.{nat_cmp}
+use Rattle.std.specs.List.Sorted.{IsSorted, IsPermutation, IsStrictlyIncreasing}
+use Rattle.std.proofs.lemmas.Bool.{true≢false}
+use Rattle.std.proofs.lemmas.List.Elements.{All-head}
+use Rattle.std.proofs.lemmas.List.Sorted.{All-permutation, IsPermutation-sym}
 use Rattle.std.specs.Int.{w32, from_le_bytes}
 use Rattle.std.proofs.lemmas.List.{length-set, length-drop, drop-drop, take_more_set}
-use Rattle.hll_coupons.specs.Coupons.{raw_coupons}
+use Rattle.hll_coupons.specs.Coupons.{raw_coupons, AreCoupons}
+use Rattle.hll_coupons.specs.Pair.{set_of, value_of}
+use Rattle.hll_coupons.proofs.Ascending.{ascending_from_sort, distinct-sorted, set_of-permutation}
+use Rattle.hll_coupons.proofs.Merging.{increasing_more}
+use Rattle.hll_sketch.specs.Borrowed.{AreEvidentlyCoupons}
+use Rattle.hll_sketch.specs.CouponImages.{HasEvidentCoupons}
+use Rattle.hll_sketch.specs.Image.{is_flagged}
+use Rattle.hll_sketch.specs.MergedIn.{raw_coupons_in}
+use Rattle.hll_sketch.proofs.BorrowedCoupons.{increasing_coupons}
+use Rattle.hll_sketch.proofs.CouponImages.{ascends_after}
 use Rattle.hll_sketch.proofs.Differing.{one_more}
 
 -- the raw coupons so far are the numbers in front
@@ -24,3 +38,34 @@ read_more index count b cursor numbers so less few w rest is rest_is = record {
   size = length-set numbers index w ∙ so.size;
   read = take_more_set numbers index w (omega (arith, less, few, so.size)) ∙ ap (λ ws. ws ++ w ∷ []) so.read ∙ sym (one_more index w b cursor so.after is);
 }
+
+-- ---- what the sorted numbers tell of the raw coupons
+
+-- a sorted copy has the same members
+pub sorted_members : (all copy ys : List ℕ) → copy ≡ all → IsPermutation copy ys → set_of ys ≡ set_of all
+sorted_members all copy ys same p = set_of-permutation copy ys p ∙ ap set_of same
+
+-- a list of which the sorted copy ascends from the last number without a value is one of coupons
+pub coupons_from_sorted : (all copy ys : List ℕ) → copy ≡ all → IsPermutation copy ys → IsStrictlyIncreasing ((2 ^ 26 - 1) ∷ ys) → AreCoupons all
+coupons_from_sorted all copy ys same p up =
+    let q : IsPermutation all ys = subst (λ xs. IsPermutation xs ys) same p in
+    record {
+      valued = All-permutation (λ c. 1 ≤ value_of c) ys all (IsPermutation-sym all ys q) (increasing_coupons ys up).valued;
+      distinct = distinct-sorted all copy ys same p (ascends_after ys up);
+    }
+
+-- the sorted copy of coupons ascends from there
+pub sorted_from_coupons : (all copy ys : List ℕ) → copy ≡ all → IsPermutation copy ys → IsSorted nat_cmp ys → AreCoupons all → IsStrictlyIncreasing ((2 ^ 26 - 1) ∷ ys)
+sorted_from_coupons all copy [] same p up are = λ k within. absurd (omega (arith, within))
+sorted_from_coupons all copy (y ∷ ys) same p up are =
+    let q : IsPermutation all (y ∷ ys) = subst (λ xs. IsPermutation xs (y ∷ ys)) same p in
+    let valued : 1 ≤ value_of y = All-head (λ c. 1 ≤ value_of c) y ys (All-permutation (λ c. 1 ≤ value_of c) all (y ∷ ys) q are.valued) in
+    (increasing_more (2 ^ 26 - 1) y ys).1 (omega (arith, valued), (ascending_from_sort all copy (y ∷ ys) same are.distinct p up).increasing)
+
+-- ---- images without evident coupons
+
+-- the raw coupons of a compact image that neither ascend nor are few coupons are none that one pass tells to be such
+pub not_evident : (b xs : List ℕ) → xs ≡ raw_coupons_in b → is_flagged 8 b ≡ true → (IsStrictlyIncreasing ((2 ^ 26 - 1) ∷ xs) → ⊥) → (length xs ≤ 128 → AreCoupons xs → ⊥)
+    → HasEvidentCoupons b → ⊥
+not_evident b xs same compact falls apart (inl has) = elim (subst AreEvidentlyCoupons (sym same) has.evident) [ inl up ↦ falls up | inr few ↦ apart few.0 few.1 ]
+not_evident b xs same compact falls apart (inr placed) = true≢false (sym compact ∙ placed.updatable)

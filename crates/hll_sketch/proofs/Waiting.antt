@@ -1,18 +1,21 @@
 -- SPDX-License-Identifier: Apache-2.0
 -- Coupons that wait to be added to a union, in the terms of the definitions.
-use Rattle.std.proofs.Common.{◌≡◌, ℕ, ◌^◌, ◌≤◌, ◌<◌, true, false, ◌||◌, nat_eq, eqb, List, [], ◌∷◌, ◌++◌, Option, Some, None, All, Result, Ok, Err, IfOk, length, get_or, refl, sym, ap, subst, ◌∙◌, arith, inl, inr}
+use Rattle.std.proofs.Common.{◌≡◌, ℕ, ◌^◌, ◌≤◌, ◌<◌, true, false, ◌||◌, nat_eq, eqb, List, [], ◌∷◌, ◌++◌, Option, Some, None, All, Result, Ok, Err, OnOk, OnErr, length, get_or, refl, sym, ap, subst, ◌∙◌, arith, inl, inr}
 use Rattle.std.specs.Ordering.{nat_cmp}
 use Rattle.std.specs.Cmp.{nat_cmp_total}
 use Rattle.std.specs.FinSet.{empty, union, len, len-empty, empty_of_len, contains, contains-union, contains-from_list_nat, contains-empty}
 use Rattle.std.proofs.lemmas.Bool.{cases_Bool, eqb-true, ne_eqb, true≢false}
-use Rattle.std.proofs.lemmas.List.Elements.{All-nil, All-cons, All-head, All-tail, All-from_get_or}
+use Rattle.std.proofs.lemmas.List.{append-nil, length-append}
+use Rattle.std.proofs.lemmas.List.Elements.{All-from_get_or}
 use Rattle.std.proofs.lemmas.List.Folds.{list_any-append}
 use Rattle.std.proofs.Math.Pow.{pow_mono}
 use Rattle.hll_base.specs.declared.error.Reason.{Reason}
 use Rattle.hll_base.specs.declared.error.Reason.TheVariants.{Memory}
-use Rattle.hll_coupons.specs.Coupons.{AreCoupons}
+use Rattle.hll_coupons.specs.Coupons.{AreCoupons, IsAscending}
 use Rattle.hll_coupons.specs.Pair.{Pairs, IsPair, set_of}
+use Rattle.hll_coupons.proofs.Ascending.{distinct-ascending}
 use Rattle.hll_coupons.proofs.Listed.{contains-has, has-at}
+use Rattle.hll_coupons.proofs.Reading.{len-set_of-le}
 use Rattle.hll_coupons.proofs.Sizes.{inserted}
 use Rattle.hll_coupons.proofs.Unions.{same_members, set_of-nil, union_right}
 use Rattle.hll_sketch.specs.Image.{AreBytes, IsReadAs}
@@ -23,7 +26,8 @@ use Rattle.hll_sketch.specs.Value.{Sketch, Content, coupons, registers, in_regis
 use Rattle.hll_sketch.specs.Adding.{add, content_for, content_with}
 use Rattle.hll_sketch.specs.Merging.{merge, merge_content}
 use Rattle.hll_sketch.specs.Union.{IsGadget}
-use Rattle.hll_sketch.specs.Waiting.{with_coupons}
+use Rattle.hll_sketch.specs.Layout.{sketch_of}
+use Rattle.hll_sketch.specs.Waiting.{WaitingUnion, whole_gadget, with_coupons, MayWait}
 use Rattle.hll_sketch.proofs.Adding.{add_again, merge_of_some}
 use Rattle.hll_sketch.proofs.Gadgets.{gadget_with, false_unless}
 use Rattle.hll_sketch.proofs.LegalImages.{ArePairs-set_of}
@@ -95,9 +99,29 @@ pub added_none : (g : Sketch) (W : List ℕ) → length W ≡ 0 → g ≡ with_c
 added_none g [] none = refl
 added_none g (c ∷ cs) none = absurd (omega (arith, none))
 
-pub front_pairs : (xs ys : List ℕ) → All IsPair (xs ++ ys) → All IsPair xs
-front_pairs [] ys pairs = All-nil IsPair
-front_pairs (x ∷ xs) ys pairs = All-cons IsPair x xs (All-head IsPair x (xs ++ ys) pairs) (front_pairs xs ys (All-tail IsPair x (xs ++ ys) pairs))
+-- the same coupons, each once, may wait for them
+pub sorted_same : (g : Sketch) (W V : List ℕ) → set_of V ≡ set_of W → with_coupons g V ≡ with_coupons g W
+sorted_same g [] [] e = refl
+sorted_same g [] (c ∷ cs) e = absurd (some_first c cs (e ∙ set_of-nil))
+sorted_same g (c ∷ cs) [] e = absurd (some_first c cs (sym e ∙ set_of-nil))
+sorted_same g (c ∷ cs) (d ∷ ds) e = ap (add g) e
+
+pub sorted_waits : (g : Sketch) (W V : List ℕ) → IsAscending V (set_of W) → MayWait g W → MayWait g V
+sorted_waits g W V ascending may =
+    let fewer : length V ≤ length W = omega (arith, distinct-ascending V ascending.increasing, ap len ascending.members, len-set_of-le W) in
+    record {
+      in_table = λ one. may.in_table (omega (arith, one, fewer));
+      some = λ one. may.some (omega (arith, one, fewer));
+      few = omega (arith, may.few, fewer);
+    }
+
+-- as many more may wait as an image has, where a gadget has coupons
+pub more_wait : (g : Sketch) (W X V : List ℕ) → V ≡ W ++ X → length W < 2 ^ 18 → length X < 2 ^ 19 → in_registers g.content ≡ false → is_empty g ≡ false → MayWait g V
+more_wait g W X V is few others table some = record {
+  in_table = λ _. table;
+  some = λ _. some;
+  few = omega (arith, few, others, ap length is, length-append W X);
+}
 
 -- ---- images
 
@@ -130,7 +154,17 @@ module _ (b order : List ℕ) (of : IsOfCoupons b order) (are : AreCoupons order
       → with_coupons g (W ++ order) ≡ merge m (with_coupons g W) of.sketch
   merged_fields m g gadget legal table some W pairs = merged_waiting m g gadget legal table some of.sketch W order of.size pairs of.content some_in_image
 
--- what holds of a result where it is `Ok`, together
-pub both_ok : {X E : Type 0} (r : Result X E) (P Q : X → Type 0) → IfOk r P → IfOk r Q → IfOk r (λ x. P x × Q x)
-both_ok (Ok x) P Q p q = (p, q)
-both_ok (Err e) P Q p q = tt
+-- ---- unions
+
+module _ (b : WaitingUnion) (gadget : IsGadget b.lg_max_k (sketch_of b.kept)) (legal : IsLegal (sketch_of b.kept))
+    (table : in_registers (sketch_of b.kept).content ≡ false) (some : is_empty (sketch_of b.kept) ≡ false) (pairs : All IsPair b.waiting) where
+  -- where the coupons of a sketch wait too, the sketch is merged
+  pub more_waiting : (x : Sketch) (X : List ℕ) (size : ℕ) → x.content ≡ coupons (set_of X) size → is_empty x ≡ false
+      → whole_gadget (record b { waiting = b.waiting ++ X }) ≡ merge b.lg_max_k (whole_gadget b) x
+  more_waiting x X size is other = merged_waiting b.lg_max_k (sketch_of b.kept) gadget legal table some x b.waiting X size pairs is other
+
+-- what waits once coupons were appended, or not
+pub appended_wait : {E : Type 0} (g : Sketch) (r : Result (Unit {0}) E) (W X V : List ℕ) → OnOk r (V ≡ W ++ X) → OnErr r (V ≡ W) → length W < 2 ^ 18 → length X < 2 ^ 19
+    → in_registers g.content ≡ false → is_empty g ≡ false → MayWait g V
+appended_wait g (Ok x) W X V is same few others table some = more_wait g W X V is few others table some
+appended_wait g (Err e) W X V is same few others table some = more_wait g W [] V (same ∙ sym (append-nil W)) few (omega arith) table some

@@ -1,16 +1,19 @@
 -- SPDX-License-Identifier: Apache-2.0
 -- Images of coupons, and the image of their union (docs/MODEL.md, "Written images").
-use Rattle.std.specs.Prelude.{◌≡◌, ◌≢◌, ℕ, ◌⊎◌, false, List}
-use Rattle.std.specs.FinSet.{len}
+use Rattle.std.specs.Prelude.{◌≡◌, ◌≢◌, ℕ, ◌⊎◌, false, List, Some}
+use Rattle.std.specs.FinSet.{len, union}
 use Rattle.std.specs.List.Sorted.{IsStrictlyIncreasing}
 use Rattle.hll_base.specs.declared.hll_type.HllType.{HllType}
+use Rattle.hll_coupons.specs.Coupons.{WritesAscending}
 use Rattle.hll_coupons.specs.Pair.{Pairs, set_of}
 use Rattle.hll_sketch.specs.Image.{IsReadAs}
+use Rattle.hll_sketch.specs.Laws.{add_in_turn}
 use Rattle.hll_sketch.specs.Merging.{merge, empty_union}
 use Rattle.hll_sketch.specs.MergedIn.{HasCompactCoupons}
+use Rattle.hll_sketch.specs.Stage.{stage}
 use Rattle.hll_sketch.specs.Updatable.{HasUpdatableCoupons}
 use Rattle.hll_sketch.specs.Value.{Sketch, coupons, in_registers, IsLgK}
-use Rattle.hll_sketch.specs.Written.{Written}
+use Rattle.hll_sketch.specs.Written.{Written, coupon_image}
 
 -- the bytes are read as a sketch of these coupons, of which there are some, at an lg_k and in a table of 2^size buckets; and the list of them
 -- ascends
@@ -61,6 +64,20 @@ pub record IsImageOfUnion (bound : ℕ) (width : HllType) (left right bytes : Li
   pub right_read : IsReadAs right right_sketch
   pub in_table : in_registers (merge bound (merge bound (empty_union bound) left_sketch) right_sketch).content ≡ false
   pub written : Written bytes (record (merge bound (merge bound (empty_union bound) left_sketch) right_sketch) { width = width })
+
+-- The bytes are what is written, at an lg_k and a width, for the coupons of two lists, in the table that they get where those of the second are
+-- added to those of the first, whose table has 2^size buckets.
+pub record IsImageOfBoth (k : ℕ) (width : HllType) (size : ℕ) (xs ys bytes : List ℕ) : Type 0 where
+  pub size_of_both : ℕ
+  pub held : stage k size (len (union (set_of xs) (set_of ys))) ≡ Some size_of_both
+  pub written : WritesAscending (coupon_image k width size_of_both) (union (set_of xs) (set_of ys)) bytes
+
+-- the bytes are what is written for the sketch that an image is read as with coupons added in turn, which is not in registers
+pub record IsImageWith (added image bytes : List ℕ) : Type 0 where
+  pub sketch : Sketch
+  pub read : IsReadAs image sketch
+  pub in_table : in_registers (add_in_turn sketch added).content ≡ false
+  pub written : Written bytes (add_in_turn sketch added)
 
 -- both images are read, and the bound is one
 pub record AreBothRead (bound : ℕ) (left right : List ℕ) : Type 0 where

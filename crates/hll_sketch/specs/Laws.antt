@@ -1,8 +1,9 @@
 -- SPDX-License-Identifier: Apache-2.0
 -- The laws of adding and merging (docs/MODEL.md, "Laws of adding and merging").
-use Rattle.std.specs.Prelude.{◌≡◌, ℕ, true, List, [], ◌∷◌, ◌++◌}
+use Rattle.std.specs.Prelude.{◌≡◌, ℕ, ◌<◌, true, List, [], ◌∷◌, ◌++◌, length, take, fold}
 use Rattle.std.specs.FinSet.{union}
 use Rattle.hll_coupons.specs.Pair.{Pairs, set_of}
+use Rattle.hll_registers.specs.Store.{Stored, update_with_coupon}
 use Rattle.hll_sketch.specs.Value.{Sketch, is_empty, ArePairs, IsLegal}
 use Rattle.hll_base.specs.declared.error.Reason.{Reason}
 use Rattle.hll_sketch.specs.Adding.{add}
@@ -20,6 +21,18 @@ AddOfAdd = (x : Sketch) (T U : Pairs) → add (add x T) U ≡ add x (union T U)
 abbrev pub add_in_turn : Sketch → List ℕ → Sketch
 add_in_turn x [] = x
 add_in_turn x (c ∷ cs) = add_in_turn (add x (set_of (c ∷ []))) cs
+
+-- some of the coupons, the first of them, were added in turn
+pub record AddsSome (old new : Sketch) (cs : List ℕ) : Type 0 where
+  pub count : ℕ
+  pub less : count < length cs
+  pub added : new ≡ add_in_turn old (take count cs)
+
+-- some of the coupons, the first of them, were put in turn into registers
+pub record PutsSome (old new : Stored) (cs : List ℕ) : Type 0 where
+  pub count : ℕ
+  pub less : count < length cs
+  pub put : new ≡ fold update_with_coupon old (take count cs)
 
 -- after a list of updates the sketch depends on the set of its coupons alone
 abbrev pub AddEach : Type 0

@@ -2,6 +2,7 @@
 pub mod Adding
 pub mod Agree
 pub mod Borrowed
+pub mod BorrowedRegisters
 pub mod Checks
 pub mod CouponImages
 pub mod EstimatorFields
@@ -19,6 +20,8 @@ pub mod Merging
 pub mod PlainStates
 pub mod Promotion
 pub mod Refusal
+pub mod RegisterImages
+pub mod RegisterTotals
 pub mod Same
 pub mod Stage
 pub mod MergedIn

@@ -10,7 +10,7 @@ use Rattle.hll_registers.specs.Store.{Stored}
 use Rattle.hll_sketch.specs.Borrowed.{AreEvidentlyCoupons}
 use Rattle.hll_sketch.specs.Checks.{size_fault}
 use Rattle.hll_sketch.specs.Canonical.{IsCanonicalCleared}
-use Rattle.hll_sketch.specs.Image.{IsReadAs, stage_bits, width_bits, state_byte, is_flagged}
+use Rattle.hll_sketch.specs.Image.{IsReadAs, stage_bits, width_bits, width_of_bits, state_byte, is_flagged}
 use Rattle.hll_sketch.specs.Joined.{IsMergeOf}
 use Rattle.hll_sketch.specs.Merging.{merge}
 use Rattle.hll_sketch.specs.Union.{UnionLayout, gadget_of, MergeNeedsMemory}
@@ -39,6 +39,7 @@ pub record IsOfRegisters (bytes : List ℕ) (x : Stored) : Type 0 where
   pub sketch : Sketch
   pub read : IsReadAs bytes sketch
   pub lg_k : sketch.lg_k ≡ x.lg_k
+  pub width_is : sketch.width ≡ width_of_bits (width_bits bytes)
   pub content : sketch.content ≡ registers x.registers x.state
 
 -- ---- what may need memory

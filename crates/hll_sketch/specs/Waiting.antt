@@ -27,7 +27,7 @@ whole_gadget u = with_coupons (sketch_of u.kept) u.waiting
 pub record MayWait (g : Sketch) (waiting : List ℕ) : Type 0 where
   pub in_table : 1 ≤ length waiting → in_registers g.content ≡ false
   pub some : 1 ≤ length waiting → is_empty g ≡ false
-  pub few : length waiting < 2 ^ 18
+  pub few : length waiting < 2 ^ 20
 
 -- the sketch that an image is read as was merged
 pub record MergesInto (before after : WaitingUnion) (image : List ℕ) : Type 0 where

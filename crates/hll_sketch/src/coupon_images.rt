@@ -2,19 +2,22 @@
 //! Makes images of coupons from images of coupons, without a table: the union of two, and one image at another width.
 //! Coupons that ascend, as in images that this library wrote, are read in place. Up to 128 coupons in another order are
 //! sorted first.
-ghost use Rattle.std.specs.Prelude.{◌≡◌, ℕ, List, ◌≤◌, ◌<◌, true, IfSome, IfNone, IfOk, IfErr, OnErr, length};
+ghost use Rattle.std.specs.Prelude.{◌≡◌, ℕ, List, ◌≤◌, ◌<◌, true, None, IfSome, IfNone, IfOk, IfErr, OnErr, length};
+ghost use Rattle.std.specs.FinSet.{len, union};
 ghost use Rattle.std.specs.List.Sorted.{IsStrictlyIncreasing};
 ghost use Rattle.hll_base.specs.declared.error.Reason.TheVariants.{Memory};
 ghost use Rattle.hll_coupons.specs.Coupons.{coupon_bytes, raw_coupons};
-ghost use Rattle.hll_sketch.specs.CouponImages.{IsInOrder, IsImageOfTable, HasEvidentCoupons, HaveUnionInTable, IsImageOfUnion, AreBothRead, IsImageAt};
+ghost use Rattle.hll_coupons.specs.Pair.{set_of};
+ghost use Rattle.hll_sketch.specs.CouponImages.{IsInOrder, IsImageOfTable, HasEvidentCoupons, HaveUnionInTable, IsImageOfUnion, AreBothRead, IsImageAt, IsImageOfBoth, IsImageWith};
+ghost use Rattle.hll_sketch.specs.Stage as stages;
 ghost use Rattle.hll_sketch.specs.Image.{IsReadAs};
 ghost use Rattle.hll_sketch.specs.MergedIn.{HasCompactCoupons};
 ghost use Rattle.hll_sketch.specs.Value.{Sketch, IsLgK, IsTableFor};
 ghost use Rattle.hll_sketch.specs.Written as written;
 
-use crate::header::{Header, Stage};
-use crate::raw_coupons::{RawCoupons, compact_coupons, list_coupons, set_coupons};
-use crate::sorted::coupons_in_order;
+use crate::header::Header;
+use crate::raw_coupons::{RawCoupons, compact_coupons, counted_coupons};
+use crate::sorted::{coupons_in_order, sorted_numbers};
 use crate::stage::stage;
 use crate::updatable::ROOM;
 use hll_base::error::Error;
@@ -28,6 +31,8 @@ use std::alloc::Allocator;
 struct OrderedImage<'a> {
     /// The logarithm of the number of registers, 4 to 21.
     lg_k: u8,
+    /// The width that registers are to have.
+    hll_type: HllType,
     /// The logarithm of the number of buckets of its table.
     lg_size: u8,
     /// The coupons, in ascending order.
@@ -146,15 +151,124 @@ fn union_in_order<A: Allocator + Clone>(
     if left.lg_k != lg_max_k {
         return Ok(None);
     }
-    let coupons = union_of_ascending(
-        alloc.clone()?,
-        left.raw_coupons.all(),
-        right.raw_coupons.all(),
-    )?;
-    match stage(lg_max_k, left.lg_size, coupons.len() / COUPON_SIZE_BYTES) {
-        Some(lg_size) => Ok(Some(coupon_image(alloc, lg_max_k, hll_type, lg_size, &coupons)?)),
+    image_of_both(
+        alloc,
+        lg_max_k,
+        hll_type,
+        left.lg_size,
+        left.raw_coupons,
+        right.raw_coupons,
+    )
+}
+
+/// Returns the image, at an `lg_k` and a width, of the coupons of two lists in ascending order, those of the second added to those
+/// of the first, whose table has 2^`lg_size` buckets. `None` if no table holds them.
+///
+/// Allocates four bytes for each coupon of both, and then the image. Fails with `Memory`.
+// (in each of its callers, as `union_in_order`)
+#[inline(always)]
+fn image_of_both<A: Allocator + Clone>(
+    alloc: A,
+    lg_k: u8,
+    hll_type: HllType,
+    lg_size: u8,
+    left: RawCoupons<'_>,
+    right: RawCoupons<'_>,
+) -> Result<Option<Vec<u8, A>>, Error>
+    requires left { IsStrictlyIncreasing (raw_coupons left.count left.bytes.now) }
+    requires right { IsStrictlyIncreasing (raw_coupons right.count right.bytes.now) }
+    requires lg_k { IsLgK lg_k }
+    ensures some { IfOk result (λ found. IfSome found (λ image. IsImageOfBoth lg_k hll_type lg_size (raw_coupons left.entry.count left.entry.bytes.now) (raw_coupons right.entry.count right.entry.bytes.now) image.items)) }
+    ensures none { IfOk result (λ found. IfNone found (stages.stage lg_k lg_size (len (union (set_of (raw_coupons left.entry.count left.entry.bytes.now)) (set_of (raw_coupons right.entry.count right.entry.bytes.now)))) ≡ None)) }
+    ensures err { IfErr result (λ e. e ≡ Memory) }
+{
+    let coupons = union_of_ascending(alloc.clone()?, left.all(), right.all())?;
+    match stage(lg_k, lg_size, coupons.len() / COUPON_SIZE_BYTES) {
+        Some(lg_size) => Ok(Some(coupon_image(alloc, lg_k, hll_type, lg_size, &coupons)?)),
         None => Ok(None),
     }
+}
+
+/// Returns the image of the sketch of an image of coupons with more coupons added, without making a table. Sorts the raw coupons.
+///
+/// There are 1 to 128 raw coupons, of which each has a value. Returns `None`, and a sketch has to add them, unless all of these
+/// hold:
+///
+/// - the image is compact, and its coupons ascend or are at most 128, or it is updatable and has 1 to 128 coupons;
+/// - no two of the raw coupons are the same;
+/// - a table at the `lg_k` of the image holds all coupons.
+///
+/// Allocates four bytes for each coupon, and then the image. Fails with `Memory`.
+pub fn coupon_image_with<A: Allocator + Clone>(
+    alloc: A,
+    image: &[u8],
+    raw_coupons: &mut [u32],
+) -> Result<Option<Vec<u8, A>>, Error>
+    requires some { 1 ≤ length raw_coupons.old }
+    requires few { length raw_coupons.old ≤ 128 }
+    ensures some { IfOk result (λ found. IfSome found (λ written. IsImageWith raw_coupons.old image.now written.items)) }
+    ensures read { OnErr result ((x : Sketch) × IsReadAs image.now x) }
+    ensures err { IfErr result (λ e. e ≡ Memory) }
+{
+    if let Some(ordered) = ascending_image(image) {
+        return ordered_image_with(alloc, ordered, raw_coupons);
+    }
+    if says_registers(image) {
+        return Ok(None);
+    }
+    sorted_image_with(alloc, image, raw_coupons)
+}
+
+/// Returns what `coupon_image_with` does, for coupons in any order: those that don't ascend are sorted first.
+///
+/// Allocates as that does. Fails with `Memory`.
+// (a caller that had the room among its own values would clear it for coupons that ascend too)
+#[inline(never)]
+fn sorted_image_with<A: Allocator + Clone>(
+    alloc: A,
+    image: &[u8],
+    raw_coupons: &mut [u32],
+) -> Result<Option<Vec<u8, A>>, Error>
+    requires some { 1 ≤ length raw_coupons.old }
+    requires few { length raw_coupons.old ≤ 128 }
+    ensures some { IfOk result (λ found. IfSome found (λ written. IsImageWith raw_coupons.old image.now written.items)) }
+    ensures read { OnErr result ((x : Sketch) × IsReadAs image.now x) }
+    ensures err { IfErr result (λ e. e ≡ Memory) }
+{
+    let mut room = [0; ROOM];
+    match sorted_image(image, &mut room) {
+        Some(ordered) => ordered_image_with(alloc, ordered, raw_coupons),
+        None => Ok(None),
+    }
+}
+
+/// Returns the image of coupons in ascending order with more coupons added, which it sorts. `None` if two of these are the same,
+/// or no table holds all coupons.
+///
+/// Allocates four bytes for each coupon, and then the image. Fails with `Memory`.
+fn ordered_image_with<A: Allocator + Clone>(
+    alloc: A,
+    image: OrderedImage<'_>,
+    more: &mut [u32],
+) -> Result<Option<Vec<u8, A>>, Error>
+    requires ascend { IsStrictlyIncreasing (raw_coupons image.raw_coupons.count image.raw_coupons.bytes.now) }
+    requires lg_k { IsLgK image.lg_k }
+    requires few { length more.old ≤ 128 }
+    ensures some { IfOk result (λ found. IfSome found (λ written. (ys : List ℕ) × (set_of ys ≡ set_of more.old) × IsImageOfBoth image.entry.lg_k image.entry.hll_type image.entry.lg_size (raw_coupons image.entry.raw_coupons.count image.entry.raw_coupons.bytes.now) ys written.items)) }
+    ensures err { IfErr result (λ e. e ≡ Memory) }
+{
+    let mut room = [0; ROOM];
+    let Some(sorted) = sorted_numbers(more, &mut room) else {
+        return Ok(None);
+    };
+    image_of_both(
+        alloc,
+        image.lg_k,
+        image.hll_type,
+        image.lg_size,
+        image.raw_coupons,
+        sorted,
+    )
 }
 
 /// Returns the image, at a width, of the sketch of an image of coupons, without making a table.
@@ -223,8 +337,8 @@ fn image_in_order<A: Allocator>(
     coupon_image(alloc, image.lg_k, hll_type, image.lg_size, coupons)
 }
 
-/// Returns whether the mode byte of an image says that it is of registers, so that no room for coupons is cleared for it.
-fn says_registers(bytes: &[u8]) -> bool
+/// Returns whether the mode byte of an image says that it is of registers, so that nothing is done for coupons.
+pub fn says_registers(bytes: &[u8]) -> bool
     ensures { result ≡ true → HasEvidentCoupons bytes.now → ⊥ }
 {
     match bytes {
@@ -236,21 +350,19 @@ fn says_registers(bytes: &[u8]) -> bool
 /// Returns what a compact image says, if its coupons ascend and there are some. `sorted_image` reads the other images.
 fn ascending_image(bytes: &[u8]) -> Option<OrderedImage<'_>>
     ensures some { IfSome result (λ a. IsInOrder bytes.now a.lg_k a.lg_size (raw_coupons a.raw_coupons.count a.raw_coupons.bytes.now)) }
+    ensures width { IfSome result (λ a. (x : Sketch) → IsReadAs bytes.now x → x.width ≡ a.hll_type) }
     ensures legal { IfSome result (λ a. IsLgK a.lg_k) }
 {
     let Ok(header) = Header::read(bytes) else {
         return None;
     };
-    let raw_coupons = match header.stage {
-        Stage::List => list_coupons(bytes, header)?,
-        Stage::Set => set_coupons(bytes, header)?,
-        Stage::Hll => return None,
-    };
+    let raw_coupons = counted_coupons(bytes, header)?;
     if !raw_coupons.ascend() {
         return None;
     }
     Some(OrderedImage {
         lg_k: header.lg_k,
+        hll_type: header.hll_type,
         lg_size: header.lg_arr,
         raw_coupons,
     })
@@ -260,6 +372,7 @@ fn ascending_image(bytes: &[u8]) -> Option<OrderedImage<'_>>
 /// to 128 coupons. Coupons that don't ascend are sorted into `room`.
 fn sorted_image<'a>(bytes: &'a [u8], room: &'a mut [u8; ROOM]) -> Option<OrderedImage<'a>>
     ensures some { IfSome result (λ a. IsInOrder bytes.now a.lg_k a.lg_size (raw_coupons a.raw_coupons.count a.raw_coupons.bytes.now)) }
+    ensures width { IfSome result (λ a. (x : Sketch) → IsReadAs bytes.now x → x.width ≡ a.hll_type) }
     ensures legal { IfSome result (λ a. IsLgK a.lg_k) }
     ensures none { IfNone result (HasEvidentCoupons bytes.now → ⊥) }
 {
@@ -269,6 +382,7 @@ fn sorted_image<'a>(bytes: &'a [u8], room: &'a mut [u8; ROOM]) -> Option<Ordered
     let raw_coupons = coupons_in_order(bytes, header, room)?;
     Some(OrderedImage {
         lg_k: header.lg_k,
+        hll_type: header.hll_type,
         lg_size: header.lg_arr,
         raw_coupons,
     })

@@ -32,11 +32,13 @@ pub struct ImageRegisters<A: Allocator = Global> {
     pub values: Vec<u8, A>,
 }
 
+// (not inlined: a caller would hold the room for coupons too, and its own loops get slower)
 /// The registers that the pairs of an image fold to at its `lg_k`.
 ///
 /// Fails with the reason of the first check that the image fails, or else with `Memory`. Allocates, only once the bytes
 /// that the image asks for are there: a byte a register; for the exceptions of registers of four bits; and for a table of
 /// coupons, but not for coupons that are 1 to 128, or ascend in a compact image.
+#[inline(never)]
 pub fn registers_of_image<A: Allocator + Clone>(
     alloc: A,
     image: &[u8],
@@ -53,7 +55,7 @@ pub fn registers_of_image<A: Allocator + Clone>(
 }
 
 /// The registers that the coupons after the header of a list or a set fold to.
-fn registers_of_coupons<A: Allocator + Clone>(
+pub(crate) fn registers_of_coupons<A: Allocator + Clone>(
     alloc: A,
     image: &[u8],
     header: Header,

@@ -3,6 +3,7 @@
 #![tactic(auto)]
 
 mod additions;
+pub mod borrowed_registers;
 mod conversion;
 pub mod coupon_images;
 mod folding;
@@ -19,9 +20,11 @@ mod raw_coupons;
 mod raw_registers;
 mod read_image;
 mod register_folds;
+pub mod register_images;
 pub mod sketch;
 mod sorted;
 pub mod stage;
+pub mod totals;
 pub mod union;
 pub mod union_builder;
 mod updatable;
@@ -30,6 +33,8 @@ pub use coupon_images::{coupon_image_at, image_of_coupons, union_of_coupon_image
 pub use header::Stage;
 pub use mode::Mode;
 pub use raw_coupons::max_coupon;
+pub use register_images::register_image_at;
 pub use sketch::HllSketch;
+pub use totals::{RegisterTotals, register_totals};
 pub use union::{HllUnion, agree};
 pub use union_builder::{UnionBuilder, union_of};

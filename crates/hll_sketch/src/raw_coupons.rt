@@ -1,8 +1,9 @@
 // SPDX-License-Identifier: Apache-2.0
 //! The coupons of a compact image, as they lie in its bytes: coupons that ascend, as they are written here, or are few, in any
 //! order. One pass over them shows that they are distinct, without a table or a copy.
-ghost use Rattle.std.specs.Prelude.{◌≡◌, ◌*◌, ◌^◌, ◌-◌, ◌<◌, ◌≤◌, ◌↔◌, [], ◌∷◌, false, nat_eq, IsTrue, IfSome, IfNone, length};
+ghost use Rattle.std.specs.Prelude.{◌≡◌, ◌*◌, ◌^◌, ◌-◌, ◌<◌, ◌≤◌, ◌↔◌, [], ◌∷◌, true, false, nat_eq, IsTrue, IfSome, IfNone, OnSome, length};
 ghost use Rattle.std.specs.FinSet.{contains};
+ghost use Rattle.std.specs.Int.{w32, from_le_bytes};
 ghost use Rattle.std.specs.List.{list_any};
 ghost use Rattle.std.specs.List.Sorted.{IsStrictlyIncreasing};
 ghost use Rattle.hll_base.specs.Join.{join};
@@ -12,7 +13,7 @@ ghost use Rattle.hll_coupons.specs.Pair.{set_of};
 ghost use Rattle.hll_sketch.specs.Borrowed.{AreMarked, AreEvidentlyCoupons};
 ghost use Rattle.hll_sketch.specs.MergedIn.{IsOfCoupons, raw_coupons_in, HasCompactCoupons};
 ghost use Rattle.hll_sketch.specs.Header.{header_of};
-ghost use Rattle.hll_sketch.specs.Image.{HasHeader, stage_bits};
+ghost use Rattle.hll_sketch.specs.Image.{HasHeader, stage_bits, is_flagged};
 ghost use Rattle.hll_sketch.specs.Laws.{add_in_turn};
 ghost use Rattle.hll_sketch.specs.Union.{sketch_of_registers};
 
@@ -75,13 +76,15 @@ impl<'a> RawCoupons<'a> {
     pub(crate) fn ascend(&self) -> bool
         ensures { IsTrue result ↔ IsStrictlyIncreasing ((2 ^ 26 - 1) ∷ raw_coupons self.now.count self.now.bytes.now) }
     {
-        let mut cursor = SketchSlice::new(self.bytes);
+        let mut rest = self.bytes;
         let mut last = LAST_WITHOUT_VALUE;
         for _ in 0..self.count {
-            match cursor.read_u32_le() {
-                Ok(raw_coupon) if last < raw_coupon => last = raw_coupon,
-                _ => return false,
+            let raw_coupon = first_of(rest);
+            if raw_coupon <= last {
+                return false;
             }
+            last = raw_coupon;
+            rest = &rest[COUPON_SIZE_BYTES..];
         }
         true
     }
@@ -178,6 +181,14 @@ impl<'a> RawCoupons<'a> {
     }
 }
 
+/// The raw coupon at the front of some bytes, four or more.
+fn first_of(bytes: &[u8]) -> u32
+    requires { 4 ≤ length bytes.now }
+    ensures { result ≡ from_le_bytes w32 bytes.now }
+{
+    u32::from_le_bytes([bytes[0], bytes[1], bytes[2], bytes[3]])
+}
+
 /// Raises the register at the coupon's slot modulo 2^`lg_k` to the coupon's value.
 pub fn max_coupon(registers: &mut [u8], lg_k: u8, coupon: Coupon)
     requires most { lg_k ≤ 21 }
@@ -203,11 +214,7 @@ pub(crate) fn compact_coupons(bytes: &[u8], header: Header) -> Option<RawCoupons
     ensures evident { IfSome result (λ w. AreEvidentlyCoupons (raw_coupons w.count w.bytes.now)) }
     ensures none { IfNone result (HasCompactCoupons bytes.now → ⊥) }
 {
-    let coupons = match header.stage {
-        Stage::List => list_coupons(bytes, header)?,
-        Stage::Set => set_coupons(bytes, header)?,
-        Stage::Hll => return None,
-    };
+    let coupons = counted_coupons(bytes, header)?;
     if coupons.are_evidently_coupons() {
         Some(coupons)
     } else {
@@ -215,12 +222,33 @@ pub(crate) fn compact_coupons(bytes: &[u8], header: Header) -> Option<RawCoupons
     }
 }
 
+/// The raw coupons of a compact list or set, in the number that the image says. `None` where a check but that of coupons fails,
+/// or there are none.
+// (in each of its callers, as `compact_coupons`)
+#[inline(always)]
+pub(crate) fn counted_coupons(bytes: &[u8], header: Header) -> Option<RawCoupons<'_>>
+    requires has { HasHeader bytes.now (stage_bits bytes.now) }
+    requires stage { stage_bits bytes.now < 3 }
+    requires header { header ≡ header_of bytes.now }
+    ensures raw_coupons { IfSome result (λ w. raw_coupons w.count w.bytes.now ≡ raw_coupons_in bytes.now) }
+    ensures coupons { IfSome result (λ w. AreCoupons (raw_coupons w.count w.bytes.now) → IsOfCoupons bytes.now (raw_coupons w.count w.bytes.now)) }
+    ensures compact { OnSome result (is_flagged 8 bytes.now ≡ true) }
+    ensures none { IfNone result (HasCompactCoupons bytes.now → ⊥) }
+{
+    match header.stage {
+        Stage::List => list_coupons(bytes, header),
+        Stage::Set => set_coupons(bytes, header),
+        Stage::Hll => None,
+    }
+}
+
 /// The raw coupons after the header of a compact list, in the number that it says. `None` where a check but that of coupons fails.
-pub(crate) fn list_coupons(bytes: &[u8], header: Header) -> Option<RawCoupons<'_>>
+fn list_coupons(bytes: &[u8], header: Header) -> Option<RawCoupons<'_>>
     requires has { HasHeader bytes.now 0 }
     requires header { header ≡ header_of bytes.now }
     ensures raw_coupons { IfSome result (λ w. raw_coupons w.count w.bytes.now ≡ raw_coupons_in bytes.now) }
     ensures coupons { IfSome result (λ w. AreCoupons (raw_coupons w.count w.bytes.now) → IsOfCoupons bytes.now (raw_coupons w.count w.bytes.now)) }
+    ensures compact { OnSome result (is_flagged 8 bytes.now ≡ true) }
     ensures none { IfNone result (HasCompactCoupons bytes.now → ⊥) }
 {
     if !header.compact || header.empty || header.lg_arr != LG_LIST_BUCKETS {
@@ -234,11 +262,12 @@ pub(crate) fn list_coupons(bytes: &[u8], header: Header) -> Option<RawCoupons<'_
 }
 
 /// The raw coupons after the count of a compact set, in that number. `None` where a check but that of coupons fails.
-pub(crate) fn set_coupons(bytes: &[u8], header: Header) -> Option<RawCoupons<'_>>
+fn set_coupons(bytes: &[u8], header: Header) -> Option<RawCoupons<'_>>
     requires has { HasHeader bytes.now 1 }
     requires header { header ≡ header_of bytes.now }
     ensures raw_coupons { IfSome result (λ w. raw_coupons w.count w.bytes.now ≡ raw_coupons_in bytes.now) }
     ensures coupons { IfSome result (λ w. AreCoupons (raw_coupons w.count w.bytes.now) → IsOfCoupons bytes.now (raw_coupons w.count w.bytes.now)) }
+    ensures compact { OnSome result (is_flagged 8 bytes.now ≡ true) }
     ensures none { IfNone result (HasCompactCoupons bytes.now → ⊥) }
 {
     if !header.compact

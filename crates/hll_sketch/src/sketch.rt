@@ -1,6 +1,6 @@
 // SPDX-License-Identifier: Apache-2.0
 //! Sketches (docs/MODEL.md, "Sketch values" and "Adding").
-ghost use Rattle.std.specs.Prelude.{◌≡◌, ◌^◌, ◌<◌, ◌≤◌, ◌⊎◌, ◌↔◌, length, [], ◌∷◌, true, false, IsTrue, fold, Some, None, IfOk, IfErr, IfSome, IfNone, OnOk, OnErr};
+ghost use Rattle.std.specs.Prelude.{◌≡◌, ◌^◌, ◌<◌, ◌≤◌, ◌⊎◌, ◌↔◌, length, take, [], ◌∷◌, true, false, All, IsTrue, fold, Some, None, IfOk, IfErr, IfSome, IfNone, OnOk, OnErr};
 ghost use Rattle.hll_base.specs.declared.error.Reason.TheVariants.{Memory};
 ghost use Rattle.hll_base.specs.declared.error.Reason.TheVariants as reasons;
 ghost use Rattle.hll_base.specs.Hash.{hash_of, initial_state, after_piece, default_seed};
@@ -10,6 +10,8 @@ ghost use Rattle.hll_coupons.specs.Table.{coupons_in, coupons_of};
 ghost use Rattle.hll_sketch.specs.Adding.{add, content_with};
 ghost use Rattle.hll_registers.specs.declared.estimate_state.EstimateState.{EstimateState};
 ghost use Rattle.hll_registers.specs.State.{cleared_state};
+ghost use Rattle.hll_registers.specs.Store.{update_with_coupon};
+ghost use Rattle.hll_sketch.specs.Laws.{add_in_turn, AddsSome, PutsSome};
 ghost use Rattle.hll_sketch.specs.EstimatorFields.{SetsFields, AreFieldsIn, HasClearedState, FillsFields, cleared, with_state};
 ghost use Rattle.hll_sketch.specs.Layout.{layout_of, content_in, width_of, sketch_of, IsLayoutFor, can_hold_with, count_in, NeedsMemory};
 ghost use Rattle.hll_sketch.specs.Value.{IsLgK, coupons, empty_sketch, in_registers, is_empty, pairs_of, size_of, IsLegal};
@@ -19,8 +21,9 @@ use crate::mode::Mode;
 use crate::promotion::promoted_table;
 use crate::stage::most_kept;
 use hll_arrays::estimate_state::EstimateState;
-use hll_arrays::registers::Registers;
-use hll_base::bounds::{MAX_LG_K, MIN_LG_K};
+use hll_arrays::register_store::RegisterStore;
+use hll_arrays::registers::{Registers, two_to};
+use hll_base::bounds::{MAX_LG_K, MIN_LG_K, SLOT_BITS};
 use hll_base::error::{Error, Reason};
 use hll_base::hll_type::HllType;
 use hll_coupons::container::{Container, Insertion};
@@ -341,6 +344,59 @@ impl<A: Allocator + Clone> HllSketch<A> {
         }
     }
 
+    /// Adds the coupons of raw coupons in turn (docs/MODEL.md, "Adding").
+    ///
+    /// The value of each is at least 1. Fails with `Memory`, as `update_with_coupon` does, and then those before are added.
+    pub fn update_with_raw_coupons(&mut self, raw_coupons: &[u32]) -> Result<(), Error>
+        requires { All (λ c. 1 ≤ value_of c) raw_coupons.now }
+        ensures ok { OnOk result (sketch_of self.new ≡ add_in_turn (sketch_of self.old) raw_coupons.now) }
+        ensures stopped { OnErr result (AddsSome (sketch_of self.old) (sketch_of self.new) raw_coupons.now) }
+        ensures err { IfErr result (λ e. e ≡ Memory) }
+    {
+        let count = self.update_while_table(raw_coupons)?;
+        if count == raw_coupons.len() {
+            return Ok(());
+        }
+        self.update_registers(&raw_coupons[count..])
+    }
+
+    /// Adds the coupons of raw coupons in turn to a list or a set, as long as it is one. Returns how many are added.
+    ///
+    /// Fails with `Memory`, as `update_with_coupon` does, and then those before are added.
+    fn update_while_table(&mut self, raw_coupons: &[u32]) -> Result<usize, Error>
+        requires { All (λ c. 1 ≤ value_of c) raw_coupons.now }
+        ensures within { IfOk result (λ count. count ≤ length raw_coupons.now) }
+        ensures ok { IfOk result (λ count. sketch_of self.new ≡ add_in_turn (sketch_of self.old) (take count raw_coupons.now)) }
+        ensures rest { IfOk result (λ count. count < length raw_coupons.now → in_registers (content_in self.new.layout) ≡ true) }
+        ensures stopped { OnErr result (AddsSome (sketch_of self.old) (sketch_of self.new) raw_coupons.now) }
+        ensures err { IfErr result (λ e. e ≡ Memory) }
+    {
+        for index in 0..raw_coupons.len() {
+            if self.in_registers() {
+                return Ok(index);
+            }
+            self.update_table(coupon_of(raw_coupons[index]))?;
+        }
+        Ok(raw_coupons.len())
+    }
+
+    /// Adds the coupons of raw coupons in turn to registers.
+    ///
+    /// Fails with `Memory`, as `update_with_coupon` does, and then those before are added.
+    fn update_registers(&mut self, raw_coupons: &[u32]) -> Result<(), Error>
+        requires { in_registers (content_in self.old.layout) ≡ true }
+        ensures ok { OnOk result (sketch_of self.new ≡ add_in_turn (sketch_of self.old) raw_coupons.now) }
+        ensures stopped { OnErr result (AddsSome (sketch_of self.old) (sketch_of self.new) raw_coupons.now) }
+        ensures err { IfErr result (λ e. e ≡ Memory) }
+    {
+        match &mut self.mode {
+            Mode::Array4(array) => put_each(array, raw_coupons),
+            Mode::Array6(array) => put_each(array, raw_coupons),
+            Mode::Array8(array) => put_each(array, raw_coupons),
+            Mode::List { .. } | Mode::Set { .. } => unreachable!(),
+        }
+    }
+
     /// Adds the coupon of a value, as `update_with_coupon` does.
     ///
     /// Fails with `Memory`, and then changes nothing.
@@ -395,6 +451,56 @@ impl<A: Allocator + Clone> HllSketch<A> {
             Mode::Array4(_) | Mode::Array6(_) | Mode::Array8(_) => unreachable!(),
         }
     }
+}
+
+/// The coupon of a raw coupon.
+fn coupon_of(raw_coupon: u32) -> Coupon
+    ensures { result ≡ raw_coupon }
+{
+    Coupon::pack(raw_coupon, (raw_coupon >> SLOT_BITS) as u8)
+}
+
+/// Puts the coupons of raw coupons in turn into registers.
+///
+/// Fails with `Memory`, and then those before are put.
+// (a loop of its own for each representation, so that its kind is not asked for at each coupon)
+fn put_each<S: RegisterStore<A>, A: Allocator>(
+    store: &mut S,
+    raw_coupons: &[u32],
+) -> Result<(), Error>
+    ensures ok { OnOk result (S.stored store.new ≡ fold update_with_coupon (S.stored store.old) raw_coupons.now) }
+    ensures stopped { OnErr result (PutsSome (S.stored store.old) (S.stored store.new) raw_coupons.now) }
+    ensures lg_k { (S.stored store.new).lg_k ≡ (S.stored store.old).lg_k }
+    ensures err { IfErr result (λ e. e ≡ Memory) }
+{
+    for raw_coupon in raw_coupons {
+        put_one(store, coupon_of(*raw_coupon))?;
+    }
+    Ok(())
+}
+
+/// Puts a coupon into registers, as `put_coupon` does.
+// (one that raises no register of four bits is not handed over: that costs more than to look)
+#[inline(always)]
+fn put_one<S: RegisterStore<A>, A: Allocator>(store: &mut S, coupon: Coupon) -> Result<(), Error>
+    ensures ok { OnOk result (S.stored store.new ≡ update_with_coupon (S.stored store.old) coupon) }
+    ensures unchanged { OnErr result (store.new ≡ store.old) }
+    ensures err { IfErr result (λ e. e ≡ Memory) }
+{
+    if S::WIDTH == HllType::Hll4 && is_held(store, coupon) {
+        return Ok(());
+    }
+    store.put_coupon(coupon)
+}
+
+/// Whether the register at the coupon's slot modulo 2^`lg_k` has the coupon's value or a greater one, so that the coupon changes
+/// nothing.
+#[inline(always)]
+fn is_held<S: Registers>(store: &S, coupon: Coupon) -> bool
+    ensures { result ≡ true → S.stored store.now ≡ update_with_coupon (S.stored store.now) coupon }
+{
+    let slot = coupon.slot() % two_to(store.lg_k()) as u32;
+    coupon.value() <= store.get(slot)
 }
 
 /// The `lg_k`, the width, the kind of mode, and whether the sketch is empty; of registers also the estimator that their

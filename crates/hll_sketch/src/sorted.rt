@@ -1,6 +1,6 @@
 // SPDX-License-Identifier: Apache-2.0
 //! Puts the coupons of an image in ascending order: up to `FEW` of them are sorted in an array on the stack.
-ghost use Rattle.std.specs.Prelude.{◌≡◌, ◌<◌, ◌≤◌, take, length, IfSome, IfNone};
+ghost use Rattle.std.specs.Prelude.{◌≡◌, ◌<◌, ◌≤◌, take, length, IfSome, IfNone, OnSome};
 ghost use Rattle.std.specs.List.Sorted.{IsStrictlyIncreasing};
 ghost use Rattle.hll_coupons.specs.Coupons.{raw_coupons, AreCoupons, IsAscending};
 ghost use Rattle.hll_coupons.specs.Pair.{set_of};
@@ -11,8 +11,8 @@ ghost use Rattle.hll_sketch.specs.MergedIn.{IsOfCoupons};
 ghost use Rattle.hll_sketch.specs.Updatable.{HasUpdatableCoupons};
 
 use crate::header::Header;
-use crate::raw_coupons::{FEW, RawCoupons, compact_coupons};
-use crate::updatable::{ROOM, put, updatable_coupons};
+use crate::raw_coupons::{FEW, RawCoupons, counted_coupons};
+use crate::updatable::{ROOM, gathered_coupons, put};
 use hll_base::cursor::SketchSlice;
 
 /// Returns the coupons of an image of a list or a set in ascending order. They stay in the image if it is compact and they
@@ -30,13 +30,16 @@ pub(crate) fn coupons_in_order<'a>(
     ensures ascend { IfSome result (λ w. IsStrictlyIncreasing (raw_coupons w.count w.bytes.now)) }
     ensures none { IfNone result (HasEvidentCoupons bytes.now → ⊥) }
 {
-    let Some(coupons) = compact_coupons(bytes, header) else {
+    let Some(coupons) = counted_coupons(bytes, header) else {
         return updatable_coupons_in_order(bytes, header, room);
     };
     if coupons.ascend() {
         return Some(coupons);
     }
-    Some(sorted(coupons, room))
+    if FEW < coupons.count {
+        return None;
+    }
+    sorted(coupons, room)
 }
 
 /// Returns the coupons of an updatable image of a list or a set, sorted into `room`. `None` unless there are 1 to `FEW`.
@@ -55,27 +58,46 @@ fn updatable_coupons_in_order<'a>(
     ensures none { IfNone result (HasUpdatableCoupons bytes.now → ⊥) }
 {
     let mut gathered = [0; ROOM];
-    let coupons = updatable_coupons(bytes, header, &mut gathered)?;
-    Some(sorted(coupons, room))
+    let coupons = gathered_coupons(bytes, header, &mut gathered)?;
+    sorted(coupons, room)
 }
 
-/// Writes coupons, at most `FEW`, to the front of `room` in ascending order, and returns them there.
+/// Writes raw coupons, at most `FEW`, to the front of `room` in ascending order, and returns them there. `None` unless each has
+/// a value, and no two are the same.
 // (a caller that had the numbers among its own values would clear them at each call)
 #[inline(never)]
-fn sorted<'a>(coupons: RawCoupons<'_>, room: &'a mut [u8; ROOM]) -> RawCoupons<'a>
+fn sorted<'a>(coupons: RawCoupons<'_>, room: &'a mut [u8; ROOM]) -> Option<RawCoupons<'a>>
     requires few { coupons.count ≤ 128 }
-    requires coupons { AreCoupons (raw_coupons coupons.count coupons.bytes.now) }
-    ensures { IsAscending (raw_coupons result.count result.bytes.now) (set_of (raw_coupons coupons.entry.count coupons.entry.bytes.now)) }
+    ensures some { IfSome result (λ w. IsAscending (raw_coupons w.count w.bytes.now) (set_of (raw_coupons coupons.entry.count coupons.entry.bytes.now))) }
+    ensures are { OnSome result (AreCoupons (raw_coupons coupons.entry.count coupons.entry.bytes.now)) }
+    ensures none { IfNone result (AreCoupons (raw_coupons coupons.entry.count coupons.entry.bytes.now) → ⊥) }
 {
     let mut numbers = [0; FEW];
     read_raw_coupons(coupons, &mut numbers);
-    let found = &mut numbers[..coupons.count];
-    found.sort_unstable();
-    write_raw_coupons(found, room);
-    RawCoupons {
+    sorted_numbers(&mut numbers[..coupons.count], room)
+}
+
+/// Sorts raw coupons, at most `FEW`, writes them to the front of `room`, and returns them there. `None` unless each has a value,
+/// and no two are the same.
+pub(crate) fn sorted_numbers<'a>(
+    numbers: &mut [u32],
+    room: &'a mut [u8; ROOM],
+) -> Option<RawCoupons<'a>>
+    requires few { length numbers.old ≤ 128 }
+    ensures some { IfSome result (λ w. IsAscending (raw_coupons w.count w.bytes.now) (set_of numbers.old)) }
+    ensures are { OnSome result (AreCoupons numbers.old) }
+    ensures none { IfNone result (AreCoupons numbers.old → ⊥) }
+{
+    numbers.sort_unstable();
+    write_raw_coupons(numbers, room);
+    let sorted = RawCoupons {
         bytes: room,
-        count: coupons.count,
+        count: numbers.len(),
+    };
+    if !sorted.ascend() {
+        return None;
     }
+    Some(sorted)
 }
 
 /// Reads raw coupons, at most `FEW`, into the front of `numbers`.

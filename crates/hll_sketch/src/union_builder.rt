@@ -2,14 +2,11 @@
 //! A union of many sketches. While the union has coupons, those of more sketches wait, and are added together once they are
 //! as many as those that it has: adding T and then U is adding both (law `add_of_add`). So a union of many small sketches
 //! costs one sort of their coupons, however long the searches in the table are (docs/OPERATING.md, "Images from others").
-ghost use Rattle.std.specs.Prelude.{◌≡◌, ◌⊎◌, ◌<◌, false, All, map, length, IfOk, IfErr, OnOk};
-ghost use Rattle.std.specs.FinSet.{len};
+ghost use Rattle.std.specs.Prelude.{◌≡◌, ◌⊎◌, ◌^◌, ◌<◌, true, false, All, map, length, IfOk, IfErr, OnOk, OnErr};
 ghost use Rattle.hll_base.specs.declared.error.Reason.TheVariants.{Memory};
 ghost use Rattle.hll_base.specs.declared.error.Reason.TheVariants as reasons;
 ghost use Rattle.hll_coupons.specs.Coupons.{raw_coupons, AreCoupons};
-ghost use Rattle.hll_coupons.specs.Pair.{set_of};
-ghost use Rattle.hll_coupons.specs.Table.{coupons_in};
-ghost use Rattle.hll_sketch.specs.Adding.{add};
+ghost use Rattle.hll_coupons.specs.Pair.{IsPair};
 ghost use Rattle.hll_sketch.specs.Canonical.{IsCanonicalCleared};
 ghost use Rattle.hll_sketch.specs.Header.{header_of};
 ghost use Rattle.hll_sketch.specs.Image.{HasHeader, stage_bits};
@@ -20,17 +17,16 @@ ghost use Rattle.hll_sketch.specs.Refusal.{IsRefusal};
 ghost use Rattle.hll_sketch.specs.MergedIn.{IsOfCoupons};
 ghost use Rattle.hll_sketch.specs.Union.{gadget_of, IsGadget};
 ghost use Rattle.hll_sketch.specs.Value.{IsLegal, IsLgK, in_registers, is_empty};
-ghost use Rattle.hll_sketch.specs.Waiting.{whole_gadget, with_coupons, MergesInto};
+ghost use Rattle.hll_sketch.specs.Waiting.{whole_gadget, MergesInto};
 
 use crate::header::{Header, Stage};
-use crate::raw_coupons::compact_coupons;
+use crate::raw_coupons::{RawCoupons, compact_coupons};
 use crate::read_image::read_sketch;
 use crate::sketch::HllSketch;
 use crate::union::HllUnion;
 use crate::updatable::{ROOM, updatable_coupons};
 use hll_base::error::Error;
 use hll_coupons::batch::CouponBatch;
-use hll_coupons::container::Container;
 use hll_coupons::serialization::LG_LIST_BUCKETS;
 use std::alloc::{Allocator, Global};
 use std::marker::Model;
@@ -39,9 +35,9 @@ use std::marker::Model;
 const MOST_IN_LIST: usize = 1 << LG_LIST_BUCKETS;
 
 /// Fewer coupons than this wait, however few the union has.
-const LEAST_ADDED: usize = 256;
+const LEAST_WAITING: usize = 256;
 
-/// More than this never wait.
+/// Where more than this wait, they are added before others do.
 const MOST_WAITING: usize = (1 << 18) - 1;
 
 /// A union that many sketches are merged into. Contracts see the bound, the gadget, and what waits;
@@ -78,211 +74,185 @@ impl<A: Allocator + Clone> UnionBuilder<A> {
 
     /// Merges a sketch, as `HllUnion::update` merges it.
     ///
-    /// Fails with `Memory`.
-    pub fn with_sketch(self, sketch: &HllSketch<A>) -> Result<UnionBuilder<A>, Error>
-        ensures ok { IfOk result (λ b. whole_gadget b ≡ merge self.lg_max_k (whole_gadget self) (sketch_of sketch.now)) }
-        ensures bound { IfOk result (λ b. b.lg_max_k ≡ self.lg_max_k) }
+    /// Fails with `Memory`, and then merges nothing.
+    pub fn update(&mut self, sketch: &HllSketch<A>) -> Result<(), Error>
+        ensures ok { OnOk result (whole_gadget self.new ≡ merge self.old.lg_max_k (whole_gadget self.old) (sketch_of sketch.now)) }
+        ensures bound { self.new.lg_max_k ≡ self.old.lg_max_k }
+        ensures unchanged { OnErr result (whole_gadget self.new ≡ whole_gadget self.old) }
         ensures err { IfErr result (λ e. e ≡ Memory) }
     {
         if sketch.is_empty() {
-            return Ok(self);
+            return Ok(());
         }
-        let lets_wait = self.lets_wait();
-        let UnionBuilder { union, waiting } = self;
-        match (union.coupons(), sketch.table()) {
-            (Some(own), Some(table)) if lets_wait => {
-                let waiting = waiting.with_table(table)?;
-                added_when_many(union, waiting, own)
-            }
-            _ => {
-                let mut union = settled(union, waiting)?;
-                union.update(sketch)?;
-                with_none_waiting(union)
-            }
+        self.settle_if_many()?;
+        if self.lets_wait()
+            && let Some(table) = sketch.table()
+        {
+            return self.waiting.extend_from_table(table);
         }
+        self.settle()?;
+        self.union.update(sketch)
     }
 
     /// Merges the sketch of an image, as `HllUnion::update_with_image` merges it.
     ///
     /// Fails with the reason of the first check that the bytes fail (docs/FORMAT.md, "Order of checks"), or else with
-    /// `Memory`, once the bytes that the image asks for are there.
-    pub fn with_image(self, image: &[u8]) -> Result<UnionBuilder<A>, Error>
-        ensures ok { IfOk result (λ b. MergesInto self b image.now) }
+    /// `Memory`, once the bytes that the image asks for are there, and then merges nothing.
+    pub fn update_with_image(&mut self, image: &[u8]) -> Result<(), Error>
+        ensures ok { OnOk result (MergesInto self.old self.new image.now) }
+        ensures bound { self.new.lg_max_k ≡ self.old.lg_max_k }
+        ensures unchanged { OnErr result (whole_gadget self.new ≡ whole_gadget self.old) }
         ensures err { IfErr result (IsRefusal image.now) }
     {
         let header = Header::read(image)?;
         if self.lets_wait() {
-            return self.with_waiting_image(image, header);
+            self.update_while_waiting(image, header)
+        } else {
+            self.union.merge_image(image, header)
         }
-        let UnionBuilder { mut union, waiting } = self;
-        union.merge_image(image, header)?;
-        Ok(UnionBuilder { union, waiting })
     }
 
     /// Whether coupons wait, or those of the next sketch would: beside more coupons of the union than a list holds. Beside
     /// fewer they are added at once, which takes no memory.
     fn lets_wait(&self) -> bool
-        ensures { result ≡ false → length self.now.waiting ≡ 0 }
+        ensures table { result ≡ true → in_registers (sketch_of self.now.kept).content ≡ false }
+        ensures some { result ≡ true → is_empty (sketch_of self.now.kept) ≡ false }
+        ensures gadget { result ≡ true → IsGadget self.now.lg_max_k (sketch_of self.now.kept) }
+        ensures legal { result ≡ true → IsLegal (sketch_of self.now.kept) }
+        ensures pairs { result ≡ true → All IsPair self.now.waiting }
+        ensures none { result ≡ false → length self.now.waiting ≡ 0 }
     {
-        if self.waiting.len() != 0 {
-            return true;
-        }
         match self.union.coupons() {
-            Some(own) => MOST_IN_LIST < own,
+            Some(own) => self.waiting.len() != 0 || MOST_IN_LIST < own,
             None => false,
         }
     }
 
-    /// Merges the sketch of an image, as `with_image` does, where coupons may wait.
+    /// Merges the sketch of an image, as `update_with_image` does, where coupons may wait.
     // (a caller would clear its values for images that are merged at once too)
     #[inline(never)]
-    fn with_waiting_image(self, image: &[u8], header: Header) -> Result<UnionBuilder<A>, Error>
+    fn update_while_waiting(&mut self, image: &[u8], header: Header) -> Result<(), Error>
         requires has { HasHeader image.now (stage_bits image.now) }
         requires stage { stage_bits image.now < 3 }
         requires header { header ≡ header_of image.now }
-        ensures ok { IfOk result (λ b. MergesInto self b image.now) }
+        ensures ok { OnOk result (MergesInto self.old self.new image.now) }
+        ensures bound { self.new.lg_max_k ≡ self.old.lg_max_k }
+        ensures unchanged { OnErr result (whole_gadget self.new ≡ whole_gadget self.old) }
         ensures err { IfErr result (IsRefusal image.now) }
     {
-        match (header.stage, self.union.coupons()) {
-            (Stage::List | Stage::Set, Some(own)) => {
-                self.with_coupons_of_image(image, header, own)
-            }
-            _ => self.with_image_at_once(image, header),
+        match header.stage {
+            Stage::List | Stage::Set => match compact_coupons(image, header) {
+                Some(coupons) => self.update_with_coupons(image, header, coupons),
+                None => self.update_with_other_coupons(image, header),
+            },
+            Stage::Hll if self.waiting.len() == 0 => self.union.merge_image(image, header),
+            Stage::Hll => self.update_with_sketch_of(image, header),
         }
     }
 
-    /// Lets the coupons of an image wait beside `own` coupons of the union, as `with_image` does.
-    fn with_coupons_of_image(
-        self,
+    /// Merges coupons that an image holds, as `update_with_image` does: they wait, if they may.
+    fn update_with_coupons(
+        &mut self,
         image: &[u8],
         header: Header,
-        own: usize,
-    ) -> Result<UnionBuilder<A>, Error>
+        coupons: RawCoupons<'_>,
+    ) -> Result<(), Error>
         requires has { HasHeader image.now (stage_bits image.now) }
-        requires stage { stage_bits image.now < 2 }
+        requires stage { stage_bits image.now < 3 }
         requires header { header ≡ header_of image.now }
-        requires in_table { in_registers (sketch_of self.kept).content ≡ false }
-        requires some { is_empty (sketch_of self.kept) ≡ false }
-        requires gadget { IsGadget self.lg_max_k (sketch_of self.kept) }
-        requires legal { IsLegal (sketch_of self.kept) }
-        ensures ok { IfOk result (λ b. MergesInto self b image.now) }
+        requires of { IsOfCoupons image.now (raw_coupons coupons.count coupons.bytes.now) }
+        requires are { AreCoupons (raw_coupons coupons.count coupons.bytes.now) }
+        ensures ok { OnOk result (MergesInto self.old self.new image.now) }
+        ensures bound { self.new.lg_max_k ≡ self.old.lg_max_k }
+        ensures unchanged { OnErr result (whole_gadget self.new ≡ whole_gadget self.old) }
         ensures err { IfErr result (IsRefusal image.now) }
     {
-        let UnionBuilder { union, waiting } = self;
-        if let Some(coupons) = compact_coupons(image, header) {
-            let waiting = waiting.with_raw_coupons(coupons.all())?;
-            return added_when_many(union, waiting, own);
+        self.settle_if_many()?;
+        if self.lets_wait() {
+            self.waiting.extend_from_raw_coupons(coupons.all())
+        } else {
+            self.union.merge_image(image, header)
         }
-        UnionBuilder { union, waiting }.with_other_coupons(image, header, own)
     }
 
-    /// Lets the coupons of an image wait, as `with_coupons_of_image` does, unless they are evident in a compact image.
+    /// Merges the coupons of an image, as `update_with_image` does, unless they are evident in a compact image.
     // (a caller that had the room among its own values would clear it for compact coupons too)
     #[inline(never)]
-    fn with_other_coupons(
-        self,
-        image: &[u8],
-        header: Header,
-        own: usize,
-    ) -> Result<UnionBuilder<A>, Error>
+    fn update_with_other_coupons(&mut self, image: &[u8], header: Header) -> Result<(), Error>
         requires has { HasHeader image.now (stage_bits image.now) }
-        requires stage { stage_bits image.now < 2 }
+        requires stage { stage_bits image.now < 3 }
         requires header { header ≡ header_of image.now }
-        requires in_table { in_registers (sketch_of self.kept).content ≡ false }
-        requires some { is_empty (sketch_of self.kept) ≡ false }
-        requires gadget { IsGadget self.lg_max_k (sketch_of self.kept) }
-        requires legal { IsLegal (sketch_of self.kept) }
-        ensures ok { IfOk result (λ b. MergesInto self b image.now) }
+        ensures ok { OnOk result (MergesInto self.old self.new image.now) }
+        ensures bound { self.new.lg_max_k ≡ self.old.lg_max_k }
+        ensures unchanged { OnErr result (whole_gadget self.new ≡ whole_gadget self.old) }
         ensures err { IfErr result (IsRefusal image.now) }
     {
         let mut room = [0; ROOM];
-        let UnionBuilder { union, waiting } = self;
-        if let Some(coupons) = updatable_coupons(image, header, &mut room) {
-            let waiting = waiting.with_raw_coupons(coupons.all())?;
-            return added_when_many(union, waiting, own);
+        match updatable_coupons(image, header, &mut room) {
+            Some(coupons) => self.update_with_coupons(image, header, coupons),
+            None => self.update_with_sketch_of(image, header),
         }
-        let sketch = read_sketch(union.allocator(), image, header)?;
-        UnionBuilder { union, waiting }.with_sketch(&sketch)
     }
 
-    /// Merges the sketch of an image, as `with_image` does, at once where no coupons wait.
-    fn with_image_at_once(self, image: &[u8], header: Header) -> Result<UnionBuilder<A>, Error>
+    /// Merges the sketch of an image, as `update_with_image` does, once it is read.
+    fn update_with_sketch_of(&mut self, image: &[u8], header: Header) -> Result<(), Error>
         requires has { HasHeader image.now (stage_bits image.now) }
         requires stage { stage_bits image.now < 3 }
         requires header { header ≡ header_of image.now }
-        ensures ok { IfOk result (λ b. MergesInto self b image.now) }
+        ensures ok { OnOk result (MergesInto self.old self.new image.now) }
+        ensures bound { self.new.lg_max_k ≡ self.old.lg_max_k }
+        ensures unchanged { OnErr result (whole_gadget self.new ≡ whole_gadget self.old) }
         ensures err { IfErr result (IsRefusal image.now) }
     {
-        let UnionBuilder { mut union, waiting } = self;
-        if waiting.len() == 0 {
-            union.merge_image(image, header)?;
-            return Ok(UnionBuilder { union, waiting });
+        let sketch = read_sketch(self.union.allocator(), image, header)?;
+        self.update(&sketch)
+    }
+
+    /// Adds the coupons that wait to the union, if they are as many as its own, and at least `LEAST_WAITING`.
+    ///
+    /// Fails with `Memory`.
+    fn settle_if_many(&mut self) -> Result<(), Error>
+        ensures whole { whole_gadget self.new ≡ whole_gadget self.old }
+        ensures bound { self.new.lg_max_k ≡ self.old.lg_max_k }
+        ensures few { OnOk result (length self.new.waiting < 2 ^ 18) }
+        ensures err { IfErr result (λ e. e ≡ Memory) }
+    {
+        let own = self.union.coupons().unwrap_or(0);
+        if own.clamp(LEAST_WAITING, MOST_WAITING) <= self.waiting.len() {
+            self.settle()?;
         }
-        let sketch = read_sketch(union.allocator(), image, header)?;
-        UnionBuilder { union, waiting }.with_sketch(&sketch)
+        Ok(())
+    }
+
+    /// Adds the coupons that wait to the union.
+    ///
+    /// Fails with `Memory`, and then they wait still.
+    fn settle(&mut self) -> Result<(), Error>
+        ensures whole { whole_gadget self.new ≡ whole_gadget self.old }
+        ensures bound { self.new.lg_max_k ≡ self.old.lg_max_k }
+        ensures none { OnOk result (length self.new.waiting ≡ 0) }
+        ensures err { IfErr result (λ e. e ≡ Memory) }
+    {
+        if self.waiting.len() != 0 {
+            let table = self.waiting.to_table()?;
+            self.union.update_with_table(&table)?;
+            self.waiting.clear();
+        }
+        Ok(())
     }
 
     /// The union, with all that waits added.
     ///
     /// Fails with `Memory`.
-    pub fn build(self) -> Result<HllUnion<A>, Error>
+    pub fn build(mut self) -> Result<HllUnion<A>, Error>
         ensures ok { IfOk result (λ u. gadget_of u ≡ whole_gadget self) }
         ensures bound { IfOk result (λ u. u.lg_max_k ≡ self.lg_max_k) }
         ensures err { IfErr result (λ e. e ≡ Memory) }
     {
-        let UnionBuilder { union, waiting } = self;
-        settled(union, waiting)
+        self.settle()?;
+        let UnionBuilder { union, waiting: _ } = self;
+        Ok(union)
     }
-}
-
-/// A union where no coupons wait.
-///
-/// Fails with `Memory`, where a copy of the allocator is refused.
-fn with_none_waiting<A: Allocator + Clone>(union: HllUnion<A>) -> Result<UnionBuilder<A>, Error>
-    ensures ok { IfOk result (λ b. (b.lg_max_k ≡ union.lg_max_k) × (whole_gadget b ≡ gadget_of union)) }
-    ensures err { IfErr result (λ e. e ≡ Memory) }
-{
-    let alloc = union.cloned_allocator()?;
-    Ok(UnionBuilder::new(union, alloc))
-}
-
-/// A union of `own` coupons, and coupons that wait, which are added where they are as many as its own, and at least
-/// `LEAST_ADDED`.
-///
-/// Fails with `Memory`.
-fn added_when_many<A: Allocator + Clone>(
-    union: HllUnion<A>,
-    waiting: CouponBatch<A>,
-    own: usize,
-) -> Result<UnionBuilder<A>, Error>
-    requires in_table { in_registers (gadget_of union).content ≡ false }
-    requires some { is_empty (gadget_of union) ≡ false }
-    ensures ok { IfOk result (λ b. whole_gadget b ≡ with_coupons (gadget_of union) waiting) }
-    ensures bound { IfOk result (λ b. b.lg_max_k ≡ union.lg_max_k) }
-    ensures err { IfErr result (λ e. e ≡ Memory) }
-{
-    if waiting.len() < own.clamp(LEAST_ADDED, MOST_WAITING) {
-        return Ok(UnionBuilder { union, waiting });
-    }
-    with_none_waiting(settled(union, waiting)?)
-}
-
-/// A union with coupons added, if there are some.
-///
-/// Fails with `Memory`.
-fn settled<A: Allocator + Clone>(
-    mut union: HllUnion<A>,
-    waiting: CouponBatch<A>,
-) -> Result<HllUnion<A>, Error>
-    ensures ok { IfOk result (λ u. gadget_of u ≡ with_coupons (gadget_of union) waiting) }
-    ensures bound { IfOk result (λ u. u.lg_max_k ≡ union.lg_max_k) }
-    ensures err { IfErr result (λ e. e ≡ Memory) }
-{
-    if waiting.len() != 0 {
-        let table = waiting.into_table()?;
-        union.update_with_table(&table)?;
-    }
-    Ok(union)
 }
 
 /// The union of sketches under a bound. Its `lg_k` is the least of the bound and of the `lg_k` of the sketches in registers
@@ -309,7 +279,7 @@ pub fn union_of<A: Allocator + Clone>(
     let mut builder = UnionBuilder::new(union, spare);
     for sketch in sketches {
         sketch.value_is_legal();
-        builder = builder.with_sketch(sketch)?;
+        builder.update(sketch)?;
     }
     let made = builder.build()?;
     Ok(made)

@@ -46,19 +46,12 @@ impl<'a> Buckets<'a> {
         })
     }
 
-    /// Whether the buckets hold so many coupons; then they stand at the front of `room`.
-    fn gather_coupons(&self, room: &mut [u8; ROOM]) -> bool
-        ensures holds { IsTrue result ↔ HoldCoupons self.now.filled (raw_coupons self.now.raw_coupons.count self.now.raw_coupons.bytes.now) }
+    /// Whether so many buckets are filled; then their raw coupons are at the front of `room`.
+    fn gather_filled(&self, room: &mut [u8; ROOM]) -> bool
+        ensures number { IsTrue result ↔ (length (coupons_in (raw_coupons self.now.raw_coupons.count self.now.raw_coupons.bytes.now)) ≡ self.now.filled) }
         ensures gathered { result ≡ true → raw_coupons self.now.filled room.new ≡ coupons_in (raw_coupons self.now.raw_coupons.count self.now.raw_coupons.bytes.now) }
     {
-        if self.gather(room) != self.filled {
-            return false;
-        }
-        let gathered = RawCoupons {
-            bytes: room,
-            count: self.filled,
-        };
-        gathered.differ()
+        self.gather(room) == self.filled
     }
 
     /// Writes the raw coupons that are not 0 to the front of `room` in turn, as far as it goes, and answers how many there are.
@@ -109,12 +102,34 @@ pub(crate) fn updatable_coupons<'a>(
     ensures few { IfSome result (λ w. w.count ≤ 128) }
     ensures none { IfNone result (HasUpdatableCoupons bytes.now → ⊥) }
 {
+    let coupons = gathered_coupons(bytes, header, room)?;
+    if !coupons.differ() {
+        return None;
+    }
+    Some(coupons)
+}
+
+/// The raw coupons in the buckets of an updatable image of a list or a set, gathered at the front of `room` in the order of
+/// their buckets. `None` where a check but that of coupons fails, or they are not 1 to `FEW`.
+pub(crate) fn gathered_coupons<'a>(
+    bytes: &[u8],
+    header: Header,
+    room: &'a mut [u8; ROOM],
+) -> Option<RawCoupons<'a>>
+    requires has { HasHeader bytes.now (stage_bits bytes.now) }
+    requires stage { stage_bits bytes.now < 3 }
+    requires header { header ≡ header_of bytes.now }
+    ensures some { IfSome result (λ w. AreCoupons (raw_coupons w.count w.bytes.now) → IsOfCoupons bytes.now (raw_coupons w.count w.bytes.now)) }
+    ensures coupons { IfSome result (λ w. HasUpdatableCoupons bytes.now → AreCoupons (raw_coupons w.count w.bytes.now)) }
+    ensures few { IfSome result (λ w. w.count ≤ 128) }
+    ensures none { IfNone result (HasUpdatableCoupons bytes.now → ⊥) }
+{
     let buckets = match header.stage {
         Stage::List => list_buckets(bytes, header)?,
         Stage::Set => set_buckets(bytes, header)?,
         Stage::Hll => return None,
     };
-    if !buckets.gather_coupons(room) {
+    if !buckets.gather_filled(room) {
         return None;
     }
     Some(RawCoupons {

@@ -138,7 +138,7 @@ fn written_at(alloc: Global, slots: [u32; 8]) -> Result<String, Fail> {
     digits_of(alloc, &sketch_at(alloc, slots)?)
 }
 
-/// The image has them in ascending raw coupons.
+/// The image has them in ascending order.
 #[test]
 fn buckets(rt: HostRuntime) -> Result<(), Fail> {
     let sketch = sketch_at(rt.alloc(), SLOTS)?;

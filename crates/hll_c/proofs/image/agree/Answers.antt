@@ -1,16 +1,41 @@
 -- SPDX-License-Identifier: Apache-2.0
-use Rattle.std.proofs.Common.{[], ◌∷◌, refl, ◌∙◌}
+use Rattle.std.proofs.Common.{◌≡◌, [], ◌∷◌, true, refl, subst, sym, ◌∙◌}
+use lib.Pointwise.{bytes_decides}
 use Rattle.hll_base.proofs.Errors.{IfErr-passed}
+use Rattle.hll_sketch.specs.BorrowedRegisters.{lg_k_of, values_of}
+use Rattle.hll_sketch.specs.Image.{IsReadAs}
 use Rattle.hll_c.specs.Answers.{RefusesImages}
-use Rattle.hll_c.proofs.Agreement.{size_of_registers, same_is_agreement}
-use Rattle.hll_c.proofs.Images.{refuses_first, refuses_second}
+use Rattle.hll_c.proofs.Agreement.{bit_of, same_is_agreement}
+use Rattle.hll_c.proofs.Images.{asked_after, refuses_first, refuses_more_memory, refuses_second}
 use Rattle.hll_c.proofs.image.agree.Goals as goal
+
+pub returns-in_err-check_at-clause-err : goal.returns-in_err-check_at-clause-err
+returns-in_err-check_at-clause-err c =
+    let all = c.args.left.now ∷ c.args.right.now ∷ [] in
+    let e = c.in_err-check_at in
+    IfErr-passed (RefusesImages (Unit {0}) all c.args.failed.now c.check_at.new.failed) c.from_residual.result e.field-0.0 c.from_residual.ensures.1
+    (refuses_first (Unit {0}) all c.args.failed.now c.check_at.new.failed e.field-0.0 c.args.left.now (c.args.right.now ∷ []) refl tt e.ensures.err)
+
+pub returns-then-eq-clause-ok : goal.returns-then-eq-clause-ok
+returns-then-eq-clause-ok c =
+    let found = c.in_ok-check_at.ensures.ok in
+    let same : c.args.left.now ≡ c.args.right.now = (bytes_decides c.args.left.now c.args.right.now).0 (sym c.eq.ensures ∙ c.if-eq.true) in
+    record {
+      here = found.0.0;
+      here_read = found.0.1;
+      there = found.0.0;
+      there_read = subst (λ b. IsReadAs b found.0.0) same found.0.1;
+      answer = true;
+      same_is = refl;
+      is = (λ t. refl, λ agree. refl);
+      untold = found.1;
+    }
 
 pub returns-in_err-left-clause-err : goal.returns-in_err-left-clause-err
 returns-in_err-left-clause-err c =
     let all = c.args.left.now ∷ c.args.right.now ∷ [] in
     let e = c.in_err-left in
-    IfErr-passed (RefusesImages (Unit {0}) all c.args.failed.now c.read_registers.new.failed) c.from_residual.result e.field-0.0 c.from_residual.ensures.1
+    IfErr-passed (RefusesImages (Unit {0}) all c.args.failed.now c.read_registers.new.failed) c.from_residual-in_err-left.result e.field-0.0 c.from_residual-in_err-left.ensures.1
     (refuses_first (Unit {0}) all c.args.failed.now c.read_registers.new.failed e.field-0.0 c.args.left.now (c.args.right.now ∷ []) refl tt e.ensures.err)
 
 pub returns-in_err-right-clause-err : goal.returns-in_err-right-clause-err
@@ -22,28 +47,31 @@ returns-in_err-right-clause-err c =
     (refuses_second (Unit {0}) all c.args.failed.now c.read_registers-2.new.failed e.field-0.0 c.args.left.now c.args.right.now left.0.sketch c.read_registers.new.failed refl tt
     left.0.read left.2 e.ensures.err)
 
-pub agreement-requires-clause-left : goal.agreement-requires-clause-left
-agreement-requires-clause-left c =
+pub returns-in_err-agrees_with-clause-err : goal.returns-in_err-agrees_with-clause-err
+returns-in_err-agrees_with-clause-err c =
+    let all = c.args.left.now ∷ c.args.right.now ∷ [] in
+    let e = c.in_err-agrees_with in
     let left = c.in_ok-left.ensures.ok in
-    (left.1, size_of_registers c.args.left.now c.in_ok-left.left.lg_k c.in_ok-left.left.values.items left.0)
-
-pub agreement-requires-clause-right : goal.agreement-requires-clause-right
-agreement-requires-clause-right c =
     let right = c.in_ok-right.ensures.ok in
-    (right.1, size_of_registers c.args.right.now c.in_ok-right.right.lg_k c.in_ok-right.right.values.items right.0)
+    IfErr-passed (RefusesImages (Unit {0}) all c.args.failed.now _) c.from_residual-in_err-agrees_with.result e.field-0.0 c.from_residual-in_err-agrees_with.ensures.1
+    (refuses_more_memory (Unit {0}) all c.args.failed.now _ e.field-0.0 2 e.ensures.err tt
+    (asked_after all (left.0.sketch ∷ right.0.sketch ∷ []) (left.0.read, (right.0.read, tt))) (right.2 ∙ left.2))
 
 pub returns-clause-ok : goal.returns-clause-ok
 returns-clause-ok c =
     let left = c.in_ok-left.ensures.ok in
     let right = c.in_ok-right.ensures.ok in
-    let same = same_is_agreement c.args.left.now c.args.right.now c.in_ok-left.left.lg_k c.in_ok-right.right.lg_k c.in_ok-left.left.values.items c.in_ok-right.right.values.items left.0 right.0 left.1 right.1 in
+    let x = c.in_ok-left.left in
+    let y = c.in_ok-right.right in
+    let same = same_is_agreement c.args.left.now c.args.right.now (lg_k_of x) (lg_k_of y) (values_of x) (values_of y) left.0 right.0 left.1.lg_k right.1.lg_k in
+    let test = c.in_ok-agrees_with.ensures.ok in
     record {
       here = left.0.sketch;
       here_read = left.0.read;
       there = right.0.sketch;
       there_read = right.0.read;
-      answer = c.agreement.ensures.0;
-      same_is = c.agreement.ensures.1;
-      is = (λ t. same.0 (c.agreement.ensures.2.0 t), λ agree. c.agreement.ensures.2.1 (same.1 agree));
+      answer = c.in_ok-agrees_with.field-0;
+      same_is = c.from.ensures ∙ bit_of c.in_ok-agrees_with.field-0;
+      is = (λ t. same.0 (test.0 t), λ agree. test.1 (same.1 agree));
       untold = right.2 ∙ left.2;
     }

@@ -5,29 +5,42 @@ use Rattle.std.proofs.lemmas.Result.{IfOk-weaker, IfErr-weaker}
 use Rattle.hll_base.proofs.Errors.{IfErr-passed}
 use Rattle.hll_sketch.specs.CouponImages.{IsImageAt}
 use Rattle.hll_sketch.specs.Layout.{sketch_of}
+use Rattle.hll_sketch.specs.RegisterImages.{IsFilledImageOf}
 use Rattle.hll_c.specs.Answers.{IsImageOf, WithFields, RefusesWith, image_refused}
 use Rattle.hll_c.specs.Calls.{IsWidth, IsMadeOf, IsAtWidth}
 use Rattle.hll_c.proofs.Answers.{made_with_fields}
-use Rattle.hll_c.proofs.Images.{refuses_argument, refuses_memory, no_memory_with, image_in_bytes}
+use Rattle.hll_c.proofs.Images.{refuses_argument, refuses_image, refuses_memory, no_memory_with, image_in_bytes, registers_in_bytes}
 use Rattle.hll_c.proofs.image.converted.Goals as goal
 
-pub returns-in_err-width_of-clause-err : goal.returns-in_err-width_of-clause-err
-returns-in_err-width_of-clause-err c =
-    let e = c.in_err-width_of in
+pub returns-in_err-hll_type-clause-err : goal.returns-in_err-hll_type-clause-err
+returns-in_err-hll_type-clause-err c =
+    let e = c.in_err-hll_type in
     IfErr-passed (RefusesWith (IsWidth c.args.width) c.args.image.now) c.from_residual.result e.field-0.0 c.from_residual.ensures.1
     (refuses_argument (IsWidth c.args.width) c.args.image.now e.field-0.0 e.ensures.outside.0 e.ensures.outside.1)
 
 pub returns-in_err-written-clause-err : goal.returns-in_err-written-clause-err
 returns-in_err-written-clause-err c =
     let e = c.in_err-written in
-    let is : IsWidth c.args.width = record { width = c.in_ok-width_of.field-0; is = c.in_ok-width_of.ensures.ok } in
+    let is : IsWidth c.args.width = record { width = c.in_ok-hll_type.hll_type; is = c.in_ok-hll_type.ensures.ok } in
     IfErr-passed (RefusesWith (IsWidth c.args.width) c.args.image.now) c.from_residual-in_err-written.result e.field-0.0 c.from_residual-in_err-written.ensures.1
     (image_refused is (refuses_memory c.args.image.now e.ensures.read.0 e.field-0.0 e.ensures.read.1 e.ensures.err))
 
 pub returns-in-Some-clause-ok : goal.returns-in-Some-clause-ok
 returns-in-Some-clause-ok c =
-    image_in_bytes c.args.width c.in_ok-width_of.field-0 c.args.image.now c.in-Some.written.items c.in_ok-width_of.ensures.ok
-    (subst (λ o. IfSome o (λ written. IsImageAt c.in_ok-width_of.field-0 c.args.image.now written.items)) c.in-Some.is c.in_ok-written.ensures.some)
+    image_in_bytes c.args.width c.in_ok-hll_type.hll_type c.args.image.now c.in-Some.written.items c.in_ok-hll_type.ensures.ok
+    (subst (λ o. IfSome o (λ written. IsImageAt c.in_ok-hll_type.hll_type c.args.image.now written.items)) c.in-Some.is c.in_ok-written.ensures.some)
+
+pub returns-in_err-written-2-clause-err : goal.returns-in_err-written-2-clause-err
+returns-in_err-written-2-clause-err c =
+    let e = c.in_err-written-2 in
+    let is : IsWidth c.args.width = record { width = c.in_ok-hll_type.hll_type; is = c.in_ok-hll_type.ensures.ok } in
+    IfErr-passed (RefusesWith (IsWidth c.args.width) c.args.image.now) c.from_residual-in_err-written-2.result e.field-0.0 c.from_residual-in_err-written-2.ensures.1
+    (image_refused is (refuses_image c.args.image.now e.field-0.0 e.ensures.err.first e.ensures.err.asked))
+
+pub returns-in-Some-2-clause-ok : goal.returns-in-Some-2-clause-ok
+returns-in-Some-2-clause-ok c =
+    registers_in_bytes c.args.width c.in_ok-hll_type.hll_type c.args.image.now c.in-Some-2.written.items c.in_ok-hll_type.ensures.ok
+    (subst (λ o. IfSome o (λ written. IsFilledImageOf c.in_ok-hll_type.hll_type c.args.image.now written.items)) c.in-Some-2.is c.in_ok-written-2.ensures.some)
 
 pub returns-in_ok-sketch_at-in-None-clause-ok : goal.returns-in_ok-sketch_at-in-None-clause-ok
 returns-in_ok-sketch_at-in-None-clause-ok c =

@@ -35,31 +35,31 @@ returns-then-not-are_ends-clause-err c =
     refuses_arguments Are all c.args.failed.now c.args.failed.now c.new-then-not-are_ends.result c.new-then-not-are_ends.ensures
     (λ are. not_so c.are_ends.result (AreEnds (length c.args.images.now) c.args.ends.now) c.if-not-are_ends.true c.are_ends.ensures are.are) refl
 
-pub returns-in_err-all-clause-err : goal.returns-in_err-all-clause-err
-returns-in_err-all-clause-err c =
+pub returns-in_err-merge_in_all-clause-err : goal.returns-in_err-merge_in_all-clause-err
+returns-in_err-merge_in_all-clause-err c =
     let all = strings c.args.images.now c.args.ends.now in
-    let e = c.in_err-all in
+    let e = c.in_err-merge_in_all in
     let Are = AreBatchArguments c.args.lg_max_k c.args.width (length c.args.images.now) c.args.ends.now in
     let are : Are = record {
       union = record { lg_max_k_is = c.in_ok-union.ensures.lg_k; width_is = record { width = c.in_ok-width.width; is = c.in_ok-width.ensures.ok } };
       are = c.are_ends.ensures.0 c.if-not-are_ends.false;
     } in
-    IfErr-passed (RefusesImages Are all c.args.failed.now c.merge_in_all.new.failed) c.from_residual-in_err-all.result e.field-0.0 c.from_residual-in_err-all.ensures.1
+    IfErr-passed (RefusesImages Are all c.args.failed.now c.merge_in_all.new.failed) c.from_residual-in_err-merge_in_all.result e.field-0.0 c.from_residual-in_err-merge_in_all.ensures.1
     (refuses_batch Are all c.args.failed.now c.merge_in_all.new.failed e.field-0.0 are e.ensures.err)
 
 pub returns-clause-ok : goal.returns-clause-ok
 returns-clause-ok c =
     let all = strings c.args.images.now c.args.ends.now in
     let are : AreUnionArguments c.args.lg_max_k c.args.width = record { lg_max_k_is = c.in_ok-union.ensures.lg_k; width_is = record { width = c.in_ok-width.width; is = c.in_ok-width.ensures.ok } } in
-    let taken = c.in_ok-all.ensures.ok in
-    let union_of_batch = merged_all c.args.lg_max_k c.new-2.result (c.new-2.ensures.bound ∙ c.in_ok-union.ensures.ok.0) (c.new-2.ensures.whole ∙ c.in_ok-union.ensures.ok.1) c.in_ok-all.all all taken.0 in
-    let at : Sketch = record (whole_gadget c.in_ok-all.all) { width = c.in_ok-width.width } in
+    let taken = c.in_ok-merge_in_all.ensures.ok in
+    let union_of_batch = merged_all c.args.lg_max_k c.new-union.result (c.new-union.ensures.bound ∙ c.in_ok-union.ensures.ok.0) (c.new-union.ensures.whole ∙ c.in_ok-union.ensures.ok.1) c.merge_in_all.new.union all taken.0 in
+    let at : Sketch = record (whole_gadget c.merge_in_all.new.union) { width = c.in_ok-width.width } in
     IfOk-weaker c.read_out.result _ (λ s. WithFields (IsUnionOfBatch c.args.lg_max_k c.args.width c.args.images.now c.args.ends.now c.args.failed.now c.merge_in_all.new.failed) (sketch_of s))
     (λ s fills. (
       at,
       record {
         are = c.are_ends.ensures.0 c.if-not-are_ends.false;
-        is = is_union c.args.lg_max_k c.args.width all c.args.failed.now c.merge_in_all.new.failed (whole_gadget c.in_ok-all.all) at are union_of_batch refl taken.1;
+        is = is_union c.args.lg_max_k c.args.width all c.args.failed.now c.merge_in_all.new.failed (whole_gadget c.merge_in_all.new.union) at are union_of_batch refl taken.1;
       },
       fills,
     ))
@@ -74,5 +74,5 @@ returns-clause-err c =
       are = c.are_ends.ensures.0 c.if-not-are_ends.false;
     } in
     IfErr-weaker c.read_out.result _ (RefusesImages Are all c.args.failed.now c.merge_in_all.new.failed)
-    (λ e memory. refuses_more_memory Are all c.args.failed.now c.merge_in_all.new.failed e (length all) memory are (asked_after all c.in_ok-all.ensures.ok.0.sketches c.in_ok-all.ensures.ok.0.read) c.in_ok-all.ensures.ok.1)
+    (λ e memory. refuses_more_memory Are all c.args.failed.now c.merge_in_all.new.failed e (length all) memory are (asked_after all c.in_ok-merge_in_all.ensures.ok.0.sketches c.in_ok-merge_in_all.ensures.ok.0.read) c.in_ok-merge_in_all.ensures.ok.1)
     c.read_out.ensures.err

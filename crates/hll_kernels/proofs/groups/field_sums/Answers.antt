@@ -10,18 +10,18 @@ use Rattle.hll_kernels.proofs.WeightParts.{AreSumsOf-append, AreSumsOf-fits}
 use Rattle.hll_kernels.proofs.groups.field_sums.Goals as goal
 
 -- the registers of some blocks and of one more
-one_more : (i : ℕ) (B : List ℕ) (F : List (List ℕ)) → F ≡ first_chunks 192 (length B / 192) B → i < length B / 192 →
-    fields (take ((i + 1) * 192) B) ≡ fields (take (i * 192) B) ++ fields (get_or F i [])
+one_more : (i : ℕ) (B : List ℕ) (F : List (List ℕ)) → F ≡ first_chunks 48 (length B / 48) B → i < length B / 48 →
+    fields (take ((i + 1) * 48) B) ≡ fields (take (i * 48) B) ++ fields (get_or F i [])
 one_more i B F front inside =
-    let taken : length (take (i * 192) B) ≡ 3 * (64 * i) = omega (arith, length-take-le (i * 192) B (omega arith)) in
-    ap fields (take_block 192 (length B / 192) B F i [] front inside) ∙ fields-append (64 * i) (take (i * 192) B) (get_or F i []) taken
+    let taken : length (take (i * 48) B) ≡ 3 * (16 * i) = omega (arith, length-take-le (i * 48) B (omega arith)) in
+    ap fields (take_block 48 (length B / 48) B F i [] front inside) ∙ fields-append (16 * i) (take (i * 48) B) (get_or F i []) taken
 
 -- the registers of all blocks and of the rest
-all : (i : ℕ) (B rest : List ℕ) → i ≡ length B / 192 → rest ≡ drop (length B / 192 * 192) B → fields B ≡ fields (take (i * 192) B) ++ fields rest
+all : (i : ℕ) (B rest : List ℕ) → i ≡ length B / 48 → rest ≡ drop (length B / 48 * 48) B → fields B ≡ fields (take (i * 48) B) ++ fields rest
 all i B rest e is =
-    let cut : rest ≡ drop (i * 192) B = is ∙ ap (λ n. drop (n * 192) B) (sym e) in
-    let taken : length (take (i * 192) B) ≡ 3 * (64 * i) = omega (arith, length-take-le (i * 192) B (omega (arith, e))) in
-    sym (sym (fields-append (64 * i) (take (i * 192) B) rest taken) ∙ ap fields (ap (λ Q. take (i * 192) B ++ Q) cut ∙ take-append-drop (i * 192) B))
+    let cut : rest ≡ drop (i * 48) B = is ∙ ap (λ n. drop (n * 48) B) (sym e) in
+    let taken : length (take (i * 48) B) ≡ 3 * (16 * i) = omega (arith, length-take-le (i * 48) B (omega (arith, e))) in
+    sym (sym (fields-append (16 * i) (take (i * 48) B) rest taken) ∙ ap fields (ap (λ Q. take (i * 48) B ++ Q) cut ∙ take-append-drop (i * 48) B))
 
 -- a part has few registers
 few : (n : ℕ) (B : List ℕ) → length B ≤ 3 * 2 ^ 19 → length (fields (take n B)) ≤ 2 ^ 23
@@ -29,7 +29,7 @@ few n B h = omega (arith, length-fields-le (take n B), length-take n B)
 
 pub loop-block-preserved : goal.loop-block-preserved
 loop-block-preserved c =
-    let inside : c.loop-block.block-index < length c.args.bytes.now / 192 = omega (arith, c.loop-block-test.true, c.as_chunks.ensures.front_len) in
+    let inside : c.loop-block.block-index < length c.args.bytes.now / 48 = omega (arith, c.loop-block-test.true, c.as_chunks.ensures.front_len) in
     subst (AreSumsOf _) (sym (one_more c.loop-block.block-index c.args.bytes.now _ c.as_chunks.ensures.front inside))
     (AreSumsOf-append _ _ _ _ _ c.loop-block.invariant c.field_sums_in.ensures c.plus-sums.ensures.low c.plus-sums.ensures.high)
 
@@ -37,21 +37,21 @@ pub plus-sums-requires : goal.plus-sums-requires
 plus-sums-requires c =
     let i : ℕ = c.loop-block.block-index in
     let B : List ℕ = c.args.bytes.now in
-    let inside : i < length B / 192 = omega (arith, c.loop-block-test.true, c.as_chunks.ensures.front_len) in
-    let fit = AreSumsOf-fits _ _ _ _ _ c.loop-block.invariant c.field_sums_in.ensures (one_more i B _ c.as_chunks.ensures.front inside) (few ((i + 1) * 192) B c.requires.few) in
+    let inside : i < length B / 48 = omega (arith, c.loop-block-test.true, c.as_chunks.ensures.front_len) in
+    let fit = AreSumsOf-fits _ _ _ _ _ c.loop-block.invariant c.field_sums_in.ensures (one_more i B _ c.as_chunks.ensures.front inside) (few ((i + 1) * 48) B c.requires.few) in
     record { low = fit.0; high = fit.1 }
 
 pub plus-requires : goal.plus-requires
 plus-requires c =
     let B : List ℕ = c.args.bytes.now in
-    let e : c.loop-block.block-index ≡ length B / 192 = omega (arith, c.loop-block-test.false, c.loop-block.auto.block-index-end, c.as_chunks.ensures.front_len) in
+    let e : c.loop-block.block-index ≡ length B / 48 = omega (arith, c.loop-block-test.false, c.loop-block.auto.block-index-end, c.as_chunks.ensures.front_len) in
     let whole = all c.loop-block.block-index B _ e c.as_chunks.ensures.back in
-    let fit = AreSumsOf-fits _ _ _ _ _ c.loop-block.invariant c.field_sums_in-2.ensures whole (omega (arith, length-fields-le B, c.requires.few)) in
+    let fit = AreSumsOf-fits _ _ _ _ _ c.loop-block.invariant c.field_sums_one_by_one.ensures whole (omega (arith, length-fields-le B, c.requires.few)) in
     record { low = fit.0; high = fit.1 }
 
 pub returns : goal.returns
 returns c =
     let B : List ℕ = c.args.bytes.now in
-    let e : c.loop-block.block-index ≡ length B / 192 = omega (arith, c.loop-block-test.false, c.loop-block.auto.block-index-end, c.as_chunks.ensures.front_len) in
+    let e : c.loop-block.block-index ≡ length B / 48 = omega (arith, c.loop-block-test.false, c.loop-block.auto.block-index-end, c.as_chunks.ensures.front_len) in
     subst (AreSumsOf _) (sym (all c.loop-block.block-index B _ e c.as_chunks.ensures.back))
-    (AreSumsOf-append _ _ _ _ _ c.loop-block.invariant c.field_sums_in-2.ensures c.plus.ensures.low c.plus.ensures.high)
+    (AreSumsOf-append _ _ _ _ _ c.loop-block.invariant c.field_sums_one_by_one.ensures c.plus.ensures.low c.plus.ensures.high)

@@ -6,4 +6,4 @@ use Rattle.hll_kernels.proofs.groups.field_sums.Given as goal
 
 -- the sums so far
 abbrev pub invariant-loop-block : goal.invariant-loop-block
-invariant-loop-block l = AreSumsOf l.sums (fields (take (l.block-index * 192) l.bytes))
+invariant-loop-block l = AreSumsOf l.sums (fields (take (l.block-index * 48) l.bytes))

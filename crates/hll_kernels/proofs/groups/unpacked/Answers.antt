@@ -15,5 +15,5 @@ returns c =
     let k : ℕ = length B / 3 * 4 in
     let W : List ℕ = c.max_with_fields.new.values in
     let long : length (fields B) ≡ k = omega (arith, length-fields (length B / 3) B (omega (arith, c.requires.whole))) in
-    let e : W ≡ fields B = c.max_with_fields.ensures ∙ join_zeros 256 k (fields B) (omega (arith, c.requires.few)) long in
+    let e : W ≡ fields B = c.max_with_fields.ensures ∙ join_zeros 64 k (fields B) (omega (arith, c.requires.few)) long in
     front k W _ (omega (arith, ap length e, long)) ∙ e

@@ -1,5 +1,5 @@
 -- SPDX-License-Identifier: Apache-2.0
-use Rattle.std.proofs.Common.{◌≡◌, ◌==◌, ◌+◌, ◌++◌, ℕ, List, cond, sym, ap, ◌∙◌}
+use Rattle.std.proofs.Common.{◌≡◌, ◌==◌, ◌+◌, ◌++◌, ℕ, List, cond, sym, ap, ◌∙◌, arith}
 use Rattle.std.specs.Simd.Lanes.{chunk}
 use Rattle.std.proofs.lemmas.List.Sums.{sum_by-append}
 use Rattle.hll_kernels.specs.Packed.{zeros, fields}
@@ -14,10 +14,11 @@ pub returns-clause-count : goal.returns-clause-count
 returns-clause-count c =
     let B : List ℕ = c.args.block.now in
     let F : ℕ → List ℕ = λ k. fields (chunk k 12 B) in
-    let z0 = c.zeros_in.ensures.count ∙ ap zeros c.words_at.ensures in
-    let z1 = c.zeros_in-2.ensures.count ∙ ap zeros c.words_at-2.ensures in
-    let z2 = c.zeros_in-3.ensures.count ∙ ap zeros c.words_at-3.ensures in
-    let z3 = c.zeros_in-4.ensures.count ∙ ap zeros c.last_words.ensures in
-    (λ i. z0 i + z1 i + z2 i + z3 i)
-    ∙ sym (append ((F 0 ++ F 12) ++ F 24) (F 36) ∙ ap (λ n. n + zeros (F 36)) (append (F 0 ++ F 12) (F 24) ∙ ap (λ n. n + zeros (F 24)) (append (F 0) (F 12))))
-    ∙ ap zeros (fields-parts B c.told-block)
+    let parts : zeros (F 0) + zeros (F 12) + zeros (F 24) + zeros (F 36) ≡ zeros (fields B) =
+    sym (append ((F 0 ++ F 12) ++ F 24) (F 36) ∙ ap (λ n. n + zeros (F 36)) (append (F 0 ++ F 12) (F 24) ∙ ap (λ n. n + zeros (F 24)) (append (F 0) (F 12))))
+    ∙ ap zeros (fields-parts B c.told-block) in
+    let z0 = ap zeros c.words_at.ensures in
+    let z1 = ap zeros c.words_at-2.ensures in
+    let z2 = ap zeros c.words_at-3.ensures in
+    let z3 = ap zeros c.last_words.ensures in
+    omega (arith, parts, z0, z1, z2, z3)

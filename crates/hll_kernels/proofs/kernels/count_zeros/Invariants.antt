@@ -4,4 +4,4 @@ use Rattle.hll_kernels.proofs.kernels.count_zeros.Given as goal
 
 -- the count so far
 abbrev pub invariant-loop-block : goal.invariant-loop-block
-invariant-loop-block l = l.count ≡ count_by (λ v. v == 0) (take (l.block-index * 64) l.bytes)
+invariant-loop-block l = l.count ≡ count_by (λ v. v == 0) (take (l.block-index * 128) l.bytes)

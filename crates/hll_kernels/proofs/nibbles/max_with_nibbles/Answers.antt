@@ -18,11 +18,11 @@ loop-place-preserved c =
     let B = c.args.bytes.now in
     let m = c.args.minimum in
     let p = c.loop-place.place in
-    let inside : p < length B / 16 = omega (arith, c.loop-place-test.true, c.as_chunks.ensures.front_len) in
+    let inside : p < length B / 32 = omega (arith, c.loop-place-test.true, c.as_chunks.ensures.front_len) in
     c.max_with_block.ensures
-    ∙ max_step (32 * p) R c.loop-place.values (nibble_values m (take (p * 16) B)) (nibble_values m _) c.loop-place.invariant
-    (omega (arith, length-nibble_values m (take (p * 16) B), length-take-le (p * 16) B (omega arith))) (omega (arith, c.requires.size))
-    ∙ ap (max_at 0 R) (sym (ap (nibble_values m) (take_block 16 (length B / 16) B c.as_chunks.result.0.now p _ c.as_chunks.ensures.front inside) ∙ nibble_values-append m (take (p * 16) B) _))
+    ∙ max_step (64 * p) R c.loop-place.values (nibble_values m (take (p * 32) B)) (nibble_values m _) c.loop-place.invariant
+    (omega (arith, length-nibble_values m (take (p * 32) B), length-take-le (p * 32) B (omega arith))) (omega (arith, c.requires.size))
+    ∙ ap (max_at 0 R) (sym (ap (nibble_values m) (take_block 32 (length B / 32) B c.as_chunks.result.0.now p _ c.as_chunks.ensures.front inside) ∙ nibble_values-append m (take (p * 32) B) _))
 
 pub returns : goal.returns
 returns c =
@@ -34,12 +34,12 @@ returns c =
     let p = c.loop-place.place in
     let rest = c.as_chunks.result.1.now in
     let n : p ≡ length c.as_chunks.result.0.now = omega (arith, c.loop-place-test.false, c.loop-place.auto.place-end) in
-    let e : p ≡ length B / 16 = n ∙ c.as_chunks.ensures.front_len in
-    let cut : rest ≡ drop (p * 16) B = c.as_chunks.ensures.back ∙ ap (λ m. drop (m * 16) B) (sym e) in
+    let e : p ≡ length B / 32 = n ∙ c.as_chunks.ensures.front_len in
+    let cut : rest ≡ drop (p * 32) B = c.as_chunks.ensures.back ∙ ap (λ m. drop (m * 32) B) (sym e) in
     let same : length V ≡ length R = c.loop-place.auto.values in
-    ap (λ b. put_mid (32 * b) (length V - 32 * b) V W) (sym n)
-    ∙ max_end (32 * p) (length V - 32 * p) R V W (nibble_values m (take (p * 16) B)) (nibble_values m rest) c.loop-place.invariant
-    (omega (arith, length-nibble_values m (take (p * 16) B), length-take-le (p * 16) B (omega (arith, e)))) (omega (arith, e, c.requires.size))
-    (omega (arith, length-nibble_values m rest, ap length cut, length-drop (p * 16) B, e, c.requires.size))
-    (c.max_one_by_one.ensures ∙ ap (λ b. join (mid_of (32 * b) (length V - 32 * b) V) (nibble_values m rest)) (sym n))
-    ∙ ap (join R) (sym (nibble_values-append m (take (p * 16) B) rest) ∙ ap (nibble_values m) (ap (λ Q. take (p * 16) B ++ Q) cut ∙ take-append-drop (p * 16) B))
+    ap (λ b. put_mid (64 * b) (length V - 64 * b) V W) (sym n)
+    ∙ max_end (64 * p) (length V - 64 * p) R V W (nibble_values m (take (p * 32) B)) (nibble_values m rest) c.loop-place.invariant
+    (omega (arith, length-nibble_values m (take (p * 32) B), length-take-le (p * 32) B (omega (arith, e)))) (omega (arith, e, c.requires.size))
+    (omega (arith, length-nibble_values m rest, ap length cut, length-drop (p * 32) B, e, c.requires.size))
+    (c.max_one_by_one.ensures ∙ ap (λ b. join (mid_of (64 * b) (length V - 64 * b) V) (nibble_values m rest)) (sym n))
+    ∙ ap (join R) (sym (nibble_values-append m (take (p * 32) B) rest) ∙ ap (nibble_values m) (ap (λ Q. take (p * 32) B ++ Q) cut ∙ take-append-drop (p * 32) B))

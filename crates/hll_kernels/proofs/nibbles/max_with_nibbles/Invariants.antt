@@ -5,4 +5,4 @@ use Rattle.hll_kernels.proofs.nibbles.max_with_nibbles.Given as goal
 
 -- the values of the bytes so far are raised
 abbrev pub invariant-loop-place : goal.invariant-loop-place
-invariant-loop-place l = l.values ≡ max_at 0 l.initial.values (nibble_values l.minimum (take (l.place * 16) l.bytes))
+invariant-loop-place l = l.values ≡ max_at 0 l.initial.values (nibble_values l.minimum (take (l.place * 32) l.bytes))

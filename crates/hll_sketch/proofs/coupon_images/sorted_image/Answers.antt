@@ -4,7 +4,7 @@ use Rattle.hll_base.specs.declared.error.Reason.{Reason}
 use Rattle.hll_sketch.specs.Checks.{first_failing, header_checks, checks_after}
 use Rattle.hll_sketch.specs.CouponImages.{HasEvidentCoupons}
 use Rattle.hll_sketch.specs.declared.header.Header.{Header}
-use Rattle.hll_sketch.proofs.CouponImages.{in_order}
+use Rattle.hll_sketch.proofs.CouponImages.{in_order, width_in_header}
 use Rattle.hll_sketch.proofs.FirstFailing.{failing_before}
 use Rattle.hll_sketch.proofs.coupon_images.sorted_image.Goals as goal
 
@@ -20,3 +20,6 @@ never b e fails (inr placed) = let none : Some e ≡ None = sym (failing_before 
 
 pub returns-in_default-clause-none : goal.returns-in_default-clause-none
 returns-in_default-clause-none c = never c.args.bytes.now _ c.in_default.ensures.order
+
+pub returns-clause-width : goal.returns-clause-width
+returns-clause-width c = width_in_header c.args.bytes.now _ c.in_ok-raw_coupons.ensures.some c.in-Ok.header c.in-Ok.ensures.ok.2

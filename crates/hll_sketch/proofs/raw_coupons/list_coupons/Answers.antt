@@ -33,3 +33,7 @@ returns-clause-none c = IfNone_then c.front.result c.front.ensures.none λ short
     let count = c.from-count.ensures ∙ ap (λ (h : Header). h.state_byte) c.requires.header in
     let less = short (omega (arith, there.0, count)) in
     omega (arith, there.1, count, less, ap length (take_rest c.args.bytes.now 8))
+
+pub returns-clause-compact : goal.returns-clause-compact
+returns-clause-compact c =
+    IfSome_then c.front.result c.front.ensures.some λ w is. ap (λ (h : Header). h.compact) (sym c.requires.header) ∙ not-false c.args.header.compact c.if-not-header.false

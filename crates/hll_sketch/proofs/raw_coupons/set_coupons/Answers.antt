@@ -42,3 +42,7 @@ returns-clause-none c = IfNone_then c.front.result c.front.ensures.none λ short
     let index = c.remaining.ensures ∙ read.2 ∙ ap (drop 4) entry in
     let less = short (omega (arith, there.0, count)) in
     omega (arith, there.1, count, less, ap length index)
+
+pub returns-clause-compact : goal.returns-clause-compact
+returns-clause-compact c =
+    IfSome_then c.front.result c.front.ensures.some λ w is. ap (λ (h : Header). h.compact) (sym c.requires.header) ∙ not-false c.args.header.compact c.if-not-header.false

@@ -5,7 +5,7 @@ use Rattle.hll_base.proofs.Errors.{IfErr-passed}
 use Rattle.hll_base.specs.declared.error.Reason.TheVariants.{Memory}
 use Rattle.hll_registers.specs.Payload.{state_at, IsHll8Payload, FirstHll8Fault}
 use Rattle.hll_registers.specs.Store.{Stored}
-use Rattle.hll_sketch.specs.Image.{lg_k_byte, is_flagged}
+use Rattle.hll_sketch.specs.Image.{lg_k_byte, is_flagged, width_of_bits}
 use Rattle.hll_sketch.specs.MergedIn.{IsOfRegisters}
 use Rattle.hll_sketch.specs.Value.{registers}
 use Rattle.hll_sketch.specs.declared.header.Header.{Header}
@@ -44,6 +44,7 @@ returns-clause-ok c =
       sketch = _;
       read = read_as-eight b x c.requires.has c.requires.width given.0 (λ i. record { lg_k = lg_k_byte b; registers = given.1 i; state = state_at (is_flagged 16 b) (drop 8 b) });
       lg_k = sym k;
+      width_is = ap width_of_bits (sym c.requires.width);
       content = ap (registers R) (sym state);
     } in
     subst (IsOfRegisters b) (sym (c.with_state.ensures ∙ ap (λ (l : Stored). record l { state = c.in_ok-registers.state }) c.new.ensures)) here

@@ -6,7 +6,7 @@ use Rattle.hll_registers.specs.Payload.{exception_count, shape_of_hll4, FirstHll
 use Rattle.hll_base.specs.declared.error.Reason.TheVariants.{Memory}
 use Rattle.hll_registers.specs.declared.aux_format.AuxFormat.{AuxFormat}
 use Rattle.hll_registers.specs.Store.{Stored}
-use Rattle.hll_sketch.specs.Image.{lg_k_byte, is_flagged, hll4_shape}
+use Rattle.hll_sketch.specs.Image.{lg_k_byte, is_flagged, hll4_shape, width_of_bits}
 use Rattle.hll_sketch.specs.Refusal.{IsRefusal}
 use Rattle.hll_sketch.specs.MergedIn.{IsOfRegisters, HasPlainRegisters}
 use Rattle.hll_sketch.specs.declared.header.Header.{Header}
@@ -55,6 +55,7 @@ returns-clause-ok g c =
       sketch = _;
       read = read_as-four b a c.requires.has c.requires.width same.0 same.1;
       lg_k = ap (λ (y : Stored). y.lg_k) (sym same.1);
+      width_is = ap width_of_bits (sym c.requires.width);
       content = refl;
     })
     c.read_nibbles.ensures.ok

@@ -1,15 +1,42 @@
 -- SPDX-License-Identifier: Apache-2.0
-use Rattle.std.proofs.Common.{inl, inr, sym, ◌∙◌, arith}
+use Rattle.std.proofs.Common.{ℕ, List, sym, ◌∙◌, arith, Option, Some, None, IfSome, OnSome}
 use Rattle.std.proofs.lemmas.Bool.{true≢false}
+use Rattle.hll_coupons.specs.Coupons.{raw_coupons}
 use Rattle.hll_coupons.proofs.Merging.{length-raw_coupons}
-use Rattle.hll_sketch.proofs.CouponImages.{ascends_after}
+use Rattle.hll_sketch.proofs.BorrowedCoupons.{increasing_coupons}
+use Rattle.hll_sketch.proofs.CouponImages.{ascends_after, same_coupons}
+use Rattle.hll_sketch.proofs.SizedImages.{IfNone_then}
+use Rattle.hll_sketch.proofs.SortedCoupons.{not_evident}
 use Rattle.hll_sketch.proofs.sorted.coupons_in_order.Goals as goal
+
+pub returns-then-ascend-clause-some : goal.returns-then-ascend-clause-some
+returns-then-ascend-clause-some c = c.in-Some.ensures.coupons (increasing_coupons _ (c.ascend.ensures.0 c.if-ascend.true))
 
 pub returns-then-ascend-clause-ascend : goal.returns-then-ascend-clause-ascend
 returns-then-ascend-clause-ascend c = ascends_after _ (c.ascend.ensures.0 c.if-ascend.true)
 
-pub sorted-requires-clause-few : goal.sorted-requires-clause-few
-sorted-requires-clause-few c = elim c.in-Some.ensures.evident [
-  | inl up ↦ absurd (true≢false (sym (c.ascend.ensures.1 up) ∙ c.if-ascend.false))
-  | inr few ↦ omega (arith, few.0, length-raw_coupons c.in-Some.coupons.count c.in-Some.coupons.bytes.now)
-]
+pub returns-then-coupons-gt-FEW-clause-none : goal.returns-then-coupons-gt-FEW-clause-none
+returns-then-coupons-gt-FEW-clause-none c =
+    let all : List ℕ = raw_coupons c.in-Some.coupons.count c.in-Some.coupons.bytes.now in
+    not_evident c.args.bytes.now all c.in-Some.ensures.raw_coupons c.in-Some.ensures.compact (λ up. true≢false (sym (c.ascend.ensures.1 up) ∙ c.if-ascend.false))
+    (λ few are. let no : ⊥ = omega (arith, few, length-raw_coupons c.in-Some.coupons.count c.in-Some.coupons.bytes.now, c.if-coupons-gt-FEW.true) in no)
+
+pub returns-clause-none : goal.returns-clause-none
+returns-clause-none c =
+    let all : List ℕ = raw_coupons c.in-Some.coupons.count c.in-Some.coupons.bytes.now in
+    IfNone_then c.sorted.result c.sorted.ensures.none λ apart.
+    not_evident c.args.bytes.now all c.in-Some.ensures.raw_coupons c.in-Some.ensures.compact (λ up. true≢false (sym (c.ascend.ensures.1 up) ∙ c.if-ascend.false)) (λ few are. apart are)
+
+-- what holds of a value, where a fact holds if there is one
+given : {X : Type 0} (r : Option X) {P R : X → Type 0} {Q : Type 0} → OnSome r Q → IfSome r P → (Q → (x : X) → P x → R x) → IfSome r R
+given None q p f = tt
+given (Some x) q p f = f q x p
+
+pub returns-clause-some : goal.returns-clause-some
+returns-clause-some c =
+    let b : List ℕ = c.args.bytes.now in
+    let all : List ℕ = raw_coupons c.in-Some.coupons.count c.in-Some.coupons.bytes.now in
+    given c.sorted.result c.sorted.ensures.are c.sorted.ensures.some λ are w up. same_coupons b all (raw_coupons w.count w.bytes.now) (c.in-Some.ensures.coupons are) up.members
+
+pub returns-clause-ascend : goal.returns-clause-ascend
+returns-clause-ascend c = given c.sorted.result c.sorted.ensures.are c.sorted.ensures.some λ are w up. up.increasing

@@ -13,8 +13,8 @@ use Rattle.hll_sketch.proofs.union_builder.union_of.Goals as goal
 
 pub loop-sketch-preserved : goal.loop-sketch-preserved
 loop-sketch-preserved g c = (
-  c.in_ok-builder.ensures.bound ∙ c.loop-sketch.invariant.0,
-  c.in_ok-builder.ensures.ok
+  c.update.ensures.bound ∙ c.loop-sketch.invariant.0,
+  c.in_ok-update.ensures.ok
       ∙ (λ i. merge (c.loop-sketch.invariant.0 i) (c.loop-sketch.invariant.1 i) (sketch_of (c.sketch-item.is i)))
       ∙ merged_more c.args.lg_max_k (empty_union c.args.lg_max_k) c.args.sketches.now c.loop-sketch.sketch-index c.sketch-item.result c.loop-sketch-test.true,
   All-more (λ x. IsLegal (sketch_of x)) c.args.sketches.now c.loop-sketch.sketch-index c.sketch-item.result c.loop-sketch-test.true c.loop-sketch.invariant.2
@@ -39,8 +39,8 @@ returns-clause-canonical g c = λ canonical.
 no_argument : Memory ≡ Argument → ⊥
 no_argument e = cc
 
-pub returns-in_err-builder-clause-outside : goal.returns-in_err-builder-clause-outside
-returns-in_err-builder-clause-outside g c =
-    let e = c.in_err-builder in
-    IfErr-passed (λ r. r ≡ Argument → IsLgK c.args.lg_max_k → ⊥) c.from_residual-in_err-builder.result e.field-0.0 c.from_residual-in_err-builder.ensures.1
+pub returns-in_err-update-clause-outside : goal.returns-in_err-update-clause-outside
+returns-in_err-update-clause-outside g c =
+    let e = c.in_err-update in
+    IfErr-passed (λ r. r ≡ Argument → IsLgK c.args.lg_max_k → ⊥) c.from_residual-in_err-update.result e.field-0.0 c.from_residual-in_err-update.ensures.1
     (λ is legal. no_argument (sym e.ensures.err ∙ is))

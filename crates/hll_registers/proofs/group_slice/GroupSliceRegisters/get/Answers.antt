@@ -1,5 +1,5 @@
 -- SPDX-License-Identifier: Apache-2.0
-use Rattle.std.proofs.Common.{◌≡◌, List, ℕ, ◌*◌, ◌^◌, length, ap, arith}
+use Rattle.std.proofs.Common.{◌≡◌, ◌*◌, ◌^◌, length, ap, arith}
 use Rattle.hll_kernels.proofs.Grouping.{size-AreGroups}
 use Rattle.hll_registers.specs.Store.{Stored}
 use Rattle.hll_registers.proofs.group_slice.GroupSliceRegisters.get.Goals as goal

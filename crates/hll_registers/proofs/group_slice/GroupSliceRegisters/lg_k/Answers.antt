@@ -1,7 +1,7 @@
 -- SPDX-License-Identifier: Apache-2.0
-use Rattle.std.proofs.Common.{rules, ℕ, List, subst, arith}
+use Rattle.std.proofs.Common.{subst, arith}
 use Rattle.hll_kernels.proofs.Grouping.{AreRegisters-registers_in}
-use Rattle.hll_registers.specs.Store.{Stored, IsStored}
+use Rattle.hll_registers.specs.Store.{IsStored}
 use Rattle.hll_registers.proofs.group_slice.GroupSliceRegisters.lg_k.Goals as goal
 
 pub returns-clause-legal : goal.returns-clause-legal

@@ -1,5 +1,5 @@
 -- SPDX-License-Identifier: Apache-2.0
-use Rattle.std.proofs.Common.{◌==◌, ℕ, List, ap, ◌∙◌, sym}
+use Rattle.std.proofs.Common.{◌==◌, ap, ◌∙◌, sym}
 use Rattle.std.specs.Cmp.{both_ways}
 use Rattle.std.specs.List.{list_all}
 use Rattle.std.proofs.lemmas.Bool.{eqb-true, false_from_ne_true}

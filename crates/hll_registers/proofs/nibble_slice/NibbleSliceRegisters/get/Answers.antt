@@ -1,5 +1,5 @@
 -- SPDX-License-Identifier: Apache-2.0
-use Rattle.std.proofs.Common.{◌<◌, ◌^◌, ℕ, List, get_or, sym, ap, subst, ◌∙◌}
+use Rattle.std.proofs.Common.{◌<◌, ◌^◌, get_or, sym, ap, subst, ◌∙◌}
 use Rattle.hll_registers.specs.FourBits.{unboxed}
 use Rattle.hll_registers.specs.Store.{Stored}
 use Rattle.hll_registers.proofs.FourBitReading.{unpacked-at}

@@ -1,5 +1,5 @@
 -- SPDX-License-Identifier: Apache-2.0
-use Rattle.std.proofs.Common.{rules, ℕ, List, subst}
+use Rattle.std.proofs.Common.{subst}
 use Rattle.hll_registers.specs.FourBits.{unboxed}
 use Rattle.hll_registers.specs.Store.{IsStored}
 use Rattle.hll_registers.proofs.FourBitReading.{AgreeAbove, legal}

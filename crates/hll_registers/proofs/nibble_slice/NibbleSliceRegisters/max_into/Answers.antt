@@ -1,5 +1,5 @@
 -- SPDX-License-Identifier: Apache-2.0
-use Rattle.std.proofs.Common.{ℕ, List, length, take, drop, ap, ◌∙◌}
+use Rattle.std.proofs.Common.{length, take, drop, ap, ◌∙◌}
 use Rattle.hll_base.specs.Join.{join}
 use Rattle.hll_registers.specs.Store.{Stored}
 use Rattle.hll_registers.proofs.nibble_slice.NibbleSliceRegisters.max_into.Goals as goal

@@ -6,7 +6,7 @@ use Rattle.std.proofs.lemmas.List.{length-take, take_all}
 use Rattle.hll_kernels.specs.WeightSums.{AreSumsOf}
 use Rattle.hll_kernels.proofs.WeightParts.{AreSumsOf-append, AreSumsOf-fits}
 use Rattle.hll_registers.specs.Store.{Stored}
-use Rattle.hll_registers.proofs.Folding.{block-within, power-groups, whole}
+use Rattle.hll_registers.proofs.Folding.{block-aligned, block-within, power-groups, whole}
 use Rattle.hll_registers.proofs.registers.Registers.weight_sums.Goals as goal
 
 pub weight_sums_at-requires-clause-within : goal.weight_sums_at-requires-clause-within
@@ -20,12 +20,17 @@ weight_sums_at-requires-clause-within g c =
     let at : block * c.two_to-size.result ≡ block * 2 ^ e = ap (λ n. block * n) c.two_to-size.ensures in
     omega (arith, within, at, c.two_to-size.ensures)
 
+pub weight_sums_at-requires-clause-aligned : goal.weight_sums_at-requires-clause-aligned
+weight_sums_at-requires-clause-aligned g c =
+    ap (λ n. c.loop-block.block * n % 4) c.two_to-size.ensures
+    ∙ block-aligned c.min-lg_size.result (omega (arith, c.min-lg_size.ensures, c.lg_k.ensures.lg_k, c.lg_k.ensures.legal.low, c.lg_block.ensures.least)) c.loop-block.block
+
 pub weight_sums_at-requires-clause-groups : goal.weight_sums_at-requires-clause-groups
 weight_sums_at-requires-clause-groups g c =
-    ap (λ n. n % 4) c.two_to-size.ensures ∙ power-groups c.min-lg_size.result (omega (arith, c.min-lg_size.ensures, c.lg_k.ensures.lg_k, c.lg_k.ensures.legal.low))
+    ap (λ n. n % 4) c.two_to-size.ensures ∙ power-groups c.min-lg_size.result (omega (arith, c.min-lg_size.ensures, c.lg_k.ensures.lg_k, c.lg_k.ensures.legal.low, c.lg_block.ensures.least))
 
 pub weight_sums_at-requires-clause-few : goal.weight_sums_at-requires-clause-few
-weight_sums_at-requires-clause-few g c = omega (arith, c.two_to-size.ensures, pow_mono {i = c.min-lg_size.result} {j = 14} (omega (arith, c.min-lg_size.ensures)))
+weight_sums_at-requires-clause-few g c = omega (arith, c.two_to-size.ensures, pow_mono {i = c.min-lg_size.result} {j = 14} (omega (arith, c.min-lg_size.ensures, c.lg_block.ensures.most)))
 
 -- the registers of some blocks and of one more
 one_more : (i n : ℕ) (R : List ℕ) → take ((i + 1) * n) R ≡ take (i * n) R ++ take n (drop (i * n) R)
@@ -40,7 +45,8 @@ plus-sums-requires g c =
     let x : Stored = g.Self.Registers.stored c.args.self.now in
     let i : ℕ = c.loop-block.block in
     let n : ℕ = c.two_to-size.result in
-    let fit = AreSumsOf-fits _ _ _ _ _ c.loop-block.invariant c.weight_sums_at.ensures (one_more i n x.registers) (few ((i + 1) * n) x.lg_k x.registers c.lg_k.ensures.legal.high c.lg_k.ensures.legal.registers.size) in
+    let R : List ℕ = x.registers in
+    let fit = AreSumsOf-fits _ _ (take (i * n) R) (take n (drop (i * n) R)) (take ((i + 1) * n) R) c.loop-block.invariant c.weight_sums_at.ensures (one_more i n R) (few ((i + 1) * n) x.lg_k x.registers c.lg_k.ensures.legal.high c.lg_k.ensures.legal.registers.size) in
     record { low = fit.0; high = fit.1 }
 
 pub loop-block-preserved : goal.loop-block-preserved

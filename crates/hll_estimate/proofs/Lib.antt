@@ -1,0 +1,13 @@
+-- SPDX-License-Identifier: Apache-2.0
+pub mod Squares
+pub mod Sums
+pub mod Numbers
+pub mod SeriesBounds
+pub mod Tail
+pub mod Weights
+pub mod Nearness
+pub mod Meaning
+pub mod Monotone
+pub mod Doubles
+pub mod LongDivision
+pub mod Lists

@@ -1,0 +1,6 @@
+-- SPDX-License-Identifier: Apache-2.0
+use Rattle.hll_estimate.proofs.Lists.{raising_never_lowers, union_never_below_parts}
+use Rattle.hll_estimate.proofs.laws.estimates.Goals as goal
+
+pub returns : goal.returns
+returns c = record { raising = raising_never_lowers; union = union_never_below_parts }

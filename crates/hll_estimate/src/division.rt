@@ -1,0 +1,73 @@
+// SPDX-License-Identifier: Apache-2.0
+//! Long division, for targets whose runtime library cannot divide 128-bit integers.
+ghost use Rattle.std.specs.Prelude.{◌≡◌, ◌*◌, ◌/◌, ◌%◌, ◌<◌, ◌≤◌};
+
+/// The quotient and the remainder of `dividend` by `divisor`, which is not 0.
+///
+/// Takes a division of 64-bit integers for each 31 bits of the quotient, and a step for each bit that these leave.
+pub fn divide(dividend: u128, divisor: u128) -> (u128, u128)
+    requires { 0 < divisor }
+    ensures quotient { result.0 ≡ dividend / divisor }
+    ensures remainder { result.1 ≡ dividend % divisor }
+{
+    let mut quotient = 0;
+    let mut remainder = dividend;
+    for _ in 0..digits(dividend, divisor) {
+        let part = trial_quotient(remainder, divisor);
+        quotient += part;
+        remainder -= part * divisor;
+    }
+    let (last, remainder) = divide_by_bits(remainder, divisor);
+    (quotient + last, remainder)
+}
+
+/// How many digits of 31 bits a quotient has, about. No result depends on it.
+fn digits(dividend: u128, divisor: u128) -> u32 {
+    let bits = divisor
+        .leading_zeros()
+        .saturating_sub(dividend.leading_zeros());
+    bits / 31 + 1
+}
+
+/// A number that is at most the quotient and near it: the highest 64 bits of the dividend by the highest 32 of the
+/// divisor.
+fn trial_quotient(dividend: u128, divisor: u128) -> u128
+    requires { 0 < divisor }
+    ensures { result * divisor ≤ dividend }
+{
+    let dropped = 64u32.saturating_sub(dividend.leading_zeros());
+    let divisor_dropped = 96u32.saturating_sub(divisor.leading_zeros());
+    let high = (dividend >> dropped) as u64;
+    // rounded up, since the quotient must not be too high
+    let divisor_high = ((divisor - 1) >> divisor_dropped) as u64 + 1;
+    let digit = u128::from(high / divisor_high);
+    if divisor_dropped <= dropped {
+        digit << (dropped - divisor_dropped)
+    } else {
+        digit >> (divisor_dropped - dropped)
+    }
+}
+
+/// The quotient and the remainder, by a comparison and a subtraction for each bit of the quotient.
+fn divide_by_bits(dividend: u128, divisor: u128) -> (u128, u128)
+    requires { 0 < divisor }
+    ensures quotient { result.0 ≡ dividend / divisor }
+    ensures remainder { result.1 ≡ dividend % divisor }
+{
+    if dividend < divisor {
+        return (0, dividend);
+    }
+    // the highest bits of both are aligned
+    let shift = divisor.leading_zeros() - dividend.leading_zeros();
+    let mut quotient = 0;
+    let mut remainder = dividend;
+    for step in 0..shift + 1 {
+        let part = divisor << (shift - step);
+        quotient *= 2;
+        if part <= remainder {
+            remainder -= part;
+            quotient += 1;
+        }
+    }
+    (quotient, remainder)
+}

@@ -1,0 +1,9 @@
+-- SPDX-License-Identifier: Apache-2.0
+use Rattle.hll_kernels.proofs.Weights.{upper_by_table, table_has_each}
+use Rattle.hll_kernels.proofs.kernels.upper_bytes.Goals as goal
+
+pub swizzle : goal.swizzle
+swizzle c = table_has_each c.args.values c.fits-values.0 c.requires
+
+pub returns : goal.returns
+returns c = upper_by_table c.args.values c.fits-values.0 c.requires
