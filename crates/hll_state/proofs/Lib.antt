@@ -2,7 +2,9 @@
 pub mod Distinct
 pub mod Flattened
 pub mod Merging
+pub mod Promoting
 pub mod Raws
 pub mod Runs
 pub mod Sets
 pub mod Steps
+pub mod Values

@@ -4,6 +4,7 @@
 
 mod elements;
 mod merge;
+pub mod registers;
 pub mod run;
 mod settle;
 #[cfg(test)]

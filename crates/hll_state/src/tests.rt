@@ -1,10 +1,12 @@
 // SPDX-License-Identifier: Apache-2.0
-//! Runs compared with sorted vectors: distinct and repeated coupons, full slices, and runs that are merged.
+//! Runs compared with sorted vectors: distinct and repeated coupons, full slices, and runs that are merged. Registers of few
+//! coupons.
 ghost use Rattle.std.specs.Prelude.{◌≡◌, ◌≤◌, ℕ, List, length, take};
 ghost use Rattle.std.specs.List.Sorted.{IsStrictlyIncreasing};
 ghost use Rattle.hll_coupons.specs.Pair.{IsPair};
 ghost use Rattle.hll_state.specs.CouponRun.{IsRun, raws};
 
+use crate::registers::{as_bytes, promote, raise};
 use crate::run::CouponRun;
 use hll_coupons::coupon::Coupon;
 use std::alloc::{AllocError, Global};
@@ -179,5 +181,40 @@ fn settled_elements(rt: HostRuntime) -> Result<(), Fail> {
     let mut run = run_of(&mut coupons, Source::Distinct, 60);
     run.settle(&mut coupons);
     assert_eq!(rt; read_again(run, &coupons), run);
+    Ok(())
+}
+
+/// Two coupons of slot 3 modulo 16, the greater one first, and one of the last slot.
+#[test]
+fn raised_registers(rt: HostRuntime) -> Result<(), Fail> {
+    let mut elements = [[0; 4]; 4];
+    raise(&mut elements, 4, (7 << 26) + 35);
+    raise(&mut elements, 4, (5 << 26) + 3);
+    raise(&mut elements, 4, (63 << 26) + 15);
+    let expected = [0, 0, 0, 7, 0, 0, 0, 0, 0, 0, 0, 0, 0, 0, 0, 63];
+    assert!(rt; as_bytes(&elements, 4) == expected.as_slice());
+    Ok(())
+}
+
+/// Raises 64 registers by distinct coupons one by one.
+fn raise_each(registers: &mut [[u8; 4]], count: u32)
+    requires { length registers.old ≡ 16 }
+    ensures { length registers.new ≡ 16 }
+{
+    for index in 0..count {
+        raise(registers, 6, raw_coupon(Source::Distinct, index));
+    }
+}
+
+/// Elements with room for the registers and the coupons, and no more.
+#[test]
+fn promoted_runs(rt: HostRuntime) -> Result<(), Fail> {
+    let mut elements = vec![in rt.alloc(); [0xff; 4]; 76]?;
+    let run = run_of(&mut elements, Source::Distinct, 60);
+    assert_eq!(rt; run.used, 60);
+    promote(run, &mut elements, 6);
+    let mut registers = vec![in rt.alloc(); [0; 4]; 16]?;
+    raise_each(&mut registers, 60);
+    assert!(rt; as_bytes(&elements, 6) == as_bytes(&registers, 6));
     Ok(())
 }
