@@ -290,8 +290,8 @@ hll_status hll_images_agree(const uint8_t *left, size_t left_len, const uint8_t 
  *
  * A byte for each of 2^lg_k registers, 0 at first: any memory of the caller's, which may be copied, sent and compared as
  * bytes. There is nothing to make and nothing to free. Register s is the greatest value, 0 to 63, of the coupons whose
- * slot is s modulo 2^lg_k; so what was added and merged gives the same bytes in every order, however often, and however
- * it was grouped.
+ * slot is s modulo 2^lg_k; so what was added and merged gives the same bytes: in any order, any number of times, in any
+ * grouping.
  *
  *     static uint8_t registers[1 << 12];
  *     while (...)
@@ -352,10 +352,11 @@ hll_status hll_coupons(const uint8_t *values, size_t values_len, const size_t *e
 /* ---- estimates ---- */
 
 /* Estimates the number of distinct values. From registers it is Ertl's improved estimator, with a relative standard error
- * of 1.04 / sqrt(2^lg_k), computed in whole numbers, so it is the same on every processor; and the estimate of a union is
- * never below that of its parts at the same lg_k. From a list or a set it is the number of coupons, corrected for coupons
- * that values share, and nearly exact. A lower bound is never below the number of coupons, or of registers above 0: there
- * were at least so many values. Where every register is 63 the estimate is infinite.
+ * of 1.04 / sqrt(2^lg_k), computed in whole numbers, so it is the same on every processor; and the estimate of a union of
+ * registers is never below that of its parts at the same lg_k. From a list or a set it is the number of coupons, corrected
+ * for coupons that values share, and nearly exact; it may fall where these become registers. A lower bound is never below
+ * the number of coupons, or of registers above 0: there were at least so many values. Where every register is 63 the
+ * estimate is infinite.
  * Answers HLL_OK, 1 to 11, or HLL_MEMORY. Takes the memory of hll_image_info. */
 hll_status hll_estimate(const uint8_t *image, size_t len, hll_estimation *estimation);
 

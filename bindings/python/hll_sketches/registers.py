@@ -17,9 +17,9 @@ class Registers:
     """The registers of a sketch, a byte for each: ``2**lg_k`` bytes, all 0 at first.
 
     They count like a ``Sketch``, in constant memory: values, coupons, sketches and images are
-    merged into them in place. The same values give the same bytes, in every order, however
-    often, and however they were grouped. Any number of threads may use an object at once; where
-    two objects lie over the same memory, one at a time may be changed.
+    merged into them in place. The same values give the same bytes: in any order, any number of
+    times, in any grouping. Any number of threads may use an object at once; where two objects
+    lie over the same memory, one at a time may be changed.
 
     Parameters
     ----------
