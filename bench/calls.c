@@ -122,7 +122,7 @@ static void run_union(int rounds)
         parts[i].bytes = from->bytes;
         parts[i].len = from->len;
     }
-    need(hll_parts_union(LG_K, 8, parts, (size_t)rounds + 1, out.bytes, sizeof out.bytes, &out.len, &failed));
+    need(hll_images_unionv(LG_K, 8, parts, (size_t)rounds + 1, out.bytes, sizeof out.bytes, &out.len, &failed));
     free(parts);
 }
 

@@ -36,7 +36,7 @@ def compiled(folder):
     program = pathlib.Path(folder) / "estimates"
     source = ROOT / "bench" / "estimates.c"
     command = [os.environ.get("CC", "cc"), "-std=c99", "-O3", "-o", program, source]
-    parts = [ROOT / "bindings" / "c" / "optional.c", BUILD / "heap.o", BUILD / "proved.o"]
+    parts = [ROOT / "bindings" / "c" / "optional.c", ROOT / "bindings" / "c" / "state.c", BUILD / "heap.o", BUILD / "proved.o"]
     subprocess.run([*command, *parts], check=True)
     return program
 

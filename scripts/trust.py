@@ -24,7 +24,7 @@ import prebuilt  # noqa: E402
 from rows import TEXTS  # noqa: E402
 
 C = ROOT / "bindings" / "c"
-OWN = ("estimate", "optional", "heap")
+OWN = ("estimate", "optional", "state", "heap")
 TEXT = "%s/libhll_c.s" % os.uname().machine
 
 
@@ -105,7 +105,7 @@ def rows_on_library(build):
     yield "code of libhll.so", "%d bytes, of which %.1f %% are proved" % (whole, 100 * found["proved.o"] / whole)
     yield "only tested", ", ".join("%s.c %d bytes" % (name, found[name + ".o"]) for name in OWN) + ", others %d" % found["rest"]
     direct, handed, own = calls(build)
-    yield "proved calls", "%d; and %d through optional.c, where NULL is allowed, or estimate.c, which adds bounds" % (len(direct), len(handed))
+    yield "proved calls", "%d; and %d through optional.c, where NULL is allowed, state.c, which counts elements, or estimate.c, which adds bounds" % (len(direct), len(handed))
     yield "calls that are only tested", ", ".join("`%s`" % name for name in own)
     yield "around it, only tested", "Python, PostgreSQL, SQLite, Dask: bindings/"
 

@@ -39,7 +39,7 @@ static void run_union(void)
 
 static void run_parts(void)
 {
-    need(hll_parts_union(LG_K, width, parts, IMAGES, out, sizeof out, &size, &failed));
+    need(hll_images_unionv(LG_K, width, parts, IMAGES, out, sizeof out, &size, &failed));
 }
 
 /* Each image into registers of the caller, and their image at the end. */

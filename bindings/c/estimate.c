@@ -13,7 +13,9 @@ struct estimate {
 };
 
 hll_status proved_hll_estimate(const uint8_t *image, size_t len, struct estimate *estimate);
+hll_status proved_hll_state_estimate(void *state, size_t elements, struct estimate *estimate);
 hll_status proved_hll_registers_estimate(const uint8_t *registers, size_t count, struct estimate *estimate);
+hll_status proved_hll_histogram_estimate(const hll_histogram *histogram, struct estimate *estimate);
 
 /* The relative variance of one register: 3 ln 2 - 1. */
 #define REGISTER_VARIANCE 1.07944154167983593
@@ -26,6 +28,9 @@ hll_status proved_hll_registers_estimate(const uint8_t *registers, size_t count,
 
 /* Of each coupon a slot of 2^26 is one part in so many. */
 #define SLOTS 67108864.0
+
+/* No more coupons are estimated from: one for each slot. */
+#define MOST_COUPONS ((uint64_t)1 << 26)
 
 /* The square root of a number from 0 to 1, by Newton's steps from above. */
 static double square_root(double x)
@@ -83,6 +88,18 @@ static double estimate_of_coupons(double coupons)
 static double error_of_coupons(double values)
 {
     return values > 1.0 ? square_root((values - 1.0) / values / 6.0 / SLOTS) : 0.0;
+}
+
+/* Where more values than this share a coupon with another one, their number is taken as normally distributed. No list or
+ * set has so many coupons. */
+#define MANY_LOST 300.0
+
+/* The relative standard error of an estimate where many values are lost: their number scatters by at most its square
+ * root, and a coupon more stands for more than one value. */
+static double error_of_many_coupons(double values)
+{
+    double coupons = expected_coupons(values);
+    return square_root((values - coupons) / values / values) / (expected_coupons(values + 1.0) - coupons);
 }
 
 /* ---- bounds ---- */
@@ -178,7 +195,10 @@ static hll_estimation estimation_of_registers(const struct estimate *found)
 static hll_estimation estimation_of_coupons(uint64_t coupons)
 {
     double estimate = estimate_of_coupons((double)coupons);
-    hll_estimation found = with_bounds(estimate, error_of_coupons(estimate), (double)coupons);
+    hll_estimation found;
+    if (estimate - (double)coupons > MANY_LOST)
+        return with_bounds(estimate, error_of_many_coupons(estimate), (double)coupons);
+    found = with_bounds(estimate, error_of_coupons(estimate), (double)coupons);
     bound_by_losses(&found, (double)coupons);
     return found;
 }
@@ -192,6 +212,15 @@ hll_status hll_estimate(const uint8_t *image, size_t len, hll_estimation *estima
     return status;
 }
 
+hll_status hll_state_estimate(void *state, size_t room, hll_estimation *estimation)
+{
+    struct estimate found;
+    hll_status status = proved_hll_state_estimate(state, room / 4, &found);
+    if (status == HLL_OK)
+        *estimation = found.registers ? estimation_of_registers(&found) : estimation_of_coupons(found.seen);
+    return status;
+}
+
 hll_status hll_registers_estimate(const uint8_t *registers, size_t count, hll_estimation *estimation)
 {
     struct estimate found;
@@ -199,6 +228,23 @@ hll_status hll_registers_estimate(const uint8_t *registers, size_t count, hll_es
     if (status == HLL_OK)
         *estimation = estimation_of_registers(&found);
     return status;
+}
+
+hll_status hll_histogram_estimate(const hll_histogram *histogram, hll_estimation *estimation)
+{
+    struct estimate found;
+    hll_status status = proved_hll_histogram_estimate(histogram, &found);
+    if (status == HLL_OK)
+        *estimation = estimation_of_registers(&found);
+    return status;
+}
+
+hll_status hll_coupons_estimate(uint64_t n, hll_estimation *estimation)
+{
+    if (n > MOST_COUPONS)
+        return HLL_ARGUMENT;
+    *estimation = estimation_of_coupons(n);
+    return HLL_OK;
 }
 
 hll_status hll_hip_estimate(const uint8_t *image, size_t len, hll_estimation *estimation)

@@ -24,18 +24,19 @@
  *
  * Answers
  *     HLL_OK (0) where the call did what was asked. On every other status the output is as it was: the buffer, *info,
- *     *histogram, *same, *estimation, coupons, registers, *size but where the status is HLL_BUFFER, and *lg_k but where
- *     it is HLL_FEWER.
+ *     *histogram, *same, *estimation, coupons, registers, the sketch of a state, *size but where the status is HLL_BUFFER,
+ *     and *lg_k but where it is HLL_COARSER.
  *     HLL_TRUNCATED to HLL_REGISTER (1 to 11): an image is refused, for the first check that it fails.
  *     HLL_ARGUMENT: an argument is out of its range. This comes first, whatever the images are; only a fold above the
  *     lg_k of the image, and an image without a HIP estimate, are found once that is read.
  *     HLL_MEMORY: malloc answered NULL. The same call can be made again.
  *     HLL_BUFFER: the buffer is too small; *size is the number of bytes that are needed.
- *     HLL_FEWER: what is to be merged has fewer registers; *lg_k is that of what has them.
+ *     HLL_COARSER: what is to be merged has fewer registers; *lg_k is that of what has them.
  *
  * Arguments
- *     lg_k, lg_max_k   4 to 21: the logarithm of the number of registers.
- *     width            4, 6 or 8: the bits of a register.
+ *     lg_k, lg_max_k   4 to 21: the logarithm of the number of registers. So is `to` of a fold.
+ *     width            4, 6 or 8: the bits of a register; in hll_image_convert 0 too. Any other number is HLL_ARGUMENT,
+ *                      and so it is of an lg_k: these arguments are unsigned, so 268 is not cut down to 12.
  *     image, len       the bytes of an image. Others may follow it within len; they are not read. Every image is
  *                      checked whole, so the bytes may come from anywhere. (An image can be made to be slow: a set of
  *                      a megabyte takes about a second, and a union of it twice up to three. A call can't be
@@ -46,10 +47,15 @@
  *                      goes from ends[i - 1] (from 0 for the first) to ends[i]. Ends ascend. Two may be the same:
  *                      an empty string is a string like any other. Ends that descend, or go past the bytes, are
  *                      HLL_ARGUMENT. Bytes after the last end are not looked at.
+ *     offsets, offsets_len
+ *                      of n byte strings, n + 1 offsets into the bytes before this argument: string i goes from offsets[i]
+ *                      to offsets[i + 1]. The first offset need not be 0. Offsets ascend, and two may be the same. No
+ *                      offset, one that descends, is negative or goes past the bytes is HLL_ARGUMENT. Of a column of
+ *                      Apache Arrow (binary or utf8): its offsets from array->offset on, and array->length + 1.
  *     registers, count the caller's registers, a byte for each, and how many: 2^lg_k, 16 to 2^21. Any other count is
  *                      HLL_ARGUMENT.
  *     failed           where images are refused (1 to 11), the number of the first one that is, from 0; else it is
- *                      left as it was. NULL, where it is not wanted; so may lg_k be, of HLL_FEWER.
+ *                      left as it was. NULL, where it is not wanted; so may lg_k be, of HLL_COARSER.
  *
  * What is written has its coupons in ascending order, so the same sketch has the same bytes, but for sets in tables of
  * two sizes.
@@ -63,7 +69,7 @@
  *
  * What the caller owes, which no call can test
  *     - A pointer leads to as many bytes (or elements) as its length says; where that is 0 it may be NULL. No other is
- *       NULL, but failed, and lg_k of HLL_FEWER.
+ *       NULL, but failed, and lg_k of HLL_COARSER.
  *     - out, size, failed, info, histogram, same, coupons, estimation, and registers that a call changes, with its lg_k,
  *       overlap nothing else that is passed. (Inputs may overlap one another: an image can be merged with itself.)
  *     - No input changes while a call runs. An end that another thread writes meanwhile can lead past the bytes.
@@ -80,15 +86,16 @@
  *     Calls share nothing and keep nothing, so any number of threads may call at once, also with the same inputs.
  *
  * What is proved
- *     Of the calls from hll_image_info to hll_coupons it is proved what they answer, write and leave as it was, for
+ *     Of the calls from hll_image_info to hll_coupons_ends32 it is proved what they answer, write and leave as it was, for
  *     all inputs of a caller who keeps to the above; and that registers that are not all 0, into which an image is
  *     merged, written as an image, are the union of theirs with it, its estimator fields set. That order, repetition and
  *     grouping of canonical images under one lg_max_k make no difference follows from laws that are proved of sketches;
- *     no clause of a call says it. Of hll_estimate and hll_registers_estimate it is proved that the estimate from registers
- *     is the double nearest to a number which is the estimator's value, but for one part in 2^40 and 2^-32, and which never
- *     falls where a register is raised. Bounds, estimates from coupons and hll_hip_estimate are plain C, tested and not
- *     proved. So are hll_version and what this header defines itself. Not proved is what is said of time, of threads, of
- *     NULL, of other libraries, and of memory, but for which images may be refused for want of it.
+ *     no clause of a call says it. Of the estimates of images, registers, histograms and states it is proved that the one
+ *     from registers is the double nearest to a number which is the estimator's value, but for one part in 2^40 and 2^-32,
+ *     and which never falls where a register is raised. Bounds, estimates from coupons and hll_hip_estimate are plain C,
+ *     tested and not proved. So are hll_version, the division of a state's room by four, and what this header defines
+ *     itself. Not proved is what is said of time, of threads, of NULL, of other libraries, and of memory, but for which
+ *     images may be refused for want of it.
  */
 #ifndef HLL_H
 #define HLL_H
@@ -125,7 +132,7 @@ enum {
     HLL_ARGUMENT = 12,      /* an argument is out of its range */
     HLL_MEMORY = 13,        /* malloc answered NULL */
     HLL_BUFFER = 14,        /* the buffer is too small; *size is the size needed */
-    HLL_FEWER = 15          /* what is to be merged has fewer registers; *lg_k is its own */
+    HLL_COARSER = 15        /* what is to be merged has fewer registers; *lg_k is its own */
 };
 
 /* The stage of a sketch. */
@@ -212,7 +219,7 @@ hll_status hll_image_histogram(const uint8_t *image, size_t len, hll_histogram *
 
 /* The image of an empty sketch. It takes eight bytes.
  * Answers HLL_OK, HLL_ARGUMENT, HLL_MEMORY or HLL_BUFFER. Takes no more memory than the image. */
-hll_status hll_image_new(uint8_t lg_k, uint8_t width, uint8_t *out, size_t room, size_t *size);
+hll_status hll_image_new(unsigned lg_k, unsigned width, uint8_t *out, size_t room, size_t *size);
 
 /* The image with n more values: byte strings, delimited by their ends. Pass many at once, as each call reads the image and
  * writes it. A value that a canonical image has already changes no register. (An image of another program may be fuller,
@@ -226,17 +233,19 @@ hll_status hll_image_add(const uint8_t *image, size_t len, const uint8_t *values
 
 /* The image with a coupon more, of a slot below 2^26 and a value of 1 to 63.
  * Answers HLL_OK, 1 to 11, HLL_ARGUMENT, HLL_MEMORY or HLL_BUFFER. Takes the memory of reading, and the image's. */
-hll_status hll_image_add_coupon(const uint8_t *image, size_t len, uint32_t slot, uint8_t value, uint8_t *out,
+hll_status hll_image_add_coupon(const uint8_t *image, size_t len, uint32_t slot, unsigned value, uint8_t *out,
                                 size_t room, size_t *size);
 
 /* ---- unions ---- */
 
 /* The image, at this width, of the union of two images: the sketch of all values that either of them has. Its lg_k is
- * lg_max_k, or the least one of those in registers that aren't all 0, where that is smaller.
+ * lg_max_k, or the least one of those in registers that aren't all 0, where that is smaller. A width of 0 is refused, here
+ * and in the unions below.
  * Answers HLL_OK, 1 to 11 (*failed is 0 for the left image, 1 for the right), HLL_ARGUMENT, HLL_MEMORY or HLL_BUFFER.
  * Takes the memory of reading both, 2^lg_k bytes, and the image's. */
-hll_status hll_image_merge(uint8_t lg_max_k, uint8_t width, const uint8_t *left, size_t left_len, const uint8_t *right,
-                           size_t right_len, uint8_t *out, size_t room, size_t *size, size_t *failed);
+hll_status hll_image_merge(unsigned lg_max_k, unsigned width, const uint8_t *left, size_t left_len,
+                           const uint8_t *right, size_t right_len, uint8_t *out, size_t room, size_t *size,
+                           size_t *failed);
 
 /* The image, at this width, of the union of n images, delimited by their ends. Its lg_k is found as for two. The union of
  * no images is the empty sketch of lg_max_k.
@@ -246,25 +255,26 @@ hll_status hll_image_merge(uint8_t lg_max_k, uint8_t width, const uint8_t *left,
  * merged once, stays a set, and merged twice becomes registers.
  * Answers HLL_OK, 1 to 11 (*failed is the number of the image), HLL_ARGUMENT, HLL_MEMORY or HLL_BUFFER.
  * Takes the memory of reading one image at a time, 2^lg_k bytes, and the image's. */
-hll_status hll_images_union(uint8_t lg_max_k, uint8_t width, const uint8_t *images, size_t images_len,
+hll_status hll_images_union(unsigned lg_max_k, unsigned width, const uint8_t *images, size_t images_len,
                             const size_t *ends, size_t n, uint8_t *out, size_t room, size_t *size, size_t *failed);
 
 /* As hll_images_union, of n images that need not be contiguous.
  * Answers and takes memory as that. */
-hll_status hll_parts_union(uint8_t lg_max_k, uint8_t width, const hll_bytes *parts, size_t n, uint8_t *out,
-                           size_t room, size_t *size, size_t *failed);
+hll_status hll_images_unionv(unsigned lg_max_k, unsigned width, const hll_bytes *parts, size_t n, uint8_t *out,
+                             size_t room, size_t *size, size_t *failed);
 
 /* ---- one image from another ---- */
 
 /* The image at a smaller lg_k (or the same): what the sketch would be, had it been made with it.
  * Answers HLL_OK, 1 to 11, HLL_ARGUMENT (also where lg_k is above the image's), HLL_MEMORY or HLL_BUFFER. Takes the
  * memory of reading, 2^lg_k bytes, and the image's. */
-hll_status hll_image_fold(const uint8_t *image, size_t len, uint8_t lg_k, uint8_t *out, size_t room, size_t *size);
+hll_status hll_image_fold(const uint8_t *image, size_t len, unsigned lg_k, uint8_t *out, size_t room, size_t *size);
 
-/* The image at a width. At its own width it is the image as this library writes it: compact, and in ascending order.
+/* The image at a width. A width of 0 is the image's own; at that it is the image as this library writes it: compact, and
+ * in ascending order.
  * Answers HLL_OK, 1 to 11, HLL_ARGUMENT, HLL_MEMORY or HLL_BUFFER. Takes the memory of reading, 2^lg_k bytes, and the
  * image's. */
-hll_status hll_image_convert(const uint8_t *image, size_t len, uint8_t width, uint8_t *out, size_t room, size_t *size);
+hll_status hll_image_convert(const uint8_t *image, size_t len, unsigned width, uint8_t *out, size_t room, size_t *size);
 
 /* The image with the three fields and the flag set from which a DataSketches library estimates, whatever they were. Lists
  * and sets have no such fields, and come out as this library writes them.
@@ -307,6 +317,16 @@ hll_status hll_images_agree(const uint8_t *left, size_t left_len, const uint8_t 
 hll_status hll_registers_add(uint8_t *registers, size_t count, const uint8_t *values, size_t values_len,
                              const size_t *ends, size_t n);
 
+/* Adds values of one length, without ends: values_len / value_len values of value_len bytes each, concatenated.
+ * Returns HLL_OK, or HLL_ARGUMENT: also where value_len is 0, or does not divide values_len. Allocates nothing. */
+hll_status hll_registers_add_fixed(uint8_t *registers, size_t count, const uint8_t *values, size_t values_len,
+                                   size_t value_len);
+
+/* Adds the values between offsets, as Apache Arrow has them: "offsets, offsets_len" above.
+ * Returns HLL_OK or HLL_ARGUMENT. Allocates nothing. */
+hll_status hll_registers_add_ends32(uint8_t *registers, size_t count, const uint8_t *values, size_t values_len,
+                                    const int32_t *offsets, size_t offsets_len);
+
 /* Adds n raw coupons, as hll_coupons puts them. A raw coupon of value 0 is HLL_ARGUMENT.
  * Answers HLL_OK or HLL_ARGUMENT. Takes no memory. */
 hll_status hll_registers_add_coupons(uint8_t *registers, size_t count, const uint32_t *coupons, size_t n);
@@ -314,19 +334,19 @@ hll_status hll_registers_add_coupons(uint8_t *registers, size_t count, const uin
 /* Merges an image of any stage, width and lg_k into the registers: each register becomes the greater of what it was and
  * of the image's registers that fold to it. A list or a set has coupons alone, and is merged whatever its lg_k; so are
  * registers that are all 0, which change nothing. Where the image has other registers, and fewer than the caller, the
- * answer is HLL_FEWER, and *lg_k is the image's: fold to it, and merge again. *lg_k is written on no other answer.
- * Answers HLL_OK, 1 to 11, HLL_ARGUMENT, HLL_MEMORY or HLL_FEWER. Takes memory as hll_image_check does. */
+ * answer is HLL_COARSER, and *lg_k is the image's: fold to it, and merge again. *lg_k is written on no other answer.
+ * Answers HLL_OK, 1 to 11, HLL_ARGUMENT, HLL_MEMORY or HLL_COARSER. Takes memory as hll_image_check does. */
 hll_status hll_registers_merge(uint8_t *registers, size_t count, const uint8_t *image, size_t len, uint8_t *lg_k);
 
 /* Merges other registers into these, as many or more, which are folded. Where the others are fewer, and not all 0, the
- * answer is HLL_FEWER, and *lg_k is theirs. A byte of the others above 63 is HLL_REGISTER, also where they are fewer.
- * Answers HLL_OK, HLL_REGISTER, HLL_ARGUMENT or HLL_FEWER. Takes no memory. */
+ * answer is HLL_COARSER, and *lg_k is theirs. A byte of the others above 63 is HLL_REGISTER, also where they are fewer.
+ * Answers HLL_OK, HLL_REGISTER, HLL_ARGUMENT or HLL_COARSER. Takes no memory. */
 hll_status hll_registers_merge_registers(uint8_t *registers, size_t count, const uint8_t *others, size_t others_count,
                                          uint8_t *lg_k);
 
 /* Folds the registers to a smaller lg_k (or the same): they are the first 2^to bytes then, and the bytes after them stay.
  * Answers HLL_OK, HLL_REGISTER, or HLL_ARGUMENT (also where `to` is above their lg_k). Takes no memory. */
-hll_status hll_registers_fold(uint8_t *registers, size_t count, uint8_t to);
+hll_status hll_registers_fold(uint8_t *registers, size_t count, unsigned to);
 
 /* Counts the registers of each value.
  * Answers HLL_OK, HLL_REGISTER or HLL_ARGUMENT. Takes no memory. */
@@ -335,8 +355,68 @@ hll_status hll_registers_histogram(const uint8_t *registers, size_t count, hll_h
 /* The image of the registers at this width, with the fields set from which a DataSketches library estimates.
  * Answers HLL_OK, HLL_REGISTER, HLL_ARGUMENT, HLL_MEMORY or HLL_BUFFER. Takes count bytes, at 4 and 6 bits the packed
  * form of the registers beside, and the image's. */
-hll_status hll_registers_image(const uint8_t *registers, size_t count, uint8_t width, uint8_t *out, size_t room,
+hll_status hll_registers_image(const uint8_t *registers, size_t count, unsigned width, uint8_t *out, size_t room,
                                size_t *size);
+
+/* ---- states ----
+ *
+ * A sketch that grows in memory of the caller: coupons while it is small, registers later. There is nothing to free but
+ * that memory, and a copy of the first hll_state_size bytes is a copy of the sketch.
+ *
+ *     size_t room = HLL_STATE_NEW, size;
+ *     void *state = malloc(room);
+ *     hll_state_new(12, state, room);
+ *     while (hll_state_add_value(state, room, &size, value, len) == HLL_BUFFER)
+ *         state = realloc(state, room = size);
+ *     hll_state_estimate(state, room, &found);
+ *     hll_state_image(state, room, 8, out, sizeof out, &size);
+ *
+ * Room is asked for before anything is added: on HLL_BUFFER the sketch is as it was, and *size bytes are enough for the
+ * same call (half as many again as needed, so that a loop asks a few times; at most HLL_STATE_MOST). The bytes may be
+ * moved, and no alignment is needed. They are for this version of the library, on processors of either byte order: keep
+ * images, and not states, in files and columns.
+ *
+ * The image that a state gives is that of an empty sketch with all that was added, as hll_image_add makes it. Where bytes
+ * are no state the answer is HLL_ARGUMENT. Bytes that other code changed after a call are answered in some way, and nothing
+ * is read or written past the room; a register above 63 is HLL_REGISTER.
+ *
+ * A state takes 40 bytes and four for each coupon. Where coupons come again, or registers are near, it takes more: coupons
+ * are sorted where they are, and become registers beside them.
+ */
+
+/* The bytes of a new state. */
+#define HLL_STATE_NEW ((size_t)40)
+
+/* So many bytes are enough for each state of this lg_k: 40, one for each register, and half as many (at lg_k below 7, 64)
+ * for the coupons that become these. */
+#define HLL_STATE_MOST(lg_k) ((size_t)40 + ((size_t)1 << (lg_k)) + ((lg_k) < 7 ? (size_t)64 : (size_t)1 << ((lg_k)-1)))
+
+/* Makes the state of an empty sketch.
+ * Answers HLL_OK, HLL_ARGUMENT, or HLL_BUFFER where room is below HLL_STATE_NEW. Takes no memory. */
+hll_status hll_state_new(unsigned lg_k, void *state, size_t room);
+
+/* Adds n values, delimited by their ends, as hll_image_add does.
+ * Answers HLL_OK, HLL_ARGUMENT or HLL_BUFFER. Takes no memory. */
+hll_status hll_state_add(void *state, size_t room, size_t *size, const uint8_t *values, size_t values_len,
+                         const size_t *ends, size_t n);
+
+/* Adds one value.
+ * Answers HLL_OK, HLL_ARGUMENT or HLL_BUFFER. Takes no memory. */
+hll_status hll_state_add_value(void *state, size_t room, size_t *size, const uint8_t *value, size_t len);
+
+/* Adds n raw coupons, as hll_coupons puts them. A raw coupon of value 0 is HLL_ARGUMENT.
+ * Answers HLL_OK, HLL_ARGUMENT or HLL_BUFFER. Takes no memory. */
+hll_status hll_state_add_coupons(void *state, size_t room, size_t *size, const uint32_t *coupons, size_t n);
+
+/* The image, at this width, of the sketch. The bytes of the state may change, and the sketch stays: coupons are put in
+ * order.
+ * Answers HLL_OK, HLL_REGISTER, HLL_ARGUMENT, HLL_MEMORY or HLL_BUFFER (*size is the size of the image). Takes the memory
+ * of the image, and of registers a copy. */
+hll_status hll_state_image(void *state, size_t room, unsigned width, uint8_t *out, size_t out_room, size_t *size);
+
+/* Estimates as hll_estimate does. The bytes of the state may change, and the sketch stays.
+ * Answers HLL_OK, HLL_REGISTER or HLL_ARGUMENT. Takes no memory. */
+hll_status hll_state_estimate(void *state, size_t room, hll_estimation *estimation);
 
 /* ---- coupons ---- */
 
@@ -348,6 +428,18 @@ uint32_t hll_coupon(const uint8_t *value, size_t len);
  * Answers HLL_OK, HLL_ARGUMENT, or HLL_BUFFER where room is less than n (n is what is needed). Takes no memory. */
 hll_status hll_coupons(const uint8_t *values, size_t values_len, const size_t *ends, size_t n, uint32_t *coupons,
                        size_t room);
+
+/* The raw coupons of values of one length, without ends: n = values_len / value_len values of value_len bytes each,
+ * concatenated.
+ * Returns HLL_OK, HLL_ARGUMENT where value_len is 0 or does not divide values_len, or HLL_BUFFER where room is less than n.
+ * Allocates nothing. */
+hll_status hll_coupons_fixed(const uint8_t *values, size_t values_len, size_t value_len, uint32_t *coupons,
+                             size_t room);
+
+/* The raw coupons of the values between offsets, as Apache Arrow has them: "offsets, offsets_len" above.
+ * Returns HLL_OK, HLL_ARGUMENT, or HLL_BUFFER where room is less than the number of values. Allocates nothing. */
+hll_status hll_coupons_ends32(const uint8_t *values, size_t values_len, const int32_t *offsets, size_t offsets_len,
+                              uint32_t *coupons, size_t room);
 
 /* ---- estimates ---- */
 
@@ -370,14 +462,24 @@ hll_status hll_hip_estimate(const uint8_t *image, size_t len, hll_estimation *es
  * Answers HLL_OK, HLL_REGISTER or HLL_ARGUMENT. Takes no memory. */
 hll_status hll_registers_estimate(const uint8_t *registers, size_t count, hll_estimation *estimation);
 
+/* Estimates as hll_estimate does, from registers of which histogram->counts[v] have the value v: lg_k follows from the sum
+ * of the counts, and the registers themselves are not needed. HLL_ARGUMENT where that sum is not a power of two from 2^4
+ * to 2^21.
+ * Returns HLL_OK or HLL_ARGUMENT. Allocates nothing. */
+hll_status hll_histogram_estimate(const hll_histogram *histogram, hll_estimation *estimation);
+
+/* Estimates as hll_estimate does, from a list or a set of n distinct coupons, at most 2^26. Not proved.
+ * Returns HLL_OK or HLL_ARGUMENT. Allocates nothing. */
+hll_status hll_coupons_estimate(uint64_t n, hll_estimation *estimation);
+
 /* The word of a status: "ok", "truncated", "family" and so on; "unknown" for a number that is none. */
 static inline const char *hll_reason(hll_status status)
 {
     static const char *const words[] = {"ok",       "truncated", "family",   "version",  "lgk",
                                         "width",    "stage",     "preamble", "lgarr",    "count",
                                         "coupon",   "register",  "argument", "memory",   "buffer",
-                                        "fewer"};
-    return status <= HLL_FEWER ? words[status] : "unknown";
+                                        "coarser"};
+    return status <= HLL_COARSER ? words[status] : "unknown";
 }
 
 /* What is wrong, in a sentence; "The status is unknown." for a number that is none. */
@@ -401,7 +503,7 @@ static inline const char *hll_message(hll_status status)
         "The buffer is smaller than what is to be written.",
         "What is to be merged has fewer registers.",
     };
-    return status <= HLL_FEWER ? sentences[status] : "The status is unknown.";
+    return status <= HLL_COARSER ? sentences[status] : "The status is unknown.";
 }
 
 /* What the header of an image says, without a check of the rest: its lg_k, 4 to 21; its width, 4, 6 or 8; and its stage. 0, or
@@ -423,10 +525,40 @@ static inline uint8_t hll_image_stage(const uint8_t *image, size_t len)
     return stage == 3 ? 0 : stage;
 }
 
+/* A number of 32 bits in a state. */
+static inline uint32_t hll_state_number(const void *state, size_t at)
+{
+    const uint8_t *bytes = (const uint8_t *)state + 4 * at;
+    return bytes[0] | (uint32_t)bytes[1] << 8 | (uint32_t)bytes[2] << 16 | (uint32_t)bytes[3] << 24;
+}
+
+/* The lg_k of a state. */
+static inline uint8_t hll_state_lg_k(const void *state)
+{
+    return hll_state_number(state, 1) & 31;
+}
+
+/* HLL_REGISTERS where a state has registers, and HLL_SET where it has coupons, some of which may come twice: its image is
+ * of a list where the distinct ones are at most seven, and of registers where they are too many for a set. */
+static inline uint8_t hll_state_stage(const void *state)
+{
+    return hll_state_number(state, 0) == UINT32_C(0x4c484c42) ? HLL_REGISTERS : HLL_SET;
+}
+
+/* How many bytes of its room a state takes: so many are to be copied. */
+static inline size_t hll_state_size(const void *state)
+{
+    uint8_t lg_k = hll_state_lg_k(state);
+    size_t used = hll_state_number(state, 6), few = lg_k < 8 ? 7 : (size_t)3 << (lg_k - 5);
+    if (hll_state_stage(state) == HLL_REGISTERS)
+        return HLL_STATE_NEW + ((size_t)1 << lg_k);
+    return used <= few ? HLL_STATE_NEW + 4 * used : HLL_STATE_MOST(lg_k);
+}
+
 /* Whether an image of a stranger's is quick to read: it has at most so many bytes, and byte 3, which says its lg_k, is at
  * most this. 12 and 8192 leave room for honest images of lg_k 12; the worst of these takes milliseconds
  * (docs/OPERATING.md, "Images from others"). No other byte is looked at. */
-static inline int hll_is_small(const uint8_t *image, size_t len, uint8_t lg_k, size_t most)
+static inline int hll_is_small(const uint8_t *image, size_t len, unsigned lg_k, size_t most)
 {
     return 4 <= len && len <= most && image[3] <= lg_k;
 }

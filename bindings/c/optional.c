@@ -5,14 +5,14 @@
  */
 #include "hll.h"
 
-hll_status proved_hll_image_merge(uint8_t lg_max_k, uint8_t width, const uint8_t *left, size_t left_len,
+hll_status proved_hll_image_merge(unsigned lg_max_k, unsigned width, const uint8_t *left, size_t left_len,
                                   const uint8_t *right, size_t right_len, uint8_t *out, size_t room, size_t *size,
                                   size_t *failed);
-hll_status proved_hll_images_union(uint8_t lg_max_k, uint8_t width, const uint8_t *images, size_t images_len,
+hll_status proved_hll_images_union(unsigned lg_max_k, unsigned width, const uint8_t *images, size_t images_len,
                                    const size_t *ends, size_t n, uint8_t *out, size_t room, size_t *size,
                                    size_t *failed);
-hll_status proved_hll_parts_union(uint8_t lg_max_k, uint8_t width, const hll_bytes *parts, size_t n, uint8_t *out,
-                                  size_t room, size_t *size, size_t *failed);
+hll_status proved_hll_images_unionv(unsigned lg_max_k, unsigned width, const hll_bytes *parts, size_t n, uint8_t *out,
+                                    size_t room, size_t *size, size_t *failed);
 hll_status proved_hll_images_agree(const uint8_t *left, size_t left_len, const uint8_t *right, size_t right_len,
                                    uint8_t *same, size_t *failed);
 hll_status proved_hll_registers_merge(uint8_t *registers, size_t count, const uint8_t *image, size_t len,
@@ -20,15 +20,16 @@ hll_status proved_hll_registers_merge(uint8_t *registers, size_t count, const ui
 hll_status proved_hll_registers_merge_registers(uint8_t *registers, size_t count, const uint8_t *others,
                                                size_t others_count, uint8_t *lg_k);
 
-hll_status hll_image_merge(uint8_t lg_max_k, uint8_t width, const uint8_t *left, size_t left_len, const uint8_t *right,
-                           size_t right_len, uint8_t *out, size_t room, size_t *size, size_t *failed)
+hll_status hll_image_merge(unsigned lg_max_k, unsigned width, const uint8_t *left, size_t left_len,
+                           const uint8_t *right, size_t right_len, uint8_t *out, size_t room, size_t *size,
+                           size_t *failed)
 {
     size_t unwanted = 0;
     return proved_hll_image_merge(lg_max_k, width, left, left_len, right, right_len, out, room, size,
                                   failed ? failed : &unwanted);
 }
 
-hll_status hll_images_union(uint8_t lg_max_k, uint8_t width, const uint8_t *images, size_t images_len,
+hll_status hll_images_union(unsigned lg_max_k, unsigned width, const uint8_t *images, size_t images_len,
                             const size_t *ends, size_t n, uint8_t *out, size_t room, size_t *size, size_t *failed)
 {
     size_t unwanted = 0;
@@ -36,11 +37,11 @@ hll_status hll_images_union(uint8_t lg_max_k, uint8_t width, const uint8_t *imag
                                    failed ? failed : &unwanted);
 }
 
-hll_status hll_parts_union(uint8_t lg_max_k, uint8_t width, const hll_bytes *parts, size_t n, uint8_t *out,
-                           size_t room, size_t *size, size_t *failed)
+hll_status hll_images_unionv(unsigned lg_max_k, unsigned width, const hll_bytes *parts, size_t n, uint8_t *out,
+                             size_t room, size_t *size, size_t *failed)
 {
     size_t unwanted = 0;
-    return proved_hll_parts_union(lg_max_k, width, parts, n, out, room, size, failed ? failed : &unwanted);
+    return proved_hll_images_unionv(lg_max_k, width, parts, n, out, room, size, failed ? failed : &unwanted);
 }
 
 hll_status hll_images_agree(const uint8_t *left, size_t left_len, const uint8_t *right, size_t right_len,

@@ -105,7 +105,7 @@ merge_image(Registers *registers, const uint8 *image, size_t size)
 	uint8		lg_k = 0;
 	hll_status	status = hll_registers_merge(registers->bytes, registers->count, image, size, &lg_k);
 
-	if (status != HLL_FEWER)
+	if (status != HLL_COARSER)
 		return status;
 	fold_registers(registers, lg_k);
 	return hll_registers_merge(registers->bytes, registers->count, image, size, &lg_k);
@@ -117,7 +117,7 @@ merge_registers(Registers *registers, const Registers *others)
 	uint8		lg_k = 0;
 	hll_status	status = hll_registers_merge_registers(registers->bytes, registers->count, others->bytes, others->count, &lg_k);
 
-	if (status != HLL_FEWER)
+	if (status != HLL_COARSER)
 		return status;
 	fold_registers(registers, lg_k);
 	return hll_registers_merge_registers(registers->bytes, registers->count, others->bytes, others->count, &lg_k);

@@ -103,7 +103,7 @@ static hll_status merge_into_registers(Group *group, hll_bytes image)
     uint8_t lg_k;
     hll_status status = hll_registers_merge(group->registers, group->count, image.bytes, image.len, &lg_k);
 
-    if (status != HLL_FEWER)
+    if (status != HLL_COARSER)
         return status;
     status = hll_registers_fold(group->registers, group->count, lg_k);
     if (status != HLL_OK)

@@ -2,6 +2,8 @@
 /* Each call with each of its codes, and what it answers for small inputs that are known. */
 #include "test.h"
 
+#include <limits.h>
+
 /* An image for each reason. */
 static const char *const faulty[] = {
     NULL,
@@ -22,7 +24,7 @@ static const char *const faulty[] = {
 static void test_reasons(void)
 {
     static const char *const words[] = {"ok", "truncated", "family", "version", "lgk", "width", "stage", "preamble",
-                                        "lgarr", "count", "coupon", "register", "argument", "memory", "buffer", "fewer"};
+                                        "lgarr", "count", "coupon", "register", "argument", "memory", "buffer", "coarser"};
     int status;
     for (status = 0; status < 256; status++)
         CHECK(strcmp(hll_reason((hll_status)status), status < 16 ? words[status] : "unknown") == 0, "%d", status);
@@ -77,6 +79,7 @@ static void test_is_small(void)
     CHECK(hll_is_small(image, 8, 12, 8) && hll_is_small(image, 4, 12, 4), "at the bounds");
     CHECK(hll_is_small(image, 8, 21, 8192), "within them");
     CHECK(!hll_is_small(image, 8, 11, 8) && !hll_is_small(image, 8, 12, 7), "above one");
+    CHECK(hll_is_small(image, 8, 268, 8), "a bound of more than a byte");
     CHECK(!hll_is_small(image, 3, 12, 8) && !hll_is_small(NULL, 0, 12, 8), "too short to tell");
 }
 
@@ -135,23 +138,33 @@ static void test_failed(void)
 static void test_arguments(void)
 {
     static const uint8_t bad[] = {2, 1, 6, 10, 3, 12, 0, 8};
-    static const uint8_t outside[] = {0, 1, 2, 3, 22, 23, 64, 128, 255}, widths[] = {0, 1, 2, 3, 5, 7, 9, 12, 255};
+    static const unsigned outside[] = {0, 1, 2, 3, 22, 23, 64, 128, 255, 256 + 8, 268, UINT_MAX};
+    static const unsigned widths[] = {0, 1, 2, 3, 5, 7, 9, 12, 255, 256 + 8, 268, UINT_MAX};
+    static const unsigned numbers[] = {0, 64, 255, 256 + 8, 268, UINT_MAX};
     static const size_t good_ends[] = {2, 2, 8}, descend[] = {2, 1}, past[] = {2, 9}, huge[] = {(size_t)-1};
     static const size_t no_ends[] = {0};
     static const struct { const size_t *ends; size_t n; } wrong[] = {{descend, 2}, {past, 2}, {huge, 1}};
-    uint8_t out[64] = {0}, before[64] = {0};
+    uint8_t out[64] = {0}, before[64] = {0}, registers[64] = {0};
+    const hll_bytes part = {bad, 8};
     uint32_t coupons[4];
     size_t size = 4711, failed = 77, i;
-    for (i = 0; i < 9; i++) {
-        CHECK(hll_image_new(outside[i], 8, out, 64, &size) == HLL_ARGUMENT, "new, lg_k %d", outside[i]);
-        CHECK(hll_image_new(10, widths[i], out, 64, &size) == HLL_ARGUMENT, "new, width %d", widths[i]);
+    for (i = 0; i < sizeof outside / sizeof outside[0]; i++) {
+        CHECK(hll_image_new(outside[i], 8, out, 64, &size) == HLL_ARGUMENT, "new, lg_k %u", outside[i]);
+        CHECK(hll_image_new(10, widths[i], out, 64, &size) == HLL_ARGUMENT, "new, width %u", widths[i]);
         CHECK(hll_image_merge(outside[i], 8, bad, 8, bad, 8, out, 64, &size, &failed) == HLL_ARGUMENT, "merge");
         CHECK(hll_image_merge(10, widths[i], bad, 8, bad, 8, out, 64, &size, &failed) == HLL_ARGUMENT, "merge");
         CHECK(hll_images_union(outside[i], 8, bad, 8, good_ends, 3, out, 64, &size, &failed) == HLL_ARGUMENT, "union");
         CHECK(hll_images_union(10, widths[i], bad, 8, good_ends, 3, out, 64, &size, &failed) == HLL_ARGUMENT, "union");
-        CHECK(hll_image_fold(bad, 8, outside[i], out, 64, &size) == HLL_ARGUMENT, "fold to %d", outside[i]);
-        CHECK(hll_image_convert(bad, 8, widths[i], out, 64, &size) == HLL_ARGUMENT, "convert to %d", widths[i]);
+        CHECK(hll_images_unionv(outside[i], 8, &part, 1, out, 64, &size, &failed) == HLL_ARGUMENT, "unionv");
+        CHECK(hll_images_unionv(10, widths[i], &part, 1, out, 64, &size, &failed) == HLL_ARGUMENT, "unionv");
+        CHECK(hll_image_fold(bad, 8, outside[i], out, 64, &size) == HLL_ARGUMENT, "fold to %u", outside[i]);
+        CHECK(hll_image_convert(bad, 8, widths[i], out, 64, &size) == (widths[i] ? HLL_ARGUMENT : HLL_FAMILY), "convert to %u",
+              widths[i]);
+        CHECK(hll_registers_fold(registers, 64, outside[i]) == HLL_ARGUMENT, "registers to %u", outside[i]);
+        CHECK(hll_registers_image(registers, 64, widths[i], out, 64, &size) == HLL_ARGUMENT, "registers at %u", widths[i]);
     }
+    for (i = 0; i < sizeof numbers / sizeof numbers[0]; i++)
+        CHECK(hll_image_add_coupon(bad, 8, 5, numbers[i], out, 64, &size) == HLL_ARGUMENT, "value %u", numbers[i]);
     for (i = 0; i < 3; i++) {
         CHECK(hll_image_add(bad, 8, bad, 8, wrong[i].ends, wrong[i].n, out, 64, &size) == HLL_ARGUMENT, "add");
         CHECK(hll_images_union(10, 8, bad, 8, wrong[i].ends, wrong[i].n, out, 64, &size, &failed) == HLL_ARGUMENT,
@@ -160,8 +173,6 @@ static void test_arguments(void)
     }
     CHECK(hll_image_add_coupon(bad, 8, 67108864, 1, out, 64, &size) == HLL_ARGUMENT, "slot");
     CHECK(hll_image_add_coupon(bad, 8, UINT32_MAX, 1, out, 64, &size) == HLL_ARGUMENT, "slot");
-    CHECK(hll_image_add_coupon(bad, 8, 5, 0, out, 64, &size) == HLL_ARGUMENT, "value 0");
-    CHECK(hll_image_add_coupon(bad, 8, 5, 64, out, 64, &size) == HLL_ARGUMENT, "value 64");
     CHECK(hll_image_fold((const uint8_t *)"\2\1\7\12\3\14\0\10", 8, 11, out, 64, &size) == HLL_ARGUMENT, "fold up");
     CHECK(hll_image_fold((const uint8_t *)"\2\1\7\12\3\14\0\10", 8, 10, out, 64, &size) == HLL_OK, "fold to the same");
     CHECK(size == 8, "size of an empty list");
@@ -215,6 +226,93 @@ static void test_coupons(void)
     CHECK(coupons[2] == hll_coupon((const uint8_t *)text + 1, 43), "of 43 bytes");
     CHECK(coupons[4] == 9, "behind the last");
     CHECK(HLL_COUPON_SLOT(UINT32_C(201326597)) == 5 && HLL_COUPON_VALUE(UINT32_C(201326597)) == 3, "slot and value");
+}
+
+/* A width of 0 is the image's own. Bytes that are no image are refused for their fault, however short they are. */
+static void test_own_width(void)
+{
+    static const uint8_t no_width[8] = {2, 1, 7, 12, 3, 12, 0, 12};
+    static uint8_t out[HLL_IMAGE_MAX(12)], wanted[HLL_IMAGE_MAX(12)];
+    size_t size, wanted_size, stage, len;
+    unsigned width;
+    for (stage = 0; stage < 3; stage++)
+        for (width = 4; width <= 8; width += 2) {
+            bytes image = image_of_values(12, (uint8_t)width, 0, values_of_stage[stage]);
+            CHECK(hll_image_convert(image.at, image.len, width, wanted, sizeof wanted, &wanted_size) == HLL_OK, "%u", width);
+            CHECK(hll_image_convert(image.at, image.len, 0, out, sizeof out, &size) == HLL_OK, "own width, %u", width);
+            CHECK(size == wanted_size && memcmp(out, wanted, size) == 0, "at its own width, %u", width);
+            for (len = 0; len < 12; len++)
+                CHECK(hll_image_convert(image.at, len, 0, out, sizeof out, &size) == hll_image_check(image.at, len), "%d", (int)len);
+            free(image.at);
+        }
+    CHECK(hll_image_convert(no_width, 8, 0, out, sizeof out, &size) == HLL_WIDTH, "no width of its own");
+}
+
+/* Values of one length, and values between offsets: as those with ends. */
+static void test_other_ends(void)
+{
+    uint8_t values[72], registers[64], others[64];
+    uint32_t coupons[73], wanted[73];
+    int32_t offsets[73];
+    size_t ends[72], length, n, i;
+    for (i = 0; i < sizeof values; i++)
+        values[i] = (uint8_t)(i * i);
+    for (length = 1; length <= 12; length += length % 2 ? 1 : 2) {
+        n = 72 / length;
+        for (i = 0; i < n; i++)
+            ends[i] = length * (i + 1);
+        for (i = 0; i <= n; i++)
+            offsets[i] = (int32_t)(length * i);
+        memset(coupons, 0xa5, sizeof coupons), memset(wanted, 0xa5, sizeof wanted);
+        CHECK(hll_coupons(values, length * n, ends, n, wanted, 73) == HLL_OK, "ends, %d", (int)length);
+        CHECK(hll_coupons_fixed(values, length * n, length, coupons, 73) == HLL_OK, "length %d", (int)length);
+        CHECK(memcmp(coupons, wanted, sizeof coupons) == 0, "coupons of length %d", (int)length);
+        memset(coupons, 0xa5, sizeof coupons);
+        CHECK(hll_coupons_ends32(values, length * n, offsets, n + 1, coupons, n) == HLL_OK, "offsets, %d", (int)length);
+        CHECK(memcmp(coupons, wanted, sizeof coupons) == 0, "coupons between offsets, %d", (int)length);
+        CHECK(hll_coupons_fixed(values, length * n, length, coupons, n - 1) == HLL_BUFFER, "room, %d", (int)length);
+        CHECK(hll_coupons_ends32(values, length * n, offsets, n + 1, coupons, n - 1) == HLL_BUFFER, "room, %d", (int)length);
+        CHECK(hll_coupons_ends32(values, length * n - 1, offsets, n + 1, coupons, n) == HLL_ARGUMENT, "past the bytes");
+        memset(registers, 0, 64), memset(others, 0, 64);
+        CHECK(hll_registers_add(others, 64, values, length * n, ends, n) == HLL_OK, "ends, %d", (int)length);
+        CHECK(hll_registers_add_fixed(registers, 64, values, length * n, length) == HLL_OK, "length %d", (int)length);
+        CHECK(memcmp(registers, others, 64) == 0, "registers of length %d", (int)length);
+        memset(registers, 0, 64);
+        CHECK(hll_registers_add_ends32(registers, 64, values, length * n, offsets, n + 1) == HLL_OK, "offsets");
+        CHECK(memcmp(registers, others, 64) == 0, "registers by offsets, %d", (int)length);
+    }
+}
+
+/* What is no length and no offsets is refused, and nothing is written. */
+static void test_wrong_ends(void)
+{
+    static const int32_t none[] = {3}, inner[] = {3, 3, 5}, descend[] = {0, 3, 2}, past[] = {0, 9}, first_past[] = {9};
+    static const int32_t negative[] = {-1, 2}, last_negative[] = {0, INT32_MIN};
+    static const struct { const int32_t *offsets; size_t n; } wrong[] = {
+        {NULL, 0}, {descend, 3}, {past, 2}, {first_past, 1}, {negative, 2}, {last_negative, 2}};
+    uint8_t values[8] = {1, 2, 3, 4, 5, 6, 7, 8}, registers[16] = {0}, before[16] = {0};
+    uint32_t coupons[4] = {9, 9, 9, 9};
+    size_t i;
+    for (i = 0; i < sizeof wrong / sizeof wrong[0]; i++) {
+        CHECK(hll_coupons_ends32(values, 8, wrong[i].offsets, wrong[i].n, coupons, 4) == HLL_ARGUMENT, "%d", (int)i);
+        CHECK(hll_registers_add_ends32(registers, 16, values, 8, wrong[i].offsets, wrong[i].n) == HLL_ARGUMENT, "%d", (int)i);
+    }
+    for (i = 0; i < 10; i++) {
+        int divides = i == 1 || i == 2 || i == 4 || i == 8;
+        CHECK(hll_coupons_fixed(values, 8, i, coupons, 0) == (divides ? HLL_BUFFER : HLL_ARGUMENT), "length %d", (int)i);
+        if (!divides)
+            CHECK(hll_registers_add_fixed(registers, 16, values, 8, i) == HLL_ARGUMENT, "length %d", (int)i);
+    }
+    CHECK(hll_coupons_fixed(values, 8, SIZE_MAX, coupons, 4) == HLL_ARGUMENT, "the greatest length");
+    CHECK(hll_registers_add_fixed(registers, 15, values, 8, 8) == HLL_ARGUMENT, "fifteen registers");
+    CHECK(hll_registers_add_ends32(registers, 15, values, 8, inner, 3) == HLL_ARGUMENT, "fifteen registers");
+    CHECK(hll_coupons_fixed(NULL, 0, 8, NULL, 0) == HLL_OK, "no values");
+    CHECK(hll_registers_add_fixed(registers, 16, NULL, 0, 8) == HLL_OK, "no values");
+    CHECK(hll_coupons_ends32(values, 8, none, 1, NULL, 0) == HLL_OK, "one offset, no values");
+    CHECK(hll_registers_add_ends32(registers, 16, values, 8, none, 1) == HLL_OK, "one offset, no values");
+    CHECK(memcmp(registers, before, 16) == 0 && coupons[0] == 9 && coupons[3] == 9, "nothing is written");
+    CHECK(hll_coupons_ends32(values, 8, inner, 3, coupons, 4) == HLL_OK, "offsets that begin inside");
+    CHECK(coupons[0] == hll_coupon(NULL, 0) && coupons[1] == hll_coupon(values + 3, 2) && coupons[2] == 9, "their values");
 }
 
 /* The number of these bits of binary64. */
@@ -407,7 +505,7 @@ static void test_known_registers(void)
     EXPECT("merged", hll_image_merge(12, 8, a.at, a.len, b.at, b.len, out, sizeof out, &size, &failed), out, size, with_words);
     EXPECT("the other way", hll_image_merge(12, 8, b.at, b.len, a.at, a.len, out, sizeof out, &size, &failed), out, size,
            with_words);
-    EXPECT("parts", hll_parts_union(12, 8, parts, 3, out, sizeof out, &size, &failed), out, size, with_words);
+    EXPECT("parts", hll_images_unionv(12, 8, parts, 3, out, sizeof out, &size, &failed), out, size, with_words);
     EXPECT("folded", hll_image_fold(b.at, b.len, 4, out, sizeof out, &size), out, size, with_words);
     EXPECT("4 bits", hll_image_convert(plain.at, plain.len, 4, out, sizeof out, &size), out, size, of_four_bits);
     EXPECT("words", hll_image_set_estimator_fields(plain.at, plain.len, out, sizeof out, &size), out, size, with_words);
@@ -580,15 +678,15 @@ static void test_null(void)
     CHECK(hll_image_add(empty, 8, NULL, 0, ends, 2, out, sizeof out, &size) == HLL_OK && size == 12, "empty strings");
     CHECK(hll_images_union(10, 8, NULL, 0, NULL, 0, out, sizeof out, &size, NULL) == HLL_OK && size == 8, "no images");
     CHECK(hll_images_union(10, 8, both, 16, apart, 2, out, sizeof out, &size, NULL) == HLL_FAMILY, "a bad image");
-    CHECK(hll_parts_union(10, 8, NULL, 0, out, sizeof out, &size, NULL) == HLL_OK && size == 8, "no parts");
-    CHECK(hll_parts_union(10, 8, parts, 2, out, sizeof out, &size, NULL) == HLL_TRUNCATED, "parts of no bytes");
+    CHECK(hll_images_unionv(10, 8, NULL, 0, out, sizeof out, &size, NULL) == HLL_OK && size == 8, "no parts");
+    CHECK(hll_images_unionv(10, 8, parts, 2, out, sizeof out, &size, NULL) == HLL_TRUNCATED, "parts of no bytes");
     CHECK(hll_image_merge(10, 8, empty, 8, bad, 8, out, sizeof out, &size, NULL) == HLL_FAMILY, "merged with a bad one");
     CHECK(hll_image_merge(10, 8, NULL, 0, empty, 8, out, sizeof out, &size, NULL) == HLL_TRUNCATED, "with none");
     CHECK(hll_images_agree(bad, 8, empty, 8, &same, NULL) == HLL_FAMILY && same == 7, "agreement with a bad one");
     CHECK(hll_registers_add(registers, 32, NULL, 0, NULL, 0) == HLL_OK, "no values for registers");
     CHECK(hll_registers_add_coupons(registers, 32, NULL, 0) == HLL_OK, "no coupons");
     CHECK(hll_registers_merge(registers, 32, NULL, 0, NULL) == HLL_TRUNCATED, "no image for registers");
-    CHECK(hll_registers_merge_registers(registers, 32, few, 16, NULL) == HLL_FEWER, "fewer registers");
+    CHECK(hll_registers_merge_registers(registers, 32, few, 16, NULL) == HLL_COARSER, "fewer registers");
     CHECK(hll_registers_merge_registers(registers, 32, NULL, 0, NULL) == HLL_ARGUMENT, "no registers");
     CHECK(hll_coupon(NULL, 0) == hll_coupon(empty, 0), "the coupon of no bytes");
     CHECK(hll_coupons(NULL, 0, NULL, 0, NULL, 0) == HLL_OK, "no coupons of values");
@@ -646,6 +744,9 @@ int main(void)
     test_arguments();
     test_small_images();
     test_coupons();
+    test_own_width();
+    test_other_ends();
+    test_wrong_ends();
     test_telling();
     test_merges();
     test_folds();

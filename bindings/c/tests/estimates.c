@@ -37,6 +37,72 @@ static void check_order(const hll_estimation *found, const char *what)
     CHECK(found->upper[0] <= found->upper[1] && found->upper[1] <= found->upper[2], "%s: upper bounds", what);
 }
 
+/* What is estimated from the histogram of registers, or from the number of coupons alone, is that of the image. */
+static void check_parts(const bytes *image, const hll_info *info, const hll_estimation *wanted)
+{
+    hll_estimation found;
+    hll_histogram histogram;
+    memset(&found, 0, sizeof found);
+    if (info->stage == HLL_REGISTERS) {
+        CHECK(hll_image_histogram(image->at, image->len, &histogram) == HLL_OK, "histogram");
+        CHECK(hll_histogram_estimate(&histogram, &found) == HLL_OK, "from a histogram");
+    } else {
+        CHECK(hll_coupons_estimate(info->coupons, &found) == HLL_OK, "from a number of coupons");
+    }
+    CHECK(memcmp(&found, wanted, sizeof found) == 0, "stage %d: %g for %g", info->stage, found.estimate, wanted->estimate);
+}
+
+/* Histograms of another number of registers are refused, however large their counts are; and so are more coupons than slots. */
+static void test_other_histograms(void)
+{
+    hll_histogram histogram;
+    hll_estimation found, before;
+    unsigned value, shift;
+    memset(&found, 0xa5, sizeof found), before = found;
+    memset(&histogram, 0, sizeof histogram);
+    CHECK(hll_histogram_estimate(&histogram, &found) == HLL_ARGUMENT, "no registers");
+    for (value = 0; value < 64; value++)
+        for (shift = 0; shift < 64; shift++) {
+            int is_lg_k = 4 <= shift && shift <= 21;
+            hll_status status;
+            histogram.counts[value] = (uint64_t)1 << shift;
+            status = hll_histogram_estimate(&histogram, &found);
+            CHECK(status == (is_lg_k ? HLL_OK : HLL_ARGUMENT), "2^%u of %u: %d", shift, value, status);
+            CHECK(!is_lg_k || found.estimate >= (value ? 1 : 0) * (double)((uint64_t)1 << shift), "%g", found.estimate);
+            found = before;
+            histogram.counts[value] += 3;
+            CHECK(hll_histogram_estimate(&histogram, &found) == HLL_ARGUMENT, "2^%u and 3 of %u", shift, value);
+            found = before;
+            histogram.counts[value] = 0;
+        }
+    for (value = 0; value < 64; value++)
+        histogram.counts[value] = UINT64_MAX;
+    CHECK(hll_histogram_estimate(&histogram, &found) == HLL_ARGUMENT, "the greatest counts");
+    histogram.counts[0] = 16;
+    histogram.counts[1] = UINT64_MAX - 1;
+    CHECK(hll_histogram_estimate(&histogram, &found) == HLL_ARGUMENT, "counts whose sum would wrap around");
+    CHECK(hll_coupons_estimate(((uint64_t)1 << 26) + 1, &found) == HLL_ARGUMENT, "more coupons than slots");
+    CHECK(hll_coupons_estimate(UINT64_MAX, &found) == HLL_ARGUMENT, "the greatest number of coupons");
+    CHECK(memcmp(&found, &before, sizeof found) == 0, "a refusal writes nothing");
+}
+
+/* Numbers of coupons up to the greatest: each more than the one before, and between bounds that are. */
+static void test_many_coupons(void)
+{
+    hll_estimation found, before;
+    uint64_t n;
+    CHECK(hll_coupons_estimate(0, &before) == HLL_OK && before.estimate == 0, "no coupons");
+    for (n = 1; n <= (uint64_t)1 << 26; n += n / 7 + 1) {
+        CHECK(hll_coupons_estimate(n, &found) == HLL_OK, "%d coupons", (int)n);
+        check_order(&found, "many coupons");
+        CHECK(found.estimate > before.estimate && found.estimate >= (double)n, "%d coupons: %g", (int)n, found.estimate);
+        CHECK(found.relative_standard_error < 1e-4, "%d coupons: %g", (int)n, found.relative_standard_error);
+        before = found;
+    }
+    CHECK(hll_coupons_estimate((uint64_t)1 << 26, &found) == HLL_OK, "as many as slots");
+    CHECK(found.estimate > 1.2 * 67108864 && found.estimate < 1.3 * 67108864, "%g of 2^26", found.estimate);
+}
+
 /* Streams of n values: within four deviations of n, and for coupons within a thousandth. */
 static void test_streams(void)
 {
@@ -54,6 +120,7 @@ static void test_streams(void)
                 CHECK(hll_estimate(image.at, image.len, &found) == HLL_OK, "%d values", (int)n);
                 CHECK(hll_image_info(image.at, image.len, &info, sizeof info) == HLL_OK, "info");
                 check_order(&found, "a stream");
+                check_parts(&image, &info, &found);
                 CHECK(is_near(found.estimate, n, 4 * found.relative_standard_error + 1e-9), "lg_k %d: %g for %g",
                       lg_ks[i], found.estimate, n);
                 CHECK(found.lower[2] <= n * (1 + 1e-9) && n <= found.upper[2] * (1 + 1e-9), "lg_k %d: %g outside",
@@ -235,6 +302,8 @@ static void test_kept(void)
 int main(void)
 {
     test_streams();
+    test_other_histograms();
+    test_many_coupons();
     test_widths();
     test_numbers();
     test_refusals();

@@ -92,7 +92,7 @@ static hll_status call_parts(const uint8_t *image, size_t len, uint8_t *out, siz
 {
     const hll_bytes parts[] = {{other_image, sizeof other_image}, {image, len}, {image, len}};
     size_t failed = 77;
-    hll_status status = hll_parts_union(12, 6, parts, 3, out, room, size, &failed);
+    hll_status status = hll_images_unionv(12, 6, parts, 3, out, room, size, &failed);
     return failed == 77 ? status : 200;
 }
 
@@ -107,6 +107,20 @@ static hll_status call_registers(const uint8_t *image, size_t len, uint8_t *out,
     if (status != HLL_OK)
         return lg_k == 77 && memcmp(registers, zeros, sizeof zeros) == 0 ? status : 200;
     return hll_registers_image(registers, sizeof registers, 4, out, room, size);
+}
+
+/* The image of a state of as many values as make the stage of the image. Adding takes no memory. */
+static hll_status call_state(const uint8_t *image, size_t len, uint8_t *out, size_t room, size_t *size)
+{
+    static uint8_t state[HLL_STATE_MOST(12)];
+    uint32_t values = hll_image_stage(image, len) == HLL_REGISTERS ? 2000 : (uint32_t)len, value;
+    size_t unused = 0;
+    if (hll_state_new(12, state, sizeof state) != HLL_OK)
+        return 200;
+    for (value = 0; value < values; value++)
+        if (hll_state_add_value(state, sizeof state, &unused, (const uint8_t *)&value, sizeof value) != HLL_OK)
+            return 200;
+    return hll_state_image(state, sizeof state, hll_image_width(image, len), out, room, size);
 }
 
 /* Sixty new values, which make a set of a list, and registers of the largest set. */
@@ -189,6 +203,7 @@ static void test_image(bytes image)
     refuse_each("union", call_joined, image);
     refuse_each("union of parts", call_parts, image);
     refuse_each("join into registers, and their image", call_registers, image);
+    refuse_each("image of a state", call_state, image);
     refuse_each("add of sixty values", call_grow, image);
     for (i = 0; i < TELLERS; i++) {
         long first = 0;

@@ -92,7 +92,7 @@ static void test_join_of(bytes image, uint8_t lg_k, int in_registers, uint64_t f
             raise_plainly(want, to, from, n);
         want[3] = 200;
         status = hll_registers_merge(joined, count, image.at, image.len, &told);
-        CHECK(status == (fewer ? HLL_FEWER : HLL_OK), "lg_k %d into %d: %d", lg_k, to, status);
+        CHECK(status == (fewer ? HLL_COARSER : HLL_OK), "lg_k %d into %d: %d", lg_k, to, status);
         CHECK(told == (fewer ? lg_k : 77), "lg_k %d into %d told %d", lg_k, to, told);
         CHECK(memcmp(joined, want, count) == 0, "lg_k %d into %d", lg_k, to);
     }
@@ -188,17 +188,17 @@ static void test_codes(void)
     CHECK(memcmp(&histogram, &histogram_before, sizeof histogram) == 0, "histogram");
     CHECK(memcmp(&estimation, &estimation_before, sizeof estimation) == 0, "estimation");
     CHECK(hll_registers_merge_registers(out, 16, registers, 32, &told) == HLL_REGISTER && told == 7, "others above 63");
-    CHECK(hll_registers_merge_registers(registers, 32, before, 16, &told) == HLL_FEWER && told == 4, "fewer others");
+    CHECK(hll_registers_merge_registers(registers, 32, before, 16, &told) == HLL_COARSER && told == 4, "fewer others");
     CHECK(memcmp(registers, before, 32) == 0, "fewer others change nothing");
     memset(out, 0, 16), told = 7;
     CHECK(hll_registers_merge_registers(registers, 32, out, 16, &told) == HLL_OK && told == 7, "others of zeros");
     CHECK(hll_registers_merge_registers(out, 16, before, 16, &told) == HLL_OK && memcmp(out, before, 16) == 0, "as many");
-    CHECK(strcmp(hll_reason(HLL_FEWER), "fewer") == 0 && HLL_FEWER == 15, "its word");
+    CHECK(strcmp(hll_reason(HLL_COARSER), "coarser") == 0 && HLL_COARSER == 15, "its word");
     /* nothing of a length of 0 is read */
     CHECK(hll_registers_add(registers, 32, NULL, 0, NULL, 0) == HLL_OK, "no values");
     CHECK(hll_registers_add_coupons(registers, 32, NULL, 0) == HLL_OK, "no coupons");
     CHECK(hll_registers_merge(registers, 32, NULL, 0, &told) == HLL_TRUNCATED && told == 7, "no image");
-    CHECK(hll_parts_union(4, 8, NULL, 0, out, sizeof out, &size, &i) == HLL_OK && size == 8, "no parts");
+    CHECK(hll_images_unionv(4, 8, NULL, 0, out, sizeof out, &size, &i) == HLL_OK && size == 8, "no parts");
     CHECK(memcmp(registers, before, 32) == 0, "nothing is added");
 }
 
@@ -222,7 +222,7 @@ static void test_faulty(void)
         checked = hll_image_check(image.at, image.len);
         memcpy(registers, before, 64);
         status = hll_registers_merge(registers, 64, image.at, image.len, &told);
-        CHECK(status == checked || (checked == HLL_OK && status == HLL_FEWER), "bit %d: %d, %d", (int)i, checked, status);
+        CHECK(status == checked || (checked == HLL_OK && status == HLL_COARSER), "bit %d: %d, %d", (int)i, checked, status);
         CHECK(status == HLL_OK || memcmp(registers, before, 64) == 0, "bit %d", (int)i);
         image.at[i / 8] ^= (uint8_t)(1 << i % 8);
     }
@@ -231,11 +231,11 @@ static void test_faulty(void)
         parts[0] = parts[1] = parts[2] = (hll_bytes){part.at, part.len};
         parts[i].len = i; /* an empty part is no image */
         failed = 7;
-        CHECK(hll_parts_union(6, 8, parts, 3, out, sizeof out, &size, &failed) == HLL_TRUNCATED, "part %d", (int)i);
+        CHECK(hll_images_unionv(6, 8, parts, 3, out, sizeof out, &size, &failed) == HLL_TRUNCATED, "part %d", (int)i);
         CHECK(failed == i && size == 9, "part %d", (int)i);
     }
-    CHECK(hll_parts_union(3, 8, parts, 3, out, sizeof out, &size, &failed) == HLL_ARGUMENT, "lg_max_k of 3");
-    CHECK(hll_parts_union(6, 7, parts, 3, out, sizeof out, &size, &failed) == HLL_ARGUMENT && failed == 2, "width of 7");
+    CHECK(hll_images_unionv(3, 8, parts, 3, out, sizeof out, &size, &failed) == HLL_ARGUMENT, "lg_max_k of 3");
+    CHECK(hll_images_unionv(6, 7, parts, 3, out, sizeof out, &size, &failed) == HLL_ARGUMENT && failed == 2, "width of 7");
     free(image.at), free(part.at);
 }
 
@@ -253,12 +253,12 @@ static void test_rooms(void)
         if (call == 0)
             need(hll_registers_image(registers, 64, 6, whole, sizeof whole, &whole_size) == HLL_OK, "image");
         else
-            need(hll_parts_union(6, 6, parts, 2, whole, sizeof whole, &whole_size, &failed) == HLL_OK, "parts");
+            need(hll_images_unionv(6, 6, parts, 2, whole, sizeof whole, &whole_size, &failed) == HLL_OK, "parts");
         for (room = 0; room <= whole_size + 3; room++) {
             hll_status status;
             memset(out, 0xa5, sizeof out), size = 4711;
             status = call == 0 ? hll_registers_image(registers, 64, 6, out, room, &size)
-                               : hll_parts_union(6, 6, parts, 2, out, room, &size, &failed);
+                               : hll_images_unionv(6, 6, parts, 2, out, room, &size, &failed);
             CHECK(status == (room < whole_size ? HLL_BUFFER : HLL_OK) && size == whole_size, "room %d", (int)room);
             CHECK(status != HLL_OK || memcmp(out, whole, whole_size) == 0, "room %d", (int)room);
             CHECK(are_all(out + (status == HLL_OK ? whole_size : 0), sizeof out - whole_size, 0xa5), "room %d", (int)room);
@@ -282,7 +282,7 @@ static void test_rows(void)
     uint8_t registers[32] = {0}, others[32] = {0}, out[100], told = 7;
     size_t size, i;
     hll_histogram histogram;
-    CHECK(hll_registers_merge(registers, 32, left.at, left.len, &told) == HLL_FEWER && told == 4, "left");
+    CHECK(hll_registers_merge(registers, 32, left.at, left.len, &told) == HLL_COARSER && told == 4, "left");
     CHECK(hll_registers_merge(registers, 32, right.at, right.len, &told) == HLL_OK, "right");
     CHECK(memcmp(registers, right.at + 40, 32) == 0, "right");
     CHECK(hll_registers_merge(others, 16, left.at, left.len, &told) == HLL_OK, "left");
@@ -348,7 +348,7 @@ static void join(struct run *run, uint64_t *state)
     form.at[0] ^= 255;
     memcpy(before, run->registers, sizeof before);
     status = hll_registers_merge(run->registers, count, form.at, form.len, &told);
-    if (status == HLL_FEWER) {
+    if (status == HLL_COARSER) {
         CHECK(stage == HLL_REGISTERS && told == lg_k && lg_k < run->lg_k && memcmp(before, run->registers, 16) == 0, "fewer");
         fold(run, told);
         status = hll_registers_merge(run->registers, (size_t)1 << told, form.at, form.len, &told);
@@ -397,7 +397,7 @@ static void compare_union(struct run *run)
         parts[i] = (hll_bytes){run->images[i].at, run->images[i].len};
     }
     CHECK(hll_images_union(run->bound, 8, joined.at, end, ends, run->n, made.at, made.len, &made.len, &failed) == HLL_OK, "union");
-    CHECK(hll_parts_union(run->bound, 8, parts, run->n, parts_made.at, parts_made.len, &parts_made.len, &failed) == HLL_OK, "parts");
+    CHECK(hll_images_unionv(run->bound, 8, parts, run->n, parts_made.at, parts_made.len, &parts_made.len, &failed) == HLL_OK, "parts");
     CHECK(made.len == parts_made.len && memcmp(made.at, parts_made.at, made.len) == 0, "parts beside the union");
     if (made.at[7] % 4 == HLL_REGISTERS && made.at[3] == run->lg_k && run->n > 1) {
         uint8_t *out = parts_made.at;

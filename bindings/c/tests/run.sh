@@ -82,6 +82,7 @@ test_header() {
     done
     expect "estimate.c as c99" $CC $strict -std=c99 -c -o "$tests/estimate.o" estimate.c
     expect "merge.c as c99" $CC $strict -std=c99 -I. -c -o "$tests/example.o" ../../examples/merge.c
+    expect "users.c as c99" $CC $strict -std=c99 -I. -O1 -o "$tests/users" ../../examples/users.c "$build/libhll.a"
     if ! has "$CXX"; then
         skip 'header as C++' "$CXX"
         return
@@ -95,7 +96,7 @@ test_header() {
 
 # The calls that the header declares, and the names that a library shows.
 declared() {
-    sed -n 's/^\(hll_status\|uint32_t\) \(hll_[a-z_]*\)(.*/\2/p' hll.h | sort
+    sed -n 's/^\(hll_status\|uint32_t\) \(hll_[a-z_0-9]*\)(.*/\2/p' hll.h | sort
 }
 
 shown() {
@@ -113,12 +114,12 @@ test_expected() {
 
 test_names() {
     declared >"$tests/declared"
-    expect 'twenty-eight calls are declared' test "$(wc -l <"$tests/declared")" -eq 28
+    expect 'forty calls are declared' test "$(wc -l <"$tests/declared")" -eq 40
     shown -D --defined-only "$build/libhll.so" >"$tests/shown"
     expect 'names of the shared library' diff "$tests/declared" "$tests/shown"
     shown -g --defined-only "$build/libhll.a" >"$tests/shown"
     expect 'names of the archive' diff "$tests/declared" "$tests/shown"
-    sed -n 's/^ *\(hll_[a-z_]*\);$/\1/p' hll.map | sort >"$tests/shown"
+    sed -n 's/^ *\(hll_[a-z_0-9]*\);$/\1/p' hll.map | sort >"$tests/shown"
     expect 'names of the map' diff "$tests/declared" "$tests/shown"
 }
 
@@ -131,7 +132,7 @@ compile() {
 }
 
 test_calls() {
-    for name in calls buffers estimates rows registers; do
+    for name in calls buffers estimates rows registers states; do
         compile "$name" "$build/libhll.a"
     done
     compile threads "$build/libhll.a" -pthread
@@ -145,6 +146,7 @@ test_calls() {
     run estimates "$tests/estimates"
     run rows "$tests/rows" $rows
     run registers "$tests/registers"
+    run states "$tests/states"
 }
 
 test_memory() {
@@ -161,6 +163,7 @@ test_memory() {
     run 'estimates in valgrind' $clean "$tests/estimates"
     run 'rows in valgrind' $clean "$tests/rows" $rows
     run 'registers in valgrind' $clean "$tests/registers" 20 small
+    run 'states in valgrind' $clean "$tests/states" 40 small
 }
 
 # The tests and the parts in C, with checks of gcc for each access and each sum.
@@ -170,8 +173,8 @@ test_sanitized() {
         skip 'sanitizers' "their library"
         return
     fi
-    for name in calls buffers estimates rows threads registers; do
-        compile "$name-sanitized" $flags estimate.c optional.c heap.c "$build/proved.o" -pthread
+    for name in calls buffers estimates rows threads registers states; do
+        compile "$name-sanitized" $flags estimate.c optional.c state.c heap.c "$build/proved.o" -pthread
     done
     # What leaks is seen by valgrind and by the test of refusals; here it takes rights that not each machine gives.
     ASAN_OPTIONS=detect_leaks=0
@@ -182,9 +185,16 @@ test_sanitized() {
     run 'rows, sanitized' "$tests/rows-sanitized" $rows
     run 'threads, sanitized' "$tests/threads-sanitized"
     run 'registers, sanitized' "$tests/registers-sanitized" 300
+    run 'states, sanitized' "$tests/states-sanitized" 300
 }
 
 # ---- the example, and an installed library
+
+# The program counts three users of each of a million keys, one of which comes twice.
+million_keys() {
+    awk 'BEGIN { for (user = 1; user <= 4; user++) for (key = 1; key <= 1000000; key++) print key, "user" user % 4 % 3 }' |
+        "$tests/users" | awk '$1 == 3 { good++ } END { exit good != 1000000 }'
+}
 
 # The program merges two files into one, and refuses a file that is no image.
 try_example() {
@@ -233,13 +243,14 @@ try_two_folders() {
 # The calls, over another build of the proved library.
 test_other_build() {
     expect 'the library' make_in "$tests/other" "$1"
-    for name in calls buffers rows registers; do
+    for name in calls buffers rows registers states; do
         compile "$name-other" "$tests/other/build/libhll.a"
     done
     run calls "$tests/calls-other"
     run buffers "$tests/buffers-other"
     run rows "$tests/rows-other" $rows
     run registers "$tests/registers-other" 500
+    run states "$tests/states-other" 500
 }
 
 # `make` where the command rt isn't, in a copy of what it needs: from prebuilt/ it builds the same library; where a source
@@ -345,6 +356,7 @@ else
     test_memory
     test_sanitized
     expect 'the example' try_example "$build/example"
+    expect 'users of a million keys' million_keys
     expect 'the program of the README' try_readme
     expect 'install and uninstall' try_install
     expect 'without rt' try_without_rt

@@ -70,7 +70,7 @@ static void make_values(void)
     }
 }
 
-/* Each call over registers, and hll_parts_union; how many were refused. */
+/* Each call over registers, and hll_images_unionv; how many were refused. */
 static long run_kept(kept *made)
 {
     size_t i, failed;
@@ -89,7 +89,7 @@ static long run_kept(kept *made)
     refused += hll_registers_estimate(made->registers, sizeof made->registers, &made->estimation) != HLL_OK;
     refused += hll_registers_image(made->registers, sizeof made->registers, 6, made->image, sizeof made->image,
                                    &made->image_size) != HLL_OK;
-    refused += hll_parts_union(12, 4, parts, STAGES, made->united, sizeof made->united, &made->united_size, &failed) != HLL_OK;
+    refused += hll_images_unionv(12, 4, parts, STAGES, made->united, sizeof made->united, &made->united_size, &failed) != HLL_OK;
     return refused;
 }
 

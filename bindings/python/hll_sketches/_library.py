@@ -14,7 +14,7 @@ import sys
 import threading
 from array import array
 from ctypes import POINTER, byref, c_char_p, c_double, c_size_t, c_void_p
-from ctypes import c_uint8, c_uint32, c_uint64
+from ctypes import c_uint, c_uint8, c_uint32, c_uint64
 from itertools import accumulate
 from operator import index
 from typing import TYPE_CHECKING, Callable, Dict, Iterable, List, Optional, Sequence, SupportsIndex
@@ -48,9 +48,9 @@ WORDS = (
     "argument",
     "memory",
     "buffer",
-    "fewer",
+    "coarser",
 )
-OK, REGISTER, ARGUMENT, MEMORY, BUFFER, FEWER = 0, 11, 12, 13, 14, 15
+OK, REGISTER, ARGUMENT, MEMORY, BUFFER, COARSER = 0, 11, 12, 13, 14, 15
 MOST_KEPT = 1 << 22
 """A thread keeps no more memory than this for its answers."""
 
@@ -119,13 +119,13 @@ _CALLS = {
     "hll_image_check": _IMAGE,
     "hll_image_size": _IMAGE + [POINTER(c_size_t)],
     "hll_image_histogram": _IMAGE + [POINTER(Histogram)],
-    "hll_image_new": [c_uint8, c_uint8] + _OUT,
+    "hll_image_new": [c_uint, c_uint] + _OUT,
     "hll_image_add": _IMAGE + _IMAGE + _ENDS + _OUT,
-    "hll_image_add_coupon": _IMAGE + [c_uint32, c_uint8] + _OUT,
-    "hll_image_merge": [c_uint8, c_uint8] + _IMAGE + _IMAGE + _OUT + [c_void_p],
-    "hll_images_union": [c_uint8, c_uint8] + _IMAGE + _ENDS + _OUT + [c_void_p],
-    "hll_image_fold": _IMAGE + [c_uint8] + _OUT,
-    "hll_image_convert": _IMAGE + [c_uint8] + _OUT,
+    "hll_image_add_coupon": _IMAGE + [c_uint32, c_uint] + _OUT,
+    "hll_image_merge": [c_uint, c_uint] + _IMAGE + _IMAGE + _OUT + [c_void_p],
+    "hll_images_union": [c_uint, c_uint] + _IMAGE + _ENDS + _OUT + [c_void_p],
+    "hll_image_fold": _IMAGE + [c_uint] + _OUT,
+    "hll_image_convert": _IMAGE + [c_uint] + _OUT,
     "hll_image_set_estimator_fields": _IMAGE + _OUT,
     "hll_image_clear_estimator_fields": _IMAGE + _OUT,
     "hll_images_agree": _IMAGE + _IMAGE + [POINTER(c_uint8), c_void_p],
@@ -138,9 +138,9 @@ _CALLS = {
     "hll_registers_add_coupons": _REGISTERS + [c_void_p, c_size_t],
     "hll_registers_merge": _REGISTERS + _IMAGE + [POINTER(c_uint8)],
     "hll_registers_merge_registers": _REGISTERS + _REGISTERS + [POINTER(c_uint8)],
-    "hll_registers_fold": _REGISTERS + [c_uint8],
+    "hll_registers_fold": _REGISTERS + [c_uint],
     "hll_registers_histogram": _REGISTERS + [POINTER(Histogram)],
-    "hll_registers_image": _REGISTERS + [c_uint8] + _OUT,
+    "hll_registers_image": _REGISTERS + [c_uint] + _OUT,
     "hll_registers_estimate": _REGISTERS + [POINTER(Estimation)],
 }
 _ANSWERS = {"hll_coupon": c_uint32, "hll_version": c_uint32}
@@ -529,24 +529,24 @@ def add_coupons_to(registers: Memory, raw_coupons: Numbers) -> None:
 
 def merge_image(registers: Memory, image: bytes) -> Optional[int]:
     """Merges an image into registers. Its ``lg_k``, where it has fewer; then nothing is changed."""
-    fewer = c_uint8()
+    coarser = c_uint8()
     status = _library.hll_registers_merge(
-        registers, len(registers), image, len(image), byref(fewer)
+        registers, len(registers), image, len(image), byref(coarser)
     )
-    if status not in (OK, FEWER):
+    if status not in (OK, COARSER):
         raise _refusal(status)
-    return fewer.value if status == FEWER else None
+    return coarser.value if status == COARSER else None
 
 
 def merge_registers(registers: Memory, others: Memory) -> Optional[int]:
     """Merges other registers. Their ``lg_k``, where they are fewer; then nothing is changed."""
-    fewer = c_uint8()
+    coarser = c_uint8()
     status = _library.hll_registers_merge_registers(
-        registers, len(registers), others, len(others), byref(fewer)
+        registers, len(registers), others, len(others), byref(coarser)
     )
-    if status not in (OK, FEWER):
+    if status not in (OK, COARSER):
         raise _refused_registers(status)
-    return fewer.value if status == FEWER else None
+    return coarser.value if status == COARSER else None
 
 
 def fold_registers(registers: Memory, lg_k: int) -> None:

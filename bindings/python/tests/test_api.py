@@ -1,6 +1,7 @@
 # SPDX-License-Identifier: Apache-2.0
 """What each call of the package gives, and what it refuses."""
 import copy
+import ctypes
 import os
 import pickle
 import random
@@ -170,6 +171,21 @@ class SketchTest(unittest.TestCase):
                 Sketch().add_coupon(slot, value)
         with self.assertRaises(ArgumentError):
             Sketch(10).fold(11)
+        image = Sketch(10).to_bytes()
+        for number in (256 + 8, 268, 2**32 - 1):    # not cut down to a byte
+            calls = (
+                lambda: _library.new(number, 8),
+                lambda: _library.new(12, number),
+                lambda: _library.add_coupon(image, 5, number),
+                lambda: _library.merge(12, number, image, image),
+                lambda: _library.union(12, number, [image]),
+                lambda: _library.convert(image, number),
+                lambda: _library.image_of((ctypes.c_uint8 * 16)(), number),
+                lambda: _library.fold_registers((ctypes.c_uint8 * 16)(), number),
+            )
+            for call in calls:
+                with self.assertRaises(ArgumentError):
+                    call()
         for deviations in (0, 4, -1):
             with self.assertRaises(ArgumentError):
                 Sketch().bounds(deviations)

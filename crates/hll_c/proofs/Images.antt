@@ -7,11 +7,10 @@ use Rattle.hll_base.specs.declared.error.Reason.TheVariants.{Argument, Memory}
 use Rattle.hll_base.specs.declared.hll_type.HllType.{HllType}
 use Rattle.hll_coupons.specs.Hashed.{coupon_of_bytes}
 use Rattle.hll_sketch.specs.Checks.{first_failing, header_checks, checks_after, first_fault, size_fault}
-use Rattle.hll_sketch.specs.CouponImages.{IsImageOfUnion, AreBothRead, IsImageAt, IsImageWith}
+use Rattle.hll_sketch.specs.CouponImages.{IsImageOfUnion, AreBothRead, IsImageWith}
 use Rattle.hll_sketch.specs.Folding.{IsFoldLgK}
 use Rattle.hll_sketch.specs.Image.{IsReadAs}
 use Rattle.hll_sketch.specs.Refusal.{IsRefusal}
-use Rattle.hll_sketch.specs.RegisterImages.{IsFilledImageOf}
 use Rattle.hll_sketch.specs.MergedIn.{HasCompactCoupons, HasPlainRegisters}
 use Rattle.hll_sketch.specs.Updatable.{HasUpdatableCoupons}
 use Rattle.hll_sketch.specs.Value.{Sketch, IsLgK}
@@ -20,7 +19,7 @@ use Rattle.hll_sketch.proofs.FirstFaults.{faultless_is_image}
 use Rattle.hll_sketch.proofs.SetFields.{coupons_stay}
 use Rattle.hll_c.specs.Answers.{IsImageOf, WithFields, RefusesArguments, argument, memory, RefusesImage, RefusesInfo, RefusesTested, image_fault, image_memory, RefusesWith, argument_with_image, image_refused, RefusesImages, argument_with_images, images_fault, images_memory}
 use Rattle.hll_c.specs.Batches.{AreEnds, AreReadAs, IsFirstFaulty, MayAskAt, strings}
-use Rattle.hll_c.specs.Calls.{bits_of, IsAtWidth, HasValues, AreNewArguments, IsEmptyAt, IsMadeOf, IsFoldOf, RefusesFold, above, with, AreUnionArguments, IsUnionOf, AreBatchArguments, IsUnionOfBatch}
+use Rattle.hll_c.specs.Calls.{bits_of, HasValues, AreNewArguments, IsEmptyAt, IsMadeOf, IsFoldOf, RefusesFold, above, with, AreUnionArguments, IsUnionOf, AreBatchArguments, IsUnionOfBatch}
 use Rattle.hll_c.specs.Steps.{IsRefusedAt}
 
 -- ---- reading
@@ -154,21 +153,6 @@ module _ (k bits : ℕ) (width : HllType) (is_width : bits_of width ≡ bits) (l
   refuses_union_in_bytes failed e both is =
       refuses_more_memory (AreUnionArguments k bits) (left ∷ right ∷ []) failed failed e 2 is (record { lg_max_k_is = both.bound_is; width_is = record { width = width; is = is_width } })
       (asked_after (left ∷ right ∷ []) (both.left_sketch ∷ both.right_sketch ∷ []) (both.left_read, (both.right_read, tt))) refl
-
-pub image_in_bytes : (bits : ℕ) (width : HllType) (image bytes : List ℕ) → bits_of width ≡ bits → IsImageAt width image bytes → IsImageOf (WithFields (IsMadeOf image (IsAtWidth bits))) bytes
-image_in_bytes bits width image bytes is at =
-    (_, (_, record { sketch = at.sketch; read = at.read; is_made = record { width_is = record { width = width; is = is }; is = refl } }, coupons_stay _ at.in_table), at.written)
-
-pub registers_in_bytes : (bits : ℕ) (width : HllType) (image bytes : List ℕ) → bits_of width ≡ bits → IsFilledImageOf width image bytes → IsImageOf (WithFields (IsMadeOf image (IsAtWidth bits))) bytes
-registers_in_bytes bits width image bytes is of = (
-  of.filled,
-  (
-    of.sketch,
-    record { sketch = of.sketch; read = of.read; is_made = record { width_is = record { width = width; is = is }; is = λ i. record of.sketch { width = of.width_is i } } },
-    of.fills,
-  ),
-  of.written,
-)
 
 pub values_in_bytes : (values ends image bytes : List ℕ) → AreEnds (length values) ends → IsImageWith (map coupon_of_bytes (strings values ends)) image bytes
     → IsImageOf (WithFields (IsMadeOf image (HasValues values ends))) bytes

@@ -3,6 +3,10 @@ mod Agreement
 pub mod Answers
 pub mod Batches
 pub mod Counts
+pub mod Histograms
 pub mod Images
 pub mod MaxValues
 pub mod Powers
+pub mod States
+pub mod Strings
+pub mod Widths

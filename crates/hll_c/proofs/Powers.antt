@@ -5,7 +5,8 @@ use Rattle.std.specs.Int.Count.{count_leading_zeros}
 use Rattle.std.proofs.Math.Pow.{pow_mono}
 use Rattle.std.proofs.lemmas.Bool.{cases_lt}
 use Rattle.std.proofs.lemmas.Nat.{leading_top, pow-add, pow_pos}
-use Rattle.hll_c.specs.ByteRegisters.{IsLgKOf, HasLgK}
+use Rattle.hll_sketch.specs.Value.{IsLgK}
+use Rattle.hll_c.specs.ByteRegisters.{IsLgKOf}
 
 up : (i j : ℕ) → i ≤ j → 2 ^ i ≤ 2 ^ j
 up i j h = pow_mono h
@@ -56,13 +57,10 @@ top_of n low high = of (leading_top 64 n (omega (arith, low)) (omega (arith, hig
         }
 
 -- too few or too many
-pub few_or_many : (R : List ℕ) → (length R < 16) ⊎ (2097152 < length R) → HasLgK R → ⊥
-few_or_many R (inl few) has = let least : 2 ^ 4 ≤ 2 ^ has.lg_k = up 4 has.lg_k has.of.is.low in let no : ⊥ = omega (arith, least, few, has.of.size) in no
-few_or_many R (inr many) has = let most : 2 ^ has.lg_k ≤ 2 ^ 21 = up has.lg_k 21 has.of.is.high in let no : ⊥ = omega (arith, most, many, has.of.size) in no
+pub few_or_many : (n k : ℕ) → (n < 16) ⊎ (2097152 < n) → IsLgK k → n ≡ 2 ^ k → ⊥
+few_or_many n k (inl few) is size = let least : 2 ^ 4 ≤ 2 ^ k = up 4 k is.low in let no : ⊥ = omega (arith, least, few, size) in no
+few_or_many n k (inr many) is size = let most : 2 ^ k ≤ 2 ^ 21 = up k 21 is.high in let no : ⊥ = omega (arith, most, many, size) in no
 
 -- or no power
-pub no_power : (R : List ℕ) (j : ℕ) → IsTop (length R) j → (2 ^ j ≡ length R → ⊥) → HasLgK R → ⊥
-no_power R j top not has = not (ap (λ n. 2 ^ n) (same_power (length R) j has.lg_k top.least top.most has.of.size) ∙ sym has.of.size)
-
-pub its_power : (R : List ℕ) (j : ℕ) → IsTop (length R) j → 2 ^ j ≡ length R → IsLgKOf R j
-its_power R j top is = record { is = record { low = top.low; high = top.high }; size = sym is }
+pub no_power : (n j k : ℕ) → IsTop n j → (2 ^ j ≡ n → ⊥) → IsLgK k → n ≡ 2 ^ k → ⊥
+no_power n j k top not is size = not (ap (λ m. 2 ^ m) (same_power n j k top.least top.most size) ∙ sym size)

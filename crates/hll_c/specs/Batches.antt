@@ -1,6 +1,7 @@
 -- SPDX-License-Identifier: Apache-2.0
 -- Concatenated byte strings, delimited by their ends (docs/MODEL.md, "Calls over images").
-use Rattle.std.specs.Prelude.{◌≡◌, ℕ, zero, suc, ◌-◌, ◌≤◌, List, [], ◌∷◌, take, drop, Some, None}
+use Rattle.std.specs.Prelude.{◌≡◌, ℕ, zero, suc, ◌+◌, ◌-◌, ◌*◌, ◌/◌, ◌%◌, ◌^◌, ◌≤◌, ◌<◌, min, List, [], ◌∷◌, length, map, take, drop, slice_index, Some, None}
+use Rattle.std.specs.List.{range_with_len}
 use Rattle.hll_base.specs.declared.error.Reason.{Reason}
 use Rattle.hll_sketch.specs.Checks.{first_fault, size_fault}
 use Rattle.hll_sketch.specs.Image.{IsReadAs}
@@ -26,6 +27,28 @@ end_from start (end ∷ ends) = end_from end ends
 
 abbrev pub strings : List ℕ → List ℕ → List (List ℕ)
 strings bytes ends = strings_from 0 bytes ends
+
+-- ---- strings without ends of their own
+
+-- so many bytes are strings of one length, which is not 0
+pub record AreOfLength (size value_len : ℕ) : Type 0 where
+  pub some : 0 < value_len
+  pub whole : size % value_len ≡ 0
+
+-- the strings of one length that the bytes are cut into: string i begins at i times the length
+abbrev pub strings_of_length : ℕ → List ℕ → List (List ℕ)
+strings_of_length value_len bytes = map (λ i. take value_len (drop (i * value_len) bytes)) (range_with_len 0 (length bytes / value_len))
+
+-- One offset or more, that ascend, none past the size, and none above 2^31 - 1: as 32 bits with a sign that would be negative.
+pub record AreOffsets (size : ℕ) (offsets : List ℕ) : Type 0 where
+  pub some : 0 < length offsets
+  pub ascend : AreEnds (min size (2 ^ 31 - 1)) offsets
+
+-- the strings between offsets: string i goes from offset i to the next one
+abbrev pub strings_between : List ℕ → List ℕ → List (List ℕ)
+strings_between offsets bytes = map (λ i. take (slice_index offsets (i + 1) - slice_index offsets i) (drop (slice_index offsets i) bytes)) (range_with_len 0 (length offsets - 1))
+
+-- ---- images
 
 -- images and the sketches that they are read as
 abbrev pub AreReadAs : List (List ℕ) → List Sketch → Type 0

@@ -19,9 +19,9 @@ use Rattle.hll_c.specs.Calls.{IsWidth}
 use Rattle.hll_c.specs.Info.{AreCountsOf}
 use Rattle.hll_c.specs.declared.info.HllHistogram.{HllHistogram}
 
--- the code of a call whose other registers are fewer
-abbrev pub fewer_code : ℕ
-fewer_code = 15
+-- the code of a call whose other registers are coarser
+abbrev pub coarser_code : ℕ
+coarser_code = 15
 
 -- a byte for each of 2^k registers
 pub record IsLgKOf (R : List ℕ) (k : ℕ) : Type 0 where
@@ -39,7 +39,7 @@ pub record HasLgK (R : List ℕ) : Type 0 where
 -- is told; or it is refused. But in the first case nothing of them changes.
 pub data MergesImageInto (image old new : List ℕ) (reported_old reported_new : ℕ) : ℕ → Type 0 where
   joined : {k : ℕ} → IsLgKOf old k → TakesMaxWithImage k image old new None → reported_new ≡ reported_old → MergesImageInto image old new reported_old reported_new ok_code
-  fewer : {k e : ℕ} → IsLgKOf old k → TakesMaxWithImage k image old new (Some e) → reported_new ≡ e → MergesImageInto image old new reported_old reported_new fewer_code
+  coarser : {k e : ℕ} → IsLgKOf old k → TakesMaxWithImage k image old new (Some e) → reported_new ≡ e → MergesImageInto image old new reported_old reported_new coarser_code
   refused : {r : Reason} → RefusesWith (HasLgK old) image r → (r ≡ Memory → ReadNeedsMemory image) → new ≡ old → reported_new ≡ reported_old
       → MergesImageInto image old new reported_old reported_new (number_of r)
 
@@ -51,8 +51,8 @@ sketch_of_bytes l Q = record { lg_k = l; width = Hll8; content = registers Q cle
 pub data MergesRegistersInto (others old new : List ℕ) (reported_old reported_new : ℕ) : ℕ → Type 0 where
   merged_registers : {k l : ℕ} → IsLgKOf old k → IsLgKOf others l → AreRegisters l others → TakesMaxWithSketch k (sketch_of_bytes l others) old new None → reported_new ≡ reported_old
       → MergesRegistersInto others old new reported_old reported_new ok_code
-  fewer_registers : {k l e : ℕ} → IsLgKOf old k → IsLgKOf others l → AreRegisters l others → TakesMaxWithSketch k (sketch_of_bytes l others) old new (Some e) → reported_new ≡ e
-      → MergesRegistersInto others old new reported_old reported_new fewer_code
+  coarser_registers : {k l e : ℕ} → IsLgKOf old k → IsLgKOf others l → AreRegisters l others → TakesMaxWithSketch k (sketch_of_bytes l others) old new (Some e) → reported_new ≡ e
+      → MergesRegistersInto others old new reported_old reported_new coarser_code
   others_above : {l : ℕ} → HasLgK old → IsLgKOf others l → (AreRegisters l others → ⊥) → new ≡ old → reported_new ≡ reported_old → MergesRegistersInto others old new reported_old reported_new (number_of Register)
   others_argument : (HasLgK old × HasLgK others → ⊥) → new ≡ old → reported_new ≡ reported_old → MergesRegistersInto others old new reported_old reported_new (number_of Argument)
 
@@ -67,6 +67,11 @@ pub record AreAddArguments (values ends old : List ℕ) : Type 0 where
 pub data AddsValues (values ends old new : List ℕ) : ℕ → Type 0 where
   added : {k : ℕ} → IsLgKOf old k → AreEnds (length values) ends → new ≡ join old (fold_to (set_of (map coupon_of_bytes (strings values ends))) k) → AddsValues values ends old new ok_code
   values_argument : (AreAddArguments values ends old → ⊥) → new ≡ old → AddsValues values ends old new (number_of Argument)
+
+-- The same of strings that are told in another way, where the arguments say strings.
+pub data AddsStrings (AreStrings : Type 0) (values : List (List ℕ)) (old new : List ℕ) : ℕ → Type 0 where
+  added_strings : {k : ℕ} → IsLgKOf old k → AreStrings → new ≡ join old (fold_to (set_of (map coupon_of_bytes values)) k) → AddsStrings AreStrings values old new ok_code
+  no_strings_to_add : (HasLgK old × AreStrings → ⊥) → new ≡ old → AddsStrings AreStrings values old new (number_of Argument)
 
 -- raw coupons of which each has a value
 abbrev pub HaveValues : List ℕ → Type 0

@@ -1,6 +1,6 @@
 -- SPDX-License-Identifier: Apache-2.0
 -- What the calls over images write, tell and refuse (docs/MODEL.md, "Calls over images").
-use Rattle.std.specs.Prelude.{◌≡◌, ℕ, ◌^◌, ◌≤◌, ◌<◌, ◌↔◌, Bool, true, false, List, [], ◌∷◌, ◌++◌, length, drop, map}
+use Rattle.std.specs.Prelude.{◌≡◌, ℕ, ◌^◌, ◌≤◌, ◌<◌, ◌↔◌, ◌⊎◌, Bool, true, false, List, [], ◌∷◌, ◌++◌, length, drop, map}
 use Rattle.hll_base.specs.Reason.{number_of}
 use Rattle.hll_base.specs.declared.error.Reason.{Reason}
 use Rattle.hll_base.specs.declared.error.Reason.TheVariants.{Argument}
@@ -36,6 +36,15 @@ pub record IsWidth (bits : ℕ) : Type 0 where
   pub width : HllType
   pub is : bits_of width ≡ bits
 
+-- the number is that of a width, or 0, which asks for one that is known otherwise
+abbrev pub AsksWidth : ℕ → Type 0
+AsksWidth bits = IsWidth bits ⊎ (bits ≡ 0)
+
+-- the width that a number asks for: of so many bits, or for 0 the one that is given
+pub data IsAskedWidth (bits : ℕ) (given : HllType) : HllType → Type 0 where
+  of_bits : {width : HllType} → bits_of width ≡ bits → IsAskedWidth bits given width
+  as_given : bits ≡ 0 → IsAskedWidth bits given given
+
 -- ---- an empty sketch
 
 pub record AreNewArguments (lg_k bits : ℕ) : Type 0 where
@@ -67,9 +76,14 @@ pub data RefusesFold (lg_k : ℕ) (image : List ℕ) : Reason → Type 0 where
   with : {r : Reason} → RefusesWith (IsLgK lg_k) image r → RefusesFold lg_k image r
 
 -- a sketch at a width
+abbrev pub HasWidth : HllType → Sketch → Sketch → Type 0
+HasWidth width x y = y ≡ record x { width = width }
+
+-- a sketch at the width that a number asks for, which for 0 is its own
 pub record IsAtWidth (bits : ℕ) (x y : Sketch) : Type 0 where
-  pub width_is : IsWidth bits
-  pub is : y ≡ record x { width = width_is.width }
+  pub width : HllType
+  pub asked : IsAskedWidth bits x.width width
+  pub is : HasWidth width x y
 
 -- a sketch with its state cleared
 abbrev pub IsCleared : Sketch → Sketch → Type 0
@@ -134,3 +148,9 @@ pub data PutsCoupons (values ends old new : List ℕ) : ℕ → Type 0 where
   wrote : AreEnds (length values) ends → length ends ≤ length old → new ≡ map coupon_of_bytes (strings values ends) ++ drop (length ends) old → PutsCoupons values ends old new ok_code
   too_small : AreEnds (length values) ends → length old < length ends → new ≡ old → PutsCoupons values ends old new buffer_code
   argument : (AreEnds (length values) ends → ⊥) → new ≡ old → PutsCoupons values ends old new (number_of Argument)
+
+-- The same of strings that are told in another way, where the arguments say strings.
+pub data PutsCouponsOf (AreStrings : Type 0) (values : List (List ℕ)) (old new : List ℕ) : ℕ → Type 0 where
+  put : AreStrings → length values ≤ length old → new ≡ map coupon_of_bytes values ++ drop (length values) old → PutsCouponsOf AreStrings values old new ok_code
+  no_room : AreStrings → length old < length values → new ≡ old → PutsCouponsOf AreStrings values old new buffer_code
+  no_strings : (AreStrings → ⊥) → new ≡ old → PutsCouponsOf AreStrings values old new (number_of Argument)

@@ -1,15 +1,18 @@
 -- SPDX-License-Identifier: Apache-2.0
 -- What calls tell of an estimate (docs/MODEL.md, "Estimates").
-use Rattle.std.specs.Prelude.{◌≡◌, ℕ, ◌-◌, ◌^◌, List}
+use Rattle.std.specs.Prelude.{◌≡◌, ℕ, ◌+◌, ◌-◌, ◌^◌, ◌≤◌, List, [], ◌∷◌, ◌++◌, length, replicate, sum}
 use Rattle.std.specs.FinSet.{len}
+use Rattle.hll_base.specs.declared.error.Reason.{Reason}
+use Rattle.hll_base.specs.declared.error.Reason.TheVariants.{Argument}
 use Rattle.hll_estimate.specs.Double.{IsDoubleOf}
 use Rattle.hll_estimate.specs.Estimate.{IsEstimate}
 use Rattle.hll_estimate.specs.Monotone.{fixed_point_estimate_of}
 use Rattle.hll_estimate.specs.declared.estimate.Estimate.{Estimate}
 use Rattle.hll_kernels.specs.Packed.{AreRegisters, zeros, units}
 use Rattle.hll_sketch.specs.Image.{IsReadAs}
-use Rattle.hll_sketch.specs.Value.{Sketch, Content, coupons, registers}
+use Rattle.hll_sketch.specs.Value.{Sketch, Content, coupons, registers, IsLgK}
 use Rattle.hll_c.specs.ByteRegisters.{IsLgKOf}
+use Rattle.hll_c.specs.Info.{AreCountsOf}
 use Rattle.hll_c.specs.declared.estimate.HllEstimate.{HllEstimate}
 
 -- the double nearest to the estimate of 2^k registers; how many they are, and how many of them are above 0
@@ -43,3 +46,36 @@ pub record SaysEstimateOfBytes (R : List ℕ) (e : HllEstimate) : Type 0 where
   pub of : IsLgKOf R lg_k
   pub are : AreRegisters lg_k R
   pub says : IsEstimateOfRegisters lg_k R e
+
+-- ---- counts of registers
+
+-- of each value from one on, as many registers as counted
+abbrev pub registers_of_counts : ℕ → List ℕ → List ℕ
+registers_of_counts value [] = []
+registers_of_counts value (count ∷ counts) = replicate count value ++ registers_of_counts (value + 1) counts
+
+-- the counts sum to the number of registers of an lg_k
+pub record SumToLgK (counts : List ℕ) (k : ℕ) : Type 0 where
+  pub is : IsLgK k
+  pub sum_is : sum counts ≡ 2 ^ k
+
+-- what is told of registers of which so many have each value
+pub record SaysEstimateOfCounts (counts : List ℕ) (e : HllEstimate) : Type 0 where
+  pub lg_k : ℕ
+  pub sum_to : SumToLgK counts lg_k
+  pub registers : List ℕ
+  pub are : AreRegisters lg_k registers
+  pub counted : AreCountsOf registers counts
+  pub says : IsEstimateOfRegisters lg_k registers e
+
+-- counts of another number of registers are refused
+pub record RefusesCounts (counts : List ℕ) (r : Reason) : Type 0 where
+  pub is : r ≡ Argument
+  pub no_lg_k : (k : ℕ) → SumToLgK counts k → ⊥
+
+-- what is summed over them, for a count of each value from 0 to 63: how many there are, at most 2^21, and 2^(63 - value)
+pub record AreTotalsOfCounts (counts : List ℕ) (total sum_of_units : ℕ) : Type 0 where
+  pub each_value : length counts ≡ 64
+  pub total_is : total ≡ sum counts
+  pub few : total ≤ 2 ^ 21
+  pub units_are : sum_of_units ≡ units (registers_of_counts 0 counts)

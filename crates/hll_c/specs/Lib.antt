@@ -5,4 +5,5 @@ pub mod ByteRegisters
 pub mod Calls
 pub mod Estimates
 pub mod Info
+pub mod States
 pub mod Steps

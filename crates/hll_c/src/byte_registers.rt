@@ -1,6 +1,6 @@
 // SPDX-License-Identifier: Apache-2.0
 //! Registers that the caller keeps: 2^`lg_k` bytes, one for each register.
-ghost use Rattle.std.specs.Prelude.{◌≡◌, ◌^◌, ◌≤◌, ◌↔◌, length, map, IsTrue, IfOk, IfErr};
+ghost use Rattle.std.specs.Prelude.{◌≡◌, ◌^◌, ◌≤◌, ◌↔◌, ℕ, length, map, IsTrue, IfOk, IfErr};
 ghost use Rattle.hll_base.specs.declared.error.Reason.TheVariants as reasons;
 ghost use Rattle.hll_base.specs.Join.{join};
 ghost use Rattle.hll_coupons.specs.Fold.{fold_to};
@@ -8,12 +8,13 @@ ghost use Rattle.hll_coupons.specs.Hashed.{coupon_of_bytes};
 ghost use Rattle.hll_coupons.specs.Pair.{set_of};
 ghost use Rattle.hll_kernels.specs.Packed.{AreRegisters};
 ghost use Rattle.hll_sketch.specs.Layout.{sketch_of};
+ghost use Rattle.hll_sketch.specs.Value.{IsLgK};
 ghost use Rattle.hll_c.specs.Batches.{AreEnds, strings};
 ghost use Rattle.hll_c.specs.ByteRegisters.{HasLgK, IsLgKOf, HaveValues, MergesImageInto, MergesRegistersInto, AddsValues, AddsCoupons, FoldsInPlace, RefusesRegisters, SaysCounts, IsOfBytes, RefusesBytes};
 
 use crate::answer::OK;
+use crate::arguments::{lg_k_of_number, width_of};
 use crate::batch::are_ends;
-use crate::image::width_of;
 use crate::info::{HllHistogram, counts_of};
 use hll_arrays::kernels::greatest_of;
 use hll_arrays::registers::two_to;
@@ -25,15 +26,22 @@ use hll_sketch::max_registers::{fold_in_place, max_registers, merge_image, sketc
 use hll_sketch::{HllSketch, max_coupon};
 use std::alloc::Global;
 
-/// The other registers are fewer.
-const FEWER: u8 = 15;
+/// The code of a call whose other registers are coarser.
+const COARSER: u8 = 15;
 
 /// The `lg_k` of which there is a byte for each register. `Argument` where there is none.
-fn lg_k_of(registers: &[u8]) -> Result<u8, Error>
+pub(crate) fn lg_k_of(registers: &[u8]) -> Result<u8, Error>
     ensures ok { IfOk result (IsLgKOf registers.now) }
     ensures err { IfErr result (λ e. (e ≡ reasons.Argument) × (HasLgK registers.now → ⊥)) }
 {
-    let count = registers.len();
+    lg_k_of_count(registers.len())
+}
+
+/// The `lg_k` of so many registers. `Argument` where there is none.
+pub(crate) fn lg_k_of_count(count: usize) -> Result<u8, Error>
+    ensures ok { IfOk result (λ k. IsLgK k × (count ≡ 2 ^ k)) }
+    ensures err { IfErr result (λ e. (e ≡ reasons.Argument) × ((k : ℕ) → IsLgK k → count ≡ 2 ^ k → ⊥)) }
+{
     if count < two_to(MIN_LG_K) || two_to(MAX_LG_K) < count {
         return Err(Error::new(Reason::Argument));
     }
@@ -65,8 +73,8 @@ pub(crate) fn checked_lg_k(registers: &[u8]) -> Result<u8, Error>
 }
 
 /// Joins the registers of an image into those of the caller.
-pub(crate) fn merge(alloc: Global, registers: &mut [u8], image: &[u8], fewer: &mut u8) -> u8
-    ensures { MergesImageInto image.now registers.old registers.new fewer.old fewer.new result }
+pub(crate) fn merge(alloc: Global, registers: &mut [u8], image: &[u8], coarser: &mut u8) -> u8
+    ensures { MergesImageInto image.now registers.old registers.new coarser.old coarser.new result }
 {
     let Ok(lg_k) = lg_k_of(registers) else {
         return Reason::Argument.number();
@@ -74,16 +82,16 @@ pub(crate) fn merge(alloc: Global, registers: &mut [u8], image: &[u8], fewer: &m
     match merge_image(alloc, registers, lg_k, image) {
         Ok(None) => OK,
         Ok(Some(of_image)) => {
-            *fewer = of_image;
-            FEWER
+            *coarser = of_image;
+            COARSER
         }
         Err(e) => e.reason().number(),
     }
 }
 
 /// Joins other registers into those of the caller.
-pub(crate) fn merge_others(registers: &mut [u8], others: &[u8], fewer: &mut u8) -> u8
-    ensures { MergesRegistersInto others.now registers.old registers.new fewer.old fewer.new result }
+pub(crate) fn merge_others(registers: &mut [u8], others: &[u8], coarser: &mut u8) -> u8
+    ensures { MergesRegistersInto others.now registers.old registers.new coarser.old coarser.new result }
 {
     let Ok(lg_k) = lg_k_of(registers) else {
         return Reason::Argument.number();
@@ -98,8 +106,8 @@ pub(crate) fn merge_others(registers: &mut [u8], others: &[u8], fewer: &mut u8) 
     match max_registers(registers, lg_k, &source, source.are_all_zero()) {
         None => OK,
         Some(of_others) => {
-            *fewer = of_others;
-            FEWER
+            *coarser = of_others;
+            COARSER
         }
     }
 }
@@ -146,7 +154,7 @@ pub(crate) fn add_coupons(registers: &mut [u8], coupons: &[u32]) -> u8
 }
 
 /// Whether each coupon has a value.
-fn have_values(coupons: &[u32]) -> bool
+pub(crate) fn have_values(coupons: &[u32]) -> bool
     ensures { IsTrue result ↔ HaveValues coupons.now }
 {
     for raw in coupons {
@@ -172,19 +180,22 @@ fn max_coupons(registers: &mut [u8], lg_k: u8, coupons: &[u32])
 }
 
 /// Folds registers of the caller at the front of their bytes.
-pub(crate) fn fold(registers: &mut [u8], to: u8) -> u8
+pub(crate) fn fold(registers: &mut [u8], to: u32) -> u8
     ensures { FoldsInPlace to registers.old registers.new result }
 {
     let Ok(lg_k) = lg_k_of(registers) else {
         return Reason::Argument.number();
     };
-    if to < MIN_LG_K || lg_k < to {
+    let Ok(target) = lg_k_of_number(to) else {
+        return Reason::Argument.number();
+    };
+    if lg_k < target {
         return Reason::Argument.number();
     }
     if !are_small(registers, lg_k) {
         return Reason::Register.number();
     }
-    fold_in_place(registers, lg_k, to);
+    fold_in_place(registers, lg_k, target);
     OK
 }
 
@@ -200,7 +211,7 @@ pub(crate) fn histogram(registers: &[u8]) -> Result<HllHistogram, Error>
 }
 
 /// The sketch of registers of the caller.
-pub(crate) fn sketch(alloc: Global, registers: &[u8], width: u8) -> Result<HllSketch, Error>
+pub(crate) fn sketch(alloc: Global, registers: &[u8], width: u32) -> Result<HllSketch, Error>
     ensures ok { IfOk result (λ s. IsOfBytes width registers.now (sketch_of s)) }
     ensures err { IfErr result (RefusesBytes width registers.now) }
 {

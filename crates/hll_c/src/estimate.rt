@@ -1,19 +1,25 @@
 // SPDX-License-Identifier: Apache-2.0
 //! Estimates of the number of distinct values (docs/NUMBERS.md, "Estimates").
-ghost use Rattle.std.specs.Prelude.{◌≡◌, List, ℕ, IfOk, IfErr};
+ghost use Rattle.std.specs.Prelude.{◌≡◌, ◌^◌, ◌<◌, List, ℕ, sum, IfSome, IfNone, IfOk, IfErr};
 ghost use Rattle.hll_kernels.specs.Packed as packed;
+ghost use Rattle.hll_kernels.specs.Packed.{AreRegisters};
+ghost use Rattle.hll_sketch.specs.Value.{IsLgK};
 ghost use Rattle.hll_estimate.specs.Estimate.{AreOfRegisters};
 ghost use Rattle.hll_c.specs.Answers.{RefusesInfo};
 ghost use Rattle.hll_c.specs.ByteRegisters.{RefusesRegisters};
-ghost use Rattle.hll_c.specs.Estimates.{SaysEstimate, SaysEstimateOfBytes, IsEstimateOfRegisters, IsEstimateOfCoupons};
+ghost use Rattle.hll_c.specs.Estimates.{SaysEstimate, SaysEstimateOfBytes, SaysEstimateOfCounts, RefusesCounts, AreTotalsOfCounts, IsEstimateOfRegisters, IsEstimateOfCoupons};
 
-use crate::byte_registers::checked_lg_k;
+use crate::byte_registers::{checked_lg_k, lg_k_of_count};
+use crate::info::HllHistogram;
 use hll_arrays::kernels::{count_zeros, units};
-use hll_base::error::Error;
+use hll_base::error::{Error, Reason};
 use hll_estimate::double::nearest_double;
 use hll_estimate::estimate::estimate_of;
 use hll_sketch::{HllSketch, image_of_coupons, register_totals};
 use std::alloc::Global;
+
+/// The greatest number of registers.
+const MOST_REGISTERS: u64 = 1 << 21;
 
 /// An estimate, and what its bounds are computed from.
 #[repr(C)]
@@ -41,7 +47,7 @@ fn estimate_of_totals(lg_k: u8, zeros: u32, units: u128) -> HllEstimate
 }
 
 /// What is told of so many coupons.
-fn estimate_of_coupons(count: usize) -> HllEstimate
+pub(crate) fn estimate_of_coupons(count: usize) -> HllEstimate
     ensures { IsEstimateOfCoupons count result }
 {
     HllEstimate {
@@ -68,11 +74,51 @@ pub(crate) fn estimate_of_image(alloc: Global, image: &[u8]) -> Result<HllEstima
     }
 }
 
+/// The estimate of 2^`lg_k` registers.
+pub(crate) fn estimate_of_registers(lg_k: u8, registers: &[u8]) -> HllEstimate
+    requires lg_k { IsLgK lg_k }
+    requires registers { AreRegisters lg_k registers.now }
+    ensures { IsEstimateOfRegisters lg_k registers.now result }
+{
+    estimate_of_totals(lg_k, count_zeros(registers) as u32, units(registers))
+}
+
+/// The sum of counts by value, and the sum of 2^(63 - value) over what they count. `None` where there are more than 2^21.
+fn totals_of_counts(counts: &[u64; 64]) -> Option<(u64, u128)>
+    ensures some { IfSome result (λ totals. AreTotalsOfCounts counts.now totals.0 totals.1) }
+    ensures none { IfNone result (2 ^ 21 < sum counts.now) }
+{
+    let mut total = 0u64;
+    let mut units = 0u128;
+    let mut weight = 1u128 << 63;
+    for count in counts {
+        if MOST_REGISTERS - total < *count {
+            return None;
+        }
+        total += *count;
+        units += u128::from(*count) * weight;
+        weight /= 2;
+    }
+    Some((total, units))
+}
+
+/// The estimate of registers of which so many have each value.
+pub(crate) fn estimate_of_counts(histogram: &HllHistogram) -> Result<HllEstimate, Error>
+    ensures ok { IfOk result (SaysEstimateOfCounts histogram.now.counts) }
+    ensures err { IfErr result (RefusesCounts histogram.now.counts) }
+{
+    let Some((total, units)) = totals_of_counts(&histogram.counts) else {
+        return Err(Error::new(Reason::Argument));
+    };
+    let lg_k = lg_k_of_count(total as usize)?;
+    Ok(estimate_of_totals(lg_k, histogram.counts[0] as u32, units))
+}
+
 /// The estimate of registers of the caller.
 pub(crate) fn estimate_of_bytes(registers: &[u8]) -> Result<HllEstimate, Error>
     ensures ok { IfOk result (SaysEstimateOfBytes registers.now) }
     ensures err { IfErr result (RefusesRegisters registers.now) }
 {
     let lg_k = checked_lg_k(registers)?;
-    Ok(estimate_of_totals(lg_k, count_zeros(registers) as u32, units(registers)))
+    Ok(estimate_of_registers(lg_k, registers))
 }

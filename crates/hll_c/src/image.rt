@@ -8,23 +8,24 @@ ghost use Rattle.hll_sketch.specs.BorrowedRegisters.{lg_k_of, values_of, AreWhol
 ghost use Rattle.hll_sketch.specs.ByteRegisters.{AreRegistersOf};
 ghost use Rattle.hll_sketch.specs.CouponImages.{IsImageWith};
 ghost use Rattle.hll_sketch.specs.EstimatorFields.{SetsFields, FillsFields};
-ghost use Rattle.hll_sketch.specs.Image.{IsReadAs, IsSizeOfImage};
+ghost use Rattle.hll_sketch.specs.Image.{IsReadAs, IsSizeOfImage, width_bits, width_of_bits};
 ghost use Rattle.hll_sketch.specs.Laws.{add_in_turn};
 ghost use Rattle.hll_sketch.specs.Layout.{sketch_of};
 ghost use Rattle.hll_sketch.specs.Value.{Sketch, IsLgK};
 ghost use Rattle.hll_c.specs.Answers.{IsImageOf, WithFields, RefusesArguments, RefusesImage, RefusesTested, RefusesWith, RefusesImages};
 ghost use Rattle.hll_c.specs.Batches.{AreEnds, strings};
-ghost use Rattle.hll_c.specs.Calls.{bit, bits_of, IsWidth, AreNewArguments, IsEmptyAt, IsMadeOf, IsFoldOf, RefusesFold, IsAtWidth, IsCleared, AreOfCoupon, HasCoupon, HasValues, AreUnionArguments, IsUnionOf, AreBatchArguments, IsUnionOfBatch, SaysAgreement};
+ghost use Rattle.hll_c.specs.Calls.{bit, AreNewArguments, IsEmptyAt, IsMadeOf, IsFoldOf, RefusesFold, HasWidth, IsAtWidth, AsksWidth, IsCleared, AreOfCoupon, HasCoupon, HasValues, AreUnionArguments, IsUnionOf, AreBatchArguments, IsUnionOfBatch, SaysAgreement};
 ghost use Rattle.hll_sketch.specs.Waiting.{whole_gadget, MergesInto};
 ghost use Rattle.hll_c.specs.Steps.{MergesInAll, IsRefusedAt, FailsToMergeIn};
 
 use crate::answer::image_with_fields;
+use crate::arguments::{asked_width, lg_k_of_number, width_of};
 use crate::batch::{are_ends, put_each};
-use hll_arrays::registers::two_to;
-use hll_base::bounds::{MAX_LG_K, MAX_VALUE, MIN_LG_K, SLOT_BITS};
+use hll_base::bounds::{MAX_VALUE, SLOT_BITS};
 use hll_base::error::{Error, Reason};
 use hll_base::hll_type::HllType;
 use hll_coupons::coupon::Coupon;
+use hll_coupons::serialization::{TGT_HLL4, TGT_HLL6, extract_tgt_hll_type};
 use hll_sketch::borrowed_registers::BorrowedRegisters;
 use hll_sketch::coupon_images::{coupon_image_with, says_registers};
 use hll_sketch::image_size::size_of_image;
@@ -36,18 +37,8 @@ use std::alloc::Global;
 /// The byte strings whose coupons are found before they are added to a sketch.
 const BLOCK: usize = 128;
 
-/// The width of a number of bits. `Argument` where it is not 4, 6 or 8.
-pub(crate) fn width_of(bits: u8) -> Result<HllType, Error>
-    ensures ok { IfOk result (λ w. bits_of w ≡ bits) }
-    ensures outside { IfErr result (λ e. (e ≡ reasons.Argument) × (IsWidth bits → ⊥)) }
-{
-    match bits {
-        4 => Ok(HllType::Hll4),
-        6 => Ok(HllType::Hll6),
-        8 => Ok(HllType::Hll8),
-        _ => Err(Error::new(Reason::Argument)),
-    }
-}
+/// The byte of an image that has the stage and the width.
+const MODE_BYTE: usize = 7;
 
 /// Reads the registers of the image with this number. Where it is refused by a check, `failed` is its number.
 fn read_registers<'a>(
@@ -96,10 +87,11 @@ pub(crate) fn check(alloc: Global, image: &[u8]) -> Result<(), Error>
 }
 
 /// The empty sketch.
-pub(crate) fn empty(alloc: Global, lg_k: u8, width: u8) -> Result<HllSketch, Error>
+pub(crate) fn empty(alloc: Global, lg_k: u32, width: u32) -> Result<HllSketch, Error>
     ensures ok { IfOk result (λ s. IsEmptyAt lg_k width (sketch_of s)) }
     ensures err { IfErr result (λ e. RefusesArguments (AreNewArguments lg_k width) e) }
 {
+    let lg_k = lg_k_of_number(lg_k)?;
     HllSketch::new(alloc, lg_k, width_of(width)?)
 }
 
@@ -108,7 +100,7 @@ pub(crate) fn with_coupon(
     alloc: Global,
     image: &[u8],
     slot: u32,
-    value: u8,
+    value: u32,
 ) -> Result<HllSketch, Error>
     ensures ok { IfOk result (λ s. IsMadeOf image.now (HasCoupon slot value) (sketch_of s)) }
     ensures err { IfErr result (λ e. RefusesWith (AreOfCoupon slot value) image.now e) }
@@ -117,15 +109,15 @@ pub(crate) fn with_coupon(
         return Err(Error::new(Reason::Argument));
     }
     let mut sketch = HllSketch::deserialize(alloc, image)?;
-    sketch.update_with_coupon(Coupon::pack(slot, value))?;
+    sketch.update_with_coupon(Coupon::pack(slot, value as u8))?;
     Ok(sketch)
 }
 
 /// Whether a coupon may have this slot and value.
-fn are_of_coupon(slot: u32, value: u8) -> bool
+fn are_of_coupon(slot: u32, value: u32) -> bool
     ensures { IsTrue result ↔ AreOfCoupon slot value }
 {
-    slot < 1 << SLOT_BITS && 0 < value && value <= MAX_VALUE
+    slot < 1 << SLOT_BITS && 0 < value && value <= u32::from(MAX_VALUE)
 }
 
 /// The image with the coupons of the byte strings that end at `ends`, its fields set where its state is cleared.
@@ -207,8 +199,8 @@ fn add_values(sketch: &mut HllSketch, values: &[u8], ends: &[usize]) -> Result<(
 /// The image of the union of two images.
 pub(crate) fn merged(
     alloc: Global,
-    lg_max_k: u8,
-    width: u8,
+    lg_max_k: u32,
+    width: u32,
     left: &[u8],
     right: &[u8],
     failed: &mut usize,
@@ -216,7 +208,8 @@ pub(crate) fn merged(
     ensures ok { IfOk result (λ image. IsImageOf (WithFields (IsUnionOf lg_max_k width (left.now ∷ right.now ∷ []) failed.old failed.new)) image.items) }
     ensures err { IfErr result (λ e. RefusesImages (AreUnionArguments lg_max_k width) (left.now ∷ right.now ∷ []) failed.old failed.new e) }
 {
-    match union_of_coupon_images(alloc, lg_max_k, width_of(width)?, left, right)? {
+    let bound = lg_k_of_number(lg_max_k)?;
+    match union_of_coupon_images(alloc, bound, width_of(width)?, left, right)? {
         Some(image) => Ok(image),
         None => image_with_fields(union_of_two(alloc, lg_max_k, width, left, right, failed)?),
     }
@@ -225,8 +218,8 @@ pub(crate) fn merged(
 /// The union of two images, its fields set where its state is cleared.
 fn union_of_two(
     alloc: Global,
-    lg_max_k: u8,
-    width: u8,
+    lg_max_k: u32,
+    width: u32,
     left: &[u8],
     right: &[u8],
     failed: &mut usize,
@@ -234,8 +227,9 @@ fn union_of_two(
     ensures ok { IfOk result (λ s. WithFields (IsUnionOf lg_max_k width (left.now ∷ right.now ∷ []) failed.old failed.new) (sketch_of s)) }
     ensures err { IfErr result (λ e. RefusesImages (AreUnionArguments lg_max_k width) (left.now ∷ right.now ∷ []) failed.old failed.new e) }
 {
+    let bound = lg_k_of_number(lg_max_k)?;
     let width = width_of(width)?;
-    let mut union = UnionBuilder::new(HllUnion::new(alloc, lg_max_k)?, alloc);
+    let mut union = UnionBuilder::new(HllUnion::new(alloc, bound)?, alloc);
     merge_in(&mut union, left, 0, failed)?;
     merge_in(&mut union, right, 1, failed)?;
     read_out(union, width)
@@ -255,8 +249,8 @@ fn read_out(union: UnionBuilder, width: HllType) -> Result<HllSketch, Error>
 /// The union of the images that end at `ends`, its fields set where its state is cleared.
 pub(crate) fn union_of_batch(
     alloc: Global,
-    lg_max_k: u8,
-    width: u8,
+    lg_max_k: u32,
+    width: u32,
     images: &[u8],
     ends: &[usize],
     failed: &mut usize,
@@ -264,8 +258,9 @@ pub(crate) fn union_of_batch(
     ensures ok { IfOk result (λ s. WithFields (IsUnionOfBatch lg_max_k width images.now ends.now failed.old failed.new) (sketch_of s)) }
     ensures err { IfErr result (λ e. RefusesImages (AreBatchArguments lg_max_k width (length images.now) ends.now) (strings images.now ends.now) failed.old failed.new e) }
 {
+    let bound = lg_k_of_number(lg_max_k)?;
     let width = width_of(width)?;
-    let union = HllUnion::new(alloc, lg_max_k)?;
+    let union = HllUnion::new(alloc, bound)?;
     if !are_ends(ends, images.len()) {
         return Err(Error::new(Reason::Argument));
     }
@@ -296,16 +291,17 @@ fn merge_in_all(
 /// The union of images that need not be contiguous, its fields set where its state is cleared.
 pub(crate) fn union_of_parts(
     alloc: Global,
-    lg_max_k: u8,
-    width: u8,
+    lg_max_k: u32,
+    width: u32,
     parts: &[&[u8]],
     failed: &mut usize,
 ) -> Result<HllSketch, Error>
     ensures ok { IfOk result (λ s. WithFields (IsUnionOf lg_max_k width (map (λ part. part.now) parts.now) failed.old failed.new) (sketch_of s)) }
     ensures err { IfErr result (λ e. RefusesImages (AreUnionArguments lg_max_k width) (map (λ part. part.now) parts.now) failed.old failed.new e) }
 {
+    let bound = lg_k_of_number(lg_max_k)?;
     let width = width_of(width)?;
-    let mut union = UnionBuilder::new(HllUnion::new(alloc, lg_max_k)?, alloc);
+    let mut union = UnionBuilder::new(HllUnion::new(alloc, bound)?, alloc);
     merge_in_parts(&mut union, parts, failed)?;
     read_out(union, width)
 }
@@ -342,38 +338,50 @@ fn merge_in(
 }
 
 /// The sketch folded to an `lg_k`.
-pub(crate) fn folded(alloc: Global, image: &[u8], lg_k: u8) -> Result<HllSketch, Error>
+pub(crate) fn folded(alloc: Global, image: &[u8], lg_k: u32) -> Result<HllSketch, Error>
     ensures ok { IfOk result (λ s. IsMadeOf image.now (IsFoldOf lg_k) (sketch_of s)) }
     ensures err { IfErr result (λ e. RefusesFold lg_k image.now e) }
 {
-    if lg_k < MIN_LG_K || MAX_LG_K < lg_k {
-        return Err(Error::new(Reason::Argument));
-    }
-    HllSketch::deserialize(alloc, image)?.folded(lg_k)
+    let target = lg_k_of_number(lg_k)?;
+    HllSketch::deserialize(alloc, image)?.folded(target)
 }
 
-/// The image at a width.
-pub(crate) fn converted(alloc: Global, image: &[u8], width: u8) -> Result<Vec<u8>, Error>
+/// The image at the width that a number asks for, which for 0 is its own.
+pub(crate) fn converted(alloc: Global, image: &[u8], width: u32) -> Result<Vec<u8>, Error>
     ensures ok { IfOk result (λ written. IsImageOf (WithFields (IsMadeOf image.now (IsAtWidth width))) written.items) }
-    ensures err { IfErr result (λ e. RefusesWith (IsWidth width) image.now e) }
+    ensures err { IfErr result (λ e. RefusesWith (AsksWidth width) image.now e) }
 {
-    let hll_type = width_of(width)?;
+    let hll_type = asked_width(width, width_in_header(image))?;
     if let Some(written) = coupon_image_at(alloc, hll_type, image)? {
         return Ok(written);
     }
     match register_image_at(alloc, hll_type, image)? {
         Some(written) => Ok(written),
-        None => image_with_fields(sketch_at(alloc, image, width)?),
+        None => image_with_fields(sketch_at(alloc, image, hll_type)?),
     }
 }
 
 /// The sketch at a width.
-fn sketch_at(alloc: Global, image: &[u8], width: u8) -> Result<HllSketch, Error>
-    ensures ok { IfOk result (λ s. IsMadeOf image.now (IsAtWidth width) (sketch_of s)) }
-    ensures err { IfErr result (λ e. RefusesWith (IsWidth width) image.now e) }
+fn sketch_at(alloc: Global, image: &[u8], width: HllType) -> Result<HllSketch, Error>
+    ensures ok { IfOk result (λ s. IsMadeOf image.now (HasWidth width) (sketch_of s)) }
+    ensures err { IfErr result (λ e. RefusesImage image.now e) }
 {
-    let width = width_of(width)?;
     HllSketch::deserialize(alloc, image)?.into_width(width)
+}
+
+/// The width in the header of an image. Of bytes that are no image it is that of their mode byte, or of a 0 where they have
+/// none.
+fn width_in_header(image: &[u8]) -> HllType
+    ensures { result ≡ width_of_bits (width_bits image.now) }
+{
+    if image.len() <= MODE_BYTE {
+        return HllType::Hll4;
+    }
+    match extract_tgt_hll_type(image[MODE_BYTE]) {
+        TGT_HLL4 => HllType::Hll4,
+        TGT_HLL6 => HllType::Hll6,
+        _ => HllType::Hll8,
+    }
 }
 
 /// The sketch with the fields from which a composite estimator computes.

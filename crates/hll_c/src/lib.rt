@@ -3,7 +3,7 @@
 //! each call owes its caller, and docs/MODEL.md, "Calls over images", what the contracts say.
 //!
 //! Each answers 0, the number of a reason (docs/FORMAT.md, "Reasons"), 14 where a buffer is too small, or 15 where what is
-//! joined has fewer registers than the caller; then `size` is the size needed, and `fewer` the other `lg_k`. On every code
+//! joined has fewer registers than the caller; then `size` is the size needed, and `coarser` the other `lg_k`. On every code
 //! but 0 what was borrowed is as it was, but for these two and for `failed`, which is the number of the image that failed a
 //! check, from 0. An `lg_k` is 4 to 21, a width 4, 6 or 8 bits. Arguments out of range are
 //! `Argument`, before any image is read. Registers that are written get the fields of an estimator where their state is
@@ -17,21 +17,27 @@ ghost use Rattle.hll_sketch.specs.EstimatorFields.{SetsFields};
 ghost use Rattle.hll_sketch.specs.Image.{IsReadAs, IsSizeOfImage};
 ghost use Rattle.hll_sketch.specs.Value.{Sketch};
 ghost use Rattle.hll_c.specs.Answers.{Answers, IsImageOf, PutsBytes, Reports, Tests, RefusesArguments, RefusesImage, RefusesInfo, RefusesTested, RefusesWith, RefusesImages};
-ghost use Rattle.hll_c.specs.Batches.{AreEnds, strings};
-ghost use Rattle.hll_c.specs.ByteRegisters.{MergesImageInto, MergesRegistersInto, AddsValues, AddsCoupons, FoldsInPlace, RefusesRegisters, SaysCounts, IsOfBytes, RefusesBytes};
-ghost use Rattle.hll_c.specs.Calls.{AreNewArguments, IsEmptyAt, IsMadeOf, IsFoldOf, RefusesFold, IsWidth, IsAtWidth, IsCleared, AreOfCoupon, HasCoupon, HasValues, AreUnionArguments, IsUnionOf, AreBatchArguments, IsUnionOfBatch, SaysAgreement, PutsCoupons};
-ghost use Rattle.hll_c.specs.Estimates.{SaysEstimate, SaysEstimateOfBytes};
+ghost use Rattle.hll_c.specs.Batches.{AreEnds, strings, AreOfLength, strings_of_length, AreOffsets, strings_between};
+ghost use Rattle.hll_c.specs.ByteRegisters.{HaveValues, MergesImageInto, MergesRegistersInto, AddsValues, AddsStrings, AddsCoupons, FoldsInPlace, RefusesRegisters, SaysCounts, IsOfBytes, RefusesBytes};
+ghost use Rattle.hll_c.specs.Calls.{AreNewArguments, IsEmptyAt, IsMadeOf, IsFoldOf, RefusesFold, AsksWidth, IsWidth, IsAtWidth, IsCleared, AreOfCoupon, HasCoupon, HasValues, AreUnionArguments, IsUnionOf, AreBatchArguments, IsUnionOfBatch, SaysAgreement, PutsCoupons, PutsCouponsOf};
+ghost use Rattle.hll_c.specs.Estimates.{SaysEstimate, SaysEstimateOfBytes, SaysEstimateOfCounts, RefusesCounts};
 ghost use Rattle.hll_c.specs.Info.{SaysInfo, SaysHistogram};
+ghost use Rattle.hll_c.specs.States.{MakesState, AddsToState, IsOfState, SaysEstimateOfState, RefusesState};
+ghost use Rattle.hll_state.specs.Memory.{IsOnlyRead};
 ghost use Rattle.hll_c.specs.declared.estimate.HllEstimate.{HllEstimate};
 ghost use Rattle.hll_c.specs.declared.info.HllInfo.{HllInfo};
 ghost use Rattle.hll_c.specs.declared.info.HllHistogram.{HllHistogram};
 
 mod answer;
+mod arguments;
 mod batch;
 mod byte_registers;
 mod estimate;
+mod fixed;
 mod image;
 mod info;
+mod offsets;
+mod state;
 
 use crate::answer::{code_of, put_bytes, put_image, report};
 use crate::batch::put_coupons;
@@ -106,8 +112,8 @@ pub extern "C" fn hll_image_histogram(
 #[unsafe(no_mangle)]
 pub extern "C" fn hll_image_new(
     alloc: Global,
-    lg_k: u8,
-    width: u8,
+    lg_k: u32,
+    width: u32,
     out: &mut [u8],
     size: &mut usize,
 ) -> u8
@@ -143,7 +149,7 @@ pub extern "C" fn hll_image_add_coupon(
     alloc: Global,
     image: &[u8],
     slot: u32,
-    value: u8,
+    value: u32,
     out: &mut [u8],
     size: &mut usize,
 ) -> u8
@@ -154,13 +160,14 @@ pub extern "C" fn hll_image_add_coupon(
 
 /// The image of the union of two images under a bound of the `lg_k`, at a width.
 ///
-/// Answers `Argument` for a bound or a width out of range, the reason of the first check that the first faulty image fails,
-/// with its number in `failed`, or `Memory`. Takes memory for one of their sketches, the union and the answer.
+/// Answers `Argument` for a bound or a width out of range (a width of 0 too, here and in the calls on more images), the reason
+/// of the first check that the first faulty image fails, with its number in `failed`, or `Memory`. Takes memory for one of
+/// their sketches, the union and the answer.
 #[unsafe(no_mangle)]
 pub extern "C" fn hll_image_merge(
     alloc: Global,
-    lg_max_k: u8,
-    width: u8,
+    lg_max_k: u32,
+    width: u32,
     left: &[u8],
     right: &[u8],
     out: &mut [u8],
@@ -184,8 +191,8 @@ pub extern "C" fn hll_image_merge(
 #[unsafe(no_mangle)]
 pub extern "C" fn hll_images_union(
     alloc: Global,
-    lg_max_k: u8,
-    width: u8,
+    lg_max_k: u32,
+    width: u32,
     images: &[u8],
     ends: &[usize],
     out: &mut [u8],
@@ -206,10 +213,10 @@ pub extern "C" fn hll_images_union(
 ///
 /// Answers as `hll_image_merge`. Takes memory for one sketch at a time, the union and the answer.
 #[unsafe(no_mangle)]
-pub extern "C" fn hll_parts_union(
+pub extern "C" fn hll_images_unionv(
     alloc: Global,
-    lg_max_k: u8,
-    width: u8,
+    lg_max_k: u32,
+    width: u32,
     parts: &[&[u8]],
     out: &mut [u8],
     size: &mut usize,
@@ -232,7 +239,7 @@ pub extern "C" fn hll_parts_union(
 pub extern "C" fn hll_image_fold(
     alloc: Global,
     image: &[u8],
-    lg_k: u8,
+    lg_k: u32,
     out: &mut [u8],
     size: &mut usize,
 ) -> u8
@@ -241,19 +248,19 @@ pub extern "C" fn hll_image_fold(
     put_image(image::folded(alloc, image, lg_k), out, size)
 }
 
-/// The image at a width, with the state of its registers.
+/// The image at a width, with the state of its registers. A width of 0 is the image's own.
 ///
-/// Answers `Argument` for a width that is none, the reason of the first check that the image fails, or `Memory`. Takes memory
+/// Answers `Argument` for a width that is neither one nor 0, the reason of the first check that the image fails, or `Memory`. Takes memory
 /// for its sketch, at another width for one of that, and for the answer.
 #[unsafe(no_mangle)]
 pub extern "C" fn hll_image_convert(
     alloc: Global,
     image: &[u8],
-    width: u8,
+    width: u32,
     out: &mut [u8],
     size: &mut usize,
 ) -> u8
-    ensures { Answers (IsMadeOf image.now (IsAtWidth width)) (RefusesWith (IsWidth width) image.now) out.old out.new size.old size.new result }
+    ensures { Answers (IsMadeOf image.now (IsAtWidth width)) (RefusesWith (AsksWidth width) image.now) out.old out.new size.old size.new result }
 {
     put_bytes(image::converted(alloc, image, width), out, size)
 }
@@ -318,6 +325,38 @@ pub extern "C" fn hll_registers_add(registers: &mut [u8], values: &[u8], ends: &
     byte_registers::add(registers, values, ends)
 }
 
+/// Raises registers of the caller by values of `value_len` bytes each, concatenated in `values`.
+///
+/// Returns `Argument` for a `value_len` that is 0 or does not divide the number of bytes, or a number of registers that is not
+/// 2^`lg_k`. Allocates nothing.
+#[unsafe(no_mangle)]
+pub extern "C" fn hll_registers_add_fixed(
+    registers: &mut [u8],
+    values: &[u8],
+    value_len: usize,
+) -> u8
+    ensures { AddsStrings (AreOfLength (length values.now) value_len) (strings_of_length value_len values.now) registers.old registers.new result }
+{
+    fixed::add(registers, values, value_len)
+}
+
+/// Raises registers of the caller by the values in `values` between one offset and the next.
+///
+/// The offsets are 32 bits with a sign, taken as numbers without one: so a negative one is above 2^31 - 1.
+///
+/// Returns `Argument` where there is no offset, or offsets descend, or one is negative or past the values, or for a number of
+/// registers that is not 2^`lg_k`. Allocates nothing.
+#[unsafe(no_mangle)]
+pub extern "C" fn hll_registers_add_ends32(
+    registers: &mut [u8],
+    values: &[u8],
+    offsets: &[u32],
+) -> u8
+    ensures { AddsStrings (AreOffsets (length values.now) offsets.now) (strings_between offsets.now values.now) registers.old registers.new result }
+{
+    offsets::add(registers, values, offsets)
+}
+
 /// Raises registers of the caller by raw coupons, each of which has a value.
 ///
 /// Answers `Argument` for one without a value, or a number of registers that is not 2^`lg_k`.
@@ -330,7 +369,7 @@ pub extern "C" fn hll_registers_add_coupons(registers: &mut [u8], coupons: &[u32
 
 /// Raises registers of the caller by those of an image of any stage and width, folded to their `lg_k`.
 ///
-/// Answers 15 where the image has registers that are not all 0, and fewer of them; then `fewer` is its `lg_k`. Answers
+/// Answers 15 where the image has registers that are not all 0, and fewer of them; then `coarser` is its `lg_k`. Answers
 /// `Argument` for a number of registers that is not 2^`lg_k`, the reason of the first check that the image fails, or
 /// `Memory`. Takes memory for the exceptions of registers of four bits, and for a table of coupons, but not for coupons that
 /// are 1 to 128, or ascend in a compact image.
@@ -339,26 +378,26 @@ pub extern "C" fn hll_registers_merge(
     alloc: Global,
     registers: &mut [u8],
     image: &[u8],
-    fewer: &mut u8,
+    coarser: &mut u8,
 ) -> u8
-    ensures { MergesImageInto image.now registers.old registers.new fewer.old fewer.new result }
+    ensures { MergesImageInto image.now registers.old registers.new coarser.old coarser.new result }
 {
-    byte_registers::merge(alloc, registers, image, fewer)
+    byte_registers::merge(alloc, registers, image, coarser)
 }
 
 /// Raises registers of the caller by as many others, or by what more of them fold to.
 ///
-/// Answers 15 where the others are not all 0, and fewer; then `fewer` is their `lg_k`. Answers `Argument` for a number of
+/// Answers 15 where the others are not all 0, and fewer; then `coarser` is their `lg_k`. Answers `Argument` for a number of
 /// registers or of others that is not 2^`lg_k`, or `Register` where one of the others is above 63.
 #[unsafe(no_mangle)]
 pub extern "C" fn hll_registers_merge_registers(
     registers: &mut [u8],
     others: &[u8],
-    fewer: &mut u8,
+    coarser: &mut u8,
 ) -> u8
-    ensures { MergesRegistersInto others.now registers.old registers.new fewer.old fewer.new result }
+    ensures { MergesRegistersInto others.now registers.old registers.new coarser.old coarser.new result }
 {
-    byte_registers::merge_others(registers, others, fewer)
+    byte_registers::merge_others(registers, others, coarser)
 }
 
 /// Folds registers of the caller to an `lg_k` of 4 to theirs, at the front of their bytes; the bytes after them stay.
@@ -366,7 +405,7 @@ pub extern "C" fn hll_registers_merge_registers(
 /// Answers `Argument` for another, or a number of registers that is not 2^`lg_k`, or `Register` where one is above 63. Takes
 /// no memory.
 #[unsafe(no_mangle)]
-pub extern "C" fn hll_registers_fold(registers: &mut [u8], to: u8) -> u8
+pub extern "C" fn hll_registers_fold(registers: &mut [u8], to: u32) -> u8
     ensures { FoldsInPlace to registers.old registers.new result }
 {
     byte_registers::fold(registers, to)
@@ -380,6 +419,16 @@ pub extern "C" fn hll_registers_estimate(registers: &[u8], estimate: &mut HllEst
     ensures { Reports HllEstimate (SaysEstimateOfBytes registers.now) (RefusesRegisters registers.now) estimate.old estimate.new result }
 {
     report(estimate::estimate_of_bytes(registers), estimate)
+}
+
+/// The estimate of registers of which so many have each value from 0 to 63, as `hll_estimate` tells it of an image.
+///
+/// Returns `Argument` where the counts don't sum to 2^4 to 2^21, a power of two. Allocates nothing.
+#[unsafe(no_mangle)]
+pub extern "C" fn hll_histogram_estimate(histogram: &HllHistogram, estimate: &mut HllEstimate) -> u8
+    ensures { Reports HllEstimate (SaysEstimateOfCounts histogram.now.counts) (RefusesCounts histogram.now.counts) estimate.old estimate.new result }
+{
+    report(estimate::estimate_of_counts(histogram), estimate)
 }
 
 /// How many registers of the caller have each value from 0 to 63.
@@ -400,7 +449,7 @@ pub extern "C" fn hll_registers_histogram(registers: &[u8], histogram: &mut HllH
 pub extern "C" fn hll_registers_image(
     alloc: Global,
     registers: &[u8],
-    width: u8,
+    width: u32,
     out: &mut [u8],
     size: &mut usize,
 ) -> u8
@@ -426,4 +475,107 @@ pub extern "C" fn hll_coupons(values: &[u8], ends: &[usize], coupons: &mut [u32]
     ensures { PutsCoupons values.now ends.now coupons.old coupons.new result }
 {
     put_coupons(values, ends, coupons)
+}
+
+/// The coupons of values of `value_len` bytes each, concatenated in `values`, at the front of `coupons`.
+///
+/// Returns `Argument` for a `value_len` that is 0 or does not divide the number of bytes, or 14 where there are more values than
+/// `coupons` has room for. Allocates nothing.
+#[unsafe(no_mangle)]
+pub extern "C" fn hll_coupons_fixed(values: &[u8], value_len: usize, coupons: &mut [u32]) -> u8
+    ensures { PutsCouponsOf (AreOfLength (length values.now) value_len) (strings_of_length value_len values.now) coupons.old coupons.new result }
+{
+    fixed::put_coupons(values, value_len, coupons)
+}
+
+/// The coupons of the values in `values` between one offset and the next, at the front of `coupons`.
+///
+/// The offsets are 32 bits with a sign, taken as numbers without one: so a negative one is above 2^31 - 1.
+///
+/// Returns `Argument` where there is no offset, or offsets descend, or one is negative or past the values, or 14 where there are
+/// more values than `coupons` has room for. Allocates nothing.
+#[unsafe(no_mangle)]
+pub extern "C" fn hll_coupons_ends32(values: &[u8], offsets: &[u32], coupons: &mut [u32]) -> u8
+    ensures { PutsCouponsOf (AreOffsets (length values.now) offsets.now) (strings_between offsets.now values.now) coupons.old coupons.new result }
+{
+    offsets::put_coupons(values, offsets, coupons)
+}
+
+/// Makes the state of an empty sketch, in elements of four bytes.
+///
+/// Answers `Argument` for an `lg_k` out of range, or 14 where there are fewer than ten elements. Takes no memory.
+#[unsafe(no_mangle)]
+pub extern "C" fn hll_state_new(lg_k: u32, state: &mut [[u8; 4]]) -> u8
+    ensures { MakesState lg_k state.old state.new result }
+{
+    state::new(lg_k, state)
+}
+
+/// Adds the values that stand in `values` up to each of `ends` to a state.
+///
+/// Answers 14 where there is no room for so many, and then `size` is a number of bytes that are enough; or `Argument` for ends
+/// that descend or go past the values, or elements that are no state. What the state means is then as it was. Takes no memory.
+#[unsafe(no_mangle)]
+pub extern "C" fn hll_state_add(
+    state: &mut [[u8; 4]],
+    size: &mut usize,
+    values: &[u8],
+    ends: &[usize],
+) -> u8
+    ensures { AddsToState (AreEnds (length values.now) ends.now) (map coupon_of_bytes (strings values.now ends.now)) state.old state.new size.old size.new result }
+{
+    state::add(state, values, ends, size)
+}
+
+/// Adds one value to a state, as `hll_state_add`.
+#[unsafe(no_mangle)]
+pub extern "C" fn hll_state_add_value(state: &mut [[u8; 4]], size: &mut usize, value: &[u8]) -> u8
+    ensures { AddsToState (Unit {0}) (coupon_of_bytes value.now ∷ []) state.old state.new size.old size.new result }
+{
+    state::add_value(state, value, size)
+}
+
+/// Adds raw coupons to a state, each of which has a value.
+///
+/// Answers as `hll_state_add`, `Argument` for a coupon without a value. Takes no memory.
+#[unsafe(no_mangle)]
+pub extern "C" fn hll_state_add_coupons(
+    state: &mut [[u8; 4]],
+    size: &mut usize,
+    coupons: &[u32],
+) -> u8
+    ensures { AddsToState (HaveValues coupons.now) coupons.now state.old state.new size.old size.new result }
+{
+    state::add_coupons(state, coupons, size)
+}
+
+/// The image, at a width, of what a state means, its fields set where its estimate state is cleared.
+///
+/// Answers `Argument` for a width that is none, or elements that are no state; `Register` where a register is above 63, which no
+/// call makes; or `Memory`. The bytes of the state may change, and what it means stays. Takes memory for the image, and for
+/// registers those of a sketch.
+#[unsafe(no_mangle)]
+pub extern "C" fn hll_state_image(
+    alloc: Global,
+    state: &mut [[u8; 4]],
+    width: u32,
+    out: &mut [u8],
+    size: &mut usize,
+) -> u8
+    ensures image { Answers (IsOfState width state.old) (RefusesState (IsWidth width) state.old) out.old out.new size.old size.new result }
+    ensures kept { IsOnlyRead state.old state.new }
+{
+    state::put_image(alloc, state, width, out, size)
+}
+
+/// The estimate of what a state means, as `hll_estimate` tells it of an image.
+///
+/// Answers `Argument` for elements that are no state, or `Register` where a register is above 63. The bytes of the state may
+/// change, and what it means stays. Takes no memory.
+#[unsafe(no_mangle)]
+pub extern "C" fn hll_state_estimate(state: &mut [[u8; 4]], estimate: &mut HllEstimate) -> u8
+    ensures estimate { Reports HllEstimate (SaysEstimateOfState state.old) (RefusesState (Unit {0}) state.old) estimate.old estimate.new result }
+    ensures kept { IsOnlyRead state.old state.new }
+{
+    report(state::estimate_of(state), estimate)
 }

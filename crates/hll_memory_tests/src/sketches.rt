@@ -8,6 +8,7 @@ use hll_base::error::Error;
 use hll_base::hll_type::HllType;
 use hll_coupons::coupon::Coupon;
 use hll_sketch::HllSketch;
+use hll_sketch::borrowed_image::BorrowedImage;
 use hll_text::fault::Fault;
 use std::alloc::Global;
 use std::mem;
@@ -59,6 +60,11 @@ fn least_registers<'h>(sketch: &HllSketch<&'h Heap>) -> Result<Vec<u8, &'h Heap>
     sketch.registers_at(lg_k)
 }
 
+/// Whether the sketch of an image is empty.
+fn is_empty_image(heap: &Heap, image: &[u8]) -> Result<bool, Error> {
+    Ok(BorrowedImage::read(heap, image)?.is_empty())
+}
+
 /// The sketch; an empty one is left in its place.
 fn taken<'h>(
     heap: &'h Heap,
@@ -97,6 +103,8 @@ enum SketchCall {
     DeserializeBuckets,
     Check,
     CheckBuckets,
+    Borrow,
+    BorrowBuckets,
     UpdateNew,
     UpdateHeld,
     UpdateValue,
@@ -141,6 +149,8 @@ impl<'h> Trial for SketchTrial<'h> {
             }
             SketchCall::Check => shown(heap, HllSketch::check(heap, image)),
             SketchCall::CheckBuckets => shown(heap, HllSketch::check(heap, whole)),
+            SketchCall::Borrow => shown(heap, is_empty_image(heap, image)),
+            SketchCall::BorrowBuckets => shown(heap, is_empty_image(heap, whole)),
             SketchCall::Queries => {
                 let numbers = (
                     sketch.num_coupons(),
@@ -182,7 +192,7 @@ const STAGES: [(u8, u32, u8, usize); 10] = [
 ];
 
 /// The calls, and the requests of each at these stages, for four bits, for six and for eight.
-const SKETCH_CALLS: [(SketchCall, [[u64; 10]; 3]); 16] = [
+const SKETCH_CALLS: [(SketchCall, [[u64; 10]; 3]); 18] = [
     (
         SketchCall::Clone,
         [
@@ -263,6 +273,18 @@ const SKETCH_CALLS: [(SketchCall, [[u64; 10]; 3]); 16] = [
     (
         SketchCall::CheckBuckets,
         [[0, 0, 0, 0, 0, 0, 0, 2, 2, 6], [0; 10], [0; 10]],
+    ),
+    (
+        SketchCall::Borrow,
+        [[0, 0, 0, 0, 0, 0, 0, 2, 2, 6], [0; 10], [0; 10]],
+    ),
+    (
+        SketchCall::BorrowBuckets,
+        [
+            [0, 0, 0, 1, 1, 1, 0, 2, 2, 6],
+            [0, 0, 0, 1, 1, 1, 0, 0, 0, 0],
+            [0, 0, 0, 1, 1, 1, 0, 0, 0, 0],
+        ],
     ),
     (
         SketchCall::UpdateNew,

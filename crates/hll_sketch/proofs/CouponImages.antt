@@ -1,6 +1,6 @@
 -- SPDX-License-Identifier: Apache-2.0
 -- Images of coupons in order, and the union of two.
-use Rattle.std.proofs.Common.{◌≡◌, ◌≢◌, ℕ, suc, ◌+◌, ◌-◌, ◌/◌, ◌%◌, ◌^◌, ◌<◌, ◌≤◌, [], ◌∷◌, ◌&&◌, true, false, nat_eq, List, length, take, drop, get_or, Option, Some, None, refl, sym, ap, subst, ◌∙◌, arith}
+use Rattle.std.proofs.Common.{◌≡◌, ◌≢◌, ℕ, zero, suc, ◌+◌, ◌-◌, ◌/◌, ◌%◌, ◌^◌, ◌<◌, ◌≤◌, [], ◌∷◌, ◌&&◌, true, false, nat_eq, List, length, take, drop, get_or, Option, Some, None, refl, sym, ap, subst, ◌∙◌, arith}
 use Rattle.std.specs.FinSet.{union, len, len-empty}
 use Rattle.std.specs.Ordering.{nat_cmp}
 use Rattle.std.specs.List.Sorted.{IsStrictlyIncreasing}
@@ -9,7 +9,7 @@ use Rattle.std.proofs.lemmas.List.{take-append-drop}
 use Rattle.hll_base.specs.declared.hll_type.HllType.{HllType}
 use Rattle.hll_base.specs.declared.hll_type.HllType.TheVariants.{Hll8}
 use Rattle.hll_coupons.specs.Pair.{Pairs, set_of}
-use Rattle.hll_coupons.specs.Coupons.{coupon_bytes, IsAscending, WritesAscending}
+use Rattle.hll_coupons.specs.Coupons.{coupon_bytes, AreCoupons, IsAscending, WritesAscending}
 use Rattle.hll_coupons.proofs.Ascending.{len-ascending}
 use Rattle.hll_coupons.proofs.Merging.{count_in_bytes}
 use Rattle.hll_sketch.specs.Adding.{add, content_for, content_with}
@@ -79,6 +79,24 @@ module _ (b order : List ℕ) (of : IsOfCoupons b order) where
       number = number;
     };
   }
+
+  -- the sketch that it is read as, by what its header says
+  pub sketch_said : (h : Header) → h ≡ header_of b → of.sketch ≡ record { lg_k = h.lg_k; width = h.hll_type; content = coupons (set_of order) h.lg_arr }
+  sketch_said h is = λ i. record {
+    lg_k = (coupons_say.0 ∙ sym (ap (λ (i : Header). i.lg_k) is)) i;
+    width = (coupons_have ∙ sym (ap (λ (i : Header). i.hll_type) is)) i;
+    content = (of.content ∙ ap (coupons (set_of order)) (coupons_say.1 ∙ sym (ap (λ (i : Header). i.lg_arr) is))) i;
+  }
+
+  -- its table
+  pub table_said : (h : Header) → h ≡ header_of b → AreBytes b → AreCoupons order → IsLgK h.lg_k × IsTableFor h.lg_k (length order) h.lg_arr × (1 ≤ length order)
+  table_said h is are coupons_are =
+      let legal : IsLegal (record { lg_k = h.lg_k; width = h.hll_type; content = coupons (set_of order) h.lg_arr }) = subst IsLegal (sketch_said h is) (read_is_legal b of.sketch are of.read) in
+      (legal.lg_k, subst (λ n. IsTableFor h.lg_k n h.lg_arr) coupons_are.distinct legal.content.1, positive (length order) (λ none. of.some (coupons_are.distinct ∙ none)))
+    where
+      positive : (n : ℕ) → (n ≡ 0 → ⊥) → 1 ≤ n
+      positive zero some = absurd (some refl)
+      positive (suc n) some = omega arith
 
   -- each sketch that it is read as has the width that its header says
   pub width_in_header : (h : Header) → h ≡ header_of b → (x : Sketch) → IsReadAs b x → x.width ≡ h.hll_type

@@ -2,7 +2,7 @@
 -- The stage of an image says whether its sketch has coupons.
 use Rattle.std.proofs.Common.{◌≡◌, ℕ, ◌<◌, false, List, take, drop, sym, ap, ◌∙◌, arith}
 use Rattle.std.proofs.lemmas.List.{take-append-drop}
-use Rattle.hll_sketch.specs.Image.{stage_bits, HasHeader, Image, IsReadAs, list, set, hll8, hll6, hll4}
+use Rattle.hll_sketch.specs.Image.{stage_bits, HasHeader, IsReadAs, list, set, hll8, hll6, hll4}
 use Rattle.hll_sketch.specs.Value.{Sketch, in_registers}
 use Rattle.hll_sketch.proofs.Images.{same_stage}
 

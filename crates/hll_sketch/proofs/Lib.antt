@@ -6,6 +6,7 @@ pub mod BorrowedCoupons
 pub mod Checks
 pub mod CouponImages
 pub mod Differing
+pub mod Elements
 pub mod Emptiness
 pub mod FaultKinds
 pub mod Faults

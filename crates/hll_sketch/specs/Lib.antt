@@ -2,6 +2,7 @@
 pub mod Adding
 pub mod Agree
 pub mod Borrowed
+pub mod BorrowedImage
 pub mod BorrowedRegisters
 pub mod Checks
 pub mod CouponImages

@@ -391,7 +391,7 @@ fn sorted_image<'a>(bytes: &'a [u8], room: &'a mut [u8; ROOM]) -> Option<Ordered
 /// The image of coupons in this order, four bytes each, whose table has 2^`lg_size` buckets.
 ///
 /// Takes memory in one request. Fails with `Memory`.
-fn coupon_image<A: Allocator>(
+pub fn coupon_image<A: Allocator>(
     alloc: A,
     lg_k: u8,
     hll_type: HllType,

@@ -3,9 +3,11 @@
 #![tactic(auto)]
 
 mod additions;
+pub mod borrowed_image;
 pub mod borrowed_registers;
 mod conversion;
 pub mod coupon_images;
+pub mod coupons_of_image;
 mod folding;
 mod header;
 mod image_check;

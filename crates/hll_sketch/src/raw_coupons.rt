@@ -1,7 +1,7 @@
 // SPDX-License-Identifier: Apache-2.0
 //! The coupons of a compact image, as they lie in its bytes: coupons that ascend, as they are written here, or are few, in any
 //! order. One pass over them shows that they are distinct, without a table or a copy.
-ghost use Rattle.std.specs.Prelude.{◌≡◌, ◌*◌, ◌^◌, ◌-◌, ◌<◌, ◌≤◌, ◌↔◌, [], ◌∷◌, true, false, nat_eq, IsTrue, IfSome, IfNone, OnSome, length};
+ghost use Rattle.std.specs.Prelude.{◌≡◌, ◌*◌, ◌^◌, ◌-◌, ◌<◌, ◌≤◌, ◌↔◌, [], ◌∷◌, true, false, nat_eq, IsTrue, IfSome, IfNone, OnSome, length, map};
 ghost use Rattle.std.specs.FinSet.{contains};
 ghost use Rattle.std.specs.Int.{w32, from_le_bytes};
 ghost use Rattle.std.specs.List.{list_any};
@@ -70,6 +70,14 @@ impl<'a> RawCoupons<'a> {
         ensures { result.now ≡ coupon_bytes (raw_coupons self.now.count self.now.bytes.now) }
     {
         bytes_of_raw_coupons(self.bytes, self.count)
+    }
+
+    /// The raw coupons, as elements of four bytes.
+    pub(crate) fn elements(&self) -> &'a [[u8; 4]]
+        ensures { map (from_le_bytes w32) result.now ≡ raw_coupons self.now.count self.now.bytes.now }
+    {
+        let (elements, _) = self.bytes.as_chunks::<4>();
+        &elements[..self.count]
     }
 
     /// Whether each has a value, and is greater than the one before it.

@@ -100,6 +100,13 @@ impl<A: Allocator> HllSketch<A> {
         &self.mode
     }
 
+    /// Says that the layout is one for the `lg_k`. Does nothing: a caller whose proof needs the invariant calls it.
+    pub fn layout_is_legal(&self)
+        ensures { IsLayoutFor self.now.lg_k self.now.layout }
+    {
+        let _lg_k = self.lg_config_k;
+    }
+
     /// Whether there are no coupons, or registers that are all 0.
     pub fn is_empty(&self) -> bool
         ensures { result ≡ is_empty (sketch_of self.now) }

@@ -1,3 +1,7 @@
 -- SPDX-License-Identifier: Apache-2.0
+pub mod Counter
 pub mod CouponRun
+pub mod Header
+pub mod Memory
+pub mod Merged
 pub mod Registers

@@ -5,6 +5,7 @@ ghost use Rattle.std.specs.List.Sorted.{IsNonDecreasing, IsPermutation};
 ghost use Rattle.hll_state.specs.CouponRun.{raws};
 
 /// Returns the raw coupon of an element.
+#[inline(always)]
 pub(crate) fn get(coupons: &[[u8; 4]], at: usize) -> u32
     requires { at < length coupons.now }
     ensures { result ≡ slice_index (raws coupons.now) at }
@@ -13,6 +14,7 @@ pub(crate) fn get(coupons: &[[u8; 4]], at: usize) -> u32
 }
 
 /// Writes a raw coupon into an element.
+#[inline(always)]
 pub(crate) fn set(coupons: &mut [[u8; 4]], at: usize, raw: u32)
     requires { at < length coupons.old }
     ensures { raws coupons.new ≡ slice_set (raws coupons.old) at raw }

@@ -1,11 +1,21 @@
 // SPDX-License-Identifier: Apache-2.0
-//! Coupons of a counter in memory of the caller: an ascending run, and a tail that is sorted into it.
+//! A counter in memory of the caller: coupons, an ascending run and a tail that is sorted into it, or registers.
 #![tactic(auto)]
 
+mod counter;
 mod elements;
+pub mod header;
+pub mod memory;
 mod merge;
+pub mod merge_coupons;
+pub mod merge_image;
+pub mod merge_registers;
+pub mod merge_state;
+mod merge_table;
 pub mod registers;
 pub mod run;
 mod settle;
+#[cfg(test)]
+mod state_tests;
 #[cfg(test)]
 mod tests;

@@ -1,18 +1,27 @@
 // SPDX-License-Identifier: Apache-2.0
 //! Registers of a counter in borrowed elements: a byte each, four in an element, in ascending slots. No call allocates.
-ghost use Rattle.std.specs.Prelude.{◌≡◌, ◌*◌, ◌+◌, ◌-◌, ◌^◌, ◌<◌, ◌≤◌, [], ◌∷◌, length, slice_index, slice_set, take};
+ghost use Rattle.std.specs.Prelude.{◌≡◌, ◌*◌, ◌+◌, ◌-◌, ◌%◌, ◌^◌, ◌<◌, ◌≤◌, [], ◌∷◌, ◌++◌, drop, length, nat_eq, not, slice_index, slice_set, take};
+ghost use Rattle.std.specs.Cmp.Lexicographic.{pointwise};
 ghost use Rattle.hll_base.specs.Join.{join};
-ghost use Rattle.hll_coupons.specs.Fold.{fold_to};
+ghost use Rattle.hll_coupons.specs.Fold.{fold_to, pairs};
 ghost use Rattle.hll_coupons.specs.Pair.{set_of};
+ghost use Rattle.hll_kernels.specs.Packed.{AreRegisters};
+ghost use Rattle.hll_registers.specs.Store.{IsStored};
 ghost use Rattle.hll_state.specs.CouponRun.{IsRun, members, raws};
 ghost use Rattle.hll_state.specs.Registers.{values};
 
 use crate::elements::move_to_end;
 use crate::run::CouponRun;
 use hll_base::bounds::SLOT_BITS;
-use hll_registers::registers::two_to;
+use hll_kernels::kernels::max_into;
+use hll_registers::folds::max_folds;
+use hll_registers::registers::{Registers, two_to};
+
+/// How many elements are copied to the stack at a time: 2^14 registers.
+const PART: usize = 4096;
 
 /// Returns the register of a slot.
+#[inline(always)]
 fn get(elements: &[[u8; 4]], slot: usize) -> u8
     requires { slot < 4 * length elements.now }
     ensures { result ≡ slice_index (values elements.now) slot }
@@ -21,6 +30,7 @@ fn get(elements: &[[u8; 4]], slot: usize) -> u8
 }
 
 /// Writes the register of a slot.
+#[inline(always)]
 fn set(elements: &mut [[u8; 4]], slot: usize, register: u8)
     requires { slot < 4 * length elements.old }
     ensures { values elements.new ≡ slice_set (values elements.old) slot register }
@@ -28,20 +38,26 @@ fn set(elements: &mut [[u8; 4]], slot: usize, register: u8)
     elements[slot / 4][slot % 4] = register;
 }
 
-/// Raises one register, of the coupon's slot modulo 2^`lg_k`, to the greater of itself and the coupon's value.
+/// Raises one register, of the coupon's slot modulo 2^`lg_k`, to the greater of itself and the coupon's value, and returns
+/// whether it rose.
 ///
 /// There are 2^`lg_k` registers, in a quarter as many elements; `lg_k` is 4 to 21.
-pub fn raise(elements: &mut [[u8; 4]], lg_k: u8, raw: u32)
+#[inline(always)]
+pub fn raise(elements: &mut [[u8; 4]], lg_k: u8, raw: u32) -> bool
     requires least { 4 ≤ lg_k }
     requires most { lg_k ≤ 21 }
     requires size { length elements.old ≡ 2 ^ (lg_k - 2) }
-    ensures { values elements.new ≡ join (values elements.old) (fold_to (set_of (raw ∷ [])) lg_k) }
+    ensures joined { values elements.new ≡ join (values elements.old) (fold_to (set_of (raw ∷ [])) lg_k) }
+    ensures changed { result ≡ not (pointwise nat_eq (values elements.old) (values elements.new)) }
+    ensures small { AreRegisters lg_k (values elements.old) → AreRegisters lg_k (values elements.new) }
 {
     let slot = raw as usize % two_to(lg_k);
     let value = (raw >> SLOT_BITS) as u8;
-    if get(elements, slot) < value {
-        set(elements, slot, value);
+    if get(elements, slot) >= value {
+        return false;
     }
+    set(elements, slot, value);
+    true
 }
 
 /// Raises the registers of coupons in turn.
@@ -49,7 +65,8 @@ fn raise_all(elements: &mut [[u8; 4]], lg_k: u8, coupons: &[[u8; 4]])
     requires least { 4 ≤ lg_k }
     requires most { lg_k ≤ 21 }
     requires size { length elements.old ≡ 2 ^ (lg_k - 2) }
-    ensures { values elements.new ≡ join (values elements.old) (fold_to (set_of (raws coupons.now)) lg_k) }
+    ensures joined { values elements.new ≡ join (values elements.old) (fold_to (set_of (raws coupons.now)) lg_k) }
+    ensures small { AreRegisters lg_k (values elements.old) → AreRegisters lg_k (values elements.new) }
 {
     for coupon in coupons {
         raise(elements, lg_k, u32::from_le_bytes(*coupon));
@@ -59,13 +76,14 @@ fn raise_all(elements: &mut [[u8; 4]], lg_k: u8, coupons: &[[u8; 4]])
 /// Makes registers of the coupons of a run, in place: the first elements hold the 2^`lg_k` registers afterwards.
 ///
 /// The elements have room for the registers and, after them, for the coupons, which are moved there. `lg_k` is 4 to 21. What
-/// the elements after the registers hold afterwards is not said.
+/// the elements after the registers hold afterwards is not said. The registers are 0 to 63, whatever the coupons are.
 pub fn promote(run: CouponRun, elements: &mut [[u8; 4]], lg_k: u8)
     requires run { IsRun run elements.old }
     requires least { 4 ≤ lg_k }
     requires most { lg_k ≤ 21 }
     requires room { 2 ^ (lg_k - 2) + run.used ≤ length elements.old }
-    ensures { values (take (2 ^ (lg_k - 2)) elements.new) ≡ fold_to (members run elements.old) lg_k }
+    ensures folded { values (take (2 ^ (lg_k - 2)) elements.new) ≡ fold_to (members run elements.old) lg_k }
+    ensures small { AreRegisters lg_k (values (take (2 ^ (lg_k - 2)) elements.new)) }
 {
     move_to_end(elements, run.used);
     let end = elements.len() - run.used;
@@ -78,10 +96,155 @@ fn make_registers(elements: &mut [[u8; 4]], lg_k: u8, coupons: &[[u8; 4]])
     requires least { 4 ≤ lg_k }
     requires most { lg_k ≤ 21 }
     requires size { length elements.old ≡ 2 ^ (lg_k - 2) }
-    ensures { values elements.new ≡ fold_to (set_of (raws coupons.now)) lg_k }
+    ensures folded { values elements.new ≡ fold_to (set_of (raws coupons.now)) lg_k }
+    ensures small { AreRegisters lg_k (values elements.new) }
 {
     elements.fill([0; 4]);
     raise_all(elements, lg_k, coupons);
+}
+
+/// Raises 2^`lg_k` registers, in a quarter as many elements, to the greatest of themselves and the source's registers that
+/// fold to them: register s of the source folds to register s modulo 2^`lg_k`.
+///
+/// `lg_k` is 4 to 21, and at most the source's. One pass over the source, in blocks of 2^14 registers or more where small
+/// blocks are expensive. Uses 16 or 32 kilobytes of the stack.
+pub fn max_with<R: Registers>(elements: &mut [[u8; 4]], lg_k: u8, src: &R)
+    requires least { 4 ≤ lg_k }
+    requires most { lg_k ≤ (R.stored src.now).lg_k }
+    requires size { length elements.old ≡ 2 ^ (lg_k - 2) }
+    ensures joined { values elements.new ≡ join (values elements.old) (fold_to (pairs (R.stored src.now).registers) lg_k) }
+    ensures registers { AreRegisters lg_k (values elements.old) → AreRegisters lg_k (values elements.new) }
+{
+    if elements.len() <= PART {
+        max_in_copy(elements, lg_k, src);
+    } else {
+        max_blocks(elements, lg_k, src);
+    }
+}
+
+/// Raises at most 2^14 registers as `max_with` does, in a copy.
+fn max_in_copy<R: Registers>(elements: &mut [[u8; 4]], lg_k: u8, src: &R)
+    requires least { 4 ≤ lg_k }
+    requires few { length elements.old ≤ 4096 }
+    requires most { lg_k ≤ (R.stored src.now).lg_k }
+    requires size { length elements.old ≡ 2 ^ (lg_k - 2) }
+    ensures joined { values elements.new ≡ join (values elements.old) (fold_to (pairs (R.stored src.now).registers) lg_k) }
+    ensures registers { AreRegisters lg_k (values elements.old) → AreRegisters lg_k (values elements.new) }
+{
+    let mut registers = [0; 16384];
+    let copy = &mut registers[..4 * elements.len()];
+    copy.copy_from_slice(elements.as_flattened());
+    max_folds(copy, lg_k, src);
+    write_all(elements, copy);
+}
+
+/// Raises registers as `max_with` does, by one block of the source's registers after the other.
+fn max_blocks<R: Registers>(elements: &mut [[u8; 4]], lg_k: u8, src: &R)
+    requires least { 4 ≤ lg_k }
+    requires most { lg_k ≤ (R.stored src.now).lg_k }
+    requires size { length elements.old ≡ 2 ^ (lg_k - 2) }
+    ensures joined { values elements.new ≡ join (values elements.old) (fold_to (pairs (R.stored src.now).registers) lg_k) }
+    ensures registers { AreRegisters lg_k (values elements.old) → AreRegisters lg_k (values elements.new) }
+{
+    let size = 4 * elements.len();
+    for block in 0..two_to(src.lg_k() - lg_k) {
+        max_from(elements, block * size, src);
+    }
+}
+
+/// Raises registers to those of the source from `first` on, part by part.
+fn max_from<R: Registers>(elements: &mut [[u8; 4]], first: usize, src: &R)
+    requires within { first + 4 * length elements.old ≤ 2 ^ (R.stored src.now).lg_k }
+    requires legal { IsStored (R.stored src.now) }
+    requires aligned { first % 4 ≡ 0 }
+    ensures { values elements.new ≡ join (values elements.old) (take (4 * length elements.old) (drop first (R.stored src.now).registers)) }
+{
+    let mut at = 0;
+    while at < elements.len() {
+        let end = (at + PART).min(elements.len());
+        max_part(&mut elements[at..end], first + 4 * at, src);
+        at = end;
+    }
+}
+
+/// Raises at most 2^14 registers to those of the source from `first` on, in a copy.
+fn max_part<R: Registers>(elements: &mut [[u8; 4]], first: usize, src: &R)
+    requires few { length elements.old ≤ 4096 }
+    requires within { first + 4 * length elements.old ≤ 2 ^ (R.stored src.now).lg_k }
+    requires legal { IsStored (R.stored src.now) }
+    requires aligned { first % 4 ≡ 0 }
+    ensures { values elements.new ≡ join (values elements.old) (take (4 * length elements.old) (drop first (R.stored src.now).registers)) }
+{
+    let mut registers = [0; 16384];
+    let copy = &mut registers[..4 * elements.len()];
+    copy.copy_from_slice(elements.as_flattened());
+    src.max_into(first as u32, copy);
+    write_all(elements, copy);
+}
+
+/// Folds 2^`from` registers, in a quarter as many elements, to 2^`to` at their front: register s folds to register s modulo
+/// 2^`to`, the greatest of those that fold to it.
+///
+/// `to` is 4 or more, and at most `from`, which is at most 21. What the elements after the fold hold afterwards is not said.
+pub fn fold(elements: &mut [[u8; 4]], from: u8, to: u8)
+    requires least { 4 ≤ to }
+    requires within { to ≤ from }
+    requires most { from ≤ 21 }
+    requires size { length elements.old ≡ 2 ^ (from - 2) }
+    ensures { values (take (2 ^ (to - 2)) elements.new) ≡ fold_to (pairs (values elements.old)) to }
+{
+    let (front, after) = elements.split_at_mut(two_to(to - 2));
+    fold_blocks(front, after, from, to);
+}
+
+/// Raises the first 2^`to` of 2^`from` registers to each block of as many after them.
+fn fold_blocks(front: &mut [[u8; 4]], after: &[[u8; 4]], from: u8, to: u8)
+    requires least { 4 ≤ to }
+    requires within { to ≤ from }
+    requires most { from ≤ 21 }
+    requires size { length front.old ≡ 2 ^ (to - 2) }
+    requires all { length (front.old ++ after.now) ≡ 2 ^ (from - 2) }
+    ensures { values front.new ≡ fold_to (pairs (values (front.old ++ after.now))) to }
+{
+    let size = front.len();
+    for block in 0..two_to(from - to) - 1 {
+        max_elements(front, &after[block * size..(block + 1) * size]);
+    }
+}
+
+/// Raises registers to those of as many other elements, part by part.
+fn max_elements(elements: &mut [[u8; 4]], others: &[[u8; 4]])
+    requires { length elements.old ≡ length others.now }
+    ensures { values elements.new ≡ join (values elements.old) (values others.now) }
+{
+    let mut at = 0;
+    while at < elements.len() {
+        let end = (at + PART).min(elements.len());
+        max_few(&mut elements[at..end], &others[at..end]);
+        at = end;
+    }
+}
+
+/// Raises at most 2^14 registers to those of as many other elements, in a copy.
+fn max_few(elements: &mut [[u8; 4]], others: &[[u8; 4]])
+    requires few { length elements.old ≤ 4096 }
+    requires size { length elements.old ≡ length others.now }
+    ensures { values elements.new ≡ join (values elements.old) (values others.now) }
+{
+    let mut registers = [0; 16384];
+    let copy = &mut registers[..4 * elements.len()];
+    copy.copy_from_slice(elements.as_flattened());
+    max_into(copy, others.as_flattened());
+    write_all(elements, copy);
+}
+
+/// Writes all registers.
+fn write_all(elements: &mut [[u8; 4]], registers: &[u8])
+    requires { length registers.now ≡ 4 * length elements.old }
+    ensures { values elements.new ≡ registers.now }
+{
+    let (chunks, _) = registers.as_chunks::<4>();
+    elements.copy_from_slice(chunks);
 }
 
 /// Returns the 2^`lg_k` registers at the front of the elements, a byte each; `lg_k` is 4 to 21.

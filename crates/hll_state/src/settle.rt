@@ -1,20 +1,47 @@
 // SPDX-License-Identifier: Apache-2.0
 //! The tail of a run, sorted into it in place.
-ghost use Rattle.std.specs.Prelude.{◌≡◌, ◌+◌, ◌≤◌, length, take};
+ghost use Rattle.std.specs.Prelude.{◌≡◌, ◌↔◌, ◌+◌, ◌≤◌, IsTrue, length, take};
 ghost use Rattle.std.specs.List.Sorted.{IsStrictlyIncreasing};
 ghost use Rattle.hll_coupons.specs.Coupons.{IsAscending};
 ghost use Rattle.hll_coupons.specs.Pair.{set_of};
 ghost use Rattle.hll_state.specs.CouponRun.{raws};
 
-use crate::elements::sort;
+use crate::elements::{get, sort};
 use crate::merge::{dedup, merge};
 
-/// Sorts the first `used` coupons, of which the first `run` ascend, and returns how many distinct ones there are: these
-/// ascend at the front afterwards.
+/// Sorts the first `used` coupons, of which the first `run` are meant to ascend, and returns how many distinct ones there are:
+/// these ascend at the front afterwards.
 ///
-/// Sorts a copy of the tail in the free elements and merges it with the run, or sorts all where the free elements are fewer
-/// than the tail's.
+/// If the first `run` don't ascend, sorts all.
 pub(crate) fn settle(coupons: &mut [[u8; 4]], run: usize, used: usize) -> usize
+    requires run { run ≤ used }
+    requires used { used ≤ length coupons.old }
+    ensures within { result ≤ used }
+    ensures ascending { IsAscending (take result (raws coupons.new)) (set_of (take used (raws coupons.old))) }
+{
+    if !ascends(&coupons[..run]) {
+        return sort_all(&mut coupons[..used]);
+    }
+    if run == used {
+        return used;
+    }
+    settle_tail(coupons, run, used)
+}
+
+/// Whether each coupon is less than the next one. One pass over all of them, which the compiler can vectorise.
+fn ascends(coupons: &[[u8; 4]]) -> bool
+    ensures { IsTrue result ↔ IsStrictlyIncreasing (raws coupons.now) }
+{
+    let mut ascends = true;
+    for i in 1..coupons.len() {
+        ascends &= get(coupons, i - 1) < get(coupons, i);
+    }
+    ascends
+}
+
+/// Sorts a copy of the tail in the free elements and merges it with the run, which ascends, or sorts all where the free
+/// elements are fewer than the tail's.
+fn settle_tail(coupons: &mut [[u8; 4]], run: usize, used: usize) -> usize
     requires run { run ≤ used }
     requires used { used ≤ length coupons.old }
     requires ascends { IsStrictlyIncreasing (take run (raws coupons.old)) }

@@ -1,14 +1,22 @@
 // SPDX-License-Identifier: Apache-2.0
-//! Runs compared with sorted vectors: distinct and repeated coupons, full slices, and runs that are merged. Registers of few
-//! coupons.
-ghost use Rattle.std.specs.Prelude.{◌≡◌, ◌≤◌, ℕ, List, length, take};
+//! Runs compared with sorted vectors: distinct and repeated coupons, full slices, runs that are merged, and elements that no
+//! call wrote. Registers of few coupons, raised by sources of each width, and folded.
+ghost use Rattle.std.specs.Prelude.{◌≡◌, ◌↔◌, ◌-◌, ◌^◌, ◌≤◌, ℕ, All, IsTrue, List, length, take};
 ghost use Rattle.std.specs.List.Sorted.{IsStrictlyIncreasing};
 ghost use Rattle.hll_coupons.specs.Pair.{IsPair};
+ghost use Rattle.hll_kernels.specs.Groups.{IsGroup};
 ghost use Rattle.hll_state.specs.CouponRun.{IsRun, raws};
 
-use crate::registers::{as_bytes, promote, raise};
+use crate::registers::{as_bytes, fold, max_with, promote, raise};
 use crate::run::CouponRun;
 use hll_coupons::coupon::Coupon;
+use hll_kernels::groups::pack_groups;
+use hll_kernels::nibbles::packed_nibbles;
+use hll_registers::exception_map::Exceptions;
+use hll_registers::group_slice::GroupSlice;
+use hll_registers::nibble_slice::{NibbleSlice, Use};
+use hll_registers::register_slice::RegisterSlice;
+use hll_registers::registers::two_to;
 use std::alloc::{AllocError, Global};
 use std::test::Fail;
 
@@ -32,6 +40,21 @@ fn raw_coupon(source: Source, index: u32) -> u32
     coupon.raw()
 }
 
+/// Pushes a coupon, after a settle where all elements are in use, and returns whether there was room.
+fn push_where_free(run: &mut CouponRun, coupons: &mut [[u8; 4]], raw: u32) -> bool
+    requires { IsRun run.old coupons.old }
+    ensures run { IsRun run.new coupons.new }
+{
+    if run.used == coupons.len() {
+        run.settle(coupons);
+    }
+    if run.used == coupons.len() {
+        return false;
+    }
+    run.push(coupons, raw);
+    true
+}
+
 /// Pushes the first `count` coupons, and returns how many of them found room.
 fn push_all(run: &mut CouponRun, coupons: &mut [[u8; 4]], source: Source, count: u32) -> u32
     requires { IsRun run.old coupons.old }
@@ -39,17 +62,14 @@ fn push_all(run: &mut CouponRun, coupons: &mut [[u8; 4]], source: Source, count:
 {
     let mut pushed = 0u32;
     for index in 0..count {
-        pushed = pushed.wrapping_add(u32::from(run.push(coupons, raw_coupon(source, index))));
+        let has_room = push_where_free(run, coupons, raw_coupon(source, index));
+        pushed = pushed.wrapping_add(u32::from(has_room));
     }
     pushed
 }
 
-/// The bytes of the distinct ones of the first `count` coupons, in ascending order.
-fn expected(alloc: Global, source: Source, count: u32) -> Result<Vec<u8>, AllocError> {
-    let mut raw_coupons = Vec::new(alloc);
-    for index in 0..count {
-        raw_coupons.push(raw_coupon(source, index))?;
-    }
+/// The bytes of the distinct ones of raw coupons, in ascending order.
+fn sorted_bytes(alloc: Global, mut raw_coupons: Vec<u32>) -> Result<Vec<u8>, AllocError> {
     raw_coupons.sort_unstable();
     raw_coupons.dedup();
     let mut bytes = Vec::new(alloc);
@@ -59,13 +79,28 @@ fn expected(alloc: Global, source: Source, count: u32) -> Result<Vec<u8>, AllocE
     Ok(bytes)
 }
 
+/// Appends the first `count` coupons.
+fn append_all(raw_coupons: &mut Vec<u32>, source: Source, count: u32) -> Result<(), AllocError> {
+    for index in 0..count {
+        raw_coupons.push(raw_coupon(source, index))?;
+    }
+    Ok(())
+}
+
+/// The bytes of the distinct ones of the first `count` coupons, in ascending order.
+fn expected(alloc: Global, source: Source, count: u32) -> Result<Vec<u8>, AllocError> {
+    let mut raw_coupons = Vec::new(alloc);
+    append_all(&mut raw_coupons, source, count)?;
+    sorted_bytes(alloc, raw_coupons)
+}
+
 /// Whether a run holds these coupons, as many as there are.
 fn holds(run: &mut CouponRun, coupons: &mut [[u8; 4]], bytes: &[u8]) -> bool
     requires { IsRun run.old coupons.old }
     ensures run { IsRun run.new coupons.new }
 {
-    let count = run.count(coupons);
-    run.as_bytes(coupons) == bytes && count == bytes.len() / 4
+    run.settle(coupons);
+    run.as_bytes(coupons) == bytes && run.used == bytes.len() / 4
 }
 
 /// The run of the first `count` coupons in these elements, whatever they held.
@@ -77,7 +112,7 @@ fn run_of(coupons: &mut [[u8; 4]], source: Source, count: u32) -> CouponRun
     run
 }
 
-/// Adds the coupons of another run to a run, and returns whether there was room.
+/// Adds the coupons of another run, which is settled, to a run, and returns whether there was room after a settle.
 fn extend(
     run: &mut CouponRun,
     coupons: &mut [[u8; 4]],
@@ -86,18 +121,15 @@ fn extend(
 ) -> bool
     requires run { IsRun run.old coupons.old }
     requires other { IsRun other others.now }
-    requires settled { other.run ≡ other.used }
+    requires ascends { IsStrictlyIncreasing (take other.used (raws others.now)) }
     ensures run { IsRun run.new coupons.new }
 {
-    run.extend_ascending(coupons, &others[..other.used])
-}
-
-/// The run of the elements of a run that is settled, from their number alone.
-fn read_again(run: CouponRun, coupons: &[[u8; 4]]) -> CouponRun
-    requires run { IsRun run coupons.now }
-    requires settled { run.run ≡ run.used }
-{
-    CouponRun::from_ascending(coupons, run.used)
+    run.settle(coupons);
+    if coupons.len() - run.used < other.used {
+        return false;
+    }
+    run.extend_ascending(coupons, &others[..other.used]);
+    true
 }
 
 /// Whether `count` pushes into a slice of `room` elements give a run of the distinct coupons.
@@ -141,7 +173,8 @@ fn full_slices(rt: HostRuntime) -> Result<(), Fail> {
 #[test]
 fn no_elements(rt: HostRuntime) -> Result<(), Fail> {
     let mut run = run_of(&mut [], Source::Distinct, 3);
-    assert_eq!(rt; run.count(&mut []), 0);
+    run.settle(&mut []);
+    assert_eq!(rt; run, CouponRun::new());
     Ok(())
 }
 
@@ -156,11 +189,10 @@ fn is_extended(alloc: Global, room: usize) -> Result<bool, AllocError> {
     let mut few = run_of(&mut others, Source::OnePath, 10);
     few.settle(&mut others);
     let extended_again = extend(&mut run, &mut coupons, few, &others);
-    let mut both = vec![in alloc; [0xff; 4]; 200]?;
-    let mut both_run = run_of(&mut both, Source::OnePath, 50);
-    push_all(&mut both_run, &mut both, Source::Distinct, 60);
-    both_run.settle(&mut both);
-    let held = holds(&mut run, &mut coupons, both_run.as_bytes(&both));
+    let mut both = Vec::new(alloc);
+    append_all(&mut both, Source::OnePath, 50)?;
+    append_all(&mut both, Source::Distinct, 60)?;
+    let held = holds(&mut run, &mut coupons, &sorted_bytes(alloc, both)?);
     Ok(extended && extended_again && held)
 }
 
@@ -175,12 +207,96 @@ fn extensions(rt: HostRuntime) -> Result<(), Fail> {
     Ok(())
 }
 
+/// What elements hold that no call wrote.
+#[derive(Clone, Copy, Debug)]
+enum Garbage {
+    Zeros,
+    Ascending,
+    LastTwoSwapped,
+    Descending,
+    Random,
+}
+
+/// The number that an element holds, at an index of 100.
+fn garbage_at(garbage: Garbage, index: u32) -> u32 {
+    match garbage {
+        Garbage::Zeros => 0,
+        Garbage::Ascending => index,
+        Garbage::LastTwoSwapped if index >= 98 => 197u32.wrapping_sub(index),
+        Garbage::LastTwoSwapped => index,
+        Garbage::Descending => !index,
+        Garbage::Random => index.wrapping_mul(0x9e37_79b9),
+    }
+}
+
+/// Whether a run that says that the first `run` of 100 elements ascend, of which no call wrote any, holds all of them and the
+/// first 40 coupons once these are pushed, in 200 elements.
+fn is_sorted_out(alloc: Global, garbage: Garbage, run: usize) -> Result<bool, AllocError> {
+    let mut coupons = vec![in alloc; [0xff; 4]; 200]?;
+    let mut raw_coupons = Vec::new(alloc);
+    for index in 0..100 {
+        let raw = garbage_at(garbage, index);
+        coupons[index as usize] = raw.to_le_bytes();
+        raw_coupons.push(raw)?;
+    }
+    append_all(&mut raw_coupons, Source::Distinct, 40)?;
+    let bytes = sorted_bytes(alloc, raw_coupons)?;
+    let mut run = CouponRun {
+        run: run.min(100),
+        used: 100,
+    };
+    push_all(&mut run, &mut coupons, Source::Distinct, 40);
+    Ok(holds(&mut run, &mut coupons, &bytes))
+}
+
+#[test]
+fn untrusted_elements(rt: HostRuntime) -> Result<(), Fail> {
+    for garbage in [
+        Garbage::Zeros,
+        Garbage::Ascending,
+        Garbage::LastTwoSwapped,
+        Garbage::Descending,
+        Garbage::Random,
+    ] {
+        for run in [0, 1, 2, 50, 99, 100] {
+            assert!(rt;
+                is_sorted_out(rt.alloc(), garbage, run)?,
+                "{garbage:?} {run}"
+            );
+        }
+    }
+    Ok(())
+}
+
+/// A run of three elements that descend, extended by two coupons.
+#[test]
+fn untrusted_run_is_extended(rt: HostRuntime) -> Result<(), Fail> {
+    let mut coupons = vec![in rt.alloc(); [0xff; 4]; 5]?;
+    coupons[..3].copy_from_slice(&[[9, 0, 0, 4], [7, 0, 0, 4], [7, 0, 0, 4]]);
+    let mut others = vec![in rt.alloc(); [0xff; 4]; 2]?;
+    let mut other = CouponRun::new();
+    push_where_free(&mut other, &mut others, (1 << 26) + 9);
+    push_where_free(&mut other, &mut others, (1 << 26) + 5);
+    other.settle(&mut others);
+    let mut run = CouponRun { run: 3, used: 3 };
+    assert!(rt; extend(&mut run, &mut coupons, other, &others));
+    let expected = [5, 0, 0, 4, 7, 0, 0, 4, 9, 0, 0, 4];
+    assert!(rt; holds(&mut run, &mut coupons, &expected));
+    Ok(())
+}
+
+/// A settle that finds an ascending run and no tail writes nothing.
 #[test]
 fn settled_elements(rt: HostRuntime) -> Result<(), Fail> {
     let mut coupons = vec![in rt.alloc(); [0xff; 4]; 100]?;
     let mut run = run_of(&mut coupons, Source::Distinct, 60);
     run.settle(&mut coupons);
-    assert_eq!(rt; read_again(run, &coupons), run);
+    let settled = run;
+    let mut again = vec![in rt.alloc(); [0xff; 4]; 100]?;
+    again.copy_from_slice(&coupons);
+    run.settle(&mut again);
+    assert_eq!(rt; run, settled);
+    assert!(rt; again == coupons);
     Ok(())
 }
 
@@ -188,9 +304,10 @@ fn settled_elements(rt: HostRuntime) -> Result<(), Fail> {
 #[test]
 fn raised_registers(rt: HostRuntime) -> Result<(), Fail> {
     let mut elements = [[0; 4]; 4];
-    raise(&mut elements, 4, (7 << 26) + 35);
-    raise(&mut elements, 4, (5 << 26) + 3);
-    raise(&mut elements, 4, (63 << 26) + 15);
+    assert!(rt; raise(&mut elements, 4, (7 << 26) + 35));
+    assert!(rt; !raise(&mut elements, 4, (5 << 26) + 3));
+    assert!(rt; raise(&mut elements, 4, (63 << 26) + 15));
+    assert!(rt; !raise(&mut elements, 4, (63 << 26) + 15));
     let expected = [0, 0, 0, 7, 0, 0, 0, 0, 0, 0, 0, 0, 0, 0, 0, 63];
     assert!(rt; as_bytes(&elements, 4) == expected.as_slice());
     Ok(())
@@ -216,5 +333,210 @@ fn promoted_runs(rt: HostRuntime) -> Result<(), Fail> {
     let mut registers = vec![in rt.alloc(); [0; 4]; 16]?;
     raise_each(&mut registers, 60);
     assert!(rt; as_bytes(&elements, 6) == as_bytes(&registers, 6));
+    Ok(())
+}
+
+/// How the registers of a source are stored.
+#[derive(Clone, Copy, Debug)]
+enum Width {
+    FourBits,
+    SixBits,
+    EightBits,
+}
+
+/// A register of 0 to 14, by its slot and the seed of all registers.
+fn register_at(seed: usize, slot: usize) -> u8 {
+    ((slot.wrapping_mul(0x9e37_79b9).wrapping_add(seed) >> 24) % 15) as u8
+}
+
+/// Writes registers by their slots and a seed.
+fn write_registers(elements: &mut [[u8; 4]], seed: usize) {
+    for index in 0..elements.len() {
+        let slot = 4 * index;
+        elements[index] = [
+            register_at(seed, slot),
+            register_at(seed, slot + 1),
+            register_at(seed, slot + 2),
+            register_at(seed, slot + 3),
+        ];
+    }
+}
+
+/// Raises registers to those that fold to them, one by one.
+fn raise_plainly(registers: &mut [u8], source: &[u8]) {
+    let size = registers.len();
+    if size == 0 {
+        return;
+    }
+    for slot in 0..source.len() {
+        registers[slot % size] = registers[slot % size].max(source[slot]);
+    }
+}
+
+fn are_small(registers: &[u8]) -> bool
+    ensures { IsTrue result ↔ All (λ v. v ≤ 63) registers.now }
+{
+    registers.iter().all(|register| *register <= 63)
+}
+
+/// Raises registers to those of a source of bytes, and returns whether these are legal.
+fn raise_by_bytes(elements: &mut [[u8; 4]], lg_k: u8, from: u8, registers: &[u8]) -> bool
+    requires least { 4 ≤ lg_k }
+    requires within { lg_k ≤ from }
+    requires most { from ≤ 21 }
+    requires size { length elements.old ≡ 2 ^ (lg_k - 2) }
+{
+    if registers.len() != two_to(from) || !are_small(registers) {
+        return false;
+    }
+    max_with(elements, lg_k, &RegisterSlice::new(from, registers));
+    true
+}
+
+/// Raises registers to those of a source of groups, and returns whether these are legal.
+fn raise_by_groups(elements: &mut [[u8; 4]], lg_k: u8, from: u8, groups: &[[u8; 3]]) -> bool
+    requires least { 4 ≤ lg_k }
+    requires within { lg_k ≤ from }
+    requires most { from ≤ 21 }
+    requires size { length elements.old ≡ 2 ^ (lg_k - 2) }
+    requires groups { All IsGroup groups.now }
+{
+    if groups.len() != two_to(from - 2) {
+        return false;
+    }
+    max_with(elements, lg_k, &GroupSlice::new(from, groups));
+    true
+}
+
+/// Raises registers to those of a source of nibbles, and returns whether these are legal.
+fn raise_by_nibbles(
+    alloc: Global,
+    elements: &mut [[u8; 4]],
+    lg_k: u8,
+    from: u8,
+    nibbles: &[u8],
+) -> bool
+    requires least { 4 ≤ lg_k }
+    requires within { lg_k ≤ from }
+    requires most { from ≤ 21 }
+    requires size { length elements.old ≡ 2 ^ (lg_k - 2) }
+{
+    if nibbles.len() != two_to(from - 1) {
+        return false;
+    }
+    let exceptions: Exceptions<Global> = None;
+    match NibbleSlice::from_parts(from, 0, nibbles, exceptions, Use::Join) {
+        Ok(source) => {
+            max_with(elements, lg_k, &source);
+            true
+        }
+        Err(_) => false,
+    }
+}
+
+/// Raises registers to those of a source that is made of bytes, and returns whether these are legal.
+fn raise_by(
+    alloc: Global,
+    elements: &mut [[u8; 4]],
+    lg_k: u8,
+    from: u8,
+    width: Width,
+    registers: &[u8],
+) -> Result<bool, AllocError>
+    requires least { 4 ≤ lg_k }
+    requires within { lg_k ≤ from }
+    requires most { from ≤ 21 }
+    requires size { length elements.old ≡ 2 ^ (lg_k - 2) }
+{
+    if registers.len() % 4 != 0 || !are_small(registers) {
+        return Ok(false);
+    }
+    Ok(match width {
+        Width::EightBits => raise_by_bytes(elements, lg_k, from, registers),
+        Width::SixBits => {
+            let groups = pack_groups(alloc, registers)?;
+            raise_by_groups(elements, lg_k, from, &groups)
+        }
+        Width::FourBits => {
+            let nibbles = packed_nibbles(alloc, registers, 0)?;
+            raise_by_nibbles(alloc, elements, lg_k, from, &nibbles)
+        }
+    })
+}
+
+/// Whether 2^`lg_k` registers are raised to those of a source of 2^`from`, as they are one by one.
+fn is_joined(alloc: Global, width: Width, lg_k: u8, from: u8) -> Result<bool, AllocError> {
+    if lg_k < 4 || lg_k > from || from > 21 {
+        return Ok(false);
+    }
+    let mut source = vec![in alloc; [0; 4]; two_to(from - 2)]?;
+    write_registers(&mut source, 1 << 30);
+    let mut elements = vec![in alloc; [0; 4]; two_to(lg_k - 2)]?;
+    write_registers(&mut elements, 0);
+    let mut expected = vec![in alloc; 0; two_to(lg_k)]?;
+    raise_plainly(&mut expected, elements.as_flattened());
+    raise_plainly(&mut expected, source.as_flattened());
+    let is_legal = raise_by(
+        alloc,
+        &mut elements,
+        lg_k,
+        from,
+        width,
+        source.as_flattened(),
+    )?;
+    Ok(is_legal && as_bytes(&elements, lg_k) == expected.as_slice())
+}
+
+/// Blocks of fewer than 2^14 registers, of as many, and of more; with the source's `lg_k`, and with smaller ones.
+#[test]
+fn joined_registers(rt: HostRuntime) -> Result<(), Fail> {
+    for width in [Width::FourBits, Width::SixBits, Width::EightBits] {
+        for (lg_k, from) in [
+            (4, 4),
+            (4, 5),
+            (4, 15),
+            (10, 12),
+            (13, 13),
+            (14, 14),
+            (14, 16),
+            (15, 15),
+            (15, 16),
+            (16, 18),
+        ] {
+            assert!(rt;
+                is_joined(rt.alloc(), width, lg_k, from)?,
+                "{width:?} {lg_k} {from}"
+            );
+        }
+    }
+    Ok(())
+}
+
+/// Whether 2^`from` registers fold to 2^`to` as they do one by one.
+fn is_folded(alloc: Global, from: u8, to: u8) -> Result<bool, AllocError> {
+    if to < 4 || to > from || from > 21 {
+        return Ok(false);
+    }
+    let mut elements = vec![in alloc; [0; 4]; two_to(from - 2)]?;
+    write_registers(&mut elements, 7 << 20);
+    let mut expected = vec![in alloc; 0; two_to(to)]?;
+    raise_plainly(&mut expected, elements.as_flattened());
+    fold(&mut elements, from, to);
+    Ok(elements.len() >= two_to(to - 2) && as_bytes(&elements, to) == expected.as_slice())
+}
+
+#[test]
+fn folded_registers(rt: HostRuntime) -> Result<(), Fail> {
+    for (from, to) in [
+        (4, 4),
+        (5, 4),
+        (12, 4),
+        (14, 14),
+        (15, 14),
+        (16, 15),
+        (18, 16),
+    ] {
+        assert!(rt; is_folded(rt.alloc(), from, to)?, "{from} {to}");
+    }
     Ok(())
 }

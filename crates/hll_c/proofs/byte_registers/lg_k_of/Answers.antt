@@ -1,29 +1,13 @@
 -- SPDX-License-Identifier: Apache-2.0
-use Rattle.std.proofs.Common.{length, sym, ◌∙◌, arith, inl, inr}
-use Rattle.hll_c.proofs.Powers.{top_of, few_or_many, no_power, its_power}
+use Rattle.std.proofs.lemmas.Result.{IfOk-weaker, IfErr-weaker}
+use Rattle.hll_base.specs.declared.error.Reason.TheVariants.{Argument}
+use Rattle.std.proofs.Common.{◌≡◌}
+use Rattle.hll_c.specs.ByteRegisters.{IsLgKOf, HasLgK}
 use Rattle.hll_c.proofs.byte_registers.lg_k_of.Goals as goal
-use Rattle.hll_c.proofs.byte_registers.lg_k_of.Goals.{then-count-two_to-via-then-count-two_to, then-count-two_to-via-else-count-two_to+then-two_to-count}
-
-pub returns-then-count-two_to-clause-err : goal.returns-then-count-two_to-clause-err
-returns-then-count-two_to-clause-err c = (
-  c.new.ensures,
-  few_or_many c.args.registers.now (elim c.then-count-two_to.branch [
-    | then-count-two_to-via-then-count-two_to w ↦ inl (omega (arith, w.if-count-two_to.true, c.two_to.ensures))
-    | then-count-two_to-via-else-count-two_to+then-two_to-count w ↦ inr (omega (arith, w.if-two_to-count.true, w.two_to-else-count-two_to.ensures))
-  ]),
-)
-
-pub two_to-requires-2 : goal.two_to-requires-2
-two_to-requires-2 c =
-    let top = top_of (length c.args.registers.now) (omega (arith, c.if-count-two_to.false, c.two_to.ensures)) (omega (arith, c.if-two_to-count.false, c.two_to-else-count-two_to.ensures)) in
-    top.high
-
-pub returns-then-two_to-count-2-clause-err : goal.returns-then-two_to-count-2-clause-err
-returns-then-two_to-count-2-clause-err c =
-    let top = top_of (length c.args.registers.now) (omega (arith, c.if-count-two_to.false, c.two_to.ensures)) (omega (arith, c.if-two_to-count.false, c.two_to-else-count-two_to.ensures)) in
-    (c.new-then-two_to-count-2.ensures, no_power c.args.registers.now _ top (λ is. c.if-two_to-count-2.true (c.two_to-2.ensures ∙ is)))
 
 pub returns-clause-ok : goal.returns-clause-ok
-returns-clause-ok c =
-    let top = top_of (length c.args.registers.now) (omega (arith, c.if-count-two_to.false, c.two_to.ensures)) (omega (arith, c.if-two_to-count.false, c.two_to-else-count-two_to.ensures)) in
-    its_power c.args.registers.now _ top (sym c.two_to-2.ensures ∙ c.if-two_to-count-2.false)
+returns-clause-ok c = IfOk-weaker c.lg_k_of_count.result _ (IsLgKOf c.args.registers.now) (λ k is. record { is = is.0; size = is.1 }) c.lg_k_of_count.ensures.ok
+
+pub returns-clause-err : goal.returns-clause-err
+returns-clause-err c =
+    IfErr-weaker c.lg_k_of_count.result _ (λ e. (e ≡ Argument) × (HasLgK c.args.registers.now → ⊥)) (λ e no. (no.0, λ has. no.1 has.lg_k has.of.is has.of.size)) c.lg_k_of_count.ensures.err

@@ -4,7 +4,7 @@ use Rattle.hll_base.specs.Reason.{number_of}
 use Rattle.hll_base.specs.declared.error.Reason.TheVariants.{Argument, Memory}
 use Rattle.hll_sketch.specs.ByteRegisters.{TakesMaxWithImage}
 use Rattle.hll_c.specs.Answers.{argument_with_image, image_refused}
-use Rattle.hll_c.specs.ByteRegisters.{MergesImageInto, joined, fewer, refused}
+use Rattle.hll_c.specs.ByteRegisters.{MergesImageInto, joined, coarser, refused}
 use Rattle.hll_c.proofs.Images.{refuses_image}
 use Rattle.hll_c.proofs.byte_registers.merge.Goals as goal
 
@@ -13,7 +13,7 @@ no_memory same = let other : 12 ≡ 13 = ap number_of same in omega (arith, othe
 
 pub returns-in_default : goal.returns-in_default
 returns-in_default c =
-    subst (MergesImageInto c.args.image.now c.args.registers.now c.args.registers.now c.args.fewer.now c.args.fewer.now) (sym c.number.ensures)
+    subst (MergesImageInto c.args.image.now c.args.registers.now c.args.registers.now c.args.coarser.now c.args.coarser.now) (sym c.number.ensures)
     (refused (argument_with_image c.in_default.ensures.err.1) (λ same. absurd (no_memory same)) refl refl)
 
 pub returns-in-Ok-None : goal.returns-in-Ok-None
@@ -22,10 +22,10 @@ returns-in-Ok-None c =
 
 pub returns-in-Ok-Some : goal.returns-in-Ok-Some
 returns-in-Ok-Some c =
-    fewer c.in-Ok.ensures.ok (subst (TakesMaxWithImage c.in-Ok.lg_k c.args.image.now c.args.registers.now c.merge_image.new.registers) c.in-Ok-Some.field-0-is c.in-Ok-Some.ensures.ok) refl
+    coarser c.in-Ok.ensures.ok (subst (TakesMaxWithImage c.in-Ok.lg_k c.args.image.now c.args.registers.now c.merge_image.new.registers) c.in-Ok-Some.field-0-is c.in-Ok-Some.ensures.ok) refl
 
 pub returns-in-Err : goal.returns-in-Err
 returns-in-Err c =
     let says = c.in-Err.ensures in
-    subst (MergesImageInto c.args.image.now c.args.registers.now c.merge_image.new.registers c.args.fewer.now c.args.fewer.now) (sym (c.number-in-Err.ensures ∙ ap number_of c.reason.ensures))
+    subst (MergesImageInto c.args.image.now c.args.registers.now c.merge_image.new.registers c.args.coarser.now c.args.coarser.now) (sym (c.number-in-Err.ensures ∙ ap number_of c.reason.ensures))
     (refused (image_refused (record { lg_k = c.in-Ok.lg_k; of = c.in-Ok.ensures.ok }) (refuses_image c.args.image.now c.in-Err.e says.err.first says.err.asked)) says.needed says.unchanged refl)

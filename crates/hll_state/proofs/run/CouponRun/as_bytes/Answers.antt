@@ -1,7 +1,6 @@
 -- SPDX-License-Identifier: Apache-2.0
 use Rattle.std.proofs.Common.{◌≡◌, ◌<◌, ℕ, List, [], length, take, get_or, subst, sym, ap, ◌∙◌, refl, arith}
 use Rattle.std.specs.Int.{w32, from_le_bytes}
-use Rattle.std.specs.List.Sorted.{IsStrictlyIncreasing}
 use Rattle.std.proofs.lemmas.List.{length-take-le, get_or-take, take-map}
 use Rattle.hll_coupons.specs.Coupons.{IsAscending, raw_coupons}
 use Rattle.hll_state.specs.CouponRun.{members, raws}
@@ -19,7 +18,7 @@ returns-clause-ascending c =
     let read : raw_coupons used c.as_flattened-bytes.result.now ≡ take used (raws coupons) =
     (λ i. raw_coupons (sym size i) (c.as_flattened-bytes.ensures.value i)) ∙ raw_coupons-flat_map front four ∙ sym (take-map (from_le_bytes w32) used coupons) in
     subst (λ raws. IsAscending raws (members c.args.self.now coupons)) (sym read)
-    (record { increasing = subst (λ n. IsStrictlyIncreasing (take n (raws coupons))) c.requires.settled c.requires.run.ascends; members = refl })
+    (record { increasing = c.requires.ascends; members = refl })
 
 pub returns-clause-written : goal.returns-clause-written
 returns-clause-written c = record {

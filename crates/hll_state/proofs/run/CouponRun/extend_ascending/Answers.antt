@@ -2,12 +2,10 @@
 use Rattle.std.proofs.Common.{◌≡◌, ◌+◌, ◌≤◌, ℕ, List, ◌++◌, length, take, drop, subst, sym, ap, ◌∙◌, arith}
 use Rattle.std.specs.FinSet.{union}
 use Rattle.std.specs.List.Sorted.{IsStrictlyIncreasing}
-use Rattle.std.proofs.lemmas.List.{length-append}
 use Rattle.hll_coupons.specs.Coupons.{IsAscending}
 use Rattle.hll_coupons.specs.Pair.{Pairs, set_of}
 use Rattle.hll_state.specs.CouponRun.{members, raws}
 use Rattle.hll_state.proofs.Raws.{take-raws_take, take-raws_append}
-use Rattle.hll_state.proofs.Runs.{run-settled, pairs-union, pairs-list}
 use Rattle.hll_state.proofs.run.CouponRun.extend_ascending.Goals as goal
 
 pub merge-self-requires-clause-ascends : goal.merge-self-requires-clause-ascends
@@ -23,24 +21,11 @@ merged n used end settled new rest others S le within same up =
     subst (λ ys. IsAscending ys (union S (set_of (raws others)))) (sym (take-raws_append n new rest within))
     (subst (λ T. IsAscending (take n (raws new)) (union T (set_of (raws others)))) front up)
 
-pub returns-clause-run : goal.returns-clause-run
-returns-clause-run c =
-    let used : ℕ = c.settle.new.self.used in
-    let end : ℕ = used + length c.args.others.now in
-    let n : ℕ = c.merge-self.result in
-    let new : List (List ℕ) = c.merge-self.new.coupons in
-    let rest : List (List ℕ) = drop end c.settle.new.coupons in
-    let S : Pairs = members c.args.self.now c.args.coupons.now in
-    let within : n ≤ length new = omega (arith, c.merge-self.ensures.within, c.merge-self.auto.coupons) in
-    run-settled n (new ++ rest) (union S (set_of (raws c.args.others.now))) (omega (arith, within, length-append new rest))
-    (merged n used end c.settle.new.coupons new rest c.args.others.now S (omega arith) within c.settle.ensures.same c.merge-self.ensures.ascending)
-    (pairs-union S (set_of (raws c.args.others.now)) (pairs-list (take c.args.self.now.used (raws c.args.coupons.now)) c.requires.run.pairs) (pairs-list (raws c.args.others.now) c.requires.pairs))
-
 pub returns-clause-added : goal.returns-clause-added
-returns-clause-added c = λ t.
+returns-clause-added c =
     let used : ℕ = c.settle.new.self.used in
     let end : ℕ = used + length c.args.others.now in
     let new : List (List ℕ) = c.merge-self.new.coupons in
     let within : c.merge-self.result ≤ length new = omega (arith, c.merge-self.ensures.within, c.merge-self.auto.coupons) in
-    (merged c.merge-self.result used end c.settle.new.coupons new (drop end c.settle.new.coupons) c.args.others.now (members c.args.self.now c.args.coupons.now) (omega arith) within c.settle.ensures.same
+    (merged c.merge-self.result used end c.settle.new.coupons new (drop end c.settle.new.coupons) c.args.others.now (members c.args.self.now c.args.coupons.now) (omega arith) within c.settle.ensures.members
     c.merge-self.ensures.ascending).members

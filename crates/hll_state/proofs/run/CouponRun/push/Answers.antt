@@ -1,23 +1,19 @@
 -- SPDX-License-Identifier: Apache-2.0
-use Rattle.std.proofs.Common.{◌<◌, length, ◌∙◌, ap, arith, refl}
-use Rattle.std.specs.FinSet.{insert, len}
-use Rattle.hll_state.proofs.Runs.{members-push, run-push, few_members}
+use Rattle.std.proofs.Common.{◌≡◌, ◌<◌, length, ◌∙◌, ap, arith}
+use Rattle.std.specs.FinSet.{insert}
+use Rattle.hll_state.specs.CouponRun.{members}
+use Rattle.hll_state.proofs.Runs.{members-push}
 use Rattle.hll_state.proofs.run.CouponRun.push.Goals as goal
-
-pub returns-clause-run : goal.returns-clause-run
-returns-clause-run c =
-    let is = c.settle_long_tail.ensures.run in
-    let l : c.settle_long_tail.new.self.used < length c.settle_long_tail.new.coupons = omega (arith, is.used, c.if-self-coupons.false) in
-    run-push c.settle_long_tail.new.self c.settle_long_tail.new.coupons c.set.new.coupons c.args.raw is l c.set.ensures c.set.auto.coupons c.requires.pair
-
-pub returns-clause-room : goal.returns-clause-room
-returns-clause-room c =
-    let is = c.settle_long_tail.ensures.run in
-    let few = few_members c.settle_long_tail.new.self c.settle_long_tail.new.coupons is.used in
-    (λ t. omega (arith, few, is.used, c.if-self-coupons.false, ap len c.settle_long_tail.ensures.same, c.settle_long_tail.auto.coupons), λ l. refl)
+use Rattle.hll_state.proofs.run.CouponRun.push.Goals.{then-self-max, else-self-max}
 
 pub returns-clause-added : goal.returns-clause-added
-returns-clause-added c = λ t.
-    let is = c.settle_long_tail.ensures.run in
-    let l : c.settle_long_tail.new.self.used < length c.settle_long_tail.new.coupons = omega (arith, is.used, c.if-self-coupons.false) in
-    members-push c.settle_long_tail.new.self c.settle_long_tail.new.coupons c.set.new.coupons c.args.raw is l c.set.ensures ∙ ap (λ S. insert S c.args.raw) c.settle_long_tail.ensures.same
+returns-clause-added c =
+    let room : c.if-self-max.self.used < length c.if-self-max.coupons = elim c.if-self-max.branch [
+      | then-self-max w ↦ omega (arith, ap (λ r. r.used) w.self-is, w.settle.ensures.fewer, c.requires.room, c.if-self-max.auto.coupons)
+      | else-self-max w ↦ omega (arith, ap (λ r. r.used) w.self-is, c.requires.room, c.if-self-max.auto.coupons)
+    ] in
+    let same : members c.if-self-max.self c.if-self-max.coupons ≡ members c.args.self.now c.args.coupons.now = elim c.if-self-max.branch [
+      | then-self-max w ↦ (λ i. members (w.self-is i) (w.coupons-is i)) ∙ w.settle.ensures.members
+      | else-self-max w ↦ λ i. members (w.self-is i) (w.coupons-is i)
+    ] in
+    members-push c.if-self-max.self c.if-self-max.coupons c.set.new.coupons c.args.raw room c.set.ensures ∙ ap (λ S. insert S c.args.raw) same

@@ -1,0 +1,39 @@
+/* SPDX-License-Identifier: Apache-2.0 */
+/*
+ * States: a caller's bytes are handed over to the proved calls as elements of four bytes. Plain C, not proved.
+ */
+#include "hll.h"
+
+hll_status proved_hll_state_new(unsigned lg_k, void *state, size_t elements);
+hll_status proved_hll_state_add(void *state, size_t elements, size_t *size, const uint8_t *values, size_t values_len,
+                                const size_t *ends, size_t n);
+hll_status proved_hll_state_add_value(void *state, size_t elements, size_t *size, const uint8_t *value, size_t len);
+hll_status proved_hll_state_add_coupons(void *state, size_t elements, size_t *size, const uint32_t *coupons, size_t n);
+hll_status proved_hll_state_image(void *state, size_t elements, unsigned width, uint8_t *out, size_t out_room,
+                                  size_t *size);
+
+hll_status hll_state_new(unsigned lg_k, void *state, size_t room)
+{
+    return proved_hll_state_new(lg_k, state, room / 4);
+}
+
+hll_status hll_state_add(void *state, size_t room, size_t *size, const uint8_t *values, size_t values_len,
+                         const size_t *ends, size_t n)
+{
+    return proved_hll_state_add(state, room / 4, size, values, values_len, ends, n);
+}
+
+hll_status hll_state_add_value(void *state, size_t room, size_t *size, const uint8_t *value, size_t len)
+{
+    return proved_hll_state_add_value(state, room / 4, size, value, len);
+}
+
+hll_status hll_state_add_coupons(void *state, size_t room, size_t *size, const uint32_t *coupons, size_t n)
+{
+    return proved_hll_state_add_coupons(state, room / 4, size, coupons, n);
+}
+
+hll_status hll_state_image(void *state, size_t room, unsigned width, uint8_t *out, size_t out_room, size_t *size)
+{
+    return proved_hll_state_image(state, room / 4, width, out, out_room, size);
+}

@@ -1,0 +1,257 @@
+/* SPDX-License-Identifier: Apache-2.0 */
+/* States: each code, room that is asked for before anything is added, and random walks of all calls beside images that
+ * the same values make. states [WALKS [small]]; small: no lg_k above 12. */
+#include "test.h"
+
+/* A state in exactly so many bytes, and the image of the same values. */
+typedef struct pair {
+    uint8_t *state;
+    size_t room;
+    bytes image;
+    uint8_t lg_k;
+} pair;
+
+static pair new_pair(uint8_t lg_k)
+{
+    pair made = {malloc(HLL_STATE_NEW), HLL_STATE_NEW, with_room(HLL_IMAGE_MAX(lg_k)), lg_k};
+    need(made.state != NULL && hll_state_new(lg_k, made.state, made.room) == HLL_OK &&
+             hll_image_new(lg_k, 8, made.image.at, made.image.len, &made.image.len) == HLL_OK,
+         "a new state");
+    return made;
+}
+
+static void free_pair(pair *p)
+{
+    free(p->state);
+    free(p->image.at);
+}
+
+/* Puts another image in the place of that of a pair. */
+static void take_image(pair *p, bytes image)
+{
+    free(p->image.at);
+    p->image = image;
+}
+
+/* Moves the state to so many bytes, where no byte beyond those that it takes is known. */
+static void move_to(pair *p, size_t room)
+{
+    uint8_t *moved = malloc(room);
+    size_t size = hll_state_size(p->state);
+    need(moved != NULL, "memory for a test");
+    CHECK(size <= room && size <= p->room, "%zu of %zu, to %zu", size, p->room, room);
+    memset(moved, 0xa5, room);
+    memcpy(moved, p->state, size < room ? size : room);
+    free(p->state);
+    p->state = moved;
+    p->room = room;
+}
+
+/* ---- reading ---- */
+
+/* Whether the state gives the image at this width. */
+static int gives(pair *p, uint8_t width)
+{
+    size_t room = HLL_IMAGE_MAX(p->lg_k), size = 0, wanted_size = 0;
+    bytes found = with_room(room), wanted = with_room(room);
+    hll_status status = hll_state_image(p->state, p->room, width, found.at, room, &size);
+    int same = status == HLL_OK &&
+               hll_image_convert(p->image.at, p->image.len, width, wanted.at, room, &wanted_size) == HLL_OK &&
+               size == wanted_size && memcmp(found.at, wanted.at, size) == 0;
+    free(found.at);
+    free(wanted.at);
+    return same;
+}
+
+/* Whether the state is estimated as the image is. */
+static int estimates_alike(pair *p)
+{
+    hll_estimation found, wanted;
+    memset(&found, 0, sizeof found);
+    memset(&wanted, 0, sizeof wanted);
+    return hll_state_estimate(p->state, p->room, &found) == HLL_OK && hll_estimate(p->image.at, p->image.len, &wanted) == HLL_OK &&
+           memcmp(&found, &wanted, sizeof found) == 0;
+}
+
+/* ---- adding ---- */
+
+/* Values of eight bytes with their ends: distinct ones from `from` on, or of few again and again. */
+typedef struct values {
+    uint8_t *at;
+    size_t *ends;
+    uint32_t *coupons;
+    size_t n;
+} values;
+
+static values some_values(uint64_t from, uint64_t distinct, size_t n)
+{
+    values made = {malloc(8 * n + 1), malloc((n + 1) * sizeof(size_t)), malloc((n + 1) * sizeof(uint32_t)), n};
+    size_t i, byte;
+    need(made.at != NULL && made.ends != NULL && made.coupons != NULL, "memory for a test");
+    for (i = 0; i < n; i++) {
+        for (byte = 0; byte < 8; byte++)
+            made.at[8 * i + byte] = (uint8_t)((from + i % distinct) >> (8 * byte));
+        made.ends[i] = 8 * (i + 1);
+        made.coupons[i] = hll_coupon(made.at + 8 * i, 8);
+    }
+    return made;
+}
+
+static void free_values(values *v)
+{
+    free(v->at);
+    free(v->ends);
+    free(v->coupons);
+}
+
+/* Adds values by one of the calls. */
+static hll_status call_state(pair *p, const values *v, int by, size_t *size)
+{
+    switch (by) {
+    case 0:
+        return hll_state_add(p->state, p->room, size, v->at, 8 * v->n, v->ends, v->n);
+    case 1:
+        return hll_state_add_coupons(p->state, p->room, size, v->coupons, v->n);
+    default:
+        return hll_state_add_value(p->state, p->room, size, v->at, 8);
+    }
+}
+
+/* Adds values to both, and to the state in more room where it asks for it, which it does once. */
+static void add(pair *p, uint64_t from, uint64_t distinct, size_t n, int by)
+{
+    values v = some_values(from, distinct, by < 2 ? n : 1);
+    bytes image = with_room(HLL_IMAGE_MAX(p->lg_k));
+    size_t size = 77;
+    hll_status status = call_state(p, &v, by, &size);
+    if (status == HLL_BUFFER) {
+        CHECK(p->room < size && size <= HLL_STATE_MOST(p->lg_k), "%zu, after %zu", size, p->room);
+        if (from % 8 == 0)
+            CHECK(gives(p, 8), "lg_k %d: what was not added is in the image", p->lg_k);
+        move_to(p, size);
+        size = 77;
+        status = call_state(p, &v, by, &size);
+    }
+    CHECK(status == HLL_OK && size == 77, "lg_k %d, %zu values: %d", p->lg_k, v.n, status);
+    need(hll_image_add(p->image.at, p->image.len, v.at, 8 * v.n, v.ends, v.n, image.at, image.len, &image.len) == HLL_OK,
+         "hll_image_add for a test");
+    take_image(p, image);
+    free_values(&v);
+}
+
+/* ---- walks ---- */
+
+/* Random calls, with reads between them; so many values that some walks stay coupons. */
+static void walk(uint64_t *random, uint8_t most_lg_k)
+{
+    pair p = new_pair((uint8_t)(4 + random_word(random) % (most_lg_k - 3)));
+    uint64_t most = (uint64_t)1 << (1 + random_word(random) % (p.lg_k + 1));
+    int steps = 1 + (int)(random_word(random) % 60), step;
+    for (step = 0; step < steps; step++) {
+        uint64_t word = random_word(random);
+        add(&p, word >> 32, 1 + (word >> 8) % most, (word >> 16) % (2 * most), (int)(word % 3));
+        if ((word >> 2) % 8 == 0)
+            move_to(&p, hll_state_size(p.state) + (word >> 5) % 5);
+        if ((word >> 24) % 16 == 0)
+            CHECK(gives(&p, (uint8_t)(4 + 2 * (word % 3))), "lg_k %d, step %d", p.lg_k, step);
+        if ((word >> 24) % 16 == 1)
+            CHECK(estimates_alike(&p), "lg_k %d, step %d", p.lg_k, step);
+    }
+    CHECK(gives(&p, 4) && gives(&p, 6) && gives(&p, 8) && estimates_alike(&p), "lg_k %d", p.lg_k);
+    CHECK(hll_state_lg_k(p.state) == p.lg_k, "lg_k %d: %d", p.lg_k, hll_state_lg_k(p.state));
+    CHECK((hll_state_stage(p.state) == HLL_REGISTERS) == (p.image.at[7] % 4 == HLL_REGISTERS), "lg_k %d", p.lg_k);
+    free_pair(&p);
+}
+
+/* One value after another, and a read after each: each number of coupons at which a list, a set or registers begin. */
+static void each_count(uint8_t lg_k)
+{
+    pair p = new_pair(lg_k);
+    size_t count, most = ((size_t)3 << lg_k) / 32 + 20;
+    for (count = 0; count < most; count++) {
+        CHECK(gives(&p, 8) && estimates_alike(&p), "lg_k %d, %zu values", lg_k, count);
+        add(&p, 1000 * (uint64_t)lg_k + count, 1, 1, 2);
+    }
+    free_pair(&p);
+}
+
+/* ---- codes ---- */
+
+static void refusals(void)
+{
+    static const size_t descending[] = {2, 1}, past[] = {1, 4};
+    uint8_t state[HLL_STATE_NEW], before[HLL_STATE_NEW], out[8];
+    uint32_t no_coupon = 5;
+    size_t size = 77;
+    hll_estimation found;
+    memset(state, 7, sizeof state);
+    memcpy(before, state, sizeof state);
+    CHECK(hll_state_new(3, state, sizeof state) == HLL_ARGUMENT && hll_state_new(22, state, sizeof state) == HLL_ARGUMENT, "lg_k");
+    CHECK(hll_state_new(12, state, HLL_STATE_NEW - 1) == HLL_BUFFER, "39 bytes");
+    CHECK(hll_state_add_value(state, sizeof state, &size, (const uint8_t *)"a", 1) == HLL_ARGUMENT, "no state");
+    CHECK(hll_state_add_value(NULL, 0, &size, (const uint8_t *)"a", 1) == HLL_ARGUMENT, "no bytes");
+    CHECK(hll_state_estimate(state, sizeof state, &found) == HLL_ARGUMENT, "no state");
+    CHECK(hll_state_image(state, sizeof state, 8, out, sizeof out, &size) == HLL_ARGUMENT, "no state");
+    CHECK(memcmp(before, state, sizeof state) == 0 && size == 77, "refused calls changed something");
+    need(hll_state_new(12, state, sizeof state) == HLL_OK, "a new state");
+    memcpy(before, state, sizeof state);
+    CHECK(hll_state_add(state, sizeof state, &size, (const uint8_t *)"abc", 3, descending, 2) == HLL_ARGUMENT, "ends");
+    CHECK(hll_state_add(state, sizeof state, &size, (const uint8_t *)"abc", 3, past, 2) == HLL_ARGUMENT, "ends");
+    CHECK(hll_state_add_coupons(state, sizeof state, &size, &no_coupon, 1) == HLL_ARGUMENT, "no coupon");
+    CHECK(hll_state_image(state, sizeof state, 5, out, sizeof out, &size) == HLL_ARGUMENT, "width");
+    CHECK(memcmp(before, state, sizeof state) == 0 && size == 77, "refused calls changed something");
+    CHECK(hll_state_image(state, sizeof state, 8, out, 7, &size) == HLL_BUFFER && size == 8, "%zu", size);
+    CHECK(hll_state_add(state, sizeof state, &size, NULL, 0, NULL, 0) == HLL_OK && size == 8, "no values");
+}
+
+/* Bytes that no call made, behind headers that are likely: each call answers with a code of its own, and no byte after the
+ * room is written. */
+static void strange_bytes(uint64_t *random)
+{
+    enum { AFTER = 64 };
+    uint8_t lg_k = (uint8_t)(4 + random_word(random) % 6), value[8];
+    size_t room = 40 + random_word(random) % HLL_STATE_MOST(lg_k), i, size = 0;
+    bytes state = with_room(room + AFTER), out = with_room(HLL_IMAGE_MAX(lg_k));
+    hll_estimation found;
+    hll_status status;
+    for (i = 0; i < room + AFTER; i++)
+        state.at[i] = (uint8_t)random_word(random);
+    memset(state.at + room, 0x5a, AFTER);
+    need(hll_state_new(lg_k, state.at, room) == HLL_OK, "a new state");
+    if (random_word(random) % 2 == 0)
+        state.at[0] = 0x42;
+    state.at[12] = random_word(random) % 2 == 0 ? 3 : (uint8_t)(5 + random_word(random) % 3);
+    state.at[16] = random_word(random) % 4 != 0;
+    state.at[24] = (uint8_t)random_word(random);
+    state.at[20] = (uint8_t)(random_word(random) % (state.at[24] + 2u));
+    for (i = 0; i < 300; i++) {
+        memcpy(value, &i, sizeof value);
+        status = hll_state_add_value(state.at, room, &size, value, 8);
+        CHECK(status == HLL_OK || status == HLL_ARGUMENT || (status == HLL_BUFFER && room < size), "%zu bytes: %d", room, status);
+        if (i % 64 != 0)
+            continue;
+        status = hll_state_estimate(state.at, room, &found);
+        CHECK(status == HLL_OK || status == HLL_ARGUMENT || status == HLL_REGISTER, "%zu bytes: %d", room, status);
+    }
+    status = hll_state_image(state.at, room, 4, out.at, out.len, &size);
+    CHECK(status == HLL_OK || status == HLL_ARGUMENT || status == HLL_REGISTER || status == HLL_BUFFER, "%zu bytes: %d", room, status);
+    for (i = 0; i < AFTER; i++)
+        CHECK(state.at[room + i] == 0x5a, "byte %zu after the room of %zu", i, room);
+    free(state.at);
+    free(out.at);
+}
+
+int main(int argc, char **argv)
+{
+    long walks = argc > 1 ? atol(argv[1]) : 1000, number;
+    uint8_t most_lg_k = argc > 2 ? 12 : 15, lg_k;
+    uint64_t random = 20261128;
+    refusals();
+    for (lg_k = 4; lg_k <= 10; lg_k++)
+        each_count(lg_k);
+    for (number = 0; number < walks; number++)
+        walk(&random, most_lg_k);
+    for (number = 0; number < walks; number++)
+        strange_bytes(&random);
+    return finish("states");
+}

@@ -1,0 +1,137 @@
+-- SPDX-License-Identifier: Apache-2.0
+-- Lemmas on states.
+use Rattle.std.proofs.Common.{◌≡◌, ◌≢◌, ℕ, ◌+◌, ◌-◌, ◌<◌, ◌≤◌, List, [], ◌∷◌, length, take, drop, get_or, map, refl, sym, ap, subst, ◌∙◌, arith, true, false, Option, Some, None, inl, inr}
+use Rattle.std.specs.FinSet.{len}
+use Rattle.std.proofs.lemmas.Bool.{cases_Bool}
+use Rattle.std.proofs.lemmas.List.{drop_more, drop_all, length-map}
+use Rattle.hll_base.specs.declared.error.Reason.{Reason}
+use Rattle.hll_base.specs.declared.error.Reason.TheVariants.{Argument, Memory, Register}
+use Rattle.hll_base.specs.declared.hll_type.HllType.{HllType}
+use Rattle.hll_coupons.specs.Coupons.{coupon_bytes, IsAscending}
+use Rattle.hll_coupons.specs.Hashed.{coupon_of_bytes}
+use Rattle.hll_coupons.specs.Pair.{Pairs, set_of}
+use Rattle.hll_sketch.specs.Adding.{add}
+use Rattle.hll_sketch.specs.Laws.{add_in_turn}
+use Rattle.hll_sketch.specs.EstimatorFields.{FillsFields, stays}
+use Rattle.hll_sketch.specs.Stage.{stage}
+use Rattle.hll_sketch.specs.Value.{Sketch, Content, coupons, IsTableFor, IsLegal}
+use Rattle.hll_sketch.specs.Written.{coupon_image}
+use Rattle.hll_state.specs.Counter.{sketch_in, content_of_coupons}
+use Rattle.hll_state.specs.Header.{IsWithin, HasRoom}
+use Rattle.hll_state.specs.Memory.{IsState, OfState}
+use Rattle.hll_state.specs.declared.header.Header.{Header}
+use Rattle.hll_state.specs.declared.header.CouponTable.{CouponTable}
+use Rattle.hll_state.proofs.Rooms.{staged_table}
+use Rattle.hll_state.proofs.Tables.{content-taken, content-staged}
+use Rattle.hll_c.specs.Answers.{IsImageOf}
+use Rattle.hll_c.specs.Batches.{AreEndsFrom, strings}
+use Rattle.hll_c.specs.Estimates.{IsEstimateOfCoupons, IsEstimateOfContent}
+use Rattle.hll_c.specs.States.{RefusesState, state_argument, state_register, state_memory}
+use Rattle.hll_c.specs.declared.estimate.HllEstimate.{HllEstimate}
+use Rattle.hll_c.proofs.Batches.{ends_here, strings_here, strings_end, coupons_from, length-strings}
+
+-- coupons from an index on are left to be added
+pub record AddsLeft (first : Header) (first_body : List (List ℕ)) (h : Header) (body : List (List ℕ)) (cs : List ℕ) (i : ℕ) : Type 0 where
+  pub within : IsWithin h (length body)
+  pub room : HasRoom h (length cs - i) (length body)
+  pub same : add_in_turn (sketch_in h body) (drop i cs) ≡ add_in_turn (sketch_in first first_body) cs
+
+pub room_for_one : (h : Header) (n i room : ℕ) → i < n → HasRoom h (n - i) room → HasRoom h ((n - (i + 1)) + 1) room
+room_for_one h n i room inside has = subst (λ m. HasRoom h m room) (let e : n - i ≡ (n - (i + 1)) + 1 = omega (arith, inside) in e) has
+
+pub pushed : (first : Header) (first_body : List (List ℕ)) (h g : Header) (body new : List (List ℕ)) (cs : List ℕ) (i d c : ℕ) → i < length cs → get_or cs i d ≡ c
+    → AddsLeft first first_body h body cs i → length new ≡ length body → IsWithin g (length body) → ((n : ℕ) → HasRoom h (n + 1) (length body) → HasRoom g n (length body))
+    → sketch_in g new ≡ add (sketch_in h body) (set_of (c ∷ [])) → AddsLeft first first_body g new cs (i + 1)
+pushed first first_body h g body new cs i d c inside is left size within room made = record {
+  within = subst (IsWithin g) (sym size) within;
+  room = subst (HasRoom g (length cs - (i + 1))) (sym size) (room (length cs - (i + 1)) (room_for_one h (length cs) i (length body) inside left.room));
+  same = ap (λ x. add_in_turn x (drop (i + 1) cs)) (made ∙ ap (λ c. add (sketch_in h body) (set_of (c ∷ []))) (sym is))
+      ∙ sym (ap (add_in_turn (sketch_in h body)) (drop_more cs i d inside)) ∙ left.same;
+}
+
+pub all_pushed : (first : Header) (first_body : List (List ℕ)) (h : Header) (body : List (List ℕ)) (cs : List ℕ) (i : ℕ) → length cs ≤ i → AddsLeft first first_body h body cs i
+    → sketch_in h body ≡ add_in_turn (sketch_in first first_body) cs
+all_pushed first first_body h body cs i all left = sym (ap (add_in_turn (sketch_in h body)) (drop_all i cs all)) ∙ left.same
+
+-- the same of byte strings, from the end of the last one on
+pub record AddsStrings (first : Header) (first_body : List (List ℕ)) (h : Header) (body : List (List ℕ)) (values ends : List ℕ) (start i : ℕ) : Type 0 where
+  pub are : AreEndsFrom start (length values) (drop i ends)
+  pub within : IsWithin h (length body)
+  pub room : HasRoom h (length ends - i) (length body)
+  pub same : add_in_turn (sketch_in h body) (coupons_from start values (drop i ends)) ≡ add_in_turn (sketch_in first first_body) (coupons_from 0 values ends)
+
+pub string_pushed : (first : Header) (first_body : List (List ℕ)) (h g : Header) (body new : List (List ℕ)) (values ends : List ℕ) (start i d c : ℕ) → i < length ends
+    → coupon_of_bytes (take (get_or ends i d - start) (drop start values)) ≡ c
+    → AddsStrings first first_body h body values ends start i → length new ≡ length body → IsWithin g (length body) → ((n : ℕ) → HasRoom h (n + 1) (length body) → HasRoom g n (length body))
+    → sketch_in g new ≡ add (sketch_in h body) (set_of (c ∷ [])) → AddsStrings first first_body g new values ends (get_or ends i d) (i + 1)
+string_pushed first first_body h g body new values ends start i d c inside is left size within room made = record {
+  are = (ends_here (length values) ends i d inside start left.are).2;
+  within = subst (IsWithin g) (sym size) within;
+  room = subst (HasRoom g (length ends - (i + 1))) (sym size) (room (length ends - (i + 1)) (room_for_one h (length ends) i (length body) inside left.room));
+  same = ap (λ x. add_in_turn x (coupons_from (get_or ends i d) values (drop (i + 1) ends))) (made ∙ ap (λ c. add (sketch_in h body) (set_of (c ∷ []))) (sym is))
+      ∙ sym (ap (λ xs. add_in_turn (sketch_in h body) (map coupon_of_bytes xs)) (strings_here start values ends i d inside)) ∙ left.same;
+}
+
+pub all_strings_pushed : (first : Header) (first_body : List (List ℕ)) (h : Header) (body : List (List ℕ)) (values ends : List ℕ) (start i : ℕ) → length ends ≤ i
+    → AddsStrings first first_body h body values ends start i → sketch_in h body ≡ add_in_turn (sketch_in first first_body) (coupons_from 0 values ends)
+all_strings_pushed first first_body h body values ends start i all left =
+    sym (ap (λ xs. add_in_turn (sketch_in h body) (map coupon_of_bytes xs)) (strings_end start values ends i all)) ∙ left.same
+
+pub length-coupons : (values ends : List ℕ) → length (map coupon_of_bytes (strings values ends)) ≡ length ends
+length-coupons values ends = length-map (strings values ends) coupon_of_bytes ∙ length-strings (length values) values 0 ends
+
+-- ---- images
+
+-- the size of the table that settled coupons have
+pub record HasTable (k : ℕ) (c : CouponTable) (n size : ℕ) : Type 0 where
+  pub taken : c.added ≡ false → size ≡ c.lg_size
+  pub added : c.added ≡ true → stage k c.lg_size n ≡ Some size
+
+pub table_for : (k : ℕ) (c : CouponTable) (n size : ℕ) → HasTable k c n size → (c.added ≡ false → IsTableFor k n c.lg_size) → IsTableFor k n size
+table_for k c n size has of = elim (cases_Bool c.added) [
+  | inl yes' ↦ staged_table k c.lg_size n size (has.added yes')
+  | inr other ↦ subst (IsTableFor k n) (sym (has.taken other)) (of other)
+]
+
+pub content_in_table : (k : ℕ) (c : CouponTable) (S : Pairs) (n size : ℕ) → HasTable k c n size → n ≡ len S → content_of_coupons k c S ≡ coupons S size
+content_in_table k c S n size has count = elim (cases_Bool c.added) [
+  | inl yes' ↦ content-staged k size c S yes' (ap (stage k c.lg_size) (sym count) ∙ has.added yes')
+  | inr other ↦ content-taken k size c S other (has.taken other)
+]
+
+-- coupons in ascending order, written in their table
+pub coupons_written : (k : ℕ) (w : HllType) (C : Content) (S : Pairs) (size : ℕ) (bytes order image : List ℕ) → C ≡ coupons S size → IsAscending order S → bytes ≡ coupon_bytes order
+    → ((order : List ℕ) → bytes ≡ coupon_bytes order → image ≡ coupon_image k w size order) → IsImageOf (FillsFields (record { lg_k = k; width = w; content = C })) image
+coupons_written k w C S size bytes order image is up said wrote =
+    let x : Sketch = record { lg_k = k; width = w; content = coupons S size } in
+    subst (λ C. IsImageOf (FillsFields (record { lg_k = k; width = w; content = C })) image) (sym is)
+    (x, stays (λ none. none) refl, record { order = order; ascending = up; is = wrote order said })
+
+-- ---- estimates
+
+-- settled coupons that have a table are told by their number
+pub estimate_in_table : (k : ℕ) (c : CouponTable) (S : Pairs) (n : ℕ) (e : HllEstimate) → (c.added ≡ true → stage k c.lg_size n ≢ None) → n ≡ len S → IsEstimateOfCoupons n e
+    → IsEstimateOfContent k (content_of_coupons k c S) e
+estimate_in_table k c S n e has count is = elim (cases_Bool c.added) [
+  | inl yes' ↦ of yes' (stage k c.lg_size n) refl
+  | inr other ↦ subst (λ C. IsEstimateOfContent k C e) (sym (content-taken k c.lg_size c S other refl)) told
+]
+  where
+    told : IsEstimateOfCoupons (len S) e
+    told = subst (λ n. IsEstimateOfCoupons n e) count is
+
+    of : c.added ≡ true → (o : Option ℕ) → stage k c.lg_size n ≡ o → IsEstimateOfContent k (content_of_coupons k c S) e
+    of added (Some size) found = subst (λ C. IsEstimateOfContent k C e) (sym (content-staged k size c S added (ap (stage k c.lg_size) (sym count) ∙ found))) told
+    of added None found = absurd (has added found)
+
+-- ---- refusals
+
+pub refuses_no_state : (InRange : Type 0) (old : List (List ℕ)) (e : Reason) → e ≡ Argument → (InRange × IsState old → ⊥) → RefusesState InRange old e
+refuses_no_state InRange old e is none = subst (RefusesState InRange old) (sym is) (state_argument none)
+
+pub refuses_register : (InRange : Type 0) (old : List (List ℕ)) (e : Reason) (x : Sketch) → InRange → e ≡ Register → OfState old (λ y. y ≡ x) → (IsLegal x → ⊥) → RefusesState InRange old e
+refuses_register InRange old e x in_range is of illegal =
+    subst (RefusesState InRange old) (sym is) (state_register in_range (record { sketch = of.sketch; was = of.was; is = λ legal. illegal (subst IsLegal of.is legal) }))
+
+pub refuses_state_memory : (InRange : Type 0) (old : List (List ℕ)) (e : Reason) (x : Sketch) → InRange → e ≡ Memory → OfState old (λ y. y ≡ x) → RefusesState InRange old e
+refuses_state_memory InRange old e x in_range is of = subst (RefusesState InRange old) (sym is) (state_memory in_range of.was.state)

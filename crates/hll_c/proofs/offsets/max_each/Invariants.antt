@@ -1,0 +1,14 @@
+-- SPDX-License-Identifier: Apache-2.0
+use Rattle.std.proofs.Common.{◌≡◌, drop, map}
+use Rattle.hll_base.specs.Join.{join}
+use Rattle.hll_coupons.specs.Fold.{fold_to}
+use Rattle.hll_coupons.specs.Hashed.{coupon_of_bytes}
+use Rattle.hll_coupons.specs.Pair.{set_of}
+use Rattle.hll_c.specs.Batches.{strings_between}
+use Rattle.hll_c.proofs.offsets.max_each.Given as goal
+
+-- the coupons that are left make of the registers now what all make of those before
+abbrev pub invariant-loop-number : goal.invariant-loop-number
+invariant-loop-number l =
+    let coupons = map coupon_of_bytes (strings_between l.offsets l.values) in
+    join l.registers (fold_to (set_of (drop l.number coupons)) l.fn.lg_k) ≡ join l.fn.registers (fold_to (set_of coupons) l.fn.lg_k)

@@ -1,0 +1,56 @@
+-- SPDX-License-Identifier: Apache-2.0
+use Rattle.std.proofs.Common.{◌≡◌, length, map, refl, sym, subst, arith}
+use Rattle.hll_coupons.specs.Hashed.{coupon_of_bytes}
+use Rattle.hll_sketch.specs.Laws.{add_in_turn}
+use Rattle.hll_state.specs.Header.{IsWithin}
+use Rattle.hll_state.specs.Memory.{HasRoomIn, AreEnough}
+use Rattle.hll_state.proofs.States.{ready_within, ready_room, written_size, written_within, closed, enough_fits}
+use Rattle.hll_c.specs.Batches.{AreEnds, strings}
+use Rattle.hll_c.specs.States.{AddsToState, added, no_room, not_added}
+use Rattle.hll_c.proofs.Batches.{not_so}
+use Rattle.hll_c.proofs.States.{length-coupons}
+use Rattle.hll_c.proofs.state.add.Goals as goal
+
+pub returns-then-not-are_ends : goal.returns-then-not-are_ends
+returns-then-not-are_ends c =
+    subst (AddsToState (AreEnds (length c.args.values.now) c.args.ends.now) (map coupon_of_bytes (strings c.args.values.now c.args.ends.now)) c.args.state.now c.args.state.now c.args.size.now c.args.size.now) (sym c.number.ensures)
+    (not_added (λ are. not_so c.are_ends.result (AreEnds (length c.args.values.now) c.args.ends.now) c.if-not-are_ends.true c.are_ends.ensures are.0) refl refl)
+
+pub too_small-requires : goal.too_small-requires
+too_small-requires c = enough_fits c.begin.new.elements (length c.args.ends.now) c.in-NoRoom.len c.in-NoRoom.ensures.enough
+
+pub push_values-requires-clause-within : goal.push_values-requires-clause-within
+push_values-requires-clause-within c = ready_within (length c.args.ends.now) c.args.state.now c.begin.new.elements c.in-Room.header c.in-Room.ensures c.begin.auto.elements
+
+pub push_values-requires-clause-room : goal.push_values-requires-clause-room
+push_values-requires-clause-room c = ready_room (length c.args.ends.now) c.args.state.now c.begin.new.elements c.in-Room.header c.in-Room.ensures c.begin.auto.elements
+
+pub close-requires-clause-there : goal.close-requires-clause-there
+close-requires-clause-there c =
+    omega (arith, written_size (length c.args.ends.now) c.args.state.now c.begin.new.elements c.in-Room.header c.in-Room.ensures c.begin.auto.elements c.push_values.new.body c.push_values.auto.body, c.in-Room.ensures.there)
+
+pub close-requires-clause-within : goal.close-requires-clause-within
+close-requires-clause-within c =
+    subst (IsWithin c.push_values.new.header)
+    (written_within (length c.args.ends.now) c.args.state.now c.begin.new.elements c.in-Room.header c.in-Room.ensures c.begin.auto.elements c.push_values.new.body c.push_values.auto.body)
+    c.push_values.ensures.within
+
+pub returns-in-NoState : goal.returns-in-NoState
+returns-in-NoState c =
+    subst (AddsToState (AreEnds (length c.args.values.now) c.args.ends.now) (map coupon_of_bytes (strings c.args.values.now c.args.ends.now)) c.args.state.now c.begin.new.elements c.args.size.now c.args.size.now) (sym c.number-in-NoState.ensures)
+    (not_added (λ are. c.in-NoState.ensures.none are.1) c.in-NoState.ensures.same refl)
+
+pub returns-in-NoRoom : goal.returns-in-NoRoom
+returns-in-NoRoom c =
+    let count : length c.args.ends.now ≡ length (map coupon_of_bytes (strings c.args.values.now c.args.ends.now)) = sym (length-coupons c.args.values.now c.args.ends.now) in
+    subst (AddsToState (AreEnds (length c.args.values.now) c.args.ends.now) (map coupon_of_bytes (strings c.args.values.now c.args.ends.now)) c.args.state.now c.begin.new.elements c.args.size.now c.too_small.new.size) (sym c.too_small.ensures.code)
+    (no_room (c.are_ends.ensures.0 c.if-not-are_ends.false) c.in-NoRoom.ensures.kept
+    (subst (λ n. HasRoomIn c.args.state.now n (length c.args.state.now) → ⊥) count c.in-NoRoom.ensures.lacks)
+    (record { len = c.in-NoRoom.len; bytes_are = c.too_small.ensures.size; enough = subst (λ n. AreEnough c.begin.new.elements n c.in-NoRoom.len) count c.in-NoRoom.ensures.enough }))
+
+pub returns-in-Room : goal.returns-in-Room
+returns-in-Room c =
+    added (c.are_ends.ensures.0 c.if-not-are_ends.false)
+    (closed (length c.args.ends.now) c.args.state.now c.begin.new.elements c.in-Room.header c.in-Room.ensures c.begin.auto.elements (λ x. add_in_turn x (map coupon_of_bytes (strings c.args.values.now c.args.ends.now)))
+    c.push_values.new.header c.push_values.new.body c.close.new.elements c.push_values.ensures.added c.close.ensures.header c.close.ensures.rest)
+    refl

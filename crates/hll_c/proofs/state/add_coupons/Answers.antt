@@ -1,0 +1,51 @@
+-- SPDX-License-Identifier: Apache-2.0
+use Rattle.std.proofs.Common.{length, refl, sym, subst, arith}
+use Rattle.hll_sketch.specs.Laws.{add_in_turn}
+use Rattle.hll_state.specs.Header.{IsWithin}
+use Rattle.hll_state.proofs.States.{ready_within, ready_room, written_size, written_within, closed, enough_fits}
+use Rattle.hll_c.specs.ByteRegisters.{HaveValues}
+use Rattle.hll_c.specs.States.{AddsToState, added, no_room, not_added}
+use Rattle.hll_c.proofs.Batches.{not_so}
+use Rattle.hll_c.proofs.state.add_coupons.Goals as goal
+
+pub returns-then-not-have_values : goal.returns-then-not-have_values
+returns-then-not-have_values c =
+    subst (AddsToState (HaveValues c.args.coupons.now) c.args.coupons.now c.args.state.now c.args.state.now c.args.size.now c.args.size.now) (sym c.number.ensures)
+    (not_added (λ are. not_so c.have_values.result (HaveValues c.args.coupons.now) c.if-not-have_values.true c.have_values.ensures are.0) refl refl)
+
+pub too_small-requires : goal.too_small-requires
+too_small-requires c = enough_fits c.begin.new.elements (length c.args.coupons.now) c.in-NoRoom.len c.in-NoRoom.ensures.enough
+
+pub push_coupons-requires-clause-within : goal.push_coupons-requires-clause-within
+push_coupons-requires-clause-within c = ready_within (length c.args.coupons.now) c.args.state.now c.begin.new.elements c.in-Room.header c.in-Room.ensures c.begin.auto.elements
+
+pub push_coupons-requires-clause-room : goal.push_coupons-requires-clause-room
+push_coupons-requires-clause-room c = ready_room (length c.args.coupons.now) c.args.state.now c.begin.new.elements c.in-Room.header c.in-Room.ensures c.begin.auto.elements
+
+pub close-requires-clause-there : goal.close-requires-clause-there
+close-requires-clause-there c =
+    omega (arith, written_size (length c.args.coupons.now) c.args.state.now c.begin.new.elements c.in-Room.header c.in-Room.ensures c.begin.auto.elements c.push_coupons.new.body c.push_coupons.auto.body, c.in-Room.ensures.there)
+
+pub close-requires-clause-within : goal.close-requires-clause-within
+close-requires-clause-within c =
+    subst (IsWithin c.push_coupons.new.header)
+    (written_within (length c.args.coupons.now) c.args.state.now c.begin.new.elements c.in-Room.header c.in-Room.ensures c.begin.auto.elements c.push_coupons.new.body c.push_coupons.auto.body)
+    c.push_coupons.ensures.within
+
+pub returns-in-NoState : goal.returns-in-NoState
+returns-in-NoState c =
+    subst (AddsToState (HaveValues c.args.coupons.now) c.args.coupons.now c.args.state.now c.begin.new.elements c.args.size.now c.args.size.now) (sym c.number-in-NoState.ensures)
+    (not_added (λ are. c.in-NoState.ensures.none are.1) c.in-NoState.ensures.same refl)
+
+pub returns-in-NoRoom : goal.returns-in-NoRoom
+returns-in-NoRoom c =
+    subst (AddsToState (HaveValues c.args.coupons.now) c.args.coupons.now c.args.state.now c.begin.new.elements c.args.size.now c.too_small.new.size) (sym c.too_small.ensures.code)
+    (no_room (c.have_values.ensures.0 c.if-not-have_values.false) c.in-NoRoom.ensures.kept c.in-NoRoom.ensures.lacks
+    (record { len = c.in-NoRoom.len; bytes_are = c.too_small.ensures.size; enough = c.in-NoRoom.ensures.enough }))
+
+pub returns-in-Room : goal.returns-in-Room
+returns-in-Room c =
+    added (c.have_values.ensures.0 c.if-not-have_values.false)
+    (closed (length c.args.coupons.now) c.args.state.now c.begin.new.elements c.in-Room.header c.in-Room.ensures c.begin.auto.elements (λ x. add_in_turn x c.args.coupons.now)
+    c.push_coupons.new.header c.push_coupons.new.body c.close.new.elements c.push_coupons.ensures.added c.close.ensures.header c.close.ensures.rest)
+    refl

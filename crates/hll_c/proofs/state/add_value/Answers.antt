@@ -1,0 +1,45 @@
+-- SPDX-License-Identifier: Apache-2.0
+use Rattle.std.proofs.Common.{◌≡◌, ◌-◌, [], ◌∷◌, length, refl, sym, ap, subst, ◌∙◌, arith}
+use borrow.Rule.Slice.PartMut.{mid_of}
+use Rattle.hll_coupons.specs.Hashed.{coupon_of_bytes}
+use Rattle.hll_sketch.specs.Laws.{add_in_turn}
+use Rattle.hll_state.specs.Counter.{sketch_in}
+use Rattle.hll_state.specs.Header.{IsWithin}
+use Rattle.hll_state.proofs.States.{ready_within, ready_room, written_size, written_within, closed, enough_fits}
+use Rattle.hll_c.specs.States.{AddsToState, added, no_room, not_added}
+use Rattle.hll_c.proofs.state.add_value.Goals as goal
+
+pub too_small-requires : goal.too_small-requires
+too_small-requires c = enough_fits c.begin.new.elements 1 c.in-NoRoom.len c.in-NoRoom.ensures.enough
+
+pub push-requires-clause-within : goal.push-requires-clause-within
+push-requires-clause-within c = ready_within 1 c.args.state.now c.begin.new.elements c.in-Room.header c.in-Room.ensures c.begin.auto.elements
+
+pub push-requires-clause-room : goal.push-requires-clause-room
+push-requires-clause-room c = ready_room 1 c.args.state.now c.begin.new.elements c.in-Room.header c.in-Room.ensures c.begin.auto.elements
+
+pub close-requires-clause-there : goal.close-requires-clause-there
+close-requires-clause-there c =
+    omega (arith, written_size 1 c.args.state.now c.begin.new.elements c.in-Room.header c.in-Room.ensures c.begin.auto.elements c.push.new.body c.push.auto.body, c.in-Room.ensures.there)
+
+pub close-requires-clause-within : goal.close-requires-clause-within
+close-requires-clause-within c =
+    subst (IsWithin c.push.new.self) (written_within 1 c.args.state.now c.begin.new.elements c.in-Room.header c.in-Room.ensures c.begin.auto.elements c.push.new.body c.push.auto.body) c.push.ensures.within
+
+pub returns-in-NoState : goal.returns-in-NoState
+returns-in-NoState c =
+    subst (AddsToState (Unit {0}) (coupon_of_bytes c.args.value.now ∷ []) c.args.state.now c.begin.new.elements c.args.size.now c.args.size.now) (sym c.number.ensures)
+    (not_added (λ are. c.in-NoState.ensures.none are.1) c.in-NoState.ensures.same refl)
+
+pub returns-in-NoRoom : goal.returns-in-NoRoom
+returns-in-NoRoom c =
+    subst (AddsToState (Unit {0}) (coupon_of_bytes c.args.value.now ∷ []) c.args.state.now c.begin.new.elements c.args.size.now c.too_small.new.size) (sym c.too_small.ensures.code)
+    (no_room tt c.in-NoRoom.ensures.kept c.in-NoRoom.ensures.lacks (record { len = c.in-NoRoom.len; bytes_are = c.too_small.ensures.size; enough = c.in-NoRoom.ensures.enough }))
+
+pub returns-in-Room : goal.returns-in-Room
+returns-in-Room c =
+    let raw : c.raw.result ≡ coupon_of_bytes c.args.value.now = c.raw.ensures ∙ c.from_bytes.ensures.bytes in
+    added tt
+    (closed 1 c.args.state.now c.begin.new.elements c.in-Room.header c.in-Room.ensures c.begin.auto.elements (λ x. add_in_turn x (coupon_of_bytes c.args.value.now ∷ []))
+    c.push.new.self c.push.new.body c.close.new.elements (c.push.ensures.added ∙ ap (λ n. add_in_turn (sketch_in c.in-Room.header (mid_of 10 (length c.begin.new.elements - 10) c.begin.new.elements)) (n ∷ [])) raw) c.close.ensures.header c.close.ensures.rest)
+    refl

@@ -1,0 +1,97 @@
+// SPDX-License-Identifier: Apache-2.0
+//! Byte strings between offsets, as Apache Arrow has them: 32 bits with a sign, one more than there are strings.
+//!
+//! The offsets come as numbers without a sign, which have the same bits: a negative one is above `MOST`.
+ghost use Rattle.std.specs.Prelude.{◌≡◌, ◌↔◌, ◌^◌, ◌≤◌, ◌-◌, ◌++◌, length, drop, map, IsTrue};
+ghost use Rattle.hll_base.specs.Join.{join};
+ghost use Rattle.hll_coupons.specs.Fold.{fold_to};
+ghost use Rattle.hll_coupons.specs.Hashed.{coupon_of_bytes};
+ghost use Rattle.hll_coupons.specs.Pair.{set_of};
+ghost use Rattle.hll_c.specs.Batches.{AreOffsets, strings_between};
+ghost use Rattle.hll_c.specs.ByteRegisters.{AddsStrings, IsLgKOf};
+ghost use Rattle.hll_c.specs.Calls.{PutsCouponsOf};
+
+use crate::answer::{BUFFER, OK};
+use crate::byte_registers::lg_k_of;
+use hll_base::error::Reason;
+use hll_coupons::coupon::Coupon;
+use hll_sketch::max_coupon;
+
+/// The greatest number of 32 bits with a sign.
+const MOST: usize = 0x7fff_ffff;
+
+/// Whether there is an offset, and offsets ascend, and none is negative or past `size`. Two may be the same: an empty string
+/// stands between them.
+fn are_offsets(offsets: &[u32], size: usize) -> bool
+    ensures { IsTrue result ↔ AreOffsets size offsets.now }
+{
+    if offsets.is_empty() {
+        return false;
+    }
+    let most = size.min(MOST);
+    let mut before = 0;
+    for offset in offsets {
+        let offset = *offset as usize;
+        if offset < before {
+            return false;
+        }
+        before = offset;
+    }
+    before <= most
+}
+
+/// Puts the raw coupons of the strings between offsets.
+pub(crate) fn put_coupons(values: &[u8], offsets: &[u32], coupons: &mut [u32]) -> u8
+    ensures { PutsCouponsOf (AreOffsets (length values.now) offsets.now) (strings_between offsets.now values.now) coupons.old coupons.new result }
+{
+    if !are_offsets(offsets, values.len()) {
+        return Reason::Argument.number();
+    }
+    let count = offsets.len() - 1;
+    if count > coupons.len() {
+        return BUFFER;
+    }
+    put_each(values, offsets, count, coupons);
+    OK
+}
+
+/// Writes the raw coupons of so many strings between offsets to the front of `coupons`.
+fn put_each(values: &[u8], offsets: &[u32], count: usize, coupons: &mut [u32])
+    requires offsets { AreOffsets (length values.now) offsets.now }
+    requires count { count ≡ length offsets.now - 1 }
+    requires room { count ≤ length coupons.old }
+    ensures { coupons.new ≡ map coupon_of_bytes (strings_between offsets.now values.now) ++ drop count coupons.old }
+{
+    for number in 0..count {
+        let start = offsets[number] as usize;
+        let end = offsets[number + 1] as usize;
+        coupons[number] = Coupon::from_bytes(&values[start..end]).raw();
+    }
+}
+
+/// Joins the coupons of the strings between offsets into registers of the caller.
+pub(crate) fn add(registers: &mut [u8], values: &[u8], offsets: &[u32]) -> u8
+    ensures { AddsStrings (AreOffsets (length values.now) offsets.now) (strings_between offsets.now values.now) registers.old registers.new result }
+{
+    let Ok(lg_k) = lg_k_of(registers) else {
+        return Reason::Argument.number();
+    };
+    if !are_offsets(offsets, values.len()) {
+        return Reason::Argument.number();
+    }
+    max_each(registers, lg_k, values, offsets);
+    OK
+}
+
+/// Joins the coupons of the strings between offsets into registers.
+fn max_each(registers: &mut [u8], lg_k: u8, values: &[u8], offsets: &[u32])
+    requires lg_k { IsLgKOf registers.old lg_k }
+    requires offsets { AreOffsets (length values.now) offsets.now }
+    ensures { registers.new ≡ join registers.old (fold_to (set_of (map coupon_of_bytes (strings_between offsets.now values.now))) lg_k) }
+{
+    for number in 0..offsets.len() - 1 {
+        let start = offsets[number] as usize;
+        let end = offsets[number + 1] as usize;
+        max_coupon(registers, lg_k, Coupon::from_bytes(&values[start..end]));
+    }
+}

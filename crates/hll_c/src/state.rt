@@ -1,0 +1,281 @@
+// SPDX-License-Identifier: Apache-2.0
+//! States of counters in memory of the caller.
+ghost use Rattle.std.specs.Prelude.{◌≡◌, ◌≢◌, ℕ, ◌*◌, ◌-◌, ◌^◌, ◌<◌, ◌≤◌, ◌⊎◌, [], ◌∷◌, true, false, Some, None, length, map, take, drop, IfOk, IfErr};
+ghost use Rattle.hll_base.specs.declared.error.Reason.TheVariants.{Memory};
+ghost use Rattle.hll_base.specs.declared.error.Reason.TheVariants as reasons;
+ghost use Rattle.hll_coupons.specs.Hashed.{coupon_of_bytes};
+ghost use Rattle.hll_kernels.specs.Packed.{AreRegisters};
+ghost use Rattle.hll_sketch.specs.EstimatorFields.{FillsFields};
+ghost use Rattle.hll_sketch.specs.Laws.{add_in_turn};
+ghost use Rattle.hll_sketch.specs.Stage as stages;
+ghost use Rattle.hll_sketch.specs.Value.{IsLgK, IsLegal};
+ghost use Rattle.hll_state.specs.Counter.{sketch_in, content_of, IsResolved, AreResolved};
+ghost use Rattle.hll_state.specs.Header.{IsWithin, AreWithin, HasRoom};
+ghost use Rattle.hll_state.specs.Header as headers;
+ghost use Rattle.hll_state.specs.Memory.{IsOnlyRead};
+ghost use Rattle.hll_state.specs.Registers.{values};
+ghost use Rattle.hll_c.specs.Answers.{buffer_code, Answers, IsImageOf, WithFields};
+ghost use Rattle.hll_c.specs.Batches.{AreEnds, strings};
+ghost use Rattle.hll_c.specs.ByteRegisters.{HaveValues};
+ghost use Rattle.hll_c.specs.Calls.{IsWidth};
+ghost use Rattle.hll_c.specs.Estimates.{IsEstimateOfContent};
+ghost use Rattle.hll_c.specs.States.{MakesState, AddsToState, IsOfState, SaysEstimateOfState, RefusesState};
+ghost use Rattle.hll_c.specs.declared.estimate.HllEstimate.{HllEstimate};
+
+use crate::answer::{BUFFER, OK, image_with_fields, put_bytes};
+use crate::arguments::{lg_k_of_number, width_of};
+use crate::batch::are_ends;
+use crate::byte_registers::have_values;
+use crate::estimate::{HllEstimate, estimate_of_coupons, estimate_of_registers};
+use hll_arrays::kernels::greatest_of;
+use hll_base::bounds::MAX_VALUE;
+use hll_base::error::{Error, Reason};
+use hll_base::hll_type::HllType;
+use hll_coupons::coupon::Coupon;
+use hll_sketch::coupon_images::coupon_image;
+use hll_sketch::max_registers::sketch_with_state;
+use hll_sketch::stage::stage;
+use hll_state::header::{CouponTable, HEADER_LEN, Header, Held};
+use hll_state::memory::{Begun, begin, close, resolve};
+use hll_state::registers::as_bytes;
+use std::alloc::Global;
+
+/// Makes the state of an empty sketch.
+pub(crate) fn new(lg_k: u32, state: &mut [[u8; 4]]) -> u8
+    ensures { MakesState lg_k state.old state.new result }
+{
+    let Ok(lg_k) = lg_k_of_number(lg_k) else {
+        return Reason::Argument.number();
+    };
+    if state.len() < HEADER_LEN {
+        return BUFFER;
+    }
+    close(state, Header::new(lg_k));
+    OK
+}
+
+/// Adds the coupons of byte strings.
+pub(crate) fn add(state: &mut [[u8; 4]], values: &[u8], ends: &[usize], size: &mut usize) -> u8
+    ensures { AddsToState (AreEnds (length values.now) ends.now) (map coupon_of_bytes (strings values.now ends.now)) state.old state.new size.old size.new result }
+{
+    if !are_ends(ends, values.len()) {
+        return Reason::Argument.number();
+    }
+    match begin(state, ends.len()) {
+        Begun::NoState => Reason::Argument.number(),
+        Begun::NoRoom(len) => too_small(len, size),
+        Begun::Room(mut header) => {
+            push_values(&mut header, &mut state[HEADER_LEN..], values, ends);
+            close(state, header);
+            OK
+        }
+    }
+}
+
+/// Tells that so many elements are needed, in bytes.
+fn too_small(len: usize, size: &mut usize) -> u8
+    requires { len < 2 ^ 32 }
+    ensures size { size.new ≡ 4 * len }
+    ensures code { result ≡ buffer_code }
+{
+    *size = 4 * len;
+    BUFFER
+}
+
+/// Adds the coupons of byte strings, whose ends ascend. There is room for them.
+fn push_values(header: &mut Header, body: &mut [[u8; 4]], values: &[u8], ends: &[usize])
+    requires within { IsWithin header.old (length body.old) }
+    requires room { HasRoom header.old (length ends.now) (length body.old) }
+    requires ends { AreEnds (length values.now) ends.now }
+    ensures within { IsWithin header.new (length body.old) }
+    ensures added { sketch_in header.new body.new ≡ add_in_turn (sketch_in header.old body.old) (map coupon_of_bytes (strings values.now ends.now)) }
+{
+    let mut start = 0;
+    for end in ends {
+        header.push(body, Coupon::from_bytes(&values[start..*end]).raw());
+        start = *end;
+    }
+}
+
+/// Adds raw coupons.
+pub(crate) fn add_coupons(state: &mut [[u8; 4]], coupons: &[u32], size: &mut usize) -> u8
+    ensures { AddsToState (HaveValues coupons.now) coupons.now state.old state.new size.old size.new result }
+{
+    if !have_values(coupons) {
+        return Reason::Argument.number();
+    }
+    match begin(state, coupons.len()) {
+        Begun::NoState => Reason::Argument.number(),
+        Begun::NoRoom(len) => too_small(len, size),
+        Begun::Room(mut header) => {
+            push_coupons(&mut header, &mut state[HEADER_LEN..], coupons);
+            close(state, header);
+            OK
+        }
+    }
+}
+
+/// Adds the coupon of a byte string.
+pub(crate) fn add_value(state: &mut [[u8; 4]], value: &[u8], size: &mut usize) -> u8
+    ensures { AddsToState (Unit {0}) (coupon_of_bytes value.now ∷ []) state.old state.new size.old size.new result }
+{
+    match begin(state, 1) {
+        Begun::NoState => Reason::Argument.number(),
+        Begun::NoRoom(len) => too_small(len, size),
+        Begun::Room(mut header) => {
+            header.push(&mut state[HEADER_LEN..], Coupon::from_bytes(value).raw());
+            close(state, header);
+            OK
+        }
+    }
+}
+
+/// Adds raw coupons. There is room for them.
+fn push_coupons(header: &mut Header, body: &mut [[u8; 4]], coupons: &[u32])
+    requires within { IsWithin header.old (length body.old) }
+    requires room { HasRoom header.old (length coupons.now) (length body.old) }
+    ensures within { IsWithin header.new (length body.old) }
+    ensures added { sketch_in header.new body.new ≡ add_in_turn (sketch_in header.old body.old) coupons.now }
+{
+    for raw in coupons {
+        header.push(body, *raw);
+    }
+}
+
+/// Puts the image of what a state means into a buffer.
+pub(crate) fn put_image(
+    alloc: Global,
+    state: &mut [[u8; 4]],
+    width: u32,
+    out: &mut [u8],
+    size: &mut usize,
+) -> u8
+    ensures image { Answers (IsOfState width state.old) (RefusesState (IsWidth width) state.old) out.old out.new size.old size.new result }
+    ensures kept { IsOnlyRead state.old state.new }
+{
+    put_bytes(image_of(alloc, state, width), out, size)
+}
+
+/// The image, at a width, of what a state means.
+fn image_of(alloc: Global, state: &mut [[u8; 4]], width: u32) -> Result<Vec<u8>, Error>
+    ensures ok { IfOk result (λ image. IsImageOf (WithFields (IsOfState width state.old)) image.items) }
+    ensures err { IfErr result (RefusesState (IsWidth width) state.old) }
+    ensures kept { IsOnlyRead state.old state.new }
+{
+    let hll_type = width_of(width)?;
+    let Some(header) = resolve(state) else {
+        return Err(Error::new(Reason::Argument));
+    };
+    image_of_held(alloc, header, &state[HEADER_LEN..], hll_type)
+}
+
+/// The image, at a width, of what a state means that is ready to be read.
+///
+/// Fails with `Register` where a register is above 63, or with `Memory`.
+fn image_of_held(
+    alloc: Global,
+    header: Header,
+    body: &[[u8; 4]],
+    hll_type: HllType,
+) -> Result<Vec<u8>, Error>
+    requires within { IsWithin header (length body.now) }
+    requires resolved { IsResolved header body.now }
+    ensures ok { IfOk result (λ image. IsImageOf (FillsFields (record (sketch_in header body.now) { width = hll_type })) image.items) }
+    ensures err { IfErr result (λ e. (e ≡ Memory) ⊎ ((e ≡ reasons.Register) × (IsLegal (sketch_in header body.now) → ⊥))) }
+{
+    match header.held {
+        Held::Coupons(coupons) => image_of_coupons(alloc, header.lg_k, hll_type, coupons, body),
+        Held::Registers(estimate_state) => {
+            let registers = small_registers(body, header.lg_k)?;
+            image_with_fields(sketch_with_state(
+                alloc,
+                header.lg_k,
+                hll_type,
+                registers,
+                estimate_state,
+            )?)
+        }
+    }
+}
+
+/// The image of coupons in ascending order.
+///
+/// Fails with `Memory`.
+fn image_of_coupons(
+    alloc: Global,
+    lg_k: u8,
+    hll_type: HllType,
+    coupons: CouponTable,
+    body: &[[u8; 4]],
+) -> Result<Vec<u8>, Error>
+    requires lg_k { IsLgK lg_k }
+    requires within { AreWithin lg_k coupons (length body.now) }
+    requires resolved { AreResolved lg_k coupons body.now }
+    ensures ok { IfOk result (λ image. IsImageOf (FillsFields (record { lg_k = lg_k; width = hll_type; content = content_of lg_k (headers.of_coupons coupons) body.now })) image.items) }
+    ensures err { IfErr result (λ e. e ≡ Memory) }
+{
+    coupon_image(
+        alloc,
+        lg_k,
+        hll_type,
+        lg_size_of(lg_k, coupons),
+        coupons.run.as_bytes(body),
+    )
+}
+
+/// The size of the table of coupons that have one.
+fn lg_size_of(lg_k: u8, coupons: CouponTable) -> u8
+    requires most { lg_k ≤ 21 }
+    requires stays { coupons.added ≡ true → stages.stage lg_k coupons.lg_size coupons.run.used ≢ None }
+    ensures taken { coupons.added ≡ false → result ≡ coupons.lg_size }
+    ensures added { coupons.added ≡ true → stages.stage lg_k coupons.lg_size coupons.run.used ≡ Some result }
+{
+    match stage(lg_k, coupons.lg_size, coupons.run.used) {
+        Some(lg_size) if coupons.added => lg_size,
+        _ => coupons.lg_size,
+    }
+}
+
+/// The registers of a state as bytes. `Register` where one is above 63.
+fn small_registers(body: &[[u8; 4]], lg_k: u8) -> Result<&[u8], Error>
+    requires lg_k { IsLgK lg_k }
+    requires within { 2 ^ (lg_k - 2) ≤ length body.now }
+    ensures registers { IfOk result (λ registers. registers.now ≡ values (take (2 ^ (lg_k - 2)) body.now)) }
+    ensures ok { IfOk result (λ registers. AreRegisters lg_k registers.now) }
+    ensures err { IfErr result (λ e. (e ≡ reasons.Register) × (AreRegisters lg_k (values (take (2 ^ (lg_k - 2)) body.now)) → ⊥)) }
+{
+    let registers = as_bytes(body, lg_k);
+    if greatest_of(registers) > MAX_VALUE {
+        return Err(Error::new(Reason::Register));
+    }
+    Ok(registers)
+}
+
+/// The estimate of what a state means.
+pub(crate) fn estimate_of(state: &mut [[u8; 4]]) -> Result<HllEstimate, Error>
+    ensures ok { IfOk result (SaysEstimateOfState state.old) }
+    ensures err { IfErr result (RefusesState (Unit {0}) state.old) }
+    ensures needless { IfErr result (λ e. e ≢ Memory) }
+    ensures kept { IsOnlyRead state.old state.new }
+{
+    let Some(header) = resolve(state) else {
+        return Err(Error::new(Reason::Argument));
+    };
+    estimate_of_held(header, &state[HEADER_LEN..])
+}
+
+/// The estimate of what a state means that is ready to be read. `Register` where a register is above 63.
+fn estimate_of_held(header: Header, body: &[[u8; 4]]) -> Result<HllEstimate, Error>
+    requires within { IsWithin header (length body.now) }
+    requires resolved { IsResolved header body.now }
+    ensures ok { IfOk result (IsEstimateOfContent header.lg_k (content_of header.lg_k header.held body.now)) }
+    ensures err { IfErr result (λ e. (e ≡ reasons.Register) × (IsLegal (sketch_in header body.now) → ⊥)) }
+{
+    match header.held {
+        Held::Coupons(coupons) => Ok(estimate_of_coupons(coupons.run.used)),
+        Held::Registers(_) => {
+            let registers = small_registers(body, header.lg_k)?;
+            Ok(estimate_of_registers(header.lg_k, registers))
+        }
+    }
+}

@@ -1,0 +1,170 @@
+// SPDX-License-Identifier: Apache-2.0
+//! The sketch of an image, without a copy where its coupons or registers can be used as they lie in its bytes.
+ghost use Rattle.std.specs.Prelude.{◌≡◌, ◌<◌, IfOk, IfErr};
+ghost use Rattle.hll_base.specs.declared.error.Reason.TheVariants.{Memory};
+ghost use Rattle.hll_coupons.specs.Coupons.{raw_coupons, AreCoupons};
+ghost use Rattle.hll_sketch.specs.BorrowedImage.{sketch_of_borrowed, sketch_of_coupons, BorrowNeedsMemory};
+ghost use Rattle.hll_sketch.specs.Header.{header_of};
+ghost use Rattle.hll_sketch.specs.Image.{HasHeader, IsReadAs, stage_bits};
+ghost use Rattle.hll_sketch.specs.MergedIn.{IsOfCoupons};
+ghost use Rattle.hll_sketch.specs.Refusal.{IsRefusal};
+ghost use Rattle.hll_sketch.specs.Value.{is_empty};
+
+use crate::coupons_of_image::CouponsOfImage;
+use crate::header::{Header, Stage};
+use crate::raw_coupons::{RawCoupons, compact_coupons};
+use crate::raw_registers::{eight_bit_registers, four_bit_registers, six_bit_registers};
+use crate::read_image::read_sketch;
+use crate::sketch::HllSketch;
+use hll_base::error::Error;
+use hll_base::hll_type::HllType;
+use hll_registers::group_slice::GroupSlice;
+use hll_registers::nibble_slice::NibbleSlice;
+use hll_registers::register_slice::RegisterSlice;
+use std::alloc::{Allocator, Global};
+
+/// The sketch of an image. Only a table and the map of exceptions of registers of four bits are in memory of their own.
+pub enum BorrowedImage<'a, A: Allocator = Global> {
+    /// Coupons of a compact image that ascend, or are at most 128.
+    Coupons(CouponsOfImage<'a>),
+    /// Any other list or set of coupons.
+    Table(HllSketch<A>),
+    /// Registers of four bits.
+    Nibbles(NibbleSlice<'a, A>),
+    /// Registers of six bits.
+    Groups(GroupSlice<'a>),
+    /// Registers of eight bits.
+    Bytes(RegisterSlice<'a>),
+}
+
+/// Written out, and not derived, so that the proof of whatever drops an image calls this and doesn't go through its kinds.
+impl<'a, A: Allocator> Drop for BorrowedImage<'a, A> {
+    fn drop(self) {
+        match self {
+            BorrowedImage::Coupons(_) => {}
+            BorrowedImage::Table(sketch) => drop(sketch),
+            BorrowedImage::Nibbles(registers) => drop(registers),
+            BorrowedImage::Groups(registers) => drop(registers),
+            BorrowedImage::Bytes(registers) => drop(registers),
+        }
+    }
+}
+
+impl<'a, A: Allocator + Clone> BorrowedImage<'a, A> {
+    /// Reads an image of any stage and width. Bytes after the image are ignored.
+    ///
+    /// Fails with the reason of the first check that the image fails, or else with `Memory`. Allocates only once the bytes
+    /// that the image asks for are there: a table for coupons, unless the image is compact, and they ascend or are at most
+    /// 128; and a map for the exceptions of registers of four bits, where they have some.
+    pub fn read(alloc: A, image: &'a [u8]) -> Result<BorrowedImage<'a, A>, Error>
+        ensures ok { IfOk result (λ r. IsReadAs image.now (sketch_of_borrowed r)) }
+        ensures err { IfErr result (IsRefusal image.now) }
+        ensures needed { IfErr result (λ e. e ≡ Memory → BorrowNeedsMemory image.now) }
+    {
+        let header = Header::read(image)?;
+        match header.stage {
+            Stage::List | Stage::Set => read_coupons(&alloc, image, header),
+            Stage::Hll => read_registers(&alloc, image, header),
+        }
+    }
+}
+
+impl<'a, A: Allocator> BorrowedImage<'a, A> {
+    /// Returns whether there are no coupons, or the registers are all 0.
+    pub fn is_empty(&self) -> bool
+        ensures { result ≡ is_empty (sketch_of_borrowed self.now) }
+    {
+        match self {
+            BorrowedImage::Coupons(coupons) => coupons.elements.len() == 0,
+            BorrowedImage::Table(sketch) => sketch.is_empty(),
+            BorrowedImage::Nibbles(registers) => registers.are_all_zero(),
+            BorrowedImage::Groups(registers) => registers.are_all_zero(),
+            BorrowedImage::Bytes(registers) => registers.are_all_zero(),
+        }
+    }
+
+    /// Returns the width of registers.
+    pub fn hll_type(&self) -> HllType
+        ensures { result ≡ (sketch_of_borrowed self.now).width }
+    {
+        match self {
+            BorrowedImage::Coupons(coupons) => coupons.hll_type,
+            BorrowedImage::Table(sketch) => sketch.target_type(),
+            BorrowedImage::Nibbles(_) => HllType::Hll4,
+            BorrowedImage::Groups(_) => HllType::Hll6,
+            BorrowedImage::Bytes(_) => HllType::Hll8,
+        }
+    }
+}
+
+/// The coupons after the header of an image of a list or a set, as `BorrowedImage::read` returns them.
+fn read_coupons<'a, A: Allocator + Clone>(
+    alloc: &A,
+    image: &'a [u8],
+    header: Header,
+) -> Result<BorrowedImage<'a, A>, Error>
+    requires has { HasHeader image.now (stage_bits image.now) }
+    requires stage { stage_bits image.now < 2 }
+    requires header { header ≡ header_of image.now }
+    ensures ok { IfOk result (λ r. IsReadAs image.now (sketch_of_borrowed r)) }
+    ensures err { IfErr result (IsRefusal image.now) }
+    ensures needed { IfErr result (λ e. e ≡ Memory → BorrowNeedsMemory image.now) }
+{
+    match compact_coupons(image, header) {
+        Some(coupons) => {
+            let coupons = coupons_of_image(image, header, coupons);
+            Ok(BorrowedImage::Coupons(coupons))
+        }
+        None => {
+            let sketch = read_sketch(alloc, image, header)?;
+            Ok(BorrowedImage::Table(sketch))
+        }
+    }
+}
+
+/// Coupons of a compact image, with what its header says.
+fn coupons_of_image<'a>(
+    image: &'a [u8],
+    header: Header,
+    coupons: RawCoupons<'a>,
+) -> CouponsOfImage<'a>
+    requires header { header ≡ header_of image.now }
+    requires of { IsOfCoupons image.now (raw_coupons coupons.count coupons.bytes.now) }
+    requires are { AreCoupons (raw_coupons coupons.count coupons.bytes.now) }
+    ensures { IsReadAs image.now (sketch_of_coupons result) }
+{
+    CouponsOfImage {
+        lg_k: header.lg_k,
+        hll_type: header.hll_type,
+        lg_size: header.lg_arr,
+        elements: coupons.elements(),
+    }
+}
+
+/// The registers after the header of an image, as `BorrowedImage::read` returns them.
+fn read_registers<'a, A: Allocator + Clone>(
+    alloc: &A,
+    image: &'a [u8],
+    header: Header,
+) -> Result<BorrowedImage<'a, A>, Error>
+    requires has { HasHeader image.now 2 }
+    requires header { header ≡ header_of image.now }
+    ensures ok { IfOk result (λ r. IsReadAs image.now (sketch_of_borrowed r)) }
+    ensures err { IfErr result (IsRefusal image.now) }
+    ensures needed { IfErr result (λ e. e ≡ Memory → BorrowNeedsMemory image.now) }
+{
+    match header.hll_type {
+        HllType::Hll4 => {
+            let registers = four_bit_registers(alloc, image, header)?;
+            Ok(BorrowedImage::Nibbles(registers))
+        }
+        HllType::Hll6 => {
+            let registers = six_bit_registers(image, header)?;
+            Ok(BorrowedImage::Groups(registers))
+        }
+        HllType::Hll8 => {
+            let registers = eight_bit_registers(image, header)?;
+            Ok(BorrowedImage::Bytes(registers))
+        }
+    }
+}

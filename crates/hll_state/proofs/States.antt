@@ -1,0 +1,102 @@
+-- SPDX-License-Identifier: Apache-2.0
+-- States in elements.
+use Rattle.std.proofs.Common.{◌≡◌, ℕ, ◌-◌, ◌^◌, ◌<◌, ◌≤◌, List, ◌++◌, length, take, drop, Some, sym, ap, subst, ◌∙◌, arith, refl}
+use Rattle.std.specs.Prelude.{max}
+use Rattle.std.proofs.Math.Pow.{pow_mono}
+use Rattle.std.proofs.Math.Seq.{drop-append_seam}
+use Rattle.std.proofs.lemmas.List.{length-append, length-take-le}
+use Rattle.std.proofs.lemmas.List.{length-drop, take_all, drop_all, append-nil}
+use borrow.Rule.Slice.PartMut.{mid_of, put_mid}
+use Rattle.hll_sketch.specs.Value.{Sketch}
+use Rattle.hll_state.specs.Counter.{sketch_in}
+use Rattle.hll_state.specs.Header.{IsWithin, HasRoom, most_used}
+use Rattle.hll_state.specs.Memory.{HasHeader, IsStateOf, OfState, IsReady, AreEnough}
+use Rattle.hll_state.specs.declared.header.Header.{Header}
+
+-- elements have one header
+pub one_header : (elements : List (List ℕ)) (g h : Header) → HasHeader elements g → HasHeader elements h → g ≡ h
+one_header elements g h is other = let same : Some g ≡ Some h = sym is.read ∙ other.read in cc
+
+-- the elements after the first ten
+pub rest_of : (elements body : List (List ℕ)) → 10 ≤ length elements → drop 10 (take 10 elements ++ body) ≡ body
+rest_of elements body there = ap (λ n. drop n (take 10 elements ++ body)) (sym (length-take-le 10 elements there)) ∙ drop-append_seam (take 10 elements) body
+
+-- those that are borrowed, as they were and as they were written
+pub rest_borrowed : (elements : List (List ℕ)) → mid_of 10 (length elements - 10) elements ≡ drop 10 elements
+rest_borrowed elements = take_all (length elements - 10) (drop 10 elements) (omega (arith, length-drop 10 elements))
+
+pub rest_written : (elements body : List (List ℕ)) → 10 ≤ length elements → drop 10 (put_mid 10 (length elements - 10) elements body) ≡ body
+rest_written elements body there =
+    let k : ℕ = length elements - 10 in
+    rest_of elements (body ++ drop k (drop 10 elements)) there
+    ∙ ap (λ zs. body ++ zs) (drop_all k (drop 10 elements) (omega (arith, length-drop 10 elements))) ∙ append-nil body
+
+-- the header that is read for a state is its own, whatever is written over the elements after it
+pub opened : (elements body : List (List ℕ)) (h g : Header) → HasHeader elements h → sketch_in g body ≡ sketch_in h (mid_of 10 (length elements - 10) elements)
+    → sketch_in g body ≡ sketch_in h (drop 10 elements)
+opened elements body h g has same = same ∙ ap (sketch_in h) (rest_borrowed elements)
+
+-- what a state means
+pub means : (elements : List (List ℕ)) (h : Header) → HasHeader elements h → IsStateOf elements (sketch_in h (drop 10 elements))
+means elements h has = record { state = record { header = h; has = has }; is = refl }
+
+-- what elements with a header of their own mean
+pub kept : (old new : List (List ℕ)) (g h : Header) → HasHeader old g → HasHeader new h → sketch_in h (drop 10 new) ≡ sketch_in g (drop 10 old) → OfState old (IsStateOf new)
+kept old new g h was is same = record {
+  sketch = sketch_in g (drop 10 old);
+  was = means old g was;
+  is = record { state = record { header = h; has = is }; is = sym same };
+}
+
+-- ---- a state that is ready for n coupons
+
+module _ (n : ℕ) (old new : List (List ℕ)) (h : Header) (ready : IsReady n old new h) (same : length new ≡ length old) where
+  pub ready_size : length (mid_of 10 (length new - 10) new) ≡ length old - 10
+  ready_size = ap length (rest_borrowed new) ∙ length-drop 10 new ∙ ap (λ l. l - 10) same
+
+  pub ready_within : IsWithin h (length (mid_of 10 (length new - 10) new))
+  ready_within = subst (IsWithin h) (sym ready_size) ready.within
+
+  pub ready_room : HasRoom h n (length (mid_of 10 (length new - 10) new))
+  ready_room = subst (HasRoom h n) (sym ready_size) ready.room
+
+  pub written_size : (body : List (List ℕ)) → length body ≡ length (mid_of 10 (length new - 10) new) → length (put_mid 10 (length new - 10) new body) ≡ length old
+  written_size body l =
+      let k : ℕ = length new - 10 in
+      let after : List (List ℕ) = drop k (drop 10 new) in
+      omega (
+        arith,
+        ready.there,
+        same,
+        l,
+        ready_size,
+        length-append (take 10 new) (body ++ after),
+        length-append body after,
+        length-drop k (drop 10 new),
+        length-drop 10 new,
+        length-take-le 10 new (omega (arith, ready.there, same)),
+      )
+
+  pub written_within : (body : List (List ℕ)) → length body ≡ length (mid_of 10 (length new - 10) new) → length (mid_of 10 (length new - 10) new) ≡ length (put_mid 10 (length new - 10) new body) - 10
+  written_within body l = ready_size ∙ ap (λ m. m - 10) (sym (written_size body l))
+
+  -- once something was made of it, and its header was written
+  pub closed : (f : Sketch → Sketch) (g : Header) (body final : List (List ℕ)) → sketch_in g body ≡ f (sketch_in h (mid_of 10 (length new - 10) new)) → HasHeader final g
+      → drop 10 final ≡ drop 10 (put_mid 10 (length new - 10) new body) → OfState old (λ x. IsStateOf final (f x))
+  closed f g body final made has rest =
+      let there : 10 ≤ length new = omega (arith, ready.there, same) in
+      let is : f ready.means.sketch ≡ sketch_in g (drop 10 final) = ap f (ready.means.is ∙ ap (sketch_in h) (sym (rest_borrowed new))) ∙ sym made ∙ ap (sketch_in g) (sym (rest ∙ rest_written new body there)) in
+      record { sketch = ready.means.sketch; was = ready.means.was; is = record { state = record { header = g; has = has }; is = is } }
+
+-- enough elements are fewer than 2^32
+pub enough_fits : (elements : List (List ℕ)) (n len : ℕ) → AreEnough elements n len → len < 2 ^ 32
+enough_fits elements n len enough =
+    let k : ℕ = enough.header.lg_k in
+    let most : k ≤ 21 = enough.has.within.lg_k.high in
+    let up : 2 ^ (k - 2) ≤ 2 ^ 19 = pow_mono {i = k - 2} {j = 19} (omega (arith, most)) in
+    let used : most_used k ≤ 2 ^ 18 = pow_mono {i = max 4 (k - 3)} {j = 18} (omega (arith, most)) in
+    omega (arith, enough.most, up, used)
+
+-- what was read of a state, where the elements after its header are borrowed
+pub read_at : (old new : List (List ℕ)) (h : Header) → OfState old (λ x. x ≡ sketch_in h (drop 10 new)) → OfState old (λ x. x ≡ sketch_in h (mid_of 10 (length new - 10) new))
+read_at old new h of = record { sketch = of.sketch; was = of.was; is = of.is ∙ ap (sketch_in h) (sym (rest_borrowed new)) }

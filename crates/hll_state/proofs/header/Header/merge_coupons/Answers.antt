@@ -1,0 +1,30 @@
+-- SPDX-License-Identifier: Apache-2.0
+use Rattle.std.proofs.Common.{◌≡◌, ℕ, nat_eq, false, ◌&&◌, List, length, refl, sym, ap, ◌∙◌, arith}
+use Rattle.std.specs.FinSet.{len}
+use Rattle.std.proofs.lemmas.Bool.{ne_eqb}
+use Rattle.hll_coupons.specs.Pair.{set_of}
+use Rattle.hll_sketch.specs.Laws.{add_in_turn}
+use Rattle.hll_sketch.specs.Value.{Sketch, is_empty}
+use Rattle.hll_sketch.proofs.Emptiness.{listed-none}
+use Rattle.hll_sketch.proofs.Merges.{coupons_merged, other_empty, other_size}
+use Rattle.hll_state.specs.Counter.{sketch_in}
+use Rattle.hll_state.specs.CouponRun.{raws}
+use Rattle.hll_state.specs.Merged.{table_of}
+use Rattle.hll_state.proofs.Raws.{length-raws}
+use Rattle.hll_state.proofs.header.Header.merge_coupons.Goals as goal
+use Rattle.hll_state.proofs.header.Header.merge_coupons.Goals.{else-self-lg_k-via-then-self-lg_k+else-is_empty, else-self-lg_k-via-else-self-lg_k}
+
+pub returns-clause-merged : goal.returns-clause-merged
+returns-clause-merged c _ =
+    let g : Sketch = sketch_in c.args.self.now c.args.body.now in
+    let x : Sketch = table_of c.args.lg_k c.args.lg_size c.args.coupons.now in
+    let order : List ℕ = raws c.args.coupons.now in
+    let some : is_empty x ≡ false = ne_eqb (len (set_of order)) 0 (λ none. omega (arith, ap length (listed-none order none), length-raws c.args.coupons.now, c.requires.some)) in
+    let found : (sketch_in c.else-self-lg_k.self c.else-self-lg_k.body ≡ g) × ((is_empty g && nat_eq g.lg_k c.args.lg_k) ≡ false) = elim c.else-self-lg_k.branch [
+      | else-self-lg_k-via-then-self-lg_k+else-is_empty w ↦
+          ((λ i. sketch_in (w.self-is i) (w.body-is i)) ∙ w.is_empty.ensures.same, other_empty (is_empty g) g.lg_k c.args.lg_k (sym w.is_empty.ensures.empty ∙ w.if-is_empty.false))
+      | else-self-lg_k-via-else-self-lg_k w ↦
+          ((λ i. sketch_in (w.self-is i) (w.body-is i)), other_size (is_empty g) g.lg_k c.args.lg_k w.if-self-lg_k.false)
+    ] in
+    coupons_merged g x (sketch_in c.push_all.new.self c.push_all.new.body) order c.args.lg_size found.1 refl some
+    (c.push_all.ensures.added ∙ ap (λ y. add_in_turn y order) (c.make_room.ensures.same ∙ found.0))

@@ -1,0 +1,22 @@
+-- SPDX-License-Identifier: Apache-2.0
+use Rattle.std.proofs.Common.{◌≤◌, length, arith}
+use Rattle.hll_state.specs.Header.{elements_for}
+use Rattle.hll_state.proofs.Emptiness.{table_within}
+use Rattle.hll_state.proofs.Rooms.{used_within}
+use Rattle.hll_state.proofs.header.Header.take_coupons.Goals as goal
+
+pub copy_to-requires : goal.copy_to-requires
+copy_to-requires c =
+    let k = c.args.self.now.lg_k in
+    let n = length c.args.coupons.now in
+    let room = length c.args.body.now in
+    let enough : elements_for k n ≤ room = omega (arith, c.if-body-elements_for.false, c.elements_for.ensures) in
+    omega (arith, used_within k n room (table_within k n c.args.lg_size room c.requires.table enough).used enough)
+
+pub returns-clause-within : goal.returns-clause-within
+returns-clause-within c =
+    let k = c.args.self.now.lg_k in
+    let n = length c.args.coupons.now in
+    let room = length c.args.body.now in
+    let enough : elements_for k n ≤ room = omega (arith, c.if-body-elements_for.false, c.elements_for.ensures) in
+    record { lg_k = c.requires.within.lg_k; widths = c.requires.within.widths; held = table_within k n c.args.lg_size room c.requires.table enough }

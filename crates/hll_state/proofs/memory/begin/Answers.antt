@@ -1,0 +1,48 @@
+-- SPDX-License-Identifier: Apache-2.0
+use Rattle.std.proofs.Common.{◌≡◌, ℕ, ◌-◌, List, length, drop, sym, ap, subst, ◌∙◌, refl}
+use Rattle.std.proofs.lemmas.List.{length-drop}
+use borrow.Rule.Slice.PartMut.{mid_of}
+use Rattle.hll_state.specs.Counter.{sketch_in}
+use Rattle.hll_state.specs.Header.{IsWithin, HasRoom}
+use Rattle.hll_state.specs.Memory.{HasHeader}
+use Rattle.hll_state.specs.declared.header.Header.{Header}
+use Rattle.hll_state.proofs.States.{opened, rest_borrowed, rest_written, means, kept}
+use Rattle.hll_state.proofs.memory.begin.Goals as goal
+
+pub returns-in_default : goal.returns-in_default
+returns-in_default c = record { none = c.in_default.ensures.none; same = refl }
+
+pub returns-then-has_room : goal.returns-then-has_room
+returns-then-has_room c =
+    let e : List (List ℕ) = c.args.elements.now in
+    let h : Header = c.in-Some.header in
+    let g : Header = c.make_room-has_room.new.self in
+    let has : HasHeader e h = c.in-Some.ensures.some in
+    let b : List (List ℕ) = c.make_room-has_room.new.body in
+    let size : length (mid_of 10 (length e - 10) e) ≡ length e - 10 = ap length (rest_borrowed e) ∙ length-drop 10 e in
+    record {
+      there = has.there;
+      within = subst (IsWithin g) size c.make_room-has_room.ensures.within;
+      room = subst (HasRoom g c.args.count) size (c.make_room-has_room.ensures.room c.if-has_room.true);
+      means = record {
+        sketch = sketch_in h (drop 10 e);
+        was = means e h has;
+        is = sym (opened e b h g has c.make_room-has_room.ensures.same) ∙ ap (sketch_in g) (sym (rest_written e b has.there));
+      };
+    }
+
+pub returns : goal.returns
+returns c =
+    let e : List (List ℕ) = c.args.elements.now in
+    let n : List (List ℕ) = c.close.new.elements in
+    let h : Header = c.in-Some.header in
+    let g : Header = c.make_room-has_room.new.self in
+    let has : HasHeader e h = c.in-Some.ensures.some in
+    let b : List (List ℕ) = c.make_room-has_room.new.body in
+    let size : length (mid_of 10 (length e - 10) e) ≡ length e - 10 = ap length (rest_borrowed e) ∙ length-drop 10 e in
+    let rest : drop 10 n ≡ b = c.close.ensures.rest ∙ rest_written e b has.there in
+    record {
+      kept = kept e n h g has c.close.ensures.header (ap (sketch_in g) rest ∙ opened e b h g has c.make_room-has_room.ensures.same);
+      lacks = λ can. c.make_room-has_room.ensures.none c.if-has_room.false (subst (HasRoom h c.args.count) (sym size) (can h has));
+      enough = record { header = g; has = c.close.ensures.header; header_fits = c.len_for.ensures.least; room = c.len_for.ensures.room; most = c.len_for.ensures.most };
+    }

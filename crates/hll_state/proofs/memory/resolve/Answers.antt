@@ -1,0 +1,39 @@
+-- SPDX-License-Identifier: Apache-2.0
+use Rattle.std.proofs.Common.{ℕ, List, drop, sym, ap, subst, ◌∙◌}
+use Rattle.hll_state.specs.Counter.{sketch_in, IsResolved}
+use Rattle.hll_state.specs.Memory.{HasHeader}
+use Rattle.hll_state.specs.declared.header.Header.{Header}
+use Rattle.hll_state.proofs.States.{opened, rest_written, means, kept}
+use Rattle.hll_state.proofs.memory.resolve.Goals as goal
+
+pub returns-clause-resolved : goal.returns-clause-resolved
+returns-clause-resolved c =
+    let e : List (List ℕ) = c.args.elements.now in
+    let has : HasHeader e c.in_ok-header.header = c.in_ok-header.ensures.some in
+    let rest = c.close.ensures.rest ∙ rest_written e c.resolve.new.body has.there in
+    subst (IsResolved c.resolve.new.self) (sym rest) c.resolve.ensures.resolved
+
+pub returns-clause-some : goal.returns-clause-some
+returns-clause-some c =
+    let e : List (List ℕ) = c.args.elements.now in
+    let h : Header = c.in_ok-header.header in
+    let g : Header = c.resolve.new.self in
+    let has : HasHeader e h = c.in_ok-header.ensures.some in
+    let rest = c.close.ensures.rest ∙ rest_written e c.resolve.new.body has.there in
+    record {
+      sketch = sketch_in h (drop 10 e);
+      was = means e h has;
+      is = sym (opened e c.resolve.new.body h g has c.resolve.ensures.same) ∙ ap (sketch_in g) (sym rest);
+    }
+
+pub returns-clause-read : goal.returns-clause-read
+returns-clause-read c =
+    let e : List (List ℕ) = c.args.elements.now in
+    let h : Header = c.in_ok-header.header in
+    let g : Header = c.resolve.new.self in
+    let has : HasHeader e h = c.in_ok-header.ensures.some in
+    let rest = c.close.ensures.rest ∙ rest_written e c.resolve.new.body has.there in
+    record {
+      kept = λ s. kept e c.close.new.elements h g has c.close.ensures.header (ap (sketch_in g) rest ∙ opened e c.resolve.new.body h g has c.resolve.ensures.same);
+      unchanged = λ none. absurd (none (record { header = h; has = has }));
+    }

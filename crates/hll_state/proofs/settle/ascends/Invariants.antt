@@ -1,0 +1,10 @@
+-- SPDX-License-Identifier: Apache-2.0
+use Rattle.std.proofs.Common.{ℕ, ◌+◌, ◌<◌, ◌≤◌, ◌↔◌, length, get_or}
+use Rattle.std.specs.Prelude.{IsTrue}
+use Rattle.hll_state.specs.CouponRun.{raws}
+use Rattle.hll_state.proofs.settle.ascends.Given as goal
+
+-- whether the coupons before the i-th one ascend
+abbrev pub invariant-loop-i : goal.invariant-loop-i
+invariant-loop-i l = (l.i ≤ length l.coupons + 1)
+    × (IsTrue l.ascends ↔ ((k : ℕ) → k + 1 < l.i → get_or (raws l.coupons) k 0 < get_or (raws l.coupons) (k + 1) 0))

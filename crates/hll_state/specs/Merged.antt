@@ -1,0 +1,58 @@
+-- SPDX-License-Identifier: Apache-2.0
+-- What is merged into a state.
+use Rattle.std.specs.Prelude.{ℕ, ◌+◌, ◌-◌, ◌/◌, ◌%◌, ◌^◌, ◌≤◌, ◌==◌, if◌then◌else◌, List, take}
+use Rattle.hll_base.specs.declared.hll_type.HllType.{HllType}
+use Rattle.hll_base.specs.declared.hll_type.HllType.TheVariants.{Hll4, Hll6, Hll8}
+use Rattle.hll_coupons.specs.Pair.{set_of}
+use Rattle.hll_coupons.specs.Table.{Table, coupons_of}
+use Rattle.hll_kernels.specs.Packed.{AreRegisters}
+use Rattle.hll_sketch.specs.Value.{Sketch, coupons, is_empty}
+use Rattle.hll_state.specs.Counter.{content_of}
+use Rattle.hll_state.specs.CouponRun.{raws}
+use Rattle.hll_state.specs.Header.{HasRoom, elements_for}
+use Rattle.hll_state.specs.Registers.{values}
+use Rattle.hll_state.specs.declared.header.Header.{Header}
+use Rattle.hll_state.specs.declared.header.Held.{Held}
+use Rattle.hll_state.specs.declared.header.Held.TheVariants.{Coupons, Registers}
+
+-- the coupons of elements, in a table of 2^size buckets
+abbrev pub table_of : ℕ → ℕ → List (List ℕ) → Sketch
+table_of k size elements = record { lg_k = k; width = Hll8; content = coupons (set_of (raws elements)) size }
+
+-- the coupons of a table
+abbrev pub sketch_of_table : ℕ → Table → Sketch
+sketch_of_table k t = record { lg_k = k; width = Hll8; content = coupons (coupons_of t) t.lg_size }
+
+-- what a state holds, as a sketch
+abbrev pub sketch_of_held : ℕ → Held → List (List ℕ) → Sketch
+sketch_of_held k held body = record { lg_k = k; width = Hll8; content = content_of k held body }
+
+abbrev pub AreHeldRegistersLegal : ℕ → Held → List (List ℕ) → Type 0
+AreHeldRegistersLegal k (Coupons c) body = Unit {0}
+AreHeldRegistersLegal k (Registers s) body = AreRegisters k (values (take (2 ^ (k - 2)) body))
+
+-- the registers of a state, if it holds some, are 0 to 63
+abbrev pub HasLegalRegisters : Header → List (List ℕ) → Type 0
+HasLegalRegisters h body = AreHeldRegistersLegal h.lg_k h.held body
+
+-- ---- widths
+
+-- the bit of a width: 1 for four bits, 2 for six, 4 for eight
+abbrev pub bit_of : HllType → ℕ
+bit_of Hll4 = 1
+bit_of Hll6 = 2
+bit_of Hll8 = 4
+
+-- widths with one more
+abbrev pub widths_with : ℕ → HllType → ℕ
+widths_with widths width = if widths / bit_of width % 2 == 1 then widths else widths + bit_of width
+
+-- widths after a merge; an empty sketch adds none
+abbrev pub widths_after : ℕ → Sketch → ℕ
+widths_after widths x = if is_empty x then widths else widths_with widths x.width
+
+-- ---- room
+
+-- so many elements after the header are enough for n coupons more, and for these alone
+abbrev pub HasRoomToMerge : Header → ℕ → ℕ → Type 0
+HasRoomToMerge h n room = HasRoom h n room × (elements_for h.lg_k n ≤ room)

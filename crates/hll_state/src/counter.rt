@@ -1,0 +1,122 @@
+// SPDX-License-Identifier: Apache-2.0
+//! A state: a header, and the elements after it. Coupons are added to it, and what it means is made ready to be read.
+ghost use Rattle.std.specs.Prelude.{◌≡◌, ℕ, ◌+◌, ◌-◌, ◌^◌, ◌<◌, ◌≤◌, ◌∷◌, [], true, length};
+ghost use Rattle.hll_coupons.specs.Pair.{Pairs, set_of};
+ghost use Rattle.hll_registers.specs.State.{state_after};
+ghost use Rattle.hll_sketch.specs.Adding.{add, content_with};
+ghost use Rattle.hll_sketch.specs.Value.{IsLgK};
+ghost use Rattle.hll_state.specs.Counter.{sketch_in, content_of, IsHeldResolved, IsResolved};
+ghost use Rattle.hll_state.specs.Header as spec;
+ghost use Rattle.hll_state.specs.Header.{AreWithin, IsHeldWithin, IsWithin, HasRoomFor, HasRoom, HasElementLeft};
+ghost use Rattle.hll_state.specs.Registers.{values};
+
+use crate::header::{CouponTable, Header, Held, most_used};
+use crate::registers::{promote, raise};
+use hll_registers::estimate_state::EstimateState;
+use hll_registers::registers::two_to;
+use hll_sketch::stage::stage;
+
+impl Header {
+    /// Makes what the state means ready to be read: coupons ascend, each once, or they have become registers. The meaning stays.
+    pub fn resolve(&mut self, body: &mut [[u8; 4]])
+        requires { IsWithin self.old (length body.old) }
+        ensures within { IsWithin self.new (length body.old) }
+        ensures same { sketch_in self.new body.new ≡ sketch_in self.old body.old }
+        ensures resolved { IsResolved self.new body.new }
+        ensures widths { self.new.widths ≡ self.old.widths }
+        ensures room { (n : ℕ) → HasRoom self.old n (length body.old) → HasRoom self.new n (length body.old) }
+    {
+        if let Held::Coupons(coupons) = self.held {
+            self.held = coupons.resolved(body, self.lg_k);
+        }
+    }
+
+    /// Adds a raw coupon, as to a sketch. There is room for it.
+    #[inline(always)]
+    pub fn push(&mut self, body: &mut [[u8; 4]], raw: u32)
+        requires within { IsWithin self.old (length body.old) }
+        requires room { HasRoom self.old 1 (length body.old) }
+        ensures within { IsWithin self.new (length body.old) }
+        ensures added { sketch_in self.new body.new ≡ add (sketch_in self.old body.old) (set_of (raw ∷ [])) }
+        ensures widths { self.new.widths ≡ self.old.widths }
+        ensures room { (n : ℕ) → HasRoom self.old (n + 1) (length body.old) → HasRoom self.new n (length body.old) }
+    {
+        self.leave_element(body);
+        self.held = match self.held {
+            Held::Coupons(coupons) => Held::Coupons(coupons.with(body, self.lg_k, raw)),
+            Held::Registers(state) => Held::Registers(raise_one(body, self.lg_k, raw, state)),
+        };
+    }
+
+    /// Counts the distinct coupons where as many are in use as may be, since some are to be added: too many become registers.
+    #[inline(always)]
+    fn leave_element(&mut self, body: &mut [[u8; 4]])
+        requires { IsWithin self.old (length body.old) }
+        ensures within { IsWithin self.new (length body.old) }
+        ensures same { (T : Pairs) → add (sketch_in self.new body.new) T ≡ add (sketch_in self.old body.old) T }
+        ensures left { HasElementLeft self.new.lg_k self.new.held }
+        ensures widths { self.new.widths ≡ self.old.widths }
+        ensures room { (n : ℕ) → HasRoom self.old n (length body.old) → HasRoom self.new n (length body.old) }
+    {
+        if let Held::Coupons(coupons) = self.held
+            && coupons.run.used == most_used(self.lg_k)
+        {
+            let adding = CouponTable {
+                added: true,
+                ..coupons
+            };
+            self.held = adding.resolved(body, self.lg_k);
+        }
+    }
+}
+
+impl CouponTable {
+    /// The coupons, ascending and each once; or registers, where some were added and are too many for a table.
+    #[inline(never)]
+    fn resolved(mut self, body: &mut [[u8; 4]], lg_k: u8) -> Held
+        requires lg_k { IsLgK lg_k }
+        requires within { AreWithin lg_k self (length body.old) }
+        ensures within { IsHeldWithin lg_k result (length body.old) }
+        ensures same { content_of lg_k result body.new ≡ content_of lg_k (spec.of_coupons self) body.old }
+        ensures resolved { IsHeldResolved lg_k result body.new }
+        ensures left { self.added ≡ true → HasElementLeft lg_k result }
+        ensures room { (n : ℕ) → HasRoomFor lg_k (spec.of_coupons self) n (length body.old) → HasRoomFor lg_k result n (length body.old) }
+    {
+        self.run.settle(body);
+        if self.added && stage(lg_k, self.lg_size, self.run.used).is_none() {
+            promote(self.run, body, lg_k);
+            return Held::Registers(EstimateState::CLEARED);
+        }
+        Held::Coupons(self)
+    }
+
+    /// The coupons and one more. An element is left for it.
+    #[inline(always)]
+    fn with(mut self, body: &mut [[u8; 4]], lg_k: u8, raw: u32) -> CouponTable
+        requires lg_k { IsLgK lg_k }
+        requires within { AreWithin lg_k self (length body.old) }
+        requires room { HasRoomFor lg_k (spec.of_coupons self) 1 (length body.old) }
+        requires left { HasElementLeft lg_k (spec.of_coupons self) }
+        ensures within { AreWithin lg_k result (length body.old) }
+        ensures added { content_of lg_k (spec.of_coupons result) body.new ≡ content_with lg_k (content_of lg_k (spec.of_coupons self) body.old) (set_of (raw ∷ [])) }
+        ensures room { (n : ℕ) → HasRoomFor lg_k (spec.of_coupons self) (n + 1) (length body.old) → HasRoomFor lg_k (spec.of_coupons result) n (length body.old) }
+    {
+        self.added = true;
+        self.run.push(body, raw);
+        self
+    }
+}
+
+/// Raises the register of a raw coupon. Returns the estimate state: cleared, where the register rose.
+#[inline(always)]
+fn raise_one(body: &mut [[u8; 4]], lg_k: u8, raw: u32, state: EstimateState) -> EstimateState
+    requires lg_k { IsLgK lg_k }
+    requires within { 2 ^ (lg_k - 2) ≤ length body.old }
+    ensures { content_of lg_k (spec.of_registers result) body.new ≡ content_with lg_k (content_of lg_k (spec.of_registers state) body.old) (set_of (raw ∷ [])) }
+{
+    if raise(&mut body[..two_to(lg_k - 2)], lg_k, raw) {
+        EstimateState::CLEARED
+    } else {
+        state
+    }
+}

@@ -1,0 +1,339 @@
+// SPDX-License-Identifier: Apache-2.0
+//! What the first elements of a state say, and whether all that it says is there is within the elements after it.
+ghost use Rattle.std.specs.Prelude.{◌≡◌, ◌↔◌, ◌+◌, ◌%◌, ◌/◌, ℕ, ◌^◌, ◌<◌, ◌≤◌, ◌++◌, if◌then◌else◌, Some, IsTrue, length, drop};
+ghost use Rattle.hll_registers.specs.State.{IsState};
+ghost use Rattle.hll_sketch.specs.Layout.{IsSize};
+ghost use Rattle.hll_sketch.specs.Value.{IsLgK};
+ghost use Rattle.hll_state.specs.CouponRun.{raws};
+ghost use Rattle.hll_state.specs.Header as spec;
+ghost use Rattle.hll_state.specs.Header.{header_of, held_in_header, coupons_in_header, state_in_header, wide, AreWithin, IsHeldWithin, IsWithin, HasRoomFor, HasRoom};
+
+use crate::elements::{get, set};
+use crate::run::CouponRun;
+use hll_base::bounds::{MAX_LG_K, MIN_LG_K};
+use hll_registers::estimate_state::EstimateState;
+use hll_registers::registers::two_to;
+use hll_sketch::stage::can_hold;
+
+/// The elements of a header.
+pub const HEADER_LEN: usize = 10;
+
+/// The first number of a state that holds coupons.
+const COUPONS: u32 = 0x4c48_4c41;
+/// The first number of a state that holds registers.
+const REGISTERS: u32 = 0x4c48_4c42;
+
+/// What a state says before its coupons or registers.
+#[derive(Clone, Copy, Debug, PartialEq, Eq)]
+pub struct Header {
+    /// The logarithm of the number of registers, 4 to 21.
+    pub lg_k: u8,
+
+    /// The widths of the images that were merged: 1 of four bits, 2 of six and 4 of eight, added.
+    pub widths: u8,
+
+    /// What the elements after the header hold.
+    pub held: Held,
+}
+
+/// What the elements after a header hold.
+#[derive(Clone, Copy, Debug, PartialEq, Eq)]
+pub enum Held {
+    /// Coupons, that become registers once they are too many.
+    Coupons(CouponTable),
+    /// Registers, with the estimate state of a foreign sketch until one changes.
+    Registers(EstimateState),
+}
+
+/// What is said of coupons.
+#[derive(Clone, Copy, Debug, PartialEq, Eq)]
+pub struct CouponTable {
+    /// The logarithm of the number of buckets of the table that they began in: 3, or 5 to `lg_k` - 3.
+    pub lg_size: u8,
+
+    /// Whether some were added since. Those of an image that was taken over keep its table until then.
+    pub added: bool,
+
+    /// Which elements are in use.
+    pub run: CouponRun,
+}
+
+impl Header {
+    /// Returns the header of an empty sketch.
+    pub fn new(lg_k: u8) -> Header
+        ensures { result ≡ spec.new_header lg_k }
+    {
+        Header {
+            lg_k,
+            widths: 0,
+            held: Held::Coupons(CouponTable {
+                lg_size: 3,
+                added: false,
+                run: CouponRun { run: 0, used: 0 },
+            }),
+        }
+    }
+
+    /// Reads a header from the first elements. `None` where they are not those of a state.
+    #[inline(always)]
+    pub fn read(elements: &[[u8; 4]]) -> Option<Header>
+        requires { 10 ≤ length elements.now }
+        ensures { result ≡ header_of (raws elements.now) }
+    {
+        let held = held_in(elements)?;
+        Some(Header {
+            lg_k: (get(elements, 1) % 32) as u8,
+            widths: (get(elements, 2) % 8) as u8,
+            held,
+        })
+    }
+
+    /// Writes the header over the first elements, if it is within the elements after them, however many these are.
+    pub fn write(&self, elements: &mut [[u8; 4]])
+        requires there { 10 ≤ length elements.old }
+        requires within { (room : ℕ) × IsWithin self.now room }
+        ensures written { header_of (raws elements.new) ≡ Some self.now }
+        ensures rest { drop 10 elements.new ≡ drop 10 elements.old }
+    {
+        let written = match self.held {
+            Held::Coupons(coupons) => self.elements_of_coupons(coupons),
+            Held::Registers(state) => self.elements_of_registers(state),
+        };
+        elements[..HEADER_LEN].copy_from_slice(&written);
+    }
+
+    /// The elements of a header of coupons.
+    fn elements_of_coupons(&self, coupons: CouponTable) -> [[u8; 4]; HEADER_LEN]
+        requires held { self.now.held ≡ spec.of_coupons coupons }
+        requires within { (room : ℕ) × IsWithin self.now room }
+        ensures { header_of (raws result) ≡ Some self.now }
+    {
+        [
+            COUPONS.to_le_bytes(),
+            u32::from(self.lg_k).to_le_bytes(),
+            u32::from(self.widths).to_le_bytes(),
+            u32::from(coupons.lg_size).to_le_bytes(),
+            bit(coupons.added).to_le_bytes(),
+            (coupons.run.run as u32).to_le_bytes(),
+            (coupons.run.used as u32).to_le_bytes(),
+            [0; 4],
+            [0; 4],
+            [0; 4],
+        ]
+    }
+
+    /// The elements of a header of registers.
+    fn elements_of_registers(&self, state: EstimateState) -> [[u8; 4]; HEADER_LEN]
+        requires held { self.now.held ≡ spec.of_registers state }
+        requires within { (room : ℕ) × IsWithin self.now room }
+        ensures { header_of (raws result) ≡ Some self.now }
+    {
+        let [first, second, third] = state.words;
+        [
+            REGISTERS.to_le_bytes(),
+            u32::from(self.lg_k).to_le_bytes(),
+            u32::from(self.widths).to_le_bytes(),
+            bit(state.out_of_order).to_le_bytes(),
+            low_half(first).to_le_bytes(),
+            high_half(first).to_le_bytes(),
+            low_half(second).to_le_bytes(),
+            high_half(second).to_le_bytes(),
+            low_half(third).to_le_bytes(),
+            high_half(third).to_le_bytes(),
+        ]
+    }
+
+    /// Whether all that the header says is there is within so many elements after it.
+    #[inline(always)]
+    pub fn is_within(&self, room: usize) -> bool
+        ensures { IsTrue result ↔ IsWithin self.now room }
+    {
+        MIN_LG_K <= self.lg_k
+            && self.lg_k <= MAX_LG_K
+            && self.widths < 8
+            && self.held.is_within(self.lg_k, room)
+    }
+
+    /// Whether so many elements after the header are enough for as many coupons more as `count`.
+    #[inline(always)]
+    pub fn has_room(&self, count: usize, room: usize) -> bool
+        requires lg_k { IsLgK self.now.lg_k }
+        requires within { IsWithin self.now room }
+        ensures { IsTrue result ↔ HasRoom self.now count room }
+    {
+        match self.held {
+            Held::Coupons(coupons) => {
+                room >= elements_for(self.lg_k, coupons.run.used.saturating_add(count))
+            }
+            Held::Registers(_) => true,
+        }
+    }
+}
+
+impl Held {
+    /// Whether all of it is within so many elements after the header.
+    #[inline(always)]
+    fn is_within(&self, lg_k: u8, room: usize) -> bool
+        requires { IsLgK lg_k }
+        ensures { IsTrue result ↔ IsHeldWithin lg_k self.now room }
+    {
+        match self {
+            Held::Coupons(coupons) => coupons.are_within(lg_k, room),
+            Held::Registers(_) => two_to(lg_k - 2) <= room,
+        }
+    }
+}
+
+impl CouponTable {
+    /// Whether the coupons are within so many elements after the header.
+    #[inline(always)]
+    fn are_within(&self, lg_k: u8, room: usize) -> bool
+        requires { IsLgK lg_k }
+        ensures { IsTrue result ↔ AreWithin lg_k self.now room }
+    {
+        is_size(lg_k, self.lg_size)
+            && (self.added || fits(self.run.used, self.lg_size))
+            && self.run.run <= self.run.used
+            && self.run.used <= most_used(lg_k)
+            && elements_for(lg_k, self.run.used) <= room
+    }
+}
+
+/// Whether a table of 2^`lg_size` buckets may be one at an `lg_k`.
+#[inline(always)]
+fn is_size(lg_k: u8, lg_size: u8) -> bool
+    requires { IsLgK lg_k }
+    ensures { IsTrue result ↔ IsSize lg_k lg_size }
+{
+    lg_size == 3 || (5 <= lg_size && lg_size <= lg_k - 3)
+}
+
+/// Whether a list or a set of this size may have so many coupons.
+#[inline(always)]
+fn fits(count: usize, lg_size: u8) -> bool
+    requires { lg_size ≤ 21 }
+    ensures three { lg_size ≡ 3 → IsTrue result ↔ (count ≤ 8) }
+    ensures other { 5 ≤ lg_size → IsTrue result ↔ (count < 2 ^ lg_size) }
+{
+    if lg_size == 3 {
+        count <= 8
+    } else {
+        count < two_to(lg_size)
+    }
+}
+
+/// As many coupons as are in use, repeated ones among them, before the distinct ones are counted. `lg_k` is 4 to 21.
+#[inline(always)]
+pub fn most_used(lg_k: u8) -> usize
+    requires { IsLgK lg_k }
+    ensures { result ≡ spec.most_used lg_k }
+{
+    two_to((lg_k - 3).max(4))
+}
+
+/// The elements after a header that are enough for all states of an `lg_k` of 4 to 21: for registers, and beside them the
+/// coupons that become these.
+pub fn most_elements(lg_k: u8) -> usize
+    requires { IsLgK lg_k }
+    ensures { result ≡ spec.most_elements lg_k }
+{
+    two_to(lg_k - 2) + most_used(lg_k)
+}
+
+/// Whether so many coupons never become registers. `lg_k` is 4 to 21.
+#[inline(always)]
+pub fn are_few(lg_k: u8, count: usize) -> bool
+    requires { IsLgK lg_k }
+    ensures { result ≡ spec.are_few lg_k count }
+{
+    let greatest_size = if lg_k <= 7 { 3 } else { lg_k - 3 };
+    can_hold(greatest_size, count)
+}
+
+/// The elements after a header that are enough for so many coupons. `lg_k` is 4 to 21.
+#[inline(always)]
+pub fn elements_for(lg_k: u8, count: usize) -> usize
+    requires { IsLgK lg_k }
+    ensures { result ≡ spec.elements_for lg_k count }
+{
+    if are_few(lg_k, count) {
+        count
+    } else {
+        most_elements(lg_k)
+    }
+}
+
+/// 1 for true, 0 for false.
+fn bit(flag: bool) -> u32
+    ensures { result ≡ (if flag then 1 else 0) }
+{
+    if flag { 1 } else { 0 }
+}
+
+/// The lower 32 bits of a number.
+fn low_half(number: u64) -> u32
+    ensures { result ≡ number % 2 ^ 32 }
+{
+    (number & 0xffff_ffff) as u32
+}
+
+/// The higher 32 bits of a number.
+fn high_half(number: u64) -> u32
+    ensures { result ≡ number / 2 ^ 32 }
+{
+    (number >> 32) as u32
+}
+
+/// Reads what a state holds.
+#[inline(always)]
+fn held_in(elements: &[[u8; 4]]) -> Option<Held>
+    requires { 10 ≤ length elements.now }
+    ensures { result ≡ held_in_header (raws elements.now) }
+{
+    match get(elements, 0) {
+        COUPONS => Some(Held::Coupons(coupons_in(elements))),
+        REGISTERS => Some(Held::Registers(state_in(elements))),
+        _ => None,
+    }
+}
+
+/// Reads what is said of coupons.
+#[inline(always)]
+fn coupons_in(elements: &[[u8; 4]]) -> CouponTable
+    requires { 10 ≤ length elements.now }
+    ensures { result ≡ coupons_in_header (raws elements.now) }
+{
+    CouponTable {
+        lg_size: (get(elements, 3) % 32) as u8,
+        added: get(elements, 4) == 1,
+        run: CouponRun {
+            run: get(elements, 5) as usize,
+            used: get(elements, 6) as usize,
+        },
+    }
+}
+
+/// Reads an estimate state.
+#[inline(always)]
+fn state_in(elements: &[[u8; 4]]) -> EstimateState
+    requires { 10 ≤ length elements.now }
+    ensures { result ≡ state_in_header (raws elements.now) }
+{
+    EstimateState {
+        words: [
+            get_wide(elements, 4),
+            get_wide(elements, 6),
+            get_wide(elements, 8),
+        ],
+        out_of_order: get(elements, 3) == 1,
+    }
+}
+
+/// Reads a number of 64 bits from two elements, the lower half first.
+#[inline(always)]
+fn get_wide(elements: &[[u8; 4]], at: usize) -> u64
+    requires { at + 1 < length elements.now }
+    ensures { result ≡ wide (raws elements.now) at }
+{
+    u64::from(get(elements, at)) + (u64::from(get(elements, at + 1)) << 32)
+}

@@ -1,0 +1,139 @@
+// SPDX-License-Identifier: Apache-2.0
+//! States in memory of the caller: reading and writing their headers, and making room for more coupons.
+ghost use Rattle.std.specs.Prelude.{◌≡◌, ℕ, ◌+◌, ◌-◌, ◌≤◌, true, false, length, drop, Some, IfSome, IfNone};
+ghost use Rattle.hll_sketch.specs.Value.{IsLgK};
+ghost use Rattle.hll_state.specs.Counter.{sketch_in, IsResolved};
+ghost use Rattle.hll_state.specs.Header as spec;
+ghost use Rattle.hll_state.specs.Header.{IsWithin, HasRoom};
+ghost use Rattle.hll_state.specs.Memory.{HasHeader, IsState, OfState, IsOnlyRead, IsBegun};
+
+use crate::header::{HEADER_LEN, Header, Held, elements_for};
+use hll_registers::registers::two_to;
+
+/// Reads the header of a state. `None` where the elements are none: too few, or not made by calls of this library.
+///
+/// Nothing is known of coupons and registers: elements that other code wrote after a header may be anything.
+#[inline(always)]
+pub fn open(elements: &[[u8; 4]]) -> Option<Header>
+    ensures some { IfSome result (HasHeader elements.now) }
+    ensures none { IfNone result (IsState elements.now → ⊥) }
+{
+    if elements.len() < HEADER_LEN {
+        return None;
+    }
+    let header = Header::read(elements)?;
+    if header.is_within(elements.len() - HEADER_LEN) {
+        Some(header)
+    } else {
+        None
+    }
+}
+
+/// Writes the header of a state, within the elements after it.
+pub fn close(elements: &mut [[u8; 4]], header: Header)
+    requires there { 10 ≤ length elements.old }
+    requires within { IsWithin header (length elements.old - 10) }
+    ensures header { HasHeader elements.new header }
+    ensures rest { drop 10 elements.new ≡ drop 10 elements.old }
+{
+    header.write(elements);
+}
+
+/// What comes of asking a state for room.
+#[derive(Clone, Copy, Debug, PartialEq, Eq)]
+pub enum Begun {
+    /// The elements are no state.
+    NoState,
+    /// There is no room. So many elements are enough.
+    NoRoom(usize),
+    /// There is room in the elements after this header, which has to be written once coupons were added.
+    Room(Header),
+}
+
+/// Asks a state for room for so many coupons more. Its meaning stays, but the bytes may change.
+#[inline(always)]
+pub fn begin(elements: &mut [[u8; 4]], count: usize) -> Begun
+    ensures { IsBegun count elements.old elements.new result }
+{
+    let Some(mut header) = open(elements) else {
+        return Begun::NoState;
+    };
+    let has_room = header.make_room(&mut elements[HEADER_LEN..], count);
+    if has_room {
+        return Begun::Room(header);
+    }
+    close(elements, header);
+    Begun::NoRoom(header.len_for(count))
+}
+
+/// Makes what a state means ready to be read (see `Header::resolve`), and returns its header. `None` where the elements are no
+/// state. The meaning stays, but the bytes may change.
+pub fn resolve(elements: &mut [[u8; 4]]) -> Option<Header>
+    ensures within { IfSome result (λ h. IsWithin h (length elements.old - 10)) }
+    ensures resolved { IfSome result (λ h. IsResolved h (drop 10 elements.new)) }
+    ensures some { IfSome result (λ h. OfState elements.old (λ x. x ≡ sketch_in h (drop 10 elements.new))) }
+    ensures none { IfNone result (IsState elements.old → ⊥) }
+    ensures read { IsOnlyRead elements.old elements.new }
+{
+    let mut header = open(elements)?;
+    header.resolve(&mut elements[HEADER_LEN..]);
+    close(elements, header);
+    Some(header)
+}
+
+impl Header {
+    /// Returns whether there is room for so many coupons more. Repeated coupons are dropped first, if many may be.
+    #[inline(always)]
+    pub fn make_room(&mut self, body: &mut [[u8; 4]], count: usize) -> bool
+        requires { IsWithin self.old (length body.old) }
+        ensures within { IsWithin self.new (length body.old) }
+        ensures same { sketch_in self.new body.new ≡ sketch_in self.old body.old }
+        ensures widths { self.new.widths ≡ self.old.widths }
+        ensures room { result ≡ true → HasRoom self.new count (length body.old) }
+        ensures none { result ≡ false → HasRoom self.old count (length body.old) → ⊥ }
+    {
+        let room = body.len();
+        if self.has_room(count, room) {
+            return true;
+        }
+        if !self.has_long_tail() {
+            return false;
+        }
+        self.resolve(body);
+        self.has_room(count, room)
+    }
+
+    /// Returns whether a quarter of the elements in use, or more, are in the tail. No result depends on it.
+    fn has_long_tail(&self) -> bool {
+        match self.held {
+            Held::Coupons(coupons) => coupons.run.run <= coupons.run.used / 4 * 3,
+            Held::Registers(_) => false,
+        }
+    }
+
+    /// Returns a number of elements, header included, in which the state has room for so many coupons more: half as many again
+    /// as these, or as many as any state of this `lg_k` needs.
+    pub fn len_for(&self, count: usize) -> usize
+        requires lg_k { IsLgK self.now.lg_k }
+        ensures room { HasRoom self.now count (result - 10) }
+        ensures least { 10 ≤ result }
+        ensures most { result ≤ 10 + spec.most_elements self.now.lg_k }
+    {
+        match self.held {
+            Held::Coupons(coupons) => {
+                HEADER_LEN + grown_len(self.lg_k, coupons.run.used.saturating_add(count))
+            }
+            Held::Registers(_) => HEADER_LEN + two_to(self.lg_k - 2),
+        }
+    }
+}
+
+/// Returns a number of elements that are enough for so many coupons, and for half as many again if these are few.
+fn grown_len(lg_k: u8, count: usize) -> usize
+    requires { IsLgK lg_k }
+    ensures enough { spec.elements_for lg_k count ≤ result }
+    ensures most { result ≤ spec.most_elements lg_k }
+{
+    let grown = count.saturating_add(count / 2 + 8);
+    elements_for(lg_k, grown)
+}

@@ -1,0 +1,79 @@
+// SPDX-License-Identifier: Apache-2.0
+//! Registers merged into a state, in place, at the smaller `lg_k`.
+ghost use Rattle.std.specs.Prelude.{◌≡◌, ◌-◌, ◌^◌, ◌≤◌, ◌&&◌, if◌then◌else◌, nat_le, true, false, length, take};
+ghost use Rattle.hll_coupons.specs.Fold.{fold_to};
+ghost use Rattle.hll_registers.specs.State.{cleared_state};
+ghost use Rattle.hll_sketch.specs.Merging as merging;
+ghost use Rattle.hll_sketch.specs.Value.{pairs_of};
+ghost use Rattle.hll_state.specs.Counter.{sketch_in, IsResolved};
+ghost use Rattle.hll_state.specs.Header as spec;
+ghost use Rattle.hll_state.specs.Header.{IsWithin};
+ghost use Rattle.hll_state.specs.Registers.{values};
+
+use crate::header::{Header, Held};
+use crate::registers::{fold, max_with, promote};
+use hll_registers::estimate_state::EstimateState;
+use hll_registers::registers::{Registers, two_to};
+
+impl Header {
+    /// Merges registers: the state holds the greater of both at each slot of the smaller `lg_k`, which is its own afterwards.
+    /// Returns whether there was room. If there was none, the meaning stays.
+    ///
+    /// An empty state takes over the estimate state, if the `lg_k` of the source is at most its own. The number of elements that
+    /// `most_elements` returns is always enough.
+    pub fn merge_registers<R: Registers>(&mut self, body: &mut [[u8; 4]], src: &R) -> bool
+        requires { IsWithin self.old (length body.old) }
+        ensures within { IsWithin self.new (length body.old) }
+        ensures merged { let x = R.stored src.now in
+            result ≡ true → sketch_in self.new body.new ≡ merging.merge_registers self.old.lg_k (sketch_in self.old body.old) x.lg_k x.registers x.state }
+        ensures same { result ≡ false → sketch_in self.new body.new ≡ sketch_in self.old body.old }
+        ensures widths { self.new.widths ≡ self.old.widths }
+        ensures none { result ≡ false → spec.most_elements self.old.lg_k ≤ length body.old → ⊥ }
+    {
+        let bound = self.lg_k;
+        let is_empty = self.is_empty(body);
+        let lg_k = bound.min(src.lg_k());
+        if !self.make_registers(body, lg_k) {
+            return false;
+        }
+        max_with(&mut body[..two_to(lg_k - 2)], lg_k, src);
+        self.lg_k = lg_k;
+        self.held = Held::Registers(state_after_merge(is_empty, bound, src));
+        true
+    }
+
+    /// Writes the registers that a resolved state folds to at an `lg_k` of at most its own, and returns whether there was room.
+    /// If there was none, nothing changes.
+    fn make_registers(&self, body: &mut [[u8; 4]], lg_k: u8) -> bool
+        requires within { IsWithin self.now (length body.old) }
+        requires resolved { IsResolved self.now body.old }
+        requires least { 4 ≤ lg_k }
+        requires most { lg_k ≤ self.now.lg_k }
+        ensures made { result ≡ true → values (take (2 ^ (lg_k - 2)) body.new) ≡ fold_to (pairs_of (sketch_in self.now body.old)) lg_k }
+        ensures room { result ≡ true → 2 ^ (lg_k - 2) ≤ length body.old }
+        ensures unchanged { result ≡ false → body.new ≡ body.old }
+        ensures none { result ≡ false → spec.most_elements self.now.lg_k ≤ length body.old → ⊥ }
+    {
+        match self.held {
+            Held::Coupons(coupons) => {
+                if body.len() < two_to(lg_k - 2) + coupons.run.used {
+                    return false;
+                }
+                promote(coupons.run, body, lg_k);
+            }
+            Held::Registers(_) => fold(&mut body[..two_to(self.lg_k - 2)], self.lg_k, lg_k),
+        }
+        true
+    }
+}
+
+/// Returns the estimate state after a merge of registers: theirs, if the state was empty and their `lg_k` is at most the bound.
+fn state_after_merge<R: Registers>(is_empty: bool, bound: u8, src: &R) -> EstimateState
+    ensures { let x = R.stored src.now in result ≡ (if is_empty && nat_le x.lg_k bound then x.state else cleared_state) }
+{
+    if is_empty && src.lg_k() <= bound {
+        src.estimate_state()
+    } else {
+        EstimateState::CLEARED
+    }
+}
