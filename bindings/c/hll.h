@@ -4,7 +4,8 @@
  *
  * The calls keep nothing. Each takes images (or values) as bytes, and what it makes is an image again, which it puts
  * into the caller's buffer. So an image is the sketch: keep it in memory, in a file, in a column of a table. A program
- * that adds or merges many, one at a time, keeps registers instead, 2^lg_k bytes of its own ("registers of the caller").
+ * that adds or merges many, one at a time, keeps registers instead, 2^lg_k bytes of its own ("registers of the caller"),
+ * or a state, which is small while there are few values ("states").
  *
  *     uint8_t empty[HLL_IMAGE_MAX(12)], image[HLL_IMAGE_MAX(12)];
  *     size_t empty_size, size, end = 5;
@@ -70,8 +71,8 @@
  * What the caller owes, which no call can test
  *     - A pointer leads to as many bytes (or elements) as its length says; where that is 0 it may be NULL. No other is
  *       NULL, but failed, and lg_k of HLL_COARSER.
- *     - out, size, failed, info, histogram, same, coupons, estimation, and registers that a call changes, with its lg_k,
- *       overlap nothing else that is passed. (Inputs may overlap one another: an image can be merged with itself.)
+ *     - out, size, failed, info, histogram, same, coupons, estimation, a state, and registers that a call changes, with its
+ *       lg_k, overlap nothing else that is passed. (Inputs may overlap one another: an image can be merged with itself.)
  *     - No input changes while a call runs. An end that another thread writes meanwhile can lead past the bytes.
  *     - malloc, realloc and free belong to one allocator, and align to 16 bytes.
  *     - No call is made from a signal handler, or from a child that a process with threads forked: calls use malloc.
@@ -83,7 +84,8 @@
  *     its registers or of its table; each call says what it takes beside.
  *
  * Threads
- *     Calls share nothing and keep nothing, so any number of threads may call at once, also with the same inputs.
+ *     Calls share nothing and keep nothing, so any number of threads may call at once, also with the same inputs. But
+ *     every call on a state may change its bytes, hll_state_image and hll_state_estimate too: one thread at a time.
  *
  * What is proved
  *     Of the calls from hll_image_info to hll_coupons_ends32 it is proved what they answer, write and leave as it was, for
