@@ -33,6 +33,7 @@
  *     HLL_MEMORY: malloc answered NULL. The same call can be made again.
  *     HLL_BUFFER: the buffer is too small; *size is the number of bytes that are needed.
  *     HLL_COARSER: what is to be merged has fewer registers; *lg_k is that of what has them.
+ *     HLL_OTHER_LG_K: the sketches to be joined have different lg_k, and no lg_max_k was given.
  *
  * Arguments
  *     lg_k, lg_max_k   4 to 21: the logarithm of the number of registers. So is `to` of a fold.
@@ -134,7 +135,8 @@ enum {
     HLL_ARGUMENT = 12,      /* an argument is out of its range */
     HLL_MEMORY = 13,        /* malloc answered NULL */
     HLL_BUFFER = 14,        /* the buffer is too small; *size is the size needed */
-    HLL_COARSER = 15        /* what is to be merged has fewer registers; *lg_k is its own */
+    HLL_COARSER = 15,       /* what is to be merged has fewer registers; *lg_k is its own */
+    HLL_OTHER_LG_K = 16     /* the sketches to be joined have different lg_k, and no lg_max_k was given */
 };
 
 /* The stage of a sketch. */
@@ -378,8 +380,8 @@ hll_status hll_registers_image(const uint8_t *registers, size_t count, unsigned 
  * moved, and no alignment is needed. They are for this version of the library, on processors of either byte order: keep
  * images, and not states, in files and columns.
  *
- * The image that a state gives is that of an empty sketch with all that was added, as hll_image_add makes it. Where bytes
- * are no state the answer is HLL_ARGUMENT. Bytes that other code changed after a call are answered in some way, and nothing
+ * The image that a state gives is that of an empty sketch with all that was added, as hll_image_add makes it, and joined, as
+ * hll_images_union makes it. Where bytes are no state the answer is HLL_ARGUMENT. Bytes that other code changed after a call are answered in some way, and nothing
  * is read or written past the room; a register above 63 is HLL_REGISTER.
  *
  * A state takes 40 bytes and four for each coupon. Where coupons come again, or registers are near, it takes more: coupons
@@ -409,6 +411,28 @@ hll_status hll_state_add_value(void *state, size_t room, size_t *size, const uin
 /* Adds n raw coupons, as hll_coupons puts them. A raw coupon of value 0 is HLL_ARGUMENT.
  * Answers HLL_OK, HLL_ARGUMENT or HLL_BUFFER. Takes no memory. */
 hll_status hll_state_add_coupons(void *state, size_t room, size_t *size, const uint32_t *coupons, size_t n);
+
+/* Joins the sketch of an image: at each slot the greater value of both, at the smaller lg_k, as hll_images_union does where
+ * its lg_max_k is the lg_k of the state. The state keeps the smaller lg_k. An empty image changes nothing.
+ *
+ *     lg_max_k 0     Sketches of one lg_k are joined, and no other: a state with values answers HLL_OTHER_LG_K to an image
+ *                    with values of another lg_k. A state without values takes the lg_k of the first image with values.
+ *     lg_max_k 4-21  Images of any lg_k are joined. Make the state with hll_state_new(lg_max_k, ..); HLL_ARGUMENT where
+ *                    lg_max_k is below the lg_k of the state.
+ *
+ * On HLL_BUFFER *size bytes are enough for the same call, at most HLL_STATE_MOST of the greater lg_k. A loop over images:
+ *
+ *     while ((status = hll_state_join(0, state, room, &size, image, len)) == HLL_BUFFER)
+ *         state = realloc(state, room = size);
+ *
+ * Returns HLL_OK, 1 to 11, HLL_ARGUMENT, HLL_MEMORY, HLL_BUFFER or HLL_OTHER_LG_K. Allocates as hll_image_check does. */
+hll_status hll_state_join(unsigned lg_max_k, void *state, size_t room, size_t *size, const uint8_t *image, size_t len);
+
+/* Joins the sketch of another state, as hll_state_join does that of an image. The bytes of the other state may change, and its
+ * sketch stays. The two must not overlap.
+ * Returns HLL_OK, HLL_REGISTER, HLL_ARGUMENT, HLL_BUFFER or HLL_OTHER_LG_K. Allocates nothing. */
+hll_status hll_state_join_state(unsigned lg_max_k, void *state, size_t room, size_t *size, void *other,
+                                size_t other_room);
 
 /* The image, at this width, of the sketch. The bytes of the state may change, and the sketch stays: coupons are put in
  * order.
@@ -480,8 +504,8 @@ static inline const char *hll_reason(hll_status status)
     static const char *const words[] = {"ok",       "truncated", "family",   "version",  "lgk",
                                         "width",    "stage",     "preamble", "lgarr",    "count",
                                         "coupon",   "register",  "argument", "memory",   "buffer",
-                                        "coarser"};
-    return status <= HLL_COARSER ? words[status] : "unknown";
+                                        "coarser",  "other_lg_k"};
+    return status <= HLL_OTHER_LG_K ? words[status] : "unknown";
 }
 
 /* What is wrong, in a sentence; "The status is unknown." for a number that is none. */
@@ -504,8 +528,9 @@ static inline const char *hll_message(hll_status status)
         "Memory was refused.",
         "The buffer is smaller than what is to be written.",
         "What is to be merged has fewer registers.",
+        "The sketches have different lg_k, and no lg_max_k was given.",
     };
-    return status <= HLL_COARSER ? sentences[status] : "The status is unknown.";
+    return status <= HLL_OTHER_LG_K ? sentences[status] : "The status is unknown.";
 }
 
 /* What the header of an image says, without a check of the rest: its lg_k, 4 to 21; its width, 4, 6 or 8; and its stage. 0, or
@@ -538,6 +563,14 @@ static inline uint32_t hll_state_number(const void *state, size_t at)
 static inline uint8_t hll_state_lg_k(const void *state)
 {
     return hll_state_number(state, 1) & 31;
+}
+
+/* The width that the images had which were joined to a state: 4, 6 or 8; and 8 where none was joined, or two of different
+ * width. */
+static inline uint8_t hll_state_width(const void *state)
+{
+    uint32_t widths = hll_state_number(state, 2) & 7;
+    return widths == 1 ? 4 : widths == 2 ? 6 : 8;
 }
 
 /* HLL_REGISTERS where a state has registers, and HLL_SET where it has coupons, some of which may come twice: its image is

@@ -9,6 +9,10 @@ hll_status proved_hll_state_add(void *state, size_t elements, size_t *size, cons
                                 const size_t *ends, size_t n);
 hll_status proved_hll_state_add_value(void *state, size_t elements, size_t *size, const uint8_t *value, size_t len);
 hll_status proved_hll_state_add_coupons(void *state, size_t elements, size_t *size, const uint32_t *coupons, size_t n);
+hll_status proved_hll_state_join(unsigned lg_max_k, void *state, size_t elements, size_t *size, const uint8_t *image,
+                                 size_t len);
+hll_status proved_hll_state_join_state(unsigned lg_max_k, void *state, size_t elements, size_t *size, void *other,
+                                       size_t other_elements);
 hll_status proved_hll_state_image(void *state, size_t elements, unsigned width, uint8_t *out, size_t out_room,
                                   size_t *size);
 
@@ -31,6 +35,17 @@ hll_status hll_state_add_value(void *state, size_t room, size_t *size, const uin
 hll_status hll_state_add_coupons(void *state, size_t room, size_t *size, const uint32_t *coupons, size_t n)
 {
     return proved_hll_state_add_coupons(state, room / 4, size, coupons, n);
+}
+
+hll_status hll_state_join(unsigned lg_max_k, void *state, size_t room, size_t *size, const uint8_t *image, size_t len)
+{
+    return proved_hll_state_join(lg_max_k, state, room / 4, size, image, len);
+}
+
+hll_status hll_state_join_state(unsigned lg_max_k, void *state, size_t room, size_t *size, void *other,
+                                size_t other_room)
+{
+    return proved_hll_state_join_state(lg_max_k, state, room / 4, size, other, other_room / 4);
 }
 
 hll_status hll_state_image(void *state, size_t room, unsigned width, uint8_t *out, size_t out_room, size_t *size)

@@ -24,10 +24,11 @@ static const char *const faulty[] = {
 static void test_reasons(void)
 {
     static const char *const words[] = {"ok", "truncated", "family", "version", "lgk", "width", "stage", "preamble",
-                                        "lgarr", "count", "coupon", "register", "argument", "memory", "buffer", "coarser"};
+                                        "lgarr", "count", "coupon", "register", "argument", "memory", "buffer", "coarser",
+                                        "other_lg_k"};
     int status;
     for (status = 0; status < 256; status++)
-        CHECK(strcmp(hll_reason((hll_status)status), status < 16 ? words[status] : "unknown") == 0, "%d", status);
+        CHECK(strcmp(hll_reason((hll_status)status), status < 17 ? words[status] : "unknown") == 0, "%d", status);
 }
 
 /* A sentence for each, and one for all numbers that are none. */
@@ -37,9 +38,9 @@ static void test_messages(void)
     for (status = 0; status < 256; status++) {
         const char *message = hll_message((hll_status)status);
         CHECK(strlen(message) > 10 && message[strlen(message) - 1] == '.', "%d", status);
-        for (other = 0; other < status && status < 16; other++)
+        for (other = 0; other < status && status < 17; other++)
             CHECK(strcmp(message, hll_message((hll_status)other)) != 0, "%d as %d", status, other);
-        CHECK((strcmp(message, hll_message(255)) == 0) == (status >= 16), "%d", status);
+        CHECK((strcmp(message, hll_message(255)) == 0) == (status >= 17), "%d", status);
     }
 }
 

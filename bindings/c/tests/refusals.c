@@ -123,6 +123,22 @@ static hll_status call_state(const uint8_t *image, size_t len, uint8_t *out, siz
     return hll_state_image(state, sizeof state, hll_image_width(image, len), out, room, size);
 }
 
+/* A join to a state, whose bytes a refusal leaves as they were, and its image. */
+static hll_status call_join(const uint8_t *image, size_t len, uint8_t *out, size_t room, size_t *size)
+{
+    static uint8_t state[HLL_STATE_MOST(12)], before[sizeof state];
+    size_t unused = 77;
+    hll_status status;
+    memset(state, 0, sizeof state);
+    if (hll_state_new(12, state, sizeof state) != HLL_OK)
+        return 200;
+    memcpy(before, state, sizeof state);
+    status = hll_state_join(0, state, sizeof state, &unused, image, len);
+    if (status != HLL_OK)
+        return unused == 77 && memcmp(state, before, sizeof state) == 0 ? status : 200;
+    return hll_state_image(state, sizeof state, hll_state_width(state), out, room, size);
+}
+
 /* Sixty new values, which make a set of a list, and registers of the largest set. */
 static hll_status call_grow(const uint8_t *image, size_t len, uint8_t *out, size_t room, size_t *size)
 {
@@ -204,6 +220,7 @@ static void test_image(bytes image)
     refuse_each("union of parts", call_parts, image);
     refuse_each("join into registers, and their image", call_registers, image);
     refuse_each("image of a state", call_state, image);
+    refuse_each("join to a state, and its image", call_join, image);
     refuse_each("add of sixty values", call_grow, image);
     for (i = 0; i < TELLERS; i++) {
         long first = 0;

@@ -114,7 +114,7 @@ test_expected() {
 
 test_names() {
     declared >"$tests/declared"
-    expect 'forty calls are declared' test "$(wc -l <"$tests/declared")" -eq 40
+    expect 'forty-two calls are declared' test "$(wc -l <"$tests/declared")" -eq 42
     shown -D --defined-only "$build/libhll.so" >"$tests/shown"
     expect 'names of the shared library' diff "$tests/declared" "$tests/shown"
     shown -g --defined-only "$build/libhll.a" >"$tests/shown"

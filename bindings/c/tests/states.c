@@ -139,6 +139,125 @@ static void add(pair *p, uint64_t from, uint64_t distinct, size_t n, int by)
     free_values(&v);
 }
 
+/* ---- joins ---- */
+
+/* Moves a pair to an lg_k, and its image to that of a union of the images. */
+static void expect_union(pair *p, unsigned lg_max_k, bytes own, bytes other)
+{
+    bytes merged = with_room(HLL_IMAGE_MAX(lg_max_k));
+    size_t failed;
+    need(hll_image_merge(lg_max_k, 8, own.at, own.len, other.at, other.len, merged.at, merged.len, &merged.len, &failed) == HLL_OK,
+         "hll_image_merge for a test");
+    take_image(p, merged);
+    p->lg_k = hll_image_lg_k(merged.at, merged.len);
+}
+
+static int is_empty(bytes image)
+{
+    hll_info info;
+    need(hll_image_info(image.at, image.len, &info, sizeof info) == HLL_OK, "hll_image_info for a test");
+    return info.is_empty;
+}
+
+/* An image, and the state of the same sketch. */
+typedef struct joinable {
+    bytes image;
+    uint8_t *state;
+    size_t room;
+} joinable;
+
+/* Joins an image, or the state of it where there is one. */
+static hll_status call_join(pair *p, unsigned lg_max_k, joinable *other, size_t *size)
+{
+    if (other->state != NULL)
+        return hll_state_join_state(lg_max_k, p->state, p->room, size, other->state, other->room);
+    return hll_state_join(lg_max_k, p->state, p->room, size, other->image.at, other->image.len);
+}
+
+/* Joins, in more room where the state asks for it, which it does once; what is not joined changes nothing. */
+static void join(pair *p, unsigned lg_max_k, joinable *other)
+{
+    uint8_t lg_k = hll_image_lg_k(other->image.at, other->image.len), most = p->lg_k < lg_k ? lg_k : p->lg_k;
+    int differ = lg_max_k == 0 && p->lg_k != lg_k && !is_empty(other->image), refused = differ && !is_empty(p->image);
+    size_t size = 77;
+    bytes before = with_room(p->room);
+    hll_status status;
+    memcpy(before.at, p->state, p->room);
+    status = call_join(p, lg_max_k, other, &size);
+    if (status == HLL_BUFFER) {
+        CHECK(p->room < size && size <= HLL_STATE_MOST(most), "%zu, after %zu", size, p->room);
+        CHECK(!refused && gives(p, 8), "lg_k %d: no room, and the sketch changed", p->lg_k);
+        move_to(p, size);
+        size = 77;
+        status = call_join(p, lg_max_k, other, &size);
+    }
+    CHECK(size == 77, "lg_k %d and %d: %zu", p->lg_k, lg_k, size);
+    CHECK(status == (refused ? HLL_OTHER_LG_K : HLL_OK), "lg_k %d and %d: %s", p->lg_k, lg_k, hll_reason(status));
+    if (refused)
+        CHECK(memcmp(before.at, p->state, before.len) == 0, "lg_k %d and %d: refused, and changed", p->lg_k, lg_k);
+    else
+        expect_union(p, differ ? lg_k : p->lg_k, p->image, other->image);
+    free(before.at);
+}
+
+/* What is joined: of any stage and width, empty ones too, with registers of another program's fields at times, and of a slot that
+ * alone has a value. */
+static joinable some_joinable(uint64_t *random, uint8_t most_lg_k)
+{
+    uint64_t word = random_word(random);
+    uint8_t lg_k = (uint8_t)(4 + word % (most_lg_k - 3)), width = (uint8_t)(4 + 2 * ((word >> 8) % 3));
+    size_t count = (word >> 16) % ((size_t)2 << ((word >> 32) % lg_k)), size = 0;
+    joinable made = {image_of_values(lg_k, width, word >> 40, count), NULL, HLL_STATE_NEW};
+    bytes cleared = with_room(HLL_IMAGE_MAX(lg_k));
+    if ((word >> 12) % 4 == 0) {
+        need(hll_image_clear_estimator_fields(made.image.at, made.image.len, cleared.at, cleared.len, &cleared.len) == HLL_OK,
+             "hll_image_clear_estimator_fields for a test");
+        free(made.image.at);
+        made.image = cleared;
+    } else {
+        free(cleared.at);
+    }
+    if ((word >> 14) % 2 == 0)
+        return made;
+    made.room = HLL_STATE_MOST(lg_k);
+    made.state = malloc(made.room);
+    need(made.state != NULL && hll_state_new(lg_k, made.state, made.room) == HLL_OK &&
+             hll_state_join(0, made.state, made.room, &size, made.image.at, made.image.len) == HLL_OK,
+         "a state of an image");
+    return made;
+}
+
+/* Random joins to a state, with values between them. */
+static void walk_of_joins(uint64_t *random, uint8_t most_lg_k)
+{
+    pair p = new_pair((uint8_t)(4 + random_word(random) % (most_lg_k - 3)));
+    int steps = 1 + (int)(random_word(random) % 12), bounded = random_word(random) % 2 == 0, step;
+    unsigned widths = 0;
+    for (step = 0; step < steps; step++) {
+        uint64_t word = random_word(random);
+        joinable other = some_joinable(random, most_lg_k);
+        uint8_t lg_k = p.lg_k;
+        int joins;
+        if (word % 4 == 0)
+            add(&p, word >> 32, 1 + (word >> 8) % 50, (word >> 16) % 60, (int)(word % 3));
+        joins = !is_empty(other.image) && (bounded || lg_k == hll_image_lg_k(other.image.at, other.image.len) || is_empty(p.image));
+        if (joins)
+            widths |= hll_image_width(other.image.at, other.image.len) / 2 == 2 ? 1 : hll_image_width(other.image.at, other.image.len) / 2 == 3 ? 2 : 4;
+        join(&p, bounded ? lg_k + (unsigned)(word >> 20) % (22u - lg_k) : 0, &other);
+        CHECK(hll_state_width(p.state) == (widths == 1 ? 4 : widths == 2 ? 6 : 8), "width %d of %u", hll_state_width(p.state), widths);
+        CHECK(hll_state_lg_k(p.state) == p.lg_k, "lg_k %d: %d", p.lg_k, hll_state_lg_k(p.state));
+        if (other.state != NULL) {
+            pair q = {other.state, other.room, other.image, hll_image_lg_k(other.image.at, other.image.len)};
+            CHECK(gives(&q, 8), "lg_k %d: a joined state changed", q.lg_k);
+        }
+        free(other.state);
+        free(other.image.at);
+        CHECK(gives(&p, (uint8_t)(4 + 2 * (word % 3))), "lg_k %d, step %d", p.lg_k, step);
+    }
+    CHECK(gives(&p, 4) && gives(&p, 6) && gives(&p, 8) && estimates_alike(&p), "lg_k %d", p.lg_k);
+    free_pair(&p);
+}
+
 /* ---- walks ---- */
 
 /* Random calls, with reads between them; so many values that some walks stay coupons. */
@@ -204,6 +323,51 @@ static void refusals(void)
     CHECK(hll_state_add(state, sizeof state, &size, NULL, 0, NULL, 0) == HLL_OK && size == 8, "no values");
 }
 
+/* Joins that are refused, each of which changes nothing. */
+static void refused_joins(void)
+{
+    pair p = new_pair(10), other = new_pair(11);
+    bytes image = image_of_values(11, 8, 0, 30);
+    uint8_t before[HLL_STATE_NEW + 8];
+    size_t size = 77;
+    add(&p, 1, 1, 1, 2);
+    add(&other, 1, 1, 1, 2);
+    move_to(&p, HLL_STATE_NEW + 8);
+    memcpy(before, p.state, sizeof before);
+    CHECK(hll_state_join(9, p.state, p.room, &size, image.at, image.len) == HLL_ARGUMENT, "lg_max_k below the state's");
+    CHECK(hll_state_join(22, p.state, p.room, &size, image.at, image.len) == HLL_ARGUMENT, "lg_max_k 22");
+    CHECK(hll_state_join(266, p.state, p.room, &size, image.at, image.len) == HLL_ARGUMENT, "lg_max_k 266");
+    CHECK(hll_state_join(0, p.state, p.room, &size, image.at, image.len) == HLL_OTHER_LG_K, "another lg_k");
+    CHECK(hll_state_join(0, p.state, p.room, &size, image.at, image.len - 1) == HLL_TRUNCATED, "a truncated image");
+    CHECK(hll_state_join(12, p.state, p.room, &size, image.at, 7) == HLL_TRUNCATED, "a truncated image");
+    CHECK(hll_state_join(12, p.state, 39, &size, image.at, image.len) == HLL_ARGUMENT, "39 bytes");
+    CHECK(hll_state_join_state(0, p.state, p.room, &size, other.state, other.room) == HLL_OTHER_LG_K, "another lg_k");
+    CHECK(hll_state_join_state(12, p.state, p.room, &size, other.state, 39) == HLL_ARGUMENT, "39 bytes");
+    CHECK(hll_state_join_state(9, p.state, p.room, &size, other.state, other.room) == HLL_ARGUMENT, "lg_max_k below the state's");
+    CHECK(size == 77 && memcmp(before, p.state, sizeof before) == 0, "refused joins changed something");
+    CHECK(hll_state_join(12, p.state, p.room, &size, image.at, image.len) == HLL_BUFFER && p.room < size && gives(&p, 8), "%zu", size);
+    CHECK(HLL_STATE_NEW + 4 * 31 <= size && size < HLL_STATE_MOST(10), "%zu bytes for 31 coupons", size);
+    free(image.at);
+    free_pair(&p);
+    free_pair(&other);
+}
+
+/* Joins to bytes that no call made, and of them to a state. */
+static void strange_joins(uint64_t *random, uint8_t *state, size_t room)
+{
+    joinable other = some_joinable(random, 10);
+    pair p = new_pair(10);
+    size_t size = 0;
+    hll_status status = hll_state_join(random_word(random) % 2 == 0 ? 0 : 21, state, room, &size, other.image.at, other.image.len);
+    CHECK(status == HLL_OK || status == HLL_ARGUMENT || status == HLL_OTHER_LG_K || (status == HLL_BUFFER && room < size), "%zu bytes: %d", room, status);
+    move_to(&p, HLL_STATE_MOST(10));
+    status = hll_state_join_state(21, p.state, p.room, &size, state, room);
+    CHECK(status == HLL_OK || status == HLL_ARGUMENT || status == HLL_REGISTER, "%zu bytes: %d", room, status);
+    free(other.state);
+    free(other.image.at);
+    free_pair(&p);
+}
+
 /* Bytes that no call made, behind headers that are likely: each call answers with a code of its own, and no byte after the
  * room is written. */
 static void strange_bytes(uint64_t *random)
@@ -235,6 +399,7 @@ static void strange_bytes(uint64_t *random)
     }
     status = hll_state_image(state.at, room, 4, out.at, out.len, &size);
     CHECK(status == HLL_OK || status == HLL_ARGUMENT || status == HLL_REGISTER || status == HLL_BUFFER, "%zu bytes: %d", room, status);
+    strange_joins(random, state.at, room);
     for (i = 0; i < AFTER; i++)
         CHECK(state.at[room + i] == 0x5a, "byte %zu after the room of %zu", i, room);
     free(state.at);
@@ -247,10 +412,13 @@ int main(int argc, char **argv)
     uint8_t most_lg_k = argc > 2 ? 12 : 15, lg_k;
     uint64_t random = 20261128;
     refusals();
+    refused_joins();
     for (lg_k = 4; lg_k <= 10; lg_k++)
         each_count(lg_k);
     for (number = 0; number < walks; number++)
         walk(&random, most_lg_k);
+    for (number = 0; number < walks; number++)
+        walk_of_joins(&random, most_lg_k - 1);
     for (number = 0; number < walks; number++)
         strange_bytes(&random);
     return finish("states");

@@ -1,9 +1,11 @@
 -- SPDX-License-Identifier: Apache-2.0
 -- Lemmas on states.
-use Rattle.std.proofs.Common.{◌≡◌, ◌≢◌, ℕ, ◌+◌, ◌-◌, ◌<◌, ◌≤◌, List, [], ◌∷◌, length, take, drop, get_or, map, refl, sym, ap, subst, ◌∙◌, arith, true, false, Option, Some, None, inl, inr}
+use Rattle.std.proofs.Common.{◌≡◌, ◌≢◌, ℕ, ◌+◌, ◌-◌, ◌<◌, ◌≤◌, List, [], ◌∷◌, length, take, drop, get_or, map, refl, sym, ap, subst, ◌∙◌, arith, true, false, not, nat_eq, Option, Some, None, inl, inr}
+use borrow.Rule.Slice.PartMut.{mid_of, put_mid}
 use Rattle.std.specs.FinSet.{len}
 use Rattle.std.proofs.lemmas.Bool.{cases_Bool}
 use Rattle.std.proofs.lemmas.List.{drop_more, drop_all, length-map}
+use Rattle.hll_base.specs.Reason.{number_of}
 use Rattle.hll_base.specs.declared.error.Reason.{Reason}
 use Rattle.hll_base.specs.declared.error.Reason.TheVariants.{Argument, Memory, Register}
 use Rattle.hll_base.specs.declared.hll_type.HllType.{HllType}
@@ -18,15 +20,18 @@ use Rattle.hll_sketch.specs.Value.{Sketch, Content, coupons, IsTableFor, IsLegal
 use Rattle.hll_sketch.specs.Written.{coupon_image}
 use Rattle.hll_state.specs.Counter.{sketch_in, content_of_coupons}
 use Rattle.hll_state.specs.Header.{IsWithin, HasRoom}
-use Rattle.hll_state.specs.Memory.{IsState, OfState}
+use Rattle.hll_state.specs.Joined.{IsJoined}
+use Rattle.hll_state.specs.Memory.{HasHeader, IsState, OfState}
 use Rattle.hll_state.specs.declared.header.Header.{Header}
 use Rattle.hll_state.specs.declared.header.CouponTable.{CouponTable}
+use Rattle.hll_state.specs.declared.join.Joined.{Joined}
 use Rattle.hll_state.proofs.Rooms.{staged_table}
+use Rattle.hll_state.proofs.States.{rest_borrowed, rest_written}
 use Rattle.hll_state.proofs.Tables.{content-taken, content-staged}
 use Rattle.hll_c.specs.Answers.{IsImageOf}
 use Rattle.hll_c.specs.Batches.{AreEndsFrom, strings}
 use Rattle.hll_c.specs.Estimates.{IsEstimateOfCoupons, IsEstimateOfContent}
-use Rattle.hll_c.specs.States.{RefusesState, state_argument, state_register, state_memory}
+use Rattle.hll_c.specs.States.{IsBoundFor, Joins, RefusesState, state_argument, state_register, state_memory}
 use Rattle.hll_c.specs.declared.estimate.HllEstimate.{HllEstimate}
 use Rattle.hll_c.proofs.Batches.{ends_here, strings_here, strings_end, coupons_from, length-strings}
 
@@ -79,6 +84,25 @@ all_strings_pushed first first_body h body values ends start i all left =
 
 pub length-coupons : (values ends : List ℕ) → length (map coupon_of_bytes (strings values ends)) ≡ length ends
 length-coupons values ends = length-map (strings values ends) coupon_of_bytes ∙ length-strings (length values) values 0 ends
+
+-- ---- joins
+
+pub no_memory : Argument ≡ Memory → ⊥
+no_memory same = let other : 12 ≡ 13 = ap number_of same in omega (arith, other)
+
+-- what a join gives of the elements after a header, it gives of the state
+pub joined_within : (lg_max_k o : ℕ) (y : Sketch) (old final body : List (List ℕ)) (h g : Header) (answer : Joined) → HasHeader old h → IsBoundFor lg_max_k h.lg_k → HasHeader final g
+    → drop 10 final ≡ drop 10 (put_mid 10 (length old - 10) old body) → IsJoined (not (nat_eq lg_max_k 0)) o y h (mid_of 10 (length old - 10) old) g body answer
+    → Joins lg_max_k o y old final answer
+joined_within lg_max_k o y old final body h g answer had bound has rest is =
+    let b = not (nat_eq lg_max_k 0) in
+    record {
+      before = record { header = h; has = had; bound = bound };
+      after = g;
+      has = has;
+      is = subst (λ xs. IsJoined b o y h xs g (drop 10 final) answer) (rest_borrowed old)
+          (subst (λ ys. IsJoined b o y h (mid_of 10 (length old - 10) old) g ys answer) (sym (rest ∙ rest_written old body had.there)) is);
+    }
 
 -- ---- images
 

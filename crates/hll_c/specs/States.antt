@@ -1,14 +1,22 @@
 -- SPDX-License-Identifier: Apache-2.0
 -- What calls do with states in memory of the caller (docs/MODEL.md, "States of a counter").
-use Rattle.std.specs.Prelude.{◌≡◌, ℕ, ◌*◌, ◌<◌, List, length}
+use Rattle.std.specs.Prelude.{◌≡◌, ℕ, ◌*◌, ◌<◌, ◌≤◌, ◌==◌, ◌⊎◌, not, List, length, drop}
 use Rattle.hll_base.specs.Reason.{number_of}
 use Rattle.hll_base.specs.declared.error.Reason.{Reason}
 use Rattle.hll_base.specs.declared.error.Reason.TheVariants.{Argument, Memory, Register}
 use Rattle.hll_base.specs.declared.hll_type.HllType.TheVariants.{Hll8}
+use Rattle.hll_sketch.specs.BorrowedImage.{BorrowNeedsMemory}
+use Rattle.hll_sketch.specs.Image.{IsReadAs}
 use Rattle.hll_sketch.specs.Laws.{add_in_turn}
 use Rattle.hll_sketch.specs.Value.{Sketch, IsLgK, IsLegal, empty_sketch}
-use Rattle.hll_state.specs.Memory.{IsState, IsStateOf, OfState, HasRoomIn, AreEnough}
-use Rattle.hll_c.specs.Answers.{ok_code, buffer_code}
+use Rattle.hll_state.specs.Counter.{sketch_in}
+use Rattle.hll_state.specs.Joined.{IsJoined}
+use Rattle.hll_state.specs.Memory.{HasHeader, IsState, IsStateOf, OfState, HasRoomIn, AreEnough}
+use Rattle.hll_state.specs.Merged.{bit_of}
+use Rattle.hll_state.specs.declared.header.Header.{Header}
+use Rattle.hll_state.specs.declared.join.Joined.{Joined}
+use Rattle.hll_state.specs.declared.join.Joined.TheVariants.{Done, NoRoom, OtherLgK}
+use Rattle.hll_c.specs.Answers.{ok_code, buffer_code, RefusesWith}
 use Rattle.hll_c.specs.Calls.{IsAtWidth}
 use Rattle.hll_c.specs.Estimates.{IsEstimateOfContent}
 use Rattle.hll_c.specs.declared.estimate.HllEstimate.{HllEstimate}
@@ -52,3 +60,47 @@ IsOfState bits old y = OfState old (λ x. IsAtWidth bits x y)
 -- what is told of a state
 abbrev pub SaysEstimateOfState : List (List ℕ) → HllEstimate → Type 0
 SaysEstimateOfState old e = OfState old (λ x. IsEstimateOfContent x.lg_k x.content e)
+
+-- ---- joins
+
+-- the code of a call whose sketches have different lg_k, where no bound was given
+abbrev pub other_lg_k_code : ℕ
+other_lg_k_code = 16
+
+-- 0 for no bound, or an lg_k of at least that of the state
+abbrev pub IsBoundFor : ℕ → ℕ → Type 0
+IsBoundFor lg_max_k k = (lg_max_k ≡ 0) ⊎ ((k ≤ lg_max_k) × (lg_max_k ≤ 21))
+
+-- the elements are a state under that bound
+pub record IsStateUnder (lg_max_k : ℕ) (elements : List (List ℕ)) : Type 0 where
+  pub header : Header
+  pub has : HasHeader elements header
+  pub bound : IsBoundFor lg_max_k header.lg_k
+
+-- a state before a join and after it
+pub record Joins (lg_max_k others : ℕ) (y : Sketch) (old new : List (List ℕ)) (answer : Joined) : Type 0 where
+  pub before : IsStateUnder lg_max_k old
+  pub after : Header
+  pub has : HasHeader new after
+  pub is : IsJoined (not (lg_max_k == 0)) others y before.header (drop 10 old) after (drop 10 new) answer
+
+-- A sketch is joined, and its widths are recorded; or there is no room, it is told how many bytes are enough, and the meaning stays; or its
+-- lg_k is another one, no bound was given, and nothing changes.
+pub data JoinsSketch (lg_max_k others : ℕ) (y : Sketch) (old new : List (List ℕ)) (size_old size_new : ℕ) : ℕ → Type 0 where
+  joined : Joins lg_max_k others y old new Done → size_new ≡ size_old → JoinsSketch lg_max_k others y old new size_old size_new ok_code
+  no_room_to_join : (len : ℕ) → Joins lg_max_k others y old new (NoRoom len) → size_new ≡ 4 * len → JoinsSketch lg_max_k others y old new size_old size_new buffer_code
+  other_lg_k : Joins lg_max_k others y old new OtherLgK → new ≡ old → size_new ≡ size_old → JoinsSketch lg_max_k others y old new size_old size_new other_lg_k_code
+
+-- The sketch of an image is joined; or an argument is out of range or the elements are no state, or the image is refused, and nothing changes.
+pub data JoinsImage (lg_max_k : ℕ) (image : List ℕ) (old new : List (List ℕ)) (size_old size_new : ℕ) : ℕ → Type 0 where
+  image_read : {code : ℕ} → (y : Sketch) → IsReadAs image y → JoinsSketch lg_max_k (bit_of y.width) y old new size_old size_new code → JoinsImage lg_max_k image old new size_old size_new code
+  image_not_read : {r : Reason} → RefusesWith (IsStateUnder lg_max_k old) image r → (r ≡ Memory → BorrowNeedsMemory image) → new ≡ old → size_new ≡ size_old
+      → JoinsImage lg_max_k image old new size_old size_new (number_of r)
+
+-- The sketch of another state is joined; or an argument is out of range or one of both is no state, or a register of the other is above 63,
+-- and nothing changes.
+pub data JoinsState (lg_max_k : ℕ) (other old new : List (List ℕ)) (size_old size_new : ℕ) : ℕ → Type 0 where
+  state_read : {code : ℕ} → (h : Header) → HasHeader other h → JoinsSketch lg_max_k h.widths (sketch_in h (drop 10 other)) old new size_old size_new code
+      → JoinsState lg_max_k other old new size_old size_new code
+  no_states : (IsStateUnder lg_max_k old × IsState other → ⊥) → new ≡ old → size_new ≡ size_old → JoinsState lg_max_k other old new size_old size_new (number_of Argument)
+  register_above : IsStateUnder lg_max_k old → OfState other (λ y. IsLegal y → ⊥) → new ≡ old → size_new ≡ size_old → JoinsState lg_max_k other old new size_old size_new (number_of Register)

@@ -22,7 +22,7 @@ ghost use Rattle.hll_c.specs.ByteRegisters.{HaveValues, MergesImageInto, MergesR
 ghost use Rattle.hll_c.specs.Calls.{AreNewArguments, IsEmptyAt, IsMadeOf, IsFoldOf, RefusesFold, AsksWidth, IsWidth, IsAtWidth, IsCleared, AreOfCoupon, HasCoupon, HasValues, AreUnionArguments, IsUnionOf, AreBatchArguments, IsUnionOfBatch, SaysAgreement, PutsCoupons, PutsCouponsOf};
 ghost use Rattle.hll_c.specs.Estimates.{SaysEstimate, SaysEstimateOfBytes, SaysEstimateOfCounts, RefusesCounts};
 ghost use Rattle.hll_c.specs.Info.{SaysInfo, SaysHistogram};
-ghost use Rattle.hll_c.specs.States.{MakesState, AddsToState, IsOfState, SaysEstimateOfState, RefusesState};
+ghost use Rattle.hll_c.specs.States.{MakesState, AddsToState, IsOfState, SaysEstimateOfState, RefusesState, JoinsImage, JoinsState};
 ghost use Rattle.hll_state.specs.Memory.{IsOnlyRead};
 ghost use Rattle.hll_c.specs.declared.estimate.HllEstimate.{HllEstimate};
 ghost use Rattle.hll_c.specs.declared.info.HllInfo.{HllInfo};
@@ -36,6 +36,7 @@ mod estimate;
 mod fixed;
 mod image;
 mod info;
+mod join;
 mod offsets;
 mod state;
 
@@ -547,6 +548,43 @@ pub extern "C" fn hll_state_add_coupons(
     ensures { AddsToState (HaveValues coupons.now) coupons.now state.old state.new size.old size.new result }
 {
     state::add_coupons(state, coupons, size)
+}
+
+/// Joins the sketch of an image to a state: the state means what a union gives whose bound is the state's `lg_k`.
+///
+/// `lg_max_k` is 0 for no bound, or an `lg_k` of at least that of the state. Without a bound a state that is not empty refuses
+/// an image of another `lg_k` that isn't empty, by 16, and an empty state takes its `lg_k`. Answers 14 where there is no room, and
+/// then `size` is a number of bytes that are enough; `Argument` for another `lg_max_k`, or elements that are no state; the reason of
+/// the first check that the image fails; or `Memory`. What the state means is then as it was. Takes memory as
+/// `hll_image_check`.
+#[unsafe(no_mangle)]
+pub extern "C" fn hll_state_join(
+    alloc: Global,
+    lg_max_k: u32,
+    state: &mut [[u8; 4]],
+    size: &mut usize,
+    image: &[u8],
+) -> u8
+    ensures { JoinsImage lg_max_k image.now state.old state.new size.old size.new result }
+{
+    join::join_image(alloc, lg_max_k, state, size, image)
+}
+
+/// Joins the sketch of another state to a state, as `hll_state_join` does that of an image.
+///
+/// Answers `Register` where a register of the other is above 63, which no call makes. The bytes of the other may change, and what
+/// it means stays. Takes no memory.
+#[unsafe(no_mangle)]
+pub extern "C" fn hll_state_join_state(
+    lg_max_k: u32,
+    state: &mut [[u8; 4]],
+    size: &mut usize,
+    other: &mut [[u8; 4]],
+) -> u8
+    ensures joined { JoinsState lg_max_k other.old state.old state.new size.old size.new result }
+    ensures kept { IsOnlyRead other.old other.new }
+{
+    join::join_state(lg_max_k, state, size, other)
 }
 
 /// The image, at a width, of what a state means, its fields set where its estimate state is cleared.

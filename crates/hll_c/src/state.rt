@@ -27,8 +27,6 @@ use crate::arguments::{lg_k_of_number, width_of};
 use crate::batch::are_ends;
 use crate::byte_registers::have_values;
 use crate::estimate::{HllEstimate, estimate_of_coupons, estimate_of_registers};
-use hll_arrays::kernels::greatest_of;
-use hll_base::bounds::MAX_VALUE;
 use hll_base::error::{Error, Reason};
 use hll_base::hll_type::HllType;
 use hll_coupons::coupon::Coupon;
@@ -37,7 +35,7 @@ use hll_sketch::max_registers::sketch_with_state;
 use hll_sketch::stage::stage;
 use hll_state::header::{CouponTable, HEADER_LEN, Header, Held};
 use hll_state::memory::{Begun, begin, close, resolve};
-use hll_state::registers::as_bytes;
+use hll_state::registers::small_registers;
 use std::alloc::Global;
 
 /// Makes the state of an empty sketch.
@@ -73,7 +71,7 @@ pub(crate) fn add(state: &mut [[u8; 4]], values: &[u8], ends: &[usize], size: &m
 }
 
 /// Tells that so many elements are needed, in bytes.
-fn too_small(len: usize, size: &mut usize) -> u8
+pub(crate) fn too_small(len: usize, size: &mut usize) -> u8
     requires { len < 2 ^ 32 }
     ensures size { size.new ≡ 4 * len }
     ensures code { result ≡ buffer_code }
@@ -234,21 +232,6 @@ fn lg_size_of(lg_k: u8, coupons: CouponTable) -> u8
         Some(lg_size) if coupons.added => lg_size,
         _ => coupons.lg_size,
     }
-}
-
-/// The registers of a state as bytes. `Register` where one is above 63.
-fn small_registers(body: &[[u8; 4]], lg_k: u8) -> Result<&[u8], Error>
-    requires lg_k { IsLgK lg_k }
-    requires within { 2 ^ (lg_k - 2) ≤ length body.now }
-    ensures registers { IfOk result (λ registers. registers.now ≡ values (take (2 ^ (lg_k - 2)) body.now)) }
-    ensures ok { IfOk result (λ registers. AreRegisters lg_k registers.now) }
-    ensures err { IfErr result (λ e. (e ≡ reasons.Register) × (AreRegisters lg_k (values (take (2 ^ (lg_k - 2)) body.now)) → ⊥)) }
-{
-    let registers = as_bytes(body, lg_k);
-    if greatest_of(registers) > MAX_VALUE {
-        return Err(Error::new(Reason::Register));
-    }
-    Ok(registers)
 }
 
 /// The estimate of what a state means.

@@ -6,9 +6,10 @@ ghost use Rattle.hll_coupons.specs.Coupons.{raw_coupons, AreCoupons};
 ghost use Rattle.hll_sketch.specs.BorrowedImage.{sketch_of_borrowed, sketch_of_coupons, BorrowNeedsMemory};
 ghost use Rattle.hll_sketch.specs.Header.{header_of};
 ghost use Rattle.hll_sketch.specs.Image.{HasHeader, IsReadAs, stage_bits};
+ghost use Rattle.hll_sketch.specs.Layout.{count_in};
 ghost use Rattle.hll_sketch.specs.MergedIn.{IsOfCoupons};
 ghost use Rattle.hll_sketch.specs.Refusal.{IsRefusal};
-ghost use Rattle.hll_sketch.specs.Value.{is_empty};
+ghost use Rattle.hll_sketch.specs.Value.{is_empty, IsLgK};
 
 use crate::coupons_of_image::CouponsOfImage;
 use crate::header::{Header, Stage};
@@ -21,6 +22,7 @@ use hll_base::hll_type::HllType;
 use hll_registers::group_slice::GroupSlice;
 use hll_registers::nibble_slice::NibbleSlice;
 use hll_registers::register_slice::RegisterSlice;
+use hll_registers::registers::Registers;
 use std::alloc::{Allocator, Global};
 
 /// The sketch of an image. Only a table and the map of exceptions of registers of four bits are in memory of their own.
@@ -80,6 +82,31 @@ impl<'a, A: Allocator> BorrowedImage<'a, A> {
             BorrowedImage::Nibbles(registers) => registers.are_all_zero(),
             BorrowedImage::Groups(registers) => registers.are_all_zero(),
             BorrowedImage::Bytes(registers) => registers.are_all_zero(),
+        }
+    }
+
+    /// Returns the logarithm of the number of registers, 4 to 21.
+    pub fn lg_k(&self) -> u8
+        ensures lg_k { result ≡ (sketch_of_borrowed self.now).lg_k }
+        ensures legal { IsLgK result }
+    {
+        match self {
+            BorrowedImage::Coupons(coupons) => coupons.lg_k,
+            BorrowedImage::Table(sketch) => sketch.lg_config_k(),
+            BorrowedImage::Nibbles(registers) => registers.lg_k(),
+            BorrowedImage::Groups(registers) => registers.lg_k(),
+            BorrowedImage::Bytes(registers) => registers.lg_k(),
+        }
+    }
+
+    /// Returns the number of coupons of a list or a set. `None` for registers.
+    pub fn num_coupons(&self) -> Option<usize>
+        ensures { result ≡ count_in (sketch_of_borrowed self.now).content }
+    {
+        match self {
+            BorrowedImage::Coupons(coupons) => Some(coupons.elements.len()),
+            BorrowedImage::Table(sketch) => sketch.num_coupons(),
+            BorrowedImage::Nibbles(_) | BorrowedImage::Groups(_) | BorrowedImage::Bytes(_) => None,
         }
     }
 

@@ -1,11 +1,14 @@
 // SPDX-License-Identifier: Apache-2.0
 //! The coupons of a compact image, with what its header says.
-ghost use Rattle.std.specs.Prelude.{◌≡◌, ◌≢◌, ◌+◌, ◌^◌, ◌<◌, ◌≤◌, length};
+ghost use Rattle.std.specs.FinSet.{len};
+ghost use Rattle.std.specs.Int.{w32, from_le_bytes};
+ghost use Rattle.std.specs.Prelude.{◌≡◌, ◌≢◌, ◌+◌, ◌^◌, ◌<◌, ◌≤◌, length, map};
+ghost use Rattle.hll_coupons.specs.Pair.{set_of};
 ghost use Rattle.hll_sketch.specs.Value.{IsLgK};
 
 use hll_base::hll_type::HllType;
 
-/// The coupons of a compact image, as they lie in its bytes: at least one, each once.
+/// The coupons of a compact image, as they lie in its bytes, each once.
 #[derive(Clone, Copy)]
 pub struct CouponsOfImage<'a> {
     /// The logarithm of the number of registers, 4 to 21.
@@ -25,5 +28,5 @@ pub struct CouponsOfImage<'a> {
     ghost least: { lg_size ≢ 3 → 5 ≤ lg_size },
     ghost most: { lg_size ≢ 3 → lg_size + 3 ≤ lg_k },
     ghost set: { lg_size ≢ 3 → length elements.now < 2 ^ lg_size },
-    ghost some: { 1 ≤ length elements.now },
+    ghost once: { len (set_of (map (from_le_bytes w32) elements.now)) ≡ length elements.now },
 }

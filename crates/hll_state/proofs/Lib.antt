@@ -3,6 +3,7 @@ pub mod Distinct
 pub mod Emptiness
 pub mod Flattened
 pub mod FoldedInPlace
+pub mod MergedImages
 pub mod MergedRegisters
 pub mod MergedStates
 pub mod MergedTables
@@ -10,6 +11,7 @@ pub mod Merging
 pub mod Numbers
 pub mod Parts
 pub mod Promoting
+pub mod Raised
 pub mod Raws
 pub mod Rooms
 pub mod Runs

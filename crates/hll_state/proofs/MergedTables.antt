@@ -1,21 +1,15 @@
 -- SPDX-License-Identifier: Apache-2.0
 -- Tables of sketches that are merged.
-use Rattle.std.proofs.Common.{◌≡◌, ℕ, ◌+◌, ◌^◌, ◌≤◌, nat_eq, false, List, [], ◌∷◌, length, sym, ap, ◌∙◌, inl, inr, arith}
+use Rattle.std.proofs.Common.{◌≡◌, ℕ, ◌^◌, ◌≤◌, nat_eq, false, List, [], ◌∷◌, length, sym, ap, ◌∙◌, inl, inr, arith}
 use Rattle.std.specs.FinSet.{len, len-empty}
 use Rattle.std.specs.Ordering.{nat_cmp}
-use Rattle.std.proofs.lemmas.Bool.{cases_Bool, true≢false, eq-eqb, cond-true, cond-false}
+use Rattle.std.proofs.lemmas.Bool.{true≢false, eq-eqb}
 use Rattle.hll_base.specs.declared.hll_type.HllType.{HllType}
 use Rattle.hll_coupons.proofs.Unions.{set_of-nil}
 use Rattle.hll_coupons.specs.Pair.{set_of}
 use Rattle.hll_coupons.specs.Table.{Table, coupons_in}
 use Rattle.hll_sketch.specs.Layout.{list, set, IsLayoutFor}
 use Rattle.hll_sketch.specs.Value.{IsTableFor}
-use Rattle.hll_state.specs.Header.{elements_for, most_elements, are_few, HasRoomFor}
-use Rattle.hll_state.specs.Merged.{HasRoomToMerge}
-use Rattle.hll_state.specs.declared.header.Header.{Header}
-use Rattle.hll_state.specs.declared.header.Held.{Held}
-use Rattle.hll_state.specs.declared.header.Held.TheVariants.{Coupons, Registers}
-use Rattle.hll_state.proofs.Rooms.{few_below}
 
 -- coupons of a set that is not empty are some
 pub some_listed : (order : List ℕ) → nat_eq (len (set_of order)) 0 ≡ false → 1 ≤ length order
@@ -27,19 +21,3 @@ list_table k w t is few = let eight : 2 ^ t.lg_size ≡ 8 = ap (λ n. 2 ^ n) is 
 
 pub set_table : (k : ℕ) (w : HllType) (t : Table) → IsLayoutFor k (set w t) → IsTableFor k (length (coupons_in t.buckets)) t.lg_size
 set_table k w t is = inr (is.0, is.1, is.2)
-
--- ---- room
-
--- the most elements are enough for any coupons
-pub elements_most : (k n : ℕ) → elements_for k n ≤ most_elements k
-elements_most k n = elim (cases_Bool (are_few k n)) [
-  | inl few ↦ omega (arith, cond-true (are_few k n) n (most_elements k) few, few_below k n few)
-  | inr many ↦ omega (arith, cond-false (are_few k n) n (most_elements k) many)
-]
-
-pub most_merge : (h : Header) (n room : ℕ) → most_elements h.lg_k ≤ room → HasRoomToMerge h n room
-most_merge h n room most = (of h.held, omega (arith, elements_most h.lg_k n, most))
-  where
-    of : (held : Held) → HasRoomFor h.lg_k held n room
-    of (Coupons c) = omega (arith, elements_most h.lg_k (c.run.used + n), most)
-    of (Registers s) = omega (arith, most)

@@ -12,7 +12,8 @@ use Rattle.hll_sketch.proofs.Stages.{holds_fewer}
 use Rattle.hll_sketch.specs.Layout.{IsSize}
 use Rattle.hll_sketch.specs.Stage.{can_hold, sizes, stage}
 use Rattle.hll_sketch.specs.Value.{IsTableFor}
-use Rattle.hll_state.specs.Header.{greatest_size, are_few, most_used, most_elements, elements_for, HasRoom, HasRoomFor}
+use Rattle.hll_state.specs.Header.{greatest_size, are_few, most_used, most_elements, elements_for, IsHeldWithin, IsWithin, HasRoom, HasRoomFor}
+use Rattle.hll_state.specs.Merged.{used_in}
 use Rattle.hll_state.specs.declared.header.Header.{Header}
 use Rattle.hll_state.specs.declared.header.Held.{Held}
 use Rattle.hll_state.specs.declared.header.Held.TheVariants.{Coupons, Registers}
@@ -168,3 +169,11 @@ room_fewer h n m room le has = of h.held has
     of : (held : Held) → HasRoomFor h.lg_k held m room → HasRoomFor h.lg_k held n room
     of (Coupons c) has = omega (arith, has, elements_mono h.lg_k (c.run.used + n) (c.run.used + m) (omega (arith, le)))
     of (Registers s) has = has
+
+-- as many elements are in use beside registers as may be
+pub used_most : (h : Header) (room : ℕ) → IsWithin h room → used_in h.held ≤ most_used h.lg_k
+used_most h room within = of h.held within.held
+  where
+    of : (held : Held) → IsHeldWithin h.lg_k held room → used_in held ≤ most_used h.lg_k
+    of (Coupons c) are = are.used
+    of (Registers s) are = omega arith

@@ -1,17 +1,21 @@
 -- SPDX-License-Identifier: Apache-2.0
 -- States in elements.
-use Rattle.std.proofs.Common.{◌≡◌, ℕ, ◌-◌, ◌^◌, ◌<◌, ◌≤◌, List, ◌++◌, length, take, drop, Some, sym, ap, subst, ◌∙◌, arith, refl}
+use Rattle.std.proofs.Common.{◌≡◌, ℕ, ◌-◌, ◌^◌, ◌<◌, ◌≤◌, List, ◌++◌, length, take, drop, take-append-drop, Some, sym, ap, subst, ◌∙◌, arith, refl}
 use Rattle.std.specs.Prelude.{max}
 use Rattle.std.proofs.Math.Pow.{pow_mono}
 use Rattle.std.proofs.Math.Seq.{drop-append_seam}
 use Rattle.std.proofs.lemmas.List.{length-append, length-take-le}
 use Rattle.std.proofs.lemmas.List.{length-drop, take_all, drop_all, append-nil}
 use borrow.Rule.Slice.PartMut.{mid_of, put_mid}
-use Rattle.hll_sketch.specs.Value.{Sketch}
-use Rattle.hll_state.specs.Counter.{sketch_in}
+use Rattle.hll_sketch.specs.Value.{Sketch, IsLegal, IsLegalContent}
+use Rattle.hll_state.specs.Counter.{sketch_in, content_of}
 use Rattle.hll_state.specs.Header.{IsWithin, HasRoom, most_used}
+use Rattle.hll_state.specs.Joined.{AreEnoughToMerge}
 use Rattle.hll_state.specs.Memory.{HasHeader, IsStateOf, OfState, IsReady, AreEnough}
+use Rattle.hll_state.specs.Merged.{AreHeldRegistersLegal, HasLegalRegisters}
 use Rattle.hll_state.specs.declared.header.Header.{Header}
+use Rattle.hll_state.specs.declared.header.Held.{Held}
+use Rattle.hll_state.specs.declared.header.Held.TheVariants.{Coupons, Registers}
 
 -- elements have one header
 pub one_header : (elements : List (List ℕ)) (g h : Header) → HasHeader elements g → HasHeader elements h → g ≡ h
@@ -96,6 +100,25 @@ enough_fits elements n len enough =
     let up : 2 ^ (k - 2) ≤ 2 ^ 19 = pow_mono {i = k - 2} {j = 19} (omega (arith, most)) in
     let used : most_used k ≤ 2 ^ 18 = pow_mono {i = max 4 (k - 3)} {j = 18} (omega (arith, most)) in
     omega (arith, enough.most, up, used)
+
+-- a legal sketch has legal registers
+pub legal_registers : (h : Header) (body : List (List ℕ)) → IsLegal (sketch_in h body) → HasLegalRegisters h body
+legal_registers h body legal = of h.held legal.content
+  where
+    of : (held : Held) → IsLegalContent h.lg_k (content_of h.lg_k held body) → AreHeldRegistersLegal h.lg_k held body
+    of (Coupons c) legal = tt
+    of (Registers s) legal = legal.0
+
+pub merge_fits : (y : Sketch) (h : Header) (len : ℕ) → AreEnoughToMerge y h len → len < 2 ^ 32
+merge_fits y h len enough =
+    let up : 2 ^ (h.lg_k - 2) ≤ 2 ^ 19 = pow_mono {i = h.lg_k - 2} {j = 19} (omega (arith, enough.lg_k.high)) in
+    let used : most_used h.lg_k ≤ 2 ^ 18 = pow_mono {i = max 4 (h.lg_k - 3)} {j = 18} (omega (arith, enough.lg_k.high)) in
+    omega (arith, enough.most, up, used)
+
+-- elements that are written over by themselves
+pub rest_same : (elements : List (List ℕ)) → put_mid 10 (length elements - 10) elements (mid_of 10 (length elements - 10) elements) ≡ elements
+rest_same elements =
+    ap (λ ys. take 10 elements ++ ys) (take-append-drop (length elements - 10) (drop 10 elements)) ∙ take-append-drop 10 elements
 
 -- what was read of a state, where the elements after its header are borrowed
 pub read_at : (old new : List (List ℕ)) (h : Header) → OfState old (λ x. x ≡ sketch_in h (drop 10 new)) → OfState old (λ x. x ≡ sketch_in h (mid_of 10 (length new - 10) new))

@@ -2,6 +2,7 @@
 pub mod Counter
 pub mod CouponRun
 pub mod Header
+pub mod Joined
 pub mod Memory
 pub mod Merged
 pub mod Registers

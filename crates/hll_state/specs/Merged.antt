@@ -1,15 +1,16 @@
 -- SPDX-License-Identifier: Apache-2.0
 -- What is merged into a state.
-use Rattle.std.specs.Prelude.{ℕ, ◌+◌, ◌-◌, ◌/◌, ◌%◌, ◌^◌, ◌≤◌, ◌==◌, if◌then◌else◌, List, take}
+use Rattle.std.specs.Prelude.{◌≡◌, ℕ, ◌+◌, ◌-◌, ◌^◌, ◌≤◌, true, false, List, min, take}
+use Rattle.std.specs.FinSet.{len}
 use Rattle.hll_base.specs.declared.hll_type.HllType.{HllType}
 use Rattle.hll_base.specs.declared.hll_type.HllType.TheVariants.{Hll4, Hll6, Hll8}
 use Rattle.hll_coupons.specs.Pair.{set_of}
 use Rattle.hll_coupons.specs.Table.{Table, coupons_of}
 use Rattle.hll_kernels.specs.Packed.{AreRegisters}
-use Rattle.hll_sketch.specs.Value.{Sketch, coupons, is_empty}
+use Rattle.hll_sketch.specs.Value.{Sketch, Content, coupons, registers, in_registers, is_empty}
 use Rattle.hll_state.specs.Counter.{content_of}
 use Rattle.hll_state.specs.CouponRun.{raws}
-use Rattle.hll_state.specs.Header.{HasRoom, elements_for}
+use Rattle.hll_state.specs.Header.{HasRoom}
 use Rattle.hll_state.specs.Registers.{values}
 use Rattle.hll_state.specs.declared.header.Header.{Header}
 use Rattle.hll_state.specs.declared.header.Held.{Held}
@@ -35,6 +36,10 @@ AreHeldRegistersLegal k (Registers s) body = AreRegisters k (values (take (2 ^ (
 abbrev pub HasLegalRegisters : Header → List (List ℕ) → Type 0
 HasLegalRegisters h body = AreHeldRegistersLegal h.lg_k h.held body
 
+-- registers that it has, if any, are not all 0
+abbrev pub HasSomeRegister : Sketch → Type 0
+HasSomeRegister x = in_registers x.content ≡ true → is_empty x ≡ false
+
 -- ---- widths
 
 -- the bit of a width: 1 for four bits, 2 for six, 4 for eight
@@ -43,16 +48,18 @@ bit_of Hll4 = 1
 bit_of Hll6 = 2
 bit_of Hll8 = 4
 
--- widths with one more
-abbrev pub widths_with : ℕ → HllType → ℕ
-widths_with widths width = if widths / bit_of width % 2 == 1 then widths else widths + bit_of width
-
--- widths after a merge; an empty sketch adds none
-abbrev pub widths_after : ℕ → Sketch → ℕ
-widths_after widths x = if is_empty x then widths else widths_with widths x.width
-
 -- ---- room
 
--- so many elements after the header are enough for n coupons more, and for these alone
-abbrev pub HasRoomToMerge : Header → ℕ → ℕ → Type 0
-HasRoomToMerge h n room = HasRoom h n room × (elements_for h.lg_k n ≤ room)
+-- the elements in use beside registers
+abbrev pub used_in : Held → ℕ
+used_in (Coupons c) = c.run.used
+used_in (Registers s) = 0
+
+-- so many elements after the header are enough for coupons more, or for registers at the smaller lg_k, beside what is in use
+abbrev pub HasRoomForContent : Header → ℕ → Content → ℕ → Type 0
+HasRoomForContent h k (coupons S size) room = HasRoom h (len S) room
+HasRoomForContent h k (registers R state) room = 2 ^ (min h.lg_k k - 2) + used_in h.held ≤ room
+
+-- so many elements after the header are enough to merge a sketch; an empty one needs none
+abbrev pub HasRoomToMerge : Header → Sketch → ℕ → Type 0
+HasRoomToMerge h x room = is_empty x ≡ false → HasRoomForContent h x.lg_k x.content room

@@ -8,6 +8,7 @@ ghost use Rattle.hll_sketch.specs.Value.{IsLgK};
 ghost use Rattle.hll_state.specs.Counter.{sketch_in, content_of, IsHeldResolved, IsResolved};
 ghost use Rattle.hll_state.specs.Header as spec;
 ghost use Rattle.hll_state.specs.Header.{AreWithin, IsHeldWithin, IsWithin, HasRoomFor, HasRoom, HasElementLeft};
+ghost use Rattle.hll_state.specs.Merged.{used_in};
 ghost use Rattle.hll_state.specs.Registers.{values};
 
 use crate::header::{CouponTable, Header, Held, most_used};
@@ -23,7 +24,9 @@ impl Header {
         ensures within { IsWithin self.new (length body.old) }
         ensures same { sketch_in self.new body.new ≡ sketch_in self.old body.old }
         ensures resolved { IsResolved self.new body.new }
+        ensures lg_k { self.new.lg_k ≡ self.old.lg_k }
         ensures widths { self.new.widths ≡ self.old.widths }
+        ensures fewer { used_in self.new.held ≤ used_in self.old.held }
         ensures room { (n : ℕ) → HasRoom self.old n (length body.old) → HasRoom self.new n (length body.old) }
     {
         if let Held::Coupons(coupons) = self.held {
@@ -80,6 +83,7 @@ impl CouponTable {
         ensures same { content_of lg_k result body.new ≡ content_of lg_k (spec.of_coupons self) body.old }
         ensures resolved { IsHeldResolved lg_k result body.new }
         ensures left { self.added ≡ true → HasElementLeft lg_k result }
+        ensures fewer { used_in result ≤ self.run.used }
         ensures room { (n : ℕ) → HasRoomFor lg_k (spec.of_coupons self) n (length body.old) → HasRoomFor lg_k result n (length body.old) }
     {
         self.run.settle(body);

@@ -2,15 +2,16 @@
 //! A counter in memory of the caller: coupons, an ascending run and a tail that is sorted into it, or registers.
 #![tactic(auto)]
 
+pub mod as_image;
 mod counter;
 mod elements;
 pub mod header;
+pub mod join;
 pub mod memory;
 mod merge;
 pub mod merge_coupons;
 pub mod merge_image;
 pub mod merge_registers;
-pub mod merge_state;
 mod merge_table;
 pub mod registers;
 pub mod run;

@@ -5,6 +5,7 @@ ghost use Rattle.hll_sketch.specs.Value.{IsLgK};
 ghost use Rattle.hll_state.specs.Counter.{sketch_in, IsResolved};
 ghost use Rattle.hll_state.specs.Header as spec;
 ghost use Rattle.hll_state.specs.Header.{IsWithin, HasRoom};
+ghost use Rattle.hll_state.specs.declared.header.Header.{Header};
 ghost use Rattle.hll_state.specs.Memory.{HasHeader, IsState, OfState, IsOnlyRead, IsBegun};
 
 use crate::header::{HEADER_LEN, Header, Held, elements_for};
@@ -72,6 +73,7 @@ pub fn resolve(elements: &mut [[u8; 4]]) -> Option<Header>
     ensures within { IfSome result (λ h. IsWithin h (length elements.old - 10)) }
     ensures resolved { IfSome result (λ h. IsResolved h (drop 10 elements.new)) }
     ensures some { IfSome result (λ h. OfState elements.old (λ x. x ≡ sketch_in h (drop 10 elements.new))) }
+    ensures widths { IfSome result (λ h. (g : Header) → HasHeader elements.old g → h.widths ≡ g.widths) }
     ensures none { IfNone result (IsState elements.old → ⊥) }
     ensures read { IsOnlyRead elements.old elements.new }
 {

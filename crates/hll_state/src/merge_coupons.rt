@@ -1,25 +1,28 @@
 // SPDX-License-Identifier: Apache-2.0
 //! Coupons merged into a state: taken whole with their table by an empty one, and added to any other.
-ghost use Rattle.std.specs.Prelude.{◌≡◌, ℕ, ◌≤◌, true, false, length};
+ghost use Rattle.std.specs.Prelude.{◌≡◌, ℕ, ◌≤◌, true, false, List, length};
+ghost use Rattle.hll_registers.specs.State.{cleared_state};
 ghost use Rattle.hll_sketch.specs.Laws.{add_in_turn};
 ghost use Rattle.hll_sketch.specs.Merging as merging;
 ghost use Rattle.hll_sketch.specs.Value.{IsTableFor, is_empty};
-ghost use Rattle.hll_state.specs.Counter.{sketch_in, IsResolved};
+ghost use Rattle.hll_state.specs.Counter.{sketch_in};
 ghost use Rattle.hll_state.specs.CouponRun.{raws};
 ghost use Rattle.hll_state.specs.Header as spec;
 ghost use Rattle.hll_state.specs.Header.{IsWithin, HasRoom};
-ghost use Rattle.hll_state.specs.Merged.{table_of, HasRoomToMerge};
+ghost use Rattle.hll_state.specs.Merged.{table_of, HasSomeRegister};
 
 use crate::elements::copy_to;
 use crate::header::{CouponTable, Header, Held, elements_for};
-use crate::registers::as_bytes;
+use crate::registers::raise_all;
 use crate::run::CouponRun;
-use hll_kernels::kernels::all_zero;
+use hll_registers::estimate_state::EstimateState;
+use hll_registers::registers::two_to;
 
 impl Header {
     /// Merges the coupons of a sketch, at least one and each once: an empty state at the same `lg_k` takes them whole, with the
     /// size of their table, and any other adds them. Returns whether there was room. If there was none, the meaning stays.
     ///
+    /// A state of registers counts as not empty, so all of its registers must not be 0, as no call leaves them.
     /// `lg_size` is the logarithm of the number of buckets of their table at `lg_k`: 3, or 5 to `lg_k` - 3. The number of
     /// elements that `most_elements` returns is always enough.
     pub fn merge_coupons(
@@ -33,12 +36,12 @@ impl Header {
         requires some { 1 ≤ length coupons.now }
         requires table { IsTableFor lg_k (length coupons.now) lg_size }
         ensures within { IsWithin self.new (length body.old) }
-        ensures merged { result ≡ true → sketch_in self.new body.new ≡ merging.merge_coupons (sketch_in self.old body.old) (table_of lg_k lg_size coupons.now) }
+        ensures merged { HasSomeRegister (sketch_in self.old body.old) → result ≡ true → sketch_in self.new body.new ≡ merging.merge_coupons (sketch_in self.old body.old) (table_of lg_k lg_size coupons.now) }
         ensures same { result ≡ false → sketch_in self.new body.new ≡ sketch_in self.old body.old }
         ensures widths { self.new.widths ≡ self.old.widths }
-        ensures none { result ≡ false → HasRoomToMerge self.old (length coupons.now) (length body.old) → ⊥ }
+        ensures none { result ≡ false → HasRoom self.old (length coupons.now) (length body.old) → ⊥ }
     {
-        if self.lg_k == lg_k && self.is_empty(body) {
+        if self.lg_k == lg_k && self.is_empty() {
             return self.take_coupons(body, lg_size, coupons);
         }
         if !self.make_room(body, coupons.len()) {
@@ -48,29 +51,15 @@ impl Header {
         true
     }
 
-    /// Returns whether the state means a sketch without pairs, once it is resolved.
-    pub(crate) fn is_empty(&mut self, body: &mut [[u8; 4]]) -> bool
-        requires { IsWithin self.old (length body.old) }
-        ensures within { IsWithin self.new (length body.old) }
-        ensures same { sketch_in self.new body.new ≡ sketch_in self.old body.old }
-        ensures resolved { IsResolved self.new body.new }
-        ensures widths { self.new.widths ≡ self.old.widths }
-        ensures room { (n : ℕ) → HasRoom self.old n (length body.old) → HasRoom self.new n (length body.old) }
-        ensures empty { result ≡ is_empty (sketch_in self.old body.old) }
-    {
-        self.resolve(body);
-        self.has_none(body)
-    }
-
-    /// Returns whether a resolved state means a sketch without pairs.
-    fn has_none(&self, body: &[[u8; 4]]) -> bool
-        requires within { IsWithin self.now (length body.now) }
-        requires resolved { IsResolved self.now body.now }
-        ensures { result ≡ is_empty (sketch_in self.now body.now) }
+    /// Returns whether no element is in use: whether the state means an empty sketch, where registers aren't all 0.
+    pub(crate) fn is_empty(&self) -> bool
+        ensures empty { (body : List (List ℕ)) → IsWithin self.now (length body) → HasSomeRegister (sketch_in self.now body) → result ≡ is_empty (sketch_in self.now body) }
+        ensures room { result ≡ true → (n room : ℕ) → HasRoom self.now n room → spec.elements_for self.now.lg_k n ≤ room }
+        ensures none { result ≡ true → (old new : List (List ℕ)) → sketch_in self.now new ≡ sketch_in self.now old }
     {
         match self.held {
             Held::Coupons(coupons) => coupons.run.used == 0,
-            Held::Registers(_) => all_zero(as_bytes(body, self.lg_k)),
+            Held::Registers(_) => false,
         }
     }
 
@@ -99,14 +88,29 @@ impl Header {
         true
     }
 
-    /// Adds coupons in turn. There is room for them.
+    /// Whether it holds registers with the cleared estimate state, which it keeps whatever is added.
+    fn has_cleared_registers(&self) -> bool
+        ensures { result ≡ true → self.now.held ≡ spec.of_registers cleared_state }
+    {
+        match self.held {
+            Held::Coupons(_) => false,
+            Held::Registers(state) => state == EstimateState::CLEARED,
+        }
+    }
+
+    /// Adds coupons in turn, at least one. There is room for them.
     fn push_all(&mut self, body: &mut [[u8; 4]], coupons: &[[u8; 4]])
         requires within { IsWithin self.old (length body.old) }
         requires room { HasRoom self.old (length coupons.now) (length body.old) }
+        requires some { 1 ≤ length coupons.now }
         ensures within { IsWithin self.new (length body.old) }
         ensures added { sketch_in self.new body.new ≡ add_in_turn (sketch_in self.old body.old) (raws coupons.now) }
         ensures widths { self.new.widths ≡ self.old.widths }
     {
+        if self.has_cleared_registers() {
+            raise_all(&mut body[..two_to(self.lg_k - 2)], self.lg_k, coupons);
+            return;
+        }
         for coupon in coupons {
             self.push(body, u32::from_le_bytes(*coupon));
         }

@@ -1,13 +1,13 @@
 // SPDX-License-Identifier: Apache-2.0
 //! Registers merged into a state, in place, at the smaller `lg_k`.
-ghost use Rattle.std.specs.Prelude.{◌≡◌, ◌-◌, ◌^◌, ◌≤◌, ◌&&◌, if◌then◌else◌, nat_le, true, false, length, take};
+ghost use Rattle.std.specs.Prelude.{◌≡◌, ◌+◌, ◌-◌, ◌^◌, ◌≤◌, ◌&&◌, if◌then◌else◌, nat_le, true, false, length, min, take};
 ghost use Rattle.hll_coupons.specs.Fold.{fold_to};
 ghost use Rattle.hll_registers.specs.State.{cleared_state};
 ghost use Rattle.hll_sketch.specs.Merging as merging;
 ghost use Rattle.hll_sketch.specs.Value.{pairs_of};
 ghost use Rattle.hll_state.specs.Counter.{sketch_in, IsResolved};
-ghost use Rattle.hll_state.specs.Header as spec;
 ghost use Rattle.hll_state.specs.Header.{IsWithin};
+ghost use Rattle.hll_state.specs.Merged.{HasSomeRegister, used_in};
 ghost use Rattle.hll_state.specs.Registers.{values};
 
 use crate::header::{Header, Held};
@@ -19,19 +19,20 @@ impl Header {
     /// Merges registers: the state holds the greater of both at each slot of the smaller `lg_k`, which is its own afterwards.
     /// Returns whether there was room. If there was none, the meaning stays.
     ///
-    /// An empty state takes over the estimate state, if the `lg_k` of the source is at most its own. The number of elements that
-    /// `most_elements` returns is always enough.
+    /// An empty state takes over the estimate state, if the `lg_k` of the source is at most its own.
     pub fn merge_registers<R: Registers>(&mut self, body: &mut [[u8; 4]], src: &R) -> bool
         requires { IsWithin self.old (length body.old) }
         ensures within { IsWithin self.new (length body.old) }
         ensures merged { let x = R.stored src.now in
-            result ≡ true → sketch_in self.new body.new ≡ merging.merge_registers self.old.lg_k (sketch_in self.old body.old) x.lg_k x.registers x.state }
+            HasSomeRegister (sketch_in self.old body.old) → result ≡ true → sketch_in self.new body.new ≡ merging.merge_registers self.old.lg_k (sketch_in self.old body.old) x.lg_k x.registers x.state }
         ensures same { result ≡ false → sketch_in self.new body.new ≡ sketch_in self.old body.old }
         ensures widths { self.new.widths ≡ self.old.widths }
-        ensures none { result ≡ false → spec.most_elements self.old.lg_k ≤ length body.old → ⊥ }
+        ensures none { let x = R.stored src.now in
+            result ≡ false → 2 ^ (min self.old.lg_k x.lg_k - 2) + used_in self.old.held ≤ length body.old → ⊥ }
     {
         let bound = self.lg_k;
-        let is_empty = self.is_empty(body);
+        let is_empty = self.is_empty();
+        self.resolve(body);
         let lg_k = bound.min(src.lg_k());
         if !self.make_registers(body, lg_k) {
             return false;
@@ -52,7 +53,7 @@ impl Header {
         ensures made { result ≡ true → values (take (2 ^ (lg_k - 2)) body.new) ≡ fold_to (pairs_of (sketch_in self.now body.old)) lg_k }
         ensures room { result ≡ true → 2 ^ (lg_k - 2) ≤ length body.old }
         ensures unchanged { result ≡ false → body.new ≡ body.old }
-        ensures none { result ≡ false → spec.most_elements self.now.lg_k ≤ length body.old → ⊥ }
+        ensures none { result ≡ false → 2 ^ (lg_k - 2) + used_in self.now.held ≤ length body.old → ⊥ }
     {
         match self.held {
             Held::Coupons(coupons) => {

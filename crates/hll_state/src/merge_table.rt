@@ -9,7 +9,7 @@ ghost use Rattle.hll_state.specs.Counter.{sketch_in};
 ghost use Rattle.hll_state.specs.CouponRun.{IsRun, members};
 ghost use Rattle.hll_state.specs.Header as spec;
 ghost use Rattle.hll_state.specs.Header.{IsWithin, HasRoom};
-ghost use Rattle.hll_state.specs.Merged.{sketch_of_table, HasRoomToMerge};
+ghost use Rattle.hll_state.specs.Merged.{sketch_of_table, HasSomeRegister};
 
 use crate::header::{CouponTable, Header, Held, elements_for};
 use crate::run::CouponRun;
@@ -28,12 +28,12 @@ impl Header {
         requires some { 1 ≤ length (coupons_in table.now.buckets) }
         requires table { IsTableFor lg_k (length (coupons_in table.now.buckets)) table.now.lg_size }
         ensures within { IsWithin self.new (length body.old) }
-        ensures merged { result ≡ true → sketch_in self.new body.new ≡ merging.merge_coupons (sketch_in self.old body.old) (sketch_of_table lg_k table.now) }
+        ensures merged { HasSomeRegister (sketch_in self.old body.old) → result ≡ true → sketch_in self.new body.new ≡ merging.merge_coupons (sketch_in self.old body.old) (sketch_of_table lg_k table.now) }
         ensures same { result ≡ false → sketch_in self.new body.new ≡ sketch_in self.old body.old }
         ensures widths { self.new.widths ≡ self.old.widths }
-        ensures none { result ≡ false → HasRoomToMerge self.old (length (coupons_in table.now.buckets)) (length body.old) → ⊥ }
+        ensures none { result ≡ false → HasRoom self.old (length (coupons_in table.now.buckets)) (length body.old) → ⊥ }
     {
-        if self.lg_k == lg_k && self.is_empty(body) {
+        if self.lg_k == lg_k && self.is_empty() {
             return self.take_table(body, table);
         }
         if !self.make_room(body, table.len()) {

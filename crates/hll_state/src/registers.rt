@@ -1,24 +1,29 @@
 // SPDX-License-Identifier: Apache-2.0
 //! Registers of a counter in borrowed elements: a byte each, four in an element, in ascending slots. No call allocates.
-ghost use Rattle.std.specs.Prelude.{◌≡◌, ◌*◌, ◌+◌, ◌-◌, ◌%◌, ◌^◌, ◌<◌, ◌≤◌, [], ◌∷◌, ◌++◌, drop, length, nat_eq, not, slice_index, slice_set, take};
+ghost use Rattle.std.specs.Prelude.{◌≡◌, ◌*◌, ◌+◌, ◌-◌, ◌%◌, ◌^◌, ◌<◌, ◌≤◌, [], ◌∷◌, ◌++◌, drop, length, nat_eq, not, slice_index, slice_set, take, IfOk, IfErr};
 ghost use Rattle.std.specs.Cmp.Lexicographic.{pointwise};
 ghost use Rattle.hll_base.specs.Join.{join};
+ghost use Rattle.hll_base.specs.declared.error.Reason.TheVariants as reasons;
 ghost use Rattle.hll_coupons.specs.Fold.{fold_to, pairs};
 ghost use Rattle.hll_coupons.specs.Pair.{set_of};
 ghost use Rattle.hll_kernels.specs.Packed.{AreRegisters};
 ghost use Rattle.hll_registers.specs.Store.{IsStored};
+ghost use Rattle.hll_sketch.specs.Value.{IsLgK};
 ghost use Rattle.hll_state.specs.CouponRun.{IsRun, members, raws};
 ghost use Rattle.hll_state.specs.Registers.{values};
 
 use crate::elements::move_to_end;
 use crate::run::CouponRun;
-use hll_base::bounds::SLOT_BITS;
-use hll_kernels::kernels::max_into;
+use hll_base::bounds::{MAX_VALUE, SLOT_BITS};
+use hll_base::error::{Error, Reason};
+use hll_kernels::kernels::{greatest_of, max_into};
 use hll_registers::folds::max_folds;
 use hll_registers::registers::{Registers, two_to};
 
 /// How many elements are copied to the stack at a time: 2^14 registers.
 const PART: usize = 4096;
+/// The same where there are few: 2^12 registers, so that no larger copy is filled with zeros first.
+const SMALL_PART: usize = 1024;
 
 /// Returns the register of a slot.
 #[inline(always)]
@@ -61,7 +66,7 @@ pub fn raise(elements: &mut [[u8; 4]], lg_k: u8, raw: u32) -> bool
 }
 
 /// Raises the registers of coupons in turn.
-fn raise_all(elements: &mut [[u8; 4]], lg_k: u8, coupons: &[[u8; 4]])
+pub(crate) fn raise_all(elements: &mut [[u8; 4]], lg_k: u8, coupons: &[[u8; 4]])
     requires least { 4 ≤ lg_k }
     requires most { lg_k ≤ 21 }
     requires size { length elements.old ≡ 2 ^ (lg_k - 2) }
@@ -107,7 +112,7 @@ fn make_registers(elements: &mut [[u8; 4]], lg_k: u8, coupons: &[[u8; 4]])
 /// fold to them: register s of the source folds to register s modulo 2^`lg_k`.
 ///
 /// `lg_k` is 4 to 21, and at most the source's. One pass over the source, in blocks of 2^14 registers or more where small
-/// blocks are expensive. Uses 16 or 32 kilobytes of the stack.
+/// blocks are expensive. Uses 4 to 32 kilobytes of the stack.
 pub fn max_with<R: Registers>(elements: &mut [[u8; 4]], lg_k: u8, src: &R)
     requires least { 4 ≤ lg_k }
     requires most { lg_k ≤ (R.stored src.now).lg_k }
@@ -115,23 +120,26 @@ pub fn max_with<R: Registers>(elements: &mut [[u8; 4]], lg_k: u8, src: &R)
     ensures joined { values elements.new ≡ join (values elements.old) (fold_to (pairs (R.stored src.now).registers) lg_k) }
     ensures registers { AreRegisters lg_k (values elements.old) → AreRegisters lg_k (values elements.new) }
 {
-    if elements.len() <= PART {
-        max_in_copy(elements, lg_k, src);
+    if elements.len() <= SMALL_PART {
+        max_in_copy::<4096, R>(elements, lg_k, src);
+    } else if elements.len() <= PART {
+        max_in_copy::<16384, R>(elements, lg_k, src);
     } else {
         max_blocks(elements, lg_k, src);
     }
 }
 
-/// Raises at most 2^14 registers as `max_with` does, in a copy.
-fn max_in_copy<R: Registers>(elements: &mut [[u8; 4]], lg_k: u8, src: &R)
+/// Raises at most `N` registers as `max_with` does, in a copy.
+fn max_in_copy<const N: usize, R: Registers>(elements: &mut [[u8; 4]], lg_k: u8, src: &R)
     requires least { 4 ≤ lg_k }
-    requires few { length elements.old ≤ 4096 }
+    requires few { 4 * length elements.old ≤ N }
+    requires small { N < 2 ^ 32 }
     requires most { lg_k ≤ (R.stored src.now).lg_k }
     requires size { length elements.old ≡ 2 ^ (lg_k - 2) }
     ensures joined { values elements.new ≡ join (values elements.old) (fold_to (pairs (R.stored src.now).registers) lg_k) }
     ensures registers { AreRegisters lg_k (values elements.old) → AreRegisters lg_k (values elements.new) }
 {
-    let mut registers = [0; 16384];
+    let mut registers = [0; N];
     let copy = &mut registers[..4 * elements.len()];
     copy.copy_from_slice(elements.as_flattened());
     max_folds(copy, lg_k, src);
@@ -255,4 +263,21 @@ pub fn as_bytes(elements: &[[u8; 4]], lg_k: u8) -> &[u8]
     ensures { result.now ≡ values (take (2 ^ (lg_k - 2)) elements.now) }
 {
     elements[..two_to(lg_k - 2)].as_flattened()
+}
+
+/// Returns the 2^`lg_k` registers at the front of the elements, a byte each; `lg_k` is 4 to 21.
+///
+/// Fails with `Register` if one is above 63.
+pub fn small_registers(elements: &[[u8; 4]], lg_k: u8) -> Result<&[u8], Error>
+    requires lg_k { IsLgK lg_k }
+    requires within { 2 ^ (lg_k - 2) ≤ length elements.now }
+    ensures registers { IfOk result (λ registers. registers.now ≡ values (take (2 ^ (lg_k - 2)) elements.now)) }
+    ensures ok { IfOk result (λ registers. AreRegisters lg_k registers.now) }
+    ensures err { IfErr result (λ e. (e ≡ reasons.Register) × (AreRegisters lg_k (values (take (2 ^ (lg_k - 2)) elements.now)) → ⊥)) }
+{
+    let registers = as_bytes(elements, lg_k);
+    if greatest_of(registers) > MAX_VALUE {
+        return Err(Error::new(Reason::Register));
+    }
+    Ok(registers)
 }

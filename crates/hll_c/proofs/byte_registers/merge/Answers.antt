@@ -6,10 +6,8 @@ use Rattle.hll_sketch.specs.ByteRegisters.{TakesMaxWithImage}
 use Rattle.hll_c.specs.Answers.{argument_with_image, image_refused}
 use Rattle.hll_c.specs.ByteRegisters.{MergesImageInto, joined, coarser, refused}
 use Rattle.hll_c.proofs.Images.{refuses_image}
+use Rattle.hll_c.proofs.States.{no_memory}
 use Rattle.hll_c.proofs.byte_registers.merge.Goals as goal
-
-no_memory : Argument ≡ Memory → ⊥
-no_memory same = let other : 12 ≡ 13 = ap number_of same in omega (arith, other)
 
 pub returns-in_default : goal.returns-in_default
 returns-in_default c =

@@ -1,5 +1,6 @@
 -- SPDX-License-Identifier: Apache-2.0
 use Rattle.std.proofs.Common.{◌≡◌, ◌<◌, ◌≤◌, ℕ, List, length, sym, ap, subst, ◌∙◌, arith}
+use Rattle.std.specs.FinSet.{len}
 use Rattle.std.specs.Int.{w32, from_le_bytes}
 use Rattle.std.proofs.lemmas.List.{length-map}
 use Rattle.std.proofs.lemmas.List.Elements.{All-from_get_or}
@@ -27,7 +28,7 @@ invariant_of-result c =
       least = λ other. (set_of_table h.lg_k n h.lg_arr table other).0;
       most = λ other. (set_of_table h.lg_k n h.lg_arr table other).1;
       set = λ other. (set_of_table h.lg_k n h.lg_arr table other).2;
-      some = subst (λ m. 1 ≤ m) same said.2;
+      once = ap (λ xs. len (set_of xs)) c.elements.ensures ∙ c.requires.are.distinct ∙ same;
     }
 
 pub returns : goal.returns

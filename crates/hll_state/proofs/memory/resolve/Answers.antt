@@ -3,7 +3,7 @@ use Rattle.std.proofs.Common.{ℕ, List, drop, sym, ap, subst, ◌∙◌}
 use Rattle.hll_state.specs.Counter.{sketch_in, IsResolved}
 use Rattle.hll_state.specs.Memory.{HasHeader}
 use Rattle.hll_state.specs.declared.header.Header.{Header}
-use Rattle.hll_state.proofs.States.{opened, rest_written, means, kept}
+use Rattle.hll_state.proofs.States.{one_header, opened, rest_written, means, kept}
 use Rattle.hll_state.proofs.memory.resolve.Goals as goal
 
 pub returns-clause-resolved : goal.returns-clause-resolved
@@ -25,6 +25,9 @@ returns-clause-some c =
       was = means e h has;
       is = sym (opened e c.resolve.new.body h g has c.resolve.ensures.same) ∙ ap (sketch_in g) (sym rest);
     }
+
+pub returns-clause-widths : goal.returns-clause-widths
+returns-clause-widths c = λ g has. c.resolve.ensures.widths ∙ ap (λ (h : Header). h.widths) (one_header c.args.elements.now c.in_ok-header.header g c.in_ok-header.ensures.some has)
 
 pub returns-clause-read : goal.returns-clause-read
 returns-clause-read c =

@@ -6,17 +6,13 @@ use Rattle.hll_coupons.specs.Fold.{fold_to, pairs}
 use Rattle.hll_sketch.specs.Value.{pairs_in}
 use Rattle.hll_state.specs.Counter.{content_of, IsHeldResolved}
 use Rattle.hll_state.specs.Header.{IsHeldWithin}
+use Rattle.hll_state.specs.Merged.{used_in}
 use Rattle.hll_state.specs.Registers.{values}
 use Rattle.hll_state.proofs.Emptiness.{pairs_of-resolved}
 use Rattle.hll_state.proofs.header.Header.make_registers.Goals as goal
 
 pub returns-then-body-two_to-clause-none : goal.returns-then-body-two_to-clause-none
-returns-then-body-two_to-clause-none c _ most =
-    let h = c.args.self.now in
-    let room = length c.args.body.now in
-    let within = subst (λ held. IsHeldWithin h.lg_k held room) c.in-Coupons.is c.requires.within.held in
-    let less : 2 ^ (c.args.lg_k - 2) ≤ 2 ^ (h.lg_k - 2) = pow_mono {i = c.args.lg_k - 2} {j = h.lg_k - 2} (omega (arith, c.requires.most)) in
-    omega (arith, c.if-body-two_to.true, c.two_to.ensures, less, within.used, most)
+returns-then-body-two_to-clause-none c _ enough = omega (arith, c.if-body-two_to.true, c.two_to.ensures, ap used_in c.in-Coupons.is, enough)
 
 pub returns-else-body-two_to-clause-made : goal.returns-else-body-two_to-clause-made
 returns-else-body-two_to-clause-made c _ =

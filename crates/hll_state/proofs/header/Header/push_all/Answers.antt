@@ -1,13 +1,19 @@
 -- SPDX-License-Identifier: Apache-2.0
-use Rattle.std.proofs.Common.{◌≡◌, ℕ, ◌+◌, ◌-◌, [], ◌∷◌, List, length, drop, get_or, sym, ap, subst, ◌∙◌, arith}
-use Rattle.std.proofs.lemmas.List.{drop_more}
+use Rattle.std.proofs.Common.{◌≡◌, ℕ, ◌+◌, ◌-◌, ◌^◌, ◌≤◌, ◌++◌, [], ◌∷◌, List, length, take, drop, get_or, sym, ap, subst, ◌∙◌, arith}
+use Rattle.std.proofs.lemmas.List.{drop_more, length-take-le}
 use Rattle.hll_coupons.specs.Pair.{set_of}
 use Rattle.hll_sketch.specs.Adding.{add}
 use Rattle.hll_sketch.specs.Laws.{add_in_turn}
 use Rattle.hll_sketch.specs.Value.{Sketch}
 use Rattle.hll_state.specs.Counter.{sketch_in}
 use Rattle.hll_state.specs.CouponRun.{raws}
-use Rattle.hll_state.specs.Header.{IsWithin, HasRoom}
+use Rattle.hll_registers.specs.State.{cleared_state}
+use Rattle.hll_state.specs.Header.{of_registers, IsHeldWithin, IsWithin, HasRoom}
+use Rattle.hll_state.specs.Registers.{values}
+use Rattle.hll_state.proofs.Raised.{all_raised}
+use Rattle.hll_base.specs.Join.{join}
+use Rattle.hll_coupons.specs.Fold.{fold_to}
+use Rattle.std.proofs.Math.Seq.{take-append_seam}
 use Rattle.hll_state.proofs.Raws.{length-raws, get_or-raws}
 use Rattle.hll_state.proofs.header.Header.push_all.Goals as goal
 
@@ -29,3 +35,18 @@ loop-coupon-preserved c =
       room = subst (HasRoom c.push.new.self (length coupons - (i + 1))) long
           (c.push.ensures.room (length coupons - (i + 1)) (subst (λ n. HasRoom c.loop-coupon.self n (length c.loop-coupon.body)) next c.loop-coupon.invariant.room));
     }
+
+pub returns-then-has_cleared_registers-clause-added : goal.returns-then-has_cleared_registers-clause-added
+returns-then-has_cleared_registers-clause-added c =
+    let h = c.args.self.now in
+    let body : List (List ℕ) = c.args.body.now in
+    let n : ℕ = c.two_to.result in
+    let new : List (List ℕ) = c.raise_all.new.elements in
+    let order : List ℕ = raws c.args.coupons.now in
+    let held : h.held ≡ of_registers cleared_state = c.has_cleared_registers.ensures c.if-has_cleared_registers.true in
+    let there : 2 ^ (h.lg_k - 2) ≤ length body = subst (λ held. IsHeldWithin h.lg_k held (length body)) held c.requires.within.held in
+    let long : 2 ^ (h.lg_k - 2) ≡ length new = omega (arith, c.raise_all.auto.elements, c.two_to.ensures, length-take-le n body (omega (arith, there, c.two_to.ensures))) in
+    let first : take (2 ^ (h.lg_k - 2)) (new ++ drop n body) ≡ new = ap (λ m. take m (new ++ drop n body)) long ∙ take-append_seam new (drop n body) in
+    let raised : values (take (2 ^ (h.lg_k - 2)) (new ++ drop n body)) ≡ join (values (take (2 ^ (h.lg_k - 2)) body)) (fold_to (set_of order) h.lg_k) =
+    ap values first ∙ c.raise_all.ensures.joined ∙ ap (λ m. join (values (take m body)) (fold_to (set_of order) h.lg_k)) c.two_to.ensures in
+    all_raised h held body (new ++ drop n body) order (omega (arith, c.requires.some, length-raws c.args.coupons.now)) raised

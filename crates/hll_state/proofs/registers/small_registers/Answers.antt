@@ -5,7 +5,7 @@ use Rattle.hll_arrays.proofs.ReadingRegisters.{small-from, small-to}
 use Rattle.hll_kernels.specs.Packed.{AreRegisters}
 use Rattle.hll_state.proofs.Parts.{length-values-take}
 use Rattle.hll_state.proofs.Values.{four_each}
-use Rattle.hll_c.proofs.state.small_registers.Goals as goal
+use Rattle.hll_state.proofs.registers.small_registers.Goals as goal
 
 pub returns-then-greatest_of-gt-MAX_VALUE-clause-err : goal.returns-then-greatest_of-gt-MAX_VALUE-clause-err
 returns-then-greatest_of-gt-MAX_VALUE-clause-err c = (
@@ -20,6 +20,6 @@ pub returns-clause-ok : goal.returns-clause-ok
 returns-clause-ok c =
     let k : ℕ = c.args.lg_k in
     record {
-      size = ap length c.as_bytes-registers.ensures ∙ length-values-take (2 ^ (k - 2)) c.args.body.now c.told-body c.requires.within ∙ four_each k c.requires.lg_k.low;
+      size = ap length c.as_bytes-registers.ensures ∙ length-values-take (2 ^ (k - 2)) c.args.elements.now c.told-elements c.requires.within ∙ four_each k c.requires.lg_k.low;
       small = small-from c.as_bytes-registers.result.now (c.greatest_of.ensures 63 ∙ le-leb c.greatest_of.result 63 c.if-greatest_of-gt-MAX_VALUE.false);
     }

@@ -1,0 +1,95 @@
+-- SPDX-License-Identifier: Apache-2.0
+-- Images and states that are joined to a state (docs/MODEL.md, "States of a counter").
+use Rattle.std.specs.Prelude.{◌≡◌, ℕ, ◌+◌, ◌-◌, ◌≤◌, ◌==◌, Bool, true, false, not, ◌&&◌, if◌then◌else◌, bit_or, List, length}
+use Rattle.hll_base.specs.declared.hll_type.HllType.TheVariants.{Hll8}
+use Rattle.hll_sketch.specs.Merging.{merge}
+use Rattle.hll_sketch.specs.Value.{Sketch, IsLgK, is_empty, empty_sketch}
+use Rattle.hll_state.specs.Counter.{sketch_in}
+use Rattle.hll_state.specs.Header.{new_header, most_elements}
+use Rattle.hll_state.specs.Merged.{HasSomeRegister, HasRoomToMerge}
+use Rattle.hll_state.specs.declared.header.Header.{Header}
+use Rattle.hll_state.specs.declared.join.Joined.{Joined}
+use Rattle.hll_state.specs.declared.join.Joined.TheVariants.{Done, NoRoom, OtherLgK}
+
+-- ---- lg_k
+
+-- no bound was given, and a sketch that is not empty has another lg_k
+abbrev pub lg_ks_differ : Bool → ℕ → Sketch → Bool
+lg_ks_differ bounded k y = not bounded && (not (is_empty y) && not (k == y.lg_k))
+
+-- then only an empty sketch can be joined to
+abbrev pub is_refused : Bool → Sketch → Sketch → Bool
+is_refused bounded x y = lg_ks_differ bounded x.lg_k y && not (is_empty x)
+
+-- and it takes the other lg_k
+abbrev pub started : Bool → Sketch → Sketch → Sketch
+started bounded x y = if lg_ks_differ bounded x.lg_k y then empty_sketch y.lg_k Hll8 else x
+
+-- the header of an empty sketch at the lg_k of another one
+abbrev pub restarted : Header → Sketch → Header
+restarted h y = record (new_header y.lg_k) { widths = h.widths }
+
+abbrev pub started_header : Bool → Header → Sketch → Header
+started_header bounded h y = if lg_ks_differ bounded h.lg_k y then restarted h y else h
+
+-- the union of both, under the lg_k of the first
+abbrev pub joined : Bool → Sketch → Sketch → Sketch
+joined bounded x y = merge (started bounded x y).lg_k (started bounded x y) y
+
+-- the widths of what was joined; an empty sketch adds none
+abbrev pub widths_after : ℕ → ℕ → Sketch → ℕ
+widths_after widths others y = if is_empty y then widths else bit_or widths others
+
+-- ---- what merging gives
+
+-- a sketch was merged, and widths were recorded
+pub record IsMerged (others : ℕ) (y x : Sketch) (k widths : ℕ) (new : Header) (z : Sketch) : Type 0 where
+  pub is : HasSomeRegister x → z ≡ merge k x y
+  pub widths_are : new.widths ≡ bit_or widths others
+
+-- so many elements are enough to merge a sketch, and no more than any state of the lg_k needs
+pub record AreEnoughToMerge (y : Sketch) (h : Header) (len : ℕ) : Type 0 where
+  pub header_fits : 10 ≤ len
+  pub lg_k : IsLgK h.lg_k
+  pub room : HasRoomToMerge h y (len - 10)
+  pub most : len ≤ 10 + most_elements h.lg_k
+
+-- a sketch is merged, or there is no room and the meaning stays
+abbrev pub MergesInto : ℕ → Sketch → Header → List (List ℕ) → Header → List (List ℕ) → Joined → Type 0
+MergesInto others y old old_body new new_body Done = IsMerged others y (sketch_in old old_body) old.lg_k old.widths new (sketch_in new new_body)
+MergesInto others y old old_body new new_body (NoRoom len) =
+    (sketch_in new new_body ≡ sketch_in old old_body) × (new.widths ≡ old.widths) × (HasRoomToMerge old y (length old_body) → ⊥) × AreEnoughToMerge y new len
+MergesInto others y old old_body new new_body OtherLgK = ⊥
+
+-- a sketch is merged into the empty one at its lg_k, or there is no room, and the header stays
+abbrev pub Restarts : ℕ → Sketch → Header → List (List ℕ) → Header → List (List ℕ) → Joined → Type 0
+Restarts others y old old_body new new_body Done = IsMerged others y (empty_sketch y.lg_k Hll8) y.lg_k old.widths new (sketch_in new new_body)
+Restarts others y old old_body new new_body (NoRoom len) = (new ≡ old) × (HasRoomToMerge (restarted old y) y (length old_body) → ⊥) × AreEnoughToMerge y (restarted old y) len
+Restarts others y old old_body new new_body OtherLgK = ⊥
+
+-- ---- what a join gives
+
+-- the sketches are joined, of one lg_k or under a bound
+pub record AreJoined (bounded : Bool) (others : ℕ) (y x : Sketch) (old new : Header) (z : Sketch) : Type 0 where
+  pub accepted : HasSomeRegister x → is_refused bounded x y ≡ false
+  pub is : HasSomeRegister x → z ≡ joined bounded x y
+  pub widths : new.widths ≡ widths_after old.widths others y
+
+-- there is no room, the meaning stays, and so many elements are enough
+pub record LacksRoomToJoin (bounded : Bool) (y x : Sketch) (old new : Header) (z : Sketch) (room len : ℕ) : Type 0 where
+  pub kept : z ≡ x
+  pub widths : new.widths ≡ old.widths
+  pub accepted : HasSomeRegister x → is_refused bounded x y ≡ false
+  pub lacks : HasRoomToMerge (started_header bounded old y) y room → ⊥
+  pub enough : AreEnoughToMerge y (started_header bounded new y) len
+
+-- neither is empty, they have different lg_k, and no bound was given; nothing changes
+pub record HasOtherLgK (bounded : Bool) (y x : Sketch) (old : Header) (old_body : List (List ℕ)) (new : Header) (new_body : List (List ℕ)) : Type 0 where
+  pub same : new ≡ old
+  pub unchanged : new_body ≡ old_body
+  pub refused : HasSomeRegister x → is_refused bounded x y ≡ true
+
+abbrev pub IsJoined : Bool → ℕ → Sketch → Header → List (List ℕ) → Header → List (List ℕ) → Joined → Type 0
+IsJoined bounded others y old old_body new new_body Done = AreJoined bounded others y (sketch_in old old_body) old new (sketch_in new new_body)
+IsJoined bounded others y old old_body new new_body (NoRoom len) = LacksRoomToJoin bounded y (sketch_in old old_body) old new (sketch_in new new_body) (length old_body) len
+IsJoined bounded others y old old_body new new_body OtherLgK = HasOtherLgK bounded y (sketch_in old old_body) old old_body new new_body

@@ -1,0 +1,140 @@
+// SPDX-License-Identifier: Apache-2.0
+//! Images and states joined to a state, with room asked for first, and with a bound on `lg_k` or without one.
+ghost use Rattle.std.specs.Prelude.{◌≡◌, ℕ, ◌+◌, ◌-◌, ◌^◌, ◌<◌, ◌≤◌, false, length, min};
+ghost use Rattle.hll_sketch.specs.BorrowedImage.{sketch_of_borrowed};
+ghost use Rattle.hll_sketch.specs.Value.{is_empty, IsLgK};
+ghost use Rattle.hll_state.specs.Header as spec;
+ghost use Rattle.hll_state.specs.Header.{IsWithin};
+ghost use Rattle.hll_state.specs.Joined.{IsJoined, MergesInto, Restarts};
+ghost use Rattle.hll_state.specs.Merged as merged;
+ghost use Rattle.hll_state.specs.Merged.{HasRoomToMerge};
+
+use crate::header::{HEADER_LEN, Header, Held};
+use hll_base::hll_type::HllType;
+use hll_registers::registers::two_to;
+use hll_sketch::borrowed_image::BorrowedImage;
+use std::alloc::Allocator;
+
+/// What comes of a join.
+#[derive(Clone, Copy, Debug, PartialEq, Eq)]
+pub enum Joined {
+    /// The state means the union of both.
+    Done,
+    /// There is no room. So many elements are enough, header included.
+    NoRoom(usize),
+    /// The other sketch has another `lg_k`, and no bound was given.
+    OtherLgK,
+}
+
+impl Header {
+    /// Merges a sketch, as a union does whose bound is the `lg_k` of the state, and records the widths that are given for it.
+    ///
+    /// If no bound was given, a state of another `lg_k` than that of the sketch refuses it, and an empty state takes the other
+    /// `lg_k` first. An empty sketch changes nothing. Room is asked for first, and without it the meaning stays.
+    pub fn join<A: Allocator>(
+        &mut self,
+        body: &mut [[u8; 4]],
+        bounded: bool,
+        widths: u8,
+        image: &BorrowedImage<'_, A>,
+    ) -> Joined
+        requires within { IsWithin self.old (length body.old) }
+        requires widths { widths < 8 }
+        ensures within { IsWithin self.new (length body.old) }
+        ensures joined { IsJoined bounded widths (sketch_of_borrowed image.now) self.old body.old self.new body.new result }
+    {
+        if image.is_empty() {
+            return Joined::Done;
+        }
+        if bounded || self.lg_k == image.lg_k() {
+            return self.merge_with_room(body, widths, image);
+        }
+        if !self.is_empty() {
+            return Joined::OtherLgK;
+        }
+        self.restart(body, widths, image)
+    }
+
+    /// Merges a sketch that is not empty into an empty state, which takes its `lg_k` first.
+    fn restart<A: Allocator>(
+        &mut self,
+        body: &mut [[u8; 4]],
+        widths: u8,
+        image: &BorrowedImage<'_, A>,
+    ) -> Joined
+        requires within { IsWithin self.old (length body.old) }
+        requires widths { widths < 8 }
+        requires some { is_empty (sketch_of_borrowed image.now) ≡ false }
+        ensures within { IsWithin self.new (length body.old) }
+        ensures restarted { Restarts widths (sketch_of_borrowed image.now) self.old body.old self.new body.new result }
+    {
+        let mut started = Header {
+            widths: self.widths | widths,
+            ..Header::new(image.lg_k())
+        };
+        let len = started.len_to_merge(image);
+        if !started.merge_image(body, image) {
+            return Joined::NoRoom(len);
+        }
+        *self = started;
+        Joined::Done
+    }
+
+    /// Merges a sketch that is not empty and records its widths, or tells how many elements are enough.
+    fn merge_with_room<A: Allocator>(
+        &mut self,
+        body: &mut [[u8; 4]],
+        widths: u8,
+        image: &BorrowedImage<'_, A>,
+    ) -> Joined
+        requires within { IsWithin self.old (length body.old) }
+        requires widths { widths < 8 }
+        requires some { is_empty (sketch_of_borrowed image.now) ≡ false }
+        ensures within { IsWithin self.new (length body.old) }
+        ensures merged { MergesInto widths (sketch_of_borrowed image.now) self.old body.old self.new body.new result }
+    {
+        if !self.merge_image(body, image) {
+            return Joined::NoRoom(self.len_to_merge(image));
+        }
+        self.widths |= widths;
+        Joined::Done
+    }
+
+    /// Returns a number of elements, header included, in which there is room to merge a sketch.
+    fn len_to_merge<A: Allocator>(&self, image: &BorrowedImage<'_, A>) -> usize
+        requires { (room : ℕ) × IsWithin self.now room }
+        ensures room { HasRoomToMerge self.now (sketch_of_borrowed image.now) (result - 10) }
+        ensures least { 10 ≤ result }
+        ensures most { result ≤ 10 + spec.most_elements self.now.lg_k }
+    {
+        match image.num_coupons() {
+            Some(count) => self.len_for(count),
+            None => self.len_for_registers(image.lg_k()),
+        }
+    }
+
+    /// Returns the number of elements, header included, that are enough for registers of the smaller `lg_k` beside what is in use.
+    fn len_for_registers(&self, lg_k: u8) -> usize
+        requires within { (room : ℕ) × IsWithin self.now room }
+        requires lg_k { IsLgK lg_k }
+        ensures { result ≡ 10 + (2 ^ (min self.now.lg_k lg_k - 2) + merged.used_in self.now.held) }
+    {
+        let used = match self.held {
+            Held::Coupons(coupons) => coupons.run.used,
+            Held::Registers(_) => 0,
+        };
+        HEADER_LEN + two_to(self.lg_k.min(lg_k) - 2) + used
+    }
+}
+
+/// Returns the number that stands for a width among those that a state has seen: 1 for four bits, 2 for six, 4 for eight.
+pub fn bit_of(hll_type: HllType) -> u8
+    ensures is { result ≡ merged.bit_of hll_type }
+    ensures within { result < 8 }
+{
+    match hll_type {
+        HllType::Hll4 => 1,
+        HllType::Hll6 => 2,
+        HllType::Hll8 => 4,
+    }
+}
