@@ -13,6 +13,8 @@ static bool options_in(sqlite3_context *context, int n, sqlite3_value **values, 
 {
     uint8_t lg_k = 12, width = 8;
 
+    if (n == 1 && group->is_begun)  /* the common case */
+        return true;
     if (n > 1 && !lg_k_in(context, values[1], lg_k_name, &lg_k))
         return false;
     if (n > 2 && !width_in(context, values[2], &width))
@@ -68,11 +70,10 @@ static uint64_t word_of_real(double real)
     return word;
 }
 
-/* The bytes that a value counts by (docs/FORMAT.md, "What values are hashed as"): of a number eight, the lowest first. */
-static bool hashed_in(sqlite3_context *context, sqlite3_value *value, uint8_t *eight, hll_bytes *bytes)
+/* The bytes that a value of this type counts by (docs/FORMAT.md, "What values are hashed as"): of a number eight, the
+ * lowest first. */
+static bool hashed_in(sqlite3_context *context, sqlite3_value *value, int type, uint8_t *eight, hll_bytes *bytes)
 {
-    int type = sqlite3_value_type(value);
-
     if (type == SQLITE_TEXT || type == SQLITE_BLOB)
         return bytes_in(context, value, bytes);
     put_eight(eight, type == SQLITE_INTEGER ? (uint64_t)sqlite3_value_int64(value) : word_of_real(sqlite3_value_double(value)));
@@ -94,32 +95,33 @@ static void step_images(sqlite3_context *context, int n, sqlite3_value **values)
     group->has_failed = !image_in(context, values[0], &image);
     if (group->has_failed)
         return;
-    status = take_image(group, image);
+    status = add_image(group, image);
     group->has_failed = status != HLL_OK;
     if (group->has_failed)
-        refuse_number(context, status, "row", refused_row(group));
+        refuse_number(context, status, "row", group->rows);
 }
 
 static void step_values(sqlite3_context *context, int n, sqlite3_value **values)
 {
     Group *group = next_row(context, n, values, "lg_k");
+    int type = sqlite3_value_type(values[0]);
     uint8_t eight[8];
     hll_bytes value;
     hll_status status;
 
-    if (group == NULL || sqlite3_value_type(values[0]) == SQLITE_NULL)
+    if (group == NULL || type == SQLITE_NULL)
         return;
-    group->has_failed = !hashed_in(context, values[0], eight, &value);
+    group->has_failed = !hashed_in(context, values[0], type, eight, &value);
     if (group->has_failed)
         return;
-    status = take_value(group, value);
+    status = add_value(group, value);
     group->has_failed = status != HLL_OK;
     if (group->has_failed)
         refuse(context, status, "");
 }
 
 /* Answers the image of a group, unless nothing came or an error was answered. */
-static void finish(sqlite3_context *context, Finish *image_of)
+static void finish(sqlite3_context *context)
 {
     Group *group = sqlite3_aggregate_context(context, 0);
     Output out;
@@ -127,24 +129,14 @@ static void finish(sqlite3_context *context, Finish *image_of)
 
     if (group == NULL)
         return;
-    if (!group->has_failed && !is_vacant(group)) {
-        status = image_of(group, &out);
+    if (!group->has_failed && group->state != NULL) {
+        status = write_group(group, &out);
         if (status == HLL_OK)
             answer_image(context, &out);
         else
-            refuse_number(context, status, "row", refused_row(group));
+            refuse(context, status, "");
     }
     free_group(group);
-}
-
-static void final_images(sqlite3_context *context)
-{
-    finish(context, finish_images);
-}
-
-static void final_values(sqlite3_context *context)
-{
-    finish(context, finish_values);
 }
 
 /* ---- registration */
@@ -152,14 +144,13 @@ static void final_values(sqlite3_context *context)
 typedef struct Entry {
     const char *name;
     void (*step)(sqlite3_context *context, int n, sqlite3_value **values);
-    void (*final)(sqlite3_context *context);
 } Entry;
 
 static const Entry entries[] = {
-    {"hll_image_union_agg", step_images, final_images},
-    {"hll_image_add_agg", step_values, final_values},
-    {"hll_union_agg", step_images, final_images},
-    {"hll_add_agg", step_values, final_values},
+    {"hll_image_union_agg", step_images},
+    {"hll_image_add_agg", step_values},
+    {"hll_union_agg", step_images},
+    {"hll_add_agg", step_values},
 };
 
 /* Each takes one argument to three. None can leave a row out again, so none is a window function. */
@@ -170,7 +161,7 @@ int register_aggregates(sqlite3 *db)
 
     for (i = 0; i < sizeof entries / sizeof *entries; i++)
         for (n = 1; n <= 3 && code == SQLITE_OK; n++)
-            code = sqlite3_create_function_v2(db, entries[i].name, n, HLL_FLAGS, NULL, NULL, entries[i].step, entries[i].final,
+            code = sqlite3_create_function_v2(db, entries[i].name, n, HLL_FLAGS, NULL, NULL, entries[i].step, finish,
                                               NULL);
     return code;
 }

@@ -49,16 +49,18 @@ def registers_of(image):
 
 
 def words():
-    """Fields that another program set stay in the union of one image, alone or beside empty ones; of two they are set again."""
+    """Fields that another program set stay in the union of one image, alone or with empty ones; of two they are set
+    again."""
     counted = bytearray(image_of_values(10, 8, [b"%d" % number for number in range(3000)]))
     counted[5] &= ~16
     counted[8:16] = struct.pack("<d", 3000.5)
-    counted, empty = bytes(counted), image_of_values(10, 8, [])
-    for images in ([counted], [None, counted, None], [counted, empty], [empty, counted, empty], [counted, counted]):
-        group_table([images])
+    counted, empty, zeros = bytes(counted), image_of_values(10, 8, []), image_of(5, 8, bytes(32))
+    for images in ([counted], [None, counted, None], [counted, empty], [empty, counted, empty], [counted, counted],
+                   [zeros, counted], [counted, zeros], [zeros, zeros, counted, empty, zeros]):
+        table = table_of(images)
         given = [image for image in images if image is not None]
         for lg_k, width in ((12, 8), (10, 4), (9, 8)):
-            found = ask("SELECT hll_image_union_agg(image, ?, ?) FROM g", lg_k, width)
+            found = ask("SELECT hll_image_union_agg(x, ?, ?) FROM %s" % table, lg_k, width)
             equal("words of a union", found, union_of(given, lg_k, width).to_bytes())
     equal("kept", ask("SELECT hll_hip_estimate(hll_union_agg(?))", counted), 3000.5)
 
@@ -81,6 +83,22 @@ def added():
     equal("FILTER", ask("SELECT hll_add_agg(x) FILTER (WHERE g = 5) = (SELECT hll_add_agg(x) FROM v WHERE g = 5) FROM v"), 1)
 
 
+def growth():
+    """Groups of each size, from one value to registers, each value once or three times; unions of as many images."""
+    db.execute("DROP TABLE IF EXISTS temp.n")
+    db.execute("CREATE TEMP TABLE n AS SELECT value AS x, hll_image_add_agg(value) AS image "
+               "FROM json_each(?) GROUP BY value", (str(list(range(600))),))
+    thrice = "(SELECT * FROM n UNION ALL SELECT * FROM n UNION ALL SELECT * FROM n)"
+    for lg_k, most in ((4, 40), (7, 80), (9, 200), (12, 600)):
+        sketch = Sketch(lg_k)
+        for count in range(1, most):
+            sketch.update(count - 1)
+            for rows in ("n", thrice):
+                query = "SELECT %%s FROM %s WHERE x < ?" % rows
+                for call in ("hll_image_add_agg(x, ?)", "hll_image_union_agg(image, ?)"):
+                    equal("%s of %d" % (call, count), ask(query % call, lg_k, count), sketch.to_bytes())
+
+
 def lg_k():
     """Registers of a smaller lg_k lower a union, whenever they come; coupons, and registers that are all 0, don't."""
     coarse, coarser = image_of(8, 8, bytes([3] * 256)), image_of(6, 4, bytes([2] * 63 + [40]))
@@ -95,7 +113,7 @@ def lg_k():
 
 
 def large():
-    """Sets that outgrow a batch many times, at lg_k 21, and images with many bytes after them."""
+    """Large sets at lg_k 21, and images with many bytes after them."""
     sets = [image_of_coupons(21, 8, random_coupons(NUMBERS, 3000)) for _ in range(30)]
     found, wanted = ask("SELECT hll_image_union_agg(x, 21) FROM " + table_of(sets)), union_of(sets, 21)
     equal("union of large sets", found, wanted.to_bytes())

@@ -24,8 +24,10 @@ SELECT hll_image_add_agg(i, 21) FROM n"""
 
 
 def limits():
-    """A limit of SQLite's counts what a group has: 2^21 bytes at lg_k 21, and its image as much again."""
-    for limit, wanted in ((2**20, "memory"), (3 * 2**20, "memory"), (2**24, str(2**21 + 40))):
+    """A limit of SQLite's counts what a group has: at lg_k 21 2^21 bytes, half as many again while coupons become
+    registers, and its image as much again."""
+    whole = str(2**21 + 40)
+    for limit, wanted in ((2**20, "memory"), (3 * 2**20, "memory"), (2**22 + 2**19, whole), (2**24, whole)):
         code = LIMITED % (str(FOLDER / "tests"), limit, LARGE)
         done = subprocess.run([sys.executable, "-B", "-c", code], env=dict(os.environ, PYTHONPATH=os.pathsep.join(sys.path)),
                               stdout=subprocess.PIPE, stderr=subprocess.STDOUT, text=True)

@@ -104,6 +104,7 @@ static const char *const queries[] = {
     "SELECT count(i) FROM (SELECT hll_image_add_agg(x) AS i FROM many GROUP BY g)",
     "SELECT hll_image_union_agg(image) FROM images",
     "SELECT hll_image_union_agg(image, 9, 6) FROM images",
+    "SELECT hll_image_union_agg(image) FROM own",
     "SELECT count(i) FROM (SELECT hll_image_union_agg(image, 12, 4) AS i FROM images GROUP BY n % 3)",
     "SELECT hll_fold(image, 5) FROM images",
     "SELECT hll_convert(image, 4) FROM images",
@@ -124,7 +125,8 @@ static const char made[] =
     "INSERT INTO images SELECT 2, hll_image_add_agg(i, 12, 4) FROM (SELECT i FROM some LIMIT 100);"
     "INSERT INTO images SELECT 3, hll_image_add_agg(i, 10, 6) FROM some;"
     "INSERT INTO images SELECT 4, hll_image_add_agg(i, 9, 4) FROM some;"
-    "INSERT INTO images SELECT 5, hll_image_add_agg(i, 12, 8) FROM some;";
+    "INSERT INTO images SELECT 5, hll_image_add_agg(i, 12, 8) FROM some;"
+    "CREATE TEMP TABLE own AS SELECT hll_image_add_agg(i) AS image FROM some GROUP BY i % 100;";
 
 /* A word of what a query answers, or -1 with its code. */
 static long long answer_of(sqlite3 *db, const char *query, int *code)
