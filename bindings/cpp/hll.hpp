@@ -1,0 +1,569 @@
+// SPDX-License-Identifier: Apache-2.0
+// HyperLogLog sketches as C++ values, over the calls of hll.h. C++11, one header; link the program with libhll.
+//
+//     hll::sketch monday;                                      // lg_k 12, a standard error of 1.6 %
+//     monday.update("ann");
+//     monday.update(42);
+//     std::vector<uint8_t> image = monday.serialize();         // for a file, or a column of a table
+//
+//     hll::union_ week(12);                                    // merges sketches at an lg_k of at most 12
+//     week.update(monday);
+//     week.update_image(image.data(), image.size());
+//     std::cout << week.estimate() << " distinct values\n";
+//
+// Values. A sketch and a union own their memory: 76 bytes with up to nine values, four bytes for each further value, and one
+// byte for each register later. Copies are independent. A sketch that was moved from is empty, and can be used again.
+//
+// Exceptions. After an exception the object is as it was before the call.
+//     hll::image_error         the bytes are not the image of a sketch; status() and reason() say why
+//     hll::lg_k_error          a union without a bound got a sketch of another lg_k
+//     std::invalid_argument    an argument is out of its range
+//     std::bad_alloc           an allocation failed
+//
+// Threads. Const members can be called on one object by several threads at once, as on a container of the standard library;
+// other members need the object for themselves. The calls of hll.h that read a state may reorder its bytes, so each const
+// member reads a copy. Of registers the copy adds about a tenth to the time of an estimate. Coupons that were added since
+// the sketch was read are put in order in each copy: at 300 values an estimate takes 4 microseconds and not 1 (bench.cpp).
+// To put them in order at each update instead would cost more, as sketches are updated more often than they are read.
+#ifndef HLL_HPP
+#define HLL_HPP
+
+#include <hll.h>
+
+#include <algorithm>
+#include <cmath>
+#include <cstdint>
+#include <cstring>
+#include <new>
+#include <ostream>
+#include <sstream>
+#include <stdexcept>
+#include <string>
+#include <type_traits>
+#include <utility>
+#include <vector>
+#if __cplusplus >= 201703L
+#include <string_view>
+#endif
+
+namespace hll {
+
+/// The bytes are not the image of a sketch.
+class image_error : public std::runtime_error {
+  public:
+    image_error(hll_status status, size_t size)
+        : std::runtime_error("these " + std::to_string(size) + " bytes are not the image of a sketch: " + hll_message(status) +
+                             " (" + hll_reason(status) + ")"),
+          status_(status)
+    {
+    }
+
+    /// HLL_TRUNCATED to HLL_REGISTER, the first check that the bytes fail.
+    hll_status status() const noexcept { return status_; }
+
+    /// The word of the status: "truncated", "family" and so on.
+    const char *reason() const noexcept { return hll_reason(status_); }
+
+  private:
+    hll_status status_;
+};
+
+/// A union without a bound got a sketch of another lg_k.
+class lg_k_error : public std::runtime_error {
+  public:
+    lg_k_error(unsigned lg_k, unsigned other)
+        : std::runtime_error("the union has lg_k " + std::to_string(lg_k) + " and the sketch lg_k " + std::to_string(other) +
+                             ": to merge both at the smaller lg_k, give the union a bound, as in hll::union_(" +
+                             std::to_string(lg_k) + ")"),
+          lg_k_(lg_k), other_(other)
+    {
+    }
+
+    /// The lg_k of the union.
+    unsigned lg_k() const noexcept { return lg_k_; }
+
+    /// The lg_k of the sketch that was to be merged.
+    unsigned other_lg_k() const noexcept { return other_; }
+
+  private:
+    unsigned lg_k_, other_;
+};
+
+/// Returns whether an untrusted image is quick to read: it has at most `most` bytes and an lg_k of at most `lg_k`. No other
+/// byte is looked at. The defaults accept every ordinary image of lg_k 12 (docs/OPERATING.md, "Images from others").
+inline bool is_small(const void *image, size_t size, unsigned lg_k = 12, size_t most = 8192)
+{
+    return hll_is_small(static_cast<const uint8_t *>(image), size, lg_k, most) != 0;
+}
+
+namespace detail {
+
+constexpr unsigned default_lg_k = 12;
+constexpr size_t batch = 256; // values that are hashed before their coupons are added
+constexpr size_t first_room = HLL_STATE_NEW + 9 * sizeof(uint32_t); // what the library asks for at the first value
+
+inline unsigned checked_lg_k(unsigned lg_k)
+{
+    if (lg_k < 4 || lg_k > 21)
+        throw std::invalid_argument("lg_k is " + std::to_string(lg_k) + "; it must be 4 to 21");
+    return lg_k;
+}
+
+inline unsigned checked_width(unsigned width)
+{
+    if (width != 4 && width != 6 && width != 8)
+        throw std::invalid_argument("the width is " + std::to_string(width) + " bits; it must be 4, 6 or 8");
+    return width;
+}
+
+inline const uint8_t *checked_bytes(const void *bytes, size_t size)
+{
+    if (bytes == nullptr && size != 0)
+        throw std::invalid_argument("a null pointer was given with a size of " + std::to_string(size));
+    return static_cast<const uint8_t *>(bytes);
+}
+
+/// Throws what a status of a call on a state stands for.
+inline void check(hll_status status)
+{
+    if (status == HLL_MEMORY)
+        throw std::bad_alloc();
+    if (status != HLL_OK) // bytes that other code has overwritten
+        throw std::logic_error(std::string("the memory of a sketch is damaged: ") + hll_message(status));
+}
+
+/// Owns the bytes of a state (hll.h, "states"). No bytes stand for an empty sketch: a new one and one that was moved from
+/// own no memory.
+class state {
+  public:
+    explicit state(unsigned lg_k) : lg_k_(static_cast<uint8_t>(checked_lg_k(lg_k))) {}
+    state(const state &other) : bytes_(other.bytes_.data(), other.bytes_.data() + other.size()), lg_k_(other.lg_k_) {}
+    state(state &&other) noexcept : bytes_(std::move(other.bytes_)), lg_k_(other.lg_k_) { other.bytes_.clear(); }
+    state &operator=(state other) noexcept
+    {
+        swap(other);
+        return *this;
+    }
+
+    void swap(state &other) noexcept
+    {
+        bytes_.swap(other.bytes_);
+        std::swap(lg_k_, other.lg_k_);
+    }
+
+    void clear() noexcept { std::vector<uint8_t>().swap(bytes_); }
+
+    unsigned lg_k() const noexcept { return bytes_.empty() ? lg_k_ : hll_state_lg_k(bytes_.data()); }
+    bool is_empty() const noexcept { return size() <= HLL_STATE_NEW; }
+    bool has_registers() const noexcept { return !bytes_.empty() && hll_state_stage(bytes_.data()) == HLL_REGISTERS; }
+
+    /// Makes a call that may change the sketch: call(bytes, room, &size). It is made again where it needs more room.
+    template <class Call> hll_status changed_by(Call call)
+    {
+        start();
+        for (;;) {
+            size_t size = 0;
+            hll_status status = call(bytes_.data(), bytes_.size(), &size);
+            if (status != HLL_BUFFER)
+                return status;
+            grow(size);
+        }
+    }
+
+    /// Makes the lg_k that it has now the one that it has when it is cleared.
+    void keep_lg_k() noexcept { lg_k_ = static_cast<uint8_t>(lg_k()); }
+
+    /// Grows to all the room that the sketch can ever need: no call on it asks for more.
+    void grow_to_most() { grow(HLL_STATE_MOST(lg_k())); }
+
+    /// A copy for a call that reads the sketch, and may change the bytes.
+    state scratch() const
+    {
+        state copy(*this);
+        copy.start();
+        return copy;
+    }
+
+    hll_status join(unsigned lg_max_k, const uint8_t *image, size_t len)
+    {
+        return changed_by([=](uint8_t *bytes, size_t room, size_t *size) {
+            return hll_state_join(lg_max_k, bytes, room, size, image, len);
+        });
+    }
+
+    /// Joins another state, whose bytes are reordered.
+    hll_status join_reordered(unsigned lg_max_k, state &other)
+    {
+        other.start();
+        return changed_by([&](uint8_t *bytes, size_t room, size_t *size) {
+            return hll_state_join_state(lg_max_k, bytes, room, size, other.bytes_.data(), other.bytes_.size());
+        });
+    }
+
+    hll_estimation estimation() const
+    {
+        state copy = scratch();
+        hll_estimation found;
+        check(hll_state_estimate(copy.bytes_.data(), copy.bytes_.size(), &found));
+        return found;
+    }
+
+    std::vector<uint8_t> image(unsigned width) const
+    {
+        state copy = scratch();
+        std::vector<uint8_t> out(copy.bytes_.size()); // enough, but where registers of four bits have many exceptions
+        size_t size = 0;
+        hll_status status = hll_state_image(copy.bytes_.data(), copy.bytes_.size(), width, out.data(), out.size(), &size);
+        if (status == HLL_BUFFER) {
+            out.resize(size);
+            status = hll_state_image(copy.bytes_.data(), copy.bytes_.size(), width, out.data(), out.size(), &size);
+        }
+        check(status);
+        out.resize(size);
+        out.shrink_to_fit();
+        return out;
+    }
+
+  private:
+    std::vector<uint8_t> bytes_;
+    uint8_t lg_k_; // where there are no bytes
+
+    size_t size() const noexcept { return bytes_.empty() ? 0 : hll_state_size(bytes_.data()); }
+
+    void start()
+    {
+        if (bytes_.empty()) {
+            std::vector<uint8_t> fresh(first_room);
+            check(hll_state_new(lg_k_, fresh.data(), fresh.size()));
+            bytes_.swap(fresh);
+        }
+    }
+
+    void grow(size_t room)
+    {
+        if (room <= bytes_.size())
+            return;
+        start();
+        std::vector<uint8_t> larger(room);
+        std::memcpy(larger.data(), bytes_.data(), size());
+        bytes_.swap(larger);
+    }
+};
+
+/// The number whose eight bytes are hashed for an integer: its own, widened to 64 bits.
+template <class Integer> typename std::enable_if<std::is_integral<Integer>::value, uint64_t>::type hashed_as(Integer value)
+{
+    static_assert(sizeof value <= 8, "integers have at most 64 bits");
+    return static_cast<uint64_t>(value);
+}
+
+/// That for a real number: of its binary64, with -0.0 as 0.0 and one NaN.
+template <class Real> typename std::enable_if<std::is_floating_point<Real>::value, uint64_t>::type hashed_as(Real value)
+{
+    static_assert(sizeof value <= 8, "a long double has to be converted to double first");
+    uint64_t bits = 0;
+    const double wide = static_cast<double>(value);
+    if (std::isnan(wide))
+        bits = UINT64_C(0x7ff8000000000000);
+    else if (wide < 0 || wide > 0)
+        std::memcpy(&bits, &wide, sizeof bits);
+    return bits;
+}
+
+#if defined(__BYTE_ORDER__) && __BYTE_ORDER__ == __ORDER_LITTLE_ENDIAN__
+constexpr bool is_little_endian = true;
+#else
+constexpr bool is_little_endian = false; // or not known
+#endif
+
+inline void put_little_endian(uint64_t number, uint8_t *bytes)
+{
+    if (is_little_endian) { // one store, as eight of a byte would hold up the hash that reads them together
+        std::memcpy(bytes, &number, sizeof number);
+        return;
+    }
+    for (int i = 0; i < 8; i++)
+        bytes[i] = static_cast<uint8_t>(number >> (8 * i));
+}
+
+/// Whether values are in memory as they are hashed.
+template <class Value> constexpr bool is_hashed_in_place()
+{
+    return is_little_endian && std::is_integral<Value>::value && sizeof(Value) == 8;
+}
+
+/// Puts the coupons of at most a batch of numbers.
+template <class Number>
+typename std::enable_if<std::is_arithmetic<Number>::value>::type hash_batch(const Number *values, size_t n, uint32_t *coupons)
+{
+    if (is_hashed_in_place<Number>())
+        return check(hll_coupons_fixed(reinterpret_cast<const uint8_t *>(values), 8 * n, 8, coupons, n));
+    uint8_t bytes[8 * batch];
+    for (size_t i = 0; i < n; i++)
+        put_little_endian(hashed_as(values[i]), bytes + 8 * i);
+    check(hll_coupons_fixed(bytes, 8 * n, 8, coupons, n));
+}
+
+/// Puts the coupons of at most a batch of strings, or of other containers of bytes.
+template <class Text>
+typename std::enable_if<!std::is_arithmetic<Text>::value>::type hash_batch(const Text *values, size_t n, uint32_t *coupons)
+{
+    static_assert(sizeof *values->data() == 1, "values are numbers, strings, or containers of bytes");
+    for (size_t i = 0; i < n; i++)
+        coupons[i] = hll_coupon(reinterpret_cast<const uint8_t *>(values[i].data()), values[i].size());
+}
+
+template <class Value> void hash_all(const Value *values, size_t n, uint32_t *coupons)
+{
+    for (size_t done = 0; done < n; done += batch)
+        hash_batch(values + done, std::min(batch, n - done), coupons + done);
+}
+
+/// What sketches and unions have in common.
+class counter {
+  public:
+    /// Adds an integer: its eight bytes after it was widened to 64 bits. `true` is 1. Or a float or double: the eight bytes
+    /// of the double. (docs/FORMAT.md, "What values are hashed as")
+    template <class Number> typename std::enable_if<std::is_arithmetic<Number>::value>::type update(Number value)
+    {
+        uint8_t bytes[8];
+        put_little_endian(hashed_as(value), bytes);
+        update(bytes, sizeof bytes);
+    }
+
+    /// Adds a text: its bytes, which should be UTF-8. The empty text is a value like any other.
+    void update(const std::string &value) { update(value.data(), value.size()); }
+    void update(const char *value)
+    {
+        if (value == nullptr)
+            throw std::invalid_argument("the text is a null pointer");
+        update(value, std::strlen(value));
+    }
+#if __cplusplus >= 201703L
+    void update(std::string_view value) { update(value.data(), value.size()); }
+#endif
+
+    /// Adds `size` bytes as one value. A null pointer is allowed where the size is 0.
+    void update(const void *value, size_t size)
+    {
+        const uint8_t *bytes = checked_bytes(value, size);
+        check(state_.changed_by([=](uint8_t *state, size_t room, size_t *needed) {
+            return hll_state_add_value(state, room, needed, bytes, size);
+        }));
+    }
+
+    /// Adds n values, all or none: numbers, strings, or containers of bytes. This takes about half as long as adding one by one.
+    template <class Value> void update_many(const Value *values, size_t n)
+    {
+        checked_bytes(values, n);
+        uint32_t coupons[batch];
+        if (n > batch && !state_.has_registers()) {
+            if (n <= HLL_STATE_MOST(lg_k()) / 8)
+                return update_at_once(values, n);
+            state_.grow_to_most(); // so that no batch fails for want of memory, after others were added
+        }
+        for (size_t done = 0; done < n; done += batch) {
+            const size_t some = std::min(batch, n - done);
+            hash_batch(values + done, some, coupons);
+            add(coupons, some);
+        }
+    }
+
+    /// Adds the values of a contiguous container, such as std::vector or std::array.
+    template <class Container> void update_many(const Container &values) { update_many(values.data(), values.size()); }
+
+    /// Adds n raw coupons, as hll_coupon returns them.
+    void update_coupons(const uint32_t *coupons, size_t n)
+    {
+        checked_bytes(coupons, n);
+        const uint32_t *found = std::find_if(coupons, coupons + n, [](uint32_t one) { return HLL_COUPON_VALUE(one) == 0; });
+        if (found != coupons + n)
+            throw std::invalid_argument("coupon " + std::to_string(found - coupons) + " is " + std::to_string(*found) +
+                                        ", whose value is 0; the value of a coupon is 1 to 63");
+        add(coupons, n);
+    }
+
+    /// The number of distinct values, about.
+    double estimate() const { return estimation().estimate; }
+
+    /// Bounds at 1, 2 or 3 standard deviations: the number is between them in about 68, 95 and 99.7 of 100 cases.
+    double lower_bound(unsigned deviations) const { return estimation().lower[index_of(deviations)]; }
+    double upper_bound(unsigned deviations) const { return estimation().upper[index_of(deviations)]; }
+
+    /// The estimate with all its bounds, for less than two of the calls above.
+    hll_estimation estimation() const { return state_.estimation(); }
+
+    unsigned lg_k() const noexcept { return state_.lg_k(); }
+    bool is_empty() const noexcept { return state_.is_empty(); }
+
+    /// Forgets all values, and frees the memory.
+    void reset() noexcept { state_.clear(); }
+
+  protected:
+    explicit counter(state given) noexcept : state_(std::move(given)) {}
+    state state_;
+
+  private:
+    void add(const uint32_t *coupons, size_t n)
+    {
+        check(state_.changed_by([=](uint8_t *state, size_t room, size_t *needed) {
+            return hll_state_add_coupons(state, room, needed, coupons, n);
+        }));
+    }
+
+    /// Adds values by one call, over the coupons of all.
+    template <class Value> void update_at_once(const Value *values, size_t n)
+    {
+        std::vector<uint32_t> coupons(n);
+        hash_all(values, n, coupons.data());
+        add(coupons.data(), n);
+    }
+
+    static size_t index_of(unsigned deviations)
+    {
+        if (deviations < 1 || deviations > 3)
+            throw std::invalid_argument("bounds are at 1, 2 or 3 standard deviations, not " + std::to_string(deviations));
+        return deviations - 1;
+    }
+};
+
+} // namespace detail
+
+/// Counts distinct values. In datasketches-cpp this is hll_sketch, with get_estimate, get_lower_bound, get_upper_bound,
+/// get_lg_config_k, get_target_type and serialize_compact.
+class sketch : public detail::counter {
+  public:
+    /// An empty sketch of 2^lg_k registers, lg_k 4 to 21. The width is the bits of a register in an image: 4, 6 or 8. It
+    /// changes the size of images, and nothing else.
+    explicit sketch(unsigned lg_k = detail::default_lg_k, unsigned width = 8)
+        : counter(detail::state(lg_k)), width_(static_cast<uint8_t>(detail::checked_width(width)))
+    {
+    }
+
+    /// Reads an image, which is checked whole. Bytes after the image are not read. Of untrusted bytes ask is_small first.
+    static sketch deserialize(const void *image, size_t size)
+    {
+        const uint8_t *bytes = detail::checked_bytes(image, size);
+        const unsigned lg_k = hll_image_lg_k(bytes, size), width = hll_image_width(bytes, size);
+        sketch made(lg_k ? lg_k : detail::default_lg_k, width ? width : 8); // where the header is wrong, join says why
+        const hll_status status = made.state_.join(made.lg_k(), bytes, size);
+        if (status >= HLL_TRUNCATED && status <= HLL_REGISTER)
+            throw image_error(status, size);
+        detail::check(status);
+        return made;
+    }
+    static sketch deserialize(const std::vector<uint8_t> &image) { return deserialize(image.data(), image.size()); }
+
+    /// The image, at the width of the sketch or at another one.
+    std::vector<uint8_t> serialize() const { return state_.image(width_); }
+    std::vector<uint8_t> serialize(unsigned width) const { return state_.image(detail::checked_width(width)); }
+
+    unsigned width() const noexcept { return width_; }
+
+    void swap(sketch &other) noexcept
+    {
+        state_.swap(other.state_);
+        std::swap(width_, other.width_);
+    }
+
+    std::string to_string() const
+    {
+        const hll_estimation found = estimation();
+        std::ostringstream text;
+        text.precision(15);
+        text << "sketch of lg_k " << lg_k() << ", " << width() << " bits a register: about " << std::round(found.estimate)
+             << " distinct values, with 95% certainty " << std::floor(found.lower[1]) << " to " << std::ceil(found.upper[1]);
+        return text.str();
+    }
+
+  private:
+    friend class union_;
+    sketch(detail::state given, unsigned width)
+        : counter(std::move(given)), width_(static_cast<uint8_t>(detail::checked_width(width)))
+    {
+        state_.keep_lg_k();
+    }
+
+    uint8_t width_;
+};
+
+/// Whether both have the same image.
+inline bool operator==(const sketch &a, const sketch &b)
+{
+    return a.lg_k() == b.lg_k() && a.width() == b.width() && a.serialize() == b.serialize();
+}
+inline bool operator!=(const sketch &a, const sketch &b)
+{
+    return !(a == b);
+}
+inline void swap(sketch &a, sketch &b) noexcept
+{
+    a.swap(b);
+}
+inline std::ostream &operator<<(std::ostream &out, const sketch &given)
+{
+    return out << given.to_string();
+}
+
+/// Merges sketches, images and values. In datasketches-cpp this is hll_union, and get_result is result here.
+class union_ : public detail::counter {
+  public:
+    /// Merges sketches of every lg_k. The union has the smallest lg_k of lg_max_k, 4 to 21, and of the sketches with registers.
+    explicit union_(unsigned lg_max_k) : counter(detail::state(lg_max_k)), lg_max_k_(static_cast<uint8_t>(lg_max_k)) {}
+
+    /// Without a bound: merges sketches of one lg_k, that of the first which is not empty, and throws lg_k_error at another.
+    /// Values that are added before have an lg_k of 12.
+    union_() : counter(detail::state(detail::default_lg_k)), lg_max_k_(0) {}
+
+    using counter::update;
+
+    /// Merges a sketch. From a sketch that is given up (std::move) it merges without a copy.
+    void update(const sketch &other)
+    {
+        detail::state copy = other.state_.scratch();
+        joined(state_.join_reordered(lg_max_k_, copy), other.lg_k(), 0);
+    }
+    void update(sketch &&other) { joined(state_.join_reordered(lg_max_k_, other.state_), other.lg_k(), 0); }
+
+    /// Merges an image where it is, without making a sketch of it. Bytes after the image are not read. Of untrusted bytes ask
+    /// is_small first.
+    void update_image(const void *image, size_t size)
+    {
+        const uint8_t *bytes = detail::checked_bytes(image, size);
+        joined(state_.join(lg_max_k_, bytes, size), hll_image_lg_k(bytes, size), size);
+    }
+    void update_image(const std::vector<uint8_t> &image) { update_image(image.data(), image.size()); }
+
+    /// The union as a sketch.
+    sketch result(unsigned width = 8) const { return sketch(state_, width); }
+
+    /// The bound; 0 where there is none.
+    unsigned lg_max_k() const noexcept { return lg_max_k_; }
+
+    void swap(union_ &other) noexcept
+    {
+        state_.swap(other.state_);
+        std::swap(lg_max_k_, other.lg_max_k_);
+    }
+
+  private:
+    void joined(hll_status status, unsigned other_lg_k, size_t size) const
+    {
+        if (status >= HLL_TRUNCATED && status <= HLL_REGISTER)
+            throw image_error(status, size);
+        if (status == HLL_OTHER_LG_K)
+            throw lg_k_error(lg_k(), other_lg_k);
+        detail::check(status);
+    }
+
+    uint8_t lg_max_k_;
+};
+
+inline void swap(union_ &a, union_ &b) noexcept
+{
+    a.swap(b);
+}
+
+} // namespace hll
+
+#endif

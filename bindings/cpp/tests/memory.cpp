@@ -1,0 +1,223 @@
+// SPDX-License-Identifier: Apache-2.0
+// Each allocation fails in turn, and the objects are as they were; const members write to nothing that they read; and several
+// threads read one object. Link it with -Wl,--wrap=malloc,--wrap=realloc -pthread.
+#include "test.hpp"
+
+#include <sys/mman.h>
+#include <thread>
+
+using hll::sketch;
+using hll::union_;
+
+// ---- allocations that fail, or are put where they can be made read-only
+
+static thread_local size_t fails_at; // this allocation fails, from 1 on; 0: none
+static thread_local bool into_pages;
+static constexpr size_t pages_size = size_t(1) << 20;
+static uint8_t *pages;
+static size_t pages_used;
+
+static bool fails()
+{
+    return fails_at != 0 && --fails_at == 0;
+}
+
+extern "C" {
+void *__real_malloc(size_t size);
+void *__real_realloc(void *memory, size_t size);
+void *__wrap_malloc(size_t size);
+void *__wrap_realloc(void *memory, size_t size);
+
+void *__wrap_malloc(size_t size)
+{
+    return fails() ? nullptr : __real_malloc(size);
+}
+
+void *__wrap_realloc(void *memory, size_t size)
+{
+    return fails() ? nullptr : __real_realloc(memory, size);
+}
+}
+
+void *operator new(size_t size)
+{
+    if (into_pages && size <= pages_size - pages_used) {
+        void *found = pages + pages_used;
+        pages_used += (size + 15) / 16 * 16;
+        return found;
+    }
+    void *found = malloc(size != 0 ? size : 1);
+    if (found == nullptr)
+        throw std::bad_alloc();
+    return found;
+}
+
+void operator delete(void *memory) noexcept
+{
+    const uint8_t *at = static_cast<uint8_t *>(memory);
+    if (pages == nullptr || at < pages || pages + pages_size <= at)
+        free(memory);
+}
+
+void operator delete(void *memory, size_t) noexcept
+{
+    operator delete(memory);
+}
+
+// Makes a call with each of its allocations refused in turn, until none is. Returns how many there are.
+template <class Call, class Unchanged> static size_t refuse_each(Call call, Unchanged is_unchanged)
+{
+    for (size_t at = 1;; at++) {
+        bool is_refused = false;
+        fails_at = at;
+        try {
+            call();
+        } catch (const std::bad_alloc &) {
+            is_refused = true;
+        }
+        const bool was_reached = fails_at == 0;
+        fails_at = 0;
+        CHECK(!is_refused || was_reached);
+        if (!was_reached)
+            return at - 1;
+        if (is_refused)
+            CHECK(is_unchanged());
+    }
+}
+
+static sketch filled(unsigned lg_k, unsigned width, int from, int n)
+{
+    sketch made(lg_k, width);
+    for (int i = from; i < from + n; i++)
+        made.update(i);
+    return made;
+}
+
+static const int sizes[] = {0, 9, 300, 5000};
+
+// ---- each change
+
+static void test_changes(int size)
+{
+    const sketch start = filled(12, 4, 0, size);
+    const image_bytes before = start.serialize();
+    std::vector<int> values(2000);
+    std::vector<uint32_t> coupons;
+    for (int i = 0; i < 2000; i++) {
+        values[static_cast<size_t>(i)] = 100000 + i;
+        coupons.push_back(1u << 26 | static_cast<uint32_t>(i));
+    }
+    sketch one = start;
+    const auto is_unchanged = [&] { return one.serialize() == before; };
+    const size_t adding = refuse_each([&] { one.update(-1); }, is_unchanged);
+    CHECK(adding >= 1 || size == 5000);
+    for (size_t n : {size_t(200), size_t(257), size_t(600), size_t(2000)}) {
+        one = start;
+        const size_t many = refuse_each([&] { one.update_many(values.data(), n); }, is_unchanged);
+        CHECK(size == 5000 ? many == 0 : many >= 1);
+    }
+    one = start;
+    refuse_each([&] { one.update_coupons(coupons.data(), coupons.size()); }, is_unchanged);
+    one = start;
+    CHECK(refuse_each([&] { one = filled(9, 8, 0, 5); }, is_unchanged) >= 1);
+}
+
+static void test_reads(int size)
+{
+    const sketch one = filled(12, 4, 0, size);
+    const image_bytes before = one.serialize();
+    const auto is_unchanged = [&] { return one.serialize() == before; };
+    CHECK(refuse_each([&] { sketch copy = one; }, is_unchanged) == (size == 0 ? 0 : 1));
+    CHECK(refuse_each([&] { one.estimate(); }, is_unchanged) == 1);
+    CHECK(refuse_each([&] { one.serialize(); }, is_unchanged) >= 2);
+    CHECK(refuse_each([&] { one.to_string(); }, is_unchanged) >= 1);
+    refuse_each([&] { sketch::deserialize(before); }, is_unchanged);
+}
+
+static void test_unions(int size)
+{
+    union_ start(12);
+    start.update(filled(12, 8, 0, size));
+    const image_bytes before = start.result().serialize();
+    for (int n : {3, 300, 5000}) {
+        const sketch other = filled(12, 6, 1000000, n);
+        const image_bytes image = other.serialize();
+        union_ all = start;
+        const auto is_unchanged = [&] { return all.result().serialize() == before; };
+        CHECK(refuse_each([&] { all.update(other); }, is_unchanged) >= 1);
+        all = start;
+        refuse_each([&] { all.update_image(image); }, is_unchanged);
+        CHECK(all.result().serialize() == plain_union(12, 8, {before, image}));
+        all = start;
+        sketch given = other;
+        refuse_each([&] { all.update(std::move(given)); }, [&] { return is_unchanged() && given == other; });
+        CHECK(all.result().serialize() == plain_union(12, 8, {before, image}));
+    }
+}
+
+// ---- const members
+
+template <class Object, class Read> static void read_where_nothing_can_be_written(const Object &given, Read read)
+{
+    pages_used = 0;
+    into_pages = true;
+    const Object one = given;
+    into_pages = false;
+    CHECK(pages_used > 0 && mprotect(pages, pages_size, PROT_READ) == 0);
+    read(one); // a write ends the program
+    CHECK(mprotect(pages, pages_size, PROT_READ | PROT_WRITE) == 0);
+}
+
+static void test_const_members()
+{
+    void *mapped = mmap(nullptr, pages_size, PROT_READ | PROT_WRITE, MAP_PRIVATE | MAP_ANONYMOUS, -1, 0);
+    need(mapped != MAP_FAILED, "mmap");
+    pages = static_cast<uint8_t *>(mapped);
+    for (int size : {9, 300, 5000}) {
+        const sketch given = filled(12, 6, 0, size);
+        const image_bytes image = given.serialize();
+        read_where_nothing_can_be_written(given, [&](const sketch &one) {
+            CHECK(one.serialize() == image && one.serialize(4).size() >= 8 && one == given && !one.is_empty());
+            CHECK(one.estimate() == given.estimate() && one.upper_bound(1) >= one.lower_bound(1));
+            CHECK(one.to_string() == given.to_string() && one.lg_k() == 12 && one.width() == 6);
+            union_ all(12);
+            all.update(one);
+            CHECK(all.result(6) == given && sketch(one) == given);
+        });
+        union_ all(12);
+        all.update(given);
+        read_where_nothing_can_be_written(all, [&](const union_ &one) {
+            CHECK(one.result(6) == given && one.estimate() == given.estimate() && one.lg_max_k() == 12 && !one.is_empty());
+        });
+    }
+}
+
+static void test_threads()
+{
+    const sketch given = filled(12, 6, 0, 300);
+    const image_bytes image = sketch(given).serialize();
+    const double estimate = sketch(given).estimate();
+    size_t right[4] = {};
+    std::vector<std::thread> threads;
+    for (size_t &mine : right)
+        threads.emplace_back([&] {
+            for (int i = 0; i < 500; i++)
+                mine += given.serialize() == image && given.estimate() == estimate;
+        });
+    for (std::thread &thread : threads)
+        thread.join();
+    for (size_t mine : right)
+        CHECK(mine == 500);
+}
+
+int main()
+{
+    for (int size : sizes) {
+        test_changes(size);
+        test_reads(size);
+        test_unions(size);
+    }
+    test_const_members();
+    test_threads();
+    return counts();
+}
