@@ -37,7 +37,7 @@ TOOLCHAIN = {"check", "ci", "doc", "lib", "must-fail", "plant", "run", "test", "
 # Names that are not the project's.
 KNOWN = {"as_chunks_mut", "postgres_fdw"}
 SKIPPED_FOLDERS = {"out", "build", "dist", ".git", "target", "__pycache__"}
-SOURCES = {".rt", ".antt", ".py", ".c", ".h", ".sh", ".sql", ".rs", ".edit", ".map", ".control", ".toml", ".txt", ".plan", ""}
+SOURCES = {".rt", ".antt", ".py", ".c", ".h", ".cpp", ".hpp", ".sh", ".sql", ".rs", ".edit", ".map", ".control", ".toml", ".txt", ".plan", ""}
 # These pages speak of another library's names.
 OTHERS = {"DIFFERENCES.md", "FAULTS.md"}
 # Not run: the check itself, and what installs packages of a release.
@@ -138,7 +138,7 @@ def faults_of_files(page, text):
 
 def comments_of(path):
     """The lines of a source that can name a page: those of its comments, joined as one text."""
-    marks = {".rt": "//", ".antt": "--", ".c": r"\*", ".h": r"\*", ".rs": "//", ".sql": "--"}.get(path.suffix, "#?")
+    marks = {".rt": "//", ".antt": "--", ".c": r"\*", ".h": r"\*", ".rs": "//", ".cpp": "//", ".hpp": "//", ".sql": "--"}.get(path.suffix, "#?")
     return " ".join(re.sub(rf"^\s*(?:{marks}[/!]*)\s?", "", line) for line in path.read_text(errors="ignore").splitlines())
 
 

@@ -429,8 +429,9 @@ class counter {
 
 } // namespace detail
 
-/// Counts distinct values. In datasketches-cpp this is hll_sketch, with get_estimate, get_lower_bound, get_upper_bound,
-/// get_lg_config_k, get_target_type and serialize_compact.
+/// Counts distinct values. In datasketches-cpp this is hll_sketch, with the names get_estimate and get_composite_estimate for
+/// estimate, get_lower_bound, get_upper_bound, get_lg_config_k (lg_config_k) for lg_k, get_target_type for width, and
+/// serialize_compact and serialize_updatable for serialize.
 class sketch : public detail::counter {
   public:
     /// An empty sketch of 2^lg_k registers, lg_k 4 to 21. The width is the bits of a register in an image: 4, 6 or 8. It

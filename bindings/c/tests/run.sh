@@ -328,7 +328,7 @@ try_install() {
     place=$(pwd)/$tests/installed
     rm -rf "$place"
     make -s install DESTDIR="$place" PREFIX=/usr || return 1
-    for file in include/hll.h lib/libhll.a lib/libhll.so lib/libhll.so.0 "lib/libhll.so.$version" lib/pkgconfig/hll.pc; do
+    for file in include/hll.h include/hll.hpp lib/libhll.a lib/libhll.so lib/libhll.so.0 "lib/libhll.so.$version" lib/pkgconfig/hll.pc; do
         [ -f "$place/usr/$file" ] || { echo "$file is missing"; return 1; }
     done
     flags="-I$place/usr/include -L$place/usr/lib -lhll"

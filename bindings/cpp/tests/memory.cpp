@@ -12,6 +12,7 @@ using hll::union_;
 // ---- allocations that fail, or are put where they can be made read-only
 
 static thread_local size_t fails_at; // this allocation fails, from 1 on; 0: none
+static thread_local size_t largest;  // of all allocations by new
 static thread_local bool into_pages;
 static constexpr size_t pages_size = size_t(1) << 20;
 static uint8_t *pages;
@@ -41,6 +42,7 @@ void *__wrap_realloc(void *memory, size_t size)
 
 void *operator new(size_t size)
 {
+    largest = std::max(largest, size);
     if (into_pages && size <= pages_size - pages_used) {
         void *found = pages + pages_used;
         pages_used += (size + 15) / 16 * 16;
@@ -64,10 +66,11 @@ void operator delete(void *memory, size_t) noexcept
     operator delete(memory);
 }
 
-// Makes a call with each of its allocations refused in turn, until none is. Returns how many there are.
-template <class Call, class Unchanged> static size_t refuse_each(Call call, Unchanged is_unchanged)
+// Begins and makes a call with each of its allocations refused in turn, until none is. Returns how many there are.
+template <class Begin, class Call, class Unchanged> static size_t refuse_each(Begin begin, Call call, Unchanged is_unchanged)
 {
     for (size_t at = 1;; at++) {
+        begin();
         bool is_refused = false;
         fails_at = at;
         try {
@@ -107,31 +110,43 @@ static void test_changes(int size)
         values[static_cast<size_t>(i)] = 100000 + i;
         coupons.push_back(1u << 26 | static_cast<uint32_t>(i));
     }
-    sketch one = start;
+    sketch one;
+    const auto begin = [&] { one = start; };
     const auto is_unchanged = [&] { return one.serialize() == before; };
-    const size_t adding = refuse_each([&] { one.update(-1); }, is_unchanged);
-    CHECK(adding >= 1 || size == 5000);
+    CHECK(refuse_each(begin, [&] { one.update(-1); }, is_unchanged) >= 1 || size > 9);
     for (size_t n : {size_t(200), size_t(257), size_t(600), size_t(2000)}) {
-        one = start;
-        const size_t many = refuse_each([&] { one.update_many(values.data(), n); }, is_unchanged);
+        const size_t many = refuse_each(begin, [&] { one.update_many(values.data(), n); }, is_unchanged);
         CHECK(size == 5000 ? many == 0 : many >= 1);
     }
-    one = start;
-    refuse_each([&] { one.update_coupons(coupons.data(), coupons.size()); }, is_unchanged);
-    one = start;
-    CHECK(refuse_each([&] { one = filled(9, 8, 0, 5); }, is_unchanged) >= 1);
+    refuse_each(begin, [&] { one.update_coupons(coupons.data(), coupons.size()); }, is_unchanged);
+    CHECK(one.estimate() > 1900);
+    CHECK(refuse_each(begin, [&] { one = filled(9, 8, 0, 5); }, is_unchanged) >= 1);
+}
+
+// More values than one call adds, into a sketch that would grow several times meanwhile.
+static void test_batches()
+{
+    std::vector<int> values(5000);
+    for (int &value : values)
+        value = static_cast<int>(&value - values.data());
+    const sketch start = filled(14, 8, -3, 3);
+    sketch one;
+    const auto begin = [&] { one = start; };
+    CHECK(refuse_each(begin, [&] { one.update_many(values); }, [&] { return one == start; }) >= 1);
+    CHECK(one == filled(14, 8, -3, 5003));
 }
 
 static void test_reads(int size)
 {
     const sketch one = filled(12, 4, 0, size);
     const image_bytes before = one.serialize();
+    const auto begin = [] {};
     const auto is_unchanged = [&] { return one.serialize() == before; };
-    CHECK(refuse_each([&] { sketch copy = one; }, is_unchanged) == (size == 0 ? 0 : 1));
-    CHECK(refuse_each([&] { one.estimate(); }, is_unchanged) == 1);
-    CHECK(refuse_each([&] { one.serialize(); }, is_unchanged) >= 2);
-    CHECK(refuse_each([&] { one.to_string(); }, is_unchanged) >= 1);
-    refuse_each([&] { sketch::deserialize(before); }, is_unchanged);
+    CHECK(refuse_each(begin, [&] { sketch copy = one; }, is_unchanged) == (size == 0 ? 0 : 1));
+    CHECK(refuse_each(begin, [&] { one.estimate(); }, is_unchanged) == 1);
+    CHECK(refuse_each(begin, [&] { one.serialize(); }, is_unchanged) >= 2);
+    CHECK(refuse_each(begin, [&] { one.to_string(); }, is_unchanged) >= 1);
+    CHECK(refuse_each(begin, [&] { sketch::deserialize(before); }, is_unchanged) >= 1);
 }
 
 static void test_unions(int size)
@@ -142,17 +157,41 @@ static void test_unions(int size)
     for (int n : {3, 300, 5000}) {
         const sketch other = filled(12, 6, 1000000, n);
         const image_bytes image = other.serialize();
-        union_ all = start;
-        const auto is_unchanged = [&] { return all.result().serialize() == before; };
-        CHECK(refuse_each([&] { all.update(other); }, is_unchanged) >= 1);
-        all = start;
-        refuse_each([&] { all.update_image(image); }, is_unchanged);
-        CHECK(all.result().serialize() == plain_union(12, 8, {before, image}));
-        all = start;
-        sketch given = other;
-        refuse_each([&] { all.update(std::move(given)); }, [&] { return is_unchanged() && given == other; });
-        CHECK(all.result().serialize() == plain_union(12, 8, {before, image}));
+        const image_bytes wanted = plain_union(12, 8, {before, image});
+        union_ all;
+        sketch given;
+        const auto begin = [&] {
+            all = start;
+            given = other;
+        };
+        const auto is_unchanged = [&] { return all.result().serialize() == before && given == other; };
+        CHECK(refuse_each(begin, [&] { all.update(other); }, is_unchanged) >= 1 && all.result().serialize() == wanted);
+        refuse_each(begin, [&] { all.update_image(image); }, is_unchanged);
+        CHECK(all.result().serialize() == wanted);
+        refuse_each(begin, [&] { all.update(std::move(given)); }, is_unchanged);
+        CHECK(all.result().serialize() == wanted);
     }
+}
+
+// A few hundred values take a few kilobytes at every lg_k, also where they are added at once.
+static void test_room()
+{
+    std::vector<int> values(1000);
+    for (int &value : values)
+        value = static_cast<int>(&value - values.data());
+    for (unsigned lg_k : {16u, 21u}) {
+        sketch one(lg_k);
+        largest = 0;
+        one.update_many(values);
+        for (int value : values)
+            one.update(-value);
+        CHECK(largest >= 8000 && largest < 20000);
+    }
+    largest = 0;
+    sketch many[1000];
+    for (sketch &one : many)
+        one.update(1);
+    CHECK(largest == 76 && sizeof(sketch) <= 40);
 }
 
 // ---- const members
@@ -217,6 +256,8 @@ int main()
         test_reads(size);
         test_unions(size);
     }
+    test_batches();
+    test_room();
     test_const_members();
     test_threads();
     return counts();
