@@ -1,6 +1,6 @@
 // SPDX-License-Identifier: Apache-2.0
-// Times hll.hpp at lg_k 12 next to the same calls of hll.h in a loop in C, and next to one plain call over all the same values
-// or images: medians of the processor time of 31 turns, in nanoseconds a value or an image. From this folder:
+// Times hll.hpp at lg_k 12 next to the same calls of hll.h in a loop in C, and next to one plain call over all the same
+// values or images: medians of the processor time of 31 turns, in nanoseconds a value or an image. From this folder:
 //
 //     make -C ../c && g++ -std=c++11 -O2 -I../c -I. -o bench bench.cpp ../c/build/libhll.a && ./bench
 #include <hll.hpp>
@@ -43,8 +43,8 @@ static void row(const std::string &name, double per, Here here, Loop loop, Plain
         to_loop.push_back(times[0].back() / times[1].back());
         to_plain.push_back(times[0].back() / times[2].back());
     }
-    std::printf("| %s | %.1f | %.1f | %.2f | %.1f | %.2f |\n", name.c_str(), median(times[0]), median(times[1]), median(to_loop),
-                median(times[2]), median(to_plain));
+    std::printf("| %s | %.1f | %.1f | %.2f | %.1f | %.2f |\n", name.c_str(), median(times[0]), median(times[1]),
+                median(to_loop), median(times[2]), median(to_plain));
 }
 
 static void need(hll_status status)
@@ -153,7 +153,9 @@ static void time_registers(const values &some)
     const auto plain = [&] { state.add_all(some, n); };
     row("registers: `update`", double(n), [&] { for (uint64_t value : some.at) one.update(value); },
         [&] { for (uint64_t value : some.at) state.add(value); }, plain);
-    row("registers: `update_many`", double(n), [&] { one.update_many(some.at); }, [&] { state.add_coupons(some, n); }, plain);
+    row(
+        "registers: `update_many`", double(n), [&] { one.update_many(some.at); }, [&] { state.add_coupons(some, n); },
+        plain);
 }
 
 // Reads, next to reads of a state of which no copy is made.
@@ -173,8 +175,19 @@ static void time_reads(const char *name, size_t n)
         for (int i = 0; i < 100; i++)
             need(hll_state_image(state.at, state.room, 8, out.data(), out.size(), &size));
     };
-    row(std::string(name) + ": `estimate`", 100, [&] { for (int i = 0; i < 100; i++) sum += one.estimate(); }, estimate, estimate);
-    row(std::string(name) + ": `serialize`", 100, [&] { for (int i = 0; i < 100; i++) sum += double(one.serialize().size()); },
+    row(
+        std::string(name) + ": `estimate`", 100,
+        [&] {
+            for (int i = 0; i < 100; i++)
+                sum += one.estimate();
+        },
+        estimate, estimate);
+    row(
+        std::string(name) + ": `serialize`", 100,
+        [&] {
+            for (int i = 0; i < 100; i++)
+                sum += double(one.serialize().size());
+        },
         image, image);
     if (sum == 0)
         std::puts("none");
@@ -198,7 +211,9 @@ static void time_unions(size_t n, unsigned width)
     for (const auto &image : images)
         parts.push_back({image.data(), image.size()});
     const std::string name = "1,000 of " + std::to_string(n) + " values, " + std::to_string(width) + " bits: ";
-    const auto plain = [&] { need(hll_images_unionv(12, 8, parts.data(), parts.size(), out.data(), out.size(), &size, &failed)); };
+    const auto plain = [&] {
+        need(hll_images_unionv(12, 8, parts.data(), parts.size(), out.data(), out.size(), &size, &failed));
+    };
     const auto loop = [&](bool over_images) {
         c_state all;
         for (size_t i = 0; i < 1000; i++)
@@ -210,6 +225,13 @@ static void time_unions(size_t n, unsigned width)
             hll::union_ all(12);
             for (const auto &image : images)
                 all.update_image(image);
+            all.result().serialize();
+        },
+        [&] { loop(true); }, plain);
+    row(name + "`update_images`", 1000,
+        [&] {
+            hll::union_ all(12);
+            all.update_images(images);
             all.result().serialize();
         },
         [&] { loop(true); }, plain);

@@ -1,6 +1,6 @@
 // SPDX-License-Identifier: Apache-2.0
-// Counts the distinct lines of files, of each file and of all together. The sketch of a file is kept as NAME.hll, and is read
-// the next time in place of the file.
+// Counts the distinct lines of files, of each file and of all together. The sketch of a file is kept as NAME.hll, and
+// is read the next time in place of the file.
 //     c++ -o example example.cpp $(pkg-config --cflags --libs hll)
 //     ./example FILE..
 #include <hll.hpp>
@@ -46,8 +46,8 @@ static hll::sketch sketch_of(const std::string &name)
 
 static void print(const std::string &name, const hll_estimation &found)
 {
-    std::cout << std::fixed << std::setprecision(0) << std::setw(10) << found.estimate << "  (" << found.lower[1] << " to "
-              << found.upper[1] << ")  " << name << '\n';
+    std::cout << std::fixed << std::setprecision(0) << std::setw(10) << found.estimate << "  (" << found.lower[1]
+              << " to " << found.upper[1] << ")  " << name << '\n';
 }
 
 int main(int argc, char **argv)

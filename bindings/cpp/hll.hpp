@@ -11,8 +11,9 @@
 //     week.update_image(image.data(), image.size());
 //     std::cout << week.estimate() << " distinct values\n";
 //
-// Values. A sketch and a union own their memory: 76 bytes with up to nine values, four bytes for each further value, and one
-// byte for each register later. Copies are independent. A sketch that was moved from is empty, and can be used again.
+// Values. A sketch and a union own their memory: 76 bytes with up to nine values, four bytes for each further value,
+// and one byte for each register later. Copies are independent. A sketch that was moved from is empty, and can be used
+// again.
 //
 // Exceptions. After an exception the object is as it was before the call.
 //     hll::image_error         the bytes are not the image of a sketch; status() and reason() say why
@@ -20,11 +21,12 @@
 //     std::invalid_argument    an argument is out of its range
 //     std::bad_alloc           an allocation failed
 //
-// Threads. Const members can be called on one object by several threads at once, as on a container of the standard library;
-// other members need the object for themselves. The calls of hll.h that read a state may reorder its bytes, so each const
-// member reads a copy. Of registers the copy adds about a tenth to the time of an estimate. Coupons that were added since
-// the sketch was read are put in order in each copy: at 300 values an estimate takes 4 microseconds and not 1 (bench.cpp).
-// To put them in order at each update instead would cost more, as sketches are updated more often than they are read.
+// Threads. Const members can be called on one object by several threads at once, as on a container of the standard
+// library; other members need the object for themselves. The calls of hll.h that read a state may reorder its bytes, so
+// each const member reads a copy. Of registers the copy adds 10 to 20 % to the time of an estimate. Coupons that were
+// added since are put in order in each copy: at 300 values an estimate takes five times as long as one of coupons in
+// order, 4 microseconds and not 1 (bench.cpp). To put them in order at each update instead would cost more, as sketches
+// are updated more often than they are read.
 #ifndef HLL_HPP
 #define HLL_HPP
 
@@ -51,10 +53,11 @@ namespace hll {
 /// The bytes are not the image of a sketch.
 class image_error : public std::runtime_error {
   public:
-    image_error(hll_status status, size_t size)
-        : std::runtime_error("these " + std::to_string(size) + " bytes are not the image of a sketch: " + hll_message(status) +
-                             " (" + hll_reason(status) + ")"),
-          status_(status)
+    image_error(hll_status status, size_t size) : image_error(status, size, 0, "") {}
+
+    /// Of several images.
+    image_error(hll_status status, size_t size, size_t index)
+        : image_error(status, size, index, "image " + std::to_string(index) + ": ")
     {
     }
 
@@ -64,15 +67,27 @@ class image_error : public std::runtime_error {
     /// The word of the status: "truncated", "family" and so on.
     const char *reason() const noexcept { return hll_reason(status_); }
 
+    /// Which of several images it is, from 0.
+    size_t index() const noexcept { return index_; }
+
   private:
+    image_error(hll_status status, size_t size, size_t index, const std::string &which)
+        : std::runtime_error(which + "these " + std::to_string(size) + " bytes are not the image of a sketch: " +
+                             hll_message(status) + " (" + hll_reason(status) + ")"),
+          status_(status), index_(index)
+    {
+    }
+
     hll_status status_;
+    size_t index_;
 };
 
 /// A union without a bound got a sketch of another lg_k.
 class lg_k_error : public std::runtime_error {
   public:
     lg_k_error(unsigned lg_k, unsigned other)
-        : std::runtime_error("the union has lg_k " + std::to_string(lg_k) + " and the sketch lg_k " + std::to_string(other) +
+        : std::runtime_error("the union has lg_k " + std::to_string(lg_k) + " and the sketch lg_k " +
+                             std::to_string(other) +
                              ": to merge both at the smaller lg_k, give the union a bound, as in hll::union_(" +
                              std::to_string(lg_k) + ")"),
           lg_k_(lg_k), other_(other)
@@ -89,8 +104,9 @@ class lg_k_error : public std::runtime_error {
     unsigned lg_k_, other_;
 };
 
-/// Returns whether an untrusted image is quick to read: it has at most `most` bytes and an lg_k of at most `lg_k`. No other
-/// byte is looked at. The defaults accept every ordinary image of lg_k 12 (docs/OPERATING.md, "Images from others").
+/// Returns whether an untrusted image is quick to read: it has at most `most` bytes and an lg_k of at most `lg_k`. No
+/// other byte is looked at. The defaults accept every ordinary image of lg_k 12 (docs/OPERATING.md, "Images from
+/// others").
 inline bool is_small(const void *image, size_t size, unsigned lg_k = 12, size_t most = 8192)
 {
     return hll_is_small(static_cast<const uint8_t *>(image), size, lg_k, most) != 0;
@@ -123,6 +139,12 @@ inline const uint8_t *checked_bytes(const void *bytes, size_t size)
     return static_cast<const uint8_t *>(bytes);
 }
 
+/// Whether an image is refused.
+inline bool is_refusal(hll_status status)
+{
+    return status >= HLL_TRUNCATED && status <= HLL_REGISTER;
+}
+
 /// Throws what a status of a call on a state stands for.
 inline void check(hll_status status)
 {
@@ -132,8 +154,8 @@ inline void check(hll_status status)
         throw std::logic_error(std::string("the memory of a sketch is damaged: ") + hll_message(status));
 }
 
-/// Owns the bytes of a state (hll.h, "states"). No bytes stand for an empty sketch: a new one and one that was moved from
-/// own no memory.
+/// Owns the bytes of a state (hll.h, "states"). No bytes stand for an empty sketch: a new one and one that was moved
+/// from own no memory.
 class state {
   public:
     explicit state(unsigned lg_k) : lg_k_(static_cast<uint8_t>(checked_lg_k(lg_k))) {}
@@ -213,7 +235,8 @@ class state {
         state copy = scratch();
         std::vector<uint8_t> out(copy.bytes_.size()); // enough, but where registers of four bits have many exceptions
         size_t size = 0;
-        hll_status status = hll_state_image(copy.bytes_.data(), copy.bytes_.size(), width, out.data(), out.size(), &size);
+        hll_status status =
+            hll_state_image(copy.bytes_.data(), copy.bytes_.size(), width, out.data(), out.size(), &size);
         if (status == HLL_BUFFER) {
             out.resize(size);
             status = hll_state_image(copy.bytes_.data(), copy.bytes_.size(), width, out.data(), out.size(), &size);
@@ -251,7 +274,8 @@ class state {
 };
 
 /// The number whose eight bytes are hashed for an integer: its own, widened to 64 bits.
-template <class Integer> typename std::enable_if<std::is_integral<Integer>::value, uint64_t>::type hashed_as(Integer value)
+template <class Integer>
+typename std::enable_if<std::is_integral<Integer>::value, uint64_t>::type hashed_as(Integer value)
 {
     static_assert(sizeof value <= 8, "integers have at most 64 bits");
     return static_cast<uint64_t>(value);
@@ -294,7 +318,8 @@ template <class Value> constexpr bool is_hashed_in_place()
 
 /// Puts the coupons of at most a batch of numbers.
 template <class Number>
-typename std::enable_if<std::is_arithmetic<Number>::value>::type hash_batch(const Number *values, size_t n, uint32_t *coupons)
+typename std::enable_if<std::is_arithmetic<Number>::value>::type hash_batch(const Number *values, size_t n,
+                                                                            uint32_t *coupons)
 {
     if (is_hashed_in_place<Number>())
         return check(hll_coupons_fixed(reinterpret_cast<const uint8_t *>(values), 8 * n, 8, coupons, n));
@@ -306,7 +331,8 @@ typename std::enable_if<std::is_arithmetic<Number>::value>::type hash_batch(cons
 
 /// Puts the coupons of at most a batch of strings, or of other containers of bytes.
 template <class Text>
-typename std::enable_if<!std::is_arithmetic<Text>::value>::type hash_batch(const Text *values, size_t n, uint32_t *coupons)
+typename std::enable_if<!std::is_arithmetic<Text>::value>::type hash_batch(const Text *values, size_t n,
+                                                                           uint32_t *coupons)
 {
     static_assert(sizeof *values->data() == 1, "values are numbers, strings, or containers of bytes");
     for (size_t i = 0; i < n; i++)
@@ -322,8 +348,8 @@ template <class Value> void hash_all(const Value *values, size_t n, uint32_t *co
 /// What sketches and unions have in common.
 class counter {
   public:
-    /// Adds an integer: its eight bytes after it was widened to 64 bits. `true` is 1. Or a float or double: the eight bytes
-    /// of the double. (docs/FORMAT.md, "What values are hashed as")
+    /// Adds an integer: its eight bytes after it was widened to 64 bits. `true` is 1. Or a float or double: the eight
+    /// bytes of the double. (docs/FORMAT.md, "What values are hashed as")
     template <class Number> typename std::enable_if<std::is_arithmetic<Number>::value>::type update(Number value)
     {
         uint8_t bytes[8];
@@ -352,7 +378,8 @@ class counter {
         }));
     }
 
-    /// Adds n values, all or none: numbers, strings, or containers of bytes. This takes about half as long as adding one by one.
+    /// Adds n values, all or none: numbers, strings, or containers of bytes. This takes about half as long as adding
+    /// one by one.
     template <class Value> void update_many(const Value *values, size_t n)
     {
         checked_bytes(values, n);
@@ -376,7 +403,8 @@ class counter {
     void update_coupons(const uint32_t *coupons, size_t n)
     {
         checked_bytes(coupons, n);
-        const uint32_t *found = std::find_if(coupons, coupons + n, [](uint32_t one) { return HLL_COUPON_VALUE(one) == 0; });
+        const uint32_t *found =
+            std::find_if(coupons, coupons + n, [](uint32_t one) { return HLL_COUPON_VALUE(one) == 0; });
         if (found != coupons + n)
             throw std::invalid_argument("coupon " + std::to_string(found - coupons) + " is " + std::to_string(*found) +
                                         ", whose value is 0; the value of a coupon is 1 to 63");
@@ -422,33 +450,35 @@ class counter {
     static size_t index_of(unsigned deviations)
     {
         if (deviations < 1 || deviations > 3)
-            throw std::invalid_argument("bounds are at 1, 2 or 3 standard deviations, not " + std::to_string(deviations));
+            throw std::invalid_argument("bounds are at 1, 2 or 3 standard deviations, not " +
+                                        std::to_string(deviations));
         return deviations - 1;
     }
 };
 
 } // namespace detail
 
-/// Counts distinct values. In datasketches-cpp this is hll_sketch, with the names get_estimate and get_composite_estimate for
-/// estimate, get_lower_bound, get_upper_bound, get_lg_config_k (lg_config_k) for lg_k, get_target_type for width, and
-/// serialize_compact and serialize_updatable for serialize.
+/// Counts distinct values. In datasketches-cpp this is hll_sketch, with the names get_estimate and
+/// get_composite_estimate for estimate, get_lower_bound, get_upper_bound, get_lg_config_k (lg_config_k) for lg_k,
+/// get_target_type for width, and serialize_compact and serialize_updatable for serialize.
 class sketch : public detail::counter {
   public:
-    /// An empty sketch of 2^lg_k registers, lg_k 4 to 21. The width is the bits of a register in an image: 4, 6 or 8. It
-    /// changes the size of images, and nothing else.
+    /// An empty sketch of 2^lg_k registers, lg_k 4 to 21. The width is the bits of a register in an image: 4, 6 or 8.
+    /// It changes the size of images, and nothing else.
     explicit sketch(unsigned lg_k = detail::default_lg_k, unsigned width = 8)
         : counter(detail::state(lg_k)), width_(static_cast<uint8_t>(detail::checked_width(width)))
     {
     }
 
-    /// Reads an image, which is checked whole. Bytes after the image are not read. Of untrusted bytes ask is_small first.
+    /// Reads an image, which is checked whole. Bytes after the image are not read. Of untrusted bytes ask is_small
+    /// first.
     static sketch deserialize(const void *image, size_t size)
     {
         const uint8_t *bytes = detail::checked_bytes(image, size);
         const unsigned lg_k = hll_image_lg_k(bytes, size), width = hll_image_width(bytes, size);
         sketch made(lg_k ? lg_k : detail::default_lg_k, width ? width : 8); // where the header is wrong, join says why
         const hll_status status = made.state_.join(made.lg_k(), bytes, size);
-        if (status >= HLL_TRUNCATED && status <= HLL_REGISTER)
+        if (detail::is_refusal(status))
             throw image_error(status, size);
         detail::check(status);
         return made;
@@ -472,8 +502,9 @@ class sketch : public detail::counter {
         const hll_estimation found = estimation();
         std::ostringstream text;
         text.precision(15);
-        text << "sketch of lg_k " << lg_k() << ", " << width() << " bits a register: about " << std::round(found.estimate)
-             << " distinct values, with 95% certainty " << std::floor(found.lower[1]) << " to " << std::ceil(found.upper[1]);
+        text << "sketch of lg_k " << lg_k() << ", " << width() << " bits a register: about "
+             << std::round(found.estimate) << " distinct values, with 95% certainty " << std::floor(found.lower[1])
+             << " to " << std::ceil(found.upper[1]);
         return text.str();
     }
 
@@ -509,11 +540,12 @@ inline std::ostream &operator<<(std::ostream &out, const sketch &given)
 /// Merges sketches, images and values. In datasketches-cpp this is hll_union, and get_result is result here.
 class union_ : public detail::counter {
   public:
-    /// Merges sketches of every lg_k. The union has the smallest lg_k of lg_max_k, 4 to 21, and of the sketches with registers.
+    /// Merges sketches of every lg_k. The union has the smallest lg_k of lg_max_k, 4 to 21, and of the sketches with
+    /// registers.
     explicit union_(unsigned lg_max_k) : counter(detail::state(lg_max_k)), lg_max_k_(static_cast<uint8_t>(lg_max_k)) {}
 
-    /// Without a bound: merges sketches of one lg_k, that of the first which is not empty, and throws lg_k_error at another.
-    /// Values that are added before have an lg_k of 12.
+    /// Without a bound: merges sketches of one lg_k, that of the first which is not empty, and throws lg_k_error at
+    /// another. Values that are added before have an lg_k of 12.
     union_() : counter(detail::state(detail::default_lg_k)), lg_max_k_(0) {}
 
     using counter::update;
@@ -522,18 +554,44 @@ class union_ : public detail::counter {
     void update(const sketch &other)
     {
         detail::state copy = other.state_.scratch();
-        joined(state_.join_reordered(lg_max_k_, copy), other.lg_k(), 0);
+        joined(state_.join_reordered(lg_max_k_, copy), other.lg_k());
     }
-    void update(sketch &&other) { joined(state_.join_reordered(lg_max_k_, other.state_), other.lg_k(), 0); }
+    void update(sketch &&other) { joined(state_.join_reordered(lg_max_k_, other.state_), other.lg_k()); }
 
-    /// Merges an image where it is, without making a sketch of it. Bytes after the image are not read. Of untrusted bytes ask
-    /// is_small first.
+    /// Merges an image where it is, without making a sketch of it. Bytes after the image are not read. Of untrusted
+    /// bytes ask is_small first.
     void update_image(const void *image, size_t size)
     {
         const uint8_t *bytes = detail::checked_bytes(image, size);
         joined(state_.join(lg_max_k_, bytes, size), hll_image_lg_k(bytes, size), size);
     }
     void update_image(const std::vector<uint8_t> &image) { update_image(image.data(), image.size()); }
+
+    /// Merges n images, all or none, in less time than one by one. An image_error has the index of the first that is
+    /// refused.
+    void update_images(const hll_bytes *images, size_t n)
+    {
+        detail::checked_bytes(images, n);
+        for (size_t i = 0; i < n; i++)
+            detail::checked_bytes(images[i].bytes, images[i].len);
+        if (lg_max_k_ == 0)
+            return update_in_turn(images, n);
+        std::vector<uint8_t> merged(HLL_IMAGE_ROOM(lg_max_k_, 8));
+        size_t size = 0, failed = 0;
+        const hll_status status =
+            hll_images_unionv(lg_max_k_, 8, images, n, merged.data(), merged.size(), &size, &failed);
+        if (detail::is_refusal(status))
+            throw image_error(status, images[failed].len, failed);
+        detail::check(status);
+        update_image(merged.data(), size);
+    }
+    void update_images(const std::vector<std::vector<uint8_t>> &images)
+    {
+        std::vector<hll_bytes> parts;
+        for (const std::vector<uint8_t> &image : images)
+            parts.push_back({image.data(), image.size()});
+        update_images(parts.data(), parts.size());
+    }
 
     /// The union as a sketch.
     sketch result(unsigned width = 8) const { return sketch(state_, width); }
@@ -548,9 +606,22 @@ class union_ : public detail::counter {
     }
 
   private:
-    void joined(hll_status status, unsigned other_lg_k, size_t size) const
+    /// Merges images one by one, of one lg_k.
+    void update_in_turn(const hll_bytes *images, size_t n)
     {
-        if (status >= HLL_TRUNCATED && status <= HLL_REGISTER)
+        union_ copy(*this);
+        for (size_t i = 0; i < n; i++) {
+            const hll_status status = copy.state_.join(0, images[i].bytes, images[i].len);
+            if (detail::is_refusal(status))
+                throw image_error(status, images[i].len, i);
+            copy.joined(status, hll_image_lg_k(images[i].bytes, images[i].len));
+        }
+        swap(copy);
+    }
+
+    void joined(hll_status status, unsigned other_lg_k, size_t size = 0) const
+    {
+        if (detail::is_refusal(status))
             throw image_error(status, size);
         if (status == HLL_OTHER_LG_K)
             throw lg_k_error(lg_k(), other_lg_k);

@@ -1,6 +1,6 @@
 // SPDX-License-Identifier: Apache-2.0
-// Each allocation fails in turn, and the objects are as they were; const members write to nothing that they read; and several
-// threads read one object. Link it with -Wl,--wrap=malloc,--wrap=realloc -pthread.
+// Each allocation fails in turn, and the objects are as they were; const members write to nothing that they read; and
+// several threads read one object. Link it with -Wl,--wrap=malloc,--wrap=realloc -pthread.
 #include "test.hpp"
 
 #include <sys/mman.h>
@@ -67,7 +67,8 @@ void operator delete(void *memory, size_t) noexcept
 }
 
 // Begins and makes a call with each of its allocations refused in turn, until none is. Returns how many there are.
-template <class Begin, class Call, class Unchanged> static size_t refuse_each(Begin begin, Call call, Unchanged is_unchanged)
+template <class Begin, class Call, class Unchanged>
+static size_t refuse_each(Begin begin, Call call, Unchanged is_unchanged)
 {
     for (size_t at = 1;; at++) {
         begin();
@@ -168,6 +169,8 @@ static void test_unions(int size)
         CHECK(refuse_each(begin, [&] { all.update(other); }, is_unchanged) >= 1 && all.result().serialize() == wanted);
         refuse_each(begin, [&] { all.update_image(image); }, is_unchanged);
         CHECK(all.result().serialize() == wanted);
+        CHECK(refuse_each(begin, [&] { all.update_images({image, image}); }, is_unchanged) >= 1);
+        CHECK(all.result().serialize() == wanted);
         refuse_each(begin, [&] { all.update(std::move(given)); }, is_unchanged);
         CHECK(all.result().serialize() == wanted);
     }
@@ -226,7 +229,8 @@ static void test_const_members()
         union_ all(12);
         all.update(given);
         read_where_nothing_can_be_written(all, [&](const union_ &one) {
-            CHECK(one.result(6) == given && one.estimate() == given.estimate() && one.lg_max_k() == 12 && !one.is_empty());
+            CHECK(one.result(6) == given && one.estimate() == given.estimate() && one.lg_max_k() == 12 &&
+                  !one.is_empty());
         });
     }
 }

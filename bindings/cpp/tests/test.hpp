@@ -67,18 +67,20 @@ static inline image_bytes plain_new(unsigned lg_k, unsigned width)
     });
 }
 
-static inline image_bytes plain_add(const image_bytes &image, const std::string &values, const std::vector<size_t> &ends)
+static inline image_bytes plain_add(const image_bytes &image, const std::string &values,
+                                    const std::vector<size_t> &ends)
 {
     return plain(HLL_IMAGE_MAX(image[3]), "hll_image_add", [&](uint8_t *out, size_t room, size_t *size) {
-        return hll_image_add(image.data(), image.size(), reinterpret_cast<const uint8_t *>(values.data()), values.size(),
-                             ends.data(), ends.size(), out, room, size);
+        return hll_image_add(image.data(), image.size(), reinterpret_cast<const uint8_t *>(values.data()),
+                             values.size(), ends.data(), ends.size(), out, room, size);
     });
 }
 
 static inline image_bytes plain_add_coupon(const image_bytes &image, uint32_t coupon)
 {
     return plain(HLL_IMAGE_MAX(image[3]), "hll_image_add_coupon", [&](uint8_t *out, size_t room, size_t *size) {
-        return hll_image_add_coupon(image.data(), image.size(), HLL_COUPON_SLOT(coupon), HLL_COUPON_VALUE(coupon), out, room, size);
+        return hll_image_add_coupon(image.data(), image.size(), HLL_COUPON_SLOT(coupon), HLL_COUPON_VALUE(coupon), out,
+                                    room, size);
     });
 }
 

@@ -34,7 +34,8 @@ static void test_integers()
     CHECK(coupon_of(uint8_t(255)) == coupon_of_number(255) && coupon_of(uint16_t(65535)) == coupon_of_number(65535));
     CHECK(coupon_of(uint32_t(0xffffffff)) == coupon_of_number(0xffffffff));
     CHECK(coupon_of(std::numeric_limits<int64_t>::min()) == coupon_of_number(UINT64_C(1) << 63));
-    CHECK(coupon_of(true) == coupon_of_number(1) && coupon_of(false) == coupon_of_number(0) && coupon_of('a') == coupon_of_number(97));
+    CHECK(coupon_of(true) == coupon_of_number(1) && coupon_of(false) == coupon_of_number(0) &&
+          coupon_of('a') == coupon_of_number(97));
 }
 
 static void test_reals()
@@ -47,13 +48,15 @@ static void test_reals()
     const uint64_t one_nan = UINT64_C(0x7ff8000000000000), odd_nan = UINT64_C(0xfff0000000000001);
     double odd;
     std::memcpy(&odd, &odd_nan, sizeof odd);
-    CHECK(coupon_of(std::numeric_limits<double>::quiet_NaN()) == coupon_of_number(one_nan) && coupon_of(odd) == coupon_of_number(one_nan));
+    CHECK(coupon_of(std::numeric_limits<double>::quiet_NaN()) == coupon_of_number(one_nan) &&
+          coupon_of(odd) == coupon_of_number(one_nan));
     CHECK(coupon_of(-std::numeric_limits<float>::quiet_NaN()) == coupon_of_number(one_nan));
 }
 
 static void test_texts()
 {
-    CHECK(coupon_of(std::string("ann")) == 0x046011f8 && coupon_of("ann") == 0x046011f8); // docs/FORMAT.md has this number
+    CHECK(coupon_of(std::string("ann")) == 0x046011f8 &&
+          coupon_of("ann") == 0x046011f8); // docs/FORMAT.md has this number
     CHECK(coupon_of(std::string()) == hll_coupon(nullptr, 0) && coupon_of("") == coupon_of(std::string()));
     CHECK(coupon_of(std::string("a\0b", 3)) == hll_coupon(reinterpret_cast<const uint8_t *>("a\0b"), 3));
 #if __cplusplus >= 201703L
@@ -121,9 +124,14 @@ static void test_arguments()
     CHECK(throws<std::invalid_argument>([&] { one.update_coupons(nullptr, 3); }, "null pointer"));
     CHECK(throws<std::invalid_argument>([&] { one.update(static_cast<const char *>(nullptr)); }, "null pointer"));
     CHECK(throws<std::invalid_argument>([&] { one.update(nullptr, 7); }, "size of 7"));
-    CHECK(throws<std::invalid_argument>([&] { one.update_many(static_cast<const int *>(nullptr), 7); }, "null pointer"));
+    CHECK(
+        throws<std::invalid_argument>([&] { one.update_many(static_cast<const int *>(nullptr), 7); }, "null pointer"));
     CHECK(throws<std::invalid_argument>([&] { sketch::deserialize(nullptr, 7); }, "null pointer"));
     CHECK(throws<std::invalid_argument>([&] { union_(12).update_image(nullptr, 7); }, "null pointer"));
+    CHECK(throws<std::invalid_argument>([&] { union_(12).update_images(nullptr, 7); }, "null pointer"));
+    const hll_bytes none = {nullptr, 7};
+    CHECK(throws<std::invalid_argument>([&] { union_(12).update_images(&none, 1); }, "size of 7"));
+    CHECK(throws<std::invalid_argument>([&] { union_().update_images(&none, 1); }, "size of 7"));
     CHECK(one == before);
     one.update_coupons(coupons, 2);
     one.update_coupons(nullptr, 0);
@@ -167,7 +175,8 @@ static void test_equality()
     std::ostringstream text;
     text << b;
     CHECK(text.str() == b.to_string());
-    CHECK(b.to_string() == "sketch of lg_k 12, 8 bits a register: about 100 distinct values, with 95% certainty 100 to 101");
+    CHECK(b.to_string() ==
+          "sketch of lg_k 12, 8 bits a register: about 100 distinct values, with 95% certainty 100 to 101");
 }
 
 static void test_moved_from()

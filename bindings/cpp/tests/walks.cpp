@@ -149,6 +149,27 @@ static void update_in_some_way(union_ &all, const pair &p)
     }
 }
 
+// All images at once, and refused ones among them.
+static void update_at_once(union_ all, const std::vector<image_bytes> &images, const sketch &wanted)
+{
+    const sketch before = all.result();
+    std::vector<image_bytes> bad(images);
+    const size_t at = below(static_cast<unsigned>(images.size()));
+    bad[at].resize(7);
+    try {
+        all.update_images(bad);
+        CHECK(false);
+    } catch (const hll::image_error &error) {
+        CHECK(error.index() == at && error.status() == HLL_TRUNCATED);
+        CHECK(std::string(error.what()).find("image " + std::to_string(at) + ": these 7 bytes") == 0);
+    }
+    CHECK(all.result() == before);
+    all.update_images(images);
+    CHECK(all.result() == wanted);
+    all.update_images(nullptr, 0);
+    CHECK(all.result() == wanted);
+}
+
 static pair some_sketch(unsigned lg_k)
 {
     pair made(lg_k, some_width());
@@ -184,6 +205,8 @@ static void walk_union(unsigned lg_max_k)
         CHECK(result.serialize() == wanted && result.width() == width && all.lg_k() == wanted[3]);
         CHECK(same_estimation(all.estimation(), plain_estimation(wanted)) && all.lg_max_k() == lg_max_k);
     }
+    update_at_once(lg_max_k ? union_(lg_max_k) : union_(), images, all.result());
+    update_at_once(all, images, all.result());
     const union_ copy = all;
     all.reset();
     CHECK(all.is_empty() && all.lg_k() == (lg_max_k ? lg_max_k : 12));
@@ -205,9 +228,11 @@ static void test_other_lg_k()
         CHECK(false);
     } catch (const hll::lg_k_error &error) {
         CHECK(error.lg_k() == 14 && error.other_lg_k() == 10);
-        CHECK(std::string(error.what()) == "the union has lg_k 14 and the sketch lg_k 10: to merge both at the smaller lg_k, give "
-                                           "the union a bound, as in hll::union_(14)");
+        CHECK(std::string(error.what()) ==
+              "the union has lg_k 14 and the sketch lg_k 10: to merge both at the smaller lg_k, give "
+              "the union a bound, as in hll::union_(14)");
     }
+    CHECK(throws<hll::lg_k_error>([&] { all.update_images({before, image}); }, "lg_k 10"));
     CHECK(throws<hll::lg_k_error>([&] { all.update(coarse); }, "lg_k 10"));
     CHECK(throws<hll::lg_k_error>([&] { all.update(sketch(coarse)); }, "lg_k 14"));
     all.update(sketch(8));
