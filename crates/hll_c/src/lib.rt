@@ -2,13 +2,14 @@
 //! The library for C: calls over images, and over registers of the caller, which keep nothing. bindings/c/hll.h says what
 //! each call owes its caller, and docs/MODEL.md, "Calls over images", what the contracts say.
 //!
-//! Each answers 0, the number of a reason (docs/FORMAT.md, "Reasons"), 14 where a buffer is too small, or 15 where what is
-//! joined has fewer registers than the caller; then `size` is the size needed, and `coarser` the other `lg_k`. On every code
-//! but 0 what was borrowed is as it was, but for these two and for `failed`, which is the number of the image that failed a
-//! check, from 0. An `lg_k` is 4 to 21, a width 4, 6 or 8 bits. Arguments out of range are
-//! `Argument`, before any image is read. Registers that are written get the fields of an estimator where their state is
-//! cleared; another state, as an image may bring it, stays. Memory is taken by `malloc` while a call runs, for the sketches of its images and
-//! for the answer; where it is refused the reason is `Memory`.
+//! Each returns 0, the number of a reason (docs/FORMAT.md, "Reasons"), 14 if a buffer is too small, 15 if what is merged has
+//! fewer registers than the caller, or 16 if sketches to be joined have different `lg_k` and no bound was given. With 14 `size`
+//! is the size needed, and with 15 `coarser` is the other `lg_k`. On every code but 0 what was borrowed is otherwise as it was,
+//! but for `failed`, the number of the image that failed a check, from 0; of a state the meaning is as it was, and its bytes may
+//! change. An `lg_k` is 4 to 21, a width 4, 6 or 8 bits. Arguments out of range are `Argument`, before any image is read.
+//! Registers that are written get the fields of an estimator where their state is cleared; another state, as an image may bring
+//! it, stays. Memory is taken by `malloc` while a call runs, for the sketches of its images and for the answer; if it is refused,
+//! the reason is `Memory`.
 #![tactic(auto)]
 
 ghost use Rattle.std.specs.Prelude.{◌≡◌, ◌∷◌, [], ℕ, length, map};
