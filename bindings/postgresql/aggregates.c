@@ -2,9 +2,15 @@
 /*
  * The aggregates: the step of a union, and what all of them share. values.c has the steps of values.
  */
-#include "state.h"
+#include "group.h"
 
-/* The context in which states live as long as their group. */
+#include "miscadmin.h"
+#include "nodes/memnodes.h"
+#include "utils/memutils.h"
+
+/* ---- memory */
+
+/* The context in which groups live that an aggregate keeps. */
 static MemoryContext
 aggregate_context(FunctionCallInfo fcinfo)
 {
@@ -14,6 +20,32 @@ aggregate_context(FunctionCallInfo fcinfo)
 		elog(ERROR, "called outside an aggregate");
 	return context;
 }
+
+/* The name of the contexts of states, which tells them from others by its address. */
+static const char states_name[] = "HLL states";
+
+/* So many contexts are looked at: those of other aggregates may be many, and newer. */
+#define MOST_LOOKS 8
+
+/*
+ * A context below that of an aggregate, in which a large chunk takes its own bytes. In the aggregate's one the registers of
+ * lg_k 12 and the header of their state would take 8 kilobytes, as chunks there are powers of two.
+ */
+static MemoryContext
+context_of_states(MemoryContext parent)
+{
+	MemoryContext child = parent->firstchild;
+
+	for (int n = 0; child != NULL && n < MOST_LOOKS; n++)
+	{
+		if (child->name == states_name)
+			return child;
+		child = child->nextchild;
+	}
+	return AllocSetContextCreateInternal(parent, states_name, ALLOCSET_SMALL_SIZES);
+}
+
+/* ---- rows */
 
 /* An argument of the aggregate that is the same for all rows, or the one that stands for it. */
 static int32
@@ -29,29 +61,31 @@ option(FunctionCallInfo fcinfo, int number, const char *name, int32 otherwise)
 }
 
 static void
-check_same(const State *state, int32 lg_k, int32 width)
+check_same(const Group *group, int32 lg_k, int32 width)
 {
-	if (state->lg_k != lg_k || state->width != width)
+	if (group->lg_k != lg_k || group->width != width)
 		ereport(ERROR,
 				(errcode(ERRCODE_INVALID_PARAMETER_VALUE),
 				 errmsg("the size and the width of a sketch must be the same for all rows of a group")));
 }
 
-/* The state for the next row: arguments are the state, what the row brings, lg_k and width. */
-State *
+/* The group for the next row: arguments are the group, what the row brings, lg_k and width. */
+Group *
 next_row(FunctionCallInfo fcinfo, const char *lg_k_name)
 {
 	int32		lg_k = option(fcinfo, 2, lg_k_name, 12);
 	int32		width = option(fcinfo, 3, "width", 8);
-	State	   *state;
+	Group	   *group;
 
+	/* The server looks for interrupts as it reads rows, but not where it hands over rows that it sorted. */
+	CHECK_FOR_INTERRUPTS();
 	if (PG_ARGISNULL(0))
-		state = new_state(aggregate_context(fcinfo), checked_lg_k(lg_k_name, lg_k), checked_width(width));
+		group = new_group(context_of_states(aggregate_context(fcinfo)), checked_lg_k(lg_k_name, lg_k), checked_width(width));
 	else
-		state = (State *) PG_GETARG_POINTER(0);
-	check_same(state, lg_k, width);
-	state->rows++;
-	return state;
+		group = (Group *) PG_GETARG_POINTER(0);
+	check_same(group, lg_k, width);
+	group->rows++;
+	return group;
 }
 
 PG_FUNCTION_INFO_V1(hll_pg_union_trans);
@@ -59,66 +93,83 @@ PG_FUNCTION_INFO_V1(hll_pg_union_trans);
 Datum
 hll_pg_union_trans(PG_FUNCTION_ARGS)
 {
-	State	   *state = next_row(fcinfo, "lg_max_k");
+	Group	   *group = next_row(fcinfo, "lg_max_k");
 
 	if (!PG_ARGISNULL(1))
 	{
 		bytea	   *image = PG_GETARG_BYTEA_PP(1);
 
-		take_image(state, IMAGE(image), state->rows);
+		check_row_status(join_image(state_of(group), group->lg_k, IMAGE(image)), group->rows);
 	}
-	PG_RETURN_POINTER(state);
+	PG_RETURN_POINTER(group);
 }
+
+/* ---- workers */
 
 PG_FUNCTION_INFO_V1(hll_pg_combine);
 
-/* Takes the second state's image into the first. */
+/* Joins the second group to the first. */
 Datum
 hll_pg_combine(PG_FUNCTION_ARGS)
 {
 	MemoryContext context = aggregate_context(fcinfo);
-	State	   *state = PG_ARGISNULL(0) ? NULL : (State *) PG_GETARG_POINTER(0);
-	State	   *other = PG_ARGISNULL(1) ? NULL : (State *) PG_GETARG_POINTER(1);
-	bytea	   *image;
+	Group	   *group = PG_ARGISNULL(0) ? NULL : (Group *) PG_GETARG_POINTER(0);
+	Group	   *other = PG_ARGISNULL(1) ? NULL : (Group *) PG_GETARG_POINTER(1);
 
 	if (other == NULL)
 	{
-		if (state == NULL)
+		if (group == NULL)
 			PG_RETURN_NULL();
-		PG_RETURN_POINTER(state);
+		PG_RETURN_POINTER(group);
 	}
-	if (state == NULL)
-		state = new_state(context, other->lg_k, other->width);
-	check_same(state, other->lg_k, other->width);
-	image = image_of(other);
-	if (image != NULL)
-		take_image(state, IMAGE(image), 0);
-	PG_RETURN_POINTER(state);
+	CHECK_FOR_INTERRUPTS();
+	if (group == NULL)
+		group = new_group(context_of_states(context), other->lg_k, other->width);
+	check_same(group, other->lg_k, other->width);
+	if (has_state(other))
+		join_state(state_of(group), group->lg_k, state_of(other));
+	PG_RETURN_POINTER(group);
+}
+
+/* What a worker sends: a header, and the sketch, if there is one. Both ends are of one server. */
+typedef struct Sent
+{
+	uint8		lg_k;
+	uint8		width;
+	uint8		is_state;		/* whether the sketch is a state, else it is an image of eight bits */
+} Sent;
+
+static Datum
+bytes_to_send(const Group *group, bool is_state, const uint8 *sketch, size_t size)
+{
+	Sent		sent = {group->lg_k, group->width, is_state};
+	bytea	   *bytes = palloc(VARHDRSZ + sizeof(Sent) + size);
+
+	SET_VARSIZE(bytes, VARHDRSZ + sizeof(Sent) + size);
+	memcpy(VARDATA(bytes), &sent, sizeof(Sent));
+	if (size > 0)
+		memcpy(VARDATA(bytes) + sizeof(Sent), sketch, size);
+	return PointerGetDatum(bytes);
 }
 
 PG_FUNCTION_INFO_V1(hll_pg_serial);
 
-/* lg_k, width, and the image, if there is one. */
+/* Sends coupons as an image, which is smaller than their state; and registers as their state, which is as small. */
 Datum
 hll_pg_serial(PG_FUNCTION_ARGS)
 {
-	State	   *state = (State *) PG_GETARG_POINTER(0);
+	Group	   *group = (Group *) PG_GETARG_POINTER(0);
+	State	   *state;
 	bytea	   *image;
-	bytea	   *bytes;
-	size_t		size;
-	uint8	   *at;
 
 	(void) aggregate_context(fcinfo);
-	image = image_of(state);
-	size = image == NULL ? 0 : LENGTH(image);
-	bytes = palloc(VARHDRSZ + 2 + size);
-	SET_VARSIZE(bytes, VARHDRSZ + 2 + size);
-	at = (uint8 *) VARDATA(bytes);
-	at[0] = state->lg_k;
-	at[1] = state->width;
-	if (size > 0)
-		memcpy(at + 2, BYTES(image), size);
-	PG_RETURN_BYTEA_P(bytes);
+	if (!has_state(group))
+		return bytes_to_send(group, false, NULL, 0);
+	state = state_of(group);
+	if (hll_state_stage(state->bytes) == HLL_REGISTERS)
+		return bytes_to_send(group, true, state->bytes, hll_state_size(state->bytes));
+	image = image_of_state(state, 8);
+	return bytes_to_send(group, false, IMAGE(image));
 }
 
 PG_FUNCTION_INFO_V1(hll_pg_deserial);
@@ -127,36 +178,39 @@ Datum
 hll_pg_deserial(PG_FUNCTION_ARGS)
 {
 	bytea	   *bytes = PG_GETARG_BYTEA_PP(0);
-	const uint8 *at = BYTES(bytes);
-	State	   *state;
+	const uint8 *sketch = BYTES(bytes) + sizeof(Sent);
+	size_t		size = LENGTH(bytes) - sizeof(Sent);
+	Sent		sent = {0};
+	Group	   *group;
 
 	(void) aggregate_context(fcinfo);
-	if (LENGTH(bytes) < 2)
+	if (LENGTH(bytes) >= sizeof(Sent))
+		memcpy(&sent, BYTES(bytes), sizeof(Sent));
+	if (LENGTH(bytes) < sizeof(Sent) || (sent.is_state && size < HLL_STATE_NEW))
 		elog(ERROR, "the bytes are no state of an HLL aggregate");
-	state = new_state(CurrentMemoryContext, checked_lg_k("lg_k", at[0]), checked_width(at[1]));
-	if (LENGTH(bytes) > 2)
-		set_image(state, at + 2, LENGTH(bytes) - 2);
-	PG_RETURN_POINTER(state);
+	group = new_group(CurrentMemoryContext, checked_lg_k("lg_k", sent.lg_k), checked_width(sent.width));
+	if (sent.is_state)
+		group->state = copied_state(CurrentMemoryContext, sketch, size);
+	else if (size > 0)
+		check_status(join_image(state_of(group), group->lg_k, sketch, size));
+	PG_RETURN_POINTER(group);
 }
+
+/* ---- the answer */
 
 PG_FUNCTION_INFO_V1(hll_pg_final);
 
-/* As a window function it is asked again for each row: then what waits is merged once. */
+/* As a window function it is asked again for each row. */
 Datum
 hll_pg_final(PG_FUNCTION_ARGS)
 {
-	MemoryContext context;
-	int			kind = AggCheckCallContext(fcinfo, &context);
-	State	   *state;
+	Group	   *group;
 
-	if (kind == 0)
-		elog(ERROR, "called outside an aggregate");
+	(void) aggregate_context(fcinfo);
 	if (PG_ARGISNULL(0))
 		PG_RETURN_NULL();
-	state = (State *) PG_GETARG_POINTER(0);
-	if (is_vacant(state))
+	group = (Group *) PG_GETARG_POINTER(0);
+	if (!has_state(group))
 		PG_RETURN_NULL();
-	if (kind == AGG_CONTEXT_WINDOW)
-		settle(state);
-	PG_RETURN_BYTEA_P(answer_of(state));
+	PG_RETURN_BYTEA_P(image_of_state(state_of(group), group->width));
 }

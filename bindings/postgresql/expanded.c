@@ -15,7 +15,7 @@ kept_image(ExpandedSketch *object)
 	{
 		MemoryContext before = MemoryContextSwitchTo(object->header.eoh_context);
 
-		object->image = image_of_registers(&object->registers, object->width);
+		object->image = image_of_state(&object->state, object->width);
 		MemoryContextSwitchTo(before);
 	}
 	return object->image;
@@ -35,11 +35,11 @@ flatten_into(ExpandedObjectHeader *header, void *result, Size allocated_size)
 
 static const ExpandedObjectMethods methods = {flat_size, flatten_into};
 
-/* An object of neither form yet, in a context of its own below this one. */
+/* An object of neither form yet, in a context of its own below this one, in which a large chunk takes its own bytes. */
 static ExpandedSketch *
 new_object(MemoryContext parent, uint8 width)
 {
-	MemoryContext context = AllocSetContextCreate(parent, "hyperloglog", ALLOCSET_START_SMALL_SIZES);
+	MemoryContext context = AllocSetContextCreate(parent, "hyperloglog", ALLOCSET_SMALL_SIZES);
 	ExpandedSketch *object = MemoryContextAllocZero(context, sizeof(ExpandedSketch));
 
 	EOH_init_header(&object->header, &methods, context);
@@ -57,15 +57,6 @@ object_of_image(MemoryContext parent, bytea *image)
 	return object;
 }
 
-static ExpandedSketch *
-copy_of(MemoryContext parent, const ExpandedSketch *object)
-{
-	ExpandedSketch *copy = new_object(parent, object->width);
-
-	copy->registers = copied_registers(&object->registers, copy->header.eoh_context);
-	return copy;
-}
-
 ExpandedSketch *
 expanded_of(Datum value)
 {
@@ -77,15 +68,18 @@ expanded_of(Datum value)
 	return header->eoh_methods == &methods ? (ExpandedSketch *) header : NULL;
 }
 
-/* Whether an object has registers. They are made when a merge asks first; what the object says stays. */
-static bool
-is_in_registers(ExpandedSketch *object)
+/* The state of an object, which is made when a merge asks first; what the object says stays. */
+static State *
+state_of_object(ExpandedSketch *object)
 {
-	if (object == NULL)
-		return false;
-	if (object->registers.bytes == NULL && !object->is_tried)
-		object->is_tried = !take_registers(&object->registers, object->header.eoh_context, IMAGE(object->image));
-	return object->registers.bytes != NULL;
+	if (object->state.bytes == NULL)
+	{
+		uint8		lg_k = named_lg_k(IMAGE(object->image));
+
+		object->state = new_state(object->header.eoh_context, lg_k);
+		check_status(join_image(&object->state, lg_k, IMAGE(object->image)));
+	}
+	return &object->state;
 }
 
 /* What the header of a value says; of a flat one no more is fetched than that. */
@@ -98,7 +92,7 @@ header_of(Datum value)
 
 	if (object != NULL && object->image == NULL)
 	{
-		header.lg_k = lg_k_of(&object->registers);
+		header.lg_k = hll_state_lg_k(object->state.bytes);
 		header.width = object->width;
 		header.size = 0;
 		return header;
@@ -127,9 +121,9 @@ side_of(Datum value)
 {
 	Side		side = {value, expanded_of(value)};
 
-	if (side.object != NULL && side.object->registers.bytes != NULL)
+	if (side.object != NULL && side.object->state.bytes != NULL)
 	{
-		side.lg_k = lg_k_of(&side.object->registers);
+		side.lg_k = hll_state_lg_k(side.object->state.bytes);
 		side.width = side.object->width;
 		return side;
 	}
@@ -139,44 +133,64 @@ side_of(Datum value)
 	return side;
 }
 
-/* The object that a merge changes: the value itself, where the caller gave it away, or a copy. */
-static ExpandedSketch *
-object_to_change(const Side *side, const Side *other, MemoryContext parent)
+/* Joins a side, the argument of this number (from 0), to a state. */
+static void
+join_side(State *state, uint8 lg_max_k, const Side *side, size_t number)
 {
-	if (VARATT_IS_EXTERNAL_EXPANDED_RW(DatumGetPointer(side->value)) && side->object != other->object)
-		return side->object;
-	return copy_of(parent, side->object);
+	if (side->object != NULL)
+		join_state(state, lg_max_k, state_of_object(side->object));
+	else
+		check_argument_status(join_image(state, lg_max_k, IMAGE(side->image)), number);
 }
 
-/* Merges the other side, the argument of this number (from 0), into the registers of this one. */
-static Datum
-merge_side(const Side *side, const Side *other, size_t number, uint8 lg_max_k, MemoryContext parent)
+/* An object with the left side in its state: that side itself, where the caller gave it away, or a new one. */
+static ExpandedSketch *
+object_with_left(const Side *left, const Side *right, uint8 lg_max_k, MemoryContext parent)
 {
-	ExpandedSketch *object = object_to_change(side, other, parent);
-	hll_status	status;
+	bool		is_within = left->object != NULL && left->lg_k <= lg_max_k;
+	ExpandedSketch *object;
 
+	if (is_within && VARATT_IS_EXTERNAL_EXPANDED_RW(DatumGetPointer(left->value)) && left->object != right->object)
+	{
+		(void) state_of_object(left->object);
+		return left->object;
+	}
+	object = new_object(parent, left->width);
+	if (is_within)
+	{
+		const State *state = state_of_object(left->object);
+
+		object->state = copied_state(object->header.eoh_context, state->bytes, hll_state_size(state->bytes));
+		return object;
+	}
+	object->state = new_state(object->header.eoh_context, lg_max_k);
+	join_side(&object->state, lg_max_k, left, 0);
+	return object;
+}
+
+/* The union, where a side is an object, and so has registers. */
+static Datum
+merge_states(const Side *left, const Side *right, uint8 lg_max_k, MemoryContext parent)
+{
+	ExpandedSketch *object = object_with_left(left, right, lg_max_k, parent);
+
+	join_side(&object->state, lg_max_k, right, 1);
 	if (object->image != NULL)
 	{
 		pfree(object->image);
 		object->image = NULL;
 	}
-	fold_registers(&object->registers, lg_max_k);
-	if (is_in_registers(other->object))
-		status = merge_registers(&object->registers, &other->object->registers);
-	else
-		status = merge_image(&object->registers, IMAGE(other->image));
-	check_argument_status(status, number);
-	object->width = Max(side->width, other->width);
+	object->width = Max(left->width, right->width);
 	return EOHPGetRWDatum(&object->header);
 }
 
-/* The image of the union, as an object where it is in registers: then a merge may follow that takes these. */
+/* The image of the union, as an object where it has registers: then a merge may follow that needs their state. */
 static Datum
 merge_images(const Side *left, const Side *right, uint8 lg_max_k, MemoryContext parent)
 {
 	bytea	   *image = merged_image(lg_max_k, Max(left->width, right->width), IMAGE(left->image), IMAGE(right->image));
 
-	if (!has_registers(IMAGE(image)))
+	if (hll_image_stage(IMAGE(image)) != HLL_REGISTERS)
 		return PointerGetDatum(image);
 	return EOHPGetRWDatum(&object_of_image(parent, image)->header);
 }
@@ -195,9 +209,7 @@ hll_pg_merge_sketches(PG_FUNCTION_ARGS)
 	CHECK_FOR_INTERRUPTS();
 	if (!AggCheckCallContext(fcinfo, &parent))
 		parent = CurrentMemoryContext;
-	if (is_in_registers(left.object))
-		return merge_side(&left, &right, 1, lg_max_k, parent);
-	if (is_in_registers(right.object))
-		return merge_side(&right, &left, 0, lg_max_k, parent);
+	if (left.object != NULL || right.object != NULL)
+		return merge_states(&left, &right, lg_max_k, parent);
 	return merge_images(&left, &right, lg_max_k, parent);
 }

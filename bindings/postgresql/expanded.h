@@ -6,18 +6,17 @@
 #ifndef HLL_EXPANDED_H
 #define HLL_EXPANDED_H
 
-#include "registers.h"
+#include "state.h"
 
 #include "utils/expandeddatum.h"
 
-/* A value that is both forms or one of them: an image, and its registers. */
+/* A value that is both forms or one of them: an image of registers, and a state. */
 typedef struct ExpandedSketch
 {
 	ExpandedObjectHeader header;
-	Registers	registers;		/* none before the first merge, nor where they don't say all of the image */
-	bool		is_tried;		/* whether they were asked for */
+	State		state;			/* not made before the first merge */
 	uint8		width;
-	bytea	   *image;			/* NULL where the registers have changed since it was written */
+	bytea	   *image;			/* NULL where the state has changed since it was written */
 } ExpandedSketch;
 
 /* What a value's header says. */

@@ -2,7 +2,7 @@
 /*
  * Functions of one image or two. Each is one call of the library.
  */
-#include "registers.h"
+#include "hll_pg.h"
 
 #include "access/htup_details.h"
 #include "funcapi.h"
@@ -12,6 +12,22 @@ PG_MODULE_MAGIC;
 
 /* A guess at what an image needs that changes its width or lg_k: only many exceptions of four bits need more. */
 #define CHANGED_ROOM(image) (2 * LENGTH(image) + 64)
+
+uint8
+named_lg_k(const uint8 *image, size_t size)
+{
+	uint8		lg_k = hll_image_lg_k(image, size);
+
+	return lg_k == 0 ? 4 : lg_k;
+}
+
+uint8
+named_width(const uint8 *image, size_t size)
+{
+	uint8		width = hll_image_width(image, size);
+
+	return width == 0 ? 8 : width;
+}
 
 PG_FUNCTION_INFO_V1(hll_pg_empty);
 

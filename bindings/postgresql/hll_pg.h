@@ -56,6 +56,10 @@ extern void check_row_status(hll_status status, int64 row);
 extern uint8 checked_lg_k(const char *name, int32 lg_k);
 extern uint8 checked_width(int32 width);
 
+/* What the header of an image names, before it is read: where the bytes are no image, any that is in range. */
+extern uint8 named_lg_k(const uint8 *image, size_t size);
+extern uint8 named_width(const uint8 *image, size_t size);
+
 extern bytea *merged_image(uint8 lg_max_k, uint8 width, const uint8 *left, size_t left_size, const uint8 *right,
 						   size_t right_size);
 

@@ -2,7 +2,7 @@
 /*
  * The steps of the aggregates that count values: each type's bytes, as docs/FORMAT.md, "What values are hashed as", says.
  */
-#include "state.h"
+#include "group.h"
 
 #include <math.h>
 
@@ -18,17 +18,17 @@
 
 /* Eight bytes, the lowest first. */
 static void
-take_word(State *state, uint64 word)
+add_word(Group *group, uint64 word)
 {
 #ifdef WORDS_BIGENDIAN
 	word = pg_bswap64(word);
 #endif
-	take_value(state, (const uint8 *) &word, sizeof(word));
+	add_value(group, (const uint8 *) &word, sizeof(word));
 }
 
 /* A number as those that are equal to it: -0.0 as 0.0, and each NaN as one. */
 static void
-take_float(State *state, float8 number)
+add_float(Group *group, float8 number)
 {
 	uint64		word;
 
@@ -39,72 +39,72 @@ take_float(State *state, float8 number)
 		number = number == 0 ? 0 : number;
 		memcpy(&word, &number, sizeof(word));
 	}
-	take_word(state, word);
+	add_word(group, word);
 }
 
 /* Days since 1970-01-01. */
 static void
-take_date(State *state, DateADT date)
+add_date(Group *group, DateADT date)
 {
 	if (DATE_IS_NOBEGIN(date))
-		take_word(state, (uint64) PG_INT64_MIN);
+		add_word(group, (uint64) PG_INT64_MIN);
 	else if (DATE_IS_NOEND(date))
-		take_word(state, (uint64) PG_INT64_MAX);
+		add_word(group, (uint64) PG_INT64_MAX);
 	else
-		take_word(state, (uint64) ((int64) date + DAYS_BETWEEN));
+		add_word(group, (uint64) ((int64) date + DAYS_BETWEEN));
 }
 
 /* Microseconds since 1970-01-01; those past 2^63 as an integer past it is, by its own eight bytes. */
 static void
-take_timestamp(State *state, Timestamp timestamp)
+add_timestamp(Group *group, Timestamp timestamp)
 {
 	if (TIMESTAMP_IS_NOBEGIN(timestamp) || TIMESTAMP_IS_NOEND(timestamp))
-		take_word(state, (uint64) timestamp);
+		add_word(group, (uint64) timestamp);
 	else
-		take_word(state, (uint64) timestamp + (uint64) DAYS_BETWEEN * (uint64) USECS_PER_DAY);
+		add_word(group, (uint64) timestamp + (uint64) DAYS_BETWEEN * (uint64) USECS_PER_DAY);
 }
 
 /* A text counts by its bytes in UTF-8, whatever the encoding of the database. */
 static void
-take_text(State *state, text *value)
+add_text(Group *group, text *value)
 {
 	const char *own = (const char *) BYTES(value);
 	const char *utf8 = pg_server_to_any(own, (int) LENGTH(value), PG_UTF8);
 
-	take_value(state, (const uint8 *) utf8, utf8 == own ? LENGTH(value) : strlen(utf8));
+	add_value(group, (const uint8 *) utf8, utf8 == own ? LENGTH(value) : strlen(utf8));
 }
 
 static void
-take_bytea(State *state, bytea *value)
+add_bytea(Group *group, bytea *value)
 {
-	take_value(state, BYTES(value), LENGTH(value));
+	add_value(group, BYTES(value), LENGTH(value));
 }
 
-/* The step of a type, which takes the value of a row unless that is NULL. */
-#define VALUE_STEP(name, take) \
+/* The step of a type, which adds the value of a row unless that is NULL. */
+#define VALUE_STEP(name, add) \
 	PG_FUNCTION_INFO_V1(hll_pg_add_##name##_trans); \
 	Datum \
 	hll_pg_add_##name##_trans(PG_FUNCTION_ARGS) \
 	{ \
-		State	   *state = next_row(fcinfo, "lg_k"); \
+		Group	   *group = next_row(fcinfo, "lg_k"); \
 	\
 		if (!PG_ARGISNULL(1)) \
-			take; \
-		PG_RETURN_POINTER(state); \
+			add; \
+		PG_RETURN_POINTER(group); \
 	}
 
-VALUE_STEP(text, take_text(state, PG_GETARG_TEXT_PP(1)))
-VALUE_STEP(char, take_text(state, DatumGetTextPP(DirectFunctionCall1(char_text, PG_GETARG_DATUM(1)))))
-VALUE_STEP(bytea, take_bytea(state, PG_GETARG_BYTEA_PP(1)))
-VALUE_STEP(int2, take_word(state, (uint64) (int64) PG_GETARG_INT16(1)))
-VALUE_STEP(int4, take_word(state, (uint64) (int64) PG_GETARG_INT32(1)))
-VALUE_STEP(int8, take_word(state, (uint64) PG_GETARG_INT64(1)))
-VALUE_STEP(bool, take_word(state, PG_GETARG_BOOL(1) ? 1 : 0))
-VALUE_STEP(float4, take_float(state, (float8) PG_GETARG_FLOAT4(1)))
-VALUE_STEP(float8, take_float(state, PG_GETARG_FLOAT8(1)))
-VALUE_STEP(date, take_date(state, PG_GETARG_DATEADT(1)))
-VALUE_STEP(timestamp, take_timestamp(state, PG_GETARG_TIMESTAMP(1)))
-VALUE_STEP(uuid, take_value(state, PG_GETARG_UUID_P(1)->data, UUID_LEN))
+VALUE_STEP(text, add_text(group, PG_GETARG_TEXT_PP(1)))
+VALUE_STEP(char, add_text(group, DatumGetTextPP(DirectFunctionCall1(char_text, PG_GETARG_DATUM(1)))))
+VALUE_STEP(bytea, add_bytea(group, PG_GETARG_BYTEA_PP(1)))
+VALUE_STEP(int2, add_word(group, (uint64) (int64) PG_GETARG_INT16(1)))
+VALUE_STEP(int4, add_word(group, (uint64) (int64) PG_GETARG_INT32(1)))
+VALUE_STEP(int8, add_word(group, (uint64) PG_GETARG_INT64(1)))
+VALUE_STEP(bool, add_word(group, PG_GETARG_BOOL(1) ? 1 : 0))
+VALUE_STEP(float4, add_float(group, (float8) PG_GETARG_FLOAT4(1)))
+VALUE_STEP(float8, add_float(group, PG_GETARG_FLOAT8(1)))
+VALUE_STEP(date, add_date(group, PG_GETARG_DATEADT(1)))
+VALUE_STEP(timestamp, add_timestamp(group, PG_GETARG_TIMESTAMP(1)))
+VALUE_STEP(uuid, add_value(group, PG_GETARG_UUID_P(1)->data, UUID_LEN))
 
 PG_FUNCTION_INFO_V1(hll_pg_add_sketch_trans);
 

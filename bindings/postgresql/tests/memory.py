@@ -2,6 +2,7 @@
 """Refused, timed-out and cancelled queries leave the backend's memory as it was, also where memory itself is refused."""
 import itertools
 import random
+import re
 import threading
 
 from calls import bad_images
@@ -92,6 +93,35 @@ def cancelled(server, session, count):
         said = session.ask(SLOW + ";")
         timer.join()
         check("cancel", "ERROR:  %s: " % CANCELLED in said, said)
+
+
+# ---- groups
+
+# Sketches of so many values, or unions of five sketches of so many, and the most bytes of a group, by hash: of NULLs alone, of
+# one coupon, of some, and of registers. Values come group by group, and sketches to all groups in turn.
+GROUP_BYTES = [("count", 0, 128), ("count", 1, 256), ("count", 20, 512), ("count", 300, 2500), ("count", 2000, 5000),
+               ("union", 20, 1024), ("union", 2000, 4500)]
+OF_GROUPS = 1000
+SOURCES = {"count": ("(SELECT v / greatest(COUNT, 1) k, CASE WHEN COUNT > 0 THEN v END n FROM generate_series(0, GROUPS * greatest(COUNT, 1) - 1) v "
+                     "OFFSET 0) x", "hyperloglog_agg(n)"),
+           "union": ("(SELECT n % GROUPS k, sketch FROM generate_series(0, GROUPS * 5 - 1) n JOIN (SELECT m, hyperloglog_agg(m * 100000 + v) sketch "
+                     "FROM generate_series(0, 9) m, generate_series(1, COUNT) v GROUP BY m) s ON m = n % 10 OFFSET 0) x", "hyperloglog_union_agg(sketch)")}
+
+
+def used_by_groups(server, source, call):
+    """Bytes of a group, as hash aggregation says."""
+    plan = server.ask("SET enable_sort = off; SET work_mem = '256MB'; SET max_parallel_workers_per_gather = 0; EXPLAIN (ANALYZE, TIMING OFF) "
+                      "SELECT k, %s FROM %s GROUP BY k" % (call, source))
+    return 1024 * int(re.search(r"Memory Usage: (\d+)kB", plan)[1]) // OF_GROUPS
+
+
+def groups_memory(server):
+    """A group takes few bytes while it is small, and about one for each register later."""
+    for kind, count, most in GROUP_BYTES:
+        source, call = SOURCES[kind]
+        source = source.replace("GROUPS", str(OF_GROUPS)).replace("COUNT", str(count))
+        used = used_by_groups(server, source, call) - used_by_groups(server, source, "count(*)")
+        check("bytes of a group, %s of %d" % (kind, count), 0 < used <= most, "%d in place of %d" % (used, most))
 
 
 def refused_memory(server):

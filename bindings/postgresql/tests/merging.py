@@ -122,6 +122,9 @@ def expressions(server):
     twice = "SELECT count(*) FILTER (WHERE (m || m)::bytea IS DISTINCT FROM hll_merge(m::bytea, m::bytea) OR (m || o)::bytea IS DISTINCT FROM " \
         "hll_merge(m::bytea, o::bytea)) FROM (SELECT %s || %s || %s m, %s o FROM sequences OFFSET 0) x" % tuple(kept)
     equal("a merge that is used twice", server.ask(twice), "0")
+    stays = "SELECT count(*) FILTER (WHERE (m || o)::bytea IS DISTINCT FROM hll_merge(f, o::bytea) OR m::bytea IS DISTINCT FROM f OR (o || m)::bytea " \
+        "IS DISTINCT FROM hll_merge(o::bytea, f)) FROM (SELECT %s || %s || %s m, hll_merge(hll_merge(%s, %s), %s) f, %s o FROM sequences OFFSET 0) x"
+    equal("a value from which others are merged stays", server.ask(stays % (*kept[:3], *flat[:3], kept[3])), "0")
     server.ask("CREATE TABLE stored AS SELECT g, %s || %s || %s AS sketch, hll_merge(hll_merge(%s, %s), %s) AS image FROM sequences" % (
         *kept[:3], *flat[:3]))
     equal("a merge that is stored", server.ask("SELECT count(*) FILTER (WHERE sketch::bytea <> image) FROM stored"), "0")

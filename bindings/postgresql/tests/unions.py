@@ -86,6 +86,29 @@ def compare_groups(server, table, count, workers, is_hash, leads):
     check("plan for " + name, ("Partial " + step in plan) if workers else (step in plan and "Partial" not in plan), plan)
 
 
+# ---- groups that don't fit in memory
+
+SPILLS = "SET work_mem = '64kB'; SET hash_mem_multiplier = 1;"
+SPILLING = """CREATE TABLE spilling AS SELECT x, x % 300 g, NULLIF(x * 7919 % (1 + (x % 300) * (x % 300) / 9), 5) v
+        FROM generate_series(1, 120000) x;
+    CREATE TABLE spilling_sketches AS SELECT g, hyperloglog_agg(v, 7 + g % 6, 4 + 2 * (g % 3)) sketch FROM spilling GROUP BY g, x % 7;
+    ANALYZE"""
+SPILLED = [("spilling", "hyperloglog_agg(v)"), ("spilling", "hyperloglog_agg(v, 9, 4)"), ("spilling", "hyperloglog_agg(v::text, 21, 6)"),
+           ("spilling_sketches", "hyperloglog_union_agg(sketch)"), ("spilling_sketches", "hyperloglog_union_agg(sketch, 8, 4)")]
+
+
+def spilled(server):
+    """Hash aggregation that writes rows to disk, of groups for which there is no memory yet, says what a sort says."""
+    server.ask(SPILLING)
+    for table, call in SPILLED:
+        query = "SELECT g, md5((%s)::bytea) a FROM %s GROUP BY g" % (call, table)
+        whole = "SELECT md5(string_agg(a, ',' ORDER BY g)) FROM (%s) x" % query
+        plan = server.ask(settings(0) + SPILLS + PLAN + query)
+        batches = max(map(int, re.findall(r"Batches: (\d+)", plan)), default=0)
+        check("%s is spilled" % call, batches > 1 and "Disk Usage" in plan, plan)
+        equal("%s spilled" % call, server.ask(settings(0) + SPILLS + whole), server.ask(settings(0, is_hash=False) + whole))
+
+
 # ---- parts of a group
 
 
