@@ -24,6 +24,15 @@ unsafe extern "C" {
     fn hll_image_convert(image: *const u8, len: usize, width: u8, out: *mut u8, room: usize, size: *mut usize) -> u8;
     #[rustfmt::skip]
     fn hll_images_agree(left: *const u8, left_len: usize, right: *const u8, right_len: usize, same: *mut u8, failed: *mut usize) -> u8;
+    fn hll_state_new(lg_k: u32, state: *mut u8, room: usize) -> u8;
+    #[rustfmt::skip]
+    fn hll_state_add_value(state: *mut u8, room: usize, size: *mut usize, value: *const u8, len: usize) -> u8;
+    #[rustfmt::skip]
+    fn hll_state_add(state: *mut u8, room: usize, size: *mut usize, values: *const u8, values_len: usize, ends: *const usize, count: usize) -> u8;
+    #[rustfmt::skip]
+    fn hll_state_join(lg_max_k: u32, state: *mut u8, room: usize, size: *mut usize, image: *const u8, len: usize) -> u8;
+    #[rustfmt::skip]
+    fn hll_state_image(state: *mut u8, room: usize, width: u32, out: *mut u8, out_room: usize, size: *mut usize) -> u8;
     fn clock_gettime(clock: i32, time: *mut [i64; 2]) -> i32;
 }
 
@@ -238,6 +247,113 @@ fn time_agree(kind: &Kind, without_fields: bool) -> String {
     )
 }
 
+// ---- states
+
+/// A state at lg_k 12, with room for its registers.
+struct State {
+    bytes: Vec<u8>,
+    size: usize,
+}
+
+impl State {
+    fn new() -> State {
+        let mut state = State { bytes: vec![0; 40 + 4096 + 2048], size: 0 };
+        state.clear();
+        state
+    }
+
+    fn clear(&mut self) {
+        assert_eq!(unsafe { hll_state_new(LG_K.into(), self.bytes.as_mut_ptr(), self.bytes.len()) }, 0);
+    }
+
+    fn add_value(&mut self, number: u64) {
+        let value = number.to_le_bytes();
+        assert_eq!(unsafe { hll_state_add_value(self.bytes.as_mut_ptr(), self.bytes.len(), &mut self.size, value.as_ptr(), 8) }, 0);
+    }
+
+    fn add(&mut self, values: &[u8], ends: &[usize]) {
+        let (bytes, size) = (&mut self.bytes, &mut self.size);
+        assert_eq!(unsafe { hll_state_add(bytes.as_mut_ptr(), bytes.len(), size, values.as_ptr(), values.len(), ends.as_ptr(), ends.len()) }, 0);
+    }
+
+    fn join(&mut self, image: &[u8]) {
+        assert_eq!(unsafe { hll_state_join(0, self.bytes.as_mut_ptr(), self.bytes.len(), &mut self.size, image.as_ptr(), image.len()) }, 0);
+    }
+
+    fn image(&mut self, out: &mut [u8]) -> usize {
+        let mut size = 0;
+        assert_eq!(unsafe { hll_state_image(self.bytes.as_mut_ptr(), self.bytes.len(), 8, out.as_mut_ptr(), out.len(), &mut size) }, 0);
+        size
+    }
+}
+
+/// So many values in a new state, for each of the images that other rows have.
+fn time_values(count: usize, in_hundreds: bool) -> String {
+    let values = Values::new(1, count);
+    let (mut state, ends) = (State::new(), &values.ends);
+    let mut add = |_| {
+        state.clear();
+        if in_hundreds {
+            let calls = values.bytes.chunks(800).zip(values.ends.chunks(100));
+            calls.for_each(|(bytes, part)| state.add(bytes, &ends[..part.len()]));
+        } else {
+            values.numbers.iter().for_each(|number| state.add_value(*number));
+        }
+        black_box(state.bytes[40]);
+    };
+    timed(&mut add, |_| {
+        let mut sketch = HllSketch::new(LG_K, HllType::Hll8).unwrap();
+        values.numbers.iter().for_each(|number| sketch.update(number));
+        black_box(&sketch);
+    })
+}
+
+/// All images of a kind, joined to a state and its image at the end, and read and merged by a union of the crate.
+fn time_joins(kind: &Kind) -> String {
+    let (mut out, mut state, mut union) = (vec![0; 30000], State::new(), HllUnion::new(LG_K).unwrap());
+    let images = &kind.images;
+    timed(
+        |i| {
+            if i == 0 {
+                state.clear();
+            }
+            state.join(&images[i]);
+            if i + 1 == IMAGES {
+                black_box(state.image(&mut out));
+            }
+        },
+        |i| {
+            if i == 0 {
+                union = HllUnion::new(LG_K).unwrap();
+            }
+            union.update(&HllSketch::deserialize(&images[i]).unwrap());
+            if i + 1 == IMAGES {
+                black_box(union.to_sketch(HllType::Hll8).serialize());
+            }
+        },
+    )
+}
+
+fn time_image(kind: &Kind) -> String {
+    let (mut out, mut state) = (vec![0; 30000], State::new());
+    state.join(&kind.images[0]);
+    let sketch = HllSketch::deserialize(&kind.images[0]).unwrap();
+    timed(|_| _ = black_box(state.image(&mut out)), |_| _ = black_box(sketch.serialize()))
+}
+
+/// A table of states: times of whole sketches, and for each kind those of a join and of an image.
+fn table_of_states(kinds: &[Kind]) {
+    println!("| a state | one by one | a hundred in a call |\n|---|---|---|");
+    for count in [0, 1, 7, 20, 300, 100_000] {
+        println!("| of {count} values | {} | {} |", time_values(count, false), time_values(count, true));
+    }
+    let names: Vec<_> = kinds.iter().map(|kind| kind.name).collect();
+    println!("\n| of states | {} |\n|---|{}", names.join(" | "), "---|".repeat(kinds.len()));
+    row("`hll_state_join`, and the image at the end", kinds, time_joins);
+    row("`hll_state_image`", kinds, time_image);
+    println!();
+}
+
 /// A row of a table: a call, and what it took for each kind.
 fn row(call: &str, kinds: &[Kind], time: impl Fn(&Kind) -> String) {
     let cells: Vec<_> = kinds.iter().map(time).collect();
@@ -268,4 +384,7 @@ fn main() {
         sets("updatable", |set| placed(set, true)),
     ];
     table("sets of 20", &orders, false, &[1, 100, 1000]);
+    let [eight, six, four] = widths;
+    let [ascending, ..] = orders;
+    table_of_states(&[eight, six, four, ascending]);
 }

@@ -9,7 +9,7 @@
 
 enum { IMAGES = 1000, TURNS = 31, MOST_LG_K = 18, MANY = 100000 };
 
-static uint8_t state[HLL_STATE_MOST(MOST_LG_K)], out[HLL_IMAGE_MAX(LG_K)], registers[COUNT];
+static uint8_t state[HLL_STATE_MOST(MOST_LG_K)], out[HLL_IMAGE_MAX(LG_K)];
 static uint8_t *images;
 static size_t ends[IMAGES], count_of_values, size, failed;
 static uint64_t numbers[MANY];
@@ -59,8 +59,11 @@ static void run_in_hundreds(void)
     size_t i, at;
     for (at = 0; at + count_of_values <= MANY; at += count_of_values) {
         need(hll_state_new(LG_K, state, sizeof state));
-        for (i = at; i < at + count_of_values; i += 100)
-            need(hll_state_add(state, sizeof state, &size, (const uint8_t *)&numbers[i], 800, number_ends, at + count_of_values - i < 100 ? at + count_of_values - i : 100));
+        for (i = at; i < at + count_of_values; i += 100) {
+            size_t left = at + count_of_values - i;
+            need(hll_state_add(state, sizeof state, &size, (const uint8_t *)&numbers[i], 800, number_ends,
+                               left < 100 ? left : 100));
+        }
     }
 }
 

@@ -381,8 +381,9 @@ hll_status hll_registers_image(const uint8_t *registers, size_t count, unsigned 
  * images, and not states, in files and columns.
  *
  * The image that a state gives is that of an empty sketch with all that was added, as hll_image_add makes it, and joined, as
- * hll_images_union makes it. Where bytes are no state the answer is HLL_ARGUMENT. Bytes that other code changed after a call are answered in some way, and nothing
- * is read or written past the room; a register above 63 is HLL_REGISTER.
+ * hll_images_union makes it; without values it is that of an empty list. Where bytes are no state the answer is
+ * HLL_ARGUMENT. Bytes that other code changed after a call are answered in some way, and nothing is read or written past the
+ * room; a register above 63 is HLL_REGISTER.
  *
  * A state takes 40 bytes and four for each coupon. Where coupons come again, or registers are near, it takes more: coupons
  * are sorted where they are, and become registers beside them.

@@ -146,7 +146,8 @@ static void expect_union(pair *p, unsigned lg_max_k, bytes own, bytes other)
 {
     bytes merged = with_room(HLL_IMAGE_MAX(lg_max_k));
     size_t failed;
-    need(hll_image_merge(lg_max_k, 8, own.at, own.len, other.at, other.len, merged.at, merged.len, &merged.len, &failed) == HLL_OK,
+    need(hll_image_merge(lg_max_k, 8, own.at, own.len, other.at, other.len, merged.at, merged.len, &merged.len,
+                         &failed) == HLL_OK,
          "hll_image_merge for a test");
     take_image(p, merged);
     p->lg_k = hll_image_lg_k(merged.at, merged.len);
@@ -236,15 +237,16 @@ static void walk_of_joins(uint64_t *random, uint8_t most_lg_k)
     for (step = 0; step < steps; step++) {
         uint64_t word = random_word(random);
         joinable other = some_joinable(random, most_lg_k);
-        uint8_t lg_k = p.lg_k;
+        uint8_t lg_k = p.lg_k, width = hll_image_width(other.image.at, other.image.len);
         int joins;
         if (word % 4 == 0)
             add(&p, word >> 32, 1 + (word >> 8) % 50, (word >> 16) % 60, (int)(word % 3));
-        joins = !is_empty(other.image) && (bounded || lg_k == hll_image_lg_k(other.image.at, other.image.len) || is_empty(p.image));
-        if (joins)
-            widths |= hll_image_width(other.image.at, other.image.len) / 2 == 2 ? 1 : hll_image_width(other.image.at, other.image.len) / 2 == 3 ? 2 : 4;
+        joins = bounded || lg_k == hll_image_lg_k(other.image.at, other.image.len) || is_empty(p.image);
+        if (joins && !is_empty(other.image))
+            widths |= 1u << (width / 2 - 2);
         join(&p, bounded ? lg_k + (unsigned)(word >> 20) % (22u - lg_k) : 0, &other);
-        CHECK(hll_state_width(p.state) == (widths == 1 ? 4 : widths == 2 ? 6 : 8), "width %d of %u", hll_state_width(p.state), widths);
+        width = widths == 1 ? 4 : widths == 2 ? 6 : 8;
+        CHECK(hll_state_width(p.state) == width, "width %d of %u", hll_state_width(p.state), widths);
         CHECK(hll_state_lg_k(p.state) == p.lg_k, "lg_k %d: %d", p.lg_k, hll_state_lg_k(p.state));
         if (other.state != NULL) {
             pair q = {other.state, other.room, other.image, hll_image_lg_k(other.image.at, other.image.len)};
@@ -358,8 +360,10 @@ static void strange_joins(uint64_t *random, uint8_t *state, size_t room)
     joinable other = some_joinable(random, 10);
     pair p = new_pair(10);
     size_t size = 0;
-    hll_status status = hll_state_join(random_word(random) % 2 == 0 ? 0 : 21, state, room, &size, other.image.at, other.image.len);
-    CHECK(status == HLL_OK || status == HLL_ARGUMENT || status == HLL_OTHER_LG_K || (status == HLL_BUFFER && room < size), "%zu bytes: %d", room, status);
+    unsigned lg_max_k = random_word(random) % 2 == 0 ? 0 : 21;
+    hll_status status = hll_state_join(lg_max_k, state, room, &size, other.image.at, other.image.len);
+    CHECK(status == HLL_OK || status == HLL_ARGUMENT || status == HLL_OTHER_LG_K ||
+              (status == HLL_BUFFER && room < size), "%zu bytes: %d", room, status);
     move_to(&p, HLL_STATE_MOST(10));
     status = hll_state_join_state(21, p.state, p.room, &size, state, room);
     CHECK(status == HLL_OK || status == HLL_ARGUMENT || status == HLL_REGISTER, "%zu bytes: %d", room, status);
