@@ -91,9 +91,10 @@
  * What is proved
  *     Of the calls from hll_image_info to hll_coupons_ends32 it is proved what they answer, write and leave as it was, for
  *     all inputs of a caller who keeps to the above; and that registers that are not all 0, into which an image is
- *     merged, written as an image, are the union of theirs with it, its estimator fields set. That order, repetition and
- *     grouping of canonical images under one lg_max_k make no difference follows from laws that are proved of sketches;
- *     no clause of a call says it. Of the estimates of images, registers, histograms and states it is proved that the one
+ *     merged, written as an image, are the union of theirs with it, its estimator fields set. What a state means after a
+ *     join is proved of states whose registers, if they have some, are not all 0; no call leaves others. That order,
+ *     repetition and grouping of canonical images under one lg_max_k make no difference follows from laws that are proved
+ *     of sketches; no clause of a call says it. Of the estimates of images, registers, histograms and states it is proved that the one
  *     from registers is the double nearest to a number which is the estimator's value, but for one part in 2^40 and 2^-32,
  *     and which never falls where a register is raised. Bounds, estimates from coupons and hll_hip_estimate are plain C,
  *     tested and not proved. So are hll_version, the division of a state's room by four, and what this header defines
