@@ -415,10 +415,11 @@ hll_status hll_state_add_value(void *state, size_t room, size_t *size, const uin
 hll_status hll_state_add_coupons(void *state, size_t room, size_t *size, const uint32_t *coupons, size_t n);
 
 /* Joins the sketch of an image: at each slot the greater value of both, at the smaller lg_k, as hll_images_union does where
- * its lg_max_k is the lg_k of the state. The state keeps the smaller lg_k. An empty image changes nothing.
+ * its lg_max_k is the lg_k of the state. The state keeps the smaller lg_k. An empty image adds nothing.
  *
  *     lg_max_k 0     Sketches of one lg_k are joined, and no other: a state with values answers HLL_OTHER_LG_K to an image
- *                    with values of another lg_k. A state without values takes the lg_k of the first image with values.
+ *                    with values of another lg_k. A state without values takes the lg_k of the first image with values,
+ *                    and until then the greatest lg_k of the empty images: make it with hll_state_new(4, ..).
  *     lg_max_k 4-21  Images of any lg_k are joined. Make the state with hll_state_new(lg_max_k, ..); HLL_ARGUMENT where
  *                    lg_max_k is below the lg_k of the state.
  *
@@ -567,8 +568,8 @@ static inline uint8_t hll_state_lg_k(const void *state)
     return hll_state_number(state, 1) & 31;
 }
 
-/* The width that the images had which were joined to a state: 4, 6 or 8; and 8 where none was joined, or two of different
- * width. */
+/* Returns the width of the images that were joined to a state, 4, 6 or 8: of those with values or, if none has values, of all.
+ * Returns 8 if none was joined, or if their widths differ. */
 static inline uint8_t hll_state_width(const void *state)
 {
     uint32_t widths = hll_state_number(state, 2) & 7;

@@ -180,6 +180,7 @@ static void join(pair *p, unsigned lg_max_k, joinable *other)
 {
     uint8_t lg_k = hll_image_lg_k(other->image.at, other->image.len), most = p->lg_k < lg_k ? lg_k : p->lg_k;
     int differ = lg_max_k == 0 && p->lg_k != lg_k && !is_empty(other->image), refused = differ && !is_empty(p->image);
+    int rises = lg_max_k == 0 && p->lg_k < lg_k && is_empty(p->image);
     size_t size = 77;
     bytes before = with_room(p->room);
     hll_status status;
@@ -197,7 +198,7 @@ static void join(pair *p, unsigned lg_max_k, joinable *other)
     if (refused)
         CHECK(memcmp(before.at, p->state, before.len) == 0, "lg_k %d and %d: refused, and changed", p->lg_k, lg_k);
     else
-        expect_union(p, differ ? lg_k : p->lg_k, p->image, other->image);
+        expect_union(p, differ || rises ? lg_k : p->lg_k, p->image, other->image);
     free(before.at);
 }
 
@@ -228,6 +229,14 @@ static joinable some_joinable(uint64_t *random, uint8_t most_lg_k)
     return made;
 }
 
+/* The widths that a state has seen: of empty sketches only where all are empty. */
+static unsigned widths_after(unsigned widths, unsigned other, int is_first_empty, int is_second_empty)
+{
+    if (is_first_empty)
+        return is_second_empty ? widths | other : other;
+    return is_second_empty ? widths : widths | other;
+}
+
 /* Random joins to a state, with values between them. */
 static void walk_of_joins(uint64_t *random, uint8_t most_lg_k)
 {
@@ -242,8 +251,7 @@ static void walk_of_joins(uint64_t *random, uint8_t most_lg_k)
         if (word % 4 == 0)
             add(&p, word >> 32, 1 + (word >> 8) % 50, (word >> 16) % 60, (int)(word % 3));
         joins = bounded || lg_k == hll_image_lg_k(other.image.at, other.image.len) || is_empty(p.image);
-        if (joins && !is_empty(other.image))
-            widths |= 1u << (width / 2 - 2);
+        widths = widths_after(widths, 1u << (width / 2 - 2), is_empty(p.image), is_empty(other.image) || !joins);
         join(&p, bounded ? lg_k + (unsigned)(word >> 20) % (22u - lg_k) : 0, &other);
         width = widths == 1 ? 4 : widths == 2 ? 6 : 8;
         CHECK(hll_state_width(p.state) == width, "width %d of %u", hll_state_width(p.state), widths);

@@ -1,11 +1,11 @@
 -- SPDX-License-Identifier: Apache-2.0
 -- Images and states that are joined to a state (docs/MODEL.md, "States of a counter").
-use Rattle.std.specs.Prelude.{◌≡◌, ℕ, ◌+◌, ◌-◌, ◌≤◌, ◌==◌, Bool, true, false, not, ◌&&◌, if◌then◌else◌, bit_or, List, length}
+use Rattle.std.specs.Prelude.{◌≡◌, ℕ, ◌+◌, ◌-◌, ◌≤◌, ◌==◌, Bool, true, false, not, ◌&&◌, nat_le, if◌then◌else◌, bit_or, List, length}
 use Rattle.hll_base.specs.declared.hll_type.HllType.TheVariants.{Hll8}
 use Rattle.hll_sketch.specs.Merging.{merge}
 use Rattle.hll_sketch.specs.Value.{Sketch, IsLgK, is_empty, empty_sketch}
 use Rattle.hll_state.specs.Counter.{sketch_in}
-use Rattle.hll_state.specs.Header.{new_header, most_elements}
+use Rattle.hll_state.specs.Header.{new_header, most_elements, IsWithin}
 use Rattle.hll_state.specs.Merged.{HasSomeRegister, HasRoomToMerge}
 use Rattle.hll_state.specs.declared.header.Header.{Header}
 use Rattle.hll_state.specs.declared.join.Joined.{Joined}
@@ -21,31 +21,44 @@ lg_ks_differ bounded k y = not bounded && (not (is_empty y) && not (k == y.lg_k)
 abbrev pub is_refused : Bool → Sketch → Sketch → Bool
 is_refused bounded x y = lg_ks_differ bounded x.lg_k y && not (is_empty x)
 
--- and it takes the other lg_k
+-- an empty sketch is joined: without a bound an empty one takes its lg_k where that is greater
+abbrev pub raised : Bool → ℕ → Sketch → Sketch
+raised bounded k x = if not bounded && (is_empty x && not (nat_le k x.lg_k)) then empty_sketch k Hll8 else x
+
+-- what a sketch is merged into: an empty one takes the other lg_k, where no bound was given
 abbrev pub started : Bool → Sketch → Sketch → Sketch
-started bounded x y = if lg_ks_differ bounded x.lg_k y then empty_sketch y.lg_k Hll8 else x
+started bounded x y = if is_empty y then raised bounded y.lg_k x else (if lg_ks_differ bounded x.lg_k y then empty_sketch y.lg_k Hll8 else x)
 
--- the header of an empty sketch at the lg_k of another one
-abbrev pub restarted : Header → Sketch → Header
-restarted h y = record (new_header y.lg_k) { widths = h.widths }
+-- the header of an empty sketch at another lg_k
+abbrev pub restarted : ℕ → ℕ → Header
+restarted k widths = record (new_header k) { widths = widths }
 
+-- the header under which a sketch that is not empty is merged
 abbrev pub started_header : Bool → Header → Sketch → Header
-started_header bounded h y = if lg_ks_differ bounded h.lg_k y then restarted h y else h
+started_header bounded h y = if lg_ks_differ bounded h.lg_k y then restarted y.lg_k h.widths else h
 
 -- the union of both, under the lg_k of the first
 abbrev pub joined : Bool → Sketch → Sketch → Sketch
 joined bounded x y = merge (started bounded x y).lg_k (started bounded x y) y
 
--- the widths of what was joined; an empty sketch adds none
-abbrev pub widths_after : ℕ → ℕ → Sketch → ℕ
-widths_after widths others y = if is_empty y then widths else bit_or widths others
+-- the widths of all that were joined and are not empty, or of all where each is empty
+abbrev pub widths_after : ℕ → ℕ → Bool → Bool → ℕ
+widths_after widths others is_first_empty is_second_empty = if is_first_empty
+    then (if is_second_empty then bit_or widths others else others)
+    else (if is_second_empty then widths else bit_or widths others)
+
+-- an empty sketch was joined, and widths were set
+pub record JoinsEmpty (bounded : Bool) (widths k : ℕ) (old new : Header) (body : List (List ℕ)) : Type 0 where
+  pub within : IsWithin old (length body) → IsWithin new (length body)
+  pub is : IsWithin old (length body) → HasSomeRegister (sketch_in old body) → sketch_in new body ≡ raised bounded k (sketch_in old body)
+  pub widths_are : new.widths ≡ widths
 
 -- ---- what merging gives
 
--- a sketch was merged, and widths were recorded
-pub record IsMerged (others : ℕ) (y x : Sketch) (k widths : ℕ) (new : Header) (z : Sketch) : Type 0 where
+-- a sketch was merged, and widths were set
+pub record IsMerged (widths : ℕ) (y x : Sketch) (k : ℕ) (new : Header) (z : Sketch) : Type 0 where
   pub is : HasSomeRegister x → z ≡ merge k x y
-  pub widths_are : new.widths ≡ bit_or widths others
+  pub widths_are : new.widths ≡ widths
 
 -- so many elements are enough to merge a sketch, and no more than any state of the lg_k needs
 pub record AreEnoughToMerge (y : Sketch) (h : Header) (len : ℕ) : Type 0 where
@@ -56,16 +69,16 @@ pub record AreEnoughToMerge (y : Sketch) (h : Header) (len : ℕ) : Type 0 where
 
 -- a sketch is merged, or there is no room and the meaning stays
 abbrev pub MergesInto : ℕ → Sketch → Header → List (List ℕ) → Header → List (List ℕ) → Joined → Type 0
-MergesInto others y old old_body new new_body Done = IsMerged others y (sketch_in old old_body) old.lg_k old.widths new (sketch_in new new_body)
-MergesInto others y old old_body new new_body (NoRoom len) =
+MergesInto widths y old old_body new new_body Done = IsMerged widths y (sketch_in old old_body) old.lg_k new (sketch_in new new_body)
+MergesInto widths y old old_body new new_body (NoRoom len) =
     (sketch_in new new_body ≡ sketch_in old old_body) × (new.widths ≡ old.widths) × (HasRoomToMerge old y (length old_body) → ⊥) × AreEnoughToMerge y new len
-MergesInto others y old old_body new new_body OtherLgK = ⊥
+MergesInto widths y old old_body new new_body OtherLgK = ⊥
 
 -- a sketch is merged into the empty one at its lg_k, or there is no room, and the header stays
 abbrev pub Restarts : ℕ → Sketch → Header → List (List ℕ) → Header → List (List ℕ) → Joined → Type 0
-Restarts others y old old_body new new_body Done = IsMerged others y (empty_sketch y.lg_k Hll8) y.lg_k old.widths new (sketch_in new new_body)
-Restarts others y old old_body new new_body (NoRoom len) = (new ≡ old) × (HasRoomToMerge (restarted old y) y (length old_body) → ⊥) × AreEnoughToMerge y (restarted old y) len
-Restarts others y old old_body new new_body OtherLgK = ⊥
+Restarts widths y old old_body new new_body Done = IsMerged widths y (empty_sketch y.lg_k Hll8) y.lg_k new (sketch_in new new_body)
+Restarts widths y old old_body new new_body (NoRoom len) = (new ≡ old) × (HasRoomToMerge (restarted y.lg_k old.widths) y (length old_body) → ⊥) × AreEnoughToMerge y (restarted y.lg_k old.widths) len
+Restarts widths y old old_body new new_body OtherLgK = ⊥
 
 -- ---- what a join gives
 
@@ -73,7 +86,7 @@ Restarts others y old old_body new new_body OtherLgK = ⊥
 pub record AreJoined (bounded : Bool) (others : ℕ) (y x : Sketch) (old new : Header) (z : Sketch) : Type 0 where
   pub accepted : HasSomeRegister x → is_refused bounded x y ≡ false
   pub is : HasSomeRegister x → z ≡ joined bounded x y
-  pub widths : new.widths ≡ widths_after old.widths others y
+  pub widths : HasSomeRegister x → new.widths ≡ widths_after old.widths others (is_empty x) (is_empty y)
 
 -- there is no room, the meaning stays, and so many elements are enough
 pub record LacksRoomToJoin (bounded : Bool) (y x : Sketch) (old new : Header) (z : Sketch) (room len : ℕ) : Type 0 where

@@ -1,13 +1,15 @@
 // SPDX-License-Identifier: Apache-2.0
 //! Images and states joined to a state, with room asked for first, and with a bound on `lg_k` or without one.
-ghost use Rattle.std.specs.Prelude.{◌≡◌, ℕ, ◌+◌, ◌-◌, ◌^◌, ◌<◌, ◌≤◌, false, length, min};
+ghost use Rattle.std.specs.Prelude.{◌≡◌, ℕ, ◌+◌, ◌-◌, ◌^◌, ◌<◌, ◌≤◌, false, List, length, min};
 ghost use Rattle.hll_sketch.specs.BorrowedImage.{sketch_of_borrowed};
 ghost use Rattle.hll_sketch.specs.Value.{is_empty, IsLgK};
+ghost use Rattle.hll_state.specs.Counter.{sketch_in};
 ghost use Rattle.hll_state.specs.Header as spec;
 ghost use Rattle.hll_state.specs.Header.{IsWithin};
-ghost use Rattle.hll_state.specs.Joined.{IsJoined, MergesInto, Restarts};
+ghost use Rattle.hll_state.specs.Joined as joined;
+ghost use Rattle.hll_state.specs.Joined.{IsJoined, JoinsEmpty, MergesInto, Restarts};
 ghost use Rattle.hll_state.specs.Merged as merged;
-ghost use Rattle.hll_state.specs.Merged.{HasRoomToMerge};
+ghost use Rattle.hll_state.specs.Merged.{HasRoomToMerge, HasSomeRegister};
 
 use crate::header::{HEADER_LEN, Header, Held};
 use hll_base::hll_type::HllType;
@@ -30,7 +32,8 @@ impl Header {
     /// Merges a sketch, as a union does whose bound is the `lg_k` of the state, and records the widths that are given for it.
     ///
     /// If no bound was given, a state of another `lg_k` than that of the sketch refuses it, and an empty state takes the other
-    /// `lg_k` first. An empty sketch changes nothing. Room is asked for first, and without it the meaning stays.
+    /// `lg_k` first. An empty sketch changes nothing in a state that is not empty; without a bound an empty state takes its
+    /// `lg_k` where that is greater. Room is asked for first, and without it the meaning stays.
     pub fn join<A: Allocator>(
         &mut self,
         body: &mut [[u8; 4]],
@@ -43,7 +46,9 @@ impl Header {
         ensures within { IsWithin self.new (length body.old) }
         ensures joined { IsJoined bounded widths (sketch_of_borrowed image.now) self.old body.old self.new body.new result }
     {
+        let widths = self.widths_after(widths, image.is_empty());
         if image.is_empty() {
+            self.join_empty(bounded, widths, image.lg_k());
             return Joined::Done;
         }
         if bounded || self.lg_k == image.lg_k() {
@@ -53,6 +58,32 @@ impl Header {
             return Joined::OtherLgK;
         }
         self.restart(body, widths, image)
+    }
+
+    /// Returns the widths of a state that another sketch is joined to. Those of empty sketches count only where all are empty.
+    fn widths_after(&self, widths: u8, other_is_empty: bool) -> u8
+        requires ours { self.now.widths < 8 }
+        requires widths { widths < 8 }
+        ensures is { (body : List (List ℕ)) → IsWithin self.now (length body) → HasSomeRegister (sketch_in self.now body) → result ≡ joined.widths_after self.now.widths widths (is_empty (sketch_in self.now body)) other_is_empty }
+        ensures within { result < 8 }
+    {
+        match (self.is_empty(), other_is_empty) {
+            (true, false) => widths,
+            (false, true) => self.widths,
+            _ => self.widths | widths,
+        }
+    }
+
+    /// Joins an empty sketch: an empty state without a bound takes its `lg_k` where that is greater.
+    fn join_empty(&mut self, bounded: bool, widths: u8, lg_k: u8)
+        requires widths { widths < 8 }
+        requires lg_k { IsLgK lg_k }
+        ensures { (body : List (List ℕ)) → JoinsEmpty bounded widths lg_k self.old self.new body }
+    {
+        if !bounded && self.lg_k < lg_k && self.is_empty() {
+            *self = Header::new(lg_k);
+        }
+        self.widths = widths;
     }
 
     /// Merges a sketch that is not empty into an empty state, which takes its `lg_k` first.
@@ -69,7 +100,7 @@ impl Header {
         ensures restarted { Restarts widths (sketch_of_borrowed image.now) self.old body.old self.new body.new result }
     {
         let mut started = Header {
-            widths: self.widths | widths,
+            widths,
             ..Header::new(image.lg_k())
         };
         let len = started.len_to_merge(image);
@@ -80,7 +111,7 @@ impl Header {
         Joined::Done
     }
 
-    /// Merges a sketch that is not empty and records its widths, or tells how many elements are enough.
+    /// Merges a sketch that is not empty and sets the widths, or tells how many elements are enough.
     fn merge_with_room<A: Allocator>(
         &mut self,
         body: &mut [[u8; 4]],
@@ -96,7 +127,7 @@ impl Header {
         if !self.merge_image(body, image) {
             return Joined::NoRoom(self.len_to_merge(image));
         }
-        self.widths |= widths;
+        self.widths = widths;
         Joined::Done
     }
 

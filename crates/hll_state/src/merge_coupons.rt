@@ -22,7 +22,7 @@ impl Header {
     /// Merges the coupons of a sketch, at least one and each once: an empty state at the same `lg_k` takes them whole, with the
     /// size of their table, and any other adds them. Returns whether there was room. If there was none, the meaning stays.
     ///
-    /// A state of registers counts as not empty, so all of its registers must not be 0, as no call leaves them.
+    /// A state of registers counts as not empty, so its registers must not all be 0, as no call leaves them.
     /// `lg_size` is the logarithm of the number of buckets of their table at `lg_k`: 3, or 5 to `lg_k` - 3. The number of
     /// elements that `most_elements` returns is always enough.
     pub fn merge_coupons(

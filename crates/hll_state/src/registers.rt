@@ -22,7 +22,7 @@ use hll_registers::registers::{Registers, two_to};
 
 /// How many elements are copied to the stack at a time: 2^14 registers.
 const PART: usize = 4096;
-/// The same where there are few: 2^12 registers, so that no larger copy is filled with zeros first.
+/// Few registers are copied in smaller parts, of 2^12 registers, so that less of the stack is filled with zeros first.
 const SMALL_PART: usize = 1024;
 
 /// Returns the register of a slot.
