@@ -19094,10 +19094,10 @@
 	stp	x24, x23, [sp, #144]
 	mov	x24, x3
 	stp	x22, x21, [sp, #160]
-	mov	x21, x6
-	mov	w22, w5
+	mov	x22, x6
+	mov	x21, x4
 	stp	x20, x19, [sp, #176]
-	mov	x20, x4
+	mov	w20, w5
 	mov	x19, x2
 	mov	w23, w1
 	stp	x29, x30, [sp, #96]
@@ -19110,43 +19110,109 @@
 	cmp	w8, #2
 	b.eq	.LBBd70951f4_6
 	cmp	w8, #3
-	b.ne	.LBBd70951f4_7
-	ldp	x0, x8, [x21, #16]
+	b.ne	.LBBd70951f4_9
+	ldp	x0, x8, [x22, #16]
 	add	x1, x8, x8, lsl #1
-	b	.LBBd70951f4_8
-.LBBd70951f4_4:
-	cbnz	w8, .LBBd70951f4_19
-	ldr	x8, [x21, #24]
-	cbnz	x8, .LBBd70951f4_9
-	b	.LBBd70951f4_13
-.LBBd70951f4_6:
-	ldrb	w8, [x21, #9]
-	cbnz	w8, .LBBd70951f4_9
-.LBBd70951f4_7:
-	ldp	x0, x1, [x21, #16]
-.LBBd70951f4_8:
 	bl	"hll_kernels::kernels::all_zero"
-	tbnz	w0, #0, .LBBd70951f4_13
+	ldr	x8, [sp, #32]
+	cbz	w27, .LBBd70951f4_17
+	b	.LBBd70951f4_26
+.LBBd70951f4_4:
+	cbnz	w8, .LBBd70951f4_10
+	ldr	x8, [x22, #24]
+	b	.LBBd70951f4_15
+.LBBd70951f4_6:
+	ldrb	w8, [x22, #9]
+	cbz	w8, .LBBd70951f4_9
+	cbnz	w27, .LBBd70951f4_34
+	ldr	x8, [sp, #32]
+	cbz	x8, .LBBd70951f4_35
+	b	.LBBd70951f4_34
 .LBBd70951f4_9:
-	sub	x2, x24, #10
-	cbnz	w23, .LBBd70951f4_11
-	ldrb	w8, [x21, #8]
-	cmp	w25, w8
+	ldp	x0, x1, [x22, #16]
+	bl	"hll_kernels::kernels::all_zero"
+	ldr	x8, [sp, #32]
+	cbz	w27, .LBBd70951f4_17
+	b	.LBBd70951f4_26
+.LBBd70951f4_10:
+	ldrb	w8, [x22, #16]
+	cmp	w8, #1
+	b.le	.LBBd70951f4_14
+	cmp	w8, #2
+	b.eq	.LBBd70951f4_21
+	cmp	w8, #3
 	b.ne	.LBBd70951f4_23
-.LBBd70951f4_11:
-	mov	x0, sp
-	add	x1, x19, #40
-	mov	x3, x21
-	bl	"hll_state::header::Header::merge_image::<#15c4de05cbec3970>"
-	ldrb	w27, [sp, #8]
-	cbz	w0, .LBBd70951f4_17
-	ldrb	w8, [sp, #1]
-	ldrb	w25, [sp]
-	orr	w26, w8, w22
-.LBBd70951f4_13:
+	ldp	x0, x8, [x22, #40]
+	add	x1, x8, x8, lsl #1
+	bl	"hll_kernels::kernels::all_zero"
+	ldr	x8, [sp, #32]
+	cbz	w27, .LBBd70951f4_17
+	b	.LBBd70951f4_26
+.LBBd70951f4_14:
+	ldr	x8, [x22, #32]
+.LBBd70951f4_15:
+	cmp	x8, #0
+.LBBd70951f4_16:
+	cset	w0, eq
+	ldr	x8, [sp, #32]
+	cbnz	w27, .LBBd70951f4_26
+.LBBd70951f4_17:
+	cbnz	x8, .LBBd70951f4_26
+	cbz	w0, .LBBd70951f4_20
+	orr	w20, w26, w20
+	cbz	w23, .LBBd70951f4_28
+	b	.LBBd70951f4_32
+.LBBd70951f4_20:
+	mov	w8, wzr
+	sub	x2, x24, #10
+	cbnz	w23, .LBBd70951f4_37
+	b	.LBBd70951f4_36
+.LBBd70951f4_21:
+	ldrb	w8, [x22, #25]
+	cbz	w8, .LBBd70951f4_51
+	mov	x8, xzr
+	b	.LBBd70951f4_52
+.LBBd70951f4_23:
+	ldrb	w8, [x22, #28]
+	cmp	w8, #1
+	b.ne	.LBBd70951f4_25
+	ldrb	w8, [x22, #24]
+	mov	w9, #1
+	ldr	w10, [x22, #32]
+	lsl	x8, x9, x8
+	cmp	x8, x10
+	b	.LBBd70951f4_16
+.LBBd70951f4_25:
+	ldp	x0, x1, [x22, #40]
+	bl	"hll_kernels::kernels::all_zero"
+	ldr	x8, [sp, #32]
+	cbz	w27, .LBBd70951f4_17
+.LBBd70951f4_26:
+	tbz	w0, #0, .LBBd70951f4_34
+	mov	w20, w26
+	cbnz	w23, .LBBd70951f4_32
+.LBBd70951f4_28:
+	cbnz	w27, .LBBd70951f4_32
+	ldrb	w9, [x22, #8]
+	cmp	w25, w9
+	b.hs	.LBBd70951f4_32
+	cbnz	x8, .LBBd70951f4_32
+	mov	w27, wzr
+	mov	w8, #3
+	mov	w25, w9
+	strb	w9, [sp]
+	str	xzr, [sp, #8]
+	strb	w8, [sp, #16]
+	stur	xzr, [sp, #17]
+	stur	xzr, [sp, #33]
+	stur	xzr, [sp, #25]
+	str	xzr, [sp, #40]
+.LBBd70951f4_32:
+	strb	w20, [sp, #1]
 	ldp	x10, x9, [sp, #16]
 	ldr	x8, [sp, #32]
-	cbz	w27, .LBBd70951f4_15
+	cbz	w27, .LBBd70951f4_39
+.LBBd70951f4_33:
 	ldrb	w11, [sp, #40]
 	mov	w14, #19521
 	lsr	x12, x10, #32
@@ -19155,8 +19221,30 @@
 	and	w10, w11, #0x1
 	and	x11, x9, #0xffffffff00000000
 	add	w14, w14, #1
-	b	.LBBd70951f4_16
-.LBBd70951f4_15:
+	b	.LBBd70951f4_40
+.LBBd70951f4_34:
+	orr	w20, w26, w20
+	mov	w8, #1
+.LBBd70951f4_35:
+	sub	x2, x24, #10
+	cbnz	w23, .LBBd70951f4_37
+.LBBd70951f4_36:
+	ldrb	w9, [x22, #8]
+	cmp	w25, w9
+	b.ne	.LBBd70951f4_43
+.LBBd70951f4_37:
+	mov	x0, sp
+	add	x1, x19, #40
+	mov	x3, x22
+	bl	"hll_state::header::Header::merge_image::<#15c4de05cbec3970>"
+	cbz	w0, .LBBd70951f4_41
+	ldrb	w25, [sp]
+	ldrb	w27, [sp, #8]
+	strb	w20, [sp, #1]
+	ldp	x10, x9, [sp, #16]
+	ldr	x8, [sp, #32]
+	cbnz	w27, .LBBd70951f4_33
+.LBBd70951f4_39:
 	mov	w14, #19521
 	mov	x11, xzr
 	ubfx	x13, x10, #8, #1
@@ -19164,27 +19252,28 @@
 	mov	w12, w9
 	mov	x9, x8
 	mov	x8, xzr
-.LBBd70951f4_16:
+.LBBd70951f4_40:
 	orr	x12, x13, x12, lsl #32
 	mov	w9, w9
 	stp	w14, w25, [x19]
-	and	w14, w26, #0xff
+	and	w14, w20, #0xff
 	and	w10, w10, #0xff
 	orr	x9, x11, x9
 	mov	w0, wzr
 	stp	w14, w10, [x19, #8]
 	stp	x12, x9, [x19, #16]
 	str	x8, [x19, #32]
-	b	.LBBd70951f4_36
-.LBBd70951f4_17:
+	b	.LBBd70951f4_50
+.LBBd70951f4_41:
 	mov	x0, sp
-	mov	x1, x21
+	mov	x1, x22
 	bl	"hll_state::header::Header::len_to_merge::<#15c4de05cbec3970>"
 	ldp	x10, x8, [sp, #24]
 	ldrb	w25, [sp]
 	ldrb	w26, [sp, #1]
+	ldrb	w11, [sp, #8]
 	ldr	x9, [sp, #16]
-	cbz	w27, .LBBd70951f4_34
+	cbz	w11, .LBBd70951f4_48
 	ldrb	w11, [sp, #40]
 	mov	w14, #19521
 	lsr	x12, x9, #32
@@ -19193,83 +19282,55 @@
 	and	w9, w11, #0x1
 	and	x11, x10, #0xffffffff00000000
 	add	w14, w14, #1
-	b	.LBBd70951f4_35
-.LBBd70951f4_19:
-	ldrb	w8, [x21, #16]
-	cmp	w8, #1
-	b.le	.LBBd70951f4_27
-	cmp	w8, #2
-	b.eq	.LBBd70951f4_28
-	cmp	w8, #3
-	b.ne	.LBBd70951f4_30
-	ldp	x0, x8, [x21, #40]
-	add	x1, x8, x8, lsl #1
-	b	.LBBd70951f4_8
-.LBBd70951f4_23:
+	b	.LBBd70951f4_49
+.LBBd70951f4_43:
+	tbz	w8, #0, .LBBd70951f4_45
 	mov	w0, #16
-	cbnz	w27, .LBBd70951f4_36
-	ldr	x9, [sp, #32]
-	cbnz	x9, .LBBd70951f4_36
+	b	.LBBd70951f4_50
+.LBBd70951f4_45:
 	movi	v0.2d, #0000000000000000
-	mov	w9, #3
+	mov	w8, #3
 	add	x0, sp, #48
-	strb	w9, [sp, #64]
-	orr	w9, w26, w22
-	mov	x1, x21
+	mov	x1, x22
 	stur	xzr, [sp, #65]
 	add	x24, sp, #48
+	strb	w8, [sp, #64]
 	mov	x23, x2
 	str	q0, [sp, #48]
-	strb	w8, [sp, #48]
-	strb	w9, [sp, #49]
+	strb	w9, [sp, #48]
+	strb	w20, [sp, #49]
 	stur	q0, [sp, #73]
 	str	xzr, [sp, #88]
 	bl	"hll_state::header::Header::len_to_merge::<#15c4de05cbec3970>"
-	mov	x22, x0
+	mov	x20, x0
 	add	x0, sp, #48
 	add	x1, x19, #40
 	mov	x2, x23
-	mov	x3, x21
+	mov	x3, x22
 	bl	"hll_state::header::Header::merge_image::<#15c4de05cbec3970>"
-	cbz	w0, .LBBd70951f4_33
+	cbz	w0, .LBBd70951f4_47
+	ldrb	w25, [sp, #48]
+	ldrb	w20, [sp, #49]
+	ldrb	w27, [sp, #56]
 	ldrb	w8, [sp, #64]
 	ldur	q0, [x24, #17]
-	ldrb	w25, [sp, #48]
 	ldur	q1, [x24, #32]
-	ldrb	w26, [sp, #49]
-	ldrb	w27, [sp, #56]
+	strb	w25, [sp]
+	strb	w20, [sp, #1]
+	str	x27, [sp, #8]
 	strb	w8, [sp, #16]
 	stur	q0, [sp, #17]
 	str	q1, [sp, #32]
-	b	.LBBd70951f4_13
-.LBBd70951f4_27:
-	ldr	x8, [x21, #32]
-	cbnz	x8, .LBBd70951f4_9
-	b	.LBBd70951f4_13
-.LBBd70951f4_28:
-	ldrb	w8, [x21, #25]
-	cbnz	w8, .LBBd70951f4_9
-	ldrb	w8, [x21, #24]
-	ldr	w10, [x21, #28]
-	b	.LBBd70951f4_32
-.LBBd70951f4_30:
-	ldrb	w8, [x21, #28]
-	cmp	w8, #1
-	b.ne	.LBBd70951f4_37
-	ldrb	w8, [x21, #24]
-	ldr	w10, [x21, #32]
-.LBBd70951f4_32:
-	mov	w9, #1
-	lsl	x8, x9, x8
-	cmp	x8, x10
-	b.ne	.LBBd70951f4_9
-	b	.LBBd70951f4_13
-.LBBd70951f4_33:
+	ldp	x10, x9, [sp, #16]
+	ldr	x8, [sp, #32]
+	cbnz	w27, .LBBd70951f4_33
+	b	.LBBd70951f4_39
+.LBBd70951f4_47:
 	ldr	x9, [sp, #16]
 	ldr	w10, [sp, #24]
 	mov	x8, xzr
-	mov	x0, x22
-.LBBd70951f4_34:
+	mov	x0, x20
+.LBBd70951f4_48:
 	mov	w14, #19521
 	mov	x11, xzr
 	ubfx	x13, x9, #8, #1
@@ -19277,7 +19338,7 @@
 	mov	w12, w10
 	mov	x10, x8
 	mov	x8, xzr
-.LBBd70951f4_35:
+.LBBd70951f4_49:
 	and	w9, w9, #0xff
 	orr	x12, x13, x12, lsl #32
 	mov	w10, w10
@@ -19288,8 +19349,8 @@
 	mov	w0, #14
 	stp	w14, w25, [x19]
 	str	x8, [x19, #32]
-	str	x9, [x20]
-.LBBd70951f4_36:
+	str	x9, [x21]
+.LBBd70951f4_50:
 	ldp	x20, x19, [sp, #176]
 	ldr	x27, [sp, #112]
 	ldp	x22, x21, [sp, #160]
@@ -19298,9 +19359,14 @@
 	ldp	x29, x30, [sp, #96]
 	add	sp, sp, #192
 	ret
-.LBBd70951f4_37:
-	ldp	x0, x1, [x21, #40]
-	b	.LBBd70951f4_8
+.LBBd70951f4_51:
+	ldr	w8, [x22, #28]
+.LBBd70951f4_52:
+	ldrb	w9, [x22, #24]
+	mov	w10, #1
+	lsl	x9, x10, x9
+	cmp	x9, x8
+	b	.LBBd70951f4_16
 .Lfunc_endd70951f4:
 	.size	"hll_c::join::join", .Lfunc_endd70951f4-"hll_c::join::join"
 

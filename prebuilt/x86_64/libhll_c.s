@@ -22559,143 +22559,134 @@
 	pushq	%r12
 	pushq	%rbx
 	subq	$136, %rsp
-	movl	%r9d, %r12d
-	movq	%r8, 24(%rsp)
-	movq	%rcx, %r13
+	movl	%r9d, %ebp
+	movq	%r8, 56(%rsp)
+	movq	%rcx, 80(%rsp)
 	movq	%rdx, %rbx
-	movl	%esi, %r8d
+	movl	%esi, %r12d
 	movq	192(%rsp), %r15
-	movzbl	(%rdi), %r11d
-	movzbl	1(%rdi), %r14d
-	movzbl	8(%rdi), %ebp
-	movq	$0, 32(%rsp)
-	movb	%r11b, 32(%rsp)
-	movb	%r14b, 33(%rsp)
-	movq	%rbp, 40(%rsp)
+	movzbl	(%rdi), %eax
+	movzbl	1(%rdi), %r13d
+	movzbl	8(%rdi), %r14d
+	movq	$0, 8(%rsp)
+	movq	%rax, 64(%rsp)
+	movb	%al, 8(%rsp)
+	movb	%r13b, 9(%rsp)
+	movq	%r14, 16(%rsp)
 	movdqu	16(%rdi), %xmm0
 	movups	32(%rdi), %xmm1
-	movups	%xmm1, 64(%rsp)
-	movdqu	%xmm0, 48(%rsp)
-	movzbl	(%r15), %ecx
+	movups	%xmm1, 40(%rsp)
+	movdqu	%xmm0, 24(%rsp)
+	movzbl	(%r15), %edx
 	leaq	.LJTId70951f4_0(%rip), %rax
-	movq	%rcx, 80(%rsp)
-	movslq	(%rax,%rcx,4), %rcx
+	movslq	(%rax,%rdx,4), %rcx
 	addq	%rax, %rcx
+	movq	%rdx, 72(%rsp)
 	jmpq	*%rcx
 .LBBd70951f4_1:
 	cmpq	$0, 24(%r15)
-	jne	.LBBd70951f4_18
-	jmp	.LBBd70951f4_46
-.LBBd70951f4_15:
-	movq	16(%r15), %rdi
-	movq	24(%r15), %rsi
-	jmp	.LBBd70951f4_16
-.LBBd70951f4_12:
-	cmpb	$0, 9(%r15)
-	jne	.LBBd70951f4_18
-	movq	16(%r15), %rdi
-	movq	24(%r15), %rsi
-	jmp	.LBBd70951f4_11
-.LBBd70951f4_14:
+	sete	%al
+	jmp	.LBBd70951f4_9
+.LBBd70951f4_2:
 	movq	16(%r15), %rdi
 	movq	24(%r15), %rax
 	leaq	(%rax,%rax,2), %rsi
-.LBBd70951f4_16:
-	movq	%rbp, 16(%rsp)
-	movl	%r12d, 12(%rsp)
-	movq	%r13, %r12
-	movl	%r14d, %r13d
-	movq	%rbx, %r14
-	movq	%r11, %rbx
-	movl	%r8d, %ebp
-	callq	"hll_kernels::kernels::all_zero"
-	movl	%ebp, %r8d
-	movq	%rbx, %r11
-	movq	%r14, %rbx
-	movl	%r13d, %r14d
-	movq	%r12, %r13
-	movl	12(%rsp), %r12d
-	movq	16(%rsp), %rbp
-	testb	%al, %al
-	je	.LBBd70951f4_18
-	jmp	.LBBd70951f4_46
-.LBBd70951f4_2:
-	movzbl	16(%r15), %eax
-	leaq	.LJTId70951f4_1(%rip), %rcx
-	movslq	(%rcx,%rax,4), %rax
-	addq	%rcx, %rax
-	jmpq	*%rax
+	jmp	.LBBd70951f4_8
 .LBBd70951f4_3:
-	cmpq	$0, 32(%r15)
-	jne	.LBBd70951f4_18
-	jmp	.LBBd70951f4_46
-.LBBd70951f4_8:
-	cmpb	$1, 28(%r15)
-	jne	.LBBd70951f4_10
-	movl	32(%r15), %eax
-	jmp	.LBBd70951f4_6
-.LBBd70951f4_4:
-	cmpb	$0, 25(%r15)
-	jne	.LBBd70951f4_18
-	movl	28(%r15), %eax
-.LBBd70951f4_6:
-	movzbl	24(%r15), %ecx
-	movl	$1, %edx
-	shlq	%cl, %rdx
-	cmpq	%rax, %rdx
-	jne	.LBBd70951f4_18
-	jmp	.LBBd70951f4_46
-.LBBd70951f4_7:
-	movq	40(%r15), %rdi
-	movq	48(%r15), %rax
-	leaq	(%rax,%rax,2), %rsi
+	cmpb	$0, 9(%r15)
+	je	.LBBd70951f4_7
+	testb	%r14b, %r14b
+	jne	.LBBd70951f4_11
+	cmpq	$0, 40(%rsp)
+	je	.LBBd70951f4_17
 	jmp	.LBBd70951f4_11
-.LBBd70951f4_10:
-	movq	40(%r15), %rdi
-	movq	48(%r15), %rsi
-.LBBd70951f4_11:
-	movq	%r11, 16(%rsp)
-	movl	%r8d, 12(%rsp)
+.LBBd70951f4_7:
+	movq	16(%r15), %rdi
+	movq	24(%r15), %rsi
+.LBBd70951f4_8:
 	callq	"hll_kernels::kernels::all_zero"
-	movl	12(%rsp), %r8d
-	movq	16(%rsp), %r11
+.LBBd70951f4_9:
+	testb	%r14b, %r14b
+	setne	%dl
+	movq	40(%rsp), %rcx
+	testq	%rcx, %rcx
+	setne	%sil
+	orb	%dl, %sil
+	je	.LBBd70951f4_12
 	testb	%al, %al
-	jne	.LBBd70951f4_46
+	jne	.LBBd70951f4_14
+.LBBd70951f4_11:
+	orb	%bpl, %r13b
+	movb	$1, %dil
+	movl	%r13d, %ebp
+	jmp	.LBBd70951f4_18
+.LBBd70951f4_12:
+	testb	%al, %al
+	je	.LBBd70951f4_17
+	orb	%bpl, %r13b
+.LBBd70951f4_14:
+	movl	%r13d, %ebp
+	testq	%rcx, %rcx
+	setne	%cl
+	testb	%r14b, %r14b
+	setne	%dl
+	testl	%r12d, %r12d
+	setne	%sil
+	movzbl	8(%r15), %eax
+	movq	64(%rsp), %r11
+	cmpb	%al, %r11b
+	setae	%dil
+	orb	%dl, %sil
+	orb	%cl, %sil
+	orb	%dil, %sil
+	jne	.LBBd70951f4_16
+	movb	%al, 8(%rsp)
+	movq	$0, 16(%rsp)
+	movb	$3, 24(%rsp)
+	pxor	%xmm0, %xmm0
+	movdqu	%xmm0, 25(%rsp)
+	movdqu	%xmm0, 40(%rsp)
+	xorl	%r14d, %r14d
+	movl	%eax, %r11d
+.LBBd70951f4_16:
+	movb	%bpl, 9(%rsp)
+	jmp	.LBBd70951f4_22
+.LBBd70951f4_17:
+	xorl	%edi, %edi
 .LBBd70951f4_18:
 	leaq	40(%rbx), %rsi
-	addq	$-10, %r13
-	testl	%r8d, %r8d
+	movq	80(%rsp), %rdx
+	addq	$-10, %rdx
+	testl	%r12d, %r12d
 	jne	.LBBd70951f4_20
 	movzbl	8(%r15), %ecx
-	cmpb	%cl, %r11b
-	jne	.LBBd70951f4_32
+	cmpb	%cl, 64(%rsp)
+	jne	.LBBd70951f4_30
 .LBBd70951f4_20:
-	leaq	32(%rsp), %rdi
-	movq	%r13, %rdx
+	leaq	8(%rsp), %rdi
 	movq	%r15, %rcx
 	callq	"hll_state::header::Header::merge_image::<#15c4de05cbec3970>"
 	testb	%al, %al
-	je	.LBBd70951f4_21
-	orb	33(%rsp), %r12b
-	movzbl	32(%rsp), %r11d
-	movzbl	40(%rsp), %ebp
-	movl	%r12d, %r14d
-.LBBd70951f4_46:
-	movq	48(%rsp), %rsi
-	movq	56(%rsp), %rcx
-	movq	64(%rsp), %rax
-	testb	%bpl, %bpl
-	je	.LBBd70951f4_47
+	je	.LBBd70951f4_26
+	movb	%bpl, 9(%rsp)
+	movzbl	8(%rsp), %r11d
+	movzbl	16(%rsp), %r14d
+.LBBd70951f4_22:
+	movq	24(%rsp), %rsi
+	movq	32(%rsp), %rcx
+	movq	40(%rsp), %rax
+	testb	%r14b, %r14b
+	je	.LBBd70951f4_24
 	movq	%rsi, %rdx
 	movl	%esi, %edi
-	movzbl	72(%rsp), %esi
+	movzbl	48(%rsp), %esi
 	andb	$1, %sil
 	shrq	$32, %rdx
 	movabsq	$-4294967296, %r8
 	andq	%rcx, %r8
 	movl	$1279806530, %r9d
-	jmp	.LBBd70951f4_49
-.LBBd70951f4_47:
+	jmp	.LBBd70951f4_25
+.LBBd70951f4_24:
 	movl	%esi, %edi
 	shrl	$8, %edi
 	andl	$1, %edi
@@ -22704,134 +22695,162 @@
 	xorl	%r8d, %r8d
 	movq	%rax, %rcx
 	xorl	%eax, %eax
-.LBBd70951f4_49:
+.LBBd70951f4_25:
 	movzbl	%sil, %esi
-	movzbl	%r14b, %r10d
-	movd	%r10d, %xmm0
-	pinsrb	$1, %esi, %xmm0
-	movzbl	%r11b, %esi
+	movzbl	%bpl, %r10d
+	movzbl	%r11b, %r11d
+	movd	%r11d, %xmm0
+	pinsrb	$1, %r10d, %xmm0
 	shlq	$32, %rdx
 	orq	%rdi, %rdx
 	movl	%ecx, %ecx
 	orq	%r8, %rcx
 	movl	%r9d, (%rbx)
-	movl	%esi, 4(%rbx)
 	pmovzxbd	%xmm0, %xmm0
-	movq	%xmm0, 8(%rbx)
+	movq	%xmm0, 4(%rbx)
+	movl	%esi, 12(%rbx)
 	movq	%rdx, 16(%rbx)
 	movq	%rcx, 24(%rbx)
 	movq	%rax, 32(%rbx)
 	xorl	%eax, %eax
-	jmp	.LBBd70951f4_55
-.LBBd70951f4_21:
+	jmp	.LBBd70951f4_54
+.LBBd70951f4_26:
 	movzbl	(%r15), %eax
 	leal	-2(%rax), %ecx
 	cmpl	$3, %ecx
-	jae	.LBBd70951f4_22
-.LBBd70951f4_50:
+	jae	.LBBd70951f4_35
+.LBBd70951f4_27:
 	movzbl	8(%r15), %esi
-	movzbl	40(%rsp), %edx
-	movq	64(%rsp), %rax
+	movzbl	16(%rsp), %edx
+	movq	40(%rsp), %rax
 	leaq	10(%rax), %rcx
 	testb	%dl, %dl
 	movl	$10, %edi
 	cmoveq	%rcx, %rdi
-	movl	32(%rsp), %ecx
-	cmpb	%cl, %sil
-	movq	%rcx, %r12
+	movl	8(%rsp), %r10d
+	cmpb	%r10b, %sil
+	movl	%r10d, %ecx
 	cmovbl	%esi, %ecx
 	addb	$-2, %cl
-	movl	$1, %r14d
-	shlq	%cl, %r14
-	addq	%rdi, %r14
-	movq	24(%rsp), %r11
-	jmp	.LBBd70951f4_51
-.LBBd70951f4_32:
+	movl	$1, %r13d
+	shlq	%cl, %r13
+	addq	%rdi, %r13
+	movq	56(%rsp), %r11
+	jmp	.LBBd70951f4_50
+.LBBd70951f4_28:
+	movzbl	16(%r15), %eax
+	leaq	.LJTId70951f4_1(%rip), %rcx
+	movslq	(%rcx,%rax,4), %rax
+	addq	%rcx, %rax
+	jmpq	*%rax
+.LBBd70951f4_29:
+	cmpq	$0, 32(%r15)
+	sete	%al
+	jmp	.LBBd70951f4_9
+.LBBd70951f4_30:
 	movb	$16, %al
-	testb	%bpl, %bpl
-	jne	.LBBd70951f4_55
-	cmpq	$0, 64(%rsp)
-	jne	.LBBd70951f4_55
+	testb	%dil, %dil
+	jne	.LBBd70951f4_54
 	pxor	%xmm0, %xmm0
 	movdqu	%xmm0, 88(%rsp)
-	orb	%r12b, %r14b
 	movdqu	%xmm0, 105(%rsp)
 	movdqu	%xmm0, 120(%rsp)
 	movb	%cl, 88(%rsp)
-	movb	%r14b, 89(%rsp)
+	movb	%bpl, 89(%rsp)
 	movb	$3, 104(%rsp)
-	movq	80(%rsp), %rdx
-	leal	-2(%rdx), %eax
+	movq	72(%rsp), %rdi
+	leal	-2(%rdi), %eax
 	cmpl	$3, %eax
-	jae	.LBBd70951f4_35
-.LBBd70951f4_41:
-	movq	%r11, %r12
+	jae	.LBBd70951f4_55
+.LBBd70951f4_32:
 	addb	$-2, %cl
-	movl	$1, %r14d
-	shlq	%cl, %r14
-.LBBd70951f4_42:
+	movl	$1, %r13d
+	shlq	%cl, %r13
+.LBBd70951f4_33:
 	leaq	88(%rsp), %rdi
-	movq	%r13, %rdx
 	movq	%r15, %rcx
 	callq	"hll_state::header::Header::merge_image::<#15c4de05cbec3970>"
 	testb	%al, %al
-	je	.LBBd70951f4_44
+	je	.LBBd70951f4_46
 	leaq	105(%rsp), %rax
 	movzbl	88(%rsp), %r11d
-	movzbl	89(%rsp), %r14d
-	movzbl	96(%rsp), %ebp
+	movzbl	89(%rsp), %ebp
+	movzbl	96(%rsp), %r14d
 	movzbl	104(%rsp), %ecx
-	movb	%cl, 48(%rsp)
+	movb	%r11b, 8(%rsp)
+	movb	%bpl, 9(%rsp)
+	movq	%r14, 16(%rsp)
+	movb	%cl, 24(%rsp)
 	movdqu	(%rax), %xmm0
 	movups	15(%rax), %xmm1
-	movdqu	%xmm0, 49(%rsp)
-	movups	%xmm1, 64(%rsp)
-	jmp	.LBBd70951f4_46
-.LBBd70951f4_22:
+	movdqu	%xmm0, 25(%rsp)
+	movups	%xmm1, 40(%rsp)
+	jmp	.LBBd70951f4_22
+.LBBd70951f4_35:
 	cmpl	$1, %eax
-	jne	.LBBd70951f4_23
+	jne	.LBBd70951f4_38
 	movzbl	16(%r15), %eax
 	leal	-2(%rax), %ecx
 	cmpl	$3, %ecx
-	jb	.LBBd70951f4_50
+	jb	.LBBd70951f4_27
 	cmpl	$1, %eax
 	addq	$32, %r15
-	jmp	.LBBd70951f4_26
-.LBBd70951f4_23:
+	jmp	.LBBd70951f4_39
+.LBBd70951f4_38:
 	addq	$24, %r15
-.LBBd70951f4_26:
-	movzbl	40(%rsp), %edx
+.LBBd70951f4_39:
+	movzbl	16(%rsp), %edx
 	testb	%dl, %dl
-	je	.LBBd70951f4_27
-	movzbl	32(%rsp), %eax
-	movq	%rax, %r12
-	leal	-2(%rax), %ecx
-	movl	$1, %r14d
-	shlq	%cl, %r14
-	movq	64(%rsp), %rax
-	jmp	.LBBd70951f4_31
-.LBBd70951f4_44:
-	addq	$10, %r14
-	movzbl	33(%rsp), %r8d
-	movq	48(%rsp), %rsi
-	movl	56(%rsp), %ecx
+	je	.LBBd70951f4_47
+	movzbl	8(%rsp), %r10d
+	leal	-2(%r10), %ecx
+	movl	$1, %r13d
+	shlq	%cl, %r13
+	movq	40(%rsp), %rax
+	jmp	.LBBd70951f4_49
+.LBBd70951f4_41:
+	cmpb	$1, 28(%r15)
+	jne	.LBBd70951f4_58
+	movzbl	24(%r15), %ecx
+	movl	$1, %eax
+	shlq	%cl, %rax
+	movl	32(%r15), %ecx
+	cmpq	%rcx, %rax
+	sete	%al
+	jmp	.LBBd70951f4_9
+.LBBd70951f4_43:
+	cmpb	$0, 25(%r15)
+	je	.LBBd70951f4_59
 	xorl	%eax, %eax
-	movq	24(%rsp), %r11
+	jmp	.LBBd70951f4_60
+.LBBd70951f4_45:
+	movq	40(%r15), %rdi
+	movq	48(%r15), %rax
+	leaq	(%rax,%rax,2), %rsi
+	jmp	.LBBd70951f4_8
+.LBBd70951f4_46:
+	addq	$10, %r13
+	movzbl	9(%rsp), %r8d
+	movq	24(%rsp), %rsi
+	movl	32(%rsp), %ecx
+	xorl	%eax, %eax
+	movq	56(%rsp), %r11
+	movq	64(%rsp), %r10
 	jmp	.LBBd70951f4_52
-.LBBd70951f4_27:
-	movq	64(%rsp), %rax
+.LBBd70951f4_47:
+	movq	40(%rsp), %rax
 	movq	(%r15), %rcx
 	addq	%rax, %rcx
 	movq	$-1, %rsi
 	cmovbq	%rsi, %rcx
-	movq	%rcx, %r14
-	shrq	%r14
-	addq	$8, %r14
-	addq	%rcx, %r14
-	cmovbq	%rsi, %r14
-	movzbl	32(%rsp), %r8d
-	leal	-3(%r8), %ecx
-	cmpb	$8, %r8b
+	movq	%rcx, %r13
+	shrq	%r13
+	addq	$8, %r13
+	addq	%rcx, %r13
+	cmovbq	%rsi, %r13
+	movzbl	8(%rsp), %r10d
+	leal	-3(%r10), %ecx
+	cmpb	$8, %r10b
 	movzbl	%cl, %esi
 	movl	$3, %ecx
 	cmovael	%esi, %ecx
@@ -22841,67 +22860,53 @@
 	cmpb	$3, %cl
 	movl	$7, %ecx
 	cmovneq	%rdi, %rcx
-	cmpq	%rcx, %r14
-	jbe	.LBBd70951f4_28
-	movq	%r8, %r12
-	leal	-2(%r8), %ecx
-	movl	$1, %r14d
+	cmpq	%rcx, %r13
+	jbe	.LBBd70951f4_49
+	leal	-2(%r10), %ecx
+	movl	$1, %r13d
 	movl	$1, %edi
 	shlq	%cl, %rdi
 	cmpb	$5, %sil
 	movl	$4, %ecx
 	cmovael	%esi, %ecx
-	shlq	%cl, %r14
-	addq	%rdi, %r14
-	jmp	.LBBd70951f4_31
-.LBBd70951f4_35:
-	cmpl	$1, %edx
-	jne	.LBBd70951f4_36
-	movzbl	16(%r15), %eax
-	leal	-2(%rax), %edx
-	cmpl	$3, %edx
-	jb	.LBBd70951f4_41
-	cmpl	$1, %eax
-	leaq	32(%r15), %rax
-	jmp	.LBBd70951f4_39
-.LBBd70951f4_28:
-	movq	%r8, %r12
-.LBBd70951f4_31:
-	movq	24(%rsp), %r11
-	addq	$10, %r14
-.LBBd70951f4_51:
-	movzbl	33(%rsp), %r8d
-	movq	48(%rsp), %rsi
-	movq	56(%rsp), %rcx
+	shlq	%cl, %r13
+	addq	%rdi, %r13
+.LBBd70951f4_49:
+	movq	56(%rsp), %r11
+	addq	$10, %r13
+.LBBd70951f4_50:
+	movzbl	9(%rsp), %r8d
+	movq	24(%rsp), %rsi
+	movq	32(%rsp), %rcx
 	testb	%dl, %dl
 	je	.LBBd70951f4_52
 	movq	%rsi, %rdx
 	movl	%esi, %edi
-	movzbl	72(%rsp), %esi
+	movzbl	48(%rsp), %esi
 	andb	$1, %sil
 	shrq	$32, %rdx
 	movabsq	$-4294967296, %r9
 	andq	%rcx, %r9
 	movzbl	%r8b, %r8d
-	movzbl	%r12b, %r10d
+	movzbl	%r10b, %r10d
 	movd	%r10d, %xmm0
 	pinsrb	$1, %r8d, %xmm0
 	movl	$1279806530, %r8d
-	jmp	.LBBd70951f4_54
+	jmp	.LBBd70951f4_53
 .LBBd70951f4_52:
 	movl	%esi, %edi
 	shrl	$8, %edi
 	andl	$1, %edi
 	movl	%ecx, %edx
 	movzbl	%r8b, %ecx
-	movzbl	%r12b, %r8d
+	movzbl	%r10b, %r8d
 	movd	%r8d, %xmm0
 	pinsrb	$1, %ecx, %xmm0
 	movl	$1279806529, %r8d
 	xorl	%r9d, %r9d
 	movq	%rax, %rcx
 	xorl	%eax, %eax
-.LBBd70951f4_54:
+.LBBd70951f4_53:
 	movzbl	%sil, %esi
 	shlq	$32, %rdx
 	orq	%rdi, %rdx
@@ -22914,10 +22919,10 @@
 	movq	%rdx, 16(%rbx)
 	movq	%rcx, 24(%rbx)
 	movq	%rax, 32(%rbx)
-	shlq	$2, %r14
-	movq	%r14, (%r11)
+	shlq	$2, %r13
+	movq	%r13, (%r11)
 	movb	$14, %al
-.LBBd70951f4_55:
+.LBBd70951f4_54:
 	addq	$136, %rsp
 	popq	%rbx
 	popq	%r12
@@ -22926,19 +22931,41 @@
 	popq	%r15
 	popq	%rbp
 	retq
-.LBBd70951f4_36:
+.LBBd70951f4_55:
+	cmpl	$1, %edi
+	jne	.LBBd70951f4_61
+	movzbl	16(%r15), %eax
+	leal	-2(%rax), %edi
+	cmpl	$3, %edi
+	jb	.LBBd70951f4_32
+	cmpl	$1, %eax
+	leaq	32(%r15), %rax
+	jmp	.LBBd70951f4_62
+.LBBd70951f4_58:
+	movq	40(%r15), %rdi
+	movq	48(%r15), %rsi
+	jmp	.LBBd70951f4_8
+.LBBd70951f4_59:
+	movl	28(%r15), %eax
+.LBBd70951f4_60:
+	movzbl	24(%r15), %ecx
+	movl	$1, %edx
+	shlq	%cl, %rdx
+	cmpq	%rax, %rdx
+	sete	%al
+	jmp	.LBBd70951f4_9
+.LBBd70951f4_61:
 	leaq	24(%r15), %rax
-.LBBd70951f4_39:
-	movq	%r11, %r12
+.LBBd70951f4_62:
 	movq	(%rax), %rax
-	movq	%rax, %rdx
-	shrq	%rdx
-	addq	$8, %rdx
-	addq	%rax, %rdx
-	movq	$-1, %r14
-	cmovaeq	%rdx, %r14
+	movq	%rax, %rdi
+	shrq	%rdi
+	addq	$8, %rdi
+	addq	%rax, %rdi
+	movq	$-1, %r13
+	cmovaeq	%rdi, %r13
 	leal	-3(%rcx), %eax
-	movq	%rcx, %rdx
+	movq	%rcx, %r8
 	cmpb	$8, %cl
 	movzbl	%al, %eax
 	movl	$3, %ecx
@@ -22949,35 +22976,35 @@
 	cmpb	$3, %cl
 	movl	$7, %ecx
 	cmovneq	%rdi, %rcx
-	cmpq	%rcx, %r14
-	jbe	.LBBd70951f4_42
-	movq	%rdx, %rcx
+	cmpq	%rcx, %r13
+	jbe	.LBBd70951f4_33
+	movq	%r8, %rcx
 	addb	$-2, %cl
-	movl	$1, %r14d
-	movl	$1, %edx
-	shlq	%cl, %rdx
+	movl	$1, %r13d
+	movl	$1, %edi
+	shlq	%cl, %rdi
 	cmpb	$5, %al
 	movl	$4, %ecx
 	cmovael	%eax, %ecx
-	shlq	%cl, %r14
-	addq	%rdx, %r14
-	jmp	.LBBd70951f4_42
+	shlq	%cl, %r13
+	addq	%rdi, %r13
+	jmp	.LBBd70951f4_33
 .Lfunc_endd70951f4:
 	.size	"hll_c::join::join", .Lfunc_endd70951f4-"hll_c::join::join"
 	.section	".rodata.hll_c::join::join","a",@progbits
 	.p2align	2, 0x0
 .LJTId70951f4_0:
 	.long	.LBBd70951f4_1-.LJTId70951f4_0
+	.long	.LBBd70951f4_28-.LJTId70951f4_0
+	.long	.LBBd70951f4_3-.LJTId70951f4_0
 	.long	.LBBd70951f4_2-.LJTId70951f4_0
-	.long	.LBBd70951f4_12-.LJTId70951f4_0
-	.long	.LBBd70951f4_14-.LJTId70951f4_0
-	.long	.LBBd70951f4_15-.LJTId70951f4_0
+	.long	.LBBd70951f4_7-.LJTId70951f4_0
 .LJTId70951f4_1:
-	.long	.LBBd70951f4_3-.LJTId70951f4_1
-	.long	.LBBd70951f4_3-.LJTId70951f4_1
-	.long	.LBBd70951f4_4-.LJTId70951f4_1
-	.long	.LBBd70951f4_7-.LJTId70951f4_1
-	.long	.LBBd70951f4_8-.LJTId70951f4_1
+	.long	.LBBd70951f4_29-.LJTId70951f4_1
+	.long	.LBBd70951f4_29-.LJTId70951f4_1
+	.long	.LBBd70951f4_43-.LJTId70951f4_1
+	.long	.LBBd70951f4_45-.LJTId70951f4_1
+	.long	.LBBd70951f4_41-.LJTId70951f4_1
 
 	.section	.rodata.cst16,"aM",@progbits,16
 	.p2align	4, 0x0
