@@ -17,7 +17,7 @@ import dask.dataframe
 import pandas
 from distributed import Client, LocalCluster
 
-from hll_sketches import ArgumentError, Sketch
+from hll_sketches import ArgumentError, PrecisionError, Sketch, union_of
 from hll_sketches.dask import (
     LeftOut, PlacedImageError, sketch_aggregation, union_aggregation, union_by_key, union_of_bag, union_of_files)
 from images import built_program, random_image, with_words
@@ -28,6 +28,9 @@ FILES = 2000 if "--quick" in sys.argv else 10000
 
 
 # ---- images and files
+
+files_at_12, bag_at_12, by_key_at_12 = (
+    functools.partial(call, lg_max_k=12, width=8) for call in (union_of_files, union_of_bag, union_by_key))
 
 
 def random_images(count, lg_k=None):
@@ -81,16 +84,16 @@ def error_of(lazy):
 def files(client, folder, images, paths):
     """Any grouping, order and repetition, bound and width."""
     wanted = union_by_program(images)
-    equal("files", image_by(union_of_files(paths)), wanted)
+    equal("files", image_by(files_at_12(paths)), wanted)
     twice = [pathlib.Path(path) for path in paths[::-1] + paths]
-    equal("files backwards and twice", image_by(union_of_files(twice)), wanted)
+    equal("files backwards and twice", image_by(files_at_12(twice)), wanted)
     urls = ["file://" + path for path in paths[:300]]
-    equal("URLs", image_by(union_of_files(urls)), union_by_program(images[:300]))
+    equal("URLs", image_by(files_at_12(urls)), union_by_program(images[:300]))
     equal("bound and width", image_by(union_of_files(iter(paths), 10, 4)), union_by_program(images, 10, 4))
-    some = union_of_files(paths[:2000], files_per_task=7, split_every=3)
+    some = files_at_12(paths[:2000], files_per_task=7, split_every=3)
     equal("files in small tasks", image_by(some), union_by_program(images[:2000]))
     for count in (0, 1, 8, 9, 64, 65):
-        found = image_by(union_of_files(paths[:count], files_per_task=1))
+        found = image_by(files_at_12(paths[:count], files_per_task=1))
         equal("%d files" % count, found, union_by_program(images[:count]))
     larger = random_images(100, 14)
     found = image_by(union_of_files(write_files(folder, larger, "larger"), 13, files_per_task=9, split_every=2))
@@ -107,10 +110,10 @@ def refused_files(client, folder, images, paths):
         bad = folder / ("bad %s.bin" % name)
         bad.write_bytes(image)
         changed = paths[:number] + [str(bad)] + paths[number + 1:]
-        equal("refused file, " + name, error_of(union_of_files(changed)), (reason, number, str(bad)))
+        equal("refused file, " + name, error_of(files_at_12(changed)), (reason, number, str(bad)))
     missing = str(folder / "missing")
     try:
-        union_of_files(paths[:300] + [missing]).compute()
+        files_at_12(paths[:300] + [missing]).compute()
         check("missing file", False)
     except FileNotFoundError as error:
         equal("missing file", error.filename, missing)
@@ -119,17 +122,17 @@ def refused_files(client, folder, images, paths):
 def patterns(client, folder, images, paths):
     """A name or a pattern, of the local file system and of another one that has options of its own."""
     wanted = union_by_program(images)
-    equal("a pattern", image_by(union_of_files(str(folder / "image *.bin"))), wanted)
-    equal("one name", image_by(union_of_files(paths[7])), union_by_program(images[7:8]))
+    equal("a pattern", image_by(files_at_12(str(folder / "image *.bin"))), wanted)
+    equal("one name", image_by(files_at_12(paths[7])), union_by_program(images[7:8]))
     options = {"target_protocol": "file", "cache_storage": str(folder / "cache")}
-    found = image_by(union_of_files("simplecache://" + str(folder / "image 0000*.bin"), storage_options=options))
+    found = image_by(files_at_12("simplecache://" + str(folder / "image 0000*.bin"), storage_options=options))
     equal("storage_options with a pattern", found, union_by_program(images[:10]))
     urls = ["simplecache://" + path for path in paths[:10]]
-    equal("storage_options with names", image_by(union_of_files(urls, storage_options=options)), union_by_program(images[:10]))
+    equal("storage_options with names", image_by(files_at_12(urls, storage_options=options)), union_by_program(images[:10]))
     check("the other file system was asked", len(os.listdir(folder / "cache")) >= 10)
     for pattern in ("none*.bin", "none.bin"):
         try:
-            union_of_files(str(folder / pattern)).compute()
+            files_at_12(str(folder / pattern)).compute()
             check("no file, " + pattern, False)
         except FileNotFoundError as error:
             check("no file, " + pattern, str(folder / pattern) in str(error), error)
@@ -140,23 +143,23 @@ def left_out(client, folder, images, paths):
     cut, missing = folder / "cut.bin", folder / "missing"
     cut.write_bytes(images[3][:5])
     some = paths[:200] + [str(cut)] + paths[200:300] + [str(missing)]
-    found = union_of_files(some, on_error="skip", files_per_task=9, split_every=2).compute()
+    found = files_at_12(some, on_error="skip", files_per_task=9, split_every=2).compute()
     equal("files skipped: the union", found.union.to_bytes(), union_by_program(images[:300]))
     equal("files skipped: names", found.refused, [(str(cut), "truncated"), (str(missing), "No such file or directory")])
-    equal("none skipped", union_of_files(paths[:300], on_error="skip").compute(), LeftOut(found.union, []))
+    equal("none skipped", files_at_12(paths[:300], on_error="skip").compute(), LeftOut(found.union, []))
 
     bag = dask.bag.from_sequence([images[0], images[1][:4], images[2]], npartitions=3)
-    found = union_of_bag(bag, on_error="skip").compute()
+    found = bag_at_12(bag, on_error="skip").compute()
     equal("items skipped", (found.union.to_bytes(), found.refused),
           (union_by_program([images[0], images[2]]), [("partition 1, item 0", "truncated")]))
 
     frame = pandas.DataFrame({"day": [1, 1, 2, 2], "image": [images[0], b"", images[1], images[2]]})
-    found = union_by_key(dask.dataframe.from_pandas(frame, npartitions=1), "day", "image", on_error="skip").compute()
+    found = by_key_at_12(dask.dataframe.from_pandas(frame, npartitions=1), "day", "image", on_error="skip").compute()
     equal("rows skipped", (found.union.to_dict(), found.refused),
           ({1: union_by_program(images[:1]), 2: union_by_program(images[1:3])}, [("partition 0, row 1", "truncated")]))
     frame = pandas.DataFrame({"day": [n % 2 for n in range(40)], "image": [images[n] if n % 9 else b"" for n in range(40)]})
     parts = dask.dataframe.from_pandas(frame, npartitions=10)
-    found = union_by_key(parts, "day", "image", on_error="skip", split_every=2).compute()
+    found = by_key_at_12(parts, "day", "image", on_error="skip", split_every=2).compute()
     wanted = [("partition %d, row %d" % divmod(n, 4), "truncated") for n in range(0, 40, 9)]
     equal("rows skipped in a tree", found.refused, wanted)
     try:
@@ -193,7 +196,7 @@ def aggregations(client, folder, images, paths):
     equal("beside another aggregation", found["number"].to_dict(), frame.groupby(keys)["number"].max().to_dict())
 
     frame.loc[777, "image"] = images[5][:6]
-    bad = dask.dataframe.from_pandas(frame, npartitions=13).groupby("day")["image"].agg(union_aggregation())
+    bad = dask.dataframe.from_pandas(frame, npartitions=13).groupby("day")["image"].agg(union_aggregation(12))
     equal("a refused row of a group", error_of(bad)[::2], ("truncated", "row 777"))
 
 
@@ -206,13 +209,103 @@ def arguments(client, folder, images, paths):
             check("arguments", True)
 
 
+def sketch_of(lg_k, count, width=8, first=0):
+    made = Sketch(lg_k, width)
+    made.update_many(range(first, first + count))
+    return made
+
+
+def refused_lg_k(lazy):
+    """How sketches of another lg_k are refused: both lg_k and the place; None where they aren't."""
+    try:
+        lazy.compute()
+    except PrecisionError as error:
+        return {error.lg_k, error.other_lg_k}, error.place
+    return None
+
+
+def precision(client, folder, images, paths):
+    """Without a bound sketches of one lg_k are merged at it, in any tree, and no others; empty ones count for nothing."""
+    numbers = random.Random(8)
+    sketches = [sketch_of(14, numbers.choice((3, 300, 40000)), 4, numbers.randrange(90000)) for _ in range(60)]
+    empty = [Sketch(9), Sketch(21, 6), Sketch(14)]
+    mixed = sketches + empty * 5
+    numbers.shuffle(mixed)
+    wanted = union_of(sketches).to_bytes()
+    equal("lg_k and width of the sketches", (wanted[3], Sketch.from_bytes(wanted).width), (14, 4))
+    files = write_files(folder, [one.to_bytes() for one in mixed], "fine")
+    frame = pandas.DataFrame({"day": [1] * len(mixed), "image": [one.to_bytes() for one in mixed]})
+    for parts in (1, 7, 30):
+        tree = {"files_per_task": -(-len(files) // parts), "split_every": 2}
+        equal("files in %d tasks" % parts, image_by(union_of_files(files, **tree)), wanted)
+        bag = dask.bag.from_sequence(mixed, npartitions=parts)
+        equal("a bag in %d parts" % parts, image_by(union_of_bag(bag, split_every=2)), wanted)
+        table = dask.dataframe.from_pandas(frame, npartitions=parts)
+        equal("rows in %d parts" % parts, union_by_key(table, "day", "image", split_every=2).compute().to_dict(), {1: wanted})
+        found = table.groupby("day")["image"].agg(union_aggregation(), split_every=2).compute()
+        equal("groups in %d parts" % parts, found.to_dict(), {1: wanted})
+    none = union_of_bag(dask.bag.from_sequence(empty * 4, npartitions=6), split_every=2)
+    equal("empty sketches", image_by(none), union_of(empty).to_bytes())
+    equal("their lg_k", image_by(none)[3], 21)
+    equal("no sketches", image_by(union_of_files([])), Sketch().to_bytes())
+
+    odd = sketch_of(11, 5)
+    files.insert(17, write_files(folder, [odd.to_bytes()], "odd")[0])
+    equal("an odd file", refused_lg_k(union_of_files(files, files_per_task=100)), ({11, 14}, files[17]))
+    equal("an odd file in a tree", refused_lg_k(union_of_files(files, files_per_task=1, split_every=2))[0], {11, 14})
+    skipped = union_of_files(files[:17] + [str(folder / "none")] + files[17:], on_error="skip", files_per_task=100)
+    equal("an odd file after one that is skipped", refused_lg_k(skipped), ({11, 14}, files[17]))
+    bag = dask.bag.from_sequence(sketches[:30] + [odd], npartitions=1)
+    equal("an odd item", refused_lg_k(union_of_bag(bag)), ({11, 14}, "partition 0, item 30"))
+    frame.loc[40, "image"] = odd.to_bytes()
+    table = dask.dataframe.from_pandas(frame, npartitions=1)
+    equal("an odd row", refused_lg_k(union_by_key(table, "day", "image")), ({11, 14}, "partition 0, row 40"))
+    equal("an odd row of a group", refused_lg_k(table.groupby("day")["image"].agg(union_aggregation())), ({11, 14}, "row 40"))
+    both = union_of([*sketches, odd], 14, 4).to_bytes()
+    equal("with a bound", image_by(union_of_files(files, 14, 4)), both)
+
+
+def missing_values(client, folder, images, paths):
+    """A group of missing values alone has no sketch, as in SQL, and an empty sketch is one."""
+    image = sketch_of(12, 5).to_bytes()
+    frame = pandas.DataFrame({"day": [1, 1, 2, 2, 3], "image": [image, None, None, None, Sketch(12).to_bytes()],
+                              "number": [1.0, None, None, None, 7.0]})
+    for parts in (1, 3, 5):
+        groups = dask.dataframe.from_pandas(frame, npartitions=parts).groupby("day")
+        found = groups["image"].agg(union_aggregation()).compute().to_dict()
+        equal("missing images in %d parts" % parts, found, {1: image, 2: None, 3: Sketch(12).to_bytes()})
+        found = groups["number"].agg(sketch_aggregation()).compute()
+        equal("missing numbers in %d parts" % parts, [found[day] is None for day in (1, 2, 3)], [False, True, False])
+
+
+def several_aggregations(client, folder, images, paths):
+    """Any number of aggregations on a column; what they can't take is refused by their own error, when it is computed."""
+    frame = pandas.DataFrame({"day": [1, 1, 2], "visitor": ["ann", "bob", "foo"], "time": pandas.to_datetime(["2026-11-01"] * 3),
+                              "image": [sketch_of(12, n).to_bytes() for n in (1, 2, 3)]})
+    table = dask.dataframe.from_pandas(frame, npartitions=2).groupby("day")
+    found = table.agg({"visitor": [sketch_aggregation(), sketch_aggregation(10, 4), "count"],
+                       "image": [union_aggregation(), union_aggregation(10), union_aggregation(width=6)]}).compute()
+    names = ["hll_sketch_12_8", "hll_sketch_10_4", "count", "hll_union", "hll_union_10", "hll_union_6"]
+    equal("names of aggregations", [name for _, name in found.columns], names)
+    made = Sketch(10, 4)
+    made.update_many(["ann", "bob"])
+    equal("one of several", found["visitor"]["hll_sketch_10_4"][1], made.to_bytes())
+    for column, aggregation, words in (("time", sketch_aggregation(), "not Timestamp"), ("visitor", union_aggregation(), "not str")):
+        lazy = table[column].agg(aggregation)
+        try:
+            lazy.compute(scheduler="threads")
+            check("a column of %s" % column, False)
+        except TypeError as error:
+            check("a column of %s" % column, words in str(error), error)
+
+
 def bags(client, folder, images, paths):
     some = images[:2000]
     bag = dask.bag.from_sequence(some, npartitions=20)
-    equal("bag", image_by(union_of_bag(bag)), union_by_program(some))
+    equal("bag", image_by(bag_at_12(bag)), union_by_program(some))
     equal("bag of sketches", image_by(union_of_bag(bag.map(Sketch.from_bytes), 11, 6)), union_by_program(some, 11, 6))
     bad = dask.bag.from_sequence(some[:1234] + [b"\x02\x01\x07\x0a"] + some[1235:], partition_size=100)
-    equal("refused item", error_of(union_of_bag(bad)), ("truncated", 34, "partition 12, item 34"))
+    equal("refused item", error_of(bag_at_12(bad)), ("truncated", 34, "partition 12, item 34"))
 
 
 def keys(client, folder, images, paths):
@@ -225,12 +318,12 @@ def keys(client, folder, images, paths):
     parts = dask.dataframe.from_pandas(frame, npartitions=17)
 
     wanted = {key: union_by_program(list(rows.dropna()), 12, 4) for key, rows in frame.groupby("day")["image"]}
-    found = union_by_key(parts, "day", "image", width=4).compute()
+    found = by_key_at_12(parts, "day", "image", width=4).compute()
     equal("by key", found.to_dict(), wanted)
     equal("names and order", (found.index.name, found.name, list(found.index)), ("day", "image", sorted(wanted)))
 
     wanted = {key: union_by_program(list(rows.dropna())) for key, rows in frame.groupby(["page", "day"])["image"]}
-    found = union_by_key(parts, ["page", "day"], "image", split_every=2).compute()
+    found = by_key_at_12(parts, ["page", "day"], "image", split_every=2).compute()
     equal("by two keys", (found.to_dict(), list(found.index.names)), (wanted, ["page", "day"]))
 
     none = dask.dataframe.from_pandas(frame[:0], npartitions=1)
@@ -238,7 +331,7 @@ def keys(client, folder, images, paths):
     arrow(frame[:1000])
     frame.loc[1537, "image"] = frame["image"][1537][:7]
     bad = dask.dataframe.from_pandas(frame, chunksize=100, sort=False)
-    equal("refused row", error_of(union_by_key(bad, "day", "image")), ("truncated", 37, "partition 15, row 37"))
+    equal("refused row", error_of(by_key_at_12(bad, "day", "image")), ("truncated", 37, "partition 15, row 37"))
 
 
 def arrow(frame):
@@ -249,7 +342,7 @@ def arrow(frame):
         print("not tried: a column of Arrow, as there is no pyarrow, which the distribution may not have")
         return
     frames = [frame, frame.assign(image=pandas.array(frame["image"], dtype=pandas.ArrowDtype(pyarrow.binary())))]
-    first, second = (union_by_key(dask.dataframe.from_pandas(one, npartitions=5), "day", "image").compute() for one in frames)
+    first, second = (by_key_at_12(dask.dataframe.from_pandas(one, npartitions=5), "day", "image").compute() for one in frames)
     equal("Arrow", second.to_dict(), first.to_dict())
 
 
@@ -276,7 +369,7 @@ def lost_worker(client, folder, images, paths):
     log.mkdir()
     slow = [SlowPath(path, str(log), 0.0005) for path in paths]
     wanted = union_by_program(images)
-    future = client.compute(union_of_files(slow, files_per_task=20, split_every=64))
+    future = client.compute(files_at_12(slow, files_per_task=20, split_every=64))
     while sum(opened(log).values()) < len(paths) // 3:
         time.sleep(0.01)
     victim, is_early = max(opened(log), key=opened(log).get), not future.done()
@@ -289,7 +382,9 @@ def lost_worker(client, folder, images, paths):
     print("  %d files, opened %d times, by %d processes" % (len(paths), sum(times.values()), len(times)))
 
 
-PARTS = [files, refused_files, patterns, left_out, aggregations, arguments, bags, keys, columns, lost_worker]
+PARTS = [
+    files, refused_files, patterns, left_out, aggregations, arguments, precision, missing_values, several_aggregations, bags, keys,
+    columns, lost_worker]
 
 
 def run(part, *arguments_of_all):

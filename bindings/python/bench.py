@@ -15,7 +15,7 @@ from array import array
 sys.dont_write_bytecode = True
 sys.path.insert(0, str(pathlib.Path(__file__).resolve().parent))
 
-from hll_sketches import Registers, Sketch, Union, _library, coupons, union_of  # noqa: E402
+from hll_sketches import Registers, Sketch, SketchUnion, _library, coupons, union_of  # noqa: E402
 
 IMAGES, TURNS, THREADS = 1000, 11, 4
 
@@ -74,7 +74,7 @@ def add_to_alone(values):
 
 def in_turn(images):
     """A union that takes images one at a time."""
-    union = Union(12)
+    union = SketchUnion(12)
     for image in images:
         union.update(image)
     return union.sketch()
@@ -123,7 +123,7 @@ def main():
         alone, bits = call_alone(images), f"{width} bits"
         row(f"`union_of` 1,000 images of {bits}", IMAGES, lambda: union_of(images), alone)
         row(f"`union_of` 1,000 sketches of {bits}", IMAGES, lambda: union_of(sketches), alone)
-        row(f"`Union.update`, 1,000 images of {bits}", IMAGES, lambda: in_turn(images), alone)
+        row(f"`SketchUnion.update`, 1,000 images of {bits}", IMAGES, lambda: in_turn(images), alone)
     left, right = sketches[:2]
     image = images[0]
     row("`left | right`", 1000, lambda: [left | right for _ in range(1000)])

@@ -15,12 +15,11 @@ Sketches, and their images as bytes, are read, made and merged by proved calls o
 Estimates, and this package itself, are tested and not proved.
 """
 from ._errors import ArgumentError, FilesError, HllError, ImageError, PrecisionError
-from ._errors import PrecisionWarning
 from ._values import Value, coupon, coupons
 from .merging import merge_files
 from .registers import Registers
-from .sketch import Sketch, check, is_small
-from .union import Union, union_of
+from .sketch import Sketch, fault_of, is_image, is_small
+from .union import SketchUnion, union_of
 
 __version__ = "0.2.0"
 
@@ -30,14 +29,14 @@ __all__ = [
     "HllError",
     "ImageError",
     "PrecisionError",
-    "PrecisionWarning",
     "Registers",
     "Sketch",
-    "Union",
+    "SketchUnion",
     "Value",
-    "check",
     "coupon",
     "coupons",
+    "fault_of",
+    "is_image",
     "is_small",
     "merge_files",
     "union_of",

@@ -36,6 +36,10 @@ class ImageError(HllError, ValueError):
         self.reason = reason
         self.number = number
 
+    def at(self, number: Optional[int]) -> ImageError:
+        """Return the same error of an image of which the number is known."""
+        return ImageError(self.reason, number)
+
     def __str__(self) -> str:
         which = "image" if self.number is None else f"image {self.number}"
         return f"{which} is refused: {self.reason}"
@@ -45,24 +49,40 @@ class ImageError(HllError, ValueError):
 
 
 class PrecisionError(HllError, ValueError):
-    """A sketch is in fewer registers than were asked for.
+    """Sketches have different ``lg_k``, and it was not said at which one to merge them.
 
     Attributes
     ----------
     lg_k : int
-        The ``lg_k`` of the sketch.
-    min_lg_k : int
-        The least one that was asked for.
-    number : int
-        The number of the sketch, from 0.
+        The ``lg_k`` of the sketch that was to be merged.
+    other_lg_k : int
+        The ``lg_k`` of what it was to be merged with.
+    number : int or None
+        The number of the sketch, from 0, where several were given.
+    place : str or None
+        Where the sketch is, as the path of its file, where that is known.
     """
 
-    def __init__(self, lg_k: int, min_lg_k: int, number: int) -> None:
-        super().__init__(lg_k, min_lg_k, number)
-        self.lg_k, self.min_lg_k, self.number = lg_k, min_lg_k, number
+    def __init__(
+        self,
+        lg_k: int,
+        other_lg_k: int,
+        number: Optional[int] = None,
+        place: Optional[str] = None,
+        cure: str = "lg_max_k={least} merges them",
+    ) -> None:
+        super().__init__(lg_k, other_lg_k, number, place, cure)
+        self.lg_k, self.other_lg_k, self.number, self.place = lg_k, other_lg_k, number, place
+        self._cure = cure
+
+    def at(self, number: Optional[int], place: Optional[str] = None) -> PrecisionError:
+        """Return the same error of a sketch of which the number or the place is known."""
+        return type(self)(self.lg_k, self.other_lg_k, number, place, self._cure)
 
     def __str__(self) -> str:
-        return f"sketch {self.number} is refused: its lg_k is {self.lg_k}, below {self.min_lg_k}"
+        which = "the sketch" if self.number is None else f"sketch {self.number}"
+        cure = self._cure.format(least=min(self.lg_k, self.other_lg_k))
+        return f"{self.place or which} has lg_k {self.lg_k} and not {self.other_lg_k}: {cure}"
 
 
 class FilesError(HllError, ValueError):
@@ -82,7 +102,3 @@ class FilesError(HllError, ValueError):
         path, reason = self.refused[0]
         more = len(self.refused) - 1
         return f"{shown(path)}: {reason}" + (f" (and {more:,} files more)" if more else "")
-
-
-class PrecisionWarning(UserWarning):
-    """A union is coarser than sketches that it was made of."""

@@ -2,7 +2,8 @@
 """The shared library: where it is, and its calls over bytes.
 
 Bytes are passed as they are, without a copy, and no call keeps a pointer. While a call runs, other
-threads of Python run too.
+threads of Python run too; but not while a state is changed, so that no thread, and no child that is
+forked, sees one that is half changed.
 """
 from __future__ import annotations
 
@@ -18,7 +19,7 @@ from ctypes import c_uint, c_uint8, c_uint32, c_uint64
 from itertools import accumulate
 from operator import index
 from typing import TYPE_CHECKING, Callable, Dict, Iterable, List, Optional, Sequence, SupportsIndex
-from typing import Type, TypeVar
+from typing import Tuple, Type, TypeVar
 
 from ._errors import ArgumentError, ImageError
 from ._locks import loading
@@ -49,8 +50,9 @@ WORDS = (
     "memory",
     "buffer",
     "coarser",
+    "other lg_k",
 )
-OK, REGISTER, ARGUMENT, MEMORY, BUFFER, COARSER = 0, 11, 12, 13, 14, 15
+OK, REGISTER, ARGUMENT, MEMORY, BUFFER, COARSER, OTHER_LG_K = 0, 11, 12, 13, 14, 15, 16
 MOST_KEPT = 1 << 22
 """A thread keeps no more memory than this for its answers."""
 
@@ -114,6 +116,7 @@ _IMAGE = [c_char_p, c_size_t]
 _ENDS = [c_void_p, c_size_t]
 _OUT = [c_void_p, c_size_t, c_void_p]
 _REGISTERS = [c_void_p, c_size_t]
+_STATE = [c_void_p, c_size_t]
 _CALLS = {
     "hll_image_info": _IMAGE + [POINTER(Info), c_size_t],
     "hll_image_check": _IMAGE,
@@ -142,6 +145,9 @@ _CALLS = {
     "hll_registers_histogram": _REGISTERS + [POINTER(Histogram)],
     "hll_registers_image": _REGISTERS + [c_uint] + _OUT,
     "hll_registers_estimate": _REGISTERS + [POINTER(Estimation)],
+    "hll_state_new": [c_uint] + _STATE,
+    "hll_state_join": [c_uint] + _STATE + [c_void_p] + _IMAGE,
+    "hll_state_image": _STATE + [c_uint] + _OUT,
 }
 _ANSWERS = {"hll_coupon": c_uint32, "hll_version": c_uint32}
 
@@ -209,8 +215,8 @@ def _check_answers(calls: Dict[str, Call]) -> None:
 
 def _calls_of(place: str) -> Dict[str, Call]:
     """The calls of a library by their names."""
-    library = ctypes.CDLL(place)
-    calls = {name: getattr(library, name) for name in _CALLS}
+    library, whole = ctypes.CDLL(place), ctypes.PyDLL(place)
+    calls = {name: getattr(whole if "_state_" in name else library, name) for name in _CALLS}
     for name, call in calls.items():
         call.argtypes, call.restype = _CALLS[name], _ANSWERS.get(name, c_uint8)
     _check_version(calls["hll_version"]())
@@ -582,6 +588,60 @@ def image_of(registers: Memory, width: int) -> bytes:
         raise _refused_registers(REGISTER) from None
 
 
+# ---- states
+
+STATE_NEW = 40
+"""The bytes of a new state."""
+
+
+def new_state(lg_k: int) -> Memory:
+    """The state of an empty sketch."""
+    state = (c_uint8 * STATE_NEW)()
+    _ensure(_library.hll_state_new(lg_k, state, STATE_NEW))
+    return state
+
+
+def copied(memory: Memory, size: int = 0) -> Memory:
+    """A copy of memory, which may be larger."""
+    made = (c_uint8 * max(size, len(memory)))()
+    ctypes.memmove(made, memory, len(memory))
+    return made
+
+
+def joined(state: Memory, lg_max_k: int, image: bytes) -> Tuple[Memory, bool]:
+    """The state with an image, in the same memory or in more. False where the image has another
+    ``lg_k``, and the bound is 0; then nothing has changed."""
+    size = c_size_t()
+    while True:
+        status = _library.hll_state_join(
+            lg_max_k, state, len(state), byref(size), image, len(image)
+        )
+        if status != BUFFER:
+            break
+        state = copied(state, size.value)
+    if status not in (OK, OTHER_LG_K):
+        raise _refusal(status)
+    return state, status == OK
+
+
+def image_of_state(state: Memory, width: int) -> bytes:
+    """The image of a state, with the fields from which others estimate."""
+    return _written(_library.hll_state_image, 64 + len(state), state, len(state), width)
+
+
+def width_of_state(state: Memory) -> int:
+    """The width of what was joined to a state, or 8 where there were several, or none."""
+    return {1: 4, 2: 6}.get(state[8] & 7, 8)
+
+
+# ---- headers
+
+
+def width_of_mode(mode: int) -> int:
+    """The width in the last byte of a header."""
+    return (4, 6, 8, 8)[mode >> 2 & 3]
+
+
 def width_in(image: bytes) -> int:
     """The width that the header says; 8 where there is none."""
-    return (4, 6, 8, 8)[image[7] >> 2 & 3] if len(image) > 7 else 8
+    return width_of_mode(image[7]) if len(image) > 7 else 8

@@ -99,10 +99,8 @@ def _with_deviations(parser: argparse.ArgumentParser) -> None:
 def _merge(parser: argparse.ArgumentParser) -> None:
     _with_folders(parser)
     _with_output(parser, required=True)
-    _with_lg_k(parser, "the largest lg_k of the answer, 4 to 21 (12)")
-    help_ = "refuse files in registers of a smaller lg_k, which would make the answer coarser"
-    parser.add_argument("--min-lg-k", type=_lg_k, metavar="K", default=4, help=help_)
-    _with_width(parser, default=8)
+    _with_lg_k(parser, "merge files of different lg_k, at this one or a smaller one; 4 to 21")
+    _with_width(parser)
     parser.add_argument("--jobs", type=_jobs, metavar="N", help="processes (one a processor)")
     help_ = "leave out files that are refused or can't be read, tell which, and go on"
     parser.add_argument("--skip-bad", action="store_true", help=help_)
@@ -178,7 +176,7 @@ _COMMANDS = (
 )
 _MORE = {
     "merge": "Each file that is refused is named; then nothing is written, but with --skip-bad. "
-    "Each file that makes the answer coarser is named too.",
+    "Files of different lg_k are merged with --lg-k alone. The width is that of the files, or 8.",
     "estimate": "The number of one file stands alone; that of several has the name after it.",
     "check": "A file that is a sketch is passed over in silence.",
     "fold": "The answer is what the sketch would be, had it been made with that lg_k.",

@@ -18,7 +18,6 @@ from .files import STANDARD, UNUSABLE, OutputTrouble, Trouble, bytes_of_file, ch
 from .files import image_of_file, image_trouble, of_file, write_file
 from .finding import Tell, found, names_in
 from .layout import STAGES, estimator_fields_of, flags_of, registers_of, size_of
-from .precision import DEFAULT, Precision
 from .progress import Bar
 
 OK, DIFFER = 0, 1
@@ -237,22 +236,9 @@ def _worst(troubles: List[Trouble], else_: int) -> int:
     return max((trouble.status for trouble in troubles), default=else_)
 
 
-def _tell_of_precision(precision: Precision[str], is_bound_chosen: bool) -> None:
-    """Names the files that made the answer coarser, or tells that the bound did."""
-    if precision.is_lowered:
-        words = f"its lg_k lowers that of the answer from {precision.without} to {precision.lowest}"
-        for name in precision.names:
-            say(Trouble(name, words))
-        if precision.count > len(precision.names):
-            say(f"merge: and {precision.count - len(precision.names):,} files more do so")
-    if precision.is_bounded and not is_bound_chosen:
-        least = precision.least
-        say(f"merge: the lg_k of each file is above {precision.bound}: --lg-k {least} keeps more")
-
-
 def merge(options: Namespace) -> int:
     """Merges any number of files."""
-    from .merging import Bounds, processors, union_of_files
+    from .merging import processors, union_of_files
 
     check_output(options.output)
     left_out: List[Trouble] = []
@@ -261,20 +247,19 @@ def merge(options: Namespace) -> int:
         say(f"{trouble} (left out)" if options.skip_bad else trouble)
         left_out.append(trouble)
 
-    bounds = Bounds(options.lg_k or DEFAULT, options.min_lg_k)
     with Bar("file") as bar:
         jobs = options.jobs or processors()
         names = named_files(options, refuse)
-        answer = union_of_files(names, bounds, options.width, jobs, refuse, bar.more)
+        answer = union_of_files(names, options.lg_k or 0, options.width, jobs, refuse, bar.more)
     if left_out and not options.skip_bad:
         return _worst(left_out, OK)
     if not answer.merged:
         raise Trouble("merge", "no image is left to merge", _worst(left_out, UNUSABLE))
-    _tell_of_precision(answer.precision, options.lg_k is not None)
     image = finished(answer.image, options.plain)
+    if options.lg_k is not None and image[3] < options.lg_k:
+        say(f"merge: the answer has lg_k {image[3]}, as a file has, and not {options.lg_k}")
     skipped = [{"file": trouble.name, "reason": trouble.words} for trouble in left_out]
-    lowered = answer.precision.names if answer.precision.is_lowered else []
-    return put(options, image, merged=answer.merged, left_out=skipped, lowered_by=lowered)
+    return put(options, image, merged=answer.merged, left_out=skipped)
 
 
 # ---- one image from another

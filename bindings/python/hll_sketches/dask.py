@@ -18,7 +18,8 @@ A task reads images and gives the image of their union; the tasks above merge su
 a time. The union is the same however images are grouped, ordered or repeated. So a task that is run
 again, because its worker was lost, changes nothing.
 
-No task warns of sketches that make a union coarser: the ``lg_k`` of the answer tells.
+Sketches of one ``lg_k`` are merged at it, and sketches of different ``lg_k`` only if ``lg_max_k``
+is given, as by ``hll_sketches.union_of``. Empty sketches count for nothing.
 
 The package and its library have to be on each worker. Needs ``dask`` 2022.12 or later.
 """
@@ -26,6 +27,7 @@ from __future__ import annotations
 
 import errno
 import os
+import sys
 from functools import partial
 from typing import Any, Callable, Dict, Hashable, Iterable, Iterator, List, NamedTuple, Optional
 from typing import Sequence, Tuple, Union as Either, cast
@@ -33,9 +35,9 @@ from typing import Sequence, Tuple, Union as Either, cast
 import fsspec
 from dask.delayed import delayed
 
-from ._errors import ArgumentError, ImageError
-from .sketch import Sketch, check, checked_lg_k, checked_width
-from .union import Source, merged
+from ._errors import ArgumentError, ImageError, PrecisionError
+from .sketch import Sketch, checked_lg_k, checked_width, fault_of
+from .union import Source, checked_bounds, merged, union_of
 
 __all__ = [
     "LeftOut",
@@ -51,8 +53,8 @@ Path = Either[str, "os.PathLike[str]"]
 File = Either[Path, fsspec.core.OpenFile]
 Key = Either[str, Sequence[str]]
 Refused = List[Tuple[str, str]]
-Part = Tuple[bytes, Refused]
-"""The image of a union, and what was left out of it."""
+Part = Tuple[Optional[bytes], Refused]
+"""The image of a union, if it has sketches, and what was left out of it."""
 Parts = Tuple[Dict[Hashable, bytes], Refused]
 """The image of each key, and what was left out."""
 
@@ -103,37 +105,37 @@ class LeftOut(NamedTuple):
 
 
 class _Bounds(NamedTuple):
-    """The bound of a union, and whether images that are refused are left out of it."""
+    """The bound of a union, or 0; its width, if one was given; and whether images that are refused
+    are left out of it."""
 
     lg_max_k: int
+    width: Optional[int]
     skips: bool
 
 
-def _bounds(lg_max_k: int, on_error: str) -> _Bounds:
+def _bounds(lg_max_k: Optional[int], width: Optional[int], on_error: str = "raise") -> _Bounds:
     if on_error not in ("raise", "skip"):
         raise ArgumentError(f"on_error is 'raise' or 'skip', not {on_error!r}")
-    return _Bounds(checked_lg_k(lg_max_k), on_error == "skip")
-
-
-def _image_of(images: Iterable[Source], lg_max_k: int) -> bytes:
-    """The image of a union, for the tasks above."""
-    return merged(images, lg_max_k).to_bytes()
+    return _Bounds(*checked_bounds(lg_max_k, width), on_error == "skip")
 
 
 def _accepted(
     sources: Iterable[Either[Source, OSError]],
     place_of: Callable[[int], Tuple[int, str]],
     refused: Refused,
+    accepted: List[int],
 ) -> Iterator[Source]:
-    """Those that are images; the places of the others, and why, go to ``refused``."""
+    """Those that are images, with their numbers in ``accepted``; the places of the others, and why,
+    go to ``refused``."""
     for number, source in enumerate(sources):
         if isinstance(source, OSError):
             reason: Optional[str] = source.strerror or str(source)
         else:
-            reason = None if isinstance(source, Sketch) else check(source)
+            reason = None if isinstance(source, Sketch) else fault_of(source)
         if reason is not None:
             refused.append((place_of(number)[1], reason))
         else:
+            accepted.append(number)
             yield cast(Source, source)
 
 
@@ -144,13 +146,18 @@ def _placed(
 ) -> Part:
     """The union of sources. Of one that is refused, ``place_of`` gives number and place."""
     refused: Refused = []
+    kept = cast(Iterable[Source], sources)
+    numbers: List[int] = []
     if bounds.skips:
-        return _image_of(_accepted(sources, place_of, refused), bounds.lg_max_k), refused
+        kept = _accepted(sources, place_of, refused, numbers)
     try:
-        return _image_of(cast(Iterable[Source], sources), bounds.lg_max_k), refused
+        return merged(kept, bounds.lg_max_k), refused
     except ImageError as error:
         number, place = place_of(error.number or 0)
         raise PlacedImageError(error.reason, number, place) from None
+    except PrecisionError as error:
+        number = error.number or 0
+        raise error.at(*place_of(numbers[number] if bounds.skips else number)) from None
 
 
 def _name_of(file: File) -> str:
@@ -201,11 +208,13 @@ def _union_by_key(frame: Any, key: Key, image: str, partition: int, bounds: _Bou
     unions: Dict[Hashable, bytes] = {}
     refused: Refused = []
     for one, of_key in rows.items():
-        unions[one], left_out = _placed(
+        union, left_out = _placed(
             [images[n] for n in of_key],
             bounds,
             lambda n: (of_key[n], f"partition {partition}, row {of_key[n]}"),
         )
+        if union is not None:
+            unions[one] = union
         refused += left_out
     return unions, refused
 
@@ -218,12 +227,22 @@ def _answer(union: Any, parts: Sequence[Tuple[Any, Refused]], bounds: _Bounds) -
     return LeftOut(union, _all_refused(parts)) if bounds.skips else union
 
 
+def _images_of(parts: List[Part]) -> Iterator[bytes]:
+    """The images of those parts that have sketches."""
+    return (image for image, _ in parts if image is not None)
+
+
 def _merged(parts: List[Part], bounds: _Bounds) -> Part:
-    return _image_of((image for image, _ in parts), bounds.lg_max_k), _all_refused(parts)
+    try:
+        return merged(_images_of(parts), bounds.lg_max_k), _all_refused(parts)
+    except PrecisionError as error:
+        raise error.at(None, "a part of the sketches") from None
 
 
-def _sketch_of(parts: List[Part], bounds: _Bounds, width: int) -> Any:
-    union = merged((image for image, _ in parts), bounds.lg_max_k, width)
+def _sketch_of(parts: List[Part], bounds: _Bounds) -> Any:
+    image, _ = _merged(parts, bounds)
+    images = [] if image is None else [image]
+    union = union_of(images, bounds.lg_max_k or None, bounds.width)
     return _answer(union, parts, bounds)
 
 
@@ -236,19 +255,20 @@ def _collected(parts: List[Parts]) -> Dict[Hashable, List[bytes]]:
 
 
 def _merged_by_key(parts: List[Parts], bounds: _Bounds) -> Parts:
-    merged_parts = {
-        key: _image_of(images, bounds.lg_max_k) for key, images in _collected(parts).items()
-    }
+    merged_parts = {}
+    for key, images in _collected(parts).items():
+        try:
+            merged_parts[key] = cast(bytes, merged(images, bounds.lg_max_k))
+        except PrecisionError as error:
+            raise error.at(None, f"a sketch of the key {key!r}") from None
     return merged_parts, _all_refused(parts)
 
 
-def _series_of(parts: List[Parts], bounds: _Bounds, width: int, key: Key, image: str) -> Any:
+def _series_of(parts: List[Parts], bounds: _Bounds, key: Key, image: str) -> Any:
     import pandas
 
-    images = {
-        one: merged(of_key, bounds.lg_max_k, width).to_bytes()
-        for one, of_key in _collected(parts).items()
-    }
+    found, _ = _merged_by_key(parts, bounds)
+    images = {one: merged([union], bounds.lg_max_k, bounds.width) for one, union in found.items()}
     if isinstance(key, str):
         index = pandas.Index(list(images), name=key)
     else:
@@ -288,13 +308,10 @@ def _tree(
     return finish(parts)
 
 
-def _union_of_parts(parts: List[Any], bounds: _Bounds, width: int, split_every: int) -> Any:
+def _union_of_parts(parts: List[Any], bounds: _Bounds, split_every: int) -> Any:
     """The union of parts that each are a union already."""
     return _tree(
-        parts,
-        partial(_merged, bounds=bounds),
-        partial(_sketch_of, bounds=bounds, width=width),
-        split_every,
+        parts, partial(_merged, bounds=bounds), partial(_sketch_of, bounds=bounds), split_every
     )
 
 
@@ -310,8 +327,8 @@ def _files_of(paths: Either[str, Iterable[Path]], options: Dict[str, Any]) -> Li
 
 def union_of_files(
     paths: Either[str, Iterable[Path]],
-    lg_max_k: int = 12,
-    width: int = 8,
+    lg_max_k: Optional[int] = None,
+    width: Optional[int] = None,
     *,
     storage_options: Optional[Dict[str, Any]] = None,
     on_error: str = "raise",
@@ -326,10 +343,8 @@ def union_of_files(
         A text is one name or a pattern, as ``days/*.hll`` or ``s3://bucket/**/*.hll``, that
         ``fsspec`` looks up here. Of several, each is the name of a file, as the workers see it; one
         with ``://`` is a URL, which ``fsspec`` opens.
-    lg_max_k : int
-        The largest ``lg_k`` of the union, 4 to 21.
-    width : int
-        The bits of a register of the union, 4, 6 or 8.
+    lg_max_k, width : int, optional
+        As for ``hll_sketches.union_of``.
     storage_options : dict, optional
         What ``fsspec`` passes to the file system of patterns and URLs, as keys and endpoints.
     on_error : str
@@ -352,7 +367,7 @@ def union_of_files(
     FileNotFoundError
         If no file fits the pattern.
     """
-    bounds, width = _bounds(lg_max_k, on_error), checked_width(width)
+    bounds = _bounds(lg_max_k, width, on_error)
     options = storage_options or {}
     files = _files_of(paths, options)
     if files_per_task is None:
@@ -363,13 +378,13 @@ def union_of_files(
         some = files[first : first + files_per_task]
         read = partial(_union_of_files, some, first, options, bounds)
         parts.append(delayed(read, name=False, pure=False)())
-    return _union_of_parts(parts, bounds, width, split_every)
+    return _union_of_parts(parts, bounds, split_every)
 
 
 def union_of_bag(
     bag: Any,
-    lg_max_k: int = 12,
-    width: int = 8,
+    lg_max_k: Optional[int] = None,
+    width: Optional[int] = None,
     *,
     on_error: str = "raise",
     split_every: int = SPLIT_EVERY,
@@ -389,18 +404,18 @@ def union_of_bag(
         Of a ``Sketch``, or of ``LeftOut``. Its ``compute`` raises ``PlacedImageError`` where an
         item is no image: ``place`` has the numbers of the partition and of the item in it.
     """
-    bounds, width = _bounds(lg_max_k, on_error), checked_width(width)
+    bounds = _bounds(lg_max_k, width, on_error)
     union = delayed(partial(_union_of_items, bounds=bounds), pure=False)
     parts = [union(items, partition=number) for number, items in enumerate(bag.to_delayed())]
-    return _union_of_parts(parts, bounds, width, split_every)
+    return _union_of_parts(parts, bounds, split_every)
 
 
 def union_by_key(
     dataframe: Any,
     key: Key,
     image: str,
-    lg_max_k: int = 12,
-    width: int = 8,
+    lg_max_k: Optional[int] = None,
+    width: Optional[int] = None,
     *,
     on_error: str = "raise",
     split_every: int = SPLIT_EVERY,
@@ -428,13 +443,13 @@ def union_by_key(
         ``LeftOut``. Its ``compute`` raises ``PlacedImageError`` where a row has no image: ``place``
         has the numbers of the partition and of the row in it.
     """
-    bounds, width = _bounds(lg_max_k, on_error), checked_width(width)
+    bounds = _bounds(lg_max_k, width, on_error)
     union = delayed(partial(_union_by_key, key=key, image=image, bounds=bounds), pure=False)
     parts = [union(frame, partition=number) for number, frame in enumerate(dataframe.to_delayed())]
     return _tree(
         parts,
         partial(_merged_by_key, bounds=bounds),
-        partial(_series_of, bounds=bounds, width=width, key=key, image=image),
+        partial(_series_of, bounds=bounds, key=key, image=image),
         split_every,
     )
 
@@ -442,53 +457,71 @@ def union_by_key(
 # ---- aggregations
 
 
-def _each(grouped: Any, image_of: Callable[[Any], bytes]) -> Any:
-    """What a function makes of the column of each group, without what is missing."""
-    return grouped.apply(lambda column: image_of(column.dropna()))
+def _is_planning() -> bool:
+    """Whether Dask plans an aggregation now, and tries it on made-up rows to learn its type."""
+    frame = sys._getframe()
+    while frame is not None:
+        module = str(frame.f_globals.get("__name__"))
+        if frame.f_code.co_name == "aggregate" and module.partition(".")[0].startswith("dask"):
+            return True
+        frame = cast(Any, frame.f_back)
+    return False
 
 
-def _image_of_values(column: Any, lg_k: int) -> bytes:
-    sketch = Sketch(lg_k)
+def _of_group(column: Any, image_of: Callable[[Any], Optional[bytes]]) -> Optional[bytes]:
+    """What a function makes of a group without what is missing; None if nothing is left."""
+    values = column.dropna()
+    if not len(values):
+        return None
+    try:
+        return image_of(values)
+    except TypeError:
+        if _is_planning():
+            return None     # of made-up rows; the real ones are refused by the task that has them
+        raise
+
+
+def _each(grouped: Any, image_of: Callable[[Any], Optional[bytes]]) -> Any:
+    """What a function makes of the column of each group."""
+    return grouped.apply(partial(_of_group, image_of=image_of))
+
+
+def _image_of_values(column: Any, lg_k: int, width: int) -> bytes:
+    sketch = Sketch(lg_k, width)
     sketch.update_many(column)
     return sketch.to_bytes()
 
 
-def _is_sample(column: Any) -> bool:
-    """Whether a column is what Dask tries an aggregation on before it has data: one text for all."""
-    from dask.dataframe.dispatch import meta_nonempty
-
-    sample = meta_nonempty(column[:0].astype(object))
-    return len(column) <= len(sample) and all(value is sample.iloc[0] for value in column)
-
-
-def _image_of_column(column: Any, lg_max_k: int) -> bytes:
-    if _is_sample(column):
-        return _image_of([], lg_max_k)
+def _image_of_images(column: Any, bounds: _Bounds) -> Optional[bytes]:
+    """The union of a group, with the label of a row in what it raises."""
     labels = column.index
-
-    def place_of(number: int) -> Tuple[int, str]:
-        return number, f"row {labels[number]}"
-
-    return _placed(list(column), _Bounds(lg_max_k, False), place_of)[0]
+    return _placed(list(column), bounds, lambda number: (number, f"row {labels[number]}"))[0]
 
 
-def _at_width(image: bytes, lg_max_k: int, width: int) -> bytes:
-    return merged([image], lg_max_k, width).to_bytes()
+def _union_of_images(column: Any, bounds: _Bounds) -> Optional[bytes]:
+    """The union of what was made of parts of a group."""
+    return _merged([(image, []) for image in column], bounds)[0]
 
 
-def _aggregation(name: str, of_column: Callable[[Any], bytes], lg_max_k: int, width: int) -> Any:
+def _at_width(image: Any, bounds: _Bounds) -> Any:
+    return merged([image], bounds.lg_max_k, bounds.width) if isinstance(image, bytes) else None
+
+
+def _aggregation(
+    name: str, of_column: Callable[[Any], Optional[bytes]], bounds: _Bounds
+) -> Any:
     """An aggregation whose parts are images, which are merged and get their width at the end."""
     from dask.dataframe import Aggregation
 
     return Aggregation(
         name,
         chunk=partial(_each, image_of=of_column),
-        agg=partial(_each, image_of=partial(_image_of_column, lg_max_k=lg_max_k)),
-        finalize=lambda images: images.map(partial(_at_width, lg_max_k=lg_max_k, width=width)),
+        agg=partial(_each, image_of=partial(_union_of_images, bounds=bounds)),
+        finalize=lambda images: images.map(partial(_at_width, bounds=bounds)),
     )
 
 
-def sketch_aggregation(lg_k: int = 12, width: int = 8) -> Any:
+def sketch_aggregation(lg_k: int = 12, width: int = 8, *, name: Optional[str] = None) -> Any:
     """Return an aggregation that makes a sketch of each group's values.
 
         frame.groupby("day").agg({"visitor": sketch_aggregation()})
@@ -499,35 +532,45 @@ def sketch_aggregation(lg_k: int = 12, width: int = 8) -> Any:
         The ``lg_k`` of the sketches, 4 to 21.
     width : int
         The bits of a register, 4, 6 or 8.
+    name : str, optional
+        What Dask calls the aggregation: ``hll_sketch_12_8`` with the numbers above, if it is not
+        given. Aggregations on one column need different names.
 
     Returns
     -------
     dask.dataframe.Aggregation
-        Its answer has an image, as bytes, for each group. Values count as for
-        ``Sketch.update_many``; those that are missing are passed over.
+        It gives an image, as bytes, for each group, and None for a group of missing values only.
+        Values count as for ``Sketch.update_many``; missing ones are passed over.
     """
     lg_k, width = checked_lg_k(lg_k), checked_width(width)
-    return _aggregation("hll_sketch", partial(_image_of_values, lg_k=lg_k), lg_k, width)
+    of_column = partial(_image_of_values, lg_k=lg_k, width=width)
+    return _aggregation(
+        name or f"hll_sketch_{lg_k}_{width}", of_column, _Bounds(lg_k, width, False)
+    )
 
 
-def union_aggregation(lg_max_k: int = 12, width: int = 8) -> Any:
+def union_aggregation(
+    lg_max_k: Optional[int] = None, width: Optional[int] = None, *, name: Optional[str] = None
+) -> Any:
     """Return an aggregation that merges the images of each group.
 
         frame.groupby("day").agg({"image": union_aggregation()}, split_out=4)
 
     Parameters
     ----------
-    lg_max_k : int
-        The largest ``lg_k`` of the unions, 4 to 21.
-    width : int
-        The bits of a register, 4, 6 or 8.
+    lg_max_k, width : int, optional
+        As for ``hll_sketches.union_of``.
+    name : str, optional
+        What Dask calls the aggregation: ``hll_union``, with the numbers above that are given, if it
+        is not. Aggregations on one column need different names.
 
     Returns
     -------
     dask.dataframe.Aggregation
-        Its answer has an image, as bytes, for each group. Rows without an image are passed over. It
-        raises ``PlacedImageError`` where a row has no image: ``place`` has its label.
+        It gives an image, as bytes, for each group, and None for a group without images. It raises
+        ``PlacedImageError`` where a row has no image: ``place`` has its label.
     """
-    lg_max_k, width = checked_lg_k(lg_max_k), checked_width(width)
-    of_column = partial(_image_of_column, lg_max_k=lg_max_k)
-    return _aggregation("hll_union", of_column, lg_max_k, width)
+    bounds = _bounds(lg_max_k, width)
+    given = [str(number) for number in (lg_max_k, width) if number is not None]
+    of_column = partial(_image_of_images, bounds=bounds)
+    return _aggregation(name or "_".join(["hll_union", *given]), of_column, bounds)

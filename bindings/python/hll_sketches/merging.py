@@ -18,13 +18,15 @@ from typing import TYPE_CHECKING, Callable, Deque, Iterable, Iterator, List, Nam
 from typing import Tuple, Union as Either
 
 from . import _library
-from ._errors import FilesError, HllError, ImageError
+from ._errors import FilesError, HllError, ImageError, PrecisionError
+from ._names import shown
 from ._signals import held_back
+from ._state import BATCH_BYTES, State
 from .files import STANDARD, Trouble, bytes_of_file, image_trouble
 from .finding import found
-from .precision import DEFAULT, Precision, is_below, may_be_below
-from .sketch import Sketch, checked_lg_k, checked_width
-from .union import warn_of_precision
+from .layout import holds_values
+from .sketch import Sketch
+from .union import checked_bounds
 
 if TYPE_CHECKING:
     from concurrent.futures import Future, ProcessPoolExecutor
@@ -32,35 +34,25 @@ if TYPE_CHECKING:
 GROUP = 512
 """How many files a task has."""
 
-BATCH_BYTES = 1 << 18
-"""So many bytes of images are enough for a call: they fit a cache."""
-
 
 Path = Either[str, bytes, "os.PathLike[str]", "os.PathLike[bytes]"]
 
 
-class Bounds(NamedTuple):
-    """The largest ``lg_k`` of a union, and the least one that a file in registers may have."""
-
-    lg_k: int
-    min_lg_k: int = 4
-
-
 class Part(NamedTuple):
-    """What a task gives: the image of its union, how many files that has, and the others."""
+    """What a task gives: the image of its union, how many files that has, the first one of them
+    that isn't empty, and the files that are refused."""
 
     image: bytes
     merged: int
+    first: Optional[str]
     troubles: List[Trouble]
-    precision: Precision[str]
 
 
 class Merged(NamedTuple):
-    """The image of a union, how many files it has, and which of them lowered its ``lg_k``."""
+    """The image of a union, and how many files it has."""
 
     image: bytes
     merged: int
-    precision: Precision[str]
 
 
 Group = List[str]
@@ -77,24 +69,24 @@ def processors() -> int:
 # ---- one task
 
 
-def _trouble_of(name: str, image: bytes, min_lg_k: int) -> Optional[Trouble]:
-    """What is wrong with a file, if there is anything."""
-    status = _library.check(image)
-    if status != _library.OK:
-        return image_trouble(name, _library.WORDS[status])
-    if is_below(image, min_lg_k):
-        return Trouble(name, f"its lg_k is {image[3]}, below {min_lg_k}")
-    return None
+class OtherLgK(Trouble):
+    """A file has another ``lg_k`` than files before it, and no bound was given."""
+
+    def __init__(self, name: str, error: PrecisionError, before: Optional[str]) -> None:
+        self.error = error.at(None, name)
+        has = f"it has lg_k {error.lg_k}, and {shown(before or 'what was merged')} has"
+        cure = f"--lg-k {min(error.lg_k, error.other_lg_k)} merges both"
+        super().__init__(name, f"{has} {error.other_lg_k}: {cure}")
+        self.args = name, error, before     # for the process that it is raised in again
 
 
-class _Merged:
+class _Files:
     """The union of files, a batch of bounded bytes at a time."""
 
-    def __init__(self, bounds: Bounds) -> None:
-        self.bounds, self.count = bounds, 0
-        self.image = _library.union(bounds.lg_k, 8, [])
+    def __init__(self, lg_max_k: int) -> None:
+        self.state = State(lg_max_k)
+        self.first: Optional[str] = None
         self.troubles: List[Trouble] = []
-        self.precision: Precision[str] = Precision(bounds.lg_k)
         self._names: Group = []
         self._images: List[bytes] = []
         self._bytes = 0
@@ -113,43 +105,43 @@ class _Merged:
             self.merge()
 
     def merge(self) -> None:
-        """Merges the files of the batch."""
-        if may_be_below(self._images, self.bounds.min_lg_k):
-            self._leave_out()
-        try:
-            self._merge_images()
-        except ImageError:
-            self._leave_out()
-            self._merge_images()
-        self._names, self._images, self._bytes = [], [], 0
-
-    def _leave_out(self) -> None:
-        """Takes what is refused out of the batch."""
+        """Merges the files of the batch; those that are no images are left out."""
         names, images = self._names, self._images
-        self._names, self._images = [], []
-        for name, image in zip(names, images):
-            trouble = _trouble_of(name, image, self.bounds.min_lg_k)
-            if trouble is None:
-                self._names.append(name)
-                self._images.append(image)
-            else:
-                self.troubles.append(trouble)
+        self._names, self._images, self._bytes = [], [], 0
+        done = 0
+        while done < len(images):
+            done += self._merge_some(names[done:], images[done:])
 
-    def _merge_images(self) -> None:
-        if not self._images:
-            return
-        self.image = _library.union(self.bounds.lg_k, 8, [self.image, *self._images])
-        self.precision.see(self._names, self._images)
-        self.count += len(self._images)
+    def _merge_some(self, names: Group, images: List[bytes]) -> int:
+        """Merges files up to one that is no image, and how many these are with it."""
+        try:
+            self.state.join_all(images)
+        except ImageError as error:
+            number = error.number or 0
+            self.troubles.append(image_trouble(names[number], error.reason))
+            self._see(names[:number], images[:number])
+            return number + 1
+        except PrecisionError as error:
+            number = error.number or 0
+            self._see(names[:number], images[:number])
+            raise OtherLgK(names[number], error, self.first) from None
+        self._see(names, images)
+        return len(images)
+
+    def _see(self, names: Group, images: List[bytes]) -> None:
+        """Keeps the name of the first file that isn't empty, of those that were merged."""
+        if self.first is None:
+            holding = (name for name, image in zip(names, images) if holds_values(image))
+            self.first = next(holding, None)
 
 
-def union_of_group(bounds: Bounds, names: Group) -> Part:
-    """The union of the files of a group at eight bits; those that are refused are left out."""
-    kept = _Merged(bounds)
+def union_of_group(lg_max_k: int, names: Group) -> Part:
+    """The union of the files of a group; those that are no images are left out."""
+    files = _Files(lg_max_k)
     for name in names:
-        kept.take(name)
-    kept.merge()
-    return Part(kept.image, kept.count, kept.troubles, kept.precision)
+        files.take(name)
+    files.merge()
+    return Part(files.state.image(), files.state.count, files.first, files.troubles)
 
 
 # ---- the tree
@@ -182,13 +174,13 @@ def _end_with_parent() -> None:
         threading.Thread(target=wait, args=(parent.sentinel,), daemon=True).start()
 
 
-def _submitted(pool: "ProcessPoolExecutor", bounds: Bounds, group: Group) -> "Future[Part]":
+def _submitted(pool: "ProcessPoolExecutor", lg_max_k: int, group: Group) -> "Future[Part]":
     """Hands a task over. Processes that this starts see no interrupt: it is the parent's."""
     with held_back(signal.SIGINT):
-        return pool.submit(union_of_group, bounds, group)
+        return pool.submit(union_of_group, lg_max_k, group)
 
 
-def _over_processes(bounds: Bounds, groups: Iterable[Group], jobs: int) -> Parts:
+def _over_processes(lg_max_k: int, groups: Iterable[Group], jobs: int) -> Parts:
     """Tasks over so many processes, in the order of their groups; few are under way at a time."""
     from concurrent.futures import ProcessPoolExecutor
     from concurrent.futures.process import BrokenProcessPool
@@ -201,9 +193,9 @@ def _over_processes(bounds: Bounds, groups: Iterable[Group], jobs: int) -> Parts
     try:
         for group in groups:
             if group == [STANDARD]:
-                yield union_of_group(bounds, group)
+                yield union_of_group(lg_max_k, group)
                 continue
-            waiting.append(_submitted(pool, bounds, group))
+            waiting.append(_submitted(pool, lg_max_k, group))
             if len(waiting) > 2 * jobs:
                 yield waiting.popleft().result()
         while waiting:
@@ -216,28 +208,28 @@ def _over_processes(bounds: Bounds, groups: Iterable[Group], jobs: int) -> Parts
         pool.shutdown()
 
 
-def _parts(bounds: Bounds, names: Iterable[str], jobs: int) -> Parts:
+def _parts(lg_max_k: int, names: Iterable[str], jobs: int) -> Parts:
     """What the tasks give; processes are started only where there is more than one task."""
     groups = _groups(names)
     first = list(islice(groups, 2))
     if jobs == 1 or len(first) < 2:
         for group in first:
-            yield union_of_group(bounds, group)
+            yield union_of_group(lg_max_k, group)
         for group in groups:
-            yield union_of_group(bounds, group)
+            yield union_of_group(lg_max_k, group)
         return
 
     def all_groups() -> Iterator[Group]:
         yield from first
         yield from groups
 
-    yield from _over_processes(bounds, all_groups(), jobs)
+    yield from _over_processes(lg_max_k, all_groups(), jobs)
 
 
 def union_of_files(
     names: Iterable[str],
-    bounds: Bounds,
-    width: int,
+    lg_max_k: int,
+    width: Optional[int],
     jobs: int,
     refuse: Callable[[Trouble], None],
     more: Optional[Callable[[int], None]] = None,
@@ -248,29 +240,36 @@ def union_of_files(
     ----------
     names : iterable of str
         The files; ``-`` is standard input.
-    bounds : Bounds
-        Of the ``lg_k``.
-    width : int
-        The bits of a register of the union.
+    lg_max_k : int
+        The largest ``lg_k`` of the union, or 0 for no bound.
+    width : int, optional
+        The bits of a register of the union. If it is not given, it is that of the files, or 8 where
+        they differ.
     jobs : int
         How many processes work.
     refuse : callable
         Called with what is wrong with each file that is left out.
     more : callable, optional
         Called with the number of files of each task that is done.
+
+    Raises
+    ------
+    OtherLgK
+        If a file has another ``lg_k`` than files before it, and there is no bound.
     """
-    lg_k = bounds.lg_k
-    image, count, precision = _library.union(lg_k, 8, []), 0, Precision[str](lg_k)
-    for part in _parts(bounds, names, jobs):
+    state, count, first = State(lg_max_k), 0, None
+    for part in _parts(lg_max_k, names, jobs):
         for trouble in part.troubles:
             refuse(trouble)
         if part.merged:
-            image = _library.union(lg_k, 8, [image, part.image]) if count else part.image
-            count += part.merged
-            precision.merge(part.precision)
+            try:
+                state.join(part.image)
+            except PrecisionError as error:
+                raise OtherLgK(part.first or "a file", error, first) from None
+            count, first = count + part.merged, first or part.first
         if more is not None:
             more(part.merged + len(part.troubles))
-    return Merged(image if width == 8 else _library.convert(image, width), count, precision)
+    return Merged(state.image(width), count)
 
 
 # ---- for programs
@@ -290,9 +289,8 @@ def _pass_over(trouble: Trouble) -> None:
 def merge_files(
     paths: Iterable[Path],
     lg_max_k: Optional[int] = None,
-    width: int = 8,
+    width: Optional[int] = None,
     *,
-    min_lg_k: int = 4,
     jobs: int = 1,
     on_refused: Optional[Callable[[str, str], object]] = None,
 ) -> Sketch:
@@ -305,12 +303,8 @@ def merge_files(
     paths : iterable of str, bytes or path
         Files, and folders: of these all files below, but names that begin with a dot. What is
         neither file nor folder there, or a link to a folder, is passed over with a warning.
-    lg_max_k : int, optional
-        The largest ``lg_k`` of the union, 4 to 21; 12, if it is not given.
-    width : int
-        The bits of a register of the union, 4, 6 or 8.
-    min_lg_k : int
-        Files that would lower the union below this ``lg_k`` are refused.
+    lg_max_k, width : int, optional
+        As for ``union_of``.
     jobs : int
         How many processes work.
     on_refused : callable, optional
@@ -320,18 +314,15 @@ def merge_files(
     ------
     FilesError
         If files are refused and ``on_refused`` is not given; it has the paths of all.
+    PrecisionError
+        If a file has another ``lg_k`` than those before it, and ``lg_max_k`` is not given;
+        ``place`` is its path.
     ArgumentError
-        If ``lg_max_k``, ``width`` or ``min_lg_k`` is out of its range.
-
-    Warns
-    -----
-    PrecisionWarning
-        As of ``union_of``.
+        If ``lg_max_k`` or ``width`` is out of its range.
     """
     if isinstance(paths, (str, bytes, os.PathLike)):
         raise TypeError(f"many paths, not one {type(paths).__name__}")
-    lg_k = checked_lg_k(DEFAULT if lg_max_k is None else lg_max_k)
-    bounds, width = Bounds(lg_k, checked_lg_k(min_lg_k)), checked_width(width)
+    bound, width = checked_bounds(lg_max_k, width)
     refused: List[Tuple[str, str]] = []
 
     def refuse(trouble: Trouble) -> None:
@@ -341,10 +332,11 @@ def merge_files(
 
     names = found(_names_of(paths), refuse, _pass_over)
     try:
-        merged = union_of_files(names, bounds, width, max(jobs, 1), refuse)
+        merged = union_of_files(names, bound, width, max(jobs, 1), refuse)
+    except OtherLgK as trouble:
+        raise trouble.error from None
     except Trouble as trouble:
         raise HllError(str(trouble)) from None
     if refused and on_refused is None:
         raise FilesError(refused)
-    warn_of_precision(merged.precision, "file", lg_max_k is not None, 2)
     return Sketch._of(merged.image)

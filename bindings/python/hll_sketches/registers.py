@@ -131,7 +131,7 @@ class Registers:
             with self._lock:
                 fewer = _library.merge_image(self._place, image)
         if fewer is not None:
-            raise PrecisionError(fewer, self.lg_k, 0)
+            raise PrecisionError(fewer, self.lg_k, cure="fold({least}) the registers first")
 
     # ---- others of the same values
 

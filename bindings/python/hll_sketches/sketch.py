@@ -8,8 +8,9 @@ from typing import Any, Iterable, List, Optional, Tuple, Type, TypeVar, Union
 
 from . import _library
 from ._columns import batch_of
-from ._errors import ArgumentError
+from ._errors import ArgumentError, PrecisionError
 from ._locks import Lock
+from ._state import united
 from ._values import Value, batches, bytes_of
 
 _S = TypeVar("_S", bound="Sketch")
@@ -51,22 +52,27 @@ def image_in(source: Union["Sketch", bytes, bytearray, memoryview]) -> bytes:
     return source.to_bytes() if isinstance(source, Sketch) else data_in(source)
 
 
-def check(image: Union[bytes, bytearray, memoryview]) -> Optional[str]:
-    """Whether bytes begin with the image of a sketch.
+def fault_of(data: Union[bytes, bytearray, memoryview]) -> Optional[str]:
+    """Return why bytes do not begin with the image of a sketch.
 
     Parameters
     ----------
-    image : bytes, bytearray or memoryview
+    data : bytes, bytearray or memoryview
         Bytes after the image are not looked at.
 
     Returns
     -------
     str or None
-        None if they do; else the word of the first check that they fail, as in
-        ``ImageError.reason``.
+        The first check that they fail, as in ``ImageError.reason``; None if they begin with an
+        image.
     """
-    status = _library.check(data_in(image))
+    status = _library.check(data_in(data))
     return None if status == _library.OK else _library.WORDS[status]
+
+
+def is_image(data: Union[bytes, bytearray, memoryview]) -> bool:
+    """Return whether bytes begin with the image of a sketch; ``fault_of`` says why they don't."""
+    return fault_of(data) is None
 
 
 def is_small(
@@ -81,7 +87,7 @@ def is_small(
     Parameters
     ----------
     image : bytes, bytearray or memoryview
-        Whether it is an image at all is for ``check``.
+        Whether it is an image at all is for ``is_image``.
     max_lg_k : int
         The greatest ``lg_k``, 4 to 21.
     max_bytes : int
@@ -299,35 +305,52 @@ class Sketch:
         with self._lock:
             self._image = _library.add_coupon(self.to_bytes(), slot, value)
 
-    def merge(self, other: "Sketch") -> None:
-        """Take in the values of another sketch.
+    def merge(self, other: "Sketch", lg_max_k: Optional[int] = None) -> None:
+        """Merge another sketch into this one, which becomes the union of both.
 
-        This sketch keeps its width, and its ``lg_k``, unless the other is in registers of a smaller
-        ``lg_k`` that are not all 0: then it gets that one.
+        Sketches of one ``lg_k`` are merged at it. Sketches of different ``lg_k`` are merged only if
+        ``lg_max_k`` is given. If one is empty, the union is the other one. The width is that of
+        both, or 8 where they differ.
 
         Parameters
         ----------
         other : Sketch
             It stays as it is.
+        lg_max_k : int, optional
+            The largest ``lg_k`` of the union, 4 to 21. The union has that one, or the least of the
+            sketches in registers that are not all 0, where that is smaller.
+
+        Raises
+        ------
+        PrecisionError
+            If the other sketch has another ``lg_k``, and ``lg_max_k`` is not given. Then nothing
+            has changed.
+        ArgumentError
+            If ``lg_max_k`` is out of its range.
         """
         if not isinstance(other, Sketch):
             raise TypeError(f"a Sketch, not {type(other).__name__}")
-        image = other.to_bytes()
+        image, bound = other.to_bytes(), 0 if lg_max_k is None else checked_lg_k(lg_max_k)
         with self._lock:
-            self._image = self._merged(image)
+            self._image = self._merged(image, bound)
 
-    def _merged(self, image: bytes) -> bytes:
+    def _merged(self, image: bytes, lg_max_k: int = 0) -> bytes:
         mine = self.to_bytes()
-        return _library.merge(mine[3], _library.width_in(mine), mine, image)
+        if mine[3] == image[3] and not (mine[7] ^ image[7]) & 12:       # one lg_k and one width
+            return _library.merge(lg_max_k or mine[3], _library.width_in(mine), mine, image)
+        try:
+            return united([mine, image], lg_max_k)
+        except PrecisionError as error:
+            raise error.at(None) from None
 
     def __or__(self: _S, other: "Sketch") -> _S:
-        """Return the union of both, with the width of the left one and at most its ``lg_k``."""
+        """Return the union of both, as ``merge`` makes it."""
         if not isinstance(other, Sketch):
             return NotImplemented
         return self._of(self._merged(other.to_bytes()))
 
     def __ior__(self: _S, other: "Sketch") -> _S:
-        """Take in the values of another sketch, as ``merge`` does."""
+        """Merge another sketch, as ``merge`` does."""
         if not isinstance(other, Sketch):
             return NotImplemented
         self.merge(other)
@@ -370,13 +393,14 @@ class Sketch:
         """
         return self._of(_library.convert(self.to_bytes(), checked_width(width)))
 
-    def with_estimator_fields(self: _S) -> _S:
-        """Return the same sketch with the estimator fields that follow from its registers.
+    def set_estimator_fields(self) -> None:
+        """Replace the estimator fields of registers by those that follow from the registers.
 
-        It has them anyway, unless it was read with fields that another DataSketches library wrote
-        while it added values one by one, and was not changed since.
+        A sketch has these anyway, unless it was read with fields that another DataSketches library
+        wrote while it added values one by one, and was not changed since.
         """
-        return self._of(_library.set_estimator_fields(self.to_bytes()))
+        with self._lock:
+            self._image = _library.set_estimator_fields(self.to_bytes())
 
     # ---- what it is
 

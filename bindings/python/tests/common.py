@@ -5,7 +5,6 @@ import pathlib
 import shutil
 import subprocess
 import sys
-import warnings
 
 sys.dont_write_bytecode = True
 PACKAGE = pathlib.Path(__file__).resolve().parent.parent
@@ -24,12 +23,3 @@ def program():
     done = subprocess.run(["make", "-s", "-C", ROOT / "programs"], stdout=subprocess.DEVNULL)
     return ROOT / "bin" / "hll_merge" if done.returncode == 0 else None
 
-
-def ignore_precision(test):
-    """Within a test, unions may be coarser than what they are made of."""
-    from hll_sketches import PrecisionWarning
-
-    kept = warnings.catch_warnings()
-    kept.__enter__()
-    test.addCleanup(kept.__exit__, None, None, None)
-    warnings.simplefilter("ignore", PrecisionWarning)

@@ -1,6 +1,6 @@
 # SPDX-License-Identifier: Apache-2.0
 """Plans of rows, carried out by the package alone."""
-from hll_sketches import ArgumentError, ImageError, Sketch, check, union_of
+from hll_sketches import ArgumentError, ImageError, Sketch, fault_of, union_of
 
 
 class Refused(Exception):
@@ -25,7 +25,7 @@ def run_line(words, sketches):
     kind, *numbers = words
     if kind == "image":
         data = bytes.fromhex(numbers[0])
-        reason = check(data)
+        reason = fault_of(data)
         if reason is not None:
             raise Refused(f"image {reason}")
         sketches.append(data)

@@ -14,7 +14,8 @@ from unittest import mock
 
 import common
 import hll_sketches
-from hll_sketches import ArgumentError, HllError, ImageError, Sketch, Union, _library, check
+from hll_sketches import ArgumentError, HllError, ImageError, PrecisionError, Sketch, SketchUnion
+from hll_sketches import _library, fault_of, is_image
 from hll_sketches import coupon, coupons, is_small, union_of
 from plain_hash import coupon_of, hash_of
 
@@ -152,13 +153,13 @@ class SketchTest(unittest.TestCase):
 
     def test_arguments(self):
         for lg_k in OUTSIDE:
-            for call in (Sketch, Union, lambda k: union_of([], k), Sketch(21).fold):
+            for call in (Sketch, SketchUnion, lambda k: union_of([], k), Sketch(21).fold):
                 with self.assertRaises(ArgumentError):
                     call(lg_k)
         for width in (-4, 0, 3, 5, 7, 9, 256 + 8):
             calls = (
                 lambda bits: Sketch(12, bits),
-                lambda bits: Union(12, bits),
+                lambda bits: SketchUnion(12, bits),
                 lambda bits: union_of([], 12, bits),
                 Sketch().convert,
             )
@@ -196,9 +197,10 @@ class SketchTest(unittest.TestCase):
             lambda: Sketch().merge(EMPTY),
             lambda: Sketch().agrees_with(EMPTY),
             lambda: Sketch.from_bytes(5),
-            lambda: check(5),
+            lambda: fault_of(5),
+            lambda: is_image(5),
             lambda: union_of([5]),
-            lambda: Union().update("x"),
+            lambda: SketchUnion().update("x"),
             lambda: Sketch() | EMPTY,
         )
         for call in calls:
@@ -225,27 +227,55 @@ class SketchTest(unittest.TestCase):
             self.assertEqual(asked.num_coupons, 1)
 
     def test_merge(self):
-        left, right, both = Sketch(12, 6), Sketch(12, 8), Sketch(12, 6)
+        left, right, both = Sketch(12, 6), Sketch(12, 6), Sketch(12, 6)
         left.update_many(range(5000))
         right.update_many(range(4000, 9000))
         both.update_many(range(9000))
-        self.assertEqual(left | right, both)
-        self.assertEqual((right | left).convert(6), both)
+        for kept in (left | right, right | left, left | right | left):
+            self.assertEqual((kept, kept.width), (both, 6))
         before = right.copy()
         left.merge(right)
         self.assertEqual((left, right), (both, before))
         right |= left
-        self.assertEqual((right, right.width), (both.convert(8), 8))
+        self.assertEqual(right, both)
         self.assertEqual(both | both, both)
-        self.assertEqual(both | Sketch(4), both)
 
-    def test_merge_of_other_sizes(self):
+    def test_merge_of_two_widths(self):
+        for one, other in ((4, 6), (6, 8), (8, 4)):
+            left, right = self.filled(12, one), self.filled(12, other, 50)
+            self.assertEqual((left | right, right | left), (left.convert(8),) * 2)
+            left |= right
+            self.assertEqual(left.width, 8)
+
+    def test_merge_of_empty_sketches(self):
+        """They count for nothing, but among themselves by their lg_k and width."""
+        for width in (4, 6, 8):
+            for both in (self.filled(10, width), self.filled(10, width, 3)):
+                for empty in (Sketch(4), Sketch(10, 4), Sketch(21, 6)):
+                    self.assertEqual((both | empty, empty | both), (both, both))
+        for sizes in ((9, 11, 10), (11, 9, 10), (4, 4, 11)):
+            one, two, three = (Sketch(lg_k, 4) for lg_k in sizes)
+            for union in ((one | two) | three, one | (two | three), union_of([one, two, three])):
+                self.assertEqual(union, Sketch(11, 4))
+        self.assertEqual(Sketch(9, 4) | Sketch(10, 6), Sketch(10, 8))
+
+    def test_merge_of_two_lg_k(self):
         large, small, few = self.filled(12), self.filled(9), self.filled(9, count=10)
-        self.assertEqual((large | small).lg_k, 9)
-        self.assertEqual((small | large).lg_k, 9)
-        self.assertEqual((large | few).lg_k, 12)
-        large.merge(small)
-        self.assertEqual(large, small)
+        for left, right in ((large, small), (small, large), (large, few), (few, small.fold(8))):
+            before = left.to_bytes()
+            words = f"the sketch has lg_k {right.lg_k} and not {left.lg_k}: "
+            words += f"lg_max_k={min(left.lg_k, right.lg_k)} merges them"
+            for call in (lambda: left | right, lambda: left.merge(right)):
+                with self.assertRaises(PrecisionError) as caught:
+                    call()
+                self.assertEqual(str(caught.exception), words)
+            self.assertEqual(left.to_bytes(), before)
+        few.merge(large, 12)
+        self.assertEqual(few.lg_k, 12)
+        small.merge(large, 12)
+        self.assertEqual(small, self.filled(9))
+        with self.assertRaises(ArgumentError):
+            small.merge(large, 22)
 
     def test_fold_and_agree(self):
         for width in (4, 6, 8):
@@ -261,7 +291,8 @@ class SketchTest(unittest.TestCase):
         image, plain = sketch.to_bytes(), sketch.to_bytes(plain=True)
         low = sum(2.0**-value for value in image[40:] if value < 32)
         self.assertEqual(struct.unpack("<3d", image[8:32]), (0.0, low, 0.0))
-        self.assertEqual(sketch.with_estimator_fields(), sketch)
+        sketch.set_estimator_fields()
+        self.assertEqual(sketch.to_bytes(), image)
         self.assertEqual(plain, image[:8] + bytes(24) + image[32:])
         self.assertEqual(Sketch.from_bytes(plain).to_bytes(), image)
         foreign = bytearray(image)
@@ -270,9 +301,12 @@ class SketchTest(unittest.TestCase):
         kept = Sketch.from_bytes(foreign)
         self.assertEqual(kept.to_bytes(), foreign)
         self.assertEqual(kept.to_bytes(plain=True), plain)
-        self.assertEqual(kept.with_estimator_fields().to_bytes(), image)
+        kept.set_estimator_fields()
+        self.assertEqual(kept.to_bytes(), image)
         few = self.filled(8, count=5)
-        self.assertEqual(few.with_estimator_fields(), few)
+        before = few.to_bytes()
+        few.set_estimator_fields()
+        self.assertEqual(few.to_bytes(), before)
         self.assertEqual(few.to_bytes(plain=True), few.to_bytes())
 
     def test_images(self):
@@ -285,7 +319,7 @@ class SketchTest(unittest.TestCase):
                 sketch = self.filled(12, width, count)
                 again = Sketch.from_bytes(sketch.to_bytes())
                 self.assertEqual((again, again.width), (sketch, width))
-                self.assertIsNone(check(sketch.to_bytes()))
+                self.assertTrue(is_image(sketch.to_bytes()))
 
     def test_equality(self):
         self.assertEqual(Sketch(10), Sketch(10))
@@ -318,7 +352,7 @@ class SketchTest(unittest.TestCase):
         about = r"^<Sketch lg_k=12 width=8: registers, about (19|20),\d\d\d values>$"
         self.assertRegex(repr(self.filled()), about)
         inner = "<Sketch lg_k=9 width=4: list, 0 coupons>"
-        self.assertEqual(repr(Union(9, 4)), f"<Union lg_max_k=9 width=4: {inner}>")
+        self.assertEqual(repr(SketchUnion(9, 4)), f"<SketchUnion of 0 sketches: {inner}>")
 
     def test_largest(self):
         for width in (4, 6, 8):
@@ -330,7 +364,6 @@ class SketchTest(unittest.TestCase):
 
 class UnionTest(unittest.TestCase):
     def setUp(self):
-        common.ignore_precision(self)
         source = random.Random(5)
         self.sketches = []
         for number in range(700):
@@ -343,16 +376,10 @@ class UnionTest(unittest.TestCase):
         for lg_max_k, width in ((12, 8), (10, 4), (21, 6)):
             wanted = union_of(self.sketches, lg_max_k, width)
             self.assertEqual(wanted.lg_k, min(lg_max_k, 11))
-            made = Union(lg_max_k, width)
+            made = SketchUnion(lg_max_k, width)
             self.assertEqual((made.lg_max_k, made.width), (lg_max_k, width))
             for sketch in self.sketches:
                 made.update(sketch)
-            self.assertEqual(made.sketch(), wanted)
-            with mock.patch.object(hll_sketches.union, "BATCH_BYTES", 10_000):
-                made = Union(lg_max_k, width)
-                for sketch in self.sketches:
-                    made.update(sketch)
-                    self.assertLess(made._pending_bytes, 10_000)
             self.assertEqual(made.sketch(), wanted)
             made.update_many(self.sketches[::-1])
             self.assertEqual(made.sketch(), wanted)
@@ -364,8 +391,8 @@ class UnionTest(unittest.TestCase):
 
     def test_of_none(self):
         self.assertEqual(union_of([], 10), Sketch(10))
-        self.assertEqual(Union(10).sketch(), Sketch(10))
-        made = Union(10)
+        self.assertEqual(SketchUnion(10).sketch(), Sketch(10))
+        made = SketchUnion(10)
         made.update_many([])
         self.assertEqual(made.sketch(), Sketch(10))
 
@@ -373,10 +400,10 @@ class UnionTest(unittest.TestCase):
         images = [sketch.to_bytes() for sketch in self.sketches]
         for number in (0, 1, 7, 8, 9, 63, 64, 65, 350, 699):
             bad = [*images[:number], images[number][:6], *images[number + 1 :]]
-            made = Union()
+            made = SketchUnion(12)
             made.update(images[0])
             before = made.sketch()
-            for call in (union_of, made.update_many):
+            for call in (lambda images: union_of(images, 12), made.update_many):
                 with self.assertRaises(ImageError) as caught:
                     call(bad)
                 error = caught.exception
@@ -384,7 +411,7 @@ class UnionTest(unittest.TestCase):
             self.assertEqual(made.sketch(), before)
 
     def test_bad_update(self):
-        made = Union()
+        made = SketchUnion()
         with self.assertRaises(ImageError) as caught:
             made.update(EMPTY[:7])
         self.assertEqual((caught.exception.reason, caught.exception.number), ("truncated", None))
@@ -394,7 +421,7 @@ class UnionTest(unittest.TestCase):
 
 class ErrorsTest(unittest.TestCase):
     def test_kinds(self):
-        for kind in (ImageError, ArgumentError):
+        for kind in (ImageError, ArgumentError, PrecisionError):
             self.assertTrue(issubclass(kind, HllError) and issubclass(kind, ValueError))
         self.assertFalse(issubclass(HllError, ValueError))
 
@@ -409,11 +436,11 @@ class ErrorsTest(unittest.TestCase):
         }
         for digits, word in rows.items():
             data = bytes.fromhex(digits)
-            self.assertEqual(check(data), word)
+            self.assertEqual((fault_of(data), is_image(data)), (word, False))
             with self.assertRaises(ImageError) as caught:
                 Sketch.from_bytes(data)
             self.assertEqual(caught.exception.reason, word)
-        self.assertIsNone(check(ONE))
+        self.assertEqual((fault_of(ONE), is_image(ONE)), (None, True))
 
     def test_pickles(self):
         images = ImageError("count"), ImageError("count", 7)
@@ -423,6 +450,11 @@ class ErrorsTest(unittest.TestCase):
             self.assertEqual((str(again), vars(again)), (str(error), vars(error)))
         self.assertEqual(str(ImageError("count", 7)), "image 7 is refused: count")
         self.assertEqual(str(ImageError("count")), "image is refused: count")
+        for error in (PrecisionError(9, 12), PrecisionError(9, 12, 3, "a/b.hll", "try {least}")):
+            again = pickle.loads(pickle.dumps(error))
+            self.assertEqual((str(again), vars(again)), (str(error), vars(error)))
+        self.assertEqual(str(again), "a/b.hll has lg_k 9 and not 12: try 9")
+        self.assertIn("sketch 7 has", str(PrecisionError(9, 12, 7)))
 
     def test_memory(self):
         """A process with little memory is refused some, and can go on."""
@@ -443,7 +475,7 @@ class ErrorsTest(unittest.TestCase):
         self.assertEqual((done.stdout, done.returncode), ("refused\n1\n", 0), done.stderr)
 
     def test_refused_memory_loses_nothing(self):
-        sketch, union = Sketch(), Union()
+        sketch, union = Sketch(), SketchUnion()
         sketch.update("x")
         union.update(sketch)
         with mock.patch.object(_library, "add", side_effect=MemoryError):
@@ -452,10 +484,22 @@ class ErrorsTest(unittest.TestCase):
                 with self.assertRaises(MemoryError):
                     call()
         self.assertEqual(sketch.num_coupons, 2)
-        with mock.patch.object(_library, "union", side_effect=MemoryError):
+        large = Sketch()
+        large.update_many(range(9999))
+        with mock.patch.object(_library, "copied", side_effect=MemoryError):
+            for call in (
+                union.copy,
+                lambda: union.update(large),
+                lambda: union.update_many([sketch, large]),
+            ):
+                with self.assertRaises(MemoryError):
+                    call()
+        with mock.patch.object(_library, "image_of_state", side_effect=MemoryError):
             with self.assertRaises(MemoryError):
                 union.sketch()
         self.assertEqual(union.sketch().num_coupons, 1)
+        union.update_many([sketch, large])
+        self.assertEqual(union.sketch(), sketch | large)
 
     def test_no_library(self):
         code = """
@@ -543,7 +587,7 @@ class ThreadsTest(unittest.TestCase):
             part = Sketch()
             part.update_many(range(thread * 1000, thread * 1000 + 1000))
             parts.append(part)
-        wanted, made, union = union_of(parts), Sketch(), Union()
+        wanted, made, union = union_of(parts), Sketch(), SketchUnion()
 
         def merge(thread):
             for part in parts:
@@ -560,7 +604,7 @@ class PackageTest(unittest.TestCase):
         for name in hll_sketches.__all__:
             self.assertTrue(hasattr(hll_sketches, name), name)
             self.assertTrue(name == "Value" or getattr(hll_sketches, name).__doc__, name)
-        for kind in (Sketch, Union):
+        for kind in (Sketch, SketchUnion):
             for name in vars(kind):
                 if not name.startswith("_"):
                     self.assertTrue(getattr(kind, name).__doc__, name)

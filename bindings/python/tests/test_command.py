@@ -18,7 +18,7 @@ from unittest import mock
 
 import common  # noqa: F401, for the path
 from command import COMMAND, CommandTest, environment, interruptible
-from hll_sketches import Sketch, __version__, _library, adding, check, cli, files, layout
+from hll_sketches import Sketch, __version__, _library, adding, cli, fault_of, files, layout
 from mutants import KINDS, Mutants
 
 NAMES = "merge info estimate check fold convert diff plot new add".split()
@@ -307,7 +307,7 @@ class CheckTest(CommandTest):
             mutants = Mutants(kind, 7)
             for number in range(30):
                 name = f"{kind[0]}{kind[1]}/{number:03}"
-                reason = check(self.write(f"all/{name}", mutants.image()).read_bytes())
+                reason = fault_of(self.write(f"all/{name}", mutants.image()).read_bytes())
                 wanted += [(f"all/{name}", reason)] if reason else []
         self.assertGreater(len({reason for _, reason in wanted}), 8)
         status, out, err = self.run_hll("check", "all")
@@ -451,11 +451,11 @@ class LayoutTest(unittest.TestCase):
             mutants = Mutants(kind, 100 + number)
             for _ in range(1000):
                 image = mutants.image()
-                size, reason = layout.size_of(image[: layout.HEADER]), check(image)
+                size, reason = layout.size_of(image[: layout.HEADER]), fault_of(image)
                 longer = image + bytes(1 << 12)
-                self.assertEqual(check(longer[:size]), check(longer), image.hex())
+                self.assertEqual(fault_of(longer[:size]), fault_of(longer), image.hex())
                 if reason is None:
-                    self.assertEqual(check(image[: size - 1]), "truncated", image.hex())
+                    self.assertEqual(fault_of(image[: size - 1]), "truncated", image.hex())
                 accepted, refused = accepted + (reason is None), refused + (reason is not None)
         self.assertGreater(min(accepted, refused), 1000)
 

@@ -14,8 +14,7 @@ from unittest import mock
 
 import common
 from command import COMMAND, CommandTest, environment, interruptible
-from hll_sketches import Sketch, files, merging, union_of
-from hll_sketches.merging import Bounds
+from hll_sketches import Sketch, _library, files, merging, union_of
 
 FILES = 300
 COUNTS = (0, 1, 8, 9, 40, 3000, 20_000)
@@ -45,34 +44,13 @@ def program_union(program, made, lg_k, width):
     return bytes.fromhex(done.stdout.decode())
 
 
-def precision_lines(names, made, bound=12):
-    """What a merge tells of the files that make its answer coarser."""
-    sketches = [Sketch.from_bytes(image) for image in made]
-    lg_ks = [sketch.lg_k for sketch in sketches if not sketch.is_empty]
-    of_registers = [(name, one.lg_k) for name, one in zip(names, sketches)
-                    if one.stage == "registers" and one.num_zeros < 1 << one.lg_k]
-    least = min([bound, *(lg_k for _, lg_k in of_registers)])
-    if least == bound or max(lg_ks) == least:
-        return ""
-    lowering = [name for name, lg_k in of_registers if lg_k == least]
-    without = min(bound, max(lg_ks))
-    told = f"its lg_k lowers that of the answer from {without} to {least}"
-    lines = [f"hll: {name}: {told}\n" for name in lowering[:100]]
-    if len(lowering) > 100:
-        lines.append(f"hll: merge: and {len(lowering) - 100:,} files more do so\n")
-    return "".join(lines)
-
-
-def in_order(names, made):
-    """Names and images as a walk finds them."""
-    return zip(*sorted(zip(names, made)))
+def bound_line(lg_max_k=12):
+    """What a merge of all images says where the bound is above the lg_k of its answer."""
+    line = f"hll: merge: the answer has lg_k 8, as a file has, and not {lg_max_k}\n"
+    return line if lg_max_k > 8 else ""
 
 
 class LaidOut(CommandTest):
-    def setUp(self):
-        super().setUp()
-        common.ignore_precision(self)
-
     def lay_out(self, made=IMAGES):
         """The images as files in folders; their names in order."""
         names = [f"all/{number % 4}/{number:04}.hll" for number in range(len(made))]
@@ -87,16 +65,15 @@ class MergeTest(LaidOut):
         if program is None:
             self.skipTest("the program hll_merge is not here")
         self.assertEqual(len(KINDS), 9)
-        names, made = in_order(self.lay_out(), IMAGES)
+        self.lay_out()
         for jobs, lg_k, width in ((1, 12, 8), (3, 12, 8), (3, 9, 4), (1, 7, 6)):
             options = ["--jobs", jobs, "--lg-k", lg_k, "--width", width]
             wanted = program_union(program, IMAGES, lg_k, width)
             with self.subTest(options=options):
-                err = precision_lines(names, made, lg_k)
-                self.assertEqual(err == "", lg_k < 8)
+                err = bound_line(lg_k)
                 told = self.run_hll("merge", "all", "-o", "one.hll", "--plain", *options)
                 self.assertEqual((told, self.read("one.hll")), ((0, b"", err), wanted))
-                with_words = Sketch.from_bytes(wanted).with_estimator_fields().to_bytes()
+                with_words = Sketch.from_bytes(wanted).to_bytes()
                 told = self.run_hll("merge", "all", "-o", "-", *options)
                 self.assertEqual(told, (0, with_words, err))
                 self.assertNotEqual(with_words, wanted)
@@ -118,60 +95,62 @@ class MergeTest(LaidOut):
             with mock.patch.object(merging, "GROUP", group), \
                     mock.patch.object(merging, "BATCH_BYTES", batch):
                 found = merging.union_of_files(
-                    names, Bounds(11), 6, jobs, self.fail, told.append
+                    names, 11, 6, jobs, self.fail, told.append
                 )
             self.assertEqual(found[:2], (wanted, FILES))
             self.assertEqual((sum(told), len(told)), (FILES, -(-FILES // group)))
 
     def test_memory_is_bounded(self):
-        """No call gets more bytes than a batch and two images."""
-        names, sizes = [str(self.folder / name) for name in self.lay_out()], []
-        union = merging._library.union
+        """No call gets more bytes than a batch and an image."""
+        made = [sketch.to_bytes() for sketch in map(Sketch.from_bytes, LARGE) if sketch.width == 8]
+        names, sizes = [str(self.folder / name) for name in self.lay_out(made * 20)], []
+        union = _library.union
 
         def measured(lg_k, width, images):
             sizes.append(sum(map(len, images)))
             return union(lg_k, width, images)
 
         with mock.patch.object(merging, "BATCH_BYTES", 30_000), \
-                mock.patch.object(merging._library, "union", measured):
-            merging.union_of_files(names, Bounds(12), 8, 1, self.fail)
+                mock.patch.object(_library, "union", measured):
+            merging.union_of_files(names, 12, 8, 1, self.fail)
         self.assertGreater(sum(sizes), 300_000)
-        self.assertLess(max(sizes), 30_000 + max(map(len, IMAGES)) + 4200)
+        self.assertLess(max(sizes), 30_000 + max(map(len, made)))
 
     def test_processes_have_the_work(self):
         """More than a group of files, with standard input among them, and refusals in order."""
         names = self.lay_out() * 5
         self.write("bad", b"no")
         self.write("list", "".join(f"{name}\n" for name in [*names, "bad"]).encode())
-        wanted = union_of(IMAGES).with_estimator_fields().to_bytes()
+        wanted = union_of(IMAGES, 12).to_bytes()
         extra = Sketch()
         extra.update_many(range(10**9, 10**9 + 9999))
         words = ["merge", "-", "--files-from", "list", "-o", "one.hll", "--jobs", 3, "--skip-bad"]
+        words += ["--lg-k", 12]
         status, out, err = self.run_hll(*words, "--json", given=extra.to_bytes())
-        lines = precision_lines(names, IMAGES * 5)
-        self.assertEqual((status, err), (0, "hll: bad: image truncated (left out)\n" + lines))
+        lines = "hll: bad: image truncated (left out)\n" + bound_line()
+        self.assertEqual((status, err), (0, lines))
         told = json.loads(out)
         self.assertEqual((told["merged"], len(told["left_out"])), (5 * FILES + 1, 1))
-        both = union_of([*IMAGES, extra]).with_estimator_fields().to_bytes()
+        both = union_of([*IMAGES, extra], 12).to_bytes()
         self.assertEqual(self.read("one.hll"), both)
         self.assertNotEqual(both, wanted)
 
     def test_a_process_that_is_lost(self):
         names = [str(self.folder / name) for name in self.lay_out(IMAGES[:9])]
         with mock.patch.object(merging, "GROUP", 1), \
-                mock.patch.object(merging, "_Merged", lambda bounds: os._exit(3)), \
+                mock.patch.object(merging, "_Files", lambda lg_max_k: os._exit(3)), \
                 self.assertRaises(files.Trouble) as caught:
-            merging.union_of_files(names, Bounds(12), 8, 2, self.fail)
+            merging.union_of_files(names, 12, 8, 2, self.fail)
         words = "merge: a process ended before its work was done"
         self.assertEqual((str(caught.exception), caught.exception.status), (words, 1))
 
     def test_lists_of_names(self):
         names = self.lay_out(IMAGES[:20])
-        wanted = union_of(IMAGES[:20]).with_estimator_fields().to_bytes()
+        wanted = union_of(IMAGES[:20], 10).to_bytes()
         for end, more in (("\n", []), ("\0", ["-0"])):
             given = end.join(names).encode()
-            told = self.run_hll("merge", "--files-from", "-", *more, "-o", "-", given=given)
-            self.assertEqual(told, (0, wanted, precision_lines(names, IMAGES[:20])))
+            words = ["merge", "--files-from", "-", *more, "-o", "-", "--lg-k", 10]
+            self.assertEqual(self.run_hll(*words, given=given)[:2], (0, wanted))
         words = ["none: No such file or directory"]
         self.fails(2, words, "merge", "--files-from", "none", "-o", "x")
 
@@ -188,26 +167,24 @@ class RefusalsTest(LaidOut):
         for number, (data, reason) in enumerate(zip(self.BAD, reasons)):
             self.write(f"all/1/bad{number}", data)
             lines.append(f"all/1/bad{number}: image {reason}")
-        return lines, union_of(good).with_estimator_fields().to_bytes()
+        return lines, union_of(good, 12).to_bytes()
 
     def test_all_bad_files_are_named(self):
         lines, _ = self.lay_out_bad()
         self.write("one.hll", b"as it was")
         for jobs in (1, 3):
-            self.fails(1, lines, "merge", "all", "-o", "one.hll", "--jobs", jobs)
+            self.fails(1, lines, "merge", "all", "-o", "one.hll", "--lg-k", 12, "--jobs", jobs)
         self.assertEqual((self.read("one.hll"), self.listed()), (b"as it was", ["all", "one.hll"]))
         lines.insert(0, "none: No such file or directory")
-        self.fails(2, lines, "merge", "none", "all", "-o", "one.hll")
+        self.fails(2, lines, "merge", "none", "all", "-o", "one.hll", "--lg-k", 12)
         self.assertEqual(self.read("one.hll"), b"as it was")
 
     def test_skip_bad(self):
         lines, wanted = self.lay_out_bad()
         lines = ["none: No such file or directory", *lines]
         left = [f"{line} (left out)" for line in lines]
-        words = ["merge", "none", "all", "--skip-bad", "-o"]
-        names = self.lay_out(IMAGES[:60])
-        err = "".join(f"hll: {line}\n" for line in left)
-        err += precision_lines(*in_order(names, IMAGES[:60]))
+        words = ["merge", "none", "all", "--skip-bad", "--lg-k", 12, "-o"]
+        err = "".join(f"hll: {line}\n" for line in left) + bound_line()
         self.assertEqual(self.run_hll(*words, "one.hll"), (0, b"", err))
         self.assertEqual(self.read("one.hll"), wanted)
         status, out, _ = self.run_hll(*words, "two.hll", "--json")
@@ -223,15 +200,14 @@ class RefusalsTest(LaidOut):
             made[number] = made[number][:7]
         names = self.lay_out(made)
         lines = [f"{name}: image truncated" for name in sorted(names[number] for number in bad)]
-        self.fails(1, lines, "merge", "all", "-o", "one.hll")
+        self.fails(1, lines, "merge", "all", "-o", "one.hll", "--lg-k", 12)
         self.assertEqual(self.listed(), ["all"])
         err = "".join(f"hll: {line} (left out)\n" for line in lines)
-        good = [(name, made[n]) for n, name in enumerate(names) if n not in bad]
-        err += precision_lines(*in_order(*zip(*good)))
+        err += bound_line()
         for jobs in (1, 4):
-            words = ("merge", "all", "--skip-bad", "-o", "one.hll", "--jobs", jobs)
+            words = ("merge", "all", "--skip-bad", "-o", "one.hll", "--jobs", jobs, "--lg-k", 12)
             self.assertEqual(self.run_hll(*words), (0, b"", err))
-            self.assertEqual(self.read("one.hll"), union_of(IMAGES).with_estimator_fields().to_bytes())
+            self.assertEqual(self.read("one.hll"), union_of(IMAGES, 12).to_bytes())
 
     def test_nothing_to_merge(self):
         self.write("bad", b"no")
@@ -348,7 +324,7 @@ class ScriptTest(LaidOut):
             self.assertEqual(self.merge_folder("all", 13, 6, files_in_group), (0, wanted, ""))
         options = ["--plain", "--lg-k", 13, "--width", 6]
         self.assertEqual(self.succeeds("merge", "all", "-o", "-", *options), wanted)
-        self.assertEqual(self.merge_folder("all")[1], union_of(LARGE).to_bytes(plain=True))
+        self.assertEqual(self.merge_folder("all")[1], union_of(LARGE, 12, 8).to_bytes(plain=True))
 
     def test_merge_folder_names_a_bad_file_of_each_group(self):
         """The first, the last and one in the midst of a group; nothing is printed then."""
@@ -381,7 +357,7 @@ class ScriptTest(LaidOut):
         ))
         wanted = f"image {union_of(LARGE, 11, 4).to_bytes(plain=True).hex()}\n".encode()
         self.assertEqual((status, out, err), (0, wanted, ""))
-        wanted = f"image {union_of(LARGE[:13]).to_bytes(plain=True).hex()}\n".encode()
+        wanted = f"image {union_of(LARGE[:13], 12, 8).to_bytes(plain=True).hex()}\n".encode()
         self.assertEqual(self.run_script("merge_lines.sh", given=groups[0]), (0, wanted, ""))
 
     def test_merge_lines_refuses(self):

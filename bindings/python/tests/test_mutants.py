@@ -1,11 +1,11 @@
 # SPDX-License-Identifier: Apache-2.0
-"""Mutated images: `check` answers as a plain reader and as the program do."""
+"""Mutated images: `fault_of` answers as a plain reader and as the program do."""
 import collections
 import subprocess
 import unittest
 
 import common
-from hll_sketches import ImageError, Sketch, check, union_of
+from hll_sketches import ImageError, Sketch, fault_of, union_of
 from mutants import KINDS, Mutants
 from plain_reader import answer, read
 
@@ -24,17 +24,15 @@ def program_answer(program, image):
 
 
 class MutantsTest(unittest.TestCase):
-    def setUp(self):
-        common.ignore_precision(self)
-
     def compare_merged(self, image, word):
         """A mutant is merged into registers as the sketch that it is read as, or is refused."""
         if word == "accepted":
-            merged = union_of([REGISTERS, image]), union_of([REGISTERS, Sketch.from_bytes(image)])
+            read = Sketch.from_bytes(image)
+            merged = union_of([REGISTERS, image], 10), union_of([REGISTERS, read], 10)
             self.assertEqual(*merged, image.hex())
             return
         with self.assertRaises(ImageError) as caught:
-            union_of([REGISTERS, image])
+            union_of([REGISTERS, image], 10)
         self.assertEqual((caught.exception.reason, caught.exception.number), (word, 1), image.hex())
 
     def test_plain_reader(self):
@@ -45,7 +43,7 @@ class MutantsTest(unittest.TestCase):
                 image = mutants.image()
                 word, value = answer(image)
                 words[word] += 1
-                self.assertEqual(check(image) or "accepted", word, image.hex())
+                self.assertEqual(fault_of(image) or "accepted", word, image.hex())
                 if word == "accepted":
                     self.assertEqual(read(Sketch.from_bytes(image).to_bytes()), value, image.hex())
                 else:
@@ -69,7 +67,7 @@ class MutantsTest(unittest.TestCase):
                 if not image:
                     continue
                 word, printed = program_answer(program, image)
-                self.assertEqual(check(image) or "accepted", word, image.hex())
+                self.assertEqual(fault_of(image) or "accepted", word, image.hex())
                 if word == "accepted":
                     self.assertEqual(Sketch.from_bytes(image).to_bytes(), printed, image.hex())
                 ran += 1

@@ -51,15 +51,15 @@ class TypesTest(CommandTest):
         """What a program that uses the package is told."""
         self.write("right.py", b"""\
 import pathlib
-from hll_sketches import Registers, Sketch, Union, coupons, merge_files, union_of
-made: Sketch = union_of([Sketch(), b""], 12, 8, min_lg_k=8) | Sketch.read("x")
+from hll_sketches import Registers, Sketch, SketchUnion, coupons, merge_files, union_of
+made: Sketch = union_of([Sketch(), b""], 12, 8) | Sketch.read("x")
 made.update_many(open("x"))
 made.update_many([1, "a", b"b", 2.5])
 made.write(pathlib.Path("x"))
 low, high = made.bounds()
 number: float = low + high + made.estimate() + sum(coupons(["x"]))
 merged: Sketch = merge_files(["a", pathlib.Path("b")], on_refused=print)
-copied: Union = Union(12).copy()
+copied: SketchUnion = SketchUnion(12).copy()
 kept: Registers = Registers.over(bytearray(4096)).fold(10)
 kept.merge(made)
 kept.add_coupons(coupons(["x"]))
@@ -224,6 +224,7 @@ EMPTY(hll_image_new) EMPTY(hll_image_add) EMPTY(hll_image_add_coupon) EMPTY(hll_
 EMPTY(hll_images_union) EMPTY(hll_image_fold) EMPTY(hll_image_convert) EMPTY(hll_image_check)
 EMPTY(hll_image_size) EMPTY(hll_image_set_estimator_fields) EMPTY(hll_image_clear_estimator_fields) EMPTY(hll_images_agree) EMPTY(hll_coupon) EMPTY(hll_coupons)
 EMPTY(hll_estimate) EMPTY(hll_hip_estimate)
+EMPTY(hll_state_new) EMPTY(hll_state_join) EMPTY(hll_state_image)
 EMPTY(hll_registers_add) EMPTY(hll_registers_add_coupons)
 EMPTY(hll_registers_merge) EMPTY(hll_registers_merge_registers) EMPTY(hll_registers_fold)
 EMPTY(hll_registers_histogram) EMPTY(hll_registers_image) EMPTY(hll_registers_estimate)

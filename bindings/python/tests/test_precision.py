@@ -1,108 +1,222 @@
 # SPDX-License-Identifier: Apache-2.0
-"""A union that is coarser than its sketches tells so, or refuses those that would lower it."""
+"""Unions have the lg_k of their sketches, or the one that is asked for; the width is theirs too."""
+import functools
 import json
+import operator
 import os
+import pathlib
 import pickle
+import random
+import tempfile
 import unittest
 import warnings
 
 import common  # noqa: F401, for the path
 from command import CommandTest
-from hll_sketches import ArgumentError, FilesError, HllError, ImageError, PrecisionError
-from hll_sketches import PrecisionWarning, Sketch, _library, check, merge_files, union_of
+from hll_sketches import FilesError, ImageError, PrecisionError, Sketch, SketchUnion, _library
+from hll_sketches import is_image, merge_files, union_of
 from hll_sketches.layout import holds_values
 from mutants import KINDS, Mutants
 
+CASES = 400
 
-def sketch(lg_k, count, width=8):
+
+def sketch(lg_k, count, width=8, first=0):
     made = Sketch(lg_k, width)
-    made.update_many(range(count))
+    made.update_many(range(first, first + count))
     return made
 
 
 def zeros(lg_k, width):
-    """Registers that are all 0: they lower no union."""
+    """Registers that are all 0, as another program may write them."""
     bits = {4: 0, 6: 1, 8: 2}[width]
     size = {4: 1 << lg_k >> 1, 6: (3 << lg_k >> 2) + 1, 8: 1 << lg_k}[width]
     header = bytes([10, 1, 7, lg_k, 0, 0, 0, 2 | bits << 2])
-    return header + bytes(24) + (1 << lg_k).to_bytes(4, "little") + bytes(4 + size)
+    return Sketch.from_bytes(
+        header + bytes(24) + (1 << lg_k).to_bytes(4, "little") + bytes(4 + size)
+    )
 
 
 FINE, COARSE, FEW, EMPTY = sketch(12, 20_000), sketch(4, 1000), sketch(8, 5), Sketch(4)
-HARMLESS = [FEW, EMPTY, *(Sketch.from_bytes(zeros(5, width)) for width in (4, 6, 8))]
+REGISTERS = sketch(10, 2000)
 
 
-class ValuesTest(unittest.TestCase):
-    def test_of_mutants(self):
-        """An image holds values where the library says that it isn't empty."""
+# ---- the rule, plainly
+
+
+class Part:
+    """A sketch, and the values that it counts."""
+
+    def __init__(self, numbers):
+        self.lg_k, self.width = numbers.choice((9, 9, 10)), numbers.choice((4, 4, 6, 8))
+        count = numbers.choice((0, 0, 3, 60, 3000))
+        first = numbers.randrange(5000)
+        self.values = range(first, first + count)
+        self.sketch = sketch(self.lg_k, count, self.width, first)
+
+
+def of_one_lg_k(numbers):
+    """Parts whose sketches with values mostly have one lg_k."""
+    parts = [Part(numbers) for _ in range(numbers.randrange(8))]
+    if numbers.random() < 0.7:
+        parts = [part for part in parts if part.lg_k == 9 or not part.values]
+    return parts
+
+
+def wanted_of(parts):
+    """The union of parts without a bound; None if their lg_k differ."""
+    counted = [part for part in parts if part.values] or parts
+    lg_ks = {part.lg_k for part in counted}
+    if any(part.values for part in parts) and len(lg_ks) > 1:
+        return None
+    widths = {part.width for part in counted}
+    made = Sketch(max(lg_ks, default=12), widths.pop() if len(widths) == 1 else 8)
+    for part in parts:
+        made.update_many(part.values)
+    return made
+
+
+# ---- ways to merge
+
+
+def one_by_one(sketches):
+    union = SketchUnion()
+    for one in sketches:
+        union.update(one)
+    return union.sketch()
+
+
+def all_at_once(sketches):
+    union = SketchUnion()
+    union.update_many(one.to_bytes() for one in sketches)
+    return union.sketch()
+
+
+def by_operator(sketches):
+    return functools.reduce(operator.or_, sketches) if sketches else Sketch()
+
+
+def in_place(sketches):
+    if not sketches:
+        return Sketch()
+    made = sketches[0].copy()
+    for one in sketches[1:]:
+        made |= one
+    return made
+
+
+def by_files(sketches, jobs=1):
+    with tempfile.TemporaryDirectory() as folder:
+        paths = [pathlib.Path(folder, str(number)) for number in range(len(sketches))]
+        for path, one in zip(paths, sketches):
+            path.write_bytes(one.to_bytes())
+        return merge_files(paths, jobs=jobs)
+
+
+def copied(sketches):
+    """A union that is copied and pickled between its sketches."""
+    union = SketchUnion()
+    for number, one in enumerate(sketches):
+        union = pickle.loads(pickle.dumps(union)) if number % 2 else union.copy()
+        union.update(one)
+    return union.sketch()
+
+
+WAYS = (union_of, one_by_one, all_at_once, by_operator, in_place, by_files, copied)
+
+
+def in_a_tree(sketches, numbers):
+    """The union of unions of parts, each merged in some way."""
+    if len(sketches) < 3:
+        return numbers.choice(WAYS)(sketches)
+    cut = numbers.randrange(1, len(sketches))
+    parts = [in_a_tree(sketches[:cut], numbers), in_a_tree(sketches[cut:], numbers)]
+    return numbers.choice(WAYS)(parts)
+
+
+class RuleTest(unittest.TestCase):
+    def test_random_trees(self):
+        numbers, refused = random.Random(7), 0
+        for _ in range(CASES):
+            parts = of_one_lg_k(numbers)
+            sketches, wanted = [part.sketch for part in parts], wanted_of(parts)
+            ways = (*WAYS, functools.partial(in_a_tree, numbers=numbers))
+            for way in ways:
+                if wanted is None:
+                    with self.assertRaises(PrecisionError):
+                        way(sketches)
+                    continue
+                made = way(numbers.sample(sketches, len(sketches)))
+                self.assertEqual((made, made.width), (wanted, wanted.width), (way, sketches))
+            refused += wanted is None
+        self.assertTrue(CASES // 20 < refused < CASES // 2, refused)
+
+    def test_no_sketches(self):
+        for way in WAYS:
+            self.assertEqual(way([]), Sketch(12))
+        self.assertEqual((union_of([], 9), union_of([], 9, 4)), (Sketch(9), Sketch(9, 4)))
+
+    def test_registers_that_are_all_0(self):
+        """They are empty, as those of other programs may be."""
+        for width in (4, 6, 8):
+            for way in WAYS:
+                self.assertEqual(way([zeros(5, width), FINE, zeros(14, 4)]), FINE)
+
+    def test_mutants(self):
+        """An image that is merged decides by its lg_k if it holds a value, and only then."""
         seen = set()
         for number, kind in enumerate(KINDS):
             mutants = Mutants(kind, 300 + number)
-            for _ in range(700):
+            for _ in range(500):
                 image = mutants.image()
-                if check(image) is None:
-                    wanted = not _library.info(image).is_empty
-                    self.assertEqual(holds_values(image), wanted, image.hex())
-                    seen.add((kind, wanted))
-        for one in HARMLESS[1:]:
-            self.assertFalse(holds_values(one.to_bytes()))
-        self.assertEqual(len({kind for kind, wanted in seen if wanted}), len(KINDS))
+                if not is_image(image):
+                    continue
+                is_empty = bool(_library.info(image).is_empty)
+                self.assertEqual(holds_values(image), not is_empty, image.hex())
+                seen.add((kind, is_empty))
+                if is_empty or image[3] == 10:
+                    made = union_of([REGISTERS, image])
+                    self.assertEqual(made.lg_k, 10, image.hex())
+                else:
+                    with self.assertRaises(PrecisionError, msg=image.hex()):
+                        union_of([REGISTERS, image])
+        self.assertEqual(len({kind for kind, is_empty in seen if not is_empty}), len(KINDS))
 
+    def test_a_bound(self):
+        """It is the largest lg_k, and what lowers it is in registers."""
+        sketches = [FINE, FEW, sketch(14, 50_000)]
+        for lg_max_k, lg_k in ((21, 12), (13, 12), (11, 11)):
+            self.assertEqual(union_of(sketches, lg_max_k).lg_k, lg_k)
+        self.assertEqual(union_of([*sketches, COARSE], 12).lg_k, 4)
+        self.assertEqual(union_of([FEW, sketch(14, 9)], 11).lg_k, 11)
+        narrow = [sketch(lg_k, 5000, 4) for lg_k in (9, 10)]
+        self.assertEqual((union_of(narrow, 21).width, union_of(narrow, 21, 6).width), (4, 6))
+        self.assertEqual(union_of([*narrow, FEW], 21).width, 8)
 
-class UnionOfTest(unittest.TestCase):
-    def warned(self, *words, **more):
-        """The union, and what is warned of."""
-        with warnings.catch_warnings(record=True) as caught:
-            warnings.simplefilter("always")
-            made = union_of(*words, **more)
-        self.assertTrue(all(one.category is PrecisionWarning for one in caught))
-        self.assertTrue(all(one.filename == __file__ for one in caught))
-        return made, [str(one.message) for one in caught]
-
-    def test_a_coarse_sketch_is_told(self):
-        words = "the union has lg_k 4 and not 12, as of sketch "
-        self.assertEqual(self.warned([FINE, COARSE]), (FINE.fold(4), [words + "1"]))
-        for number in (0, 7, 8, 9, 100):
-            sketches = [FINE.to_bytes()] * number + [COARSE] + [FINE] * 30
-            self.assertEqual(self.warned(sketches)[1], [f"{words}{number}"])
-        many = [FINE, *[COARSE] * 4, sketch(10, 5000), *[COARSE.to_bytes()] * 5]
-        self.assertEqual(self.warned(iter(many))[1], [words + "1, 2, 3, 4, 6 and 4 more"])
-        told = self.warned([sketch(10, 9999), FINE, FINE])[1]
-        self.assertEqual(told, ["the union has lg_k 10 and not 12, as of sketch 0"])
-
-    def test_what_lowers_nothing_is_not_told(self):
-        for sketches in ([FINE, *HARMLESS], HARMLESS, [COARSE, COARSE, EMPTY], [], [COARSE]):
-            self.assertEqual(self.warned(sketches)[1], [])
-        self.assertEqual(self.warned([FINE, sketch(8, 5000)], 8)[1], [])
-
-    def test_the_bound(self):
-        fine = [sketch(14, 60_000), sketch(15, 60_000), EMPTY]
-        words = "the lg_k of each sketch is above 12: lg_max_k=14 keeps more"
-        self.assertEqual(self.warned(fine)[1], [words])
-        self.assertEqual(self.warned([sketch(14, 3)])[1], [words])
-        self.assertEqual(self.warned(fine, 12)[1], [])
-        self.assertEqual(self.warned(fine, lg_max_k=14)[1], [])
-        self.assertEqual(self.warned([*fine, sketch(12, 3)])[1], [])
-
-    def test_min_lg_k(self):
-        for number in (0, 8, 63, 64, 200):
-            sketches = [FINE] * number + [COARSE, FINE]
-            with self.assertRaises(PrecisionError) as caught:
-                union_of(sketches, min_lg_k=5)
-            error = caught.exception
-            self.assertEqual((error.lg_k, error.min_lg_k, error.number), (4, 5, number))
-        self.assertEqual(str(error), "sketch 200 is refused: its lg_k is 4, below 5")
-        self.assertIsInstance(error, (HllError, ValueError))
-        again = pickle.loads(pickle.dumps(error))
-        self.assertEqual((str(again), vars(again)), (str(error), vars(error)))
-        self.assertEqual(self.warned([FINE, *HARMLESS], min_lg_k=12), (FINE, []))
-        self.assertEqual(self.warned([COARSE], min_lg_k=4), (COARSE, []))
-        for wrong in (3, 22):
-            with self.assertRaises(ArgumentError):
-                union_of([], min_lg_k=wrong)
+    def test_the_odd_one_is_named(self):
+        for number in (1, 7, 8, 9, 100):
+            sketches = [EMPTY, *[FINE] * number, COARSE, *[FINE.to_bytes()] * 30]
+            for call in (union_of, SketchUnion().update_many):
+                with self.assertRaises(PrecisionError) as caught:
+                    call(iter(sketches))
+                error = caught.exception
+                found = error.lg_k, error.other_lg_k, error.number
+                self.assertEqual(found, (4, 12, number + 1))
+        words = "sketch 101 has lg_k 4 and not 12: lg_max_k=4 merges them"
+        self.assertEqual(str(error), words)
         with self.assertRaises(ImageError) as caught:
-            union_of([FINE, b"", COARSE], min_lg_k=5)
+            union_of([FINE, b"", COARSE])
         self.assertEqual(caught.exception.number, 1)
+
+    def test_what_is_refused_changes_nothing(self):
+        union = SketchUnion()
+        union.update(FINE)
+        for call in (lambda: union.update(COARSE), lambda: union.update_many([FEW, COARSE])):
+            with self.assertRaises(PrecisionError):
+                call()
+            self.assertEqual(union.sketch(), FINE)
+        union.update_many([])
+        self.assertEqual((union.sketch(), union.lg_max_k, union.width), (FINE, None, None))
 
 
 class FilesTest(CommandTest):
@@ -110,58 +224,50 @@ class FilesTest(CommandTest):
         for name, one in sketches.items():
             self.write(f"all/{name}.hll", one.to_bytes())
 
-    def told(self, *words):
-        """The lg_k of a merge, and what it says of precision."""
-        status, out, err = self.run_hll("merge", *words, "-o", "one.hll", "--json")
-        self.assertEqual(status, 0, err)
+    def test_files_of_one_lg_k(self):
+        self.lay_out(a=sketch(14, 60_000, 4), b=sketch(14, 50, 4), c=EMPTY, d=Sketch(21))
+        status, out, err = self.run_hll("merge", "all", "-o", "one.hll", "--json")
+        self.assertEqual((status, err), (0, ""))
         told = json.loads(out)
-        return told["lg_k"], told["lowered_by"], err
+        self.assertEqual((told["lg_k"], told["width"], told["merged"]), (14, 4, 4))
 
-    def test_files_that_lower_are_named(self):
-        self.lay_out(a=FINE, b=COARSE, c=FINE, d=FEW, e=sketch(10, 5000), f=COARSE, g=EMPTY)
-        names = ["all/b.hll", "all/f.hll"]
-        err = "".join(
-            f"hll: {name}: its lg_k lowers that of the answer from 12 to 4\n" for name in names
-        )
-        for words in (["all"], ["all", "--lg-k", 12]):
-            self.assertEqual(self.told(*words), (4, names, err))
-        words = [self.folder / "all" / f"{name}.hll" for name in "acdg"]
-        self.assertEqual(self.told(*words), (12, [], ""))
-        self.assertEqual(self.told("all/b.hll", "all/g.hll"), (4, [], ""))
+    def test_another_lg_k(self):
+        self.lay_out(a=EMPTY, b=FINE, c=FINE, d=COARSE, e=FEW)
+        words = "all/d.hll: it has lg_k 4, and all/b.hll has 12: --lg-k 4 merges both"
+        self.write("one.hll", b"as it was")
+        self.fails(1, [words], "merge", "all", "-o", "one.hll")
+        self.fails(1, [words], "merge", "all", "-o", "one.hll", "--skip-bad")
+        self.assertEqual(self.read("one.hll"), b"as it was")
+        self.succeeds("merge", "all", "-o", "one.hll", "--lg-k", 4)
+        self.assertEqual(self.read("one.hll"), union_of([FINE, COARSE, FEW], 4).to_bytes())
+
+    def test_a_bound_above(self):
+        """More is asked for than a file has, and the answer says so."""
+        self.lay_out(a=FINE, b=sketch(10, 5000))
+        err = "hll: merge: the answer has lg_k 10, as a file has, and not 12\n"
+        told = self.run_hll("merge", "all", "-o", "one.hll", "--lg-k", 12)
+        self.assertEqual(told, (0, b"", err))
+        self.succeeds("merge", "all", "-o", "one.hll", "--lg-k", 10)
 
     def test_over_processes(self):
-        """More than a group of files: those of several are named together, up to a hundred."""
-        self.lay_out(fine=FINE, coarse=COARSE, middle=sketch(8, 3000))
-        order = ["middle"] * 600 + ["coarse"] + ["fine"] * 600 + ["coarse"] * 150
-        self.write("list", "".join(f"all/{name}.hll\n" for name in order).encode())
-        line = "hll: all/coarse.hll: its lg_k lowers that of the answer from 12 to 4\n"
-        err = line * 100 + "hll: merge: and 51 files more do so\n"
-        for jobs in (1, 3):
-            found = self.told("--files-from", "list", "--jobs", jobs)
-            self.assertEqual(found, (4, ["all/coarse.hll"] * 100, err))
-
-    def test_the_bound(self):
-        self.lay_out(a=sketch(14, 60_000), b=sketch(13, 50))
-        words = "hll: merge: the lg_k of each file is above 12: --lg-k 13 keeps more\n"
-        self.assertEqual(self.told("all"), (12, [], words))
-        self.assertEqual(self.told("all", "--lg-k", 12), (12, [], ""))
-        self.assertEqual(self.told("all", "--lg-k", 14), (14, [], ""))
-
-    def test_min_lg_k(self):
-        self.lay_out(a=FINE, b=COARSE, c=FEW, d=EMPTY, e=sketch(8, 9000))
-        self.write("all/f.hll", b"no")
-        for bad, words in (("b.hll", "its lg_k is 4, below 5"), ("f.hll", "image truncated")):
-            self.assertIn(f"hll: all/{bad}: {words}\n", self.run_hll(
-                "merge", "all", "-o", "one.hll", "--min-lg-k", 5
-            )[2])
-        lines = ["all/b.hll: its lg_k is 4, below 9", "all/e.hll: its lg_k is 8, below 9"]
-        lines.append("all/f.hll: image truncated")
-        self.fails(1, lines, "merge", "all", "-o", "one.hll", "--min-lg-k", 9)
-        self.assertEqual(self.listed(), ["all"])
-        err = "".join(f"hll: {line} (left out)\n" for line in lines)
-        words = ["merge", "all", "-o", "one.hll", "--min-lg-k", 9, "--skip-bad"]
-        self.assertEqual(self.run_hll(*words), (0, b"", err))
-        self.assertEqual(self.read("one.hll"), FINE.with_estimator_fields().to_bytes())
+        """More than a group of files, with the odd one in any of them."""
+        self.lay_out(fine=FINE, coarse=COARSE, empty=EMPTY)
+        for place in (3, 600, 1199):
+            order = ["empty"] * 2 + ["fine"] * 1200
+            order[place] = "coarse"
+            self.write("list", "".join(f"all/{name}.hll\n" for name in order).encode())
+            words = "all/coarse.hll: it has lg_k 4, and all/fine.hll has 12: --lg-k 4 merges both"
+            for jobs in (1, 3):
+                status, _, err = self.run_hll(
+                    "merge", "--files-from", "list", "-o", "one.hll", "--jobs", jobs
+                )
+                self.assertEqual(status, 1)
+                self.assertIn("--lg-k 4 merges both\n", err)
+                if place == 3:
+                    self.assertEqual(err, f"hll: {words}\n")
+        self.write("list", "all/fine.hll\nall/empty.hll\n".encode() * 900)
+        self.succeeds("merge", "--files-from", "list", "-o", "one.hll", "--jobs", 3)
+        self.assertEqual(self.read("one.hll"), FINE.to_bytes())
 
 
 class MergeFilesTest(CommandTest):
@@ -180,30 +286,36 @@ class MergeFilesTest(CommandTest):
         for given in (paths, [self.folder / "all"], list(map(bytes, paths)), map(str, paths)):
             self.assertEqual(self.merged(given, 11, 6), (wanted, []))
         self.assertEqual(merge_files(paths, 11, 6, jobs=2), wanted)
-        self.assertEqual(merge_files([]), Sketch(12))
 
-    def test_warnings(self):
+    def test_another_lg_k(self):
         paths = self.paths(FINE, COARSE)
-        words = f"the union has lg_k 4 and not 12, as of file {paths[1]}"
-        self.assertEqual(self.merged(paths), (FINE.fold(4), [(PrecisionWarning, words)]))
+        for jobs in (1, 2):
+            with self.assertRaises(PrecisionError) as caught:
+                merge_files(paths, jobs=jobs)
+            error = caught.exception
+            self.assertEqual((error.lg_k, error.other_lg_k), (4, 12))
+            self.assertEqual(error.place, str(paths[1]))
+            self.assertEqual(str(error), f"{paths[1]} has lg_k 4 and not 12: lg_max_k=4 merges them")
+        self.assertEqual(self.merged(paths, 12), (FINE.fold(4), []))
+
+    def test_links_that_lead_nowhere(self):
+        self.paths(FINE)
         (self.folder / "all" / "gone").symlink_to("nowhere")
-        told = self.merged([self.folder / "all"], min_lg_k=5, on_refused=lambda *_: None)
         words = f"{self.folder}/all/gone: a link that leads nowhere (passed over)"
-        self.assertEqual(told, (FINE, [(UserWarning, words)]))
+        self.assertEqual(self.merged([self.folder / "all"]), (FINE, [(UserWarning, words)]))
 
     def test_refusals(self):
-        paths = self.paths(FINE, COARSE)
+        paths = self.paths(FINE, FINE)
         bad, gone = self.write("all/bad", b"no"), self.folder / "gone"
-        wanted = [(str(paths[1]), "its lg_k is 4, below 5"), (str(bad), "image truncated")]
-        wanted.insert(0, (str(gone), "No such file or directory"))
+        wanted = [(str(gone), "No such file or directory"), (str(bad), "image truncated")]
         given, seen = [gone, *paths, bad], []
         with self.assertRaises(FilesError) as caught:
-            merge_files(given, min_lg_k=5)
+            merge_files(given)
         error = caught.exception
         self.assertEqual(sorted(error.refused), sorted(wanted))
-        self.assertIn(" (and 2 files more)", str(error))
+        self.assertIn(" (and 1 files more)", str(error))
         self.assertEqual(vars(pickle.loads(pickle.dumps(error))), vars(error))
-        made = merge_files(given, min_lg_k=5, on_refused=lambda *one: seen.append(one))
+        made = merge_files(given, on_refused=lambda *one: seen.append(one))
         self.assertEqual((made, sorted(seen)), (FINE, sorted(wanted)))
         for wrong in (str(bad), bad, bytes(bad)):
             with self.assertRaises(TypeError):

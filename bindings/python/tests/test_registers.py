@@ -35,7 +35,6 @@ class JoinTest(unittest.TestCase):
     def test_random_unions(self):
         """Values, coupons, sketches, images and registers, in random turns."""
         numbers = random.Random(11)
-        common.ignore_precision(self)
         for _ in range(ROUNDS):
             lg_k = numbers.randint(4, 14)
             made, words, sketches = Registers(lg_k), [], []
@@ -67,7 +66,7 @@ class JoinTest(unittest.TestCase):
             self.assertTrue(made.to_sketch().agrees_with(union))
             if union.stage == "registers":
                 for width in (4, 6, 8):
-                    image = union.convert(width).with_estimator_fields().to_bytes()
+                    image = union.convert(width).to_bytes()
                     self.assertEqual(made.to_bytes(width), image)
                 self.assertEqual(made.estimate(), union.estimate())
                 self.assertEqual(made.bounds(3), union.bounds(3))
@@ -87,12 +86,11 @@ class JoinTest(unittest.TestCase):
         for other in (fewer, fewer.to_bytes(), others):
             with self.assertRaises(PrecisionError) as raised:
                 made.merge(other)
-            self.assertEqual((raised.exception.lg_k, raised.exception.min_lg_k), (10, 12))
+            self.assertEqual((raised.exception.lg_k, raised.exception.other_lg_k), (10, 12))
             self.assertEqual(bytes(made.memory), before)
         folded = made.fold(10)
         folded.merge(fewer)
-        self.assertEqual(folded.to_sketch(), union_of([made.to_sketch(), fewer], 10)
-                         .with_estimator_fields())
+        self.assertEqual(folded.to_sketch(), union_of([made.to_sketch(), fewer], 10, 8))
 
     def test_empty_ones_change_nothing(self):
         made = Registers(12)

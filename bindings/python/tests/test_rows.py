@@ -9,7 +9,6 @@ from rows import TEXTS, rows_in
 
 class RowsTest(unittest.TestCase):
     def test_rows(self):
-        common.ignore_precision(self)
         ran, passed_over = 0, 0
         for plan, mark, words in (row for path in TEXTS for row in rows_in(path)):
             wanted = f"{mark} {words}"

@@ -18,7 +18,7 @@ from array import array
 from unittest import mock
 
 import common
-from hll_sketches import Sketch, Union, _library, _locks, coupons, union_of
+from hll_sketches import Sketch, SketchUnion, _library, _locks, coupons, union_of
 
 
 def sketch(values, lg_k=12):
@@ -27,11 +27,11 @@ def sketch(values, lg_k=12):
     return made
 
 
-class MyUnion(Union):
+class MyUnion(SketchUnion):
     pass
 
 
-COPIES = [copy.copy, copy.deepcopy, Union.copy] + [
+COPIES = [copy.copy, copy.deepcopy, SketchUnion.copy] + [
     lambda one, protocol=protocol: pickle.loads(pickle.dumps(one, protocol))
     for protocol in range(2, pickle.HIGHEST_PROTOCOL + 1)
 ]
@@ -41,7 +41,7 @@ class CopiesTest(unittest.TestCase):
     def test_unions(self):
         """A copy takes in sketches for itself, also before those of the first are merged."""
         parts = [sketch(range(n * 1000, n * 1000 + 1500)) for n in range(4)]
-        for kind in (Union, MyUnion):
+        for kind in (SketchUnion, MyUnion):
             for copied in COPIES:
                 first = kind(11, 4)
                 first.update(parts[0])
@@ -96,7 +96,7 @@ class ForksTest(unittest.TestCase):
         self.addCleanup(is_over.set)
 
     def test_locks_of_other_threads(self):
-        made, union, part = sketch(range(5)), Union(), sketch(range(9))
+        made, union, part = sketch(range(5)), SketchUnion(), sketch(range(9))
         union.update(part)
         made.update("kept")
         self.held(made._lock)
@@ -139,8 +139,8 @@ class ForksTest(unittest.TestCase):
         code = """
 import os, signal, sys, threading
 sys.path.insert(0, sys.argv[1])
-from hll_sketches import Sketch, Union
-sketch, union, is_over = Sketch(16), Union(16), False
+from hll_sketches import Sketch, SketchUnion
+sketch, union, is_over = Sketch(16), SketchUnion(16), False
 sketch.update_many(range(300000))
 
 def work():

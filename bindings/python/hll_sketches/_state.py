@@ -1,0 +1,156 @@
+# SPDX-License-Identifier: Apache-2.0
+"""Unions, in states of the library."""
+from __future__ import annotations
+
+from itertools import islice
+from operator import itemgetter
+from typing import Iterable, Optional, Sequence, Set, Tuple, TypeVar
+
+from . import _library
+from ._errors import ImageError, PrecisionError
+
+DEFAULT = 12
+"""The ``lg_k`` where none is given, and nothing to take it from."""
+
+BATCH_IMAGES, BATCH_BYTES = 4096, 1 << 18
+"""So many images, or bytes of images, are enough for a call: they fit a cache."""
+
+LARGE = 1 << 16
+"""An image of more bytes is read before it is joined, as other threads wait while a state changes, and
+an untrusted one can take a second to read."""
+
+_S = TypeVar("_S", bound="State")
+
+_kind = itemgetter(slice(3, 8, 4))
+"""The bytes of an image that have its ``lg_k`` and its width; fewer, if it is too short."""
+
+
+def _kinds(images: Iterable[bytes]) -> Set[Tuple[int, int]]:
+    """Each ``lg_k`` and width that the headers of images have; 0 for what is out of range."""
+    found = set()
+    for kind in set(map(_kind, images)):
+        lg_k, mode = kind if len(kind) == 2 else (0, 0)
+        is_lg_k = _library.LEAST_LG_K <= lg_k <= _library.MOST_LG_K
+        found.add((lg_k if is_lg_k else 0, _library.width_of_mode(mode)))
+    return found
+
+
+class State:
+    """The union of images, which grows in memory of its own (``hll_state_*`` of hll.h).
+
+    It follows the rule of ``hll_state_join``. Without a bound, images of one ``lg_k`` are merged at
+    it, and no others; empty ones count for nothing.
+
+    Parameters
+    ----------
+    lg_max_k : int
+        The largest ``lg_k`` of the union, 4 to 21; or 0 for no bound.
+
+    Attributes
+    ----------
+    count : int
+        How many images were merged.
+    """
+
+    __slots__ = ("lg_max_k", "count", "_memory")
+
+    def __init__(self, lg_max_k: int = 0) -> None:
+        self.lg_max_k, self.count = lg_max_k, 0
+        self._memory = _library.new_state(lg_max_k or _library.LEAST_LG_K)
+
+    def copy(self: _S) -> _S:
+        """Return a state of the same images."""
+        made = type(self).__new__(type(self))
+        made.lg_max_k, made.count = self.lg_max_k, self.count
+        made._memory = _library.copied(self._memory)
+        return made
+
+    @property
+    def lg_k(self) -> int:
+        """The ``lg_k`` of the union so far."""
+        return self._memory[4] & 31
+
+    def join(self, image: bytes) -> None:
+        """Merges an image.
+
+        Raises
+        ------
+        ImageError
+            If the bytes are no image. Then nothing has changed.
+        PrecisionError
+            If the image has another ``lg_k``, and there is no bound. Then nothing has changed.
+        """
+        if len(image) > LARGE:
+            image = _library.convert(image, _library.width_in(image))
+        self._memory, is_joined = _library.joined(self._memory, self.lg_max_k, image)
+        if not is_joined:
+            raise PrecisionError(image[3], self.lg_k)
+        self.count += 1
+
+    def join_all(self, images: Sequence[bytes]) -> None:
+        """Merges images: in one call where their headers have one ``lg_k`` and one width.
+
+        An error has the ``number`` of the image that is refused; those before it have been merged.
+        """
+        kinds = _kinds(images)
+        if len(kinds) == 1 and self._join_at_once(images, *kinds.pop()):
+            return
+        for number, image in enumerate(images):
+            try:
+                self.join(image)
+            except (ImageError, PrecisionError) as error:
+                raise error.at(number) from None
+
+    def _join_at_once(self, images: Sequence[bytes], lg_k: int, width: int) -> bool:
+        """Merges images of one ``lg_k`` and width. False, and nothing has changed, if the ``lg_k``
+        is no such number, or another one than that of the union."""
+        if not lg_k:
+            return False
+        try:
+            union = _library.union(self.lg_max_k or lg_k, width, images)
+        except ImageError as error:
+            if error.number:
+                self.join_all(images[: error.number])
+            raise
+        try:
+            self.join(union)
+        except PrecisionError:
+            return False
+        self.count += len(images) - 1
+        return True
+
+    def join_stream(self, images: Iterable[bytes]) -> None:
+        """Merges images as they come, in batches."""
+        source, most = iter(images), 8
+        before = self.count
+        while True:
+            batch = list(islice(source, most))
+            if not batch:
+                return
+            start = self.count
+            try:
+                self.join_all(batch)
+            except (ImageError, PrecisionError) as error:
+                raise error.at(start - before + (error.number or 0)) from None
+            size = sum(map(len, batch))
+            most = max(1, min(BATCH_IMAGES, 8 * most, most * BATCH_BYTES // size + 1))
+
+    def image(self, width: Optional[int] = None) -> bytes:
+        """The image of the union.
+
+        Parameters
+        ----------
+        width : int, optional
+            The bits of a register, 4, 6 or 8. If it is not given, it is that of the images that are
+            not empty, or 8 where they differ.
+        """
+        if not self.count and not self.lg_max_k:
+            return _library.new(DEFAULT, width or 8)
+        return _library.image_of_state(self._memory, width or _library.width_of_state(self._memory))
+
+
+def united(images: Sequence[bytes], lg_max_k: int = 0) -> bytes:
+    """The image of the union of images, as of ``State``."""
+    state = State(lg_max_k)
+    state.join_all(images)
+    return state.image()
