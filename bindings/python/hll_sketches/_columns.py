@@ -17,6 +17,7 @@ from typing import Any, Callable, Iterable, List, NamedTuple, Optional, Tuple, U
 from . import _library
 from ._errors import ArgumentError
 from ._library import Numbers
+from ._missing import Missing
 
 Batch = Tuple[bytes, Numbers, int]
 """The bytes of values, one after another; their ends, and maybe more; and how many there are."""
@@ -32,16 +33,21 @@ FEW = 16
 
 class Column(NamedTuple):
     """So many values of so many bytes each; or of fewer, where zeros at the end don't count, and
-    then byte strings without them can be asked for."""
+    then byte strings without them can be asked for. Real numbers may be NaN."""
 
     length: int
     width: int
     part: Part
     stripped: Optional[Callable[[int, int], List[bytes]]] = None
+    is_real: bool = False
 
-    def batch(self, start: int, stop: int) -> Batch:
-        """The values from one number to another."""
+    def batch(self, start: int, stop: int, missing: Optional[Missing] = None) -> Batch:
+        """The values from one number to another; NaN is a value like any other, unless something
+        is to be done about missing ones."""
         data, count = self.part(start, stop), stop - start
+        if self.is_real and missing is not None:
+            data = missing.without_nan(data, start)
+            count = len(data) // self.width
         if self.stripped is not None and b"\0" in data[self.width - 1 :: self.width]:
             pieces = self.stripped(start, stop)
             return b"".join(pieces), _library.ends_of(pieces), count
@@ -191,7 +197,8 @@ def column_of(values: Any) -> Optional[Column]:
         stripped = _lists_of(values)
         return Column(len(view), view.itemsize, _bytes_of(view), stripped)
     part = _numbers(values, view)
-    return None if part is None else Column(len(view), 8, part)
+    is_real = view.format[-1:] in ("e", "f", "d")
+    return None if part is None else Column(len(view), 8, part, None, is_real)
 
 
 def _lists_of(values: Any) -> Callable[[int, int], List[Any]]:

@@ -67,8 +67,13 @@ class State:
 
     @property
     def lg_k(self) -> int:
-        """The ``lg_k`` of the union so far."""
-        return self._memory[4] & 31
+        """The ``lg_k`` of the union so far; that of ``image`` where there are no images."""
+        return self._memory[4] & 31 if self.count or self.lg_max_k else DEFAULT
+
+    @property
+    def width(self) -> int:
+        """The width of the images that are not empty, or of all; 8 where they differ."""
+        return _library.width_of_state(self._memory)
 
     def join(self, image: bytes) -> None:
         """Merges an image.
@@ -146,7 +151,7 @@ class State:
         """
         if not self.count and not self.lg_max_k:
             return _library.new(DEFAULT, width or 8)
-        return _library.image_of_state(self._memory, width or _library.width_of_state(self._memory))
+        return _library.image_of_state(self._memory, width or self.width)
 
 
 def united(images: Sequence[bytes], lg_max_k: int = 0) -> bytes:

@@ -6,13 +6,14 @@ import sys
 from array import array
 from itertools import islice
 from operator import index
-from typing import Any, Callable, Dict, Iterable, Iterator, List, Mapping, SupportsIndex
-from typing import Union, cast
+from typing import Any, Callable, Dict, Iterable, Iterator, List, Mapping, Optional
+from typing import SupportsIndex, Union, cast
 
 from . import _library
 from ._columns import Batch, Column, bytes_of_float, column_of, eights_of_floats, single_of
 from ._columns import singly
 from ._library import Numbers
+from ._missing import Missing
 
 Value = Union[bytes, bytearray, memoryview, str, int, float, SupportsIndex]
 """What can be counted: bytes, text, or a number."""
@@ -55,9 +56,31 @@ def _bytes_of_other(value: Value) -> bytes:
     try:
         return bytes_of_int(index(cast(SupportsIndex, value)))
     except TypeError:
-        raise TypeError(
-            f"a value is bytes, str, int or float, not {type(value).__name__}"
-        ) from None
+        raise _wrong_type(value) from None
+
+
+_CURES = {
+    "NoneType": "leave missing values out",
+    "date": "pass its isoformat(), or a number of your own",
+    "datetime": "pass its isoformat(), or a number of your own",
+    "Timestamp": "pass its isoformat(), or a number of your own",
+    "datetime64": "pass its text, or a number of your own (astype)",
+    "timedelta": "pass its total_seconds()",
+    "Decimal": "pass its str(), or float() of it",
+    "UUID": "pass its bytes, or its str()",
+    "complex": "pass its str()",
+    "list": "pass one value, or many to update_many",
+    "tuple": "pass one text that has its parts, as JSON does",
+    "dict": "pass one text that has its parts, as JSON does",
+}
+"""By the name of a type whose values aren't counted, what to do."""
+
+
+def _wrong_type(value: object) -> TypeError:
+    """The refusal of a value of a type that isn't counted."""
+    name = type(value).__name__
+    cure = _CURES.get(name, "pass its bytes or its str()")
+    return TypeError(f"a value is bytes, str, int or float, not {name}: {cure}")
 
 
 def _eights_of_ints(values: List[int]) -> bytes:
@@ -111,15 +134,17 @@ def _refuse_one(values: object) -> None:
         raise TypeError(f"many values, not a {name}: one of its columns")
 
 
-def _batches_of(column: Column, size: int) -> Iterator[Batch]:
+def _batches_of(column: Column, size: int, missing: Optional[Missing]) -> Iterator[Batch]:
     """The values of a column, in batches of at most half of `ENOUGH` bytes; of more where an image
     of this size is read and written for each."""
     most = max(1, min(max(ENOUGH // 2, size), 4 * ENOUGH) // column.width)
     for start in range(0, column.length, most):
-        yield column.batch(start, min(start + most, column.length))
+        yield column.batch(start, min(start + most, column.length), missing)
 
 
-def batches(values: Iterable[Value], size: int = 0) -> Iterator[Batch]:
+def batches(
+    values: Iterable[Value], size: int = 0, missing: Optional[Missing] = None
+) -> Iterator[Batch]:
     """The bytes of the values and their ends, in batches of about `ENOUGH` bytes.
 
     An image of `size` bytes is read and written for each.
@@ -127,17 +152,18 @@ def batches(values: Iterable[Value], size: int = 0) -> Iterator[Batch]:
     _refuse_one(values)
     column = column_of(values)
     if column is not None:
-        yield from _batches_of(column, size)
+        yield from _batches_of(column, size, missing)
         return
     if isinstance(values, memoryview):
         raise TypeError(f"many values, not a memoryview of the format {values.format!r}")
     source = _lines(values) if hasattr(values, "readline") else iter(singly(values))
-    count = LEAST
+    count, start = LEAST, 0
     while True:
         batch = list(islice(source, count))
         if not batch:
             return
-        made = joined(batch)
+        made = joined(batch if missing is None else missing.without(batch, start))
+        start += len(batch)
         yield made
         if len(made[0]) < ENOUGH:
             count = min(2 * count, MOST)

@@ -64,8 +64,14 @@ def _with_json(parser: argparse.ArgumentParser) -> None:
     parser.add_argument("--json", action="store_true", help="tell about it as one JSON document")
 
 
+def _with_force(parser: argparse.ArgumentParser) -> None:
+    help_ = "replace a file that is read-only or another user's; it keeps its mode and owner"
+    parser.add_argument("--force", action="store_true", help=help_)
+
+
 def _with_output(parser: argparse.ArgumentParser, **more: Any) -> None:
     _with_json(parser)
+    _with_force(parser)
     help_ = more.pop("help", "the file to write; - is standard output")
     parser.add_argument("-o", "--output", metavar="OUT", help=help_, **more)
 
@@ -88,9 +94,10 @@ def _with_folders(parser: argparse.ArgumentParser) -> None:
     parser.add_argument("-0", "--null", action="store_true", help=help_)
 
 
-def _with_deviations(parser: argparse.ArgumentParser) -> None:
-    help_ = "bounds at 1, 2 or 3 standard deviations (2)"
-    parser.add_argument("--deviations", type=int, choices=(1, 2, 3), default=2, help=help_)
+def _with_deviations(
+    parser: argparse.ArgumentParser, help_: str, default: Optional[int]
+) -> None:
+    parser.add_argument("--deviations", type=int, choices=(1, 2, 3), default=default, help=help_)
 
 
 # ---- commands
@@ -109,7 +116,13 @@ def _merge(parser: argparse.ArgumentParser) -> None:
 
 def _info(parser: argparse.ArgumentParser) -> None:
     _with_files(parser, "+", "a file, or -")
-    _with_deviations(parser)
+    _with_deviations(parser, "bounds at 1, 2 or 3 standard deviations (2)", 2)
+    _with_json(parser)
+
+
+def _estimate(parser: argparse.ArgumentParser) -> None:
+    _with_files(parser, "+", "a file, or -")
+    _with_deviations(parser, "print the bounds too, at 1, 2 or 3 standard deviations", None)
     _with_json(parser)
 
 
@@ -145,6 +158,7 @@ def _plot(parser: argparse.ArgumentParser) -> None:
     parser.add_argument("file", metavar="FILE", help="a file, or -")
     help_ = "the picture to write; - is standard output"
     parser.add_argument("-o", "--output", metavar="OUT", required=True, help=help_)
+    _with_force(parser)
     parser.add_argument("--title", help="what stands above (the name of the file)")
 
 
@@ -159,13 +173,15 @@ def _new(parser: argparse.ArgumentParser) -> None:
 def _add(parser: argparse.ArgumentParser) -> None:
     parser.add_argument("file", metavar="FILE", help="the file of a sketch")
     _with_output(parser, help="the file to write (FILE itself); - is standard output")
+    help_ = "what a line counts as: a text (default), or an integer in decimal, as in Python and SQL"
+    parser.add_argument("--as", dest="kind", choices=("text", "int"), default="text", help=help_)
     _with_plain(parser)
 
 
 _COMMANDS = (
     ("merge", _merge, "merge any number of files", "hll merge days -o year.hll"),
     ("info", _info, "tell what files say of their sketches", "hll info year.hll"),
-    ("estimate", _info, "tell how many distinct values there were", "hll estimate *.hll"),
+    ("estimate", _estimate, "tell how many distinct values there were", "hll estimate *.hll"),
     ("check", _check, "tell the files that are no images, and why", "hll check days"),
     ("fold", _fold, "make a sketch smaller", "hll fold a.hll --lg-k 10 -o b.hll"),
     ("convert", _convert, "change the width of a sketch", "hll convert a.hll --width 4 -o b.hll"),
@@ -177,12 +193,13 @@ _COMMANDS = (
 _MORE = {
     "merge": "Each file that is refused is named; then nothing is written, but with --skip-bad. "
     "Files of different lg_k are merged with --lg-k alone. The width is that of the files, or 8.",
-    "estimate": "The number of one file stands alone; that of several has the name after it.",
+    "estimate": "The name of the file follows the numbers where there are several files.",
     "check": "A file that is a sketch is passed over in silence.",
     "fold": "The answer is what the sketch would be, had it been made with that lg_k.",
     "diff": "Status 0: they agree, once folded to the smaller lg_k. 1: they differ. 2: trouble.",
     "new": "Values are counted into it by `hll add`.",
-    "add": "A value is the bytes of a line without the LF; an empty line is a value too.",
+    "add": "A line counts as a text: its bytes without the LF, but with a CR. An empty line is a "
+    "text too. So 7 is not the integer 7, unless --as int is given.",
 }
 
 

@@ -14,8 +14,9 @@ from typing import Any, Callable, Dict, Iterator, List, Optional, Tuple
 from . import _library
 from ._errors import ArgumentError
 from ._names import shown
+from .adding import LineError, Lines
 from .files import STANDARD, UNUSABLE, OutputTrouble, Trouble, bytes_of_file, check_output
-from .files import image_of_file, image_trouble, of_file, write_file
+from .files import image_of_file, image_trouble, locked, of_file, write_file
 from .finding import Tell, found, names_in
 from .layout import STAGES, estimator_fields_of, flags_of, registers_of, size_of
 from .progress import Bar
@@ -84,6 +85,7 @@ def finished(image: bytes, plain: bool) -> bytes:
 
 def put(options: Namespace, image: bytes, **more: object) -> int:
     """Writes an image to the output; tells about it where that is asked for."""
+    check_output(options.output, options.force)
     write_file(options.output, image)
     if options.json:
         show({"output": options.output, **more, **summary(image)})
@@ -125,6 +127,11 @@ def summary(image: bytes, deviations: int = 2) -> Record:
 def rounded(number: Optional[float]) -> str:
     """A number for people."""
     return "infinite" if number is None else f"{number:,.0f}"
+
+
+def plain_number(number: Optional[float]) -> str:
+    """The same for programs."""
+    return rounded(number).replace(",", "")
 
 
 _FIELDS = {
@@ -177,12 +184,13 @@ def estimate(options: Namespace) -> int:
     records: List[Record] = []
 
     def one(name: str) -> None:
-        told = of_file(name, lambda image: summary(image, options.deviations))
+        told = of_file(name, lambda image: summary(image, options.deviations or 2))
         keys = ("estimate", "lower", "upper", "deviations")
         records.append({"file": name, **{key: told[key] for key in keys}})
         if not options.json:
-            number = "inf" if told["estimate"] is None else f"{told['estimate']:.0f}"
-            tell(number if len(options.files) == 1 else f"{number}\t{shown(name)}")
+            asked = keys[:1] if options.deviations is None else keys[:3]
+            numbers = [plain_number(told[key]) for key in asked]
+            tell("\t".join(numbers if len(options.files) == 1 else [*numbers, shown(name)]))
 
     status = each(options.files, one)
     if options.json:
@@ -240,7 +248,7 @@ def merge(options: Namespace) -> int:
     """Merges any number of files."""
     from .merging import processors, union_of_files
 
-    check_output(options.output)
+    check_output(options.output, options.force)
     left_out: List[Trouble] = []
 
     def refuse(trouble: Trouble) -> None:
@@ -293,18 +301,41 @@ def new(options: Namespace) -> int:
 
 
 def add(options: Namespace) -> int:
-    """Adds the lines of standard input to a sketch."""
-    from .adding import add_lines
+    """Adds the lines of standard input to a sketch.
 
-    image = image_of_file(options.file)
+    The lines are read first. Then the file is locked, read, and replaced by its union with the
+    sketch of the lines, so of several ``add`` at once none loses values, and none waits for the
+    input of another one.
+    """
+    lg_k = image_of_file(options.file)[3]
     options.output = options.output or options.file
-    check_output(options.output)
+    check_output(options.output, options.force)
+    lines = _lines_of_input(lg_k, options.kind == "int")
+    if lines.ending_in_cr:
+        say(f"standard input: {lines.ending_in_cr:,} lines end in a CR, which counts as a part of them")
+    with locked(options.file):
+        image = image_of_file(options.file)
+        if image[3] != lg_k:
+            words = f"its lg_k has become {image[3]}, from {lg_k}, while lines were read: add them again"
+            raise Trouble(options.file, words)
+        if lines.count:
+            image = _library.merge(lg_k, _library.width_in(image), image, lines.image)
+        return put(options, finished(image, options.plain), lines=lines.count)
+
+
+def _lines_of_input(lg_k: int, are_ints: bool) -> Lines:
+    """A sketch of the lines of standard input."""
+    lines = Lines(_library.new(lg_k, 8), are_ints)
     try:
         with open(os.dup(0), "rb") as stream, Bar("line") as bar:
-            image, count = add_lines(image, stream, bar.more)
+            lines.add(stream, bar.more)
+    except LineError as error:
+        line = error.line.decode("utf-8", "replace")
+        words = f"line {error.number:,} is no integer of 64 bits: {shown(line)}"
+        raise Trouble("standard input", words) from None
     except OSError as error:
         raise Trouble("standard input", error.strerror or str(error), UNUSABLE) from None
-    return put(options, finished(image, options.plain), lines=count)
+    return lines
 
 
 # ---- comparing
@@ -348,5 +379,6 @@ def plot(options: Namespace) -> int:
 
     image = image_of_file(options.file)
     name = "standard input" if options.file == STANDARD else os.path.basename(options.file)
+    check_output(options.output, options.force)
     write_file(options.output, histogram_svg(image, options.title or name).encode("utf-8"))
     return OK

@@ -3,6 +3,7 @@
 from __future__ import annotations
 
 import errno
+import fcntl
 import os
 import stat
 import sys
@@ -64,6 +65,15 @@ def unusable(name: str, error: OSError) -> Trouble:
 def image_trouble(name: str, reason: str) -> Trouble:
     """The trouble of a file that is no image."""
     return Trouble(name, f"image {reason}")
+
+
+@contextmanager
+def _named_in_errors(name: str) -> Iterator[None]:
+    """Errors of the system name this file, and none that is made on the way."""
+    try:
+        yield
+    except OSError as error:
+        raise OSError(error.errno, error.strerror, name) from None
 
 
 # ---- opening
@@ -140,11 +150,12 @@ def read_path(path: str) -> bytes:
     OSError
         If the file can't be read.
     """
-    place = opened(path, os.O_RDONLY)
-    try:
-        return _read_image(place)
-    finally:
-        os.close(place)
+    with _named_in_errors(path):
+        place = opened(path, os.O_RDONLY)
+        try:
+            return _read_image(place)
+        finally:
+            os.close(place)
 
 
 def bytes_of_file(name: str) -> bytes:
@@ -211,18 +222,29 @@ def _write_standard(data: bytes) -> None:
         raise OutputTrouble(error) from None
 
 
-def _mode_of(path: str) -> Optional[int]:
-    """The mode of a file; None if it isn't there."""
+def _status_of(path: str) -> Optional[os.stat_result]:
+    """What the system says of a file; None if it isn't there."""
     try:
-        return os.stat(path).st_mode
+        return os.stat(path)
     except FileNotFoundError:
         return None
 
 
-def _fill(place: int, data: bytes, mode: Optional[int]) -> None:
+def _keep_owner_and_mode(place: int, before: os.stat_result) -> None:
+    """Gives a new file the owner, the group where that is allowed, and the mode of an old one."""
+    made = os.fstat(place)
+    if made.st_uid != before.st_uid:
+        os.fchown(place, before.st_uid, before.st_gid)
+    elif made.st_gid != before.st_gid:
+        with suppress(PermissionError):
+            os.fchown(place, -1, before.st_gid)
+    os.fchmod(place, stat.S_IMODE(before.st_mode))
+
+
+def _fill(place: int, data: bytes, before: Optional[os.stat_result]) -> None:
     """Writes a file, down to the disk."""
-    if mode is not None:
-        os.fchmod(place, stat.S_IMODE(mode))
+    if before is not None:
+        _keep_owner_and_mode(place, before)
     _write_all(place, data)
     os.fsync(place)
 
@@ -251,7 +273,7 @@ def _named(place: int, name: str) -> bool:
     return True
 
 
-def _replace_by_link(path: str, data: bytes, mode: Optional[int]) -> bool:
+def _replace_by_link(path: str, data: bytes, before: Optional[os.stat_result]) -> bool:
     """Writes a file that has no name until it is whole, so that nothing is left of one that is not.
     False where the system can't do this."""
     try:
@@ -259,7 +281,7 @@ def _replace_by_link(path: str, data: bytes, mode: Optional[int]) -> bool:
     except (OSError, AttributeError):
         return False
     try:
-        _fill(place, data, mode)
+        _fill(place, data, before)
         with _temporary(path) as temporary:
             if not _named(place, temporary):
                 return False
@@ -269,12 +291,12 @@ def _replace_by_link(path: str, data: bytes, mode: Optional[int]) -> bool:
         os.close(place)
 
 
-def _replace_by_name(path: str, data: bytes, mode: Optional[int]) -> None:
+def _replace_by_name(path: str, data: bytes, before: Optional[os.stat_result]) -> None:
     """Writes a file under another name first. Signals wait until it is written."""
     with _temporary(path) as temporary:
         place = os.open(temporary, os.O_WRONLY | os.O_CREAT | os.O_EXCL | os.O_CLOEXEC, 0o666)
         try:
-            _fill(place, data, mode)
+            _fill(place, data, before)
         finally:
             os.close(place)
         os.replace(temporary, path)
@@ -295,10 +317,10 @@ def _sync_folder(folder: str) -> None:
         os.close(place)
 
 
-def _replace(path: str, data: bytes, mode: Optional[int]) -> None:
+def _replace(path: str, data: bytes, before: Optional[os.stat_result]) -> None:
     """Gives a path a new file, once that is whole and on the disk."""
-    if not _replace_by_link(path, data, mode):
-        _replace_by_name(path, data, mode)
+    if not _replace_by_link(path, data, before):
+        _replace_by_name(path, data, before)
     _sync_folder(os.path.dirname(path))
 
 
@@ -312,19 +334,20 @@ def _write_into(path: str, data: bytes) -> None:
 
 
 def write_path(name: str, data: bytes) -> None:
-    """Writes a file as a whole, or leaves it as it was.
+    """Writes a file as a whole, or leaves it as it was. It keeps its owner and its mode.
 
     Raises
     ------
     OSError
         If it can't be written.
     """
-    path = os.path.realpath(name)
-    mode = _mode_of(path)
-    if mode is None or stat.S_ISREG(mode):
-        _replace(path, data, mode)
-    else:
-        _write_into(path, data)
+    with _named_in_errors(name):
+        path = os.path.realpath(name)
+        before = _status_of(path)
+        if before is None or stat.S_ISREG(before.st_mode):
+            _replace(path, data, before)
+        else:
+            _write_into(path, data)
 
 
 @contextmanager
@@ -353,8 +376,17 @@ def write_file(name: str, data: bytes) -> None:
         write_path(name, data)
 
 
-def check_output(name: str) -> None:
-    """Finds out before the work whether a file can be written, as far as that can be told.
+def _check_kept(name: str, before: os.stat_result) -> None:
+    """Refuses to replace a file that is read-only or another user's."""
+    is_writable = os.access(name, os.W_OK) and before.st_mode & 0o222
+    if not is_writable or before.st_uid != os.geteuid():
+        whose = "it belongs to another user" if is_writable else "it is read-only"
+        raise Trouble(name, f"{whose} (--force replaces it)", UNUSABLE)
+
+
+def check_output(name: str, force: bool = False) -> None:
+    """Finds out before the work whether a file may be written, as far as that can be told. By force
+    a file is replaced that is read-only or another user's.
 
     Raises
     ------
@@ -365,10 +397,48 @@ def check_output(name: str) -> None:
         return
     with _told_of(name):
         path = os.path.realpath(name)
-        mode = _mode_of(path)
-        if mode is not None and stat.S_ISDIR(mode):
+        before = _status_of(path)
+        if before is not None and stat.S_ISDIR(before.st_mode):
             raise Trouble(name, "Is a directory", UNUSABLE)
         folder = os.path.dirname(path)
         os.stat(folder)
-        if (mode is None or stat.S_ISREG(mode)) and not os.access(folder, os.W_OK | os.X_OK):
+        if before is not None and not stat.S_ISREG(before.st_mode):
+            return
+        if not os.access(folder, os.W_OK | os.X_OK):
             raise Trouble(name, "Permission denied", UNUSABLE)
+        if before is not None and not force:
+            _check_kept(name, before)
+
+
+# ---- locks
+
+
+def _is_named(place: int, path: str) -> bool:
+    """Whether an open file still has a name: it has another one once it was replaced."""
+    try:
+        return os.path.samestat(os.fstat(place), os.stat(path))
+    except FileNotFoundError:
+        return False
+
+
+@contextmanager
+def locked(name: str) -> Iterator[None]:
+    """Holds the lock of a file, for which all who want it wait. It is the lock of the file that has
+    the name then, not of one that was replaced meanwhile.
+
+    Raises
+    ------
+    Trouble
+        If the file can't be opened, or its system has no locks.
+    """
+    with _told_of(name):
+        place = opened(name, os.O_RDONLY)
+        fcntl.flock(place, fcntl.LOCK_EX)
+        while not _is_named(place, name):
+            os.close(place)
+            place = opened(name, os.O_RDONLY)
+            fcntl.flock(place, fcntl.LOCK_EX)
+    try:
+        yield
+    finally:
+        os.close(place)

@@ -8,8 +8,9 @@ from . import _library
 from ._columns import batch_of, raw_coupons_in
 from ._errors import ArgumentError, PrecisionError
 from ._locks import Lock
+from ._missing import Missing
 from ._values import Value, batches, bytes_of
-from .sketch import Sketch, checked_lg_k, checked_width, data_in
+from .sketch import Sketch, checked_deviations, checked_lg_k, checked_width, data_in
 
 _R = TypeVar("_R", bound="Registers")
 
@@ -80,9 +81,9 @@ class Registers:
         with self._lock:
             _library.add_to(self._place, data, _library.ends_of([data]), 1)
 
-    def update_many(self, values: Iterable[Value]) -> None:
+    def update_many(self, values: Iterable[Value], *, skip_missing: bool = False) -> None:
         """Count many values, as ``Sketch.update_many`` does."""
-        for batch in batches(values):
+        for batch in batches(values, missing=Missing(skip_missing)):
             with self._lock:
                 _library.add_to(self._place, *batch)
 
@@ -132,6 +133,11 @@ class Registers:
                 fewer = _library.merge_image(self._place, image)
         if fewer is not None:
             raise PrecisionError(fewer, self.lg_k, cure="fold({least}) the registers first")
+
+    def reset(self) -> None:
+        """Set all registers to 0."""
+        with self._lock:
+            self._memory[:] = bytes(len(self._memory))
 
     # ---- others of the same values
 
@@ -189,10 +195,26 @@ class Registers:
 
     def bounds(self, deviations: int = 2) -> Tuple[float, float]:
         """Return a lower and an upper bound of how many values, as ``Sketch.bounds`` does."""
-        if deviations not in (1, 2, 3):
-            raise ArgumentError(f"bounds are at 1, 2 or 3 deviations, not {deviations}")
+        number = checked_deviations(deviations) - 1
         found = _library.estimation_of(self._place)
-        return found.lower[deviations - 1], found.upper[deviations - 1]
+        return found.lower[number], found.upper[number]
+
+    def lower_bound(self, deviations: int = 2) -> float:
+        """Return the lower one of ``bounds``."""
+        return self.bounds(deviations)[0]
+
+    def upper_bound(self, deviations: int = 2) -> float:
+        """Return the upper one of ``bounds``."""
+        return self.bounds(deviations)[1]
+
+    def relative_standard_error(self) -> float:
+        """Return the standard deviation of the estimate, as a part of the number of values."""
+        return _library.estimation_of(self._place).relative_standard_error
+
+    @property
+    def is_empty(self) -> bool:
+        """Whether all registers are 0."""
+        return not any(self._memory)
 
     def _bytes(self) -> bytearray:
         with self._lock:

@@ -10,12 +10,16 @@ from . import _library
 from ._columns import batch_of
 from ._errors import ArgumentError, PrecisionError
 from ._locks import Lock
+from ._missing import Missing
 from ._state import united
 from ._values import Value, batches, bytes_of
 
 _S = TypeVar("_S", bound="Sketch")
 
 _STAGES = ("list", "set", "registers")
+
+Buffer = Union[bytes, bytearray, memoryview, Any]
+"""What shows its bytes: also an ``array``, an ``mmap``, or an array of NumPy."""
 
 PENDING_BYTES, VALUE_BYTES = 1 << 12, 56
 """A sketch keeps values of so many bytes, or twice those of its image, until they are hashed; and
@@ -30,6 +34,13 @@ def checked_lg_k(lg_k: int) -> int:
     return lg_k
 
 
+def checked_deviations(deviations: int) -> int:
+    """A number of standard deviations that bounds are known at."""
+    if deviations not in (1, 2, 3) or not isinstance(deviations, int):
+        raise ArgumentError(f"bounds are at 1, 2 or 3 deviations, not {deviations!r}")
+    return deviations
+
+
 def checked_width(width: int) -> int:
     """A width that is one."""
     width = index(width)
@@ -38,26 +49,27 @@ def checked_width(width: int) -> int:
     return width
 
 
-def data_in(source: Union[bytes, bytearray, memoryview]) -> bytes:
+def data_in(source: Buffer) -> bytes:
     """The bytes of what holds bytes."""
     if isinstance(source, bytes):
         return source
-    if isinstance(source, (bytearray, memoryview)):
-        return bytes(source)
-    raise TypeError(f"the bytes of a sketch, not {type(source).__name__}")
+    try:
+        return memoryview(source).tobytes()
+    except TypeError:
+        raise TypeError(f"the bytes of a sketch, not {type(source).__name__}") from None
 
 
-def image_in(source: Union["Sketch", bytes, bytearray, memoryview]) -> bytes:
+def image_in(source: Union["Sketch", Buffer]) -> bytes:
     """The image of a sketch, or bytes that may be one."""
     return source.to_bytes() if isinstance(source, Sketch) else data_in(source)
 
 
-def fault_of(data: Union[bytes, bytearray, memoryview]) -> Optional[str]:
+def fault_of(data: Buffer) -> Optional[str]:
     """Return why bytes do not begin with the image of a sketch.
 
     Parameters
     ----------
-    data : bytes, bytearray or memoryview
+    data : bytes, or what shows bytes
         Bytes after the image are not looked at.
 
     Returns
@@ -70,13 +82,13 @@ def fault_of(data: Union[bytes, bytearray, memoryview]) -> Optional[str]:
     return None if status == _library.OK else _library.WORDS[status]
 
 
-def is_image(data: Union[bytes, bytearray, memoryview]) -> bool:
+def is_image(data: Buffer) -> bool:
     """Return whether bytes begin with the image of a sketch; ``fault_of`` says why they don't."""
     return fault_of(data) is None
 
 
 def is_small(
-    image: Union[bytes, bytearray, memoryview], max_lg_k: int = 12, max_bytes: int = 8192
+    image: Buffer, max_lg_k: int = 12, max_bytes: int = 8192
 ) -> bool:
     """Whether an image of a stranger's is quick to read.
 
@@ -86,7 +98,7 @@ def is_small(
 
     Parameters
     ----------
-    image : bytes, bytearray or memoryview
+    image : bytes, or what shows bytes
         Whether it is an image at all is for ``is_image``.
     max_lg_k : int
         The greatest ``lg_k``, 4 to 21.
@@ -143,12 +155,12 @@ class Sketch:
     # ---- images and files
 
     @classmethod
-    def from_bytes(cls: Type[_S], image: Union[bytes, bytearray, memoryview]) -> _S:
+    def from_bytes(cls: Type[_S], image: Buffer) -> _S:
         """Read the image of a sketch, which any DataSketches library may have written.
 
         Parameters
         ----------
-        image : bytes, bytearray or memoryview
+        image : bytes, or what shows bytes
             The image; bytes after it are not looked at.
 
         Raises
@@ -212,6 +224,17 @@ class Sketch:
 
         write_path(os.fspath(path), self.to_bytes())
 
+    @staticmethod
+    def max_bytes(lg_k: int = 12, width: int = 8) -> int:
+        """Return the largest size of an image, in bytes.
+
+        With 8 and 6 bits a register, each image of registers has this size. With 4 bits it takes
+        registers that nearly all are far above the least one; the usual size is half a byte for
+        each register, and 40 to 60 bytes more.
+        """
+        count, width = 1 << checked_lg_k(lg_k), checked_width(width)
+        return {8: 40 + count, 6: 41 + count * 3 // 4, 4: 36 + count * 9 // 2}[width]
+
     # ---- changes
 
     def update(self, value: Value) -> None:
@@ -245,7 +268,7 @@ class Sketch:
         if self._pending_bytes >= PENDING_BYTES and self._pending_bytes >= 2 * len(self._image):
             self._apply()
 
-    def update_many(self, values: Iterable[Value]) -> None:
+    def update_many(self, values: Iterable[Value], *, skip_missing: bool = False) -> None:
         """Count many values, which is faster than one at a time.
 
         Parameters
@@ -257,8 +280,18 @@ class Sketch:
             count as they do one by one. Of an open file, the values are its lines without the LF.
             One ``str`` or ``bytes``, a ``dict`` or a table is no iterable of values. Where a value
             is refused, some of those before it have been counted.
+        skip_missing : bool
+            Whether missing values are passed over: ``None``, NaN (which pandas puts into a column
+            of integers), ``pandas.NA``, ``NaT`` and masked values. ``update`` counts NaN itself.
+
+        Raises
+        ------
+        ArgumentError
+            If a value is missing, and ``skip_missing`` is false.
+        TypeError, OverflowError
+            As by ``update``.
         """
-        for batch in batches(values, 8 + (1 << self.lg_k)):
+        for batch in batches(values, 8 + (1 << self.lg_k), Missing(skip_missing)):
             with self._lock:
                 self._image = _library.add(self.to_bytes(), *batch)
 
@@ -355,6 +388,13 @@ class Sketch:
             return NotImplemented
         self.merge(other)
         return self
+
+    def reset(self) -> None:
+        """Forget all values. The ``lg_k`` and the width stay."""
+        with self._lock:
+            self._image = _library.new(self.lg_k, self.width)
+            self._pending.clear()
+            self._pending_bytes = 0
 
     def _apply(self) -> None:
         """Applies the values that are kept; they stay where memory is refused."""
@@ -467,10 +507,17 @@ class Sketch:
         ArgumentError
             If ``deviations`` is another number.
         """
-        if deviations not in (1, 2, 3):
-            raise ArgumentError(f"bounds are at 1, 2 or 3 deviations, not {deviations}")
+        number = checked_deviations(deviations) - 1
         found = _library.estimation(self.to_bytes())
-        return found.lower[deviations - 1], found.upper[deviations - 1]
+        return found.lower[number], found.upper[number]
+
+    def lower_bound(self, deviations: int = 2) -> float:
+        """Return the lower one of ``bounds``."""
+        return self.bounds(deviations)[0]
+
+    def upper_bound(self, deviations: int = 2) -> float:
+        """Return the upper one of ``bounds``."""
+        return self.bounds(deviations)[1]
 
     def relative_standard_error(self) -> float:
         """Return the standard deviation of the estimate, as a part of the number of values."""

@@ -6,11 +6,12 @@ from typing import Any, Iterable, Iterator, Optional, Tuple, Type, TypeVar, Unio
 
 from ._locks import Lock
 from ._state import State
-from .sketch import Sketch, checked_lg_k, checked_width, image_in
+from ._values import Value
+from .sketch import Buffer, Sketch, checked_lg_k, checked_width, image_in
 
 _U = TypeVar("_U", bound="SketchUnion")
 
-Source = Union[Sketch, bytes, bytearray, memoryview]
+Source = Union[Sketch, Buffer]
 
 
 def checked_bounds(lg_max_k: Optional[int], width: Optional[int]) -> Tuple[int, Optional[int]]:
@@ -21,6 +22,8 @@ def checked_bounds(lg_max_k: Optional[int], width: Optional[int]) -> Tuple[int, 
 
 def _images(sources: Iterable[Source]) -> Iterator[bytes]:
     """The image of each sketch."""
+    if isinstance(sources, (bytes, bytearray, memoryview, Sketch)):
+        raise TypeError(f"many sketches, not one {type(sources).__name__}: a list of it")
     return (one if type(one) is bytes else image_in(one) for one in sources)
 
 
@@ -93,6 +96,59 @@ class SketchUnion:
         taken.join_stream(_images(sketches))
         if taken.count:
             self.update(taken.image())
+
+    def update_values(self, values: Iterable[Value], *, skip_missing: bool = False) -> None:
+        """Count many values, as ``Sketch.update_many`` does.
+
+        They are counted at the ``lg_k`` of the union: that of its sketches, or ``lg_max_k``, or 12.
+        If one is refused, nothing has changed.
+        """
+        made = Sketch(self.lg_k)
+        made.update_many(values, skip_missing=skip_missing)
+        if not made.is_empty:
+            with self._lock:
+                self._state.join(made.convert(self._state.width).to_bytes())
+
+    def reset(self) -> None:
+        """Forget all sketches."""
+        with self._lock:
+            self._state = State(self._state.lg_max_k)
+
+    # ---- what it is
+
+    @property
+    def lg_k(self) -> int:
+        """The ``lg_k`` of the union so far; 12 if no sketch was merged, and none was given."""
+        return self._state.lg_k
+
+    @property
+    def is_empty(self) -> bool:
+        """Whether no value was counted."""
+        return self.sketch().is_empty
+
+    def estimate(self) -> float:
+        """Return an estimate of how many distinct values were counted."""
+        return self.sketch().estimate()
+
+    def bounds(self, deviations: int = 2) -> Tuple[float, float]:
+        """Return a lower and an upper bound of how many values, as ``Sketch.bounds`` does."""
+        return self.sketch().bounds(deviations)
+
+    def lower_bound(self, deviations: int = 2) -> float:
+        """Return the lower one of ``bounds``."""
+        return self.bounds(deviations)[0]
+
+    def upper_bound(self, deviations: int = 2) -> float:
+        """Return the upper one of ``bounds``."""
+        return self.bounds(deviations)[1]
+
+    def relative_standard_error(self) -> float:
+        """Return the standard deviation of the estimate, as a part of the number of values."""
+        return self.sketch().relative_standard_error()
+
+    def to_bytes(self) -> bytes:
+        """Return the image of the union so far."""
+        return self.sketch().to_bytes()
 
     def sketch(self) -> Sketch:
         """Return the sketch of the union so far.

@@ -2,21 +2,28 @@
 """What each call of the package gives, and what it refuses."""
 import copy
 import ctypes
+import datetime
+import math
+import mmap
 import os
 import pickle
 import random
+import re
 import struct
 import subprocess
 import sys
 import threading
 import unittest
+import uuid
+from array import array
+from decimal import Decimal
 from unittest import mock
 
 import common
 import hll_sketches
-from hll_sketches import ArgumentError, HllError, ImageError, PrecisionError, Sketch, SketchUnion
-from hll_sketches import _library, fault_of, is_image
-from hll_sketches import coupon, coupons, is_small, union_of
+from hll_sketches import ArgumentError, HllError, ImageError, PrecisionError, Registers, Sketch
+from hll_sketches import SketchUnion, _library, coupon, coupons, fault_of, is_image, is_small
+from hll_sketches import union_of
 from plain_hash import coupon_of, hash_of
 
 EMPTY = bytes.fromhex("0201070a030c0008")
@@ -70,10 +77,12 @@ class ValuesTest(unittest.TestCase):
                 self.assertEqual(list(coupons([value])), [coupon_of(data)])
                 one, many, mixed = Sketch(), Sketch(), Sketch()
                 one.update(value)
+                self.assertEqual(one.num_coupons, 1)
+                if value != value:      # NaN, which is missing among many
+                    continue
                 many.update_many([value])
                 mixed.update_many([value, b"other", 7, value])
                 self.assertEqual(one, many)
-                self.assertEqual(one.num_coupons, 1)
                 self.assertEqual(mixed.num_coupons, 3)
 
     def test_many_of_one_type(self):
@@ -103,12 +112,42 @@ class ValuesTest(unittest.TestCase):
         )
         for value in (None, [1], (1,), {}, object(), 1j):
             for call in calls:
-                with self.assertRaises(TypeError):
+                with self.assertRaises((TypeError, ArgumentError)):
                     call(value)
+        for value, cure in (
+            (datetime.date(2026, 11, 28), "isoformat"), (datetime.datetime.now(), "isoformat"),
+            (datetime.timedelta(1), "total_seconds"), (Decimal("1.5"), "str()"),
+            (uuid.uuid4(), "its bytes"), (None, "missing"), ([1], "update_many"),
+        ):
+            with self.assertRaisesRegex(TypeError, f"^a value is .*: .*{re.escape(cure)}"):
+                Sketch().update(value)
+
         for value in (2**64, -(2**63) - 1, 2**70):
             for call in calls:
                 with self.assertRaises(OverflowError):
                     call(value)
+
+    def test_missing_values(self):
+        """They are refused by their number, or passed over, whatever is beside them."""
+        for values in ([1, None, 2], [1, 2, math.nan], iter([None, 1, 2]), [None, "a", "b"],
+                       array("d", [1.5, math.nan, math.nan, 2.5]), [math.nan] * 3 + [1, 2]):
+            values = values if isinstance(values, array) else list(values)
+            number = next(n for n, value in enumerate(values) if value is None or value != value)
+            for made in (Sketch(), Registers(), SketchUnion()):
+                count = getattr(made, "update_values", None) or made.update_many
+                with self.assertRaisesRegex(ArgumentError, f"^value {number} is missing"):
+                    count(values)
+                self.assertTrue(made.is_empty)
+                count(values, skip_missing=True)
+                self.assertEqual(round(made.estimate()), 2)
+        late = Sketch()
+        with self.assertRaisesRegex(ArgumentError, "^value 50,000 is missing"):
+            late.update_many([1] * 50_000 + [None])
+        self.assertEqual(late.num_coupons, 1)
+        self.assertEqual(len(coupons([1, math.nan])), 2)
+        infinite = Sketch()
+        infinite.update_many([math.inf, -math.inf, 1.0])
+        self.assertEqual(infinite.num_coupons, 3)
 
     def test_one_value_is_not_many(self):
         for value in ("abc", b"abc", bytearray(b"abc"), 5):
@@ -417,6 +456,87 @@ class UnionTest(unittest.TestCase):
         self.assertEqual((caught.exception.reason, caught.exception.number), ("truncated", None))
         made.update(ONE)
         self.assertEqual(made.sketch().num_coupons, 1)
+
+
+class AccessorsTest(unittest.TestCase):
+    """What sketches, unions and registers have alike."""
+
+    def test_alike(self):
+        sketch, union, registers = Sketch(), SketchUnion(), Registers()
+        for made in (sketch, union, registers):
+            self.assertTrue(made.is_empty)
+        sketch.update_many(range(20_000))
+        union.update(sketch)
+        registers.merge(sketch)
+        for made in (union, registers):
+            self.assertFalse(made.is_empty)
+            self.assertEqual(made.lg_k, 12)
+            self.assertEqual(made.estimate(), sketch.estimate())
+            self.assertEqual(made.to_bytes(), sketch.to_bytes())
+            self.assertEqual(made.relative_standard_error(), sketch.relative_standard_error())
+            for deviations in (1, 2, 3):
+                bounds = made.bounds(deviations)
+                self.assertEqual(bounds, sketch.bounds(deviations))
+                one_by_one = made.lower_bound(deviations), made.upper_bound(deviations)
+                self.assertEqual(one_by_one, bounds)
+        for made in (sketch, union, registers):
+            for wrong in (0, 4, 2.0, "2", None):
+                with self.assertRaisesRegex(ArgumentError, "1, 2 or 3 deviations, not "):
+                    made.bounds(wrong)
+            lg_k = made.lg_k
+            made.reset()
+            self.assertTrue(made.is_empty)
+            self.assertEqual(made.lg_k, lg_k)
+        self.assertEqual((sketch, union.sketch()), (Sketch(), Sketch()))
+
+    def test_values_of_a_union(self):
+        union, wanted = SketchUnion(), Sketch(14, 4)
+        union.update_values(["ann"])
+        self.assertEqual((union.lg_k, union.sketch().num_coupons), (12, 1))
+        union.reset()
+        union.update(Sketch(14, 4))
+        wanted.update_many(range(500))
+        union.update_values(range(500))
+        self.assertEqual((union.sketch(), union.sketch().width), (wanted, 4))
+        bounded = SketchUnion(9)
+        bounded.update_values(range(3000))
+        self.assertEqual((bounded.lg_k, bounded.sketch().lg_k), (9, 9))
+
+    def test_reset_forgets_values_that_wait(self):
+        sketch = Sketch(10, 4)
+        sketch.update("x")
+        sketch.reset()
+        self.assertEqual((sketch, sketch.to_bytes()), (Sketch(10, 4), Sketch(10, 4).to_bytes()))
+
+    def test_sizes(self):
+        for lg_k in (4, 12, 21):
+            for width in (8, 6):
+                sketch = Sketch(lg_k, width)
+                sketch.update_many(range(4 << lg_k))
+                self.assertEqual(len(sketch.to_bytes()), Sketch.max_bytes(lg_k, width))
+            self.assertGreater(Sketch.max_bytes(lg_k, 4), Sketch.max_bytes(lg_k, 8))
+        far = Sketch(10, 4)
+        for slot in range(1, 1 << 10):      # all but one are exceptions
+            far.add_coupon(slot, 63)
+        self.assertEqual(len(far.to_bytes()), Sketch.max_bytes(10, 4))
+        for wrong in ((3, 8), (12, 5)):
+            with self.assertRaises(ArgumentError):
+                Sketch.max_bytes(*wrong)
+
+    def test_any_buffer(self):
+        image = Sketch().to_bytes()
+        with mmap.mmap(-1, len(image)) as mapped:
+            mapped[:] = image
+            for shown in (image, bytearray(image), memoryview(image), array("B", image), mapped):
+                self.assertEqual(Sketch.from_bytes(shown), Sketch())
+                self.assertTrue(is_image(shown))
+                self.assertEqual(union_of([shown]), Sketch())
+
+    def test_one_image_is_not_many(self):
+        for one in (EMPTY, bytearray(EMPTY), memoryview(EMPTY), Sketch()):
+            for call in (union_of, SketchUnion().update_many):
+                with self.assertRaisesRegex(TypeError, "^many sketches, not one "):
+                    call(one)
 
 
 class ErrorsTest(unittest.TestCase):

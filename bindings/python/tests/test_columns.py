@@ -42,18 +42,33 @@ def one_by_one(values):
     return made.to_bytes()
 
 
+def skipped(values):
+    """The image of values, without those that are missing."""
+    made = Sketch(11)
+    made.update_many(values, skip_missing=True)
+    return made.to_bytes()
+
+
 class ColumnTest(unittest.TestCase):
     def check(self, values, wanted=None):
-        """Sketches, registers and coupons, beside the same values one by one."""
-        singly = values if wanted is None else wanted
-        wanted = one_by_one(singly)
+        """Sketches, registers and coupons, beside the same values one by one. Those that are NaN
+        are refused at their number, or passed over, and have a coupon."""
+        singly = list(values if wanted is None else wanted)
+        there = [value for value in singly if value == value]
+        wanted = one_by_one(there)
         if wanted is None:
             for call in (Sketch().update_many, Registers().update_many, coupons):
                 self.assertRaises(TypeError, call, values)
             return
         sketch, registers = Sketch(11), Registers(11)
-        sketch.update_many(values)
-        registers.update_many(values)
+        if len(there) < len(singly):
+            number = next(n for n, value in enumerate(singly) if value != value)
+            for made in (sketch, registers):
+                with self.assertRaisesRegex(ArgumentError, f"^value {number:,} is missing "):
+                    made.update_many(values)
+                made.reset()
+        sketch.update_many(values, skip_missing=True)
+        registers.update_many(values, skip_missing=True)
         self.assertEqual(sketch.to_bytes(), wanted)
         self.assertEqual(registers.to_sketch().histogram(), sketch.histogram())
         self.assertEqual(list(coupons(values)), [coupon(value) for value in singly])
@@ -307,8 +322,7 @@ class NumPyTest(ColumnTest):
         """Whole arrays that are refused as their values are; tables, one value, masked values."""
         dates = [numpy.array([1], kind) for kind in ("M8[ns]", "M8[D]", "m8[ns]", "m8")]
         for values in (*dates, numpy.array([1j]), numpy.zeros(3, "g"),
-                       numpy.zeros(3, "i4,f8"), numpy.zeros((2, 2)), numpy.array(5), numpy.int64(5),
-                       numpy.ma.array([1, 2, 3], mask=[0, 1, 0])):
+                       numpy.zeros(3, "i4,f8"), numpy.zeros((2, 2)), numpy.array(5), numpy.int64(5)):
             for call in (Sketch().update_many, Registers().update_many, coupons):
                 self.assertRaises(TypeError, call, values)
 
@@ -320,7 +334,24 @@ class NumPyTest(ColumnTest):
         self.check(frame["a"], [1, 2, 3])
         self.check(frame["b"], [1.0, 2.0, 0.0])
         self.assertRaises(TypeError, Sketch().update_many, frame)
-        self.assertRaises(TypeError, Sketch().update_many, pandas.Series([1, None], dtype="Int64"))
+        self.assertEqual(one_by_one([1, 2, 3]), skipped(pandas.Series([1, 2, 3], dtype="Int64")))
+
+    @unittest.skipIf(pandas is None, "pandas is not here")
+    def test_missing_values_of_a_series(self):
+        """One rule for what pandas and NumPy have for a value that is missing."""
+        three = one_by_one([1, 2, 3])
+        for values, wanted in (
+            (pandas.Series([1, 2, 3, None], dtype="Int64"), three),
+            (pandas.Series([1, 2, 3, None]), one_by_one([1.0, 2.0, 3.0])),
+            (pandas.Series(["a", None, "b", math.nan]), one_by_one(["a", "b"])),
+            (pandas.Series(["a", pandas.NA], dtype="string"), one_by_one(["a"])),
+            (numpy.ma.array([1, 2, 9, 3], mask=[0, 0, 1, 0]), three),
+            ([1, pandas.NaT, numpy.float32("nan"), 2, numpy.datetime64("NaT"), 3], three),
+        ):
+            with self.assertRaisesRegex(ArgumentError, "is missing .*: skip_missing=True passes"):
+                Sketch().update_many(values)
+            self.assertEqual(skipped(values), wanted)
+        self.assertRaises(TypeError, skipped, pandas.Series(pandas.to_datetime(["2026-11-28", None])))
 
 
 class OtherPythonTest(unittest.TestCase):

@@ -19,6 +19,7 @@ from unittest import mock
 import common  # noqa: F401, for the path
 from command import COMMAND, CommandTest, environment, interruptible
 from hll_sketches import Sketch, __version__, _library, adding, cli, fault_of, files, layout
+from hll_sketches._names import shown
 from mutants import KINDS, Mutants
 
 NAMES = "merge info estimate check fold convert diff plot new add".split()
@@ -142,9 +143,16 @@ class NewTest(CommandTest):
         self.fails(2, ["none/a.hll: No such file or directory"], "new", "none/a.hll")
 
 
-def in_blocks(data, size, image=None):
+def added(data, more=None, are_ints=False):
+    """The image of lines, and their number."""
+    lines = adding.Lines(Sketch().to_bytes(), are_ints)
+    lines.add(io.BytesIO(data), more)
+    return lines.image, lines.count
+
+
+def in_blocks(data, size):
     with mock.patch.object(adding, "BLOCK", size):
-        return adding.add_lines(image or Sketch().to_bytes(), io.BytesIO(data))
+        return added(data)
 
 
 class AddTest(CommandTest):
@@ -166,7 +174,7 @@ class AddTest(CommandTest):
     def test_long_lines_of_many_blocks(self):
         text = b"x" * 3_000_000 + b"\n" + b"y" * 10 + b"\n" + b"z" * 2_500_000
         told = []
-        image, count = adding.add_lines(Sketch().to_bytes(), io.BytesIO(text), told.append)
+        image, count = added(text, told.append)
         self.assertEqual((image, count), (sketch_of(text.split(b"\n")).to_bytes(), 3))
         self.assertEqual(told, [2])
 
@@ -198,6 +206,62 @@ class AddTest(CommandTest):
         self.fails(1, ["bad.hll: image truncated"], "add", "bad.hll", given=b"a\n")
         self.fails(2, ["none.hll: No such file or directory"], "add", "none.hll", given=b"a\n")
         self.assertEqual((self.read("bad.hll"), self.listed()), (b"\x02\x01", ["bad.hll"]))
+
+    def test_integers(self):
+        self.succeeds("new", "a.hll")
+        given = b"1\n-2\n 3 \r\n18446744073709551615\n+4\n-9223372036854775808\n00"
+        self.succeeds("add", "a.hll", "--as", "int", given=given)
+        values = [1, -2, 3, 2**64 - 1, 4, -(2**63), 0]
+        self.assertEqual(self.read("a.hll"), image_of(values))
+        many = "".join(f"{number}\n" for number in range(200_000)).encode()
+        self.assertEqual(added(many, are_ints=True), (image_of(range(200_000)), 200_000))
+        for bad in ("x", "", "1.0", "1_000", "18446744073709551616", "-9223372036854775809"):
+            err = f"standard input: line 100,001 is no integer of 64 bits: {shown(bad)}"
+            given = b"5\n" * 100_000 + f"{bad}\n5\n".encode()
+            self.fails(1, [err], "add", "a.hll", "--as", "int", given=given)
+        self.assertEqual(self.read("a.hll"), image_of(values))
+
+    def test_lines_that_end_in_cr(self):
+        """They count with it, and that is said."""
+        self.succeeds("new", "a.hll")
+        words = "hll: standard input: 2 lines end in a CR, which counts as a part of them\n"
+        told = self.run_hll("add", "a.hll", given=b"a\r\nb\nc\r\n")
+        self.assertEqual(told, (0, b"", words))
+        self.assertEqual(self.read("a.hll"), image_of([b"a\r", b"b", b"c\r"]))
+
+    def test_at_once(self):
+        """Of several at once to one file none loses values, however slow their input is."""
+        self.succeeds("new", "a.hll", "--lg-k", 14)
+        command = [*COMMAND, "add", "a.hll"]
+        running = [
+            subprocess.Popen(command, stdin=subprocess.PIPE, cwd=self.folder, env=environment())
+            for _ in range(8)
+        ]
+        for number, one in enumerate(running):
+            first = number * 100
+            one.stdin.write("".join(f"{n}\n" for n in range(first, first + 100)).encode())
+            one.stdin.flush()
+        self.succeeds("add", "a.hll", given=b"not kept waiting\n")
+        for one in running:
+            one.stdin.close()
+        self.assertEqual([one.wait(60) for one in running], [0] * 8)
+        wanted = sketch_of([b"%d" % number for number in range(800)] + [b"not kept waiting"], 14)
+        self.assertEqual(self.read("a.hll"), wanted.to_bytes())
+        self.assertEqual(self.listed(), ["a.hll"])
+
+    def test_a_file_that_changes_meanwhile(self):
+        self.succeeds("new", "a.hll")
+        running = subprocess.Popen(
+            [*COMMAND, "add", "a.hll"], stdin=subprocess.PIPE, stderr=subprocess.PIPE,
+            cwd=self.folder, env=environment(),
+        )
+        running.stdin.write(b"x\n" * 1_000_000)    # it has read the file by now
+        running.stdin.flush()
+        self.write("a.hll", Sketch(9).to_bytes())
+        err = running.communicate()[1].decode()
+        words = "hll: a.hll: its lg_k has become 9, from 12, while lines were read: add them again\n"
+        self.assertEqual((running.returncode, err), (1, words))
+        self.assertEqual(self.read("a.hll"), Sketch(9).to_bytes())
 
     def test_interrupt(self):
         before = self.write("a.hll", Sketch().to_bytes()).read_bytes()
@@ -284,9 +348,13 @@ class InfoTest(CommandTest):
         self.assertEqual([round(one["estimate"]) for one in told], [50])
         full = bytes.fromhex("0a01070400000008") + bytes(32) + b"\x3f" * 16
         full = full[:7] + b"\x0a" + full[8:]
-        self.assertEqual(self.succeeds("estimate", "-", given=full), b"inf\n")
+        self.assertEqual(self.succeeds("estimate", "-", given=full), b"infinite\n")
         told = json.loads(self.succeeds("info", "--json", "-", given=full))
         self.assertIsNone(told[0]["estimate"])
+        out = self.succeeds("estimate", "--deviations", 3, "a.hll", "b.hll").decode()
+        rows = [[f"{one.estimate():.0f}", *(f"{bound:.0f}" for bound in one.bounds(3)), name]
+                for name, one in (("a.hll", sketch_of(range(1000))), ("b.hll", sketch_of(range(50))))]
+        self.assertEqual(out, "".join("\t".join(row) + "\n" for row in rows))
 
     def test_troubles_are_told_and_the_rest_is_shown(self):
         self.write("a.hll", image_of(range(50)))
@@ -525,6 +593,55 @@ class OneReadingTest(CommandTest):
             ("merge", "a.hll", "-o", "d.hll"), ("merge", "a.hll", "--width", 4, "-o", "e.hll"),
         ):
             self.assertEqual(self.readings(*words), 1, words)
+
+
+class OutputsTest(CommandTest):
+    """A file that is read-only, or another user's, is replaced by force alone, and keeps its owner
+    and its mode."""
+
+    COMMANDS = (
+        ["add", "a.hll"], ["merge", "b.hll", "-o", "a.hll"], ["plot", "b.hll", "-o", "a.hll"],
+        ["fold", "b.hll", "--lg-k", 4, "-o", "a.hll"], ["convert", "b.hll", "--width", 4, "-o", "a.hll"],
+    )
+
+    def compare(self, words, uid, mode):
+        for command in self.COMMANDS:
+            self.write("b.hll", image_of(range(9)))
+            path = self.write("a.hll", image_of(range(3)))
+            os.chown(path, uid, uid)
+            os.chmod(path, mode)
+            before = path.read_bytes()
+            self.fails(2, [f"a.hll: {words} (--force replaces it)"], *command, given=b"x\n")
+            self.assertEqual(path.read_bytes(), before)
+            self.succeeds(*command, "--force", given=b"x\n")
+            self.assertNotEqual(path.read_bytes(), before)
+            found = path.stat()
+            self.assertEqual((found.st_uid, stat.S_IMODE(found.st_mode)), (uid, mode), command)
+            path.unlink()
+
+    def test_read_only(self):
+        self.compare("it is read-only", os.geteuid(), 0o444)
+
+    def test_another_user(self):
+        if os.geteuid() != 0:
+            self.skipTest("only root can give a file to another user")
+        self.compare("it belongs to another user", 65534, 0o640)
+        sketch, path = Sketch(), self.write("a.hll", Sketch().to_bytes())
+        os.chown(path, 65534, 65534)
+        sketch.write(path)
+        self.assertEqual((path.stat().st_uid, path.stat().st_gid), (65534, 65534))
+
+    def test_errors_name_the_file(self):
+        """The one that was given, and no other."""
+        for name in ("none/a.hll", "."):
+            for call in (Sketch().write, Sketch.read):
+                path = str(self.folder / name)
+                with self.assertRaises(OSError) as caught:
+                    call(path)
+                self.assertEqual((caught.exception.filename, caught.exception.filename2), (path, None))
+        with self.assertRaises(OSError) as caught:
+            Sketch().write("/dev/full")
+        self.assertEqual(str(caught.exception), "[Errno 28] No space left on device: '/dev/full'")
 
 
 class StreamsTest(CommandTest):

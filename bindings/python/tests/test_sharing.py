@@ -298,10 +298,12 @@ class ManyTest(unittest.TestCase):
 
     def test_lines_of_open_files(self):
         """As `hll add` counts them: a CR stays, an empty line is a value, a last LF ends one."""
-        from hll_sketches.adding import add_lines
+        from hll_sketches.adding import Lines
 
         for text in (b"", b"\n", b"a\nb\r\n\nc", b"a\nb\n", "caf\u00e9\n\u4e2d".encode()):
-            wanted = add_lines(Sketch().to_bytes(), io.BytesIO(text))[0]
+            lines = Lines(Sketch().to_bytes())
+            lines.add(io.BytesIO(text))
+            wanted = lines.image
             with tempfile.NamedTemporaryFile(suffix=".txt") as file:
                 file.write(text)
                 file.flush()

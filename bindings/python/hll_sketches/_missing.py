@@ -1,0 +1,59 @@
+# SPDX-License-Identifier: Apache-2.0
+"""Missing values: ``None``, NaN, and what pandas and NumPy have in their place."""
+from __future__ import annotations
+
+import math
+import struct
+from typing import Any, List
+
+from ._errors import ArgumentError
+
+_NAMES = ("NoneType", "NAType", "NaTType", "MaskedConstant")
+_PLAIN = {int, str, bytes, bool}
+_NAN = struct.pack("<d", math.nan)
+
+
+def _is_missing(value: Any) -> bool:
+    """Whether a value is missing."""
+    if type(value).__name__ in _NAMES:
+        return True
+    try:
+        return bool(value != value)
+    except (TypeError, ValueError):     # of an array, say, which is no value at all
+        return False
+
+
+def _refusal(number: int, value: object) -> ArgumentError:
+    cure = "skip_missing=True passes over missing values"
+    return ArgumentError(f"value {number:,} is missing ({value!r}): {cure}")
+
+
+class Missing:
+    """What is done about missing values: they are passed over, or refused."""
+
+    def __init__(self, skips: bool) -> None:
+        self.skips = skips
+
+    def without(self, values: List[Any], start: int) -> List[Any]:
+        """Values, numbered from a start, without those that are missing."""
+        kinds = set(map(type, values))
+        if kinds <= _PLAIN or kinds == {float} and not math.isnan(sum(values)):
+            return values
+        if self.skips:
+            return [value for value in values if not _is_missing(value)]
+        for number, value in enumerate(values, start):
+            if _is_missing(value):
+                raise _refusal(number, value)
+        return values
+
+    def without_nan(self, eights: bytes, start: int) -> bytes:
+        """Floats of eight bytes, as they are hashed, without those that are NaN."""
+        at = eights.find(_NAN)
+        while at >= 0 and at % 8:
+            at = eights.find(_NAN, at + 1)
+        if at < 0:
+            return eights
+        if not self.skips:
+            raise _refusal(start + at // 8, math.nan)
+        pieces = (eights[at : at + 8] for at in range(0, len(eights), 8))
+        return b"".join(piece for piece in pieces if piece != _NAN)
