@@ -1,12 +1,13 @@
 #!/usr/bin/env python3
 # SPDX-License-Identifier: Apache-2.0
-"""Draws the pictures of docs/: layers.svg, union.svg, stages.svg, histogram.svg and speed.svg.
+"""Draws the pictures of docs/: layers.svg, union.svg, stages.svg, sizes.svg, histogram.svg and speed.svg.
 
     pictures.py [--check]
 
 With --check it only tells which of them are not what it draws, and ends with status 1 if any is. Needs the Python
 package's library (bindings/c).
 """
+import math
 import pathlib
 import sys
 
@@ -133,6 +134,49 @@ def stages():
     return plot.document(LEFT + 5 * 176, 162, STYLE, parts)
 
 
+# ---- sizes
+
+SIZES_TITLE = "Bytes of a sketch, by the number of its distinct values (8 bits a register)"
+SIZES = ((10, "#8fb56a"), (12, "#4a7db5"), (14, "#c08a4a"), (16, "#a05a9a"))
+PLOT_LEFT, PLOT_TOP, DECADE = 90, 56, 104
+DECADES, LEAST_BYTES, MOST_BYTES = 6, 1, 5
+
+
+def point(count, size):
+    """Where a size is in the picture: both axes are logarithmic."""
+    x = PLOT_LEFT + math.log10(count) * DECADE
+    y = PLOT_TOP + (MOST_BYTES - math.log10(size)) * DECADE * 0.7
+    return f"{x:.1f} {y:.1f}"
+
+
+def size_line(lg_k, color):
+    """The sizes of a sketch that grows, and its name where it has registers."""
+    made, counted, points = Sketch(lg_k), 0, []
+    for step in range(DECADES * 40 + 1):
+        count = round(10 ** (step / 40))
+        made.update_many(range(counted, count))
+        counted = max(counted, count)
+        points.append(point(count, len(made.to_bytes())))
+    yield f'<path d="M{"L".join(points)}" fill="none" stroke="{color}" stroke-width="2"/>'
+    x, y = map(float, points[-1].split())
+    yield plot.words(x + 8, y + 5, f"lg_k {lg_k}: {len(made.to_bytes()):,} bytes")
+
+
+def sizes():
+    parts = [plot.words(LEFT, 30, SIZES_TITLE, "title")]
+    right = PLOT_LEFT + DECADES * DECADE
+    for power in range(LEAST_BYTES, MOST_BYTES + 1):
+        y = float(point(1, 10**power).split()[1])
+        parts.append(f'<path d="M{PLOT_LEFT} {y:.1f}H{right}" class="grid"/>')
+        parts.append(plot.words(PLOT_LEFT - 8, y + 5, f"{10**power:,}", "right"))
+    bottom = float(point(1, 10**LEAST_BYTES).split()[1])
+    for power in range(DECADES + 1):
+        parts.append(plot.words(PLOT_LEFT + power * DECADE, bottom + 22, f"{10**power:,}", "middle"))
+    for lg_k, color in SIZES:
+        parts += size_line(lg_k, color)
+    return plot.document(right + 190, int(bottom) + 40, STYLE, parts)
+
+
 # ---- a histogram
 
 
@@ -189,7 +233,7 @@ def main():
     if sys.argv[1:] and not only_check:
         sys.exit("usage: pictures.py [--check]")
     status = 0
-    for draw in (layers, union, stages, histogram, speed):
+    for draw in (layers, union, stages, sizes, histogram, speed):
         path, text = ROOT / "docs" / f"{draw.__name__}.svg", draw()
         if not only_check:
             path.write_text(text, "utf-8")

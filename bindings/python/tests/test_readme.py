@@ -9,6 +9,7 @@ import unittest
 
 import common
 from command import COMMAND, CommandTest, environment
+from hll_sketches import Sketch
 
 README = common.PACKAGE / "README.md"
 
@@ -52,6 +53,40 @@ class ReadmeTest(CommandTest):
             )
             self.assertEqual((done.returncode, done.stderr), (0, b""))
         self.assertEqual(self.listed(), [".bin", "both.hll", "seen.hll"])
+
+
+class ChoosingTest(unittest.TestCase):
+    """The table of docs/CHOOSING.md."""
+
+    def rows(self):
+        text = (common.ROOT / "docs" / "CHOOSING.md").read_text("utf-8")
+        table = text.split("registers from |\n")[1].split("\n\n")[0]
+        for line in table.splitlines()[1:]:
+            yield [cell.strip() for cell in line.strip("|").split("|")]
+
+    def test_table(self):
+        count = 0
+        for lg_k, *cells in self.rows():
+            lg_k, values = int(lg_k), int(cells[6].split()[0].replace(",", ""))
+            registers, sizes = 1 << lg_k, [int(cell.replace(",", "")) for cell in cells[:4]]
+            error = 103.896 / registers**0.5
+            with self.subTest(lg_k=lg_k):
+                bytes_ = [Sketch.max_bytes(lg_k, 8), Sketch.max_bytes(lg_k, 6), 40 + registers // 2]
+                self.assertEqual(sizes, [registers, *bytes_])
+                self.assertEqual(cells[4:6], [f"{error:.2g} %", f"{2 * error:.2g} %"])
+                made = Sketch(lg_k)
+                made.update_many(range(values - 1))
+                self.assertNotEqual(made.stage, "registers")
+                made.update_many(range(values + values // 1000 + 1))    # a few have equal coupons
+                self.assertEqual(made.stage, "registers")
+                count += 1
+        self.assertGreater(count, 8)
+
+    def test_error(self):
+        """That of many values is the one of the table."""
+        made = Sketch(10)
+        made.update_many(range(1_000_000))
+        self.assertAlmostEqual(made.relative_standard_error(), 1.03896 / 32, 4)
 
 
 class ExampleTest(CommandTest):
