@@ -107,7 +107,7 @@ def rows_on_library(build):
     direct, handed, own = calls(build)
     yield "proved calls", "%d; and %d through optional.c, where NULL is allowed, state.c, which counts elements, or estimate.c, which adds bounds" % (len(direct), len(handed))
     yield "calls that are only tested", ", ".join("`%s`" % name for name in own)
-    yield "around it, only tested", "C++, Python, PostgreSQL, SQLite, Dask: bindings/"
+    yield "around it, only tested", "C++, Rust, Python, PostgreSQL, SQLite, Dask: bindings/"
 
 
 def table():

@@ -1,0 +1,158 @@
+// SPDX-License-Identifier: Apache-2.0
+//! Builds libhll.a as bindings/c/Makefile does, from assembler text and C, or finds an installed libhll by pkg-config.
+//!
+//! Environment: HLL_SYSTEM=1 takes the installed library, as the feature `system` does. CC, LD, OBJCOPY, AR and
+//! PKG_CONFIG name the tools; when another processor is built for, their defaults are those of its cross compiler.
+
+use std::env;
+use std::error::Error;
+use std::fs;
+use std::path::{Path, PathBuf};
+use std::process::{self, Command};
+
+type Outcome<T = ()> = Result<T, Box<dyn Error>>;
+
+const SOURCES: [&str; 4] = ["estimate", "optional", "state", "heap"];
+
+fn main() {
+    for name in ["HLL_SYSTEM", "CC", "LD", "OBJCOPY", "AR", "PKG_CONFIG", "PKG_CONFIG_PATH", "PKG_CONFIG_LIBDIR"] {
+        println!("cargo:rerun-if-env-changed={name}");
+    }
+    let wants_system = env::var_os("CARGO_FEATURE_SYSTEM").is_some() || env::var("HLL_SYSTEM").as_deref() == Ok("1");
+    let outcome = if wants_system { link_installed() } else { build_static() };
+    if let Err(error) = outcome {
+        eprintln!("hll-sketches: {error}");
+        process::exit(1);
+    }
+}
+
+// ---- an installed library
+
+fn link_installed() -> Outcome {
+    let version = pkg_config("--modversion")?;
+    let (major_minor, _) = env!("CARGO_PKG_VERSION").rsplit_once('.').ok_or("the version has no dots")?;
+    if !version.trim().starts_with(&format!("{major_minor}.")) {
+        return Err(format!("libhll {} is installed; this crate needs {major_minor}", version.trim()).into());
+    }
+    for flag in pkg_config("--libs")?.split_whitespace() {
+        if let Some(folder) = flag.strip_prefix("-L") {
+            println!("cargo:rustc-link-search=native={folder}");
+        } else if let Some(library) = flag.strip_prefix("-l") {
+            println!("cargo:rustc-link-lib={library}");
+        }
+    }
+    Ok(())
+}
+
+fn pkg_config(question: &str) -> Outcome<String> {
+    let command = env::var("PKG_CONFIG").unwrap_or_else(|_| "pkg-config".into());
+    let output =
+        Command::new(&command).args([question, "hll"]).output().map_err(|error| format!("{command}: {error}"))?;
+    if !output.status.success() {
+        return Err(format!("no libhll is installed: {}", String::from_utf8_lossy(&output.stderr).trim()).into());
+    }
+    Ok(String::from_utf8(output.stdout)?)
+}
+
+// ---- a library of its own
+
+fn build_static() -> Outcome {
+    let out = PathBuf::from(env::var_os("OUT_DIR").ok_or("OUT_DIR is not set")?);
+    let text = folder("prebuilt", "../../prebuilt")?.join(processor()?).join("libhll_c.s");
+    let c = folder("c", "../c")?;
+    println!("cargo:rerun-if-changed={}", c.display());
+    println!("cargo:rerun-if-changed={}", text.display());
+
+    let proved = compile(&text, &out.join("libhll_c.o"))?;
+    let mut objects = Vec::new();
+    for name in SOURCES {
+        objects.push(compile(&c.join(name).with_extension("c"), &out.join(name).with_extension("o"))?);
+    }
+    rename_wrapped_calls(&proved, &c)?;
+    objects.push(proved);
+    archive(&join(&objects, &c, &out)?, &out)?;
+    println!("cargo:rustc-link-search=native={}", out.display());
+    println!("cargo:rustc-link-lib=static=hll");
+    Ok(())
+}
+
+/// The folder of a package, or of a checkout.
+fn folder(packaged: &str, checkout: &str) -> Outcome<PathBuf> {
+    let here = PathBuf::from(env::var_os("CARGO_MANIFEST_DIR").ok_or("CARGO_MANIFEST_DIR is not set")?);
+    let found = [packaged, checkout].iter().map(|name| here.join(name)).find(|folder| folder.is_dir());
+    found.ok_or_else(|| format!("{packaged}/ is missing in {}", here.display()).into())
+}
+
+fn processor() -> Outcome<String> {
+    let (system, processor) = (env::var("CARGO_CFG_TARGET_OS")?, env::var("CARGO_CFG_TARGET_ARCH")?);
+    match (system.as_str(), processor.as_str()) {
+        ("linux", "x86_64" | "aarch64") => Ok(processor),
+        _ => {
+            Err(format!("there is no text of libhll for {system} on {processor}, only for Linux on x86_64 and aarch64")
+                .into())
+        }
+    }
+}
+
+/// A command with the tool that the environment names, or else its default.
+fn tool(variable: &str, default: &str) -> Outcome<Command> {
+    let is_cross = env::var("HOST")?.split('-').next() != env::var("TARGET")?.split('-').next();
+    let default = match (is_cross, default) {
+        (false, _) => default.to_string(),
+        (true, "cc") => format!("{}-linux-gnu-gcc", processor()?),
+        (true, _) => format!("{}-linux-gnu-{default}", processor()?),
+    };
+    let line = env::var(variable).unwrap_or(default);
+    let mut words = line.split_whitespace();
+    let mut command = Command::new(words.next().ok_or_else(|| format!("{variable} is empty"))?);
+    command.args(words);
+    Ok(command)
+}
+
+fn run(command: &mut Command) -> Outcome {
+    let status = command.status().map_err(|error| format!("{command:?}: {error}"))?;
+    if !status.success() {
+        return Err(format!("{command:?} ended with {status}").into());
+    }
+    Ok(())
+}
+
+fn compile(source: &Path, object: &Path) -> Outcome<PathBuf> {
+    let flags = ["-O2", "-std=c99", "-fPIC", "-Wall", "-c", "-o"];
+    run(tool("CC", "cc")?.args(flags).arg(object).arg(source))?;
+    Ok(object.to_path_buf())
+}
+
+/// The C files define some calls of hll.h over the proved ones, which get the prefix `proved_` here.
+fn rename_wrapped_calls(object: &Path, c: &Path) -> Outcome {
+    let mut command = tool("OBJCOPY", "objcopy")?;
+    for name in SOURCES {
+        let text = fs::read_to_string(c.join(name).with_extension("c"))?;
+        let declared = text.lines().filter_map(|line| line.strip_prefix("hll_status proved_")?.split('(').next());
+        command.args(declared.map(|call| format!("--redefine-sym={call}=proved_{call}")));
+    }
+    run(command.arg(object))
+}
+
+/// Makes one object, in which all names but the calls of hll.map are local.
+fn join(objects: &[PathBuf], c: &Path, out: &Path) -> Outcome<PathBuf> {
+    let (joined, calls) = (out.join("hll.o"), out.join("calls"));
+    let map = fs::read_to_string(c.join("hll.map"))?;
+    let names = map.lines().filter_map(|line| line.trim().strip_suffix(';')).filter(|name| name.starts_with("hll_"));
+    fs::write(&calls, names.collect::<Vec<_>>().join("\n"))?;
+    let mut link = tool("LD", "ld")?;
+    if processor()? == "x86_64" {
+        link.args(["-z", "x86-64-v2"]); // the loader refuses the program on older processors, which lack instructions
+    }
+    run(link.arg("-r").arg("-o").arg(&joined).args(objects))?;
+    run(tool("OBJCOPY", "objcopy")?.arg(format!("--keep-global-symbols={}", calls.display())).arg(&joined))?;
+    Ok(joined)
+}
+
+fn archive(object: &Path, out: &Path) -> Outcome {
+    let library = out.join("libhll.a");
+    if library.exists() {
+        fs::remove_file(&library)?;
+    }
+    run(tool("AR", "ar")?.arg("rcsD").arg(&library).arg(object))
+}

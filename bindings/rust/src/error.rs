@@ -1,0 +1,186 @@
+// SPDX-License-Identifier: Apache-2.0
+//! Why a call failed.
+
+#![forbid(unsafe_code)]
+
+use std::alloc::{handle_alloc_error, Layout};
+use std::fmt;
+
+use crate::libhll::{self, Status};
+
+/// What kind of error it is.
+#[derive(Debug, Clone, Copy, PartialEq, Eq)]
+#[non_exhaustive]
+pub enum ErrorKind {
+    /// An argument is out of its range.
+    InvalidArgument,
+    /// The bytes are not the image of a sketch, or exceed the limits.
+    InvalidData,
+    /// An allocation failed. The call can be made again.
+    OutOfMemory,
+}
+
+/// Why a call failed. What the call was to change is as it was before.
+#[derive(Debug, Clone, PartialEq, Eq)]
+pub struct Error {
+    cause: Cause,
+}
+
+#[derive(Debug, Clone, PartialEq, Eq)]
+pub(crate) enum Cause {
+    /// Bytes of this length are rejected, for the status.
+    Image {
+        status: Status,
+        len: usize,
+        index: Option<usize>,
+    },
+    Limits {
+        lg_k: u8,
+        len: usize,
+        most_lg_k: u8,
+        most_len: usize,
+    },
+    LgK {
+        name: &'static str,
+        given: u8,
+    },
+    /// Images of another `lg_k` came before this one.
+    OtherLgK {
+        lg_k: u8,
+        other: u8,
+        index: Option<usize>,
+    },
+    Coupon(u32),
+    Memory,
+}
+
+/// The word and the sentence of each status of an image, from 1 on, as in hll.h.
+const REASONS: [(&str, &str); 11] = [
+    ("truncated", "the bytes end inside what the header asks for"),
+    ("family", "the family byte is not 7"),
+    ("version", "the serial version is not 1"),
+    ("lgk", "the lg_k byte is outside 4 to 21"),
+    ("width", "the width bits are 3"),
+    ("stage", "the stage bits are 3"),
+    ("preamble", "the preamble words do not fit the stage"),
+    ("lgarr", "the size of a table is outside its range"),
+    ("count", "a count is above its bound, or not the number of filled buckets"),
+    ("coupon", "a coupon has the value 0 where a coupon is needed, or comes twice"),
+    ("register", "a register is above 63, or nibbles and exceptions do not agree"),
+];
+
+impl Error {
+    pub(crate) fn new(cause: Cause) -> Self {
+        Self { cause }
+    }
+
+    /// The error of a call that read an image of this length.
+    pub(crate) fn of_image(status: Status, len: usize) -> Self {
+        match status {
+            libhll::MEMORY => Self::new(Cause::Memory),
+            _ => Self::new(Cause::Image { status, len, index: None }),
+        }
+    }
+
+    /// The error of a checked image, whose `lg_k` is not that of the images before it.
+    pub(crate) fn of_other_lg_k(lg_k: u8, image: &[u8]) -> Self {
+        Self::new(Cause::OtherLgK { lg_k, other: image.get(3).copied().unwrap_or(0), index: None })
+    }
+
+    /// Says which of several images it is, from 0.
+    pub(crate) fn at(mut self, number: usize) -> Self {
+        if let Cause::Image { index, .. } | Cause::OtherLgK { index, .. } = &mut self.cause {
+            *index = Some(number);
+        }
+        self
+    }
+
+    /// Returns what kind of error it is.
+    pub fn kind(&self) -> ErrorKind {
+        match self.cause {
+            Cause::Image { .. } | Cause::Limits { .. } => ErrorKind::InvalidData,
+            Cause::LgK { .. } | Cause::OtherLgK { .. } | Cause::Coupon(_) => ErrorKind::InvalidArgument,
+            Cause::Memory => ErrorKind::OutOfMemory,
+        }
+    }
+
+    /// Returns one word: for a rejected image the first check that it fails (`"truncated"`, `"family"`, .., as in the table
+    /// of docs/FORMAT.md, "Reasons"), else `"limits"`, `"argument"`,
+    /// `"other_lg_k"` or `"memory"`.
+    pub fn reason(&self) -> &'static str {
+        match self.cause {
+            Cause::Image { status, .. } => reason(status).0,
+            Cause::Limits { .. } => "limits",
+            Cause::LgK { .. } | Cause::Coupon(_) => "argument",
+            Cause::OtherLgK { .. } => "other_lg_k",
+            Cause::Memory => "memory",
+        }
+    }
+
+    /// Returns which of several images was rejected, from 0; `None` if there was only one image, or none.
+    pub fn index(&self) -> Option<usize> {
+        match self.cause {
+            Cause::Image { index, .. } | Cause::OtherLgK { index, .. } => index,
+            _ => None,
+        }
+    }
+}
+
+fn reason(status: Status) -> (&'static str, &'static str) {
+    let found = usize::from(status).checked_sub(1).and_then(|at| REASONS.get(at));
+    found.copied().unwrap_or(("unknown", "the status is unknown"))
+}
+
+impl fmt::Display for Error {
+    fn fmt(&self, f: &mut fmt::Formatter<'_>) -> fmt::Result {
+        if let Some(number) = self.index() {
+            write!(f, "image {number}: ")?;
+        }
+        match self.cause {
+            Cause::Image { status, len, .. } => {
+                let (word, sentence) = reason(status);
+                write!(f, "these {len} bytes are not the image of a sketch: {sentence} ({word})")
+            }
+            Cause::Limits { lg_k, len, most_lg_k, most_len } => write!(
+                f,
+                "the image has {len} bytes and lg_k {lg_k}; the limits are {most_len} bytes and lg_k {most_lg_k}: \
+                 set higher ones in hll::Limits if you trust the image"
+            ),
+            Cause::LgK { name, given } => write!(f, "{name} is {given}; it must be 4 to 21"),
+            Cause::OtherLgK { lg_k, other, .. } => write!(
+                f,
+                "its lg_k is {other}, and that of the images before it {lg_k}: to merge both at the smaller lg_k, give a \
+                 bound, as in HllUnion::new({lg_k})"
+            ),
+            Cause::Coupon(raw) => write!(f, "the coupon {raw} has the value 0; the value of a coupon is 1 to 63"),
+            Cause::Memory => write!(f, "an allocation failed"),
+        }
+    }
+}
+
+impl std::error::Error for Error {}
+
+/// The answer of a call on memory that a sketch owns. It fails only where an allocation does; then this ends the program, as a
+/// `Vec` does that can't grow.
+pub(crate) fn or_abort<T>(answer: Result<T, Error>) -> T {
+    match answer {
+        Ok(value) => value,
+        Err(error) if error.kind() == ErrorKind::OutOfMemory => handle_alloc_error(Layout::new::<[u8; 64]>()),
+        Err(error) => unreachable!("the memory of a sketch is damaged: {error}"),
+    }
+}
+
+#[cfg(test)]
+mod tests {
+    use super::*;
+
+    #[test]
+    fn each_status_has_its_word() {
+        assert_eq!(Error::of_image(1, 0).reason(), "truncated");
+        assert_eq!(Error::of_image(11, 0).reason(), "register");
+        assert_eq!(Error::of_image(0, 0).reason(), "unknown");
+        assert_eq!(Error::of_image(12, 0).reason(), "unknown");
+        assert_eq!(Error::of_image(libhll::MEMORY, 0).kind(), ErrorKind::OutOfMemory);
+        assert_eq!(Error::of_image(libhll::MEMORY, 0).at(3).index(), None);
+    }
+}

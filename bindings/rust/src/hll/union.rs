@@ -1,0 +1,206 @@
+// SPDX-License-Identifier: Apache-2.0
+#![forbid(unsafe_code)]
+
+use std::fmt;
+use std::hash::Hash;
+
+use super::state::State;
+use super::{check_lg_k, Coupon, HllSketch, HllType};
+use crate::common::{Estimation, NumStdDev};
+use crate::error::{or_abort, Error};
+use crate::libhll;
+
+/// The `lg_k` of a union of no images.
+const DEFAULT_LG_K: u8 = 12;
+
+/// A union: the sketch of all values that any of the merged sketches has.
+///
+/// Its `lg_k` is the smallest of its bound and of the merged sketches that have registers. Merge sketches in any order, any
+/// number of times, in any grouping: as long as every merge uses the same bound, the result is the same.
+#[derive(Clone)]
+pub struct HllUnion {
+    lg_max_k: u8,
+    state: State,
+}
+
+impl HllUnion {
+    /// Returns an empty union of at most 2^`lg_max_k` registers. It allocates nothing.
+    ///
+    /// # Errors
+    ///
+    /// `InvalidArgument` if `lg_max_k` is not 4 to 21.
+    pub fn new(lg_max_k: u8) -> Result<Self, Error> {
+        Ok(Self { lg_max_k, state: State::new(check_lg_k("lg_max_k", lg_max_k)?) })
+    }
+
+    /// Merges a sketch of any type and `lg_k`.
+    pub fn update(&mut self, sketch: &HllSketch) {
+        or_abort(self.try_update(sketch));
+    }
+
+    /// Merges a sketch, or returns `OutOfMemory`.
+    pub fn try_update(&mut self, sketch: &HllSketch) -> Result<(), Error> {
+        self.state.join_state(self.lg_max_k, &sketch.state)
+    }
+
+    /// Merges an image from its bytes, without making a sketch of it. The image is checked whole; bytes after it are not read.
+    /// Of untrusted bytes check the [`Limits`](super::Limits) first.
+    ///
+    /// # Errors
+    ///
+    /// `InvalidData` with the first check that the bytes fail, or `OutOfMemory`.
+    pub fn update_image(&mut self, image: &[u8]) -> Result<(), Error> {
+        self.state.join(self.lg_max_k, image)
+    }
+
+    /// Adds a value as [`HllSketch::update`] does: with the byte ff after a `str`.
+    #[inline]
+    pub fn update_value<T: Hash>(&mut self, value: T) {
+        or_abort(self.try_update_value(value));
+    }
+
+    /// Adds a value as [`HllSketch::update`] does, or returns `OutOfMemory`.
+    #[inline]
+    pub fn try_update_value<T: Hash>(&mut self, value: T) -> Result<(), Error> {
+        self.try_update_with_coupon(Coupon::try_from_value(value)?)
+    }
+
+    /// Adds a value by its bytes, as [`HllSketch::update_bytes`] does.
+    #[inline]
+    pub fn update_bytes(&mut self, value: impl AsRef<[u8]>) {
+        self.update_with_coupon(Coupon::from_bytes(value));
+    }
+
+    /// Adds a value by its bytes, or returns `OutOfMemory`.
+    #[inline]
+    pub fn try_update_bytes(&mut self, value: impl AsRef<[u8]>) -> Result<(), Error> {
+        self.try_update_with_coupon(Coupon::from_bytes(value))
+    }
+
+    /// Adds a value by its coupon.
+    #[inline]
+    pub fn update_with_coupon(&mut self, coupon: Coupon) {
+        or_abort(self.try_update_with_coupon(coupon));
+    }
+
+    /// Adds a coupon, or returns `OutOfMemory`.
+    #[inline]
+    pub fn try_update_with_coupon(&mut self, coupon: Coupon) -> Result<(), Error> {
+        self.state.add(coupon.raw())
+    }
+
+    /// Returns the union as a sketch of this type.
+    pub fn to_sketch(&self, hll_type: HllType) -> HllSketch {
+        or_abort(self.try_to_sketch(hll_type))
+    }
+
+    /// Returns the union as a sketch of this type, or `OutOfMemory`.
+    pub fn try_to_sketch(&self, hll_type: HllType) -> Result<HllSketch, Error> {
+        Ok(HllSketch { state: self.state.try_clone()?, hll_type })
+    }
+
+    /// Returns the `lg_k` of the union so far, at most [`lg_max_k`](Self::lg_max_k).
+    pub fn lg_config_k(&self) -> u8 {
+        self.state.lg_k()
+    }
+
+    /// Returns the bound that [`new`](Self::new) got.
+    pub fn lg_max_k(&self) -> u8 {
+        self.lg_max_k
+    }
+
+    /// Returns whether nothing was merged or added.
+    pub fn is_empty(&self) -> bool {
+        self.state.is_empty()
+    }
+
+    /// Forgets all that was merged and added, and frees the memory. The bound stays.
+    pub fn reset(&mut self) {
+        self.state = State::new(self.lg_max_k);
+    }
+
+    /// Returns the estimated number of distinct values.
+    pub fn estimate(&self) -> f64 {
+        self.estimation().estimate
+    }
+
+    /// Returns [`estimate`](Self::estimate). In the original the two can differ.
+    pub fn composite_estimate(&self) -> f64 {
+        self.estimate()
+    }
+
+    /// Returns the upper bound at this number of standard deviations.
+    pub fn upper_bound(&self, num_std_dev: NumStdDev) -> f64 {
+        self.estimation().upper_bound(num_std_dev)
+    }
+
+    /// Returns the lower bound at this number of standard deviations.
+    pub fn lower_bound(&self, num_std_dev: NumStdDev) -> f64 {
+        self.estimation().lower_bound(num_std_dev)
+    }
+
+    /// Returns the estimate with all its bounds, in the time of one of the calls above.
+    pub fn estimation(&self) -> Estimation {
+        or_abort(self.try_estimation())
+    }
+
+    /// Returns the estimate with all its bounds, or `OutOfMemory`.
+    pub fn try_estimation(&self) -> Result<Estimation, Error> {
+        self.state.estimation()
+    }
+
+    /// Returns a copy, or `OutOfMemory`.
+    pub fn try_clone(&self) -> Result<Self, Error> {
+        Ok(Self { lg_max_k: self.lg_max_k, state: self.state.try_clone()? })
+    }
+
+    /// Returns the number of bytes of memory that the union takes.
+    pub fn estimated_size(&self) -> usize {
+        std::mem::size_of::<Self>() + self.state.allocated()
+    }
+}
+
+impl fmt::Debug for HllUnion {
+    fn fmt(&self, f: &mut fmt::Formatter<'_>) -> fmt::Result {
+        f.debug_struct("HllUnion")
+            .field("lg_max_k", &self.lg_max_k)
+            .field("gadget", &self.to_sketch(HllType::Hll8))
+            .finish()
+    }
+}
+
+/// Returns the union of images of one `lg_k`, which are read one at a time. Its type is that of the images, or `Hll8` if they
+/// differ. The union of no images is an empty sketch of `lg_k` 12.
+///
+/// No precision is lost by mistake: an image of another `lg_k` is an error. To merge images of different `lg_k`, give a bound
+/// to [`HllUnion::new`] and call [`update_image`](HllUnion::update_image), or call [`merge_images`].
+///
+/// # Errors
+///
+/// With the [`index`](Error::index) of the image: `InvalidData` if it is not an image, `InvalidArgument` if it has values and
+/// another `lg_k` than the images with values before it. Or `OutOfMemory`.
+pub fn union_of<I>(images: I) -> Result<HllSketch, Error>
+where
+    I: IntoIterator,
+    I::Item: AsRef<[u8]>,
+{
+    let mut state = State::new(DEFAULT_LG_K);
+    for (number, image) in images.into_iter().enumerate() {
+        state.join(0, image.as_ref()).map_err(|error| error.at(number))?;
+    }
+    Ok(HllSketch { hll_type: HllType::of_width(state.width()), state })
+}
+
+/// Returns the image of the union of images of any `lg_k`, under a bound. This is the fastest way to merge many images.
+///
+/// # Errors
+///
+/// `InvalidArgument` if `lg_max_k` is not 4 to 21; `InvalidData` with the [`index`](Error::index) of the first that is not an
+/// image; or `OutOfMemory`.
+pub fn merge_images(lg_max_k: u8, hll_type: HllType, images: &[impl AsRef<[u8]>]) -> Result<Vec<u8>, Error> {
+    let lg_max_k = check_lg_k("lg_max_k", lg_max_k)?;
+    libhll::images_union(lg_max_k, hll_type.width(), images).map_err(|(status, number)| {
+        let len = images.get(number).map_or(0, |image| image.as_ref().len());
+        Error::of_image(status, len).at(number)
+    })
+}

@@ -1,0 +1,20 @@
+// SPDX-License-Identifier: Apache-2.0
+//! HyperLogLog sketches in the format of Apache DataSketches, over `libhll`, whose calls are proved.
+//!
+//! The module [`hll`] has the names of the module `hll` of the crate `datasketches` (0.6.0), the original. To switch, change
+//! the crate's name in `Cargo.toml` and in `use`. The README says what differs.
+
+#![deny(unsafe_code)]
+#![warn(missing_docs)]
+
+pub mod common;
+pub mod error;
+pub mod hash;
+pub mod hll;
+#[allow(unsafe_code)]
+mod libhll;
+
+/// The README's programs are tests of the documentation.
+#[cfg(doctest)]
+#[doc = include_str!("../README.md")]
+pub struct Readme;
