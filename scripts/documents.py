@@ -39,7 +39,7 @@ KNOWN = {"as_chunks_mut", "postgres_fdw"}
 SKIPPED_FOLDERS = {"out", "build", "dist", ".git", "target", "__pycache__"}
 SOURCES = {".rt", ".antt", ".py", ".c", ".h", ".cpp", ".hpp", ".sh", ".sql", ".rs", ".edit", ".map", ".control", ".toml", ".txt", ".plan", ""}
 # These pages speak of another library's names.
-OTHERS = {"DIFFERENCES.md", "FAULTS.md"}
+OTHERS = {"DIFFERENCES.md", "FAULTS.md", "OTHER_LANGUAGES.md"}
 # Not run: the check itself, and what installs packages of a release.
 NO_COMMANDS = ("./check", "apt-get")
 # How many words README.md may have, code apart.
