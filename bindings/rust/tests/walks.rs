@@ -179,12 +179,25 @@ fn unions_of_one_lg_k() {
         let lg_k = random.lg_k();
         let images: Vec<Vec<u8>> = (0..1 + random.below(9)).map(|_| Pair::some(lg_k, &mut random).image).collect();
         let made = union_of(&images).unwrap();
-        if images.iter().any(|image| plain::estimation(image).estimate > 0.0) {
-            let width = made.serialize()[7] >> 2 & 3;
-            assert_eq!(made.serialize(), plain::union(lg_k, 4 + 2 * width, &images));
-        }
+        let width = made.serialize()[7] >> 2 & 3;
+        assert_eq!(made.serialize(), plain::union(lg_k, 4 + 2 * width, &images));
         expect_other_lg_k(images, lg_k, &mut random);
     }
+}
+
+/// Images without values count for nothing, but among themselves.
+#[test]
+fn unions_of_empty_images() {
+    let empty = [plain::new(9, 4), plain::new(11, 4), plain::new(10, 4)];
+    let made = union_of(&empty).unwrap();
+    assert_eq!(made.serialize(), plain::new(11, 4));
+    let full = plain::add(&plain::new(5, 6), &["a value"]);
+    for at in 0..=empty.len() {
+        let mut images = empty.to_vec();
+        images.insert(at, full.clone());
+        assert_eq!(union_of(&images).unwrap().serialize(), full);
+    }
+    assert_eq!(union_of::<[Vec<u8>; 0]>([]).unwrap().lg_config_k(), 12);
 }
 
 /// An image with values at another `lg_k` is an error, and it says which.

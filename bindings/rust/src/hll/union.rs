@@ -12,6 +12,8 @@ use crate::libhll;
 
 /// The `lg_k` of a union of no images.
 const DEFAULT_LG_K: u8 = 12;
+/// The smallest `lg_k`.
+const MIN_LG_K: u8 = 4;
 
 /// A union: the sketch of all values that any of the merged sketches has.
 ///
@@ -170,7 +172,8 @@ impl fmt::Debug for HllUnion {
 }
 
 /// Returns the union of images of one `lg_k`, which are read one at a time. Its type is that of the images, or `Hll8` if they
-/// differ. The union of no images is an empty sketch of `lg_k` 12.
+/// differ. Images without values count for nothing; if all are empty, the union has their greatest `lg_k`. The union of no
+/// images is an empty sketch of `lg_k` 12.
 ///
 /// No precision is lost by mistake: an image of another `lg_k` is an error. To merge images of different `lg_k`, give a bound
 /// to [`HllUnion::new`] and call [`update_image`](HllUnion::update_image), or call [`merge_images`].
@@ -184,8 +187,10 @@ where
     I: IntoIterator,
     I::Item: AsRef<[u8]>,
 {
-    let mut state = State::new(DEFAULT_LG_K);
-    for (number, image) in images.into_iter().enumerate() {
+    let mut images = images.into_iter().enumerate().peekable();
+    let least = if images.peek().is_some() { MIN_LG_K } else { DEFAULT_LG_K };
+    let mut state = State::new(least); // the state takes the lg_k of the images
+    for (number, image) in images {
         state.join(0, image.as_ref()).map_err(|error| error.at(number))?;
     }
     Ok(HllSketch { hll_type: HllType::of_width(state.width()), state })
