@@ -2,13 +2,14 @@
 # SPDX-License-Identifier: Apache-2.0
 """Checks the documents, and prints 'N passed, M failed' in the end.
 
-    scripts/documents.py [names] [words] [commands] [plans]
+    scripts/documents.py [names] [words] [messages] [commands] [plans]
 
 names     Files and sections that a page or a source names are there; names in backticks are in the sources, and on the
           pages for reviewers are declared there; a clause is one of the function that it is said of; commands name programs,
           parts and options that there are; tables that are made from the sources are theirs (scripts/tables.py); what
           README.md tells of speed is in docs/NUMBERS.md.
 words     README.md has at most 1,000 words.
+messages  The messages of each host keep to the words of docs/FORMAT.md (scripts/messages.py).
 commands  The blocks of README.md run as they are, in a folder without a reader's files, and print what a line `#> ..` after
           them says; so do commands of docs/PLAN.md and docs/OPERATING.md, by tests/scale.py where they need an engine.
 plans     The plans of docs/FAULTS.md have the answers told there.
@@ -24,6 +25,10 @@ import shutil
 import subprocess
 import sys
 import tempfile
+
+sys.dont_write_bytecode = True
+sys.path.insert(0, str(pathlib.Path(__file__).resolve().parent))
+import messages  # noqa: E402
 
 ROOT = pathlib.Path(__file__).resolve().parent.parent
 
@@ -512,7 +517,8 @@ def check_plans():
 
 
 def main():
-    parts = {"names": check_names, "words": check_words, "commands": check_commands, "plans": check_plans}
+    parts = {
+        "names": check_names, "words": check_words, "messages": messages.check, "commands": check_commands, "plans": check_plans}
     passed = failed = 0
     for part in sys.argv[1:] or parts:
         more_passed, more_failed = parts[part]()

@@ -528,7 +528,7 @@ static inline const char *hll_message(hll_status status)
         "A coupon has the value 0 where a coupon is needed, or comes twice.",
         "A register is above 63, or nibbles and exceptions do not agree.",
         "An argument is out of its range.",
-        "Memory was refused.",
+        "An allocation failed.",
         "The buffer is smaller than what is to be written.",
         "What is to be merged has fewer registers.",
         "The sketches have different lg_k, and no lg_max_k was given.",

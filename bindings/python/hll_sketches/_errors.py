@@ -42,7 +42,7 @@ class ImageError(HllError, ValueError):
 
     def __str__(self) -> str:
         which = "image" if self.number is None else f"image {self.number}"
-        return f"{which} is refused: {self.reason}"
+        return f"{which} is rejected: {self.reason}"
 
     def __reduce__(self) -> Tuple[type, Tuple[Any, ...]]:
         return type(self), (self.reason, self.number)

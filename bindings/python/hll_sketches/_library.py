@@ -317,7 +317,7 @@ def _refusal(status: int, number: Optional[int] = None) -> Exception:
     if status == ARGUMENT:
         return ArgumentError("an argument is out of its range")
     if status == MEMORY:
-        return MemoryError("memory was refused")
+        return MemoryError("an allocation failed")
     return ImageError(WORDS[status], number)
 
 

@@ -19,8 +19,8 @@ _ABOUT = "HyperLogLog sketches in the DataSketches format: make, merge, compare 
 _NOTES = """\
 A file is the image of one sketch, and - is standard input or standard output.
 
-status: 0, or 1 where an image is refused or sketches differ, or 2 for a wrong command line or a
-file that can't be read or written.
+status: 0, or 1 if a file is rejected or sketches differ, or 2 for a wrong command line or a file
+that can't be read or written.
 
   hll new day.hll
   cut -f2 log | hll add day.hll
@@ -61,7 +61,7 @@ def _with_width(parser: argparse.ArgumentParser, **more: Any) -> None:
 
 
 def _with_json(parser: argparse.ArgumentParser) -> None:
-    parser.add_argument("--json", action="store_true", help="tell about it as one JSON document")
+    parser.add_argument("--json", action="store_true", help="print what was done as one JSON document")
 
 
 def _with_force(parser: argparse.ArgumentParser) -> None:
@@ -109,7 +109,7 @@ def _merge(parser: argparse.ArgumentParser) -> None:
     _with_lg_k(parser, "merge files of different lg_k, at this one or a smaller one; 4 to 21")
     _with_width(parser)
     parser.add_argument("--jobs", type=_jobs, metavar="N", help="processes (one a processor)")
-    help_ = "leave out files that are refused or can't be read, tell which, and go on"
+    help_ = "leave out files that are no images or can't be read, name them, and go on"
     parser.add_argument("--skip-bad", action="store_true", help=help_)
     _with_plain(parser)
 
@@ -133,7 +133,7 @@ def _check(parser: argparse.ArgumentParser) -> None:
 
 def _fold(parser: argparse.ArgumentParser) -> None:
     parser.add_argument("file", metavar="FILE", help="a file, or -")
-    _with_lg_k(parser, "the lg_k of the answer, 4 to that of the file", required=True)
+    _with_lg_k(parser, "the new lg_k, 4 to that of the file", required=True)
     _with_output(parser, required=True)
     _with_plain(parser)
 
@@ -148,9 +148,9 @@ def _convert(parser: argparse.ArgumentParser) -> None:
 def _diff(parser: argparse.ArgumentParser) -> None:
     parser.add_argument("left", metavar="A", help="a file, or -")
     parser.add_argument("right", metavar="B", help="a file, or -")
-    help_ = "show so many slots that differ (10)"
+    help_ = "the number of differing slots to show (10)"
     parser.add_argument("--most", type=_most, metavar="N", default=10, help=help_)
-    parser.add_argument("-q", "--quiet", action="store_true", help="only the status tells")
+    parser.add_argument("-q", "--quiet", action="store_true", help="print nothing; only the status says")
     _with_json(parser)
 
 
@@ -180,22 +180,22 @@ def _add(parser: argparse.ArgumentParser) -> None:
 
 _COMMANDS = (
     ("merge", _merge, "merge any number of files", "hll merge days -o year.hll"),
-    ("info", _info, "tell what files say of their sketches", "hll info year.hll"),
-    ("estimate", _estimate, "tell how many distinct values there were", "hll estimate *.hll"),
-    ("check", _check, "tell the files that are no images, and why", "hll check days"),
+    ("info", _info, "show what the images of files say", "hll info year.hll"),
+    ("estimate", _estimate, "print the estimated number of distinct values", "hll estimate *.hll"),
+    ("check", _check, "name the files that are no images, and why", "hll check days"),
     ("fold", _fold, "make a sketch smaller", "hll fold a.hll --lg-k 10 -o b.hll"),
     ("convert", _convert, "change the width of a sketch", "hll convert a.hll --width 4 -o b.hll"),
-    ("diff", _diff, "tell whether two sketches agree, and where not", "hll diff a.hll b.hll"),
-    ("plot", _plot, "draw the registers beside the theory", "hll plot year.hll -o year.svg"),
+    ("diff", _diff, "say whether two sketches agree, and where they differ", "hll diff a.hll b.hll"),
+    ("plot", _plot, "draw the registers next to the theory", "hll plot year.hll -o year.svg"),
     ("new", _new, "make an empty sketch", "hll new day.hll --lg-k 14"),
     ("add", _add, "add lines of standard input, each a value", "cut -f2 log | hll add day.hll"),
 )
 _MORE = {
-    "merge": "Each file that is refused is named; then nothing is written, but with --skip-bad. "
+    "merge": "Each file that is rejected is named; then nothing is written, unless --skip-bad is given. "
     "Files of different lg_k are merged with --lg-k alone. The width is that of the files, or 8.",
     "estimate": "The name of the file follows the numbers where there are several files.",
     "check": "A file that is a sketch is passed over in silence.",
-    "fold": "The answer is what the sketch would be, had it been made with that lg_k.",
+    "fold": "The result is the sketch that the same values make with that lg_k.",
     "diff": "Status 0: they agree, once folded to the smaller lg_k. 1: they differ. 2: trouble.",
     "new": "Values are counted into it by `hll add`.",
     "add": "A line counts as a text: its bytes without the LF, but with a CR. An empty line is a "
@@ -299,7 +299,7 @@ def _carried_out(options: argparse.Namespace) -> int:
         commands.say(trouble)
         return trouble.status
     except MemoryError:
-        commands.say("memory was refused")
+        commands.say("an allocation failed")
         return UNUSABLE if options.command == "diff" else REFUSED
     except ImportError as error:
         commands.say(error)

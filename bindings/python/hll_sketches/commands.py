@@ -265,7 +265,7 @@ def merge(options: Namespace) -> int:
         raise Trouble("merge", "no image is left to merge", _worst(left_out, UNUSABLE))
     image = finished(answer.image, options.plain)
     if options.lg_k is not None and image[3] < options.lg_k:
-        say(f"merge: the answer has lg_k {image[3]}, as a file has, and not {options.lg_k}")
+        say(f"merge: the result has lg_k {image[3]}, as a file has, and not {options.lg_k}")
     skipped = [{"file": trouble.name, "reason": trouble.words} for trouble in left_out]
     return put(options, image, merged=answer.merged, left_out=skipped)
 

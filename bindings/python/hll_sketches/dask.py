@@ -80,7 +80,7 @@ class PlacedImageError(ImageError):
         self.place = place
 
     def __str__(self) -> str:
-        return f"{self.place}: image is refused: {self.reason}"
+        return f"{self.place}: image is rejected: {self.reason}"
 
     def __reduce__(self) -> Tuple[type, Tuple[Any, ...]]:
         return type(self), (self.reason, self.number, self.place)

@@ -162,7 +162,7 @@ def histogram_svg(image: bytes, title: str) -> str:
     """
     lg_k, estimate = image[3], _library.estimation(image).estimate
     chart = _Chart(_library.histogram(image), expected(estimate, lg_k), lg_k)
-    about = "more values than can be told" if math.isinf(estimate) else f"{estimate:,.0f} values"
+    about = "more values than can be estimated" if math.isinf(estimate) else f"{estimate:,.0f} values"
     kind = "registers" if STAGES[image[7] & 3] == "registers" else "slots of coupons"
     short = title if len(title) <= TITLE else title[: TITLE - 1] + "\u2026"
     heading = f"{short}: {1 << lg_k:,} {kind}, about {about}"

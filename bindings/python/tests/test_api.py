@@ -568,8 +568,8 @@ class ErrorsTest(unittest.TestCase):
             again = pickle.loads(pickle.dumps(error))
             self.assertIs(type(again), type(error))
             self.assertEqual((str(again), vars(again)), (str(error), vars(error)))
-        self.assertEqual(str(ImageError("count", 7)), "image 7 is refused: count")
-        self.assertEqual(str(ImageError("count")), "image is refused: count")
+        self.assertEqual(str(ImageError("count", 7)), "image 7 is rejected: count")
+        self.assertEqual(str(ImageError("count")), "image is rejected: count")
         for error in (PrecisionError(9, 12), PrecisionError(9, 12, 3, "a/b.hll", "try {least}")):
             again = pickle.loads(pickle.dumps(error))
             self.assertEqual((str(again), vars(again)), (str(error), vars(error)))

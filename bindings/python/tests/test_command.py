@@ -468,7 +468,7 @@ class MemoryTest(CommandTest):
             ("agree", ["diff", a, b], 2),
         ]
         for call, words, status in rows:
-            self.assertEqual(self.ended(call, *words), (status, "hll: memory was refused\n"), words)
+            self.assertEqual(self.ended(call, *words), (status, "hll: an allocation failed\n"), words)
         self.assertEqual(self.listed(), ["a.hll", "b.hll"])
 
 

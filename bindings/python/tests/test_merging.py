@@ -46,7 +46,7 @@ def program_union(program, made, lg_k, width):
 
 def bound_line(lg_max_k=12):
     """What a merge of all images says where the bound is above the lg_k of its answer."""
-    line = f"hll: merge: the answer has lg_k 8, as a file has, and not {lg_max_k}\n"
+    line = f"hll: merge: the result has lg_k 8, as a file has, and not {lg_max_k}\n"
     return line if lg_max_k > 8 else ""
 
 

@@ -58,7 +58,7 @@ class PictureTest(CommandTest):
             made.add_coupon(slot, 63)
         self.assertEqual(made.estimate(), math.inf)
         data = plot.histogram_svg(made.to_bytes(), "full").encode()
-        self.assertIn("more values than can be told", parts(data, "text", "title")[0].text)
+        self.assertIn("more values than can be estimated", parts(data, "text", "title")[0].text)
 
     def test_refusals(self):
         self.write("a.hll", b"no")

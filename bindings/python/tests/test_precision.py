@@ -244,7 +244,7 @@ class FilesTest(CommandTest):
     def test_a_bound_above(self):
         """More is asked for than a file has, and the answer says so."""
         self.lay_out(a=FINE, b=sketch(10, 5000))
-        err = "hll: merge: the answer has lg_k 10, as a file has, and not 12\n"
+        err = "hll: merge: the result has lg_k 10, as a file has, and not 12\n"
         told = self.run_hll("merge", "all", "-o", "one.hll", "--lg-k", 12)
         self.assertEqual(told, (0, b"", err))
         self.succeeds("merge", "all", "-o", "one.hll", "--lg-k", 10)
