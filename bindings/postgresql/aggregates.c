@@ -6,6 +6,8 @@
 
 #include "miscadmin.h"
 #include "nodes/memnodes.h"
+#include "nodes/primnodes.h"
+#include "utils/lsyscache.h"
 #include "utils/memutils.h"
 
 /* ---- memory */
@@ -47,12 +49,10 @@ context_of_states(MemoryContext parent)
 
 /* ---- rows */
 
-/* An argument of the aggregate that is the same for all rows, or the one that stands for it. */
+/* An argument of the aggregate that is the same for all rows. */
 static int32
-option(FunctionCallInfo fcinfo, int number, const char *name, int32 otherwise)
+option(FunctionCallInfo fcinfo, int number, const char *name)
 {
-	if (PG_NARGS() <= number)
-		return otherwise;
 	if (PG_ARGISNULL(number))
 		ereport(ERROR,
 				(errcode(ERRCODE_NULL_VALUE_NOT_ALLOWED),
@@ -61,7 +61,7 @@ option(FunctionCallInfo fcinfo, int number, const char *name, int32 otherwise)
 }
 
 static void
-check_same(const Group *group, int32 lg_k, int32 width)
+check_same(const Group *group, uint8 lg_k, uint8 width)
 {
 	if (group->lg_k != lg_k || group->width != width)
 		ereport(ERROR,
@@ -71,16 +71,19 @@ check_same(const Group *group, int32 lg_k, int32 width)
 
 /* The group for the next row: arguments are the group, what the row brings, lg_k and width. */
 Group *
-next_row(FunctionCallInfo fcinfo, const char *lg_k_name)
+next_row(FunctionCallInfo fcinfo, const char *lg_k_name, uint8 lg_k, uint8 width)
 {
-	int32		lg_k = option(fcinfo, 2, lg_k_name, 12);
-	int32		width = option(fcinfo, 3, "width", 8);
 	Group	   *group;
+
+	if (PG_NARGS() > 2)
+		lg_k = checked_lg_k(lg_k_name, option(fcinfo, 2, lg_k_name));
+	if (PG_NARGS() > 3)
+		width = checked_width(option(fcinfo, 3, "width"));
 
 	/* The server looks for interrupts as it reads rows, but not where it hands over rows that it sorted. */
 	CHECK_FOR_INTERRUPTS();
 	if (PG_ARGISNULL(0))
-		group = new_group(context_of_states(aggregate_context(fcinfo)), checked_lg_k(lg_k_name, lg_k), checked_width(width));
+		group = new_group(context_of_states(aggregate_context(fcinfo)), lg_k, width);
 	else
 		group = (Group *) PG_GETARG_POINTER(0);
 	check_same(group, lg_k, width);
@@ -88,18 +91,41 @@ next_row(FunctionCallInfo fcinfo, const char *lg_k_name)
 	return group;
 }
 
+/*
+ * Refuses to merge a sketch of another lg_k without a bound. The row is named where its number is that in the group: not where
+ * workers count their own.
+ */
+static void
+refuse_other_lg_k(FunctionCallInfo fcinfo, uint8 lg_k, uint8 other, int64 row)
+{
+	Aggref	   *aggregate = AggGetAggref(fcinfo);
+	const char *name = aggregate == NULL ? "hyperloglog_union_agg" : get_func_name(aggregate->aggfnoid);
+
+	if (aggregate != NULL && aggregate->aggsplit != AGGSPLIT_SIMPLE)
+		row = 0;
+	ereport(ERROR,
+			(errcode(ERRCODE_DATA_EXCEPTION),
+			 errmsg("sketches of lg_k %d and %d can't be merged without a bound", lg_k, other),
+			 row == 0 ? 0 : errdetail("Row " INT64_FORMAT " of the group is the first with lg_k %d.", row, other),
+			 errhint("Give the bound: %s(sketch, %d) merges them at lg_k %d.", name, Min(lg_k, other), Min(lg_k, other))));
+}
+
 PG_FUNCTION_INFO_V1(hll_pg_union_trans);
 
 Datum
 hll_pg_union_trans(PG_FUNCTION_ARGS)
 {
-	Group	   *group = next_row(fcinfo, "lg_max_k");
+	Group	   *group = next_row(fcinfo, "lg_max_k", 0, 0);
 
 	if (!PG_ARGISNULL(1))
 	{
 		bytea	   *image = PG_GETARG_BYTEA_PP(1);
+		State	   *state = state_of(group);
+		hll_status	status = join_image(state, group->lg_k, IMAGE(image));
 
-		check_row_status(join_image(state_of(group), group->lg_k, IMAGE(image)), group->rows);
+		if (status == HLL_OTHER_LG_K)
+			refuse_other_lg_k(fcinfo, hll_state_lg_k(state->bytes), named_lg_k(IMAGE(image)), group->rows);
+		check_row_status(status, group->rows);
 	}
 	PG_RETURN_POINTER(group);
 }
@@ -126,8 +152,8 @@ hll_pg_combine(PG_FUNCTION_ARGS)
 	if (group == NULL)
 		group = new_group(context_of_states(context), other->lg_k, other->width);
 	check_same(group, other->lg_k, other->width);
-	if (has_state(other))
-		join_state(state_of(group), group->lg_k, state_of(other));
+	if (has_state(other) && join_state(state_of(group), group->lg_k, state_of(other)) == HLL_OTHER_LG_K)
+		refuse_other_lg_k(fcinfo, hll_state_lg_k(group->state.bytes), hll_state_lg_k(other->state.bytes), 0);
 	PG_RETURN_POINTER(group);
 }
 
@@ -136,7 +162,7 @@ typedef struct Sent
 {
 	uint8		lg_k;
 	uint8		width;
-	uint8		is_state;		/* whether the sketch is a state, else it is an image of eight bits */
+	uint8		is_state;		/* whether the sketch is a state, else it is an image */
 } Sent;
 
 static Datum
@@ -154,7 +180,10 @@ bytes_to_send(const Group *group, bool is_state, const uint8 *sketch, size_t siz
 
 PG_FUNCTION_INFO_V1(hll_pg_serial);
 
-/* Sends coupons as an image, which is smaller than their state; and registers as their state, which is as small. */
+/*
+ * Sends coupons as an image, which is smaller than their state, at the width that the state gives; and registers as their
+ * state, which is as small. (Images of different width have width 8 from there on, which is what they have together.)
+ */
 Datum
 hll_pg_serial(PG_FUNCTION_ARGS)
 {
@@ -168,7 +197,7 @@ hll_pg_serial(PG_FUNCTION_ARGS)
 	state = state_of(group);
 	if (hll_state_stage(state->bytes) == HLL_REGISTERS)
 		return bytes_to_send(group, true, state->bytes, hll_state_size(state->bytes));
-	image = image_of_state(state, 8);
+	image = image_of_state(state, hll_state_width(state->bytes));
 	return bytes_to_send(group, false, IMAGE(image));
 }
 
@@ -188,7 +217,7 @@ hll_pg_deserial(PG_FUNCTION_ARGS)
 		memcpy(&sent, BYTES(bytes), sizeof(Sent));
 	if (LENGTH(bytes) < sizeof(Sent) || (sent.is_state && size < HLL_STATE_NEW))
 		elog(ERROR, "the bytes are no state of an HLL aggregate");
-	group = new_group(CurrentMemoryContext, checked_lg_k("lg_k", sent.lg_k), checked_width(sent.width));
+	group = new_group(CurrentMemoryContext, sent.lg_k, sent.width);
 	if (sent.is_state)
 		group->state = copied_state(CurrentMemoryContext, sketch, size);
 	else if (size > 0)
@@ -205,6 +234,7 @@ Datum
 hll_pg_final(PG_FUNCTION_ARGS)
 {
 	Group	   *group;
+	State	   *state;
 
 	(void) aggregate_context(fcinfo);
 	if (PG_ARGISNULL(0))
@@ -212,5 +242,6 @@ hll_pg_final(PG_FUNCTION_ARGS)
 	group = (Group *) PG_GETARG_POINTER(0);
 	if (!has_state(group))
 		PG_RETURN_NULL();
-	PG_RETURN_BYTEA_P(image_of_state(state_of(group), group->width));
+	state = state_of(group);
+	PG_RETURN_BYTEA_P(image_of_state(state, group->width == 0 ? hll_state_width(state->bytes) : group->width));
 }

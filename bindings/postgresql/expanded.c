@@ -15,7 +15,7 @@ kept_image(ExpandedSketch *object)
 	{
 		MemoryContext before = MemoryContextSwitchTo(object->header.eoh_context);
 
-		object->image = image_of_state(&object->state, object->width);
+		object->image = image_of_state(&object->state, hll_state_width(object->state.bytes));
 		MemoryContextSwitchTo(before);
 	}
 	return object->image;
@@ -35,25 +35,15 @@ flatten_into(ExpandedObjectHeader *header, void *result, Size allocated_size)
 
 static const ExpandedObjectMethods methods = {flat_size, flatten_into};
 
-/* An object of neither form yet, in a context of its own below this one, in which a large chunk takes its own bytes. */
+/* An object with a copy of a state, in a context of its own below this one, in which a large chunk takes its own bytes. */
 static ExpandedSketch *
-new_object(MemoryContext parent, uint8 width)
+object_of_state(MemoryContext parent, const State *state)
 {
 	MemoryContext context = AllocSetContextCreate(parent, "hyperloglog", ALLOCSET_SMALL_SIZES);
 	ExpandedSketch *object = MemoryContextAllocZero(context, sizeof(ExpandedSketch));
 
 	EOH_init_header(&object->header, &methods, context);
-	object->width = width;
-	return object;
-}
-
-static ExpandedSketch *
-object_of_image(MemoryContext parent, bytea *image)
-{
-	ExpandedSketch *object = new_object(parent, named_width(IMAGE(image)));
-
-	object->image = MemoryContextAlloc(object->header.eoh_context, VARSIZE(image));
-	memcpy(object->image, image, VARSIZE(image));
+	object->state = copied_state(context, state->bytes, hll_state_size(state->bytes));
 	return object;
 }
 
@@ -68,20 +58,6 @@ expanded_of(Datum value)
 	return header->eoh_methods == &methods ? (ExpandedSketch *) header : NULL;
 }
 
-/* The state of an object, which is made when a merge asks first; what the object says stays. */
-static State *
-state_of_object(ExpandedSketch *object)
-{
-	if (object->state.bytes == NULL)
-	{
-		uint8		lg_k = named_lg_k(IMAGE(object->image));
-
-		object->state = new_state(object->header.eoh_context, lg_k);
-		check_status(join_image(&object->state, lg_k, IMAGE(object->image)));
-	}
-	return &object->state;
-}
-
 /* What the header of a value says; of a flat one no more is fetched than that. */
 Header
 header_of(Datum value)
@@ -90,109 +66,112 @@ header_of(Datum value)
 	Header		header;
 	bytea	   *start;
 
-	if (object != NULL && object->image == NULL)
+	if (object != NULL)
 	{
 		header.lg_k = hll_state_lg_k(object->state.bytes);
-		header.width = object->width;
+		header.width = hll_state_width(object->state.bytes);
 		header.size = 0;
 		return header;
 	}
-	start = object != NULL ? object->image : PG_DETOAST_DATUM_SLICE(value, 0, 8);
+	start = PG_DETOAST_DATUM_SLICE(value, 0, 8);
 	header.lg_k = named_lg_k(IMAGE(start));
 	header.width = named_width(IMAGE(start));
-	header.size = object != NULL ? LENGTH(start) : toast_raw_datum_size(value) - VARHDRSZ;
+	header.size = toast_raw_datum_size(value) - VARHDRSZ;
 	return header;
 }
 
 /* ---- merges */
 
-/* One of the two that are merged. */
-typedef struct Side
-{
-	Datum		value;
-	ExpandedSketch *object;		/* NULL where the value is flat */
-	bytea	   *image;			/* of a flat value */
-	uint8		lg_k;
-	uint8		width;
-} Side;
-
-static Side
-side_of(Datum value)
-{
-	Side		side = {value, expanded_of(value)};
-
-	if (side.object != NULL && side.object->state.bytes != NULL)
-	{
-		side.lg_k = hll_state_lg_k(side.object->state.bytes);
-		side.width = side.object->width;
-		return side;
-	}
-	side.image = side.object != NULL ? side.object->image : DatumGetByteaPP(value);
-	side.lg_k = named_lg_k(IMAGE(side.image));
-	side.width = named_width(IMAGE(side.image));
-	return side;
-}
-
-/* Joins a side, the argument of this number (from 0), to a state. */
 static void
-join_side(State *state, uint8 lg_max_k, const Side *side, size_t number)
+refuse_other_lg_k(uint8 lg_k, uint8 other)
 {
-	if (side->object != NULL)
-		join_state(state, lg_max_k, state_of_object(side->object));
-	else
-		check_argument_status(join_image(state, lg_max_k, IMAGE(side->image)), number);
+	ereport(ERROR,
+			(errcode(ERRCODE_DATA_EXCEPTION),
+			 errmsg("sketches of lg_k %d and %d can't be merged without a bound", lg_k, other),
+			 errhint("Give the bound: hll_merge(a, b, %d) merges them at lg_k %d.", Min(lg_k, other), Min(lg_k, other))));
 }
 
-/* An object with the left side in its state: that side itself, where the caller gave it away, or a new one. */
-static ExpandedSketch *
-object_with_left(const Side *left, const Side *right, uint8 lg_max_k, MemoryContext parent)
+/* Joins a sketch, the argument of this number (from 0), to a state. */
+static void
+join_argument(State *state, uint8 lg_max_k, Datum value, size_t number)
 {
-	bool		is_within = left->object != NULL && left->lg_k <= lg_max_k;
-	ExpandedSketch *object;
+	ExpandedSketch *object = expanded_of(value);
+	hll_status	status;
+	uint8		lg_k;
 
-	if (is_within && VARATT_IS_EXTERNAL_EXPANDED_RW(DatumGetPointer(left->value)) && left->object != right->object)
+	if (object != NULL)
 	{
-		(void) state_of_object(left->object);
-		return left->object;
+		lg_k = hll_state_lg_k(object->state.bytes);
+		status = join_state(state, lg_max_k, &object->state);
 	}
-	object = new_object(parent, left->width);
-	if (is_within)
+	else
 	{
-		const State *state = state_of_object(left->object);
+		bytea	   *image = DatumGetByteaPP(value);
 
-		object->state = copied_state(object->header.eoh_context, state->bytes, hll_state_size(state->bytes));
-		return object;
+		lg_k = named_lg_k(IMAGE(image));
+		status = join_image(state, lg_max_k, IMAGE(image));
 	}
-	object->state = new_state(object->header.eoh_context, lg_max_k);
-	join_side(&object->state, lg_max_k, left, 0);
+	if (status == HLL_OTHER_LG_K)
+		refuse_other_lg_k(hll_state_lg_k(state->bytes), lg_k);
+	check_argument_status(status, number);
+}
+
+/* The bound of a merge, its third argument; 0 where there is none. */
+static uint8
+bound_in(FunctionCallInfo fcinfo)
+{
+	return PG_NARGS() > 2 ? checked_lg_k("lg_max_k", PG_GETARG_INT32(2)) : 0;
+}
+
+/* A state of the union of both arguments, in the current context. */
+static State
+merged_state(FunctionCallInfo fcinfo, uint8 lg_max_k)
+{
+	State		state = new_state(CurrentMemoryContext, lg_max_k);
+
+	join_argument(&state, lg_max_k, PG_GETARG_DATUM(0), 0);
+	join_argument(&state, lg_max_k, PG_GETARG_DATUM(1), 1);
+	return state;
+}
+
+PG_FUNCTION_INFO_V1(hll_pg_merge);
+
+/* The union of two images. */
+Datum
+hll_pg_merge(PG_FUNCTION_ARGS)
+{
+	State		state = merged_state(fcinfo, bound_in(fcinfo));
+
+	PG_RETURN_BYTEA_P(image_of_state(&state, hll_state_width(state.bytes)));
+}
+
+/* The value of a state: an object where it has registers, since a merge may follow that needs them, and else an image. */
+static Datum
+value_of_state(MemoryContext parent, State *state)
+{
+	if (hll_state_stage(state->bytes) != HLL_REGISTERS)
+		return PointerGetDatum(image_of_state(state, hll_state_width(state->bytes)));
+	return EOHPGetRWDatum(&object_of_state(parent, state)->header);
+}
+
+/* The object of a left side, into which another can be merged: that side itself, where the caller gave it away, or a copy. */
+static ExpandedSketch *
+own_object(MemoryContext parent, Datum left, Datum right)
+{
+	ExpandedSketch *object = expanded_of(left);
+
+	if (!VARATT_IS_EXTERNAL_EXPANDED_RW(DatumGetPointer(left)) || object == expanded_of(right))
+		return object_of_state(parent, &object->state);
 	return object;
 }
 
-/* The union, where a side is an object, and so has registers. */
-static Datum
-merge_states(const Side *left, const Side *right, uint8 lg_max_k, MemoryContext parent)
+/* Notes that the state of an object has changed. */
+static void
+forget_image(ExpandedSketch *object)
 {
-	ExpandedSketch *object = object_with_left(left, right, lg_max_k, parent);
-
-	join_side(&object->state, lg_max_k, right, 1);
 	if (object->image != NULL)
-	{
 		pfree(object->image);
-		object->image = NULL;
-	}
-	object->width = Max(left->width, right->width);
-	return EOHPGetRWDatum(&object->header);
-}
-
-/* The image of the union, as an object where it has registers: then a merge may follow that needs their state. */
-static Datum
-merge_images(const Side *left, const Side *right, uint8 lg_max_k, MemoryContext parent)
-{
-	bytea	   *image = merged_image(lg_max_k, Max(left->width, right->width), IMAGE(left->image), IMAGE(right->image));
-
-	if (hll_image_stage(IMAGE(image)) != HLL_REGISTERS)
-		return PointerGetDatum(image);
-	return EOHPGetRWDatum(&object_of_image(parent, image)->header);
+	object->image = NULL;
 }
 
 PG_FUNCTION_INFO_V1(hll_pg_merge_sketches);
@@ -201,15 +180,22 @@ PG_FUNCTION_INFO_V1(hll_pg_merge_sketches);
 Datum
 hll_pg_merge_sketches(PG_FUNCTION_ARGS)
 {
-	Side		left = side_of(PG_GETARG_DATUM(0));
-	Side		right = side_of(PG_GETARG_DATUM(1));
-	uint8		lg_max_k = PG_NARGS() > 2 ? checked_lg_k("lg_max_k", PG_GETARG_INT32(2)) : Max(left.lg_k, right.lg_k);
+	Datum		left = PG_GETARG_DATUM(0);
+	uint8		lg_max_k = bound_in(fcinfo);
+	ExpandedSketch *object = expanded_of(left);
 	MemoryContext parent;
+	State		state;
 
 	CHECK_FOR_INTERRUPTS();
 	if (!AggCheckCallContext(fcinfo, &parent))
 		parent = CurrentMemoryContext;
-	if (left.object != NULL || right.object != NULL)
-		return merge_states(&left, &right, lg_max_k, parent);
-	return merge_images(&left, &right, lg_max_k, parent);
+	if (object == NULL || (lg_max_k != 0 && lg_max_k < hll_state_lg_k(object->state.bytes)))
+	{
+		state = merged_state(fcinfo, lg_max_k);
+		return value_of_state(parent, &state);
+	}
+	object = own_object(parent, left, PG_GETARG_DATUM(1));
+	join_argument(&object->state, lg_max_k, PG_GETARG_DATUM(1), 1);
+	forget_image(object);
+	return EOHPGetRWDatum(&object->header);
 }

@@ -10,12 +10,11 @@
 
 #include "utils/expandeddatum.h"
 
-/* A value that is both forms or one of them: an image of registers, and a state. */
+/* A state of registers, and its image. */
 typedef struct ExpandedSketch
 {
 	ExpandedObjectHeader header;
-	State		state;			/* not made before the first merge */
-	uint8		width;
+	State		state;
 	bytea	   *image;			/* NULL where the state has changed since it was written */
 } ExpandedSketch;
 
@@ -24,7 +23,7 @@ typedef struct Header
 {
 	uint8		lg_k;
 	uint8		width;
-	size_t		size;			/* of the image; 0 where it isn't written yet */
+	size_t		size;			/* of the image; 0 of an object, whose image is never too long */
 } Header;
 
 /* The object of a value, or NULL where that is flat. */

@@ -44,35 +44,6 @@ hll_pg_empty(PG_FUNCTION_ARGS)
 	PG_RETURN_BYTEA_P(end_output(&out));
 }
 
-/* The image of a union of two, in the current context. */
-bytea *
-merged_image(uint8 lg_max_k, uint8 width, const uint8 *left, size_t left_size, const uint8 *right, size_t right_size)
-{
-	size_t		failed = 0;
-	hll_status	status;
-	Output		out;
-
-	WRITE_OUTPUT(out, Min(left_size + right_size, (size_t) 1 << lg_max_k) + 64, status,
-				 hll_image_merge(lg_max_k, width, left, left_size, right, right_size, OUTPUT(out), &failed));
-	check_argument_status(status, failed);
-	return end_output(&out);
-}
-
-PG_FUNCTION_INFO_V1(hll_pg_merge);
-
-/* The union, with the greater width of both, and without a bound the greater lg_k, so that only registers lower it. */
-Datum
-hll_pg_merge(PG_FUNCTION_ARGS)
-{
-	bytea	   *left = PG_GETARG_BYTEA_PP(0);
-	bytea	   *right = PG_GETARG_BYTEA_PP(1);
-	uint8		width = Max(named_width(IMAGE(left)), named_width(IMAGE(right)));
-	uint8		lg_max_k = PG_NARGS() > 2 ? checked_lg_k("lg_max_k", PG_GETARG_INT32(2))
-		: Max(named_lg_k(IMAGE(left)), named_lg_k(IMAGE(right)));
-
-	PG_RETURN_BYTEA_P(merged_image(lg_max_k, width, IMAGE(left), IMAGE(right)));
-}
-
 PG_FUNCTION_INFO_V1(hll_pg_fold);
 
 Datum

@@ -12,8 +12,8 @@
 
 typedef struct Group
 {
-	uint8		lg_k;			/* the bound of the answer's; of values, the answer's */
-	uint8		width;			/* of the answer */
+	uint8		lg_k;			/* of a sketch of values; of a union the bound, or 0 where there is none */
+	uint8		width;			/* of the answer; 0 for that of the images, or 8 where they differ */
 	uint8		n_coupons;
 	uint8		most_coupons;	/* so many wait */
 	uint32	   *coupons;		/* of values that are not in the state yet; NULL while it is small */
@@ -21,8 +21,8 @@ typedef struct Group
 	State		state;			/* not made until a value or an image comes */
 } Group;
 
-/* Of the step of an aggregate: the group for the row that came (aggregates.c). */
-extern Group *next_row(FunctionCallInfo fcinfo, const char *lg_k_name);
+/* Of the step of an aggregate: the group for the row that came, with these options unless the call has others (aggregates.c). */
+extern Group *next_row(FunctionCallInfo fcinfo, const char *lg_k_name, uint8 lg_k, uint8 width);
 
 extern Group *new_group(MemoryContext context, uint8 lg_k, uint8 width);
 extern bool has_state(const Group *group);

@@ -60,7 +60,4 @@ extern uint8 checked_width(int32 width);
 extern uint8 named_lg_k(const uint8 *image, size_t size);
 extern uint8 named_width(const uint8 *image, size_t size);
 
-extern bytea *merged_image(uint8 lg_max_k, uint8 width, const uint8 *left, size_t left_size, const uint8 *right,
-						   size_t right_size);
-
 #endif

@@ -37,12 +37,19 @@ grow_state(State *state, hll_status status, size_t size)
 	return true;
 }
 
-/* How much room an image asks for in an empty state, or 0 where that is little. The most for coupons that may become registers. */
+/*
+ * How much room an image asks for in an empty state, or 0 where that is little. The most for coupons that may become registers.
+ * Without a bound the state takes the lg_k of the image.
+ */
 static size_t
-room_for(const State *state, const uint8 *image, size_t size)
+room_for(uint8 lg_max_k, const uint8 *image, size_t size)
 {
-	uint8		lg_k = Min(named_lg_k(image, size), hll_state_lg_k(state->bytes));
-	size_t		registers = HLL_STATE_NEW + ((size_t) 1 << lg_k);
+	uint8		lg_k = named_lg_k(image, size);
+	size_t		registers;
+
+	if (lg_max_k != 0)
+		lg_k = Min(lg_k, lg_max_k);
+	registers = HLL_STATE_NEW + ((size_t) 1 << lg_k);
 
 	if (hll_image_stage(image, size) == HLL_REGISTERS)
 		return size >= registers / 2 ? registers : 0;
@@ -53,9 +60,9 @@ room_for(const State *state, const uint8 *image, size_t size)
 
 /* Makes that room: a call that asks for more has read the image, which may be slow. */
 static void
-make_room_for(State *state, const uint8 *image, size_t size)
+make_room_for(State *state, uint8 lg_max_k, const uint8 *image, size_t size)
 {
-	size_t		room = room_for(state, image, size);
+	size_t		room = room_for(lg_max_k, image, size);
 
 	if (room > state->room)
 		resize(state, room);
@@ -69,13 +76,13 @@ trim(State *state)
 		resize(state, size_of_registers(state));
 }
 
-/* The state of an empty sketch. */
+/* The state of an empty sketch; with lg_k 0, of one that takes the lg_k of what is joined to it without a bound. */
 State
 new_state(MemoryContext context, uint8 lg_k)
 {
 	State		state = {MemoryContextAlloc(context, SMALL_STATE), SMALL_STATE};
 
-	check_status(hll_state_new(lg_k, state.bytes, state.room));
+	check_status(hll_state_new(lg_k == 0 ? 4 : lg_k, state.bytes, state.room));
 	return state;
 }
 
@@ -116,7 +123,7 @@ add_coupons(State *state, const uint32 *coupons, size_t n)
 	trim(state);
 }
 
-/* Joins an image, under this bound. Returns HLL_OK, HLL_MEMORY, or why the image is rejected. */
+/* Joins an image, under this bound, or without one (0). Returns HLL_OK, HLL_MEMORY, HLL_OTHER_LG_K, or why the image is rejected. */
 hll_status
 join_image(State *state, uint8 lg_max_k, const uint8 *image, size_t size)
 {
@@ -124,7 +131,7 @@ join_image(State *state, uint8 lg_max_k, const uint8 *image, size_t size)
 	size_t		room;
 
 	if (hll_state_size(state->bytes) == HLL_STATE_NEW)
-		make_room_for(state, image, size);
+		make_room_for(state, lg_max_k, image, size);
 	do
 		status = hll_state_join(lg_max_k, state->bytes, state->room, &room, image, size);
 	while (grow_state(state, status, room));
@@ -132,7 +139,8 @@ join_image(State *state, uint8 lg_max_k, const uint8 *image, size_t size)
 	return status;
 }
 
-void
+/* Joins another state likewise. Returns HLL_OK or HLL_OTHER_LG_K. */
+hll_status
 join_state(State *state, uint8 lg_max_k, State *other)
 {
 	hll_status	status;
@@ -141,8 +149,10 @@ join_state(State *state, uint8 lg_max_k, State *other)
 	do
 		status = hll_state_join_state(lg_max_k, state->bytes, state->room, &room, other->bytes, other->room);
 	while (grow_state(state, status, room));
-	check_status(status);
+	if (status != HLL_OTHER_LG_K)
+		check_status(status);
 	trim(state);
+	return status;
 }
 
 /* ---- what comes out */

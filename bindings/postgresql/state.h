@@ -22,7 +22,7 @@ extern State copied_state(MemoryContext context, const uint8 *bytes, size_t size
 extern void add_to_state(State *state, const uint8 *value, size_t size);
 extern void add_coupons(State *state, const uint32 *coupons, size_t n);
 extern hll_status join_image(State *state, uint8 lg_max_k, const uint8 *image, size_t size);
-extern void join_state(State *state, uint8 lg_max_k, State *other);
+extern hll_status join_state(State *state, uint8 lg_max_k, State *other);
 extern bytea *image_of_state(State *state, uint8 width);
 
 #endif

@@ -86,7 +86,7 @@ add_bytea(Group *group, bytea *value)
 	Datum \
 	hll_pg_add_##name##_trans(PG_FUNCTION_ARGS) \
 	{ \
-		Group	   *group = next_row(fcinfo, "lg_k"); \
+		Group	   *group = next_row(fcinfo, "lg_k", 12, 8); \
 	\
 		if (!PG_ARGISNULL(1)) \
 			add; \

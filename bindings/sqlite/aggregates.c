@@ -8,14 +8,23 @@
 
 /* ---- arguments */
 
+/* What stands for the arguments after the first. */
+typedef struct Options {
+    const char *lg_k_name;
+    uint8_t lg_k;
+    uint8_t width;
+} Options;
+
+static const Options of_values = {"lg_k", 12, 8}, of_images = {"lg_max_k", 0, 0};
+
 /* Whether the arguments after the first are right, and those of all rows before. */
-static bool options_in(sqlite3_context *context, int n, sqlite3_value **values, const char *lg_k_name, Group *group)
+static bool options_in(sqlite3_context *context, int n, sqlite3_value **values, const Options *options, Group *group)
 {
-    uint8_t lg_k = 12, width = 8;
+    uint8_t lg_k = options->lg_k, width = options->width;
 
     if (n == 1 && group->is_begun)  /* the common case */
         return true;
-    if (n > 1 && !lg_k_in(context, values[1], lg_k_name, &lg_k))
+    if (n > 1 && !lg_k_in(context, values[1], options->lg_k_name, &lg_k))
         return false;
     if (n > 2 && !width_in(context, values[2], &width))
         return false;
@@ -30,7 +39,7 @@ static bool options_in(sqlite3_context *context, int n, sqlite3_value **values, 
 }
 
 /* The group for the next row; NULL where an error was answered, now or before. */
-static Group *next_row(sqlite3_context *context, int n, sqlite3_value **values, const char *lg_k_name)
+static Group *next_row(sqlite3_context *context, int n, sqlite3_value **values, const Options *options)
 {
     Group *group = sqlite3_aggregate_context(context, sizeof *group);
 
@@ -40,7 +49,7 @@ static Group *next_row(sqlite3_context *context, int n, sqlite3_value **values, 
     }
     if (group->has_failed)
         return NULL;
-    group->has_failed = !options_in(context, n, values, lg_k_name, group);
+    group->has_failed = !options_in(context, n, values, options, group);
     group->rows++;
     return group->has_failed ? NULL : group;
 }
@@ -86,7 +95,7 @@ static bool hashed_in(sqlite3_context *context, sqlite3_value *value, int type, 
 
 static void step_images(sqlite3_context *context, int n, sqlite3_value **values)
 {
-    Group *group = next_row(context, n, values, "lg_max_k");
+    Group *group = next_row(context, n, values, &of_images);
     hll_bytes image;
     hll_status status;
 
@@ -97,13 +106,15 @@ static void step_images(sqlite3_context *context, int n, sqlite3_value **values)
         return;
     status = add_image(group, image);
     group->has_failed = status != HLL_OK;
-    if (group->has_failed)
+    if (status == HLL_OTHER_LG_K)
+        refuse_other_lg_k(context, "row", group->rows, hll_state_lg_k(group->state), named_lg_k(image), "hll_image_union_agg(image");
+    else if (group->has_failed)
         refuse_number(context, status, "row", group->rows);
 }
 
 static void step_values(sqlite3_context *context, int n, sqlite3_value **values)
 {
-    Group *group = next_row(context, n, values, "lg_k");
+    Group *group = next_row(context, n, values, &of_values);
     int type = sqlite3_value_type(values[0]);
     uint8_t eight[8];
     hll_bytes value;

@@ -119,6 +119,21 @@ void refuse_argument(sqlite3_context *context, const char *format, const char *n
     answer_error(context, sqlite3_mprintf(format, name, number));
 }
 
+void refuse_other_lg_k(sqlite3_context *context, const char *what, sqlite3_int64 number, int lg_k, int other, const char *call)
+{
+    int bound = lg_k < other ? lg_k : other;
+
+    answer_error(context, sqlite3_mprintf("sketches of lg_k %d and %d (%s %lld) can't be merged without a bound: %s, %d) merges "
+                                          "them at lg_k %d", lg_k, other, what, number, call, bound, bound));
+}
+
+uint8_t named_lg_k(hll_bytes image)
+{
+    uint8_t lg_k = hll_image_lg_k(image.bytes, image.len);
+
+    return lg_k == 0 ? 4 : lg_k;
+}
+
 /* ---- what is written */
 
 hll_status write_image(Writer *writer, void *given, size_t room, Output *out)

@@ -2,13 +2,12 @@
 /*
  * Functions of one image or two. Each is one call of the library.
  */
-#include "hll_sqlite.h"
+#include "group.h"
 
 #include <math.h>
 #include <stdio.h>
 #include <string.h>
 
-#define MAX(a, b) ((a) > (b) ? (a) : (b))
 #define MIN(a, b) ((a) < (b) ? (a) : (b))
 
 /* A function whose arguments are not NULL. */
@@ -123,52 +122,43 @@ static void set_estimator_fields(sqlite3_context *context, int n, sqlite3_value 
 
 /* ---- two images */
 
-/* The lg_k that the header names; where the bytes are no image, any that is in range: reading them refuses them. */
-static uint8_t named_lg_k(hll_bytes image)
-{
-    uint8_t lg_k = hll_image_lg_k(image.bytes, image.len);
-
-    return lg_k == 0 ? 4 : lg_k;
-}
-
-/* The width that the header names, likewise. */
-static uint8_t named_width(hll_bytes image)
-{
-    uint8_t width = hll_image_width(image.bytes, image.len);
-
-    return width == 0 ? 8 : width;
-}
-
 static bool two_images_in(sqlite3_context *context, sqlite3_value **values, Call *call)
 {
     return image_in(context, values[0], &call->image) && image_in(context, values[1], &call->other);
 }
 
-static hll_status write_merged(void *given, Output *out)
+/* Joins both images to a new state; failed is the number of the one that is rejected, from 0. */
+static hll_status join_both(Group *state, Call *call)
 {
-    Call *call = given;
+    hll_status status = add_image(state, call->image);
 
-    return hll_image_merge(call->lg_k, call->width, IMAGE(call->image), IMAGE(call->other), OUTPUT(out), &call->failed);
+    call->failed = 0;
+    if (status != HLL_OK)
+        return status;
+    call->failed = 1;
+    return add_image(state, call->other);
 }
 
-/* The union, with the greater width of both, and the greater lg_k or the one that is given. */
+/* The union, at the lg_k that both have, or under the bound that is given. */
 static void merge(sqlite3_context *context, int n, sqlite3_value **values)
 {
-    Call call = {.failed = 0};
+    Call call;
+    Group state = {.lg_k = 0};
     Output out;
     hll_status status;
 
-    if (!two_images_in(context, values, &call))
+    if (!two_images_in(context, values, &call) || (n > 2 && !lg_k_in(context, values[2], "lg_max_k", &state.lg_k)))
         return;
-    call.lg_k = MAX(named_lg_k(call.image), named_lg_k(call.other));
-    call.width = MAX(named_width(call.image), named_width(call.other));
-    if (n > 2 && !lg_k_in(context, values[2], "lg_max_k", &call.lg_k))
-        return;
-    status = write_image(write_merged, &call, MIN(call.image.len + call.other.len, (size_t)1 << call.lg_k) + 64, &out);
-    if (status == HLL_OK)
+    status = join_both(&state, &call);
+    if (status == HLL_OTHER_LG_K)
+        refuse_other_lg_k(context, "argument", 2, hll_state_lg_k(state.state), named_lg_k(call.other), "hll_merge(a, b");
+    else if (status != HLL_OK)
+        refuse_number(context, status, "argument", (sqlite3_int64)call.failed + 1);
+    else if ((status = write_group(&state, &out)) == HLL_OK)
         answer_image(context, &out);
     else
-        refuse_number(context, status, "argument", (sqlite3_int64)call.failed + 1);
+        refuse(context, status, "");
+    free_group(&state);
 }
 
 static void agree(sqlite3_context *context, int n, sqlite3_value **values)

@@ -8,10 +8,10 @@
 
 /* ---- memory */
 
-/* The bytes of a state that has registers, at the lg_k of the group. */
+/* The bytes of a state that has registers. */
 static size_t registers_size(const Group *group)
 {
-    return HLL_STATE_NEW + ((size_t)1 << group->lg_k);
+    return HLL_STATE_NEW + ((size_t)1 << hll_state_lg_k(group->state));
 }
 
 /* Gives the state so many bytes, and may move it. Where that fails, it stays as it is. */
@@ -26,11 +26,12 @@ static hll_status resize(Group *group, size_t room)
     return HLL_OK;
 }
 
+/* Makes the state: without an lg_k, one that takes that of what is joined to it. */
 static hll_status begin(Group *group)
 {
     hll_status status = resize(group, FIRST_ROOM);
 
-    return status == HLL_OK ? hll_state_new(group->lg_k, group->state, group->room) : status;
+    return status == HLL_OK ? hll_state_new(group->lg_k == 0 ? 4 : group->lg_k, group->state, group->room) : status;
 }
 
 /* Whether a state has registers, and room that only its coupons needed. */
@@ -85,7 +86,9 @@ static hll_status write_state(void *given, Output *out)
 {
     const Group *group = given;
 
-    return hll_state_image(group->state, group->room, group->width, OUTPUT(out));
+    uint8_t width = group->width == 0 ? hll_state_width(group->state) : group->width;
+
+    return hll_state_image(group->state, group->room, width, OUTPUT(out));
 }
 
 hll_status write_group(Group *group, Output *out)

@@ -11,14 +11,14 @@
 typedef struct Group {
     bool is_begun;
     bool has_failed;
-    uint8_t lg_k;           /* as the arguments say: of values the lg_k, of images the greatest */
-    uint8_t width;
+    uint8_t lg_k;           /* of a sketch of values; of a union the bound, or 0 where there is none */
+    uint8_t width;          /* of the answer; 0 for that of the images, or 8 where they differ */
     sqlite3_int64 rows;     /* how many came, those with NULL among them */
     uint8_t *state;         /* NULL until a value or an image comes */
     size_t room;            /* of the state, in bytes */
 } Group;
 
-/* Adds what a row brings: HLL_OK, HLL_MEMORY, or why the image is rejected. */
+/* Adds what a row brings: HLL_OK, HLL_MEMORY, HLL_OTHER_LG_K, or why the image is rejected. */
 typedef hll_status Add(Group *group, hll_bytes bytes);
 
 Add add_value;

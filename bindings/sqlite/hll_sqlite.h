@@ -30,6 +30,13 @@ void refuse(sqlite3_context *context, hll_status status, const char *place);
 void refuse_number(sqlite3_context *context, hll_status status, const char *what, sqlite3_int64 number);
 void refuse_argument(sqlite3_context *context, const char *format, const char *name, sqlite3_int64 number);
 
+/* The error of sketches of different lg_k that are merged without a bound: the second is that of this argument or row; `call`
+ * is the start of a call that merges them. */
+void refuse_other_lg_k(sqlite3_context *context, const char *what, sqlite3_int64 number, int lg_k, int other, const char *call);
+
+/* The lg_k that the header of an image names; where the bytes are no image, any that is in range: reading them refuses them. */
+uint8_t named_lg_k(hll_bytes image);
+
 /* ---- what is written */
 
 /* An image, or the room for one; memory of SQLite's. */

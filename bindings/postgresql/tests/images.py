@@ -47,6 +47,30 @@ def image_of_union(images, bound, width):
     return with_words(written(union([sketch_of(image) for image in images], bound, width)))
 
 
+def is_empty(image):
+    """Whether an image has no coupon and no register above 0."""
+    content = sketch_of(image).content
+    return not any(content.values) if image[7] & 3 == 2 else not content.members
+
+
+def width_of(image):
+    return 4 + 2 * (image[7] >> 2 & 3)
+
+
+def merged(images, bound=None):
+    """What SQL makes of images, by the plain model; None where their lg_k differ and there is no bound.
+
+    Empty images count for nothing; where all are empty the greatest lg_k is taken. The width is theirs, or 8 where they differ.
+    """
+    full = [image for image in images if not is_empty(image)]
+    sizes, widths = {image[3] for image in full}, {width_of(image) for image in full}
+    if bound is None and len(sizes) > 1:
+        return None
+    if bound is None:
+        bound = max(sizes or [image[3] for image in images])
+    return image_of_union(images, bound, widths.pop() if len(widths) == 1 else 8)
+
+
 def image_of_coupons(lg_k, width, coupons):
     """The image of coupons, in the stage that so many have."""
     return with_words(written(Sketch(lg_k, width, content_of(lg_k, frozenset(coupons), LIST_SIZE))))

@@ -4,7 +4,7 @@ read and write an image each time."""
 import random
 import threading
 
-from images import image_of_union, other_image, random_image
+from images import merged, other_image, random_image
 from report import CANCELLED, IMAGE, MEMORY, QUICK, SEED, all_bytes_of, check, equal, literal, load, refused
 from server import Session
 from unions import PLAN, launched, settings
@@ -66,12 +66,14 @@ CREATE AGGREGATE merged_flat(bytea, int) (SFUNC = hll_merge, STYPE = bytea);
 
 
 def random_sequences(numbers):
-    """Numbers of a group, and images by each writer; some groups are of one lg_k or of few coupons."""
+    """Numbers of a group, and images by each writer: in even groups of one lg_k, with that as a bound now and then; in odd groups
+    of any, each with a bound."""
     for group in range(SEQUENCES):
-        lg_k = numbers.choice([None, None, 4, 8, 10])
+        sizes = [numbers.choice([4, 5, 7, 8, 9, 10])] if group % 2 == 0 else [4, 5, 7, 8, 9, 10]
+        bounds = [0, 0, 0, *sizes] if group % 2 == 0 else [4, 8, 9, 12]
         for step in range(numbers.randint(1, 9)):
-            image = numbers.choice([random_image, other_image])(numbers, lg_k or numbers.choice([4, 5, 7, 8, 9, 10]))
-            yield group, step, numbers.choice([0, 0, 0, 4, 8, 9, 12]), image
+            image = numbers.choice([random_image, other_image])(numbers, numbers.choice(sizes))
+            yield group, step, numbers.choice(bounds), image
 
 
 def merging(server):
@@ -85,7 +87,7 @@ def merging(server):
     for name, question in (
             ("a loop", "kept(images, bounds)::bytea = flat(images, bounds)"),
             ("a loop that looks at what it has", "kept(images, bounds, %s)::bytea = flat(images, bounds)" % looks),
-            ("without bounds", "kept(images, array_fill(0, ARRAY[9]))::bytea = flat(images, array_fill(0, ARRAY[9]))"),
+            ("without bounds", "g % 2 = 1 OR kept(images, array_fill(0, ARRAY[9]))::bytea = flat(images, array_fill(0, ARRAY[9]))"),
             ("halves", "kept_in_halves(images, bounds)::bytea = flat_in_halves(images, bounds)"),
             ("its estimate", "# kept(images, bounds) = hll_estimate(flat(images, bounds))"),
             ("its hash", "hyperloglog_hash(kept(images, bounds)) = hyperloglog_hash(flat(images, bounds)::hyperloglog)")):
@@ -100,14 +102,11 @@ def beside_model(server, steps):
     """The loops beside the plain model, which shares no code with the library."""
     found = all_bytes_of(server.ask("SELECT kept(images, bounds) FROM sequences WHERE g < 300 ORDER BY g"))
     for group, answer in enumerate(found):
-        merged = None
+        wanted = None
         for _, step, bound, image in (one for one in steps if one[0] == group):
-            if step > 0:
-                sides = [merged, image] if step % 2 else [image, merged]
-                width = max(4 + 2 * (side[7] >> 2 & 3) for side in sides)
-                image = image_of_union(sides, bound or max(side[3] for side in sides), width)
-            merged = image
-        equal("merging beside the plain model", answer, merged)
+            sides = [wanted, image] if step % 2 else [image, wanted]
+            wanted = image if step == 0 else merged(sides, bound or None)
+        equal("merging beside the plain model", answer, wanted)
 
 
 def expressions(server):
@@ -116,16 +115,16 @@ def expressions(server):
     flat = [pick % n for n in range(4)]
     kept = [one + "::hyperloglog" for one in flat]
     for shape in ("M(M(M(%s, %s), %s), %s)", "M(%s, M(%s, M(%s, %s)))", "M(M(%s, %s), M(%s, %s))", "M(M(%s, M(%s, %s)), %s)"):
-        found = server.ask("SELECT count(*) FILTER (WHERE (%s)::bytea IS DISTINCT FROM %s) FROM sequences" % (
+        found = server.ask("SELECT count(*) FILTER (WHERE (%s)::bytea IS DISTINCT FROM %s) FROM sequences WHERE g %% 2 = 0" % (
             shape.replace("M", "hll_merge") % tuple(kept), shape.replace("M", "hll_merge") % tuple(flat)))
         equal("merging by " + shape, found, "0")
     twice = "SELECT count(*) FILTER (WHERE (m || m)::bytea IS DISTINCT FROM hll_merge(m::bytea, m::bytea) OR (m || o)::bytea IS DISTINCT FROM " \
-        "hll_merge(m::bytea, o::bytea)) FROM (SELECT %s || %s || %s m, %s o FROM sequences OFFSET 0) x" % tuple(kept)
+        "hll_merge(m::bytea, o::bytea)) FROM (SELECT %s || %s || %s m, %s o FROM sequences WHERE g %% 2 = 0 OFFSET 0) x" % tuple(kept)
     equal("a merge that is used twice", server.ask(twice), "0")
     stays = "SELECT count(*) FILTER (WHERE (m || o)::bytea IS DISTINCT FROM hll_merge(f, o::bytea) OR m::bytea IS DISTINCT FROM f OR (o || m)::bytea " \
-        "IS DISTINCT FROM hll_merge(o::bytea, f)) FROM (SELECT %s || %s || %s m, hll_merge(hll_merge(%s, %s), %s) f, %s o FROM sequences OFFSET 0) x"
+        "IS DISTINCT FROM hll_merge(o::bytea, f)) FROM (SELECT %s || %s || %s m, hll_merge(hll_merge(%s, %s), %s) f, %s o FROM sequences WHERE g %% 2 = 0 OFFSET 0) x"
     equal("a value from which others are merged stays", server.ask(stays % (*kept[:3], *flat[:3], kept[3])), "0")
-    server.ask("CREATE TABLE stored AS SELECT g, %s || %s || %s AS sketch, hll_merge(hll_merge(%s, %s), %s) AS image FROM sequences" % (
+    server.ask("CREATE TABLE stored AS SELECT g, %s || %s || %s AS sketch, hll_merge(hll_merge(%s, %s), %s) AS image FROM sequences WHERE g %% 2 = 0" % (
         *kept[:3], *flat[:3]))
     equal("a merge that is stored", server.ask("SELECT count(*) FILTER (WHERE sketch::bytea <> image) FROM stored"), "0")
 
@@ -133,23 +132,23 @@ def expressions(server):
 def aggregates(server):
     """Aggregates of hll_merge: of groups by hash and by sort, in workers, in windows, and with a bound."""
     query = "SELECT count(*), count(*) FILTER (WHERE k::bytea IS DISTINCT FROM f) FROM (SELECT %s FROM typed_steps %s) x"
-    wanted = "%d|0" % SEQUENCES
+    wanted = "%d|0" % (SEQUENCES // 2)
     for is_hash in (True, False):
-        found = server.ask(settings(0, is_hash) + query % ("g, merged(sketch ORDER BY n) k, merged_flat(image ORDER BY n) f", "GROUP BY g"))
+        found = server.ask(settings(0, is_hash) + query % ("g, merged(sketch ORDER BY n) k, merged_flat(image ORDER BY n) f", "WHERE g % 2 = 0 GROUP BY g"))
         equal("aggregates of hll_merge, by %s" % ("hash" if is_hash else "sort"), found, wanted)
     found = server.ask(query % ("merged(sketch, bound ORDER BY n) k, merged_flat(image, bound ORDER BY n) f", "WHERE bound > 0 GROUP BY g"))
     equal("aggregates with bounds", found.split("|")[1], "0")
-    found = server.ask("SELECT hll_agree(merged(sketch), hyperloglog_union_agg(sketch, 21)) FROM typed_steps")
+    found = server.ask("SELECT hll_agree(merged(sketch, 21), hyperloglog_union_agg(sketch, 21)) FROM typed_steps")
     equal("an aggregate of all", found, "t")
     windows = "merged(sketch) OVER w k, merged_flat(image) OVER w f"
     for frame in ("", "ROWS 3 PRECEDING", "ROWS BETWEEN 1 FOLLOWING AND 2 FOLLOWING"):
-        found = server.ask(query % (windows, "WINDOW w AS (PARTITION BY g ORDER BY n %s)" % frame))
+        found = server.ask(query % (windows, "WHERE g %% 2 = 0 WINDOW w AS (PARTITION BY g ORDER BY n %s)" % frame))
         equal("windows %s" % frame, found.split("|")[1], "0")
     found = server.ask("SELECT count(*) FILTER (WHERE (k || sketch)::bytea <> hll_merge(f, image)) FROM (SELECT sketch, image, %s "
-                       "FROM typed_steps WINDOW w AS (PARTITION BY g ORDER BY n)) x" % windows)
+                       "FROM typed_steps WHERE g %% 2 = 0 WINDOW w AS (PARTITION BY g ORDER BY n)) x" % windows)
     equal("what windows give is merged on", found, "0")
     server.ask("ALTER TABLE typed_steps SET (parallel_workers = 3); ANALYZE typed_steps")
-    whole = "SELECT md5(hll_fold(merged(sketch), 4)::bytea) FROM typed_steps WHERE n > 0"
+    whole = "SELECT md5(hll_fold(merged(sketch), 4)::bytea) FROM typed_steps WHERE (hll_info(sketch)).lg_k = 9"
     check("workers for hll_merge", launched(server.ask(settings(3) + PLAN + whole)) == 3)
     equal("hll_merge in workers", server.ask(settings(3) + whole), server.ask(settings(0) + whole))
 
@@ -205,7 +204,7 @@ def merging_fails(server):
     """A refused argument names its place, and leaves a variable as it was."""
     good = literal(random_image(random.Random(SEED), 9))
     for place, call in ((2, "h || %s"), (1, "%s || h")):
-        said = server.run("SELECT %s FROM (SELECT hyperloglog_agg(n, 9) || hyperloglog_agg(-n, 9) || hyperloglog_agg(n, 10) h "
+        said = server.run("SELECT %s FROM (SELECT hyperloglog_agg(n, 9) || hyperloglog_agg(-n, 9) || hyperloglog_agg(2 * n, 9) h "
                           "FROM generate_series(1, 5000) n) x;" % (call % "'\\x0201070a'::bytea"))
         refused("a bad side, %d" % place, said, IMAGE, "invalid HLL image in argument %d: truncated\n" % place)
     found = server.run("""DO $$

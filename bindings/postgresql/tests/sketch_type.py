@@ -3,8 +3,8 @@
 import random
 import time
 
-from images import image_of, image_of_coupons, other_image, random_coupons, random_image
-from report import ARGUMENT, CHECKED, DATA, IMAGE, NULL, SEED, UNDEFINED, all_bytes_of, bytes_of, check, equal, literal, load, refused, union_of
+from images import image_of, image_of_coupons, merged, other_image, random_coupons, random_image
+from report import ARGUMENT, CHECKED, DATA, IMAGE, NULL, SEED, UNDEFINED, all_bytes_of, bytes_of, check, equal, literal, load, refused
 from long_searches import stride_coupons, unsorted_set
 
 EMPTY = "\\x0201070c030c0008"
@@ -180,7 +180,7 @@ def operators(server):
     load(server, "few_typed", [(n, images[n % 40]) for n in range(400)])
     pairs = server.ask("SELECT a.sketch || b.sketch FROM few_typed a JOIN few_typed b ON b.n = a.n + 1 WHERE a.n < 39 ORDER BY a.n")
     for a, b, union in zip(images, images[1:], all_bytes_of(pairs)):
-        equal("||", union, union_of([a, b], 10, max(4 + 2 * (a[7] >> 2 & 3), 4 + 2 * (b[7] >> 2 & 3))))
+        equal("||", union, merged([a, b]))
     for question, wanted in (
             ("bool_and(# sketch = hll_estimate(sketch::bytea)) FROM few_typed", "t"),
             ("count(DISTINCT sketch), count(*) FILTER (WHERE sketch = (SELECT sketch FROM few_typed WHERE n = 3)) FROM few_typed", "40|10"),
@@ -252,7 +252,8 @@ def typed_aggregates(server):
     """Those of the type are those of bytea, for images of each writer."""
     numbers = random.Random(SEED + 2)
     server.ask("CREATE TABLE groups_typed (g int, image bytea, sketch hyperloglog)")
-    load(server, "groups_typed (g, image)", [(numbers.randrange(400), numbers.choice([random_image, other_image])(numbers)) for _ in range(4000)])
+    groups = [numbers.randrange(400) for _ in range(4000)]
+    load(server, "groups_typed (g, image)", [(g, numbers.choice([random_image, other_image])(numbers, 8 + g % 5)) for g in groups])
     server.ask("UPDATE groups_typed SET sketch = image")
     for options in ("", ", 10", ", 9, 4", ", 21, 6"):
         found = server.ask("""SELECT count(*), bool_and(t::bytea = b), min(pg_typeof(t)::text), bool_and(t::bytea = i) FROM (

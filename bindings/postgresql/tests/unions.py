@@ -261,8 +261,8 @@ def large(server):
         found = server.ask("SELECT hll_image_union_agg(image, 21, %d) FROM large" % width)
         equal("union at lg_k 21, width %d" % width, bytes_of(found), union_of(images, 21, width))
     values = "generate_series(0, 800000) x"
-    found = server.ask("""SELECT hll_fold(hll_image_union_agg(image, 21), 12) = hll_image_union_agg(image),
-        hll_image_union_agg(image) = (SELECT hll_image_add_agg(x) FROM %s) FROM large""" % values)
-    equal("lg_k 21 and 12", found, "t|t")
+    found = server.ask("""SELECT hll_image_union_agg(image, 21) = hll_image_union_agg(image), hll_fold(hll_image_union_agg(image, 21), 12) =
+        hll_image_union_agg(image, 12), hll_image_union_agg(image, 12) = (SELECT hll_image_add_agg(x) FROM %s) FROM large""" % values)
+    equal("lg_k 21 and 12", found, "t|t|t")
     query = "SELECT md5(hll_image_union_agg(image, 21)) = (SELECT md5(hll_image_add_agg(x, 21)) FROM %s) FROM large" % values
     equal("lg_k 21 at 3 workers", server.ask(settings(3) + query), "t")

@@ -6,7 +6,7 @@ import struct
 from base import ask, db, plain, refused, table_of
 from calls import GOOD, bad_images
 from hll_sketches import Sketch, union_of
-from images import image_of, image_of_coupons, image_of_values, random_coupons, random_image
+from images import image_of, image_of_coupons, image_of_values, is_empty, merged, random_coupons, random_image
 from report import SEED, check, equal
 
 NUMBERS = random.Random(SEED + 1)
@@ -38,8 +38,6 @@ def unions():
                 if all(image[7] & 3 != 2 for image in images) and lg_k == 12 and pool is SMALL:
                     equal("bytes of a union", plain(found[number]), plain(wanted))
         equal("short name", ask("SELECT hll_union_agg(image, 10, 6) FROM g"), ask("SELECT hll_image_union_agg(image, 10, 6) FROM g"))
-    with_options = ask("SELECT hll_image_union_agg(image) = hll_image_union_agg(image, 12, 8) FROM g")
-    equal("12 and 8 by themselves", with_options, 1)
 
 
 def registers_of(image):
@@ -100,16 +98,62 @@ def growth():
 
 
 def lg_k():
-    """Registers of a smaller lg_k lower a union, whenever they come; coupons, and registers that are all 0, don't."""
+    """Under a bound registers of a smaller lg_k lower a union, whenever they come; coupons, and registers that are all 0, don't."""
     coarse, coarser = image_of(8, 8, bytes([3] * 256)), image_of(6, 4, bytes([2] * 63 + [40]))
     empty = image_of(5, 8, bytes(32))
     few = image_of_coupons(12, 8, random_coupons(NUMBERS, 5))
     many = image_of_coupons(12, 8, random_coupons(NUMBERS, 5000))
     for images in ([few, coarse], [coarse, few], [many, coarse], [coarse, many, coarser], [coarser, coarse], [few, many],
                    [empty], [empty, few], [few, empty], [empty, many, empty], [many, empty, coarser, few]):
-        found, wanted = ask("SELECT hll_image_union_agg(x) FROM " + table_of(images)), union_of(images, 12)
-        equal("union of lg_k %s" % [image[3] for image in images], registers_of(found), registers_of(wanted.to_bytes()))
-        equal("its stage", found[7], wanted.to_bytes()[7])
+        found, wanted = ask("SELECT hll_image_union_agg(x, 12) FROM " + table_of(images)), merged(images, 12)
+        equal("union of lg_k %s" % [image[3] for image in images], plain(found), plain(wanted))
+
+
+OTHERS = "sketches of lg_k %d and %d (%s %d) can't be merged without a bound: %s, %d) merges them at lg_k %d"
+
+
+def sizes():
+    """Without a bound: sketches of one lg_k give the bytes of the plain model in any tree of merges, and of several are refused."""
+    full = {lg_k: [random_image(NUMBERS, lg_k) for _ in range(12)] for lg_k in (4, 7, 9, 10, 12, 13, 14)}
+    empty = [image_of_coupons(lg_k, width, []) for lg_k in full for width in (4, 6, 8)]
+    for number in range(400):
+        images = empty if number % 8 == 0 else full[NUMBERS.choice(list(full))]
+        images = [image for image in images if number % 2 or image[7] & 12 == images[0][7] & 12]
+        group = [NUMBERS.choice(empty) if NUMBERS.random() < 0.2 else image for image in NUMBERS.choices(images, k=NUMBERS.randint(2, 9))]
+        wanted = merged(group)
+        for _ in range(4):
+            equal("a tree of merges", tree(NUMBERS.sample(group, len(group))), wanted)
+        equal("a union", ask("SELECT hll_image_union_agg(x) FROM " + table_of([None, *group])), wanted)
+    different_sizes(full, empty)
+
+
+def tree(images):
+    """The union of images by hll_merge, split anywhere, and of some by the aggregate."""
+    if len(images) == 1:
+        return images[0]
+    if NUMBERS.random() < 0.2:
+        return ask("SELECT hll_union_agg(x) FROM " + table_of(images))
+    front = NUMBERS.randrange(1, len(images))
+    return ask("SELECT hll_merge(?, ?)", tree(images[:front]), tree(images[front:]))
+
+
+def different_sizes(full, empty):
+    for number in range(100):
+        small, large = NUMBERS.sample(list(full), 2)
+        a, b = [NUMBERS.choice([image for image in full[lg_k] if not is_empty(image)]) for lg_k in (small, large)]
+        least = min(small, large)
+        rows = [None, NUMBERS.choice(empty), a, a, None, b, a]
+        refused("a union of different lg_k", OTHERS % (small, large, "row", 6, "hll_image_union_agg(image", least, least),
+                "SELECT hll_image_union_agg(x) FROM " + table_of(rows))
+        refused("a merge of different lg_k", OTHERS % (small, large, "argument", 2, "hll_merge(a, b", least, least),
+                "SELECT hll_merge(?, ?)", a, b)
+        for bound in (least, 12, 21):
+            found = ask("SELECT hll_image_union_agg(x, ?) FROM " + table_of(rows), bound)
+            equal("under the bound %d" % bound, found, merged([a, b], bound))
+            equal("a merge under the bound %d" % bound, ask("SELECT hll_merge(?, ?, ?)", a, b, bound), found)
+    for lg_k in range(4, 22):
+        found = ask("SELECT hll_union_agg(x) FROM (SELECT hll_add_agg(value, ?) AS x FROM json_each('[1, 2, 3, 4, 5]') GROUP BY value % 2)", lg_k)
+        equal("lg_k %d stays" % lg_k, found[3], lg_k)
 
 
 def large():
@@ -118,7 +162,7 @@ def large():
     found, wanted = ask("SELECT hll_image_union_agg(x, 21) FROM " + table_of(sets)), union_of(sets, 21)
     equal("union of large sets", found, wanted.to_bytes())
     longer = [image + bytes(NUMBERS.randrange(10**5)) for image in sets + SMALL[:50]]
-    found, wanted = ask("SELECT hll_image_union_agg(x, 14) FROM " + table_of(longer)), union_of(sets + SMALL[:50], 14)
+    found, wanted = ask("SELECT hll_image_union_agg(x, 14, 8) FROM " + table_of(longer)), union_of(sets + SMALL[:50], 14)
     equal("union of images with bytes after them", registers_of(found), registers_of(wanted.to_bytes()))
     words = ["value %d" % number for number in range(40000)]
     found = ask("SELECT hll_image_add_agg(x, 21, 6) FROM " + table_of(words))

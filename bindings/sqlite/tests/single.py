@@ -9,7 +9,7 @@ import struct
 from base import ask, plain, refused
 from calls import GOOD, bad_images, expression_of, rows_of_calls
 from hll_sketches import Sketch, union_of
-from images import image_of, image_of_coupons, random_image, sketch_of
+from images import image_of, image_of_coupons, merged, random_image, sketch_of, width_of
 from report import REASONS, SEED, check, equal
 
 NUMBERS = random.Random(SEED)
@@ -60,10 +60,12 @@ def functions():
         for lg_k in (4, max(4, image[3] - 1), image[3]):
             equal("hll_fold", ask("SELECT hll_fold(?, ?)", image, lg_k), sketch.fold(lg_k).to_bytes())
         equal("hll_set_estimator_fields", ask("SELECT hll_set_estimator_fields(?)", image), sketch.with_estimator_fields().to_bytes())
-        width = max(sketch.width, beside.width)
-        for bound, found in ((max(image[3], other[3]), ask("SELECT hll_merge(?, ?)", image, other)),
-                             (9, ask("SELECT hll_merge(?, ?, 9)", image, other))):
-            equal("hll_merge", plain(found), plain(union_of([image, other], bound, width).to_bytes()))
+        wanted = merged([image, other])
+        if wanted is not None:
+            equal("hll_merge", ask("SELECT hll_merge(?, ?)", image, other), wanted)
+        wanted = merged([image, other], 9)
+        equal("hll_merge under 9", ask("SELECT hll_merge(?, ?, 9)", image, other), wanted)
+        equal("hll_merge under 9 in Python", plain(wanted), plain(union_of([image, other], 9, width_of(wanted)).to_bytes()))
         equal("hll_agree", ask("SELECT hll_agree(?, ?)", image, other), int(sketch.agrees_with(beside)))
         equal("hll_agree with its fold", ask("SELECT hll_agree(?1, hll_fold(?1, 4))", image), 1)
         equal("hll_check", ask("SELECT hll_check(?)", image), None)

@@ -23,7 +23,7 @@ from hll_sketches import PrecisionWarning  # noqa: E402
 from report import check, counts  # noqa: E402
 
 PARTS = [shell.build, single.worked_rows, single.functions, single.estimates, single.arguments, single.reasons, values.types,
-         values.many, values.encodings, groups.unions, groups.words, groups.added, groups.growth, groups.lg_k, groups.large,
+         values.many, values.encodings, groups.unions, groups.words, groups.added, groups.growth, groups.lg_k, groups.sizes, groups.large,
          groups.nulls, groups.options, groups.rows, groups.windows, attack.mutants, attack.interrupts, attack.schemas,
          memory.limits, memory.refusals, shell.old_processor, shell.readme, shell.checked, shell.installed]
 
