@@ -50,14 +50,14 @@ context_of_states(MemoryContext parent)
 /* ---- rows */
 
 /* An argument of the aggregate that is the same for all rows. */
-static int32
+static int64
 option(FunctionCallInfo fcinfo, int number, const char *name)
 {
 	if (PG_ARGISNULL(number))
 		ereport(ERROR,
 				(errcode(ERRCODE_NULL_VALUE_NOT_ALLOWED),
 				 errmsg("%s must not be null", name)));
-	return PG_GETARG_INT32(number);
+	return PG_GETARG_INT64(number);
 }
 
 static void
@@ -110,22 +110,45 @@ refuse_other_lg_k(FunctionCallInfo fcinfo, uint8 lg_k, uint8 other, int64 row)
 			 errhint("Give the bound: %s(sketch, %d) merges them at lg_k %d.", name, Min(lg_k, other), Min(lg_k, other))));
 }
 
+/* Joins the image of a row to its group. */
+static void
+join_row(FunctionCallInfo fcinfo, Group *group, bytea *image)
+{
+	State	   *state = state_of(group);
+	hll_status	status = join_image(state, group->lg_k, IMAGE(image));
+
+	if (status == HLL_OTHER_LG_K)
+		refuse_other_lg_k(fcinfo, hll_state_lg_k(state->bytes), named_lg_k(IMAGE(image)), group->rows);
+	check_row_status(status, group->rows);
+}
+
 PG_FUNCTION_INFO_V1(hll_pg_union_trans);
 
+/* The step of unions of the type, whose values are single images. */
 Datum
 hll_pg_union_trans(PG_FUNCTION_ARGS)
 {
 	Group	   *group = next_row(fcinfo, "lg_max_k", 0, 0);
 
 	if (!PG_ARGISNULL(1))
+		join_row(fcinfo, group, PG_GETARG_BYTEA_PP(1));
+	PG_RETURN_POINTER(group);
+}
+
+PG_FUNCTION_INFO_V1(hll_pg_union_bytea_trans);
+
+/* The step of unions of bytea, which may be anything. */
+Datum
+hll_pg_union_bytea_trans(PG_FUNCTION_ARGS)
+{
+	Group	   *group = next_row(fcinfo, "lg_max_k", 0, 0);
+
+	if (!PG_ARGISNULL(1))
 	{
 		bytea	   *image = PG_GETARG_BYTEA_PP(1);
-		State	   *state = state_of(group);
-		hll_status	status = join_image(state, group->lg_k, IMAGE(image));
 
-		if (status == HLL_OTHER_LG_K)
-			refuse_other_lg_k(fcinfo, hll_state_lg_k(state->bytes), named_lg_k(IMAGE(image)), group->rows);
-		check_row_status(status, group->rows);
+		check_whole(IMAGE(image), "row", group->rows);
+		join_row(fcinfo, group, image);
 	}
 	PG_RETURN_POINTER(group);
 }

@@ -80,6 +80,36 @@ header_of(Datum value)
 	return header;
 }
 
+/* A value of a state: an object where it has registers, since a call may follow that needs them, and else an image. */
+static Datum
+value_of_state(MemoryContext parent, State *state)
+{
+	if (hll_state_stage(state->bytes) != HLL_REGISTERS)
+		return PointerGetDatum(image_of_state(state, hll_state_width(state->bytes)));
+	return EOHPGetRWDatum(&object_of_state(parent, state)->header);
+}
+
+/* The object of a value that may be changed: the value itself, where the caller gave it away, or a copy. */
+static ExpandedSketch *
+own_object(MemoryContext parent, Datum value)
+{
+	ExpandedSketch *object = expanded_of(value);
+
+	if (VARATT_IS_EXTERNAL_EXPANDED_RW(DatumGetPointer(value)))
+		return object;
+	return object_of_state(parent, &object->state);
+}
+
+/* The value of an object whose state has changed. */
+static Datum
+changed_object(ExpandedSketch *object)
+{
+	if (object->image != NULL)
+		pfree(object->image);
+	object->image = NULL;
+	return EOHPGetRWDatum(&object->header);
+}
+
 /* ---- merges */
 
 static void
@@ -108,6 +138,7 @@ join_argument(State *state, uint8 lg_max_k, Datum value, size_t number)
 	{
 		bytea	   *image = DatumGetByteaPP(value);
 
+		check_whole(IMAGE(image), "argument", (int64) number + 1);
 		lg_k = named_lg_k(IMAGE(image));
 		status = join_image(state, lg_max_k, IMAGE(image));
 	}
@@ -120,7 +151,7 @@ join_argument(State *state, uint8 lg_max_k, Datum value, size_t number)
 static uint8
 bound_in(FunctionCallInfo fcinfo)
 {
-	return PG_NARGS() > 2 ? checked_lg_k("lg_max_k", PG_GETARG_INT32(2)) : 0;
+	return PG_NARGS() > 2 ? checked_lg_k("lg_max_k", PG_GETARG_INT64(2)) : 0;
 }
 
 /* A state of the union of both arguments, in the current context. */
@@ -145,35 +176,6 @@ hll_pg_merge(PG_FUNCTION_ARGS)
 	PG_RETURN_BYTEA_P(image_of_state(&state, hll_state_width(state.bytes)));
 }
 
-/* The value of a state: an object where it has registers, since a merge may follow that needs them, and else an image. */
-static Datum
-value_of_state(MemoryContext parent, State *state)
-{
-	if (hll_state_stage(state->bytes) != HLL_REGISTERS)
-		return PointerGetDatum(image_of_state(state, hll_state_width(state->bytes)));
-	return EOHPGetRWDatum(&object_of_state(parent, state)->header);
-}
-
-/* The object of a left side, into which another can be merged: that side itself, where the caller gave it away, or a copy. */
-static ExpandedSketch *
-own_object(MemoryContext parent, Datum left, Datum right)
-{
-	ExpandedSketch *object = expanded_of(left);
-
-	if (!VARATT_IS_EXTERNAL_EXPANDED_RW(DatumGetPointer(left)) || object == expanded_of(right))
-		return object_of_state(parent, &object->state);
-	return object;
-}
-
-/* Notes that the state of an object has changed. */
-static void
-forget_image(ExpandedSketch *object)
-{
-	if (object->image != NULL)
-		pfree(object->image);
-	object->image = NULL;
-}
-
 PG_FUNCTION_INFO_V1(hll_pg_merge_sketches);
 
 /* As hll_pg_merge, of the type. In an aggregate the object lives as long as the state. */
@@ -189,13 +191,49 @@ hll_pg_merge_sketches(PG_FUNCTION_ARGS)
 	CHECK_FOR_INTERRUPTS();
 	if (!AggCheckCallContext(fcinfo, &parent))
 		parent = CurrentMemoryContext;
-	if (object == NULL || (lg_max_k != 0 && lg_max_k < hll_state_lg_k(object->state.bytes)))
+	if (object == NULL || (lg_max_k != 0 && lg_max_k < hll_state_lg_k(object->state.bytes)) || object == expanded_of(PG_GETARG_DATUM(1)))
 	{
 		state = merged_state(fcinfo, lg_max_k);
 		return value_of_state(parent, &state);
 	}
-	object = own_object(parent, left, PG_GETARG_DATUM(1));
+	object = own_object(parent, left);
 	join_argument(&object->state, lg_max_k, PG_GETARG_DATUM(1), 1);
-	forget_image(object);
-	return EOHPGetRWDatum(&object->header);
+	return changed_object(object);
+}
+
+/* ---- additions */
+
+/* The image of a sketch with one value more, by the call that reads and writes it. */
+static bytea *
+image_with(bytea *image, const uint8 *value, size_t size)
+{
+	hll_status	status;
+	Output		out;
+
+	WRITE_OUTPUT(out, LENGTH(image) + 64, status, hll_image_add(IMAGE(image), value, size, &size, 1, OUTPUT(out)));
+	check_status(status);
+	return end_output(&out);
+}
+
+/* An object adds to its state. An image becomes one where it has registers, since another value may follow. */
+Datum
+sketch_with(FunctionCallInfo fcinfo, const uint8 *value, size_t size)
+{
+	Datum		sketch = PG_GETARG_DATUM(0);
+	ExpandedSketch *object = expanded_of(sketch);
+	bytea	   *image;
+	State		state;
+
+	if (object != NULL)
+	{
+		object = own_object(CurrentMemoryContext, sketch);
+		add_to_state(&object->state, value, size);
+		return changed_object(object);
+	}
+	image = image_with(image_in(fcinfo, 0), value, size);
+	if (hll_image_stage(IMAGE(image)) != HLL_REGISTERS)
+		return PointerGetDatum(image);
+	state = new_state(CurrentMemoryContext, 0);
+	check_status(join_image(&state, 0, IMAGE(image)));
+	return value_of_state(CurrentMemoryContext, &state);
 }

@@ -30,4 +30,7 @@ typedef struct Header
 extern ExpandedSketch *expanded_of(Datum value);
 extern Header header_of(Datum value);
 
+/* The sketch that is the first argument of a function, with one value more. */
+extern Datum sketch_with(FunctionCallInfo fcinfo, const uint8 *value, size_t size);
+
 #endif

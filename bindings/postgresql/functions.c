@@ -13,6 +13,24 @@ PG_MODULE_MAGIC;
 /* A guess at what an image needs that changes its width or lg_k: only many exceptions of four bits need more. */
 #define CHANGED_ROOM(image) (2 * LENGTH(image) + 64)
 
+bytea *
+image_in(FunctionCallInfo fcinfo, int argument)
+{
+	bytea	   *image = PG_GETARG_BYTEA_PP(argument);
+
+	check_whole(IMAGE(image), NULL, 0);
+	return image;
+}
+
+bytea *
+numbered_image_in(FunctionCallInfo fcinfo, int argument)
+{
+	bytea	   *image = PG_GETARG_BYTEA_PP(argument);
+
+	check_whole(IMAGE(image), "argument", argument + 1);
+	return image;
+}
+
 uint8
 named_lg_k(const uint8 *image, size_t size)
 {
@@ -34,8 +52,8 @@ PG_FUNCTION_INFO_V1(hll_pg_empty);
 Datum
 hll_pg_empty(PG_FUNCTION_ARGS)
 {
-	uint8		lg_k = checked_lg_k("lg_k", PG_GETARG_INT32(0));
-	uint8		width = checked_width(PG_GETARG_INT32(1));
+	uint8		lg_k = checked_lg_k("lg_k", PG_GETARG_INT64(0));
+	uint8		width = checked_width(PG_GETARG_INT64(1));
 	hll_status	status;
 	Output		out;
 
@@ -49,8 +67,8 @@ PG_FUNCTION_INFO_V1(hll_pg_fold);
 Datum
 hll_pg_fold(PG_FUNCTION_ARGS)
 {
-	bytea	   *image = PG_GETARG_BYTEA_PP(0);
-	uint8		lg_k = checked_lg_k("lg_k", PG_GETARG_INT32(1));
+	bytea	   *image = image_in(fcinfo, 0);
+	uint8		lg_k = checked_lg_k("lg_k", PG_GETARG_INT64(1));
 	hll_status	status;
 	Output		out;
 
@@ -68,8 +86,8 @@ PG_FUNCTION_INFO_V1(hll_pg_convert);
 Datum
 hll_pg_convert(PG_FUNCTION_ARGS)
 {
-	bytea	   *image = PG_GETARG_BYTEA_PP(0);
-	uint8		width = checked_width(PG_GETARG_INT32(1));
+	bytea	   *image = image_in(fcinfo, 0);
+	uint8		width = checked_width(PG_GETARG_INT64(1));
 	hll_status	status;
 	Output		out;
 
@@ -83,7 +101,7 @@ PG_FUNCTION_INFO_V1(hll_pg_set_estimator_fields);
 Datum
 hll_pg_set_estimator_fields(PG_FUNCTION_ARGS)
 {
-	bytea	   *image = PG_GETARG_BYTEA_PP(0);
+	bytea	   *image = image_in(fcinfo, 0);
 	hll_status	status;
 	Output		out;
 
@@ -97,8 +115,8 @@ PG_FUNCTION_INFO_V1(hll_pg_agree);
 Datum
 hll_pg_agree(PG_FUNCTION_ARGS)
 {
-	bytea	   *left = PG_GETARG_BYTEA_PP(0);
-	bytea	   *right = PG_GETARG_BYTEA_PP(1);
+	bytea	   *left = numbered_image_in(fcinfo, 0);
+	bytea	   *right = numbered_image_in(fcinfo, 1);
 	uint8		same = 0;
 	size_t		failed = 0;
 	hll_status	status = hll_images_agree(IMAGE(left), IMAGE(right), &same, &failed);
@@ -107,20 +125,58 @@ hll_pg_agree(PG_FUNCTION_ARGS)
 	PG_RETURN_BOOL(same != 0);
 }
 
-PG_FUNCTION_INFO_V1(hll_pg_check);
-
-/* The word of the reason why the bytes are no image, or NULL. */
-Datum
-hll_pg_check(PG_FUNCTION_ARGS)
+/* The word of the reason why bytes are no image, or NULL. */
+static const char *
+fault_of(const uint8 *bytes, size_t size)
 {
-	bytea	   *image = PG_GETARG_BYTEA_PP(0);
-	hll_status	status = hll_image_check(IMAGE(image));
+	size_t		own;
+	hll_status	status = hll_image_size(bytes, size, &own);
 
 	if (status == HLL_OK)
-		PG_RETURN_NULL();
+		return own == size || is_empty_table(bytes, size) ? NULL : "trailing";
 	if (status > HLL_REGISTER)
 		check_status(status);
-	PG_RETURN_TEXT_P(cstring_to_text(hll_reason(status)));
+	return hll_reason(status);
+}
+
+PG_FUNCTION_INFO_V1(hll_pg_fault);
+
+Datum
+hll_pg_fault(PG_FUNCTION_ARGS)
+{
+	bytea	   *bytes = PG_GETARG_BYTEA_PP(0);
+	const char *fault = fault_of(IMAGE(bytes));
+
+	if (fault == NULL)
+		PG_RETURN_NULL();
+	PG_RETURN_TEXT_P(cstring_to_text(fault));
+}
+
+PG_FUNCTION_INFO_V1(hll_pg_is_image);
+
+Datum
+hll_pg_is_image(PG_FUNCTION_ARGS)
+{
+	bytea	   *bytes = PG_GETARG_BYTEA_PP(0);
+
+	PG_RETURN_BOOL(fault_of(IMAGE(bytes)) == NULL);
+}
+
+PG_FUNCTION_INFO_V1(hll_pg_first_image);
+
+/* The image with which bytes begin. */
+Datum
+hll_pg_first_image(PG_FUNCTION_ARGS)
+{
+	bytea	   *bytes = PG_GETARG_BYTEA_PP(0);
+	bytea	   *image;
+	size_t		size;
+
+	check_status(hll_image_size(IMAGE(bytes), &size));
+	image = palloc(VARHDRSZ + size);
+	SET_VARSIZE(image, VARHDRSZ + size);
+	memcpy(VARDATA(image), BYTES(bytes), size);
+	PG_RETURN_BYTEA_P(image);
 }
 
 /* The row that the function answers, of values that are not NULL. */
@@ -141,7 +197,7 @@ Datum
 hll_pg_info(PG_FUNCTION_ARGS)
 {
 	static const char *const stages[] = {"list", "set", "registers"};
-	bytea	   *image = PG_GETARG_BYTEA_PP(0);
+	bytea	   *image = image_in(fcinfo, 0);
 	hll_info	info;
 	Datum		values[5];
 
@@ -159,7 +215,7 @@ PG_FUNCTION_INFO_V1(hll_pg_estimate);
 Datum
 hll_pg_estimate(PG_FUNCTION_ARGS)
 {
-	bytea	   *image = PG_GETARG_BYTEA_PP(0);
+	bytea	   *image = image_in(fcinfo, 0);
 	hll_estimation found;
 
 	check_status(hll_estimate(IMAGE(image), &found));
@@ -172,7 +228,7 @@ PG_FUNCTION_INFO_V1(hll_pg_hip_estimate);
 Datum
 hll_pg_hip_estimate(PG_FUNCTION_ARGS)
 {
-	bytea	   *image = PG_GETARG_BYTEA_PP(0);
+	bytea	   *image = image_in(fcinfo, 0);
 	hll_estimation found;
 	hll_status	status = hll_hip_estimate(IMAGE(image), &found);
 
@@ -187,15 +243,15 @@ PG_FUNCTION_INFO_V1(hll_pg_estimate_bounds);
 Datum
 hll_pg_estimate_bounds(PG_FUNCTION_ARGS)
 {
-	bytea	   *image = PG_GETARG_BYTEA_PP(0);
-	int32		deviations = PG_GETARG_INT32(1);
+	bytea	   *image = image_in(fcinfo, 0);
+	int64		deviations = PG_GETARG_INT64(1);
 	hll_estimation found;
 	Datum		values[2];
 
 	if (deviations < 1 || deviations > 3)
 		ereport(ERROR,
 				(errcode(ERRCODE_INVALID_PARAMETER_VALUE),
-				 errmsg("deviations must be 1, 2 or 3, not %d", deviations)));
+				 errmsg("deviations must be 1, 2 or 3, not " INT64_FORMAT, deviations)));
 	check_status(hll_estimate(IMAGE(image), &found));
 	values[0] = Float8GetDatum(found.lower[deviations - 1]);
 	values[1] = Float8GetDatum(found.upper[deviations - 1]);

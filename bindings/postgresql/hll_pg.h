@@ -1,6 +1,6 @@
 /* SPDX-License-Identifier: Apache-2.0 */
 /*
- * What the files of the extension share: the bytes of a bytea, refusals as errors, and room for an image.
+ * What the files of the extension share: images as arguments, refusals as errors, and room for an image.
  *
  * A call of the library returns before any ereport, and has given back its memory by then. Buffers are palloc'd. So an
  * error, a cancelled query or a timeout leaves nothing behind.
@@ -53,8 +53,22 @@ extern bytea *end_output(Output *out);
 extern void check_status(hll_status status);
 extern void check_argument_status(hll_status status, size_t argument);
 extern void check_row_status(hll_status status, int64 row);
-extern uint8 checked_lg_k(const char *name, int32 lg_k);
-extern uint8 checked_width(int32 width);
+extern uint8 checked_lg_k(const char *name, int64 lg_k);
+extern uint8 checked_width(int64 width);
+
+/* Raises an error where bytes follow an image; `what` and `number` say which, as "row" 17, or are NULL and 0. */
+extern void check_whole(const uint8 *image, size_t size, const char *what, int64 number);
+
+/* The image that is an argument, from 0, and the one of them whose number an error is to name. */
+extern bytea *image_in(FunctionCallInfo fcinfo, int argument);
+extern bytea *numbered_image_in(FunctionCallInfo fcinfo, int argument);
+
+/* Whether bytes are an empty list with its eight places, as other libraries write it for updates. No reader looks at these. */
+extern bool is_empty_table(const uint8 *image, size_t size);
+
+/* Refuses texts that aren't equal by their bytes, once a query, of a function whose second argument is a text (texts.c). */
+extern void check_text(FunctionCallInfo fcinfo);
+extern void refuse_type(Oid type) pg_attribute_noreturn();
 
 /* What the header of an image names, before it is read: where the bytes are no image, any that is in range. */
 extern uint8 named_lg_k(const uint8 *image, size_t size);

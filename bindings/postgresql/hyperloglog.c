@@ -58,16 +58,6 @@ check_header(Header header, int32 modifier)
 				 errmsg("expected an HLL image of at most %zu bytes, not %zu", largest_size(modifier), header.size)));
 }
 
-/* Whether bytes are an empty list with its eight places, as other libraries write it for updates. No reader looks at these. */
-static bool
-is_empty_table(const uint8 *image, size_t size)
-{
-	static const uint8 places[32] = {0};
-
-	return size == 8 + sizeof(places) && (image[7] & 3) == HLL_LIST && (image[5] & 12) == 4 &&
-		memcmp(image + 8, places, sizeof(places)) == 0;
-}
-
 /* Refuses bytes that aren't one image, or not as the modifier asks; by the header first, as what follows may be slow to read. */
 static void
 check_image(bytea *bytes, int32 modifier)
@@ -79,13 +69,8 @@ check_image(bytea *bytes, int32 modifier)
 		status = HLL_OK;
 	check_status(status);
 	check_header(header_of(PointerGetDatum(bytes)), modifier);
-	check_status(hll_image_size(IMAGE(bytes), &size));
-	if (size < LENGTH(bytes) && !is_empty_table(IMAGE(bytes)))
-		ereport(ERROR,
-				(errcode(ERRCODE_INVALID_BINARY_REPRESENTATION),
-				 errmsg_plural("invalid HLL image: %zu byte follows it", "invalid HLL image: %zu bytes follow it",
-							   LENGTH(bytes) - size, LENGTH(bytes) - size),
-				 errdetail("The image takes %zu bytes of %zu.", size, LENGTH(bytes))));
+	check_whole(IMAGE(bytes), NULL, 0);
+	check_status(hll_image_check(IMAGE(bytes)));
 }
 
 /* ---- in and out */

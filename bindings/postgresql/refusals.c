@@ -49,23 +49,51 @@ check_row_status(hll_status status, int64 row)
 		refuse(status, row == 0 ? "" : psprintf(" in row " INT64_FORMAT, row));
 }
 
+bool
+is_empty_table(const uint8 *image, size_t size)
+{
+	static const uint8 places[32] = {0};
+
+	return size == 8 + sizeof(places) && (image[7] & 3) == HLL_LIST && (image[5] & 12) == 4 &&
+		memcmp(image + 8, places, sizeof(places)) == 0;
+}
+
+/* An image without its last byte is truncated, which its header tells. Where it isn't, the last byte is none of its own. */
+void
+check_whole(const uint8 *image, size_t size, const char *what, int64 number)
+{
+	size_t		own;
+	hll_status	status = size == 0 ? HLL_TRUNCATED : hll_image_size(image, size - 1, &own);
+
+	if (status == HLL_MEMORY)
+		refuse(status, "");
+	if (status != HLL_OK || is_empty_table(image, size))
+		return;
+	ereport(ERROR,
+			(errcode(ERRCODE_INVALID_BINARY_REPRESENTATION),
+			 errmsg_plural("invalid HLL image%s: %zu byte follows it", "invalid HLL image%s: %zu bytes follow it", size - own,
+						   what == NULL ? "" : psprintf(" in %s " INT64_FORMAT, what, number), size - own),
+			 errdetail("The image takes %zu bytes of %zu.", own, size),
+			 errhint("hll_merge merges two images; || puts one bytea after another. hll_first_image cuts off what follows.")));
+}
+
 uint8
-checked_lg_k(const char *name, int32 lg_k)
+checked_lg_k(const char *name, int64 lg_k)
 {
 	if (lg_k < 4 || lg_k > 21)
 		ereport(ERROR,
 				(errcode(ERRCODE_INVALID_PARAMETER_VALUE),
-				 errmsg("%s must be between 4 and 21, not %d", name, lg_k)));
+				 errmsg("%s must be between 4 and 21, not " INT64_FORMAT, name, lg_k)));
 	return (uint8) lg_k;
 }
 
 uint8
-checked_width(int32 width)
+checked_width(int64 width)
 {
 	if (width != 4 && width != 6 && width != 8)
 		ereport(ERROR,
 				(errcode(ERRCODE_INVALID_PARAMETER_VALUE),
-				 errmsg("width must be 4, 6 or 8, not %d", width)));
+				 errmsg("width must be 4, 6 or 8, not " INT64_FORMAT, width)));
 	return (uint8) width;
 }
 

@@ -2,6 +2,7 @@
 /*
  * The steps of the aggregates that count values: each type's bytes, as docs/FORMAT.md, "What values are hashed as", says.
  */
+#include "expanded.h"
 #include "group.h"
 
 #include <math.h>
@@ -16,19 +17,35 @@
 /* From 1970-01-01, from which others count, to the server's 2000-01-01. */
 #define DAYS_BETWEEN (POSTGRES_EPOCH_JDATE - UNIX_EPOCH_JDATE)
 
+/* The bytes that a value counts by. */
+typedef struct Value
+{
+	const uint8 *bytes;
+	size_t		size;
+	uint64		word;			/* of those that are no longer, themselves */
+} Value;
+
+static void
+set_bytes(Value *value, const void *bytes, size_t size)
+{
+	value->bytes = bytes;
+	value->size = size;
+}
+
 /* Eight bytes, the lowest first. */
 static void
-add_word(Group *group, uint64 word)
+set_word(Value *value, uint64 word)
 {
 #ifdef WORDS_BIGENDIAN
 	word = pg_bswap64(word);
 #endif
-	add_value(group, (const uint8 *) &word, sizeof(word));
+	value->word = word;
+	set_bytes(value, &value->word, sizeof(value->word));
 }
 
 /* A number as those that are equal to it: -0.0 as 0.0, and each NaN as one. */
 static void
-add_float(Group *group, float8 number)
+set_float(Value *value, float8 number)
 {
 	uint64		word;
 
@@ -39,94 +56,116 @@ add_float(Group *group, float8 number)
 		number = number == 0 ? 0 : number;
 		memcpy(&word, &number, sizeof(word));
 	}
-	add_word(group, word);
+	set_word(value, word);
 }
 
 /* Days since 1970-01-01. */
 static void
-add_date(Group *group, DateADT date)
+set_date(Value *value, DateADT date)
 {
 	if (DATE_IS_NOBEGIN(date))
-		add_word(group, (uint64) PG_INT64_MIN);
+		set_word(value, (uint64) PG_INT64_MIN);
 	else if (DATE_IS_NOEND(date))
-		add_word(group, (uint64) PG_INT64_MAX);
+		set_word(value, (uint64) PG_INT64_MAX);
 	else
-		add_word(group, (uint64) ((int64) date + DAYS_BETWEEN));
+		set_word(value, (uint64) ((int64) date + DAYS_BETWEEN));
 }
 
 /* Microseconds since 1970-01-01; those past 2^63 as an integer past it is, by its own eight bytes. */
 static void
-add_timestamp(Group *group, Timestamp timestamp)
+set_timestamp(Value *value, Timestamp timestamp)
 {
 	if (TIMESTAMP_IS_NOBEGIN(timestamp) || TIMESTAMP_IS_NOEND(timestamp))
-		add_word(group, (uint64) timestamp);
+		set_word(value, (uint64) timestamp);
 	else
-		add_word(group, (uint64) timestamp + (uint64) DAYS_BETWEEN * (uint64) USECS_PER_DAY);
+		set_word(value, (uint64) timestamp + (uint64) DAYS_BETWEEN * (uint64) USECS_PER_DAY);
 }
 
 /* A text counts by its bytes in UTF-8, whatever the encoding of the database. */
 static void
-add_text(Group *group, text *value)
+set_text(Value *value, text *own)
 {
-	const char *own = (const char *) BYTES(value);
-	const char *utf8 = pg_server_to_any(own, (int) LENGTH(value), PG_UTF8);
+	const char *bytes = (const char *) BYTES(own);
+	const char *utf8 = pg_server_to_any(bytes, (int) LENGTH(own), PG_UTF8);
 
-	add_value(group, (const uint8 *) utf8, utf8 == own ? LENGTH(value) : strlen(utf8));
+	set_bytes(value, utf8, utf8 == bytes ? LENGTH(own) : strlen(utf8));
 }
 
 static void
-add_bytea(Group *group, bytea *value)
+set_bytea(Value *value, bytea *own)
 {
-	add_value(group, BYTES(value), LENGTH(value));
+	set_bytes(value, BYTES(own), LENGTH(own));
 }
 
-/* The step of a type, which adds the value of a row unless that is NULL. */
-#define VALUE_STEP(name, add) \
+/* Of a type: the step that adds the value of a row, and the function that adds a value to a sketch; neither adds a NULL. */
+#define VALUE_FUNCTIONS(name, set) \
 	PG_FUNCTION_INFO_V1(hll_pg_add_##name##_trans); \
 	Datum \
 	hll_pg_add_##name##_trans(PG_FUNCTION_ARGS) \
 	{ \
 		Group	   *group = next_row(fcinfo, "lg_k", 12, 8); \
+		Value		value; \
 	\
 		if (!PG_ARGISNULL(1)) \
-			add; \
+		{ \
+			set; \
+			add_value(group, value.bytes, value.size); \
+		} \
 		PG_RETURN_POINTER(group); \
+	} \
+	PG_FUNCTION_INFO_V1(hll_pg_add_##name); \
+	Datum \
+	hll_pg_add_##name(PG_FUNCTION_ARGS) \
+	{ \
+		Value		value; \
+	\
+		if (PG_ARGISNULL(0)) \
+			PG_RETURN_NULL(); \
+		if (PG_ARGISNULL(1)) \
+			PG_RETURN_DATUM(PG_GETARG_DATUM(0)); \
+		set; \
+		PG_RETURN_DATUM(sketch_with(fcinfo, value.bytes, value.size)); \
 	}
 
-VALUE_STEP(text, add_text(group, PG_GETARG_TEXT_PP(1)))
-VALUE_STEP(char, add_text(group, DatumGetTextPP(DirectFunctionCall1(char_text, PG_GETARG_DATUM(1)))))
-VALUE_STEP(bytea, add_bytea(group, PG_GETARG_BYTEA_PP(1)))
-VALUE_STEP(int2, add_word(group, (uint64) (int64) PG_GETARG_INT16(1)))
-VALUE_STEP(int4, add_word(group, (uint64) (int64) PG_GETARG_INT32(1)))
-VALUE_STEP(int8, add_word(group, (uint64) PG_GETARG_INT64(1)))
-VALUE_STEP(bool, add_word(group, PG_GETARG_BOOL(1) ? 1 : 0))
-VALUE_STEP(float4, add_float(group, (float8) PG_GETARG_FLOAT4(1)))
-VALUE_STEP(float8, add_float(group, PG_GETARG_FLOAT8(1)))
-VALUE_STEP(date, add_date(group, PG_GETARG_DATEADT(1)))
-VALUE_STEP(timestamp, add_timestamp(group, PG_GETARG_TIMESTAMP(1)))
-VALUE_STEP(uuid, add_value(group, PG_GETARG_UUID_P(1)->data, UUID_LEN))
+VALUE_FUNCTIONS(text, check_text(fcinfo); set_text(&value, PG_GETARG_TEXT_PP(1)))
+VALUE_FUNCTIONS(char, set_text(&value, DatumGetTextPP(DirectFunctionCall1(char_text, PG_GETARG_DATUM(1)))))
+VALUE_FUNCTIONS(bytea, set_bytea(&value, PG_GETARG_BYTEA_PP(1)))
+VALUE_FUNCTIONS(int2, set_word(&value, (uint64) (int64) PG_GETARG_INT16(1)))
+VALUE_FUNCTIONS(int4, set_word(&value, (uint64) (int64) PG_GETARG_INT32(1)))
+VALUE_FUNCTIONS(int8, set_word(&value, (uint64) PG_GETARG_INT64(1)))
+VALUE_FUNCTIONS(bool, set_word(&value, PG_GETARG_BOOL(1) ? 1 : 0))
+VALUE_FUNCTIONS(float4, set_float(&value, (float8) PG_GETARG_FLOAT4(1)))
+VALUE_FUNCTIONS(float8, set_float(&value, PG_GETARG_FLOAT8(1)))
+VALUE_FUNCTIONS(date, set_date(&value, PG_GETARG_DATEADT(1)))
+VALUE_FUNCTIONS(timestamp, set_timestamp(&value, PG_GETARG_TIMESTAMP(1)))
+VALUE_FUNCTIONS(uuid, set_bytes(&value, PG_GETARG_UUID_P(1)->data, UUID_LEN))
 
-PG_FUNCTION_INFO_V1(hll_pg_add_sketch_trans);
+/* ---- what is refused */
 
-Datum
-hll_pg_add_sketch_trans(PG_FUNCTION_ARGS)
+/* Of a type that is refused: the step and the addition. */
+#define REFUSING_FUNCTIONS(name, refuse) \
+	PG_FUNCTION_INFO_V1(hll_pg_add_##name##_trans); \
+	Datum \
+	hll_pg_add_##name##_trans(PG_FUNCTION_ARGS) \
+	{ \
+		refuse; \
+	} \
+	PG_FUNCTION_INFO_V1(hll_pg_add_##name); \
+	Datum \
+	hll_pg_add_##name(PG_FUNCTION_ARGS) \
+	{ \
+		refuse; \
+	}
+
+pg_attribute_noreturn() static void
+refuse_sketch(void)
 {
 	ereport(ERROR,
 			(errcode(ERRCODE_DATATYPE_MISMATCH),
 			 errmsg("sketches are not counted as values"),
-			 errhint("Merge them with hyperloglog_union_agg, or cast them to bytea to count how many different ones there are.")));
+			 errhint("Merge them with hyperloglog_union_agg or hll_merge, or cast them to bytea to count how many different ones there are.")));
 }
 
-PG_FUNCTION_INFO_V1(hll_pg_add_other_trans);
-
-/* Values of all other types are refused, numeric among them, which would become a float8 by itself, and lose digits. */
-Datum
-hll_pg_add_other_trans(PG_FUNCTION_ARGS)
-{
-	const char *type = format_type_be(get_fn_expr_argtype(fcinfo->flinfo, 1));
-
-	ereport(ERROR,
-			(errcode(ERRCODE_DATATYPE_MISMATCH),
-			 errmsg("values of type %s cannot be counted as they are", type),
-			 errhint("Cast them to the type as which they are to count, for example CAST(value AS text).")));
-}
+REFUSING_FUNCTIONS(sketch, refuse_sketch())
+/* All other types, numeric among them, which would become a float8 by itself, and lose digits. */
+REFUSING_FUNCTIONS(other, refuse_type(get_fn_expr_argtype(fcinfo->flinfo, 1)))

@@ -101,7 +101,7 @@ static void step_images(sqlite3_context *context, int n, sqlite3_value **values)
 
     if (group == NULL || sqlite3_value_type(values[0]) == SQLITE_NULL)
         return;
-    group->has_failed = !image_in(context, values[0], &image);
+    group->has_failed = !image_in(context, values[0], "row", group->rows, &image);
     if (group->has_failed)
         return;
     status = add_image(group, image);

@@ -4,7 +4,67 @@
  */
 #include "hll_sqlite.h"
 
+#include <string.h>
+
 SQLITE_EXTENSION_INIT1
+
+/* ---- errors */
+
+/* Answers an error with a text of SQLite's, which it gives back. */
+static void answer_error(sqlite3_context *context, char *text)
+{
+    if (text == NULL)
+        sqlite3_result_error_nomem(context);
+    else
+        sqlite3_result_error(context, text, -1);
+    sqlite3_free(text);
+}
+
+void refuse(sqlite3_context *context, hll_status status, const char *place)
+{
+    bool is_image = HLL_TRUNCATED <= status && status <= HLL_REGISTER;
+    const char *format = is_image ? "invalid HLL image%s: %s" : "unexpected answer of the HLL library%s: %s";
+
+    if (status == HLL_MEMORY)
+        sqlite3_result_error_nomem(context);
+    else
+        answer_error(context, sqlite3_mprintf(format, place, hll_reason(status)));
+}
+
+/* The same, of an image with a number: "argument" 2, "row" 17. */
+void refuse_number(sqlite3_context *context, hll_status status, const char *what, sqlite3_int64 number)
+{
+    char place[64];
+
+    sqlite3_snprintf(sizeof place, place, " in %s %lld", what, number);
+    refuse(context, status, place);
+}
+
+/* Of bytes after an image. */
+static void refuse_more(sqlite3_context *context, const char *what, sqlite3_int64 number, size_t more)
+{
+    char place[64] = "";
+
+    if (what != NULL)
+        sqlite3_snprintf(sizeof place, place, " in %s %lld", what, number);
+    answer_error(context, sqlite3_mprintf("invalid HLL image%s: %llu byte%s it (hll_merge merges images, || puts one after another; "
+                                          "hll_first_image cuts off what follows)", place, (sqlite3_uint64)more,
+                                          more == 1 ? " follows" : "s follow"));
+}
+
+/* An argument that is no such number; the format has its name and, if it tells it, the number. */
+void refuse_argument(sqlite3_context *context, const char *format, const char *name, sqlite3_int64 number)
+{
+    answer_error(context, sqlite3_mprintf(format, name, number));
+}
+
+void refuse_other_lg_k(sqlite3_context *context, const char *what, sqlite3_int64 number, int lg_k, int other, const char *call)
+{
+    int bound = lg_k < other ? lg_k : other;
+
+    answer_error(context, sqlite3_mprintf("sketches of lg_k %d and %d (%s %lld) can't be merged without a bound: %s, %d) merges "
+                                          "them at lg_k %d", lg_k, other, what, number, call, bound, bound));
+}
 
 /* ---- arguments */
 
@@ -22,12 +82,41 @@ bool bytes_in(sqlite3_context *context, sqlite3_value *value, hll_bytes *bytes)
     return true;
 }
 
-bool image_in(sqlite3_context *context, sqlite3_value *value, hll_bytes *image)
+bool is_empty_table(hll_bytes bytes)
 {
-    if (sqlite3_value_type(value) == SQLITE_BLOB)
-        return bytes_in(context, value, image);
-    sqlite3_result_error(context, "an HLL image must be a blob", -1);
-    return false;
+    static const uint8_t places[32] = {0};
+
+    return bytes.len == 8 + sizeof places && (bytes.bytes[7] & 3) == HLL_LIST && (bytes.bytes[5] & 12) == 4 &&
+           memcmp(bytes.bytes + 8, places, sizeof places) == 0;
+}
+
+/* Where no byte follows an image: without its last byte it is truncated, which its header tells. `own` is its length. */
+static hll_status whole_status(hll_bytes image, size_t *own)
+{
+    hll_status status = image.len == 0 ? HLL_TRUNCATED : hll_image_size(image.bytes, image.len - 1, own);
+
+    if (status != HLL_OK || is_empty_table(image))
+        *own = image.len;
+    return status == HLL_MEMORY ? status : HLL_OK;
+}
+
+bool image_in(sqlite3_context *context, sqlite3_value *value, const char *what, sqlite3_int64 number, hll_bytes *image)
+{
+    hll_status status;
+    size_t own;
+
+    if (sqlite3_value_type(value) != SQLITE_BLOB) {
+        sqlite3_result_error(context, "an HLL image must be a blob", -1);
+        return false;
+    }
+    if (!bytes_in(context, value, image))
+        return false;
+    status = whole_status(*image, &own);
+    if (status != HLL_OK)
+        refuse(context, status, "");
+    else if (own < image->len)
+        refuse_more(context, what, number, image->len - own);
+    return status == HLL_OK && own == image->len;
 }
 
 /* A number that is an integer, as it stands. */
@@ -79,52 +168,6 @@ bool deviations_in(sqlite3_context *context, sqlite3_value *value, int *deviatio
         return true;
     refuse_argument(context, "%s must be 1, 2 or 3, not %lld", "deviations", number);
     return false;
-}
-
-/* ---- errors */
-
-/* Answers an error with a text of SQLite's, which it gives back. */
-static void answer_error(sqlite3_context *context, char *text)
-{
-    if (text == NULL)
-        sqlite3_result_error_nomem(context);
-    else
-        sqlite3_result_error(context, text, -1);
-    sqlite3_free(text);
-}
-
-void refuse(sqlite3_context *context, hll_status status, const char *place)
-{
-    bool is_image = HLL_TRUNCATED <= status && status <= HLL_REGISTER;
-    const char *format = is_image ? "invalid HLL image%s: %s" : "unexpected answer of the HLL library%s: %s";
-
-    if (status == HLL_MEMORY)
-        sqlite3_result_error_nomem(context);
-    else
-        answer_error(context, sqlite3_mprintf(format, place, hll_reason(status)));
-}
-
-/* The same, of an image with a number: "argument" 2, "row" 17. */
-void refuse_number(sqlite3_context *context, hll_status status, const char *what, sqlite3_int64 number)
-{
-    char place[64];
-
-    sqlite3_snprintf(sizeof place, place, " in %s %lld", what, number);
-    refuse(context, status, place);
-}
-
-/* An argument that is no such number; the format has its name and, if it tells it, the number. */
-void refuse_argument(sqlite3_context *context, const char *format, const char *name, sqlite3_int64 number)
-{
-    answer_error(context, sqlite3_mprintf(format, name, number));
-}
-
-void refuse_other_lg_k(sqlite3_context *context, const char *what, sqlite3_int64 number, int lg_k, int other, const char *call)
-{
-    int bound = lg_k < other ? lg_k : other;
-
-    answer_error(context, sqlite3_mprintf("sketches of lg_k %d and %d (%s %lld) can't be merged without a bound: %s, %d) merges "
-                                          "them at lg_k %d", lg_k, other, what, number, call, bound, bound));
 }
 
 uint8_t named_lg_k(hll_bytes image)

@@ -24,8 +24,7 @@ typedef struct Call {
 
 #define IMAGE(bytes_) (bytes_).bytes, (bytes_).len
 
-/* A guess at what an image needs that changes its width or lg_k: only many exceptions of four bits need more. Bytes after
- * an image may be many. */
+/* A guess at what an image needs that changes its width or lg_k: only many exceptions of four bits need more. */
 static size_t changed_room(hll_bytes image)
 {
     return MIN(2 * image.len + 64, HLL_IMAGE_MAX(21));
@@ -77,7 +76,7 @@ static void fold(sqlite3_context *context, int n, sqlite3_value **values)
     hll_status status;
 
     (void)n;
-    if (!image_in(context, values[0], &call.image) || !lg_k_in(context, values[1], "lg_k", &call.lg_k))
+    if (!image_in(context, values[0], NULL, 0, &call.image) || !lg_k_in(context, values[1], "lg_k", &call.lg_k))
         return;
     status = write_image(write_fold, &call, changed_room(call.image), &out);
     if (status == HLL_OK)
@@ -100,7 +99,7 @@ static void convert(sqlite3_context *context, int n, sqlite3_value **values)
     Call call;
 
     (void)n;
-    if (image_in(context, values[0], &call.image) && width_in(context, values[1], &call.width))
+    if (image_in(context, values[0], NULL, 0, &call.image) && width_in(context, values[1], &call.width))
         answer_written(context, write_converted, &call, changed_room(call.image));
 }
 
@@ -116,7 +115,7 @@ static void set_estimator_fields(sqlite3_context *context, int n, sqlite3_value 
     Call call;
 
     (void)n;
-    if (image_in(context, values[0], &call.image))
+    if (image_in(context, values[0], NULL, 0, &call.image))
         answer_written(context, write_with_fields, &call, MIN(call.image.len + 64, HLL_IMAGE_MAX(21)));
 }
 
@@ -124,7 +123,8 @@ static void set_estimator_fields(sqlite3_context *context, int n, sqlite3_value 
 
 static bool two_images_in(sqlite3_context *context, sqlite3_value **values, Call *call)
 {
-    return image_in(context, values[0], &call->image) && image_in(context, values[1], &call->other);
+    return image_in(context, values[0], "argument", 1, &call->image) &&
+           image_in(context, values[1], "argument", 2, &call->other);
 }
 
 /* Joins both images to a new state; failed is the number of the one that is rejected, from 0. */
@@ -179,24 +179,68 @@ static void agree(sqlite3_context *context, int n, sqlite3_value **values)
 
 /* ---- what an image says */
 
-/* The word of the reason why a value is no image; NULL where it is one. */
-static void check(sqlite3_context *context, int n, sqlite3_value **values)
+/* The word of the reason why a value is no image in `fault`, NULL where it is one. Answers false where it answered an error. */
+static bool fault_of(sqlite3_context *context, sqlite3_value *value, const char **fault)
 {
-    hll_bytes image;
+    hll_bytes bytes;
     hll_status status;
+    size_t own;
+
+    *fault = "type";
+    if (sqlite3_value_type(value) != SQLITE_BLOB)
+        return true;
+    if (!bytes_in(context, value, &bytes))
+        return false;
+    status = hll_image_size(IMAGE(bytes), &own);
+    if (status > HLL_REGISTER) {
+        refuse(context, status, "");
+        return false;
+    }
+    *fault = NULL;
+    if (status != HLL_OK)
+        *fault = hll_reason(status);
+    else if (own < bytes.len && !is_empty_table(bytes))
+        *fault = "trailing";
+    return true;
+}
+
+static void fault(sqlite3_context *context, int n, sqlite3_value **values)
+{
+    const char *found;
+
+    (void)n;
+    if (fault_of(context, values[0], &found) && found != NULL)
+        sqlite3_result_text(context, found, -1, SQLITE_STATIC);
+}
+
+static void is_image(sqlite3_context *context, int n, sqlite3_value **values)
+{
+    const char *found;
+
+    (void)n;
+    if (fault_of(context, values[0], &found))
+        sqlite3_result_int(context, found == NULL);
+}
+
+/* The image with which bytes begin. */
+static void first_image(sqlite3_context *context, int n, sqlite3_value **values)
+{
+    hll_bytes bytes;
+    hll_status status;
+    size_t size;
 
     (void)n;
     if (sqlite3_value_type(values[0]) != SQLITE_BLOB) {
-        sqlite3_result_text(context, "type", -1, SQLITE_STATIC);
+        sqlite3_result_error(context, "an HLL image must be a blob", -1);
         return;
     }
-    if (!bytes_in(context, values[0], &image))
+    if (!bytes_in(context, values[0], &bytes))
         return;
-    status = hll_image_check(IMAGE(image));
-    if (status > HLL_REGISTER)
+    status = hll_image_size(IMAGE(bytes), &size);
+    if (status == HLL_OK)
+        sqlite3_result_blob64(context, bytes.bytes, size, SQLITE_TRANSIENT);
+    else
         refuse(context, status, "");
-    else if (status != HLL_OK)
-        sqlite3_result_text(context, hll_reason(status), -1, SQLITE_STATIC);
 }
 
 /* Answers a text of SQLite's. */
@@ -216,7 +260,7 @@ static void info(sqlite3_context *context, int n, sqlite3_value **values)
     hll_status status;
 
     (void)n;
-    if (!image_in(context, values[0], &image))
+    if (!image_in(context, values[0], NULL, 0, &image))
         return;
     status = hll_image_info(IMAGE(image), &told, sizeof told);
     if (status == HLL_OK)
@@ -234,7 +278,7 @@ static bool estimation_of(sqlite3_context *context, sqlite3_value *value, hll_es
     hll_bytes image;
     hll_status status;
 
-    if (!image_in(context, value, &image))
+    if (!image_in(context, value, NULL, 0, &image))
         return false;
     status = hll_estimate(IMAGE(image), found);
     if (status != HLL_OK)
@@ -259,7 +303,7 @@ static void hip_estimate(sqlite3_context *context, int n, sqlite3_value **values
     hll_status status;
 
     (void)n;
-    if (!image_in(context, values[0], &image))
+    if (!image_in(context, values[0], NULL, 0, &image))
         return;
     status = hll_hip_estimate(IMAGE(image), &found);
     if (status == HLL_OK)
@@ -321,7 +365,9 @@ static const Entry entries[] = {
     {"hll_merge", 2, merge},
     {"hll_merge", 3, merge},
     {"hll_agree", 2, agree},
-    {"hll_check", 1, check},
+    {"hll_fault", 1, fault},
+    {"hll_is_image", 1, is_image},
+    {"hll_first_image", 1, first_image},
     {"hll_info", 1, info},
     {"hll_estimate", 1, estimate},
     {"hll_hip_estimate", 1, hip_estimate},

@@ -18,7 +18,12 @@ SQLITE_EXTENSION_INIT3
 /* ---- arguments: each answers false where it has answered an error */
 
 bool bytes_in(sqlite3_context *context, sqlite3_value *value, hll_bytes *bytes);
-bool image_in(sqlite3_context *context, sqlite3_value *value, hll_bytes *image);
+/* An image without bytes after it. Where there are several, an error says which: "argument" 2, "row" 17; else NULL and 0. */
+bool image_in(sqlite3_context *context, sqlite3_value *value, const char *what, sqlite3_int64 number, hll_bytes *image);
+
+/* Whether bytes are an empty list with its eight places, as other libraries write it for updates. No reader looks at these. */
+bool is_empty_table(hll_bytes bytes);
+
 bool lg_k_in(sqlite3_context *context, sqlite3_value *value, const char *name, uint8_t *lg_k);
 bool width_in(sqlite3_context *context, sqlite3_value *value, uint8_t *width);
 bool deviations_in(sqlite3_context *context, sqlite3_value *value, int *deviations);

@@ -23,13 +23,14 @@ SELECT round(# hyperloglog_union_agg(sketch)) AS of_all, pg_typeof(hyperloglog_u
 SELECT a.sketch || b.sketch = b.sketch || a.sketch AS commutes, count(*) FROM days a, days b GROUP BY 1;
 SELECT round(# hyperloglog_agg(v)) AS dates FROM unnest(ARRAY['2026-11-01', 'infinity', NULL]::date[]) v;
 -- refusals
-SELECT hll_check('\x0201070a030801080500000c') AS image, hll_check('\x0201070a') AS cut, hll_check('\x0201080a00000000') AS other;
+SELECT hll_fault('\x0201070a030801080500000c') AS image, hll_fault('\x0201070a') AS cut, hll_fault('\x0201080a00000000') AS other;
 \set VERBOSITY terse
 SELECT hll_fold('\x0201070a', 4);
 SELECT hll_fold(hll_image_empty(10), 11);
 SELECT hll_image_union_agg(i) FROM (VALUES (hll_image_empty()), (NULL), ('\x0301070c04080009')) x(i);
 SELECT hll_image_add_agg('a', 22);
-SELECT '\x00'::bytea::hll_image;
+SELECT hll_estimate(hll_image_empty() || hll_image_empty());
+SELECT hll_merge(hll_image_add_agg(1), hll_image_add_agg(1, 10));
 INSERT INTO days VALUES (3, hyperloglog_empty(12));
 SELECT '\x0201070c030c000800'::hyperloglog;
 SELECT hyperloglog_agg(1.5);

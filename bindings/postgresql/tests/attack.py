@@ -7,8 +7,8 @@ role as which it runs; where that isn't mallory's, it makes mallory a superuser.
 import itertools
 import re
 
-from report import CHECKED, check, equal, refused
-from server import HERE
+from report import check, equal, refused
+from server import EARLIER, HERE
 from unions import settings
 
 HEARD = "planted: "
@@ -32,7 +32,7 @@ TYPES = "name text varchar oid regnamespace bytea int4 int8 bool".split()
 POLYMORPHIC = ["anyelement", "anynonarray", "anycompatible"]
 OPERATORS = "= <> < > <= >= ~ ~~ ||".split()
 CATALOG_NAMES = ["current_schema", "format", "to_regnamespace", "quote_ident", *TYPES]
-ARGUMENTS = "%s", "%s, int4", "%s, int4, int4", "%s, %s", "%s, %s, int4"
+ARGUMENTS = "%s", "%s, int4", "%s, int4, int4", "%s, int8", "%s, int8, int8", "%s, %s", "%s, %s, int4", "%s, %s, int8"
 
 
 def function(name, arguments, answer="bool"):
@@ -99,51 +99,53 @@ def signatures(server, database):
 
 TABLE = """
 SET search_path = pg_catalog;
-CREATE TABLE safe.sketches (n int4, x int8, t text, image bytea, kept OWN.hll_image, typed OWN.hyperloglog(9, 4));
+CREATE TABLE safe.sketches (n int4, x int8, t text, image bytea, typed OWN.hyperloglog(9, 4));
 INSERT INTO safe.sketches
-    SELECT x % 20, x, x, i, i, i
-    FROM (SELECT x, OWN.hll_image_add_agg(y, 9, 4) i
+    SELECT x % 20, x, x, i, i
+    FROM (SELECT x, OWN.hll_image_add_agg(y, 9::bigint, 4::bigint) i
           FROM generate_series(1::int8, 900) x, generate_series(x, x + x % 40) y GROUP BY x) s;
 ALTER TABLE safe.sketches SET (parallel_workers = 3);
 SET search_path = mallory, public;
 """
-CALLS = ("hll_check(image)", "hll_info(image)", "hll_estimate(image)", "hll_estimate_bounds(image, 2)", "hll_fold(image, 5)",
-         "hll_convert(image, 6)", "hll_set_estimator_fields(image)", "hll_merge(image, image)", "hll_merge(image, image, 10)",
-         "hll_agree(image, image)", "hll_merge(typed, image)", "hll_merge(image, typed)",
+# (Numbers are bigint: where they are int4, a function of mallory's in the schema of the extension fits better.)
+CALLS = ("hll_fault(image)", "hll_is_image(image)", "hll_first_image(image)", "hll_info(image)", "hll_estimate(image)",
+         "hll_estimate_bounds(image, 2::bigint)", "hll_fold(image, 5::bigint)", "hll_convert(image, 6::bigint)",
+         "hll_set_estimator_fields(image)", "hll_merge(image, image)", "hll_merge(image, image, 10::bigint)",
+         "hll_agree(image, image)", "hll_merge(typed, image)", "hll_merge(image, typed)", "hll_add(typed, x)", "hll_add(image, t)",
          *("%s(typed%s)" % call for call in (
-             ("hll_info", ""), ("hll_estimate", ""), ("hll_hip_estimate", ""), ("hll_estimate_bounds", ", 2"), ("hll_fold", ", 5"),
-             ("hll_convert", ", 6"), ("hll_set_estimator_fields", ""), ("hll_merge", ", typed"), ("hll_merge", ", typed, 10"), ("hll_agree", ", typed"),
+             ("hll_info", ""), ("hll_estimate", ""), ("hll_hip_estimate", ""), ("hll_estimate_bounds", ", 2::bigint"), ("hll_fold", ", 5::bigint"),
+             ("hll_convert", ", 6::bigint"), ("hll_set_estimator_fields", ""), ("hll_merge", ", typed"), ("hll_merge", ", typed, 10::bigint"), ("hll_agree", ", typed"),
              ("hyperloglog_hash", ""), ("hyperloglog_hash_extended", ", 7::int8"), ("hyperloglog_cmp", ", typed"), ("hyperloglog_send", ""))))
+OPTIONS = "", ", 10::bigint", ", 10::bigint, 6::bigint"
 OPERATORS_OF_TYPE = "= <> < <= > >= ||".split()
 COUNTED = ("x::int2", "x::int4", "x > 3", "x::float4", "x::float8", "date '2026-11-01' + n", "timestamp '2026-11-01' + x * interval '1 s'",
            "timestamptz '2026-11-01' + x * interval '1 s'", "md5(t)::uuid", "t::\"char\"")
 
 
 def uses(own, short):
-    """Calls of all functions, the domain and the aggregates, by full names, with mallory's schema in front."""
+    """Calls of all functions and aggregates, by full names, with mallory's schema in front."""
     yield TABLE.replace("OWN", own)
     for call in CALLS:
         yield "SELECT %s.%s FROM safe.sketches;" % (own, call)
-    yield "SELECT %s.hll_image_empty(10, 4), %s.hyperloglog_empty(10, 4);" % (own, own)
+    yield "SELECT %s.hll_image_empty(10::bigint, 4::bigint), %s.hyperloglog_empty(10::bigint, 4::bigint);" % (own, own)
     for operator in OPERATORS_OF_TYPE:
         yield "SELECT typed OPERATOR(%s.%s) typed FROM safe.sketches;" % (own, operator)
-    yield "SELECT OPERATOR(%s.#) typed, typed OPERATOR(%s.||) image, image OPERATOR(%s.||) typed FROM safe.sketches;" % (own, own, own)
+    yield "SELECT OPERATOR(%s.#) typed, OPERATOR(%s.#) image, typed OPERATOR(%s.||) image, image OPERATOR(%s.||) typed FROM safe.sketches;" % (own, own, own, own)
     yield "SELECT typed, count(*) FROM safe.sketches GROUP BY typed ORDER BY typed;"
     yield "SELECT image::%s.hyperloglog(9), typed::bytea, typed::text::%s.hyperloglog(9, 4) FROM safe.sketches;" % (own, own)
-    for more in ("", ", 10", ", 10, 6"):
+    for more in OPTIONS:
         yield "SELECT n, %s.hyperloglog_union_agg(typed%s) FROM safe.sketches GROUP BY n ORDER BY n;" % (own, more)
         for value in COUNTED:
             yield "SET search_path = pg_catalog; SELECT %s.hyperloglog_agg(%s%s), %s.hll_image_add_agg(%s%s), %s.hll_add_agg(%s%s) " \
                 "FROM safe.sketches; SET search_path = mallory, public;" % (own, value, more, own, value, more, short, value, more)
-    yield "SELECT CAST(image AS %s.hll_image), kept FROM safe.sketches;" % own
     for agg, arguments, more in itertools.product(
-            (own + ".hll_image_%s_agg", short + ".hll_%s_agg"), ("image", "t", "x"), ("", ", 10", ", 10, 6")):
+            (own + ".hll_image_%s_agg", short + ".hll_%s_agg"), ("image", "t", "x"), OPTIONS):
         for kind in ("union", "add") if arguments == "image" else ("add",):
             call = agg % kind + "(%s%s)" % (arguments, more)
             yield "SELECT %s FROM safe.sketches;" % call
             yield "SELECT n, %s FROM safe.sketches GROUP BY n ORDER BY n;" % call
             yield "SELECT %s OVER (ORDER BY x) FROM safe.sketches LIMIT 9;" % call
-    yield "%s SELECT %s.hll_image_union_agg(CAST(kept AS bytea)) FROM safe.sketches;" % (settings(3), own)
+    yield "%s SELECT %s.hll_image_union_agg(image), %s.hyperloglog_union_agg(image) FROM safe.sketches;" % (settings(3), own, own)
 
 
 def install(server, database, own, short):
@@ -183,11 +185,8 @@ def attack(server):
         update_attacked(server, database, schemas, own)
         use_attacked(server, database, schemas, own, wanted)
     database = "attacked_safe_mallory"
-    # where mallory may create beside the extension, a function of the domain would fit better (README.md, "Names")
-    said = server.run("SELECT safe.hll_image_union_agg(kept), safe.hll_image_union_agg(image) FROM safe.sketches;", database)
-    unheard(server, "a column of the domain", database, said)
-    equal("a column of the domain", *said.split("|"))
-    said = server.run("SET search_path = safe, mallory, public; SELECT hyperloglog_union_agg(typed), hll_image_union_agg(typed::bytea, 12), "
+    # where mallory may create beside the extension, a function of int4 would fit better (README.md, "Names")
+    said = server.run("SET search_path = safe, mallory, public; SELECT hyperloglog_union_agg(typed), hll_image_union_agg(typed::bytea, 9::bigint), "
                       "bool_and(typed = typed AND # typed < 50 AND hll_agree(typed, typed || typed)) FROM safe.sketches;", database)
     unheard(server, "a column of the type", database, said)
     equal("a column of the type", *said.split("|")[:2])
@@ -206,11 +205,11 @@ def install_attacked(server, database, schemas, own):
 
 
 def update_attacked(server, database, schemas, own):
-    """Version 0.1, with what is planted before its update."""
+    """An earlier version, with what is planted before its update."""
     new_database(server, database)
-    equal("0.1 in %s and %s" % schemas, install(server, database, *("%s VERSION '0.1'" % schema for schema in schemas)), "")
+    equal("earlier in %s and %s" % schemas, install(server, database, *("%s VERSION '%s'" % (schema, EARLIER) for schema in schemas)), "")
     for schema in ("mallory", "public"):
-        plant(server, database, schema, own, [schemas[0] + ".hll_image"])
+        plant(server, database, schema, of_type(schemas[0], own), [schemas[0] + ".hyperloglog"])
         if schema not in schemas:
             equal("the same in " + schema, as_mallory(server, database, exact(schema, without_type(own))), [])
     said = server.run("""SET search_path = mallory, public;
@@ -224,8 +223,6 @@ def use_attacked(server, database, schemas, own, wanted):
     said = server.run("\n".join(uses(*schemas)), database)
     equal("answers in %s and %s" % schemas, *first_difference(said, wanted))
     unheard(server, "using in %s and %s" % schemas, database, said)
-    said = server.run("SELECT CAST(CAST('\\x00' AS bytea) AS %s.hll_image);" % schemas[0], database)
-    refused("the domain in " + schemas[0], said, CHECKED)
 
 
 def first_difference(found, wanted):
@@ -257,10 +254,10 @@ def of_type(own_schema, own):
 
 
 def plant_later(server, database, own_schema, own):
-    """What can be planted once the extensions are there: their own names elsewhere, and arguments of the domain."""
+    """What can be planted once the extensions are there: their own names elsewhere, and arguments of the type."""
     own = of_type(own_schema, own)
     for schema in ("mallory", "public"):
-        as_mallory(server, database, [*exact(schema, own), *functions(schema, own, [own_schema + ".hll_image", own_schema + ".hyperloglog"])])
+        as_mallory(server, database, [*exact(schema, own), *functions(schema, own, [own_schema + ".hyperloglog"])])
 
 
 # ---- names that are taken
@@ -279,10 +276,8 @@ def taken(server):
     for name, arguments in sorted(without_type(own)):
         if "internal" not in arguments and "cstring" not in arguments:
             try_taken(server, function("public." + name, arguments), "public", "42723")
-    try_taken(server, function("public.hll_check", "bytea, more int4 DEFAULT 1"), "public", "42725")
-    for kind in ("DOMAIN public.hll_image AS bytea", "TABLE public.hll_image ()", "TYPE public.hll_image AS ENUM ()"):
+    for kind in ("DOMAIN public.hyperloglog AS bytea", "TABLE public.hyperloglog ()", "TYPE public.hyperloglog AS ENUM ()"):
         try_taken(server, "CREATE %s;" % kind, "public", "42710")
-        try_taken(server, "CREATE %s;" % kind.replace("hll_image", "hyperloglog"), "public", "42710")
     for language, body in ("plpgsql", "BEGIN END"), ("sql", "SELECT 1"):
         said = as_mallory(server, "taken", ["CREATE FUNCTION mallory.f(internal) RETURNS int4 LANGUAGE %s AS '%s';" % (language, body)])
         check("no function of internal in " + language, len(said) == 1 and "type internal" in said[0], said)
@@ -383,9 +378,9 @@ def qualified(server):
             "DO $$ BEGIN PERFORM CAST('public' AS regnamespace); END $$",
             "DO $$ BEGIN PERFORM extname FROM pg_extension; END $$")):
         check("decoys are found, %d" % number, decoys_in(server, statement + ";", "ROLLBACK") != "", statement)
-    for script in ("hll_sketches--0.1.sql", "hll_sketches--0.1--0.2.sql", "hll_sketches_agg--0.1.sql", "hll_sketches_agg--0.1--0.2.sql"):
-        text = re.sub(r"^\\echo.*$", "", (HERE / script).read_text(), flags=re.M)
-        equal("decoys in " + script, decoys_in(server, text.replace("MODULE_PATHNAME", "$libdir/hll_sketches"), "COMMIT"), "")
+    for script in sorted(HERE.glob("hll_sketches*--*.sql")):
+        text = re.sub(r"^\\echo.*$", "", script.read_text(), flags=re.M)
+        equal("decoys in " + script.name, decoys_in(server, text.replace("MODULE_PATHNAME", "$libdir/hll_sketches"), "COMMIT"), "")
 
 
 def decoys_in(server, script, end):

@@ -7,7 +7,7 @@ from dataclasses import replace
 
 from images import (greatest, image_of, image_of_coupons, image_of_values, merged, pairs_of, random_coupons,
                     random_image, sketch_of, width_of, with_words, written)
-from report import (ARGUMENT, CHECKED, IMAGE, NULL, REASONS, SEED, all_bytes_of, answer_of, bytes_of, check, equal, literal,
+from report import (ARGUMENT, IMAGE, NULL, REASONS, SEED, all_bytes_of, answer_of, bytes_of, check, equal, literal,
                     load, refused, union_of)
 from rows import TEXTS, rows_in
 
@@ -49,8 +49,8 @@ def expression_of(plan, image="'\\x%s'::bytea", union=union_expression):
 
 
 def worked_rows(server):
-    """Each answers as the row says, also where an image is refused."""
-    rows = [(plan, answer, expression_of(plan)) for plan, answer in rows_of_calls()]
+    """Each answers as the row says, also where an image is refused. Plans pass over bytes after an image, and SQL cuts them."""
+    rows = [(plan, answer, expression_of(plan, "hll_first_image('\\x%s')")) for plan, answer in rows_of_calls()]
     rows = [row for row in rows if row[2] and not re.search("stack|range|memory|syntax", row[1])]
     query = "SELECT hll_convert(u, (hll_info(u)).width) FROM (SELECT %s u) x;\n\\echo ----"
     answers = server.run("\n".join(query % row[2] for row in rows)).split("----")
@@ -86,8 +86,8 @@ def functions(server):
     folds(server, images)
     pairs(server, images)
     words(server, images)
-    found = server.ask("SELECT count(*), count(hll_check(image)) FROM sketches")
-    equal("hll_check of images", found, "%d|0" % len(images))
+    found = server.ask("SELECT count(*), count(hll_fault(image)) FROM sketches")
+    equal("hll_fault of images", found, "%d|0" % len(images))
 
 
 def infos(server, images):
@@ -251,10 +251,15 @@ def arguments(server):
             ("hll_image_add_agg(v) IS NULL FROM unnest(ARRAY[NULL]::text[]) v", "t"),
             ("hll_image_add_agg(v) = hll_image_add_agg('a') FROM unnest(ARRAY[NULL, 'a', NULL, 'a']) v", "t"),
             ("(hll_info(hll_image_add_agg(v))).coupons FROM unnest(ARRAY['']) v", "1"),
-            ("hll_merge(NULL, IMAGE) IS NULL, hll_check(NULL) IS NULL", "t|t"),
+            ("hll_merge(NULL, IMAGE) IS NULL, hll_fault(NULL) IS NULL", "t|t"),
             ("hll_merge(IMAGE, IMAGE, NULL) IS NULL, hll_merge(IMAGE, NULL, 12) IS NULL", "t|t"),
             ("hll_image_empty(), hll_image_empty(10, 4)", "\\x0201070c030c0008|\\x0201070a030c0000"),
-            ("'\\x0201070c030c0008'::hll_image IS NOT NULL, NULL::hll_image IS NULL", "t|t")):
+            ("hll_is_image(IMAGE), hll_is_image(''), hll_is_image(NULL) IS NULL, hll_first_image(NULL) IS NULL", "t|f|t|t"),
+            ("hll_image_empty(10::smallint, 4::bigint) = hll_image_empty(10, 4), hll_fold(IMAGE, 9::smallint) = hll_fold(IMAGE, 9::bigint)", "t|t"),
+            ("hll_image_add_agg('a', 9::bigint, 4::smallint) = hll_image_add_agg('a'::varchar, 9::smallint, 4)", "t"),
+            ("hyperloglog_agg(7, 12::bigint) = hyperloglog_agg(7::smallint, 12::smallint)", "t"),
+            ("hll_estimate_bounds(IMAGE, 3::bigint) = hll_estimate_bounds(IMAGE, 3::smallint)", "t"),
+            ("hyperloglog_union_agg(i, 9::bigint, 4::smallint) = hyperloglog_union_agg(i, 9, 4) FROM unnest(ARRAY[IMAGE]) i", "t")):
         equal(question, server.run("SELECT %s;" % question.replace("IMAGE", image)), wanted)
     for question, code in (
             ("hll_image_union_agg(i, 3) FROM unnest(ARRAY[IMAGE]) i", ARGUMENT),
@@ -276,7 +281,12 @@ def arguments(server):
             ("hll_image_empty(12, 12)", ARGUMENT),
             ("hll_estimate_bounds(IMAGE, 4)", ARGUMENT),
             ("hll_estimate_bounds(IMAGE, 0)", ARGUMENT),
-            ("''::bytea::hll_image", CHECKED)):
+            ("hll_fold(IMAGE, 4294967300)", ARGUMENT),
+            ("hll_convert(IMAGE, 4294967304)", ARGUMENT),
+            ("hll_merge(IMAGE, IMAGE, 9223372036854775807)", ARGUMENT),
+            ("hll_image_add_agg('a', 4294967308)", ARGUMENT),
+            ("hll_image_add_agg('a', 12, 4294967304)", ARGUMENT),
+            ("hll_estimate_bounds(IMAGE, 4294967298)", ARGUMENT)):
         refused(question, server.run("SELECT %s;" % question.replace("IMAGE", image)), code)
 
 
@@ -303,7 +313,7 @@ def bad_images():
 
 
 CALLS = ("hll_info(%s)", "hll_fold(%s, 4)", "hll_convert(%s, 4)", "hll_set_estimator_fields(%s)", "hll_estimate(%s)",
-         "hll_hip_estimate(%s)", "hll_estimate_bounds(%s)")
+         "hll_hip_estimate(%s)", "hll_estimate_bounds(%s)", "# %s", "hll_add(%s, 7)")
 ROWS = "SELECT CASE WHEN n = %d THEN %s WHEN n %% 3 = 0 THEN NULL ELSE %s END i FROM generate_series(1, %d) n"
 
 
@@ -312,7 +322,8 @@ def reasons(server):
     equal("the reasons tried", sorted({word for word, _ in bad_images()}), sorted(REASONS))
     for word, image in bad_images():
         bad, good = literal(image), literal(GOOD)
-        equal("hll_check " + word, server.ask("SELECT hll_check(%s)" % bad), word)
+        equal("hll_fault " + word, server.ask("SELECT hll_fault(%s), hll_is_image(%s)" % (bad, bad)), word + "|f")
+        refused("hll_first_image of " + word, server.run("SELECT hll_first_image(%s);" % bad), IMAGE, "invalid HLL image: %s\n" % word)
         for call in CALLS:
             said = server.run("SELECT %s;" % (call % bad))
             refused("%s of %s" % (call, word), said, IMAGE, "invalid HLL image: %s\n" % word)
@@ -323,3 +334,36 @@ def reasons(server):
         for row in (1, 2, 5, 40, 400):
             said = server.run("SELECT hll_image_union_agg(i) FROM (%s) x;" % (ROWS % (row, bad, good, row + 9)))
             refused("row %d of %s" % (row, word), said, IMAGE, "invalid HLL image in row %d: %s\n" % (row, word))
+
+
+# ---- bytes after an image
+
+
+def trailing(server):
+    """Bytes after an image are refused wherever bytea is taken, so that bytea || bytea is no sketch; hll_first_image cuts them."""
+    images = [GOOD, image_of_coupons(12, 8, [1 << 26]), image_of_coupons(10, 4, []), image_of(10, 4, bytes([1] * 1023 + [40])),
+              image_of(9, 6, bytes(range(64)) * 8), image_of_coupons(12, 6, random_coupons(random.Random(SEED), 60))]
+    for image in images:
+        for more in (b"\0", b"\x02", image, GOOD):
+            follow = "%d byte%s it\n" % (len(more), "s follow" if len(more) > 1 else " follows")
+            longer, good = literal(image + more), literal(image)
+            equal("faults of an image with bytes after it", server.ask("SELECT hll_fault(%s), hll_is_image(%s), hll_fault(%s), hll_is_image(%s)" % (
+                longer, longer, good, good)), "trailing|f||t")
+            equal("hll_first_image", bytes_of(server.ask("SELECT hll_first_image(%s)" % longer)), image)
+            for call in CALLS:
+                refused(call + " with bytes after it", server.run("SELECT %s;" % (call % longer)), IMAGE, "invalid HLL image: " + follow)
+            for call in ("hll_merge(%s, %s)", "hll_merge(%s, %s, 9)", "hll_agree(%s, %s)", "%s::hyperloglog || %s", "%s || %s::hyperloglog"):
+                for number, both in ((1, (longer, good)), (2, (good, longer))):
+                    said = server.run("SELECT %s;" % (call % both))
+                    place = "" if "%s::" % both[number - 1] in call % both and "::hyper" in call % both else " in argument %d" % number
+                    refused("%s, bytes after argument %d" % (call, number), said.replace(" in argument %d" % number, "") if not place else said, IMAGE,
+                            "invalid HLL image%s: %s" % (place, follow))
+            for aggregate in ("hll_image_union_agg", "hyperloglog_union_agg"):
+                said = server.run("SELECT %s(i) FROM (VALUES (%s), (NULL), (%s)) x(i);" % (aggregate, good, longer))
+                refused(aggregate + " with bytes after a row", said, IMAGE, "invalid HLL image in row 3: " + follow)
+    said = server.run("SELECT # (%s || %s);" % (literal(images[1]), literal(images[1])))
+    refused("bytea || bytea", said, IMAGE, "invalid HLL image: 12 bytes follow it\n")
+    check("its hint", "hll_first_image cuts off what follows" in said, said)
+    padded = bytes([2, 1, 7, 12, 3, 4, 0, 8]) + bytes(32)
+    equal("an empty list with its places", server.ask("SELECT hll_is_image(%s), # %s, hll_merge(%s, %s)" % ((literal(padded),) * 4)),
+          "t|0|\\x0201070c030c0008")

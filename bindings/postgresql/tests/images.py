@@ -53,6 +53,20 @@ def is_empty(image):
     return not any(content.values) if image[7] & 3 == 2 else not content.members
 
 
+def length_of(image):
+    """How many bytes an accepted image takes, by docs/FORMAT.md; others may follow."""
+    stage, is_compact = image[7] & 3, image[5] & 8
+    if stage < 2:
+        start = 8 + 4 * stage
+        count = image[6] if stage == 0 else int.from_bytes(image[8:12], "little")
+        return start + 4 * (count if is_compact or not count and stage == 0 else 2**image[4])
+    count = 2**image[3]
+    if width_of(image) > 4:
+        return 40 + (count if width_of(image) == 8 else count // 4 * 3 + 1)
+    exceptions = int.from_bytes(image[36:40], "little")
+    return 40 + count // 2 + 4 * (exceptions if is_compact or not exceptions else 2**image[4])
+
+
 def width_of(image):
     return 4 + 2 * (image[7] >> 2 & 3)
 
@@ -60,10 +74,10 @@ def width_of(image):
 def merged(images, bound=None):
     """What SQL makes of images, by the plain model; None where their lg_k differ and there is no bound.
 
-    Empty images count for nothing; where all are empty the greatest lg_k is taken. The width is theirs, or 8 where they differ.
+    Empty images count for nothing, unless all are empty: then the greatest lg_k is taken. The width is theirs, or 8 where they differ.
     """
     full = [image for image in images if not is_empty(image)]
-    sizes, widths = {image[3] for image in full}, {width_of(image) for image in full}
+    sizes, widths = {image[3] for image in full}, {width_of(image) for image in full or images}
     if bound is None and len(sizes) > 1:
         return None
     if bound is None:

@@ -5,8 +5,8 @@ import re
 import shutil
 import subprocess
 
-from report import CHECKED, check, equal, refused
-from server import HERE, get
+from report import CHECKED, UNDEFINED, check, equal, refused
+from server import EARLIER, HERE, get
 
 
 def build(server):
@@ -42,7 +42,8 @@ def beside_peer(server):
     for question, wanted in (
             ("hll_cardinality(hll_union_agg(p)) FROM (SELECT hll_add_agg(hll_hash_bigint(x)) p FROM x) s", "3"),
             ("hll_estimate(hll_image_union_agg(i))::int FROM (SELECT hll_image_add_agg(x) i FROM x) s", "3"),
-            ("hll_estimate(hll_image_union_agg(i))::int FROM (SELECT hll_image_add_agg(x)::hll_image i FROM x) s", "3"),
+            ("(# hyperloglog_union_agg(i))::int FROM (SELECT hll_image_add_agg(x) i FROM x) s", "3"),
+            ("(# hll_add(hyperloglog_agg(x), 7))::int FROM x", "4"),
             ("hll_estimate(hll_image_union_agg(i, 10))::int FROM (SELECT hll_image_add_agg('u' || x, 11) i FROM x) s", "3"),
             ("hll_cardinality(hll_add_agg(hll_hash_text('a'), 12, 5))", "1"),
             ("hll_estimate(hll_image_add_agg('a', 12, 6))::int, hll_estimate(hll_image_add_agg(7, 12, 6))::int", "1|1"),
@@ -79,7 +80,7 @@ def short_names(server):
     found = server.ask("""SELECT count(*), count(*) FILTER (WHERE short.oid IS NOT NULL) FROM pg_proc long LEFT JOIN pg_proc short
         ON short.proname = replace(long.proname, '_image', '') AND short.proargtypes = long.proargtypes AND short.prokind = 'a'
         WHERE long.prokind = 'a' AND long.proname ~ '^hll_image_'""", "short")
-    equal("as many short names", found, "51|51")
+    equal("as many short names", found, "54|54")
     found = server.ask("SELECT pg_typeof(hll_union_agg(i::hyperloglog)), pg_typeof(hll_union_agg(i)) FROM t", "short")
     equal("unions of the type and of bytea", found, "hyperloglog|bytea")
 
@@ -95,65 +96,55 @@ def marks(server):
     check("functions are many", len(found) > 30, len(found))
     for line in found:
         name, *said = line.split("|")
-        sees_nulls = re.search("_trans|_combine|_final|_agg", name) is not None
+        sees_nulls = re.search("_trans|_combine|_final|_agg|^hll_add$", name) is not None
         equal("marks of " + name, said, ["i", "s", "f" if sees_nulls else "t"])
     server.ask("CREATE DATABASE elsewhere")
     server.ask("""CREATE SCHEMA sketches;
         CREATE EXTENSION hll_sketches SCHEMA sketches;
         CREATE SCHEMA other;
         ALTER EXTENSION hll_sketches SET SCHEMA other""", "elsewhere")
-    said = server.run("SELECT other.hll_info(x.i::other.hll_image) FROM (SELECT other.hll_image_empty(9, 6) i) x;", "elsewhere")
+    said = server.run("SELECT other.hll_info(x.i::other.hyperloglog) FROM (SELECT other.hll_image_empty(9, 6) i) x;", "elsewhere")
     equal("in another schema", said, "(9,6,list,0,0)")
     equal("dropped", server.run("DROP EXTENSION hll_sketches;", "elsewhere"), "")
 
 
 # ---- updates and dumps
 
-# What a database of 0.1 may have: columns of the domain and of bytea, views, indexes, constraints and defaults, a function, and
-# aggregates of its own. The aggregates hll_add_agg and hll_union_agg are those of hll_sketches_agg.
-OLD = """CREATE EXTENSION hll_sketches VERSION '0.1';
-    CREATE EXTENSION hll_sketches_agg VERSION '0.1';
-    CREATE TABLE days (day int PRIMARY KEY, image hll_image NOT NULL, plain bytea DEFAULT hll_image_empty(10),
-        CHECK ((hll_info(image)).lg_k <= 12));
-    INSERT INTO days SELECT g, hll_image_add_agg(x, 12, 4 + 2 * (g % 3)), hll_image_add_agg('v' || x)
-        FROM (SELECT x, x % 40 g FROM generate_series(1, 60000) x) s GROUP BY g;
-    CREATE MATERIALIZED VIEW month AS SELECT hll_image_union_agg(image) u, hll_union_agg(plain, 11) p FROM days;
-    CREATE VIEW estimates AS SELECT day, hll_estimate(image) e, hll_merge(image, plain, 12) m,
-        hll_fold('\\x0201070a030801080500000c', 4) f FROM days;
-    CREATE INDEX ON days ((hll_estimate(image)));
-    CREATE INDEX ON days USING hash (plain);
-    CREATE AGGREGATE merged(bytea) (SFUNC = hll_merge, STYPE = bytea);
-    CREATE FUNCTION total() RETURNS float8 LANGUAGE sql AS 'SELECT hll_estimate(hll_add_agg(day)) FROM days'"""
-TELLS = """SELECT md5(string_agg(image::text || plain::text, ',' ORDER BY day)), (SELECT u FROM month), (SELECT p FROM month), total(),
-    (SELECT string_agg(estimates::text, ',' ORDER BY day) FROM estimates), md5(merged(plain ORDER BY day)),
-    hll_merge('\\x0201070a030801080500000c', '\\x0201070c030c0008'), hll_image_add_agg(day), hll_image_add_agg(day::text, 10)
+# What a database of an earlier version may have: columns, views, indexes, constraints and defaults, a function and aggregates.
+OLD = """CREATE EXTENSION hll_sketches VERSION '%(version)s';
+    CREATE EXTENSION hll_sketches_agg VERSION '%(version)s';
+    CREATE TABLE days (day int PRIMARY KEY, sketch hyperloglog(12) NOT NULL, plain bytea DEFAULT hll_image_empty(12),
+        CHECK ((hll_info(sketch)).lg_k <= 12));
+    INSERT INTO days SELECT g, hyperloglog_agg(x, 12, 4 + 2 * (g %% 3)), hll_image_add_agg('v' || x)
+        FROM (SELECT x, x %% 40 g FROM generate_series(1, 60000) x) s GROUP BY g;
+    CREATE MATERIALIZED VIEW month AS SELECT hyperloglog_union_agg(sketch) u, hll_image_union_agg(plain, 11) p FROM days;
+    CREATE VIEW estimates AS SELECT day, # sketch e, hll_fold('\\x0201070a030801080500000c', 4) f FROM days;
+    CREATE INDEX ON days ((hll_estimate(sketch)));
+    CREATE INDEX ON days USING hash (sketch);
+    CREATE FUNCTION total() RETURNS float8 LANGUAGE sql AS 'SELECT # hyperloglog_agg(day) FROM days'""" % {"version": EARLIER}
+TELLS = """SELECT md5(string_agg(sketch::text || plain::text, ',' ORDER BY day)), (SELECT u FROM month), (SELECT p FROM month), total(),
+    (SELECT string_agg(estimates::text, ',' ORDER BY day) FROM estimates), hll_image_add_agg(day), hll_image_add_agg(day::text, 10)
     FROM days"""
-MIGRATED = """ALTER TABLE days ALTER image TYPE hyperloglog(12);
-    ALTER TABLE days ALTER plain DROP DEFAULT, ALTER plain TYPE hyperloglog(12, 8) USING plain::hyperloglog,
-        ALTER plain SET DEFAULT hyperloglog_empty(12)"""
 
 
 def update(server):
-    """A database of 0.1 says the same after an update, and a dump of it is restored by 0.2; its columns become the type's."""
-    server.ask("CREATE DATABASE old; CREATE DATABASE restored; CREATE DATABASE short_first")
+    """A database of an earlier version says the same after an update, and has what a new one has; so has a dump of it, restored."""
+    server.ask("CREATE DATABASE old; CREATE DATABASE restored")
     server.ask(OLD, "old")
     before, dumped = server.ask(TELLS, "old"), server.tool("pg_dump", "-d", "old")
+    refused("what the earlier version has not", server.run("SELECT hll_merge(sketch, sketch) FROM days;", "old"), UNDEFINED)
+    refused("short names of the earlier version", server.run("SELECT hll_add_agg(7);", "old"), UNDEFINED)
     equal("updated", server.run("ALTER EXTENSION hll_sketches UPDATE; ALTER EXTENSION hll_sketches_agg UPDATE;", "old"), "")
     equal("versions", server.ask("SELECT extname, extversion FROM pg_extension WHERE extname ~ '^hll' ORDER BY 1", "old"),
           "hll_sketches|0.2\nhll_sketches_agg|0.2")
     equal("after an update", server.ask(TELLS, "old"), before)
-    equal("a dump of 0.1 restored by 0.2", restore(server, dumped, "restored"), "")
-    equal("after a dump of 0.1", server.ask(TELLS, "restored"), before)
-    fresh = "SELECT pg_describe_object(classid, objid, 0) FROM pg_depend WHERE refclassid = 'pg_extension'::regclass AND deptype = 'e' ORDER BY 1"
-    equal("an update has what 0.2 has", server.ask(fresh, "old"), server.ask(fresh, "restored"))
-    refused("the domain after an update", server.run("INSERT INTO days VALUES (100, '\\x00');", "old"), CHECKED)
-    said = server.run("DROP VIEW estimates; DROP MATERIALIZED VIEW month; ALTER TABLE days DROP CONSTRAINT days_image_check; %s;" % MIGRATED, "old")
-    equal("columns of the domain become the type's", said, "")
-    found = server.ask("SELECT md5(string_agg(image::text || plain::text, ',' ORDER BY day)) FROM days", "old")
-    equal("what became of them", found, before.split("|")[0])
-    server.ask("CREATE EXTENSION hll_sketches VERSION '0.1'; CREATE EXTENSION hll_sketches_agg VERSION '0.1'", "short_first")
-    said = server.run("ALTER EXTENSION hll_sketches_agg UPDATE;", "short_first")
-    check("the short names alone can't be updated", said.startswith("ERROR:  42704: type hyperloglog does not exist"), said)
+    equal("what the update brought", server.ask("SELECT bool_and(sketch || sketch = hll_merge(sketch, sketch)), hll_add_agg(7) = hll_image_add_agg(7) "
+                                                "FROM days", "old"), "t|t")
+    equal("a dump restored by this version", restore(server, dumped, "restored"), "")
+    equal("after a dump", server.ask(TELLS, "restored"), before)
+    objects = "SELECT pg_describe_object(classid, objid, 0) FROM pg_depend WHERE refclassid = 'pg_extension'::regclass AND deptype = 'e' ORDER BY 1"
+    equal("an update has what this version has", server.ask(objects, "old"), server.ask(objects, "restored"))
+    equal("one version of each", server.ask("SELECT count(*) FROM pg_available_extension_versions WHERE name ~ '^hll_sk' AND version <> '%s'" % EARLIER), "2")
 
 
 def restore(server, dumped, database):
@@ -163,7 +154,7 @@ def restore(server, dumped, database):
 NEW = """CREATE SCHEMA sketches;
     CREATE EXTENSION hll_sketches SCHEMA sketches;
     SET search_path = sketches, public;
-    CREATE TABLE public.days (day int PRIMARY KEY, image hll_image NOT NULL, sketch hyperloglog(12, 8) DEFAULT hyperloglog_empty(12),
+    CREATE TABLE public.days (day int PRIMARY KEY, image bytea NOT NULL CHECK (hll_is_image(image)), sketch hyperloglog(12, 8) DEFAULT hyperloglog_empty(12),
         CHECK (# sketch < 1e9));
     CREATE DOMAIN public.small_sketch AS hyperloglog(10) CHECK (hll_estimate(VALUE) < 1e9);
     CREATE TABLE public.parts (n int, sketch small_sketch, several hyperloglog[], PRIMARY KEY (n));
@@ -182,7 +173,7 @@ ALL_OF_IT = """SET search_path = sketches, public;
 
 
 def dump(server):
-    """Tables of the domain and of the type, with what leans on them, dumped and restored, by text and by a file of pg_restore."""
+    """Tables of bytea and of the type, with what leans on them, dumped and restored, by text and by a file of pg_restore."""
     server.ask("CREATE DATABASE before; CREATE DATABASE after; CREATE DATABASE after_custom")
     server.ask(NEW, "before")
     before = server.ask(ALL_OF_IT, "before")
@@ -192,7 +183,7 @@ def dump(server):
     server.tool("pg_dump", "-d", "before", "-Fc", "-f", str(server.file("dump")))
     server.tool("pg_restore", "-d", "after_custom", "-1", str(server.file("dump")))
     equal("dump and pg_restore", server.ask(ALL_OF_IT, "after_custom"), before)
-    refused("the domain is restored", server.run("INSERT INTO days VALUES (100, '\\x00');", "after"), CHECKED)
+    refused("a check is restored", server.run("INSERT INTO days VALUES (100, '\\x00');", "after"), CHECKED)
     said = server.run("SET search_path = sketches, public; INSERT INTO days VALUES (100, '\\x0201070c030c0008', hyperloglog_empty(11));", "after")
     refused("the modifier is restored", said, "22000")
     equal("a default is restored", server.ask("INSERT INTO days(day, image) VALUES (101, '\\x0201070c030c0008') RETURNING sketch", "after"),

@@ -7,6 +7,7 @@ import uuid
 
 from images import image_of_values
 from report import DATATYPE, SEED, bytes_of, check, equal, refused
+from unions import settings
 
 AGGREGATES = "hll_image_add_agg", "hyperloglog_agg"
 LEAST, GREATEST = -2**63, 2**63 - 1
@@ -129,6 +130,66 @@ def refused_kinds(server):
     if server.run("CREATE EXTENSION citext;"):
         print("skipped: citext, as it is not here")
         return
-    found = server.ask("SELECT hyperloglog_agg('Ann'::citext) = hyperloglog_agg('Ann'), "
-                       "hll_image_add_agg('Ann'::citext, 9, 4) = hll_image_add_agg('Ann', 9, 4)")
-    equal("a citext counts as it is written", found, "t|t")
+    refused_texts(server)
+
+
+PEOPLE = """CREATE COLLATION IF NOT EXISTS ignores_case (provider = icu, locale = 'und-u-ks-level2', deterministic = false);
+    CREATE DOMAIN nickname AS citext;
+    CREATE TABLE people (name citext, nick nickname, under text COLLATE ignores_case, plain text, short varchar(9));
+    INSERT INTO people SELECT x, x, x, x, x FROM unnest(ARRAY['Ann', 'ann', 'Bob']) x"""
+EACH_WAY = ("hyperloglog_agg(%s)", "hll_image_add_agg(%s, 9)", "hyperloglog_agg(%s, 9, 4)", "hyperloglog_agg(DISTINCT %s)", "hyperloglog_agg(%s) FILTER (WHERE true)",
+            "hyperloglog_agg(%s) OVER ()", "count(*) OVER (), hyperloglog_agg(%s, 9) OVER (ORDER BY plain ROWS 1 PRECEDING)", "hll_add(hyperloglog_empty(), %s)",
+            "hll_add(hll_image_empty(), %s)")
+
+
+def refused_texts(server):
+    """Texts that are equal by another rule than their bytes are refused, and counted where they are cast."""
+    server.ask(PEOPLE)
+    for call in EACH_WAY:
+        for value, kind in ("name", "citext"), ("nick", "nickname"), ("coalesce(name, nick)", "citext"):
+            said = server.run("SELECT %s FROM people;" % (call % value))
+            refused("%s of a %s" % (call, kind), said, DATATYPE, "values of type %s cannot be counted" % kind)
+            check("a cast for " + kind, "CAST(value AS text)" in said, said)
+        for value in "under", "plain COLLATE ignores_case":
+            said = server.run("SELECT %s FROM people;" % (call % value))
+            refused("%s of %s" % (call, value), said, "42P21", "texts under the nondeterministic collation \"ignores_case\" cannot be counted")
+            check("a cast for a collation", 'CAST(value AS text) COLLATE "C"' in said, said)
+        for value in "name::text", "nick::text", "lower(name)", 'under COLLATE "C"', "plain", "short", 'lower(under) COLLATE "C"':
+            said = server.run("SELECT %s FROM people;" % (call % value))
+            check("%s of %s" % (call, value), "ERROR" not in said, said)
+    found = server.ask("""SELECT round(# hyperloglog_agg(name::text)), round(# hyperloglog_agg(lower(name))), round(# hyperloglog_agg(lower(under) COLLATE "C")),
+        round(# hyperloglog_agg(short)) FROM people""")
+    equal("counts of people", found, "3|2|2|3")
+    for workers in (0, 3):
+        said = server.run(settings(workers) + "SELECT hyperloglog_agg(name) FROM people;")
+        refused("a citext at %d workers" % workers, said, DATATYPE, "values of type citext")
+
+
+# ---- one value more
+
+
+def one_more(server):
+    """hll_add beside the aggregate: of each type, at each stage and width, of the type and of bytes, and in loops."""
+    for kind, values in kinds():
+        texts = [text for text, _ in values[:300]]
+        for sketch in ("hyperloglog_empty(8, %d)", "hll_image_empty(8, %d)"):
+            for width in (4, 6, 8):
+                found = server.ask("""DO $$ BEGIN DROP AGGREGATE IF EXISTS added_one_by_one(%s); END $$;
+                    CREATE AGGREGATE added_one_by_one(%s) (SFUNC = hll_add, STYPE = %s, INITCOND = '%s');
+                    SELECT added_one_by_one(v), hyperloglog_agg(v, 8, %d) FROM unnest(%s) v""" % (
+                        kind, kind, "hyperloglog" if sketch.startswith("hyper") else "bytea", server.ask("SELECT " + sketch % width), width, array_of(kind, texts)))
+                equal("hll_add of %s at width %d" % (kind, width), *found.split("|"))
+    for call, wanted in (
+            ("hll_add(hyperloglog_empty(9, 4), NULL::text)", "\\x02010709030c0000"), ("hll_add(NULL::hyperloglog, 7) IS NULL", "t"),
+            ("hll_add(hyperloglog_empty(12, 4), 'a') = hyperloglog_agg('a', 12, 4)", "t"), ("pg_typeof(hll_add(hll_image_empty(), 7))", "bytea"),
+            ("pg_typeof(hll_add('\\x0201070c030c0008', 'a'))", "hyperloglog"), ("(hll_info(hll_add(hyperloglog_agg('a'), 'a'))).coupons", "1")):
+        equal(call, server.ask("SELECT " + call), wanted)
+    for kind, value in OTHERS.items():
+        said = server.run("SELECT hll_add(hyperloglog_empty(), %s);" % value)
+        refused("hll_add of " + kind, said, DATATYPE, "values of type %s cannot be counted" % kind)
+    refused("hll_add of a sketch", server.run("SELECT hll_add(hyperloglog_empty(), hyperloglog_empty());"), DATATYPE, "sketches are not counted")
+    found = server.run("""DO $$ DECLARE s hyperloglog := hyperloglog_empty(10, 6); before hyperloglog; BEGIN
+        FOR n IN 1 .. 3000 LOOP before := s; s := hll_add(s, n); END LOOP;
+        s := hll_add(s || s, 7) || s;
+        RAISE NOTICE 'same % %', s = (SELECT hyperloglog_agg(n, 10, 6) FROM generate_series(1, 3000) n), hll_add(before, 3000) = s; END $$;""")
+    check("a loop of hll_add", "same t t" in found, found)

@@ -7,7 +7,7 @@ import threading
 
 from calls import bad_images
 from images import random_image
-from report import CANCELLED, IMAGES, MEMORY, QUICK, REFUSALS, array, check, equal, literal
+from report import CANCELLED, IMAGE, IMAGES, MEMORY, QUICK, REFUSALS, array, check, equal, literal
 from server import Session
 
 SLOW = "SELECT hll_image_union_agg(image, 14), hll_image_add_agg(image) FROM slow, generate_series(1, 100000)"
@@ -17,10 +17,8 @@ LONG = 2**29 + 2**20        # of which twice as much is more than a value may ha
 KILOBYTES = 4 * 2**20       # for the backend
 FRONTS = """SELECT %s FROM (SELECT i || convert_to(repeat('x', %d), 'UTF8') long, i
     FROM (SELECT hll_image_add_agg(x) i FROM generate_series(1, 5000) x) s OFFSET 0) x;"""
-OF_FRONT = ("hll_check(long) IS NULL", "hll_convert(long, 4) = hll_convert(i, 4)", "hll_fold(long, 9) = hll_fold(i, 9)",
-            "hll_set_estimator_fields(long) = hll_set_estimator_fields(i)", "hll_merge(long, i) = i", "hll_merge(i, long, 9) = hll_fold(i, 9)",
-            "hll_agree(i, long)", "hll_info(long) = hll_info(i)", "hll_estimate(long) = hll_estimate(i)",
-            "hll_estimate_bounds(long) = hll_estimate_bounds(i)", "(SELECT hll_image_union_agg(l) FROM (SELECT long l) y) = i")
+OF_FRONT = "hll_fault(long) = 'trailing'", "NOT hll_is_image(long)", "hll_first_image(long) = i"
+REFUSED_LONG = "hll_convert(long, 4)", "hll_merge(i, long, 9)", "(SELECT hll_image_union_agg(l) FROM (SELECT long l) y)"
 
 
 def has_memory(kilobytes):
@@ -30,14 +28,17 @@ def has_memory(kilobytes):
 
 
 def long_values(server):
-    """An image before half a gigabyte of other bytes is that image, and a text of this length is a value."""
+    """An image before half a gigabyte of other bytes is cut out of them, or refused, and a text of this length is a value."""
     if not has_memory(KILOBYTES):
         print("skipped: values of half a gigabyte, as memory is short")
         return
     answers = server.run(FRONTS % (", ".join(OF_FRONT), LONG)).split("|")
     for question, answer in itertools.zip_longest(OF_FRONT, answers, fillvalue=""):
         equal("long: " + question, answer, "t")
-    equal("long and no image", server.run("SELECT hll_check(convert_to(repeat('x', %d), 'UTF8'));" % LONG), "family")
+    for question in REFUSED_LONG:
+        said = server.run(FRONTS % (question, LONG))
+        check("long: " + question, said.startswith("ERROR:  %s: invalid HLL image" % IMAGE) and ": %d bytes follow it\n" % LONG in said, said)
+    equal("long and no image", server.run("SELECT hll_fault(convert_to(repeat('x', %d), 'UTF8'));" % LONG), "family")
     found = server.run("SELECT (hll_info(hll_image_add_agg(repeat('x', %d)))).coupons;" % LONG)
     equal("a long text", found, "1")
 

@@ -171,7 +171,7 @@ PLACES = """CREATE TABLE parts_of AS SELECT g, hyperloglog_agg(n * g, 10) a, hyp
 def places(server):
     """A merge in registers is the same image wherever it goes: into functions of bytea, domains, arrays, rows, tables, sorts."""
     server.ask(PLACES)
-    for call in ("m::bytea = f", "m = f::hyperloglog", "f::hyperloglog = m", "m::text = f::hyperloglog::text", "m::hll_image = f", "m::hyperloglog(10, 8) = m",
+    for call in ("m::bytea = f", "m = f::hyperloglog", "f::hyperloglog = m", "m::text = f::hyperloglog::text", "m::hyperloglog(10, 8) = m",
                  "length(m) = length(f)", "octet_length(m) = octet_length(f)", "md5(m) = md5(f)", "get_byte(m, 3) = 10", "substring(m::bytea, 5, 40) = "
                  "substring(f, 5, 40)", "m::bytea || '\\x00'::bytea = f || '\\x00'::bytea", "hyperloglog_send(m) = f", "hyperloglog_cmp(m, f::hyperloglog) = 0",
                  "# m = hll_estimate(f)", "hll_info(m) = hll_info(f)", "hll_fold(m, 5)::bytea = hll_fold(f, 5)", "hll_convert(m, 4)::bytea = hll_convert(f, 4)",

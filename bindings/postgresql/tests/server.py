@@ -17,6 +17,7 @@ import time
 
 HERE = pathlib.Path(__file__).resolve().parent.parent
 SOURCES = ["Makefile", "*.[ch]", "*.map", "*.control", "hll_*.sql"]
+EARLIER = "0.1.9"       # a version that is made up: what this one has, but for a section that the update brings
 SETTINGS = """
 listen_addresses = ''
 fsync = off
@@ -158,7 +159,19 @@ class Server:
                                stdout=subprocess.PIPE, stderr=subprocess.STDOUT, text=True)
         if built.returncode != 0:
             raise RuntimeError("the extension could not be built:\n" + built.stdout)
+        self.make_earlier()
         self.warnings = [line for line in built.stdout.splitlines() if "warning:" in line]
+
+    def make_earlier(self):
+        """Scripts of an earlier version: without merges of two sketches, and without the short names."""
+        extensions = self.inside(folder(self.pg_config, "sharedir")) / "extension"
+        for name, first, last in (("hll_sketches", "-- ---- two sketches", "-- ---- what the aggregates"), ("hll_sketches_agg", "DO $$\nDECLARE", "")):
+            script, = HERE.glob(name + "--*.sql")
+            text, version = script.read_text(), script.stem.split("--")[1]
+            start = text.index(first)
+            end = text.index(last) if last else len(text)
+            (extensions / ("%s--%s.sql" % (name, EARLIER))).write_text(text[:start] + text[end:])
+            (extensions / ("%s--%s--%s.sql" % (name, EARLIER, version))).write_text(text[start:end])
 
     def start(self):
         data, self.socket = self.root / "data", self.root / "socket"

@@ -4,10 +4,11 @@ import random
 import time
 
 from images import image_of, image_of_coupons, merged, other_image, random_coupons, random_image
-from report import ARGUMENT, CHECKED, DATA, IMAGE, NULL, SEED, UNDEFINED, all_bytes_of, bytes_of, check, equal, literal, load, refused
+from report import ARGUMENT, CHECKED, DATA, IMAGE, NULL, SEED, all_bytes_of, bytes_of, check, equal, literal, load, refused
 from long_searches import stride_coupons, unsorted_set
 
 EMPTY = "\\x0201070c030c0008"
+DOMAIN = "DO $$ BEGIN CREATE DOMAIN an_image AS bytea CHECK (hll_is_image(VALUE)); EXCEPTION WHEN duplicate_object THEN END $$"
 
 
 def typed(image):
@@ -71,6 +72,7 @@ SIZES = "an HLL image of %s %d, not %d"
 
 def modifiers(server):
     """A column's lg_k and width are asked of what is assigned, cast, copied and restored, and change nothing."""
+    server.ask(DOMAIN)
     server.ask("CREATE TABLE fixed (twelve hyperloglog(12), eight hyperloglog(12, 8) DEFAULT hyperloglog_empty(12, 8))")
     found = server.ask("SELECT format_type(atttypid, atttypmod) FROM pg_attribute WHERE attrelid = 'fixed'::regclass AND attnum > 0")
     equal("modifiers as they are shown", found, "hyperloglog(12)\nhyperloglog(12,8)")
@@ -127,7 +129,7 @@ def ways(server, image, column, what, wanted, found):
     for way in ("INSERT INTO fixed(%s) VALUES (%s)" % (column, typed(image)), "INSERT INTO fixed(%s) VALUES (%s)" % (column, literal(image)),
                 "INSERT INTO fixed(%s) SELECT %s::%s" % (column, typed(image), kind),
                 "INSERT INTO fixed(%s) SELECT %s::%s" % (column, literal(image), kind),
-                "INSERT INTO fixed(%s) VALUES (%s::hll_image)" % (column, literal(image)), function,
+                "INSERT INTO fixed(%s) VALUES (%s::an_image)" % (column, literal(image)), function,
                 "COPY fixed(%s) FROM '%s'" % (column, path), "COPY fixed(%s) FROM '%s.binary' (FORMAT binary)" % (column, path)):
         said = server.run("TRUNCATE fixed; %s;" % way)
         name = "%s by %s" % (kind, way[:50])
@@ -208,23 +210,25 @@ def operators(server):
     equal("rows by a hash index", found, "10")
 
 
-IMAGES = {"hyperloglog": "'%s'::hyperloglog" % EMPTY, "bytea": "'%s'::bytea" % EMPTY, "hll_image": "'%s'::hll_image" % EMPTY,
+IMAGES = {"hyperloglog": "'%s'::hyperloglog" % EMPTY, "bytea": "'%s'::bytea" % EMPTY, "a domain": "'%s'::an_image" % EMPTY,
           "a literal": "'%s'" % EMPTY, "NULL": "NULL", "hyperloglog(12)": "'%s'::hyperloglog(12)" % EMPTY}
-OF_ONE = {"hll_estimate(%s)": "0", "hll_info(%s)": "(12,8,list,0,0)", "hll_estimate_bounds(%s)": "(0,0)", "hll_check(%s)": "",
+OF_ONE = {"hll_estimate(%s)": "0", "hll_info(%s)": "(12,8,list,0,0)", "hll_estimate_bounds(%s)": "(0,0)", "hll_fault(%s)": "",
           "hll_hip_estimate(%s)": "", "hll_fold(%s, 4)": "\\x02010704030c0008", "hll_convert(%s, 4)": "\\x0201070c030c0000",
-          "hll_set_estimator_fields(%s)": EMPTY, "hll_image_union_agg(%s)": EMPTY, "hll_image_union_agg(%s, 10)": "\\x0201070a030c0008"}
-GIVES_TYPE = "hll_fold", "hll_convert", "hll_set_estimator_fields", "hll_merge"
+          "hll_set_estimator_fields(%s)": EMPTY, "hll_is_image(%s)": "t",
+          "hyperloglog_union_agg(%s)": EMPTY, "hll_image_union_agg(%s)": EMPTY, "hll_image_union_agg(%s, 10)": "\\x0201070a030c0008"}
+GIVES_TYPE = "hll_fold", "hll_convert", "hll_set_estimator_fields"
 
 
 def overloads(server):
     """Each function takes the type, bytea, the domain, a literal and NULL, and gives the type where it got that."""
+    server.ask(DOMAIN)
     for call, wanted in OF_ONE.items():
         for kind, value in IMAGES.items():
             said = server.run("SELECT %s;" % (call % value))
             equal("%s of %s" % (call, kind), said, "" if kind == "NULL" else wanted)
             given = server.ask("SELECT pg_typeof(%s)" % (call % value))
             if call.startswith(GIVES_TYPE):
-                equal("the type of %s of %s" % (call, kind), given, "bytea" if kind in ("bytea", "hll_image") else "hyperloglog")
+                equal("the type of %s of %s" % (call, kind), given, "bytea" if kind in ("bytea", "a domain") else "hyperloglog")
     for left, a in IMAGES.items():
         for right, b in IMAGES.items():
             kinds = {left, right} - {"a literal", "NULL"}
@@ -237,10 +241,9 @@ def overloads(server):
     for arguments in ("", "10", "10, 4"):
         found = server.ask("SELECT pg_typeof(hyperloglog_empty(%s)), hyperloglog_empty(%s)::bytea = hll_image_empty(%s)" % ((arguments,) * 3))
         equal("hyperloglog_empty(%s)" % arguments, found, "hyperloglog|t")
-    refused("the union of the type alone", server.run("SELECT hyperloglog_union_agg('%s'::bytea);" % EMPTY), UNDEFINED)
-    server.ask("CREATE TABLE both_ways (sketch hyperloglog, image hll_image)")
-    equal("from the domain, and back", server.run("INSERT INTO both_ways VALUES ('%s'::hll_image, '%s'::hyperloglog);" % (EMPTY, EMPTY)), "")
-    refused("bytes that the domain refuses", server.run("INSERT INTO both_ways(image) VALUES ('\\x00'::bytea);"), CHECKED)
+    server.ask("CREATE TABLE both_ways (sketch hyperloglog, image an_image)")
+    equal("from a domain, and back", server.run("INSERT INTO both_ways VALUES ('%s'::an_image, '%s'::hyperloglog);" % (EMPTY, EMPTY)), "")
+    refused("bytes that a domain refuses", server.run("INSERT INTO both_ways(image) VALUES ('\\x00'::bytea);"), CHECKED)
     found = server.ask("SELECT length(sketch), octet_length(sketch), md5(sketch) = md5(image), get_byte(sketch, 3) FROM both_ways")
     equal("functions of bytea", found, "8|8|t|12")
 
@@ -256,10 +259,10 @@ def typed_aggregates(server):
     load(server, "groups_typed (g, image)", [(g, numbers.choice([random_image, other_image])(numbers, 8 + g % 5)) for g in groups])
     server.ask("UPDATE groups_typed SET sketch = image")
     for options in ("", ", 10", ", 9, 4", ", 21, 6"):
-        found = server.ask("""SELECT count(*), bool_and(t::bytea = b), min(pg_typeof(t)::text), bool_and(t::bytea = i) FROM (
-            SELECT hyperloglog_union_agg(sketch%s) t, hll_image_union_agg(image%s) b, hll_image_union_agg(sketch%s) i
-            FROM groups_typed GROUP BY g) x""" % ((options,) * 3))
-        equal("hyperloglog_union_agg%s" % options, found, "400|t|hyperloglog|t")
+        found = server.ask("""SELECT count(*), bool_and(t::bytea = b), min(pg_typeof(t)::text), bool_and(t::bytea = i AND t = u), min(pg_typeof(u)::text)
+            FROM (SELECT hyperloglog_union_agg(sketch%s) t, hll_image_union_agg(image%s) b, hll_image_union_agg(sketch%s) i, hyperloglog_union_agg(image%s) u
+            FROM groups_typed GROUP BY g) x""" % ((options,) * 4))
+        equal("hyperloglog_union_agg%s" % options, found, "400|t|hyperloglog|t|hyperloglog")
     for value in ("n", "n::text", "n::text::bytea"):
         for options in ("", ", 10", ", 9, 4"):
             found = server.ask("SELECT pg_typeof(t), t::bytea = b FROM (SELECT hyperloglog_agg(%s%s) t, hll_image_add_agg(%s%s) b "

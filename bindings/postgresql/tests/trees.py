@@ -27,7 +27,7 @@ def random_groups(numbers):
         images, kind = full[numbers.choice(SIZES)], numbers.randrange(8)
         if kind == 0:
             images = empty
-        elif kind < 4:
+        if kind < 4:
             width = numbers.choice(images)[7] & 12
             images = [image for image in images if image[7] & 12 == width]
         group = numbers.choices(images, k=numbers.randint(2, 9))
@@ -198,4 +198,7 @@ def stays(server):
         equal("an empty sketch counts for nothing: " + few[:20], found, "14|6|list|1|0|t")
     found = server.ask("SELECT hll_image_union_agg(i), hll_merge(hll_image_empty(14, 4), hll_image_empty(9, 4)) FROM "
                        "unnest(ARRAY[hll_image_empty(9, 4), hll_image_empty(14, 4), hll_image_empty(4, 4)]) i")
-    equal("empty sketches alone", [bytes_of(one) for one in found.split("|")], [image_of_coupons(14, 8, [])] * 2)
+    equal("empty sketches alone", [bytes_of(one) for one in found.split("|")], [image_of_coupons(14, 4, [])] * 2)
+    found = server.ask("SELECT hll_image_union_agg(i), hll_merge(hll_image_empty(9, 6), hll_image_empty(9, 4)) FROM "
+                       "unnest(ARRAY[hll_image_empty(9, 4), hll_image_empty(9, 6), hll_image_empty(9, 4)]) i")
+    equal("empty sketches of two widths", [bytes_of(one) for one in found.split("|")], [image_of_coupons(9, 8, [])] * 2)

@@ -121,7 +121,7 @@ def partial(server):
         ALTER TABLE rows SET (parallel_workers = 3);
         ANALYZE rows""", "partial")
     calls = list(aggregate_calls(server, "partial"))
-    equal("aggregates", len(calls), 3 + 39 + 3 + 39 + 6 + 39)
+    equal("aggregates", len(calls), 6 + 39 + 6 + 39 + 6 + 39)
     for call in calls:
         query = "SELECT md5((%s)::bytea) FROM rows" % call
         plan = server.ask(settings(3) + PLAN + query, "partial")
@@ -171,7 +171,7 @@ def parts(server):
 # ---- workers for toasted images
 
 TOASTED = """CREATE EXTENSION hll_sketches;
-    CREATE TABLE kept (n int, image hll_image NOT NULL);
+    CREATE TABLE kept (n int, image bytea NOT NULL);
     ALTER TABLE kept ALTER image SET STORAGE EXTERNAL;
     INSERT INTO kept SELECT n, i FROM (SELECT hll_image_add_agg(x) i FROM generate_series(1, 20000) x) s,
         generate_series(1, 15000) n"""

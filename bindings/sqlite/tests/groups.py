@@ -157,13 +157,12 @@ def different_sizes(full, empty):
 
 
 def large():
-    """Large sets at lg_k 21, and images with many bytes after them."""
+    """Large sets at lg_k 21."""
     sets = [image_of_coupons(21, 8, random_coupons(NUMBERS, 3000)) for _ in range(30)]
     found, wanted = ask("SELECT hll_image_union_agg(x, 21) FROM " + table_of(sets)), union_of(sets, 21)
     equal("union of large sets", found, wanted.to_bytes())
-    longer = [image + bytes(NUMBERS.randrange(10**5)) for image in sets + SMALL[:50]]
-    found, wanted = ask("SELECT hll_image_union_agg(x, 14, 8) FROM " + table_of(longer)), union_of(sets + SMALL[:50], 14)
-    equal("union of images with bytes after them", registers_of(found), registers_of(wanted.to_bytes()))
+    found, wanted = ask("SELECT hll_image_union_agg(x, 14, 8) FROM " + table_of(sets + SMALL[:50])), union_of(sets + SMALL[:50], 14)
+    equal("union of large sets and of small ones", registers_of(found), registers_of(wanted.to_bytes()))
     words = ["value %d" % number for number in range(40000)]
     found = ask("SELECT hll_image_add_agg(x, 21, 6) FROM " + table_of(words))
     equal("a large set of values", found, image_of_values(21, 6, [word.encode() for word in words]))

@@ -114,7 +114,7 @@ static const char *const queries[] = {
     "SELECT hll_merge(a.image, b.image) FROM images a, images b WHERE a.n IN (1, 2, 5) AND b.n IN (1, 2, 5)",
     "SELECT hll_agree(image, hll_image_empty(9)) FROM images",
     "SELECT hll_info(image) FROM images",
-    "SELECT hll_check(image) FROM images",
+    "SELECT hll_fault(image), hll_is_image(image), hll_first_image(image) FROM images",
     "SELECT hll_estimate(image), hll_estimate_bounds(image, 3), hll_hip_estimate(image) FROM images",
 };
 

@@ -75,13 +75,13 @@ def queries():
     images = [Mutants(kind, SEED + number).image() for number in range(40) for kind in KINDS]
     lines = ["CREATE TABLE t (x);"] + ["INSERT INTO t VALUES (x'%s');" % image.hex() for image in images]
     # (the shell writes all digits of a number by long double, which valgrind has not)
-    calls = ["hll_check(x)", "hll_info(x)", "CAST(hll_estimate(x) AS INTEGER)", "hll_estimate_bounds(x, 3)",
+    calls = ["hll_fault(x)", "hll_is_image(x)", "hll_first_image(x)", "hll_info(x)", "CAST(hll_estimate(x) AS INTEGER)", "hll_estimate_bounds(x, 3)",
              "CAST(hll_hip_estimate(x) AS INTEGER)", "hll_set_estimator_fields(x)", "hll_convert(x, 4)", "hll_fold(x, 4)",
-             "hll_merge(x, hll_image_empty(9, 4))", "hll_agree(x, hll_image_empty())", "hll_image_union_agg(x)",
+             "hll_merge(x, hll_image_empty(9, 4))", "hll_merge(x, x, 4)", "hll_agree(x, hll_image_empty())", "hll_image_union_agg(x)",
              "hll_image_union_agg(x, 9, 6)", "hll_image_add_agg(x)", "hll_image_add_agg(hex(x), 21, 4)"]
     for call in calls:
-        lines.append("SELECT sum(length(%s)) FROM t WHERE hll_check(x) IS NULL;" % call if "_agg" not in call else
-                     "SELECT length(%s) FROM t WHERE hll_check(x) IS NULL;" % call)
+        lines.append("SELECT sum(length(%s)) FROM t WHERE hll_fault(x) IS NULL;" % call if "_agg" not in call else
+                     "SELECT length(%s) FROM t WHERE hll_fault(x) IS NULL;" % call)
         lines += ["SELECT length(%s) FROM t WHERE rowid = %d;" % (call, row) for row in range(1, 40)]
     lines.append("WITH RECURSIVE n (i) AS (SELECT 1 UNION ALL SELECT i + 1 FROM n WHERE i < 3000) SELECT length(hll_image_add_agg(i)), "
                  "length(hll_image_add_agg(i + 0.5, 8, 4)), length(hll_image_add_agg('v' || i, 14, 6)) FROM n;")

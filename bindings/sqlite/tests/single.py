@@ -32,8 +32,9 @@ def found_by(expression):
 
 
 def worked_rows():
-    """Each answers as the row says, but for what estimators read, also where an image is refused."""
-    rows = [(plan, answer, expression_of(plan, "x'%s'", union_expression)) for plan, answer in rows_of_calls()]
+    """Each answers as the row says, but for what estimators read, also where an image is refused. Plans pass over bytes after an
+    image, and SQL cuts them."""
+    rows = [(plan, answer, expression_of(plan, "hll_first_image(x'%s')", union_expression)) for plan, answer in rows_of_calls()]
     rows = [row for row in rows if row[2] and not re.search("stack|range|memory|syntax", row[1])]
     words = set()
     for plan, answer, expression in rows:
@@ -68,7 +69,7 @@ def functions():
         equal("hll_merge under 9 in Python", plain(wanted), plain(union_of([image, other], 9, width_of(wanted)).to_bytes()))
         equal("hll_agree", ask("SELECT hll_agree(?, ?)", image, other), int(sketch.agrees_with(beside)))
         equal("hll_agree with its fold", ask("SELECT hll_agree(?1, hll_fold(?1, 4))", image), 1)
-        equal("hll_check", ask("SELECT hll_check(?)", image), None)
+        equal("hll_fault", ask("SELECT hll_fault(?)", image), None)
         told = {"lg_k": sketch.lg_k, "width": sketch.width, "stage": sketch.stage, "coupons": sketch.num_coupons,
                 "zeros": sketch.num_zeros}
         equal("hll_info", json.loads(ask("SELECT hll_info(?)", image)), told)
@@ -123,7 +124,7 @@ def arguments():
     image = image_of_coupons(12, 8, [1 << 26])
     for call in ("hll_image_empty(NULL)", "hll_image_empty(12, NULL)", "hll_fold(NULL, 4)", "hll_fold(?1, NULL)",
                  "hll_convert(?1, NULL)", "hll_set_estimator_fields(NULL)", "hll_merge(NULL, ?1)", "hll_merge(?1, NULL)",
-                 "hll_merge(?1, ?1, NULL)", "hll_agree(?1, NULL)", "hll_check(NULL)", "hll_info(NULL)", "hll_estimate(NULL)",
+                 "hll_merge(?1, ?1, NULL)", "hll_agree(?1, NULL)", "hll_fault(NULL)", "hll_is_image(NULL)", "hll_first_image(NULL)", "hll_info(NULL)", "hll_estimate(NULL)",
                  "hll_hip_estimate(NULL)", "hll_estimate_bounds(NULL, 9)", "hll_estimate_bounds(?1, NULL)"):
         equal(call, ask("SELECT " + call, *[image] * ("?1" in call)), None)
     for call, said in (
@@ -148,11 +149,36 @@ def arguments():
             ("hll_set_estimator_fields(?, 1)", "wrong number of arguments to function hll_set_estimator_fields()")):
         refused(call, said, "SELECT " + call, image)
     for value in ("'text'", "7", "7.5"):
-        equal("hll_check of no blob", ask("SELECT hll_check(%s)" % value), "type")
-    equal("hll_check of an empty blob", ask("SELECT hll_check(x'')"), "truncated")
-    longer = image + bytes(10**7)
-    equal("an image with bytes after it", ask("SELECT hll_convert(?, 8)", longer), image)
-    equal("a union of it", ask("SELECT hll_image_union_agg(?)", longer), image)
+        equal("hll_fault of no blob", ask("SELECT hll_fault(%s)" % value), "type")
+    equal("hll_fault of an empty blob", ask("SELECT hll_fault(x'')"), "truncated")
+    trailing()
+
+
+HINT = " (hll_merge merges images, || puts one after another; hll_first_image cuts off what follows)"
+
+
+def trailing():
+    """Bytes after an image are refused by every call, so that a || b is no sketch; hll_first_image cuts them."""
+    few = image_of_coupons(12, 8, [1 << 26])
+    for image in (GOOD, few, image_of_coupons(10, 4, []), image_of(10, 4, bytes([1] * 1023 + [40])), image_of(9, 6, bytes(512))):
+        for more in (b"\0", image, bytes(10**6)):
+            longer, follow = image + more, "%d byte%s it%s" % (len(more), "s follow" if len(more) > 1 else " follows", HINT)
+            found = ask("SELECT json_array(hll_fault(?1), hll_is_image(?1), hll_fault(?2), hll_is_image(?2))", longer, image)
+            equal("faults of an image with bytes after it", json.loads(found), ["trailing", 0, None, 1])
+            equal("hll_first_image", ask("SELECT hll_first_image(?)", longer), image)
+            for call in CALLS:
+                refused(call + " with bytes after it", "invalid HLL image: " + follow, "SELECT " + call, longer)
+            for call in ("hll_merge(?, ?)", "hll_merge(?, ?, 9)", "hll_agree(?, ?)"):
+                for number, both in ((1, (longer, image)), (2, (image, longer))):
+                    refused("%s, bytes after argument %d" % (call, number), "invalid HLL image in argument %d: %s" % (number, follow),
+                            "SELECT " + call, *both)
+            refused("a row with bytes after it", "invalid HLL image in row 3: " + follow,
+                    "SELECT hll_image_union_agg(column1) FROM (VALUES (?), (NULL), (?))", image, longer)
+    refused("blob || blob", "invalid HLL image: 12 bytes follow it" + HINT, "SELECT hll_estimate(CAST(?1 || ?1 AS BLOB))", few)
+    padded = bytes([2, 1, 7, 12, 3, 4, 0, 8]) + bytes(32)
+    equal("an empty list with its places", ask("SELECT hll_is_image(?1) + (hll_merge(?1, ?1) = hll_image_empty())", padded), 2)
+    equal("no image", ask("SELECT hll_is_image(x'') + hll_is_image('text') + hll_is_image(7)"), 0)
+    refused("hll_first_image of a text", "an HLL image must be a blob", "SELECT hll_first_image('text')")
 
 
 CALLS = ("hll_info(?)", "hll_fold(?, 4)", "hll_convert(?, 4)", "hll_set_estimator_fields(?)", "hll_estimate(?)", "hll_hip_estimate(?)",
@@ -163,7 +189,9 @@ def reasons():
     """Each by its word, from each function."""
     equal("the reasons tried", sorted({word for word, _ in bad_images()}), sorted(REASONS))
     for word, image in bad_images():
-        equal("hll_check " + word, ask("SELECT hll_check(?)", image), word)
+        equal("hll_fault " + word, ask("SELECT hll_fault(?)", image), word)
+        equal("hll_is_image of " + word, ask("SELECT hll_is_image(?)", image), 0)
+        refused("hll_first_image of " + word, "invalid HLL image: " + word, "SELECT hll_first_image(?)", image)
         for call in CALLS:
             refused(call + " of " + word, "invalid HLL image: " + word, "SELECT " + call, image)
         for call in ("hll_merge(?, ?)", "hll_merge(?, ?, 9)", "hll_agree(?, ?)"):

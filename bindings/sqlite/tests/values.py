@@ -70,5 +70,5 @@ def encodings():
         other.executemany("INSERT INTO t VALUES (?)", [(text,) for text in TEXTS])
         found = ask("SELECT hll_image_add_agg(x) FROM t", on=other)
         equal("texts of " + encoding, found, image_of_values(12, 8, map(bytes_of, TEXTS)))
-        equal("a word in " + encoding, ask("SELECT hll_check(x'02')", on=other), "truncated")
+        equal("a word in " + encoding, ask("SELECT hll_fault(x'02')", on=other), "truncated")
         other.close()
