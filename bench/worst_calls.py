@@ -62,7 +62,7 @@ def calls_of_python(image, canonical):
         union_of([canonical, canonical], 21, width).to_bytes()
 
 
-QUERIES = {"hll_check": "hll_check(image) IS NULL", "hll_estimate": "hll_estimate(image)",
+QUERIES = {"hll_fault": "hll_fault(image) IS NULL", "hll_estimate": "hll_estimate(image)",
            "hll_fold to lg_k 4": "md5(hll_fold(image, 4))", "hll_image_union_agg": "md5(hll_image_union_agg(image))"}
 
 

@@ -5,7 +5,7 @@ import re
 import shutil
 import subprocess
 
-from report import CHECKED, UNDEFINED, check, equal, refused
+from report import CHECKED, DATA, UNDEFINED, check, equal, refused
 from server import EARLIER, HERE, get
 
 
@@ -194,17 +194,13 @@ def dump(server):
 
 
 def readme(server):
-    """The queries of README.md, in their order: none fails, and each prints the lines that stand after `-->`. The query of the
-    README at the top is run on their table."""
+    """The blocks of README.md, pasted into one psql in their order: none fails, and they print the lines that stand after `-->`,
+    and no others. The query of the README at the top is run on their table."""
     blocks = re.findall(r"^```sql\n(.*?)^```$", (HERE / "README.md").read_text(), re.S | re.M)
-    check("README has queries", len(blocks) >= 7, len(blocks))
-    server.ask("CREATE DATABASE metrics; CREATE DATABASE metrics_eu")
-    for block in blocks:
-        said = server.run(block, "metrics_eu" if block.startswith("-- on the other server") else "metrics")
-        name, lines = "README: " + block.split("\n")[0], said.split("\n")
-        check(name, "ERROR" not in said, said)
-        for wanted in re.findall(r"^--> (.*)$", block, re.M):
-            check("%s: %s" % (name, wanted), wanted in lines, said)
+    check("README has queries", len(blocks) >= 9, len(blocks))
+    server.ask("CREATE DATABASE metrics")
+    said = server.run("".join(blocks), "metrics").split("\n")
+    equal("README prints what it shows", said, re.findall(r"^--> (.*)$", "".join(blocks), re.M))
     front, = re.findall(r"^```sql\n(.*?)^```$", (HERE.parent.parent / "README.md").read_text(), re.S | re.M)
     months = server.ask("SELECT count(DISTINCT date_trunc('month', day)) FROM daily", "metrics")
     said = server.run(front, "metrics").split("\n")
@@ -212,6 +208,20 @@ def readme(server):
     equal("README at the top: a line a month", (str(len(shown)), len(said)), (months, len(shown)))
     plan = server.ask("EXPLAIN (VERBOSE, COSTS OFF) SELECT hyperloglog_union_agg(image) FROM daily_eu", "metrics")
     check("README: the other server makes the union", "Remote SQL: SELECT public.hyperloglog_union_agg(image)" in plan, plan)
+    sayings(server)
+
+
+def sayings(server):
+    """What README.md says of `#`, of a btree, and of the union without a bound."""
+    said = server.run("SELECT # image + 1 FROM daily;", "metrics")
+    refused("# binds less tightly than +", said, UNDEFINED, "operator does not exist: hyperloglog + integer")
+    equal("# in parentheses", server.run("SELECT (# hyperloglog_empty()) + 1, hll_estimate(hyperloglog_empty()) + 1;", "metrics"), "1|1")
+    said = server.run("CREATE TABLE in_btree (s hyperloglog); CREATE INDEX ON in_btree (s); "
+                      "INSERT INTO in_btree SELECT hyperloglog_agg(n, 12) FROM generate_series(1, 99999) n;", "metrics")
+    refused("a btree", said, "54000", "index row size 4")
+    check("what it says of its maximum", "exceeds btree version 4 maximum 2704 for index" in said, said)
+    said = server.run("SELECT hyperloglog_union_agg(image) FROM (SELECT image FROM daily UNION ALL SELECT image FROM finer) x;", "metrics")
+    refused("different lg_k without a bound", said, DATA, "sketches of lg_k 1")
 
 
 def regress(server):

@@ -4,7 +4,7 @@ import math
 import random
 import struct
 
-from base import ask, connect, plain, table_of
+from base import ask, connect, db, plain, table_of
 from hll_sketches import Sketch
 from images import image_of_values
 from report import SEED, check, equal
@@ -37,6 +37,10 @@ def types():
     for first, second, wanted in ((7, 7.0, 2), (7, "7", 2), (7.0, "7.0", 2), ("7", b"7", 1), (0.0, -0.0, 1), (0, 0.0, 1), ("", b"", 1)):
         found = ask("SELECT json_extract(hll_info(hll_image_add_agg(x)), '$.coupons') FROM " + table_of([first, second]))
         equal("%r and %r" % (first, second), found, wanted)
+    db.execute("CREATE TEMP TABLE IF NOT EXISTS people (name TEXT COLLATE NOCASE)")
+    db.execute("INSERT INTO people VALUES ('Ann'), ('ann'), ('Bob')")
+    found = ask("SELECT json_array(count(DISTINCT name), hll_estimate(hll_add_agg(name)) > 2.5, hll_estimate(hll_add_agg(lower(name))) < 2.5) FROM people")
+    equal("texts under NOCASE", found, "[2,1,1]")
     equal("a NaN is NULL in SQLite", ask("SELECT hll_image_add_agg(?)", math.nan), None)
     equal("a column of a type", ask("SELECT hll_image_add_agg(x) FROM (SELECT CAST(7.0 AS INTEGER) AS x)"),
           image_of_values(12, 8, [bytes_of(7)]))
