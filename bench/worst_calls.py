@@ -63,7 +63,7 @@ def calls_of_python(image, canonical):
 
 
 QUERIES = {"hll_fault": "hll_fault(image) IS NULL", "hll_estimate": "hll_estimate(image)",
-           "hll_fold to lg_k 4": "md5(hll_fold(image, 4))", "hll_image_union_agg": "md5(hll_image_union_agg(image))"}
+           "hll_fold to lg_k 4": "md5(hll_fold(image, 4))", "hll_image_union_agg": "md5(hll_image_union_agg(image, 12, 8))"}
 
 
 def calls_of_postgresql(server, session, image, canonical):

@@ -80,6 +80,15 @@ header_of(Datum value)
 	return header;
 }
 
+/* Where a function's object lives: in an aggregate as long as the state. */
+static MemoryContext
+context_of_value(FunctionCallInfo fcinfo)
+{
+	MemoryContext context;
+
+	return AggCheckCallContext(fcinfo, &context) ? context : CurrentMemoryContext;
+}
+
 /* A value of a state: an object where it has registers, since a call may follow that needs them, and else an image. */
 static Datum
 value_of_state(MemoryContext parent, State *state)
@@ -178,20 +187,19 @@ hll_pg_merge(PG_FUNCTION_ARGS)
 
 PG_FUNCTION_INFO_V1(hll_pg_merge_sketches);
 
-/* As hll_pg_merge, of the type. In an aggregate the object lives as long as the state. */
+/* As hll_pg_merge, of the type. */
 Datum
 hll_pg_merge_sketches(PG_FUNCTION_ARGS)
 {
 	Datum		left = PG_GETARG_DATUM(0);
 	uint8		lg_max_k = bound_in(fcinfo);
 	ExpandedSketch *object = expanded_of(left);
-	MemoryContext parent;
+	MemoryContext parent = context_of_value(fcinfo);
 	State		state;
 
 	CHECK_FOR_INTERRUPTS();
-	if (!AggCheckCallContext(fcinfo, &parent))
-		parent = CurrentMemoryContext;
-	if (object == NULL || (lg_max_k != 0 && lg_max_k < hll_state_lg_k(object->state.bytes)) || object == expanded_of(PG_GETARG_DATUM(1)))
+	if (object == NULL || object == expanded_of(PG_GETARG_DATUM(1)) ||
+		(lg_max_k != 0 && lg_max_k < hll_state_lg_k(object->state.bytes)))
 	{
 		state = merged_state(fcinfo, lg_max_k);
 		return value_of_state(parent, &state);
@@ -221,12 +229,13 @@ sketch_with(FunctionCallInfo fcinfo, const uint8 *value, size_t size)
 {
 	Datum		sketch = PG_GETARG_DATUM(0);
 	ExpandedSketch *object = expanded_of(sketch);
+	MemoryContext parent = context_of_value(fcinfo);
 	bytea	   *image;
 	State		state;
 
 	if (object != NULL)
 	{
-		object = own_object(CurrentMemoryContext, sketch);
+		object = own_object(parent, sketch);
 		add_to_state(&object->state, value, size);
 		return changed_object(object);
 	}
@@ -235,5 +244,5 @@ sketch_with(FunctionCallInfo fcinfo, const uint8 *value, size_t size)
 		return PointerGetDatum(image);
 	state = new_state(CurrentMemoryContext, 0);
 	check_status(join_image(&state, 0, IMAGE(image)));
-	return value_of_state(CurrentMemoryContext, &state);
+	return value_of_state(parent, &state);
 }

@@ -68,7 +68,7 @@ extern bool is_empty_table(const uint8 *image, size_t size);
 
 /* Refuses texts that aren't equal by their bytes, once a query, of a function whose second argument is a text (texts.c). */
 extern void check_text(FunctionCallInfo fcinfo);
-extern void refuse_type(Oid type) pg_attribute_noreturn();
+extern void refuse_type(Oid type);
 
 /* What the header of an image names, before it is read: where the bytes are no image, any that is in range. */
 extern uint8 named_lg_k(const uint8 *image, size_t size);

@@ -38,7 +38,8 @@ COMMENT ON TYPE hyperloglog IS 'a HyperLogLog sketch: the bytes of one DataSketc
 
 CREATE FUNCTION hyperloglog(hyperloglog, pg_catalog.int4, pg_catalog.bool) RETURNS hyperloglog
     AS 'MODULE_PATHNAME', 'hll_pg_of_type' LANGUAGE C IMMUTABLE STRICT PARALLEL SAFE;
-COMMENT ON FUNCTION hyperloglog(hyperloglog, pg_catalog.int4, pg_catalog.bool) IS 'the sketch, if it is of this lg_k and width';
+COMMENT ON FUNCTION hyperloglog(hyperloglog, pg_catalog.int4, pg_catalog.bool)
+    IS 'the sketch, if it is of this lg_k and width';
 CREATE FUNCTION hyperloglog(pg_catalog.bytea, pg_catalog.int4, pg_catalog.bool) RETURNS hyperloglog
     AS 'MODULE_PATHNAME', 'hll_pg_of_bytea' LANGUAGE C IMMUTABLE STRICT PARALLEL SAFE COST 50;
 COMMENT ON FUNCTION hyperloglog(pg_catalog.bytea, pg_catalog.int4, pg_catalog.bool) IS 'the sketch of an image';
@@ -132,19 +133,23 @@ COMMENT ON OPERATOR # (NONE, pg_catalog.bytea) IS 'the estimated number of disti
 
 CREATE FUNCTION hll_hip_estimate(sketch hyperloglog) RETURNS pg_catalog.float8
     AS 'MODULE_PATHNAME', 'hll_pg_hip_estimate' LANGUAGE C IMMUTABLE STRICT PARALLEL SAFE COST 50;
-COMMENT ON FUNCTION hll_hip_estimate(hyperloglog) IS 'the estimate that another program kept in a sketch while it counted in order, or null';
+COMMENT ON FUNCTION hll_hip_estimate(hyperloglog)
+    IS 'the estimate that another program kept in a sketch while it counted in order, or null';
 CREATE FUNCTION hll_hip_estimate(image pg_catalog.bytea) RETURNS pg_catalog.float8
     AS 'MODULE_PATHNAME', 'hll_pg_hip_estimate' LANGUAGE C IMMUTABLE STRICT PARALLEL SAFE COST 50;
-COMMENT ON FUNCTION hll_hip_estimate(pg_catalog.bytea) IS 'the estimate that another program kept in a sketch while it counted in order, or null';
+COMMENT ON FUNCTION hll_hip_estimate(pg_catalog.bytea)
+    IS 'the estimate that another program kept in a sketch while it counted in order, or null';
 
 CREATE FUNCTION hll_estimate_bounds(sketch hyperloglog, deviations pg_catalog.int8 DEFAULT 2, OUT lower pg_catalog.float8,
         OUT upper pg_catalog.float8)
     AS 'MODULE_PATHNAME', 'hll_pg_estimate_bounds' LANGUAGE C IMMUTABLE STRICT PARALLEL SAFE COST 100;
-COMMENT ON FUNCTION hll_estimate_bounds(hyperloglog, pg_catalog.int8) IS 'bounds of the number of distinct values, at 1 to 3 deviations';
+COMMENT ON FUNCTION hll_estimate_bounds(hyperloglog, pg_catalog.int8)
+    IS 'bounds of the number of distinct values, at 1 to 3 deviations';
 CREATE FUNCTION hll_estimate_bounds(image pg_catalog.bytea, deviations pg_catalog.int8 DEFAULT 2, OUT lower pg_catalog.float8,
         OUT upper pg_catalog.float8)
     AS 'MODULE_PATHNAME', 'hll_pg_estimate_bounds' LANGUAGE C IMMUTABLE STRICT PARALLEL SAFE COST 100;
-COMMENT ON FUNCTION hll_estimate_bounds(pg_catalog.bytea, pg_catalog.int8) IS 'bounds of the number of distinct values, at 1 to 3 deviations';
+COMMENT ON FUNCTION hll_estimate_bounds(pg_catalog.bytea, pg_catalog.int8)
+    IS 'bounds of the number of distinct values, at 1 to 3 deviations';
 
 CREATE FUNCTION hll_fold(sketch hyperloglog, lg_k pg_catalog.int8) RETURNS hyperloglog
     AS 'MODULE_PATHNAME', 'hll_pg_fold' LANGUAGE C IMMUTABLE STRICT PARALLEL SAFE COST 100;
@@ -162,10 +167,12 @@ COMMENT ON FUNCTION hll_convert(pg_catalog.bytea, pg_catalog.int8) IS 'the sketc
 
 CREATE FUNCTION hll_set_estimator_fields(sketch hyperloglog) RETURNS hyperloglog
     AS 'MODULE_PATHNAME', 'hll_pg_set_estimator_fields' LANGUAGE C IMMUTABLE STRICT PARALLEL SAFE COST 100;
-COMMENT ON FUNCTION hll_set_estimator_fields(hyperloglog) IS 'the sketch with the fields from which other DataSketches libraries estimate';
+COMMENT ON FUNCTION hll_set_estimator_fields(hyperloglog)
+    IS 'the sketch with the fields from which other DataSketches libraries estimate';
 CREATE FUNCTION hll_set_estimator_fields(image pg_catalog.bytea) RETURNS pg_catalog.bytea
     AS 'MODULE_PATHNAME', 'hll_pg_set_estimator_fields' LANGUAGE C IMMUTABLE STRICT PARALLEL SAFE COST 100;
-COMMENT ON FUNCTION hll_set_estimator_fields(pg_catalog.bytea) IS 'the sketch with the fields from which other DataSketches libraries estimate';
+COMMENT ON FUNCTION hll_set_estimator_fields(pg_catalog.bytea)
+    IS 'the sketch with the fields from which other DataSketches libraries estimate';
 
 -- ---- two sketches
 
@@ -177,17 +184,20 @@ CREATE FUNCTION hll_merge(a hyperloglog, b hyperloglog, lg_max_k pg_catalog.int8
 COMMENT ON FUNCTION hll_merge(hyperloglog, hyperloglog, pg_catalog.int8) IS 'the union of two sketches, of an lg_k at most';
 CREATE FUNCTION hll_agree(a hyperloglog, b hyperloglog) RETURNS pg_catalog.bool
     AS 'MODULE_PATHNAME', 'hll_pg_agree' LANGUAGE C IMMUTABLE STRICT PARALLEL SAFE COST 100;
-COMMENT ON FUNCTION hll_agree(hyperloglog, hyperloglog) IS 'whether two sketches have the same registers at the smaller lg_k';
+COMMENT ON FUNCTION hll_agree(hyperloglog, hyperloglog)
+    IS 'whether two sketches have the same registers at the smaller lg_k';
 
 CREATE FUNCTION hll_merge(a pg_catalog.bytea, b pg_catalog.bytea) RETURNS pg_catalog.bytea
     AS 'MODULE_PATHNAME', 'hll_pg_merge' LANGUAGE C IMMUTABLE STRICT PARALLEL SAFE COST 100;
 COMMENT ON FUNCTION hll_merge(pg_catalog.bytea, pg_catalog.bytea) IS 'the union of two sketches of one lg_k';
 CREATE FUNCTION hll_merge(a pg_catalog.bytea, b pg_catalog.bytea, lg_max_k pg_catalog.int8) RETURNS pg_catalog.bytea
     AS 'MODULE_PATHNAME', 'hll_pg_merge' LANGUAGE C IMMUTABLE STRICT PARALLEL SAFE COST 100;
-COMMENT ON FUNCTION hll_merge(pg_catalog.bytea, pg_catalog.bytea, pg_catalog.int8) IS 'the union of two sketches, of an lg_k at most';
+COMMENT ON FUNCTION hll_merge(pg_catalog.bytea, pg_catalog.bytea, pg_catalog.int8)
+    IS 'the union of two sketches, of an lg_k at most';
 CREATE FUNCTION hll_agree(a pg_catalog.bytea, b pg_catalog.bytea) RETURNS pg_catalog.bool
     AS 'MODULE_PATHNAME', 'hll_pg_agree' LANGUAGE C IMMUTABLE STRICT PARALLEL SAFE COST 100;
-COMMENT ON FUNCTION hll_agree(pg_catalog.bytea, pg_catalog.bytea) IS 'whether two sketches have the same registers at the smaller lg_k';
+COMMENT ON FUNCTION hll_agree(pg_catalog.bytea, pg_catalog.bytea)
+    IS 'whether two sketches have the same registers at the smaller lg_k';
 
 -- (Beside bytea the operator of bytea would be taken, which puts one after the other.)
 CREATE FUNCTION hll_merge(a hyperloglog, b pg_catalog.bytea) RETURNS hyperloglog
@@ -218,7 +228,8 @@ CREATE FUNCTION hyperloglog_final(pg_catalog.internal) RETURNS hyperloglog
 DO $$
 DECLARE
     kinds CONSTANT pg_catalog.text[] := ARRAY[['hyperloglog', 'union'], ['pg_catalog.bytea', 'union_bytea']];
-    options CONSTANT pg_catalog.text[] := ARRAY['', ', lg_max_k pg_catalog.int8', ', lg_max_k pg_catalog.int8, width pg_catalog.int8'];
+    options CONSTANT pg_catalog.text[] := ARRAY[
+        '', ', lg_max_k pg_catalog.int8', ', lg_max_k pg_catalog.int8, width pg_catalog.int8'];
     step CONSTANT pg_catalog.text := 'CREATE FUNCTION hll_image_union_trans(pg_catalog.internal, %s) RETURNS pg_catalog.internal '
         'AS ''MODULE_PATHNAME'', ''hll_pg_%s_trans'' LANGUAGE C IMMUTABLE PARALLEL SAFE COST 50';
     aggregate CONSTANT pg_catalog.text := 'CREATE AGGREGATE %1$s_union_agg(sketch %2$s) (SFUNC = hll_image_union_trans, '

@@ -123,7 +123,7 @@ add_coupons(State *state, const uint32 *coupons, size_t n)
 	trim(state);
 }
 
-/* Joins an image, under this bound, or without one (0). Returns HLL_OK, HLL_MEMORY, HLL_OTHER_LG_K, or why the image is rejected. */
+/* Joins an image, under this bound, or without one (0). Returns HLL_OK, HLL_MEMORY, HLL_OTHER_LG_K, or why it is rejected. */
 hll_status
 join_image(State *state, uint8 lg_max_k, const uint8 *image, size_t size)
 {

@@ -93,9 +93,11 @@ check_text(FunctionCallInfo fcinfo)
 	if (OidIsValid(collation) && !get_collation_isdeterministic(collation))
 		ereport(ERROR,
 				(errcode(ERRCODE_COLLATION_MISMATCH),
-				 errmsg("texts under the nondeterministic collation \"%s\" cannot be counted as they are", get_collation_name(collation)),
+				 errmsg("texts under the nondeterministic collation \"%s\" cannot be counted as they are",
+						get_collation_name(collation)),
 				 errdetail("They would count by their bytes, and texts that are equal there may have different ones."),
-				 errhint("Count them by their bytes with CAST(value AS text) COLLATE \"C\", or a form that equal texts share, for example lower(value) COLLATE \"C\".")));
+				 errhint("Count them by their bytes with CAST(value AS text) COLLATE \"C\", or a form that equal texts share, "
+						 "for example lower(value) COLLATE \"C\".")));
 	check_values(fcinfo);
 	fcinfo->flinfo->fn_extra = fcinfo->flinfo;
 }

@@ -1,6 +1,7 @@
 /* SPDX-License-Identifier: Apache-2.0 */
 /*
- * The steps of the aggregates that count values: each type's bytes, as docs/FORMAT.md, "What values are hashed as", says.
+ * The steps of the aggregates that count values, and the functions that add one: each type's bytes, as docs/FORMAT.md, "What
+ * values are hashed as", says.
  */
 #include "expanded.h"
 #include "group.h"
@@ -149,23 +150,26 @@ VALUE_FUNCTIONS(uuid, set_bytes(&value, PG_GETARG_UUID_P(1)->data, UUID_LEN))
 	hll_pg_add_##name##_trans(PG_FUNCTION_ARGS) \
 	{ \
 		refuse; \
+		PG_RETURN_NULL(); \
 	} \
 	PG_FUNCTION_INFO_V1(hll_pg_add_##name); \
 	Datum \
 	hll_pg_add_##name(PG_FUNCTION_ARGS) \
 	{ \
 		refuse; \
+		PG_RETURN_NULL(); \
 	}
 
-pg_attribute_noreturn() static void
+static void
 refuse_sketch(void)
 {
 	ereport(ERROR,
 			(errcode(ERRCODE_DATATYPE_MISMATCH),
 			 errmsg("sketches are not counted as values"),
-			 errhint("Merge them with hyperloglog_union_agg or hll_merge, or cast them to bytea to count how many different ones there are.")));
+			 errhint("Merge them with hyperloglog_union_agg or hll_merge, or cast them to bytea to count how many different "
+					 "ones there are.")));
 }
 
 REFUSING_FUNCTIONS(sketch, refuse_sketch())
-/* All other types, numeric among them, which would become a float8 by itself, and lose digits. */
+/* All other types are refused, numeric among them, which would become a float8 by itself, and lose digits. */
 REFUSING_FUNCTIONS(other, refuse_type(get_fn_expr_argtype(fcinfo->flinfo, 1)))

@@ -107,7 +107,8 @@ static void step_images(sqlite3_context *context, int n, sqlite3_value **values)
     status = add_image(group, image);
     group->has_failed = status != HLL_OK;
     if (status == HLL_OTHER_LG_K)
-        refuse_other_lg_k(context, "row", group->rows, hll_state_lg_k(group->state), named_lg_k(image), "hll_image_union_agg(image");
+        refuse_other_lg_k(context, "row", group->rows, hll_state_lg_k(group->state), named_lg_k(image),
+                          "hll_image_union_agg(image");
     else if (group->has_failed)
         refuse_number(context, status, "row", group->rows);
 }

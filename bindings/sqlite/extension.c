@@ -47,8 +47,8 @@ static void refuse_more(sqlite3_context *context, const char *what, sqlite3_int6
 
     if (what != NULL)
         sqlite3_snprintf(sizeof place, place, " in %s %lld", what, number);
-    answer_error(context, sqlite3_mprintf("invalid HLL image%s: %llu byte%s it (hll_merge merges images, || puts one after another; "
-                                          "hll_first_image cuts off what follows)", place, (sqlite3_uint64)more,
+    answer_error(context, sqlite3_mprintf("invalid HLL image%s: %llu byte%s it (hll_merge merges images, || puts one after "
+                                          "another; hll_first_image cuts off what follows)", place, (sqlite3_uint64)more,
                                           more == 1 ? " follows" : "s follow"));
 }
 

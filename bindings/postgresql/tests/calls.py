@@ -1,5 +1,6 @@
 # SPDX-License-Identifier: Apache-2.0
 """Calls of one image or two, and small aggregates, beside the program, the plain model and docs/FORMAT.md."""
+import itertools
 import random
 import re
 import struct
@@ -339,31 +340,38 @@ def reasons(server):
 # ---- bytes after an image
 
 
+OF_TWO = (("hll_merge(%s, %s)", " in argument 1", " in argument 2"), ("hll_merge(%s, %s, 9)", " in argument 1", " in argument 2"),
+          ("hll_agree(%s, %s)", " in argument 1", " in argument 2"), ("%s::hyperloglog || %s", "", " in argument 2"),
+          ("%s || %s::hyperloglog", " in argument 1", ""))
+
+
 def trailing(server):
     """Bytes after an image are refused wherever bytea is taken, so that bytea || bytea is no sketch; hll_first_image cuts them."""
     images = [GOOD, image_of_coupons(12, 8, [1 << 26]), image_of_coupons(10, 4, []), image_of(10, 4, bytes([1] * 1023 + [40])),
               image_of(9, 6, bytes(range(64)) * 8), image_of_coupons(12, 6, random_coupons(random.Random(SEED), 60))]
-    for image in images:
-        for more in (b"\0", b"\x02", image, GOOD):
-            follow = "%d byte%s it\n" % (len(more), "s follow" if len(more) > 1 else " follows")
-            longer, good = literal(image + more), literal(image)
-            equal("faults of an image with bytes after it", server.ask("SELECT hll_fault(%s), hll_is_image(%s), hll_fault(%s), hll_is_image(%s)" % (
-                longer, longer, good, good)), "trailing|f||t")
-            equal("hll_first_image", bytes_of(server.ask("SELECT hll_first_image(%s)" % longer)), image)
-            for call in CALLS:
-                refused(call + " with bytes after it", server.run("SELECT %s;" % (call % longer)), IMAGE, "invalid HLL image: " + follow)
-            for call in ("hll_merge(%s, %s)", "hll_merge(%s, %s, 9)", "hll_agree(%s, %s)", "%s::hyperloglog || %s", "%s || %s::hyperloglog"):
-                for number, both in ((1, (longer, good)), (2, (good, longer))):
-                    said = server.run("SELECT %s;" % (call % both))
-                    place = "" if "%s::" % both[number - 1] in call % both and "::hyper" in call % both else " in argument %d" % number
-                    refused("%s, bytes after argument %d" % (call, number), said.replace(" in argument %d" % number, "") if not place else said, IMAGE,
-                            "invalid HLL image%s: %s" % (place, follow))
-            for aggregate in ("hll_image_union_agg", "hyperloglog_union_agg"):
-                said = server.run("SELECT %s(i) FROM (VALUES (%s), (NULL), (%s)) x(i);" % (aggregate, good, longer))
-                refused(aggregate + " with bytes after a row", said, IMAGE, "invalid HLL image in row 3: " + follow)
+    for image, more in itertools.product(images, (b"\0", b"\x02", GOOD)):
+        followed(server, image, more)
+    followed(server, images[1], images[1])
     said = server.run("SELECT # (%s || %s);" % (literal(images[1]), literal(images[1])))
     refused("bytea || bytea", said, IMAGE, "invalid HLL image: 12 bytes follow it\n")
     check("its hint", "hll_first_image cuts off what follows" in said, said)
     padded = bytes([2, 1, 7, 12, 3, 4, 0, 8]) + bytes(32)
     equal("an empty list with its places", server.ask("SELECT hll_is_image(%s), # %s, hll_merge(%s, %s)" % ((literal(padded),) * 4)),
           "t|0|\\x0201070c030c0008")
+
+
+def followed(server, image, more):
+    """Each call on an image with more bytes after it."""
+    longer, good = literal(image + more), literal(image)
+    follow = ": %d byte%s it\n" % (len(more), "s follow" if len(more) > 1 else " follows")
+    found = server.ask("SELECT hll_fault(i), hll_is_image(i) FROM unnest(ARRAY[%s, %s]) i" % (longer, good))
+    equal("faults of an image with bytes after it", found, "trailing|f\n|t")
+    equal("hll_first_image", bytes_of(server.ask("SELECT hll_first_image(%s)" % longer)), image)
+    for call in CALLS:
+        refused(call + " with bytes after it", server.run("SELECT %s;" % (call % longer)), IMAGE, "invalid HLL image" + follow)
+    for call, first, second in OF_TWO:
+        for place, both in ((first, (longer, good)), (second, (good, longer))):
+            refused("%s, bytes after one%s" % (call, place), server.run("SELECT %s;" % (call % both)), IMAGE, "invalid HLL image%s%s" % (place, follow))
+    for aggregate in ("hll_image_union_agg", "hyperloglog_union_agg"):
+        said = server.run("SELECT %s(i) FROM (VALUES (%s), (NULL), (%s)) x(i);" % (aggregate, good, longer))
+        refused(aggregate + " with bytes after a row", said, IMAGE, "invalid HLL image in row 3" + follow)

@@ -60,8 +60,8 @@ BEGIN
 END $$;
 CREATE AGGREGATE merged(hyperloglog) (SFUNC = hll_merge, STYPE = hyperloglog, COMBINEFUNC = hll_merge, PARALLEL = SAFE);
 CREATE AGGREGATE merged_flat(bytea) (SFUNC = hll_merge, STYPE = bytea, COMBINEFUNC = hll_merge, PARALLEL = SAFE);
-CREATE AGGREGATE merged(hyperloglog, int) (SFUNC = hll_merge, STYPE = hyperloglog);
-CREATE AGGREGATE merged_flat(bytea, int) (SFUNC = hll_merge, STYPE = bytea);
+CREATE AGGREGATE merged(hyperloglog, bigint) (SFUNC = hll_merge, STYPE = hyperloglog);
+CREATE AGGREGATE merged_flat(bytea, bigint) (SFUNC = hll_merge, STYPE = bytea);
 """
 
 
@@ -247,6 +247,9 @@ def merging_stops(server):
         session.ask("SET statement_timeout = 0;")
         keeps_size(session, "SELECT merged(sketch) IS NULL FROM many_kept, generate_series(1, %d);")
         keeps_size(session, loop.replace("100000000", "%d").replace("n % 20", "n %% 20"))
+        session.ask("CREATE AGGREGATE one_by_one(int) (SFUNC = hll_add, STYPE = hyperloglog, INITCOND = '\\x0201070e030c0008')")
+        keeps_size(session, "SELECT # one_by_one(n) > 0 FROM generate_series(1, 100 * %d) n;")
+        keeps_size(session, "DO $$ DECLARE h hyperloglog := hyperloglog_empty(14); BEGIN FOR n IN 1 .. 10 * %d LOOP h := hll_add(h, n); END LOOP; END $$;")
 
 
 def keeps_size(session, query):

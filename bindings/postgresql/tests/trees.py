@@ -35,7 +35,7 @@ def random_groups(numbers):
 
 
 TREES = """
-CREATE FUNCTION tree(images bytea[], seed int) RETURNS bytea LANGUAGE plpgsql AS $$
+CREATE OR REPLACE FUNCTION tree(images bytea[], seed int) RETURNS bytea LANGUAGE plpgsql AS $$
 DECLARE
     number int := hashint4(seed) & 1048575;
     front int := 1 + number % greatest(cardinality(images) - 1, 1);
@@ -47,7 +47,7 @@ BEGIN
     END IF;
     RETURN hll_merge(tree(images[:front], 2 * seed), tree(images[front + 1:], 2 * seed + 1));
 END $$;
-CREATE FUNCTION typed_tree(images bytea[], seed int) RETURNS hyperloglog LANGUAGE plpgsql AS $$
+CREATE OR REPLACE FUNCTION typed_tree(images bytea[], seed int) RETURNS hyperloglog LANGUAGE plpgsql AS $$
 DECLARE
     number int := hashint4(seed) & 1048575;
     front int := 1 + number % greatest(cardinality(images) - 1, 1);
@@ -59,24 +59,25 @@ BEGIN
     END IF;
     RETURN typed_tree(images[:front], 2 * seed) || typed_tree(images[front + 1:], 2 * seed + 1);
 END $$;
-CREATE FUNCTION fault_of_tree(images bytea[], seed int) RETURNS text LANGUAGE plpgsql AS $$
+CREATE OR REPLACE FUNCTION fault_of_tree(images bytea[], seed int) RETURNS text LANGUAGE plpgsql AS $$
 BEGIN
     PERFORM tree(images, seed), typed_tree(images, seed);
     RETURN 'none';
 EXCEPTION WHEN data_exception THEN
     RETURN SQLERRM;
 END $$;
-CREATE AGGREGATE tree_of(hyperloglog) (SFUNC = hll_merge, STYPE = hyperloglog, COMBINEFUNC = hll_merge, PARALLEL = SAFE);
-CREATE TABLE leaves (g int, n int, image bytea, sketch hyperloglog);
-CREATE TABLE roots (g int, answer bytea);
+CREATE OR REPLACE AGGREGATE tree_of(hyperloglog) (SFUNC = hll_merge, STYPE = hyperloglog, COMBINEFUNC = hll_merge, PARALLEL = SAFE);
 """
+TABLES = "CREATE TABLE leaves (g int, n int, image bytea, sketch hyperloglog); CREATE TABLE roots (g int, answer bytea)"
+STEPS = {"hll_image_union_trans(internal, bytea)": 50, "hll_image_union_trans(internal, hyperloglog)": 50,
+         "hll_merge(hyperloglog, hyperloglog)": 100}
 CALLS = ["hll_image_union_agg(image)", "hyperloglog_union_agg(sketch)::bytea", "tree_of(sketch)::bytea"]
 
 
 def trees(server):
     """Random trees of merges, and each aggregate by each plan."""
     groups = list(random_groups(random.Random(SEED + 7)))
-    server.ask(TREES)
+    server.ask(TREES + TABLES)
     load(server, "leaves (g, n, image)", [(g, n, image) for g, images in enumerate(groups) for n, image in enumerate(images)])
     load(server, "roots", [(g, merged(images)) for g, images in enumerate(groups)])
     server.ask("UPDATE leaves SET sketch = image; ALTER TABLE leaves SET (parallel_workers = 3); ANALYZE")
@@ -85,8 +86,11 @@ def trees(server):
         LATERAL (SELECT bool_and(tree(images, s + g) = answer) seeds FROM generate_series(1, 5) s) a,
         LATERAL (SELECT bool_and(typed_tree(images, s + g)::bytea = answer) seeds FROM generate_series(1, 5) s) b""")
     equal("random trees", found, "%d|t|t" % GROUPS)
+    # an expensive step makes the planner give it to the workers
+    server.ask("; ".join("ALTER FUNCTION %s COST 10000" % step for step in STEPS))
     for call in CALLS:
         by_each_plan(server, call)
+    server.ask("; ".join("ALTER FUNCTION %s COST %d" % step for step in STEPS.items()))
     windows(server)
     print("  %d trees" % GROUPS)
 
@@ -101,7 +105,7 @@ def by_each_plan(server, call):
         found = server.ask(set_up + "CREATE TEMP TABLE answers AS %s; %s" % (query, wrong))
         equal(name, found, "%d|0" % GROUPS)
         plan = server.ask(set_up + PLAN + query)
-        equal("workers for " + name, launched(plan), workers)
+        equal("workers for " + name, (launched(plan), "Partial" in plan), (workers, workers > 0))
         check("disk for " + name, not more or "Disk Usage" in plan, plan)
 
 
@@ -125,7 +129,7 @@ def other_sizes(server):
         images = [numbers.choice(full[lg_k]) for lg_k in numbers.choices(SIZES, k=3)] + numbers.choices(empty, k=2)
         if merged(images) is None:
             groups.append(numbers.sample(images, len(images)))
-    server.ask("CREATE TABLE mixed (g int, n int, image bytea)")
+    server.ask(TREES + "CREATE TABLE mixed (g int, n int, image bytea)")
     load(server, "mixed", [(g, n, image) for g, images in enumerate(groups) for n, image in enumerate(images)])
     found = server.ask("""SELECT count(*), count(*) FILTER (WHERE fault ~ '^sketches of lg_k \d+ and \d+ can''t be merged without a bound$')
         FROM (SELECT fault_of_tree(array_agg(image ORDER BY n), g) fault FROM mixed GROUP BY g) x""")

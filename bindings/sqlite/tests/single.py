@@ -1,5 +1,6 @@
 # SPDX-License-Identifier: Apache-2.0
 """Functions of one image or two: beside worked rows, the plain model and the Python package; their refusals."""
+import itertools
 import json
 import random
 import re
@@ -160,25 +161,29 @@ HINT = " (hll_merge merges images, || puts one after another; hll_first_image cu
 def trailing():
     """Bytes after an image are refused by every call, so that a || b is no sketch; hll_first_image cuts them."""
     few = image_of_coupons(12, 8, [1 << 26])
-    for image in (GOOD, few, image_of_coupons(10, 4, []), image_of(10, 4, bytes([1] * 1023 + [40])), image_of(9, 6, bytes(512))):
-        for more in (b"\0", image, bytes(10**6)):
-            longer, follow = image + more, "%d byte%s it%s" % (len(more), "s follow" if len(more) > 1 else " follows", HINT)
-            found = ask("SELECT json_array(hll_fault(?1), hll_is_image(?1), hll_fault(?2), hll_is_image(?2))", longer, image)
-            equal("faults of an image with bytes after it", json.loads(found), ["trailing", 0, None, 1])
-            equal("hll_first_image", ask("SELECT hll_first_image(?)", longer), image)
-            for call in CALLS:
-                refused(call + " with bytes after it", "invalid HLL image: " + follow, "SELECT " + call, longer)
-            for call in ("hll_merge(?, ?)", "hll_merge(?, ?, 9)", "hll_agree(?, ?)"):
-                for number, both in ((1, (longer, image)), (2, (image, longer))):
-                    refused("%s, bytes after argument %d" % (call, number), "invalid HLL image in argument %d: %s" % (number, follow),
-                            "SELECT " + call, *both)
-            refused("a row with bytes after it", "invalid HLL image in row 3: " + follow,
-                    "SELECT hll_image_union_agg(column1) FROM (VALUES (?), (NULL), (?))", image, longer)
+    images = GOOD, few, image_of_coupons(10, 4, []), image_of(10, 4, bytes([1] * 1023 + [40])), image_of(9, 6, bytes(512))
+    for image, more in itertools.product(images, (b"\0", few, bytes(10**6))):
+        followed(image, more)
     refused("blob || blob", "invalid HLL image: 12 bytes follow it" + HINT, "SELECT hll_estimate(CAST(?1 || ?1 AS BLOB))", few)
     padded = bytes([2, 1, 7, 12, 3, 4, 0, 8]) + bytes(32)
     equal("an empty list with its places", ask("SELECT hll_is_image(?1) + (hll_merge(?1, ?1) = hll_image_empty())", padded), 2)
     equal("no image", ask("SELECT hll_is_image(x'') + hll_is_image('text') + hll_is_image(7)"), 0)
     refused("hll_first_image of a text", "an HLL image must be a blob", "SELECT hll_first_image('text')")
+
+
+def followed(image, more):
+    """Each call on an image with more bytes after it."""
+    longer, follow = image + more, ": %d byte%s it%s" % (len(more), "s follow" if len(more) > 1 else " follows", HINT)
+    found = ask("SELECT json_array(hll_fault(?1), hll_is_image(?1), hll_fault(?2), hll_is_image(?2))", longer, image)
+    equal("faults of an image with bytes after it", json.loads(found), ["trailing", 0, None, 1])
+    equal("hll_first_image", ask("SELECT hll_first_image(?)", longer), image)
+    for call in CALLS:
+        refused(call + " with bytes after it", "invalid HLL image" + follow, "SELECT " + call, longer)
+    for call in ("hll_merge(?, ?)", "hll_merge(?, ?, 9)", "hll_agree(?, ?)"):
+        for number, both in ((1, (longer, image)), (2, (image, longer))):
+            refused("%s, bytes after argument %d" % (call, number), "invalid HLL image in argument %d%s" % (number, follow), "SELECT " + call, *both)
+    refused("a row with bytes after it", "invalid HLL image in row 3" + follow,
+            "SELECT hll_image_union_agg(column1) FROM (VALUES (?), (NULL), (?))", image, longer)
 
 
 CALLS = ("hll_info(?)", "hll_fold(?, 4)", "hll_convert(?, 4)", "hll_set_estimator_fields(?)", "hll_estimate(?)", "hll_hip_estimate(?)",
