@@ -98,6 +98,19 @@ value_of_state(MemoryContext parent, State *state)
 	return EOHPGetRWDatum(&object_of_state(parent, state)->header);
 }
 
+/* A value of an image that was written, likewise. */
+static Datum
+value_of_image(MemoryContext parent, bytea *image)
+{
+	State		state;
+
+	if (hll_image_stage(IMAGE(image)) != HLL_REGISTERS)
+		return PointerGetDatum(image);
+	state = new_state(CurrentMemoryContext, 0);
+	check_status(join_image(&state, 0, IMAGE(image)));
+	return value_of_state(parent, &state);
+}
+
 /* The object of a value that may be changed: the value itself, where the caller gave it away, or a copy. */
 static ExpandedSketch *
 own_object(MemoryContext parent, Datum value)
@@ -130,26 +143,39 @@ refuse_other_lg_k(uint8 lg_k, uint8 other)
 			 errhint("Give the bound: hll_merge(a, b, %d) merges them at lg_k %d.", Min(lg_k, other), Min(lg_k, other))));
 }
 
-/* Joins a sketch, the argument of this number (from 0), to a state. */
-static void
-join_argument(State *state, uint8 lg_max_k, Datum value, size_t number)
+/* An argument that is merged: an object, or an image. */
+typedef struct Side
 {
-	ExpandedSketch *object = expanded_of(value);
+	ExpandedSketch *object;		/* NULL where the argument is flat */
+	bytea	   *image;			/* of a flat one */
+} Side;
+
+static Side
+side_in(FunctionCallInfo fcinfo, int argument)
+{
+	Side		side = {expanded_of(PG_GETARG_DATUM(argument)), NULL};
+
+	if (side.object == NULL)
+		side.image = numbered_image_in(fcinfo, argument);
+	return side;
+}
+
+/* Joins a side, the argument of this number (from 0), to a state. */
+static void
+join_side(State *state, uint8 lg_max_k, Side side, size_t number)
+{
 	hll_status	status;
 	uint8		lg_k;
 
-	if (object != NULL)
+	if (side.object != NULL)
 	{
-		lg_k = hll_state_lg_k(object->state.bytes);
-		status = join_state(state, lg_max_k, &object->state);
+		lg_k = hll_state_lg_k(side.object->state.bytes);
+		status = join_state(state, lg_max_k, &side.object->state);
 	}
 	else
 	{
-		bytea	   *image = DatumGetByteaPP(value);
-
-		check_whole(IMAGE(image), "argument", (int64) number + 1);
-		lg_k = named_lg_k(IMAGE(image));
-		status = join_image(state, lg_max_k, IMAGE(image));
+		lg_k = named_lg_k(IMAGE(side.image));
+		status = join_image(state, lg_max_k, IMAGE(side.image));
 	}
 	if (status == HLL_OTHER_LG_K)
 		refuse_other_lg_k(hll_state_lg_k(state->bytes), lg_k);
@@ -163,15 +189,45 @@ bound_in(FunctionCallInfo fcinfo)
 	return PG_NARGS() > 2 ? checked_lg_k("lg_max_k", PG_GETARG_INT64(2)) : 0;
 }
 
-/* A state of the union of both arguments, in the current context. */
+/* A state of the union of both sides, in the current context. */
 static State
-merged_state(FunctionCallInfo fcinfo, uint8 lg_max_k)
+merged_state(uint8 lg_max_k, Side left, Side right)
 {
 	State		state = new_state(CurrentMemoryContext, lg_max_k);
 
-	join_argument(&state, lg_max_k, PG_GETARG_DATUM(0), 0);
-	join_argument(&state, lg_max_k, PG_GETARG_DATUM(1), 1);
+	join_side(&state, lg_max_k, left, 0);
+	join_side(&state, lg_max_k, right, 1);
 	return state;
+}
+
+/* Whether both sides are lists or sets of one lg_k and width, so that their union has these, with no bound or with this one. */
+static bool
+are_alike(uint8 lg_max_k, Side left, Side right)
+{
+	uint8		lg_k;
+
+	if (left.image == NULL || right.image == NULL)
+		return false;
+	lg_k = named_lg_k(IMAGE(left.image));
+	return (lg_max_k == 0 || lg_max_k == lg_k) && lg_k == named_lg_k(IMAGE(right.image)) &&
+		named_width(IMAGE(left.image)) == named_width(IMAGE(right.image)) &&
+		hll_image_stage(IMAGE(left.image)) != HLL_REGISTERS && hll_image_stage(IMAGE(right.image)) != HLL_REGISTERS;
+}
+
+/* The image of the union of such sides, by the call that merges images: it takes a third of the time of a state. */
+static bytea *
+merged_image(Side left, Side right)
+{
+	uint8		lg_k = named_lg_k(IMAGE(left.image));
+	uint8		width = named_width(IMAGE(left.image));
+	size_t		failed = 0;
+	hll_status	status;
+	Output		out;
+
+	WRITE_OUTPUT(out, LENGTH(left.image) + LENGTH(right.image) + 64, status,
+				 hll_image_merge(lg_k, width, IMAGE(left.image), IMAGE(right.image), OUTPUT(out), &failed));
+	check_argument_status(status, failed);
+	return end_output(&out);
 }
 
 PG_FUNCTION_INFO_V1(hll_pg_merge);
@@ -180,8 +236,14 @@ PG_FUNCTION_INFO_V1(hll_pg_merge);
 Datum
 hll_pg_merge(PG_FUNCTION_ARGS)
 {
-	State		state = merged_state(fcinfo, bound_in(fcinfo));
+	uint8		lg_max_k = bound_in(fcinfo);
+	Side		left = side_in(fcinfo, 0);
+	Side		right = side_in(fcinfo, 1);
+	State		state;
 
+	if (are_alike(lg_max_k, left, right))
+		PG_RETURN_BYTEA_P(merged_image(left, right));
+	state = merged_state(lg_max_k, left, right);
 	PG_RETURN_BYTEA_P(image_of_state(&state, hll_state_width(state.bytes)));
 }
 
@@ -191,21 +253,24 @@ PG_FUNCTION_INFO_V1(hll_pg_merge_sketches);
 Datum
 hll_pg_merge_sketches(PG_FUNCTION_ARGS)
 {
-	Datum		left = PG_GETARG_DATUM(0);
 	uint8		lg_max_k = bound_in(fcinfo);
-	ExpandedSketch *object = expanded_of(left);
+	Side		left = side_in(fcinfo, 0);
+	Side		right = side_in(fcinfo, 1);
 	MemoryContext parent = context_of_value(fcinfo);
+	ExpandedSketch *object;
 	State		state;
 
 	CHECK_FOR_INTERRUPTS();
-	if (object == NULL || object == expanded_of(PG_GETARG_DATUM(1)) ||
-		(lg_max_k != 0 && lg_max_k < hll_state_lg_k(object->state.bytes)))
+	if (are_alike(lg_max_k, left, right))
+		return value_of_image(parent, merged_image(left, right));
+	if (left.object == NULL || left.object == right.object ||
+		(lg_max_k != 0 && lg_max_k < hll_state_lg_k(left.object->state.bytes)))
 	{
-		state = merged_state(fcinfo, lg_max_k);
+		state = merged_state(lg_max_k, left, right);
 		return value_of_state(parent, &state);
 	}
-	object = own_object(parent, left);
-	join_argument(&object->state, lg_max_k, PG_GETARG_DATUM(1), 1);
+	object = own_object(parent, PG_GETARG_DATUM(0));
+	join_side(&object->state, lg_max_k, right, 1);
 	return changed_object(object);
 }
 
@@ -230,8 +295,6 @@ sketch_with(FunctionCallInfo fcinfo, const uint8 *value, size_t size)
 	Datum		sketch = PG_GETARG_DATUM(0);
 	ExpandedSketch *object = expanded_of(sketch);
 	MemoryContext parent = context_of_value(fcinfo);
-	bytea	   *image;
-	State		state;
 
 	if (object != NULL)
 	{
@@ -239,10 +302,5 @@ sketch_with(FunctionCallInfo fcinfo, const uint8 *value, size_t size)
 		add_to_state(&object->state, value, size);
 		return changed_object(object);
 	}
-	image = image_with(image_in(fcinfo, 0), value, size);
-	if (hll_image_stage(IMAGE(image)) != HLL_REGISTERS)
-		return PointerGetDatum(image);
-	state = new_state(CurrentMemoryContext, 0);
-	check_status(join_image(&state, 0, IMAGE(image)));
-	return value_of_state(parent, &state);
+	return value_of_image(parent, image_with(image_in(fcinfo, 0), value, size));
 }

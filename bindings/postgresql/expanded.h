@@ -1,7 +1,7 @@
 /* SPDX-License-Identifier: Apache-2.0 */
 /*
- * Expanded values of the type hyperloglog: those that a merge leaves in registers, so that a merge after it, in a loop or
- * in an aggregate, needs not read and write an image of them again.
+ * Expanded values of the type hyperloglog: those that a merge or an addition leaves in registers, so that the next one, in a
+ * loop or in an aggregate, needs not read and write an image of them again.
  */
 #ifndef HLL_EXPANDED_H
 #define HLL_EXPANDED_H

@@ -188,6 +188,10 @@ def one_more(server):
         said = server.run("SELECT hll_add(hyperloglog_empty(), %s);" % value)
         refused("hll_add of " + kind, said, DATATYPE, "values of type %s cannot be counted" % kind)
     refused("hll_add of a sketch", server.run("SELECT hll_add(hyperloglog_empty(), hyperloglog_empty());"), DATATYPE, "sketches are not counted")
+    found = server.ask("""SELECT bool_and(hll_add(m, g)::bytea = f), bool_and(hll_add(m, -g)::bytea <> f), bool_and(m::bytea = f)
+        FROM (SELECT g, a || b m, hll_merge(a::bytea, b::bytea) f FROM (SELECT g, hyperloglog_agg(g * n, 8) a, hyperloglog_agg(g * n + 1, 8) b
+            FROM generate_series(1, 50) g, generate_series(1, 40) n GROUP BY g) x OFFSET 0) y WHERE hll_add(m, -g)::bytea <> f""")
+    equal("a merge to which a value is added stays", found, "t|t|t")
     found = server.run("""DO $$ DECLARE s hyperloglog := hyperloglog_empty(10, 6); before hyperloglog; BEGIN
         FOR n IN 1 .. 3000 LOOP before := s; s := hll_add(s, n); END LOOP;
         s := hll_add(s || s, 7) || s;
