@@ -196,6 +196,7 @@ merged_state(uint8 lg_max_k, Side left, Side right)
 	State		state = new_state(CurrentMemoryContext, lg_max_k);
 
 	join_side(&state, lg_max_k, left, 0);
+	CHECK_FOR_INTERRUPTS();
 	join_side(&state, lg_max_k, right, 1);
 	return state;
 }

@@ -64,12 +64,12 @@ def groups(server):
     toasted = int(server.ask("SELECT pg_relation_size(reltoastrelid) FROM pg_class WHERE relname = 'toasted'"))
     check("images are toasted", toasted > 100 * GROUPS, toasted)
     # a dear step makes the planner give it to the workers
-    server.ask("ANALYZE; ALTER FUNCTION hll_image_union_trans(internal, bytea, int, int) COST 100000")
+    server.ask("ANALYZE; ALTER FUNCTION hll_image_union_trans(internal, bytea, bigint, bigint) COST 100000")
     for table, count in (("plain", len(small)), ("toasted", len(all_groups))):
         for workers, leads in ((0, True), (3, True), (3, False)):
             for is_hash in (True, False):
                 compare_groups(server, table, count, workers, is_hash, leads)
-    server.ask("ALTER FUNCTION hll_image_union_trans(internal, bytea, int, int) COST 50")
+    server.ask("ALTER FUNCTION hll_image_union_trans(internal, bytea, bigint, bigint) COST 50")
     print("  %d groups of %d images" % (len(all_groups), sum(len(group[3]) for group in all_groups)))
 
 

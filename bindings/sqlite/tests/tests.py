@@ -19,7 +19,6 @@ import memory  # noqa: E402
 import shell  # noqa: E402
 import single  # noqa: E402
 import values  # noqa: E402
-from hll_sketches import PrecisionWarning  # noqa: E402
 from report import check, counts  # noqa: E402
 
 PARTS = [shell.build, single.worked_rows, single.functions, single.estimates, single.arguments, single.reasons, values.types,
@@ -29,7 +28,7 @@ PARTS = [shell.build, single.worked_rows, single.functions, single.estimates, si
 
 
 def main():
-    warnings.simplefilter("ignore", PrecisionWarning)
+    warnings.simplefilter("ignore")     # the Python package may warn where a bound lowers a union
     chosen = sys.argv[1:]
     for part in PARTS:
         if chosen and part.__name__ not in chosen:
