@@ -187,7 +187,7 @@ row_of(FunctionCallInfo fcinfo, Datum *values)
 	TupleDesc	columns;
 
 	if (get_call_result_type(fcinfo, NULL, &columns) != TYPEFUNC_COMPOSITE)
-		elog(ERROR, "the function answers a row");
+		elog(ERROR, "the function returns a row");
 	return HeapTupleGetDatum(heap_form_tuple(BlessTupleDesc(columns), values, nulls));
 }
 

@@ -17,9 +17,9 @@ refuse(hll_status status, const char *place)
 		ereport(ERROR,
 				(errcode(ERRCODE_OUT_OF_MEMORY),
 				 errmsg("out of memory"),
-				 errdetail("Memory for an HLL sketch was refused.")));
+				 errdetail("An allocation for an HLL sketch failed.")));
 	if (status < HLL_TRUNCATED || status > HLL_REGISTER)
-		elog(ERROR, "unexpected answer of the HLL library: %s", hll_reason(status));
+		elog(ERROR, "unexpected status of the HLL library: %s", hll_reason(status));
 	ereport(ERROR,
 			(errcode(ERRCODE_INVALID_BINARY_REPRESENTATION),
 			 errmsg("invalid HLL image%s: %s", place, hll_reason(status)),

@@ -23,7 +23,7 @@ static void answer_error(sqlite3_context *context, char *text)
 void refuse(sqlite3_context *context, hll_status status, const char *place)
 {
     bool is_image = HLL_TRUNCATED <= status && status <= HLL_REGISTER;
-    const char *format = is_image ? "invalid HLL image%s: %s" : "unexpected answer of the HLL library%s: %s";
+    const char *format = is_image ? "invalid HLL image%s: %s" : "unexpected status of the HLL library%s: %s";
 
     if (status == HLL_MEMORY)
         sqlite3_result_error_nomem(context);

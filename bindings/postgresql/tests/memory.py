@@ -135,6 +135,6 @@ def refused_memory(server):
         outcomes = session.answers_within(query, 24 * 2**20, 2**18)
         errors = {said for said in outcomes if said.startswith("ERROR:  %s: out of memory\n" % MEMORY)}
         equal("answers where memory is short", outcomes - errors, {wanted})
-        check("the library's memory is refused", any("Memory for an HLL sketch was" in said for said in errors), errors)
+        check("the library's memory is refused", any("An allocation for an HLL sketch failed" in said for said in errors), errors)
         equal("the answer afterwards", session.ask(query), wanted)
         check("memory contexts after refused memory", session.contexts() - contexts <= 16384)
