@@ -130,7 +130,8 @@ class ValuesTest(unittest.TestCase):
     def test_missing_values(self):
         """They are refused by their number, or passed over, whatever is beside them."""
         for values in ([1, None, 2], [1, 2, math.nan], iter([None, 1, 2]), [None, "a", "b"],
-                       array("d", [1.5, math.nan, math.nan, 2.5]), [math.nan] * 3 + [1, 2]):
+                       array("d", [1.5, math.nan, math.nan, 2.5]), [math.nan] * 3 + [1, 2],
+                       [1.5, math.nan, 2.5]):
             values = values if isinstance(values, array) else list(values)
             number = next(n for n, value in enumerate(values) if value is None or value != value)
             for made in (Sketch(), Registers(), SketchUnion()):

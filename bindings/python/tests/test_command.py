@@ -1,5 +1,6 @@
 # SPDX-License-Identifier: Apache-2.0
 """The commands of `hll`: what they write, what they refuse, and how they end."""
+import fcntl
 import io
 import json
 import os
@@ -10,6 +11,7 @@ import signal
 import stat
 import struct
 import subprocess
+import threading
 import unittest
 from contextlib import redirect_stderr, redirect_stdout
 from ctypes.util import find_library
@@ -248,6 +250,27 @@ class AddTest(CommandTest):
         wanted = sketch_of([b"%d" % number for number in range(800)] + [b"not kept waiting"], 14)
         self.assertEqual(self.read("a.hll"), wanted.to_bytes())
         self.assertEqual(self.listed(), ["a.hll"])
+
+    def test_the_lock_is_that_of_the_file_with_the_name(self):
+        """Who waited for a file that was replaced locks the new one."""
+        path = self.write("a.hll", b"old")
+        first, is_held, is_over = files.locked(str(path)), threading.Event(), threading.Event()
+
+        def wait():
+            with files.locked(str(path)):
+                is_held.set()
+                is_over.wait(20)
+
+        waiting = threading.Thread(target=wait)
+        with first:
+            waiting.start()
+            self.assertFalse(is_held.wait(0.2))
+            files.write_path(str(path), b"new")
+        self.assertTrue(is_held.wait(20))
+        with open(path) as new, self.assertRaises(BlockingIOError):
+            fcntl.flock(new, fcntl.LOCK_EX | fcntl.LOCK_NB)
+        is_over.set()
+        waiting.join()
 
     def test_a_file_that_changes_meanwhile(self):
         self.succeeds("new", "a.hll")

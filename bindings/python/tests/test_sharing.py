@@ -19,6 +19,7 @@ from unittest import mock
 
 import common
 from hll_sketches import Sketch, SketchUnion, _library, _locks, coupons, union_of
+from long_searches import stride_coupons, unsorted_set
 
 
 def sketch(values, lg_k=12):
@@ -64,6 +65,28 @@ class CopiesTest(unittest.TestCase):
         second.update("cid")
         second.update("dan")
         self.assertEqual((first.num_coupons, second.num_coupons), (2, 3))
+
+
+class WaitingTest(unittest.TestCase):
+    def test_others_run_while_a_large_image_is_read(self):
+        """A union holds the lock of Python for its own changes alone, not while an image is read."""
+        union, is_over, took = SketchUnion(), threading.Event(), []
+        image = unsorted_set(18, stride_coupons(18))
+
+        def update():
+            start = time.perf_counter()
+            union.update(image)
+            took.append(time.perf_counter() - start)
+            is_over.set()
+
+        reader, gap, last = threading.Thread(target=update), 0.0, time.perf_counter()
+        reader.start()
+        while not is_over.is_set():
+            now = time.perf_counter()
+            gap, last = max(gap, now - last), now
+        reader.join()
+        self.assertGreater(took[0], 0.1)
+        self.assertLess(gap, took[0] / 2)
 
 
 class ForksTest(unittest.TestCase):
