@@ -1,11 +1,6 @@
 /* SPDX-License-Identifier: Apache-2.0 */
 /*
- * HyperLogLog sketches as images: the bytes of a DataSketches HLL sketch, serial version 1.
- *
- * The calls keep nothing. Each takes images (or values) as bytes, and what it makes is an image again, which it puts
- * into the caller's buffer. So an image is the sketch: keep it in memory, in a file, in a column of a table. A program
- * that adds or merges many, one at a time, keeps registers instead, 2^lg_k bytes of its own ("registers of the caller"),
- * or a state, which is small while there are few values ("states").
+ * HyperLogLog sketches, in the format of DataSketches (HLL, serial version 1).
  *
  *     uint8_t empty[HLL_IMAGE_MAX(12)], image[HLL_IMAGE_MAX(12)];
  *     size_t empty_size, size, end = 5;
@@ -14,92 +9,98 @@
  *     hll_image_add(empty, empty_size, (const uint8_t *)"hello", 5, &end, 1, image, sizeof image, &size);
  *     hll_estimate(image, size, &found);
  *
- * A sketch has 2^lg_k registers of 4, 6 or 8 bits (its width) once it has many values. Before, it is a list or a set
- * of coupons: a coupon is what is kept of a value, a slot below 2^26 and a number from 1 to 63. The width changes the
- * size of an image, and nothing else that it says.
+ * A sketch has one of three forms, all in memory of the caller. The library keeps nothing, and there are no handles.
+ *     An image is the bytes of a sketch, for files, columns and other DataSketches libraries. Calls over images read an image
+ *     and write another one.
+ *     A state is a sketch that grows in place: small while there are few values ("states" below).
+ *     Registers are an array of 2^lg_k bytes, a sketch of constant size ("caller-owned registers" below).
  *
- * An image is canonical where its list or set has the table that its coupons need (a list up to seven, a set the least
- * table that they fill to at most three quarters), or where its registers have the out-of-order flag and estimator
- * fields that follow from them: those that calls set here, or 0. New images are canonical, and what calls make of
- * canonical images is too. Images of other programs often aren't.
+ * A sketch of few values is a list or a set of coupons. A coupon is what is kept of a value: a slot below 2^26, and a number
+ * from 1 to 63. A sketch of many values has 2^lg_k registers of 4, 6 or 8 bits each (its width). The width changes the
+ * size of an image, and nothing else.
  *
- * Answers
- *     HLL_OK (0) where the call did what was asked. On every other status the output is as it was: the buffer, *info,
- *     *histogram, *same, *estimation, coupons, registers, the sketch of a state, *size but where the status is HLL_BUFFER,
- *     and *lg_k but where it is HLL_COARSER.
- *     HLL_TRUNCATED to HLL_REGISTER (1 to 11): an image is refused, for the first check that it fails.
- *     HLL_ARGUMENT: an argument is out of its range. This comes first, whatever the images are; only a fold above the
- *     lg_k of the image, and an image without a HIP estimate, are found once that is read.
- *     HLL_MEMORY: malloc answered NULL. The same call can be made again.
- *     HLL_BUFFER: the buffer is too small; *size is the number of bytes that are needed.
- *     HLL_COARSER: what is to be merged has fewer registers; *lg_k is that of what has them.
- *     HLL_OTHER_LG_K: the sketches to be joined have different lg_k, and no lg_max_k was given.
+ * Return values
+ *     HLL_OK (0): the call did what was asked.
+ *     On every other status the output is unchanged: the buffer, *info, *histogram, *same, *estimation, coupons, registers
+ *     and the sketch of a state. *size changes only with HLL_BUFFER, and *lg_k only with HLL_COARSER.
+ *     1 to 11 (HLL_TRUNCATED to HLL_REGISTER): the bytes are not an image. The status is the first check that they fail.
+ *     HLL_ARGUMENT: an argument is out of its range. This is checked before images are read, with two exceptions that need
+ *     the image: a fold above its lg_k, and an image without a HIP estimate.
+ *     HLL_MEMORY: malloc returned NULL. The same call can be made again.
+ *     HLL_BUFFER: the buffer is too small. *size is the number of bytes that are needed.
+ *     HLL_COARSER: the sketch to be merged has fewer registers. *lg_k is its lg_k.
+ *     HLL_OTHER_LG_K: the sketches have different lg_k, and no lg_max_k was given.
  *
  * Arguments
- *     lg_k, lg_max_k   4 to 21: the logarithm of the number of registers. So is `to` of a fold.
- *     width            4, 6 or 8: the bits of a register; in hll_image_convert 0 too. Any other number is HLL_ARGUMENT,
- *                      and so it is of an lg_k: these arguments are unsigned, so 268 is not cut down to 12.
- *     image, len       the bytes of an image. Others may follow it within len; they are not read. Every image is
- *                      checked whole, so the bytes may come from anywhere. (An image can be made to be slow: a set of
- *                      a megabyte takes about a second, and a union of it twice up to three. A call can't be
- *                      stopped. So ask hll_is_small of an untrusted image before a call. docs/OPERATING.md)
- *     out, room, size  a buffer of room bytes, and where the size of the image is put. The bytes after the image
- *                      stay as they were. HLL_IMAGE_MAX(lg_k) bytes are enough for each answer of that lg_k or less.
- *     ends, n          of n byte strings, concatenated in the bytes before this argument: string i
- *                      goes from ends[i - 1] (from 0 for the first) to ends[i]. Ends ascend. Two may be the same:
- *                      an empty string is a string like any other. Ends that descend, or go past the bytes, are
- *                      HLL_ARGUMENT. Bytes after the last end are not looked at.
+ *     lg_k, lg_max_k   the logarithm of the number of registers, 4 to 21. So is `to` of a fold.
+ *     width            the bits of a register: 4, 6 or 8. hll_image_convert accepts 0 too. Any other number is HLL_ARGUMENT.
+ *                      These arguments are unsigned, so 268 is not cut to 12.
+ *     image, len       bytes that begin with an image. Bytes after the image are not read. Every image is checked whole, so
+ *                      the bytes may come from anywhere. An untrusted image can be slow: a set of a megabyte takes about
+ *                      a second to read, and a call can't be stopped. Call hll_is_small first (docs/OPERATING.md).
+ *     out, room, size  a buffer of `room` bytes; *size receives the size of the image. Bytes after the image are unchanged.
+ *                      HLL_IMAGE_MAX(lg_k) bytes are enough for every image of that lg_k or a smaller one.
+ *     ends, n          delimit n byte strings, which are concatenated in the bytes before this argument: string i goes from
+ *                      ends[i - 1] (0 for the first) to ends[i]. Ends ascend. Two may be equal: the empty string is a value
+ *                      like any other. If an end descends or is after the last byte, the call returns HLL_ARGUMENT. Bytes
+ *                      after the last end are not read.
  *     offsets, offsets_len
- *                      of n byte strings, n + 1 offsets into the bytes before this argument: string i goes from offsets[i]
- *                      to offsets[i + 1]. The first offset need not be 0. Offsets ascend, and two may be the same. No
- *                      offset, one that descends, is negative or goes past the bytes is HLL_ARGUMENT. Of a column of
- *                      Apache Arrow (binary or utf8): its offsets from array->offset on, and array->length + 1.
- *     registers, count the caller's registers, a byte for each, and how many: 2^lg_k, 16 to 2^21. Any other count is
+ *                      delimit n byte strings by n + 1 offsets: string i goes from offsets[i] to offsets[i + 1]. The first
+ *                      offset need not be 0. Offsets ascend, and two may be equal. If there is none, or one descends, is
+ *                      negative or is after the last byte, the call returns HLL_ARGUMENT. For a column of Apache Arrow
+ *                      (binary or utf8) pass its offsets from array->offset on, and array->length + 1.
+ *     registers, count an array of `count` registers, one byte each: 2^lg_k of them, 16 to 2^21. Any other count is
  *                      HLL_ARGUMENT.
- *     failed           where images are refused (1 to 11), the number of the first one that is, from 0; else it is
- *                      left as it was. NULL, where it is not wanted; so may lg_k be, of HLL_COARSER.
+ *     failed           receives the number of the first image that is rejected, from 0, when the status is 1 to 11. Else it
+ *                      is unchanged. It may be NULL, and so may the lg_k that HLL_COARSER sets.
  *
- * What is written has its coupons in ascending order, so the same sketch has the same bytes, but for sets in tables of
- * two sizes.
+ * Images that are written
+ *     Coupons are written in ascending order, so the same sketch has the same bytes. (A set is an exception: it may be in
+ *     a table of another size.)
+ *     Registers are written with the estimator fields, the three fields from which other DataSketches libraries estimate,
+ *     and with the out-of-order flag, if a call changed a register or if these fields were 0 with the flag. The fields
+ *     follow from the registers, so the same registers have the same bytes. Fields that another program wrote stay while
+ *     no register changes: in a conversion to another width, in a fold to the same lg_k, in a union with empty images only,
+ *     and if no added value is new. hll_image_clear_estimator_fields sets the fields to 0, as the program hll_merge does;
+ *     other libraries divide by kxq0 + kxq1 and then estimate infinity.
+ *     An image is canonical if its coupons are in the smallest form that holds them (a list for up to seven, else the
+ *     smallest set that is at most three quarters full), or if its registers have the out-of-order flag and estimator fields
+ *     that follow from them, or fields of 0. New images are canonical, and calls make canonical images from canonical ones.
+ *     Images of other programs often aren't canonical.
  *
- * Registers are written with the estimator fields, the three from which other DataSketches libraries estimate, and the
- * out-of-order flag, where a call has changed a register, or these fields were 0 with the flag. They follow from the
- * registers, so the same registers have the same bytes. Other estimator fields that an image brings stay where no register
- * changes: at another width, in a fold to its own lg_k, in a union of it alone or with empty ones, and where no added value
- * is new. hll_image_clear_estimator_fields sets them to 0, as the program hll_merge writes them; from those the formula of
- * other libraries, a division by kxq0 + kxq1, gives infinity.
- *
- * What the caller owes, which no call can test
- *     - A pointer leads to as many bytes (or elements) as its length says; where that is 0 it may be NULL. No other is
- *       NULL, but failed, and lg_k of HLL_COARSER.
+ * What the caller must ensure, because no call can check it
+ *     - A pointer points to as many bytes (or elements) as its length says. It may be NULL if that length is 0. No other
+ *       pointer may be NULL, except failed, and the lg_k that HLL_COARSER sets.
  *     - out, size, failed, info, histogram, same, coupons, estimation, a state, and registers that a call changes, with its
- *       lg_k, overlap nothing else that is passed. (Inputs may overlap one another: an image can be merged with itself.)
- *     - No input changes while a call runs. An end that another thread writes meanwhile can lead past the bytes.
- *     - malloc, realloc and free belong to one allocator, and align to 16 bytes.
- *     - No call is made from a signal handler, or from a child that a process with threads forked: calls use malloc.
- *     - An x86 processor has the instructions of x86-64-v2. The loader of glibc refuses the library on an older one; else
- *       that ends the program by SIGILL.
+ *       lg_k, overlap nothing else that is passed. Inputs may overlap each other: an image can be merged with itself.
+ *     - Inputs don't change during a call. If another thread writes an end meanwhile, the call may read outside the bytes.
+ *     - malloc, realloc and free are of one allocator, and align to 16 bytes.
+ *     - No call is made from a signal handler, or in a child that a process with threads forked, since calls use malloc.
+ *     - An x86 processor has the instructions of x86-64-v2. On an older one, glibc's loader refuses the shared library; a
+ *       program that is linked statically ends with SIGILL.
  *
  * Memory
- *     A call takes memory by malloc while it runs, and gives all of it back. Reading an image takes about the bytes of
- *     its registers or of its table; each call says what it takes beside.
+ *     A call allocates with malloc and frees all of it before it returns. Reading an image allocates about as many bytes as
+ *     its registers or its table have. The comment of each call says what else it allocates.
  *
  * Threads
- *     Calls share nothing and keep nothing, so any number of threads may call at once, also with the same inputs. But
- *     every call on a state may change its bytes, hll_state_image and hll_state_estimate too: one thread at a time.
+ *     Calls share no data. Any number of threads may call at once, also with the same inputs. A call on a state may change the
+ *     bytes of the state, even hll_state_image and hll_state_estimate do: use a state in one thread at a time.
  *
  * What is proved
- *     Of the calls from hll_image_info to hll_coupons_ends32 it is proved what they answer, write and leave as it was, for
- *     all inputs of a caller who keeps to the above; and that registers that are not all 0, into which an image is
- *     merged, written as an image, are the union of theirs with it, its estimator fields set. What a state means after a
- *     join is proved of states whose registers, if they have some, are not all 0; no call leaves others. That order,
- *     repetition and grouping of canonical images under one lg_max_k make no difference follows from laws that are proved
- *     of sketches; no clause of a call says it. Of the estimates of images, registers, histograms and states it is proved that the one
- *     from registers is the double nearest to a number which is the estimator's value, but for one part in 2^40 and 2^-32,
- *     and which never falls where a register is raised. Bounds, estimates from coupons and hll_hip_estimate are plain C,
- *     tested and not proved. So are hll_version, the division of a state's room by four, and what this header defines
- *     itself. Not proved is what is said of time, of threads, of NULL, of other libraries, and of memory, but for which
- *     images may be refused for want of it.
+ *     - Of the calls from hll_image_info to hll_coupons_ends32: which status they return, what they write and what they leave
+ *       unchanged, for all inputs of a caller who ensures the above.
+ *     - If an image is merged into registers that are not all 0, and these are written as an image, the result is their union,
+ *       with the estimator fields set.
+ *     - What a state means after a join, for states whose registers, if they have registers, are not all 0. No call leaves
+ *       a state whose registers are all 0.
+ *     - The estimate from registers (of images, registers, histograms and states): it is the double nearest to a number that
+ *       equals the estimator's value within one part in 2^40 and 2^-32, and that never falls when a register is raised.
+ *     That the order, repetition and grouping of canonical images under one lg_max_k make no difference follows from laws that
+ *     are proved of sketches; no clause of a call says it.
+ *     Not proved, but tested: bounds, estimates from coupons, hll_hip_estimate, hll_version, the division of a state's room
+ *     by four, and what this header defines itself. Nothing is proved of time, of threads, of NULL, of other libraries, and
+ *     of memory, except for which images an allocation may fail.
  */
 #ifndef HLL_H
 #define HLL_H
@@ -120,7 +121,7 @@ typedef uint8_t hll_status;
 
 enum {
     HLL_OK = 0,
-    /* An image is refused; the words say what its bytes are not. */
+    /* The bytes are not an image. */
     HLL_TRUNCATED = 1,      /* the bytes end inside what the header asks for */
     HLL_FAMILY = 2,         /* the family byte is not 7 */
     HLL_SERIAL_VERSION = 3, /* the serial version is not 1 */
@@ -132,23 +133,23 @@ enum {
     HLL_COUNT = 9,          /* a count is above its bound, or not that of the filled buckets */
     HLL_COUPON = 10,        /* a coupon of value 0 where one is needed, or a coupon twice */
     HLL_REGISTER = 11,      /* a register above 63, or nibbles and exceptions that don't agree */
-    /* The call is refused. */
+    /* The call can't be done. */
     HLL_ARGUMENT = 12,      /* an argument is out of its range */
-    HLL_MEMORY = 13,        /* malloc answered NULL */
+    HLL_MEMORY = 13,        /* malloc returned NULL */
     HLL_BUFFER = 14,        /* the buffer is too small; *size is the size needed */
-    HLL_COARSER = 15,       /* what is to be merged has fewer registers; *lg_k is its own */
-    HLL_OTHER_LG_K = 16     /* the sketches to be joined have different lg_k, and no lg_max_k was given */
+    HLL_COARSER = 15,       /* the sketch to be merged has fewer registers; *lg_k is its lg_k */
+    HLL_OTHER_LG_K = 16     /* the sketches have different lg_k, and no lg_max_k was given */
 };
 
 /* The stage of a sketch. */
 enum { HLL_LIST = 0, HLL_SET = 1, HLL_REGISTERS = 2 };
 
-/* So many bytes are enough for an image of this lg_k, or of a smaller one, at each width: 40 of a header, one for each
- * register, and four for each exception of four bits. */
+/* Enough bytes for every image of this lg_k or a smaller one, at each width: 40 for the header, one for each register, and
+ * four for each exception of 4-bit registers. */
 #define HLL_IMAGE_MAX(lg_k) ((size_t)40 + ((size_t)5 << (lg_k)))
 
-/* The size of the largest image of this lg_k whose registers have this width. Of 8 and 6 bits every image of registers has
- * this size; of 4 bits those do whose registers but one are exceptions. */
+/* The size of the largest image of this lg_k and width. With 8 and 6 bits every image of registers has this size. With 4 bits
+ * only an image has it in which all registers but one are exceptions. */
 #define HLL_IMAGE_ROOM(lg_k, width)                                                                                    \
     ((width) == 8   ? (size_t)40 + ((size_t)1 << (lg_k))                                                               \
      : (width) == 6 ? (size_t)41 + ((size_t)3 << (lg_k)) / 4                                                           \
@@ -158,11 +159,11 @@ enum { HLL_LIST = 0, HLL_SET = 1, HLL_REGISTERS = 2 };
 #define HLL_COUPON_SLOT(coupon) ((uint32_t)(coupon) & UINT32_C(0x3ffffff))
 #define HLL_COUPON_VALUE(coupon) ((uint8_t)((uint32_t)(coupon) >> 26))
 
-/* What an image says of its sketch. What the stage doesn't have is 0. A later version may have more members. */
+/* What an image says about its sketch. Members that its stage doesn't have are 0. A later version may add members. */
 typedef struct hll_info {
-    uint64_t coupons;       /* of a list or a set: how many coupons */
-    uint64_t zeros;         /* of registers: how many are 0 */
-    uint64_t units_high;    /* of registers: the sum of 2^(63 - register), a number of 128 bits: its upper half */
+    uint64_t coupons;       /* of a list or a set: the number of coupons */
+    uint64_t zeros;         /* of registers: the number of registers that are 0 */
+    uint64_t units_high;    /* of registers: the sum of 2^(63 - register), 128 bits: its upper half */
     uint64_t units_low;     /* and its lower half */
     uint64_t hip;           /* of registers: the three estimator fields, as bits of binary64 */
     uint64_t kxq0;
@@ -170,17 +171,17 @@ typedef struct hll_info {
     uint8_t lg_k;           /* 4 to 21 */
     uint8_t width;          /* 4, 6 or 8 */
     uint8_t stage;          /* HLL_LIST, HLL_SET or HLL_REGISTERS */
-    uint8_t is_empty;       /* 1 where there is no coupon and no register above 0, else 0 */
-    uint8_t out_of_order;   /* of registers: 1 where the image has the out-of-order flag, else 0 */
+    uint8_t is_empty;       /* 1 if there is no coupon and no register above 0, else 0 */
+    uint8_t out_of_order;   /* of registers: 1 if the image has the out-of-order flag, else 0 */
 } hll_info;
 
-/* How many registers have each value, 0 to 63. The sum of all is 2^lg_k. */
+/* counts[v] is the number of registers with the value v. The sum of all counts is 2^lg_k. */
 typedef struct hll_histogram {
     uint64_t counts[64];
 } hll_histogram;
 
-/* An estimate of the number of distinct values, and bounds at 1, 2 and 3 standard deviations: the number is between
- * them in about 68, 95 and 99.7 of 100 cases, from a list or a set in at least so many. */
+/* An estimate of the number of distinct values, and bounds at 1, 2 and 3 standard deviations. The true number is between the
+ * bounds in about 68, 95 and 99.7 of 100 cases, and more often if the sketch is a list or a set. */
 typedef struct hll_estimation {
     double estimate;
     double relative_standard_error;     /* the standard deviation of the estimate, divided by the number of values */
@@ -188,142 +189,141 @@ typedef struct hll_estimation {
     double upper[3];
 } hll_estimation;
 
-/* A pointer and a length; laid out as struct iovec. */
+/* A pointer and a length, with the layout of struct iovec. */
 typedef struct hll_bytes {
     const uint8_t *bytes;
     size_t len;
 } hll_bytes;
 
-/* The version of the library; HLL_VERSION_NUMBER is that of this header. */
+/* Returns the version of the library. HLL_VERSION_NUMBER is that of this header. */
 uint32_t hll_version(void);
 
 /* ---- what an image says ---- */
 
-/* Tells what the image says of its sketch. info_size is sizeof *info; where it isn't that of this version, the caller was
- * compiled for another one, and the answer is HLL_ARGUMENT.
- * Answers HLL_OK, 1 to 11, HLL_ARGUMENT, or HLL_MEMORY. Takes memory for a table of coupons, but not for 1 to 128 distinct
- * ones of a compact image, or for more that ascend; and for a map of the exceptions of registers of 4 bits. */
+/* Reports what an image says about its sketch. info_size is sizeof *info. If it is not that of this version, the caller was
+ * compiled for another one, and the call returns HLL_ARGUMENT.
+ * Returns HLL_OK, 1 to 11, HLL_ARGUMENT or HLL_MEMORY. Allocates a table for coupons, except for a compact image of 1 to 128
+ * distinct coupons, or of more that ascend; and a map for the exceptions of 4-bit registers. */
 hll_status hll_image_info(const uint8_t *image, size_t len, hll_info *info, size_t info_size);
 
-/* Whether the bytes begin with an image (HLL_OK), else why not.
- * Answers HLL_OK, 1 to 11, or HLL_MEMORY. Takes no memory for 1 to 128 distinct coupons, for coupons of a compact image
- * that ascend, for registers of 6 and 8 bits, and for registers of 4 bits without exceptions. Takes the memory of reading
- * for other coupons, and memory for the exceptions of other registers of 4 bits. */
+/* Checks whether the bytes begin with an image.
+ * Returns HLL_OK if they do, 1 to 11 if they don't, or HLL_MEMORY. Allocates nothing for 1 to 128 distinct coupons, for
+ * ascending coupons of a compact image, for registers of 6 and 8 bits, and for 4-bit registers without exceptions. Allocates
+ * the memory of reading for other coupons, and a map for the exceptions of other 4-bit registers. */
 hll_status hll_image_check(const uint8_t *image, size_t len);
 
-/* How many of the bytes are the image that they begin with.
- * Answers HLL_OK, 1 to 11, or HLL_MEMORY. Takes memory as hll_image_check does. */
+/* Measures the image that the bytes begin with: *size is its number of bytes.
+ * Returns HLL_OK, 1 to 11, or HLL_MEMORY. Allocates as hll_image_check does. */
 hll_status hll_image_size(const uint8_t *bytes, size_t len, size_t *size);
 
-/* Counts the registers of each value, at the lg_k of the image; the coupons of a list or a set are folded to it.
- * Answers HLL_OK, 1 to 11, or HLL_MEMORY. Takes 2^lg_k bytes, memory for the exceptions of registers of 4 bits, and for
- * coupons as hll_image_info does. */
+/* Counts the registers with each value, at the lg_k of the image. The coupons of a list or a set are folded to that lg_k.
+ * Returns HLL_OK, 1 to 11, or HLL_MEMORY. Allocates 2^lg_k bytes, a map for the exceptions of 4-bit registers, and for
+ * coupons what hll_image_info does. */
 hll_status hll_image_histogram(const uint8_t *image, size_t len, hll_histogram *histogram);
 
 /* ---- making an image ---- */
 
-/* The image of an empty sketch. It takes eight bytes.
- * Answers HLL_OK, HLL_ARGUMENT, HLL_MEMORY or HLL_BUFFER. Takes no more memory than the image. */
+/* Writes the image of an empty sketch, eight bytes.
+ * Returns HLL_OK, HLL_ARGUMENT, HLL_MEMORY or HLL_BUFFER. Allocates the image. */
 hll_status hll_image_new(unsigned lg_k, unsigned width, uint8_t *out, size_t room, size_t *size);
 
-/* The image with n more values: byte strings, delimited by their ends. Pass many at once, as each call reads the image and
- * writes it. A value that a canonical image has already changes no register. (An image of another program may be fuller,
- * and grows then: a list of eight becomes a set; a set that fills more than three quarters of its buckets gets a larger
- * table, or becomes registers.)
- * The bytes are hashed as they are, as in Python, SQL, Java and C++. In Rust, and by the update of the Rattle crates, a
- * str is hashed with a byte ff after it: "ann" from there and "ann" from here are two values.
- * Answers HLL_OK, 1 to 11, HLL_ARGUMENT, HLL_MEMORY or HLL_BUFFER. Takes the memory of reading, and the image's. */
+/* Writes the image with n more values: byte strings, delimited by `ends`. Pass many at once, since each call reads the whole
+ * image and writes it again. A value that a canonical image already has changes nothing. An image of another program may be
+ * fuller than a canonical one, and grows then: a list of eight becomes a set, and a set that is more than three quarters
+ * full gets a larger table or becomes registers.
+ * The bytes are hashed as they are, as in Python, SQL, Java and C++. The original crate for Rust, and update of the Rattle
+ * crates, hash a str with a byte ff after it: "ann" from there and "ann" from here are two values.
+ * Returns HLL_OK, 1 to 11, HLL_ARGUMENT, HLL_MEMORY or HLL_BUFFER. Allocates the memory of reading, and the image. */
 hll_status hll_image_add(const uint8_t *image, size_t len, const uint8_t *values, size_t values_len,
                          const size_t *ends, size_t n, uint8_t *out, size_t room, size_t *size);
 
-/* The image with a coupon more, of a slot below 2^26 and a value of 1 to 63.
- * Answers HLL_OK, 1 to 11, HLL_ARGUMENT, HLL_MEMORY or HLL_BUFFER. Takes the memory of reading, and the image's. */
+/* Writes the image with one more coupon: a slot below 2^26, and a value from 1 to 63.
+ * Returns HLL_OK, 1 to 11, HLL_ARGUMENT, HLL_MEMORY or HLL_BUFFER. Allocates the memory of reading, and the image. */
 hll_status hll_image_add_coupon(const uint8_t *image, size_t len, uint32_t slot, unsigned value, uint8_t *out,
                                 size_t room, size_t *size);
 
 /* ---- unions ---- */
 
-/* The image, at this width, of the union of two images: the sketch of all values that either of them has. Its lg_k is
- * lg_max_k, or the least one of those in registers that aren't all 0, where that is smaller. A width of 0 is refused, here
- * and in the unions below.
- * Answers HLL_OK, 1 to 11 (*failed is 0 for the left image, 1 for the right), HLL_ARGUMENT, HLL_MEMORY or HLL_BUFFER.
- * Takes the memory of reading both, 2^lg_k bytes, and the image's. */
+/* Writes the union of two images at this width: the sketch of all values that either of them has. Its lg_k is lg_max_k, or
+ * the smallest lg_k of the images in registers that are not all 0, if that is smaller. A width of 0 is HLL_ARGUMENT, here and
+ * in the unions below.
+ * Returns HLL_OK, 1 to 11 (*failed is 0 for the left image, 1 for the right), HLL_ARGUMENT, HLL_MEMORY or HLL_BUFFER.
+ * Allocates the memory of reading both, 2^lg_k bytes, and the image. */
 hll_status hll_image_merge(unsigned lg_max_k, unsigned width, const uint8_t *left, size_t left_len,
                            const uint8_t *right, size_t right_len, uint8_t *out, size_t room, size_t *size,
                            size_t *failed);
 
-/* The image, at this width, of the union of n images, delimited by their ends. Its lg_k is found as for two. The union of
- * no images is the empty sketch of lg_max_k.
- * Where all images are canonical, their order, how often each is there, and whether some were merged first, under the
- * same lg_max_k, make no difference to the bytes. Where one isn't, two such answers fold to the same registers at the
- * smaller lg_k of both, and stage, table and estimator fields may differ: a set of 31 coupons in 32 buckets at lg_k 8,
- * merged once, stays a set, and merged twice becomes registers.
- * Answers HLL_OK, 1 to 11 (*failed is the number of the image), HLL_ARGUMENT, HLL_MEMORY or HLL_BUFFER.
- * Takes the memory of reading one image at a time, 2^lg_k bytes, and the image's. */
+/* Writes the union of n images, delimited by `ends`, at this width. Its lg_k is that of a union of two. The union of no
+ * images is the empty sketch of lg_max_k.
+ * If all images are canonical, the bytes of the union don't depend on the order of the images, on how often each one is
+ * there, or on whether some were merged before under the same lg_max_k. If one image isn't canonical, two such unions fold to
+ * the same registers at the smaller lg_k of both, but stage, table and estimator fields may differ. For example, a set of
+ * 31 coupons in 32 buckets at lg_k 8 stays a set if it is merged once, and becomes registers if it is merged twice.
+ * Returns HLL_OK, 1 to 11 (*failed is the number of the image), HLL_ARGUMENT, HLL_MEMORY or HLL_BUFFER.
+ * Allocates the memory of reading one image at a time, 2^lg_k bytes, and the image. */
 hll_status hll_images_union(unsigned lg_max_k, unsigned width, const uint8_t *images, size_t images_len,
                             const size_t *ends, size_t n, uint8_t *out, size_t room, size_t *size, size_t *failed);
 
-/* As hll_images_union, of n images that need not be contiguous.
- * Answers and takes memory as that. */
+/* Writes the union of n images that need not be contiguous, as hll_images_union does.
+ * Returns and allocates what that call does. */
 hll_status hll_images_unionv(unsigned lg_max_k, unsigned width, const hll_bytes *parts, size_t n, uint8_t *out,
                              size_t room, size_t *size, size_t *failed);
 
 /* ---- one image from another ---- */
 
-/* The image at a smaller lg_k (or the same): what the sketch would be, had it been made with it.
- * Answers HLL_OK, 1 to 11, HLL_ARGUMENT (also where lg_k is above the image's), HLL_MEMORY or HLL_BUFFER. Takes the
- * memory of reading, 2^lg_k bytes, and the image's. */
+/* Writes the image at a smaller lg_k (or the same): the sketch that the same values make with that lg_k.
+ * Returns HLL_OK, 1 to 11, HLL_ARGUMENT (also if lg_k is above the image's), HLL_MEMORY or HLL_BUFFER. Allocates the
+ * memory of reading, 2^lg_k bytes, and the image. */
 hll_status hll_image_fold(const uint8_t *image, size_t len, unsigned lg_k, uint8_t *out, size_t room, size_t *size);
 
-/* The image at a width. A width of 0 is the image's own; at that it is the image as this library writes it: compact, and
- * in ascending order.
- * Answers HLL_OK, 1 to 11, HLL_ARGUMENT, HLL_MEMORY or HLL_BUFFER. Takes the memory of reading, 2^lg_k bytes, and the
- * image's. */
+/* Writes the image at another width. A width of 0 stands for the image's own: then the image is written as this library
+ * writes it, compact and with ascending coupons.
+ * Returns HLL_OK, 1 to 11, HLL_ARGUMENT, HLL_MEMORY or HLL_BUFFER. Allocates the memory of reading, 2^lg_k bytes, and the
+ * image. */
 hll_status hll_image_convert(const uint8_t *image, size_t len, unsigned width, uint8_t *out, size_t room, size_t *size);
 
-/* The image with the three fields and the flag set from which a DataSketches library estimates, whatever they were. Lists
- * and sets have no such fields, and come out as this library writes them.
- * Answers HLL_OK, 1 to 11, HLL_MEMORY or HLL_BUFFER. Takes the memory of reading, and the image's. */
+/* Writes the image with the three fields and the flag from which other DataSketches libraries estimate, whatever they were.
+ * Lists and sets have no such fields, and are written as this library writes them.
+ * Returns HLL_OK, 1 to 11, HLL_MEMORY or HLL_BUFFER. Allocates the memory of reading, and the image. */
 hll_status hll_image_set_estimator_fields(const uint8_t *image, size_t len, uint8_t *out, size_t room,
                                           size_t *size);
 
-/* The image with these fields 0 and the flag set, as the program hll_merge writes it.
- * Answers and takes memory as hll_image_set_estimator_fields. */
+/* Writes the image with these fields 0 and the flag set, as the program hll_merge writes it.
+ * Returns and allocates what hll_image_set_estimator_fields does. */
 hll_status hll_image_clear_estimator_fields(const uint8_t *image, size_t len, uint8_t *out, size_t room,
                                             size_t *size);
 
 /* ---- comparing ---- */
 
-/* Whether both images have the same registers (*same is 1) or not (0), once both are folded to the smaller lg_k.
+/* Compares the registers of two images, once both are folded to the smaller lg_k: *same is 1 if they are the same, else 0.
  * Returns HLL_OK, 1 to 11 (*failed is 0 for the left image, 1 for the right), or HLL_MEMORY. Allocates at most what
- * hll_image_histogram does, for each image. Registers of the same lg_k and width are compared where they lie: of 6 and
- * 8 bits without any memory, of 4 bits with a map of each image's exceptions. */
+ * hll_image_histogram does, for each image. Registers of the same lg_k and width are compared in the images themselves: with
+ * 6 and 8 bits nothing is allocated, with 4 bits a map for the exceptions of each image. */
 hll_status hll_images_agree(const uint8_t *left, size_t left_len, const uint8_t *right, size_t right_len,
                             uint8_t *same, size_t *failed);
 
-/* ---- registers of the caller ----
+/* ---- caller-owned registers ----
  *
- * A byte for each of 2^lg_k registers, 0 at first: any memory of the caller's, which may be copied, sent and compared as
- * bytes. There is nothing to make and nothing to free. Register s is the greatest value, 0 to 63, of the coupons whose
- * slot is s modulo 2^lg_k; so what was added and merged gives the same bytes: in any order, any number of times, in any
- * grouping.
+ * An array of 2^lg_k bytes, all 0 at first. It can be copied, sent and compared as bytes. There is nothing to make and nothing
+ * to free. Register s is the greatest value, 0 to 63, of the coupons whose slot is s modulo 2^lg_k. So the bytes don't depend
+ * on the order, repetition or grouping of what was added and merged.
  *
  *     static uint8_t registers[1 << 12];
  *     while (...)
  *         hll_registers_merge(registers, sizeof registers, image, len, &lg_k);
  *     hll_registers_estimate(registers, sizeof registers, &found);
  *
- * hll_registers_add and the merges only raise bytes, and don't look whether those of the caller are registers; the other
- * calls answer HLL_REGISTER where a byte is above 63.
+ * hll_registers_add and the merges only raise bytes, and don't check whether the caller's bytes are registers. The other calls
+ * return HLL_REGISTER if a byte is above 63.
  */
 
-/* Adds n values, delimited by their ends, as hll_image_add does.
- * Answers HLL_OK or HLL_ARGUMENT. Takes no memory. */
+/* Adds n values, delimited by `ends`, as hll_image_add does.
+ * Returns HLL_OK or HLL_ARGUMENT. Allocates nothing. */
 hll_status hll_registers_add(uint8_t *registers, size_t count, const uint8_t *values, size_t values_len,
                              const size_t *ends, size_t n);
 
 /* Adds values of one length, without ends: values_len / value_len values of value_len bytes each, concatenated.
- * Returns HLL_OK, or HLL_ARGUMENT: also where value_len is 0, or does not divide values_len. Allocates nothing. */
+ * Returns HLL_OK, or HLL_ARGUMENT: also if value_len is 0, or does not divide values_len. Allocates nothing. */
 hll_status hll_registers_add_fixed(uint8_t *registers, size_t count, const uint8_t *values, size_t values_len,
                                    size_t value_len);
 
@@ -332,41 +332,42 @@ hll_status hll_registers_add_fixed(uint8_t *registers, size_t count, const uint8
 hll_status hll_registers_add_ends32(uint8_t *registers, size_t count, const uint8_t *values, size_t values_len,
                                     const int32_t *offsets, size_t offsets_len);
 
-/* Adds n raw coupons, as hll_coupons puts them. A raw coupon of value 0 is HLL_ARGUMENT.
- * Answers HLL_OK or HLL_ARGUMENT. Takes no memory. */
+/* Adds n raw coupons, as hll_coupons writes them. A raw coupon of value 0 is HLL_ARGUMENT.
+ * Returns HLL_OK or HLL_ARGUMENT. Allocates nothing. */
 hll_status hll_registers_add_coupons(uint8_t *registers, size_t count, const uint32_t *coupons, size_t n);
 
-/* Merges an image of any stage, width and lg_k into the registers: each register becomes the greater of what it was and
- * of the image's registers that fold to it. A list or a set has coupons alone, and is merged whatever its lg_k; so are
- * registers that are all 0, which change nothing. Where the image has other registers, and fewer than the caller, the
- * answer is HLL_COARSER, and *lg_k is the image's: fold to it, and merge again. *lg_k is written on no other answer.
- * Answers HLL_OK, 1 to 11, HLL_ARGUMENT, HLL_MEMORY or HLL_COARSER. Takes memory as hll_image_check does. */
+/* Merges an image of any stage, width and lg_k into the registers: each register becomes the greatest of its value and of
+ * the image's registers that fold to it. A list or a set has coupons only, and is merged whatever its lg_k is. So are
+ * registers that are all 0, which change nothing. If the image has other registers, and fewer than the caller, the call
+ * returns HLL_COARSER and sets *lg_k to the image's: fold to that lg_k, and merge again.
+ * Returns HLL_OK, 1 to 11, HLL_ARGUMENT, HLL_MEMORY or HLL_COARSER. Allocates as hll_image_check does. */
 hll_status hll_registers_merge(uint8_t *registers, size_t count, const uint8_t *image, size_t len, uint8_t *lg_k);
 
-/* Merges other registers into these, as many or more, which are folded. Where the others are fewer, and not all 0, the
- * answer is HLL_COARSER, and *lg_k is theirs. A byte of the others above 63 is HLL_REGISTER, also where they are fewer.
- * Answers HLL_OK, HLL_REGISTER, HLL_ARGUMENT or HLL_COARSER. Takes no memory. */
+/* Merges other registers into these. If the others are more, they are folded. If they are fewer, and not all 0, the call
+ * returns HLL_COARSER and sets *lg_k to theirs. A byte of the others above 63 is HLL_REGISTER, also if they are fewer.
+ * Returns HLL_OK, HLL_REGISTER, HLL_ARGUMENT or HLL_COARSER. Allocates nothing. */
 hll_status hll_registers_merge_registers(uint8_t *registers, size_t count, const uint8_t *others, size_t others_count,
                                          uint8_t *lg_k);
 
-/* Folds the registers to a smaller lg_k (or the same): they are the first 2^to bytes then, and the bytes after them stay.
- * Answers HLL_OK, HLL_REGISTER, or HLL_ARGUMENT (also where `to` is above their lg_k). Takes no memory. */
+/* Folds the registers to a smaller lg_k (or the same). The result is the first 2^to bytes; the bytes after these are
+ * unchanged.
+ * Returns HLL_OK, HLL_REGISTER, or HLL_ARGUMENT (also if `to` is above their lg_k). Allocates nothing. */
 hll_status hll_registers_fold(uint8_t *registers, size_t count, unsigned to);
 
-/* Counts the registers of each value.
- * Answers HLL_OK, HLL_REGISTER or HLL_ARGUMENT. Takes no memory. */
+/* Counts the registers with each value.
+ * Returns HLL_OK, HLL_REGISTER or HLL_ARGUMENT. Allocates nothing. */
 hll_status hll_registers_histogram(const uint8_t *registers, size_t count, hll_histogram *histogram);
 
-/* The image of the registers at this width, with the fields set from which a DataSketches library estimates.
- * Answers HLL_OK, HLL_REGISTER, HLL_ARGUMENT, HLL_MEMORY or HLL_BUFFER. Takes count bytes, at 4 and 6 bits the packed
- * form of the registers beside, and the image's. */
+/* Writes the image of the registers at this width, with the fields from which other DataSketches libraries estimate.
+ * Returns HLL_OK, HLL_REGISTER, HLL_ARGUMENT, HLL_MEMORY or HLL_BUFFER. Allocates `count` bytes, with 4 and 6 bits also the
+ * packed registers, and the image. */
 hll_status hll_registers_image(const uint8_t *registers, size_t count, unsigned width, uint8_t *out, size_t room,
                                size_t *size);
 
 /* ---- states ----
  *
- * A sketch that grows in memory of the caller: coupons while it is small, registers later. There is nothing to free but
- * that memory, and a copy of the first hll_state_size bytes is a copy of the sketch.
+ * A sketch that grows in memory of the caller: coupons while it is small, registers later. The caller frees that memory, and
+ * nothing else. A copy of the first hll_state_size bytes is a copy of the sketch.
  *
  *     size_t room = HLL_STATE_NEW, size;
  *     void *state = malloc(room);
@@ -376,51 +377,50 @@ hll_status hll_registers_image(const uint8_t *registers, size_t count, unsigned 
  *     hll_state_estimate(state, room, &found);
  *     hll_state_image(state, room, 8, out, sizeof out, &size);
  *
- * Room is asked for before anything is added: on HLL_BUFFER the sketch is as it was, and *size bytes are enough for the
- * same call (half as many again as needed, so that a loop asks a few times; at most HLL_STATE_MOST). The bytes may be
- * moved, and no alignment is needed. They are for this version of the library, on processors of either byte order: keep
- * images, and not states, in files and columns.
+ * On HLL_BUFFER the sketch is unchanged, and *size bytes are enough for the same call. *size is one and a half times what
+ * is needed, so that a loop grows a few times only, and at most HLL_STATE_MOST. The bytes may be moved, and need no alignment.
+ * They are for this version of the library, on processors of either byte order: store images in files and columns, not states.
  *
- * The image that a state gives is that of an empty sketch with all that was added, as hll_image_add makes it, and joined, as
- * hll_images_union makes it; without values it is that of an empty list. Where bytes are no state the answer is
- * HLL_ARGUMENT. Bytes that other code changed after a call are answered in some way, and nothing is read or written past the
- * room; a register above 63 is HLL_REGISTER.
+ * The image of a state is that of an empty sketch to which everything was added, as hll_image_add does, and joined, as
+ * hll_images_union does. Without values it is that of an empty list. If the bytes are not a state, a call returns
+ * HLL_ARGUMENT. If other code changed the bytes, a call returns something, but reads and writes nothing outside the room; a
+ * register above 63 is HLL_REGISTER.
  *
- * A state takes 40 bytes and four for each coupon. Where coupons come again, or registers are near, it takes more: coupons
- * are sorted where they are, and become registers beside them.
+ * A state takes 40 bytes, and four for each coupon. It takes more if values repeat, or if it is close to registers: coupons are
+ * sorted in place, and become registers next to them.
  */
 
-/* The bytes of a new state. */
+/* The size of a new state, in bytes. */
 #define HLL_STATE_NEW ((size_t)40)
 
-/* So many bytes are enough for each state of this lg_k: 40, one for each register, and half as many (at lg_k below 7, 64)
- * for the coupons that become these. */
+/* Enough bytes for every state of this lg_k: 40, one for each register, and half as many (64 if lg_k is below 7) for the coupons
+ * that become registers. */
 #define HLL_STATE_MOST(lg_k) ((size_t)40 + ((size_t)1 << (lg_k)) + ((lg_k) < 7 ? (size_t)64 : (size_t)1 << ((lg_k)-1)))
 
 /* Makes the state of an empty sketch.
- * Answers HLL_OK, HLL_ARGUMENT, or HLL_BUFFER where room is below HLL_STATE_NEW. Takes no memory. */
+ * Returns HLL_OK, HLL_ARGUMENT, or HLL_BUFFER if room is below HLL_STATE_NEW. Allocates nothing. */
 hll_status hll_state_new(unsigned lg_k, void *state, size_t room);
 
-/* Adds n values, delimited by their ends, as hll_image_add does.
- * Answers HLL_OK, HLL_ARGUMENT or HLL_BUFFER. Takes no memory. */
+/* Adds n values, delimited by `ends`, as hll_image_add does.
+ * Returns HLL_OK, HLL_ARGUMENT or HLL_BUFFER. Allocates nothing. */
 hll_status hll_state_add(void *state, size_t room, size_t *size, const uint8_t *values, size_t values_len,
                          const size_t *ends, size_t n);
 
 /* Adds one value.
- * Answers HLL_OK, HLL_ARGUMENT or HLL_BUFFER. Takes no memory. */
+ * Returns HLL_OK, HLL_ARGUMENT or HLL_BUFFER. Allocates nothing. */
 hll_status hll_state_add_value(void *state, size_t room, size_t *size, const uint8_t *value, size_t len);
 
-/* Adds n raw coupons, as hll_coupons puts them. A raw coupon of value 0 is HLL_ARGUMENT.
- * Answers HLL_OK, HLL_ARGUMENT or HLL_BUFFER. Takes no memory. */
+/* Adds n raw coupons, as hll_coupons writes them. A raw coupon of value 0 is HLL_ARGUMENT.
+ * Returns HLL_OK, HLL_ARGUMENT or HLL_BUFFER. Allocates nothing. */
 hll_status hll_state_add_coupons(void *state, size_t room, size_t *size, const uint32_t *coupons, size_t n);
 
-/* Joins the sketch of an image: at each slot the greater value of both, at the smaller lg_k, as hll_images_union does where
- * its lg_max_k is the lg_k of the state. The state keeps the smaller lg_k. An empty image adds nothing.
+/* Joins the sketch of an image to a state: at each slot the state gets the greater value of both, at the smaller lg_k, as in
+ * hll_images_union with the lg_k of the state as its lg_max_k. The state keeps the smaller lg_k. An empty image adds nothing.
  *
- *     lg_max_k 0     Sketches of one lg_k are joined, and no other: a state with values answers HLL_OTHER_LG_K to an image
- *                    with values of another lg_k. A state without values takes the lg_k of the first image with values,
+ *     lg_max_k 0     Only sketches of one lg_k are joined. If the state has values, and the image has values of another lg_k,
+ *                    the call returns HLL_OTHER_LG_K. A state without values takes the lg_k of the first image with values,
  *                    and until then the greatest lg_k of the empty images: make it with hll_state_new(4, ..).
- *     lg_max_k 4-21  Images of any lg_k are joined. Make the state with hll_state_new(lg_max_k, ..); HLL_ARGUMENT where
+ *     lg_max_k 4-21  Images of any lg_k are joined. Make the state with hll_state_new(lg_max_k, ..). HLL_ARGUMENT if
  *                    lg_max_k is below the lg_k of the state.
  *
  * On HLL_BUFFER *size bytes are enough for the same call, at most HLL_STATE_MOST of the greater lg_k. A loop over images:
@@ -431,69 +431,70 @@ hll_status hll_state_add_coupons(void *state, size_t room, size_t *size, const u
  * Returns HLL_OK, 1 to 11, HLL_ARGUMENT, HLL_MEMORY, HLL_BUFFER or HLL_OTHER_LG_K. Allocates as hll_image_check does. */
 hll_status hll_state_join(unsigned lg_max_k, void *state, size_t room, size_t *size, const uint8_t *image, size_t len);
 
-/* Joins the sketch of another state, as hll_state_join does that of an image. The bytes of the other state may change, and its
- * sketch stays. The two must not overlap.
+/* Joins the sketch of another state, as hll_state_join joins that of an image. The bytes of the other state may change, but not
+ * its sketch. The two must not overlap.
  * Returns HLL_OK, HLL_REGISTER, HLL_ARGUMENT, HLL_BUFFER or HLL_OTHER_LG_K. Allocates nothing. */
 hll_status hll_state_join_state(unsigned lg_max_k, void *state, size_t room, size_t *size, void *other,
                                 size_t other_room);
 
-/* The image, at this width, of the sketch. The bytes of the state may change, and the sketch stays: coupons are put in
- * order.
- * Answers HLL_OK, HLL_REGISTER, HLL_ARGUMENT, HLL_MEMORY or HLL_BUFFER (*size is the size of the image). Takes the memory
- * of the image, and of registers a copy. */
+/* Writes the image of the sketch at this width. The bytes of the state may change, because coupons are sorted, but not its
+ * sketch.
+ * Returns HLL_OK, HLL_REGISTER, HLL_ARGUMENT, HLL_MEMORY or HLL_BUFFER (*size is the size of the image). Allocates the image,
+ * and a copy of registers. */
 hll_status hll_state_image(void *state, size_t room, unsigned width, uint8_t *out, size_t out_room, size_t *size);
 
-/* Estimates as hll_estimate does. The bytes of the state may change, and the sketch stays.
- * Answers HLL_OK, HLL_REGISTER or HLL_ARGUMENT. Takes no memory. */
+/* Estimates as hll_estimate does. The bytes of the state may change, but not its sketch.
+ * Returns HLL_OK, HLL_REGISTER or HLL_ARGUMENT. Allocates nothing. */
 hll_status hll_state_estimate(void *state, size_t room, hll_estimation *estimation);
 
 /* ---- coupons ---- */
 
-/* The raw coupon of a value: from the MurmurHash3 (x64, 128 bits, seed 9001) of these bytes alone. The empty
- * string is a value like any other. Takes no memory. */
+/* Returns the raw coupon of a value, which follows from the MurmurHash3 (x64, 128 bits, seed 9001) of these bytes. The empty
+ * string is a value like any other. Allocates nothing. */
 uint32_t hll_coupon(const uint8_t *value, size_t len);
 
-/* The raw coupons of n values, delimited by their ends, into an array of room elements.
- * Answers HLL_OK, HLL_ARGUMENT, or HLL_BUFFER where room is less than n (n is what is needed). Takes no memory. */
+/* Writes the raw coupons of n values, delimited by `ends`, into an array of `room` elements.
+ * Returns HLL_OK, HLL_ARGUMENT, or HLL_BUFFER if room is less than n. Allocates nothing. */
 hll_status hll_coupons(const uint8_t *values, size_t values_len, const size_t *ends, size_t n, uint32_t *coupons,
                        size_t room);
 
-/* The raw coupons of values of one length, without ends: n = values_len / value_len values of value_len bytes each,
+/* Writes the raw coupons of values of one length, without ends: n = values_len / value_len values of value_len bytes each,
  * concatenated.
- * Returns HLL_OK, HLL_ARGUMENT where value_len is 0 or does not divide values_len, or HLL_BUFFER where room is less than n.
+ * Returns HLL_OK, HLL_ARGUMENT if value_len is 0 or does not divide values_len, or HLL_BUFFER if room is less than n.
  * Allocates nothing. */
 hll_status hll_coupons_fixed(const uint8_t *values, size_t values_len, size_t value_len, uint32_t *coupons,
                              size_t room);
 
-/* The raw coupons of the values between offsets, as Apache Arrow has them: "offsets, offsets_len" above.
- * Returns HLL_OK, HLL_ARGUMENT, or HLL_BUFFER where room is less than the number of values. Allocates nothing. */
+/* Writes the raw coupons of the values between offsets, as Apache Arrow has them: "offsets, offsets_len" above.
+ * Returns HLL_OK, HLL_ARGUMENT, or HLL_BUFFER if room is less than the number of values. Allocates nothing. */
 hll_status hll_coupons_ends32(const uint8_t *values, size_t values_len, const int32_t *offsets, size_t offsets_len,
                               uint32_t *coupons, size_t room);
 
 /* ---- estimates ---- */
 
-/* Estimates the number of distinct values. From registers it is Ertl's improved estimator, with a relative standard error
- * of 1.04 / sqrt(2^lg_k), computed in whole numbers, so it is the same on every processor; and the estimate of a union of
- * registers is never below that of its parts at the same lg_k. From a list or a set it is the number of coupons, corrected
- * for coupons that values share, and nearly exact; it may fall where these become registers. A lower bound is never below
- * the number of coupons, or of registers above 0: there were at least so many values. Where every register is 63 the
- * estimate is infinite.
- * Answers HLL_OK, 1 to 11, or HLL_MEMORY. Takes the memory of hll_image_info. */
+/* Estimates the number of distinct values.
+ * From registers this is Ertl's improved estimator, with a relative standard error of 1.04 / sqrt(2^lg_k). It is computed in
+ * whole numbers, so it is the same on every processor. The estimate of a union of registers is never below that of its parts
+ * at the same lg_k. If every register is 63, the estimate is infinite.
+ * From a list or a set it is the number of coupons, corrected for coupons that several values share. It is nearly exact, and
+ * may fall when the coupons become registers. A lower bound is never below the number of coupons, or of registers above 0,
+ * since there were at least as many values.
+ * Returns HLL_OK, 1 to 11, or HLL_MEMORY. Allocates as hll_image_info does. */
 hll_status hll_estimate(const uint8_t *image, size_t len, hll_estimation *estimation);
 
-/* The estimate that the writer of an image kept in it while it added values one by one (the HIP accumulator), with its
- * bounds; it scatters by a fifth less than hll_estimate. HLL_ARGUMENT where there is none: for coupons, for registers that
- * were merged (with the out-of-order flag), and where the field is 0 or no number, as this library writes it. Not proved.
- * Answers HLL_OK, 1 to 11, HLL_ARGUMENT or HLL_MEMORY. Takes the memory of reading. */
+/* Reports the HIP estimate that the writer of an image kept in it while it added values one by one, with its bounds. Its
+ * standard error is a fifth smaller than that of hll_estimate. If there is none, the call returns HLL_ARGUMENT: for coupons,
+ * for registers that were merged (with the out-of-order flag), and if the field is 0, as this library writes it, or not a
+ * number. Not proved.
+ * Returns HLL_OK, 1 to 11, HLL_ARGUMENT or HLL_MEMORY. Allocates the memory of reading. */
 hll_status hll_hip_estimate(const uint8_t *image, size_t len, hll_estimation *estimation);
 
-/* Estimates as hll_estimate does, from registers of the caller.
- * Answers HLL_OK, HLL_REGISTER or HLL_ARGUMENT. Takes no memory. */
+/* Estimates as hll_estimate does, from caller-owned registers.
+ * Returns HLL_OK, HLL_REGISTER or HLL_ARGUMENT. Allocates nothing. */
 hll_status hll_registers_estimate(const uint8_t *registers, size_t count, hll_estimation *estimation);
 
-/* Estimates as hll_estimate does, from registers of which histogram->counts[v] have the value v: lg_k follows from the sum
- * of the counts, and the registers themselves are not needed. HLL_ARGUMENT where that sum is not a power of two from 2^4
- * to 2^21.
+/* Estimates as hll_estimate does, from a histogram of registers. lg_k follows from the sum of the counts. If that sum is not a
+ * power of two from 2^4 to 2^21, the call returns HLL_ARGUMENT.
  * Returns HLL_OK or HLL_ARGUMENT. Allocates nothing. */
 hll_status hll_histogram_estimate(const hll_histogram *histogram, hll_estimation *estimation);
 
@@ -501,7 +502,7 @@ hll_status hll_histogram_estimate(const hll_histogram *histogram, hll_estimation
  * Returns HLL_OK or HLL_ARGUMENT. Allocates nothing. */
 hll_status hll_coupons_estimate(uint64_t n, hll_estimation *estimation);
 
-/* The word of a status: "ok", "truncated", "family" and so on; "unknown" for a number that is none. */
+/* Returns a status as one word: "ok", "truncated", "family" and so on; "unknown" for any other number. */
 static inline const char *hll_reason(hll_status status)
 {
     static const char *const words[] = {"ok",       "truncated", "family",   "version",  "lgk",
@@ -511,7 +512,7 @@ static inline const char *hll_reason(hll_status status)
     return status <= HLL_OTHER_LG_K ? words[status] : "unknown";
 }
 
-/* What is wrong, in a sentence; "The status is unknown." for a number that is none. */
+/* Returns a status as a sentence; "The status is unknown." for any other number. */
 static inline const char *hll_message(hll_status status)
 {
     static const char *const sentences[] = {
@@ -536,8 +537,8 @@ static inline const char *hll_message(hll_status status)
     return status <= HLL_OTHER_LG_K ? sentences[status] : "The status is unknown.";
 }
 
-/* What the header of an image says, without a check of the rest: its lg_k, 4 to 21; its width, 4, 6 or 8; and its stage. 0, or
- * for the stage HLL_LIST, where the bytes are fewer than eight, or the header says none of these. */
+/* Return what the header of an image says, without checking the rest: its lg_k, 4 to 21; its width, 4, 6 or 8; and its stage.
+ * They return 0 (HLL_LIST for the stage) if there are fewer than eight bytes, or the header says something else. */
 static inline uint8_t hll_image_lg_k(const uint8_t *image, size_t len)
 {
     return 8 <= len && 4 <= image[3] && image[3] <= 21 ? image[3] : 0;
@@ -555,14 +556,14 @@ static inline uint8_t hll_image_stage(const uint8_t *image, size_t len)
     return stage == 3 ? 0 : stage;
 }
 
-/* A number of 32 bits in a state. */
+/* Returns a 32-bit number in a state. */
 static inline uint32_t hll_state_number(const void *state, size_t at)
 {
     const uint8_t *bytes = (const uint8_t *)state + 4 * at;
     return bytes[0] | (uint32_t)bytes[1] << 8 | (uint32_t)bytes[2] << 16 | (uint32_t)bytes[3] << 24;
 }
 
-/* The lg_k of a state. */
+/* Returns the lg_k of a state. */
 static inline uint8_t hll_state_lg_k(const void *state)
 {
     return hll_state_number(state, 1) & 31;
@@ -576,14 +577,14 @@ static inline uint8_t hll_state_width(const void *state)
     return widths == 1 ? 4 : widths == 2 ? 6 : 8;
 }
 
-/* HLL_REGISTERS where a state has registers, and HLL_SET where it has coupons, some of which may come twice: its image is
- * of a list where the distinct ones are at most seven, and of registers where they are too many for a set. */
+/* Returns HLL_REGISTERS if a state has registers, and HLL_SET if it has coupons, which may repeat. Its image is a list if at
+ * most seven are distinct, and has registers if they are too many for a set. */
 static inline uint8_t hll_state_stage(const void *state)
 {
     return hll_state_number(state, 0) == UINT32_C(0x4c484c42) ? HLL_REGISTERS : HLL_SET;
 }
 
-/* How many bytes of its room a state takes: so many are to be copied. */
+/* Returns the number of bytes of its room that a state takes. A copy of these is a copy of the sketch. */
 static inline size_t hll_state_size(const void *state)
 {
     uint8_t lg_k = hll_state_lg_k(state);
@@ -593,9 +594,9 @@ static inline size_t hll_state_size(const void *state)
     return used <= few ? HLL_STATE_NEW + 4 * used : HLL_STATE_MOST(lg_k);
 }
 
-/* Whether an image of a stranger's is quick to read: it has at most so many bytes, and byte 3, which says its lg_k, is at
- * most this. 12 and 8192 leave room for honest images of lg_k 12; the worst of these takes milliseconds
- * (docs/OPERATING.md, "Images from others"). No other byte is looked at. */
+/* Returns whether an untrusted image is quick to read: whether it has at most `most` bytes, and byte 3, its lg_k, is at most
+ * `lg_k`. 12 and 8192 accept ordinary images of lg_k 12, of which the slowest takes milliseconds (docs/OPERATING.md, "Images from
+ * others"). No other byte is read. */
 static inline int hll_is_small(const uint8_t *image, size_t len, unsigned lg_k, size_t most)
 {
     return 4 <= len && len <= most && image[3] <= lg_k;

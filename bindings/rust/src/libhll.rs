@@ -1,7 +1,7 @@
 // SPDX-License-Identifier: Apache-2.0
 //! The calls of hll.h over slices. All unsafe code of the crate is here.
 //!
-//! hll.h says what a caller owes ("What the caller owes"). It holds for each call below: a pointer comes from a slice or a
+//! hll.h says what a caller must ensure ("What the caller must ensure"). It holds for each call below: a pointer comes from a slice or a
 //! `Vec` together with its length; what a call writes is borrowed as `&mut`, or is memory that nobody else has, so it
 //! overlaps nothing; and no input changes while a call runs, because it is borrowed.
 
@@ -117,7 +117,7 @@ fn fitted(bytes: Vec<u8>) -> Result<Vec<u8>, Status> {
 // ---- images and values
 
 pub(crate) fn image_check(image: &[u8]) -> Result<(), Status> {
-    // SAFETY: "What the caller owes", as said at the top; and so it is below.
+    // SAFETY: "What the caller must ensure", as said at the top; and so it is below.
     checked(unsafe { hll_image_check(image.as_ptr(), image.len()) })
 }
 
