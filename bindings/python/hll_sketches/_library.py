@@ -629,6 +629,26 @@ def image_of_state(state: Memory, width: int) -> bytes:
     return _written(_library.hll_state_image, 64 + len(state), state, len(state), width)
 
 
+def trimmed(state: Memory) -> Memory:
+    """The state without the room that was needed to merge into it, if that is most of its memory."""
+    size = _size_of_state(state)
+    if len(state) <= 2 * size:
+        return state
+    made = (c_uint8 * size)()
+    ctypes.memmove(made, state, size)
+    return made
+
+
+def _size_of_state(state: Memory) -> int:
+    """``hll_state_size`` of hll.h; all of the memory where coupons are to become registers."""
+    lg_k = state[4] & 31
+    if state[0] == 0x42:
+        return STATE_NEW + (1 << lg_k)
+    used = int.from_bytes(state[24:28], "little")
+    few = 7 if lg_k < 8 else 3 << (lg_k - 5)
+    return STATE_NEW + 4 * used if used <= few else len(state)
+
+
 def width_of_state(state: Memory) -> int:
     """The width of what was joined to a state, or 8 where there were several, or none."""
     return {1: 4, 2: 6}.get(state[8] & 7, 8)

@@ -151,7 +151,9 @@ class State:
         """
         if not self.count and not self.lg_max_k:
             return _library.new(DEFAULT, width or 8)
-        return _library.image_of_state(self._memory, width or self.width)
+        image = _library.image_of_state(self._memory, width or self.width)
+        self._memory = _library.trimmed(self._memory)
+        return image
 
 
 def united(images: Sequence[bytes], lg_max_k: int = 0) -> bytes:

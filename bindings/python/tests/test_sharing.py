@@ -67,6 +67,20 @@ class CopiesTest(unittest.TestCase):
         self.assertEqual((first.num_coupons, second.num_coupons), (2, 3))
 
 
+class UnionMemoryTest(unittest.TestCase):
+    def test_a_union_at_rest(self):
+        """It takes little more than its image, whatever room its merges needed."""
+        for count in (0, 1, 7, 8, 300, 5000):
+            part = sketch(range(count))
+            union = SketchUnion()
+            for _ in range(3):
+                union.update_many([part, part.to_bytes()])
+                union.update(part)
+                self.assertEqual(union.sketch(), part)
+                room = len(union._state._memory)
+                self.assertLessEqual(room, 2 * len(part.to_bytes()) + 100, count)
+
+
 class WaitingTest(unittest.TestCase):
     def test_others_run_while_a_large_image_is_read(self):
         """A union holds the lock of Python for its own changes alone, not while an image is read."""
