@@ -11,8 +11,8 @@ names     Files and sections that a page or a source names are there; names in b
 words     README.md has at most 1,000 words.
 messages  The messages of each host keep to the words of docs/FORMAT.md (scripts/messages.py).
 commands  The blocks of README.md run as they are, in a folder without a reader's files, and print what a line `#> ..` after
-          them says; so do commands of CALLING.md, docs/PLAN.md and docs/OPERATING.md, by tests/scale.py where they need an
-          engine.
+          them says; so do commands of CALLING.md, SECURITY.md, docs/PLAN.md and docs/OPERATING.md, by tests/scale.py where
+          they need an engine.
 plans     The plans of docs/FAULTS.md have the answers told there.
 
 Commands and plans need the programs in bin/ (make -C programs); commands build the library where it is not up to date.
@@ -483,7 +483,8 @@ def run_scale():
 
 def check_commands():
     """One test for each command of the pages for users."""
-    results = run_page("README.md") + run_page("CALLING.md", "cat >") + run_page("docs/PLAN.md", "bin/")
+    results = run_page("README.md") + run_page("CALLING.md", "cat >") + run_page("SECURITY.md", "hll ")
+    results += run_page("docs/PLAN.md", "bin/")
     results += run_page("docs/OPERATING.md", "hll ", "mkdir sketches && hll new sketches/1.hll") + run_scale()
     return results.count(True), results.count(False)
 
