@@ -6,7 +6,7 @@ import shutil
 import subprocess
 
 from report import CHECKED, DATA, UNDEFINED, check, equal, refused
-from server import EARLIER, HERE, get
+from server import EARLIER, HERE
 
 
 def build(server):
@@ -31,13 +31,11 @@ EMPTY = "\\x0201070c030c0008"
 
 def beside_peer(server):
     """With postgresql-hll in one schema: each call goes to its own."""
+    if not server.has_extension("hll", "postgresql-%s-hll"):
+        print("skipped: the tests beside postgresql-hll, as it is not here")
+        return
     server.ask("CREATE DATABASE peers")
-    if server.run("CREATE EXTENSION hll;", "peers"):
-        get("postgresql-%s-hll" % server.ask("SELECT split_part(current_setting('server_version'), '.', 1)"))
-        server.link()
-        if server.run("CREATE EXTENSION hll;", "peers"):
-            print("skipped: the tests beside postgresql-hll, as it is not here")
-            return
+    server.ask("CREATE EXTENSION hll", "peers")
     equal("beside postgresql-hll", server.run("CREATE EXTENSION hll_sketches;", "peers"), "")
     for question, wanted in (
             ("hll_cardinality(hll_union_agg(p)) FROM (SELECT hll_add_agg(hll_hash_bigint(x)) p FROM x) s", "3"),

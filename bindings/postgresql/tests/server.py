@@ -224,6 +224,14 @@ class Server:
             raise RuntimeError(done.stderr.strip())
         return done.stdout.rstrip("\n")
 
+    def has_extension(self, name, package):
+        """Whether an extension is here, whose package is installed where that may be; %s in its name is the server's version."""
+        available = "SELECT count(*) FROM pg_available_extensions WHERE name = '%s'" % name
+        if self.ask(available) == "0":
+            get(package % self.ask("SELECT split_part(current_setting('server_version'), '.', 1)"))
+            self.link()
+        return self.ask(available) == "1"
+
     def tool(self, name, *arguments):
         """Runs a program of the server's, such as pg_dump."""
         return subprocess.run([str(self.bin / name), *arguments], env=self.environment, stdout=subprocess.PIPE,
