@@ -26,7 +26,10 @@ def bytes_of_int(value: int) -> bytes:
     try:
         return value.to_bytes(8, "little", signed=value < 0)
     except OverflowError:
-        raise OverflowError("an int has to be within -2^63 and 2^64 - 1") from None
+        raise OverflowError(
+            f"an int has to be within -2^63 and 2^64 - 1, and one has {value.bit_length()} bits: "
+            "pass its str()"
+        ) from None
 
 
 _of_type: Dict[type, Callable[..., bytes]] = {
@@ -61,9 +64,9 @@ def _bytes_of_other(value: Value) -> bytes:
 
 _CURES = {
     "NoneType": "leave missing values out",
-    "date": "pass its isoformat(), or a number of your own",
-    "datetime": "pass its isoformat(), or a number of your own",
-    "Timestamp": "pass its isoformat(), or a number of your own",
+    "date": "pass its isoformat(), or toordinal() - 719163, as which SQL counts it",
+    "datetime": "pass its isoformat(), or the microseconds since 1970, as which SQL counts it",
+    "Timestamp": "pass its isoformat(), or the microseconds since 1970, as which SQL counts it",
     "datetime64": "pass its text, or a number of your own (astype)",
     "timedelta": "pass its total_seconds()",
     "Decimal": "pass its str(), or float() of it",
@@ -132,6 +135,8 @@ def _refuse_one(values: object) -> None:
         raise TypeError(f"many values, not a {name}: its keys() or its values()")
     if hasattr(values, "columns"):
         raise TypeError(f"many values, not a {name}: one of its columns")
+    if isinstance(values, (int, float)):
+        raise TypeError(f"many values, not one {name}: a list of it, or update()")
 
 
 def _batches_of(column: Column, size: int, missing: Optional[Missing]) -> Iterator[Batch]:

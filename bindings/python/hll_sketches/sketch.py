@@ -4,7 +4,7 @@ from __future__ import annotations
 
 import os
 from operator import index
-from typing import Any, Iterable, List, Optional, Tuple, Type, TypeVar, Union
+from typing import Any, Iterable, List, Optional, SupportsIndex, Tuple, Type, TypeVar, Union
 
 from . import _library
 from ._columns import batch_of
@@ -26,9 +26,17 @@ PENDING_BYTES, VALUE_BYTES = 1 << 12, 56
 so many bytes are those of a value beside its own."""
 
 
+def _checked_int(what: str, number: SupportsIndex) -> int:
+    """A number that is an int; ``what`` names it in the error."""
+    try:
+        return index(number)
+    except TypeError:
+        raise TypeError(f"{what} is an int, not {type(number).__name__}") from None
+
+
 def checked_lg_k(lg_k: int) -> int:
     """An ``lg_k`` that is in its range."""
-    lg_k = index(lg_k)
+    lg_k = _checked_int("an lg_k", lg_k)
     if not _library.LEAST_LG_K <= lg_k <= _library.MOST_LG_K:
         raise ArgumentError(f"an lg_k is 4 to 21, not {lg_k}")
     return lg_k
@@ -43,20 +51,24 @@ def checked_deviations(deviations: int) -> int:
 
 def checked_width(width: int) -> int:
     """A width that is one."""
-    width = index(width)
+    width = _checked_int("a width", width)
     if width not in (4, 6, 8):
         raise ArgumentError(f"a width is 4, 6 or 8 bits, not {width}")
     return width
 
 
+def _view_of(source: Buffer) -> memoryview:
+    """What holds bytes, without a copy of them."""
+    try:
+        return memoryview(source)
+    except TypeError:
+        cure = ": Sketch.read reads a file" if isinstance(source, (str, os.PathLike)) else ""
+        raise TypeError(f"the bytes of a sketch, not {type(source).__name__}{cure}") from None
+
+
 def data_in(source: Buffer) -> bytes:
     """The bytes of what holds bytes."""
-    if isinstance(source, bytes):
-        return source
-    try:
-        return memoryview(source).tobytes()
-    except TypeError:
-        raise TypeError(f"the bytes of a sketch, not {type(source).__name__}") from None
+    return source if isinstance(source, bytes) else _view_of(source).tobytes()
 
 
 def image_in(source: Union["Sketch", Buffer]) -> bytes:
@@ -105,8 +117,8 @@ def is_small(
     max_bytes : int
         The most bytes.
     """
-    size = memoryview(image).nbytes
-    return 4 <= size <= max_bytes and memoryview(image).cast("B")[3] <= checked_lg_k(max_lg_k)
+    max_lg_k, data = checked_lg_k(max_lg_k), _view_of(image)
+    return 4 <= data.nbytes <= max_bytes and data.cast("B")[3] <= max_lg_k
 
 
 class Sketch:
@@ -330,7 +342,7 @@ class Sketch:
         ArgumentError
             If one is out of its range.
         """
-        slot, value = index(slot), index(value)
+        slot, value = _checked_int("a slot", slot), _checked_int("a value", value)
         if not 0 <= slot < 1 << 26:
             raise ArgumentError(f"a slot is 0 to 2^26 - 1, not {slot}")
         if not 1 <= value <= 63:

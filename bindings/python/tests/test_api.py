@@ -118,14 +118,34 @@ class ValuesTest(unittest.TestCase):
             (datetime.date(2026, 11, 28), "isoformat"), (datetime.datetime.now(), "isoformat"),
             (datetime.timedelta(1), "total_seconds"), (Decimal("1.5"), "str()"),
             (uuid.uuid4(), "its bytes"), (None, "missing"), ([1], "update_many"),
+            (datetime.date(1970, 1, 2), "toordinal() - 719163"),
         ):
             with self.assertRaisesRegex(TypeError, f"^a value is .*: .*{re.escape(cure)}"):
                 Sketch().update(value)
 
         for value in (2**64, -(2**63) - 1, 2**70):
             for call in calls:
-                with self.assertRaises(OverflowError):
+                with self.assertRaisesRegex(OverflowError, f"{value.bit_length()} bits: pass"):
                     call(value)
+
+    def test_wrong_types(self):
+        """Errors name what was given, and the call that does what was meant."""
+        name_of_file = "the bytes of a sketch, not str: Sketch.read reads a file"
+        for call, said in (
+            (lambda: Sketch("12"), "an lg_k is an int, not str"),
+            (lambda: Sketch(12, 8.0), "a width is an int, not float"),
+            (lambda: Sketch().add_coupon(1.0, 1), "a slot is an int, not float"),
+            (lambda: Sketch().update_many(5),
+             "many values, not one int: a list of it, or update()"),
+            (lambda: union_of(["day.hll"]), name_of_file),
+            (lambda: Sketch.from_bytes(5), "the bytes of a sketch, not int"),
+            (lambda: is_small("day.hll"), name_of_file),
+        ):
+            with self.assertRaises(TypeError) as caught:
+                call()
+            self.assertEqual(str(caught.exception), said)
+        with self.assertRaisesRegex(ArgumentError, "^an lg_k is 4 to 21, not 50$"):
+            is_small(b"", 50)
 
     def test_missing_values(self):
         """They are refused by their number, or passed over, whatever is beside them."""
