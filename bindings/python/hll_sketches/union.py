@@ -90,7 +90,8 @@ class SketchUnion:
         Raises
         ------
         ImageError, PrecisionError
-            As ``update`` does; ``number`` says which, from 0. Then nothing has changed.
+            As ``update`` does. Then nothing has changed. ``number`` says which sketch it is, from
+            0; it is None if these have one ``lg_k``, and the union another one.
         """
         taken = State(self._state.lg_max_k)
         taken.join_stream(_images(sketches))

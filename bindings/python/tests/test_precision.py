@@ -215,6 +215,10 @@ class RuleTest(unittest.TestCase):
             with self.assertRaises(PrecisionError):
                 call()
             self.assertEqual(union.sketch(), FINE)
+        with self.assertRaises(PrecisionError) as caught:
+            union.update_many([EMPTY, COARSE, COARSE])
+        error = caught.exception
+        self.assertEqual((error.lg_k, error.other_lg_k, error.number), (4, 12, None))
         union.update_many([])
         self.assertEqual((union.sketch(), union.lg_max_k, union.width), (FINE, None, None))
 
