@@ -15,7 +15,7 @@ from command import COMMAND, CommandTest, environment
 PAGE = common.ROOT / "docs" / "RECIPES.md"
 LIBRARY = common.ROOT / "bindings" / "c" / "build" / "libhll.a"
 HLL = shlex.join(COMMAND)
-MEASURED = "ru_maxrss"
+MEASURED = "/proc/self/statm"
 """A block that has this prints numbers which depend on the machine."""
 KINDS = {"c", "console", "crontab", "makefile", "python", "sql"}
 
