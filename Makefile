@@ -8,6 +8,7 @@
 #   make prove              proves the library and the programs, and compares what comes out with prebuilt/. It needs the command
 #                           rt, and takes 10 to 25 minutes on four processors
 #   make dist               makes all packages of a release in dist/ (docs/INSTALL.md)
+#   make html               makes these pages as a site in dist/html. It needs pandoc
 #   make check              tests everything: ./check
 #   make clean              removes what the others built
 #
@@ -29,7 +30,7 @@ PARTS := bindings/c programs $(SQLITE)
 STATE := $(filter fresh,$(shell scripts/prebuilt.sh state))
 FOUND := $(STATE:%=STATE=%)
 
-.PHONY: all install uninstall install-postgresql uninstall-postgresql prove dist check clean
+.PHONY: all install uninstall install-postgresql uninstall-postgresql prove dist html check clean
 
 all clean:
 	set -e; for part in $(PARTS) $(POSTGRESQL); do $(MAKE) -C $$part $@ $(FOUND); done
@@ -48,6 +49,9 @@ prove:
 
 dist:
 	python3 packaging/dist.py
+
+html:
+	python3 scripts/make_html.py
 
 check:
 	./check
