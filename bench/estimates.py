@@ -20,6 +20,7 @@ import tempfile
 
 ROOT = pathlib.Path(__file__).resolve().parent.parent
 BUILD = pathlib.Path(os.environ.get("HLL_BUILD", ROOT / "bindings" / "c" / "build"))
+TITLE = "How far estimates are off, and how much they scatter, by the number of distinct values"
 PAGE, PICTURE = ROOT / "docs" / "NUMBERS.md", ROOT / "docs" / "estimates.svg"
 STREAMS, PROCESSES = 4000, 2
 BEGIN, END = "<!-- tables -->", "<!-- end of tables -->"
@@ -232,7 +233,8 @@ def picture(rows):
         parts.append(f'<text x="725" y="{y}" style="fill:{color}">lg_k {lg_k}</text>')
     parts.append('<text x="390" y="590" class="middle">distinct values</text>')
     size = 'width="800" height="600" viewBox="0 0 800 600"'
-    head = f'<svg xmlns="http://www.w3.org/2000/svg" {size}>{STYLE}'
+    named = f'role="img" aria-labelledby="title"><title id="title">{TITLE}</title>'
+    head = f'<svg xmlns="http://www.w3.org/2000/svg" {size} {named}{STYLE}'
     background = '<rect width="800" height="600" class="ground"/>'
     return "\n".join([head, background, *parts, "</svg>", ""])
 

@@ -72,18 +72,22 @@ def box(row, rows, first, last, known, name, *told):
         yield plot.words(x + 12, y + 48 + 19 * number, line)
 
 
+LAYERS_TITLE = "From bytes to your program: what is proved, and what is not"
+
+
 def layers():
-    parts = [plot.words(LEFT, 30, "From bytes to your program: what is proved, and what is not", "title")]
+    parts = [plot.words(LEFT, 30, LAYERS_TITLE, "title")]
     for known, what, x in LEGEND:
         parts.append(f'<rect x="{LEFT + x}" y="50" width="26" height="20" rx="3" class="{known}"/>')
         parts.append(plot.words(LEFT + x + 34, 65, what))
     for one in LAYERS:
         parts += box(*one)
-    return plot.document(WHOLE + 2 * LEFT, TOP + 7 * (ROW + GAP) + 10, STYLE, parts)
+    return plot.document(WHOLE + 2 * LEFT, TOP + 7 * (ROW + GAP) + 10, STYLE, LAYERS_TITLE, parts)
 
 
 # ---- a union
 
+UNION_TITLE = "A union has at each slot the greater register"
 REGISTERS = ((3, 0, 2, 0, 7, 1, 0, 4), (1, 5, 0, 0, 7, 2, 0, 1))
 CELL = 52
 
@@ -100,18 +104,19 @@ def cells(y, name, values, others=None):
 
 def union():
     here, there = REGISTERS
-    parts = [plot.words(LEFT, 30, "A union has at each slot the greater register", "title")]
+    parts = [plot.words(LEFT, 30, UNION_TITLE, "title")]
     parts += cells(56, "one sketch", here, there)
     parts += cells(124, "another", there, here)
     parts.append(f'<path d="M{LEFT} 193H620" class="grid"/>')
     parts += cells(210, "their union", [max(pair) for pair in zip(here, there)])
     told = "The greatest of many numbers doesn't depend on their order, their groups, or repeats."
     parts.append(plot.words(LEFT, 292, told))
-    return plot.document(640, 312, STYLE, parts)
+    return plot.document(640, 312, STYLE, UNION_TITLE, parts)
 
 
 # ---- stages
 
+STAGES_TITLE = "How a sketch of 2^12 registers of eight bits grows"
 # Of a sketch of 2^12 registers of eight bits: the stage, what it keeps at most, and how many bytes its image then has.
 STAGES = (
     ("list", "up to 7 coupons", "8 to 36 bytes"),
@@ -123,7 +128,7 @@ STAGES = (
 
 
 def stages():
-    parts = [plot.words(LEFT, 30, "How a sketch of 2^12 registers of eight bits grows", "title")]
+    parts = [plot.words(LEFT, 30, STAGES_TITLE, "title")]
     for number, (name, most, size) in enumerate(STAGES):
         x = LEFT + number * 176
         parts.append(f'<rect x="{x}" y="56" width="146" height="84" rx="4" class="cell"/>')
@@ -131,7 +136,7 @@ def stages():
         parts += [plot.words(x + 12, 104, most), plot.words(x + 12, 124, size)]
         if number:
             parts.append(f'<path d="M{x - 28} 98h24m-7 -6l7 6l-7 6" class="arrow"/>')
-    return plot.document(LEFT + 5 * 176, 162, STYLE, parts)
+    return plot.document(LEFT + 5 * 176, 162, STYLE, STAGES_TITLE, parts)
 
 
 # ---- sizes
@@ -174,7 +179,7 @@ def sizes():
         parts.append(plot.words(PLOT_LEFT + power * DECADE, bottom + 22, f"{10**power:,}", "middle"))
     for lg_k, color in SIZES:
         parts += size_line(lg_k, color)
-    return plot.document(right + 190, int(bottom) + 40, STYLE, parts)
+    return plot.document(right + 190, int(bottom) + 40, STYLE, SIZES_TITLE, parts)
 
 
 # ---- a histogram
@@ -225,7 +230,7 @@ def speed():
     parts = [plot.words(20, 30, SPEED_TITLE, "title")]
     parts.append(f'<path d="M{AXIS} 54V{end}" class="grid"/>')
     parts += [*shown, plot.words(20, end + 24, SPEED_NOTE)]
-    return plot.document(860, end + 40, STYLE, parts)
+    return plot.document(860, end + 40, STYLE, SPEED_TITLE, parts)
 
 
 def main():

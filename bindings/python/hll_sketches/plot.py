@@ -64,19 +64,24 @@ def deviation(count: float, registers: int) -> float:
 # ---- pictures
 
 
-def document(width: int, height: int, style: str, parts: List[str]) -> str:
-    """A picture on a white ground, or on a dark one in a dark page."""
+def document(width: int, height: int, style: str, title: str, parts: List[str]) -> str:
+    """A picture on a white ground, or on a dark one in a dark page. Screen readers read its title."""
     size = f'width="{width}" height="{height}" viewBox="0 0 {width} {height}"'
-    head = f'<svg xmlns="http://www.w3.org/2000/svg" {size}>{style}{GROUND}'
+    head = f'<svg xmlns="http://www.w3.org/2000/svg" {size} role="img" aria-labelledby="title">'
+    named = f'<title id="title">{_printable(title)}</title>{style}{GROUND}'
     ground = f'<rect width="{width}" height="{height}" class="ground"/>'
-    return "\n".join([head, ground, *parts, "</svg>", ""])
+    return "\n".join([head + named, ground, *parts, "</svg>", ""])
+
+
+def _printable(text: str) -> str:
+    """A text as it can stand in a picture."""
+    return escape("".join(letter if letter.isprintable() else "?" for letter in text))
 
 
 def words(x: float, y: float, text: str, kind: str = "") -> str:
     """A text at a place."""
-    shown = "".join(letter if letter.isprintable() else "?" for letter in text)
     named = f' class="{kind}"' if kind else ""
-    return f'<text x="{x:.1f}" y="{y:.1f}"{named}>{escape(shown)}</text>'
+    return f'<text x="{x:.1f}" y="{y:.1f}"{named}>{_printable(text)}</text>'
 
 
 def step_of(most: float) -> int:
@@ -168,4 +173,4 @@ def histogram_svg(image: bytes, title: str) -> str:
     heading = f"{short}: {1 << lg_k:,} {kind}, about {about}"
     parts = [words(LEFT, 28, heading, "title"), *_legend()]
     parts += [*chart.grid(), *chart.bars(), *chart.dots()]
-    return document(WIDTH, HEIGHT, STYLE, parts)
+    return document(WIDTH, HEIGHT, STYLE, heading, parts)

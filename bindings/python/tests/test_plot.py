@@ -49,6 +49,9 @@ class PictureTest(CommandTest):
         self.assertTrue(heading.startswith('a<b&"??\u00e9.hll: 4,096 slots of coupons'), heading)
         data = self.succeeds("plot", "-", "-o", "-", "--title", "One & two", given=image)
         self.assertIn("One & two: ", parts(data, "text", "title")[0].text)
+        root = ElementTree.fromstring(data)
+        self.assertEqual(root.find(SVG + "title").text, parts(data, "text", "title")[0].text)
+        self.assertEqual((root.get("role"), root.get("aria-labelledby")), ("img", "title"))
         data = plot.histogram_svg(image, "x" * 33).encode()
         self.assertTrue(parts(data, "text", "title")[0].text.startswith("x" * 31 + "\u2026: "))
 
