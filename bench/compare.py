@@ -6,6 +6,35 @@
 
 FOLDER has the source of the crate, version 0.6.0, as its registry gives it; without it the rows of the crate are left out.
 Needs bindings/c built, a C compiler, and for the crate `cargo`. Prints tables for docs/NUMBERS.md, "Beside other code".
+
+Targets, as ratios to the crate's time. A target for one width names it.
+
+    registers of 20,000 values
+      hll_image_merge of two                                1
+      hll_image_convert to the same width                   1.2 (8 bits), 1.5 (6 bits), 1.3 (4 bits)
+      hll_images_agree                                      1
+      hll_image_add of 1 value; of 100; of 1,000            3; 1; 1
+    sets of 20, in table order or updatable
+      hll_image_merge of two                                0.9
+      hll_image_convert                                     1.2
+      hll_images_agree                                      1
+      hll_image_add of 1 value; of 100; of 1,000            1.3; 1; 1
+    states
+      a new state, also with 1 to 300 values                1.2
+      100,000 values                                        0.7
+      a join of registers; of sets of 20                    0.3; 1
+
+Targets, as ratios to the time of the loops.
+
+      hll_coupons                                           1.2
+      a union, each image, next to AVX2 by hand, checked    1.0 (8 bits), 1.1 (6 bits), 1.5 (4 bits)
+      a union, each image of 4 bits, next to plain C        1.0
+      hll_image_add of 1,000 values to registers            1.35
+      hll_estimate, next to hll_image_check                 10
+
+Target, as a ratio to the call's own time before weights were summed by windows.
+
+      hll_image_merge of two images of 8 bits               0.6
 """
 import argparse
 import pathlib

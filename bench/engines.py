@@ -6,7 +6,7 @@ all processors, in PostgreSQL with 0 and 3 workers, and by Dask with 1 to 4 work
     engines.py [--images N] [--files N] [--runs N] [processes | postgresql | dask ..]
 
 The images are 100,000 distinct ones of lg_k 12 at 8, 6 and 4 bits, and as many of 20 values each, whose coupons ascend,
-or stand in the order of their places ("as placed"), as other libraries write them. Beside them stands
+or are in the order of their tables ("in table order"), as other libraries write them. They are compared with
 postgresql-hll, where it is installed, on sketches of the same registers at 5 bits, and of as many values. Contestants
 take turns, and each number is the median over the rounds; so is each ratio, over the ratios of the rounds. In PostgreSQL
 the time of a scan alone (`count`) is taken off. Dask reads a folder of 20,000 files, and so does the process beside it.
@@ -176,7 +176,7 @@ def image_kinds(count):
         yield "%d bits" % width, [union_of([image], LG_K, width).to_bytes() for image in images]
     small = small_images(count)
     yield "20 values", small
-    yield "20 values, as placed", list(map(in_order_of_places, small))
+    yield "20 values, in table order", list(map(in_order_of_places, small))
 
 
 def measure_processes(arguments):
@@ -290,7 +290,7 @@ def compare_estimates(server):
 
 
 NAMES = {"ours8": "8 bits", "ours6": "6 bits", "ours4": "4 bits", "small": "20 values",
-         "placed": "20 values, as placed", "peer": "postgresql-hll", "peer_small": "postgresql-hll, 20 values"}
+         "placed": "20 values, in table order", "peer": "postgresql-hll", "peer_small": "postgresql-hll, 20 values"}
 QUERIES = {"scan": "SELECT count(image) FROM %s", "union": "SELECT union_agg(image) FROM %s",
            "groups": "SELECT count(u) FROM (SELECT union_agg(image) u FROM %s GROUP BY k) x"}
 

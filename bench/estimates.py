@@ -26,7 +26,7 @@ STREAMS, PROCESSES = 4000, 2
 BEGIN, END = "<!-- tables -->", "<!-- end of tables -->"
 COLORS = {4: "#b5352c", 8: "#b07a12", 12: "#2b6cb0", 14: "#2f855a"}
 COLORS |= {16: "#6b46c1", 18: "#b83280", 21: "#4a5568"}
-COUPONS = 1e-4  # the standard error told is less from coupons, and greater from registers
+COUPONS = 1e-4  # the reported standard error is less from coupons, and greater from registers
 
 
 # ---- measuring
@@ -90,7 +90,7 @@ def table(rows, lg_k):
     lines = [
         f"### lg_k {lg_k}",
         "",
-        "| values | bias, in standard errors | scatter | standard error told"
+        "| values | bias, in standard errors | scatter | reported standard error"
         " | within 1 | within 2 | within 3 |",
         "|---|---|---|---|---|---|---|",
     ]
@@ -109,7 +109,7 @@ def worst(rows):
     shares = [min(row.within[d] for row in rows) for d in range(3)]
     held = "{:.1f}, {:.1f} and {:.1f} %".format(*shares)
     return (
-        f"the bias is at most {bias:.3f} of the standard error that is told, and bounds at 1, 2"
+        f"the bias is at most {bias:.3f} of the reported standard error, and bounds at 1, 2"
         f" and 3 deviations hold in at least {held} of the streams"
     )
 
@@ -130,15 +130,15 @@ def summary(rows):
     widest = max(row.scatter / row.told for row in registers)
     measured_at = ", ".join(str(lg_k) for lg_k in sorted({lg_k for lg_k, _ in rows}))
     return (
-        f"At `lg_k` {measured_at}: from coupons {worst(coupons)}. From registers, of 100 values"
-        f" and more, {worst(registers)}, and the scatter is at most {widest:.2f} of that error."
+        f"at `lg_k` {measured_at}. From coupons {worst(coupons)}. From registers, at 100 values"
+        f" and more, {worst(registers)}. The scatter is at most {widest:.2f} of the reported standard error."
     )
 
 
 def table_of_worst(rows):
     """The worst of each lg_k from registers, of 100 values and more."""
     lines = [
-        "| `lg_k` | bias | scatter, of the error told | within 1 | within 2 | within 3 |",
+        "| `lg_k` | bias | scatter | within 1 | within 2 | within 3 |",
         "|---|---|---|---|---|---|",
     ]
     for lg_k, own in in_registers(rows).items():
@@ -151,7 +151,7 @@ def table_of_worst(rows):
 
 def page_of(rows, streams):
     """What the page has of it."""
-    return "\n".join([f"{streams:,} streams. {summary(rows)}", "", *table_of_worst(rows)])
+    return "\n".join([f"{streams:,} streams, {summary(rows)}", "", *table_of_worst(rows)])
 
 
 def tables(rows, streams):
@@ -214,7 +214,7 @@ STYLE = (
     "{.ground{fill:#0d1117}text{fill:#ddd}.grid{stroke:#444}}</style>"
 )
 BIAS = "Bias of the estimate, in standard errors (green: a tenth)"
-SCATTER = "Scatter of the estimate times √2^lg_k (dots), and the standard error told (lines)"
+SCATTER = "Scatter of the estimate times √2^lg_k (dots), and the reported standard error (lines)"
 
 
 def picture(rows):

@@ -9,6 +9,12 @@ the ratios of the pairs, the instructions that callgrind counts on a smaller pla
 installed) with their ratio, and the least address space that is enough, the program itself included. What the program
 prints is compared with a plain model. The random numbers are the same at each run. Without the programs' paths they
 are built if need be.
+
+Targets, as ratios to the baseline.
+
+    20,000 images of lg_k 7                     1.4
+    200,000 lists of seven coupons              1.6
+    one image of lg_k 21 at 8, 6, 4 bits        1.3, 1.4, 1.6
 """
 import argparse
 import math

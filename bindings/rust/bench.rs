@@ -5,6 +5,11 @@
 //!
 //! It calls nothing that the original lacks, so the same file times that: build it in a package whose dependency
 //! `hll_sketches` is the original.
+//!
+//! Targets, as ratios to the time of the original:
+//!
+//! - `new` and `update`: 1.5
+//! - a union of images or sketches: 0.3 for registers, 1 for sets
 use std::ptr;
 use std::time::Instant;
 
