@@ -41,7 +41,7 @@ DECLARED = {
 # What the command rt does.
 TOOLCHAIN = {"check", "ci", "doc", "lib", "must-fail", "plant", "run", "test", "tidy", "try", "verdict", "version"}
 # Names that are not the project's.
-KNOWN = {"as_chunks_mut", "postgres_fdw", "async_capable", "CURRENT_DATE",
+KNOWN = {"as_chunks_mut", "current_date", "postgres_fdw", "async_capable", "CURRENT_DATE",
          "hll_sketch_build", "hll_sketch_union", "hll_sketch_get_estimate", "hll_sketch_get_estimate_and_bounds"}
 SKIPPED_FOLDERS = {"out", "build", "dist", ".git", "target", "__pycache__"}
 SOURCES = {".rt", ".antt", ".py", ".c", ".h", ".cpp", ".hpp", ".sh", ".sql", ".rs", ".edit", ".map", ".control", ".toml", ".txt", ".plan", ""}

@@ -181,7 +181,7 @@ WORKERS = ["ALTER TABLE kept SET (parallel_workers = 4)", "SET max_parallel_work
 
 def toasted_plans(server):
     """How many workers are planned for images that stand beside their table, with none, one .. of the settings that README.md
-    names ("Aggregates")."""
+    names ("Use parallel workers")."""
     server.ask("CREATE DATABASE toasts")
     server.ask(TOASTED, "toasts")
     sizes = server.ask("SELECT pg_relation_size('kept') / count(*), pg_table_size('kept') / count(*) > 4096 FROM kept", "toasts")
