@@ -61,7 +61,8 @@ def functions():
             equal("hll_convert", ask("SELECT hll_convert(?, ?)", image, width), sketch.convert(width).to_bytes())
         for lg_k in (4, max(4, image[3] - 1), image[3]):
             equal("hll_fold", ask("SELECT hll_fold(?, ?)", image, lg_k), sketch.fold(lg_k).to_bytes())
-        equal("hll_set_estimator_fields", ask("SELECT hll_set_estimator_fields(?)", image), sketch.with_estimator_fields().to_bytes())
+        sketch.set_estimator_fields()
+        equal("hll_set_estimator_fields", ask("SELECT hll_set_estimator_fields(?)", image), sketch.to_bytes())
         wanted = merged([image, other])
         if wanted is not None:
             equal("hll_merge", ask("SELECT hll_merge(?, ?)", image, other), wanted)
