@@ -211,16 +211,17 @@ try_example() {
     ! "$program" 2>/dev/null
 }
 
-# The program of the README joins files that are named on its input, and names one that is no image.
+# The program of the README joins files that are named on its input, and names one that is no image and one that is not
+# there.
 try_readme() {
     awk '/^```c$/ { on = 1; text = ""; next } /^```$/ { if (on && text ~ /hll_registers_merge/) printf "%s", text; on = 0 }
         on { text = text $0 "\n" }' README.md >"$tests/readme.c"
     $CC $strict -std=c99 -I. -o "$tests/readme" "$tests/readme.c" "$build/libhll.a" || return 1
-    printf '%s\n' "$tests/one.hll" "$tests/none.hll" "$tests/two.hll" "$tests/one.hll" | "$tests/readme" \
+    printf '%s\n' "$tests/one.hll" "$tests/none.hll" "$tests/gone.hll" "$tests/two.hll" "$tests/one.hll" | "$tests/readme" \
         >"$tests/said" 2>"$tests/refused"
     [ $? -eq 1 ] || return 1
-    grep '^2 distinct values$' "$tests/said" && grep 'none.hll: family$' "$tests/refused" &&
-        [ "$(wc -l <"$tests/refused")" -eq 1 ]
+    grep '^2 distinct values$' "$tests/said" && grep 'none.hll: The family byte is not 7\.$' "$tests/refused" &&
+        grep 'gone.hll: No such file' "$tests/refused" && [ "$(wc -l <"$tests/refused")" -eq 2 ]
 }
 
 # Builds the libraries in a new folder, from a build of the proved library.
