@@ -101,12 +101,14 @@ class RecipesTest(CommandTest):
             self.assertEqual(self.shell(command), shown, command)
 
     def run_python(self, code):
-        python = python_with_dask() if "distributed" in code else sys.executable
+        python = python_with_dask() if "pandas" in code else sys.executable
         if python is None:
-            print("docs/RECIPES.md, Dask: skipped, as no Python with `distributed` is here")
+            print("docs/RECIPES.md: skipped, as no Python with pandas and `distributed` is here")
             return
         self.write("recipe.py", code.encode())
-        done = self.output(python, "-B", "recipe.py", stderr=subprocess.PIPE)    # Dask logs there
+        # A process begins with its parent's peak of memory, which the page measures: so a shell starts it.
+        command = f"{shlex.quote(python)} -B recipe.py; exit $?"
+        done = self.output("sh", "-c", command, stderr=subprocess.PIPE)          # Dask logs there
         self.assertEqual(done.returncode, 0, done.stderr)
         compare = self.assert_near if MEASURED in code else self.assertEqual
         compare(done.stdout, shown_in(code))
