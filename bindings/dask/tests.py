@@ -73,7 +73,7 @@ def error_of(lazy):
     except PlacedImageError as error:
         again = pickle.loads(pickle.dumps(error))
         equal("a pickled error", (again.reason, again.number, str(again)), (error.reason, error.number, str(error)))
-        equal("the words of an error", str(error), "%s: image is rejected: %s" % (error.place, error.reason))
+        equal("the words of an error", str(error).split(" (")[0], "%s: image is rejected: %s" % (error.place, error.reason))
         return error.reason, error.number, error.place
     return None
 

@@ -6,6 +6,25 @@ from typing import Any, List, Optional, Tuple
 
 from ._names import shown
 
+_MEANINGS = {
+    "truncated": "the bytes end inside what the header asks for",
+    "family": "the family byte is not 7, so this is no HLL sketch",
+    "version": "the serial version is not 1",
+    "lgk": "the lg_k byte is outside 4 to 21",
+    "width": "the width bits are 3",
+    "stage": "the stage bits are 3",
+    "preamble": "the preamble words do not fit the stage",
+    "lgarr": "the size of a table is outside its range",
+    "count": "a count is above its bound, or not the number of filled buckets",
+    "coupon": "a coupon has the value 0, or comes twice",
+    "register": "a register is above 63, or nibbles and exceptions do not agree",
+}
+
+
+def explained(reason: str) -> str:
+    """The reason for which bytes are no image, followed by what is wrong with them."""
+    return f"{reason} ({_MEANINGS[reason]})"
+
 
 class HllError(Exception):
     """The base of the errors of this package.
@@ -29,23 +48,28 @@ class ImageError(HllError, ValueError):
         ``stage``, ``preamble``, ``lgarr``, ``count``, ``coupon`` or ``register``.
     number : int or None
         The number of the image, from 0, where several were given.
+    place : str or None
+        Where the image is, as the path of its file, where that is known.
     """
 
-    def __init__(self, reason: str, number: Optional[int] = None) -> None:
-        super().__init__(reason, number)
-        self.reason = reason
-        self.number = number
+    def __init__(
+        self, reason: str, number: Optional[int] = None, place: Optional[str] = None
+    ) -> None:
+        super().__init__(reason, number, place)
+        self.reason, self.number, self.place = reason, number, place
 
-    def at(self, number: Optional[int]) -> ImageError:
-        """Return the same error of an image of which the number is known."""
-        return ImageError(self.reason, number)
+    def at(self, number: Optional[int], place: Optional[str] = None) -> ImageError:
+        """Return the same error of an image of which the number or the place is known."""
+        return ImageError(self.reason, number, place)
 
     def __str__(self) -> str:
         which = "image" if self.number is None else f"image {self.number}"
-        return f"{which} is rejected: {self.reason}"
+        if self.place is not None:
+            which = f"{shown(self.place)}: image"
+        return f"{which} is rejected: {explained(self.reason)}"
 
     def __reduce__(self) -> Tuple[type, Tuple[Any, ...]]:
-        return type(self), (self.reason, self.number)
+        return type(self), (self.reason, self.number, self.place)
 
 
 class PrecisionError(HllError, ValueError):

@@ -72,7 +72,6 @@ _CURES = {
     "Decimal": "pass its str(), or float() of it",
     "UUID": "pass its bytes, or its str()",
     "complex": "pass its str()",
-    "list": "pass one value, or many to update_many",
     "tuple": "pass one text that has its parts, as JSON does",
     "dict": "pass one text that has its parts, as JSON does",
 }
@@ -82,7 +81,9 @@ _CURES = {
 def _wrong_type(value: object) -> TypeError:
     """The refusal of a value of a type that isn't counted."""
     name = type(value).__name__
-    cure = _CURES.get(name, "pass its bytes or its str()")
+    is_many = hasattr(value, "__iter__")
+    cure = "pass one value, or many to update_many" if is_many else "pass its bytes or its str()"
+    cure = _CURES.get(name, cure)
     return TypeError(f"a value is bytes, str, int or float, not {name}: {cure}")
 
 

@@ -307,6 +307,8 @@ def add(options: Namespace) -> int:
     sketch of the lines, so of several ``add`` at once none loses values, and none waits for the
     input of another one.
     """
+    if options.file != STANDARD and not os.path.lexists(options.file):
+        raise Trouble(options.file, "No such file or directory (hll new makes it)", UNUSABLE)
     lg_k = image_of_file(options.file)[3]
     options.output = options.output or options.file
     check_output(options.output, options.force)

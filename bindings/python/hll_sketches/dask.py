@@ -75,15 +75,7 @@ class PlacedImageError(ImageError):
     """
 
     def __init__(self, reason: str, number: Optional[int], place: str) -> None:
-        super().__init__(reason, number)
-        self.args = (reason, number, place)
-        self.place = place
-
-    def __str__(self) -> str:
-        return f"{self.place}: image is rejected: {self.reason}"
-
-    def __reduce__(self) -> Tuple[type, Tuple[Any, ...]]:
-        return type(self), (self.reason, self.number, self.place)
+        super().__init__(reason, number, place)
 
 
 class LeftOut(NamedTuple):

@@ -11,7 +11,7 @@ from contextlib import contextmanager, suppress
 from typing import Callable, Iterator, List, Optional, TypeVar
 
 from . import _library
-from ._errors import ImageError
+from ._errors import ImageError, explained
 from ._names import shown
 from ._signals import ENDING, held_back
 from .layout import size_of
@@ -59,12 +59,15 @@ class OutputTrouble(Trouble):
 
 def unusable(name: str, error: OSError) -> Trouble:
     """The trouble of a file that can't be read or written."""
-    return Trouble(name, error.strerror or str(error), UNUSABLE)
+    words = error.strerror or str(error)
+    if error.errno == errno.EISDIR:
+        words += " (name its files, or merge them)"
+    return Trouble(name, words, UNUSABLE)
 
 
 def image_trouble(name: str, reason: str) -> Trouble:
     """The trouble of a file that is no image."""
-    return Trouble(name, f"image {reason}")
+    return Trouble(name, f"image {explained(reason)}")
 
 
 @contextmanager

@@ -8,7 +8,7 @@ from typing import Any, Iterable, List, Optional, SupportsIndex, Tuple, Type, Ty
 
 from . import _library
 from ._columns import batch_of
-from ._errors import ArgumentError, PrecisionError
+from ._errors import ArgumentError, ImageError, PrecisionError
 from ._locks import Lock
 from ._missing import Missing
 from ._state import united
@@ -214,11 +214,15 @@ class Sketch:
         OSError
             If it can't be read.
         ImageError
-            If it is no image.
+            If it is no image; ``place`` is its path.
         """
         from .files import read_path
 
-        return cls.from_bytes(read_path(os.fspath(path)))
+        name = os.fspath(path)
+        try:
+            return cls.from_bytes(read_path(name))
+        except ImageError as error:
+            raise error.at(None, os.fsdecode(name)) from None
 
     def write(self, path: Union[str, "os.PathLike[str]"]) -> None:
         """Write the image to a file, which is then on the disk.
@@ -386,7 +390,8 @@ class Sketch:
         try:
             return united([mine, image], lg_max_k)
         except PrecisionError as error:
-            raise error.at(None) from None
+            cure = "union_of([a, b], lg_max_k={least}) merges them"     # `|` has no parameter
+            raise PrecisionError(error.lg_k, error.other_lg_k, cure=cure) from None
 
     def __or__(self: _S, other: "Sketch") -> _S:
         """Return the union of both, as ``merge`` makes it."""

@@ -12,6 +12,7 @@ import unittest
 import common
 
 COMMAND = [sys.executable, "-m", "hll_sketches"]
+TRUNCATED = "image truncated (the bytes end inside what the header asks for)"
 
 
 def environment(**more):

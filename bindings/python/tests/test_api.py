@@ -23,7 +23,7 @@ import common
 import hll_sketches
 from hll_sketches import ArgumentError, HllError, ImageError, PrecisionError, Registers, Sketch
 from hll_sketches import SketchUnion, _library, coupon, coupons, fault_of, is_image, is_small
-from hll_sketches import union_of
+from hll_sketches import merge_files, union_of
 from plain_hash import coupon_of, hash_of
 
 EMPTY = bytes.fromhex("0201070a030c0008")
@@ -135,6 +135,9 @@ class ValuesTest(unittest.TestCase):
             (lambda: Sketch("12"), "an lg_k is an int, not str"),
             (lambda: Sketch(12, 8.0), "a width is an int, not float"),
             (lambda: Sketch().add_coupon(1.0, 1), "a slot is an int, not float"),
+            (lambda: Sketch().update({1, 2}),
+             "a value is bytes, str, int or float, not set: pass one value, or many to update_many"),
+            (lambda: merge_files("days"), "many paths, not one str: a list of it"),
             (lambda: Sketch().update_many(5),
              "many values, not one int: a list of it, or update()"),
             (lambda: union_of(["day.hll"]), name_of_file),
@@ -324,7 +327,7 @@ class SketchTest(unittest.TestCase):
         for left, right in ((large, small), (small, large), (large, few), (few, small.fold(8))):
             before = left.to_bytes()
             words = f"the sketch has lg_k {right.lg_k} and not {left.lg_k}: "
-            words += f"lg_max_k={min(left.lg_k, right.lg_k)} merges them"
+            words += f"union_of([a, b], lg_max_k={min(left.lg_k, right.lg_k)}) merges them"
             for call in (lambda: left | right, lambda: left.merge(right)):
                 with self.assertRaises(PrecisionError) as caught:
                     call()
@@ -584,13 +587,16 @@ class ErrorsTest(unittest.TestCase):
         self.assertEqual((fault_of(ONE), is_image(ONE)), (None, True))
 
     def test_pickles(self):
-        images = ImageError("count"), ImageError("count", 7)
+        images = ImageError("count"), ImageError("count", 7), ImageError("count", None, "a/b.hll")
         for error in (*images, ArgumentError("an lg_k"), HllError("x")):
             again = pickle.loads(pickle.dumps(error))
             self.assertIs(type(again), type(error))
             self.assertEqual((str(again), vars(again)), (str(error), vars(error)))
-        self.assertEqual(str(ImageError("count", 7)), "image 7 is rejected: count")
-        self.assertEqual(str(ImageError("count")), "image is rejected: count")
+        count = "count (a count is above its bound, or not the number of filled buckets)"
+        self.assertEqual(str(ImageError("count", 7)), f"image 7 is rejected: {count}")
+        self.assertEqual(str(ImageError("count")), f"image is rejected: {count}")
+        words = f"$'a\\nb.hll': image is rejected: {count}"
+        self.assertEqual(str(ImageError("count", 7, "a\nb.hll")), words)
         for error in (PrecisionError(9, 12), PrecisionError(9, 12, 3, "a/b.hll", "try {least}")):
             again = pickle.loads(pickle.dumps(error))
             self.assertEqual((str(again), vars(again)), (str(error), vars(error)))

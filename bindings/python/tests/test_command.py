@@ -19,8 +19,9 @@ from itertools import product
 from unittest import mock
 
 import common  # noqa: F401, for the path
-from command import COMMAND, CommandTest, environment, interruptible
+from command import COMMAND, CommandTest, TRUNCATED, environment, interruptible
 from hll_sketches import Sketch, __version__, _library, adding, cli, fault_of, files, layout
+from hll_sketches._errors import explained
 from hll_sketches._names import shown
 from mutants import KINDS, Mutants
 
@@ -205,8 +206,9 @@ class AddTest(CommandTest):
 
     def test_refusals(self):
         self.write("bad.hll", b"\x02\x01")
-        self.fails(1, ["bad.hll: image truncated"], "add", "bad.hll", given=b"a\n")
-        self.fails(2, ["none.hll: No such file or directory"], "add", "none.hll", given=b"a\n")
+        self.fails(1, [f"bad.hll: {TRUNCATED}"], "add", "bad.hll", given=b"a\n")
+        words = "none.hll: No such file or directory (hll new makes it)"
+        self.fails(2, [words], "add", "none.hll", given=b"a\n")
         self.assertEqual((self.read("bad.hll"), self.listed()), (b"\x02\x01", ["bad.hll"]))
 
     def test_integers(self):
@@ -383,11 +385,11 @@ class InfoTest(CommandTest):
         self.write("a.hll", image_of(range(50)))
         self.write("bad.hll", self.read("a.hll")[:-1])
         status, out, err = self.run_hll("estimate", "bad.hll", "a.hll")
-        self.assertEqual((status, out, err), (1, b"50\ta.hll\n", "hll: bad.hll: image truncated\n"))
+        self.assertEqual((status, out, err), (1, b"50\ta.hll\n", f"hll: bad.hll: {TRUNCATED}\n"))
         status, out, err = self.run_hll("info", "--json", "bad.hll", "none", ".")
         self.assertEqual((status, json.loads(out)), (2, []))
-        wanted = ["bad.hll: image truncated", "none: No such file or directory"]
-        wanted.append(".: Is a directory")
+        wanted = [f"bad.hll: {TRUNCATED}", "none: No such file or directory"]
+        wanted.append(".: Is a directory (name its files, or merge them)")
         self.assertEqual(err, "".join(f"hll: {line}\n" for line in wanted))
 
 
@@ -402,7 +404,7 @@ class CheckTest(CommandTest):
                 wanted += [(f"all/{name}", reason)] if reason else []
         self.assertGreater(len({reason for _, reason in wanted}), 8)
         status, out, err = self.run_hll("check", "all")
-        lines = "".join(f"{name}: image {reason}\n" for name, reason in wanted)
+        lines = "".join(f"{name}: image {explained(reason)}\n" for name, reason in wanted)
         self.assertEqual((status, out.decode(), err), (1, lines, ""))
         status, out, _ = self.run_hll("check", "all", "--json")
         told = json.loads(out)
@@ -429,7 +431,7 @@ class CheckTest(CommandTest):
         self.write("a", b"")
         (self.folder / "empty").mkdir()
         status, out, err = self.run_hll("check", "none", "a")
-        wanted = (2, b"a: image truncated\n", "hll: none: No such file or directory\n")
+        wanted = (2, b"a: " + TRUNCATED.encode() + b"\n", "hll: none: No such file or directory\n")
         self.assertEqual((status, out, err), wanted)
         self.fails(2, ["empty: no files in this folder"], "check", "empty")
         self.fails(2, ["check: no files are named"], "check")
@@ -439,9 +441,9 @@ class CheckTest(CommandTest):
         with open(os.path.join(os.fsencode(self.folder), name), "wb") as file:
             file.write(b"no")
         status, out, _ = self.run_hll("check", ".")
-        self.assertEqual((status, out), (1, rb"$'./a\377\nb': image truncated" + b"\n"))
+        self.assertEqual((status, out), (1, rb"$'./a\377\nb': " + TRUNCATED.encode() + b"\n"))
         status, out, _ = self.run_hll("check", "--files-from", "-", "-0", given=name + b"\0")
-        self.assertEqual((status, out), (1, rb"$'a\377\nb': image truncated" + b"\n"))
+        self.assertEqual((status, out), (1, rb"$'a\377\nb': " + TRUNCATED.encode() + b"\n"))
         json.loads(self.run_hll("check", ".", "--json")[1])
 
 
@@ -470,7 +472,8 @@ class OneFromAnotherTest(CommandTest):
         words = "a.hll: its lg_k is 12, and a fold goes no higher"
         self.fails(1, [words], "fold", "a.hll", "--lg-k", 13, "-o", "b.hll")
         self.write("c.hll", b"\0" * 50)
-        self.fails(1, ["c.hll: image family"], "convert", "c.hll", "--width", 4, "-o", "b.hll")
+        words = "c.hll: image family (the family byte is not 7, so this is no HLL sketch)"
+        self.fails(1, [words], "convert", "c.hll", "--width", 4, "-o", "b.hll")
         self.assertEqual(self.listed(), ["a.hll", "c.hll"])
 
 
@@ -530,7 +533,7 @@ class DiffTest(CommandTest):
     def test_trouble(self):
         self.write("a.hll", image_of(["abc"]))
         self.write("b.hll", b"")
-        self.fails(2, ["b.hll: image truncated"], "diff", "a.hll", "b.hll")
+        self.fails(2, [f"b.hll: {TRUNCATED}"], "diff", "a.hll", "b.hll")
         self.fails(2, ["none: No such file or directory"], "diff", "none", "a.hll")
 
 

@@ -10,8 +10,8 @@ import unittest
 from unittest import mock
 
 import common  # noqa: F401, for the path
-from command import COMMAND, CommandTest, environment
-from hll_sketches import Sketch, files, finding, merge_files
+from command import COMMAND, CommandTest, TRUNCATED, environment
+from hll_sketches import ImageError, Sketch, files, finding, merge_files
 from hll_sketches._names import shown
 
 
@@ -204,7 +204,7 @@ class NamesTest(CommandTest):
             lines = (out.decode() + err).split("\n")
             self.assertEqual((status, len(lines)), (1, len(self.NAMES) + 1))
             names = [shown(os.fsdecode(b"all/" + name)) for name in self.NAMES]
-            wanted = {f"{name}: image truncated" for name in names}
+            wanted = {f"{name}: {TRUNCATED}" for name in names}
             found = {line[5:] if line.startswith("hll: ") else line for line in lines if line}
             self.assertEqual(found, wanted)
         self.write("a\nb", IMAGE)
@@ -275,8 +275,10 @@ class SketchFilesTest(CommandTest):
         with self.assertRaises(IsADirectoryError):
             Sketch.read(self.folder)
         self.write("bad", b"no")
-        with self.assertRaisesRegex(ValueError, "truncated"):
+        with self.assertRaises(ImageError) as caught:
             Sketch.read(self.folder / "bad")
+        said = f"{self.folder / 'bad'}: image is rejected: {TRUNCATED.partition(' ')[2]}"
+        self.assertEqual((str(caught.exception), caught.exception.reason), (said, "truncated"))
         with mock.patch.object(files, "_write_all", side_effect=OSError(28, "No space left")):
             with self.assertRaises(OSError):
                 Sketch().write(self.folder / "bad")

@@ -13,8 +13,9 @@ import unittest
 from unittest import mock
 
 import common
-from command import COMMAND, CommandTest, environment, interruptible
+from command import COMMAND, CommandTest, TRUNCATED, environment, interruptible
 from hll_sketches import Sketch, _library, files, merging, union_of
+from hll_sketches._errors import explained
 
 FILES = 300
 COUNTS = (0, 1, 8, 9, 40, 3000, 20_000)
@@ -127,7 +128,7 @@ class MergeTest(LaidOut):
         words = ["merge", "-", "--files-from", "list", "-o", "one.hll", "--jobs", 3, "--skip-bad"]
         words += ["--lg-k", 12]
         status, out, err = self.run_hll(*words, "--json", given=extra.to_bytes())
-        lines = "hll: bad: image truncated (left out)\n" + bound_line()
+        lines = f"hll: bad: {TRUNCATED} (left out)\n" + bound_line()
         self.assertEqual((status, err), (0, lines))
         told = json.loads(out)
         self.assertEqual((told["merged"], len(told["left_out"])), (5 * FILES + 1, 1))
@@ -166,7 +167,7 @@ class RefusalsTest(LaidOut):
         lines = []
         for number, (data, reason) in enumerate(zip(self.BAD, reasons)):
             self.write(f"all/1/bad{number}", data)
-            lines.append(f"all/1/bad{number}: image {reason}")
+            lines.append(f"all/1/bad{number}: image {explained(reason)}")
         return lines, union_of(good, 12).to_bytes()
 
     def test_all_bad_files_are_named(self):
@@ -199,7 +200,7 @@ class RefusalsTest(LaidOut):
         for number in bad:
             made[number] = made[number][:7]
         names = self.lay_out(made)
-        lines = [f"{name}: image truncated" for name in sorted(names[number] for number in bad)]
+        lines = [f"{name}: {TRUNCATED}" for name in sorted(names[number] for number in bad)]
         self.fails(1, lines, "merge", "all", "-o", "one.hll", "--lg-k", 12)
         self.assertEqual(self.listed(), ["all"])
         err = "".join(f"hll: {line} (left out)\n" for line in lines)
@@ -212,7 +213,7 @@ class RefusalsTest(LaidOut):
     def test_nothing_to_merge(self):
         self.write("bad", b"no")
         (self.folder / "empty").mkdir()
-        words = ["bad: image truncated (left out)", "merge: no image is left to merge"]
+        words = [f"bad: {TRUNCATED} (left out)", "merge: no image is left to merge"]
         self.fails(1, words, "merge", "bad", "--skip-bad", "-o", "one.hll")
         self.fails(2, ["empty: no files in this folder"], "merge", "empty", "-o", "one.hll")
         self.fails(2, ["merge: no files are named"], "merge", "-o", "one.hll")

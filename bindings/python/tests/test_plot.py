@@ -5,7 +5,7 @@ import unittest
 import xml.etree.ElementTree as ElementTree
 
 import common  # noqa: F401, for the path
-from command import CommandTest
+from command import CommandTest, TRUNCATED
 from hll_sketches import Sketch, plot
 
 SVG = "{http://www.w3.org/2000/svg}"
@@ -65,7 +65,7 @@ class PictureTest(CommandTest):
 
     def test_refusals(self):
         self.write("a.hll", b"no")
-        self.fails(1, ["a.hll: image truncated"], "plot", "a.hll", "-o", "a.svg")
+        self.fails(1, [f"a.hll: {TRUNCATED}"], "plot", "a.hll", "-o", "a.svg")
         self.assertEqual(self.listed(), ["a.hll"])
 
 

@@ -8,7 +8,7 @@ import sys
 import unittest
 
 import common
-from command import COMMAND, CommandTest, environment
+from command import COMMAND, CommandTest, TRUNCATED, environment
 from hll_sketches import Sketch
 
 README = common.PACKAGE / "README.md"
@@ -109,7 +109,7 @@ class ExampleTest(CommandTest):
 
     def test_refuses(self):
         self.write("none.hll", b"no")
-        self.assertEqual(self.example("out.hll", "none.hll"), (1, "", "none.hll: image truncated\n"))
+        self.assertEqual(self.example("out.hll", "none.hll"), (1, "", f"none.hll: {TRUNCATED}\n"))
         self.assertEqual(self.example(), (1, "", "usage: merge.py OUT FILE..\n"))
         self.assertEqual(self.listed(), ["none.hll"])
 

@@ -323,7 +323,7 @@ class ManyTest(unittest.TestCase):
             self.refused(values, r"keys\(\) or its values\(\)")
         table = type("DataFrame", (), {"columns": ["a"], "__iter__": lambda self: iter("a")})
         self.refused(table(), "many values, not a DataFrame: one of its columns")
-        self.refused(7, "not one int")
+        self.refused(7, "^many values, not one int: a list of it, or update\\(\\)")
         self.refused(Sketch(), "not iterable")
 
     def test_what_is_one(self):
