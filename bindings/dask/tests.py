@@ -360,7 +360,7 @@ def columns(client, folder, images, paths):
         told = None
     except TypeError as error:
         told = str(error)
-    equal("a whole table", told, "many values, not a DataFrame: one of its columns")
+    equal("a whole table", told, "expected many values, not a DataFrame: pass one of its columns")
 
 
 def lost_worker(client, folder, images, paths):

@@ -189,8 +189,8 @@ def column_of(values: Any) -> Optional[Column]:
     if view is None:
         return None
     if view.ndim != 1:
-        table = f"a table of {view.ndim} dimensions: one of its columns"
-        raise TypeError(f"many values, not {table if view.ndim else 'one'}")
+        table = f"a table of {view.ndim} dimensions: pass one of its columns"
+        raise TypeError(f"expected many values, not {table if view.ndim else 'one'}")
     if re.fullmatch(r"\d*x", view.format) and view.itemsize:
         return Column(len(view), view.itemsize, _bytes_of(view))
     if re.fullmatch(r"\d*s", view.format) and view.itemsize and hasattr(values, "astype"):

@@ -24,7 +24,7 @@ def _is_missing(value: Any) -> bool:
 
 
 def _refusal(number: int, value: object) -> ArgumentError:
-    cure = "skip_missing=True passes over missing values"
+    cure = "pass skip_missing=True to leave missing values out"
     return ArgumentError(f"value {number:,} is missing ({value!r}): {cure}")
 
 

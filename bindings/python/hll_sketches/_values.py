@@ -131,13 +131,15 @@ def _refuse_one(values: object) -> None:
     if isinstance(values, memoryview) and (values.ndim != 1 or values.itemsize > 1):
         return
     if isinstance(values, (str, bytes, bytearray, memoryview)):
-        raise TypeError(f"many values, not one {name}: a list of it, or update_bytes with ends")
+        cure = "pass a list of it, or call update_bytes with ends"
+        raise TypeError(f"expected many values, not one {name}: {cure}")
     if isinstance(values, Mapping):
-        raise TypeError(f"many values, not a {name}: its keys() or its values()")
+        raise TypeError(f"expected many values, not a {name}: pass its keys() or its values()")
     if hasattr(values, "columns"):
-        raise TypeError(f"many values, not a {name}: one of its columns")
+        raise TypeError(f"expected many values, not a {name}: pass one of its columns")
     if isinstance(values, (int, float)):
-        raise TypeError(f"many values, not one {name}: a list of it, or update()")
+        cure = "pass a list of it, or call update()"
+        raise TypeError(f"expected many values, not one {name}: {cure}")
 
 
 def _batches_of(column: Column, size: int, missing: Optional[Missing]) -> Iterator[Batch]:
@@ -161,7 +163,7 @@ def batches(
         yield from _batches_of(column, size, missing)
         return
     if isinstance(values, memoryview):
-        raise TypeError(f"many values, not a memoryview of the format {values.format!r}")
+        raise TypeError(f"expected many values, not a memoryview of the format {values.format!r}")
     source = _lines(values) if hasattr(values, "readline") else iter(singly(values))
     count, start = LEAST, 0
     while True:

@@ -321,7 +321,7 @@ def merge_files(
         If ``lg_max_k`` or ``width`` is out of its range.
     """
     if isinstance(paths, (str, bytes, os.PathLike)):
-        raise TypeError(f"many paths, not one {type(paths).__name__}: a list of it")
+        raise TypeError(f"expected many paths, not one {type(paths).__name__}: pass a list of it")
     bound, width = checked_bounds(lg_max_k, width)
     refused: List[Tuple[str, str]] = []
 

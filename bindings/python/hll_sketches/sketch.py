@@ -63,7 +63,8 @@ def _view_of(source: Buffer) -> memoryview:
         return memoryview(source)
     except TypeError:
         cure = ": Sketch.read reads a file" if isinstance(source, (str, os.PathLike)) else ""
-        raise TypeError(f"the bytes of a sketch, not {type(source).__name__}{cure}") from None
+        name = type(source).__name__
+        raise TypeError(f"expected the bytes of a sketch, not {name}{cure}") from None
 
 
 def data_in(source: Buffer) -> bytes:

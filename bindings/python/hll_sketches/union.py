@@ -23,7 +23,8 @@ def checked_bounds(lg_max_k: Optional[int], width: Optional[int]) -> Tuple[int, 
 def _images(sources: Iterable[Source]) -> Iterator[bytes]:
     """The image of each sketch."""
     if isinstance(sources, (bytes, bytearray, memoryview, Sketch)):
-        raise TypeError(f"many sketches, not one {type(sources).__name__}: a list of it")
+        name = type(sources).__name__
+        raise TypeError(f"expected many sketches, not one {name}: pass a list of it")
     return (one if type(one) is bytes else image_in(one) for one in sources)
 
 

@@ -130,18 +130,19 @@ class ValuesTest(unittest.TestCase):
 
     def test_wrong_types(self):
         """Errors name what was given, and the call that does what was meant."""
-        name_of_file = "the bytes of a sketch, not str: Sketch.read reads a file"
+        name_of_file = "expected the bytes of a sketch, not str: Sketch.read reads a file"
         for call, said in (
             (lambda: Sketch("12"), "an lg_k is an int, not str"),
             (lambda: Sketch(12, 8.0), "a width is an int, not float"),
             (lambda: Sketch().add_coupon(1.0, 1), "a slot is an int, not float"),
             (lambda: Sketch().update({1, 2}),
-             "a value is bytes, str, int or float, not set: pass one value, or many to update_many"),
-            (lambda: merge_files("days"), "many paths, not one str: a list of it"),
+             "a value is bytes, str, int or float, not set: "
+             "pass one value, or many to update_many"),
+            (lambda: merge_files("days"), "expected many paths, not one str: pass a list of it"),
             (lambda: Sketch().update_many(5),
-             "many values, not one int: a list of it, or update()"),
+             "expected many values, not one int: pass a list of it, or call update()"),
             (lambda: union_of(["day.hll"]), name_of_file),
-            (lambda: Sketch.from_bytes(5), "the bytes of a sketch, not int"),
+            (lambda: Sketch.from_bytes(5), "expected the bytes of a sketch, not int"),
             (lambda: is_small("day.hll"), name_of_file),
         ):
             with self.assertRaises(TypeError) as caught:
@@ -559,7 +560,7 @@ class AccessorsTest(unittest.TestCase):
     def test_one_image_is_not_many(self):
         for one in (EMPTY, bytearray(EMPTY), memoryview(EMPTY), Sketch()):
             for call in (union_of, SketchUnion().update_many):
-                with self.assertRaisesRegex(TypeError, "^many sketches, not one "):
+                with self.assertRaisesRegex(TypeError, "^expected many sketches, not one "):
                     call(one)
 
 

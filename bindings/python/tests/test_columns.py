@@ -348,7 +348,7 @@ class NumPyTest(ColumnTest):
             (numpy.ma.array([1, 2, 9, 3], mask=[0, 0, 1, 0]), three),
             ([1, pandas.NaT, numpy.float32("nan"), 2, numpy.datetime64("NaT"), 3], three),
         ):
-            with self.assertRaisesRegex(ArgumentError, "is missing .*: skip_missing=True passes"):
+            with self.assertRaisesRegex(ArgumentError, "is missing .*: pass skip_missing=True"):
                 Sketch().update_many(values)
             self.assertEqual(skipped(values), wanted)
         self.assertRaises(TypeError, skipped, pandas.Series(pandas.to_datetime(["2026-11-28", None])))

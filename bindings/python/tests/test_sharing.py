@@ -318,12 +318,13 @@ class ManyTest(unittest.TestCase):
 
     def test_what_is_no_iterable_of_values(self):
         for values in (b"ab", bytearray(b"ab"), "ab", memoryview(b"ab")):
-            self.refused(values, f"^many values, not one {type(values).__name__}: a list of it, or ")
+            name = type(values).__name__
+            self.refused(values, f"^expected many values, not one {name}: pass a list of it, or ")
         for values in ({"a": 1}, os.environ, types.MappingProxyType({})):
             self.refused(values, r"keys\(\) or its values\(\)")
         table = type("DataFrame", (), {"columns": ["a"], "__iter__": lambda self: iter("a")})
-        self.refused(table(), "many values, not a DataFrame: one of its columns")
-        self.refused(7, "^many values, not one int: a list of it, or update\\(\\)")
+        self.refused(table(), "expected many values, not a DataFrame: pass one of its columns")
+        self.refused(7, r"^expected many values, not one int: .* or call update\(\)")
         self.refused(Sketch(), "not iterable")
 
     def test_what_is_one(self):
