@@ -2,7 +2,8 @@
 #
 #   make                    builds the C library, the programs in bin/, and the extensions for SQLite and PostgreSQL where their
 #                           headers are here. It needs a C compiler, and takes seconds
-#   make install            installs all but the PostgreSQL extension into PREFIX (/usr/local), below DESTDIR if that is set
+#   make install            installs the C library, the programs and the extension for SQLite into PREFIX (/usr/local), below
+#                           DESTDIR if that is set
 #   make install-postgresql installs the PostgreSQL extension where the server of PG_CONFIG (pg_config) looks for it
 #   make uninstall, uninstall-postgresql
 #   make prove              proves the library and the programs, and compares what comes out with prebuilt/. It needs the command
