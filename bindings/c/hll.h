@@ -556,6 +556,26 @@ static inline uint8_t hll_image_stage(const uint8_t *image, size_t len)
     return stage == 3 ? 0 : stage;
 }
 
+/* Returns the size that the header of an image gives, without checking the rest: quick, and exact if the bytes are an image.
+ * Returns 0 if the header gives none: with tables of buckets, and if it is cut off or is not that of an image. */
+static inline size_t hll_image_header_size(const uint8_t *image, size_t len)
+{
+    uint8_t lg_k = hll_image_lg_k(image, len), width = hll_image_width(image, len), stage = hll_image_stage(image, len);
+    size_t header = stage == HLL_LIST ? 8 : stage == HLL_SET ? 12 : 40, count;
+    const uint8_t *end;
+    if (lg_k == 0 || width == 0 || len < header)
+        return 0;
+    if (stage == HLL_REGISTERS && width != 4)
+        return HLL_IMAGE_ROOM(lg_k, width);
+    if (stage == HLL_LIST)
+        return image[5] & 4 ? 8 : image[5] & 8 ? 8 + 4 * (size_t)image[6] : 0;
+    end = image + header;
+    count = end[-4] | (size_t)end[-3] << 8 | (size_t)end[-2] << 16 | (size_t)end[-1] << 24;
+    if (!(image[5] & 8) && (stage == HLL_SET || count != 0))
+        return 0;
+    return header + (stage == HLL_SET ? 0 : ((size_t)1 << lg_k) / 2) + 4 * count;
+}
+
 /* Returns a 32-bit number in a state. */
 static inline uint32_t hll_state_number(const void *state, size_t at)
 {

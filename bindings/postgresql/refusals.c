@@ -63,8 +63,11 @@ void
 check_whole(const uint8 *image, size_t size, const char *what, int64 number)
 {
 	size_t		own;
-	hll_status	status = size == 0 ? HLL_TRUNCATED : hll_image_size(image, size - 1, &own);
+	hll_status	status;
 
+	if (hll_image_header_size(image, size) == size) /* nearly always, and quicker */
+		return;
+	status = size == 0 ? HLL_TRUNCATED : hll_image_size(image, size - 1, &own);
 	if (status == HLL_MEMORY)
 		refuse(status, "");
 	if (status != HLL_OK || is_empty_table(image, size))

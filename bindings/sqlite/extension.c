@@ -93,8 +93,12 @@ bool is_empty_table(hll_bytes bytes)
 /* Where no byte follows an image: without its last byte it is truncated, which its header tells. `own` is its length. */
 static hll_status whole_status(hll_bytes image, size_t *own)
 {
-    hll_status status = image.len == 0 ? HLL_TRUNCATED : hll_image_size(image.bytes, image.len - 1, own);
+    hll_status status;
 
+    *own = image.len;
+    if (hll_image_header_size(image.bytes, image.len) == image.len) /* nearly always, and quicker */
+        return HLL_OK;
+    status = image.len == 0 ? HLL_TRUNCATED : hll_image_size(image.bytes, image.len - 1, own);
     if (status != HLL_OK || is_empty_table(image))
         *own = image.len;
     return status == HLL_MEMORY ? status : HLL_OK;

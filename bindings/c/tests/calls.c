@@ -643,6 +643,36 @@ static void test_sizes(void)
         }
 }
 
+/* The size in the header is that of the image, or 0: of images whose bytes are changed, as far as they are images still. */
+static void test_sizes_in_headers(void)
+{
+    static const uint8_t changed[] = {4, 5, 5, 6, 7, 8, 9, 32, 36, 37};
+    uint64_t random = 11;
+    size_t stage, size, known = 0, images = 0;
+    unsigned width;
+    int turn;
+    for (stage = 0; stage < 3; stage++)
+        for (width = 4; width <= 8; width += 2)
+            for (turn = 0; turn < 3000; turn++) {
+                uint64_t word = random_word(&random);
+                bytes image = image_of_values(12, (uint8_t)width, 0, values_of_stage[stage]);
+                uint8_t at = changed[word % sizeof changed];
+                size_t found;
+                if (turn > 0 && at < image.len)
+                    image.at[at] ^= (uint8_t)(1 << (word >> 32) % 8);
+                found = hll_image_header_size(image.at, image.len);
+                if (hll_image_size(image.at, image.len, &size) == HLL_OK) {
+                    CHECK(found == 0 || found == size, "%zu, and not %zu", found, size);
+                    CHECK(turn > 0 || found == size, "an image of the library: %zu, and not %zu", found, size);
+                    known += found != 0;
+                    images++;
+                }
+                CHECK(hll_image_header_size(image.at, 7) == 0, "cut off");
+                free(image.at);
+            }
+    CHECK(known > 10000 && images < 27000, "%zu sizes of %zu images", known, images);
+}
+
 /* A caller that was compiled for another hll_info is told so, and nothing is written. */
 static void test_other_info(void)
 {
@@ -760,6 +790,7 @@ int main(void)
     test_agreement();
     test_agreement_by_blocks();
     test_sizes();
+    test_sizes_in_headers();
     test_other_info();
     test_null();
     return finish("calls, each with its codes");
