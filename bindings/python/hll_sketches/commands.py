@@ -130,7 +130,7 @@ def rounded(number: Optional[float]) -> str:
 
 
 def plain_number(number: Optional[float]) -> str:
-    """The same for programs."""
+    """A number for programs, without commas."""
     return rounded(number).replace(",", "")
 
 
