@@ -1,5 +1,5 @@
 // SPDX-License-Identifier: Apache-2.0
-//! Registers of four bits: nibbles above a minimum, and a map of exceptions (docs/MODEL.md, "Registers of four bits").
+//! 4-bit registers: nibbles above a minimum, and a map of exceptions (docs/MODEL.md, "Registers of four bits").
 ghost use Rattle.std.specs.Prelude.{◌≡◌, ◌≢◌, ◌+◌, ◌^◌, ◌<◌, ◌≤◌, ◌==◌, ◌⊎◌, take, nat_eq, slice_index, IfOk, IfErr, OnOk, OnErr, None};
 ghost use Rattle.std.specs.List.{list_all};
 ghost use Rattle.std.specs.Cmp.Lexicographic.{pointwise};
@@ -27,9 +27,9 @@ use hll_registers::registers::{Registers, two_to, units_of};
 use std::alloc::{Allocator, Global};
 use std::marker::Model;
 
-/// 2^`lg_k` registers of 0 to 63, and their estimate state: two registers a byte, each as far above the least of all as
-/// a nibble says, and where that is 15 or more, in a map. Contracts see the `lg_k`, the list of registers, the state, and
-/// the buckets of the map.
+/// 2^`lg_k` registers of 0 to 63, two in a byte, and their estimate state. A nibble is the height of the register above
+/// the least register. Registers 15 or more above it are in a map. Contracts see the `lg_k`, the list of registers, the
+/// state, and the buckets of the map.
 #[derive_where(Debug)]
 #[derive(Drop)]
 pub struct Array4<A: Allocator = Global> {
@@ -49,9 +49,9 @@ impl<A: Allocator> Model for Array4<A> {
 }
 
 impl<A: Allocator> Array4<A> {
-    /// 2^`lg_config_k` registers of 0, with the cleared state.
+    /// Returns 2^`lg_config_k` registers of 0, with the cleared state.
     ///
-    /// `lg_config_k` is 4 to 21. Fails with `Memory`.
+    /// `lg_config_k` is 4 to 21. Fails with `Memory` if the allocation fails.
     pub fn new(alloc: A, lg_config_k: u8) -> Result<Array4<A>, Error>
         requires least { 4 ≤ lg_config_k }
         requires most { lg_config_k ≤ 21 }
@@ -64,7 +64,7 @@ impl<A: Allocator> Array4<A> {
         })
     }
 
-    /// The `lg_k`, 4 to 21.
+    /// Returns the `lg_k`, 4 to 21.
     pub fn lg_k(&self) -> u8
         ensures lg_k { result ≡ self.now.stored.lg_k }
         ensures legal { IsStored self.now.stored }
@@ -72,28 +72,28 @@ impl<A: Allocator> Array4<A> {
         self.registers.lg_k()
     }
 
-    /// How many registers there are: 2^`lg_k`.
+    /// Returns the number of registers: 2^`lg_k`.
     pub fn num_registers(&self) -> usize
         ensures { result ≡ 2 ^ self.now.stored.lg_k }
     {
         two_to(self.registers.lg_k())
     }
 
-    /// The least register.
+    /// Returns the least register.
     pub fn cur_min(&self) -> u8
         ensures { result ≡ minimum self.now.stored.registers }
     {
         self.registers.minimum()
     }
 
-    /// How many registers are at the least one.
+    /// Returns the number of registers that are equal to the least register.
     pub fn num_at_cur_min(&self) -> u32
         ensures { result ≡ count_at_minimum self.now.stored.registers }
     {
         self.registers.count_at_minimum()
     }
 
-    /// The nibble of a slot below 2^`lg_k`.
+    /// Returns the nibble of a slot below 2^`lg_k`.
     pub fn nibble(&self, slot: u32) -> u8
         requires { slot < 2 ^ self.now.stored.lg_k }
         ensures { result ≡ nibble (minimum self.now.stored.registers) (slice_index self.now.stored.registers slot) }
@@ -101,7 +101,7 @@ impl<A: Allocator> Array4<A> {
         self.registers.nibble(slot)
     }
 
-    /// The exception of a slot below 2^`lg_k`, if it has one.
+    /// Returns the exception of a slot below 2^`lg_k`, or `None` if it has none.
     pub fn exception(&self, slot: u32) -> Option<u8>
         requires { slot < 2 ^ self.now.stored.lg_k }
         ensures { result ≡ exception_of (minimum self.now.stored.registers) (slice_index self.now.stored.registers slot) }
@@ -109,7 +109,7 @@ impl<A: Allocator> Array4<A> {
         self.registers.exception(slot)
     }
 
-    /// The register of a slot below 2^`lg_k`.
+    /// Returns the register of a slot below 2^`lg_k`.
     pub fn get(&self, slot: u32) -> u8
         requires { slot < 2 ^ self.now.stored.lg_k }
         ensures register { result ≡ slice_index self.now.stored.registers slot }
@@ -118,22 +118,22 @@ impl<A: Allocator> Array4<A> {
         self.registers.get(slot)
     }
 
-    /// Whether all registers are 0.
+    /// Returns whether all registers are 0.
     pub fn is_empty(&self) -> bool
         ensures { result ≡ list_all (λ v. v == 0) self.now.stored.registers }
     {
         self.num_zeros() as usize == two_to(self.lg_k())
     }
 
-    /// How many registers are 0.
+    /// Returns the number of registers that are 0.
     pub fn num_zeros(&self) -> u32
         ensures { result ≡ zeros self.now.stored.registers }
     {
         self.registers.num_zeros()
     }
 
-    /// The sum of 2^-v over the registers v, in units of 2^-63. One pass, and a search for each exception; takes no
-    /// memory.
+    /// Returns the sum of 2^-v over the registers v, in units of 2^-63. One pass, and a search for each exception;
+    /// allocates nothing.
     pub fn kxq_units(&self) -> u128
         ensures units { result ≡ units self.now.stored.registers }
         ensures bound { result ≤ 2 ^ 84 }
@@ -141,29 +141,29 @@ impl<A: Allocator> Array4<A> {
         units_of(self)
     }
 
-    /// The estimate state.
+    /// Returns the estimate state.
     pub fn estimate_state(&self) -> EstimateState
         ensures { result ≡ self.now.stored.state }
     {
         self.state
     }
 
-    /// Sets the estimate state, and keeps the registers.
+    /// Sets the estimate state. The registers don't change.
     pub fn restore_estimate_state(&mut self, state: EstimateState)
         ensures { self.new ≡ record { stored = record self.old.stored { state = state }; exceptions = self.old.exceptions } }
     {
         self.state = state;
     }
 
-    /// How many bytes the registers take: 2^(`lg_k` - 1), and the buckets of the map where there are exceptions. Takes no
-    /// memory.
+    /// Returns the size of the registers in bytes: 2^(`lg_k` - 1), and the buckets of the map if there are exceptions.
+    /// Allocates nothing.
     pub fn estimated_size(&self) -> usize
         ensures { result ≡ size_in_registers self.now.stored.lg_k Hll4 self.now.stored.registers }
     {
         self.registers.estimated_size()
     }
 
-    /// What the header of the image says.
+    /// Returns the header of the image, without the state.
     fn header(&self, lg_config_k: u8) -> HllHeader
         ensures { result ≡ record { lg_config_k = lg_config_k; hll_type = Hll4; flags = 8; minimum = minimum self.now.stored.registers } }
     {
@@ -175,21 +175,21 @@ impl<A: Allocator> Array4<A> {
         }
     }
 
-    /// The allocator that made them.
+    /// Returns the allocator of the registers.
     pub fn allocator(&self) -> &A {
         self.registers.allocator()
     }
 }
 
 impl<A: Allocator + Clone> Array4<A> {
-    /// Reads the part of an image of four-bit registers that follows the header (docs/FORMAT.md, "HLL"). `cur_min` is
-    /// the state byte, which may be below the least register, and `aux_format` says how the exceptions are stored. The
-    /// count at the minimum is checked against its bound, and not used.
+    /// Reads the part of an image of 4-bit registers after the header (docs/FORMAT.md, "HLL"). `cur_min` is the state
+    /// byte, which may be below the least register, and `aux_format` gives how the exceptions are stored. The count of
+    /// registers at the minimum is checked against its bound, but not used.
     ///
-    /// `lg_config_k` is 4 to 21. Fails with the first fault in the order of checks (`Count`, `LgArr`, `Truncated`,
-    /// `Coupon` or `Register`), or else with `Memory`. Takes memory only once the bytes are known to be there: the
-    /// map of exceptions as it grows, then the nibbles in one request, or where the minimum is below the least register
-    /// a byte for each register, and nibbles and a map again.
+    /// `lg_config_k` is 4 to 21. Fails with the reason of the first check that fails (`Count`, `LgArr`, `Truncated`,
+    /// `Coupon` or `Register`), and with `Memory` if an allocation fails. Allocates only after checking that the bytes
+    /// are there: the map of exceptions as it grows, then the nibbles in one request. If the minimum is below the least
+    /// register, it allocates a byte for each register, and then nibbles and a new map.
     pub fn deserialize(
         alloc: A,
         cursor: SketchSlice<'_>,
@@ -222,9 +222,9 @@ impl<A: Allocator + Clone> Array4<A> {
         Ok(Array4 { registers, state })
     }
 
-    /// A copy, with the same buckets of the map.
+    /// Returns a copy with the same buckets of the map.
     ///
-    /// Fails with `Memory`.
+    /// Fails with `Memory` if an allocation fails.
     pub fn clone(&self) -> Result<Array4<A>, Error>
         ensures ok { IfOk result (λ a. a ≡ self.now) }
         ensures err { IfErr result (λ e. e ≡ Memory) }
@@ -235,11 +235,11 @@ impl<A: Allocator + Clone> Array4<A> {
         })
     }
 
-    /// The image (docs/FORMAT.md, "What is written"): 40 bytes, two registers a byte, and four for each exception, in
-    /// ascending raw coupons.
+    /// Returns the image (docs/FORMAT.md, "What is written"): 40 bytes, a byte for each two registers, and four bytes
+    /// for each exception, by ascending raw coupon.
     ///
-    /// `lg_config_k` is that of the registers. Takes memory in one request for the image, and where there are exceptions
-    /// for a sorted copy of them. Fails with `Memory`.
+    /// `lg_config_k` is that of the registers. Allocates the image in one request, and a sorted copy of the exceptions
+    /// if there are any. Fails with `Memory` if an allocation fails.
     pub fn serialize(&self, lg_config_k: u8) -> Result<Vec<u8, A>, Error>
         requires { lg_config_k ≡ self.now.stored.lg_k }
         ensures ok { IfOk result (λ image. WritesRegisters image.items lg_config_k Hll4 self.now.stored.registers self.now.stored.state) }
@@ -259,11 +259,11 @@ impl<A: Allocator + Clone> Array4<A> {
         Ok(written.into_bytes())
     }
 
-    /// Raises the register at the coupon's slot modulo 2^`lg_k` to the coupon's value. If it changes, the state is
-    /// cleared.
+    /// Sets the register at the coupon's slot modulo 2^`lg_k` to the maximum of itself and the coupon's value. If it
+    /// changes, the state is cleared.
     ///
-    /// Fails with `Memory`, only if the set of slots with an exception changes and isn't empty afterwards, and then
-    /// changes nothing.
+    /// Fails with `Memory` if an allocation fails; then the registers are unchanged. That can happen only if the set of
+    /// slots with an exception changes and isn't empty afterwards.
     pub fn update(&mut self, coupon: Coupon) -> Result<(), Error>
         ensures ok { OnOk result (self.new.stored ≡ update_with_coupon self.old.stored coupon) }
         ensures unchanged { OnErr result (self.new ≡ self.old) }
@@ -342,7 +342,7 @@ impl<A: Allocator + Clone> RegisterStore<A> for Array4<A> {
         self.serialize(self.registers.lg_k())
     }
 
-    /// Two passes over the values, two over their nibbles, and an entry for each exception.
+    /// Two passes over the values, two over their nibbles, and an insertion for each exception.
     fn from_values(alloc: A, lg_k: u8, values: &[u8]) -> Result<Array4<A>, Error> {
         Ok(Array4 {
             registers: NibbleRegisters::from_values(alloc, lg_k, values)?,
@@ -353,7 +353,7 @@ impl<A: Allocator + Clone> RegisterStore<A> for Array4<A> {
     ghost equal = { λ x y. (same_stored-from x.stored y.stored, same_stored-to x.stored y.stored) };
 }
 
-/// Two arrays are equal if their `lg_k`, registers and states are; the buckets of exceptions don't count.
+/// Two arrays are equal if their `lg_k`, registers and states are equal. The buckets of the exceptions don't matter.
 impl<A: Allocator> PartialEq for Array4<A> {
     ghost use Rattle.hll_arrays.specs.Same.{same_four_bits, same_four_bits-partial};
 
@@ -374,14 +374,14 @@ impl<A: Allocator> Eq for Array4<A> {
     ghost laws = { same_four_bits-equivalence };
 }
 
-/// The registers in the part of an image of four bits that follows the header, as they stand there, with their state, and
-/// with a map of their exceptions by this allocator (docs/FORMAT.md, "HLL"). `cur_min` is the state byte, which may be below
-/// the least register, and `aux_format` says how the exceptions are stored. The count at the minimum is checked against its
-/// bound, and not used.
+/// Returns the registers in the part of an image of 4-bit registers after the header, with their nibbles borrowed,
+/// their state, and a map of their exceptions allocated by `alloc` (docs/FORMAT.md, "HLL"). `cur_min` is the state
+/// byte, which may be below the least register, and `aux_format` gives how the exceptions are stored. The count of
+/// registers at the minimum is checked against its bound, but not used.
 ///
-/// `lg_config_k` is 4 to 21. Fails with the first fault in the order of checks (`Count`, `LgArr`, `Truncated`, `Coupon` or
-/// `Register`), or else with `Memory`. Allocates only once the bytes are known to be there: the map of exceptions, as it
-/// grows, and nothing where there are no exceptions.
+/// `lg_config_k` is 4 to 21. Fails with the reason of the first check that fails (`Count`, `LgArr`, `Truncated`,
+/// `Coupon` or `Register`), and with `Memory` if an allocation fails. Allocates only after checking that the bytes are
+/// there: the map of exceptions as it grows, and nothing if there are no exceptions.
 pub fn read_nibbles<'a, A: Allocator + Clone>(
     alloc: &A,
     cursor: SketchSlice<'a>,

@@ -1,5 +1,5 @@
 // SPDX-License-Identifier: Apache-2.0
-//! Registers of six bits: four of them in three bytes.
+//! 6-bit registers: four of them in three bytes.
 ghost use Rattle.std.specs.Prelude.{◌≡◌, ◌+◌, ◌^◌, ◌-◌, ◌<◌, ◌≤◌, ◌==◌, ◌⊎◌, take, drop, slice_index, IfOk, IfErr};
 ghost use Rattle.std.specs.List.{list_all};
 ghost use Rattle.hll_base.specs.declared.error.Reason.TheVariants.{Memory};
@@ -35,7 +35,7 @@ use std::marker::Model;
 #[derive(Drop)]
 pub struct Array6<A: Allocator = Global> {
     lg_config_k: u8,
-    /// How many registers are 0, where that is known.
+    /// The number of registers that are 0, if it is known.
     zero_count: Option<u32>,
     groups: Vec<[u8; 3], A>,
     state: EstimateState,
@@ -56,9 +56,9 @@ impl<A: Allocator> Model for Array6<A> {
 }
 
 impl<A: Allocator> Array6<A> {
-    /// 2^`lg_config_k` registers of 0, with the cleared state.
+    /// Returns 2^`lg_config_k` registers of 0, with the cleared state.
     ///
-    /// `lg_config_k` is 4 to 21. Fails with `Memory`.
+    /// `lg_config_k` is 4 to 21. Fails with `Memory` if the allocation fails.
     pub fn new(alloc: A, lg_config_k: u8) -> Result<Array6<A>, Error>
         requires least { 4 ≤ lg_config_k }
         requires most { lg_config_k ≤ 21 }
@@ -73,11 +73,11 @@ impl<A: Allocator> Array6<A> {
         })
     }
 
-    /// Reads the part of an image of six-bit registers that follows the header (docs/FORMAT.md, "HLL").
-    /// The zero count is checked against its bound, and not used. The last byte has to be there, and may be any.
+    /// Reads the part of an image of 6-bit registers after the header (docs/FORMAT.md, "HLL"). The zero count is
+    /// checked against its bound, but not used. The last byte has to be there, and may have any value.
     ///
-    /// `lg_config_k` is 4 to 21. Fails with `Truncated`, `Count` or `Memory`. Allocates the registers only after the
-    /// bytes are known to be a payload, and copies them once.
+    /// `lg_config_k` is 4 to 21. Fails with `Truncated`, `Count` or `Memory`. Allocates the registers only after
+    /// checking the bytes, and copies them once.
     pub fn deserialize_registers(
         alloc: A,
         cursor: SketchSlice<'_>,
@@ -93,7 +93,7 @@ impl<A: Allocator> Array6<A> {
         ensures asked { IfErr result (λ e. e ≡ Memory → IsHll6Payload lg_config_k (take (32 + field_size lg_config_k) cursor.entry)) }
     {
         let (groups, state) = read_groups(cursor, lg_config_k, ooo)?;
-        // not what the header says: zeros are counted when asked
+        // (not the header's count: zeros are counted when a caller asks for them)
         let zero_count = None;
         Ok(Array6 {
             lg_config_k,
@@ -103,7 +103,7 @@ impl<A: Allocator> Array6<A> {
         })
     }
 
-    /// The `lg_k`, 4 to 21.
+    /// Returns the `lg_k`, 4 to 21.
     pub fn lg_k(&self) -> u8
         ensures lg_k { result ≡ self.now.lg_k }
         ensures legal { IsStored self.now }
@@ -111,14 +111,14 @@ impl<A: Allocator> Array6<A> {
         self.lg_config_k
     }
 
-    /// How many registers there are: 2^`lg_k`.
+    /// Returns the number of registers: 2^`lg_k`.
     pub fn num_registers(&self) -> usize
         ensures { result ≡ 2 ^ self.now.lg_k }
     {
         two_to(self.lg_config_k)
     }
 
-    /// The register of a slot below 2^`lg_k`.
+    /// Returns the register of a slot below 2^`lg_k`.
     pub fn get(&self, slot: u32) -> u8
         requires { slot < 2 ^ self.now.lg_k }
         ensures { result ≡ slice_index self.now.registers slot }
@@ -126,8 +126,8 @@ impl<A: Allocator> Array6<A> {
         register_at(&self.groups, slot as usize)
     }
 
-    /// Raises the register at the coupon's slot modulo 2^`lg_k` to the coupon's value. If it changes, the state is
-    /// cleared.
+    /// Sets the register at the coupon's slot modulo 2^`lg_k` to the maximum of itself and the coupon's value. If it
+    /// changes, the state is cleared.
     pub fn update(&mut self, coupon: Coupon)
         ensures { self.new ≡ update_with_coupon self.old coupon }
     {
@@ -140,14 +140,15 @@ impl<A: Allocator> Array6<A> {
         }
     }
 
-    /// Whether all registers are 0. Stops at the first group that is not; takes no memory.
+    /// Returns whether all registers are 0. Stops at the first group with another register; allocates nothing.
     pub fn is_empty(&self) -> bool
         ensures empty { result ≡ list_all (λ v. v == 0) self.now.registers }
     {
         all_zero_in(&self.groups)
     }
 
-    /// How many registers are 0. One pass where they were read from an image, otherwise none; takes no memory.
+    /// Returns the number of registers that are 0. One pass if they were read from an image, otherwise none; allocates
+    /// nothing.
     pub fn num_zeros(&self) -> u32
         ensures { result ≡ zeros self.now.registers }
     {
@@ -157,7 +158,7 @@ impl<A: Allocator> Array6<A> {
         }
     }
 
-    /// The sum of 2^-v over the registers v, in units of 2^-63. One pass; takes no memory.
+    /// Returns the sum of 2^-v over the registers v, in units of 2^-63. One pass; allocates nothing.
     pub fn kxq_units(&self) -> u128
         ensures units { result ≡ units self.now.registers }
         ensures bound { result ≤ 2 ^ 84 }
@@ -165,37 +166,37 @@ impl<A: Allocator> Array6<A> {
         units_of(self)
     }
 
-    /// The estimate state.
+    /// Returns the estimate state.
     pub fn estimate_state(&self) -> EstimateState
         ensures { result ≡ self.now.state }
     {
         self.state
     }
 
-    /// Sets the estimate state, and keeps the registers.
+    /// Sets the estimate state. The registers don't change.
     pub fn restore_estimate_state(&mut self, state: EstimateState)
         ensures { self.new ≡ record self.old { state = state } }
     {
         self.state = state;
     }
 
-    /// How many bytes the registers take in an image.
+    /// Returns the size of the registers in an image, in bytes.
     pub fn estimated_size(&self) -> usize
         ensures { result ≡ size_in_registers self.now.lg_k Hll6 self.now.registers }
     {
         packed_size(self.lg_config_k)
     }
 
-    /// The allocator that made them.
+    /// Returns the allocator of the registers.
     pub fn allocator(&self) -> &A {
         self.groups.allocator()
     }
 }
 
 impl<A: Allocator + Clone> Array6<A> {
-    /// A copy.
+    /// Returns a copy.
     ///
-    /// Fails with `Memory`.
+    /// Fails with `Memory` if an allocation fails.
     pub fn clone(&self) -> Result<Array6<A>, Error>
         ensures ok { IfOk result (λ a. a ≡ self.now) }
         ensures err { IfErr result (λ e. e ≡ Memory) }
@@ -208,10 +209,10 @@ impl<A: Allocator + Clone> Array6<A> {
         })
     }
 
-    /// The image (docs/FORMAT.md, "What is written"): 40 bytes, three for each four registers and a zero byte,
-    /// allocated in one request.
+    /// Returns the image (docs/FORMAT.md, "What is written"): 40 bytes, three for each four registers, and a zero byte.
+    /// Allocated in one request.
     ///
-    /// `lg_config_k` is that of the registers. Fails with `Memory`.
+    /// `lg_config_k` is that of the registers. Fails with `Memory` if the allocation fails.
     pub fn serialize(&self, lg_config_k: u8) -> Result<Vec<u8, A>, Error>
         requires { lg_config_k ≡ self.now.lg_k }
         ensures ok { IfOk result (λ image. image.items ≡ hll6_bytes lg_config_k self.now.registers self.now.state) }
@@ -303,7 +304,7 @@ impl<A: Allocator + Clone> RegisterStore<A> for Array6<A> {
     ghost equal = { λ x y. (same_stored-from x y, same_stored-to x y) };
 }
 
-/// Two arrays are equal if their `lg_k`, registers and states are.
+/// Two arrays are equal if their `lg_k`, registers and states are equal.
 impl<A: Allocator> PartialEq for Array6<A> {
     ghost use Rattle.hll_arrays.specs.Same.{same_stored, same_stored-partial};
 
@@ -324,9 +325,9 @@ impl<A: Allocator> Eq for Array6<A> {
     ghost laws = { same_stored-equivalence };
 }
 
-/// The registers in the part of an image of six bits that follows the header, as they stand there in groups of four, and
-/// their state (docs/FORMAT.md, "HLL"). The zero count is checked against its bound, and not used. The last byte has to be
-/// there, and may be any.
+/// Returns the registers in the part of an image of 6-bit registers after the header, borrowed in groups of four, and
+/// their state (docs/FORMAT.md, "HLL"). The zero count is checked against its bound, but not used. The last byte has to
+/// be there, and may have any value.
 ///
 /// `lg_config_k` is 4 to 21. Fails with `Truncated` or `Count`.
 pub fn read_groups(
@@ -353,7 +354,7 @@ pub fn read_groups(
     Ok((groups_in(packed), preamble.state))
 }
 
-/// How many bytes 2^`lg_k` registers take in an image.
+/// Returns the size of 2^`lg_k` registers in an image, in bytes.
 fn packed_size(lg_k: u8) -> usize
     requires { lg_k ≤ 21 }
     ensures { result ≡ field_size lg_k }

@@ -1,5 +1,5 @@
 // SPDX-License-Identifier: Apache-2.0
-//! Registers of eight bits: one byte each.
+//! 8-bit registers: one byte each.
 ghost use Rattle.std.specs.Prelude.{◌≡◌, ◌+◌, ◌^◌, ◌<◌, ◌≤◌, ◌==◌, ◌⊎◌, nat_le, take, drop, slice_index, slice_set, IfOk, IfErr};
 ghost use Rattle.std.specs.List.{list_all};
 ghost use Rattle.hll_base.specs.declared.error.Reason.TheVariants.{Memory};
@@ -37,7 +37,7 @@ use std::marker::Model;
 #[derive(Drop)]
 pub struct Array8<A: Allocator = Global> {
     lg_config_k: u8,
-    /// How many registers are 0, where that is known.
+    /// The number of registers that are 0, if it is known.
     zero_count: Option<u32>,
     registers: Vec<u8, A>,
     state: EstimateState,
@@ -58,9 +58,9 @@ impl<A: Allocator> Model for Array8<A> {
 }
 
 impl<A: Allocator> Array8<A> {
-    /// 2^`lg_config_k` registers of 0, with the cleared state.
+    /// Returns 2^`lg_config_k` registers of 0, with the cleared state.
     ///
-    /// `lg_config_k` is 4 to 21. Fails with `Memory`.
+    /// `lg_config_k` is 4 to 21. Fails with `Memory` if the allocation fails.
     pub fn new(alloc: A, lg_config_k: u8) -> Result<Array8<A>, Error>
         requires least { 4 ≤ lg_config_k }
         requires most { lg_config_k ≤ 21 }
@@ -75,11 +75,11 @@ impl<A: Allocator> Array8<A> {
         })
     }
 
-    /// Reads the part of an image of eight-bit registers that follows the header (docs/FORMAT.md, "HLL").
-    /// The zero count is checked against its bound, and not used.
+    /// Reads the part of an image of 8-bit registers after the header (docs/FORMAT.md, "HLL"). The zero count is
+    /// checked against its bound, but not used.
     ///
-    /// `lg_config_k` is 4 to 21. Fails with `Truncated`, `Count`, `Register` or `Memory`. Allocates the registers
-    /// only after the bytes are known to be a payload, and copies them once.
+    /// `lg_config_k` is 4 to 21. Fails with `Truncated`, `Count`, `Register` or `Memory`. Allocates the registers only
+    /// after checking the bytes, and copies them once.
     pub fn deserialize_registers(
         alloc: A,
         cursor: SketchSlice<'_>,
@@ -95,7 +95,7 @@ impl<A: Allocator> Array8<A> {
         ensures asked { IfErr result (λ e. e ≡ Memory → IsHll8Payload lg_config_k (take (32 + 2 ^ lg_config_k) cursor.entry)) }
     {
         let (registers, state) = read_registers(cursor, lg_config_k, ooo)?;
-        // not what the header says: zeros are counted when asked
+        // (not the header's count: zeros are counted when a caller asks for them)
         let zero_count = None;
         Ok(Array8 {
             lg_config_k,
@@ -105,7 +105,7 @@ impl<A: Allocator> Array8<A> {
         })
     }
 
-    /// The `lg_k`, 4 to 21.
+    /// Returns the `lg_k`, 4 to 21.
     pub fn lg_k(&self) -> u8
         ensures lg_k { result ≡ self.now.lg_k }
         ensures legal { IsStored self.now }
@@ -113,14 +113,14 @@ impl<A: Allocator> Array8<A> {
         self.lg_config_k
     }
 
-    /// How many registers there are: 2^`lg_k`.
+    /// Returns the number of registers: 2^`lg_k`.
     pub fn num_registers(&self) -> usize
         ensures { result ≡ 2 ^ self.now.lg_k }
     {
         two_to(self.lg_config_k)
     }
 
-    /// The register of a slot below 2^`lg_k`.
+    /// Returns the register of a slot below 2^`lg_k`.
     pub fn get(&self, slot: u32) -> u8
         requires { slot < 2 ^ self.now.lg_k }
         ensures { result ≡ slice_index self.now.registers slot }
@@ -128,7 +128,7 @@ impl<A: Allocator> Array8<A> {
         self.registers[slot as usize]
     }
 
-    /// The registers.
+    /// Returns the registers.
     pub fn values(&self) -> &[u8]
         ensures values { result.now ≡ self.now.registers }
         ensures registers { AreRegisters self.now.lg_k self.now.registers }
@@ -136,15 +136,15 @@ impl<A: Allocator> Array8<A> {
         &self.registers
     }
 
-    /// The registers, without their `lg_k` and state.
+    /// Returns the registers, without their `lg_k` and state.
     pub fn into_values(self) -> Vec<u8, A>
         ensures { result.items ≡ self.registers }
     {
         self.registers
     }
 
-    /// Raises the register at the coupon's slot modulo 2^`lg_k` to the coupon's value. If it changes, the state is
-    /// cleared.
+    /// Sets the register at the coupon's slot modulo 2^`lg_k` to the maximum of itself and the coupon's value. If it
+    /// changes, the state is cleared.
     pub fn update(&mut self, coupon: Coupon)
         ensures { self.new ≡ update_with_coupon self.old coupon }
     {
@@ -157,9 +157,9 @@ impl<A: Allocator> Array8<A> {
         }
     }
 
-    /// Raises each register to the greater of itself and the value at the same slot, and clears the state.
+    /// Sets each register to the maximum of itself and the value at the same slot, and clears the state.
     ///
-    /// There are as many values as registers, each at most 63. One pass; takes no memory.
+    /// There is a value for each register, each at most 63. One pass; allocates nothing.
     pub fn merge_array_same_lgk(&mut self, src: &[u8])
         requires { AreRegisters self.old.lg_k src.now }
         ensures { self.new ≡ record { lg_k = self.old.lg_k; registers = join self.old.registers src.now; state = cleared_state } }
@@ -169,10 +169,10 @@ impl<A: Allocator> Array8<A> {
         self.rebuild_estimator_from_registers();
     }
 
-    /// Raises each register to the greatest of itself and the values that fold to it, and clears the state.
+    /// Sets each register to the maximum of itself and the values that fold to it, and clears the state.
     ///
     /// There are 2^`src_lg_k` values, each at most 63, and `src_lg_k` is at most 21 and greater than the `lg_k` of the
-    /// registers. One pass over the values; takes no memory.
+    /// registers. One pass over the values; allocates nothing.
     pub fn merge_array_with_downsample(&mut self, src: &[u8], src_lg_k: u8)
         requires larger { self.old.lg_k < src_lg_k }
         requires most { src_lg_k ≤ 21 }
@@ -188,9 +188,9 @@ impl<A: Allocator> Array8<A> {
         self.rebuild_estimator_from_registers();
     }
 
-    /// Raises each register to the greatest of itself and the source's registers that fold to it, and clears the state.
+    /// Sets each register to the maximum of itself and the source's registers that fold to it, and clears the state.
     ///
-    /// The source's `lg_k` is at least that of the registers. One pass over the source; takes no memory.
+    /// The source's `lg_k` is at least that of the registers. One pass over the source; allocates nothing.
     pub(crate) fn merge_folds<R: Registers>(&mut self, src: &R)
         requires { self.old.lg_k ≤ (R.stored src.now).lg_k }
         ensures { self.new ≡ merge_with self.old (R.stored src.now).registers }
@@ -200,9 +200,9 @@ impl<A: Allocator> Array8<A> {
         self.rebuild_estimator_from_registers();
     }
 
-    /// Sets one register, and keeps the state.
+    /// Sets one register. The state doesn't change.
     ///
-    /// `slot` is below 2^`lg_k`, and `value` at most 63.
+    /// `slot` is below 2^`lg_k`, and `value` is at most 63.
     pub fn set_register(&mut self, slot: usize, value: u8)
         requires slot { slot < 2 ^ self.old.lg_k }
         requires value { value ≤ 63 }
@@ -212,22 +212,22 @@ impl<A: Allocator> Array8<A> {
         self.registers[slot] = value;
     }
 
-    /// Clears the state, and keeps the registers.
+    /// Clears the state. The registers don't change.
     pub fn rebuild_estimator_from_registers(&mut self)
         ensures { self.new ≡ record self.old { state = cleared_state } }
     {
         self.state = EstimateState::CLEARED;
     }
 
-    /// How many bytes the registers take: 2^`lg_k`.
+    /// Returns the size of the registers in bytes: 2^`lg_k`.
     pub fn estimated_size(&self) -> usize
         ensures { result ≡ size_in_registers self.now.lg_k Hll8 self.now.registers }
     {
         self.registers.len()
     }
 
-    /// Whether all registers are 0. Looks at them only where it isn't known how many are, up to the first that is not; takes
-    /// no memory.
+    /// Returns whether all registers are 0. If the number of zeros isn't known, looks at the registers up to the first
+    /// that isn't 0; allocates nothing.
     pub fn is_empty(&self) -> bool
         ensures empty { result ≡ list_all (λ v. v == 0) self.now.registers }
     {
@@ -237,7 +237,8 @@ impl<A: Allocator> Array8<A> {
         all_zero(&self.registers)
     }
 
-    /// How many registers are 0. One pass where they were read from an image, merged or set, otherwise none; takes no memory.
+    /// Returns the number of registers that are 0. One pass if they were read from an image, merged or set, otherwise
+    /// none; allocates nothing.
     pub fn num_zeros(&self) -> u32
         ensures { result ≡ zeros self.now.registers }
     {
@@ -247,7 +248,7 @@ impl<A: Allocator> Array8<A> {
         }
     }
 
-    /// The sum of 2^-v over the registers v, in units of 2^-63. One pass; takes no memory.
+    /// Returns the sum of 2^-v over the registers v, in units of 2^-63. One pass; allocates nothing.
     pub fn kxq_units(&self) -> u128
         ensures units { result ≡ packed.units self.now.registers }
         ensures bound { result ≤ 2 ^ 84 }
@@ -255,28 +256,28 @@ impl<A: Allocator> Array8<A> {
         units(&self.registers)
     }
 
-    /// The estimate state.
+    /// Returns the estimate state.
     pub fn estimate_state(&self) -> EstimateState
         ensures { result ≡ self.now.state }
     {
         self.state
     }
 
-    /// Sets the estimate state, and keeps the registers.
+    /// Sets the estimate state. The registers don't change.
     pub fn restore_estimate_state(&mut self, state: EstimateState)
         ensures { self.new ≡ record self.old { state = state } }
     {
         self.state = state;
     }
 
-    /// The allocator that made them.
+    /// Returns the allocator of the registers.
     pub fn allocator(&self) -> &A {
         self.registers.allocator()
     }
 
-    /// A copy in memory of this allocator.
+    /// Returns a copy allocated by `alloc`.
     ///
-    /// Fails with `Memory`.
+    /// Fails with `Memory` if an allocation fails.
     pub fn clone_in(&self, alloc: A) -> Result<Array8<A>, Error>
         ensures ok { IfOk result (λ a. a ≡ self.now) }
         ensures err { IfErr result (λ e. e ≡ Memory) }
@@ -291,9 +292,9 @@ impl<A: Allocator> Array8<A> {
 }
 
 impl<A: Allocator + Clone> Array8<A> {
-    /// A copy.
+    /// Returns a copy.
     ///
-    /// Fails with `Memory`.
+    /// Fails with `Memory` if an allocation fails.
     pub fn clone(&self) -> Result<Array8<A>, Error>
         ensures ok { IfOk result (λ a. a ≡ self.now) }
         ensures err { IfErr result (λ e. e ≡ Memory) }
@@ -301,9 +302,10 @@ impl<A: Allocator + Clone> Array8<A> {
         self.clone_in(self.allocator().clone()?)
     }
 
-    /// The image (docs/FORMAT.md, "What is written"): 40 bytes and one for each register, allocated in one request.
+    /// Returns the image (docs/FORMAT.md, "What is written"): 40 bytes, and one for each register. Allocated in one
+    /// request.
     ///
-    /// `lg_config_k` is that of the registers. Fails with `Memory`.
+    /// `lg_config_k` is that of the registers. Fails with `Memory` if the allocation fails.
     pub fn serialize(&self, lg_config_k: u8) -> Result<Vec<u8, A>, Error>
         requires { lg_config_k ≡ self.now.lg_k }
         ensures ok { IfOk result (λ image. image.items ≡ hll8_bytes lg_config_k self.now.registers self.now.state) }
@@ -393,7 +395,7 @@ impl<A: Allocator + Clone> RegisterStore<A> for Array8<A> {
     ghost equal = { λ x y. (same_stored-from x y, same_stored-to x y) };
 }
 
-/// Two arrays are equal if their `lg_k`, registers and states are.
+/// Two arrays are equal if their `lg_k`, registers and states are equal.
 impl<A: Allocator> PartialEq for Array8<A> {
     ghost use Rattle.hll_arrays.specs.Same.{same_stored, same_stored-partial};
 
@@ -414,10 +416,10 @@ impl<A: Allocator> Eq for Array8<A> {
     ghost laws = { same_stored-equivalence };
 }
 
-/// The registers in the part of an image of eight bits that follows the header, as they stand there, and their state
-/// (docs/FORMAT.md, "HLL"). The zero count is checked against its bound, and not used.
+/// Returns the registers in the part of an image of 8-bit registers after the header, borrowed, and their state
+/// (docs/FORMAT.md, "HLL"). The zero count is checked against its bound, but not used.
 ///
-/// `lg_config_k` is 4 to 21. Fails with `Truncated`, `Count` or `Register`. One pass; takes no memory.
+/// `lg_config_k` is 4 to 21. Fails with `Truncated`, `Count` or `Register`. One pass; allocates nothing.
 pub fn read_registers(
     cursor: SketchSlice<'_>,
     lg_config_k: u8,
@@ -444,7 +446,7 @@ pub fn read_registers(
     Ok((registers, preamble.state))
 }
 
-/// Whether each byte is at most 63. One pass.
+/// Returns whether each byte is at most 63. One pass.
 fn are_registers(bytes: &[u8]) -> bool
     ensures { result ≡ list_all (λ v. nat_le v 63) bytes.now }
 {

@@ -8,9 +8,9 @@ use hll_base::error::Error;
 use hll_registers::register_store::RegisterStore;
 use std::alloc::Allocator;
 
-/// A copy of the registers and state in another representation.
+/// Returns a copy of the registers and the state in another representation.
 ///
-/// Allocates from the source's allocator what the target needs. Fails with `Memory`.
+/// Allocates with the source's allocator. Fails with `Memory` if an allocation fails.
 pub fn convert<S: RegisterStore<A>, A: Allocator + Clone>(src: &Array8<A>) -> Result<S, Error>
     ensures ok { IfOk result (λ s. S.stored s ≡ src.now) }
     ensures err { IfErr result (λ e. e ≡ Memory) }

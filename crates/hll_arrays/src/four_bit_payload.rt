@@ -1,5 +1,5 @@
 // SPDX-License-Identifier: Apache-2.0
-//! Reads registers of four bits from the part of an image that follows the header (docs/FORMAT.md, "HLL").
+//! Reads 4-bit registers from the part of an image after the header (docs/FORMAT.md, "HLL").
 ghost use Rattle.std.specs.Prelude.{◌≡◌, ◌≢◌, ◌+◌, ◌-◌, ◌*◌, ◌%◌, ◌^◌, ◌<◌, ◌≤◌, ◌==◌, ◌⊎◌, ℕ, if◌then◌else◌, length, take, drop, true, false, None, Some, IfOk, IfErr, OnOk};
 ghost use Rattle.hll_base.specs.declared.error.Reason.TheVariants.{Memory};
 ghost use Rattle.hll_base.specs.declared.error.Reason.TheVariants as reasons;
@@ -27,7 +27,7 @@ use hll_registers::preamble::Preamble;
 use hll_registers::registers::{Registers, two_to};
 use std::alloc::Allocator;
 
-/// What the header of an image says of registers of four bits. Its minimum may be below the least register.
+/// The fields of an image's header for 4-bit registers. The minimum may be below the least register.
 #[derive(Clone, Copy)]
 pub(crate) struct Hll4Header {
     pub(crate) lg_config_k: u8,
@@ -38,9 +38,9 @@ pub(crate) struct Hll4Header {
 
 // ---- the whole
 
-/// Reads the estimate state and the registers above the minimum that the header gives.
+/// Reads the estimate state, and the registers above the minimum that the header gives.
 ///
-/// Fails with the first fault in the order of checks, or else with `Memory`.
+/// Fails with the reason of the first check that fails, and with `Memory` if an allocation fails.
 pub(crate) fn read_payload<A: Allocator + Clone>(
     alloc: A,
     cursor: SketchSlice<'_>,
@@ -63,10 +63,11 @@ pub(crate) fn read_payload<A: Allocator + Clone>(
     Ok((registers.into_registers(alloc)?, state))
 }
 
-/// The registers above the minimum that the header gives, as they stand in the bytes, with their estimate state, and with a
-/// map of the exceptions by this allocator.
+/// Returns the registers above the minimum that the header gives, with their nibbles borrowed, their estimate state,
+/// and a map of the exceptions allocated by `alloc`.
 ///
-/// Fails with the first fault in the order of checks, or else with `Memory`, only where there are exceptions.
+/// Fails with the reason of the first check that fails, and with `Memory` if there are exceptions and an allocation
+/// fails.
 pub(crate) fn read_slice<'a, A: Allocator + Clone>(
     alloc: &A,
     cursor: SketchSlice<'a>,
@@ -100,7 +101,7 @@ pub(crate) fn read_slice<'a, A: Allocator + Clone>(
 
 // ---- sizes
 
-/// What precedes the nibbles, and the bytes of nibbles and exceptions.
+/// The preamble, and the bytes of nibbles and exceptions after it.
 #[derive(Drop)]
 struct Frame<'a> {
     preamble: Preamble,
@@ -110,7 +111,7 @@ struct Frame<'a> {
     entries: &'a [u8],
 }
 
-/// Reads the counts, and checks them and the number of bytes.
+/// Reads the counts. Checks them, and the number of bytes.
 fn frame_of<'a>(cursor: SketchSlice<'a>, header: Hll4Header) -> Result<Frame<'a>, Error>
     requires least { 4 ≤ header.lg_config_k }
     requires most { header.lg_config_k ≤ 21 }
@@ -145,7 +146,7 @@ fn frame_of<'a>(cursor: SketchSlice<'a>, header: Hll4Header) -> Result<Frame<'a>
     })
 }
 
-/// Whether the exceptions follow one another, with no empty bucket.
+/// Returns whether the exceptions are stored without empty buckets between them.
 fn is_without_gaps(aux_format: AuxFormat) -> bool
     ensures { result ≡ is_compact aux_format }
 {
@@ -155,7 +156,7 @@ fn is_without_gaps(aux_format: AuxFormat) -> bool
     }
 }
 
-/// How many buckets of exceptions there are.
+/// Returns the number of buckets of exceptions.
 ///
 /// Fails with `LgArr`.
 fn buckets_of(aux_format: AuxFormat, count: usize) -> Result<usize, Error>
@@ -179,9 +180,9 @@ fn buckets_of(aux_format: AuxFormat, count: usize) -> Result<usize, Error>
 
 // ---- exceptions
 
-/// Reads the exceptions into a map by slots modulo 2^`lg_config_k`, by this allocator.
+/// Reads the exceptions into a map by slots modulo 2^`lg_config_k`, allocated by `alloc`.
 ///
-/// Fails with `Coupon`, `Count` or, only where there are buckets, `Memory`.
+/// Fails with `Coupon` or `Count`, and with `Memory` if there are buckets and an allocation fails.
 fn read_entries<A: Allocator + Clone>(
     alloc: &A,
     lg_config_k: u8,
@@ -218,7 +219,8 @@ fn read_entries<A: Allocator + Clone>(
 
 /// Puts an exception that was read into the map.
 ///
-/// Fails with `Coupon` if it has no value or its slot has an exception, and else with `Memory`.
+/// Fails with `Coupon` if it has no value or its slot already has an exception, and with `Memory` if an allocation
+/// fails.
 fn put_entry<A: Allocator + Clone>(
     map: &mut ExceptionsBuilder<A>,
     alloc: &A,
@@ -241,7 +243,7 @@ fn put_entry<A: Allocator + Clone>(
     add_exception(map, alloc, lg_config_k, slot, entry.value())
 }
 
-/// The coupon of a raw coupon.
+/// Returns the coupon with this code.
 fn coupon_of(raw: u32) -> Coupon
     ensures { result ≡ raw }
 {

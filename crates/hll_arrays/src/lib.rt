@@ -1,6 +1,6 @@
 // SPDX-License-Identifier: Apache-2.0
-//! Registers: their representations after traits with laws, merges and conversions, and packed forms
-//! (docs/ARCHITECTURE.md, "Registers").
+//! Registers of each width that own their memory, merges, conversions, and laws of packed forms (docs/ARCHITECTURE.md,
+//! "Registers").
 #![tactic(auto)]
 
 pub mod array4;

@@ -54,7 +54,7 @@ rest_first h block rest count e is some few =
 
 -- ---- blocks
 
--- a block in front of other bytes
+-- a block followed by other bytes
 pub after_bytes-block : (h : Halves) (block more : List ℕ) (count : ℕ) → length block ≡ 16 → after_bytes h (block ++ more) count ≡ after_bytes (after_block h block) more count
 after_bytes-block h block more count e =
     let one_more : length (block ++ more) / 16 ≡ suc (length more / 16) = omega (arith, e, length-append block more) in

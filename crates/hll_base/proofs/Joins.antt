@@ -1,5 +1,5 @@
 -- SPDX-License-Identifier: Apache-2.0
--- Joins of registers: order, grouping and repetition.
+-- The maximum of registers doesn't depend on order, grouping or repetition.
 use Rattle.std.proofs.Common.{◌≡◌, ℕ, ◌<◌, zero, suc, List, [], ◌∷◌, length, get_or, refl, sym, ap, ◌∙◌, arith}
 use Rattle.std.specs.Prelude.{max}
 use Rattle.std.proofs.lemmas.List.{ext_get_or}
@@ -32,6 +32,6 @@ get_or-join (r ∷ R) [] i = omega arith
 get_or-join (r ∷ R) (q ∷ Q) zero = refl
 get_or-join (r ∷ R) (q ∷ Q) (suc i) = get_or-join R Q i
 
--- a list that has the greater value at each place is the join
+-- a list that has the greater value at each index is the maximum
 pub is_join : (L R J : List ℕ) → length L ≡ length R → length J ≡ length L → ((k : ℕ) → k < length J → get_or J k 0 ≡ max (get_or L k 0) (get_or R k 0)) → J ≡ join L R
 is_join L R J same size each = ext_get_or 0 J (join L R) (size ∙ sym (length-join L R same)) (λ k h. each k h ∙ sym (get_or-join L R k))

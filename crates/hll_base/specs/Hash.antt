@@ -9,15 +9,15 @@ pub record Halves : Type 0 where
   pub first : ℕ
   pub second : ℕ
 
--- a sum of words, modulo 2^64
+-- a sum modulo 2^64
 abbrev pub plus : ℕ → ℕ → ℕ
 plus x y = (x + y) % 2 ^ 64
 
--- a product of words, modulo 2^64
+-- a product modulo 2^64
 abbrev pub times : ℕ → ℕ → ℕ
 times x y = x * y % 2 ^ 64
 
--- a word rotated left
+-- a 64-bit number rotated left
 abbrev pub rotation : ℕ → ℕ → ℕ
 rotation x count = rotate_left w64 x count
 
@@ -31,27 +31,27 @@ first_factor = 0x87c37b91114253d5
 abbrev pub second_factor : ℕ
 second_factor = 0x4cf5ad432745937f
 
--- the first word of a block, scrambled for the first half
+-- the first half of a block, scrambled for the first half of the state
 abbrev pub first_scramble : ℕ → ℕ
 first_scramble word = times (rotation (times word first_factor) 31) second_factor
 
--- the second word of a block, scrambled for the second half
+-- the second half of a block, scrambled for the second half of the state
 abbrev pub second_scramble : ℕ → ℕ
 second_scramble word = times (rotation (times word second_factor) 33) first_factor
 
--- the first word of a block, little-endian; a missing byte counts as 0
+-- the first half of a block, little-endian; a missing byte counts as 0
 abbrev pub first_word : List ℕ → ℕ
 first_word block = from_le_bytes w64 (take 8 block)
 
--- the second word of a block
+-- the second half of a block
 abbrev pub second_word : List ℕ → ℕ
 second_word block = from_le_bytes w64 (take 8 (drop 8 block))
 
--- the first half after the first word of a block, with the old second half
+-- the first half of the state after the first half of a block, with the old second half of the state
 abbrev pub first_after : ℕ → ℕ → ℕ → ℕ
 first_after first second word = plus (times (plus (rotation (bit_xor first (first_scramble word)) 27) second) 5) 0x52dce729
 
--- the second half after the second word of a block, with the new first half
+-- the second half of the state after the second half of a block, with the new first half of the state
 abbrev pub second_after : ℕ → ℕ → ℕ → ℕ
 second_after first second word = plus (times (plus (rotation (bit_xor second (second_scramble word)) 31) first) 5) 0x38495ab5
 
@@ -76,7 +76,7 @@ after_rest halves rest = record {
   second = if nat_lt 8 (length rest) then bit_xor halves.second (second_scramble (second_word rest)) else halves.second;
 }
 
--- a word, exclusive or itself shifted right by 33 bits
+-- the exclusive or of a number and the number shifted right by 33 bits
 abbrev pub shifted_xor : ℕ → ℕ
 shifted_xor x = bit_xor x (x / 2 ^ 33)
 
@@ -134,7 +134,7 @@ hash_of s = final_halves s.count (after_rest s.halves s.partial)
 
 -- ---- laws
 
--- two writes are one of both pieces together
+-- two writes are the same as one write of both pieces, concatenated
 abbrev pub PiecesAreOne : Type 0
 PiecesAreOne = (s : HashState) (a b : List ℕ) → after_piece (after_piece s a) b ≡ after_piece s (a ++ b)
 

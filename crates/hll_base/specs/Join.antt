@@ -1,8 +1,8 @@
 -- SPDX-License-Identifier: Apache-2.0
--- The join of registers (docs/MODEL.md, "Folds").
+-- The maximum of two lists of registers (docs/MODEL.md, "Folds").
 use Rattle.std.specs.Prelude.{ℕ, List, [], ◌∷◌, max}
 
--- the greater register at each slot
+-- at each slot the greater of both registers
 abbrev pub join : List ℕ → List ℕ → List ℕ
 join [] Q = Q
 join (r ∷ R) [] = r ∷ R

@@ -1,5 +1,5 @@
 -- SPDX-License-Identifier: Apache-2.0
--- The numbers, words and kinds of the reasons for a refusal.
+-- The numbers, words and kinds of the reasons for an error.
 use Rattle.std.specs.Prelude.{ℕ, List, codes}
 use Rattle.hll_base.specs.declared.error.Reason.{Reason}
 use Rattle.hll_base.specs.declared.error.Reason.TheVariants as reasons

@@ -10,7 +10,7 @@ use std::marker::Model;
 
 /// A growing buffer that image fields are appended to. Contracts see the list of the bytes written so far.
 ///
-/// If a write needs more memory and is refused, it returns `Memory` and leaves the buffer unchanged.
+/// If an allocation fails, a write returns `Memory` and leaves the buffer unchanged.
 #[derive(Debug, Drop)]
 pub struct SketchBytes<A: Allocator = Global> {
     bytes: Vec<u8, A>,
@@ -23,9 +23,10 @@ impl<A: Allocator> Model for SketchBytes<A> {
 }
 
 impl<A: Allocator> SketchBytes<A> {
-    /// An empty buffer with room for `capacity` bytes, allocated in one request. No room takes no memory.
+    /// Returns an empty buffer with room for `capacity` bytes, allocated in one request. A capacity of 0 allocates
+    /// nothing.
     ///
-    /// Fails with `Memory`, only if the capacity is not 0.
+    /// Fails with `Memory` if the allocation fails.
     pub fn with_capacity(alloc: A, capacity: usize) -> Result<SketchBytes<A>, Error>
         ensures ok { IfOk result (λ bytes. bytes ≡ []) }
         ensures needed { OnErr result (capacity ≢ 0) }
@@ -74,7 +75,7 @@ impl<A: Allocator> SketchBytes<A> {
         Ok(())
     }
 
-    /// The bytes written.
+    /// Returns the bytes written so far.
     pub fn into_bytes(self) -> Vec<u8, A>
         ensures { result.items ≡ self }
     {

@@ -9,7 +9,7 @@ use std::marker::Model;
 
 /// A cursor over the bytes of an image. Contracts see the list of the bytes not yet read.
 ///
-/// A read that needs more bytes than are left returns `Truncated` and does not advance. No call takes memory.
+/// If fewer bytes are left than a read needs, it returns `Truncated` and does not advance. No call allocates.
 #[derive(Debug, Drop)]
 pub struct SketchSlice<'a> {
     bytes: &'a [u8],
@@ -22,14 +22,14 @@ impl<'a> Model for SketchSlice<'a> {
 }
 
 impl<'a> SketchSlice<'a> {
-    /// A cursor at the first of these bytes.
+    /// Returns a cursor at the first of these bytes.
     pub fn new(bytes: &'a [u8]) -> Self
         ensures { result ≡ bytes.now }
     {
         SketchSlice { bytes }
     }
 
-    /// The bytes not yet read.
+    /// Returns the bytes not yet read.
     pub fn remaining(&self) -> &'a [u8]
         ensures { result.now ≡ self.now }
     {
@@ -78,7 +78,7 @@ impl<'a> SketchSlice<'a> {
         }
     }
 
-    /// Fills the buffer with the next bytes. On `Truncated` the buffer is unchanged.
+    /// Fills `buffer` with the next bytes. On `Truncated` the buffer is unchanged.
     pub fn read_exact(&mut self, buffer: &mut [u8]) -> Result<(), Error>
         ensures ok { OnOk result (self.old ≡ buffer.new ++ self.new) }
         ensures err { IfErr result (λ e. (e ≡ Truncated) × (length self.old < length buffer.old) × (self.new ≡ self.old) × (buffer.new ≡ buffer.old)) }

@@ -37,7 +37,7 @@ pub enum Reason {
     Preamble,
     /// The table size is out of range.
     LgArr,
-    /// A count is above its bound, or is not the number of filled places.
+    /// A count is above its bound, or is not the number of filled buckets.
     Count,
     /// A coupon has value 0, or occurs twice.
     Coupon,
@@ -53,7 +53,7 @@ impl Reason {
     ghost use Rattle.std.specs.Prelude.{◌≡◌};
     ghost use Rattle.hll_base.specs.Reason.{number_of, word_of};
 
-    /// The number of the reason, from 1 to 13.
+    /// Returns the reason's number, from 1 to 13.
     pub fn number(self) -> u8
         ensures { result ≡ number_of self }
     {
@@ -74,7 +74,7 @@ impl Reason {
         }
     }
 
-    /// The word that is printed for the reason.
+    /// Returns the word that is printed for the reason.
     pub fn word(self) -> &'static str
         ensures { result.now ≡ word_of self }
     {
@@ -113,21 +113,21 @@ impl Model for Error {
 }
 
 impl Error {
-    /// The error with this reason.
+    /// Returns the error with this reason.
     pub fn new(reason: Reason) -> Error
         ensures { result ≡ reason }
     {
         Error { reason }
     }
 
-    /// The reason.
+    /// Returns the reason.
     pub fn reason(&self) -> Reason
         ensures { result ≡ self.now }
     {
         self.reason
     }
 
-    /// The kind of the reason: `InvalidArgument` for `Argument`, `OutOfMemory` for `Memory`, and
+    /// Returns the kind of the error: `InvalidArgument` for the reason `Argument`, `OutOfMemory` for `Memory`, and
     /// `InvalidData` for all others.
     pub fn kind(&self) -> ErrorKind
         ensures { result ≡ kind_of self.now }
@@ -149,7 +149,7 @@ impl From<AllocError> for Error {
     }
 }
 
-/// Lets `?` turn a failed allocation into `Memory`. The value that was to be stored is dropped.
+/// Lets `?` turn a failed allocation into `Memory`. The value that should have been stored is dropped.
 impl<T: Drop> From<AllocFailed<T>> for Error {
     ghost from_gives = { λ _ e. e ≡ Memory };
 

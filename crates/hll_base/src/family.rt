@@ -16,9 +16,9 @@ impl Family {
     /// HyperLogLog sketches.
     pub const HLL: Family = Family { id: 7 };
 
-    /// Checks that an image's number is that of this family.
+    /// Checks that the number in an image is the number of this family.
     ///
-    /// Fails with `Family` if it is another.
+    /// Fails with `Family` if it is another number.
     pub fn validate_id(self, id: u8) -> Result<(), Error>
         ensures ok { IsOk result ↔ (id ≡ self.id) }
         ensures err { IfErr result (λ e. e ≡ reasons.Family) }

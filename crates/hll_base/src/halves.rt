@@ -7,10 +7,10 @@ ghost use Rattle.hll_base.specs.Hash.{rotation, mix_of, first_scramble, second_s
 
 use std::marker::Model;
 
-/// The reference's c1: multiplies the first word of a block before the rotation, and the second after it.
+/// The reference's c1: multiplies the first half of a block before the rotation, and the second half after it.
 const FIRST_FACTOR: u64 = 0x87c3_7b91_1142_53d5;
 
-/// The reference's c2: multiplies the second word of a block before the rotation, and the first after it.
+/// The reference's c2: multiplies the second half of a block before the rotation, and the first half after it.
 const SECOND_FACTOR: u64 = 0x4cf5_ad43_2745_937f;
 
 /// The two 64-bit halves of the hash state.
@@ -30,7 +30,7 @@ impl Model for Halves {
     ghost inverse = { λ h. record { first = h.first; second = h.second } };
 }
 
-/// The final mix of a half.
+/// Returns a half after the final mix.
 fn mix(word: u64) -> u64
     ensures { result ≡ mix_of word }
 {
@@ -39,29 +39,29 @@ fn mix(word: u64) -> u64
     word ^ word >> 33
 }
 
-/// A word rotated left by `COUNT` bits. Kept apart from the multiplication so that the compiler rotates the product
-/// and does not multiply twice instead.
+/// Returns a 64-bit number rotated left by `COUNT` bits. This is a function of its own so that the compiler rotates the
+/// product instead of multiplying twice.
 fn turn<const COUNT: u32>(word: u64) -> u64
     ensures { result ≡ rotation word COUNT }
 {
     word.rotate_left(COUNT)
 }
 
-/// Scrambles the first word of a block for the first half.
+/// Scrambles the first half of a block for the first half of the state.
 fn scramble_first(word: u64) -> u64
     ensures { result ≡ first_scramble word }
 {
     turn::<31>(word.wrapping_mul(FIRST_FACTOR)).wrapping_mul(SECOND_FACTOR)
 }
 
-/// Scrambles the second word of a block for the second half.
+/// Scrambles the second half of a block for the second half of the state.
 fn scramble_second(word: u64) -> u64
     ensures { result ≡ second_scramble word }
 {
     turn::<33>(word.wrapping_mul(SECOND_FACTOR)).wrapping_mul(FIRST_FACTOR)
 }
 
-/// The two little-endian words of a block.
+/// Returns the two little-endian 64-bit halves of a block.
 fn words(block: &[u8; 16]) -> (u64, u64)
     ensures first { result.0 ≡ first_word block.now }
     ensures second { result.1 ≡ second_word block.now }
@@ -73,7 +73,7 @@ fn words(block: &[u8; 16]) -> (u64, u64)
     )
 }
 
-/// The little-endian number of up to three bytes.
+/// Returns the little-endian number that up to three bytes hold.
 fn few_bytes(bytes: &[u8]) -> u64
     requires { length bytes.now ≤ 3 }
     ensures number { result ≡ from_le_bytes w64 bytes.now }
@@ -87,7 +87,7 @@ fn few_bytes(bytes: &[u8]) -> u64
     }
 }
 
-/// The little-endian number of up to seven bytes.
+/// Returns the little-endian number that up to seven bytes hold.
 fn some_bytes(bytes: &[u8]) -> u64
     requires { length bytes.now ≤ 7 }
     ensures { result ≡ from_le_bytes w64 bytes.now }
@@ -98,7 +98,7 @@ fn some_bytes(bytes: &[u8]) -> u64
     }
 }
 
-/// The little-endian number of up to eight bytes.
+/// Returns the little-endian number that up to eight bytes hold.
 fn word(bytes: &[u8]) -> u64
     requires { length bytes.now ≤ 8 }
     ensures { result ≡ from_le_bytes w64 bytes.now }
@@ -110,7 +110,7 @@ fn word(bytes: &[u8]) -> u64
 }
 
 impl Halves {
-    /// The state before any block.
+    /// Returns the state before any block.
     pub(crate) fn at_seed(seed: u64) -> Halves
         ensures { result ≡ record { first = seed; second = seed } }
     {
@@ -142,7 +142,7 @@ impl Halves {
         }
     }
 
-    /// Absorbs the last `count` bytes, which are the front of a block padded with zeros.
+    /// Absorbs the last `count` bytes: the first `count` bytes of a block padded with zeros.
     pub(crate) fn absorb_rest(&mut self, block: &[u8; 16], count: usize)
         ensures { (rest : List ℕ) → length rest ≡ count → block.now ≡ rest ++ replicate (16 - count) 0 → self.new ≡ after_rest self.old rest }
     {
@@ -156,7 +156,7 @@ impl Halves {
         }
     }
 
-    /// Absorbs the last bytes, fewer than sixteen.
+    /// Absorbs the last bytes, at most 15.
     pub(crate) fn absorb_tail(&mut self, rest: &[u8])
         requires { length rest.now < 16 }
         ensures { self.new ≡ after_rest self.old rest.now }
@@ -173,7 +173,7 @@ impl Halves {
         self.second ^= scramble_second(word(high));
     }
 
-    /// Absorbs the last bytes, eight of them, as `absorb_tail` does.
+    /// Absorbs the last eight bytes, with the same result as `absorb_tail`.
     pub(crate) fn absorb_eight(&mut self, rest: &[u8; 8])
         ensures { self.new ≡ after_rest self.old rest.now }
     {
@@ -188,7 +188,7 @@ impl Halves {
         self.second = self.second.wrapping_add(self.first);
     }
 
-    /// The hash, given the total number of bytes.
+    /// Returns the hash, given the total number of bytes.
     pub(crate) fn end(mut self, count: u64) -> (u64, u64)
         ensures first { result.0 ≡ (final_halves count self).first }
         ensures second { result.1 ≡ (final_halves count self).second }

@@ -10,13 +10,13 @@ use std::marker::Model;
 /// The default seed.
 pub const DEFAULT_SEED: u64 = 9001;
 
-/// The bytes in a block.
+/// The number of bytes in a block.
 const BLOCK: usize = 16;
 
-/// A streaming MurmurHash3 x64 128: the hash depends on the bytes written, and not on how they are divided between
-/// calls. Contracts see both halves, the bytes of the partial block, and the number of bytes modulo 2^64.
+/// A streaming MurmurHash3 x64 128. The hash depends on the bytes written, not on how they are divided between calls.
+/// Contracts see both halves, the bytes of the partial block, and the number of bytes modulo 2^64.
 ///
-/// No call takes memory.
+/// No call allocates.
 #[derive(Debug, Drop)]
 pub struct MurmurHash3X64128 {
     halves: Halves,
@@ -40,7 +40,7 @@ impl Model for MurmurHash3X64128 {
 }
 
 impl Default for MurmurHash3X64128 {
-    /// The hash of no bytes, with seed 9001.
+    /// Returns the hash of no bytes, with seed 9001.
     fn default() -> Self
         ensures { result ≡ initial_state default_seed }
     {
@@ -48,7 +48,7 @@ impl Default for MurmurHash3X64128 {
     }
 }
 
-/// Appends bytes to the first `count` bytes of a block.
+/// Copies `others` into a block after its first `count` bytes.
 fn extend(block: &mut [u8; 16], count: usize, others: &[u8])
     requires { count + length others.now ≤ 16 }
     ensures { block.new ≡ take count block.old ++ others.now ++ drop (count + length others.now) block.old }
@@ -57,7 +57,7 @@ fn extend(block: &mut [u8; 16], count: usize, others: &[u8])
 }
 
 impl MurmurHash3X64128 {
-    /// The hash of no bytes, with this seed.
+    /// Returns the hash of no bytes, with this seed.
     pub fn with_seed(seed: u64) -> Self
         ensures { result ≡ initial_state seed }
     {
@@ -82,8 +82,8 @@ impl MurmurHash3X64128 {
         }
     }
 
-    /// Completes the partial block, if there is one, and returns the bytes that follow it. There are none if the block
-    /// is still partial.
+    /// Completes the partial block, if there is one, and returns the bytes that are left. If the block is still
+    /// partial, none are left.
     fn fill<'a>(&mut self, bytes: &'a [u8]) -> &'a [u8]
         ensures same { after_bytes self.new.halves (self.new.partial ++ result.now) self.old.count ≡ after_bytes self.old.halves (self.old.partial ++ bytes.now) self.old.count }
         ensures after { 0 < length self.new.partial → result.now ≡ [] }
@@ -105,7 +105,7 @@ impl MurmurHash3X64128 {
         rest
     }
 
-    /// Starts a partial block with fewer than sixteen bytes.
+    /// Starts a partial block with at most 15 bytes.
     fn begin(&mut self, bytes: &[u8])
         requires none { self.old.partial ≡ [] }
         requires few { length bytes.now < 16 }
@@ -115,7 +115,7 @@ impl MurmurHash3X64128 {
         self.partial = bytes.len();
     }
 
-    /// The 128-bit hash of the bytes written, as two 64-bit words.
+    /// Returns the 128-bit hash of the bytes written, as two 64-bit halves.
     pub fn finish128(&self) -> (u64, u64)
         ensures first { result.0 ≡ (hash_of self.now).first }
         ensures second { result.1 ≡ (hash_of self.now).second }
@@ -126,14 +126,14 @@ impl MurmurHash3X64128 {
     }
 }
 
-/// The number of bytes, modulo 2^64.
+/// Returns the number of bytes, modulo 2^64.
 fn count_of(bytes: &[u8]) -> u64
     ensures { result ≡ length bytes.now % 2 ^ 64 }
 {
     bytes.len() as u64
 }
 
-/// The 128-bit hash of bytes with a seed, in one go, as two 64-bit words.
+/// Returns the 128-bit hash of `bytes` with a seed, as two 64-bit halves.
 pub fn hash_of_bytes(seed: u64, bytes: &[u8]) -> (u64, u64)
     ensures first { result.0 ≡ (hash seed bytes.now).first }
     ensures second { result.1 ≡ (hash seed bytes.now).second }
@@ -145,8 +145,8 @@ pub fn hash_of_bytes(seed: u64, bytes: &[u8]) -> (u64, u64)
     halves.end(count_of(bytes))
 }
 
-/// The 128-bit hash of eight bytes with a seed, as two 64-bit words, as `hash_of_bytes` returns it.
-// (in the loops of callers)
+/// Returns the 128-bit hash of eight bytes with a seed, as two 64-bit halves. Same result as `hash_of_bytes`.
+// (inlined into the loops of callers)
 #[inline(always)]
 pub fn hash_of_eight_bytes(seed: u64, bytes: &[u8; 8]) -> (u64, u64)
     ensures first { result.0 ≡ (hash seed bytes.now).first }
@@ -162,7 +162,7 @@ impl Hasher for MurmurHash3X64128 {
 
     ghost finish = { λ s. (hash_of s).first };
 
-    /// The first word of the 128-bit hash.
+    /// Returns the first half of the 128-bit hash.
     fn finish(&self) -> u64 {
         self.finish128().0
     }

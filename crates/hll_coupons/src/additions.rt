@@ -1,7 +1,7 @@
 // SPDX-License-Identifier: Apache-2.0
-//! The coupons of a table beside those of a set: counted with them, and added to them. Each is sought by a short
-//! search. Where one is cut off, a copy of the set's coupons in ascending order tells which of them it has (docs/OPERATING.md),
-//! unless so few are sought that their searches cost less.
+//! Counts the coupons of a set and a table together, and adds the coupons of a table to a set. Each coupon of the table
+//! is looked up by a short search. If one search is cut off, a sorted copy of the set's coupons is used instead
+//! (docs/OPERATING.md), unless the table has so few coupons that searching on is cheaper.
 ghost use Rattle.std.specs.Prelude.{◌≡◌, ◌^◌, ◌<◌, ◌≤◌, true, false, length, IfOk, IfErr};
 ghost use Rattle.std.specs.FinSet.{contains, insert, len, union};
 ghost use Rattle.std.specs.List.Sorted.{IsStrictlyIncreasing};
@@ -20,14 +20,15 @@ use crate::search::Key;
 use hll_base::error::Error;
 use std::alloc::Allocator;
 
-/// The searches of so few coupons go on to their ends, which costs less than a sort of all that the set has.
+/// If the table has at most this number of coupons, their searches go on to the end, which costs less than sorting the
+/// coupons of the set.
 const WALKED: usize = 8;
 
 impl<A: Allocator + Clone> HashSet<A> {
-    /// How many coupons the set has with those of a table.
+    /// Returns the number of distinct coupons in the set and a table together.
     ///
-    /// Where a search is long, and the table has more than eight coupons, takes memory for a copy of its own, and searches on
-    /// if that is refused.
+    /// If a search is long and the table has more than eight coupons, allocates a sorted copy of the set's coupons. If
+    /// that allocation fails, it searches on.
     pub fn count_with(&self, others: &Container<A>) -> usize
         ensures { result ≡ len (union (coupons_of self.now) (coupons_of others.now)) }
     {
@@ -47,7 +48,7 @@ impl<A: Allocator + Clone> HashSet<A> {
         count
     }
 
-    /// A copy of the coupons in ascending order. Fails with `Memory`.
+    /// Returns a copy of the coupons in ascending order. Fails with `Memory`.
     fn ascending(&self) -> Result<Vec<Coupon, A>, Error>
         ensures ok { IfOk result (λ own. IsAscending own.items (coupons_of self.now)) }
         ensures count { IfOk result (λ own. length own.items ≡ length (coupons_in self.now.buckets)) }
@@ -57,10 +58,10 @@ impl<A: Allocator + Clone> HashSet<A> {
         self.container.ascending(alloc)
     }
 
-    /// Adds the coupons of a table, for which there is room.
+    /// Adds the coupons of a table. The set has room for them.
     ///
-    /// Where a search is long, and the table has more than eight coupons, takes memory for a copy of its own and for bitmaps,
-    /// and searches on if that is refused.
+    /// If a search is long and the table has more than eight coupons, allocates a sorted copy of the set's coupons, and
+    /// bitmaps. If an allocation fails, it searches on.
     pub fn update_each(&mut self, others: &Container<A>)
         requires { len (union (coupons_of self.old) (coupons_of others.now)) ≤ 2 ^ self.old.lg_size }
         ensures size { self.new.lg_size ≡ self.old.lg_size }
@@ -68,7 +69,7 @@ impl<A: Allocator + Clone> HashSet<A> {
         ensures set { IsHashSet self.new }
     {
         others.table_is_legal();
-        // (brings the invariant of a set)
+        // (gives the proof the invariant of a set)
         let _container = self.container();
         for coupon in others.iter() {
             match self.insert_bounded(coupon) {
@@ -79,8 +80,8 @@ impl<A: Allocator + Clone> HashSet<A> {
         }
     }
 
-    /// Adds the coupons of a table by a copy in order, if the table has more than eight. Returns whether it did: it does
-    /// unless the copy's memory is refused, and then nothing has changed.
+    /// Adds the coupons of a table by a sorted copy of the set's coupons, if the table has more than eight. Returns
+    /// whether it did. It returns false if the copy can't be allocated; then nothing has changed.
     #[inline(never)]
     fn update_by_order(&mut self, others: &Container<A>) -> bool
         requires { len (union (coupons_of self.old) (coupons_of others.now)) ≤ 2 ^ self.old.lg_size }
@@ -89,7 +90,7 @@ impl<A: Allocator + Clone> HashSet<A> {
         ensures unchanged { result ≡ false → self.new ≡ self.old }
         ensures set { IsHashSet self.new }
     {
-        // (brings the invariant of a set)
+        // (gives the proof the invariant of a set)
         let _container = self.container();
         if others.len() <= WALKED {
             return false;
@@ -102,7 +103,7 @@ impl<A: Allocator + Clone> HashSet<A> {
     }
 }
 
-/// How many coupons there are in both, of which the first ascend.
+/// Returns the number of distinct coupons in both. `own` is in ascending order.
 fn count_of_both<A: Allocator>(own: &[Coupon], others: &Container<A>) -> usize
     requires ascends { IsStrictlyIncreasing own.now }
     requires few { length own.now ≤ 2 ^ 26 }
@@ -116,9 +117,10 @@ fn count_of_both<A: Allocator>(own: &[Coupon], others: &Container<A>) -> usize
     count
 }
 
-/// Puts the coupons of another table that a table lacks, whose own ascend here. There is room for them.
+/// Adds those coupons of `others` that `table` lacks. `own` has the coupons of `table` in ascending order, and `table`
+/// has room.
 ///
-/// Takes memory by this allocator where long searches have become expensive, and goes on without where that is refused.
+/// Allocates with `alloc` when long searches have become expensive, and goes on without if that fails.
 fn put_lacking<A: Allocator, B: Allocator + Clone>(
     table: &mut Container<A>,
     alloc: B,
@@ -141,7 +143,7 @@ fn put_lacking<A: Allocator, B: Allocator + Clone>(
     }
 }
 
-/// Puts a coupon that a table lacks, for which there is room.
+/// Adds a coupon that a table lacks and has room for.
 fn put_new<A: Allocator, B: Allocator + Clone>(
     table: &mut Container<A>,
     searches: &mut LongSearches<B>,
@@ -167,7 +169,7 @@ fn put_new<A: Allocator, B: Allocator + Clone>(
     searches.fill(bucket);
 }
 
-/// Whether coupons that ascend have this one.
+/// Returns whether `own`, which is in ascending order, has the coupon.
 fn is_among(own: &[Coupon], coupon: Coupon) -> bool
     requires { IsStrictlyIncreasing own.now }
     ensures { result ≡ contains (set_of own.now) coupon }

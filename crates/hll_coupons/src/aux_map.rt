@@ -1,5 +1,5 @@
 // SPDX-License-Identifier: Apache-2.0
-//! The exceptions of registers of four bits: a map from slots to values (docs/MODEL.md, "Maps of exceptions").
+//! The exceptions of 4-bit registers: a map from slots to values (docs/MODEL.md, "Maps of exceptions").
 ghost use Rattle.std.specs.Prelude.{◌≡◌, ◌≢◌, ◌+◌, ◌*◌, ◌^◌, ◌<◌, ◌≤◌, ◌==◌, ℕ, if◌then◌else◌, length, map, None, Some, IsOk, IfOk, IfErr, OnOk, OnErr, IfSome};
 ghost use Rattle.std.specs.FinSet as set;
 ghost use Rattle.std.specs.Iterator.{YieldsFirst, item_count};
@@ -22,9 +22,10 @@ use hll_base::error::Error;
 use std::alloc::{Allocator, Global};
 use std::marker::Model;
 
-/// A map from slots below 2^`lg_config_k` to values of 1 to 63, in a table that is searched by slot. At most three
-/// quarters of the buckets are filled, and the table has the least such size, from the start size up (docs/FORMAT.md,
-/// "Probing"). Contracts see `lg_config_k`, the size and the list of buckets; the entries are a function of it.
+/// A map from slots below 2^`lg_config_k` to values of 1 to 63, in a hash table whose key is the slot. At most three
+/// quarters of the buckets are filled, and the table has the smallest such size, from the start size up
+/// (docs/FORMAT.md, "Probing"). Contracts see `lg_config_k`, the size and the list of buckets; the entries are a
+/// function of it.
 #[derive_where(Debug)]
 #[derive(Drop)]
 pub struct AuxMap<A: Allocator = Global> {
@@ -43,9 +44,9 @@ impl<A: Allocator> Model for AuxMap<A> {
 }
 
 impl<A: Allocator> AuxMap<A> {
-    /// No entries, and buckets of the start size, four bytes each.
+    /// Returns an empty map with the start size, four bytes for each bucket.
     ///
-    /// `lg_config_k` is 4 to 21. Fails with `Memory`.
+    /// `lg_config_k` is 4 to 21. Fails with `Memory` if the allocation fails.
     pub fn new(alloc: A, lg_config_k: u8) -> Result<AuxMap<A>, Error>
         requires least { 4 ≤ lg_config_k }
         requires most { lg_config_k ≤ 21 }
@@ -59,7 +60,7 @@ impl<A: Allocator> AuxMap<A> {
         })
     }
 
-    /// The `lg_k` of the slots, 4 to 21.
+    /// Returns the `lg_k` of the slots, 4 to 21.
     pub fn lg_config_k(&self) -> u8
         ensures lg_k { result ≡ self.now.lg_k }
         ensures map { IsMap self.now }
@@ -67,7 +68,7 @@ impl<A: Allocator> AuxMap<A> {
         self.lg_config_k
     }
 
-    /// How many entries there are.
+    /// Returns the number of entries.
     pub fn len(&self) -> usize
         ensures count { result ≡ length (coupons_in self.now.table.buckets) }
         ensures map { IsMap self.now }
@@ -75,7 +76,7 @@ impl<A: Allocator> AuxMap<A> {
         self.table.len()
     }
 
-    /// The value of a slot below 2^`lg_config_k`, if it has one.
+    /// Returns the value of a slot below 2^`lg_config_k`, or `None` if it has no value.
     pub fn get(&self, slot: u32) -> Option<u8>
         requires { slot < 2 ^ self.now.lg_k }
         ensures value { result ≡ value_in self.now slot }
@@ -86,7 +87,8 @@ impl<A: Allocator> AuxMap<A> {
         value_of_bucket(buckets[bucket])
     }
 
-    /// The value of a slot below 2^`lg_config_k`, if it has one, by a short search. `None` where the search was cut off.
+    /// Returns the value of a slot below 2^`lg_config_k` by a short search: `None` if the search was cut off, and
+    /// `Some(None)` if the slot has no value.
     pub fn get_bounded(&self, slot: u32) -> Option<Option<u8>>
         requires { slot < 2 ^ self.now.lg_k }
         ensures value { IfSome result (λ value. value ≡ value_in self.now slot) }
@@ -98,7 +100,7 @@ impl<A: Allocator> AuxMap<A> {
         Some(value_of_bucket(buckets[bucket]))
     }
 
-    /// Gives a slot that has a value another one, in the same bucket.
+    /// Replaces the value of a slot, in the same bucket.
     ///
     /// `slot` is below 2^`lg_config_k` and has a value, and `value` is 1 to 63.
     pub fn replace(&mut self, slot: u32, value: u8)
@@ -117,7 +119,7 @@ impl<A: Allocator> AuxMap<A> {
         self.table.replace(bucket, Coupon::pack(slot, value));
     }
 
-    /// Whether the map has this entry.
+    /// Returns whether the map has this entry.
     fn has(&self, entry: Coupon) -> bool
         requires { 1 ≤ value_of entry }
         ensures { result ≡ set.contains (coupons_of self.now.table) entry }
@@ -129,7 +131,7 @@ impl<A: Allocator> AuxMap<A> {
         }
     }
 
-    /// Whether the map has each entry of another one.
+    /// Returns whether the map has each entry of another map.
     fn has_all(&self, other: &AuxMap<A>) -> bool
         ensures { result ≡ set.is_subset (coupons_of other.now.table) (coupons_of self.now.table) }
     {
@@ -141,16 +143,16 @@ impl<A: Allocator> AuxMap<A> {
         true
     }
 
-    /// Whether two maps have the same entries.
+    /// Returns whether two maps have the same entries.
     fn has_same(&self, other: &AuxMap<A>) -> bool
         ensures { result ≡ have_same_coupons self.now.table other.now.table }
     {
         self.table.len() == other.table.len() && other.has_all(self)
     }
 
-    /// A copy of the entries as coupons, in ascending order.
+    /// Returns a copy of the entries as coupons, in ascending order.
     ///
-    /// Takes four bytes an entry, in one request. Fails with `Memory`.
+    /// Allocates four bytes for each entry, in one request. Fails with `Memory` if the allocation fails.
     pub fn ascending<B: Allocator>(&self, alloc: B) -> Result<Vec<Coupon, B>, Error>
         ensures ok { IfOk result (λ entries. IsAscending entries.items (coupons_of self.now.table)) }
         ensures count { IfOk result (λ entries. length entries.items ≡ length (coupons_in self.now.table.buckets)) }
@@ -159,7 +161,7 @@ impl<A: Allocator> AuxMap<A> {
         self.table.ascending(alloc)
     }
 
-    /// The entries in the order of their buckets, each once.
+    /// Returns an iterator over the entries in the order of their buckets, each once.
     pub fn iter(&self) -> AuxMapRefIter<'_>
         ensures { result ≡ entries_in self.now }
     {
@@ -168,12 +170,12 @@ impl<A: Allocator> AuxMap<A> {
         }
     }
 
-    /// The allocator that made it.
+    /// Returns the map's allocator.
     pub(crate) fn allocator(&self) -> &A {
         self.table.allocator()
     }
 
-    /// The bytes of all buckets, four each.
+    /// Returns the size of all buckets in bytes, four for each.
     pub fn estimated_size(&self) -> usize
         ensures { result ≡ 4 * 2 ^ self.now.table.lg_size }
     {
@@ -182,11 +184,11 @@ impl<A: Allocator> AuxMap<A> {
 }
 
 impl<A: Allocator + Clone> AuxMap<A> {
-    /// Gives a slot without a value one. If more than three quarters of the buckets are then filled, the entries move to
-    /// a table of twice as many, in the order of their buckets.
+    /// Inserts a value for a slot that has none. If more than three quarters of the buckets are then filled, the
+    /// entries move to a table with twice as many buckets, in the order of their buckets.
     ///
-    /// `slot` is below 2^`lg_config_k` and has no value, and `value` is 1 to 63. Fails with `Memory`, only if the table
-    /// has to grow, and then changes nothing.
+    /// `slot` is below 2^`lg_config_k` and has no value, and `value` is 1 to 63. Fails with `Memory` if the table has
+    /// to grow and an allocation fails; then the map is unchanged.
     pub fn insert(&mut self, slot: u32, value: u8) -> Result<(), Error>
         requires within { slot < 2 ^ self.old.lg_k }
         requires least { 1 ≤ value }
@@ -210,9 +212,10 @@ impl<A: Allocator + Clone> AuxMap<A> {
         Ok(())
     }
 
-    /// Gives a slot without a value one, by these searches of the table, which it needs no more where it grows.
+    /// Inserts a value for a slot that has none, by these searches of the table. They are forgotten when the table
+    /// grows.
     ///
-    /// Fails with `Memory`, and then changes nothing.
+    /// Fails with `Memory` if an allocation fails; then the map is unchanged.
     pub(crate) fn insert_by(
         &mut self,
         searches: &mut LongSearches<A>,
@@ -243,9 +246,9 @@ impl<A: Allocator + Clone> AuxMap<A> {
         Ok(())
     }
 
-    /// A copy, with the same buckets.
+    /// Returns a copy with the same buckets.
     ///
-    /// Fails with `Memory`.
+    /// Fails with `Memory` if an allocation fails.
     pub fn clone(&self) -> Result<AuxMap<A>, Error>
         ensures ok { IfOk result (λ m. m ≡ self.now) }
         ensures err { IfErr result (λ e. e ≡ Memory) }
@@ -257,7 +260,7 @@ impl<A: Allocator + Clone> AuxMap<A> {
     }
 }
 
-/// The logarithm of the start size of a table (docs/FORMAT.md, "Probing").
+/// Returns the logarithm of the start size of a table (docs/FORMAT.md, "Probing").
 fn start_size(lg_config_k: u8) -> usize
     requires { lg_config_k ≤ 21 }
     ensures size { result ≡ sizes.start_size lg_config_k }
@@ -272,7 +275,7 @@ fn start_size(lg_config_k: u8) -> usize
     }
 }
 
-/// The value of an entry, none of an empty bucket.
+/// Returns the value of an entry, or `None` for an empty bucket.
 fn value_of_bucket(entry: Coupon) -> Option<u8>
     ensures { result ≡ (if entry == 0 then None else Some (value_of entry)) }
 {
@@ -283,9 +286,10 @@ fn value_of_bucket(entry: Coupon) -> Option<u8>
     }
 }
 
-/// Puts an entry into a table, and moves all entries to a table of twice as many buckets, in the order of their buckets.
+/// Puts an entry into a table, and moves all entries to a table with twice as many buckets, in the order of their
+/// buckets.
 ///
-/// A refusal changes nothing.
+/// Fails with `Memory` if an allocation fails; then the table is unchanged.
 fn put_growing<A: Allocator + Clone>(table: &mut Container<A>, entry: Coupon) -> Result<(), Error>
     requires probed { IsProbed slot_of table.old.lg_size table.old.buckets }
     requires valued { 1 ≤ value_of entry }
@@ -315,8 +319,8 @@ fn put_growing<A: Allocator + Clone>(table: &mut Container<A>, entry: Coupon) ->
     }
 }
 
-/// Maps are equal if their `lg_config_k` and entries are; buckets don't count. Looks up each entry of one in the other;
-/// takes no memory.
+/// Maps are equal if they have the same `lg_config_k` and the same entries; their buckets don't matter. Looks up each
+/// entry of one map in the other, and allocates nothing.
 impl<A: Allocator> PartialEq for AuxMap<A> {
     ghost use Rattle.hll_coupons.specs.Same.{have_same_entries, have_same_entries-partial};
 
@@ -342,14 +346,15 @@ impl<A: Allocator> IntoIterator for AuxMap<A> {
 
     ghost into_iter_gives = { λ m entries. entries ≡ entries_in m };
 
-    /// The entries in the order of their buckets, each once.
+    /// Returns an iterator over the entries in the order of their buckets, each once.
     fn into_iter(self) -> AuxMapIter<A> {
         let AuxMap { table, .. } = self;
         AuxMapIter { table, bucket: 0 }
     }
 }
 
-/// The entries of a map that are left to give, in the order of their buckets. Contracts see the list of them.
+/// An iterator over the entries of a map, in the order of their buckets. Contracts see the list of the entries not yet
+/// returned.
 #[derive(Debug, Drop)]
 pub struct AuxMapRefIter<'a> {
     entries: ContainerIter<'a>,
@@ -372,15 +377,15 @@ impl<'a> Iterator for AuxMapRefIter<'a> {
     ghost remaining = { item_count (λ s. s) };
 
     fn next(&mut self) -> Option<(u32, u8)> {
-        // (a map of few exceptions is mostly empty)
+        // (a map with few exceptions has mostly empty buckets)
         self.entries.pass_empty();
         let entry = self.entries.next()?;
         Some((entry.slot(), entry.value()))
     }
 }
 
-/// The entries of a map that is used up, those that are left to give, in the order of their buckets. Contracts see the
-/// list of them.
+/// An iterator over the entries of a map that it owns, in the order of their buckets. Contracts see the list of the
+/// entries not yet returned.
 #[derive(Drop)]
 pub struct AuxMapIter<A: Allocator = Global> {
     table: Container<A>,

@@ -1,5 +1,5 @@
 // SPDX-License-Identifier: Apache-2.0
-//! Maps of exceptions while they are filled.
+//! Builds maps of exceptions.
 ghost use Rattle.std.specs.Prelude.{◌≡◌, ◌≢◌, ◌↔◌, ◌*◌, ◌^◌, ◌<◌, ◌≤◌, ◌==◌, ℕ, if◌then◌else◌, length, None, Some, IsTrue, IfOk, IfErr, IfSome, OnOk, OnErr};
 ghost use Rattle.hll_base.specs.declared.error.Reason.TheVariants.{Memory};
 ghost use Rattle.hll_coupons.specs.AuxMap.{empty_map, value_in, IsMap, MarksValues};
@@ -12,16 +12,16 @@ use hll_base::error::Error;
 use std::alloc::{Allocator, Global};
 use std::marker::Model;
 
-/// A map of exceptions that is filled entry by entry, in time that the number of entries bounds, wherever their searches
-/// go. Contracts see the map.
+/// Builds a map of exceptions entry by entry. The number of entries bounds the time, even if their slots were chosen to
+/// make searches long. Contracts see the map.
 ///
-/// Takes the memory of the map. Where searches have become expensive, takes more: a bit for each slot, and bitmaps of buckets
-/// (docs/OPERATING.md).
+/// Allocates the map. When searches have become expensive it allocates more: a bit for each slot, and bitmaps of
+/// buckets (docs/OPERATING.md).
 #[derive(Drop)]
 pub struct AuxMapBuilder<A: Allocator = Global> {
     map: AuxMap<A>,
     searches: LongSearches<A>,
-    /// The bits of the slots that have a value, once a search for one was cut off.
+    /// The bits of the slots that have a value. They are made when a search for a slot is cut off.
     marks: Option<Vec<u64, A>>,
 }
 
@@ -38,7 +38,7 @@ impl<A: Allocator> Model for AuxMapBuilder<A> {
 }
 
 impl<A: Allocator> AuxMapBuilder<A> {
-    /// The map.
+    /// Returns the map.
     pub fn build(self) -> AuxMap<A>
         ensures { result ≡ self }
     {
@@ -48,9 +48,9 @@ impl<A: Allocator> AuxMapBuilder<A> {
 }
 
 impl<A: Allocator + Clone> AuxMapBuilder<A> {
-    /// No entries.
+    /// Returns a builder of a map with no entries.
     ///
-    /// `lg_config_k` is 4 to 21. Fails with `Memory`.
+    /// `lg_config_k` is 4 to 21. Fails with `Memory` if an allocation fails.
     pub fn new(alloc: A, lg_config_k: u8) -> Result<AuxMapBuilder<A>, Error>
         requires least { 4 ≤ lg_config_k }
         requires most { lg_config_k ≤ 21 }
@@ -66,9 +66,9 @@ impl<A: Allocator + Clone> AuxMapBuilder<A> {
         })
     }
 
-    /// Whether a slot below 2^`lg_config_k` has a value.
+    /// Returns whether a slot below 2^`lg_config_k` has a value.
     ///
-    /// Fails with `Memory`, only where a search was cut off.
+    /// Fails with `Memory` if a search was cut off and an allocation fails.
     pub fn has(&mut self, slot: u32) -> Result<bool, Error>
         requires { slot < 2 ^ self.old.lg_k }
         ensures has { IfOk result (λ has. IsTrue has ↔ (value_in self.old slot ≢ None)) }
@@ -81,10 +81,10 @@ impl<A: Allocator + Clone> AuxMapBuilder<A> {
         has_mark(&self.map, &mut self.marks, slot)
     }
 
-    /// Gives a slot without a value one.
+    /// Inserts a value for a slot that has none.
     ///
-    /// `slot` is below 2^`lg_config_k` and has no value, and `value` is 1 to 63. Fails with `Memory`, and then changes
-    /// nothing.
+    /// `slot` is below 2^`lg_config_k` and has no value, and `value` is 1 to 63. Fails with `Memory` if an allocation
+    /// fails; then the map is unchanged.
     pub fn insert(&mut self, slot: u32, value: u8) -> Result<(), Error>
         requires within { slot < 2 ^ self.old.lg_k }
         requires least { 1 ≤ value }
@@ -104,9 +104,9 @@ impl<A: Allocator + Clone> AuxMapBuilder<A> {
     }
 }
 
-/// Whether a slot of the map has a mark, in marks that are made where there are none.
+/// Returns whether the bit of a slot is set in the marks. Makes the marks first if there are none.
 ///
-/// Fails with `Memory`.
+/// Fails with `Memory` if an allocation fails.
 #[inline(never)]
 fn has_mark<A: Allocator + Clone>(
     map: &AuxMap<A>,
@@ -128,7 +128,7 @@ fn has_mark<A: Allocator + Clone>(
     Ok(has)
 }
 
-/// A bit for each slot, which is set where it has a value. Fails with `Memory`.
+/// Returns a bit for each slot, set if the slot has a value. Fails with `Memory` if the allocation fails.
 fn marks_of<A: Allocator + Clone>(map: &AuxMap<A>) -> Result<Vec<u64, A>, Error>
     ensures ok { IfOk result (λ blocks. MarksValues map.now blocks.items) }
     ensures err { IfErr result (λ e. e ≡ Memory) }

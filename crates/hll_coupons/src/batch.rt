@@ -1,7 +1,7 @@
 // SPDX-License-Identifier: Apache-2.0
-//! Coupons of many sketches, gathered in any order before they are put into a table together. So a union of many small
-//! sketches costs one sort of their coupons, however long the searches of their buckets are (docs/OPERATING.md,
-//! "Images from others").
+//! Coupons of many sketches, collected before they are put into a table together. So a union of many small sketches
+//! costs one sort of their coupons, however long the searches for their buckets would be (docs/OPERATING.md, "Images
+//! from others").
 ghost use Rattle.std.specs.Prelude.{◌≡◌, ℕ, ◌+◌, ◌*◌, ◌^◌, ◌<◌, ◌≤◌, ◌++◌, [], ◌∷◌, length, take, vec_len, IfOk, IfErr, OnOk, OnErr, All};
 ghost use Rattle.hll_base.specs.declared.error.Reason.TheVariants.{Memory};
 ghost use Rattle.hll_coupons.specs.Coupons.{IsAscending};
@@ -15,8 +15,7 @@ use hll_base::error::Error;
 use std::alloc::{Allocator, Global};
 use std::marker::Model;
 
-/// Coupons in the order in which they came, up to 2^26 - 1, any of them more than once. Contracts see the list of their raw
-/// coupons.
+/// Coupons in the order of arrival, up to 2^26 - 1, possibly repeated. Contracts see the list of their raw coupons.
 #[derive(Drop)]
 pub struct CouponBatch<A: Allocator = Global> {
     coupons: Vec<Coupon, A>,
@@ -34,7 +33,7 @@ impl<A: Allocator> Model for CouponBatch<A> {
 }
 
 impl<A: Allocator> CouponBatch<A> {
-    /// No coupons, in no memory.
+    /// Returns an empty batch. Allocates nothing.
     pub fn new(alloc: A) -> CouponBatch<A>
         ensures { result ≡ [] }
     {
@@ -43,7 +42,7 @@ impl<A: Allocator> CouponBatch<A> {
         }
     }
 
-    /// How many there are; one that came twice counts twice.
+    /// Returns the number of coupons. A coupon that came twice counts twice.
     pub fn len(&self) -> usize
         ensures count { result ≡ length self.now }
         ensures few { result < 2 ^ 26 }
@@ -54,7 +53,7 @@ impl<A: Allocator> CouponBatch<A> {
 
     /// Appends the coupons of a table.
     ///
-    /// Together they are fewer than 2^26. Fails with `Memory`, and then changes nothing.
+    /// In total there are fewer than 2^26. Fails with `Memory` if an allocation fails; then the batch is unchanged.
     pub fn extend_from_table<B: Allocator>(&mut self, table: &Container<B>) -> Result<(), Error>
         requires room { length self.old + length (coupons_in table.now.buckets) < 2 ^ 26 }
         ensures ok { OnOk result (self.new ≡ self.old ++ coupons_in table.now.buckets) }
@@ -70,10 +69,10 @@ impl<A: Allocator> CouponBatch<A> {
         appended
     }
 
-    /// Appends the coupons of raw coupons.
+    /// Appends coupons from their raw coupons.
     ///
-    /// Each raw coupon is that of a coupon, and together they are fewer than 2^26. Fails with `Memory`, and then changes
-    /// nothing.
+    /// Each raw coupon has to be that of a coupon with a value, and in total there are fewer than 2^26. Fails with
+    /// `Memory` if an allocation fails; then the batch is unchanged.
     pub fn extend_from_raw_coupons(&mut self, raw_coupons: RawCouponIter<'_>) -> Result<(), Error>
         requires pairs { All IsPair raw_coupons }
         requires room { length self.old + length raw_coupons < 2 ^ 26 }
@@ -89,14 +88,14 @@ impl<A: Allocator> CouponBatch<A> {
         appended
     }
 
-    /// Forgets all coupons, and keeps their memory.
+    /// Removes all coupons, and keeps the memory.
     pub fn clear(&mut self)
         ensures { self.new ≡ [] }
     {
         self.coupons.clear();
     }
 
-    /// Sorts the coupons, and forgets those that came before. Takes no memory.
+    /// Sorts the coupons and removes repeated ones. Allocates nothing.
     fn sort(&mut self)
         ensures ascending { IsAscending self.new (set_of self.old) }
     {
@@ -106,9 +105,10 @@ impl<A: Allocator> CouponBatch<A> {
 }
 
 impl<A: Allocator + Clone> CouponBatch<A> {
-    /// A table of the coupons, each once, in ascending order in its first buckets. The batch keeps its coupons, each once.
+    /// Returns a table of the distinct coupons, in ascending order in its first buckets. The batch keeps its coupons,
+    /// each once.
     ///
-    /// Fails with `Memory`.
+    /// Fails with `Memory` if an allocation fails.
     pub fn to_table(&mut self) -> Result<Container<A>, Error>
         ensures ok { IfOk result (λ table. coupons_of table ≡ set_of self.old) }
         ensures ascending { IsAscending self.new (set_of self.old) }
@@ -127,7 +127,7 @@ impl<A: Allocator + Clone> CouponBatch<A> {
 
 /// Appends the coupons of a table.
 ///
-/// Fails with `Memory`, and then some may have been appended.
+/// Fails with `Memory` if an allocation fails; some coupons may have been appended by then.
 fn push_coupons_of_table<A: Allocator, B: Allocator>(
     coupons: &mut Vec<Coupon, A>,
     table: &Container<B>,
@@ -142,9 +142,9 @@ fn push_coupons_of_table<A: Allocator, B: Allocator>(
     Ok(())
 }
 
-/// Appends the coupons of raw coupons, each of which is that of a coupon.
+/// Appends coupons from their raw coupons, each of which is that of a coupon with a value.
 ///
-/// Fails with `Memory`, and then some may have been appended.
+/// Fails with `Memory` if an allocation fails; some coupons may have been appended by then.
 fn push_raw_coupons<A: Allocator>(
     coupons: &mut Vec<Coupon, A>,
     mut raw_coupons: RawCouponIter<'_>,
@@ -160,7 +160,7 @@ fn push_raw_coupons<A: Allocator>(
     Ok(())
 }
 
-/// The least size of a table, as a power of two, that has more buckets than this.
+/// Returns the size, as a power of two, of the smallest table that has more buckets than `count`.
 fn lg_size_above(count: usize) -> usize
     requires { count < 2 ^ 26 }
     ensures more { count < 2 ^ result }

@@ -4,7 +4,7 @@ ghost use Rattle.std.specs.Prelude.{◌≡◌, ◌≢◌, ◌↔◌, ℕ, ◌*�
 ghost use Rattle.std.specs.Int.{bit_at};
 ghost use Rattle.hll_coupons.specs.Blocks.{bit_of, IsNext, NoneFrom, IsSummary};
 
-/// A block with this bit set.
+/// Returns a block with this bit set.
 fn with(block: u64, bit: usize) -> u64
     requires { bit < 64 }
     ensures same { bit_at result bit ≡ 1 }
@@ -13,7 +13,7 @@ fn with(block: u64, bit: usize) -> u64
     block | (1 << bit)
 }
 
-/// A block without this bit.
+/// Returns a block without this bit.
 fn without(block: u64, bit: usize) -> u64
     requires { bit < 64 }
     ensures same { bit_at result bit ≡ 0 }
@@ -23,7 +23,7 @@ fn without(block: u64, bit: usize) -> u64
     block & !(1 << bit)
 }
 
-/// The bits of a block from this one on.
+/// Returns the bits of a block from `bit` on; the lower ones are cleared.
 fn from_bit(block: u64, bit: usize) -> u64
     requires { bit < 64 }
     ensures low { (j : ℕ) → j < bit → bit_at result j ≡ 0 }
@@ -32,7 +32,7 @@ fn from_bit(block: u64, bit: usize) -> u64
     block & (u64::MAX << bit)
 }
 
-/// The lowest bit that is set.
+/// Returns the index of the lowest bit that is set.
 fn lowest(block: u64) -> usize
     requires { 0 < block }
     ensures within { result < 64 }
@@ -42,7 +42,7 @@ fn lowest(block: u64) -> usize
     block.trailing_zeros() as usize
 }
 
-/// Whether a bit is set.
+/// Returns whether a bit is set.
 pub(crate) fn is_set(blocks: &[u64], bit: usize) -> bool
     requires { bit < 64 * length blocks.now }
     ensures { IsTrue result ↔ (bit_of blocks.now bit ≡ 1) }
@@ -68,7 +68,7 @@ pub(crate) fn clear(blocks: &mut [u64], bit: usize)
     blocks[bit / 64] = without(blocks[bit / 64], bit % 64);
 }
 
-/// Clears a bit, and its block's in the summary where the block has no other.
+/// Clears a bit. If its block then has no bit set, clears the block's bit in the summary, too.
 pub(crate) fn take(blocks: &mut [u64], summary: &mut [u64], bit: usize)
     requires summary { IsSummary blocks.old summary.old }
     requires within { bit < 64 * length blocks.old }
@@ -83,7 +83,7 @@ pub(crate) fn take(blocks: &mut [u64], summary: &mut [u64], bit: usize)
     }
 }
 
-/// The first bit that is set, from this one on.
+/// Returns the index of the first bit that is set, starting at `from`.
 pub(crate) fn next(blocks: &[u64], from: usize) -> Option<usize>
     requires small { 64 * length blocks.now < 2 ^ 32 }
     requires within { from ≤ 64 * length blocks.now }
@@ -107,7 +107,8 @@ pub(crate) fn next(blocks: &[u64], from: usize) -> Option<usize>
     None
 }
 
-/// The first bit that is set, from this one on, by a summary: blocks with no bit set are passed over 64 at a time.
+/// Returns the index of the first bit that is set, starting at `from`. With the summary it skips 64 blocks without set
+/// bits at a time.
 pub(crate) fn next_by_summary(blocks: &[u64], summary: &[u64], from: usize) -> Option<usize>
     requires small { 64 * length summary.now < 2 ^ 26 }
     requires summary { IsSummary blocks.now summary.now }

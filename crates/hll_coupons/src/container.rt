@@ -18,19 +18,19 @@ use hll_base::error::Error;
 use std::alloc::{Allocator, Global};
 use std::marker::Model;
 
-/// What a table did with a coupon that it may take up to some number of coupons.
+/// What an insertion with a limit on the number of coupons did.
 #[derive(Clone, Copy, Debug, PartialEq, Eq)]
 pub enum Insertion {
-    /// It didn't have the coupon, and has it now.
+    /// The table didn't have the coupon, and has it now.
     Added,
-    /// It had the coupon.
+    /// The table had the coupon already.
     Held,
-    /// It would have more coupons than it may; nothing changed.
+    /// The table would have more coupons than the limit. It is unchanged.
     Refused,
 }
 
-/// 2^`lg_size` buckets, each empty or a coupon of value 1 to 63, the coupons distinct. Contracts see
-/// the size and the list of buckets; the coupons are a function of it.
+/// 2^`lg_size` buckets. Each is empty or has a coupon of value 1 to 63, and the coupons are distinct. Contracts see the
+/// size and the list of buckets; the coupons are a function of it.
 #[derive_where(Debug)]
 #[derive(Drop)]
 pub struct Container<A: Allocator = Global> {
@@ -52,7 +52,7 @@ impl<A: Allocator> Model for Container<A> {
 }
 
 impl<A: Allocator> Container<A> {
-    /// Eight empty buckets.
+    /// Returns a table of eight empty buckets.
     pub(crate) fn eight(alloc: A) -> Container<A>
         ensures { result ≡ empty_table 3 }
     {
@@ -63,9 +63,9 @@ impl<A: Allocator> Container<A> {
         }
     }
 
-    /// 2^`lg_size` empty buckets, of four bytes each. Eight take no memory.
+    /// Returns a table of 2^`lg_size` empty buckets, four bytes for each. Eight buckets allocate nothing.
     ///
-    /// Fails with `Memory`, only if they are not eight.
+    /// Fails with `Memory` if an allocation fails.
     pub fn new(alloc: A, lg_size: usize) -> Result<Container<A>, Error>
         requires { lg_size ≤ 26 }
         ensures ok { IfOk result (λ c. c ≡ empty_table lg_size) }
@@ -79,10 +79,10 @@ impl<A: Allocator> Container<A> {
         })
     }
 
-    /// These buckets, of which `len` are filled.
+    /// Returns a table of these buckets, of which `len` are filled.
     ///
-    /// `lg_size` is at most 26, there are 2^`lg_size` buckets, and the filled ones are distinct and of
-    /// value 1 to 63.
+    /// `lg_size` is at most 26, there are 2^`lg_size` buckets, and the filled ones are distinct and have values of 1 to
+    /// 63.
     pub fn from_coupons(lg_size: usize, coupons: Vec<Coupon, A>, len: usize) -> Container<A>
         requires table { IsTable (record { lg_size = lg_size; buckets = coupons.items }) }
         requires count { len ≡ length (coupons_in coupons.items) }
@@ -95,14 +95,14 @@ impl<A: Allocator> Container<A> {
         }
     }
 
-    /// The allocator that made it.
+    /// Returns the container's allocator.
     pub fn allocator(&self) -> &A {
         self.buckets.allocator()
     }
 
-    /// A copy in memory of this allocator, with the same buckets.
+    /// Returns a copy allocated by `alloc`, with the same buckets.
     ///
-    /// Fails with `Memory`.
+    /// Fails with `Memory` if an allocation fails.
     pub fn clone_in(&self, alloc: A) -> Result<Container<A>, Error>
         ensures ok { IfOk result (λ c. c ≡ self.now) }
         ensures err { IfErr result (λ e. e ≡ Memory) }
@@ -114,7 +114,7 @@ impl<A: Allocator> Container<A> {
         })
     }
 
-    /// How many coupons there are, at most the number of buckets.
+    /// Returns the number of coupons, at most the number of buckets.
     pub fn len(&self) -> usize
         ensures count { result ≡ length (coupons_in self.now.buckets) }
         ensures within { result ≤ 2 ^ self.now.lg_size }
@@ -123,7 +123,7 @@ impl<A: Allocator> Container<A> {
         self.len
     }
 
-    /// Says that the coupons are distinct, have values, and are no more than the buckets. Does nothing: a caller whose
+    /// States that the coupons are distinct, have values, and don't outnumber the buckets. Does nothing: a caller whose
     /// proof needs the invariant calls it.
     pub fn table_is_legal(&self)
         ensures within { length (coupons_in self.now.buckets) ≤ 2 ^ self.now.lg_size }
@@ -132,14 +132,14 @@ impl<A: Allocator> Container<A> {
         let _len = self.len;
     }
 
-    /// Whether there is no coupon.
+    /// Returns whether there is no coupon.
     pub fn is_empty(&self) -> bool
         ensures { IsTrue result ↔ (coupons_in self.now.buckets ≡ []) }
     {
         self.len == 0
     }
 
-    /// Whether each bucket has a coupon.
+    /// Returns whether each bucket has a coupon.
     pub fn is_full(&self) -> bool
         ensures full { IsTrue result ↔ (length (coupons_in self.now.buckets) ≡ 2 ^ self.now.lg_size) }
         ensures room { OnFalse result (length (coupons_in self.now.buckets) < 2 ^ self.now.lg_size) }
@@ -147,7 +147,7 @@ impl<A: Allocator> Container<A> {
         self.len == self.capacity()
     }
 
-    /// The logarithm of the number of buckets, at most 26.
+    /// Returns the logarithm of the number of buckets, at most 26.
     pub fn lg_size(&self) -> usize
         ensures size { result ≡ self.now.lg_size }
         ensures small { result ≤ 26 }
@@ -155,35 +155,36 @@ impl<A: Allocator> Container<A> {
         self.lg_size
     }
 
-    /// The number of buckets.
+    /// Returns the number of buckets.
     pub fn capacity(&self) -> usize
         ensures { result ≡ 2 ^ self.now.lg_size }
     {
         buckets_of(self.lg_size)
     }
 
-    /// The bytes of all buckets, four each.
+    /// Returns the size of all buckets in bytes, four for each.
     pub fn estimated_size(&self) -> usize
         ensures { result ≡ 4 * 2 ^ self.now.lg_size }
     {
         buckets_of(self.lg_size) * 4
     }
 
-    /// Whether the coupon is in one of the buckets. Looks at each until it is found; takes no memory.
+    /// Returns whether one of the buckets has the coupon. Looks at each bucket until it is found, and allocates
+    /// nothing.
     pub fn contains(&self, coupon: Coupon) -> bool
         ensures { result ≡ set.contains (coupons_of self.now) coupon }
     {
         !coupon.is_empty() && self.buckets.as_slice().contains(&coupon)
     }
 
-    /// The coupons in the order of their buckets, each once.
+    /// Returns an iterator over the coupons in the order of their buckets, each once.
     pub fn iter(&self) -> ContainerIter<'_>
         ensures { result ≡ coupons_in self.now.buckets }
     {
         coupons_of_buckets(self.buckets.as_slice())
     }
 
-    /// The buckets, each empty or filled with a coupon.
+    /// Returns the buckets, each empty or filled with a coupon.
     pub(crate) fn buckets(&self) -> &[Coupon]
         ensures buckets { result.now ≡ self.now.buckets }
         ensures table { IsTable self.now }
@@ -205,7 +206,7 @@ impl<A: Allocator> Container<A> {
         self.len += 1;
     }
 
-    /// Puts a coupon that no other bucket has into a filled bucket.
+    /// Replaces the coupon of a filled bucket by one that no other bucket has.
     pub(crate) fn replace(&mut self, bucket: usize, coupon: Coupon)
         requires inside { bucket < 2 ^ self.old.lg_size }
         requires filled { slice_index self.old.buckets bucket ≢ 0 }
@@ -219,7 +220,7 @@ impl<A: Allocator> Container<A> {
         self.buckets.set(bucket, coupon);
     }
 
-    /// Empties a bucket again that was filled.
+    /// Empties a filled bucket.
     pub(crate) fn take_out(&mut self, bucket: usize)
         requires inside { bucket < 2 ^ self.old.lg_size }
         requires table { IsTable (record self.old { buckets = slice_set self.old.buckets bucket 0 }) }
@@ -230,7 +231,7 @@ impl<A: Allocator> Container<A> {
         self.len -= 1;
     }
 
-    /// Empties each bucket.
+    /// Empties all buckets.
     pub(crate) fn clear(&mut self)
         ensures { self.new ≡ empty_table self.old.lg_size }
     {
@@ -238,7 +239,7 @@ impl<A: Allocator> Container<A> {
         self.len = 0;
     }
 
-    /// A copy of the coupons in the order of their buckets, in one request for memory.
+    /// Returns a copy of the coupons in the order of their buckets, allocated in one request.
     pub(crate) fn copied<B: Allocator>(&self, alloc: B) -> Result<Vec<Coupon, B>, Error>
         ensures ok { IfOk result (λ coupons. coupons.items ≡ coupons_in self.now.buckets) }
         ensures distinct { len (coupons_of self.now) ≡ length (coupons_in self.now.buckets) }
@@ -251,9 +252,9 @@ impl<A: Allocator> Container<A> {
         Ok(coupons)
     }
 
-    /// A copy of the coupons in ascending order.
+    /// Returns a copy of the coupons in ascending order.
     ///
-    /// Takes four bytes a coupon, in one request. Fails with `Memory`.
+    /// Allocates four bytes for each coupon, in one request. Fails with `Memory` if the allocation fails.
     pub(crate) fn ascending<B: Allocator>(&self, alloc: B) -> Result<Vec<Coupon, B>, Error>
         ensures ok { IfOk result (λ coupons. IsAscending coupons.items (coupons_of self.now)) }
         ensures count { IfOk result (λ coupons. length coupons.items ≡ length (coupons_in self.now.buckets)) }
@@ -264,7 +265,7 @@ impl<A: Allocator> Container<A> {
         Ok(coupons)
     }
 
-    /// Whether each coupon of another container is in this one.
+    /// Returns whether each coupon of another container is in this one.
     fn contains_all(&self, other: &Container<A>) -> bool
         ensures { result ≡ set.is_subset (coupons_of other.now) (coupons_of self.now) }
     {
@@ -278,9 +279,9 @@ impl<A: Allocator> Container<A> {
 }
 
 impl<A: Allocator + Clone> Container<A> {
-    /// A copy, with the same buckets.
+    /// Returns a copy with the same buckets.
     ///
-    /// Fails with `Memory`.
+    /// Fails with `Memory` if an allocation fails.
     pub fn clone(&self) -> Result<Container<A>, Error>
         ensures ok { IfOk result (λ c. c ≡ self.now) }
         ensures err { IfErr result (λ e. e ≡ Memory) }
@@ -288,9 +289,10 @@ impl<A: Allocator + Clone> Container<A> {
         self.clone_in(self.allocator().clone()?)
     }
 
-    /// An image: this header, and the coupons after it, four bytes each, in ascending order.
+    /// Returns an image: this header, followed by the coupons in ascending order, four bytes each.
     ///
-    /// Takes memory for a sorted copy of the coupons, and in one request for the image. Fails with `Memory`.
+    /// Allocates a sorted copy of the coupons, and the image in one request. Fails with `Memory` if an allocation
+    /// fails.
     pub(crate) fn image(&self, header: &[u8]) -> Result<Vec<u8, A>, Error>
         ensures ok { IfOk result (λ image. WritesAscending (λ order. header.now ++ coupon_bytes order) (coupons_of self.now) image.items) }
         ensures err { IfErr result (λ e. e ≡ Memory) }
@@ -301,8 +303,8 @@ impl<A: Allocator + Clone> Container<A> {
     }
 }
 
-/// Containers are equal where they hold the same coupons, whatever their sizes and buckets. Compares
-/// by search, and takes no memory.
+/// Containers are equal if they have the same coupons, whatever their sizes and buckets. Looks up each coupon, and
+/// allocates nothing.
 impl<A: Allocator> PartialEq for Container<A> {
     ghost use Rattle.hll_coupons.specs.Same.{have_same_coupons, have_same_coupons-partial};
 
@@ -321,14 +323,14 @@ impl<A: Allocator> Eq for Container<A> {
     ghost laws = { have_same_coupons-equivalence };
 }
 
-/// The coupons of buckets, in their order.
+/// Returns an iterator over the coupons of buckets, in their order.
 pub(crate) fn coupons_of_buckets(buckets: &[Coupon]) -> ContainerIter<'_>
     ensures { result ≡ coupons_in buckets.now }
 {
     ContainerIter { buckets }
 }
 
-/// The number of buckets of a size.
+/// Returns the number of buckets of a size.
 pub(crate) fn buckets_of(lg_size: usize) -> usize
     requires { lg_size ≤ 26 }
     ensures { result ≡ 2 ^ lg_size }
@@ -336,9 +338,9 @@ pub(crate) fn buckets_of(lg_size: usize) -> usize
     1 << lg_size
 }
 
-/// A header and coupons, four bytes each, in one request for memory.
+/// Returns a header followed by coupons, four bytes each, allocated in one request.
 ///
-/// Fails with `Memory`.
+/// Fails with `Memory` if the allocation fails.
 fn image_of<A: Allocator>(alloc: A, header: &[u8], coupons: &[Coupon]) -> Result<Vec<u8, A>, Error>
     ensures ok { IfOk result (λ image. image.items ≡ header.now ++ coupon_bytes coupons.now) }
     ensures err { IfErr result (λ e. e ≡ Memory) }
@@ -349,9 +351,9 @@ fn image_of<A: Allocator>(alloc: A, header: &[u8], coupons: &[Coupon]) -> Result
     Ok(with_coupons(bytes, coupons)?.into_bytes())
 }
 
-/// A buffer with coupons appended to it, four bytes each.
+/// Returns `bytes` with coupons appended to it, four bytes each.
 ///
-/// Takes memory where the buffer has no room. Fails with `Memory`.
+/// Allocates if the buffer has no room. Fails with `Memory` if the allocation fails.
 pub fn with_coupons<A: Allocator>(
     mut bytes: SketchBytes<A>,
     coupons: &[Coupon],
@@ -365,8 +367,8 @@ pub fn with_coupons<A: Allocator>(
     Ok(bytes)
 }
 
-/// The coupons of a container that are left to give, in the order of their buckets. Contracts see the
-/// list of them.
+/// An iterator over the coupons of a container, in the order of their buckets. Contracts see the list of the coupons
+/// not yet returned.
 #[derive(Debug, Drop)]
 pub struct ContainerIter<'a> {
     buckets: &'a [Coupon],
@@ -382,7 +384,7 @@ impl<'a> Model for ContainerIter<'a> {
 }
 
 impl<'a> ContainerIter<'a> {
-    /// Passes over empty buckets, four at a time, where four follow one another. No coupon is left out.
+    /// Skips empty buckets, four at a time. Skips no coupon.
     pub(crate) fn pass_empty(&mut self)
         ensures { self.new ≡ self.old }
     {

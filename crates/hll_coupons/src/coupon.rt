@@ -14,13 +14,13 @@ use std::marker::Model;
 /// The slot in a raw coupon.
 const SLOT_MASK: u32 = 0x03ff_ffff;
 
-/// More leading zeros than this in the second word of a hash give no greater value.
+/// Further leading zeros in the second half of a hash don't make the value greater.
 const MOST_ZEROS: u32 = MAX_VALUE as u32 - 1;
 
-/// A slot below 2^26 and a value up to 63, in one raw coupon: `value * 2^26 + slot`. Contracts see the
+/// A slot below 2^26 and a value up to 63, as one 32-bit code, the raw coupon: `value * 2^26 + slot`. Contracts see the
 /// raw coupon.
 ///
-/// A coupon of value 0 is no pair; raw coupon 0 marks an empty bucket.
+/// A coupon of value 0 is no pair. Raw coupon 0 marks an empty bucket.
 #[derive(Clone, Copy, Debug, PartialEq, Eq, PartialOrd, Ord, Hash)]
 pub struct Coupon {
     raw: u32,
@@ -40,7 +40,7 @@ impl Coupon {
     /// The content of an empty bucket.
     pub const EMPTY: Coupon = Coupon { raw: 0 };
 
-    /// The coupon of a value at the slot modulo 2^26.
+    /// Returns the coupon of a value at `slot` modulo 2^26.
     ///
     /// The value is at most 63.
     pub fn pack(slot: u32, value: u8) -> Coupon
@@ -52,7 +52,7 @@ impl Coupon {
         }
     }
 
-    /// The coupon of the two words of a hash (docs/MODEL.md, "Coupons of values").
+    /// Returns the coupon of the two halves of a hash (docs/MODEL.md, "Coupons of values").
     pub fn from_words(lo: u64, hi: u64) -> Coupon
         ensures words { result ≡ coupon_of_words lo hi }
         ensures pair { IsPair result }
@@ -62,8 +62,8 @@ impl Coupon {
         Coupon::pack(slot, value)
     }
 
-    /// The coupon of the hash of bytes at the default seed.
-    // (in the loops of callers, for values of eight bytes)
+    /// Returns the coupon of bytes: that of their hash with the default seed.
+    // (inlined into the loops of callers, for values of eight bytes)
     #[inline(always)]
     pub fn from_bytes(bytes: &[u8]) -> Coupon
         ensures bytes { result ≡ coupon_of_bytes bytes.now }
@@ -75,7 +75,7 @@ impl Coupon {
         }
     }
 
-    /// The coupon of eight bytes, as `from_bytes` returns it.
+    /// Returns the coupon of eight bytes. Same result as `from_bytes`.
     #[inline(always)]
     fn from_eight_bytes(bytes: &[u8; 8]) -> Coupon
         ensures bytes { result ≡ coupon_of_bytes bytes.now }
@@ -85,8 +85,8 @@ impl Coupon {
         Coupon::from_words(lo, hi)
     }
 
-    /// The coupon of bytes of any number, as `from_bytes` returns it.
-    // (not in the loops of callers, which would have it in each)
+    /// Returns the coupon of any number of bytes. Same result as `from_bytes`.
+    // (not inlined, because each caller would then contain it)
     #[inline(never)]
     fn from_any_bytes(bytes: &[u8]) -> Coupon
         ensures bytes { result ≡ coupon_of_bytes bytes.now }
@@ -96,9 +96,9 @@ impl Coupon {
         Coupon::from_words(lo, hi)
     }
 
-    /// The coupon of a value: that of the pieces of bytes that its own `hash` writes.
+    /// Returns the coupon of a value: that of the bytes that the value's `hash` writes.
     ///
-    /// A type of one piece gives the coupon of these bytes, as `from_bytes` does.
+    /// If `hash` writes the bytes in one piece, this is the coupon that `from_bytes` returns for them.
     pub fn from_value<T: Hash + Drop>(value: T) -> Coupon
         ensures pieces { result ≡ coupon_of_halves (hash_of (fold after_piece (initial_state default_seed) (T.hash_input value))) }
         ensures pair { IsPair result }
@@ -108,7 +108,7 @@ impl Coupon {
         Coupon::from_hash(&hash)
     }
 
-    /// The coupon of a hash.
+    /// Returns the coupon of the bytes that were hashed.
     fn from_hash(hash: &MurmurHash3X64128) -> Coupon
         ensures hash { result ≡ coupon_of_halves (hash_of hash.now) }
         ensures pair { IsPair result }
@@ -117,28 +117,28 @@ impl Coupon {
         Coupon::from_words(lo, hi)
     }
 
-    /// The coupon of a raw coupon.
+    /// Returns the coupon with this code.
     pub(crate) fn from_raw(raw: u32) -> Coupon
         ensures { result ≡ raw }
     {
         Coupon { raw }
     }
 
-    /// Whether the raw coupon is 0.
+    /// Returns whether the raw coupon is 0.
     pub fn is_empty(self) -> bool
         ensures { IsTrue result ↔ (self ≡ 0) }
     {
         self.raw == 0
     }
 
-    /// The raw coupon.
+    /// Returns the raw coupon: the 32-bit code.
     pub fn raw(self) -> u32
         ensures { result ≡ self }
     {
         self.raw
     }
 
-    /// The slot, below 2^26.
+    /// Returns the slot, below 2^26.
     pub fn slot(self) -> u32
         ensures slot { result ≡ slot_of self }
         ensures small { result < 2 ^ 26 }
@@ -146,7 +146,7 @@ impl Coupon {
         self.raw & SLOT_MASK
     }
 
-    /// The value, from 0 to 63.
+    /// Returns the value, from 0 to 63.
     pub fn value(self) -> u8
         ensures value { result ≡ value_of self }
         ensures small { result ≤ 63 }

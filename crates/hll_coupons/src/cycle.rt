@@ -1,5 +1,5 @@
 // SPDX-License-Identifier: Apache-2.0
-//! The cycle of a stride, and searches along it.
+//! The cycle of a stride, and searches along it (docs/MODEL.md, "Cycles").
 ghost use Rattle.std.specs.Prelude.{◌≡◌, ℕ, ◌+◌, ◌*◌, ◌/◌, ◌%◌, ◌^◌, ◌<◌, ◌≤◌, length, IfOk, IfErr, IfSome, IfNone};
 ghost use Rattle.hll_base.specs.declared.error.Reason.TheVariants.{Memory};
 ghost use Rattle.hll_coupons.specs.Blocks.{bit_of, IsSummary, NoneFrom};
@@ -12,7 +12,7 @@ use crate::search::wrapped;
 use hll_base::error::Error;
 use std::alloc::Allocator;
 
-/// Which buckets of a table are empty, in the order of steps of one stride.
+/// Which buckets of a table are empty, in the order in which steps of one stride visit them.
 #[derive(Drop)]
 pub(crate) struct Cycle<A: Allocator> {
     lg_size: usize,
@@ -22,7 +22,7 @@ pub(crate) struct Cycle<A: Allocator> {
     summary: Vec<u64, A>,
 }
 
-/// The first bit that is set, from this one on and round the end.
+/// Returns the index of the first bit that is set, starting at `from` and wrapping around at the end.
 fn next_round(blocks: &[u64], summary: &[u64], from: usize) -> Option<usize>
     requires small { 64 * length summary.now < 2 ^ 26 }
     requires summary { IsSummary blocks.now summary.now }
@@ -54,7 +54,7 @@ fn mark_empty(blocks: &mut [u64], lg_size: usize, stride: u32, buckets: &[Coupon
     }
 }
 
-/// Sets the bit of each block that has a bit set.
+/// Sets the summary's bit of each block that has a bit set.
 fn summarize(summary: &mut [u64], blocks: &[u64])
     requires room { length blocks.now ≤ 64 * length summary.old }
     requires none { (i : ℕ) → bit_of summary.old i ≡ 0 }
@@ -68,9 +68,10 @@ fn summarize(summary: &mut [u64], blocks: &[u64])
 }
 
 impl<A: Allocator + Clone> Cycle<A> {
-    /// The cycle of an odd stride through these buckets.
+    /// Returns the cycle of an odd stride through these buckets.
     ///
-    /// Takes a bit a bucket and a bit for 64, in two requests. Fails with `Memory`.
+    /// Allocates a bit for each bucket and a bit for each 64 buckets, in two requests. Fails with `Memory` if an
+    /// allocation fails.
     pub(crate) fn new(
         alloc: A,
         lg_size: usize,
@@ -103,14 +104,14 @@ impl<A: Allocator + Clone> Cycle<A> {
 }
 
 impl<A: Allocator> Cycle<A> {
-    /// The stride.
+    /// Returns the stride.
     pub(crate) fn stride(&self) -> u32
         ensures { result ≡ self.now.stride }
     {
         self.stride
     }
 
-    /// The bucket where the search for an absent key of this stride ends; none in a full table.
+    /// Returns the bucket where the search for an absent key of this stride ends, or `None` in a full table.
     pub(crate) fn first_empty(&self, key: u32) -> Option<usize>
         requires { IsSound self.now }
         ensures found { IfSome result (EndsForAbsent self.now key) }
@@ -121,7 +122,7 @@ impl<A: Allocator> Cycle<A> {
         Some(wrapped(self.lg_size, steps * self.stride as usize))
     }
 
-    /// A bucket is filled.
+    /// Records that a bucket is filled.
     pub(crate) fn fill(&mut self, bucket: usize)
         requires sound { IsSound self.old }
         requires within { bucket < 2 ^ self.old.lg_size }

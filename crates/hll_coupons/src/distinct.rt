@@ -1,5 +1,5 @@
 // SPDX-License-Identifier: Apache-2.0
-//! Whether coupons are distinct, seen from their order.
+//! Checks by their order whether coupons are distinct.
 ghost use Rattle.std.specs.Prelude.{◌≡◌, ◌↔◌, length, IsTrue, IfOk, IfErr};
 ghost use Rattle.std.specs.FinSet.{len};
 ghost use Rattle.std.specs.List.Sorted.{IsStrictlyIncreasing};
@@ -10,9 +10,10 @@ use crate::coupon::Coupon;
 use hll_base::error::Error;
 use std::alloc::Allocator;
 
-/// Whether no coupon stands twice.
+/// Returns whether no coupon occurs twice.
 ///
-/// One pass over coupons that ascend; others are copied and sorted, in one request for memory. Fails with `Memory`.
+/// One pass if the coupons ascend. Otherwise they are copied and sorted, with one allocation. Fails with `Memory` if it
+/// fails.
 pub(crate) fn are_distinct<A: Allocator>(alloc: A, coupons: &[Coupon]) -> Result<bool, Error>
     ensures ok { IfOk result (λ distinct. IsTrue distinct ↔ (len (set_of coupons.now) ≡ length coupons.now)) }
     ensures err { IfErr result (λ e. e ≡ Memory) }
@@ -25,7 +26,7 @@ pub(crate) fn are_distinct<A: Allocator>(alloc: A, coupons: &[Coupon]) -> Result
     Ok(ascend(&sorted))
 }
 
-/// Whether each coupon is below the next.
+/// Returns whether each coupon is less than the next.
 fn ascend(coupons: &[Coupon]) -> bool
     ensures { IsTrue result ↔ IsStrictlyIncreasing coupons.now }
 {

@@ -1,5 +1,6 @@
 // SPDX-License-Identifier: Apache-2.0
-//! Tables that are filled with distinct keys, at the buckets that probing one by one gives.
+//! Fills tables with entries whose keys are distinct. Each entry gets the bucket that probing one entry at a time would
+//! give it.
 ghost use Rattle.std.specs.Prelude.{◌≡◌, ◌^◌, ◌<◌, ◌≤◌, false, All, length, map, OnOk, OnErr, IfErr};
 ghost use Rattle.std.specs.Bool.{OnTrue};
 ghost use Rattle.std.specs.FinSet.{len};
@@ -19,7 +20,8 @@ use std::alloc::Allocator;
 
 /// Puts an entry into the empty bucket where the search for its key ends.
 ///
-/// Its value is at least 1, its key is absent, and a bucket is empty. Fails with `Memory`, and then changes no bucket.
+/// Its value is at least 1, its key is absent, and a bucket is empty. Fails with `Memory` if an allocation fails; then
+/// no bucket has changed.
 fn put_absent<A: Allocator + Clone>(
     table: &mut Container<A>,
     searches: &mut LongSearches<A>,
@@ -43,8 +45,8 @@ fn put_absent<A: Allocator + Clone>(
     Ok(())
 }
 
-/// Puts an entry into the empty bucket where the search for its key ends, by a short search where that is enough and there
-/// are no cycles yet.
+/// Puts an entry into the empty bucket where the search for its key ends. Uses a short search if that is enough and
+/// there are no cycles yet.
 #[inline(always)]
 pub(crate) fn put_one<A: Allocator + Clone>(
     table: &mut Container<A>,
@@ -69,7 +71,7 @@ pub(crate) fn put_one<A: Allocator + Clone>(
     put_absent(table, searches, by, entry)
 }
 
-/// Puts an entry into the empty bucket where a short search for its key ends. Says whether that wasn't cut off.
+/// Puts an entry into the empty bucket where a short search for its key ends. Returns false if the search was cut off.
 ///
 /// Its value is at least 1, and its key is absent.
 fn put_bounded<A: Allocator>(table: &mut Container<A>, by: Key, entry: Coupon) -> bool
@@ -90,11 +92,11 @@ fn put_bounded<A: Allocator>(table: &mut Container<A>, by: Key, entry: Coupon) -
     true
 }
 
-/// Puts coupons into an empty table, in their order; empty buckets among them are passed over.
+/// Puts coupons into an empty table, in their order. Empty buckets among `from` are skipped.
 ///
-/// No two of them have one key, and they are no more than the table has buckets. Takes memory where long searches have
-/// become expensive. Fails with `Memory`.
-// (in its callers, which have the table among their own values)
+/// No two of them have the same key, and there are at most as many coupons as the table has buckets. Allocates when
+/// long searches have become expensive. Fails with `Memory` if an allocation fails.
+// (inlined, because callers have the table among their own values)
 #[inline(always)]
 pub(crate) fn put_all<A: Allocator + Clone>(
     into: &mut Container<A>,
@@ -121,7 +123,7 @@ pub(crate) fn put_all<A: Allocator + Clone>(
     put_by_cycles(into, by, from)
 }
 
-/// Puts coupons into an empty table, in their order, by short searches. Returns whether none was cut off.
+/// Puts coupons into an empty table, in their order, by short searches. Returns whether none of them was cut off.
 #[inline(always)]
 fn put_by_search<A: Allocator>(into: &mut Container<A>, by: Key, from: &[Coupon]) -> bool
     requires small { into.old.lg_size ≤ 26 }
@@ -144,7 +146,8 @@ fn put_by_search<A: Allocator>(into: &mut Container<A>, by: Key, from: &[Coupon]
     true
 }
 
-/// Puts coupons into an empty table, in their order, by cycles where searches are long. Fails with `Memory`.
+/// Puts coupons into an empty table, in their order, with cycles when searches are long. Fails with `Memory` if an
+/// allocation fails.
 #[inline(never)]
 pub(crate) fn put_by_cycles<A: Allocator + Clone>(
     into: &mut Container<A>,

@@ -1,5 +1,5 @@
 // SPDX-License-Identifier: Apache-2.0
-//! A set of coupons in a table that is searched by probing (docs/MODEL.md, "Tables" and "Probing").
+//! A set of coupons in a hash table (docs/MODEL.md, "Tables" and "Probing").
 ghost use Rattle.std.specs.Prelude.{◌≡◌, ◌+◌, ◌*◌, ◌^◌, ◌<◌, ◌≤◌, ◌⊎◌, ◌↔◌, ◌++◌, if◌then◌else◌, All, length, take, drop, false, IsTrue, IfOk, IfErr, IfSome, IfNone, OnOk};
 ghost use Rattle.std.specs.FinSet as set;
 ghost use Rattle.std.specs.Int.{w32, to_le_bytes};
@@ -32,8 +32,8 @@ use hll_base::hll_type::HllType;
 use std::alloc::{Allocator, Global};
 use std::marker::Model;
 
-/// A container in which each coupon stands where a search for it comes to it. Contracts see what they
-/// see of the container.
+/// A container in which each coupon is in the bucket where a search finds it. Contracts see the container's size and
+/// buckets.
 #[derive_where(Debug)]
 #[derive(Drop)]
 pub struct HashSet<A: Allocator = Global> {
@@ -52,9 +52,9 @@ impl<A: Allocator> Model for HashSet<A> {
 }
 
 impl<A: Allocator> HashSet<A> {
-    /// No coupons, and 2^`lg_size` buckets of four bytes each.
+    /// Returns an empty set with 2^`lg_size` buckets, four bytes for each.
     ///
-    /// `lg_size` is at most 26. Fails with `Memory`.
+    /// `lg_size` is at most 26. Fails with `Memory` if an allocation fails.
     pub fn new(alloc: A, lg_size: usize) -> Result<HashSet<A>, Error>
         requires { lg_size ≤ 26 }
         ensures ok { IfOk result (λ s. s ≡ empty_table lg_size) }
@@ -65,9 +65,9 @@ impl<A: Allocator> HashSet<A> {
         })
     }
 
-    /// No coupons, and 32 buckets.
+    /// Returns an empty set with 32 buckets.
     ///
-    /// Fails with `Memory`.
+    /// Fails with `Memory` if an allocation fails.
     pub fn default_in(alloc: A) -> Result<HashSet<A>, Error>
         ensures ok { IfOk result (λ s. s ≡ empty_table 5) }
         ensures err { IfErr result (λ e. e ≡ Memory) }
@@ -75,9 +75,9 @@ impl<A: Allocator> HashSet<A> {
         HashSet::new(alloc, usize::from(LG_LEAST_SET_BUCKETS))
     }
 
-    /// Puts a coupon where a search for it ends, unless the set has it.
+    /// Inserts a coupon, unless the set has it.
     ///
-    /// Its value is at least 1, and a bucket is free if the set doesn't have it.
+    /// Its value is at least 1. If the set doesn't have it, a bucket is empty.
     pub fn update(&mut self, coupon: Coupon)
         requires valued { 1 ≤ value_of coupon }
         requires room { set.contains (coupons_of self.old) coupon ≡ false → length (coupons_in self.old.buckets) < 2 ^ self.old.lg_size }
@@ -94,8 +94,8 @@ impl<A: Allocator> HashSet<A> {
         }
     }
 
-    /// Puts a coupon where a short search for it ends, unless the set has it. Returns whether the coupon is new, and `None`
-    /// where the search was cut off.
+    /// Inserts a coupon by a short search, unless the set has it. Returns whether the coupon is new, or `None` if the
+    /// search was cut off.
     pub(crate) fn insert_bounded(&mut self, coupon: Coupon) -> Option<bool>
         requires valued { 1 ≤ value_of coupon }
         ensures new { IfSome result (λ new. IsTrue new ↔ (set.contains (coupons_of self.old) coupon ≡ false)) }
@@ -116,10 +116,10 @@ impl<A: Allocator> HashSet<A> {
         Some(true)
     }
 
-    /// Puts a coupon where a search for it ends, unless the set has it, or would have more than `most` coupons. One
-    /// search; takes no memory.
+    /// Inserts a coupon, unless the set has it already, or would then have more than `most` coupons. One search;
+    /// allocates nothing.
     ///
-    /// Its value is at least 1, and `most` is no more than there are buckets.
+    /// Its value is at least 1, and `most` is at most the number of buckets.
     pub fn update_within(&mut self, coupon: Coupon, most: usize) -> Insertion
         requires valued { 1 ≤ value_of coupon }
         requires within { most ≤ 2 ^ self.old.lg_size }
@@ -152,7 +152,7 @@ impl<A: Allocator> HashSet<A> {
         Insertion::Added
     }
 
-    /// Whether the set has the coupon, by a search for it.
+    /// Returns whether the set has the coupon, by a search.
     pub fn contains(&self, coupon: Coupon) -> bool
         ensures { result ≡ set.contains (coupons_of self.now) coupon }
     {
@@ -168,7 +168,7 @@ impl<A: Allocator> HashSet<A> {
         }
     }
 
-    /// Whether the set has the coupon, by a short search. `None` where the search was cut off.
+    /// Returns whether the set has the coupon, by a short search, or `None` if the search was cut off.
     pub(crate) fn has_bounded(&self, coupon: Coupon) -> Option<bool>
         ensures { IfSome result (λ has. has ≡ set.contains (coupons_of self.now) coupon) }
     {
@@ -179,7 +179,7 @@ impl<A: Allocator> HashSet<A> {
         Some(!buckets[bucket].is_empty())
     }
 
-    /// The buckets.
+    /// Returns the container with the buckets.
     pub fn container(&self) -> &Container<A>
         ensures same { result.now ≡ self.now }
         ensures set { IsHashSet self.now }
@@ -187,7 +187,7 @@ impl<A: Allocator> HashSet<A> {
         &self.container
     }
 
-    /// Whether the set has each coupon of another one.
+    /// Returns whether the set has each coupon of another set.
     fn contains_all(&self, other: &HashSet<A>) -> bool
         ensures { result ≡ set.is_subset (coupons_of other.now) (coupons_of self.now) }
     {
@@ -199,9 +199,9 @@ impl<A: Allocator> HashSet<A> {
         true
     }
 
-    /// A copy in memory of this allocator, with the same buckets.
+    /// Returns a copy allocated by `alloc`, with the same buckets.
     ///
-    /// Fails with `Memory`.
+    /// Fails with `Memory` if an allocation fails.
     pub fn clone_in(&self, alloc: A) -> Result<HashSet<A>, Error>
         ensures ok { IfOk result (λ s. s ≡ self.now) }
         ensures err { IfErr result (λ e. e ≡ Memory) }
@@ -213,10 +213,11 @@ impl<A: Allocator> HashSet<A> {
 }
 
 impl<A: Allocator + Clone> HashSet<A> {
-    /// The coupons of a container, put in the order of its buckets into 2^`lg_size` empty ones.
+    /// Returns a set of the coupons of a container, inserted in the order of their buckets into 2^`lg_size` empty
+    /// buckets.
     ///
-    /// `lg_size` is at most 26, and there are no more coupons than buckets. Takes memory for the buckets, and for
-    /// bitmaps where searches have become expensive (docs/OPERATING.md). Fails with `Memory`.
+    /// `lg_size` is at most 26, and there are at most as many coupons as buckets. Allocates the buckets, and bitmaps
+    /// when searches have become expensive (docs/OPERATING.md). Fails with `Memory` if an allocation fails.
     pub fn from_container(
         alloc: A,
         lg_size: usize,
@@ -236,12 +237,12 @@ impl<A: Allocator + Clone> HashSet<A> {
         Ok(HashSet { container })
     }
 
-    /// Reads what follows the header of a set's image (docs/FORMAT.md, "SET"): the count, and 2^`lg_arr` buckets, or
-    /// where `compact` the filled ones alone. The coupons are placed again, in their order.
+    /// Reads the part of a set's image after the header (docs/FORMAT.md, "SET"): the count, and 2^`lg_arr` buckets, or
+    /// only the filled buckets if `compact`. The coupons are inserted in their order, as in a new set.
     ///
-    /// `lg_arr` is at most 26. Fails with `Truncated`, `Count` or `Coupon` where that fault stands, in the
-    /// order of checks, or else with `Memory`. Takes memory only once the bytes are known to be there: for the buckets, and
-    /// where searches have become expensive for copies of the coupons and for bitmaps (docs/OPERATING.md).
+    /// `lg_arr` is at most 26. Fails with `Truncated`, `Count` or `Coupon` for the first check that fails, and with
+    /// `Memory` if an allocation fails. Allocates only after checking that the bytes are there: the buckets, and copies
+    /// of the coupons and bitmaps when searches have become expensive (docs/OPERATING.md).
     pub fn deserialize(
         alloc: A,
         mut cursor: SketchSlice<'_>,
@@ -277,9 +278,9 @@ impl<A: Allocator + Clone> HashSet<A> {
         }
     }
 
-    /// A copy, with the same buckets.
+    /// Returns a copy with the same buckets.
     ///
-    /// Fails with `Memory`.
+    /// Fails with `Memory` if an allocation fails.
     pub fn clone(&self) -> Result<HashSet<A>, Error>
         ensures ok { IfOk result (λ s. s ≡ self.now) }
         ensures err { IfErr result (λ e. e ≡ Memory) }
@@ -287,11 +288,11 @@ impl<A: Allocator + Clone> HashSet<A> {
         self.clone_in(self.container.allocator().clone()?)
     }
 
-    /// The compact image of a set (docs/FORMAT.md, "What is written"): twelve bytes, and four for each coupon, in
-    /// ascending raw coupons.
+    /// Returns the compact image of the set (docs/FORMAT.md, "What is written"): twelve bytes, then four for each
+    /// coupon, by ascending raw coupon.
     ///
-    /// `lg_config_k` is 4 to 21, and the set has a size of 5 to `lg_config_k` - 3 and an empty bucket. Takes memory for a
-    /// sorted copy of the coupons, and in one request for the image. Fails with `Memory`.
+    /// `lg_config_k` is 4 to 21, and the set has a size of 5 to `lg_config_k` - 3 and an empty bucket. Allocates a
+    /// sorted copy of the coupons, and the image in one request. Fails with `Memory` if an allocation fails.
     pub fn serialize(&self, lg_config_k: u8, hll_type: HllType) -> Result<Vec<u8, A>, Error>
         requires most { lg_config_k ≤ 21 }
         requires low { 5 ≤ self.now.lg_size }
@@ -307,8 +308,8 @@ impl<A: Allocator + Clone> HashSet<A> {
     }
 }
 
-/// Sets are equal where they have the same coupons, whatever their sizes and buckets: as many, and each of one found in
-/// the other.
+/// Sets are equal if they have the same coupons, whatever their sizes and buckets. Compares the counts, and looks up
+/// each coupon of one set in the other.
 impl<A: Allocator> PartialEq for HashSet<A> {
     ghost use Rattle.hll_coupons.specs.Same.{have_same_coupons, have_same_coupons-partial};
 
@@ -327,7 +328,7 @@ impl<A: Allocator> Eq for HashSet<A> {
     ghost laws = { have_same_coupons-equivalence };
 }
 
-/// How many buckets follow the count.
+/// Returns how many buckets follow the count.
 fn buckets_to_read(lg_arr: usize, count: usize, compact: bool) -> usize
     requires { lg_arr ≤ 26 }
     ensures { result ≡ (if compact then count else (2 ^ lg_arr)) }
@@ -335,7 +336,8 @@ fn buckets_to_read(lg_arr: usize, count: usize, compact: bool) -> usize
     if compact { count } else { buckets_of(lg_arr) }
 }
 
-/// Reads buckets into an empty set. `Coupon` where one that has to be a coupon has no value, or comes twice.
+/// Reads buckets into an empty set. Fails with `Coupon` if a coupon has no value or occurs twice, or if a bucket of a
+/// compact image is empty.
 fn read_buckets<A: Allocator + Clone>(
     set: &mut HashSet<A>,
     cursor: SketchSlice<'_>,
@@ -358,15 +360,15 @@ fn read_buckets<A: Allocator + Clone>(
     }
 }
 
-/// How buckets were read.
+/// What `read_by_search` read.
 enum Reading {
-    /// Each of them.
+    /// All buckets.
     Whole,
-    /// Some of them, until a search was cut off.
+    /// Some of the buckets, until a search was cut off.
     Cut,
 }
 
-/// Reads buckets into an empty set by short searches, until one is cut off.
+/// Reads buckets into an empty set by short searches, until a search is cut off.
 fn read_by_search<A: Allocator>(
     set: &mut HashSet<A>,
     mut cursor: SketchSlice<'_>,
@@ -399,8 +401,8 @@ fn read_by_search<A: Allocator>(
     Ok(Reading::Whole)
 }
 
-/// Reads buckets into a set, whatever it has, by copies of the coupons and the cycles of their strides. Gives the memory of
-/// its buckets back first.
+/// Reads buckets into a set, replacing what it has, by sorted copies of the coupons and the cycles of their strides.
+/// Frees the memory of the old buckets first.
 #[inline(never)]
 fn read_by_order<A: Allocator + Clone>(
     set: &mut HashSet<A>,
@@ -431,9 +433,10 @@ fn read_by_order<A: Allocator + Clone>(
     Ok(())
 }
 
-/// The coupons of buckets, in their order. `Coupon` where one that has to be a coupon has no value.
+/// Returns the coupons of buckets, in their order. Fails with `Coupon` if a coupon has no value, or if a bucket of a
+/// compact image is empty.
 ///
-/// Takes memory in one request. Fails with `Memory`.
+/// Allocates in one request. Fails with `Memory` if the allocation fails.
 fn read_coupons<A: Allocator>(
     alloc: A,
     mut cursor: SketchSlice<'_>,
@@ -460,7 +463,7 @@ fn read_coupons<A: Allocator>(
     Ok(coupons)
 }
 
-/// The twelve bytes before the coupons of a set: the last four are the count.
+/// Returns the twelve bytes before the coupons of a set. The last four are the count.
 pub(crate) fn set_header(
     lg_config_k: u8,
     hll_type: HllType,

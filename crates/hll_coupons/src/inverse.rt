@@ -3,14 +3,14 @@
 ghost use Rattle.std.specs.Prelude.{◌≡◌, ◌+◌, ◌-◌, ◌*◌, ◌%◌, ◌^◌, ◌<◌, ◌≤◌};
 ghost use Rattle.hll_coupons.specs.Cycle.{IsInverse};
 
-/// One step of Newton's: twice as many of the low bits are right.
+/// Does one step of Newton's method, which doubles the number of correct low bits.
 fn step(odd: u32, inverse: u32) -> u32
     ensures { result ≡ inverse * ((2 + (2 ^ 32 - odd * inverse % 2 ^ 32)) % 2 ^ 32) % 2 ^ 32 }
 {
     inverse.wrapping_mul(2u32.wrapping_sub(odd.wrapping_mul(inverse)))
 }
 
-/// What an odd number is multiplied by to give 1 modulo 2^`lg_size`.
+/// Returns the inverse of an odd number modulo 2^`lg_size`.
 pub(crate) fn inverse_of(lg_size: usize, odd: u32) -> usize
     requires small { lg_size ≤ 26 }
     requires odd { odd % 2 ≡ 1 }

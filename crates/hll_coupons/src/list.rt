@@ -24,8 +24,8 @@ use hll_base::hll_type::HllType;
 use std::alloc::{Allocator, Global};
 use std::marker::Model;
 
-/// A container whose buckets are filled from the front, in order of arrival. Contracts see what they
-/// see of the container.
+/// A container whose buckets are filled from the first on, in order of arrival. Contracts see the container's size and
+/// buckets.
 #[derive_where(Debug)]
 #[derive(Drop)]
 pub struct List<A: Allocator = Global> {
@@ -43,9 +43,9 @@ impl<A: Allocator> Model for List<A> {
 }
 
 impl<A: Allocator> List<A> {
-    /// No coupons, and 2^`lg_size` buckets of four bytes each. Eight take no memory.
+    /// Returns an empty list with 2^`lg_size` buckets, four bytes for each. Eight buckets allocate nothing.
     ///
-    /// Fails with `Memory`, only if they are not eight.
+    /// Fails with `Memory` if an allocation fails.
     pub fn new(alloc: A, lg_size: usize) -> Result<List<A>, Error>
         requires { lg_size ≤ 26 }
         ensures ok { IfOk result (λ l. l ≡ empty_table lg_size) }
@@ -57,7 +57,7 @@ impl<A: Allocator> List<A> {
         })
     }
 
-    /// No coupons, and eight buckets.
+    /// Returns an empty list with eight buckets.
     pub fn default_in(alloc: A) -> List<A>
         ensures { result ≡ empty_table 3 }
     {
@@ -66,12 +66,12 @@ impl<A: Allocator> List<A> {
         }
     }
 
-    /// Reads what follows the header of a list's image (docs/FORMAT.md, "LIST"): 2^`lg_arr` buckets of
-    /// which `coupon_count` are filled, all of them, or where `compact` the filled ones alone. Gaps between
-    /// filled buckets are closed, and the order is kept.
+    /// Reads the part of a list's image after the header (docs/FORMAT.md, "LIST"): 2^`lg_arr` buckets of which
+    /// `coupon_count` are filled, or only the filled buckets if `compact`. Gaps between filled buckets are closed, and
+    /// the order is kept.
     ///
-    /// `lg_arr` is at most 26. Fails with `Count`, `Truncated` or `Coupon` where that fault stands, in the
-    /// order of checks, or else with `Memory`. Takes memory only once the bytes are known to be there.
+    /// `lg_arr` is at most 26. Fails with `Count`, `Truncated` or `Coupon` for the first check that fails, and with
+    /// `Memory` if an allocation fails. Allocates only after checking that the bytes are there.
     pub fn deserialize(
         alloc: A,
         cursor: SketchSlice<'_>,
@@ -107,7 +107,7 @@ impl<A: Allocator> List<A> {
 
     /// Puts a coupon into the first empty bucket, unless the list has it.
     ///
-    /// Its value is at least 1, and a bucket is free if the list doesn't have it.
+    /// Its value is at least 1. If the list doesn't have it, a bucket is empty.
     pub fn update(&mut self, coupon: Coupon)
         requires valued { 1 ≤ value_of coupon }
         requires room { set.contains (coupons_of self.old) coupon ≡ false → length (coupons_in self.old.buckets) < 2 ^ self.old.lg_size }
@@ -120,10 +120,10 @@ impl<A: Allocator> List<A> {
         self.update_within(coupon, most);
     }
 
-    /// Puts a coupon into the first empty bucket, unless the list has it, or would have more than `most` coupons. Looks at
-    /// each coupon until it is found; takes no memory.
+    /// Puts a coupon into the first empty bucket, unless the list has it already, or would then have more than `most`
+    /// coupons. Looks at each coupon until it is found, and allocates nothing.
     ///
-    /// Its value is at least 1, and `most` is no more than there are buckets.
+    /// Its value is at least 1, and `most` is at most the number of buckets.
     pub fn update_within(&mut self, coupon: Coupon, most: usize) -> Insertion
         requires valued { 1 ≤ value_of coupon }
         requires within { most ≤ 2 ^ self.old.lg_size }
@@ -158,14 +158,15 @@ impl<A: Allocator> List<A> {
         self.container.put(bucket, coupon);
     }
 
-    /// Whether the list has the coupon. Looks at each coupon until it is found; takes no memory.
+    /// Returns whether the list has the coupon. Looks at each coupon until it is found, and allocates nothing.
     pub fn contains(&self, coupon: Coupon) -> bool
         ensures { result ≡ set.contains (coupons_of self.now) coupon }
     {
         self.container.buckets()[..self.container.len()].contains(&coupon)
     }
 
-    /// Whether the list, which has no raw coupon above `greatest`, has the coupon. A greater one is not sought.
+    /// Returns whether the list has the coupon. No raw coupon of the list is above `greatest`, so a greater coupon
+    /// needs no search.
     fn contains_up_to(&self, coupon: Coupon, greatest: u32) -> bool
         requires { (c : ℕ) → set.contains (coupons_of self.now) c ≡ true → c ≤ greatest }
         ensures { result ≡ set.contains (coupons_of self.now) coupon }
@@ -173,7 +174,7 @@ impl<A: Allocator> List<A> {
         coupon.raw() <= greatest && self.contains(coupon)
     }
 
-    /// The buckets.
+    /// Returns the container with the buckets.
     pub fn container(&self) -> &Container<A>
         ensures same { result.now ≡ self.now }
         ensures front { IsFilledFromFront self.now }
@@ -181,9 +182,9 @@ impl<A: Allocator> List<A> {
         &self.container
     }
 
-    /// A copy in memory of this allocator, with the same buckets.
+    /// Returns a copy allocated by `alloc`, with the same buckets.
     ///
-    /// Fails with `Memory`.
+    /// Fails with `Memory` if an allocation fails.
     pub fn clone_in(&self, alloc: A) -> Result<List<A>, Error>
         ensures ok { IfOk result (λ l. l ≡ self.now) }
         ensures err { IfErr result (λ e. e ≡ Memory) }
@@ -195,9 +196,9 @@ impl<A: Allocator> List<A> {
 }
 
 impl<A: Allocator + Clone> List<A> {
-    /// A copy, with the same buckets.
+    /// Returns a copy with the same buckets.
     ///
-    /// Fails with `Memory`.
+    /// Fails with `Memory` if an allocation fails.
     pub fn clone(&self) -> Result<List<A>, Error>
         ensures ok { IfOk result (λ l. l ≡ self.now) }
         ensures err { IfErr result (λ e. e ≡ Memory) }
@@ -205,11 +206,11 @@ impl<A: Allocator + Clone> List<A> {
         self.clone_in(self.container.allocator().clone()?)
     }
 
-    /// The compact image of a list of eight buckets (docs/FORMAT.md, "What is written"): eight bytes, and four for
-    /// each coupon, in ascending order.
+    /// Returns the compact image of a list of eight buckets (docs/FORMAT.md, "What is written"): eight bytes, then four
+    /// for each coupon, in ascending order.
     ///
-    /// `lg_config_k` is 4 to 21, and the list has size 3. Takes memory for a sorted copy of the coupons, and in one
-    /// request for the image. Fails with `Memory`.
+    /// `lg_config_k` is 4 to 21, and the list has size 3. Allocates a sorted copy of the coupons, and the image in one
+    /// request. Fails with `Memory` if an allocation fails.
     pub fn serialize(&self, lg_config_k: u8, hll_type: HllType) -> Result<Vec<u8, A>, Error>
         requires least { 4 ≤ lg_config_k }
         requires most { lg_config_k ≤ 21 }
@@ -223,8 +224,8 @@ impl<A: Allocator + Clone> List<A> {
     }
 }
 
-/// Lists are equal where they hold the same coupons, whatever their sizes and order. Compares by
-/// search, and takes no memory.
+/// Lists are equal if they have the same coupons, whatever their sizes and order. Looks up each coupon, and allocates
+/// nothing.
 impl<A: Allocator> PartialEq for List<A> {
     ghost use Rattle.hll_coupons.specs.Same.{have_same_coupons, have_same_coupons-partial};
 
@@ -243,7 +244,7 @@ impl<A: Allocator> Eq for List<A> {
     ghost laws = { have_same_coupons-equivalence };
 }
 
-/// Whether a list of this size may have this count, and the empty flag says whether it is 0.
+/// Returns whether a list of this size may have this count, and whether the empty flag agrees with the count.
 fn is_list_count(lg_arr: usize, coupon_count: usize, empty: bool) -> bool
     requires { lg_arr ≤ 26 }
     ensures { (compact : Bool) → let h = shape_of_list lg_arr coupon_count empty compact in
@@ -252,7 +253,7 @@ fn is_list_count(lg_arr: usize, coupon_count: usize, empty: bool) -> bool
     coupon_count <= buckets_of(lg_arr) && empty == (coupon_count == 0)
 }
 
-/// How many buckets follow the header.
+/// Returns how many buckets follow the header.
 fn buckets_to_read(lg_arr: usize, coupon_count: usize, empty: bool, compact: bool) -> usize
     requires { lg_arr ≤ 26 }
     ensures { let h = shape_of_list lg_arr coupon_count empty compact in
@@ -267,8 +268,9 @@ fn buckets_to_read(lg_arr: usize, coupon_count: usize, empty: bool, compact: boo
     }
 }
 
-/// Reads buckets into an empty list. `Coupon` where one that has to be a coupon has no value, or comes twice. One above
-/// those before it is not sought among them, as in an image whose coupons ascend.
+/// Reads buckets into an empty list. Fails with `Coupon` if a coupon has no value or occurs twice, or if a bucket of a
+/// compact image is empty. A coupon greater than all before it isn't searched for among them, so an image whose coupons
+/// ascend needs no searches.
 fn read_buckets<A: Allocator>(
     list: &mut List<A>,
     mut cursor: SketchSlice<'_>,
@@ -296,7 +298,7 @@ fn read_buckets<A: Allocator>(
     Ok(())
 }
 
-/// The eight bytes before the coupons of a list.
+/// Returns the eight bytes before the coupons of a list.
 pub(crate) fn list_header(
     lg_config_k: u8,
     hll_type: HllType,

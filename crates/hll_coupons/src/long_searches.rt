@@ -14,10 +14,11 @@ use crate::search::{Key, SHORT, search, search_on, search_within, stride_of};
 use hll_base::error::Error;
 use std::alloc::Allocator;
 
-/// The logarithm of the least number of buckets that a cycle is made for: a block of bits.
+/// The logarithm of the smallest number of buckets that a cycle is made for: one block of bits.
 const LG_LEAST_CYCLE: usize = 6;
 
-/// The cycles that were made while a table is filled, and the steps of long searches since the last of them.
+/// The cycles that were made while a table is filled, and the number of steps of long searches since the last cycle was
+/// made.
 #[derive(Drop)]
 pub(crate) struct LongSearches<A: Allocator> {
     steps: usize,
@@ -25,7 +26,7 @@ pub(crate) struct LongSearches<A: Allocator> {
 }
 
 impl<A: Allocator> LongSearches<A> {
-    /// No steps and no cycles.
+    /// Returns a record with no steps and no cycles.
     pub(crate) fn new(alloc: A) -> LongSearches<A>
         ensures { (lg : ℕ) (buckets : List ℕ) → AreFor lg buckets result }
     {
@@ -35,14 +36,14 @@ impl<A: Allocator> LongSearches<A> {
         }
     }
 
-    /// Whether there are no cycles.
+    /// Returns whether there are no cycles.
     pub(crate) fn are_none(&self) -> bool
         ensures { IsTrue result → (lg : ℕ) (buckets : List ℕ) → AreFor lg buckets self.now }
     {
         self.cycles.is_empty()
     }
 
-    /// Forgets all cycles, as of a table that is no more.
+    /// Forgets all cycles, because their table is gone.
     pub(crate) fn forget(&mut self)
         ensures { (lg : ℕ) (buckets : List ℕ) → AreFor lg buckets self.new }
     {
@@ -50,7 +51,7 @@ impl<A: Allocator> LongSearches<A> {
         self.cycles.clear();
     }
 
-    /// Where the search for an absent key ends, if there is a cycle of its stride.
+    /// Returns the bucket where the search for an absent key ends, if there is a cycle of its stride.
     #[inline(never)]
     fn end_by_cycle(&self, lg_size: usize, key: u32) -> Option<usize>
         requires small { lg_size ≤ 26 }
@@ -66,7 +67,7 @@ impl<A: Allocator> LongSearches<A> {
         None
     }
 
-    /// A bucket of the table is filled.
+    /// Records that a bucket of the table is filled.
     pub(crate) fn fill(&mut self, bucket: usize)
         requires sound { All IsSound self.old.cycles.items }
         requires within { All (λ c. bucket < 2 ^ c.lg_size) self.old.cycles.items }
@@ -77,9 +78,9 @@ impl<A: Allocator> LongSearches<A> {
 }
 
 impl<A: Allocator + Clone> LongSearches<A> {
-    /// The bucket where the search for an absent key ends.
+    /// Returns the bucket where the search for an absent key ends.
     ///
-    /// Takes memory for a cycle where long searches have become expensive. Fails with `Memory`.
+    /// Allocates a cycle when long searches have become expensive. Fails with `Memory` if an allocation fails.
     pub(crate) fn end_of(
         &mut self,
         by: Key,
@@ -108,7 +109,7 @@ impl<A: Allocator + Clone> LongSearches<A> {
         }
     }
 
-    /// The bucket where the search for an absent key ends, without a cycle where memory for one is refused.
+    /// Returns the bucket where the search for an absent key ends. If a cycle can't be allocated, walks the path.
     pub(crate) fn end_or_walk(
         &mut self,
         by: Key,
@@ -133,7 +134,7 @@ impl<A: Allocator + Clone> LongSearches<A> {
         }
     }
 
-    /// As `end_of`, after the first `passed` buckets of the path, where the steps are counted.
+    /// Does what `end_of` does, after the first `passed` buckets of the path, and counts the steps.
     #[inline(never)]
     fn end_of_long(
         &mut self,
@@ -163,7 +164,7 @@ impl<A: Allocator + Clone> LongSearches<A> {
         Ok(bucket)
     }
 
-    /// Makes the cycle of a stride through these buckets, and counts from 0.
+    /// Makes the cycle of a stride through these buckets, and resets the count of steps to 0.
     fn make_cycle(&mut self, lg_size: usize, stride: u32, buckets: &[Coupon]) -> Result<(), Error>
         requires least { 6 ≤ lg_size }
         requires small { lg_size ≤ 26 }
@@ -182,7 +183,7 @@ impl<A: Allocator + Clone> LongSearches<A> {
     }
 }
 
-/// Whether long searches took four steps for each bucket of a table of 64 or more.
+/// Returns whether the table has at least 64 buckets and long searches took at least four steps for each bucket.
 fn are_expensive(steps: usize, lg_size: usize) -> bool
     requires { lg_size ≤ 26 }
     ensures { IsTrue result → 6 ≤ lg_size }
@@ -190,7 +191,7 @@ fn are_expensive(steps: usize, lg_size: usize) -> bool
     lg_size >= LG_LEAST_CYCLE && steps >= 4 << lg_size
 }
 
-/// A bucket is filled in each cycle.
+/// Records in each cycle that a bucket is filled.
 fn fill_each<A: Allocator>(cycles: &mut [Cycle<A>], bucket: usize)
     requires sound { All IsSound cycles.old }
     requires within { All (λ c. bucket < 2 ^ c.lg_size) cycles.old }

@@ -1,6 +1,6 @@
 // SPDX-License-Identifier: Apache-2.0
-//! Coupons that ascend, as they stand in images that are written here, merged in one pass and written without a table
-//! (docs/FORMAT.md, "What is written").
+//! Coupons in ascending order, as in canonical images: merged in one pass, and written without a table (docs/FORMAT.md,
+//! "What is written").
 ghost use Rattle.std.specs.Prelude.{◌≡◌, ℕ, List, ◌*◌, ◌^◌, ◌<◌, ◌≤◌, ◌∷◌, ◌++◌, [], drop, length, IfSome, IfNone, IfOk, IfErr};
 ghost use Rattle.std.specs.FinSet.{union};
 ghost use Rattle.std.specs.List.Sorted.{IsStrictlyIncreasing};
@@ -18,7 +18,8 @@ use hll_base::hll_type::HllType;
 use std::alloc::Allocator;
 use std::marker::Model;
 
-/// Raw coupons that are left to take, four bytes each. Contracts see the list of them. No call takes memory.
+/// An iterator over raw coupons in bytes, four bytes each. Contracts see the list of the raw coupons not yet returned.
+/// No call allocates.
 #[derive(Debug, Drop)]
 pub struct RawCouponIter<'a> {
     bytes: &'a [u8],
@@ -37,7 +38,7 @@ impl<'a> Model for RawCouponIter<'a> {
 }
 
 impl<'a> RawCouponIter<'a> {
-    /// The first `count` raw coupons of some bytes, which are there.
+    /// Returns an iterator over the first `count` raw coupons of `bytes`. The bytes have to be there.
     pub fn new(bytes: &'a [u8], count: usize) -> RawCouponIter<'a>
         requires { 4 * count ≤ length bytes.now }
         ensures { result ≡ raw_coupons count bytes.now }
@@ -45,14 +46,14 @@ impl<'a> RawCouponIter<'a> {
         RawCouponIter { bytes, count }
     }
 
-    /// How many are left.
+    /// Returns the number of raw coupons left.
     pub fn len(&self) -> usize
         ensures { result ≡ length self.now }
     {
         self.count
     }
 
-    /// The first of them.
+    /// Returns the next raw coupon, and keeps it.
     fn first(&self) -> Option<u32>
         ensures some { IfSome result (λ raw_coupon. self.now ≡ raw_coupon ∷ drop 1 self.now) }
         ensures none { IfNone result (self.now ≡ []) }
@@ -64,7 +65,7 @@ impl<'a> RawCouponIter<'a> {
         Some(u32::from_le_bytes([bytes[0], bytes[1], bytes[2], bytes[3]]))
     }
 
-    /// Takes the first of them away.
+    /// Removes the next raw coupon, and returns it.
     pub(crate) fn next(&mut self) -> Option<u32>
         ensures some { IfSome result (λ raw_coupon. self.old ≡ raw_coupon ∷ self.new) }
         ensures none { IfNone result (self.old ≡ []) }
@@ -74,7 +75,7 @@ impl<'a> RawCouponIter<'a> {
         Some(raw_coupon)
     }
 
-    /// Takes a raw coupon away, if it is the first.
+    /// Removes a raw coupon, if it is the next.
     fn pass(&mut self, raw_coupon: u32)
         ensures { self.new ≡ without_first raw_coupon self.old }
     {
@@ -85,7 +86,7 @@ impl<'a> RawCouponIter<'a> {
     }
 }
 
-/// The bytes of the first `count` raw coupons, which are there.
+/// Returns the bytes of the first `count` raw coupons. The bytes have to be there.
 pub fn bytes_of_raw_coupons(bytes: &[u8], count: usize) -> &[u8]
     requires { 4 * count ≤ length bytes.now }
     ensures { result.now ≡ coupon_bytes (raw_coupons count bytes.now) }
@@ -93,9 +94,10 @@ pub fn bytes_of_raw_coupons(bytes: &[u8], count: usize) -> &[u8]
     &bytes[..count * COUPON_SIZE_BYTES]
 }
 
-/// The coupons of two lists that ascend, each once, in ascending order, four bytes each. One pass.
+/// Returns the bytes of the coupons of two ascending lists, merged in ascending order, each once, four bytes each. One
+/// pass.
 ///
-/// Takes four bytes for each coupon of both, in one request. Fails with `Memory`.
+/// Allocates four bytes for each coupon of both lists, in one request. Fails with `Memory` if the allocation fails.
 pub fn union_of_ascending<A: Allocator>(
     alloc: A,
     mut left: RawCouponIter<'_>,
@@ -116,7 +118,7 @@ pub fn union_of_ascending<A: Allocator>(
     Ok(coupons.into_bytes())
 }
 
-/// The lesser of the first raw coupons of two lists, or the one that there is.
+/// Returns the lesser of the next raw coupons of two lists, or the only one that is left.
 fn least_first(left: &RawCouponIter<'_>, right: &RawCouponIter<'_>) -> Option<u32>
     ensures some { IfSome result (λ raw_coupon. IsLeastFirst raw_coupon left.now right.now) }
     ensures none { IfNone result ((left.now ≡ []) × (right.now ≡ [])) }
@@ -128,9 +130,9 @@ fn least_first(left: &RawCouponIter<'_>, right: &RawCouponIter<'_>) -> Option<u3
     }
 }
 
-/// The compact image of a list, of coupons in this order, four bytes each (docs/FORMAT.md, "LIST").
+/// Returns the compact image of a list with the coupons in this order, four bytes each (docs/FORMAT.md, "LIST").
 ///
-/// They are at most eight. Takes memory in one request. Fails with `Memory`.
+/// There are at most eight coupons. Allocates in one request. Fails with `Memory` if the allocation fails.
 pub fn list_image<A: Allocator>(
     alloc: A,
     lg_config_k: u8,
@@ -145,10 +147,10 @@ pub fn list_image<A: Allocator>(
     image_of(alloc, &list_header(lg_config_k, hll_type, count), coupons)
 }
 
-/// The compact image of a set whose table has 2^`lg_size` buckets, of coupons in this order, four bytes each (docs/FORMAT.md,
-/// "SET").
+/// Returns the compact image of a set whose table has 2^`lg_size` buckets, with the coupons in this order, four bytes
+/// each (docs/FORMAT.md, "SET").
 ///
-/// They are fewer than 2^32. Takes memory in one request. Fails with `Memory`.
+/// There are fewer than 2^32 coupons. Allocates in one request. Fails with `Memory` if the allocation fails.
 pub fn set_image<A: Allocator>(
     alloc: A,
     lg_config_k: u8,
@@ -168,9 +170,9 @@ pub fn set_image<A: Allocator>(
     )
 }
 
-/// A header and the bytes of coupons, in one request for memory.
+/// Returns a header followed by the bytes of coupons, allocated in one request.
 ///
-/// Fails with `Memory`.
+/// Fails with `Memory` if the allocation fails.
 fn image_of<A: Allocator>(alloc: A, header: &[u8], coupons: &[u8]) -> Result<Vec<u8, A>, Error>
     ensures ok { IfOk result (λ image. image.items ≡ header.now ++ coupons.now) }
     ensures err { IfErr result (λ e. e ≡ Memory) }

@@ -1,5 +1,5 @@
 // SPDX-License-Identifier: Apache-2.0
-//! Searches through a table of buckets by a key, and entries put where they end (docs/MODEL.md, "Probing").
+//! Searches a table by a key, and puts entries where the searches end (docs/MODEL.md, "Probing").
 ghost use Rattle.std.specs.Prelude.{◌≡◌, ◌%◌, ◌^◌, ◌<◌, ◌≤◌, length, slice_index, slice_set, IfSome, IfNone};
 ghost use Rattle.std.specs.FinSet.{len};
 ghost use Rattle.hll_coupons.specs.Pair.{set_of, value_of};
@@ -22,7 +22,7 @@ pub(crate) enum Key {
 }
 
 impl Key {
-    /// The key of an entry.
+    /// Returns the key of an entry.
     pub(crate) fn of(self, entry: Coupon) -> u32
         ensures { result ≡ key_of self entry }
     {
@@ -33,7 +33,7 @@ impl Key {
     }
 }
 
-/// A bucket modulo 2^`lg_size`.
+/// Returns a bucket's index modulo 2^`lg_size`.
 pub(crate) fn wrapped(lg_size: usize, bucket: usize) -> usize
     requires { lg_size ≤ 26 }
     ensures { result ≡ bucket % 2 ^ lg_size }
@@ -41,7 +41,7 @@ pub(crate) fn wrapped(lg_size: usize, bucket: usize) -> usize
     bucket & ((1 << lg_size) - 1)
 }
 
-/// The stride of a key: the bits of its slot above the table's, made odd.
+/// Returns the stride of a key: the bits of its slot above the `lg_size` low ones, made odd.
 pub(crate) fn stride_of(lg_size: usize, key: u32) -> u32
     requires { lg_size ≤ 26 }
     ensures stride { result ≡ probe.stride_of lg_size key }
@@ -51,14 +51,15 @@ pub(crate) fn stride_of(lg_size: usize, key: u32) -> u32
     Coupon::from_raw(key).slot() >> lg_size | 1
 }
 
-/// As many buckets does a short search look at.
+/// A short search looks at this number of buckets.
 pub(crate) const SHORT: usize = 64;
 
-/// As many does one for an exception. Slots have few bits above the table's, so most searches go to the next bucket, and
-/// filled buckets lie side by side.
+/// A short search for an exception looks at this number of buckets. Slots have few bits above the low ones that index
+/// the table, so most searches go on to the neighboring bucket, and filled buckets cluster.
 pub(crate) const SHORT_BY_SLOT: usize = 256;
 
-/// The first bucket on the path of a key that is empty or filled with the key; none in a table that is full of other keys.
+/// Returns the first bucket on the path of a key that is empty or filled with the key, or `None` if the table is full
+/// of other keys.
 pub(crate) fn search(by: Key, lg_size: usize, buckets: &[Coupon], key: u32) -> Option<usize>
     requires small { lg_size ≤ 26 }
     requires size { length buckets.now ≡ 2 ^ lg_size }
@@ -68,7 +69,7 @@ pub(crate) fn search(by: Key, lg_size: usize, buckets: &[Coupon], key: u32) -> O
     search_within(by, lg_size, buckets, key, buckets.len())
 }
 
-/// The first bucket on the path of a key that is empty or filled with the key, among the first `limit` buckets of the path.
+/// Returns the first bucket, among the first `limit` on the path of a key, that is empty or filled with the key.
 pub(crate) fn search_within(
     by: Key,
     lg_size: usize,
@@ -94,8 +95,8 @@ pub(crate) fn search_within(
     None
 }
 
-/// The first bucket on the path of a key that is empty or filled with the key, after the first `passed` buckets of the path,
-/// with the number of steps from there.
+/// Returns the first bucket on the path of a key that is empty or filled with the key, after the first `passed` buckets
+/// of the path, and the number of steps from there.
 #[inline(never)]
 pub(crate) fn search_on(
     by: Key,
@@ -123,9 +124,9 @@ pub(crate) fn search_on(
     None
 }
 
-/// Puts an entry into the empty bucket where the search for its key ends.
+/// Puts an entry into the empty bucket where the search for its key ends. Returns this bucket.
 ///
-/// Its value is at least 1, its key is absent, and a bucket is empty. Says which bucket it was.
+/// Its value is at least 1, its key is absent, and a bucket is empty.
 pub(crate) fn put_entry<A: Allocator>(table: &mut Container<A>, by: Key, entry: Coupon) -> usize
     requires probed { IsProbed (key_of by) table.old.lg_size table.old.buckets }
     requires valued { 1 ≤ value_of entry }

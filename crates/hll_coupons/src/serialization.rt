@@ -1,28 +1,28 @@
 // SPDX-License-Identifier: Apache-2.0
-//! The constants of tables and of an image, and its mode byte (docs/FORMAT.md, "The image"). Names that begin
-//! with `LG` are logarithms of numbers of buckets, those that end in `PREINTS` count integers of four bytes, those that end
+//! The constants of tables and of an image, and its mode byte (docs/FORMAT.md, "The image"). Names that begin with `LG`
+//! are logarithms of numbers of buckets, those that end in `PREINTS` count integers of four bytes, and those that end
 //! in `SIZE` or `BYTES` count bytes.
 ghost use Rattle.std.specs.Prelude.{◌≡◌, ◌+◌, ◌*◌, ◌/◌, ◌%◌};
 
-/// The buckets of a list: eight.
+/// The logarithm of the number of buckets of a list: eight buckets.
 pub const LG_LIST_BUCKETS: u8 = 3;
 
-/// The buckets of the smallest set: 32.
+/// The logarithm of the number of buckets of the smallest set: 32 buckets.
 pub const LG_LEAST_SET_BUCKETS: u8 = 5;
 
-/// How far the logarithm of the number of buckets of a set stays below the `lg_k`.
+/// The difference between `lg_k` and the logarithm of the number of buckets of the largest set.
 pub const LG_SET_BELOW_LG_K: u8 = 3;
 
-/// The version of the format, the second byte of an image.
+/// The version of the format: the second byte of an image.
 pub const SERIAL_VERSION: u8 = 1;
 
-/// The flag of an image with no coupon.
+/// The flag of an image without coupons.
 pub const EMPTY_FLAG_MASK: u8 = 4;
 
-/// The flag of an image that has coupons, or exceptions, with no empty buckets between them.
+/// The flag of an image that has coupons, or exceptions, without empty buckets between them.
 pub const COMPACT_FLAG_MASK: u8 = 8;
 
-/// The flag of an estimate state that doesn't follow the order of arrival.
+/// The flag that says that the estimate state doesn't reflect the order of arrival.
 pub const OUT_OF_ORDER_FLAG_MASK: u8 = 16;
 
 /// The preamble of a list, in integers of four bytes.
@@ -52,33 +52,33 @@ pub const CUR_MODE_SET: u8 = 1;
 /// The stage of registers in the mode byte.
 pub const CUR_MODE_HLL: u8 = 2;
 
-/// The width of four bits in the mode byte.
+/// The code of 4-bit registers in the mode byte.
 pub const TGT_HLL4: u8 = 0;
 
-/// The width of six bits in the mode byte.
+/// The code of 6-bit registers in the mode byte.
 pub const TGT_HLL6: u8 = 1;
 
-/// The width of eight bits in the mode byte.
+/// The code of 8-bit registers in the mode byte.
 pub const TGT_HLL8: u8 = 2;
 
-/// The bytes of a coupon.
+/// The size of a coupon in bytes.
 pub const COUPON_SIZE_BYTES: usize = 4;
 
-/// The stage in a mode byte, from 0 to 3.
+/// Returns the stage in a mode byte, from 0 to 3.
 pub fn extract_cur_mode(mode_byte: u8) -> u8
     ensures { result ≡ mode_byte % 4 }
 {
     mode_byte & 3
 }
 
-/// The width in a mode byte, from 0 to 3.
+/// Returns the width in a mode byte, from 0 to 3.
 pub fn extract_tgt_hll_type(mode_byte: u8) -> u8
     ensures { result ≡ mode_byte / 4 % 4 }
 {
     mode_byte >> 2 & 3
 }
 
-/// The mode byte of a stage and a width, each modulo 4.
+/// Returns the mode byte of a stage and a width, each modulo 4.
 pub fn encode_mode_byte(cur_mode: u8, tgt_hll_type: u8) -> u8
     ensures { result ≡ cur_mode % 4 + 4 * (tgt_hll_type % 4) }
 {

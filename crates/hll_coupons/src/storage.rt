@@ -1,5 +1,5 @@
 // SPDX-License-Identifier: Apache-2.0
-//! Storage for coupons, in the value itself or in memory of their own.
+//! Storage for coupons: in the value itself, or allocated.
 ghost use Rattle.std.specs.Prelude.{◌≡◌, ◌≢◌, ◌^◌, ◌<◌, ◌≤◌, length, replicate, slice_set, IfOk, IfErr, OnErr};
 ghost use Rattle.hll_base.specs.declared.error.Reason.TheVariants.{Memory};
 ghost use Rattle.hll_coupons.specs.Storage.{buckets_in};
@@ -10,15 +10,16 @@ use hll_base::error::Error;
 use std::alloc::{Allocator, Global};
 use std::fmt;
 
-/// 2^`lg_size` buckets, each empty or filled. Those of a list stand in the value itself.
+/// 2^`lg_size` buckets, each empty or filled. The eight buckets of a list are in the value itself.
 pub(crate) enum Storage<A: Allocator = Global> {
-    /// Eight, which take no memory.
+    /// Eight buckets, which allocate nothing.
     InValue { coupons: [Coupon; 8], alloc: A },
-    /// Any number.
+    /// Any number of buckets.
     Allocated(Vec<Coupon, A>),
 }
 
-/// Written out, and not derived, so that the proof of whatever drops a table calls this and doesn't go through both kinds.
+/// Written out instead of derived. The proof of code that drops a table then uses this contract instead of considering
+/// both variants.
 impl<A: Allocator> Drop for Storage<A> {
     fn drop(self) {
         match self {
@@ -29,7 +30,7 @@ impl<A: Allocator> Drop for Storage<A> {
 }
 
 impl<A: Allocator> Storage<A> {
-    /// Eight empty buckets.
+    /// Returns eight empty buckets.
     pub(crate) fn eight(alloc: A) -> Storage<A>
         ensures { buckets_in result ≡ replicate 8 0 }
     {
@@ -39,9 +40,9 @@ impl<A: Allocator> Storage<A> {
         }
     }
 
-    /// 2^`lg_size` empty buckets.
+    /// Returns 2^`lg_size` empty buckets. Eight buckets allocate nothing.
     ///
-    /// Fails with `Memory`, only if they are not eight.
+    /// Fails with `Memory` if an allocation fails.
     pub(crate) fn new(alloc: A, lg_size: usize) -> Result<Storage<A>, Error>
         requires { lg_size ≤ 26 }
         ensures ok { IfOk result (λ p. buckets_in p ≡ replicate (2 ^ lg_size) 0) }
@@ -54,7 +55,7 @@ impl<A: Allocator> Storage<A> {
         Ok(Storage::Allocated(vec![in alloc; Coupon::EMPTY; 1 << lg_size]?))
     }
 
-    /// The allocator.
+    /// Returns the allocator.
     pub(crate) fn allocator(&self) -> &A {
         match self {
             Storage::InValue { alloc, .. } => alloc,
@@ -62,9 +63,9 @@ impl<A: Allocator> Storage<A> {
         }
     }
 
-    /// A copy, in memory of this allocator.
+    /// Returns a copy allocated by `alloc`.
     ///
-    /// Fails with `Memory`, only if the buckets have memory of their own.
+    /// Fails with `Memory` if the buckets are allocated and an allocation fails.
     pub(crate) fn clone_in(&self, alloc: A) -> Result<Storage<A>, Error>
         ensures ok { IfOk result (λ p. buckets_in p ≡ buckets_in self.now) }
         ensures err { IfErr result (λ e. e ≡ Memory) }
@@ -80,7 +81,7 @@ impl<A: Allocator> Storage<A> {
         }
     }
 
-    /// The buckets.
+    /// Returns the buckets.
     pub(crate) fn as_slice(&self) -> &[Coupon]
         ensures { result.now ≡ buckets_in self.now }
     {
@@ -90,7 +91,7 @@ impl<A: Allocator> Storage<A> {
         }
     }
 
-    /// Empties each bucket.
+    /// Empties all buckets.
     pub(crate) fn clear(&mut self)
         ensures { buckets_in self.new ≡ replicate (length (buckets_in self.old)) 0 }
     {

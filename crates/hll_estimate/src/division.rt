@@ -1,10 +1,11 @@
 // SPDX-License-Identifier: Apache-2.0
-//! Long division, for targets whose runtime library cannot divide 128-bit integers.
+//! Long division, for targets whose runtime library can't divide 128-bit integers.
 ghost use Rattle.std.specs.Prelude.{◌≡◌, ◌*◌, ◌/◌, ◌%◌, ◌<◌, ◌≤◌};
 
-/// The quotient and the remainder of `dividend` by `divisor`, which is not 0.
+/// Returns the quotient and the remainder of `dividend` by `divisor`, which is not 0.
 ///
-/// Takes a division of 64-bit integers for each 31 bits of the quotient, and a step for each bit that these leave.
+/// Does a division of 64-bit integers for each 31 bits of the quotient, and a step for each bit that is left after
+/// these.
 pub fn divide(dividend: u128, divisor: u128) -> (u128, u128)
     requires { 0 < divisor }
     ensures quotient { result.0 ≡ dividend / divisor }
@@ -21,7 +22,7 @@ pub fn divide(dividend: u128, divisor: u128) -> (u128, u128)
     (quotient + last, remainder)
 }
 
-/// How many digits of 31 bits a quotient has, about. No result depends on it.
+/// Returns about how many digits of 31 bits a quotient has. It changes only speed, no result.
 fn digits(dividend: u128, divisor: u128) -> u32 {
     let bits = divisor
         .leading_zeros()
@@ -29,8 +30,8 @@ fn digits(dividend: u128, divisor: u128) -> u32 {
     bits / 31 + 1
 }
 
-/// A number that is at most the quotient and near it: the highest 64 bits of the dividend by the highest 32 of the
-/// divisor.
+/// Returns a number that is at most the quotient and near it: the highest 64 bits of the dividend divided by the
+/// highest 32 bits of the divisor.
 fn trial_quotient(dividend: u128, divisor: u128) -> u128
     requires { 0 < divisor }
     ensures { result * divisor ≤ dividend }
@@ -38,7 +39,7 @@ fn trial_quotient(dividend: u128, divisor: u128) -> u128
     let dropped = 64u32.saturating_sub(dividend.leading_zeros());
     let divisor_dropped = 96u32.saturating_sub(divisor.leading_zeros());
     let high = (dividend >> dropped) as u64;
-    // rounded up, since the quotient must not be too high
+    // rounded up, because the quotient must not be too high
     let divisor_high = ((divisor - 1) >> divisor_dropped) as u64 + 1;
     let digit = u128::from(high / divisor_high);
     if divisor_dropped <= dropped {
@@ -48,7 +49,7 @@ fn trial_quotient(dividend: u128, divisor: u128) -> u128
     }
 }
 
-/// The quotient and the remainder, by a comparison and a subtraction for each bit of the quotient.
+/// Returns the quotient and the remainder, by a comparison and a subtraction for each bit of the quotient.
 fn divide_by_bits(dividend: u128, divisor: u128) -> (u128, u128)
     requires { 0 < divisor }
     ensures quotient { result.0 ≡ dividend / divisor }
@@ -57,7 +58,7 @@ fn divide_by_bits(dividend: u128, divisor: u128) -> (u128, u128)
     if dividend < divisor {
         return (0, dividend);
     }
-    // the highest bits of both are aligned
+    // align the highest bits of both
     let shift = divisor.leading_zeros() - dividend.leading_zeros();
     let mut quotient = 0;
     let mut remainder = dividend;

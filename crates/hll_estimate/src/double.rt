@@ -1,5 +1,5 @@
 // SPDX-License-Identifier: Apache-2.0
-//! An estimate as a number of binary64.
+//! An estimate as a binary64 number.
 ghost use Rattle.std.specs.Prelude.{◌≡◌, ◌+◌, ◌-◌, ◌*◌, ◌^◌, ◌<◌, ◌≤◌, false, IsTrue};
 ghost use Rattle.hll_estimate.specs.Double.{IsDoubleOf, IsNearest};
 
@@ -8,8 +8,8 @@ use crate::estimate::Estimate;
 /// The bits of infinity.
 const INFINITY: u64 = 0x7ff0_0000_0000_0000;
 
-/// Returns the bits of the binary64 number nearest to an estimate. Of two that are as near, it is the one whose last bit
-/// is 0. Infinity is 0x7ff0000000000000.
+/// Returns the bits of the binary64 number nearest to an estimate. If two are equally near, the one whose last bit is
+/// 0. Infinity is 0x7ff0000000000000.
 pub fn nearest_double(estimate: Estimate) -> u64
     ensures { IsDoubleOf result estimate }
 {
@@ -19,7 +19,7 @@ pub fn nearest_double(estimate: Estimate) -> u64
     }
 }
 
-/// The bits of the number nearest to n / 2^32.
+/// Returns the bits of the binary64 number nearest to n / 2^32.
 fn nearest_to(n: u128) -> u64
     ensures { IsNearest result n }
 {
@@ -28,13 +28,13 @@ fn nearest_to(n: u128) -> u64
     }
     let bits = 128 - n.leading_zeros();
     if bits <= 53 {
-        // the highest bit of n goes to bit 52
+        // move the highest bit of n to bit 52
         return bits_of(bits, (n << (53 - bits)) as u64);
     }
     rounded(n, bits)
 }
 
-/// The bits of the number nearest to n / 2^32, for n of more than 53 bits.
+/// Returns the bits of the binary64 number nearest to n / 2^32, for n of more than 53 bits.
 fn rounded(n: u128, bits: u32) -> u64
     requires more { 53 < bits }
     requires most { bits ≤ 128 }
@@ -53,7 +53,7 @@ fn rounded(n: u128, bits: u32) -> u64
     }
 }
 
-/// Whether a number is rounded up: where more than half a unit is dropped, or half a unit of an odd number.
+/// Returns whether to round a number up: if more than half a unit is dropped, or exactly half a unit of an odd number.
 fn rounds_up(rest: u128, half: u128, is_odd: bool) -> bool
     ensures up { IsTrue result → half ≤ rest }
     ensures down { result ≡ false → rest ≤ half }
@@ -62,7 +62,8 @@ fn rounds_up(rest: u128, half: u128, is_odd: bool) -> bool
     if rest == half { is_odd } else { rest > half }
 }
 
-/// The bits of n / 2^32 with all but the 53 highest bits of n dropped: these are `kept`, and n has `bits` bits.
+/// Returns the bits of the binary64 number for n / 2^32 with only the 53 highest bits of n. These are `kept`, and n has
+/// `bits` bits.
 fn bits_of(bits: u32, kept: u64) -> u64
     requires most { bits ≤ 128 }
     requires low { 2 ^ 52 ≤ kept }

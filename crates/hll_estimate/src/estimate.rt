@@ -1,5 +1,6 @@
 // SPDX-License-Identifier: Apache-2.0
-//! The estimate from registers, or from two numbers of them, which `hll_image_info` of C reports too.
+//! The estimate from registers, or from the number of zeros and the sum of weights, which `hll_image_info` of C also
+//! reports.
 ghost use Rattle.std.specs.Prelude.{◌≡◌, ◌↔◌, ◌^◌, ◌<◌, ◌≤◌, All};
 ghost use Rattle.hll_kernels.specs.Packed as packed;
 ghost use Rattle.hll_kernels.specs.Packed.{AreRegisters};
@@ -15,21 +16,23 @@ use hll_kernels::kernels::{count_zeros, units};
 /// 50 / ln 2, in units of 2^-48.
 const FIFTY_OVER_LN_2: u128 = 20304127651739994;
 
-/// An estimate of how many distinct values there were.
+/// An estimate of the number of distinct values.
 #[derive(Clone, Copy, Debug, PartialEq, Eq)]
 pub enum Estimate {
-    /// In units of 2^-32.
+    /// The estimate in units of 2^-32.
     Finite(u128),
-    /// All registers are 63, so there may have been any number.
+    /// All registers are 63, so there may have been any number of values.
     Infinite,
 }
 
-/// Returns the estimate of 2^`lg_k` registers from two numbers of them (docs/NUMBERS.md, "Estimates"; docs/MODEL.md).
+/// Returns the estimate of 2^`lg_k` registers from the number of zeros and the sum of weights (docs/NUMBERS.md,
+/// "Estimates"; docs/MODEL.md).
 ///
-/// `lg_k` is 4 to 21. `zeros` is how many registers are 0, and `units` the sum of 2^(63 - v) over the registers v. The
-/// estimate is 0 where all registers are 0, and infinite where all are 63. Otherwise it is near the exact one, by a part
-/// in 2^40 and a unit of 2^-32, or the number of registers above 0 where that is more. The correction τ for registers
-/// of 63 is left out. The result is the same on every processor. Allocates nothing.
+/// `lg_k` is 4 to 21. `zeros` is the number of registers that are 0, and `units` is the sum of 2^(63 - v) over the
+/// registers v. The estimate is 0 if all registers are 0, and infinite if all are 63. Otherwise it is the number of
+/// registers above 0, if that is greater, or differs from the exact estimate by at most a part in 2^40 and a unit of
+/// 2^-32. The correction τ for registers of 63 is left out. The result is the same on every processor. Allocates
+/// nothing.
 pub fn estimate_of(lg_k: u8, zeros: u32, units: u128) -> Estimate
     requires { AreOfRegisters lg_k zeros units }
     ensures near { IsEstimate lg_k zeros units result }
@@ -61,7 +64,7 @@ pub fn estimate_of_registers(lg_k: u8, registers: &[u8]) -> Estimate
     estimate_of(lg_k, count_zeros(registers) as u32, units(registers))
 }
 
-/// 2^`lg_k`.
+/// Returns 2^`lg_k`.
 fn registers_of(lg_k: u8) -> u32
     requires { lg_k ≤ 21 }
     ensures value { result ≡ 2 ^ lg_k }
@@ -70,7 +73,8 @@ fn registers_of(lg_k: u8) -> u32
     1 << lg_k
 }
 
-/// 1 / ln 2 divided by 1 + e / m, in units of 2^-48. The divisor takes off the bias (docs/NUMBERS.md, "Estimates").
+/// Returns 1 / ln 2 divided by 1 + e / m, in units of 2^-48. The divisor removes the bias (docs/NUMBERS.md,
+/// "Estimates").
 fn twice_alpha(lg_k: u8, zeros: u32) -> u128
     requires most { lg_k ≤ 21 }
     requires some { zeros < 2 ^ lg_k }
@@ -86,7 +90,7 @@ fn twice_alpha(lg_k: u8, zeros: u32) -> u128
     divide(FIFTY_OVER_LN_2 * cube, bias).0
 }
 
-/// The estimate in units of 2^-32, which may be a little below the number of registers above 0.
+/// Returns the estimate in units of 2^-32. It may be a little below the number of registers above 0.
 fn raw_estimate(lg_k: u8, zeros: u32, units: u128) -> u128
     requires { AreBounded lg_k zeros units }
     ensures value { result ≡ raw_estimate_of lg_k zeros units }
@@ -95,6 +99,6 @@ fn raw_estimate(lg_k: u8, zeros: u32, units: u128) -> u128
     let weight = twice_weight(lg_k, zeros, units);
     let dividend = twice_alpha(lg_k, zeros) << (2 * lg_k + 37);
     let (quotient, remainder) = divide(dividend, weight);
-    // ten more bits of the quotient, for which the dividend has no room
+    // ten more bits of the quotient, which would not fit in the dividend
     (quotient << 10) + divide(remainder << 10, weight).0
 }

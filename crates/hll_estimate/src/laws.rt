@@ -1,11 +1,11 @@
 // SPDX-License-Identifier: Apache-2.0
-//! Laws of estimates (docs/NUMBERS.md, "Estimates"). Each is a clause of a function with an empty body, which a caller
-//! that needs it calls.
+//! Laws of estimates (docs/NUMBERS.md, "Estimates"). Each is a clause of a function with an empty body. A caller whose
+//! proof needs the law calls the function.
 ghost use Rattle.hll_estimate.specs.Monotone.{RaisingNeverLowers, UnionNeverBelowParts};
 
-/// Laws of estimates of registers at one `lg_k`:
+/// Laws of estimates of registers with the same `lg_k`:
 ///
-/// - `raising`: where each register is at least another's, so is the estimate.
+/// - `raising`: if each register is at least another's, so is the estimate.
 /// - `union`: the estimate of a union is at least that of each part.
 pub fn estimates()
     ensures raising { RaisingNeverLowers }

@@ -3,7 +3,7 @@
 ghost use Rattle.std.specs.Prelude.{◌≡◌, ◌^◌, ◌<◌, ◌≤◌};
 ghost use Rattle.hll_estimate.specs.FixedPoint.{AreBounded, rho_of, square_of, twice_weight_of};
 
-/// The square of a number below 1, both in units of 2^-96. It is less than two units too low.
+/// Returns the square of a number below 1, both in units of 2^-96. The result is less than two units too low.
 fn square(part: u128) -> u128
     requires { part < 2 ^ 96 }
     ensures value { result ≡ square_of part }
@@ -14,7 +14,7 @@ fn square(part: u128) -> u128
     high * high + ((2 * high * low) >> 48)
 }
 
-/// The first terms of x + 2 x^2 + 4 x^4 + 8 x^8 + .., in units of 2^-96.
+/// Returns the sum of the first `terms` terms of x + 2 x^2 + 4 x^4 + 8 x^8 + .., in units of 2^-96.
 fn rho(part: u128, terms: u8) -> u128
     requires part { part < 2 ^ 96 }
     requires terms { terms ≤ 28 }
@@ -30,9 +30,10 @@ fn rho(part: u128, terms: u8) -> u128
     sum
 }
 
-/// Twice the sum of weights in which registers of 0 are weighed by the series, in units of 2^-63.
+/// Returns twice the sum of weights, in units of 2^-63, with the registers of 0 weighted by the series.
 ///
-/// `zeros` registers are 0, and the weights 2^-v sum to `units` units of 2^-63. At most three parts in 2^42 too low.
+/// `zeros` is the number of registers that are 0, and `units` the sum of the weights 2^-v in units of 2^-63. The result
+/// is at most three parts in 2^42 too low.
 pub(crate) fn twice_weight(lg_k: u8, zeros: u32, units: u128) -> u128
     requires { AreBounded lg_k zeros units }
     ensures value { result ≡ twice_weight_of lg_k zeros units }

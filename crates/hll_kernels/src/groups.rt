@@ -1,5 +1,5 @@
 // SPDX-License-Identifier: Apache-2.0
-//! Registers of six bits: four of them in three bytes (docs/FORMAT.md, "Packed registers").
+//! 6-bit registers: groups of four registers in three bytes (docs/FORMAT.md, "Packed registers").
 ghost use Rattle.std.specs.Prelude.{◌≡◌, ℕ, ◌+◌, ◌-◌, ◌*◌, ◌/◌, ◌%◌, ◌^◌, ◌<◌, ◌≤◌, ◌==◌, [], ◌∷◌, length, map, take, slice_index, slice_set, All, IfOk};
 ghost use Rattle.std.specs.List.{list_all};
 ghost use Rattle.std.specs.Simd.Lanes.{chunk, put_chunk, sum_l, zip2};
@@ -14,20 +14,21 @@ use crate::kernels::{WeightSums, all_zero, block_sums, count_zeros, max_16, max_
 use std::alloc::{AllocError, Allocator};
 use std::simd::prelude::*;
 
-/// The bits of a register of six bits.
+/// The mask of a 6-bit register.
 const FIELD: u32 = 0x3f;
 
-/// The greatest byte before each one of a word whose bits of the register there are 0.
+/// For the byte before each byte of a 32-bit lane: its greatest value whose bits that belong to the register there are
+/// 0.
 const BELOW: [u8; 16] = [
     255, 63, 15, 3, 255, 63, 15, 3, 255, 63, 15, 3, 255, 63, 15, 3,
 ];
 
-/// The bits of each byte of a word that are lower ones of the register there.
+/// For each byte of a 32-bit lane: the mask of the bits that are the low bits of the register there.
 const LOWER: [u8; 16] = [63, 15, 3, 0, 63, 15, 3, 0, 63, 15, 3, 0, 63, 15, 3, 0];
 
 // ---- one group
 
-/// The four registers of a group of three bytes.
+/// Returns the four registers of a group of three bytes.
 pub fn unpack_group(group: [u8; 3]) -> [u8; 4]
     ensures fields { result ≡ group_fields group }
     ensures small { All (λ v. v ≤ 63) result }
@@ -42,7 +43,7 @@ pub fn unpack_group(group: [u8; 3]) -> [u8; 4]
     ]
 }
 
-/// The group of three bytes of four registers, each at most 63.
+/// Returns the group of three bytes that holds four registers, each at most 63.
 pub fn pack_group(registers: [u8; 4]) -> [u8; 3]
     requires { All (λ v. v ≤ 63) registers }
     ensures bytes { result ≡ group_bytes (slice_index registers 0) (slice_index registers 1) (slice_index registers 2) (slice_index registers 3) }
@@ -60,7 +61,7 @@ pub fn pack_group(registers: [u8; 4]) -> [u8; 3]
 
 // ---- one register
 
-/// The register of a slot.
+/// Returns the register of a slot.
 pub fn register_at(groups: &[[u8; 3]], slot: usize) -> u8
     requires { slot < 4 * length groups.now }
     ensures { result ≡ slice_index (registers_in groups.now) slot }
@@ -68,7 +69,7 @@ pub fn register_at(groups: &[[u8; 3]], slot: usize) -> u8
     unpack_group(groups[slot / 4])[slot % 4]
 }
 
-/// Sets the register of a slot to a value of at most 63. The other registers are unchanged.
+/// Sets the register of a slot to a value of at most 63. The other registers don't change.
 pub fn put_register(groups: &mut [[u8; 3]], slot: usize, value: u8)
     requires within { slot < 4 * length groups.old }
     requires small { value ≤ 63 }
@@ -84,7 +85,10 @@ pub fn put_register(groups: &mut [[u8; 3]], slot: usize, value: u8)
 
 // ---- packing
 
-/// The groups of registers. There are a multiple of four, each at most 63. Allocates in one request.
+/// Returns the groups of registers.
+///
+/// The number of registers is a multiple of four, and each is at most 63. Allocates in one request, and fails if the
+/// allocation fails.
 pub fn pack_groups<A: Allocator>(alloc: A, registers: &[u8]) -> Result<Vec<[u8; 3], A>, AllocError>
     requires small { All (λ v. v ≤ 63) registers.now }
     requires whole { length registers.now % 4 ≡ 0 }
@@ -121,7 +125,7 @@ fn pack_one_by_one(groups: &mut [[u8; 3]], registers: &[u8])
     }
 }
 
-/// Writes the groups of sixteen registers from the group `at` on.
+/// Writes the groups of sixteen registers, starting at group `at`.
 fn put_four_groups(groups: &mut [[u8; 3]], at: usize, block: &[u8; 16])
     requires room { at + 4 ≤ length groups.old }
     requires small { All (λ v. v ≤ 63) block.now }
@@ -134,7 +138,7 @@ fn put_four_groups(groups: &mut [[u8; 3]], at: usize, block: &[u8; 16])
     groups[at + 3] = group_of(fourth);
 }
 
-/// The lower three bytes of a number.
+/// Returns the lower three bytes of a number.
 fn group_of(number: u32) -> [u8; 3]
     ensures { result ≡ (number % 256) ∷ (number / 256 % 256) ∷ (number / 65536 % 256) ∷ [] }
 {
@@ -142,7 +146,7 @@ fn group_of(number: u32) -> [u8; 3]
     [low, middle, high]
 }
 
-/// Each four registers as one number, the first in the lowest six bits.
+/// Returns each four registers as one number, the first register in the lowest six bits.
 fn numbers_in(block: &[u8; 16]) -> u32x4
     requires { All (λ v. v ≤ 63) block.now }
     ensures { result ≡ numbers_of block.now }
@@ -167,7 +171,7 @@ fn bytes_in(words: u32x4) -> u8x16
     words.to_le_bytes()
 }
 
-/// The six bits of each word from a bit on.
+/// Returns six bits of each 32-bit lane, starting at bit `from`.
 fn field(words: u32x4, from: u32) -> u32x4
     requires { from ≤ 24 }
     ensures { result ≡ map (λ w. w / 2 ^ from % 64) words }
@@ -177,7 +181,7 @@ fn field(words: u32x4, from: u32) -> u32x4
 
 // ---- maxima
 
-/// Raises each byte to the greater of itself and the register at the same index, in one pass.
+/// Sets each byte of `dst` to the maximum of itself and the register at the same index. One pass.
 pub fn max_groups_into(dst: &mut [u8], groups: &[[u8; 3]])
     requires { length dst.old ≡ 4 * length groups.now }
     ensures { dst.new ≡ join dst.old (registers_in groups.now) }
@@ -185,8 +189,7 @@ pub fn max_groups_into(dst: &mut [u8], groups: &[[u8; 3]])
     max_with_fields(dst, groups.as_flattened());
 }
 
-/// Raises each byte to the greater of itself and the register at the same index, of the bytes of groups, sixteen groups at a
-/// time.
+/// Sets each value to the maximum of itself and the register at the same index, sixteen groups at a time.
 fn max_with_fields(values: &mut [u8], bytes: &[u8])
     requires { 3 * length values.old ≡ 4 * length bytes.now }
     ensures { values.new ≡ join values.old (fields bytes.now) }
@@ -198,8 +201,7 @@ fn max_with_fields(values: &mut [u8], bytes: &[u8])
     max_one_by_one(&mut values[64 * blocks.len()..], rest);
 }
 
-/// Raises each byte to the greater of itself and the register at the same index, of the bytes of groups, one group after the
-/// other.
+/// Sets each value to the maximum of itself and the register at the same index, one group after the other.
 fn max_one_by_one(values: &mut [u8], bytes: &[u8])
     requires { 3 * length values.old ≡ 4 * length bytes.now }
     ensures { values.new ≡ join values.old (fields bytes.now) }
@@ -210,7 +212,7 @@ fn max_one_by_one(values: &mut [u8], bytes: &[u8])
     }
 }
 
-/// Raises the four bytes from `at` on to the registers of a group.
+/// Sets the four values from `at` on to the maximum of themselves and the registers of a group.
 fn max_with_group(values: &mut [u8], at: usize, group: [u8; 3])
     requires { at + 4 ≤ length values.old }
     ensures { values.new ≡ max_at at values.old (fields group) }
@@ -222,7 +224,7 @@ fn max_with_group(values: &mut [u8], at: usize, group: [u8; 3])
     max_one(values, at + 3, fourth);
 }
 
-/// Raises the 64 bytes from `at` on to the registers of sixteen groups.
+/// Sets the 64 values from `at` on to the maximum of themselves and the registers of sixteen groups.
 fn max_with_block(values: &mut [u8], at: usize, block: &[u8; 48])
     requires { at + 64 ≤ length values.old }
     ensures { values.new ≡ max_at at values.old (fields block.now) }
@@ -233,7 +235,7 @@ fn max_with_block(values: &mut [u8], at: usize, block: &[u8; 48])
     max_16(values, at + 48, last_fields(block));
 }
 
-/// The registers of the four groups from byte `at` on.
+/// Returns the registers of the four groups from byte `at` on.
 fn fields_at(block: &[u8; 48], at: usize) -> u8x16
     requires { at ≤ 32 }
     ensures { result ≡ fields (chunk at 12 block.now) }
@@ -241,14 +243,14 @@ fn fields_at(block: &[u8; 48], at: usize) -> u8x16
     spread(words_at(block, at))
 }
 
-/// The registers of the last four groups.
+/// Returns the registers of the last four groups.
 fn last_fields(block: &[u8; 48]) -> u8x16
     ensures { result ≡ fields (chunk 36 12 block.now) }
 {
     spread(last_words(block))
 }
 
-/// The four groups from byte `at` on, each with a fourth byte.
+/// Returns the four groups from byte `at` on, each followed by a fourth byte.
 fn words_at(block: &[u8; 48], at: usize) -> u8x16
     requires { at ≤ 32 }
     ensures { fields_of result ≡ fields (chunk at 12 block.now) }
@@ -257,7 +259,7 @@ fn words_at(block: &[u8; 48], at: usize) -> u8x16
     bytes.swizzle([0, 1, 2, 2, 3, 4, 5, 5, 6, 7, 8, 8, 9, 10, 11, 11])
 }
 
-/// The last four groups, each with a fourth byte.
+/// Returns the last four groups, each followed by a fourth byte.
 fn last_words(block: &[u8; 48]) -> u8x16
     ensures { fields_of result ≡ fields (chunk 36 12 block.now) }
 {
@@ -265,7 +267,7 @@ fn last_words(block: &[u8; 48]) -> u8x16
     bytes.swizzle([4, 5, 6, 6, 7, 8, 9, 9, 10, 11, 12, 12, 13, 14, 15, 15])
 }
 
-/// The registers in the first three of each four bytes. The fourth may be any byte.
+/// Returns the registers that are in the first three of each four bytes. The fourth may be any byte.
 fn spread(bytes: u8x16) -> u8x16
     ensures { result ≡ fields_of bytes }
 {
@@ -277,7 +279,7 @@ fn spread(bytes: u8x16) -> u8x16
 
 // ---- zeros and weights
 
-/// Whether all registers are 0.
+/// Returns whether all registers are 0.
 pub fn all_zero_in(groups: &[[u8; 3]]) -> bool
     requires { All IsGroup groups.now }
     ensures { result ≡ list_all (λ v. v == 0) (registers_in groups.now) }
@@ -285,7 +287,7 @@ pub fn all_zero_in(groups: &[[u8; 3]]) -> bool
     all_zero(groups.as_flattened())
 }
 
-/// How many registers are 0. One pass over at most 2^19 groups.
+/// Returns the number of registers that are 0. One pass over at most 2^19 groups.
 pub fn count_zeros_in(groups: &[[u8; 3]]) -> usize
     requires { length groups.now ≤ 2 ^ 19 }
     ensures count { result ≡ zeros (registers_in groups.now) }
@@ -294,7 +296,7 @@ pub fn count_zeros_in(groups: &[[u8; 3]]) -> usize
     zero_fields(groups.as_flattened())
 }
 
-/// How many registers in the bytes of groups are 0, sixteen groups at a time.
+/// Returns the number of registers that are 0 in the bytes of groups, sixteen groups at a time.
 fn zero_fields(bytes: &[u8]) -> usize
     requires whole { length bytes.now % 3 ≡ 0 }
     requires few { length bytes.now ≤ 3 * 2 ^ 19 }
@@ -308,7 +310,7 @@ fn zero_fields(bytes: &[u8]) -> usize
     count + zero_fields_one_by_one(rest)
 }
 
-/// How many registers of less than sixteen groups are 0.
+/// Returns the number of registers that are 0 in at most 15 groups.
 fn zero_fields_one_by_one(bytes: &[u8]) -> usize
     requires whole { length bytes.now % 3 ≡ 0 }
     requires few { length bytes.now < 48 }
@@ -319,7 +321,7 @@ fn zero_fields_one_by_one(bytes: &[u8]) -> usize
     count_zeros(&registers[..bytes.len() / 3 * 4])
 }
 
-/// How many registers of sixteen groups are 0.
+/// Returns the number of registers that are 0 in sixteen groups.
 fn zero_fields_in(block: &[u8; 48]) -> u32
     ensures count { result ≡ zeros (fields block.now) }
     ensures bound { result ≤ 64 }
@@ -332,10 +334,11 @@ fn zero_fields_in(block: &[u8; 48]) -> u32
     64 - u32::from(lane_sum(nonzeros))
 }
 
-/// 1 in the lane of each register that is not 0, of those in the first three of each four bytes. The fourth may be any byte.
+/// Returns lanes of 1 for registers that are not 0, and of 0 for the others. The registers are in the first three of
+/// each four bytes. The fourth may be any byte.
 ///
-/// Each lane stands for one register: that is 0 where its lower bits are, in the byte of the lane, and its upper bits, in
-/// the byte before.
+/// Each lane stands for one register. The register is 0 if its low bits, which are in the byte of the lane, are 0, and
+/// its high bits, which are in the byte before, are 0 as well.
 #[inline(always)]
 fn nonzero_fields(bytes: u8x16) -> u8x16
     ensures { sum_l result + zeros (fields_of bytes) ≡ 16 }
@@ -346,7 +349,7 @@ fn nonzero_fields(bytes: u8x16) -> u8x16
     (upper | lower).simd_min(u8x16::splat(1))
 }
 
-/// Each byte less the other at the same index, and 0 where that is greater.
+/// Returns the difference of the bytes at each index, or 0 if the second is greater.
 #[inline(always)]
 fn saturating_difference(bytes: u8x16, others: u8x16) -> u8x16
     ensures { result ≡ zip2 (λ a b. a - b) bytes others }
@@ -354,7 +357,7 @@ fn saturating_difference(bytes: u8x16, others: u8x16) -> u8x16
     bytes.saturating_sub(others)
 }
 
-/// The sums of lanes at the same index.
+/// Returns the sums of lanes at the same index.
 #[inline(always)]
 fn added(lanes: u8x16, others: u8x16) -> u8x16
     requires { sum_l lanes + sum_l others < 256 }
@@ -363,7 +366,7 @@ fn added(lanes: u8x16, others: u8x16) -> u8x16
     lanes.strict_add(others)
 }
 
-/// The sum of the lanes, which a byte can hold.
+/// Returns the sum of the lanes. It has to fit a byte.
 #[inline(always)]
 fn lane_sum(lanes: u8x16) -> u8
     requires { sum_l lanes < 256 }
@@ -372,7 +375,7 @@ fn lane_sum(lanes: u8x16) -> u8
     lanes.strict_reduce_sum()
 }
 
-/// The sums of 2^-v over the registers v. One pass over at most 2^19 groups.
+/// Returns the sums of 2^-v over the registers v. One pass over at most 2^19 groups.
 pub fn weight_sums_in(groups: &[[u8; 3]]) -> WeightSums
     requires { length groups.now ≤ 2 ^ 19 }
     ensures { AreSumsOf result (registers_in groups.now) }
@@ -380,7 +383,7 @@ pub fn weight_sums_in(groups: &[[u8; 3]]) -> WeightSums
     field_sums(groups.as_flattened())
 }
 
-/// The sums of the weights of the registers in the bytes of groups, sixteen groups at a time.
+/// Returns the sums of the weights of registers in the bytes of groups, sixteen groups at a time.
 fn field_sums(bytes: &[u8]) -> WeightSums
     requires whole { length bytes.now % 3 ≡ 0 }
     requires few { length bytes.now ≤ 3 * 2 ^ 19 }
@@ -394,14 +397,14 @@ fn field_sums(bytes: &[u8]) -> WeightSums
     sums.plus(field_sums_one_by_one(rest))
 }
 
-/// The sums of the weights of the registers of sixteen groups.
+/// Returns the sums of the weights of the registers of sixteen groups.
 fn field_sums_in(block: &[u8; 48]) -> WeightSums
     ensures { AreSumsOf result (fields block.now) }
 {
     block_sums(&unpacked_block(block))
 }
 
-/// The sums of the weights of the registers of less than sixteen groups.
+/// Returns the sums of the weights of the registers of at most 15 groups.
 fn field_sums_one_by_one(bytes: &[u8]) -> WeightSums
     requires whole { length bytes.now % 3 ≡ 0 }
     requires few { length bytes.now < 48 }
@@ -411,7 +414,7 @@ fn field_sums_one_by_one(bytes: &[u8]) -> WeightSums
     weight_sums(&registers[..bytes.len() / 3 * 4])
 }
 
-/// The registers of sixteen groups.
+/// Returns the registers of sixteen groups.
 fn unpacked_block(block: &[u8; 48]) -> [u8; 64]
     ensures { result ≡ fields block.now }
 {
@@ -420,7 +423,7 @@ fn unpacked_block(block: &[u8; 48]) -> [u8; 64]
     registers
 }
 
-/// The registers of less than sixteen groups, with zeros after them.
+/// Returns the registers of at most 15 groups, followed by zeros.
 fn unpacked(bytes: &[u8]) -> [u8; 64]
     requires whole { length bytes.now % 3 ≡ 0 }
     requires few { length bytes.now < 48 }
@@ -431,7 +434,7 @@ fn unpacked(bytes: &[u8]) -> [u8; 64]
     registers
 }
 
-/// The groups that bytes hold, as they stand there. Up to two bytes at the end, which fill none, are left out.
+/// Returns the groups in `bytes`, borrowed. One or two bytes left at the end, too few for a group, are ignored.
 pub fn groups_in(bytes: &[u8]) -> &[[u8; 3]]
     ensures registers { registers_in result.now ≡ packed.fields bytes.now }
     ensures groups { All IsGroup result.now }

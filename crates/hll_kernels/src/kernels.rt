@@ -1,6 +1,6 @@
 // SPDX-License-Identifier: Apache-2.0
-//! Loops over the bytes of registers, by lanes, and byte by byte where less than a block is left. None of them takes
-//! memory.
+//! Loops over the bytes of registers: with SIMD lanes, and byte by byte for what is left after the last full block.
+//! None of them allocates.
 ghost use Rattle.std.specs.Prelude.{◌≡◌, ℕ, ◌+◌, ◌-◌, ◌*◌, ◌/◌, ◌%◌, ◌^◌, ◌<◌, ◌≤◌, ◌==◌, nat_le, nat_lt, not, [], ◌∷◌, length, map, slice_index, All};
 ghost use Rattle.std.specs.List.{list_all};
 ghost use Rattle.std.specs.Simd.Lanes.{mask_l, sum_l};
@@ -27,9 +27,9 @@ const LOWER_BYTES: [u8; 64] = [
     64, 32, 16, 8, 4, 2, 1,
 ];
 
-/// Raises each byte of `dst` to the greater of itself and the byte of `src` at the same index.
+/// Sets each byte of `dst` to the maximum of itself and the byte of `src` at the same index.
 ///
-/// Both have the same length. One pass; takes no memory.
+/// Both have the same length. One pass; allocates nothing.
 pub fn max_into(dst: &mut [u8], src: &[u8])
     requires { length dst.old ≡ length src.now }
     ensures joined { dst.new ≡ join dst.old src.now }
@@ -42,7 +42,7 @@ pub fn max_into(dst: &mut [u8], src: &[u8])
     max_one_by_one(&mut dst[64 * blocks.len()..], rest);
 }
 
-/// Raises the 64 bytes from `at` on to those of a block.
+/// Sets the 64 bytes from `at` on to the maximum of themselves and the bytes of a block.
 fn max_64(dst: &mut [u8], at: usize, block: &[u8; 64])
     requires { at + 64 ≤ length dst.old }
     ensures { dst.new ≡ max_at at dst.old block.now }
@@ -52,7 +52,7 @@ fn max_64(dst: &mut [u8], at: usize, block: &[u8; 64])
     raised.copy_to_slice(&mut dst[at..]);
 }
 
-/// Raises the sixteen bytes from `at` on to the lanes.
+/// Sets the sixteen bytes from `at` on to the maximum of themselves and the lanes.
 pub(crate) fn max_16(dst: &mut [u8], at: usize, lanes: u8x16)
     requires { at + 16 ≤ length dst.old }
     ensures { dst.new ≡ max_at at dst.old lanes }
@@ -61,7 +61,7 @@ pub(crate) fn max_16(dst: &mut [u8], at: usize, lanes: u8x16)
     old.simd_max(lanes).copy_to_slice(&mut dst[at..]);
 }
 
-/// Raises the byte at `at`.
+/// Sets the byte at `at` to the maximum of itself and `value`.
 pub(crate) fn max_one(dst: &mut [u8], at: usize, value: u8)
     requires { at < length dst.old }
     ensures { dst.new ≡ max_at at dst.old (value ∷ []) }
@@ -69,7 +69,7 @@ pub(crate) fn max_one(dst: &mut [u8], at: usize, value: u8)
     dst[at] = dst[at].max(value);
 }
 
-/// Raises each byte to that of `src` at the same index, one after the other.
+/// Sets each byte of `dst` to the maximum of itself and the byte of `src` at the same index, one after the other.
 fn max_one_by_one(dst: &mut [u8], src: &[u8])
     requires { length dst.old ≡ length src.now }
     ensures { dst.new ≡ join dst.old src.now }
@@ -79,7 +79,7 @@ fn max_one_by_one(dst: &mut [u8], src: &[u8])
     }
 }
 
-/// How many bytes are 0. One pass; takes no memory.
+/// Returns the number of bytes that are 0. One pass; allocates nothing.
 pub fn count_zeros(bytes: &[u8]) -> usize
     ensures zeros { result ≡ zeros bytes.now }
     ensures bound { result ≤ length bytes.now }
@@ -92,8 +92,8 @@ pub fn count_zeros(bytes: &[u8]) -> usize
     count + zeros_one_by_one(rest)
 }
 
-/// How many bytes of a block are 0.
-// (128 less a sum by lanes, where the bits of masks would be counted word by word)
+/// Returns the number of bytes of a block that are 0.
+// (128 minus a sum of lanes; masks would be counted one after the other)
 fn zeros_in(block: &[u8; 128]) -> usize
     ensures { result ≡ zeros block.now }
 {
@@ -102,7 +102,7 @@ fn zeros_in(block: &[u8; 128]) -> usize
     usize::from(128 - sum_of_both(first, second))
 }
 
-/// 1 in each lane that is not 0.
+/// Returns lanes of 1 for the lanes that are not 0, and of 0 for the others.
 #[inline(always)]
 fn nonzero_lanes(bytes: u8x64) -> u8x64
     ensures count { sum_l result + zeros bytes ≡ 64 }
@@ -111,7 +111,7 @@ fn nonzero_lanes(bytes: u8x64) -> u8x64
     bytes.simd_min(u8x64::splat(1))
 }
 
-/// The sum of all lanes, which a byte can hold.
+/// Returns the sum of all lanes of both. It has to fit a byte.
 #[inline(always)]
 fn sum_of_both(first: u8x64, second: u8x64) -> u8
     requires lanes { length first ≡ length second }
@@ -121,7 +121,7 @@ fn sum_of_both(first: u8x64, second: u8x64) -> u8
     first.strict_add(second).strict_reduce_sum()
 }
 
-/// How many bytes are 0, counted one after the other.
+/// Returns the number of bytes that are 0, counted one after the other.
 fn zeros_one_by_one(bytes: &[u8]) -> usize
     ensures { result ≡ zeros bytes.now }
 {
@@ -134,7 +134,7 @@ fn zeros_one_by_one(bytes: &[u8]) -> usize
     count
 }
 
-/// The least of registers. One pass.
+/// Returns the least of some registers. One pass.
 pub fn least_of(values: &[u8]) -> u8
     ensures { result ≡ packed.minimum values.now }
 {
@@ -145,7 +145,7 @@ pub fn least_of(values: &[u8]) -> u8
     least
 }
 
-/// The greatest of bytes, 0 where there are none. One pass.
+/// Returns the greatest of some bytes, or 0 if there are none. One pass.
 pub fn greatest_of(bytes: &[u8]) -> u8
     ensures { (bound : ℕ) → list_all (λ b. nat_le b bound) bytes.now ≡ nat_le result bound }
 {
@@ -157,7 +157,7 @@ pub fn greatest_of(bytes: &[u8]) -> u8
     greatest_one_by_one(&lanes.to_array()).max(greatest_one_by_one(rest))
 }
 
-/// The greatest of bytes, compared one after the other.
+/// Returns the greatest of bytes, compared one after the other.
 fn greatest_one_by_one(bytes: &[u8]) -> u8
     ensures { (bound : ℕ) → list_all (λ b. nat_le b bound) bytes.now ≡ nat_le result bound }
 {
@@ -168,7 +168,7 @@ fn greatest_one_by_one(bytes: &[u8]) -> u8
     greatest
 }
 
-/// Whether each byte of a block is below a bound.
+/// Returns whether each byte of a block is below a bound.
 #[inline(always)]
 pub fn are_below(block: &[u8; 64], bound: u8) -> bool
     ensures { result ≡ list_all (λ v. nat_lt v bound) block.now }
@@ -179,7 +179,7 @@ pub fn are_below(block: &[u8; 64], bound: u8) -> bool
         == 0
 }
 
-/// Whether all bytes are 0. Stops at the first block that has another; takes no memory.
+/// Returns whether all bytes are 0. Stops at the first block with another byte; allocates nothing.
 pub fn all_zero(bytes: &[u8]) -> bool
     ensures { result ≡ list_all (λ b. b == 0) bytes.now }
 {
@@ -192,14 +192,14 @@ pub fn all_zero(bytes: &[u8]) -> bool
     all_zero_one_by_one(rest)
 }
 
-/// Whether all bytes are 0, one after the other.
+/// Returns whether all bytes are 0, looking at one after the other.
 fn all_zero_one_by_one(bytes: &[u8]) -> bool
     ensures { result ≡ list_all (λ b. b == 0) bytes.now }
 {
     bytes.iter().all(|byte| *byte == 0)
 }
 
-/// A bit for each byte of a block, set where it is not 0.
+/// Returns a bit for each byte of a block, set if the byte is not 0.
 fn nonzeros_in(block: &[u8; 64]) -> u64
     ensures { result ≡ mask_l (map (λ b. not (b == 0)) block.now) }
 {
@@ -211,21 +211,21 @@ fn nonzeros_in(block: &[u8; 64]) -> u64
 /// The sum of 2^-v over registers v, in two parts. Over 2^21 registers each part is at most 2^52.
 #[derive(Clone, Copy, Debug, PartialEq, Eq)]
 pub struct WeightSums {
-    /// Over the registers below 32, in units of 2^-31.
+    /// The sum over the registers below 32, in units of 2^-31.
     pub low: u64,
-    /// Over the registers from 32 on, in units of 2^-63.
+    /// The sum over the registers from 32 on, in units of 2^-63.
     pub high: u64,
 }
 
 impl WeightSums {
-    /// The sum of both parts, in units of 2^-63.
+    /// Returns the sum of both parts, in units of 2^-63.
     pub fn units(self) -> u128
         ensures { result ≡ 2 ^ 32 * self.low + self.high }
     {
         (u128::from(self.low) << 32) + u128::from(self.high)
     }
 
-    /// The sums over these registers and others.
+    /// Returns the sums over the registers of both.
     pub fn plus(self, others: WeightSums) -> WeightSums
         requires low { self.low + others.low < 2 ^ 64 }
         requires high { self.high + others.high < 2 ^ 64 }
@@ -239,9 +239,9 @@ impl WeightSums {
     }
 }
 
-/// The sums of 2^-v over the bytes v.
+/// Returns the sums of 2^-v over the bytes v.
 ///
-/// There are at most 2^21 bytes, each at most 63. One pass, by blocks of 64; takes no memory.
+/// There are at most 2^21 bytes, each at most 63. One pass, by blocks of 64; allocates nothing.
 pub fn weight_sums(bytes: &[u8]) -> WeightSums
     requires small { All (λ v. v ≤ 63) bytes.now }
     requires few { length bytes.now ≤ 2 ^ 21 }
@@ -255,9 +255,9 @@ pub fn weight_sums(bytes: &[u8]) -> WeightSums
     sums.plus(weight_sums_one_by_one(rest))
 }
 
-/// The sum of 2^-v over the bytes v, in units of 2^-63.
+/// Returns the sum of 2^-v over the bytes v, in units of 2^-63.
 ///
-/// There are at most 2^21 bytes, each at most 63. One pass; takes no memory.
+/// There are at most 2^21 bytes, each at most 63. One pass; allocates nothing.
 pub fn units(bytes: &[u8]) -> u128
     requires small { All (λ v. v ≤ 63) bytes.now }
     requires few { length bytes.now ≤ 2 ^ 21 }
@@ -267,9 +267,9 @@ pub fn units(bytes: &[u8]) -> u128
     weight_sums(bytes).units()
 }
 
-/// The sums of 2^-v over the bytes v of a block, each at most 63.
+/// Returns the sums of 2^-v over the bytes v of a block, each at most 63.
 ///
-/// Most blocks have no value above 15.
+/// In most blocks no value is above 15.
 #[inline(always)]
 pub(crate) fn block_sums(block: &[u8; 64]) -> WeightSums
     requires { All (λ v. v ≤ 63) block.now }
@@ -281,7 +281,7 @@ pub(crate) fn block_sums(block: &[u8; 64]) -> WeightSums
     block_sums_above_least(block)
 }
 
-/// The sums over a block, by the differences from its least value where they are below 16.
+/// Returns the sums over a block. Works on the differences from its least value if they are below 16.
 #[inline(never)]
 fn block_sums_above_least(block: &[u8; 64]) -> WeightSums
     requires { All (λ v. v ≤ 63) block.now }
@@ -295,7 +295,7 @@ fn block_sums_above_least(block: &[u8; 64]) -> WeightSums
     block_sums_by_windows(block)
 }
 
-/// The sums over a block, by four windows of sixteen values.
+/// Returns the sums over a block, in four windows of sixteen values.
 #[inline(never)]
 fn block_sums_by_windows(block: &[u8; 64]) -> WeightSums
     requires { All (λ v. v ≤ 63) block.now }
@@ -307,7 +307,7 @@ fn block_sums_by_windows(block: &[u8; 64]) -> WeightSums
     }
 }
 
-/// The sum of 2^(31 - d) over the bytes of a block that are `from + d`, for d below 32.
+/// Returns the sum of 2^(31 - d) over those bytes of a block that are `from + d` for a d below 32.
 fn half_sum(block: &[u8; 64], from: u8) -> u64
     requires { from ≤ 32 }
     ensures { result ≡ 65536 * window_units (map (λ v. (v + (256 - from)) % 256) block.now) + window_units (map (λ v. (v + (256 - (from + 16))) % 256) block.now) }
@@ -317,7 +317,7 @@ fn half_sum(block: &[u8; 64], from: u8) -> u64
     (u64::from(window_sum(first)) << 16) + u64::from(window_sum(second))
 }
 
-/// By how much each byte of a block is above `least`. The difference wraps where a byte is less.
+/// Returns the difference of each byte of a block and `least`. It wraps if the byte is less.
 #[inline(always)]
 fn differences(block: &[u8; 64], least: u8) -> [u8; 64]
     ensures { result ≡ map (λ v. (v + (256 - least)) % 256) block.now }
@@ -325,7 +325,7 @@ fn differences(block: &[u8; 64], least: u8) -> [u8; 64]
     (u8x64::from_array(*block) - u8x64::splat(least)).to_array()
 }
 
-/// The sums of 2^-(least + d) over the bytes d of a block, each at most 15.
+/// Returns the sums of 2^-(least + d) over the bytes d of a block, each at most 15.
 pub(crate) fn shifted_sums(differences: &[u8; 64], least: u8) -> WeightSums
     requires small { All (λ d. d < 16) differences.now }
     requires least { least ≤ 16 }
@@ -339,7 +339,7 @@ pub(crate) fn shifted_sums(differences: &[u8; 64], least: u8) -> WeightSums
     }
 }
 
-/// By how much each byte of a block is above `from`, where that is below 16, and bytes of at least 128 for the others.
+/// Returns the difference of each byte of a block and `from` if it is 0 to 15, and a byte of at least 128 otherwise.
 #[inline(always)]
 fn indices_above(block: &[u8; 64], from: u8) -> u8x64
     ensures units { window_units result ≡ window_units (map (λ v. (v + (256 - from)) % 256) block.now) }
@@ -349,7 +349,7 @@ fn indices_above(block: &[u8; 64], from: u8) -> u8x64
     ((values + u8x64::splat(112)) | values) & u8x64::splat(143)
 }
 
-/// The sum of 2^(15 - v) over the lanes v below 16. The others are at least 128.
+/// Returns the sum of 2^(15 - v) over the lanes v below 16. All other lanes are at least 128.
 fn window_sum(values: u8x64) -> u32
     requires { All IsIndex values }
     ensures units { result ≡ window_units values }
@@ -360,7 +360,7 @@ fn window_sum(values: u8x64) -> u32
     lane_sum((upper << u32x16::splat(8)) + lower)
 }
 
-/// The upper byte of 2^(15 - v) for each lane v below 16, and 0 for the others, which are at least 128.
+/// Returns the upper byte of 2^(15 - v) for each lane v below 16, and 0 for the other lanes, which are at least 128.
 fn upper_bytes(values: u8x64) -> u8x64
     requires { All IsIndex values }
     ensures { result ≡ map (λ v. window_weight v / 256) values }
@@ -368,7 +368,7 @@ fn upper_bytes(values: u8x64) -> u8x64
     u8x64::from_array(UPPER_BYTES).swizzle_dyn_within::<16>(values)
 }
 
-/// The lower byte of 2^(15 - v) for each lane v below 16, and 0 for the others, which are at least 128.
+/// Returns the lower byte of 2^(15 - v) for each lane v below 16, and 0 for the other lanes, which are at least 128.
 fn lower_bytes(values: u8x64) -> u8x64
     requires { All IsIndex values }
     ensures { result ≡ map (λ v. window_weight v % 256) values }
@@ -376,7 +376,7 @@ fn lower_bytes(values: u8x64) -> u8x64
     u8x64::from_array(LOWER_BYTES).swizzle_dyn_within::<16>(values)
 }
 
-/// The sum of the bytes, in sixteen parts.
+/// Returns the sum of the bytes, in sixteen parts.
 fn byte_sums(bytes: u8x64) -> u32x16
     ensures sum { sum_l result ≡ sum_l bytes }
     ensures lanes { length result ≡ 16 }
@@ -384,7 +384,7 @@ fn byte_sums(bytes: u8x64) -> u32x16
     bytes.dot4(u8x64::splat(1))
 }
 
-/// The sum of the lanes.
+/// Returns the sum of the lanes.
 fn lane_sum(lanes: u32x16) -> u32
     requires { sum_l lanes < 2 ^ 32 }
     ensures { result ≡ sum_l lanes }
@@ -392,7 +392,7 @@ fn lane_sum(lanes: u32x16) -> u32
     lanes.strict_reduce_sum()
 }
 
-/// The sums of 2^-v over less than 64 bytes v, one after the other.
+/// Returns the sums of 2^-v over at most 63 bytes v, one after the other.
 fn weight_sums_one_by_one(bytes: &[u8]) -> WeightSums
     requires small { All (λ v. v ≤ 63) bytes.now }
     requires few { length bytes.now < 64 }
@@ -405,7 +405,7 @@ fn weight_sums_one_by_one(bytes: &[u8]) -> WeightSums
     sums
 }
 
-/// 2^-v for one value v.
+/// Returns 2^-v for one value v.
 fn value_sums(value: u8) -> WeightSums
     requires { value ≤ 63 }
     ensures { AreSumsOf result (value ∷ []) }

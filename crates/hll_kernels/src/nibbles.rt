@@ -1,6 +1,6 @@
 // SPDX-License-Identifier: Apache-2.0
-//! Registers of four bits: how far each is above a minimum, two of them in a byte, where 15 marks a register that is kept
-//! elsewhere (docs/FORMAT.md, "Packed registers").
+//! 4-bit registers: two in each byte, each the height of a register above a minimum. 15 marks an exception, a register
+//! that is kept elsewhere (docs/FORMAT.md, "Packed registers").
 ghost use Rattle.std.specs.Prelude.{◌≡◌, ℕ, ◌+◌, ◌-◌, ◌*◌, ◌/◌, ◌%◌, ◌^◌, ◌<◌, ◌≤◌, ◌==◌, ◌⊎◌, ◌↔◌, ◌&&◌, nat_le, if◌then◌else◌, [], ◌∷◌, ◌++◌, length, map, count_by, All, IfOk, IfSome, IsSome};
 ghost use Rattle.std.specs.List.{list_all};
 ghost use Rattle.std.specs.Simd.Lanes.{chunk, put_chunk, Each1};
@@ -14,12 +14,12 @@ use crate::kernels::{WeightSums, are_below, max_16, max_one, shifted_sums};
 use std::alloc::{AllocError, Allocator};
 use std::simd::prelude::*;
 
-/// The nibble that marks a register kept elsewhere, which is at least so far above the minimum.
+/// The nibble that marks an exception. The register is at least this much above the minimum.
 pub const MARK: u8 = 15;
 
 // ---- single nibbles
 
-/// The nibble of a slot.
+/// Returns the nibble of a slot.
 pub fn nibble_of(bytes: &[u8], slot: usize) -> u8
     requires { slot < 2 * length bytes.now }
     ensures nibble { result ≡ nibble_at bytes.now slot }
@@ -29,7 +29,7 @@ pub fn nibble_of(bytes: &[u8], slot: usize) -> u8
     if slot % 2 == 0 { byte % 16 } else { byte / 16 }
 }
 
-/// Sets the nibble of a slot. The others are unchanged.
+/// Sets the nibble of a slot. The other nibbles don't change.
 pub fn put_nibble(bytes: &mut [u8], slot: usize, nibble: u8)
     requires within { slot < 2 * length bytes.old }
     requires small { nibble < 16 }
@@ -45,7 +45,7 @@ pub fn put_nibble(bytes: &mut [u8], slot: usize, nibble: u8)
     };
 }
 
-/// Whether no nibble of a block is greater than `greatest`, which is at most 15.
+/// Returns whether no nibble of a block is greater than `greatest`, which is at most 15.
 pub fn are_at_most(block: &[u8; 32], greatest: u8) -> bool
     requires { greatest ≤ 15 }
     ensures { result ≡ list_all (λ b. nat_le (b % 16) greatest && nat_le (b / 16) greatest) block.now }
@@ -56,7 +56,7 @@ pub fn are_at_most(block: &[u8; 32], greatest: u8) -> bool
     (low | high).to_bitmask() == 0
 }
 
-/// How many nibbles are 0. One pass.
+/// Returns the number of nibbles that are 0. One pass.
 pub fn count_zero_nibbles(bytes: &[u8]) -> u32
     requires { length bytes.now ≤ 2 ^ 20 }
     ensures { result ≡ zero_nibbles bytes.now }
@@ -69,7 +69,7 @@ pub fn count_zero_nibbles(bytes: &[u8]) -> u32
     count + zero_nibbles_one_by_one(rest)
 }
 
-/// How many nibbles are 15. One pass.
+/// Returns the number of nibbles that are 15. One pass.
 pub fn count_mark_nibbles(bytes: &[u8]) -> u32
     requires { length bytes.now ≤ 2 ^ 20 }
     ensures { result ≡ mark_nibbles bytes.now }
@@ -82,7 +82,7 @@ pub fn count_mark_nibbles(bytes: &[u8]) -> u32
     count + mark_nibbles_one_by_one(rest)
 }
 
-/// How many nibbles are 0, and how many are 15. One pass.
+/// Returns the number of nibbles that are 0, and the number of nibbles that are 15. One pass.
 pub fn count_zeros_and_marks(bytes: &[u8]) -> (u32, u32)
     requires { length bytes.now ≤ 2 ^ 20 }
     ensures zeros { result.0 ≡ zero_nibbles bytes.now }
@@ -101,7 +101,7 @@ pub fn count_zeros_and_marks(bytes: &[u8]) -> (u32, u32)
     )
 }
 
-/// How many nibbles of a block are 0, which a byte can count.
+/// Returns the number of nibbles of a block that are 0. It fits a byte.
 fn zero_nibbles_in(block: &[u8; 64]) -> u8
     ensures count { result ≡ zero_nibbles block.now }
     ensures bound { result ≤ 128 }
@@ -113,7 +113,7 @@ fn zero_nibbles_in(block: &[u8; 64]) -> u8
     count
 }
 
-/// How many nibbles are 0, one byte after the other.
+/// Returns the number of nibbles that are 0, looking at one byte after the other.
 fn zero_nibbles_one_by_one(bytes: &[u8]) -> u32
     requires { length bytes.now ≤ 2 ^ 20 }
     ensures { result ≡ zero_nibbles bytes.now }
@@ -125,7 +125,7 @@ fn zero_nibbles_one_by_one(bytes: &[u8]) -> u32
     count
 }
 
-/// How many nibbles of a byte are 0.
+/// Returns the number of nibbles of a byte that are 0.
 fn zeros_of(byte: u8) -> u32
     ensures count { result ≡ zero_nibbles (byte ∷ []) }
     ensures bound { result ≤ 2 }
@@ -133,7 +133,7 @@ fn zeros_of(byte: u8) -> u32
     u32::from(byte % 16 == 0) + u32::from(byte / 16 == 0)
 }
 
-/// How many nibbles of a block are 15, which a byte can count. Most blocks have none.
+/// Returns the number of nibbles of a block that are 15. It fits a byte. Most blocks have none.
 #[inline(always)]
 fn mark_nibbles_in(block: &[u8; 64]) -> u8
     ensures count { result ≡ mark_nibbles block.now }
@@ -145,7 +145,7 @@ fn mark_nibbles_in(block: &[u8; 64]) -> u8
     some_mark_nibbles_in(block)
 }
 
-/// Whether no nibble of a block is 15.
+/// Returns whether no nibble of a block is 15.
 #[inline(always)]
 fn is_unmarked(block: &[u8; 64]) -> bool
     ensures { result ≡ (mark_nibbles block.now == 0) }
@@ -156,8 +156,8 @@ fn is_unmarked(block: &[u8; 64]) -> bool
     are_below(block, 16 * MARK)
 }
 
-/// How many nibbles of a block are 15, counted byte by byte.
-// (a loop over blocks, most of which have none, is shorter without it)
+/// Returns the number of nibbles of a block that are 15, counted byte by byte.
+// (not inlined: the loop over blocks, most of which have no such nibble, is shorter without it)
 #[inline(never)]
 fn some_mark_nibbles_in(block: &[u8; 64]) -> u8
     ensures count { result ≡ mark_nibbles block.now }
@@ -170,7 +170,7 @@ fn some_mark_nibbles_in(block: &[u8; 64]) -> u8
     count
 }
 
-/// How many nibbles are 15, one byte after the other.
+/// Returns the number of nibbles that are 15, looking at one byte after the other.
 fn mark_nibbles_one_by_one(bytes: &[u8]) -> u32
     requires { length bytes.now ≤ 2 ^ 20 }
     ensures { result ≡ mark_nibbles bytes.now }
@@ -182,7 +182,7 @@ fn mark_nibbles_one_by_one(bytes: &[u8]) -> u32
     count
 }
 
-/// How many nibbles of a byte are 15.
+/// Returns the number of nibbles of a byte that are 15.
 fn marks_of(byte: u8) -> u8
     ensures count { result ≡ mark_nibbles (byte ∷ []) }
     ensures bound { result ≤ 2 }
@@ -190,7 +190,7 @@ fn marks_of(byte: u8) -> u8
     u8::from(byte % 16 == 15) + u8::from(byte / 16 == 15)
 }
 
-/// Whether no nibble is greater than `greatest`, which is at most 15.
+/// Returns whether no nibble is greater than `greatest`, which is at most 15.
 pub fn all_at_most(bytes: &[u8], greatest: u8) -> bool
     requires { greatest ≤ 15 }
     ensures { result ≡ list_all (λ b. nat_le (b % 16) greatest && nat_le (b / 16) greatest) bytes.now }
@@ -202,7 +202,7 @@ pub fn all_at_most(bytes: &[u8], greatest: u8) -> bool
 
 // ---- lowering
 
-/// Lowers each nibble below 15 by `steps`; 15 stays.
+/// Lowers each nibble below 15 by `steps`; a nibble of 15 stays.
 ///
 /// Each nibble is 15, or at least `steps`.
 pub fn lower_by(bytes: &mut [u8], steps: u8)
@@ -218,9 +218,9 @@ pub fn lower_by(bytes: &mut [u8], steps: u8)
     }
 }
 
-/// Lowers each nibble below 15 by one; 15 stays. Returns how many nibbles are 0 afterwards.
+/// Lowers each nibble below 15 by one; a nibble of 15 stays. Returns the number of nibbles that are 0 afterwards.
 ///
-/// No nibble is 0 before, and there are at most 2^20 bytes. One pass; takes no memory.
+/// No nibble is 0 before, and there are at most 2^20 bytes. One pass; allocates nothing.
 pub fn lower_nibbles(bytes: &mut [u8]) -> u32
     requires none { zero_nibbles bytes.old ≡ 0 }
     requires few { length bytes.old ≤ 2 ^ 20 }
@@ -236,7 +236,7 @@ pub fn lower_nibbles(bytes: &mut [u8]) -> u32
     zeros + lower_one_by_one(&mut bytes[32 * blocks..])
 }
 
-/// Lowers the nibbles of the 32 bytes from `at` on.
+/// Lowers the nibbles of the 32 bytes from `at` on. Returns the number of nibbles that are 0 afterwards.
 fn lower_32(bytes: &mut [u8], at: usize) -> u32
     requires room { at + 32 ≤ length bytes.old }
     requires none { zero_nibbles (chunk at 32 bytes.old) ≡ 0 }
@@ -255,7 +255,7 @@ fn lowered_lanes(bytes: u8x32) -> u8x32
     bytes - low_steps(bytes) - high_steps(bytes)
 }
 
-/// By how much the low nibble of each byte lowers it.
+/// Returns what to subtract from each byte to lower its low nibble.
 fn low_steps(bytes: u8x32) -> u8x32
     ensures { result ≡ map (λ b. if b % 16 == 15 then 0 else 1) bytes }
 {
@@ -264,7 +264,7 @@ fn low_steps(bytes: u8x32) -> u8x32
         .select(u8x32::splat(1), u8x32::splat(0))
 }
 
-/// By how much the high nibble of each byte lowers it.
+/// Returns what to subtract from each byte to lower its high nibble.
 fn high_steps(bytes: u8x32) -> u8x32
     ensures { result ≡ map (λ b. if b / 16 == 15 then 0 else 16) bytes }
 {
@@ -273,7 +273,7 @@ fn high_steps(bytes: u8x32) -> u8x32
         .select(u8x32::splat(16), u8x32::splat(0))
 }
 
-/// How many low nibbles are 0.
+/// Returns the number of low nibbles that are 0.
 fn low_zeros(bytes: u8x32) -> u32
     ensures count { result ≡ count_by (λ b. b % 16 == 0) bytes }
     ensures bound { result ≤ 32 }
@@ -284,7 +284,7 @@ fn low_zeros(bytes: u8x32) -> u32
         .count_ones()
 }
 
-/// How many high nibbles are 0.
+/// Returns the number of high nibbles that are 0.
 fn high_zeros(bytes: u8x32) -> u32
     ensures count { result ≡ count_by (λ b. b / 16 == 0) bytes }
     ensures bound { result ≤ 32 }
@@ -292,7 +292,7 @@ fn high_zeros(bytes: u8x32) -> u32
     bytes.simd_lt(u8x32::splat(16)).to_bitmask().count_ones()
 }
 
-/// Lowers each nibble below 15 by one, one byte after the other.
+/// Lowers each nibble below 15 by one, one byte after the other. Returns the number of nibbles that are 0 afterwards.
 fn lower_one_by_one(bytes: &mut [u8]) -> u32
     requires none { zero_nibbles bytes.old ≡ 0 }
     requires few { length bytes.old ≤ 2 ^ 20 }
@@ -308,7 +308,7 @@ fn lower_one_by_one(bytes: &mut [u8]) -> u32
     zeros
 }
 
-/// A byte with both nibbles lowered.
+/// Returns a byte with both nibbles lowered.
 fn lowered(byte: u8) -> u8
     requires { (0 < byte % 16) × (0 < byte / 16) }
     ensures { result ≡ lowered_byte byte }
@@ -320,10 +320,10 @@ fn lowered(byte: u8) -> u8
 
 // ---- maxima
 
-/// Raises each value to the greater of itself and its nibble above the minimum, in one pass.
+/// Sets each value to the maximum of itself and its nibble plus the minimum. One pass.
 ///
 /// There are two values for each byte, and the minimum is at most 240. A nibble of 15 counts as 15 above the minimum,
-/// which is at most the register that it stands for.
+/// which is at most the register that it marks.
 pub fn max_with_nibbles(values: &mut [u8], bytes: &[u8], minimum: u8)
     requires size { length values.old ≡ 2 * length bytes.now }
     requires small { minimum ≤ 240 }
@@ -336,7 +336,7 @@ pub fn max_with_nibbles(values: &mut [u8], bytes: &[u8], minimum: u8)
     max_one_by_one(&mut values[64 * blocks.len()..], rest, minimum);
 }
 
-/// Raises the 64 values from `at` on to the nibbles of a block.
+/// Sets the 64 values from `at` on to the maximum of themselves and the nibbles of a block plus the minimum.
 fn max_with_block(values: &mut [u8], at: usize, block: &[u8; 32], minimum: u8)
     requires room { at + 64 ≤ length values.old }
     requires small { minimum ≤ 240 }
@@ -346,7 +346,7 @@ fn max_with_block(values: &mut [u8], at: usize, block: &[u8; 32], minimum: u8)
     max_with_half(values, at + 32, u8x16::from_slice(&block[16..]), minimum);
 }
 
-/// Raises each value to the greater of itself and its nibble above the minimum, one byte after the other.
+/// Sets each value to the maximum of itself and its nibble plus the minimum, one byte after the other.
 fn max_one_by_one(values: &mut [u8], bytes: &[u8], minimum: u8)
     requires size { length values.old ≡ 2 * length bytes.now }
     requires small { minimum ≤ 240 }
@@ -358,7 +358,7 @@ fn max_one_by_one(values: &mut [u8], bytes: &[u8], minimum: u8)
     }
 }
 
-/// Raises the 32 values from `at` on to the nibbles of sixteen bytes.
+/// Sets the 32 values from `at` on to the maximum of themselves and the nibbles of sixteen bytes plus the minimum.
 fn max_with_half(values: &mut [u8], at: usize, bytes: u8x16, minimum: u8)
     requires room { at + 32 ≤ length values.old }
     requires small { minimum ≤ 240 }
@@ -369,7 +369,7 @@ fn max_with_half(values: &mut [u8], at: usize, bytes: u8x16, minimum: u8)
     max_16(values, at + 16, second);
 }
 
-/// The nibbles of sixteen bytes above the minimum.
+/// Returns the nibbles of sixteen bytes plus the minimum.
 fn nibble_lanes(bytes: u8x16, minimum: u8) -> (u8x16, u8x16)
     requires { minimum ≤ 240 }
     ensures nibbles { result.0 ++ result.1 ≡ nibble_values minimum bytes }
@@ -382,7 +382,8 @@ fn nibble_lanes(bytes: u8x16, minimum: u8) -> (u8x16, u8x16)
 
 // ---- weights
 
-/// The sums of 2^-(minimum + n) over the nibbles n of a block, if none is 15. The minimum is at most 16.
+/// Returns the sums of 2^-(minimum + n) over the nibbles n of a block, or `None` if a nibble is 15. The minimum is at
+/// most 16.
 pub fn unmarked_sums(block: &[u8; 64], minimum: u8) -> Option<WeightSums>
     requires { minimum ≤ 16 }
     ensures unmarked { IsSome result ↔ All (λ n. n < 15) (nibble_values 0 block.now) }
@@ -399,7 +400,7 @@ pub fn unmarked_sums(block: &[u8; 64], minimum: u8) -> Option<WeightSums>
     Some(shifted_sums(&low, minimum).plus(shifted_sums(&high, minimum)))
 }
 
-/// The low nibble of each byte.
+/// Returns the low nibble of each byte.
 #[inline(always)]
 fn low_nibbles(block: &[u8; 64]) -> [u8; 64]
     ensures { result ≡ map (λ b. b % 16) block.now }
@@ -407,7 +408,7 @@ fn low_nibbles(block: &[u8; 64]) -> [u8; 64]
     (u8x64::from_array(*block) & u8x64::splat(15)).to_array()
 }
 
-/// The high nibble of each byte.
+/// Returns the high nibble of each byte.
 #[inline(always)]
 fn high_nibbles(block: &[u8; 64]) -> [u8; 64]
     ensures { result ≡ map (λ b. b / 16) block.now }
@@ -417,7 +418,9 @@ fn high_nibbles(block: &[u8; 64]) -> [u8; 64]
 
 // ---- packing
 
-/// The nibbles of registers above the minimum. There are an even number. Allocates in one request.
+/// Returns the nibbles of registers above the minimum, two in each byte.
+///
+/// The number of registers is even. Allocates in one request, and fails if the allocation fails.
 pub fn packed_nibbles<A: Allocator>(
     alloc: A,
     registers: &[u8],
@@ -431,7 +434,7 @@ pub fn packed_nibbles<A: Allocator>(
     Ok(nibbles)
 }
 
-/// Writes the nibbles of registers above the minimum, in one pass. A register below it counts as the minimum.
+/// Writes the nibbles of registers above the minimum. One pass. A register below the minimum counts as the minimum.
 ///
 /// There are two registers for each byte.
 fn pack_nibbles(bytes: &mut [u8], registers: &[u8], minimum: u8)
@@ -445,7 +448,8 @@ fn pack_nibbles(bytes: &mut [u8], registers: &[u8], minimum: u8)
     pack_one_by_one(&mut bytes[16 * blocks.len()..], rest, minimum);
 }
 
-/// Writes the nibbles of registers above the minimum, one byte after the other. A register below it counts as the minimum.
+/// Writes the nibbles of registers above the minimum, one byte after the other. A register below the minimum counts as
+/// the minimum.
 fn pack_one_by_one(bytes: &mut [u8], registers: &[u8], minimum: u8)
     requires { 2 * length bytes.old ≡ length registers.now }
     ensures { bytes.new ≡ nibble_bytes_above minimum registers.now }
@@ -456,7 +460,7 @@ fn pack_one_by_one(bytes: &mut [u8], registers: &[u8], minimum: u8)
     }
 }
 
-/// The byte of two registers.
+/// Returns the byte that holds the nibbles of two registers.
 fn packed_pair(pair: [u8; 2], minimum: u8) -> u8
     ensures { (result ∷ []) ≡ nibble_bytes_above minimum pair }
 {
@@ -464,7 +468,7 @@ fn packed_pair(pair: [u8; 2], minimum: u8) -> u8
     low.saturating_sub(minimum).min(15) + 16 * high.saturating_sub(minimum).min(15)
 }
 
-/// Writes the lanes from `at` on.
+/// Writes sixteen lanes from `at` on.
 fn put_16(bytes: &mut [u8], at: usize, lanes: u8x16)
     requires { at + 16 ≤ length bytes.old }
     ensures { bytes.new ≡ put_chunk at bytes.old lanes }
@@ -472,7 +476,7 @@ fn put_16(bytes: &mut [u8], at: usize, lanes: u8x16)
     lanes.copy_to_slice(&mut bytes[at..]);
 }
 
-/// The bytes of 32 registers.
+/// Returns the bytes that hold the nibbles of 32 registers.
 fn packed_lanes(block: &[u8; 32], minimum: u8) -> u8x16
     ensures { result ≡ nibble_bytes_above minimum block.now }
 {
@@ -481,7 +485,7 @@ fn packed_lanes(block: &[u8; 32], minimum: u8) -> u8x16
     paired(first, second)
 }
 
-/// How far each value is above the minimum, at most 15.
+/// Returns the difference of each value and the minimum, at most 15.
 fn nibbles_above(values: u8x16, minimum: u8) -> u8x16
     ensures { result ≡ map (nibble minimum) values }
 {
@@ -490,7 +494,7 @@ fn nibbles_above(values: u8x16, minimum: u8) -> u8x16
         .simd_min(u8x16::splat(15))
 }
 
-/// Each two nibbles as a byte, the first in the low one.
+/// Returns each two nibbles as a byte, the first in the low half.
 fn paired(first: u8x16, second: u8x16) -> u8x16
     requires { Each1 (λ v. v ≤ 15) (first ++ second) }
     ensures { result ≡ nibble_pairs (first ++ second) }

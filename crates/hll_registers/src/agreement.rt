@@ -1,7 +1,7 @@
 // SPDX-License-Identifier: Apache-2.0
-//! Whether nibbles above a minimum and exceptions agree, as those of an image have to (docs/MODEL.md, "Registers of four
-//! bits"). The exceptions have distinct slots: where each has a nibble of 15, and there are as many such nibbles as
-//! exceptions, no other slot has one. So no slot is sought in the map.
+//! Checks that nibbles above a minimum and exceptions agree, as an image has to (docs/MODEL.md, "Registers of four
+//! bits"). The exceptions have distinct slots. If each of their slots has a nibble of 15, and the number of such
+//! nibbles is the number of exceptions, then no other slot has one. So the map needs no look-ups.
 ghost use Rattle.std.specs.Prelude.{◌≡◌, ◌+◌, ◌*◌, ◌^◌, ◌<◌, ◌≤◌, ℕ, length, true, false, Some};
 ghost use Rattle.hll_coupons.specs.AuxMap.{value_in, IsMap};
 ghost use Rattle.hll_kernels.specs.Packed.{mark_nibbles, nibble_at};
@@ -14,8 +14,8 @@ use hll_coupons::aux_map::AuxMap;
 use hll_kernels::nibbles::{MARK, all_at_most, nibble_of};
 use std::alloc::Allocator;
 
-/// Whether each nibble of 15 has an exception of at least 15 above the minimum, each exception such a nibble, and each
-/// other register is at most 63. So many `marks` are nibbles of 15.
+/// Returns whether nibbles and exceptions agree: each nibble of 15 has an exception at least 15 above the minimum, each
+/// exception has a nibble of 15, and each other register is at most 63. `marks` is the number of nibbles of 15.
 pub(crate) fn agree<A: Allocator>(
     nibbles: &[u8],
     map: &Exceptions<A>,
@@ -41,8 +41,8 @@ pub(crate) fn agree<A: Allocator>(
     }
 }
 
-/// Whether the minimum and each nibble below 15 together are at most 63, which is so of each nibble where the minimum is
-/// at most 49. There is a nibble.
+/// Returns whether the minimum plus each nibble below 15 is at most 63. That holds for all nibbles if the minimum is at
+/// most 49. There is at least one nibble.
 fn are_plain(nibbles: &[u8], minimum: u8) -> bool
     requires { 0 < length nibbles.now }
     ensures least { result ≡ true → minimum ≤ 63 }
@@ -54,7 +54,7 @@ fn are_plain(nibbles: &[u8], minimum: u8) -> bool
         || (minimum <= MAX_VALUE && all_at_most(nibbles, MAX_VALUE - minimum))
 }
 
-/// Whether each exception is at least 15 above the minimum, and has a nibble of 15.
+/// Returns whether each exception is at least 15 above the minimum, and its slot has a nibble of 15.
 fn are_marked<A: Allocator>(nibbles: &[u8], map: &AuxMap<A>, minimum: u8) -> bool
     requires minimum { minimum ≤ 63 }
     requires size { 2 * length nibbles.now ≡ 2 ^ map.now.lg_k }

@@ -1,29 +1,29 @@
 // SPDX-License-Identifier: Apache-2.0
-//! The state that other implementations' estimators keep beside registers.
+//! The state that estimators of other implementations keep with the registers.
 ghost use Rattle.std.specs.Prelude.{◌≡◌, ℕ, ◌^◌, ◌<◌, ◌≤◌, List};
 ghost use Rattle.hll_kernels.specs.WeightSums.{AreSumsOf};
 ghost use Rattle.hll_registers.specs.EstimatorFields.{AreEstimatorFields, IsBinary64};
 
 use hll_kernels::kernels::WeightSums;
 
-/// Three raw 64-bit fields and a flag, which are stored and never interpreted.
+/// Three raw 64-bit fields and a flag. They are stored, and never interpreted.
 #[derive(Clone, Copy, Debug, PartialEq, Eq)]
 pub struct EstimateState {
-    /// The words in the order of the image.
+    /// The fields in the order of the image: hipAccum, kxq0, kxq1.
     pub words: [u64; 3],
-    /// Whether the words no longer follow from the updates.
+    /// Whether the fields no longer follow from the updates.
     pub out_of_order: bool,
 }
 
 impl EstimateState {
-    /// The state of new and of changed registers: three zeros, with the flag set.
+    /// The state of new and of changed registers: three zeros, and the flag set.
     pub const CLEARED: EstimateState = EstimateState {
         words: [0; 3],
         out_of_order: true,
     };
 
-    /// The state from which a composite estimator computes, of registers with these sums (docs/FORMAT.md, "Estimator
-    /// fields"): 0 and the two sums as binary64 numbers, with the flag set.
+    /// Returns the state that a composite estimator computes from, for registers with these sums (docs/FORMAT.md,
+    /// "Estimator fields"): 0 and the two sums as binary64 numbers, and the flag set.
     ///
     /// Each sum is below 2^53, so no number is rounded.
     pub fn of_sums(sums: WeightSums) -> EstimateState
@@ -38,7 +38,7 @@ impl EstimateState {
     }
 }
 
-/// The word of the binary64 number n / 2^`shift`, which is exact.
+/// Returns the 64 bits of the binary64 number n / 2^`shift`. It is exact.
 fn binary64_of(n: u64, shift: u32) -> u64
     requires small { n < 2 ^ 53 }
     requires shift { shift ≤ 63 }

@@ -1,5 +1,5 @@
 // SPDX-License-Identifier: Apache-2.0
-//! The exceptions of registers of four bits: a map, where there is one.
+//! The exceptions of 4-bit registers: an optional map.
 ghost use Rattle.std.specs.Prelude.{◌≡◌, ◌≢◌, ◌+◌, ◌-◌, ◌*◌, ◌^◌, ◌%◌, ◌++◌, ◌<◌, ◌≤◌, ◌==◌, ◌↔◌, ◌⊎◌, ℕ, if◌then◌else◌, length, take, drop, slice_index, unwrap_or, All, true, false, None, Some, IsOk, IsTrue, IfOk, IfErr, IfSome, OnOk, OnErr};
 ghost use Rattle.hll_base.specs.declared.error.Reason.TheVariants.{Memory};
 ghost use Rattle.std.specs.FinSet.{len};
@@ -20,13 +20,13 @@ use hll_kernels::kernels::are_below;
 use hll_kernels::nibbles::{MARK, lower_by, max_with_nibbles, nibble_of, put_nibble};
 use std::alloc::Allocator;
 
-/// A map of exceptions in memory of its own, where there are any.
+/// A map of exceptions, allocated only if there are any.
 pub type Exceptions<A> = Option<Box<AuxMap<A>, A>>;
 
 /// Such a map while it is filled.
 pub type ExceptionsBuilder<A> = Option<AuxMapBuilder<A>>;
 
-/// The exception of a slot, if it has one.
+/// Returns the exception of a slot, or `None` if it has none.
 pub fn exception_at<A: Allocator>(map: &Exceptions<A>, slot: u32) -> Option<u8>
     requires { IsSlotOf (unboxed map.now) slot }
     ensures value { result ≡ exception_in (unboxed map.now) slot }
@@ -38,7 +38,7 @@ pub fn exception_at<A: Allocator>(map: &Exceptions<A>, slot: u32) -> Option<u8>
     }
 }
 
-/// A copy, with the same buckets, by this allocator.
+/// Returns a copy allocated by `alloc`, with the same buckets.
 pub(crate) fn copied<A: Allocator + Clone>(
     map: &Exceptions<A>,
     alloc: &A,
@@ -52,7 +52,7 @@ pub(crate) fn copied<A: Allocator + Clone>(
     }
 }
 
-/// The bytes of the map's buckets, 0 where there is no map.
+/// Returns the size of the map's buckets in bytes, 0 if there is no map.
 pub(crate) fn bytes_of_buckets<A: Allocator>(map: &Exceptions<A>) -> usize
     ensures size { (k : ℕ) → IsMapFor k (unboxed map.now) → result ≡ table_bytes k (len (exceptions_in (unboxed map.now))) }
     ensures bound { (k : ℕ) → IsMapFor k (unboxed map.now) → result ≤ 2 ^ 28 }
@@ -63,7 +63,7 @@ pub(crate) fn bytes_of_buckets<A: Allocator>(map: &Exceptions<A>) -> usize
     }
 }
 
-/// Whether the map has so many buckets that to go through them for few values is expensive.
+/// Returns whether the map has so many buckets that going through them for only a few values would be expensive.
 pub(crate) fn has_many_buckets<A: Allocator>(map: &Exceptions<A>) -> bool {
     match map {
         Some(map) => map.estimated_size() > 1 << 13,
@@ -71,7 +71,7 @@ pub(crate) fn has_many_buckets<A: Allocator>(map: &Exceptions<A>) -> bool {
     }
 }
 
-/// How many exceptions there are.
+/// Returns the number of exceptions.
 pub(crate) fn count_exceptions<A: Allocator>(map: &Exceptions<A>) -> usize
     ensures count { (k : ℕ) → IsMapFor k (unboxed map.now) → result ≡ len (exceptions_in (unboxed map.now)) }
     ensures bound { (k : ℕ) → IsMapFor k (unboxed map.now) → result ≤ 2 ^ 21 }
@@ -82,7 +82,7 @@ pub(crate) fn count_exceptions<A: Allocator>(map: &Exceptions<A>) -> usize
     }
 }
 
-/// Whether two maps for the same slots have the same entries. Buckets don't count.
+/// Returns whether two maps for the same slots have the same entries. Their buckets don't matter.
 pub(crate) fn have_same_exceptions<A: Allocator>(map: &Exceptions<A>, other: &Exceptions<A>) -> bool
     ensures { (k : ℕ) → IsMapFor k (unboxed map.now) → IsMapFor k (unboxed other.now) → IsTrue result ↔ (exceptions_in (unboxed map.now) ≡ exceptions_in (unboxed other.now)) }
 {
@@ -93,9 +93,9 @@ pub(crate) fn have_same_exceptions<A: Allocator>(map: &Exceptions<A>, other: &Ex
     }
 }
 
-/// A buffer with the exceptions appended to it, as coupons in ascending order.
+/// Returns `bytes` with the exceptions appended, as coupons in ascending order.
 ///
-/// Takes memory for a sorted copy, none where there is no map. Fails with `Memory`.
+/// Allocates a sorted copy, or nothing if there is no map. Fails with `Memory` if an allocation fails.
 pub(crate) fn with_exceptions<A: Allocator + Clone>(
     bytes: SketchBytes<A>,
     map: &Exceptions<A>,
@@ -113,7 +113,7 @@ pub(crate) fn with_exceptions<A: Allocator + Clone>(
     }
 }
 
-/// A map of one entry.
+/// Returns a map with one entry.
 fn one_entry<A: Allocator + Clone>(
     alloc: A,
     lg_k: u8,
@@ -134,9 +134,10 @@ fn one_entry<A: Allocator + Clone>(
     Ok(map)
 }
 
-/// Gives a slot an exception, whether it has one or not, in a map that is made where there is none, by this allocator.
+/// Sets the exception of a slot, whether or not the slot has one. If there is no map, makes one with `alloc`.
 ///
-/// Fails with `Memory`, never if the slot has an exception, and then changes nothing.
+/// Fails with `Memory` if an allocation fails, which can't happen if the slot has an exception; then the map is
+/// unchanged.
 pub(crate) fn put_exception<A: Allocator + Clone>(
     map: &mut Exceptions<A>,
     alloc: &A,
@@ -166,7 +167,7 @@ pub(crate) fn put_exception<A: Allocator + Clone>(
     }
 }
 
-/// Gives a slot of a map a value, whether it has one or not.
+/// Sets the value of a slot in a map, whether or not the slot has one.
 fn set_value<A: Allocator + Clone>(map: &mut AuxMap<A>, slot: u32, value: u8) -> Result<(), Error>
     requires within { slot < 2 ^ map.old.lg_k }
     requires least { 1 ≤ value }
@@ -188,7 +189,7 @@ fn set_value<A: Allocator + Clone>(map: &mut AuxMap<A>, slot: u32, value: u8) ->
 
 // ---- maps that are filled
 
-/// A map of one entry, to be filled.
+/// Returns a builder of a map, with one entry.
 fn one_entry_to_fill<A: Allocator + Clone>(
     alloc: A,
     lg_k: u8,
@@ -209,9 +210,9 @@ fn one_entry_to_fill<A: Allocator + Clone>(
     Ok(map)
 }
 
-/// Gives a slot that has no exception one, in a map that is made where there is none, by this allocator.
+/// Adds an exception for a slot that has none. If there is no map, makes one with `alloc`.
 ///
-/// Fails with `Memory`, and then changes nothing.
+/// Fails with `Memory` if an allocation fails; then the map is unchanged.
 pub fn add_exception<A: Allocator + Clone>(
     map: &mut ExceptionsBuilder<A>,
     alloc: &A,
@@ -240,9 +241,9 @@ pub fn add_exception<A: Allocator + Clone>(
     }
 }
 
-/// Whether a slot has an exception.
+/// Returns whether a slot has an exception.
 ///
-/// Fails with `Memory`, only where a search was cut off.
+/// Fails with `Memory` if a search was cut off and an allocation fails.
 pub fn has_exception<A: Allocator + Clone>(
     map: &mut ExceptionsBuilder<A>,
     slot: u32,
@@ -258,9 +259,9 @@ pub fn has_exception<A: Allocator + Clone>(
     }
 }
 
-/// Gives a slot an exception, unless it has this one.
+/// Sets the exception of a slot, unless the slot has this one already.
 ///
-/// Fails with `Memory`.
+/// Fails with `Memory` if an allocation fails.
 fn keep_exception<A: Allocator + Clone>(
     map: &mut ExceptionsBuilder<A>,
     alloc: &A,
@@ -285,9 +286,9 @@ fn keep_exception<A: Allocator + Clone>(
     add_exception(map, alloc, lg_k, slot, value)
 }
 
-/// A map that was filled, in memory of its own by this allocator.
+/// Returns the map that was built, allocated by `alloc`.
 ///
-/// Fails with `Memory`, never if there is none.
+/// Fails with `Memory` if an allocation fails, which can't happen if there are no exceptions.
 pub fn built<A: Allocator + Clone>(
     map: ExceptionsBuilder<A>,
     alloc: &A,
@@ -302,7 +303,7 @@ pub fn built<A: Allocator + Clone>(
     }
 }
 
-/// Gives a slot of a map that has no value one.
+/// Adds a value for a slot that has none in the map.
 fn fill_value<A: Allocator + Clone>(
     map: &mut AuxMapBuilder<A>,
     slot: u32,
@@ -320,7 +321,7 @@ fn fill_value<A: Allocator + Clone>(
     map.insert(slot, value)
 }
 
-/// Gives a slot of a map that has no value one.
+/// Adds a value for a slot that has none in the map.
 fn add_value<A: Allocator + Clone>(map: &mut AuxMap<A>, slot: u32, value: u8) -> Result<(), Error>
     requires within { slot < 2 ^ map.old.lg_k }
     requires least { 1 ≤ value }
@@ -334,7 +335,7 @@ fn add_value<A: Allocator + Clone>(map: &mut AuxMap<A>, slot: u32, value: u8) ->
     map.insert(slot, value)
 }
 
-/// Whether each exception is one above a minimum.
+/// Returns whether each exception is at least 15 above a minimum.
 fn are_all_above<A: Allocator>(map: &AuxMap<A>, minimum: u8) -> bool
     requires minimum { minimum ≤ 63 }
     requires map { IsMap map.now }
@@ -349,9 +350,9 @@ fn are_all_above<A: Allocator>(map: &AuxMap<A>, minimum: u8) -> bool
     true
 }
 
-/// The exceptions that stay above a minimum, in a map of their own, by this allocator.
+/// Returns the exceptions that are still exceptions above a greater minimum, in a new map allocated by `alloc`.
 ///
-/// Fails with `Memory`, never if none stays.
+/// Fails with `Memory` if an allocation fails, which can't happen if none is left.
 fn kept_entries<A: Allocator + Clone>(
     map: &AuxMap<A>,
     alloc: &A,
@@ -373,7 +374,7 @@ fn kept_entries<A: Allocator + Clone>(
     built(kept, alloc)
 }
 
-/// Sets the nibbles of the exceptions that are none above a minimum.
+/// Sets the nibbles of the registers that are no longer exceptions above a greater minimum.
 ///
 /// No exception is below the minimum, and there are two slots for each byte.
 fn put_fallen_entries<A: Allocator>(bytes: &mut [u8], map: &AuxMap<A>, minimum: u8)
@@ -392,7 +393,7 @@ fn put_fallen_entries<A: Allocator>(bytes: &mut [u8], map: &AuxMap<A>, minimum: 
     }
 }
 
-/// `kept_entries`, where there is a map.
+/// Does what `kept_entries` does, if there is a map.
 fn kept_exceptions<A: Allocator + Clone>(
     map: &Exceptions<A>,
     alloc: &A,
@@ -414,7 +415,7 @@ fn kept_exceptions<A: Allocator + Clone>(
 
 // ---- the minimum rises
 
-/// The minimum rises as one slot, which alone was at it, gets a greater value.
+/// A rise of the minimum: the only slot at the minimum gets a greater value.
 #[derive(Clone, Copy)]
 pub(crate) struct Rise {
     pub(crate) from: u8,
@@ -423,9 +424,9 @@ pub(crate) struct Rise {
     pub(crate) value: u8,
 }
 
-/// The exceptions after a rise: none of their own where they stay as they are, else a map by this allocator.
+/// Returns the exceptions after a rise: `None` if they stay the same, else a map allocated by `alloc`.
 ///
-/// Fails with `Memory`, only if the exceptions change and some are left.
+/// Fails with `Memory` if the exceptions change, some are left, and an allocation fails.
 pub(crate) fn exceptions_after<A: Allocator + Clone>(
     map: &Exceptions<A>,
     alloc: &A,
@@ -455,7 +456,7 @@ pub(crate) fn exceptions_after<A: Allocator + Clone>(
     Ok(Some(above))
 }
 
-/// Puts the exceptions after a rise in the place of those before, where they change.
+/// Replaces the exceptions by those after a rise, if they changed.
 pub(crate) fn replace_by<A: Allocator>(map: &mut Exceptions<A>, above: Option<Exceptions<A>>)
     ensures { map.new ≡ unwrap_or above map.old }
 {
@@ -464,7 +465,8 @@ pub(crate) fn replace_by<A: Allocator>(map: &mut Exceptions<A>, above: Option<Ex
     }
 }
 
-/// Whether raising the minimum leaves the exceptions unchanged, as one slot, which has none, gets this value.
+/// Returns whether the exceptions stay the same when the minimum rises and a slot that has no exception gets this
+/// value.
 fn keeps_all_exceptions<A: Allocator>(map: &Exceptions<A>, minimum: u8, value: u8) -> bool
     requires minimum { minimum ≤ 63 }
     requires map { (t : ExceptionMap) → (unboxed map.now) ≡ Some t → IsMap t }
@@ -481,9 +483,10 @@ fn keeps_all_exceptions<A: Allocator>(map: &Exceptions<A>, minimum: u8, value: u
     }
 }
 
-/// Writes the nibbles again after a rise.
+/// Rewrites the nibbles after a rise.
 ///
-/// Each nibble of another slot is 15, or at least the difference of the minima; no exception is below the new one.
+/// Each nibble of another slot is 15, or at least the difference of the minimums. No exception is below the new
+/// minimum.
 pub(crate) fn repack<A: Allocator>(bytes: &mut [u8], map: &Exceptions<A>, lg_k: u8, rise: Rise)
     requires few { length bytes.old ≤ 2 ^ 20 }
     requires size { 2 * length bytes.old ≡ 2 ^ lg_k }
@@ -505,7 +508,7 @@ pub(crate) fn repack<A: Allocator>(bytes: &mut [u8], map: &Exceptions<A>, lg_k: 
     put_nibble(bytes, rise.slot as usize, (rise.value - rise.to).min(MARK));
 }
 
-/// `put_fallen_entries`, where there is a map.
+/// Does what `put_fallen_entries` does, if there is a map.
 fn put_fallen<A: Allocator>(bytes: &mut [u8], map: &Exceptions<A>, lg_k: u8, minimum: u8)
     requires minimum { minimum ≤ 63 }
     requires size { 2 * length bytes.old ≡ 2 ^ lg_k }
@@ -522,7 +525,7 @@ fn put_fallen<A: Allocator>(bytes: &mut [u8], map: &Exceptions<A>, lg_k: u8, min
 
 // ---- exceptions of values
 
-/// Registers, and a minimum that they are seen above.
+/// Registers, and a minimum for their nibbles and exceptions.
 #[derive(Clone, Copy)]
 struct Above<'a> {
     lg_k: u8,
@@ -530,9 +533,9 @@ struct Above<'a> {
     values: &'a [u8],
 }
 
-/// The exceptions of registers above a minimum: a map by this allocator, none where there are none.
+/// Returns the exceptions of registers above a minimum: a map allocated by `alloc`, or `None` if there are none.
 ///
-/// Fails with `Memory`.
+/// Fails with `Memory` if an allocation fails.
 pub(crate) fn exceptions_of<A: Allocator + Clone>(
     alloc: &A,
     lg_k: u8,
@@ -563,9 +566,10 @@ pub(crate) fn exceptions_of<A: Allocator + Clone>(
     built(map, alloc)
 }
 
-/// Puts the exceptions of the registers of the slots from `from` up to `to` into the map, which has none from there on.
+/// Puts the exceptions of the registers with slots from `from` up to `to`, exclusive, into the map, which has none from
+/// `from` on.
 ///
-/// Fails with `Memory`.
+/// Fails with `Memory` if an allocation fails.
 fn put_exceptions_of<A: Allocator + Clone>(
     map: &mut ExceptionsBuilder<A>,
     alloc: &A,
@@ -598,7 +602,7 @@ fn put_exceptions_of<A: Allocator + Clone>(
 
 // ---- registers of nibbles and exceptions
 
-/// The register of a slot: its nibble above a minimum, or its exception.
+/// Returns the register of a slot: the minimum plus its nibble, or its exception.
 pub(crate) fn register_at<A: Allocator>(
     nibbles: &[u8],
     map: &Exceptions<A>,
@@ -620,8 +624,9 @@ pub(crate) fn register_at<A: Allocator>(
     }
 }
 
-/// Raises each value to the greater of itself and register `first + i`, for value i, of nibbles above a minimum and exceptions
-/// that agree. One pass, and a search for each exception, or one pass through the map where a search is long.
+/// Sets value i to the maximum of itself and register `first + i`. The registers are nibbles above a minimum, and
+/// exceptions that agree with them. One pass and a search for each exception, or one pass through the map if a search
+/// is long.
 pub(crate) fn max_with_registers<A: Allocator>(
     values: &mut [u8],
     first: u32,

@@ -1,6 +1,6 @@
 // SPDX-License-Identifier: Apache-2.0
-//! Raises values to the exceptions of registers of four bits: by a loop over the map, or by one over the nibbles, which mark
-//! the slots that have an exception. A merge of many exceptions spends its time here.
+//! Takes the maximum of values and the exceptions of 4-bit registers: by a loop over the map, or by a loop over the
+//! nibbles, which mark the slots that have an exception. A merge with many exceptions spends its time here.
 ghost use Rattle.std.specs.Prelude.{◌≡◌, ◌≢◌, ◌+◌, ◌-◌, ◌*◌, ◌^◌, ◌<◌, ◌≤◌, ℕ, length, max, slice_index, unwrap_or, None};
 ghost use Rattle.std.specs.Bool.{OnTrue};
 ghost use Rattle.hll_coupons.specs.AuxMap.{value_in, IsMap};
@@ -10,11 +10,11 @@ use hll_coupons::aux_map::AuxMap;
 use hll_kernels::nibbles::{MARK, are_at_most, nibble_of};
 use std::alloc::Allocator;
 
-/// Raises each value to the exception of its slot, if it has one: `first + i` for value i. Goes through the map where it has
-/// at most 32 buckets, or few for so many values, as a whole array of registers has, or where a search is long, and else
-/// through the nibbles.
+/// Sets value i to the maximum of itself and the exception of slot `first + i`, if the slot has one. Loops over the map
+/// if it has at most 32 buckets, or few compared with the number of values, or if a search is long; otherwise over the
+/// nibbles.
 ///
-/// Each two values have a byte of nibbles, and a slot whose nibble isn't 15 has no exception.
+/// There is a byte of nibbles for each two values. A slot whose nibble isn't 15 has no exception.
 pub(crate) fn max_with_exceptions<A: Allocator>(
     values: &mut [u8],
     nibbles: &[u8],
@@ -34,7 +34,7 @@ pub(crate) fn max_with_exceptions<A: Allocator>(
     }
 }
 
-/// Raises each value to the exception of its slot, by one entry of the map after the other.
+/// Sets each value to the maximum of itself and the exception of its slot, by a loop over the entries of the map.
 fn max_with_entries<A: Allocator>(values: &mut [u8], map: &AuxMap<A>, first: u32)
     requires map { IsMap map.now }
     ensures raised { (s : ℕ) → s < length values.old → slice_index values.new s ≡ max (slice_index values.old s) (unwrap_or (value_in map.now (first + s)) 0) }
@@ -51,8 +51,9 @@ fn max_with_entries<A: Allocator>(values: &mut [u8], map: &AuxMap<A>, first: u32
     }
 }
 
-/// Raises each value to the exception of its slot, by a short search where a nibble is 15. Passes over blocks of 64 where none
-/// is. Returns whether no search was cut off; else some values may be raised.
+/// Sets each value to the maximum of itself and the exception of its slot, by a short search for each nibble of 15.
+/// Skips blocks of 64 slots without such a nibble. Returns whether no search was cut off; if one was, some values may
+/// have changed.
 fn max_by_marks<A: Allocator>(
     values: &mut [u8],
     nibbles: &[u8],
@@ -79,8 +80,8 @@ fn max_by_marks<A: Allocator>(
     max_by_marks_at(values, 64 * blocks.len(), rest, map, first)
 }
 
-/// Raises the values from `at` on, two for each byte of nibbles, by short searches. The others are unchanged. Returns whether no
-/// search was cut off.
+/// Does what `max_by_marks` does for the values from `at` on, two for each byte of nibbles. The other values don't
+/// change. Returns whether no search was cut off.
 fn max_by_marks_at<A: Allocator>(
     values: &mut [u8],
     at: usize,

@@ -1,5 +1,5 @@
 // SPDX-License-Identifier: Apache-2.0
-//! Maxima of values and of the fold of registers.
+//! Takes the maximum of values and folded registers.
 ghost use Rattle.std.specs.Prelude.{◌≡◌, ◌^◌, ◌≤◌, length};
 ghost use Rattle.hll_coupons.specs.Fold.{fold_to, pairs};
 ghost use Rattle.hll_base.specs.Join.{join};
@@ -8,11 +8,12 @@ ghost use Rattle.hll_kernels.specs.Packed.{AreRegisters};
 use crate::register_slice::RegisterSlice;
 use crate::registers::{Registers, two_to};
 
-/// The logarithm of the number of registers that are joined at once where few are expensive.
+/// The logarithm of the number of registers to fold to first, if reading few registers at a time is expensive.
 const LG_PART: u8 = 14;
 
-/// Raises each of 2^`lg_k` values to the greatest of itself and the source's registers that fold to it: each block of
-/// 2^`lg_k` consecutive registers folds to all of the values. Where few registers at a time are expensive, folds to 2^14 first.
+/// Sets each of 2^`lg_k` values to the maximum of itself and the source's registers that fold to it: each block of
+/// 2^`lg_k` consecutive registers folds to all of the values. Folds to 2^14 registers first if the source is slow to
+/// read in smaller blocks.
 pub fn max_folds<R: Registers>(values: &mut [u8], lg_k: u8, src: &R)
     requires least { 4 ≤ lg_k }
     requires most { lg_k ≤ (R.stored src.now).lg_k }
@@ -27,7 +28,8 @@ pub fn max_folds<R: Registers>(values: &mut [u8], lg_k: u8, src: &R)
     }
 }
 
-/// Raises each value to the registers that fold to it, by the fold to 2^14 registers, of which the source has more.
+/// Sets each value to the maximum of itself and the registers that fold to it. Folds to 2^14 registers first; the
+/// source has at least this number.
 #[inline(never)]
 fn max_by_stages<R: Registers>(values: &mut [u8], lg_k: u8, src: &R)
     requires least { 4 ≤ lg_k }
@@ -42,7 +44,7 @@ fn max_by_stages<R: Registers>(values: &mut [u8], lg_k: u8, src: &R)
     max_blocks(values, lg_k, &RegisterSlice::new(LG_PART, &parts));
 }
 
-/// Raises each value to the registers that fold to it, one block after the other.
+/// Sets each value to the maximum of itself and the registers that fold to it, one block after the other.
 fn max_blocks<R: Registers>(values: &mut [u8], lg_k: u8, src: &R)
     requires least { 4 ≤ lg_k }
     requires most { lg_k ≤ (R.stored src.now).lg_k }

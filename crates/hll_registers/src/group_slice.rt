@@ -1,5 +1,5 @@
 // SPDX-License-Identifier: Apache-2.0
-//! A slice of groups of three bytes as registers of six bits.
+//! A slice of groups of three bytes as 6-bit registers.
 ghost use Rattle.std.specs.Prelude.{◌≡◌, ◌≤◌, ◌==◌, ◌↔◌, IsTrue, IfOk, IfErr};
 ghost use Rattle.std.specs.List.{list_all};
 ghost use Rattle.hll_base.specs.declared.error.Reason.TheVariants.{Memory};
@@ -41,7 +41,7 @@ impl<'a> Model for GroupSlice<'a> {
 }
 
 impl<'a> GroupSlice<'a> {
-    /// The 2^`lg_k` registers of groups, for an `lg_k` of 4 to 21, with the cleared state.
+    /// Returns the 2^`lg_k` registers in `groups`, with the cleared state. `lg_k` is 4 to 21.
     pub fn new(lg_k: u8, groups: &'a [[u8; 3]]) -> GroupSlice<'a>
         requires least { 4 ≤ lg_k }
         requires most { lg_k ≤ 21 }
@@ -55,7 +55,7 @@ impl<'a> GroupSlice<'a> {
         }
     }
 
-    /// These registers with another state.
+    /// Returns these registers with another state.
     pub fn with_state(self, state: EstimateState) -> GroupSlice<'a>
         requires { IsState state }
         ensures { result ≡ record self.entry { state = state } }
@@ -63,10 +63,10 @@ impl<'a> GroupSlice<'a> {
         GroupSlice { state, ..self }
     }
 
-    /// The image of these registers with another state (docs/FORMAT.md, "What is written"). One pass that counts zeros, and
-    /// a copy.
+    /// Returns the image of these registers with another state (docs/FORMAT.md, "What is written"). One pass that
+    /// counts zeros, and a copy.
     ///
-    /// Fails with `Memory`.
+    /// Fails with `Memory` if an allocation fails.
     pub fn image_with<A: Allocator>(
         &self,
         alloc: A,
@@ -78,21 +78,21 @@ impl<'a> GroupSlice<'a> {
         six_bit_image(alloc, self.lg_k, self.groups, self.num_zeros(), state)
     }
 
-    /// How many registers are 0. One pass.
+    /// Returns the number of registers that are 0. One pass.
     pub fn num_zeros(&self) -> u32
         ensures { result ≡ zeros self.now.registers }
     {
         count_zeros_in(self.groups) as u32
     }
 
-    /// Whether all registers are 0.
+    /// Returns whether all registers are 0.
     pub fn are_all_zero(&self) -> bool
         ensures { result ≡ list_all (λ v. v == 0) self.now.registers }
     {
         all_zero_in(self.groups)
     }
 
-    /// Whether the registers are the same as others. One pass over the groups.
+    /// Returns whether the registers are the same as those of `other`. One pass over the groups.
     pub fn has_same_registers(&self, other: &GroupSlice<'_>) -> bool
         ensures { IsTrue result ↔ (self.now.registers ≡ other.now.registers) }
     {

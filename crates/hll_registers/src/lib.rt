@@ -1,5 +1,5 @@
 // SPDX-License-Identifier: Apache-2.0
-//! Registers that can be read and made, and those of four bits (docs/ARCHITECTURE.md, "Registers").
+//! Traits for registers that can be read and made, and 4-bit registers (docs/ARCHITECTURE.md, "Registers").
 #![tactic(auto)]
 
 mod agreement;

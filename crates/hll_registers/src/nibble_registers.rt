@@ -1,5 +1,5 @@
 // SPDX-License-Identifier: Apache-2.0
-//! Registers as nibbles above the least of them, with a map of exceptions (docs/MODEL.md, "Registers of four bits").
+//! Registers as nibbles above the least register, with a map of exceptions (docs/MODEL.md, "Registers of four bits").
 ghost use Rattle.std.specs.Prelude.{◌≡◌, ◌≢◌, ◌+◌, ◌*◌, ◌^◌, ◌<◌, ◌≤◌, ◌==◌, ◌%◌, ◌++◌, ◌⊎◌, ℕ, take, drop, min, length, count_by, nat_eq, slice_index, slice_set, IfOk, IfErr, OnOk, OnErr, Some, None};
 ghost use Rattle.std.specs.Cmp.Lexicographic.{pointwise};
 ghost use Rattle.std.specs.FinSet.{len};
@@ -29,22 +29,24 @@ use hll_kernels::nibbles::{MARK, count_zero_nibbles, nibble_of, packed_nibbles, 
 use std::alloc::Allocator;
 use std::marker::Model;
 
-/// 2^`lg_k` registers of 0 to 63, two in a byte: each as far above the least of all as a nibble says, and where that is
-/// 15 or more, in a map. Contracts see the `lg_k`, the list of registers, and the buckets of the map.
+/// 2^`lg_k` registers of 0 to 63, two in a byte. A nibble is the height of the register above the least register.
+/// Registers 15 or more above it are in a map. Contracts see the `lg_k`, the list of registers, and the buckets of the
+/// map.
 ///
-/// What reads them takes no memory.
+/// Reading allocates nothing.
 #[derive_where(Debug)]
 pub struct NibbleRegisters<A: Allocator> {
     lg_k: u8,
     /// The least register.
     minimum: u8,
-    /// How many registers are at the least one.
+    /// The number of registers at the minimum.
     count_at_minimum: u32,
     nibbles: Vec<u8, A>,
     exceptions: Exceptions<A>,
 }
 
-/// Written out, and not derived, so that the proof of whatever drops registers calls this and doesn't go through their parts.
+/// Written out instead of derived. The proof of code that drops registers then uses this contract instead of
+/// considering their parts.
 impl<A: Allocator> Drop for NibbleRegisters<A> {
     fn drop(self) {
         let NibbleRegisters {
@@ -73,7 +75,7 @@ impl<A: Allocator> Model for NibbleRegisters<A> {
 // ---- reading
 
 impl<A: Allocator> NibbleRegisters<A> {
-    /// 2^`lg_k` registers of 0. Fails with `Memory`.
+    /// Returns 2^`lg_k` registers of 0. Fails with `Memory` if the allocation fails.
     pub fn new(alloc: A, lg_k: u8) -> Result<NibbleRegisters<A>, Error>
         requires least { 4 ≤ lg_k }
         requires most { lg_k ≤ 21 }
@@ -89,7 +91,7 @@ impl<A: Allocator> NibbleRegisters<A> {
         })
     }
 
-    /// The `lg_k`, 4 to 21.
+    /// Returns the `lg_k`, 4 to 21.
     pub fn lg_k(&self) -> u8
         ensures lg_k { result ≡ self.now.lg_k }
         ensures least { 4 ≤ self.now.lg_k }
@@ -99,21 +101,21 @@ impl<A: Allocator> NibbleRegisters<A> {
         self.lg_k
     }
 
-    /// The least register.
+    /// Returns the least register.
     pub fn minimum(&self) -> u8
         ensures { result ≡ minimum self.now.registers }
     {
         self.minimum
     }
 
-    /// How many registers are at the least one.
+    /// Returns the number of registers at the minimum.
     pub fn count_at_minimum(&self) -> u32
         ensures { result ≡ count_at_minimum self.now.registers }
     {
         self.count_at_minimum
     }
 
-    /// The nibble of a slot.
+    /// Returns the nibble of a slot.
     pub fn nibble(&self, slot: u32) -> u8
         requires { slot < 2 ^ self.now.lg_k }
         ensures { result ≡ nibble (minimum self.now.registers) (slice_index self.now.registers slot) }
@@ -121,7 +123,7 @@ impl<A: Allocator> NibbleRegisters<A> {
         nibble_of(&self.nibbles, slot as usize)
     }
 
-    /// The exception of a slot, if it has one.
+    /// Returns the exception of a slot, or `None` if it has none.
     pub fn exception(&self, slot: u32) -> Option<u8>
         requires { slot < 2 ^ self.now.lg_k }
         ensures { result ≡ exception_of (minimum self.now.registers) (slice_index self.now.registers slot) }
@@ -129,7 +131,7 @@ impl<A: Allocator> NibbleRegisters<A> {
         exception_at(&self.exceptions, slot)
     }
 
-    /// The register of a slot.
+    /// Returns the register of a slot.
     pub fn get(&self, slot: u32) -> u8
         requires { slot < 2 ^ self.now.lg_k }
         ensures register { result ≡ slice_index self.now.registers slot }
@@ -138,7 +140,7 @@ impl<A: Allocator> NibbleRegisters<A> {
         register_at(&self.nibbles, &self.exceptions, self.minimum, slot)
     }
 
-    /// How many registers are 0.
+    /// Returns the number of registers that are 0.
     pub fn num_zeros(&self) -> u32
         ensures { result ≡ zeros self.now.registers }
     {
@@ -149,7 +151,7 @@ impl<A: Allocator> NibbleRegisters<A> {
         }
     }
 
-    /// How many exceptions there are.
+    /// Returns the number of exceptions.
     pub fn exception_count(&self) -> usize
         ensures count { result ≡ len (set_of (exceptions self.now.registers)) }
         ensures bound { result ≤ 2 ^ 21 }
@@ -157,14 +159,14 @@ impl<A: Allocator> NibbleRegisters<A> {
         count_exceptions(&self.exceptions)
     }
 
-    /// How many bytes nibbles and buckets take.
+    /// Returns the size of the nibbles and of the map's buckets in bytes.
     pub fn estimated_size(&self) -> usize
         ensures { result ≡ size_in_registers self.now.lg_k Hll4 self.now.registers }
     {
         self.nibbles.len() + bytes_of_buckets(&self.exceptions)
     }
 
-    /// Whether the registers are the same as others of the same `lg_k`.
+    /// Returns whether the registers are the same as those of `other`, which has the same `lg_k`.
     pub fn is_same(&self, other: &NibbleRegisters<A>) -> bool
         requires { self.now.lg_k ≡ other.now.lg_k }
         ensures { result ≡ pointwise nat_eq self.now.registers other.now.registers }
@@ -174,12 +176,12 @@ impl<A: Allocator> NibbleRegisters<A> {
             && have_same_exceptions(&self.exceptions, &other.exceptions)
     }
 
-    /// Whether `max_into` is expensive where there are few values.
+    /// Returns whether `max_into` is expensive for few values.
     pub fn is_slow_in_small_blocks(&self) -> bool {
         has_many_buckets(&self.exceptions)
     }
 
-    /// The sums of 2^-v over at most 128 registers v from `first` on.
+    /// Returns the sums of 2^-v over at most 128 registers v from `first` on.
     ///
     /// These registers exist, and `first` and their number are multiples of four.
     pub fn weight_sums_of_few(&self, first: usize, size: usize) -> WeightSums
@@ -199,8 +201,8 @@ impl<A: Allocator> NibbleRegisters<A> {
         )
     }
 
-    /// Raises each value to the greater of itself and register `first + i`, for value i. One pass, and a search for each
-    /// exception, or one through the map where a search is long.
+    /// Sets value i to the maximum of itself and register `first + i`. One pass and a search for each exception, or one
+    /// pass through the map if a search is long.
     pub fn max_into(&self, first: u32, values: &mut [u8])
         requires within { first + length values.old ≤ 2 ^ self.now.lg_k }
         requires aligned { first % 4 ≡ 0 }
@@ -217,7 +219,7 @@ impl<A: Allocator> NibbleRegisters<A> {
         );
     }
 
-    /// The allocator that made them.
+    /// Returns the allocator of the registers.
     pub fn allocator(&self) -> &A {
         self.nibbles.allocator()
     }
@@ -226,8 +228,8 @@ impl<A: Allocator> NibbleRegisters<A> {
 // ---- making and writing
 
 impl<A: Allocator + Clone> NibbleRegisters<A> {
-    /// These registers. Two passes over the values, two over their nibbles, and an entry for each exception. Fails with
-    /// `Memory`.
+    /// Returns the registers with these values. Two passes over the values, two over their nibbles, and an insertion
+    /// for each exception. Fails with `Memory` if an allocation fails.
     pub fn from_values(alloc: A, lg_k: u8, values: &[u8]) -> Result<NibbleRegisters<A>, Error>
         requires least { 4 ≤ lg_k }
         requires most { lg_k ≤ 21 }
@@ -247,9 +249,9 @@ impl<A: Allocator + Clone> NibbleRegisters<A> {
         })
     }
 
-    /// The registers of nibbles above a minimum, so many of which are 0, and exceptions by the same allocator, which agree.
-    /// The minimum may be below the least register: then they are packed again. A copy of the nibbles. Fails with
-    /// `Memory`.
+    /// Returns the registers of these nibbles above a minimum and these exceptions, which agree. `zeros` is the number
+    /// of nibbles that are 0, and the exceptions have the same allocator. Copies the nibbles; if the minimum is below
+    /// the least register, packs the registers again. Fails with `Memory` if an allocation fails.
     pub(crate) fn from_parts(
         alloc: A,
         lg_k: u8,
@@ -280,7 +282,7 @@ impl<A: Allocator + Clone> NibbleRegisters<A> {
         })
     }
 
-    /// A copy, with the same buckets of the map. Fails with `Memory`.
+    /// Returns a copy with the same buckets of the map. Fails with `Memory` if an allocation fails.
     pub fn clone(&self) -> Result<NibbleRegisters<A>, Error>
         ensures ok { IfOk result (λ r. r ≡ self.now) }
         ensures err { IfErr result (λ e. e ≡ Memory) }
@@ -294,8 +296,8 @@ impl<A: Allocator + Clone> NibbleRegisters<A> {
         })
     }
 
-    /// A buffer with the nibbles and the exceptions appended to it, these as coupons in ascending order. Takes
-    /// memory for a sorted copy of the exceptions, where there are any. Fails with `Memory`.
+    /// Returns `bytes` with the nibbles appended, and then the exceptions as coupons in ascending order. Allocates a
+    /// sorted copy of the exceptions, if there are any. Fails with `Memory` if an allocation fails.
     pub fn with_written(&self, mut bytes: SketchBytes<A>) -> Result<SketchBytes<A>, Error>
         ensures ok { IfOk result (WritesAscending (λ order. (bytes ++ nibble_bytes self.now.registers) ++ coupon_bytes order) (set_of (exceptions self.now.registers))) }
         ensures err { IfErr result (λ e. e ≡ Memory) }
@@ -308,10 +310,10 @@ impl<A: Allocator + Clone> NibbleRegisters<A> {
 // ---- changing
 
 impl<A: Allocator + Clone> NibbleRegisters<A> {
-    /// Gives a slot a greater register.
+    /// Sets the register of a slot to a greater value.
     ///
-    /// Fails with `Memory`, only if the set of slots with an exception changes and isn't empty afterwards, and then
-    /// changes nothing.
+    /// Fails with `Memory` if an allocation fails; then the registers are unchanged. That can happen only if the set of
+    /// slots with an exception changes and isn't empty afterwards.
     pub fn max_slot(&mut self, slot: u32, value: u8) -> Result<(), Error>
         requires within { slot < 2 ^ self.old.lg_k }
         requires more { slice_index self.old.registers slot < value }
@@ -334,7 +336,8 @@ impl<A: Allocator + Clone> NibbleRegisters<A> {
         Ok(())
     }
 
-    /// Gives a slot a greater register that is no exception. The minimum stays, with `left` registers at it.
+    /// Sets the register of a slot to a greater value that is no exception. The minimum stays, with `left` registers at
+    /// it.
     fn put_low(&mut self, slot: u32, value: u8, left: u32)
         requires within { slot < 2 ^ self.old.lg_k }
         requires more { slice_index self.old.registers slot < value }
@@ -349,7 +352,8 @@ impl<A: Allocator + Clone> NibbleRegisters<A> {
         self.count_at_minimum = left;
     }
 
-    /// Gives a slot a greater register that is an exception. The minimum stays, with `left` registers at it.
+    /// Sets the register of a slot to a greater value that is an exception. The minimum stays, with `left` registers at
+    /// it.
     #[inline(never)]
     fn put_high(&mut self, slot: u32, value: u8, left: u32) -> Result<(), Error>
         requires within { slot < 2 ^ self.old.lg_k }
@@ -376,8 +380,8 @@ impl<A: Allocator + Clone> NibbleRegisters<A> {
         Ok(())
     }
 
-    /// Gives the only slot at the minimum a greater register: the minimum rises. The exceptions above the new minimum
-    /// are made before the first nibble is written.
+    /// Sets the register of the only slot at the minimum to a greater value, so the minimum rises. The exceptions above
+    /// the new minimum are made before the first nibble is written, because an allocation may fail.
     #[inline(never)]
     fn rise(&mut self, slot: u32, value: u8) -> Result<(), Error>
         requires within { slot < 2 ^ self.old.lg_k }
@@ -405,7 +409,7 @@ impl<A: Allocator + Clone> NibbleRegisters<A> {
         Ok(())
     }
 
-    /// The least register when that of one slot has a greater value and none is left at the minimum.
+    /// Returns the least register after one slot gets a greater value, if no register is left at the minimum.
     fn minimum_with(&self, slot: u32, value: u8) -> u8
         requires within { slot < 2 ^ self.now.lg_k }
         requires more { slice_index self.now.registers slot < value }
@@ -420,8 +424,8 @@ impl<A: Allocator + Clone> NibbleRegisters<A> {
         self.minimum_of_exceptions_with(slot, value)
     }
 
-    /// The least register when that of one slot has a greater value and none is left at the minimum, or 15 above it, if that
-    /// is less. Stops at the first register that is one above the minimum.
+    /// Returns the least register after one slot gets a greater value, if no register is left at the minimum, but at
+    /// most 15 more than the minimum. Stops at the first register that is one above the minimum.
     fn minimum_of_nibbles_with(&self, slot: u32, value: u8) -> u8
         requires within { slot < 2 ^ self.now.lg_k }
         requires more { slice_index self.now.registers slot < value }
@@ -444,8 +448,8 @@ impl<A: Allocator + Clone> NibbleRegisters<A> {
         least
     }
 
-    /// The least register when that of one slot has another value, where all other registers are exceptions: their table has
-    /// more buckets than there are slots, so each search ends where it starts.
+    /// Returns the least register after one slot gets another value, if all other registers are exceptions. Their table
+    /// then has more buckets than there are slots, so each search ends where it starts.
     fn minimum_of_exceptions_with(&self, slot: u32, value: u8) -> u8
         requires within { slot < 2 ^ self.now.lg_k }
         ensures { result ≡ minimum (slice_set self.now.registers slot value) }
@@ -463,7 +467,8 @@ impl<A: Allocator + Clone> NibbleRegisters<A> {
     }
 }
 
-/// The registers of nibbles above a minimum, and exceptions. Fails with `Memory`.
+/// Returns the registers of these nibbles above a minimum and these exceptions, one byte each. Fails with `Memory` if
+/// the allocation fails.
 fn values_of<A: Allocator + Clone>(
     alloc: &A,
     nibbles: &[u8],

@@ -1,6 +1,6 @@
 // SPDX-License-Identifier: Apache-2.0
-//! A slice of nibbles above a minimum, with a map of exceptions, as registers of four bits (docs/MODEL.md, "Registers of
-//! four bits").
+//! A slice of nibbles above a minimum, with a map of exceptions, as 4-bit registers (docs/MODEL.md, "Registers of four
+//! bits").
 ghost use Rattle.std.specs.Prelude.{◌≡◌, ◌*◌, ◌^◌, ◌<◌, ◌≤◌, ◌==◌, ◌↔◌, ℕ, length, IsTrue, IfSome, IfOk, IfErr, OnOk};
 ghost use Rattle.std.specs.List.{list_all};
 ghost use Rattle.hll_base.specs.declared.error.Reason.TheVariants.{Memory, Register};
@@ -22,29 +22,30 @@ use hll_kernels::nibbles::{count_mark_nibbles, count_zero_nibbles, count_zeros_a
 use std::alloc::Allocator;
 use std::marker::Model;
 
-/// What borrowed registers are for.
+/// What the caller will do with borrowed registers.
 #[derive(Clone, Copy)]
 pub enum Use {
-    /// To be joined where they stand, or only checked.
+    /// Merge them in place, or only check them.
     Join,
-    /// To be copied, which asks how many nibbles are 0.
+    /// Copy them, which needs the number of nibbles that are 0.
     Copy,
 }
 
-/// 2^`lg_k` registers, two in a borrowed byte, with their estimate state: each as far above a minimum as a nibble says, and
-/// where that is 15, in a map. The minimum may be below the least register.
+/// 2^`lg_k` registers, two in each borrowed byte, with their estimate state. A nibble is the height of the register
+/// above a minimum, and 15 marks a register that is in a map. The minimum may be below the least register.
 #[derive_where(Debug)]
 pub struct NibbleSlice<'a, A: Allocator> {
     lg_k: u8,
     minimum: u8,
     nibbles: &'a [u8],
-    /// How many nibbles are 0, where they were counted.
+    /// The number of nibbles that are 0, if they were counted.
     zeros: Option<u32>,
     exceptions: Exceptions<A>,
     state: EstimateState,
 }
 
-/// Written out, and not derived, so that the proof of whatever drops registers calls this and doesn't go through their parts.
+/// Written out instead of derived. The proof of code that drops registers then uses this contract instead of
+/// considering their parts.
 impl<'a, A: Allocator> Drop for NibbleSlice<'a, A> {
     fn drop(self) {
         let NibbleSlice {
@@ -76,10 +77,10 @@ impl<'a, A: Allocator> Model for NibbleSlice<'a, A> {
 }
 
 impl<'a, A: Allocator> NibbleSlice<'a, A> {
-    /// The registers of nibbles above a minimum, and exceptions, if they agree, with the cleared state. One pass over the nibbles, where the minimum
-    /// is at most 49, which counts what a later use needs; takes no memory.
+    /// Returns the registers of nibbles above a minimum and exceptions, with the cleared state. One pass over the
+    /// nibbles if the minimum is at most 49; it also counts what a later `Use` needs. Allocates nothing.
     ///
-    /// `lg_k` is 4 to 21. Fails with `Register` if they don't agree.
+    /// `lg_k` is 4 to 21. Fails with `Register` if nibbles and exceptions don't agree.
     pub fn from_parts(
         lg_k: u8,
         minimum: u8,
@@ -109,7 +110,7 @@ impl<'a, A: Allocator> NibbleSlice<'a, A> {
         })
     }
 
-    /// These registers with another state.
+    /// Returns these registers with another state.
     pub fn with_state(self, state: EstimateState) -> NibbleSlice<'a, A>
         requires { IsState state }
         ensures { result ≡ record self.entry { state = state } }
@@ -132,7 +133,7 @@ impl<'a, A: Allocator> NibbleSlice<'a, A> {
         }
     }
 
-    /// How many registers are 0. One pass, where their nibbles were not counted and the minimum is 0.
+    /// Returns the number of registers that are 0. One pass if the minimum is 0 and the nibbles were not counted.
     pub fn num_zeros(&self) -> u32
         ensures { result ≡ zeros self.now.registers }
     {
@@ -145,15 +146,16 @@ impl<'a, A: Allocator> NibbleSlice<'a, A> {
         }
     }
 
-    /// Whether all registers are 0.
+    /// Returns whether all registers are 0.
     pub fn are_all_zero(&self) -> bool
         ensures { result ≡ list_all (λ v. v == 0) self.now.registers }
     {
         self.minimum == 0 && all_zero(self.nibbles)
     }
 
-    /// Whether the registers are the same as others of the same `lg_k`. One pass over the nibbles and the exceptions where the
-    /// minima are the same; else, or where a search for an exception is long, one over the registers, by blocks.
+    /// Returns whether the registers are the same as those of `other`, which has the same `lg_k`. If the minimums are
+    /// the same, one pass over the nibbles and the exceptions. Otherwise, or if a search for an exception is long, one
+    /// pass over the registers, by blocks.
     pub fn has_same_registers(&self, other: &NibbleSlice<'_, A>) -> bool
         requires { self.now.lg_k ≡ other.now.lg_k }
         ensures { IsTrue result ↔ (self.now.registers ≡ other.now.registers) }
@@ -164,8 +166,8 @@ impl<'a, A: Allocator> NibbleSlice<'a, A> {
         }
     }
 
-    /// Whether the registers are the same as others of the same `lg_k`, where that follows from nibbles and exceptions, by short
-    /// searches. `None` where the minima differ, or a search was cut off.
+    /// Returns whether the registers are the same as those of `other`, which has the same `lg_k`, by comparing nibbles
+    /// and exceptions with short searches. Returns `None` if the minimums differ, or if a search was cut off.
     fn has_same_parts(&self, other: &NibbleSlice<'_, A>) -> Option<bool>
         requires { self.now.lg_k ≡ other.now.lg_k }
         ensures { IfSome result (λ same. IsTrue same ↔ (self.now.registers ≡ other.now.registers)) }
@@ -181,10 +183,11 @@ impl<'a, A: Allocator> NibbleSlice<'a, A> {
 }
 
 impl<'a, A: Allocator + Clone> NibbleSlice<'a, A> {
-    /// The registers in memory of their own, above the least of them. A copy of the nibbles, and where the minimum is below
-    /// the least register, two passes more. Takes memory by this allocator, which the map has.
+    /// Returns a copy of the registers that owns its memory, as nibbles above the least register. Copies the nibbles;
+    /// if the minimum is below the least register, it takes two more passes. Allocates with `alloc`, which has to be
+    /// the map's allocator.
     ///
-    /// Fails with `Memory`.
+    /// Fails with `Memory` if an allocation fails.
     pub fn into_registers(self, alloc: A) -> Result<NibbleRegisters<A>, Error>
         ensures ok { IfOk result (λ r. (r.lg_k ≡ self.entry.lg_k) × (r.registers ≡ self.entry.registers)) }
         ensures err { IfErr result (λ e. e ≡ Memory) }
@@ -205,7 +208,7 @@ impl<'a, A: Allocator + Clone> NibbleSlice<'a, A> {
     }
 }
 
-/// How many nibbles are 0, if that is of use, and how many are 15. One pass.
+/// Returns the number of nibbles that are 0, if it is needed later, and the number of nibbles that are 15. One pass.
 fn counts_of(nibbles: &[u8], later: Use) -> (Option<u32>, u32)
     requires { length nibbles.now ≤ 2 ^ 20 }
     ensures zeros { IfSome result.0 (λ n. n ≡ zero_nibbles nibbles.now) }

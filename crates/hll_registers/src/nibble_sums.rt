@@ -1,5 +1,5 @@
 // SPDX-License-Identifier: Apache-2.0
-//! Sums of the weights of registers of four bits: of their nibbles, where none is 15, and else of their values.
+//! Sums of the weights of 4-bit registers: from their nibbles if none is 15, otherwise from their values.
 ghost use Rattle.std.specs.Prelude.{◌≡◌, ◌+◌, ◌*◌, ◌/◌, ◌%◌, ◌^◌, ◌<◌, ◌≤◌, ℕ, length, take, drop, All, IfSome, IsSome};
 ghost use Rattle.hll_kernels.specs.Lanes.{nibble_values};
 ghost use Rattle.hll_kernels.specs.Packed.{nibble_at};
@@ -12,7 +12,8 @@ use hll_kernels::kernels::{WeightSums, weight_sums};
 use hll_kernels::nibbles::unmarked_sums;
 use std::alloc::Allocator;
 
-/// The sums of 2^-v over at most 128 registers v from `first` on, of nibbles above a minimum and exceptions that agree.
+/// Returns the sums of 2^-v over at most 128 registers v from `first` on. The registers are nibbles above a minimum,
+/// and exceptions that agree with them.
 pub(crate) fn sums_of_few<A: Allocator>(
     first: usize,
     size: usize,
@@ -47,7 +48,7 @@ pub(crate) fn sums_of_few<A: Allocator>(
     weight_sums(&registers[..size])
 }
 
-/// The sums of 2^-(minimum + n) over 128 nibbles n, if none is 15 and the minimum is at most 16.
+/// Returns the sums of 2^-(minimum + n) over 128 nibbles n, or `None` if a nibble is 15 or the minimum is above 16.
 fn sums_of_nibbles(bytes: &[u8], minimum: u8) -> Option<WeightSums>
     ensures unmarked { IsSome result → All (λ n. n < 15) (nibble_values 0 bytes.now) }
     ensures sums { IfSome result (λ s. AreSumsOf s (nibble_values minimum bytes.now)) }

@@ -1,6 +1,6 @@
 // SPDX-License-Identifier: Apache-2.0
-//! Images of registers of eight and of six bits (docs/FORMAT.md, "What is written"): header and preamble, and the registers
-//! as they are stored.
+//! Images of 8-bit and 6-bit registers (docs/FORMAT.md, "What is written"): header, preamble, and the registers as they
+//! are stored.
 ghost use Rattle.std.specs.Prelude.{◌≡◌, IfOk, IfErr};
 ghost use Rattle.hll_base.specs.declared.error.Reason.TheVariants.{Memory};
 ghost use Rattle.hll_kernels.specs.Groups.{registers_in, AreGroups};
@@ -14,10 +14,10 @@ use hll_base::hll_type::HllType;
 use hll_coupons::serialization::HLL_PREAMBLE_SIZE;
 use std::alloc::Allocator;
 
-/// The image of registers of eight bits, of which so many are 0, with their state: 40 bytes and one for each register,
-/// allocated in one request.
+/// Returns the image of 8-bit registers, given their state and the number of registers that are 0: 40 bytes, and one
+/// for each register. Allocated in one request.
 ///
-/// Fails with `Memory`.
+/// Fails with `Memory` if the allocation fails.
 pub fn eight_bit_image<A: Allocator>(
     alloc: A,
     lg_k: u8,
@@ -40,10 +40,10 @@ pub fn eight_bit_image<A: Allocator>(
     Ok(bytes.into_bytes())
 }
 
-/// The image of registers of six bits, of which so many are 0, with their state: 40 bytes, three for each four registers and
-/// a zero byte, allocated in one request.
+/// Returns the image of 6-bit registers, given their state and the number of registers that are 0: 40 bytes, three for
+/// each four registers, and a zero byte. Allocated in one request.
 ///
-/// Fails with `Memory`.
+/// Fails with `Memory` if the allocation fails.
 pub fn six_bit_image<A: Allocator>(
     alloc: A,
     lg_k: u8,

@@ -21,25 +21,25 @@ use std::alloc::Allocator;
 #[derive(Clone, Copy)]
 pub struct Preamble {
     pub state: EstimateState,
-    /// The number of registers that are 0; of four bits, that are at the minimum.
+    /// The number of registers that are 0. For 4-bit registers: the number of registers at the minimum.
     pub num_at_cur_min: u32,
-    /// The number of exceptions, 0 unless there are four bits.
+    /// The number of exceptions. 0 for 6-bit and 8-bit registers.
     pub exception_count: u32,
 }
 
-/// What the header of an image says beside the state.
+/// The fields of an image's header other than the state.
 #[derive(Clone, Copy)]
 pub struct HllHeader {
     pub lg_config_k: u8,
     pub hll_type: HllType,
-    /// The flags beside that of the state: the compact flag at four bits, otherwise 0.
+    /// The flags other than that of the state: for 4-bit registers the compact flag, otherwise 0.
     pub flags: u8,
-    /// The state byte: the least register at four bits, otherwise 0.
+    /// The state byte: for 4-bit registers the least register, otherwise 0.
     pub minimum: u8,
 }
 
 impl HllHeader {
-    /// The header of an image of six or eight bits.
+    /// Returns the header of an image of 6-bit or 8-bit registers.
     pub fn plain(lg_config_k: u8, hll_type: HllType) -> HllHeader
         ensures { result ≡ record { lg_config_k = lg_config_k; hll_type = hll_type; flags = 0; minimum = 0 } }
     {
@@ -53,7 +53,7 @@ impl HllHeader {
 }
 
 impl Preamble {
-    /// Reads the preamble, given the flag from the header. Returns it with the cursor after it.
+    /// Reads the preamble, given the out-of-order flag from the header. Returns it, and the cursor after it.
     pub fn read(
         mut cursor: SketchSlice<'_>,
         ooo: bool,
@@ -79,9 +79,9 @@ impl Preamble {
         Ok((preamble, cursor))
     }
 
-    /// A buffer with the preamble appended to it.
+    /// Returns `bytes` with the preamble appended.
     ///
-    /// Takes memory where the buffer has no room. Fails with `Memory`.
+    /// Allocates if the buffer has no room. Fails with `Memory` if the allocation fails.
     pub fn write<A: Allocator>(self, mut bytes: SketchBytes<A>) -> Result<SketchBytes<A>, Error>
         ensures ok { IfOk result (λ new. new ≡ bytes ++ number_bytes self.state self.num_at_cur_min self.exception_count) }
         ensures err { IfErr result (λ e. e ≡ Memory) }
@@ -95,9 +95,9 @@ impl Preamble {
         Ok(bytes)
     }
 
-    /// The first 40 bytes of an image, header and preamble, in a buffer with room for `capacity` bytes.
+    /// Returns the first 40 bytes of an image, header and preamble, in a buffer with room for `capacity` bytes.
     ///
-    /// Takes memory in one request, where the room is enough. Fails with `Memory`.
+    /// Allocates in one request if the capacity is at least 40. Fails with `Memory` if an allocation fails.
     pub fn start_image<A: Allocator>(
         self,
         alloc: A,
@@ -115,7 +115,7 @@ impl Preamble {
 
     /// Appends the header of an image.
     ///
-    /// Takes memory where the buffer has no room. Fails with `Memory`, and then changes nothing.
+    /// Allocates if the buffer has no room. Fails with `Memory` if the allocation fails; then the buffer is unchanged.
     pub fn write_header<A: Allocator>(
         self,
         bytes: &mut SketchBytes<A>,

@@ -34,7 +34,7 @@ impl<'a> Model for RegisterSlice<'a> {
 }
 
 impl<'a> RegisterSlice<'a> {
-    /// 2^`lg_k` registers of at most 63, for an `lg_k` of 4 to 21, with the cleared state.
+    /// Returns 2^`lg_k` registers, each at most 63, with the cleared state. `lg_k` is 4 to 21.
     pub fn new(lg_k: u8, values: &'a [u8]) -> RegisterSlice<'a>
         requires least { 4 ≤ lg_k }
         requires most { lg_k ≤ 21 }
@@ -48,7 +48,7 @@ impl<'a> RegisterSlice<'a> {
         }
     }
 
-    /// These registers with another state.
+    /// Returns these registers with another state.
     pub fn with_state(self, state: EstimateState) -> RegisterSlice<'a>
         requires { IsState state }
         ensures { result ≡ record self.entry { state = state } }
@@ -56,10 +56,10 @@ impl<'a> RegisterSlice<'a> {
         RegisterSlice { state, ..self }
     }
 
-    /// The image of these registers with another state (docs/FORMAT.md, "What is written"). One pass that counts zeros, and
-    /// a copy.
+    /// Returns the image of these registers with another state (docs/FORMAT.md, "What is written"). One pass that
+    /// counts zeros, and a copy.
     ///
-    /// Fails with `Memory`.
+    /// Fails with `Memory` if an allocation fails.
     pub fn image_with<A: Allocator>(
         &self,
         alloc: A,
@@ -71,21 +71,21 @@ impl<'a> RegisterSlice<'a> {
         eight_bit_image(alloc, self.lg_k, self.values, self.num_zeros(), state)
     }
 
-    /// How many registers are 0. One pass.
+    /// Returns the number of registers that are 0. One pass.
     pub fn num_zeros(&self) -> u32
         ensures { result ≡ zeros self.now.registers }
     {
         count_zeros(self.values) as u32
     }
 
-    /// Whether all registers are 0.
+    /// Returns whether all registers are 0.
     pub fn are_all_zero(&self) -> bool
         ensures { result ≡ list_all (λ v. v == 0) self.now.registers }
     {
         all_zero(self.values)
     }
 
-    /// Whether the registers are the same as others. One pass.
+    /// Returns whether the registers are the same as those of `other`. One pass.
     pub fn has_same_registers(&self, other: &RegisterSlice<'_>) -> bool
         ensures { IsTrue result ↔ (self.now.registers ≡ other.now.registers) }
     {

@@ -15,9 +15,9 @@ use hll_base::hll_type::HllType;
 use hll_coupons::coupon::Coupon;
 use std::alloc::Allocator;
 
-/// A representation of registers. Its clauses are the laws that each representation satisfies.
+/// A representation of registers. The clauses are laws that each representation satisfies.
 pub trait RegisterStore<A: Allocator>: Registers + PartialEq + Drop {
-    /// The width that its images name.
+    /// The width that its images give.
     const WIDTH: HllType;
 
     ghost WIDTH: { HllType };
@@ -27,9 +27,9 @@ pub trait RegisterStore<A: Allocator>: Registers + PartialEq + Drop {
 
     ghost NEVER_REFUSES: { Bool };
 
-    /// 2^`lg_k` registers of 0, with the cleared state.
+    /// Returns 2^`lg_k` registers of 0, with the cleared state.
     ///
-    /// `lg_k` is 4 to 21. Fails with `Memory`.
+    /// `lg_k` is 4 to 21. Fails with `Memory` if an allocation fails.
     fn make(alloc: A, lg_k: u8) -> Result<Self, Error>
     where
         Self: Sized,
@@ -38,31 +38,31 @@ pub trait RegisterStore<A: Allocator>: Registers + PartialEq + Drop {
         ensures ok { IfOk result (λ s. Self.stored s ≡ zero_registers lg_k) }
         ensures err { IfErr result (λ e. e ≡ Memory) };
 
-    /// Raises the register at the coupon's slot modulo 2^`lg_k` to the coupon's value. If it changes, the state is
-    /// cleared.
+    /// Sets the register at the coupon's slot modulo 2^`lg_k` to the maximum of itself and the coupon's value. If it
+    /// changes, the state is cleared.
     ///
-    /// Fails with `Memory`, unless `NEVER_REFUSES` is true, and then changes nothing.
+    /// Fails with `Memory` if an allocation fails, unless `NEVER_REFUSES` is true; then the registers are unchanged.
     fn put_coupon(&mut self, coupon: Coupon) -> Result<(), Error>
         ensures ok { OnOk result (Self.stored self.new ≡ update_with_coupon (Self.stored self.old) coupon) }
         ensures err { OnErr result (self.new ≡ self.old) }
         ensures memory { IfErr result (λ e. e ≡ Memory) }
         ensures never { IsTrue NEVER_REFUSES → IsOk result };
 
-    /// Sets the estimate state, and keeps the registers.
+    /// Sets the estimate state. The registers don't change.
     fn restore(&mut self, state: EstimateState)
         ensures { Self.stored self.new ≡ record (Self.stored self.old) { state = state } };
 
-    /// The image (docs/FORMAT.md, "What is written"). Its bytes are a function of the width and the `Stored`.
+    /// Returns the image (docs/FORMAT.md, "What is written"). Its bytes are a function of the width and the `Stored`.
     ///
-    /// Fails with `Memory`.
+    /// Fails with `Memory` if an allocation fails.
     fn write_image(&self) -> Result<Vec<u8, A>, Error>
         ensures ok { IfOk result (λ image. WritesRegisters image.items (Self.stored self.now).lg_k WIDTH (Self.stored self.now).registers (Self.stored self.now).state) }
         ensures err { IfErr result (λ e. e ≡ Memory) };
 
-    /// These registers, with the cleared state.
+    /// Returns registers with these values, with the cleared state.
     ///
-    /// `lg_k` is 4 to 21, and there are 2^`lg_k` values of at most 63. Fails with `Memory`. An implementation may pack
-    /// the values directly; this body puts them as coupons.
+    /// `lg_k` is 4 to 21, and there are 2^`lg_k` values of at most 63. Fails with `Memory` if an allocation fails. An
+    /// implementation may pack the values directly; this body puts them as coupons.
     fn from_values(alloc: A, lg_k: u8, values: &[u8]) -> Result<Self, Error>
     where
         Self: Sized,
@@ -79,6 +79,6 @@ pub trait RegisterStore<A: Allocator>: Registers + PartialEq + Drop {
         Ok(made)
     }
 
-    /// Two stores are equal exactly if their `lg_k`, registers and states are.
+    /// Two stores are equal exactly if their `lg_k`, registers and states are equal.
     ghost equal: { (x y : Self) → IsTrue (Self.eq x y) ↔ (Self.stored x ≡ Self.stored y) };
 }

@@ -10,30 +10,30 @@ ghost use Rattle.hll_registers.specs.EstimatorFields.{AreEstimatorFields};
 use crate::estimate_state::EstimateState;
 use hll_kernels::kernels::{WeightSums, weight_sums};
 
-/// 2^`lg_k` registers of 0 to 63, and their estimate state. No call takes memory.
+/// 2^`lg_k` registers of 0 to 63, and their estimate state. No call allocates.
 pub trait Registers {
     /// What contracts see: the `lg_k`, the list of registers, and the estimate state.
     ghost stored: { Self → Stored };
 
-    /// The `lg_k`, 4 to 21.
+    /// Returns the `lg_k`, 4 to 21.
     fn lg_k(&self) -> u8
         ensures lg_k { result ≡ (stored self.now).lg_k }
         ensures legal { IsStored (stored self.now) };
 
-    /// How many registers there are: 2^`lg_k`.
+    /// Returns the number of registers: 2^`lg_k`.
     fn num_registers(&self) -> usize
         ensures { result ≡ 2 ^ (stored self.now).lg_k };
 
-    /// The register of a slot below 2^`lg_k`, 0 to 63.
+    /// Returns the register of a slot below 2^`lg_k`, 0 to 63.
     fn get(&self, slot: u32) -> u8
         requires { slot < 2 ^ (stored self.now).lg_k }
         ensures { result ≡ slice_index (stored self.now).registers slot };
 
-    /// The estimate state.
+    /// Returns the estimate state.
     fn estimate_state(&self) -> EstimateState
         ensures { result ≡ (stored self.now).state };
 
-    /// The sums of 2^-v over the registers v. One pass, by blocks.
+    /// Returns the sums of 2^-v over the registers v. One pass, by blocks.
     fn weight_sums(&self) -> WeightSums
         ensures { AreSumsOf result (stored self.now).registers }
     {
@@ -46,7 +46,7 @@ pub trait Registers {
         sums
     }
 
-    /// The sums of 2^-v over at most 16,384 registers v from `first` on.
+    /// Returns the sums of 2^-v over at most 16,384 registers v from `first` on.
     ///
     /// These registers exist, and `first` and their number are multiples of four.
     fn weight_sums_at(&self, first: usize, size: usize) -> WeightSums
@@ -65,7 +65,8 @@ pub trait Registers {
         weight_sums(&registers[..size])
     }
 
-    /// The sums of 2^-v over at most 128 registers v from `first` on. An implementation may go over its own bytes.
+    /// Returns the sums of 2^-v over at most 128 registers v from `first` on. An implementation may loop over its own
+    /// bytes.
     ///
     /// These registers exist, and `first` and their number are multiples of four.
     fn weight_sums_of_few(&self, first: usize, size: usize) -> WeightSums
@@ -81,23 +82,23 @@ pub trait Registers {
         weight_sums(&registers[..size])
     }
 
-    /// The state from which a composite estimator computes (docs/FORMAT.md, "Estimator fields"): exact numbers of the
-    /// registers. One pass.
+    /// Returns the state that a composite estimator computes from (docs/FORMAT.md, "Estimator fields"): exact numbers,
+    /// a function of the registers. One pass.
     fn estimator_fields(&self) -> EstimateState
         ensures { AreEstimatorFields (stored self.now).registers result }
     {
-        // brings that the registers are legal
+        // (gives the proof that the registers are legal)
         let _lg_k = self.lg_k();
         EstimateState::of_sums(self.weight_sums())
     }
 
-    /// Whether `max_into` is expensive where there are few values, since each call goes over something that all registers share.
-    /// No result depends on it.
+    /// Returns whether `max_into` is expensive for few values, because each call goes over something that all registers
+    /// share. It changes only speed, no result.
     fn is_slow_in_small_blocks(&self) -> bool {
         false
     }
 
-    /// Raises each value to the greater of itself and register `first + i`, for value i.
+    /// Sets value i to the maximum of itself and register `first + i`.
     ///
     /// These registers exist, and `first` and the number of values are multiples of four. That the registers are legal
     /// is a clause of `lg_k`. An implementation may read them in groups of four; this body calls `get` for each.
@@ -115,7 +116,7 @@ pub trait Registers {
     }
 }
 
-/// 2^`lg_k`.
+/// Returns 2^`lg_k`.
 pub fn two_to(lg_k: u8) -> usize
     requires { lg_k ≤ 21 }
     ensures { result ≡ 2 ^ lg_k }
@@ -123,7 +124,7 @@ pub fn two_to(lg_k: u8) -> usize
     1 << lg_k
 }
 
-/// The logarithm of the number of registers whose weights are summed at a time.
+/// Returns the logarithm of the number of registers whose weights are summed at a time.
 fn lg_block(is_slow_in_small_blocks: bool) -> u8
     ensures least { 7 ≤ result }
     ensures most { result ≤ 14 }
@@ -131,7 +132,7 @@ fn lg_block(is_slow_in_small_blocks: bool) -> u8
     if is_slow_in_small_blocks { 14 } else { 7 }
 }
 
-/// How many registers are 0 once this one of them is greater, where it is known how many there were before.
+/// Returns the number of registers that are 0 after `register` gets a greater value, if their number before is known.
 pub fn zeros_left(zero_count: Option<u32>, register: u8) -> Option<u32>
     requires some { register ≡ 0 → IfSome zero_count (λ n. 0 < n) }
     ensures left { IfSome result (λ left. zero_count ≡ Some (if register == 0 then (left + 1) else left)) }
@@ -143,12 +144,12 @@ pub fn zeros_left(zero_count: Option<u32>, register: u8) -> Option<u32>
     }
 }
 
-/// The sum of 2^-v over the registers v, in units of 2^-63. One pass.
+/// Returns the sum of 2^-v over the registers v, in units of 2^-63. One pass.
 pub fn units_of<R: Registers>(src: &R) -> u128
     ensures units { result ≡ packed.units (R.stored src.now).registers }
     ensures bound { result ≤ 2 ^ 84 }
 {
-    // brings that the registers are legal
+    // (gives the proof that the registers are legal)
     let _lg_k = src.lg_k();
     src.weight_sums().units()
 }

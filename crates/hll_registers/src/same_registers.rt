@@ -1,5 +1,5 @@
 // SPDX-License-Identifier: Apache-2.0
-//! Whether registers are the same: by blocks of them, or for exceptions of four bits by short searches.
+//! Compares registers: by blocks of registers, or, for the exceptions of 4-bit registers, by short searches.
 ghost use Rattle.std.specs.Prelude.{◌≡◌, ◌+◌, ◌*◌, ◌%◌, ◌^◌, ◌<◌, ◌≤◌, ◌↔◌, ℕ, length, take, drop, true, false, Some, IsTrue};
 ghost use Rattle.hll_coupons.specs.AuxMap.{value_in, IsMap};
 ghost use Rattle.hll_registers.specs.FourBits.{exception_in, unboxed, IsMapFor};
@@ -13,12 +13,12 @@ use std::alloc::Allocator;
 /// The logarithm of the number of registers that are compared at a time.
 const LG_BLOCK: u8 = 14;
 
-/// Whether registers are the same as others of the same `lg_k`. One pass over both, by blocks.
+/// Returns whether two sources of the same `lg_k` have the same registers. One pass over both, by blocks.
 pub(crate) fn have_same_registers<R: Registers>(left: &R, right: &R) -> bool
     requires { (R.stored left.now).lg_k ≡ (R.stored right.now).lg_k }
     ensures { IsTrue result ↔ ((R.stored left.now).registers ≡ (R.stored right.now).registers) }
 {
-    // brings that the registers are legal
+    // (gives the proof that the registers are legal)
     let _lg_k = right.lg_k();
     let lg_size = left.lg_k().min(LG_BLOCK);
     let size = two_to(lg_size);
@@ -30,7 +30,7 @@ pub(crate) fn have_same_registers<R: Registers>(left: &R, right: &R) -> bool
     true
 }
 
-/// Whether at most 16,384 registers from `first` on are the same.
+/// Returns whether at most 16,384 registers from `first` on are the same.
 ///
 /// These registers exist, and `first` and their number are multiples of four.
 fn have_same_block<R: Registers>(left: &R, right: &R, first: usize, size: usize) -> bool
@@ -50,8 +50,8 @@ fn have_same_block<R: Registers>(left: &R, right: &R, first: usize, size: usize)
     registers[..size] == others[..size]
 }
 
-/// Whether each exception is one of another map for the same slots too, with the same value, by short searches. `None` where a
-/// search was cut off, or where there is one map alone.
+/// Returns whether each exception is also one of `other`, for the same slots and with the same value, by short
+/// searches. Returns `None` if a search was cut off, or if only one of both has a map.
 pub(crate) fn are_all_in<A: Allocator>(
     map: &Exceptions<A>,
     other: &Exceptions<A>,
@@ -69,7 +69,8 @@ pub(crate) fn are_all_in<A: Allocator>(
     }
 }
 
-/// Whether a map has each entry of another one for the same slots, by short searches. `None` where one was cut off.
+/// Returns whether a map has each of these entries, which are for the same slots, by short searches. Returns `None` if
+/// a search was cut off.
 fn are_all_entries_of<A: Allocator>(map: &AuxMap<A>, entries: &AuxMap<A>) -> Option<bool>
     requires lg_k { map.now.lg_k ≡ entries.now.lg_k }
     requires entries { IsMap entries.now }

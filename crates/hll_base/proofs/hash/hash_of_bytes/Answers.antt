@@ -3,7 +3,7 @@ use Rattle.std.proofs.Common.{◌≡◌, ℕ, ◌/◌, ◌*◌, ◌%◌, ◌^◌
 use Rattle.hll_base.specs.Hash.{Halves, hash, final_halves, after_rest, after_block}
 use Rattle.hll_base.proofs.hash.hash_of_bytes.Goals as goal
 
--- the halves with the tail are those of the hash of all bytes
+-- the halves after the tail are the hash of all bytes
 all : (c : goal.After-end) → final_halves c.count_of.result c.absorb_tail.new.self ≡ hash c.args.seed c.args.bytes.now
 all c =
     let b : List ℕ = c.args.bytes.now in

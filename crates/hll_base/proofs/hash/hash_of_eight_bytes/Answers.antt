@@ -4,7 +4,7 @@ use Rattle.hll_base.specs.Hash.{Halves, hash, final_halves, after_rest}
 use Rattle.hll_base.proofs.Hashing.{hash-eight}
 use Rattle.hll_base.proofs.hash.hash_of_eight_bytes.Goals as goal
 
--- the halves with the tail are those of the hash of all bytes
+-- the halves after the tail are the hash of all bytes
 all : (c : goal.After-end) → final_halves 8 c.absorb_eight.new.self ≡ hash c.args.seed c.args.bytes.now
 all c =
     (λ i. final_halves 8 (c.absorb_eight.ensures i))

@@ -4,7 +4,7 @@ use Rattle.std.proofs.lemmas.List.{length-take, length-drop, length-replicate, t
 use Rattle.hll_base.specs.Hash.{Halves, hash_of, final_halves}
 use Rattle.hll_base.proofs.hash.MurmurHash3X64128.finish128.Goals as goal
 
--- the halves with the rest are those of the hash of all pieces
+-- the halves after the partial block are the hash of all pieces
 all : (c : goal.After-end) → final_halves c.self.inside.count c.absorb_rest.new.self ≡ hash_of c.args.self.now
 all c =
     let n : ℕ = c.self.inside.partial in
