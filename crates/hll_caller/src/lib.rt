@@ -1,5 +1,5 @@
 // SPDX-License-Identifier: Apache-2.0
-//! A proved caller of the library: what CALLING.md shows.
+//! A proved caller of the library: the example that CALLING.md shows.
 #![tactic(auto)]
 
 ghost use Rattle.std.specs.Prelude.{◌≡◌, ◌≤◌, ◌⊎◌, ◌++◌, All, map, IfOk, IfErr};
@@ -28,9 +28,9 @@ use hll_sketch::sketch::HllSketch;
 use hll_sketch::{HllUnion, union_of};
 use std::alloc::Allocator;
 
-/// The registers of some coupons: at each slot the greatest value of those that fold to it.
+/// Returns the registers of coupons: at each slot the greatest value of the coupons that fold to it.
 ///
-/// `lg_k` is 4 to 21. Takes a byte a register. Fails with `Memory`.
+/// `lg_k` is 4 to 21. Allocates a byte for each register. Fails with `Memory` if the allocation fails.
 pub fn registers_of<A: Allocator>(
     alloc: A,
     lg_k: u8,
@@ -48,9 +48,10 @@ pub fn registers_of<A: Allocator>(
     Ok(array)
 }
 
-/// The registers of the coupons of two shards: those of all of them together, whichever shard has which.
+/// Returns the registers of the coupons of two shards together. The result doesn't depend on which shard has which
+/// coupons.
 ///
-/// `lg_k` is 4 to 21. Takes two bytes a register. Fails with `Memory`.
+/// `lg_k` is 4 to 21. Allocates two bytes for each register. Fails with `Memory` if an allocation fails.
 pub fn max_of_shards<A: Allocator + Clone>(
     alloc: A,
     lg_k: u8,
@@ -68,11 +69,12 @@ pub fn max_of_shards<A: Allocator + Clone>(
     Ok(joined)
 }
 
-/// The union of the sketches of two shards, one of which sends the sketch of its own union at some width: where all are canonical
-/// with cleared fields, the join of them all, whichever shard has which.
+/// Returns the union of the sketches of two shards. One shard sends the sketch of its own union, at some width. If all
+/// sketches are canonical with cleared fields, the result is the merge of them all, and doesn't depend on which shard
+/// has which sketches.
 ///
-/// Fails with `Argument` if `lg_max_k` is not 4 to 21, or else with `Memory`. Takes memory for both unions and the sketch that
-/// is sent.
+/// Fails with `Argument` if `lg_max_k` is not 4 to 21, and with `Memory` if an allocation fails. Allocates both unions
+/// and the sketch that is sent.
 pub fn union_of_shards<A: Allocator + Clone>(
     alloc: A,
     lg_max_k: u8,
@@ -91,10 +93,10 @@ pub fn union_of_shards<A: Allocator + Clone>(
     Ok(union)
 }
 
-/// Runs a plan in memory: the line that the program would print for it.
+/// Runs a plan in memory, and returns the line that the program would print for it.
 ///
-/// Fails with `Memory`, or the first fault of the plan with its line. Takes memory for the sketches, the bytes of an image and
-/// the line.
+/// Fails with `Memory` if an allocation fails, or with the first fault of the plan and its line. Allocates the
+/// sketches, the bytes of an image, and the line.
 pub fn run_in_memory<A: Allocator + Clone>(alloc: A, plan: &[u8]) -> Result<Vec<u8, A>, MergeError>
     ensures ok { IfOk result (λ line. IsAnswer plan.now line.items) }
     ensures err { IfErr result (λ e. (e.fault ≡ faults.Memory) ⊎ IsFirstFault plan.now e) }
@@ -107,7 +109,7 @@ pub fn run_in_memory<A: Allocator + Clone>(alloc: A, plan: &[u8]) -> Result<Vec<
     let mut writer = Watched::new(Vec::new(for_line));
     match run(alloc, &mut reader, &mut writer) {
         Ok(()) => Ok(writer.into_inner()),
-        // a stream in memory fails only where memory is refused
+        // a stream in memory fails only if an allocation fails
         Err(e) if reader.failed() || writer.failed() => Err(Fault::Memory.at(e.line)),
         Err(e) => Err(e),
     }

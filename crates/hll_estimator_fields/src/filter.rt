@@ -1,5 +1,5 @@
 // SPDX-License-Identifier: Apache-2.0
-//! Lines of images, passed on with their fields set.
+//! Passes lines of images on, with their estimator fields set.
 ghost use Rattle.std.specs.Prelude.{◌≡◌, ◌⊎◌, ◌+◌, ◌^◌, ◌<◌, ◌==◌, ◌++◌, ◌∷◌, [], ℕ, List, length, take, drop, position, false, Ok, Err, Some, None, MatchOption, MatchResult, IfOk, IfErr, IfSome};
 ghost use Rattle.std.specs.Io.KnownBytes.{Appends};
 ghost use Rattle.std.specs.Str.Lines.{strip_carriage_return};
@@ -20,10 +20,10 @@ use hll_text::watched::Watched;
 use std::alloc::{AllocError, Allocator};
 use std::{io, mem};
 
-/// The image of bytes with the fields of an estimator set.
+/// Returns the image with its estimator fields set.
 ///
-/// Fails with the reason of the first check that the bytes fail, or with `Memory`. Allocates the sketch and its image, only
-/// once the bytes that the image asks for are there.
+/// Fails with the reason of the first check that the bytes fail, and with `Memory` if an allocation fails. Allocates
+/// the sketch and its image, but only after checking that the bytes the image needs are there.
 fn with_fields<A: Allocator + Clone>(alloc: A, bytes: &[u8]) -> Result<Vec<u8, A>, Error>
     ensures ok { IfOk result (λ new. IsWithFields bytes.now new.items) }
     ensures err { IfErr result (λ e. (e ≡ reasons.Memory) ⊎ (first_fault bytes.now ≡ Some e)) }
@@ -34,8 +34,9 @@ fn with_fields<A: Allocator + Clone>(alloc: A, bytes: &[u8]) -> Result<Vec<u8, A
     sketch.serialize()
 }
 
-/// The bytes that the digits of a line stand for, in a buffer, which is taken. `Hex` where they are not an even number of
-/// hexadecimal digits, or `Memory` where a larger buffer is refused.
+/// Returns the bytes that the hexadecimal digits of a line stand for, in `buffer`, which is taken and left empty.
+///
+/// Fails with `Hex` if the line isn't an even number of hexadecimal digits, and with `Memory` if an allocation fails.
 fn decode<A: Allocator + Clone>(buffer: &mut Vec<u8, A>, digits: &[u8]) -> Result<Vec<u8, A>, Fault>
     ensures ok { IfOk result (λ bytes. image_step digits.now ≡ Ok (image bytes.items)) }
     ensures err { IfErr result (λ e. (e ≡ faults.Memory) ⊎ ((e ≡ faults.Hex) × (image_step digits.now ≡ Err faults.Hex))) }
@@ -44,10 +45,10 @@ fn decode<A: Allocator + Clone>(buffer: &mut Vec<u8, A>, digits: &[u8]) -> Resul
     decode_into(mem::replace(buffer, emptied), digits)
 }
 
-/// Passes a line on. `Hex`, or `Image` with the reason of the first check that its bytes fail, or `Memory`: then nothing
-/// of it is written. `Write` where the writer fails.
+/// Passes a line on, with the estimator fields set. `buffer` is for the bytes of the image, and keeps its size.
 ///
-/// The buffer is for the bytes of the image, and keeps its size.
+/// Fails with `Hex`, with `Image` and the reason of the first check that the bytes fail, or with `Memory` if an
+/// allocation fails; then nothing of the line is written. Fails with `Write` if the writer fails.
 fn pass_line<A: Allocator + Clone, W: io::Write>(
     buffer: &mut Vec<u8, A>,
     line: &[u8],
@@ -65,7 +66,7 @@ fn pass_line<A: Allocator + Clone, W: io::Write>(
     write_hex_line(writer, &image)
 }
 
-/// What stands before the first LF of a text, and what follows it; `None` where there is no LF.
+/// Returns the part of a text before its first LF, and the part after it, or `None` if there is no LF.
 fn split_line(text: &[u8]) -> Option<(&[u8], &[u8])>
     ensures cut { MatchOption result (position (λ b. b == 10) text.now ≡ None)
         (λ r. (at : ℕ) × (position (λ b. b == 10) text.now ≡ Some at) × (r.0.now ≡ take at text.now) × (r.1.now ≡ drop (at + 1) text.now)) }
@@ -77,18 +78,19 @@ fn split_line(text: &[u8]) -> Option<(&[u8], &[u8])>
     }
 }
 
-/// A filter of lines: the bytes of the line that has not ended, and how many lines ended so far.
+/// A filter of lines. `pending` has the bytes of the line that has not ended, and `count` is the number of lines that
+/// have ended.
 #[derive(Drop)]
 pub(crate) struct Filter<A: Allocator> {
     pub(crate) pending: Vec<u8, A>,
     pub(crate) count: u64,
-    /// For the bytes of an image.
+    /// A buffer for the bytes of an image.
     buffer: Vec<u8, A>,
     ghost small: { count < 2 ^ 64 },
 }
 
 impl<A: Allocator + Clone> Filter<A> {
-    /// No line yet. Fails where a clone of the allocator does.
+    /// Returns a filter that has read nothing. Fails if the allocator can't be cloned.
     pub(crate) fn new(alloc: A) -> Result<Filter<A>, AllocError>
         ensures { IfOk result (λ f. (f.pending.items ≡ []) × (f.count ≡ 0)) }
     {
@@ -100,8 +102,8 @@ impl<A: Allocator + Clone> Filter<A> {
         })
     }
 
-    /// Passes on every line that ends in what is pending and a piece, until one is refused. What follows the last LF is
-    /// pending then.
+    /// Passes on each line that ends in the pending bytes followed by `piece`, until one is rejected. The bytes after
+    /// the last LF are then pending.
     pub(crate) fn pass_piece<W: io::Write>(
         &mut self,
         piece: &[u8],
@@ -133,7 +135,7 @@ impl<A: Allocator + Clone> Filter<A> {
         }
     }
 
-    /// Passes on the line that is pending, with these bytes before its LF. Nothing is pending then.
+    /// Passes on the pending line, with these bytes before its LF. Nothing is pending then.
     fn end_line<W: io::Write>(
         &mut self,
         bytes: &[u8],

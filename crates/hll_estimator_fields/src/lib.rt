@@ -1,5 +1,5 @@
 // SPDX-License-Identifier: Apache-2.0
-//! A filter that sets the fields of an estimator in images, line by line (docs/PLAN.md, "Estimator fields").
+//! A filter that sets the estimator fields in images, one image for each line (docs/PLAN.md, "Estimator fields").
 #![tactic(auto)]
 
 mod filter;

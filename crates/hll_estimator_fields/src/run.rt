@@ -1,5 +1,5 @@
 // SPDX-License-Identifier: Apache-2.0
-//! Running the filter: lines are read, and their images are written with their fields set.
+//! Runs the filter: reads lines, and writes their images with the estimator fields set.
 ghost use Rattle.std.specs.Prelude.{◌≡◌, ℕ, List, [], false, MatchResult};
 ghost use Rattle.std.specs.Io.KnownBytes.{Consumes, IsAtEnd};
 ghost use Rattle.hll_text.specs.Text.{ended_lines, open_line};
@@ -12,17 +12,18 @@ use hll_text::watched::Watched;
 use std::alloc::Allocator;
 use std::io;
 
-/// The most bytes that one read may return.
+/// The greatest number of bytes that one read may return.
 const READ_SIZE: usize = 65536;
 
-/// Reads lines to the end, and writes each as the same image with the fields of an estimator set (docs/PLAN.md, "Estimator
-/// fields"): lower-case hexadecimal and LF.
+/// Reads lines to the end, and writes each as the same image with its estimator fields set (docs/PLAN.md, "Estimator
+/// fields"), in lower-case hexadecimal digits and LF.
 ///
-/// Neither stream may have failed before. What is said of bytes presupposes streams whose bytes are known.
+/// Neither stream may have failed before. Clauses about bytes assume streams whose bytes are known.
 ///
-/// One line is held at a time. Lines are passed on until one is refused, and nothing of that one is written: `Hex`, or
-/// `Image` with the reason of the first check that its bytes fail. `Memory` where memory was refused (its line is free),
-/// `Read` where the reader failed, or `Write` where the writer failed, after a front of a line.
+/// Holds one line at a time. Passes lines on until one is rejected, and writes nothing of that line. Fails with `Hex`,
+/// with `Image` and the reason of the first check that the bytes fail, with `Memory` if an allocation fails (then the
+/// line of the error may be any), with `Read` if the reader fails, or with `Write` if the writer fails. In that case a
+/// prefix of a line may be written.
 pub fn run<A: Allocator + Clone, R: io::Read, W: io::Write>(
     alloc: A,
     reader: &mut Watched<R>,
@@ -51,7 +52,7 @@ pub fn run<A: Allocator + Clone, R: io::Read, W: io::Write>(
     filter.pass_rest(writer)
 }
 
-/// Passes on the lines that end in what a stream gives, until that ends or fails, or a line is refused.
+/// Passes on the lines that end in what the reader returns, until the reader ends or fails, or a line is rejected.
 fn pass_all<A: Allocator + Clone, R: io::Read, W: io::Write>(
     filter: &mut Filter<A>,
     reader: &mut Watched<R>,

@@ -1,5 +1,5 @@
 // SPDX-License-Identifier: Apache-2.0
-//! Reads lines of images on standard input, and prints each with the fields of an estimator set (docs/PLAN.md, "Estimator
+//! Reads lines of images from standard input, and prints each with its estimator fields set (docs/PLAN.md, "Estimator
 //! fields").
 #![tactic(auto)]
 
@@ -14,7 +14,7 @@ fn main(rt: HostRuntime) -> ExitCode {
     match run(rt.alloc(), &mut reader, &mut writer) {
         Ok(()) => ExitCode::SUCCESS,
         Err(refusal) => {
-            // If standard error fails too, only the exit status is left.
+            // If standard error fails as well, the exit status is all that is left.
             let _ = write_refusal(&mut rt.stderr(), &refusal);
             ExitCode::FAILURE
         }
