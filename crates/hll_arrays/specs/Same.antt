@@ -38,7 +38,7 @@ beq_itself : (s : Bool) → beq s s ≡ true
 beq_itself true = refl
 beq_itself false = refl
 
--- then they are equal
+-- then the stores are equal
 pub same_stored-from : (x y : Stored) → same_stored x y ≡ true → x ≡ y
 same_stored-from x y h =
     let r = right (nat_eq x.lg_k y.lg_k) _ h in
@@ -55,7 +55,7 @@ same_stored-itself x =
     (both (pointwise nat_eq x.registers x.registers) _ ((bytes_decides x.registers x.registers).1 refl)
     (both (pointwise nat_eq x.state.words x.state.words) _ ((bytes_decides x.state.words x.state.words).1 refl) (beq_itself x.state.out_of_order)))
 
--- and equal ones are the same
+-- and equal stores are the same
 pub same_stored-to : (x y : Stored) → x ≡ y → same_stored x y ≡ true
 same_stored-to x y e = subst (λ z. same_stored x z ≡ true) e (same_stored-itself x)
 
@@ -71,7 +71,7 @@ same_stored-equivalence = equiv same_stored-partial (λ x. same_stored-to x x re
 
 -- ---- four bits
 
--- the same lg_k, registers and state; the buckets of exceptions don't count
+-- the same lg_k, registers and state; the buckets of exceptions don't matter
 abbrev pub same_four_bits : FourBits → FourBits → Bool
 same_four_bits = on (λ a. a.stored) same_stored
 

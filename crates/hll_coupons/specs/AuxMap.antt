@@ -1,6 +1,6 @@
 -- SPDX-License-Identifier: Apache-2.0
--- A map from slots to values, the exceptions of registers of four bits, in a table of buckets: its entries, and the size
--- that the table takes (docs/MODEL.md, "Maps of exceptions"; docs/FORMAT.md, "Probing").
+-- A map from slots to values, the exceptions of 4-bit registers, in a hash table: its entries, and the size of the
+-- table (docs/MODEL.md, "Maps of exceptions"; docs/FORMAT.md, "Probing").
 use Rattle.std.specs.Prelude.{ℕ, ◌≡◌, ◌≢◌, ◌+◌, ◌-◌, ◌*◌, ◌%◌, ◌^◌, ◌<◌, ◌≤◌, ◌==◌, nat_le, if◌then◌else◌, List, length, map, All, None, unwrap_or, find}
 use Rattle.std.specs.List.{range_with_len}
 use Rattle.std.specs.Option.{option_map}
@@ -16,11 +16,11 @@ use Rattle.hll_coupons.specs.Blocks.{bit_of}
 abbrev pub start_size : ℕ → ℕ
 start_size k = if nat_le k 6 then 2 else (if nat_le k 9 then 3 else (if nat_le k 11 then 4 else (if nat_le k 13 then 5 else k - 8)))
 
--- the least size, from the start size up, of which n entries fill at most three quarters
+-- the smallest size, from the start size up, such that n entries fill at most three quarters of the buckets
 abbrev pub table_size : ℕ → ℕ → ℕ
 table_size k n = unwrap_or (find (λ q. nat_le (4 * n) (3 * 2 ^ q)) (range_with_len (start_size k) 24)) 0
 
--- the bytes of a table of exceptions, none where there is no entry
+-- the bytes of a table of exceptions, 0 if there is no entry
 abbrev pub table_bytes : ℕ → ℕ → ℕ
 table_bytes k n = if n == 0 then 0 else 4 * 2 ^ table_size k n
 
@@ -31,7 +31,7 @@ pub record ExceptionMap : Type 0 where
   pub lg_k : ℕ
   pub table : Table
 
--- the value of the first entry at a slot, where slots count modulo 2^k
+-- the value of the first entry at a slot; slots count modulo 2^k
 abbrev pub entry_at : ℕ → List ℕ → ℕ → Option ℕ
 entry_at k entries s = option_map value_of (find (λ c. slot_of c % 2 ^ k == s) entries)
 
@@ -47,7 +47,7 @@ entry_of c = (slot_of c, value_of c)
 abbrev pub entries_in : ExceptionMap → List (ℕ × ℕ)
 entries_in m = map entry_of (coupons_in m.table.buckets)
 
--- slots are below 2^lg_k, a search for a slot comes to its entry, and the table has the least size
+-- slots are below 2^lg_k, a search for a slot finds its entry, and the table has the smallest size
 pub record IsMap (m : ExceptionMap) : Type 0 where
   pub low : 4 ≤ m.lg_k
   pub high : m.lg_k ≤ 21
@@ -56,11 +56,11 @@ pub record IsMap (m : ExceptionMap) : Type 0 where
   pub slots : All (λ c. slot_of c < 2 ^ m.lg_k) (coupons_in m.table.buckets)
   pub size : m.table.lg_size ≡ table_size m.lg_k (length (coupons_in m.table.buckets))
 
--- a map with no entry
+-- a map without entries
 abbrev pub empty_map : ℕ → ExceptionMap
 empty_map k = record { lg_k = k; table = empty_table (start_size k) }
 
--- a bit for each slot, which is set where the slot has a value
+-- a bit for each slot, set if the slot has a value
 pub record MarksValues (m : ExceptionMap) (raw_coupons : List ℕ) : Type 0 where
   pub room : 2 ^ m.lg_k ≤ 64 * length raw_coupons
   pub set : (s : ℕ) → s < 2 ^ m.lg_k → bit_of raw_coupons s ≡ 1 → value_in m s ≢ None
@@ -79,10 +79,10 @@ pub data Inserts (old : Table) (entry : ℕ) (new : Table) : Type 0 where
       → Puts slot_of old.lg_size old.buckets entry new.buckets → Inserts old entry new
   grows : 3 * 2 ^ old.lg_size < 4 * (length (coupons_in old.buckets) + 1) → IsGrownFrom old entry new → Inserts old entry new
 
--- a raw coupon, or the pair of the slot and the value where the raw coupon is an entry at that slot
+-- the new raw coupon of a bucket when a slot gets a value: the pair of both if the bucket had the entry of that slot
 abbrev pub replaced : ℕ → ℕ → ℕ → ℕ
 replaced slot value c = if c == 0 then 0 else (if slot_of c == slot then pair slot value else c)
 
--- a map whose entry at a slot has another value, at the same place
+-- a map in which the entry at a slot has another value, in the same bucket
 abbrev pub with_value : ExceptionMap → ℕ → ℕ → ExceptionMap
 with_value m slot value = record { lg_k = m.lg_k; table = record { lg_size = m.table.lg_size; buckets = map (replaced slot value) m.table.buckets } }

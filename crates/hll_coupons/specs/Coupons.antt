@@ -19,11 +19,11 @@ abbrev pub raw_coupons : ℕ → List ℕ → List ℕ
 raw_coupons zero bytes = []
 raw_coupons (suc n) bytes = from_le_bytes w32 bytes ∷ raw_coupons n (drop 4 bytes)
 
--- the coupons of the first n buckets: all of them where the image is compact, else those that are not empty
+-- the coupons of the first n buckets: all buckets if the image is compact, else those that are not empty
 abbrev pub coupons_at : Bool → ℕ → List ℕ → List ℕ
 coupons_at compact n bytes = if compact then raw_coupons n bytes else coupons_in (raw_coupons n bytes)
 
--- each has a value, and none stands twice
+-- each has a value, and none occurs twice
 pub record AreCoupons (coupons : List ℕ) : Type 0 where
   pub valued : All (λ c. 1 ≤ value_of c) coupons
   pub distinct : len (set_of coupons) ≡ length coupons
@@ -41,7 +41,7 @@ pub record WritesAscending (bytes_of : List ℕ → List ℕ) (S : Pairs) (bytes
   pub ascending : IsAscending order S
   pub is : bytes ≡ bytes_of order
 
--- the number of a width in the mode byte
+-- the code of a width in the mode byte
 abbrev pub bits_of_width : HllType → ℕ
 bits_of_width Hll4 = 0
 bits_of_width Hll6 = 1
@@ -55,7 +55,7 @@ mode_byte stage width = stage + 4 * bits_of_width width
 abbrev pub coupon_bytes : List ℕ → List ℕ
 coupon_bytes order = flat_map (to_le_bytes w32) order
 
--- the eight bytes before the coupons of a list, of this count
+-- the eight bytes before the coupons of a list with this count
 abbrev pub list_header : ℕ → HllType → ℕ → List ℕ
 list_header lg_k width count = 2 ∷ 1 ∷ 7 ∷ lg_k ∷ 3 ∷ (if count == 0 then 12 else 8) ∷ count ∷ mode_byte 0 width ∷ []
 
@@ -63,7 +63,7 @@ list_header lg_k width count = 2 ∷ 1 ∷ 7 ∷ lg_k ∷ 3 ∷ (if count == 0 t
 abbrev pub list_bytes : ℕ → HllType → List ℕ → List ℕ
 list_bytes lg_k width order = list_header lg_k width (length order) ++ coupon_bytes order
 
--- the eight bytes before the count of a set, of a table of 2^size buckets
+-- the eight bytes before the count of a set with a table of 2^size buckets
 abbrev pub set_header : ℕ → HllType → ℕ → List ℕ
 set_header lg_k width size = 3 ∷ 1 ∷ 7 ∷ lg_k ∷ size ∷ 8 ∷ 0 ∷ mode_byte 1 width ∷ []
 

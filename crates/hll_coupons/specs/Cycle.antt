@@ -9,16 +9,16 @@ use Rattle.hll_coupons.specs.declared.cycle.Cycle.{Cycle}
 abbrev pub IsInverse : ℕ → ℕ → ℕ → Type 0
 IsInverse lg number inverse = number * inverse % 2 ^ lg ≡ 1 % 2 ^ lg
 
--- the bucket after so many steps from bucket 0
+-- the bucket after n steps from bucket 0
 abbrev pub bucket_after : ℕ → ℕ → ℕ → ℕ
 bucket_after lg stride steps = steps * stride % 2 ^ lg
 
--- bit i is set where the i-th place of the cycle is empty
+-- bit i is set if the i-th bucket of the cycle is empty
 pub record IsEmptyMap (lg stride : ℕ) (buckets blocks : List ℕ) : Type 0 where
   pub size : 64 * length blocks ≡ 2 ^ lg
   pub bits : (i : ℕ) → i < 2 ^ lg → bit_of blocks i ≡ (if slice_index buckets (bucket_after lg stride i) == 0 then 1 else 0)
 
--- the first bit that is set from this one on, round the end
+-- the first bit that is set, from this bit on, wrapping around at the end
 pub record IsNextRound (lg : ℕ) (blocks : List ℕ) (from next : ℕ) : Type 0 where
   pub steps : ℕ
   pub within : steps < 2 ^ lg
@@ -26,7 +26,7 @@ pub record IsNextRound (lg : ℕ) (blocks : List ℕ) (from next : ℕ) : Type 0
   pub set : bit_of blocks next ≡ 1
   pub before : (j : ℕ) → j < steps → bit_of blocks ((from + j) % 2 ^ lg) ≡ 0
 
--- what a cycle keeps, whatever the buckets are
+-- what always holds for a cycle, whatever the buckets are
 pub record IsSound {A : Type 0} (cycle : Cycle A) : Type 0 where
   pub least : 6 ≤ cycle.lg_size
   pub small : cycle.lg_size ≤ 26
@@ -38,7 +38,7 @@ pub record IsSound {A : Type 0} (cycle : Cycle A) : Type 0 where
   pub summary : IsSummary cycle.empty.items cycle.summary.items
   pub summary_small : 64 * length cycle.summary.items < 2 ^ 26
 
--- it shows which of these buckets are empty
+-- the cycle shows which of these buckets are empty
 abbrev pub Shows : {A : Type 0} → Cycle A → List ℕ → Type 0
 Shows cycle buckets = IsEmptyMap cycle.lg_size cycle.stride buckets cycle.empty.items
 
@@ -47,7 +47,7 @@ abbrev pub EndsForAbsent : {A : Type 0} → Cycle A → ℕ → ℕ → Type 0
 EndsForAbsent cycle key bucket = (key_of : ℕ → ℕ) (buckets : List ℕ) → length buckets ≡ 2 ^ cycle.lg_size → Shows cycle buckets →
     cycle.stride ≡ stride_of cycle.lg_size key → IsAbsent key_of buckets key → EndsAt key_of cycle.lg_size buckets key bucket
 
--- it shows the buckets as they are once one is filled
+-- if the old cycle shows some buckets, the new cycle shows them after this bucket is filled
 abbrev pub Fills : {A : Type 0} → Cycle A → ℕ → Cycle A → Type 0
 Fills old bucket new = (buckets : List ℕ) (entry : ℕ) → length buckets ≡ 2 ^ old.lg_size → entry ≢ 0 → Shows old buckets → Shows new (slice_set buckets bucket entry)
 

@@ -10,7 +10,7 @@ abbrev pub greatest : (ℕ → ℕ) → List ℕ → ℕ
 greatest f [] = 0
 greatest f (c ∷ cs) = max (f c) (greatest f cs)
 
--- the value of a pair whose slot folds to s at e, and 0 of any other
+-- the value of a pair if its slot folds to s at e, else 0
 abbrev pub value_at : ℕ → ℕ → ℕ → ℕ
 value_at e s c = if slot_of c % 2 ^ e == s then value_of c else 0
 
@@ -23,6 +23,6 @@ abbrev pub raw_coupons_from : ℕ → List ℕ → List ℕ
 raw_coupons_from s [] = []
 raw_coupons_from s (r ∷ R) = if r == 0 then raw_coupons_from (s + 1) R else pair s r ∷ raw_coupons_from (s + 1) R
 
--- all pairs of a slot and its register where that is above 0
+-- all pairs of a slot and its register, if that is above 0
 abbrev pub pairs : List ℕ → Pairs
 pairs R = from_list (raw_coupons_from 0 R)

@@ -5,8 +5,8 @@ use Rattle.std.specs.Int.{w64, leading_zeros}
 use Rattle.hll_base.specs.Hash.{Halves, hash, default_seed}
 use Rattle.hll_coupons.specs.Pair.{slot_of, pair}
 
--- the raw coupon of the two words of a hash: the slot is the low 26 bits of the first, the value is
--- one more than the leading zeros of the second, of which at most 62 count
+-- the raw coupon of the two halves of a hash: the slot is the low 26 bits of the first half, the value is the number of
+-- leading zeros of the second half, at most 62, plus one
 abbrev pub coupon_of_words : ℕ → ℕ → ℕ
 coupon_of_words lo hi = pair (slot_of lo) (min (leading_zeros w64 hi) 62 + 1)
 

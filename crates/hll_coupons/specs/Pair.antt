@@ -16,7 +16,7 @@ value_of raw = raw / 2 ^ 26
 abbrev pub pair : ℕ → ℕ → ℕ
 pair slot value = value * 2 ^ 26 + slot
 
--- a raw coupon of a pair: its value is from 1 to 63
+-- the raw coupon of a pair: its value is from 1 to 63
 pub record IsPair (raw : ℕ) : Type 0 where
   pub valued : 1 ≤ value_of raw
   pub small : value_of raw ≤ 63

@@ -1,6 +1,6 @@
 -- SPDX-License-Identifier: Apache-2.0
--- What stands after the header in an image of a list and of a set, and what can be wrong with it
--- (docs/FORMAT.md, "LIST" and "SET"; docs/MODEL.md, "Images").
+-- What comes after the header in the images of lists and sets, and what can be wrong with it (docs/FORMAT.md, "LIST"
+-- and "SET"; docs/MODEL.md, "Images").
 use Rattle.std.specs.Prelude.{◌≡◌, ◌≢◌, ℕ, ◌+◌, ◌*◌, ◌^◌, ◌≤◌, ◌<◌, ◌↔◌, Bool, if◌then◌else◌, IsTrue, List, length, drop, replicate}
 use Rattle.std.specs.Int.{w32, from_le_bytes}
 use Rattle.hll_base.specs.declared.error.Reason.{Reason}
@@ -11,18 +11,18 @@ use Rattle.hll_coupons.specs.Probe.{PutsEach}
 
 -- ---- a list
 
--- what the header says of a list: the logarithm of its buckets, its count, and two flags
+-- what the header says about a list: the logarithm of the number of its buckets, its count, and two flags
 pub record ListShape : Type 0 where
   pub lg_size : ℕ
   pub count : ℕ
   pub empty : Bool
   pub compact : Bool
 
--- the same from its parts, in the order of a reader's arguments
+-- the record of these fields, in the order of a reader's arguments
 abbrev pub shape_of_list : ℕ → ℕ → Bool → Bool → ListShape
 shape_of_list lg_size count empty compact = record { lg_size = lg_size; count = count; empty = empty; compact = compact }
 
--- the count is one that such a list may have, and the empty flag says whether it is 0
+-- such a list may have this count, and the empty flag agrees with the count
 pub record HasListCount (h : ListShape) : Type 0 where
   pub low : h.count ≤ 2 ^ h.lg_size
   pub flag : IsTrue h.empty ↔ (h.count ≡ 0)
@@ -46,7 +46,7 @@ pub record IsListPayload (h : ListShape) (bytes : List ℕ) : Type 0 where
 abbrev pub list_table : ListShape → List ℕ → Table
 list_table h bytes = filled_from_front h.lg_size (list_coupons h bytes)
 
--- a check of this reason fails, and what it reads is there
+-- a check fails with this reason, and the bytes that it reads are there
 pub data ListFault (h : ListShape) (bytes : List ℕ) : Reason → Type 0 where
   count : (HasListCount h → ⊥) → ListFault h bytes Count
   short : HasListCount h → length bytes < 4 * list_buckets h → ListFault h bytes Truncated
@@ -55,12 +55,12 @@ pub data ListFault (h : ListShape) (bytes : List ℕ) : Reason → Type 0 where
 
 -- ---- a set
 
--- what the header says of a set: the logarithm of its buckets, and a flag
+-- what the header says about a set: the logarithm of the number of its buckets, and a flag
 pub record SetShape : Type 0 where
   pub lg_size : ℕ
   pub compact : Bool
 
--- the same from its parts, in the order of a reader's arguments
+-- the record of these fields, in the order of a reader's arguments
 abbrev pub shape_of_set : ℕ → Bool → SetShape
 shape_of_set lg_size compact = record { lg_size = lg_size; compact = compact }
 
@@ -76,7 +76,7 @@ set_buckets h bytes = if h.compact then set_count bytes else 2 ^ h.lg_size
 abbrev pub set_coupons : SetShape → List ℕ → List ℕ
 set_coupons h bytes = coupons_at h.compact (set_buckets h bytes) (drop 4 bytes)
 
--- the count is there, and leaves a bucket empty
+-- the count is there, and leaves at least one bucket empty
 pub record HasSetCount (h : SetShape) (bytes : List ℕ) : Type 0 where
   pub whole : 4 ≤ length bytes
   pub low : set_count bytes < 2 ^ h.lg_size
@@ -88,12 +88,12 @@ pub record IsSetPayload (h : SetShape) (bytes : List ℕ) : Type 0 where
   pub are_coupons : AreCoupons (set_coupons h bytes)
   pub number : length (set_coupons h bytes) ≡ set_count bytes
 
--- the table that is read: the coupons placed by probing, in their order
+-- the table that is read: the coupons inserted by probing, in their order
 pub record IsSetTable (h : SetShape) (bytes : List ℕ) (t : Table) : Type 0 where
   pub size : t.lg_size ≡ h.lg_size
   pub buckets : PutsEach (λ c. c) h.lg_size (replicate (2 ^ h.lg_size) 0) (set_coupons h bytes) t.buckets
 
--- a check of this reason fails, and what it reads is there
+-- a check fails with this reason, and the bytes that it reads are there
 pub data SetFault (h : SetShape) (bytes : List ℕ) : Reason → Type 0 where
   no_count : length bytes < 4 → SetFault h bytes Truncated
   count : 4 ≤ length bytes → 2 ^ h.lg_size ≤ set_count bytes → SetFault h bytes Count

@@ -3,7 +3,7 @@
 use Rattle.hll_coupons.specs.declared.hash_set.Reading.{Reading}
 use Rattle.hll_coupons.specs.declared.hash_set.Reading.TheVariants.{Whole, Cut}
 
--- what holds where each was read
+-- what holds if all buckets were read
 abbrev pub IfWhole : Reading → Type 0 → Type 0
 IfWhole Whole P = P
 IfWhole Cut P = Unit {0}

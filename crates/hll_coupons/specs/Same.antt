@@ -1,6 +1,6 @@
 -- SPDX-License-Identifier: Apache-2.0
--- When two tables hold the same coupons, and two maps the same entries, and that these are equivalences: the laws of
--- `PartialEq` and `Eq` have to stand in specs (docs/MODEL.md, "Tables" and "Maps of exceptions").
+-- When two tables have the same coupons, and two maps the same entries, and that these relations are equivalences. The
+-- laws of `PartialEq` and `Eq` have to be in specs (docs/MODEL.md, "Tables" and "Maps of exceptions").
 use Rattle.std.specs.Prelude.{Bool, true, false, ◌≡◌, ◌&&◌, nat_eq, refl}
 use Rattle.std.proofs.Common.{sym, ◌∙◌, ap, subst, eqb-true, eq-eqb}
 use Rattle.std.proofs.lemmas.Bool.{true≢false}
@@ -10,7 +10,7 @@ use Rattle.hll_coupons.specs.AuxMap.{ExceptionMap}
 use Rattle.hll_coupons.specs.Pair.{Pairs}
 use Rattle.hll_coupons.specs.Table.{Table, coupons_of}
 
--- each coupon of one is in the other; size and buckets don't count
+-- each coupon of one table is in the other; size and buckets don't matter
 abbrev pub have_same_coupons : Table → Table → Bool
 have_same_coupons t u = is_subset (coupons_of t) (coupons_of u) && is_subset (coupons_of u) (coupons_of t)
 
@@ -19,7 +19,7 @@ both true true e = (refl, refl)
 both true false e = absurd (true≢false (sym e))
 both false b e = absurd (true≢false (sym e))
 
--- then the sets are equal
+-- then the sets of coupons are equal
 pub same_coupons-from : (t u : Table) → have_same_coupons t u ≡ true → coupons_of t ≡ coupons_of u
 same_coupons-from t u e =
     let h = both _ _ e in
@@ -29,7 +29,7 @@ same_coupons-from t u e =
 is_subset-self : (s : Pairs) → is_subset s s ≡ true
 is_subset-self s = contains-is_subset nat_cmp_total s s (λ q h. h)
 
--- and equal sets are the same coupons
+-- and if the sets are equal, the tables have the same coupons
 pub same_coupons-to : (t u : Table) → coupons_of t ≡ coupons_of u → have_same_coupons t u ≡ true
 same_coupons-to t u e =
     subst (λ s. (is_subset (coupons_of t) s && is_subset s (coupons_of t)) ≡ true) e (ap (λ b. b && b) (is_subset-self (coupons_of t)))
@@ -46,7 +46,7 @@ have_same_coupons-equivalence = equiv have_same_coupons-partial (λ t. same_coup
 
 -- ---- maps
 
--- the same lg_k and the same entries; buckets don't count
+-- the same lg_k and the same entries; buckets don't matter
 abbrev pub have_same_entries : ExceptionMap → ExceptionMap → Bool
 have_same_entries m n = nat_eq m.lg_k n.lg_k && have_same_coupons m.table n.table
 

@@ -1,5 +1,5 @@
 -- SPDX-License-Identifier: Apache-2.0
--- Buckets for coupons, in the value itself or in memory of their own.
+-- Buckets for coupons, in the value itself or allocated.
 use Rattle.std.specs.Prelude.{ℕ, List}
 use Rattle.hll_coupons.specs.declared.storage.Storage.{Storage}
 use Rattle.hll_coupons.specs.declared.storage.Storage.TheVariants.{InValue, Allocated}

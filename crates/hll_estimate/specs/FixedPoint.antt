@@ -1,12 +1,11 @@
 -- SPDX-License-Identifier: Apache-2.0
--- The estimate in fixed point, which makes it the same on every processor, and over which it is monotone. What it means
--- is in Estimate.antt.
+-- The estimate in fixed point. It is the same on every processor, and monotone. What it means is in Estimate.antt.
 use Rattle.std.specs.Prelude.{ℕ, zero, suc, ◌+◌, ◌-◌, ◌*◌, ◌/◌, ◌%◌, ◌^◌, ◌≤◌, ◌<◌, ◌==◌, max, if◌then◌else◌}
 use Rattle.hll_estimate.specs.declared.estimate.Estimate.{Estimate}
 use Rattle.hll_estimate.specs.declared.estimate.Estimate.TheVariants.{Finite, Infinite}
 use Rattle.hll_estimate.specs.Estimate.{bias_of, least_estimate}
 
--- the bounds of c and u: c registers weigh 1, each other one 2^-63 to 1 / 2
+-- the bounds of c and u: c registers have the weight 1, each other register a weight of 2^-63 to 1 / 2
 pub record AreBounded (k c u : ℕ) : Type 0 where
   pub least : 4 ≤ k
   pub most : k ≤ 21

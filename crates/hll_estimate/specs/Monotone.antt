@@ -1,5 +1,5 @@
 -- SPDX-License-Identifier: Apache-2.0
--- Estimates grow with registers.
+-- Estimates are monotone in the registers.
 use Rattle.std.specs.Prelude.{ℕ, ◌≤◌, List}
 use Rattle.std.specs.List.{AllZip}
 use Rattle.hll_base.specs.Join.{join}
@@ -20,7 +20,7 @@ IsAtMost (Finite m) (Finite n) = m ≤ n
 
 -- ---- laws
 
--- where each register is at least another's, so is the estimate
+-- if each register is at least another's, so is the estimate
 abbrev pub RaisingNeverLowers : Type 0
 RaisingNeverLowers = (k : ℕ) (R Q : List ℕ) → 4 ≤ k → k ≤ 21 → AreRegisters k R → AreRegisters k Q
     → AllZip (λ v w. v ≤ w) R Q → IsAtMost (fixed_point_estimate_of k R) (fixed_point_estimate_of k Q)

@@ -1,5 +1,5 @@
 -- SPDX-License-Identifier: Apache-2.0
--- What the filter of images makes of lines (docs/PLAN.md, "Estimator fields").
+-- What the filter of images writes for lines (docs/PLAN.md, "Estimator fields").
 use Rattle.std.specs.Prelude.{◌≡◌, ◌⊎◌, ℕ, ◌+◌, ◌<◌, true, false, Bool, List, [], ◌∷◌, ◌++◌, length, take, Option, Some, Ok, Err}
 use Rattle.std.specs.Io.KnownBytes.{Appends}
 use Rattle.hll_base.specs.declared.error.Reason.{Reason}
@@ -30,7 +30,7 @@ pub record IsPassed (line printed : List ℕ) : Type 0 where
   pub fields : IsWithFields bytes new
   pub shown : printed ≡ printed_line new
 
--- the line is no hexadecimal digits, or its bytes fail this check first
+-- the line isn't hexadecimal digits, or its bytes fail this check first
 abbrev pub IsRefusedFor : List ℕ → Fault → Type 0
 IsRefusedFor line e = ((image_step line ≡ Err Hex) × (e ≡ Hex))
     ⊎ ((bytes : List ℕ) × (image_step line ≡ Ok (image bytes)) × (r : Reason) × (first_fault bytes ≡ Some r) × (e ≡ fault_of r))
@@ -40,15 +40,15 @@ abbrev pub ArePassed : List (List ℕ) → List ℕ → Type 0
 ArePassed [] out = out ≡ []
 ArePassed (line ∷ more) out = (printed rest : List ℕ) × IsPassed line printed × ArePassed more rest × (out ≡ printed ++ rest)
 
--- why one line is not passed on, and what the writer contained before and after, and whether it has failed: memory was
--- refused or the line is, and nothing of it was written; or the writer failed before all of it was written
+-- why one line is not passed on, what the writer contained before and after, and whether it has failed: an allocation
+-- failed or the line is rejected, and nothing of it was written; or the writer failed before all of it was written
 abbrev pub StopsLine : List ℕ → Option (List ℕ) → Option (List ℕ) → Bool → Fault → Type 0
 StopsLine line old new failed e = ((failed ≡ false) × Appends old new [] × ((e ≡ Memory) ⊎ IsRefusedFor line e))
     ⊎ ((failed ≡ true) × (e ≡ Write) × (printed : List ℕ) × IsPassed line printed × (n : ℕ) × (n < length printed) × Appends old new (take n printed))
 
 -- ---- stops: what a writer contained before and after, and whether it has failed
 
--- the first lines were passed on; memory was refused
+-- the first lines were passed on; then an allocation failed
 pub record LacksMemory (ls : List (List ℕ)) (old new : Option (List ℕ)) (failed : Bool) (e : MergeError) : Type 0 where
   pub fault : e.fault ≡ Memory
   pub front : List (List ℕ)
@@ -59,7 +59,7 @@ pub record LacksMemory (ls : List (List ℕ)) (old new : Option (List ℕ)) (fai
   pub written : Appends old new out
   pub works : failed ≡ false
 
--- the first lines, after a number of others, were passed on; the next one is refused, and nothing of it was written
+-- the first lines, after a number of others, were passed on; the next line is rejected, and nothing of it was written
 pub record Refuses (count : ℕ) (ls : List (List ℕ)) (old new : Option (List ℕ)) (failed : Bool) (e : MergeError) : Type 0 where
   pub front : List (List ℕ)
   pub line : List ℕ
@@ -92,7 +92,7 @@ pub record CutsOff (count : ℕ) (ls : List (List ℕ)) (old new : Option (List 
 abbrev pub Stops : ℕ → List (List ℕ) → Option (List ℕ) → Option (List ℕ) → Bool → MergeError → Type 0
 Stops count ls old new failed e = LacksMemory ls old new failed e ⊎ (Refuses count ls old new failed e ⊎ CutsOff count ls old new failed e)
 
--- these lines, after a number of others, were passed on, and counted
+-- these lines, after a number of others, were passed on and counted
 pub record Passes (count : ℕ) (ls : List (List ℕ)) (after : ℕ) (old new : Option (List ℕ)) (failed : Bool) : Type 0 where
   pub number : after ≡ line_number (count + length ls)
   pub out : List ℕ

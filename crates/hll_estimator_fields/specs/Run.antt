@@ -1,5 +1,5 @@
 -- SPDX-License-Identifier: Apache-2.0
--- What a run of the filter leaves (docs/PLAN.md, "Estimator fields").
+-- The result of a run of the filter (docs/PLAN.md, "Estimator fields").
 use Rattle.std.specs.Prelude.{◌≡◌, ◌⊎◌, ℕ, true, false, Bool, List, length, Option}
 use Rattle.std.specs.Str.Lines.{lines}
 use Rattle.std.specs.Io.KnownBytes.{Appends, Consumes, IsAtEnd}
@@ -29,7 +29,7 @@ pub record Succeeds (s : Streams) : Type 0 where
   pub passed : ArePassed (lines text) out
   pub written : Appends s.old s.new out
 
--- a stop at a line of the text that was taken: one that ended, or its last one where there is no more
+-- a stop at a line of the text that was read: a line that ended, or the last line if there is no more text
 pub record StopsAtLine (s : Streams) (e : MergeError) : Type 0 where
   pub reader : s.reader_failed ≡ false
   pub taken : List ℕ

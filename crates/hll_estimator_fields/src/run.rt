@@ -21,9 +21,9 @@ const READ_SIZE: usize = 65536;
 /// Neither stream may have failed before. Clauses about bytes assume streams whose bytes are known.
 ///
 /// Holds one line at a time. Passes lines on until one is rejected, and writes nothing of that line. Fails with `Hex`,
-/// with `Image` and the reason of the first check that the bytes fail, with `Memory` if an allocation fails (then the
-/// line of the error may be any), with `Read` if the reader fails, or with `Write` if the writer fails. In that case a
-/// prefix of a line may be written.
+/// with `Image` and the reason of the first check that the bytes fail, with `Memory` if an allocation fails (the
+/// contract leaves its line open), with `Read` if the reader fails, or with `Write` if the writer fails. After `Write`,
+/// a prefix of a line may have been written.
 pub fn run<A: Allocator + Clone, R: io::Read, W: io::Write>(
     alloc: A,
     reader: &mut Watched<R>,

@@ -1,5 +1,5 @@
 -- SPDX-License-Identifier: Apache-2.0
--- Registers of six bits as groups of four in three bytes (docs/FORMAT.md, "Packed registers").
+-- 6-bit registers as groups of four in three bytes (docs/FORMAT.md, "Packed registers").
 use Rattle.std.specs.Prelude.{◌≡◌, ℕ, ◌+◌, ◌-◌, ◌*◌, ◌/◌, ◌%◌, ◌^◌, ◌<◌, List, [], ◌∷◌, length, slice_index, All}
 use Rattle.std.specs.List.{flat_map}
 

@@ -1,12 +1,12 @@
 -- SPDX-License-Identifier: Apache-2.0
--- Bytes of registers as lanes of words, and parts of lists that lanes change.
+-- Bytes of registers as SIMD lanes, and parts of lists that lanes change.
 use Rattle.std.specs.Prelude.{ℕ, ◌+◌, ◌-◌, ◌*◌, ◌/◌, ◌%◌, ◌^◌, ◌<◌, ◌≤◌, ◌⊎◌, if◌then◌else◌, nat_lt, max, zero, suc, List, [], ◌∷◌, sum_by}
 use Rattle.std.specs.List.{flat_map}
 use Rattle.hll_kernels.specs.Packed.{group_bytes}
 
 -- ---- parts of lists
 
--- the values of R, those from a place on raised to the greater of themselves and those of Q
+-- the values of R; those from an index on are the maximum of themselves and the values of Q
 abbrev pub max_at : ℕ → List ℕ → List ℕ → List ℕ
 max_at zero [] Q = []
 max_at zero (r ∷ R) [] = r ∷ R
@@ -16,12 +16,12 @@ max_at (suc at) (r ∷ R) Q = r ∷ max_at at R Q
 
 -- ---- words
 
--- each four bytes as a word, the lowest byte first
+-- each four bytes as a 32-bit number, the lowest byte first
 abbrev pub words_of : List ℕ → List ℕ
 words_of (a ∷ b ∷ c ∷ d ∷ rest) = (a + 256 * b + 65536 * c + 16777216 * d) ∷ words_of rest
 words_of _ = []
 
--- the four bytes of each word, the lowest byte first
+-- the four bytes of each 32-bit number, the lowest byte first
 abbrev pub bytes_of : List ℕ → List ℕ
 bytes_of [] = []
 bytes_of (w ∷ ws) = (w % 256) ∷ (w / 256 % 256) ∷ (w / 65536 % 256) ∷ (w / 16777216 % 256) ∷ bytes_of ws
@@ -45,11 +45,11 @@ groups_of _ = []
 
 -- ---- four bits
 
--- the two nibbles of each byte above a minimum, the low one first
+-- the two nibbles of each byte plus a minimum, the low nibble first
 abbrev pub nibble_values : ℕ → List ℕ → List ℕ
 nibble_values m bytes = flat_map (λ b. (m + b % 16) ∷ (m + b / 16) ∷ []) bytes
 
--- each two nibbles as a byte, the first in the low one
+-- each two nibbles as a byte, the first in the low half
 abbrev pub nibble_pairs : List ℕ → List ℕ
 nibble_pairs (a ∷ b ∷ R) = (a + 16 * b) ∷ nibble_pairs R
 nibble_pairs (a ∷ []) = a ∷ []
@@ -65,6 +65,6 @@ window_weight v = if nat_lt v 16 then (2 ^ (15 - v)) else 0
 abbrev pub window_units : List ℕ → ℕ
 window_units R = sum_by window_weight R
 
--- an index of a table of sixteen, or one that looks up 0
+-- an index into a table of sixteen, or an index for which a look-up gives 0
 abbrev pub IsIndex : ℕ → Type 0
 IsIndex v = (v < 16) ⊎ (128 ≤ v)

@@ -9,15 +9,15 @@ use Rattle.hll_kernels.specs.Groups.{group_fields}
 abbrev pub minimum : List ℕ → ℕ
 minimum R = fold min 63 R
 
--- how many registers are at the minimum
+-- the number of registers at the minimum
 abbrev pub count_at_minimum : List ℕ → ℕ
 count_at_minimum R = count_by (λ r. r == minimum R) R
 
--- how far a register is above the minimum, in four bits; 15 marks an exception
+-- the height of a register above the minimum, at most 15; 15 marks an exception
 abbrev pub nibble : ℕ → ℕ → ℕ
 nibble m r = min (r - m) 15
 
--- two nibbles in each byte, the even slot in the low one
+-- two nibbles in each byte, that of the even slot in the low half
 abbrev pub nibble_bytes_above : ℕ → List ℕ → List ℕ
 nibble_bytes_above m [] = []
 nibble_bytes_above m (r ∷ []) = nibble m r ∷ []
@@ -31,7 +31,7 @@ nibble_bytes R = nibble_bytes_above (minimum R) R
 abbrev pub nibble_at : List ℕ → ℕ → ℕ
 nibble_at bytes s = slice_index bytes (s / 2) / 16 ^ (s % 2) % 16
 
--- a nibble above 0 made one less, but 15
+-- a nibble lowered by one; 0 and 15 stay
 abbrev pub lowered_nibble : ℕ → ℕ
 lowered_nibble n = if n == 15 then 15 else (n - 1)
 
@@ -39,15 +39,15 @@ lowered_nibble n = if n == 15 then 15 else (n - 1)
 abbrev pub lowered_byte : ℕ → ℕ
 lowered_byte b = lowered_nibble (b % 16) + 16 * lowered_nibble (b / 16)
 
--- a nibble some steps lower, but 15
+-- a nibble lowered by some steps; 15 stays
 abbrev pub lowered_by : ℕ → ℕ → ℕ
 lowered_by d n = if n == 15 then 15 else (n - d)
 
--- how many nibbles of bytes are 0
+-- the number of nibbles that are 0
 abbrev pub zero_nibbles : List ℕ → ℕ
 zero_nibbles bytes = count_by (λ b. b % 16 == 0) bytes + count_by (λ b. b / 16 == 0) bytes
 
--- how many nibbles of bytes are 15
+-- the number of nibbles that are 15
 abbrev pub mark_nibbles : List ℕ → ℕ
 mark_nibbles bytes = count_by (λ b. b % 16 == 15) bytes + count_by (λ b. b / 16 == 15) bytes
 
@@ -62,7 +62,7 @@ abbrev pub field_bytes : List ℕ → List ℕ
 field_bytes (a ∷ b ∷ c ∷ d ∷ R) = group_bytes a b c d ++ field_bytes R
 field_bytes _ = 0 ∷ []
 
--- the registers of groups of three bytes; a last byte holds none
+-- the registers of groups of three bytes; a last single byte holds none
 abbrev pub fields : List ℕ → List ℕ
 fields (a ∷ b ∷ c ∷ rest) = group_fields (a ∷ b ∷ c ∷ []) ++ fields rest
 fields _ = []
@@ -76,7 +76,7 @@ pub record AreRegisters (k : ℕ) (R : List ℕ) : Type 0 where
 
 -- ---- numbers
 
--- how many registers are 0
+-- the number of registers that are 0
 abbrev pub zeros : List ℕ → ℕ
 zeros R = count_by (λ v. v == 0) R
 
@@ -94,10 +94,10 @@ high_units R = sum_by (λ v. if nat_lt v 32 then 0 else (2 ^ (63 - v))) R
 
 -- ---- laws
 
--- each nibble is read back
+-- each nibble is read back as it was written
 abbrev pub NibblesReadBack : Type 0
 NibblesReadBack = (m : ℕ) (R : List ℕ) (s : ℕ) → s < length R → nibble_at (nibble_bytes_above m R) s ≡ nibble m (slice_index R s)
 
--- each field is read back
+-- each register is read back as it was written
 abbrev pub FieldsReadBack : Type 0
 FieldsReadBack = (groups : ℕ) (R : List ℕ) → length R ≡ 4 * groups → All (λ v. v ≤ 63) R → fields (field_bytes R) ≡ R

@@ -5,20 +5,19 @@ use Rattle.hll_kernels.specs.Packed.{low_units, high_units}
 use Rattle.hll_registers.specs.declared.estimate_state.EstimateState.{EstimateState}
 use Rattle.hll_registers.specs.State.{IsState}
 
--- the word is a normal number of binary64 with the sign 0, the exponent E and the fraction F:
--- (2^52 + F) * 2^(E - 1075) ≡ n / 2^s
+-- the 64 bits are those of a normal binary64 number with sign 0, exponent E and fraction F: (2^52 + F) * 2^(E - 1075) ≡ n / 2^s
 pub record IsNormal (word n s : ℕ) : Type 0 where
   pub least : 1 ≤ word / 2 ^ 52
   pub most : word / 2 ^ 52 ≤ 2046
   pub value : (2 ^ 52 + word % 2 ^ 52) * 2 ^ (word / 2 ^ 52 + s) ≡ n * 2 ^ 1075
 
--- the word is the number n / 2^s of binary64, exactly: the word 0 for 0
+-- the 64 bits are those of the binary64 number n / 2^s, exactly; all bits are 0 for 0
 pub record IsBinary64 (word n s : ℕ) : Type 0 where
   pub zero : n ≡ 0 → word ≡ 0
   pub normal : 0 < n → IsNormal word n s
 
--- the state of registers from which a composite estimator computes: no HIP accumulator, the sum of 2^-v over the
--- registers v below 32, the sum over those from 32 on, and the flag
+-- the state of registers that a composite estimator computes from: hipAccum is 0, kxq0 is the sum of 2^-v over the
+-- registers v below 32, kxq1 the sum over those from 32 on, and the flag is set
 pub record AreEstimatorFields (R : List ℕ) (state : EstimateState) : Type 0 where
   pub legal : IsState state
   pub hip : slice_index state.words 0 ≡ 0

@@ -1,6 +1,6 @@
 -- SPDX-License-Identifier: Apache-2.0
--- Registers of four bits as they are kept: nibbles above a minimum, and a map of exceptions where there are any
--- (docs/MODEL.md, "Registers of four bits").
+-- 4-bit registers as they are stored: nibbles above a minimum, and a map of exceptions if there are any (docs/MODEL.md,
+-- "Registers of four bits").
 use Rattle.std.specs.Prelude.{◌≡◌, ◌≢◌, ℕ, Bool, true, ◌+◌, ◌-◌, ◌*◌, ◌^◌, ◌<◌, ◌≤◌, ◌==◌, nat_le, if◌then◌else◌, List, length, map, slice_index, count_by, ◌++◌, All, Option, Some, None, Box}
 use Rattle.std.specs.List.{fold, range_with_len}
 use Rattle.std.specs.FinSet.{empty}
@@ -13,36 +13,36 @@ use Rattle.hll_registers.specs.Payload.{register_of}
 use Rattle.hll_kernels.specs.Packed.{AreRegisters}
 use Rattle.hll_registers.specs.Store.{Stored, zero_registers, update_with_coupon}
 
--- the map in a box, where there is one
+-- the map in a box, if there is one
 abbrev pub unboxed : {A : Type 0} → Option (Box ExceptionMap A) → Option ExceptionMap
 unboxed None = None
 unboxed (Some b) = Some b.value
 
--- the exception of a register above a minimum: itself, where it is at least 15 above
+-- the exception of a register above a minimum: the register itself, if it is at least 15 above
 abbrev pub exception_of : ℕ → ℕ → Option ℕ
 exception_of m r = if nat_le (m + 15) r then Some r else None
 
--- the value at a slot of the map, where there is one
+-- the value at a slot of the map, if there is a map
 abbrev pub exception_in : Option ExceptionMap → ℕ → Option ℕ
 exception_in None s = None
 exception_in (Some t) s = value_in t s
 
--- the entries of the map, where there is one
+-- the entries of the map, if there is one
 abbrev pub exceptions_in : Option ExceptionMap → Pairs
 exceptions_in None = empty
 exceptions_in (Some t) = coupons_of t.table
 
--- the slot is one of the map's, where there is one
+-- the slot is one that the map has, if there is a map
 abbrev pub IsSlotOf : Option ExceptionMap → ℕ → Type 0
 IsSlotOf None s = Unit {0}
 IsSlotOf (Some t) s = s < 2 ^ t.lg_k
 
--- an exception that stays one above a minimum
+-- an exception, if it still is one above a greater minimum
 abbrev pub kept_above : ℕ → Option ℕ → Option ℕ
 kept_above m None = None
 kept_above m (Some v) = exception_of m v
 
--- the nibble of a slot whose exception, if any, may be none above a minimum
+-- the nibble of a slot above a greater minimum, above which its exception, if it has one, may no longer be one
 abbrev pub fallen : ℕ → Option ℕ → ℕ → ℕ
 fallen m None n = n
 fallen m (Some v) n = if nat_le (m + 15) v then n else (v - m)
@@ -51,12 +51,12 @@ fallen m (Some v) n = if nat_le (m + 15) v then n else (v - m)
 abbrev pub unpacked : ℕ → ℕ → List ℕ → Option ExceptionMap → List ℕ
 unpacked k m bytes e = map (λ s. register_of m (nibble_at bytes s) (exception_in e s)) (range_with_len 0 (2 ^ k))
 
--- a map for slots below 2^k that has an entry, or none
+-- a map for slots below 2^k with at least one entry, or no map
 abbrev pub IsMapFor : ℕ → Option ExceptionMap → Type 0
 IsMapFor k None = Unit {0}
 IsMapFor k (Some t) = IsMap t × (t.lg_k ≡ k) × (0 < length (coupons_in t.table.buckets))
 
--- the minimum is attained, and count, nibbles and exceptions are those of the registers above it
+-- some register is at the minimum, and the count, the nibbles and the exceptions are those of the registers above it
 pub record IsPacked (k m n : ℕ) (bytes : List ℕ) (e : Option ExceptionMap) (R : List ℕ) : Type 0 where
   pub registers : AreRegisters k R
   pub least : (s : ℕ) → s < 2 ^ k → m ≤ slice_index R s
@@ -68,13 +68,13 @@ pub record IsPacked (k m n : ℕ) (bytes : List ℕ) (e : Option ExceptionMap) (
   pub map_for : IsMapFor k e
   pub excepted : (s : ℕ) → s < 2 ^ k → exception_in e s ≡ exception_of m (slice_index R s)
 
--- registers kept as nibbles and exceptions: the registers, and the map with its buckets
+-- registers stored as nibbles and exceptions: the registers, and the map with its buckets
 pub record NibbleRegisters : Type 0 where
   pub lg_k : ℕ
   pub registers : List ℕ
   pub exceptions : Option ExceptionMap
 
--- what contracts see of registers of four bits: the registers with their state, and the map with its buckets
+-- what contracts see of 4-bit registers: the registers with their state, and the map with its buckets
 pub record FourBits : Type 0 where
   pub stored : Stored
   pub exceptions : Option ExceptionMap
@@ -83,7 +83,7 @@ pub record FourBits : Type 0 where
 abbrev pub has_exception : List ℕ → ℕ → Bool
 has_exception R s = nat_le (minimum R + 15) (slice_index R s)
 
--- the set of slots with an exception is another one, and not empty
+-- the set of slots with an exception changes, and is not empty afterwards
 pub record ExceptionsMove (k : ℕ) (old new : List ℕ) : Type 0 where
   pub moved : ℕ
   pub moved_within : moved < 2 ^ k
@@ -94,7 +94,7 @@ pub record ExceptionsMove (k : ℕ) (old new : List ℕ) : Type 0 where
 
 -- ---- laws
 
--- what is kept is a function of the registers, which it gives back
+-- what is stored is a function of the registers, and gives them back
 pub record IsOfRegisters (k m n : ℕ) (bytes : List ℕ) (e : Option ExceptionMap) (R : List ℕ) : Type 0 where
   pub minimum_is : m ≡ minimum R
   pub count_is : n ≡ count_at_minimum R
@@ -105,7 +105,7 @@ pub record IsOfRegisters (k m n : ℕ) (bytes : List ℕ) (e : Option ExceptionM
 abbrev pub PackedIsOfRegisters : Type 0
 PackedIsOfRegisters = (k m n : ℕ) (bytes : List ℕ) (e : Option ExceptionMap) (R : List ℕ) → k ≤ 21 → IsPacked k m n bytes e R → IsOfRegisters k m n bytes e R
 
--- from new registers on the minimum starts at 0, never falls over more updates, and is at most 63
+-- from new registers on, the minimum starts at 0, never falls as updates are added, and is at most 63
 pub record MinimumRises (k : ℕ) (coupons more : List ℕ) : Type 0 where
   pub starts : minimum (zero_registers k).registers ≡ 0
   pub never_falls : minimum (fold update_with_coupon (zero_registers k) coupons).registers ≤ minimum (fold update_with_coupon (zero_registers k) (coupons ++ more)).registers

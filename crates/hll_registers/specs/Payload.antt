@@ -27,7 +27,7 @@ state_at out_of_order bytes = record {
   out_of_order = out_of_order;
 }
 
--- the count of zeros, at four bits of registers at the minimum
+-- the count of zeros; for 4-bit registers, of registers at the minimum
 abbrev pub num_at_cur_min : List ℕ → ℕ
 num_at_cur_min bytes = from_le_bytes w32 (drop 24 bytes)
 
@@ -42,7 +42,7 @@ pub record IsHll8Payload (k : ℕ) (bytes : List ℕ) : Type 0 where
   pub size : length bytes ≡ 32 + 2 ^ k
   pub small : All (λ v. v ≤ 63) (drop 32 bytes)
 
--- a check of this reason fails, and what it reads is there
+-- a check fails with this reason, and the bytes that it reads are there
 pub data Hll8Fault (k : ℕ) (bytes : List ℕ) : Reason → Type 0 where
   no_counts : length bytes < 32 → Hll8Fault k bytes Truncated
   zero_count : 32 ≤ length bytes → 2 ^ k < num_at_cur_min bytes → Hll8Fault k bytes Count
@@ -50,13 +50,13 @@ pub data Hll8Fault (k : ℕ) (bytes : List ℕ) : Reason → Type 0 where
   short : length bytes < 32 + 2 ^ k → Hll8Fault k bytes Truncated
   register : 32 + 2 ^ k ≤ length bytes → (All (λ v. v ≤ 63) (take (2 ^ k) (drop 32 bytes)) → ⊥) → Hll8Fault k bytes Register
 
--- the counts of registers of eight or six bits pass their checks
+-- the counts of 8-bit or 6-bit registers pass their checks
 pub record HasPlainCounts (k : ℕ) (bytes : List ℕ) : Type 0 where
   pub whole : 32 ≤ length bytes
   pub zero_count : num_at_cur_min bytes ≤ 2 ^ k
   pub no_exceptions : exception_count bytes ≡ 0
 
--- the check of this reason is the first that fails
+-- the check with this reason is the first that fails
 pub data FirstHll8Fault (k : ℕ) (bytes : List ℕ) : Reason → Type 0 where
   no_counts : length bytes < 32 → FirstHll8Fault k bytes Truncated
   zero_count : 32 ≤ length bytes → 2 ^ k < num_at_cur_min bytes → FirstHll8Fault k bytes Count
@@ -66,7 +66,7 @@ pub data FirstHll8Fault (k : ℕ) (bytes : List ℕ) : Reason → Type 0 where
 
 -- ---- six bits
 
--- the bytes of the fields, and one that holds none
+-- the number of bytes of the packed registers, and one more byte that holds none
 abbrev pub field_size : ℕ → ℕ
 field_size k = 3 * 2 ^ k / 4 + 1
 
@@ -75,14 +75,14 @@ pub record IsHll6Payload (k : ℕ) (bytes : List ℕ) : Type 0 where
   pub no_exceptions : exception_count bytes ≡ 0
   pub size : length bytes ≡ 32 + field_size k
 
--- a check of this reason fails, and what it reads is there
+-- a check fails with this reason, and the bytes that it reads are there
 pub data Hll6Fault (k : ℕ) (bytes : List ℕ) : Reason → Type 0 where
   no_counts : length bytes < 32 → Hll6Fault k bytes Truncated
   zero_count : 32 ≤ length bytes → 2 ^ k < num_at_cur_min bytes → Hll6Fault k bytes Count
   exceptions_counted : 32 ≤ length bytes → exception_count bytes ≢ 0 → Hll6Fault k bytes Count
   short : length bytes < 32 + field_size k → Hll6Fault k bytes Truncated
 
--- the check of this reason is the first that fails
+-- the check with this reason is the first that fails
 pub data FirstHll6Fault (k : ℕ) (bytes : List ℕ) : Reason → Type 0 where
   no_counts : length bytes < 32 → FirstHll6Fault k bytes Truncated
   zero_count : 32 ≤ length bytes → 2 ^ k < num_at_cur_min bytes → FirstHll6Fault k bytes Count
@@ -91,14 +91,14 @@ pub data FirstHll6Fault (k : ℕ) (bytes : List ℕ) : Reason → Type 0 where
 
 -- ---- four bits
 
--- what the header says of registers of four bits: the minimum is the state byte
+-- what the header says about 4-bit registers; the minimum is the state byte
 pub record Hll4Shape : Type 0 where
   pub lg_k : ℕ
   pub minimum : ℕ
   pub compact : Bool
   pub lg_table : ℕ
 
--- the exceptions follow one another, with no empty bucket
+-- the exceptions are stored without empty buckets between them
 abbrev pub is_compact : AuxFormat → Bool
 is_compact Compact = true
 is_compact (Updatable lg_arr) = false
@@ -107,7 +107,7 @@ abbrev pub lg_table_of : AuxFormat → ℕ
 lg_table_of Compact = 0
 lg_table_of (Updatable lg_arr) = lg_arr
 
--- the shape of registers of four bits, by lg_k, the minimum in the header and the format of the exceptions
+-- the shape of 4-bit registers, by lg_k, the minimum in the header and the format of the exceptions
 abbrev pub shape_of_hll4 : ℕ → ℕ → AuxFormat → Hll4Shape
 shape_of_hll4 k m format = record { lg_k = k; minimum = m; compact = is_compact format; lg_table = lg_table_of format }
 
@@ -123,11 +123,11 @@ nibbles_of h bytes = take (2 ^ (h.lg_k - 1)) (drop 32 bytes)
 abbrev pub entries_of : Hll4Shape → List ℕ → List ℕ
 entries_of h bytes = coupons_at h.compact (exception_buckets h bytes) (drop (32 + 2 ^ (h.lg_k - 1)) bytes)
 
--- how many bytes there are in all
+-- the number of bytes in all
 abbrev pub hll4_size : Hll4Shape → List ℕ → ℕ
 hll4_size h bytes = 32 + (2 ^ (h.lg_k - 1) + 4 * exception_buckets h bytes)
 
--- a nibble of 15 has an entry of at least 15 above the minimum, another has none
+-- a nibble of 15 has an entry at least 15 above the minimum, and any other nibble has none
 abbrev pub Agrees : ℕ → ℕ → Option ℕ → Type 0
 Agrees m n None = (n < 15) × (m + n ≤ 63)
 Agrees m n (Some v) = (n ≡ 15) × (m + 15 ≤ v)
@@ -137,12 +137,12 @@ abbrev pub register_of : ℕ → ℕ → Option ℕ → ℕ
 register_of m n None = m + n
 register_of m n (Some v) = v
 
--- the registers of an image of four bits
+-- the registers of an image of 4-bit registers
 abbrev pub registers_of : Hll4Shape → List ℕ → List ℕ
 registers_of h bytes =
     map (λ s. register_of h.minimum (nibble_at (nibbles_of h bytes) s) (entry_at h.lg_k (entries_of h bytes) s)) (range_with_len 0 (2 ^ h.lg_k))
 
--- the counts that choose and measure the entries pass their checks
+-- the counts that determine where the entries are pass their checks
 pub record HasEntries (h : Hll4Shape) (bytes : List ℕ) : Type 0 where
   pub whole : 32 ≤ length bytes
   pub few : exception_count bytes ≤ 2 ^ h.lg_k
@@ -165,7 +165,7 @@ pub record IsHll4Payload (h : Hll4Shape) (bytes : List ℕ) : Type 0 where
   pub number : length (entries_of h bytes) ≡ exception_count bytes
   pub agree : AllAgree h bytes
 
--- a check of this reason fails, and what it reads is there
+-- a check fails with this reason, and the bytes that it reads are there
 pub data Hll4Fault (h : Hll4Shape) (bytes : List ℕ) : Reason → Type 0 where
   no_counts : length bytes < 32 → Hll4Fault h bytes Truncated
   low_count_above : 32 ≤ length bytes → 2 ^ h.lg_k < num_at_cur_min bytes → Hll4Fault h bytes Count
@@ -177,13 +177,13 @@ pub data Hll4Fault (h : Hll4Shape) (bytes : List ℕ) : Reason → Type 0 where
   register : HasEntries h bytes → hll4_size h bytes ≤ length bytes → AreEntries h.lg_k (entries_of h bytes) → length (entries_of h bytes) ≡ exception_count bytes
       → (AllAgree h bytes → ⊥) → Hll4Fault h bytes Register
 
--- the counts pass their checks, and all bytes that they ask for are there
+-- the counts pass their checks, and all bytes that they need are there
 pub record IsWhole (h : Hll4Shape) (bytes : List ℕ) : Type 0 where
   pub low : num_at_cur_min bytes ≤ 2 ^ h.lg_k
   pub has_entries : HasEntries h bytes
   pub there : hll4_size h bytes ≤ length bytes
 
--- the check of this reason is the first that fails
+-- the check with this reason is the first that fails
 pub data FirstHll4Fault (h : Hll4Shape) (bytes : List ℕ) : Reason → Type 0 where
   no_counts : length bytes < 32 → FirstHll4Fault h bytes Truncated
   low_count_above : 32 ≤ length bytes → 2 ^ h.lg_k < num_at_cur_min bytes → FirstHll4Fault h bytes Count
@@ -202,7 +202,7 @@ pub data FirstHll4Fault (h : Hll4Shape) (bytes : List ℕ) : Reason → Type 0 w
 abbrev pub flag_of : EstimateState → ℕ
 flag_of state = if state.out_of_order then 16 else 0
 
--- the words, and two counts
+-- the estimator fields, and two counts
 abbrev pub number_bytes : EstimateState → ℕ → ℕ → List ℕ
 number_bytes state low excepted = flat_map (to_le_bytes w64) state.words ++ to_le_bytes w32 low ++ to_le_bytes w32 excepted
 
@@ -217,7 +217,7 @@ hll4_bytes k R state order =
     10 ∷ 1 ∷ 7 ∷ k ∷ 0 ∷ (8 + flag_of state) ∷ minimum R ∷ mode_byte 2 Hll4
     ∷ number_bytes state (count_at_minimum R) (length order) ++ (nibble_bytes R ++ coupon_bytes order)
 
--- the bytes are written for these registers, at four bits with the exceptions in ascending order
+-- the bytes are written for these registers; for 4-bit registers with the exceptions in ascending order
 abbrev pub WritesRegisters : List ℕ → ℕ → HllType → List ℕ → EstimateState → Type 0
 WritesRegisters bytes k Hll4 R state = WritesAscending (hll4_bytes k R state) (set_of (exceptions R)) bytes
 WritesRegisters bytes k Hll6 R state = bytes ≡ hll6_bytes k R state

@@ -1,5 +1,5 @@
 -- SPDX-License-Identifier: Apache-2.0
--- What a representation of registers owes (docs/MODEL.md, "Laws of a store").
+-- What a representation of registers has to satisfy (docs/MODEL.md, "Laws of a store").
 use Rattle.std.specs.Prelude.{◌≡◌, ℕ, ◌+◌, ◌-◌, ◌*◌, ◌/◌, ◌^◌, ◌≤◌, List, [], ◌∷◌, ◌++◌, length, replicate}
 use Rattle.hll_coupons.specs.AuxMap.{table_bytes}
 use Rattle.std.specs.FinSet.{empty}
@@ -21,7 +21,7 @@ pub record Stored : Type 0 where
   pub registers : List ℕ
   pub state : EstimateState
 
--- lg_k is 4 to 21, and registers and state are those of a sketch
+-- lg_k is 4 to 21, and registers and state are legal
 pub record IsStored (x : Stored) : Type 0 where
   pub low : 4 ≤ x.lg_k
   pub high : x.lg_k ≤ 21
@@ -32,7 +32,7 @@ pub record IsStored (x : Stored) : Type 0 where
 abbrev pub zero_registers : ℕ → Stored
 zero_registers k = record { lg_k = k; registers = replicate (2 ^ k) 0; state = cleared_state }
 
--- an update by a set of pairs: at each slot the greater of the register and the fold
+-- an update by a set of pairs: at each slot the maximum of the register and the fold
 abbrev pub update_with_pairs : Stored → Pairs → Stored
 update_with_pairs x T =
     let R = join x.registers (fold_to T x.lg_k) in
@@ -42,7 +42,7 @@ update_with_pairs x T =
 abbrev pub update_with_coupon : Stored → ℕ → Stored
 update_with_coupon x c = update_with_pairs x (set_of (c ∷ []))
 
--- a merge with other registers: at each slot the greater of the register and their fold, with the cleared state
+-- a merge with other registers: at each slot the maximum of the register and their fold, with the cleared state
 abbrev pub merge_with : Stored → List ℕ → Stored
 merge_with x R = record { lg_k = x.lg_k; registers = join x.registers (fold_to (pairs R) x.lg_k); state = cleared_state }
 
@@ -52,13 +52,13 @@ packed_bytes Hll4 R = nibble_bytes R
 packed_bytes Hll6 R = field_bytes R
 packed_bytes Hll8 R = R
 
--- the exceptions that are written after them, none unless there are four bits
+-- the exceptions that are written after them, only for 4-bit registers
 abbrev pub written_exceptions : HllType → List ℕ → Pairs
 written_exceptions Hll4 R = set_of (exceptions R)
 written_exceptions Hll6 R = empty
 written_exceptions Hll8 R = empty
 
--- the bytes that registers take at each width
+-- the number of bytes that registers need at each width
 abbrev pub size_in_registers : ℕ → HllType → List ℕ → ℕ
 size_in_registers k Hll4 R = 2 ^ (k - 1) + table_bytes k (length (exceptions R))
 size_in_registers k Hll6 R = 3 * 2 ^ k / 4 + 1
@@ -66,7 +66,8 @@ size_in_registers k Hll8 R = 2 ^ k
 
 -- ---- laws
 
--- what is written ends in the packed bytes and the exceptions in ascending order: by width and registers alone
+-- what is written ends in the packed bytes and the exceptions in ascending order, which are functions of width and
+-- registers alone
 abbrev pub PackedIsWritten : Type 0
 PackedIsWritten = (bytes : List ℕ) (k : ℕ) (w : HllType) (R : List ℕ) (state : EstimateState) → WritesRegisters bytes k w R state →
     (front order : List ℕ) × IsAscending order (written_exceptions w R) × (bytes ≡ front ++ (packed_bytes w R ++ coupon_bytes order))
