@@ -1,5 +1,5 @@
 // SPDX-License-Identifier: Apache-2.0
-//! A representation of registers that `hll_arrays` does not know: two bytes each, with the required methods alone.
+//! A representation of registers that `hll_arrays` doesn't know: two bytes each, with only the required methods.
 ghost use Rattle.std.specs.Prelude.{◌≡◌, ◌^◌, ◌≤◌, IfOk, IfErr};
 ghost use Rattle.hll_base.specs.declared.error.Reason.TheVariants.{Memory};
 
@@ -11,7 +11,7 @@ use hll_coupons::coupon::Coupon;
 use std::alloc::Allocator;
 use std::marker::Model;
 
-/// 2^`lg_k`.
+/// Returns 2^`lg_k`.
 fn two_to(lg_k: u8) -> usize
     requires { lg_k ≤ 21 }
     ensures { result ≡ 2 ^ lg_k }
@@ -75,7 +75,7 @@ impl<A: Allocator> Registers for Array16<A> {
 }
 
 impl<A: Allocator + Clone> Array16<A> {
-    /// A copy with one byte for each register.
+    /// Returns a copy with one byte for each register.
     pub(crate) fn narrowed(&self) -> Result<Array8<A>, Error>
         ensures ok { IfOk result (λ a. a ≡ self.now) }
         ensures err { IfErr result (λ e. e ≡ Memory) }

@@ -1,5 +1,5 @@
 // SPDX-License-Identifier: Apache-2.0
-//! Registers of eight and six bits: copies.
+//! Copies of 8-bit and 6-bit registers.
 use crate::eight_bits::eight_in;
 use crate::register_fixtures::{Images, READ, first_of};
 use crate::register_images::compared_in;

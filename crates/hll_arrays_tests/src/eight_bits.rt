@@ -1,5 +1,5 @@
 // SPDX-License-Identifier: Apache-2.0
-//! Registers of eight bits: the calls that they alone have, at values worked out by hand.
+//! 8-bit registers: the calls that only they have, at values worked out by hand.
 ghost use Rattle.std.specs.Prelude.{◌≡◌, IfOk};
 
 use crate::register_fixtures::{first_of, new_in};
@@ -13,13 +13,13 @@ use std::test::Fail;
 /// Registers at `lg_k` 4 with the values 1 to 8 in the first slots.
 pub(crate) const EIGHT: [u8; 16] = [1, 2, 3, 4, 5, 6, 7, 8, 0, 0, 0, 0, 0, 0, 0, 0];
 
-/// The image of these registers with the cleared state: header, words, counts, registers.
+/// The image of these registers with the cleared state: header, fields, counts, registers.
 pub(crate) const IMAGE: [u8; 56] = [
     10, 1, 7, 4, 0, 16, 0, 10, 0, 0, 0, 0, 0, 0, 0, 0, 0, 0, 0, 0, 0, 0, 0, 0, 0, 0, 0, 0, 0, 0, 0,
     0, 8, 0, 0, 0, 0, 0, 0, 0, 1, 2, 3, 4, 5, 6, 7, 8, 0, 0, 0, 0, 0, 0, 0, 0,
 ];
 
-/// The registers of `EIGHT`, by updates.
+/// Returns the registers of `EIGHT`, made by updates.
 pub(crate) fn eight_in<A: Allocator>(alloc: A) -> Result<Array8<A>, Error>
     ensures { IfOk result (λ a. a.lg_k ≡ 4) }
 {

@@ -1,5 +1,6 @@
 // SPDX-License-Identifier: Apache-2.0
-//! Estimates of registers, and as binary64. `tests/estimates.py` makes the rows, by decimals of a hundred digits.
+//! Estimates of registers, and estimates as binary64 numbers. `tests/estimates.py` makes the test vectors, in decimal
+//! arithmetic with a hundred digits.
 ghost use Rattle.std.specs.Prelude.{◌≡◌, ◌↔◌, ◌^◌, ◌≤◌, length, All, IsTrue, IfOk};
 
 use hll_estimate::division::divide;
@@ -9,8 +10,8 @@ use hll_registers::registers::two_to;
 use std::alloc::{AllocError, Allocator};
 use std::test::Fail;
 
-/// `lg_k`, how many registers are 0, the value of the others, that of the last one, and the estimate in units of 2^-32,
-/// rounded down.
+/// `lg_k`, the number of registers that are 0, the value of the other registers, the value of the last register, and
+/// the estimate in units of 2^-32, rounded down.
 const FILLED: [(u8, usize, u8, u8, u128); 22] = [
     (4, 15, 1, 1, 4295972874),
     (4, 15, 1, 63, 4308006238),
@@ -36,7 +37,7 @@ const FILLED: [(u8, usize, u8, u8, u128); 22] = [
     (21, 0, 63, 62, 59927147992016427949274477214063863),
 ];
 
-/// `lg_k`, what is added to registers that are scattered, and the estimate in units of 2^-32, rounded down.
+/// `lg_k`, what is added to scattered registers, and the estimate in units of 2^-32, rounded down.
 const SCATTERED: [(u8, u8, u128); 20] = [
     (4, 0, 54298179163),
     (4, 1, 153389194313),
@@ -60,7 +61,7 @@ const SCATTERED: [(u8, u8, u128); 20] = [
     (21, 31, 20929329477952306171914163),
 ];
 
-/// Estimates in units of 2^-32, and the bits of their binary64 numbers. Some are half way between two numbers.
+/// Estimates in units of 2^-32, and the bits of their binary64 numbers. Some are halfway between two numbers.
 const DOUBLES: [(u128, u64); 26] = [
     (0, 0x0000000000000000),
     (1, 0x3df0000000000000),
@@ -96,7 +97,7 @@ fn are_small(bytes: &[u8]) -> bool
     bytes.iter().all(|value| *value <= 63)
 }
 
-/// The estimate, where there are 2^`lg_k` registers.
+/// Returns the estimate, if there are 2^`lg_k` registers.
 fn estimated(lg_k: u8, registers: &[u8]) -> Option<Estimate> {
     if lg_k < 4 || lg_k > 21 || registers.len() != two_to(lg_k) || !are_small(registers) {
         return None;
@@ -104,7 +105,7 @@ fn estimated(lg_k: u8, registers: &[u8]) -> Option<Estimate> {
     Some(estimate_of_registers(lg_k, registers))
 }
 
-/// Whether an estimate is a number, but for one part in 2^40 and one unit.
+/// Returns whether an estimate is this number, up to one part in 2^40 and one unit.
 fn is_near(estimate: Option<Estimate>, exact: u128) -> bool {
     match estimate {
         Some(Estimate::Finite(units)) => units.abs_diff(exact) <= (exact >> 40) + 1,
@@ -112,7 +113,7 @@ fn is_near(estimate: Option<Estimate>, exact: u128) -> bool {
     }
 }
 
-/// Registers of which the first ones are 0, the others `value`, and the last one `last`.
+/// Returns registers: the first ones 0, the others `value`, and the last one `last`.
 fn filled<A: Allocator>(
     alloc: A,
     lg_k: u8,
@@ -132,7 +133,7 @@ fn filled<A: Allocator>(
     Ok(registers)
 }
 
-/// Registers as of a few values for each, and `least` more.
+/// Returns registers as after a few values for each, plus `least`.
 fn scattered<A: Allocator>(alloc: A, lg_k: u8, least: u8) -> Result<Vec<u8, A>, AllocError>
     requires { lg_k ≤ 21 }
 {
@@ -162,7 +163,7 @@ fn scattered_registers(rt: HostRuntime) -> Result<(), Fail> {
     Ok(())
 }
 
-/// All 0, and all 63.
+/// All registers 0, and all 63.
 #[test]
 fn ends(rt: HostRuntime) -> Result<(), Fail> {
     for lg_k in [4u8, 12, 21] {
@@ -182,7 +183,7 @@ fn doubles(rt: HostRuntime) {
     assert_eq!(rt; nearest_double(Estimate::Infinite), 0x7ff0_0000_0000_0000);
 }
 
-/// At the edges of digits, and at the least and the greatest numbers.
+/// Numbers at the edges of digits, and the least and the greatest numbers.
 const DIVIDED: [u128; 16] = [
     0,
     1,

@@ -1,5 +1,5 @@
 // SPDX-License-Identifier: Apache-2.0
-//! Registers of four bits read from what follows the header of an image, beside those that made it.
+//! 4-bit registers read from the part of an image after the header, compared with the registers that made it.
 ghost use Rattle.std.specs.Prelude.{◌≤◌};
 
 use crate::four_bits::{assert_packed, seen_at};
@@ -10,7 +10,7 @@ use hll_base::error::Error;
 use std::alloc::Allocator;
 use std::test::Fail;
 
-/// The words 1, 2 and 3, the counts, the nibble bytes, and the exceptions.
+/// Returns the part of an image after the header: fields 1, 2 and 3, the counts, the nibble bytes, and the exceptions.
 fn payload_of<A: Allocator>(
     alloc: A,
     counts: [u32; 2],
@@ -31,7 +31,7 @@ fn payload_of<A: Allocator>(
     Ok(bytes)
 }
 
-/// The nibble bytes of registers.
+/// Returns the nibble bytes of registers.
 fn nibbles_of<A: Allocator>(alloc: A, array: &Array4<A>, lg_k: u8) -> Result<Vec<u8, A>, Error>
     requires least { 4 ≤ lg_k }
     requires most { lg_k ≤ 21 }
@@ -44,7 +44,7 @@ fn nibbles_of<A: Allocator>(alloc: A, array: &Array4<A>, lg_k: u8) -> Result<Vec
     Ok(nibbles)
 }
 
-/// The words of their exceptions, and how many these are.
+/// Returns the raw coupons of the exceptions, and their number.
 fn entries_of<A: Allocator>(
     alloc: A,
     array: &Array4<A>,
@@ -64,7 +64,7 @@ fn entries_of<A: Allocator>(
     Ok((entries, count))
 }
 
-/// Registers of each size, by updates, and read from the nibbles and exceptions that they have then.
+/// Registers of each size, made by updates, and read back from their nibbles and exceptions.
 #[test]
 fn sizes(rt: HostRuntime) -> Result<(), Fail> {
     for lg_k in 4..11u8 {

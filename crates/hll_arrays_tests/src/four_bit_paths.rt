@@ -1,5 +1,5 @@
 // SPDX-License-Identifier: Apache-2.0
-//! Registers of four bits whose exceptions meet on one path of their table, beside registers of eight bits.
+//! 4-bit registers whose exceptions share one path of their table, compared with 8-bit registers.
 ghost use Rattle.std.specs.Prelude.{◌≤◌};
 
 use hll_arrays::convert::convert;
@@ -11,8 +11,9 @@ use hll_coupons::coupon::Coupon;
 use std::alloc::{AllocError, Global};
 use std::test::Fail;
 
-/// The exceptions that fill three quarters of a table of half as many buckets as there are registers, two for each of the
-/// first buckets, so that each search goes through those that came before. The last of them is 15, the others are more.
+/// Returns the exceptions that fill three quarters of a table with half as many buckets as there are registers. Two of
+/// them start at each of the first buckets, so each search goes through those that came before. The last one is 15, the
+/// others are greater.
 fn on_a_path(alloc: Global, lg_k: u8, reversed: bool) -> Result<Vec<Coupon>, AllocError>
     requires least { 4 ≤ lg_k }
     requires most { lg_k ≤ 12 }
@@ -32,7 +33,7 @@ fn on_a_path(alloc: Global, lg_k: u8, reversed: bool) -> Result<Vec<Coupon>, All
     Ok(coupons)
 }
 
-/// Registers with these exceptions, one at 0 and the others at 1.
+/// Returns registers with these exceptions, one register of 0, and the others 1.
 fn registers_of(alloc: Global, lg_k: u8, coupons: &[Coupon]) -> Result<Array8, Error>
     requires least { 4 ≤ lg_k }
     requires most { lg_k ≤ 12 }
@@ -47,7 +48,8 @@ fn registers_of(alloc: Global, lg_k: u8, coupons: &[Coupon]) -> Result<Array8, E
     Ok(array)
 }
 
-/// What follows the header of their image: fields of 0, the counts, nibbles, and the exceptions in their order.
+/// Returns the part of their image after the header: fields of 0, the counts, the nibbles, and the exceptions in their
+/// order.
 fn payload_of(alloc: Global, values: &[u8], coupons: &[Coupon]) -> Result<Vec<u8>, Error> {
     let mut bytes = Vec::new(alloc);
     bytes.extend_from_slice(&[0; 28])?;
@@ -61,7 +63,7 @@ fn payload_of(alloc: Global, values: &[u8], coupons: &[Coupon]) -> Result<Vec<u8
     Ok(bytes)
 }
 
-/// The registers of four bits that are read from it.
+/// Returns the 4-bit registers that are read from it.
 fn read(alloc: Global, lg_k: u8, values: &[u8], coupons: &[Coupon]) -> Result<Array4, Error>
     requires least { 4 ≤ lg_k }
     requires most { lg_k ≤ 12 }
@@ -71,7 +73,8 @@ fn read(alloc: Global, lg_k: u8, values: &[u8], coupons: &[Coupon]) -> Result<Ar
     Array4::deserialize(alloc, cursor, 0, lg_k, AuxFormat::Compact, true)
 }
 
-/// Whether registers of four bits are those of eight: merged into some of eight, converted from them, and by their weights.
+/// Returns whether 4-bit registers are the same as 8-bit registers: merged into 8-bit registers, converted from them,
+/// and by their weights.
 fn are_same(alloc: Global, four: &Array4, eight: &Array8) -> Result<bool, Error> {
     let mut wide = Array8::new(alloc, eight.lg_k())?;
     if wide.lg_k() <= four.lg_k() {
@@ -81,8 +84,8 @@ fn are_same(alloc: Global, four: &Array4, eight: &Array8) -> Result<bool, Error>
     Ok(wide.values() == eight.values() && narrow == *four && four.kxq_units() == eight.kxq_units())
 }
 
-/// Read in any order they are what they are one by one, and so they are once the minimum rises: one exception falls then,
-/// and the others stay.
+/// Exceptions read in any order give the same registers as updates one by one, also after the minimum rises: then one
+/// exception is no longer one, and the others stay.
 #[test]
 fn exceptions_on_a_path(rt: HostRuntime) -> Result<(), Fail> {
     for lg_k in 4..13u8 {
@@ -101,7 +104,7 @@ fn exceptions_on_a_path(rt: HostRuntime) -> Result<(), Fail> {
     Ok(())
 }
 
-/// An exception that comes twice is refused, wherever it stands.
+/// An exception that occurs twice is rejected, wherever it is.
 #[test]
 fn doubled_on_a_path(rt: HostRuntime) -> Result<(), Fail> {
     for twice in [0, 1, 700, 1535usize] {

@@ -1,5 +1,5 @@
 // SPDX-License-Identifier: Apache-2.0
-//! Registers of four bits as a store: sizes, equality, values and weights, worked out by hand.
+//! 4-bit registers as a store: sizes, equality, values and weights, worked out by hand.
 ghost use Rattle.std.specs.Prelude.{◌≤◌};
 ghost use Rattle.hll_kernels.specs.Packed.{AreRegisters};
 
@@ -22,7 +22,7 @@ const HIGH: [u8; 52] = [
     0, 0x50,
 ];
 
-/// Registers of 20 to 22 at three slots, by updates in this order.
+/// Returns registers of 20 to 22 at three slots, made by updates in this order.
 fn three_in<A: Allocator + Clone>(alloc: A, slots: [u32; 3]) -> Result<Array4<A>, Error> {
     let mut array = Array4::new(alloc, 4)?;
     for slot in slots {
@@ -31,7 +31,7 @@ fn three_in<A: Allocator + Clone>(alloc: A, slots: [u32; 3]) -> Result<Array4<A>
     Ok(array)
 }
 
-/// The registers of `HIGH`, by updates.
+/// Returns the registers of `HIGH`, made by updates.
 fn high_in<A: Allocator + Clone>(alloc: A) -> Result<Array4<A>, Error> {
     let mut array = Array4::new(alloc, 4)?;
     array.update(Coupon::pack(0, 20))?;
@@ -52,8 +52,8 @@ fn updates(rt: HostRuntime) -> Result<(), Fail> {
     Ok(())
 }
 
-/// Exceptions whose search begins at one place stand in the order of their arrival. Arrays with the same registers are
-/// equal all the same, and their images are.
+/// Exceptions whose searches begin at one bucket are stored in the order of arrival. Arrays with the same registers are
+/// still equal, and have equal images.
 #[test]
 fn histories(rt: HostRuntime) -> Result<(), Fail> {
     let array = three_in(rt.alloc(), [1, 5, 9])?;
@@ -72,7 +72,8 @@ fn histories(rt: HostRuntime) -> Result<(), Fail> {
     Ok(())
 }
 
-/// Registers that differ in a nibble, an exception, its slot, the minimum, or the size are not equal; nor are states.
+/// Registers that differ in a nibble, an exception, its slot, the minimum or the size are not equal. Nor are those with
+/// different states.
 #[test]
 fn differences(rt: HostRuntime) -> Result<(), Fail> {
     let array = one_in(rt.alloc(), 2, 60, 7)?;
@@ -94,18 +95,18 @@ fn differences(rt: HostRuntime) -> Result<(), Fail> {
     compared_in(&rt, rt.alloc(), &read, high_in(rt.alloc())?)
 }
 
-/// Sixteen values in a row, from 0.
+/// Sixteen consecutive values, from 0.
 const ROW: [u8; 16] = [0, 1, 2, 3, 4, 5, 6, 7, 8, 9, 10, 11, 12, 13, 14, 15];
 
-/// Sixteen values in a row, to 63.
+/// Sixteen consecutive values, up to 63.
 const LAST: [u8; 16] = [
     63, 62, 61, 60, 59, 58, 57, 56, 55, 54, 53, 52, 51, 50, 49, 48,
 ];
 
-/// Exceptions at the first and the last slot, at 15 above the minimum, and beside one another.
+/// Exceptions in the first and the last slot, at 15 above the minimum, and next to each other.
 const MIXED: [u8; 16] = [17, 3, 63, 18, 2, 5, 16, 4, 4, 2, 3, 40, 40, 16, 2, 17];
 
-/// Values at once: the minimum, nibbles and exceptions are those of the values, and so are the weights.
+/// Registers made from values have the minimum, nibbles, exceptions and weights of the values.
 fn packed_in(rt: &impl Abort, alloc: Global, lg_k: u8, values: &[u8]) -> Result<(), Fail>
     requires least { 4 ≤ lg_k }
     requires most { lg_k ≤ 21 }
@@ -128,7 +129,7 @@ fn values(rt: HostRuntime) -> Result<(), Fail> {
     packed_in(&rt, rt.alloc(), 4, &MIXED)
 }
 
-/// Sums worked out by hand.
+/// Sums that were worked out by hand.
 #[test]
 fn weights(rt: HostRuntime) -> Result<(), Fail> {
     assert_eq!(rt; Array4::new(rt.alloc(), 21)?.kxq_units(), 1u128 << 84);
@@ -143,7 +144,7 @@ fn weights(rt: HostRuntime) -> Result<(), Fail> {
     Ok(())
 }
 
-/// The greater of value i and register `first + i`.
+/// The maximum of value i and register `first + i`.
 #[test]
 fn takes_max(rt: HostRuntime) -> Result<(), Fail> {
     let array = one_in(rt.alloc(), 5, 40, 3)?;

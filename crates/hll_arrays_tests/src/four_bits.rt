@@ -1,5 +1,5 @@
 // SPDX-License-Identifier: Apache-2.0
-//! Registers of four bits: the minimum, nibbles and exceptions, at values worked out by hand.
+//! 4-bit registers: the minimum, nibbles and exceptions, at values worked out by hand.
 ghost use Rattle.std.specs.Prelude.{◌≤◌};
 
 use crate::register_fixtures::{READ, first_of};
@@ -10,7 +10,7 @@ use std::alloc::Allocator;
 use std::process::Abort;
 use std::test::Fail;
 
-/// What is seen of a slot: its nibble, its exception, and its register.
+/// What calls return for a slot: its nibble, its exception, and its register.
 pub(crate) type Seen = (u8, Option<u8>, u8);
 
 pub(crate) fn seen_at<A: Allocator>(array: &Array4<A>, slot: u32) -> Seen {
@@ -20,12 +20,12 @@ pub(crate) fn seen_at<A: Allocator>(array: &Array4<A>, slot: u32) -> Seen {
     (array.nibble(slot), array.exception(slot), array.get(slot))
 }
 
-/// The minimum, and how many registers are at it.
+/// Returns the minimum, and the number of registers at it.
 fn least_of<A: Allocator>(array: &Array4<A>) -> (u8, u32) {
     (array.cur_min(), array.num_at_cur_min())
 }
 
-/// Sixteen registers, all the same but for one.
+/// Returns sixteen registers, all the same except for one.
 pub(crate) fn one_in<A: Allocator + Clone>(
     alloc: A,
     slot: u32,
@@ -45,7 +45,7 @@ pub(crate) fn one_in<A: Allocator + Clone>(
     Ok(array)
 }
 
-/// Registers in this representation are packed as `array` has them: nibbles, exceptions, minimum and count at it.
+/// Registers in this representation are packed like `array`: nibbles, exceptions, minimum, and count at the minimum.
 pub(crate) fn assert_packed<A: Allocator>(rt: &impl Abort, array: &Array4<A>, registers: &[u8]) {
     let least = registers.iter().copied().min().unwrap_or(0);
     let count = registers.iter().filter(|r| **r == least).count();
@@ -87,7 +87,7 @@ fn new_registers(rt: HostRuntime) -> Result<(), Fail> {
     Ok(())
 }
 
-/// The state is cleared exactly where a register changes.
+/// The state is cleared exactly if a register changes.
 #[test]
 fn states(rt: HostRuntime) -> Result<(), Fail> {
     let mut array = one_in(rt.alloc(), 3, 9, 0)?;
@@ -104,7 +104,7 @@ fn states(rt: HostRuntime) -> Result<(), Fail> {
     Ok(())
 }
 
-/// The nibbles, exceptions and registers of the first four slots, the least, and the state.
+/// Returns the nibbles, exceptions and registers of the first four slots, the minimum with its count, and the state.
 fn all_of<A: Allocator>(array: &Array4<A>) -> ([Seen; 4], (u8, u32), EstimateState) {
     let seen = [
         seen_at(array, 0),

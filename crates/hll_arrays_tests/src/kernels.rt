@@ -1,5 +1,5 @@
 // SPDX-License-Identifier: Apache-2.0
-//! The loops over bytes, at values worked out by hand, and beside plain loops at every length up to 130.
+//! The loops over bytes, at values worked out by hand, and compared with plain loops for every length up to 130.
 ghost use Rattle.std.specs.Prelude.{◌≡◌, ◌↔◌, ◌^◌, ◌<◌, ◌≤◌, length, All, IsTrue};
 ghost use Rattle.hll_kernels.specs.Packed.{zero_nibbles};
 
@@ -7,12 +7,12 @@ use hll_kernels::groups::{pack_group, unpack_group};
 use hll_kernels::kernels::{all_zero, count_zeros, max_into, units};
 use hll_kernels::nibbles::lower_nibbles;
 
-/// Where slices begin in an array of 160 bytes, and the length of the longest.
+/// The offsets of slices in an array of 160 bytes, and the length of the longest slice.
 const OFFSETS: [usize; 4] = [0, 1, 7, 30];
 
 const LONGEST: usize = 130;
 
-/// The multiples of a step modulo a number of at most 64.
+/// Returns the multiples of a step modulo a number of at most 64.
 fn multiples(step: usize, modulus: usize) -> [u8; 160]
     requires step { step ≤ 64 }
     requires modulus { (0 < modulus) × (modulus ≤ 64) }
@@ -24,7 +24,7 @@ fn multiples(step: usize, modulus: usize) -> [u8; 160]
     bytes
 }
 
-/// Bytes whose nibbles are 1 to 15.
+/// Returns bytes whose nibbles are 1 to 15.
 fn pairs() -> [u8; 160] {
     let mut bytes = [0; 160];
     for index in 0..160 {
@@ -52,7 +52,7 @@ fn groups(rt: HostRuntime) {
     }
 }
 
-/// Four registers as a group, how many of them are 0, and the sum of their weights.
+/// Four registers as a group, the number of them that are 0, and the sum of their weights.
 #[test]
 fn sums(rt: HostRuntime) {
     for (group, zeros, sum) in [
@@ -72,7 +72,7 @@ fn sums(rt: HostRuntime) {
     assert!(rt; all_zero(&[]));
 }
 
-/// The greater byte at each index.
+/// The maximum of the bytes at each index.
 #[test]
 fn maxima(rt: HostRuntime) {
     let mut dst = [1u8, 5, 3, 0];
@@ -105,7 +105,7 @@ fn are_small(bytes: &[u8]) -> bool
     bytes.iter().all(|value| *value <= 63)
 }
 
-/// Whether the calls that read give what plain loops give.
+/// Returns whether the calls that read return what plain loops return.
 fn reads_agree(bytes: &[u8]) -> bool
     requires { length bytes.now ≤ 2 ^ 21 }
 {
@@ -131,7 +131,7 @@ fn reads_of_every_length(rt: HostRuntime) {
     }
 }
 
-/// How many nibbles are 0.
+/// Returns the number of nibbles that are 0.
 fn zeros_of(bytes: &[u8]) -> usize
     requires { length bytes.now ≤ 2 ^ 20 }
     ensures { result ≡ zero_nibbles bytes.now }
@@ -191,7 +191,7 @@ fn writes_of_every_length(rt: HostRuntime) {
     }
 }
 
-/// Nibbles with what they become, and how many are 0 then.
+/// Nibbles, what they become, and how many are 0 then.
 #[test]
 fn lowered_nibbles(rt: HostRuntime) {
     for (mut bytes, after, zeros) in [

@@ -1,5 +1,5 @@
 // SPDX-License-Identifier: Apache-2.0
-//! Tests through public calls of `hll_kernels`, `hll_estimate`, `hll_registers` and `hll_arrays`: loops over bytes,
+//! Tests of `hll_kernels`, `hll_estimate`, `hll_registers` and `hll_arrays` through public calls: loops over bytes,
 //! estimates, and registers of each width.
 #![tactic(auto)]
 

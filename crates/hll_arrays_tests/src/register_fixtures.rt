@@ -11,7 +11,7 @@ use std::alloc::{Allocator, Global};
 use std::process::Abort;
 use std::test::Fail;
 
-/// A state that was read.
+/// A state as it is read from an image.
 pub(crate) const READ: EstimateState = EstimateState {
     words: [1, 2, 3],
     out_of_order: false,
@@ -19,14 +19,14 @@ pub(crate) const READ: EstimateState = EstimateState {
 
 /// Registers that can be copied, and read from an image.
 pub(crate) trait Images<A: Allocator>: RegisterStore<A> {
-    /// Reads what follows the header of an image.
+    /// Reads the part of an image after the header.
     fn read(alloc: A, image: &[u8], lg_k: u8, out_of_order: bool) -> Result<Self, Error>
     where
         Self: Sized,
         requires least { 4 ≤ lg_k }
         requires most { lg_k ≤ 21 };
 
-    /// A copy.
+    /// Returns a copy.
     fn copied(&self) -> Result<Self, Error>
     where
         Self: Sized;
@@ -52,14 +52,14 @@ impl<A: Allocator + Clone> Images<A> for Array6<A> {
     }
 }
 
-/// A cursor after the eight bytes of a header.
+/// Returns a cursor after the eight bytes of a header.
 fn after_header(image: &[u8]) -> Result<SketchSlice<'_>, Error> {
     let mut cursor = SketchSlice::new(image);
     cursor.read_u64_le()?;
     Ok(cursor)
 }
 
-/// Coupons from a multiplicative sequence, with all values from 0 to 63.
+/// Returns coupons from a multiplicative sequence, with all values from 0 to 63.
 pub(crate) fn coupons_in<A: Allocator>(alloc: A, count: usize) -> Result<Vec<Coupon, A>, Error> {
     let mut coupons = Vec::new(alloc);
     let mut word = 1u64;
@@ -71,7 +71,7 @@ pub(crate) fn coupons_in<A: Allocator>(alloc: A, count: usize) -> Result<Vec<Cou
     Ok(coupons)
 }
 
-/// The fold of coupons to an `lg_k`, by a plain loop: at each slot the greatest value.
+/// Returns the fold of coupons to an `lg_k`, by a plain loop: at each slot the greatest value.
 pub(crate) fn folded<A: Allocator>(
     alloc: A,
     coupons: &[Coupon],
@@ -89,7 +89,7 @@ pub(crate) fn folded<A: Allocator>(
     Ok(registers)
 }
 
-/// The greater register at each slot, by a plain loop.
+/// Returns the greater register at each slot, by a plain loop.
 pub(crate) fn joined<A: Allocator>(
     alloc: A,
     left: &[u8],
@@ -102,7 +102,7 @@ pub(crate) fn joined<A: Allocator>(
     Ok(registers)
 }
 
-/// New registers: zeros, with the cleared state.
+/// Returns new registers, and checks that they are 0 and have the cleared state.
 pub(crate) fn new_in<S: RegisterStore<Global>>(
     rt: &impl Abort,
     alloc: Global,
@@ -123,7 +123,7 @@ pub(crate) fn new_in<S: RegisterStore<Global>>(
     Ok(store)
 }
 
-/// The registers of coupons, by updates, with a state that was read.
+/// Returns the registers of coupons, made by updates, with a state as read from an image.
 pub(crate) fn store_of<S: RegisterStore<A>, A: Allocator>(
     alloc: A,
     lg_k: u8,
@@ -140,14 +140,14 @@ pub(crate) fn store_of<S: RegisterStore<A>, A: Allocator>(
     Ok(store)
 }
 
-/// Merges a source of no smaller `lg_k` into registers whose state was read.
+/// Merges a source of no smaller `lg_k` into registers with a state as read from an image.
 pub(crate) fn merge<R: Registers>(rt: &impl Abort, array: &mut Array8, source: &R) {
     array.restore_estimate_state(READ);
     assert!(rt; array.lg_k() <= source.lg_k());
     merge_from(array, source);
 }
 
-/// The first sixteen registers.
+/// Returns the first sixteen registers.
 pub(crate) fn first_of<R: Registers>(store: &R) -> [u8; 16] {
     let mut registers = [0u8; 16];
     for slot in 0..16usize {

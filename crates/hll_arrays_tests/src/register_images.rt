@@ -1,5 +1,5 @@
 // SPDX-License-Identifier: Apache-2.0
-//! Registers of eight and six bits: images written and read back, and states compared.
+//! 8-bit and 6-bit registers: images written and read back, and states compared.
 ghost use Rattle.std.specs.Prelude.{◌≤◌, length};
 
 use crate::register_fixtures::{Images, READ, first_of};
@@ -9,7 +9,7 @@ use std::alloc::Global;
 use std::process::Abort;
 use std::test::Fail;
 
-/// The image of registers of `lg_k` 4 with the cleared state, written, and read with each flag.
+/// The image of registers of `lg_k` 4 with the cleared state is written, and read with each flag.
 pub(crate) fn read_in<S: Images<Global>>(
     rt: &impl Abort,
     alloc: Global,
@@ -35,7 +35,7 @@ pub(crate) fn read_in<S: Images<Global>>(
     Ok(())
 }
 
-/// The image of these registers with a state that was read, written, and read back before other bytes.
+/// The image of these registers with a state as read from an image is written, and read back with other bytes after it.
 pub(crate) fn written_in<S: Images<Global>>(
     rt: &impl Abort,
     alloc: Global,
@@ -57,7 +57,7 @@ pub(crate) fn written_in<S: Images<Global>>(
     Ok(())
 }
 
-/// The last register of the largest store, written through a slot above it, and its image read back.
+/// The last register of the largest store is written through a slot above it, and the image is read back.
 pub(crate) fn largest_in<S: Images<Global>>(
     rt: &impl Abort,
     alloc: Global,
@@ -72,7 +72,7 @@ pub(crate) fn largest_in<S: Images<Global>>(
     Ok((store, image))
 }
 
-/// States, and whether they are `READ`.
+/// States, and whether they are equal to `READ`.
 const STATES: [([u64; 3], bool, bool); 5] = [
     ([1, 2, 3], false, true),
     ([0, 2, 3], false, false),
@@ -81,7 +81,7 @@ const STATES: [([u64; 3], bool, bool); 5] = [
     ([1, 2, 3], true, false),
 ];
 
-/// States that differ in a word or in the flag are not equal, on the same registers; nor are sizes.
+/// Registers with states that differ in a field or in the flag are not equal. Nor are registers of different sizes.
 pub(crate) fn compared_in<S: RegisterStore<Global>>(
     rt: &impl Abort,
     alloc: Global,

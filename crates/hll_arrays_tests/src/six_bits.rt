@@ -1,5 +1,5 @@
 // SPDX-License-Identifier: Apache-2.0
-//! Registers of six bits: groups of four, at values worked out by hand.
+//! 6-bit registers: groups of four, at values worked out by hand.
 ghost use Rattle.std.specs.Prelude.{◌≡◌, IfOk};
 
 use crate::register_fixtures::{first_of, new_in};
@@ -13,14 +13,14 @@ use std::test::Fail;
 /// Registers at `lg_k` 4.
 pub(crate) const THREE: [u8; 16] = [0, 63, 42, 51, 0, 0, 0, 0, 0, 0, 0, 0, 0, 0, 0, 0];
 
-/// The image of these registers with the cleared state: header, words, counts, fields, a zero byte.
+/// The image of these registers with the cleared state: header, fields, counts, registers, and a zero byte.
 pub(crate) const IMAGE: [u8; 53] = [
     0x0a, 0x01, 0x07, 0x04, 0x00, 0x10, 0x00, 0x06, 0, 0, 0, 0, 0, 0, 0, 0, 0, 0, 0, 0, 0, 0, 0, 0,
     0, 0, 0, 0, 0, 0, 0, 0, 0x0d, 0, 0, 0, 0, 0, 0, 0, 0xc0, 0xaf, 0xce, 0, 0, 0, 0, 0, 0, 0, 0, 0,
     0,
 ];
 
-/// The registers of `THREE`, by updates.
+/// Returns the registers of `THREE`, made by updates.
 pub(crate) fn three_in<A: Allocator>(alloc: A) -> Result<Array6<A>, Error>
     ensures { IfOk result (λ a. a.lg_k ≡ 4) }
 {
@@ -44,7 +44,7 @@ fn new_registers(rt: HostRuntime) -> Result<(), Fail> {
     Ok(())
 }
 
-/// The greater of value i and register `first + i`.
+/// The maximum of value i and register `first + i`.
 #[test]
 fn takes_max(rt: HostRuntime) -> Result<(), Fail> {
     let array = three_in(rt.alloc())?;

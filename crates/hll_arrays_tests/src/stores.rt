@@ -1,6 +1,6 @@
 // SPDX-License-Identifier: Apache-2.0
-//! Registers of each width and of a representation that `hll_arrays` does not know: updates, merges and conversions, beside
-//! plain loops.
+//! Registers of each width, and of a representation that `hll_arrays` doesn't know: updates, merges and conversions,
+//! compared with plain loops.
 ghost use Rattle.std.specs.Prelude.{◌≤◌};
 
 use crate::array16::Array16;
@@ -15,11 +15,12 @@ use std::alloc::Global;
 use std::process::Abort;
 use std::test::Fail;
 
-/// What the updates of `updated` leave.
+/// The registers after the updates of `updated`.
 const UPDATED: [u8; 16] = [7, 1, 0, 9, 0, 0, 0, 0, 1, 0, 0, 0, 0, 0, 0, 63];
 
-/// Coupons at `lg_k` 4, one after another, each with the slot of its register, the value there afterwards and whether
-/// it changed. The state is cleared where it did, and no other register changes. Values at once make the same store.
+/// Coupons at `lg_k` 4, one after the other, each with the slot of its register, the value there afterwards, and
+/// whether it changed. The state is cleared if it did, and no other register changes. `from_values` makes the same
+/// store.
 pub(crate) fn updated<S: RegisterStore<Global>>(rt: &impl Abort, alloc: Global) -> Result<S, Fail> {
     let mut store = S::make(alloc, 4)?;
     let mut registers = [0u8; 16];
@@ -105,7 +106,7 @@ fn folded_in<S: RegisterStore<Global>>(
     Ok(())
 }
 
-/// The updates of two halves are joined to those of all.
+/// Merging the updates of two halves gives the updates of all.
 fn merged_in(rt: &impl Abort, alloc: Global, lg_k: u8, coupons: &[Coupon]) -> Result<(), Fail>
     requires least { 4 ≤ lg_k }
     requires most { lg_k ≤ 21 }
@@ -133,8 +134,8 @@ fn updates_are_folds(rt: HostRuntime) -> Result<(), Fail> {
     Ok(())
 }
 
-/// Whether the registers of coupons, merged with a source of no smaller `lg_k` in this representation, are a fold with the
-/// cleared state.
+/// Returns whether the registers of coupons, merged with a source of no smaller `lg_k` in this representation, are the
+/// fold of all coupons with the cleared state.
 fn merges_to<S: RegisterStore<Global>>(
     alloc: Global,
     lg_k: u8,
@@ -194,7 +195,7 @@ fn folds(rt: HostRuntime) -> Result<(), Fail> {
     Ok(())
 }
 
-/// A conversion keeps registers and state, there and back.
+/// A conversion and the conversion back keep registers and state.
 fn converted_in<S: RegisterStore<Global>>(
     rt: &impl Abort,
     alloc: Global,
@@ -213,7 +214,7 @@ fn converted_in<S: RegisterStore<Global>>(
     Ok(store)
 }
 
-/// As `converted_in`, to and from two bytes each. The image is the same.
+/// Does what `converted_in` does, to and from two bytes each. The image is the same.
 fn widened_in(rt: &impl Abort, alloc: Global, array: &Array8) -> Result<(), Fail> {
     let sixteen: Array16<_> = converted_in(rt, alloc, array)?;
     let again: Array16<_> = converted_in(rt, alloc, &sixteen.narrowed()?)?;
@@ -222,19 +223,19 @@ fn widened_in(rt: &impl Abort, alloc: Global, array: &Array8) -> Result<(), Fail
     Ok(())
 }
 
-/// The weights of registers converted to six bits.
+/// Returns the weights of registers converted to 6 bits.
 fn units_of_six(rt: &impl Abort, alloc: Global, array: &Array8) -> Result<u128, Fail> {
     let six: Array6 = converted_in(rt, alloc, array)?;
     Ok(six.kxq_units())
 }
 
-/// The weights of registers converted to four bits.
+/// Returns the weights of registers converted to 4 bits.
 fn units_of_four(rt: &impl Abort, alloc: Global, array: &Array8) -> Result<u128, Fail> {
     let four: Array4 = converted_in(rt, alloc, array)?;
     Ok(four.kxq_units())
 }
 
-/// Registers of coupons, converted to each representation and back.
+/// Converts the registers of coupons to each representation and back.
 fn convert_each(rt: &impl Abort, alloc: Global, array: &Array8) -> Result<(), Fail> {
     assert_eq!(rt; units_of_six(rt, alloc, array)?, array.kxq_units());
     assert_eq!(rt; units_of_four(rt, alloc, array)?, array.kxq_units());

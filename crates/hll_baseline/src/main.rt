@@ -1,6 +1,6 @@
 // SPDX-License-Identifier: Apache-2.0
-//! The least work on the text of a plan on standard input: it is read in pieces, its lines are found, the word of an
-//! `image` line is decoded into one buffer, and the numbers of every other line are read. Prints a sum of what was read.
+//! Does the least work on the text of a plan on standard input: reads it in pieces, finds its lines, decodes the digits
+//! of an `image` line into one buffer, and reads the numbers of every other line. Prints a sum of what it read.
 #![tactic(auto)]
 
 use std::alloc::{AllocError, Allocator};
@@ -8,7 +8,7 @@ use std::io;
 use std::io::Read;
 use std::process::ExitCode;
 
-/// How many bytes one read asks for.
+/// The number of bytes that one read asks for.
 const PIECE: usize = 65536;
 
 fn main(rt: HostRuntime) -> ExitCode {
@@ -36,7 +36,7 @@ fn sum_of_text(rt: &HostRuntime) -> io::Result<()> {
     println!(rt; "{sum}")
 }
 
-/// The sum over the lines that end in a piece. What follows the last LF is pending then.
+/// Returns the sum over the lines that end in a piece. The bytes after the last LF are then pending.
 fn sum_of_piece<A: Allocator>(
     pending: &mut Vec<u8, A>,
     image: &mut Vec<u8, A>,
@@ -59,7 +59,7 @@ fn sum_of_piece<A: Allocator>(
     Ok(sum)
 }
 
-/// The last byte of an image, or the numbers of another line.
+/// Returns the last byte of an image, or the sum of the numbers of another line.
 fn sum_of_line<A: Allocator>(image: &mut Vec<u8, A>, line: &[u8]) -> Result<u64, AllocError> {
     match line.strip_prefix(b"image ".as_slice()) {
         Some(word) if memchr::memchr(b' ', word).is_none() => last_byte(image, word),
@@ -67,7 +67,7 @@ fn sum_of_line<A: Allocator>(image: &mut Vec<u8, A>, line: &[u8]) -> Result<u64,
     }
 }
 
-/// The last byte of some hexadecimal digits, which are all decoded.
+/// Decodes hexadecimal digits, and returns the last byte.
 fn last_byte<A: Allocator>(image: &mut Vec<u8, A>, word: &[u8]) -> Result<u64, AllocError> {
     let size = word.len() / 2;
     if image.len() < size {
@@ -82,7 +82,7 @@ fn last_byte<A: Allocator>(image: &mut Vec<u8, A>, word: &[u8]) -> Result<u64, A
     }
 }
 
-/// The sum of the numbers of a line.
+/// Returns the sum of the numbers of a line.
 fn sum_of_numbers(line: &[u8]) -> u64 {
     let mut sum = 0u64;
     let mut number = 0u64;

@@ -1,6 +1,6 @@
 // SPDX-License-Identifier: Apache-2.0
-//! Work on images of registers: each function fills registers, reads or writes their image `rounds` times, and returns a
-//! number that depends on the outcome.
+//! Work on images of registers. Each function fills registers, reads or writes their image `rounds` times, and returns
+//! a number that depends on the outcome.
 ghost use Rattle.std.specs.Prelude.{◌≤◌};
 
 use crate::registers::{Measured, filled};
@@ -10,7 +10,7 @@ use hll_base::cursor::SketchSlice;
 use hll_base::error::Error;
 use std::alloc::Global;
 
-/// The image of filled registers.
+/// Returns the image of filled registers.
 fn image_of<S: Measured>(alloc: Global, lg_k: u8) -> Result<Vec<u8>, Error>
     requires { (4 ≤ lg_k) × (lg_k ≤ 21) }
 {
@@ -18,14 +18,14 @@ fn image_of<S: Measured>(alloc: Global, lg_k: u8) -> Result<Vec<u8>, Error>
     array.write_image()
 }
 
-/// The part of an image that follows the header, and the state byte.
+/// Returns the part of an image after the header, and the state byte.
 fn payload(image: &[u8]) -> Result<(SketchSlice<'_>, u8), Error> {
     let mut cursor = SketchSlice::new(image);
     let header = cursor.read_u64_le()?;
     Ok((cursor, (header >> 48 & 0xff) as u8))
 }
 
-/// Registers that were read from their image.
+/// Returns registers that are read from their image.
 fn read_once<S: Measured>(alloc: Global, image: &[u8], lg_k: u8) -> Result<S, Error>
     requires { (4 ≤ lg_k) × (lg_k ≤ 21) }
 {
@@ -33,7 +33,7 @@ fn read_once<S: Measured>(alloc: Global, image: &[u8], lg_k: u8) -> Result<S, Er
     S::read(alloc, cursor, state, lg_k)
 }
 
-/// Reads of an image of registers.
+/// Reads an image of registers `rounds` times.
 pub(crate) fn read<S: Measured>(alloc: Global, lg_k: u8, rounds: u32) -> Result<u64, Error>
     requires { (4 ≤ lg_k) × (lg_k ≤ 21) }
 {
@@ -45,7 +45,7 @@ pub(crate) fn read<S: Measured>(alloc: Global, lg_k: u8, rounds: u32) -> Result<
     Ok(u64::from(made.num_zeros()))
 }
 
-/// Writes of images of new registers; the sum of their lengths and of the first byte of their registers.
+/// Writes images of new registers. Returns the sum of their lengths and of the first byte of their registers.
 pub(crate) fn write<S: Measured>(alloc: Global, lg_k: u8, rounds: u32) -> Result<u64, Error>
     requires { (4 ≤ lg_k) × (lg_k ≤ 21) }
 {
@@ -53,7 +53,8 @@ pub(crate) fn write<S: Measured>(alloc: Global, lg_k: u8, rounds: u32) -> Result
     written(&array, rounds)
 }
 
-/// Writes of images of registers that were read; the sum of their lengths and of the first byte of their registers.
+/// Writes images of registers that were read. Returns the sum of their lengths and of the first byte of their
+/// registers.
 pub(crate) fn rewrite<S: Measured>(alloc: Global, lg_k: u8, rounds: u32) -> Result<u64, Error>
     requires { (4 ≤ lg_k) × (lg_k ≤ 21) }
 {

@@ -1,5 +1,5 @@
 // SPDX-License-Identifier: Apache-2.0
-//! Exports over the public calls of the crates below, for the measurements of bench/rust (docs/ARCHITECTURE.md,
+//! Exports over public calls of the crates below, for the measurements of bench/rust (docs/ARCHITECTURE.md,
 //! "Measurements"). A width is 4, 6 or 8 bits; any other number stands for 8.
 #![tactic(auto)]
 
@@ -23,10 +23,10 @@ use hll_kernels::kernels::{all_zero, count_zeros, max_into, units};
 use hll_kernels::nibbles::lower_nibbles;
 use std::alloc::Global;
 
-/// What an export returns if an allocation fails.
+/// The result of an export if an allocation fails.
 const REFUSED: u64 = u64::MAX;
 
-/// The first word of the hash of bytes at the default seed.
+/// Returns the first half of the hash of bytes with the default seed.
 #[unsafe(no_mangle)]
 pub extern "C" fn hll_bench_hash(bytes: &[u8]) -> u64
     ensures { result ≡ (hash default_seed bytes.now).first }
@@ -34,7 +34,7 @@ pub extern "C" fn hll_bench_hash(bytes: &[u8]) -> u64
     hash_of_bytes(DEFAULT_SEED, bytes).0
 }
 
-/// Merges of registers of this many bits into registers of eight.
+/// Merges registers of this width into 8-bit registers, `rounds` times.
 #[unsafe(no_mangle)]
 pub extern "C" fn hll_bench_merge(alloc: Global, width: u8, lg_k: u8, rounds: u32) -> u64
     requires { (4 ≤ lg_k) × (lg_k ≤ 21) }
@@ -47,7 +47,7 @@ pub extern "C" fn hll_bench_merge(alloc: Global, width: u8, lg_k: u8, rounds: u3
     .unwrap_or(REFUSED)
 }
 
-/// Merges of registers of eight bits into half as many.
+/// Merges 8-bit registers into half their number, `rounds` times.
 #[unsafe(no_mangle)]
 pub extern "C" fn hll_bench_downsample(alloc: Global, lg_k: u8, rounds: u32) -> u64
     requires { (4 ≤ lg_k) × (lg_k ≤ 20) }
@@ -55,7 +55,7 @@ pub extern "C" fn hll_bench_downsample(alloc: Global, lg_k: u8, rounds: u32) -> 
     registers::downsample(alloc, lg_k, rounds).unwrap_or(REFUSED)
 }
 
-/// Conversions of registers of eight bits to this many.
+/// Converts 8-bit registers to this width, `rounds` times.
 #[unsafe(no_mangle)]
 pub extern "C" fn hll_bench_convert(alloc: Global, width: u8, lg_k: u8, rounds: u32) -> u64
     requires { (4 ≤ lg_k) × (lg_k ≤ 21) }
@@ -68,7 +68,7 @@ pub extern "C" fn hll_bench_convert(alloc: Global, width: u8, lg_k: u8, rounds: 
     .unwrap_or(REFUSED)
 }
 
-/// Updates of registers of this many bits.
+/// Updates registers of this width, `rounds` times.
 #[unsafe(no_mangle)]
 pub extern "C" fn hll_bench_update(alloc: Global, width: u8, lg_k: u8, rounds: u32) -> u64
     requires { (4 ≤ lg_k) × (lg_k ≤ 21) }
@@ -81,7 +81,7 @@ pub extern "C" fn hll_bench_update(alloc: Global, width: u8, lg_k: u8, rounds: u
     .unwrap_or(REFUSED)
 }
 
-/// Tests whether all registers of this many bits are 0.
+/// Tests whether all registers of this width are 0, `rounds` times.
 #[unsafe(no_mangle)]
 pub extern "C" fn hll_bench_is_empty(
     alloc: Global,
@@ -100,7 +100,7 @@ pub extern "C" fn hll_bench_is_empty(
     .unwrap_or(REFUSED)
 }
 
-/// Counts of the registers of this many bits that are 0.
+/// Counts the registers of this width that are 0, `rounds` times.
 #[unsafe(no_mangle)]
 pub extern "C" fn hll_bench_num_zeros(
     alloc: Global,
@@ -119,7 +119,7 @@ pub extern "C" fn hll_bench_num_zeros(
     .unwrap_or(REFUSED)
 }
 
-/// Sums of the weights of registers of this many bits.
+/// Sums the weights of registers of this width, `rounds` times.
 #[unsafe(no_mangle)]
 pub extern "C" fn hll_bench_kxq_units(
     alloc: Global,
@@ -138,7 +138,7 @@ pub extern "C" fn hll_bench_kxq_units(
     .unwrap_or(REFUSED)
 }
 
-/// Reads of an image of registers of this many bits.
+/// Reads an image of registers of this width, `rounds` times.
 #[unsafe(no_mangle)]
 pub extern "C" fn hll_bench_read(alloc: Global, width: u8, lg_k: u8, rounds: u32) -> u64
     requires { (4 ≤ lg_k) × (lg_k ≤ 21) }
@@ -151,7 +151,7 @@ pub extern "C" fn hll_bench_read(alloc: Global, width: u8, lg_k: u8, rounds: u32
     .unwrap_or(REFUSED)
 }
 
-/// Writes of images of registers of this many bits.
+/// Writes an image of registers of this width, `rounds` times.
 #[unsafe(no_mangle)]
 pub extern "C" fn hll_bench_write(alloc: Global, width: u8, lg_k: u8, rounds: u32) -> u64
     requires { (4 ≤ lg_k) × (lg_k ≤ 21) }
@@ -164,7 +164,7 @@ pub extern "C" fn hll_bench_write(alloc: Global, width: u8, lg_k: u8, rounds: u3
     .unwrap_or(REFUSED)
 }
 
-/// Writes of images of registers of this many bits that were read.
+/// Writes an image of registers of this width that were read, `rounds` times.
 #[unsafe(no_mangle)]
 pub extern "C" fn hll_bench_rewrite(alloc: Global, width: u8, lg_k: u8, rounds: u32) -> u64
     requires { (4 ≤ lg_k) × (lg_k ≤ 21) }
@@ -177,9 +177,9 @@ pub extern "C" fn hll_bench_rewrite(alloc: Global, width: u8, lg_k: u8, rounds: 
     .unwrap_or(REFUSED)
 }
 
-/// Reads an image, writes it, and reads that again. What it means is put into `value` and what is written for it into
-/// `image`, their lengths stand in the bits from 8 and from 36 on. Otherwise the number of the reason, or 255 if the
-/// sketch that was written is not read as an equal one.
+/// Reads an image, writes it, and reads that again. Puts what it means into `value` and what is written for it into
+/// `image`, and returns their lengths in the bits from 8 and from 36 on. If the image is rejected, returns the number
+/// of the reason. If the written sketch is not read as an equal one, returns 255.
 #[unsafe(no_mangle)]
 pub extern "C" fn hll_bench_read_image(
     alloc: Global,
@@ -193,7 +193,7 @@ pub extern "C" fn hll_bench_read_image(
     }
 }
 
-/// Updates of sketches from empty.
+/// Updates sketches from empty, `rounds` times.
 #[unsafe(no_mangle)]
 pub extern "C" fn hll_bench_sketch_update(
     alloc: Global,
@@ -205,7 +205,7 @@ pub extern "C" fn hll_bench_sketch_update(
     sketches::update(alloc, lg_k, sketches::width_of(width), coupons, rounds).unwrap_or(REFUSED)
 }
 
-/// Updates of a sketch by coupons that it has.
+/// Updates a sketch by coupons that it has, `rounds` times.
 #[unsafe(no_mangle)]
 pub extern "C" fn hll_bench_sketch_update_held(
     alloc: Global,
@@ -216,7 +216,7 @@ pub extern "C" fn hll_bench_sketch_update_held(
     sketches::update_held(alloc, lg_k, coupons, rounds).unwrap_or(REFUSED)
 }
 
-/// The image of a sketch, put into a buffer; its length.
+/// Puts the image of a sketch into a buffer, and returns its length.
 #[unsafe(no_mangle)]
 pub extern "C" fn hll_bench_sketch_image(
     alloc: Global,
@@ -228,19 +228,19 @@ pub extern "C" fn hll_bench_sketch_image(
     sketches::image(alloc, lg_k, sketches::width_of(width), coupons, buffer).unwrap_or(REFUSED)
 }
 
-/// Reads of an image of a sketch.
+/// Reads an image of a sketch, `rounds` times.
 #[unsafe(no_mangle)]
 pub extern "C" fn hll_bench_sketch_read(alloc: Global, image: &[u8], rounds: u32) -> u64 {
     sketches::read(alloc, image, rounds).unwrap_or(REFUSED)
 }
 
-/// Writes of the sketch of an image.
+/// Writes the sketch of an image, `rounds` times.
 #[unsafe(no_mangle)]
 pub extern "C" fn hll_bench_sketch_write(alloc: Global, image: &[u8], rounds: u32) -> u64 {
     sketches::write(alloc, image, rounds).unwrap_or(REFUSED)
 }
 
-/// Merges of sketches into a union under a bound.
+/// Merges sketches into a union with a bound, `rounds` times.
 #[unsafe(no_mangle)]
 pub extern "C" fn hll_bench_union_update(
     alloc: Global,
@@ -254,7 +254,7 @@ pub extern "C" fn hll_bench_union_update(
     unions::update(alloc, bound, lg_k, sketches::width_of(width), rounds).unwrap_or(REFUSED)
 }
 
-/// Merges of the registers of the same sketches alone.
+/// Merges only the registers of the same sketches, `rounds` times.
 #[unsafe(no_mangle)]
 pub extern "C" fn hll_bench_union_merge(
     alloc: Global,
@@ -269,7 +269,7 @@ pub extern "C" fn hll_bench_union_merge(
     unions::merge(alloc, bound, lg_k, sketches::width_of(width), rounds).unwrap_or(REFUSED)
 }
 
-/// `max_into`.
+/// Calls `max_into`.
 #[unsafe(no_mangle)]
 pub extern "C" fn hll_bench_max_into(dst: &mut [u8], src: &[u8])
     requires { length dst.old ≡ length src.now }
@@ -278,7 +278,7 @@ pub extern "C" fn hll_bench_max_into(dst: &mut [u8], src: &[u8])
     max_into(dst, src);
 }
 
-/// `count_zeros`.
+/// Calls `count_zeros`.
 #[unsafe(no_mangle)]
 pub extern "C" fn hll_bench_count_zeros(bytes: &[u8]) -> usize
     ensures { result ≡ zeros bytes.now }
@@ -286,7 +286,7 @@ pub extern "C" fn hll_bench_count_zeros(bytes: &[u8]) -> usize
     count_zeros(bytes)
 }
 
-/// `all_zero`.
+/// Calls `all_zero`.
 #[unsafe(no_mangle)]
 pub extern "C" fn hll_bench_all_zero(bytes: &[u8]) -> bool
     ensures { result ≡ list_all (λ b. b == 0) bytes.now }
@@ -294,7 +294,7 @@ pub extern "C" fn hll_bench_all_zero(bytes: &[u8]) -> bool
     all_zero(bytes)
 }
 
-/// The answer of `units`, in units of 2^-3.
+/// Returns the result of `units`, in units of 2^-3.
 #[unsafe(no_mangle)]
 pub extern "C" fn hll_bench_units(bytes: &[u8]) -> u64
     requires small { All (λ v. v ≤ 63) bytes.now }
@@ -304,7 +304,7 @@ pub extern "C" fn hll_bench_units(bytes: &[u8]) -> u64
     (units(bytes) >> 60) as u64
 }
 
-/// `lower_nibbles`.
+/// Calls `lower_nibbles`.
 #[unsafe(no_mangle)]
 pub extern "C" fn hll_bench_lower_nibbles(bytes: &mut [u8]) -> u32
     requires none { zero_nibbles bytes.old ≡ 0 }

@@ -1,6 +1,6 @@
 // SPDX-License-Identifier: Apache-2.0
-//! Work on registers: each function makes its own, does the work `rounds` times, and returns a number that depends on all
-//! of it, such as how many registers are 0 in the end.
+//! Work on registers. Each function makes its own registers, does the work `rounds` times, and returns a number that
+//! depends on all of it, such as the number of registers that are 0 in the end.
 ghost use Rattle.std.specs.Prelude.{◌≡◌, ◌≤◌, IfOk};
 ghost use Rattle.hll_coupons.specs.Pair.{value_of};
 
@@ -16,18 +16,18 @@ use hll_base::error::Error;
 use hll_coupons::coupon::Coupon;
 use std::alloc::Global;
 
-/// Registers of a width, with what they count and read by calls of their own.
+/// Registers of a width, with the counts and reads that have calls of their own.
 pub(crate) trait Measured: RegisterStore<Global> {
-    /// Whether all are 0.
+    /// Returns whether all registers are 0.
     fn is_empty(&self) -> bool;
 
-    /// How many are 0.
+    /// Returns the number of registers that are 0.
     fn num_zeros(&self) -> u32;
 
-    /// The sum of their weights.
+    /// Returns the sum of the weights.
     fn kxq_units(&self) -> u128;
 
-    /// Reads the part of a compact image that follows the header, whose state byte this is.
+    /// Reads the part of a compact image after the header, given the state byte.
     fn read(alloc: Global, cursor: SketchSlice, state: u8, lg_k: u8) -> Result<Self, Error>
         requires { (4 ≤ lg_k) × (lg_k ≤ 21) };
 }
@@ -86,7 +86,7 @@ impl Measured for Array8 {
     }
 }
 
-/// The coupon of a word, and the next word.
+/// Returns the coupon of a number, and the next number.
 pub(crate) fn next(word: u64) -> (Coupon, u64)
     ensures { 1 ≤ value_of result.0 }
 {
@@ -95,7 +95,7 @@ pub(crate) fn next(word: u64) -> (Coupon, u64)
     (coupon, word)
 }
 
-/// Registers after four coupons for each, and one that is an exception at four bits.
+/// Returns registers after four coupons for each, and one that is an exception at 4 bits.
 pub(crate) fn filled(alloc: Global, lg_k: u8) -> Result<Array8, Error>
     requires { (4 ≤ lg_k) × (lg_k ≤ 21) }
     ensures { IfOk result (λ a. a.lg_k ≡ lg_k) }
@@ -111,12 +111,12 @@ pub(crate) fn filled(alloc: Global, lg_k: u8) -> Result<Array8, Error>
     Ok(array)
 }
 
-/// A sum of weights in units of 2^-3, modulo 2^32.
+/// Returns a sum of weights in units of 2^-3, modulo 2^32.
 pub(crate) fn weight(units: u128) -> u64 {
     (units >> 60 & 0xffff_ffff) as u64
 }
 
-/// Merges of registers into registers of eight bits.
+/// Merges registers into 8-bit registers.
 pub(crate) fn merge<S: Measured>(alloc: Global, lg_k: u8, rounds: u32) -> Result<u64, Error>
     requires { (4 ≤ lg_k) × (lg_k ≤ 21) }
 {
@@ -128,7 +128,7 @@ pub(crate) fn merge<S: Measured>(alloc: Global, lg_k: u8, rounds: u32) -> Result
     Ok(u64::from(array.num_zeros()))
 }
 
-/// Merges of registers of eight bits into half as many.
+/// Merges 8-bit registers into half their number.
 pub(crate) fn downsample(alloc: Global, lg_k: u8, rounds: u32) -> Result<u64, Error>
     requires { (4 ≤ lg_k) × (lg_k ≤ 20) }
 {
@@ -140,7 +140,7 @@ pub(crate) fn downsample(alloc: Global, lg_k: u8, rounds: u32) -> Result<u64, Er
     Ok(u64::from(array.num_zeros()))
 }
 
-/// Conversions of registers of eight bits.
+/// Converts 8-bit registers.
 pub(crate) fn convert_into<S: Measured>(alloc: Global, lg_k: u8, rounds: u32) -> Result<u64, Error>
     requires { (4 ≤ lg_k) × (lg_k ≤ 21) }
 {
@@ -152,7 +152,7 @@ pub(crate) fn convert_into<S: Measured>(alloc: Global, lg_k: u8, rounds: u32) ->
     Ok(u64::from(made.num_zeros()))
 }
 
-/// Updates of registers that are 0 at first.
+/// Updates registers that are 0 at first.
 pub(crate) fn update<S: Measured>(alloc: Global, lg_k: u8, rounds: u32) -> Result<u64, Error>
     requires { (4 ≤ lg_k) × (lg_k ≤ 21) }
 {
@@ -166,7 +166,7 @@ pub(crate) fn update<S: Measured>(alloc: Global, lg_k: u8, rounds: u32) -> Resul
     Ok(weight(array.kxq_units()))
 }
 
-/// Registers, all 0 or filled.
+/// Returns registers, all 0 or filled.
 fn made<S: Measured>(alloc: Global, lg_k: u8, full: bool) -> Result<S, Error>
     requires { (4 ≤ lg_k) × (lg_k ≤ 21) }
 {
@@ -177,7 +177,7 @@ fn made<S: Measured>(alloc: Global, lg_k: u8, full: bool) -> Result<S, Error>
     }
 }
 
-/// A coupon of value 0, which an optimizer does not know to be one, so that no round can be left out.
+/// Returns a coupon of value 0. The optimizer doesn't know that the value is 0, so it can't leave out a round.
 fn idle(rounds: u32) -> Coupon {
     Coupon::pack(0, (rounds >> 30) as u8)
 }
@@ -200,7 +200,7 @@ pub(crate) fn is_empty<S: Measured>(
     Ok(sum)
 }
 
-/// Counts of the registers that are 0.
+/// Counts the registers that are 0.
 pub(crate) fn num_zeros<S: Measured>(
     alloc: Global,
     lg_k: u8,
@@ -218,7 +218,7 @@ pub(crate) fn num_zeros<S: Measured>(
     Ok(sum)
 }
 
-/// Sums of the weights of registers.
+/// Sums the weights of registers.
 pub(crate) fn kxq_units<S: Measured>(
     alloc: Global,
     lg_k: u8,

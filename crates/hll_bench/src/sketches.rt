@@ -11,13 +11,13 @@ use hll_coupons::container::Container;
 use hll_sketch::{HllSketch, Mode};
 use std::alloc::Global;
 
-/// What `read_image` answers where the written image is not read as the same sketch.
+/// The result of `read_image` if the written image is not read as the same sketch.
 const DIFFERENT: u64 = 255;
 
-/// The held coupons that are updated in turn.
+/// The number of coupons that a sketch is updated by in turn, all of which it has.
 const HELD: u32 = 64;
 
-/// The width of this many bits; 8 for a number that is none.
+/// Returns the width of this number of bits, or 8 bits for any other number.
 pub(crate) fn width_of(bits: u8) -> HllType {
     match bits {
         4 => HllType::Hll4,
@@ -26,7 +26,7 @@ pub(crate) fn width_of(bits: u8) -> HllType {
     }
 }
 
-/// Puts bytes into the front of a buffer; their length, or 2^32 - 1 if they are more than the buffer.
+/// Copies bytes to the start of a buffer. Returns their length, or 2^32 - 1 if they don't fit.
 fn put(bytes: &[u8], buffer: &mut [u8]) -> u64 {
     match buffer.get_mut(..bytes.len()) {
         Some(front) => {
@@ -37,8 +37,9 @@ fn put(bytes: &[u8], buffer: &mut [u8]) -> u64 {
     }
 }
 
-/// Reads an image and puts what it means into `value` and what is written for it into `image`: the length of the first
-/// in the bits from 8 on, of the second in those from 36 on. `DIFFERENT` if that is not read as an equal sketch.
+/// Reads an image, and puts what it means into `value` and what is written for it into `image`. Returns the length of
+/// the first in the bits from 8 on, and of the second in the bits from 36 on, or `DIFFERENT` if the written image is
+/// not read as an equal sketch.
 pub(crate) fn read_image(
     alloc: Global,
     bytes: &[u8],
@@ -54,7 +55,7 @@ pub(crate) fn read_image(
     Ok(put(&meaning, value) << 8 | put(&written, image) << 36)
 }
 
-/// The `lg_k`, the width, and the coupons or registers of a sketch.
+/// Returns the `lg_k`, the width, and the coupons or registers of a sketch.
 fn meaning_of(alloc: Global, sketch: &HllSketch) -> Result<Vec<u8>, Error> {
     let mut bytes = SketchBytes::with_capacity(alloc, 64)?;
     bytes.write_u8(sketch.lg_config_k())?;
@@ -69,7 +70,7 @@ fn meaning_of(alloc: Global, sketch: &HllSketch) -> Result<Vec<u8>, Error> {
     Ok(bytes.into_bytes())
 }
 
-/// The size of a table as its logarithm, and its coupons in the order of places.
+/// Writes the size of a table as its logarithm, and its coupons in the order of their buckets.
 fn write_table(bytes: &mut SketchBytes<Global>, table: &Container) -> Result<(), Error> {
     bytes.write_u8(table.lg_size() as u8)?;
     for coupon in table.iter() {
@@ -78,7 +79,7 @@ fn write_table(bytes: &mut SketchBytes<Global>, table: &Container) -> Result<(),
     Ok(())
 }
 
-/// 0, the flag and the words of the state, and each register.
+/// Writes 0, the flag and the fields of the state, and each register.
 fn write_registers<R: Registers>(bytes: &mut SketchBytes<Global>, array: &R) -> Result<(), Error> {
     let state = array.estimate_state();
     bytes.write_u8(0)?;
@@ -92,7 +93,7 @@ fn write_registers<R: Registers>(bytes: &mut SketchBytes<Global>, array: &R) -> 
     Ok(())
 }
 
-/// A sketch after this many coupons.
+/// Returns a sketch after this number of coupons.
 fn sketch_after(alloc: Global, lg_k: u8, width: HllType, coupons: u32) -> Result<HllSketch, Error> {
     let mut sketch = HllSketch::new(alloc, lg_k, width)?;
     let mut word = 1;
@@ -104,7 +105,7 @@ fn sketch_after(alloc: Global, lg_k: u8, width: HllType, coupons: u32) -> Result
     Ok(sketch)
 }
 
-/// The number of coupons, or the sum of the weights of registers.
+/// Returns the number of coupons, or the sum of the weights of registers.
 fn sum_of(sketch: &HllSketch) -> u64 {
     match sketch.mode() {
         Mode::List { list, .. } => list.container().len() as u64,
@@ -115,7 +116,7 @@ fn sum_of(sketch: &HllSketch) -> u64 {
     }
 }
 
-/// Updates of sketches from empty, by this many coupons each.
+/// Updates sketches from empty, by this number of coupons each.
 pub(crate) fn update(
     alloc: Global,
     lg_k: u8,
@@ -131,7 +132,7 @@ pub(crate) fn update(
     Ok(sum)
 }
 
-/// Updates of a sketch of this many coupons by the first of them in turn.
+/// Updates a sketch of this number of coupons by the first of them in turn.
 pub(crate) fn update_held(
     alloc: Global,
     lg_k: u8,
@@ -151,7 +152,7 @@ pub(crate) fn update_held(
     Ok(sum_of(&sketch))
 }
 
-/// Puts the image of a sketch of this many coupons into a buffer; its length.
+/// Puts the image of a sketch of this number of coupons into a buffer, and returns its length.
 pub(crate) fn image(
     alloc: Global,
     lg_k: u8,
@@ -163,7 +164,7 @@ pub(crate) fn image(
     Ok(put(&image, buffer))
 }
 
-/// Reads of an image.
+/// Reads an image.
 pub(crate) fn read(alloc: Global, image: &[u8], rounds: u32) -> Result<u64, Error> {
     let mut sum = 0u64;
     for _ in 0..rounds {
@@ -173,7 +174,7 @@ pub(crate) fn read(alloc: Global, image: &[u8], rounds: u32) -> Result<u64, Erro
     Ok(sum)
 }
 
-/// Writes of the image of the sketch that this image is read as; the sum of their lengths and last bytes.
+/// Writes the image of the sketch that this image is read as. Returns the sum of their lengths and last bytes.
 pub(crate) fn write(alloc: Global, image: &[u8], rounds: u32) -> Result<u64, Error> {
     let sketch = HllSketch::deserialize(alloc, image)?;
     let mut sum = 0u64;

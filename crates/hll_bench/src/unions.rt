@@ -11,13 +11,13 @@ use hll_base::hll_type::HllType;
 use hll_sketch::{HllSketch, HllUnion, Mode, union_of};
 use std::alloc::Global;
 
-/// How many sketches have coupons of their own.
+/// The number of sketches with coupons of their own.
 const OWN: u32 = 10;
 
-/// How many copies there are of each of these: a round merges all of them.
+/// The number of copies of each of these sketches. A round merges all copies.
 const COPIES: u32 = 100;
 
-/// Sketches with two coupons for each register, each with coupons of its own.
+/// Returns sketches with two coupons for each register, each sketch with coupons of its own.
 fn own_sketches(alloc: Global, lg_k: u8, width: HllType) -> Result<Vec<HllSketch>, Error>
     requires { lg_k ≤ 21 }
 {
@@ -35,7 +35,7 @@ fn own_sketches(alloc: Global, lg_k: u8, width: HllType) -> Result<Vec<HllSketch
     Ok(made)
 }
 
-/// Copies of these sketches, each with registers in a place of its own.
+/// Returns copies of these sketches, each with registers in its own memory.
 fn sketches(alloc: Global, lg_k: u8, width: HllType) -> Result<Vec<HllSketch>, Error>
     requires { lg_k ≤ 21 }
 {
@@ -49,7 +49,8 @@ fn sketches(alloc: Global, lg_k: u8, width: HllType) -> Result<Vec<HllSketch>, E
     Ok(made)
 }
 
-/// Merges all sketches into a new union, `rounds` times; the sum of the weights of the registers of the last one.
+/// Merges all sketches into a new union, `rounds` times. Returns the sum of the weights of the registers of the last
+/// one.
 pub(crate) fn update(
     alloc: Global,
     bound: u8,
@@ -67,7 +68,7 @@ pub(crate) fn update(
     weight_of(&union)
 }
 
-/// The sum of the weights of the registers of a union, 0 of coupons.
+/// Returns the sum of the weights of the registers of a union, or 0 if it has coupons.
 fn weight_of(union: &HllUnion) -> Result<u64, Error> {
     let sketch = union.to_sketch(HllType::Hll8)?;
     Ok(match sketch.mode() {
@@ -76,7 +77,7 @@ fn weight_of(union: &HllUnion) -> Result<u64, Error> {
     })
 }
 
-/// Merges the registers of all sketches into new registers of eight bits, `rounds` times; the sum of the weights of the
+/// Merges the registers of all sketches into new 8-bit registers, `rounds` times. Returns the sum of the weights of the
 /// last ones.
 pub(crate) fn merge(
     alloc: Global,
@@ -96,7 +97,7 @@ pub(crate) fn merge(
     Ok(weight(array.kxq_units()))
 }
 
-/// New registers with those of all sketches.
+/// Returns new registers with the registers of all sketches merged into them.
 fn merged(alloc: Global, bound: u8, sketches: &[HllSketch]) -> Result<Array8, Error>
     requires { (4 ≤ bound) × (bound ≤ 21) }
 {
@@ -107,7 +108,7 @@ fn merged(alloc: Global, bound: u8, sketches: &[HllSketch]) -> Result<Array8, Er
     Ok(array)
 }
 
-/// Merges registers of any width; a table is passed over.
+/// Merges registers of any width; a table is skipped.
 fn merge_mode(array: &mut Array8, mode: &Mode) {
     match mode {
         Mode::List { .. } | Mode::Set { .. } => {}
@@ -117,7 +118,7 @@ fn merge_mode(array: &mut Array8, mode: &Mode) {
     }
 }
 
-/// Merges registers; those of a smaller `lg_k` are passed over.
+/// Merges registers; those of a smaller `lg_k` are skipped.
 fn merge_registers<R: Registers>(array: &mut Array8, source: &R) {
     if array.lg_k() <= source.lg_k() {
         merge_from(array, source);

@@ -1,12 +1,12 @@
 // SPDX-License-Identifier: Apache-2.0
-//! Maps of exceptions: what they hold, and in which buckets.
+//! Maps of exceptions: their entries, and the buckets of these.
 ghost use Rattle.std.specs.Prelude.{◌≡◌, ◌^◌, ◌<◌, ◌≤◌, IfOk, OnOk};
 
 use hll_base::error::Error;
 use hll_coupons::aux_map::AuxMap;
 use std::alloc::{Allocator, Global};
 
-/// How many slots there are.
+/// Returns the number of slots.
 fn slots(lg_k: u8) -> u32
     requires { lg_k ≤ 21 }
     ensures { result ≡ 2 ^ lg_k }
@@ -14,7 +14,7 @@ fn slots(lg_k: u8) -> u32
     1 << lg_k
 }
 
-/// Gives a slot a value, whether it has one or not.
+/// Sets the value of a slot, whether or not the slot has one.
 fn set<A: Allocator + Clone>(map: &mut AuxMap<A>, slot: u32, value: u8) -> Result<(), Error>
     requires within { slot < 2 ^ map.old.lg_k }
     requires least { 1 ≤ value }
@@ -28,7 +28,7 @@ fn set<A: Allocator + Clone>(map: &mut AuxMap<A>, slot: u32, value: u8) -> Resul
     map.insert(slot, value)
 }
 
-/// A map to which these entries came in turn; one that is out of range is left out.
+/// Returns a map after these entries, in turn. Entries out of range are left out.
 fn map_of<A: Allocator + Clone>(
     alloc: A,
     lg_k: u8,
@@ -62,7 +62,7 @@ fn buckets_of<A: Allocator>(map: &AuxMap<A>) -> Buckets {
     (buckets, map.estimated_size())
 }
 
-/// Two entries that start at bucket 1, and one that starts where the second of them went.
+/// Two entries that start at bucket 1, and one that starts at the bucket that the second entry went to.
 const THREE: [(u32, u8); 3] = [(1, 15), (5, 16), (2, 17)];
 
 const THREE_BUCKETS: Buckets = (
@@ -70,7 +70,7 @@ const THREE_BUCKETS: Buckets = (
     16,
 );
 
-/// A fourth makes the table grow, to eight buckets.
+/// A fourth entry makes the table grow to eight buckets.
 const FOUR: [(u32, u8); 4] = [(1, 15), (5, 16), (2, 17), (3, 63)];
 
 const FOUR_BUCKETS: Buckets = (
@@ -84,14 +84,14 @@ const FOUR_BUCKETS: Buckets = (
     32,
 );
 
-/// The buckets of a map to which these entries came, and those of its copy.
+/// Returns the buckets of a map after these entries, and the buckets of its copy.
 fn placed(alloc: Global, entries: &[(u32, u8)]) -> Result<(Buckets, Buckets), Error> {
     let map = map_of(alloc, 4, entries)?;
     let buckets = buckets_of(&map);
     Ok((buckets, buckets_of(&map.clone()?)))
 }
 
-/// The first five entries that a map gives which is used up.
+/// Returns the first five entries that a map's owning iterator returns.
 fn given(alloc: Global, entries: &[(u32, u8)]) -> Result<[Option<(u32, u8)>; 5], Error> {
     let mut entries = map_of(alloc, 4, entries)?.into_iter();
     Ok([
@@ -111,7 +111,7 @@ fn buckets(rt: HostRuntime) {
     }
 }
 
-/// Entries at `lg_k` 4, and whether their map is the one of three entries.
+/// Entries at `lg_k` 4, and whether their map is equal to the map of three entries.
 const COMPARED: [(&[(u32, u8)], bool); 5] = [
     (&[], false),
     (&[(2, 17), (5, 16)], false),
@@ -120,7 +120,8 @@ const COMPARED: [(&[(u32, u8)], bool); 5] = [
     (&FOUR, false),
 ];
 
-/// Whether a map of three entries at `lg_k` 4 is that of these at another, asked either way.
+/// Returns whether a map of three entries at `lg_k` 4 is equal to the map of these entries at another `lg_k`, and the
+/// other way round.
 fn equals_three(alloc: Global, lg_k: u8, entries: &[(u32, u8)]) -> Result<(bool, bool), Error>
     requires least { 4 ≤ lg_k }
     requires most { lg_k ≤ 21 }
@@ -130,7 +131,7 @@ fn equals_three(alloc: Global, lg_k: u8, entries: &[(u32, u8)]) -> Result<(bool,
     Ok((three == map, map == three))
 }
 
-/// Buckets don't count, `lg_k`, slots and values do.
+/// Buckets don't matter; `lg_k`, slots and values do.
 #[test]
 fn equal_by_entries(rt: HostRuntime) {
     for (entries, same) in COMPARED {

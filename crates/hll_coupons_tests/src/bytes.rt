@@ -6,7 +6,7 @@ use hll_base::error::Error;
 use std::alloc::Allocator;
 use std::test::Fail;
 
-/// Seven fields, 40 bytes.
+/// Writes seven fields, 40 bytes in all.
 fn write_fields<A: Allocator>(bytes: &mut SketchBytes<A>) -> Result<(), Error> {
     bytes.write_u8(1)?;
     bytes.write_u32_le(0x0504_0302)?;
@@ -29,7 +29,7 @@ fn fields_follow_one_another(rt: HostRuntime) -> Result<(), Fail> {
     Ok(())
 }
 
-/// A byte and three more; then too few are left for three.
+/// A byte and three more are read; then too few are left for three.
 #[test]
 fn reads(rt: HostRuntime) -> Result<(), Fail> {
     let mut cursor = SketchSlice::new(&[1, 2, 3, 4, 5, 6]);

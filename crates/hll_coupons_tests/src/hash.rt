@@ -1,5 +1,5 @@
 // SPDX-License-Identifier: Apache-2.0
-//! The hash: vectors at several seeds, and the same bytes cut differently.
+//! The hash: test vectors at several seeds, and the same bytes cut differently.
 use hll_base::hash::{DEFAULT_SEED, MurmurHash3X64128, hash_of_bytes};
 
 /// The bytes 0 to 69.
@@ -9,7 +9,7 @@ const BYTES: [u8; 70] = [
     50, 51, 52, 53, 54, 55, 56, 57, 58, 59, 60, 61, 62, 63, 64, 65, 66, 67, 68, 69,
 ];
 
-/// A seed, a number of bytes from the front of `BYTES`, and their hash. Made by another implementation: `SeedSum128`
+/// A seed, the length of a prefix of `BYTES`, and the hash of this prefix. Made by another implementation: `SeedSum128`
 /// of the Go package `murmur3` of twmb, with the seed given twice.
 const VECTORS: [(u64, usize, u64, u64); 34] = [
     (9001, 0, 0x1e70_a322_6649_1bb9, 0x6097_36b2_5240_6b94),
@@ -108,14 +108,14 @@ const VECTORS: [(u64, usize, u64, u64); 34] = [
     ),
 ];
 
-/// The hash of bytes written in one call.
+/// Returns the hash of bytes written in one call.
 fn words_of(seed: u64, bytes: &[u8]) -> (u64, u64) {
     let mut hash = MurmurHash3X64128::with_seed(seed);
     hash.write(bytes);
     hash.finish128()
 }
 
-/// The hash of bytes written in two calls.
+/// Returns the hash of bytes written in two calls.
 fn words_of_two(seed: u64, first: &[u8], second: &[u8]) -> (u64, u64) {
     let mut hash = MurmurHash3X64128::with_seed(seed);
     hash.write(first);
@@ -134,7 +134,7 @@ fn vectors(rt: HostRuntime) {
     }
 }
 
-/// Each vector's bytes hashed at once.
+/// The bytes of each vector, hashed in one call.
 #[test]
 fn vectors_at_once(rt: HostRuntime) {
     for (seed, end, first, second) in VECTORS {
@@ -153,7 +153,7 @@ fn default_seed(rt: HostRuntime) {
     assert_eq!(rt; hash.finish128(), words_of(9001, &BYTES));
 }
 
-/// Up to seventy bytes, cut in two at each place, beside all of them at once.
+/// Up to seventy bytes, cut in two at each index, compared with the hash of all of them in one call.
 #[test]
 fn cuts(rt: HostRuntime) {
     for end in 0..71usize {

@@ -1,5 +1,5 @@
 // SPDX-License-Identifier: Apache-2.0
-//! Tests through public calls of `hll_base` and `hll_coupons`: bytes, hashes, lists, sets and exceptions.
+//! Tests of `hll_base` and `hll_coupons` through public calls: bytes, hashes, lists, sets and exceptions.
 #![tactic(auto)]
 
 #[cfg(test)]

@@ -1,5 +1,5 @@
 // SPDX-License-Identifier: Apache-2.0
-//! Containers and lists: what they hold, what is written and read.
+//! Containers and lists: their coupons, what is written and what is read.
 ghost use Rattle.std.specs.Prelude.{◌≡◌, IfOk};
 
 use hll_base::cursor::SketchSlice;
@@ -11,12 +11,12 @@ use hll_coupons::list::List;
 use std::alloc::{Allocator, Global};
 use std::test::Fail;
 
-/// The images at `lg_k` 10 and eight bits of a list with no coupon, and with slot 5 and value 3.
+/// The images of a list of `lg_k` 10 and HLL_8 without coupons, and with slot 5 and value 3.
 const EMPTY_IMAGE: [u8; 8] = [2, 1, 7, 10, 3, 12, 0, 8];
 
 const IMAGE: [u8; 12] = [2, 1, 7, 10, 3, 8, 1, 8, 5, 0, 0, 12];
 
-/// Slot 5 and value 3, where a bucket is free or it is held.
+/// Adds slot 5 and value 3, if a bucket is free or the list has the coupon.
 fn add<A: Allocator>(list: &mut List<A>)
     ensures { list.new.lg_size ≡ list.old.lg_size }
 {
@@ -26,7 +26,7 @@ fn add<A: Allocator>(list: &mut List<A>)
     }
 }
 
-/// A list with slot 5 and value 3, which came twice.
+/// Returns a list with slot 5 and value 3, which came twice.
 fn list_in(alloc: Global) -> List
     ensures { result.lg_size ≡ 3 }
 {
@@ -36,7 +36,7 @@ fn list_in(alloc: Global) -> List
     list
 }
 
-/// Whether a list is written as these bytes at `lg_k` 10 and eight bits, in memory for just as many.
+/// Returns whether the image of a list at `lg_k` 10 and HLL_8 is these bytes, in an allocation of exactly their size.
 fn is_written(list: List, image: &[u8]) -> Result<bool, Error>
     requires { list.lg_size ≡ 3 }
 {
@@ -53,11 +53,11 @@ fn images(rt: HostRuntime) {
     assert_eq!(rt; is_written(list_in(rt.alloc()), &IMAGE), Ok(true));
 }
 
-/// A list of two coupons in descending order, and one that has them the other way round, have one image; their buckets
-/// stay as they are.
+/// A list of two coupons in descending order and a list of the same coupons in ascending order have one image. Their
+/// buckets don't change.
 const TWO_IMAGE: [u8; 16] = [2, 1, 7, 10, 3, 8, 2, 8, 5, 0, 0, 4, 7, 0, 0, 8];
 
-/// The first coupon of a list of two, if it is written as `TWO_IMAGE`.
+/// Returns the first coupon of a list of two, if its image is `TWO_IMAGE`.
 fn first_of_two(alloc: Global, bytes: &[u8]) -> Result<Option<Coupon>, Error> {
     let list = List::deserialize(alloc, SketchSlice::new(bytes), 3, 2, false, true)?;
     let first = list.container().iter().next();
@@ -89,13 +89,13 @@ fn containers(rt: HostRuntime) -> Result<(), Fail> {
     Ok(())
 }
 
-/// Whether a list is what a call made, asked either way.
+/// Returns whether a list is equal to what a call made, and the other way round.
 fn equals(list: &List, made: Result<List, Error>) -> Result<(bool, bool), Error> {
     let other = made?;
     Ok((*list == other, other == *list))
 }
 
-/// A list with sixteen buckets, and the coupon of `add` as often.
+/// Returns a list with sixteen buckets, to which the coupon of `add` was added `times` times.
 fn larger(alloc: Global, times: u8) -> Result<List, Error> {
     let mut list = List::new(alloc, 4)?;
     for _ in 0..times {
@@ -104,7 +104,7 @@ fn larger(alloc: Global, times: u8) -> Result<List, Error> {
     Ok(list)
 }
 
-/// Whether the container of a list is equal to its copy.
+/// Returns whether the container of a list is equal to its copy.
 fn is_copied(list: &List) -> Result<bool, Error> {
     Ok(*list.container() == list.container().clone()?)
 }
@@ -118,13 +118,13 @@ fn sizes_do_not_count(rt: HostRuntime) {
     assert_eq!(rt; is_copied(&list), Ok(true));
 }
 
-/// Two coupons, then an empty bucket and the second coupon's bytes once more.
+/// Two coupons, an empty bucket, and the bytes of the second coupon again.
 const BUCKETS: [u8; 16] = [5, 0, 0, 12, 6, 0, 0, 12, 0, 0, 0, 0, 6, 0, 0, 12];
 
-/// Two coupons in descending order, and the second once more.
+/// Two coupons in descending order, and the second again.
 const DESCENDING: [u8; 12] = [6, 0, 0, 12, 5, 0, 0, 12, 5, 0, 0, 12];
 
-/// What is wrong with these buckets of a list with four buckets, or the number of its coupons.
+/// Returns the number of coupons in these buckets of a list with four buckets, or what is wrong with them.
 fn read_in<A: Allocator>(
     alloc: A,
     bytes: &[u8],
@@ -138,8 +138,8 @@ fn read_in<A: Allocator>(
     }
 }
 
-/// Bytes after a header, the count, the empty and the compact flag, and what is answered: the number of coupons, or
-/// what is wrong.
+/// Bytes after a header, the count, the empty flag and the compact flag, and the result: the number of coupons, or what
+/// is wrong.
 const READINGS: [(&[u8], usize, bool, bool, Result<usize, Reason>); 12] = [
     (&[], 0, true, false, Ok(0)),
     (&[0; 16], 0, false, false, Err(Reason::Count)),
@@ -173,7 +173,7 @@ fn lists_are_read(rt: HostRuntime) -> Result<(), Fail> {
     Ok(())
 }
 
-/// What a list does with a coupon of value 3, up to a number of coupons.
+/// Returns what a list does with a coupon of value 3, with a limit on the number of coupons.
 fn insertion(list: &mut List, slot: u32, most: usize) -> Option<Insertion> {
     let coupon = Coupon::pack(slot, 3);
     let most = most.min(list.container().capacity());
@@ -183,7 +183,7 @@ fn insertion(list: &mut List, slot: u32, most: usize) -> Option<Insertion> {
     Some(list.update_within(coupon, most))
 }
 
-/// Slots, numbers of coupons, and what a list does with the coupon.
+/// Slots, limits on the number of coupons, and what a list does with the coupon.
 const INSERTIONS: [(u32, usize, Insertion); 6] = [
     (5, 0, Insertion::Refused),
     (5, 1, Insertion::Added),
@@ -193,7 +193,7 @@ const INSERTIONS: [(u32, usize, Insertion); 6] = [
     (5, 1, Insertion::Refused),
 ];
 
-/// A list takes a coupon up to a number of coupons, and a held one where it has no more already.
+/// A list accepts a coupon up to the limit, and a coupon that it has unless it has more than the limit already.
 #[test]
 fn insertions(rt: HostRuntime) {
     let mut list = List::default_in(rt.alloc());

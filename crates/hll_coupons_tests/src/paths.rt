@@ -1,5 +1,5 @@
 // SPDX-License-Identifier: Apache-2.0
-//! Sets whose coupons meet on one path or on a few: the buckets are those that a walk gives, step by step.
+//! Sets whose coupons share one path or a few: the buckets are those of a step-by-step walk.
 ghost use Rattle.std.specs.Prelude.{◌≤◌};
 
 use hll_base::cursor::SketchSlice;
@@ -15,8 +15,9 @@ const LG_SIZE: usize = 9;
 /// The number of buckets.
 const BUCKETS: usize = 512;
 
-/// Coupons of one of `strides` strides each, in turn: 126 of a stride begin at one bucket, the next at the place before it on
-/// the path, so that each search goes through those that came before.
+/// Returns coupon `index` of `strides` strides that take turns. The first 126 coupons of a stride begin at one bucket,
+/// the next 126 at the bucket before it on the path, and so on, so each search goes through the buckets of the coupons
+/// that came before.
 fn on_paths(index: u32, strides: u32) -> Coupon {
     let strides = strides.max(1);
     let number = index / strides;
@@ -29,7 +30,7 @@ fn on_paths(index: u32, strides: u32) -> Coupon {
     )
 }
 
-/// The first so many coupons of some strides, in their order, or from the last to the first.
+/// Returns the first `count` coupons of some strides, in their order, or from the last to the first.
 fn coupons_of(
     alloc: Global,
     count: u32,
@@ -60,7 +61,7 @@ fn put_by_steps(buckets: &mut [Coupon], coupon: Coupon) {
     }
 }
 
-/// Buckets with the coupons put one by one.
+/// Returns buckets in which the coupons were put one by one.
 fn buckets_by_steps(
     alloc: Global,
     size: usize,
@@ -73,7 +74,7 @@ fn buckets_by_steps(
     Ok(buckets)
 }
 
-/// Whether a set gives the coupons of these buckets, in their order.
+/// Returns whether a set has the coupons of these buckets, in their order.
 fn has_buckets(set: &HashSet, buckets: &[Coupon]) -> bool {
     let mut coupons = set.container().iter();
     for bucket in buckets {
@@ -84,7 +85,7 @@ fn has_buckets(set: &HashSet, buckets: &[Coupon]) -> bool {
     coupons.next().is_none()
 }
 
-/// The number of coupons and the coupons, as they stand after the header of an image.
+/// Returns the count and the coupons, as they are after the header of an image.
 fn image_of(alloc: Global, coupons: &[Coupon]) -> Result<Vec<u8>, AllocError> {
     let mut bytes = Vec::new(alloc);
     bytes.extend_from_slice(&u32::to_le_bytes(coupons.len().min(BUCKETS) as u32))?;
@@ -94,13 +95,13 @@ fn image_of(alloc: Global, coupons: &[Coupon]) -> Result<Vec<u8>, AllocError> {
     Ok(bytes)
 }
 
-/// A set that is read from the image of these coupons.
+/// Returns the set that is read from the image of these coupons.
 fn read(alloc: Global, coupons: &[Coupon]) -> Result<HashSet, Error> {
     let image = image_of(alloc, coupons)?;
     HashSet::deserialize(alloc, SketchSlice::new(&image), LG_SIZE, true)
 }
 
-/// A set of twice as many buckets with the coupons of a set, none where they are more than these.
+/// Returns a set of twice the number of buckets with the coupons of a set, or `None` if they don't fit.
 fn grown(alloc: Global, set: &HashSet) -> Result<Option<HashSet>, Error> {
     if set.container().len() > 2 * BUCKETS {
         return Ok(None);
@@ -109,10 +110,10 @@ fn grown(alloc: Global, set: &HashSet) -> Result<Option<HashSet>, Error> {
     Ok(Some(larger))
 }
 
-/// Numbers of coupons and of their strides: three quarters of the buckets, and all but one.
+/// Numbers of coupons and of their strides: three quarters of the buckets are filled, or all but one.
 const CASES: [(u32, u32); 6] = [(384, 1), (511, 1), (384, 4), (511, 4), (511, 8), (511, 100)];
 
-/// Read in any order, and grown, they stand where a walk puts them.
+/// Read in any order, or moved to a larger table, the coupons are in the buckets of a walk.
 #[test]
 fn buckets_on_paths(rt: HostRuntime) -> Result<(), Fail> {
     for (count, strides) in CASES {
@@ -134,7 +135,7 @@ fn buckets_on_paths(rt: HostRuntime) -> Result<(), Fail> {
     Ok(())
 }
 
-/// A coupon that comes twice is refused, wherever it stands.
+/// A coupon that occurs twice is rejected, wherever it is.
 #[test]
 fn doubled_on_a_path(rt: HostRuntime) -> Result<(), Fail> {
     for twice in [0, 1, 200, 509] {

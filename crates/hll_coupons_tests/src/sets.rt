@@ -1,5 +1,5 @@
 // SPDX-License-Identifier: Apache-2.0
-//! Sets: buckets along the paths of searches, what is written and read, and memory that is asked for once bytes are there.
+//! Sets: buckets along the paths of searches, what is written and read, and allocations only after bytes were checked.
 ghost use Rattle.std.specs.Prelude.{◌≡◌, ◌≤◌};
 
 use hll_base::cursor::SketchSlice;
@@ -12,7 +12,7 @@ use linked_list_allocator::LocalHeap;
 use std::alloc::{Allocator, Global};
 use std::test::Fail;
 
-/// A coupon, where it has a value, and a bucket is free or it is there.
+/// Adds a coupon, if it has a value, and a bucket is free or the set has it.
 fn add<A: Allocator>(set: &mut HashSet<A>, coupon: Coupon) {
     let is_free = set.contains(coupon) || !set.container().is_full();
     if coupon.value() > 0 && is_free {
@@ -20,7 +20,7 @@ fn add<A: Allocator>(set: &mut HashSet<A>, coupon: Coupon) {
     }
 }
 
-/// A set of 2^`lg_size` buckets with these coupons.
+/// Returns a set of 2^`lg_size` buckets with these coupons.
 fn set_of<A: Allocator>(alloc: A, lg_size: usize, coupons: &[Coupon]) -> Result<HashSet<A>, Error>
     requires { lg_size ≤ 26 }
 {
@@ -31,8 +31,8 @@ fn set_of<A: Allocator>(alloc: A, lg_size: usize, coupons: &[Coupon]) -> Result<
     Ok(set)
 }
 
-/// In four buckets: slots 5 and 1 start at bucket 1, the second goes on by 1 to bucket 2; slot 13 starts there too, and
-/// goes on by 3 to bucket 0; slot 9 goes on by 3 through buckets 0 and 3.
+/// In four buckets: slots 5 and 1 start at bucket 1, and the second goes on by 1 to bucket 2. Slot 13 starts there too,
+/// and goes on by 3 to bucket 0. Slot 9 goes on by 3 through buckets 0 and 3.
 fn four() -> [Coupon; 4] {
     [
         Coupon::pack(5, 3),
@@ -66,7 +66,8 @@ fn buckets(rt: HostRuntime) -> Result<(), Fail> {
     Ok(())
 }
 
-/// Whether the set of `four` is the set of these coupons in 2^`lg_size` buckets, asked either way.
+/// Returns whether the set of `four` is equal to the set of these coupons in 2^`lg_size` buckets, and the other way
+/// round.
 fn equals_four(alloc: Global, lg_size: usize, coupons: &[Coupon]) -> Result<(bool, bool), Error>
     requires { lg_size ≤ 26 }
 {
@@ -75,13 +76,13 @@ fn equals_four(alloc: Global, lg_size: usize, coupons: &[Coupon]) -> Result<(boo
     Ok((set == other, other == set))
 }
 
-/// Whether a set is equal to its copy.
+/// Returns whether a set is equal to its copy.
 fn is_copied(alloc: Global) -> Result<bool, Error> {
     let set = set_of(alloc, 2, &four())?;
     Ok(set == set.clone()?)
 }
 
-/// Whether a new set is equal to one of one bucket.
+/// Returns whether a new set is equal to a set of one bucket.
 fn new_sets_are_equal(alloc: Global) -> Result<bool, Error> {
     let set = HashSet::default_in(alloc)?;
     Ok(set == HashSet::new(alloc, 0)?)
@@ -103,13 +104,13 @@ fn sizes_and_buckets_do_not_count(rt: HostRuntime) {
     assert_eq!(rt; new_sets_are_equal(rt.alloc()), Ok(true));
 }
 
-/// The image at `lg_k` 12 and eight bits of slots 16 to 23 with values 1 to 8, in 32 buckets.
+/// The image of a set of `lg_k` 12 and HLL_8 with slots 16 to 23 and values 1 to 8, in 32 buckets.
 const EIGHT_IMAGE: [u8; 44] = [
     3, 1, 7, 12, 5, 8, 0, 9, 8, 0, 0, 0, 16, 0, 0, 4, 17, 0, 0, 8, 18, 0, 0, 12, 19, 0, 0, 16, 20,
     0, 0, 20, 21, 0, 0, 24, 22, 0, 0, 28, 23, 0, 0, 32,
 ];
 
-/// The set of this image, its coupons in another order.
+/// Returns the set of this image, made with its coupons in another order.
 fn eight_in(alloc: Global) -> Result<HashSet, Error> {
     let mut set = HashSet::default_in(alloc)?;
     for value in [3, 1, 2, 8, 7, 6, 5, 4] {
@@ -118,7 +119,7 @@ fn eight_in(alloc: Global) -> Result<HashSet, Error> {
     Ok(set)
 }
 
-/// The image of a set of 32 buckets, none where there are other buckets or no empty one.
+/// Returns the image of a set of 32 buckets, or `None` if the set has another size or no empty bucket.
 fn image_of(set: &HashSet) -> Result<Option<Vec<u8>>, Error> {
     if set.container().lg_size() != 5 || set.container().is_full() {
         return Ok(None);
@@ -126,7 +127,7 @@ fn image_of(set: &HashSet) -> Result<Option<Vec<u8>>, Error> {
     Ok(Some(set.serialize(12, HllType::Hll8)?))
 }
 
-/// Whether a set is written as an image, in memory for just as many bytes.
+/// Returns whether the image of a set is this one, in an allocation of exactly its size.
 fn is_written(set: &HashSet, image: &[u8]) -> Result<bool, Error> {
     match image_of(set)? {
         Some(written) => Ok(written.as_slice() == image && written.capacity() == image.len()),
@@ -134,7 +135,7 @@ fn is_written(set: &HashSet, image: &[u8]) -> Result<bool, Error> {
     }
 }
 
-/// Whether a set is read from an image.
+/// Returns whether a set is read from an image.
 fn is_read(set: &HashSet, alloc: Global, image: &[u8; 44]) -> Result<bool, Error> {
     let cursor = SketchSlice::new(&image[8..]);
     Ok(HashSet::deserialize(alloc, cursor, 5, true)? == *set)
@@ -156,7 +157,8 @@ const CROWDED: [u8; 20] = [
     3, 0, 0, 0, 5, 0, 0, 12, 1, 0, 0, 8, 13, 0, 0, 4, 9, 0, 0, 20,
 ];
 
-/// What is wrong with these bytes after the header of a set with four buckets, or the number of its coupons.
+/// Returns the number of coupons in these bytes after the header of a set with four buckets, or what is wrong with
+/// them.
 fn read_in<A: Allocator + Clone>(alloc: A, bytes: &[u8], compact: bool) -> Result<usize, Reason> {
     match HashSet::deserialize(alloc, SketchSlice::new(bytes), 2, compact) {
         Ok(set) => Ok(set.container().len()),
@@ -164,7 +166,7 @@ fn read_in<A: Allocator + Clone>(alloc: A, bytes: &[u8], compact: bool) -> Resul
     }
 }
 
-/// Bytes after a header, the compact flag, and what is answered: the number of coupons, or what is wrong.
+/// Bytes after a header, the compact flag, and the result: the number of coupons, or what is wrong.
 const READINGS: [(&[u8], bool, Result<usize, Reason>); 15] = [
     (&[0; 4], true, Ok(0)),
     (&[0; 20], false, Ok(0)),
@@ -206,7 +208,7 @@ fn sets_are_read(rt: HostRuntime) -> Result<(), Fail> {
     Ok(())
 }
 
-/// The count 31, and slots 0 to 30 with value 1: they are placed in 32 buckets, and no one is left out.
+/// The count 31, and slots 0 to 30 with value 1: they are inserted into 32 buckets, and none is left out.
 #[test]
 fn one_bucket_is_left(rt: HostRuntime) -> Result<(), Fail> {
     let mut bytes = vec![in rt.alloc(); 0u8; 128]?;
@@ -228,7 +230,7 @@ fn one_bucket_is_left(rt: HostRuntime) -> Result<(), Fail> {
     Ok(())
 }
 
-/// Buckets for 2^26 coupons are asked for only once the bytes are there.
+/// Buckets for 2^26 coupons are allocated only after the bytes were checked.
 #[test]
 fn bytes_come_before_memory(rt: HostRuntime) -> Result<(), Fail> {
     let heap = LocalHeap::new(rt.alloc(), 64)?;
@@ -240,7 +242,7 @@ fn bytes_come_before_memory(rt: HostRuntime) -> Result<(), Fail> {
     Ok(())
 }
 
-/// What a set does with a coupon of value 3, up to a number of coupons.
+/// Returns what a set does with a coupon of value 3, with a limit on the number of coupons.
 fn insertion(set: &mut HashSet, slot: u32, most: usize) -> Option<Insertion> {
     let coupon = Coupon::pack(slot, 3);
     let most = most.min(set.container().capacity());
@@ -250,7 +252,7 @@ fn insertion(set: &mut HashSet, slot: u32, most: usize) -> Option<Insertion> {
     Some(set.update_within(coupon, most))
 }
 
-/// Slots, numbers of coupons, and what a set of two buckets does with the coupon.
+/// Slots, limits on the number of coupons, and what a set of two buckets does with the coupon.
 const INSERTIONS: [(u32, usize, Insertion); 7] = [
     (5, 0, Insertion::Refused),
     (5, 2, Insertion::Added),
@@ -261,7 +263,7 @@ const INSERTIONS: [(u32, usize, Insertion); 7] = [
     (5, 1, Insertion::Refused),
 ];
 
-/// A full set takes no more coupons, but has those that it holds; with fewer allowed it refuses these too.
+/// A full set accepts no more coupons, but has those that it has. With a lower limit it refuses these, too.
 #[test]
 fn insertions(rt: HostRuntime) -> Result<(), Fail> {
     let mut set = HashSet::new(rt.alloc(), 1)?;

@@ -5,12 +5,12 @@
 use std::io;
 use std::io::{Read, Write};
 
-/// A reader that gives a byte at a time, then nothing, and fails once `calls` reads were made.
+/// A reader that returns a byte at a time, then nothing. It fails after `calls` successful reads.
 #[derive(Drop)]
 pub struct Failing<'a> {
-    /// The bytes that are left to give.
+    /// The bytes that are left to return.
     pub text: &'a [u8],
-    /// How many more reads succeed.
+    /// The number of reads that will still succeed.
     pub calls: u32,
 }
 
@@ -31,14 +31,14 @@ impl<'a> Read for Failing<'a> {
     }
 }
 
-/// A writer that takes a byte at a time, up to `room` of them.
+/// A writer that accepts a byte at a time, up to `room` bytes.
 #[derive(Drop)]
 pub struct Narrow<'a> {
     /// The bytes that were written.
     pub taken: &'a mut Vec<u8>,
-    /// The most bytes that it takes.
+    /// The number of bytes that it accepts in all.
     pub room: usize,
-    /// Whether a write after that fails; else it takes nothing.
+    /// Whether a write after that fails. Otherwise it accepts nothing.
     pub fails: bool,
 }
 

@@ -17,12 +17,12 @@ use std::marker::PhantomData;
 use std::process::Abort;
 use std::test::Fail;
 
-/// Registers with three exceptions of four bits, above a minimum of 0 and of 1.
+/// Registers that have three exceptions as 4-bit registers, above a minimum of 0 and of 1.
 const LOW: [u8; 16] = [0, 0, 1, 2, 63, 0, 15, 0, 40, 0, 0, 0, 14, 0, 0, 0];
 
 const RAISED: [u8; 16] = [1, 1, 1, 2, 63, 1, 16, 1, 40, 1, 1, 1, 14, 1, 1, 1];
 
-/// Registers with these values, by updates.
+/// Returns registers with these values, made by updates.
 fn store_in<'h, S: RegisterStore<&'h Heap>>(heap: &'h Heap, values: &[u8; 16]) -> Result<S, Fault> {
     let mut store = S::make(heap, 4)?;
     for (slot, value) in (0u32..).zip(values) {
@@ -40,7 +40,7 @@ enum StoreCall {
     Restore,
 }
 
-/// A call on registers of any width, beside the same registers of eight bits.
+/// A call on registers of any width, with the same registers at 8 bits as another argument.
 #[derive(Drop)]
 struct StoreTrial<'h, S> {
     heap: &'h Heap,
@@ -81,7 +81,7 @@ impl<'h, S: RegisterStore<&'h Heap> + Debug> Trial for StoreTrial<'h, S> {
     }
 }
 
-/// The requests of a call on registers of one width.
+/// Returns the requests of a call on registers of one width.
 fn store_asks<'h, S: RegisterStore<&'h Heap> + Debug>(
     rt: &impl Abort,
     heap: &'h Heap,
@@ -99,8 +99,9 @@ fn store_asks<'h, S: RegisterStore<&'h Heap> + Debug>(
     requests_of(rt, heap, &trial)
 }
 
-/// The calls, and the requests of each on registers of four bits: empty ones, and the two above. Where there are exceptions
-/// they take a map and its table, and their image a sorted copy. Other widths take one request for new registers and for an image.
+/// The calls, and the requests of each on 4-bit registers: empty ones, and the two above. Registers with exceptions
+/// allocate a map and its table, and a sorted copy for their image. At other widths, new registers and an image need
+/// one request each.
 const STORE_CALLS: [(StoreCall, [u64; 3], u64); 5] = [
     (StoreCall::Make, [1, 1, 1], 1),
     (StoreCall::WriteImage, [1, 2, 2], 1),
@@ -126,22 +127,22 @@ fn refused_stores(rt: HostRuntime) -> Result<(), Fail> {
     Ok(())
 }
 
-/// Registers of four bits, an update, and the requests that it makes.
+/// 4-bit registers, an update, and the requests that it makes.
 const UPDATES: [([u8; 16], u32, u8, u64); 12] = [
-    // a first exception, in a map with a table of four buckets, and a value below that makes none
+    // a first exception, in a map with a table of four buckets, and a value below it that is no exception
     ([0; 16], 0, 20, 2),
     ([0; 16], 0, 14, 0),
     // another value for a slot that has an exception, and a value that is not greater
     ([20, 0, 0, 0, 0, 0, 0, 0, 0, 0, 0, 0, 0, 0, 0, 0], 0, 21, 0),
     ([20, 0, 0, 0, 0, 0, 0, 0, 0, 0, 0, 0, 0, 0, 0, 0], 0, 20, 0),
-    // a rise of the minimum that no exception outlives, that one of two outlives, and that both outlive
+    // a rise of the minimum after which no exception is left, one of two is left, and both are left
     ([15, 1, 1, 1, 1, 1, 1, 1, 1, 1, 1, 1, 1, 1, 1, 0], 15, 1, 0),
     ([15, 63, 1, 1, 1, 1, 1, 1, 1, 1, 1, 1, 1, 1, 1, 0], 15, 1, 2),
     ([20, 63, 1, 1, 1, 1, 1, 1, 1, 1, 1, 1, 1, 1, 1, 0], 15, 1, 0),
-    // a rise whose own slot is an exception above it, alone and beside another
+    // a rise whose own slot becomes an exception, alone and with another one
     ([1, 1, 1, 1, 1, 1, 1, 1, 1, 1, 1, 1, 1, 1, 1, 0], 15, 63, 2),
     ([20, 1, 1, 1, 1, 1, 1, 1, 1, 1, 1, 1, 1, 1, 1, 0], 15, 63, 2),
-    // fifteen exceptions, and a rise past all of them, past all but one, and past none
+    // fifteen exceptions, and a rise after which none is left, one is left, and all are left
     (
         [
             20, 20, 20, 20, 20, 20, 20, 20, 20, 20, 20, 20, 20, 20, 20, 0,
@@ -169,7 +170,7 @@ const UPDATES: [([u8; 16], u32, u8, u64); 12] = [
 ];
 
 /// The requests of each further exception, from the first to the thirteenth: for tables of 4, 16 and 32 buckets. Eight
-/// stand in the value.
+/// buckets need no allocation.
 const EXCEPTIONS: [u64; 13] = [2, 0, 0, 0, 0, 0, 1, 0, 0, 0, 0, 0, 1];
 
 #[test]
@@ -207,7 +208,7 @@ enum ArrayCall {
     MergeFrom,
 }
 
-/// A call on registers of each width with three exceptions of four bits.
+/// A call on registers of each width. At 4 bits they have three exceptions.
 #[derive(Drop)]
 struct ArrayTrial<'h> {
     heap: &'h Heap,
@@ -217,34 +218,36 @@ struct ArrayTrial<'h> {
 /// Registers of each width.
 type Arrays<'h> = (Array4<&'h Heap>, Array6<&'h Heap>, Array8<&'h Heap>);
 
-/// What follows the header of an image of four bits: the words, the counts, nibbles, and a table of eight buckets.
+/// The part of an image of 4-bit registers after the header: the fields, the counts, nibbles, and a table of eight
+/// buckets.
 const PAYLOAD: [u8; 72] = [
     0, 0, 0, 0, 0, 0, 0, 0, 0, 0, 0, 0, 0, 0, 0, 0, 0, 0, 0, 0, 0, 0, 0, 0, 13, 0, 0, 0, 2, 0, 0,
     0, 0xff, 1, 0, 0, 0, 0, 0, 0, 0, 0, 0, 80, 1, 0, 0, 64, 0, 0, 0, 0, 0, 0, 0, 0, 0, 0, 0, 0, 0,
     0, 0, 0, 0, 0, 0, 0, 0, 0, 0, 0,
 ];
 
-/// A payload of four bits with a minimum of 0 above which all registers are, without an exception: it is raised to 1.
+/// A payload of 4-bit registers with a minimum of 0, all of which are above it, without an exception. Reading raises
+/// the minimum to 1.
 const LOW_PAYLOAD: [u8; 40] = [
     0, 0, 0, 0, 0, 0, 0, 0, 0, 0, 0, 0, 0, 0, 0, 0, 0, 0, 0, 0, 0, 0, 0, 0, 0, 0, 0, 0, 0, 0, 0, 0,
     0x11, 0x11, 0x11, 0x11, 0x11, 0x11, 0x11, 0x21,
 ];
 
-/// A payload of four bits with a minimum of 0 above which all registers are, an exception of 40, which stays one, and one of
-/// 15, which does not.
+/// A payload of 4-bit registers with a minimum of 0, all of which are above it, with an exception of 40, which stays
+/// one, and an exception of 15, which doesn't.
 const LOW_PAYLOAD_WITH_EXCEPTIONS: [u8; 48] = [
     0, 0, 0, 0, 0, 0, 0, 0, 0, 0, 0, 0, 0, 0, 0, 0, 0, 0, 0, 0, 0, 0, 0, 0, 0, 0, 0, 0, 2, 0, 0, 0,
     0xff, 0x11, 0x11, 0x11, 0x11, 0x11, 0x11, 0x21, 0, 0, 0, 160, 1, 0, 0, 60,
 ];
 
-/// What follows the header of images of six and of eight bits whose registers are 0.
+/// The part after the header of images of 6-bit and 8-bit registers that are 0.
 const ZEROS: [u8; 48] = [
     0, 0, 0, 0, 0, 0, 0, 0, 0, 0, 0, 0, 0, 0, 0, 0, 0, 0, 0, 0, 0, 0, 0, 0, 16, 0, 0, 0, 0, 0, 0,
     0, 0, 0, 0, 0, 0, 0, 0, 0, 0, 0, 0, 0, 0, 0, 0, 0,
 ];
 
-/// A payload of four bits with 2^11 registers and 768 exceptions in 1,024 buckets, two for each of the first 384 buckets, so
-/// that searches are long.
+/// Returns a payload of 2^11 4-bit registers and 768 exceptions in 1,024 buckets. Two start at each of the first 384
+/// buckets, so searches are long.
 fn path_payload(heap: &Heap) -> Result<Vec<u8>, Fault> {
     let mut bytes = Vec::new(heap.inner());
     bytes.extend_from_slice(&[0; 28])?;
@@ -323,8 +326,8 @@ impl<'h> Trial for ArrayTrial<'h> {
     }
 }
 
-/// The calls, and the requests of each. On a path they are seven tables, the bits of the slots, three for the cycle of the
-/// stride, the map and the nibbles.
+/// The calls, and the requests of each. For exceptions on a path these are seven tables, the bits of the slots, three
+/// for the cycle of the stride, the map and the nibbles.
 const ARRAY_CALLS: [(ArrayCall, u64); 12] = [
     (ArrayCall::Clone4, 3),
     (ArrayCall::Clone6, 1),

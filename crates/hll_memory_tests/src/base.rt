@@ -1,5 +1,5 @@
 // SPDX-License-Identifier: Apache-2.0
-//! Buffers of image fields, and what precedes registers in them.
+//! Buffers of image fields, and the preamble of registers.
 use crate::harness::{Heap, Trial, requests_of, shown, text};
 use hll_base::codec::SketchBytes;
 use hll_base::hll_type::HllType;
@@ -19,14 +19,14 @@ enum BufferCall {
     WritePreamble,
 }
 
-/// What precedes the registers of an image.
+/// The preamble of an image of registers.
 const PREAMBLE: Preamble = Preamble {
     state: EstimateState::CLEARED,
     num_at_cur_min: 16,
     exception_count: 0,
 };
 
-/// A call on a buffer with room for some bytes, one of them written.
+/// A call on a buffer with room for some bytes, one of which is written.
 #[derive(Drop)]
 struct BufferTrial<'h> {
     heap: &'h Heap,
@@ -69,7 +69,7 @@ impl<'h> Trial for BufferTrial<'h> {
     }
 }
 
-/// The calls, and the requests of each on a full buffer, and on one with room.
+/// The calls, and the requests of each on a full buffer, and on a buffer with room.
 const BUFFERS: [(BufferCall, [u64; 2]); 7] = [
     (BufferCall::WithCapacity, [1, 1]),
     (BufferCall::WriteU8, [1, 0]),

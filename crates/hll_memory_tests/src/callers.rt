@@ -1,5 +1,5 @@
 // SPDX-License-Identifier: Apache-2.0
-//! The calls of a caller of the library, on two shards.
+//! The calls of the example caller of the library, on two shards.
 use crate::harness::{Heap, Trial, requests_of, shown};
 use crate::sketches::{Shape, coupon_at, sketch_in, sketch_text};
 use crate::unions::union_text;
@@ -16,7 +16,8 @@ enum ShardsCall {
     UnionOfShards(HllType),
 }
 
-/// A call on the sketches of two shards, one of which sends its union at some width, or on the coupons of one or two.
+/// A call on the sketches of two shards, one of which sends its union at some width, or on the coupons of one shard or
+/// of both.
 #[derive(Drop)]
 struct ShardsTrial<'h> {
     heap: &'h Heap,
@@ -56,8 +57,8 @@ impl<'h> Trial for ShardsTrial<'h> {
     }
 }
 
-/// The calls, and their requests: one for the registers of each shard. A union takes the registers of one shard, its sketch at
-/// the width that is sent, the set of the other, and the registers of both.
+/// The calls, and their requests: one for the registers of each shard. A union allocates the registers of one shard,
+/// its sketch at the width that is sent, the set of the other shard, and the registers of both.
 const SHARDS_CALLS: [(ShardsCall, u64); 5] = [
     (ShardsCall::RegistersOf, 1),
     (ShardsCall::MaxOfShards, 2),

@@ -15,7 +15,7 @@ use hll_coupons::list::List;
 use hll_text::fault::Fault;
 use std::test::Fail;
 
-/// What follows the header of images of a list and of a set: three coupons, those of the set after their count.
+/// The part after the header of images of a list and of a set: three coupons, those of the set after their count.
 const LISTED: [u8; 12] = [5, 0, 0, 12, 6, 0, 0, 12, 7, 0, 0, 4];
 
 const COUNTED: [u8; 16] = [3, 0, 0, 0, 5, 0, 0, 12, 6, 0, 0, 12, 7, 0, 0, 4];
@@ -49,7 +49,7 @@ struct TableTrial<'h> {
     call: TableCall,
 }
 
-/// A set of 64 buckets with the coupons of a list of at most as many.
+/// Returns a set of 64 buckets with the coupons of a list, which has no more than that.
 fn set_of<'h>(heap: &'h Heap, list: &List<&'h Heap>) -> Result<HashSet<&'h Heap>, Fault> {
     if list.container().len() > 64 {
         return Err(Fault::Range);
@@ -57,7 +57,7 @@ fn set_of<'h>(heap: &'h Heap, list: &List<&'h Heap>) -> Result<HashSet<&'h Heap>
     Ok(HashSet::from_container(heap, 6, list.container())?)
 }
 
-/// The image of a list of eight buckets.
+/// Returns the image of a list of eight buckets.
 fn list_image<'h>(list: &List<&'h Heap>) -> Result<Vec<u8, &'h Heap>, Fault> {
     if list.container().lg_size() != 3 {
         return Err(Fault::Range);
@@ -65,7 +65,7 @@ fn list_image<'h>(list: &List<&'h Heap>) -> Result<Vec<u8, &'h Heap>, Fault> {
     Ok(list.serialize(10, HllType::Hll8)?)
 }
 
-/// The image of a set of 32 buckets that is not full.
+/// Returns the image of a set of 32 buckets that is not full.
 fn set_image<'h>(set: &HashSet<&'h Heap>) -> Result<Vec<u8, &'h Heap>, Fault> {
     if set.container().lg_size() != 5 || set.container().is_full() {
         return Err(Fault::Range);
@@ -73,14 +73,14 @@ fn set_image<'h>(set: &HashSet<&'h Heap>) -> Result<Vec<u8, &'h Heap>, Fault> {
     Ok(set.serialize(10, HllType::Hll8)?)
 }
 
-/// A buffer without room to which three coupons are appended.
+/// Returns a buffer made without room, to which three coupons are appended.
 fn three_coupons(heap: &Heap) -> Result<SketchBytes<&Heap>, Error> {
     let coupons = [Coupon::pack(5, 3), Coupon::pack(6, 3), Coupon::pack(7, 1)];
     with_coupons(SketchBytes::with_capacity(heap, 0)?, &coupons)
 }
 
 impl<'h> TableTrial<'h> {
-    /// The size, at most that of the largest table.
+    /// Returns the size, at most that of the largest table.
     fn size(&self) -> usize
         ensures { result ≤ 26 }
     {
@@ -141,11 +141,11 @@ impl<'h> Trial for TableTrial<'h> {
     }
 }
 
-/// Sizes and numbers of coupons. Eight buckets take no memory.
+/// Sizes and numbers of coupons. Eight buckets allocate nothing.
 const TABLES: [(usize, u32); 5] = [(2, 3), (3, 0), (3, 8), (4, 8), (5, 31)];
 
-/// The calls, and the requests of each on tables of these sizes: the image of a list is of eight buckets, that of a set of
-/// 32, in a sorted copy and the bytes.
+/// The calls, and the requests of each on tables of these sizes. The image of a list has eight buckets, that of a set
+/// 32; each allocates a sorted copy and the bytes.
 const TABLE_CALLS: [(TableCall, [u64; 5]); 16] = [
     (TableCall::NewContainer, [1, 0, 0, 1, 1]),
     (TableCall::NewList, [1, 0, 0, 1, 1]),
@@ -189,14 +189,14 @@ enum PathCall {
     PutAgain,
 }
 
-/// A call on a set of 128 buckets with 127 coupons, all but one of which begin at one place and go on by one stride.
+/// A call on a set of 128 buckets with 127 coupons, all but one of which begin at one bucket and have one stride.
 #[derive(Drop)]
 struct PathTrial<'h> {
     heap: &'h Heap,
     call: PathCall,
 }
 
-/// The number of coupons and the coupons, as they stand after the header of an image.
+/// Returns the count and the coupons, as they are after the header of an image.
 fn path_image(heap: &Heap) -> Result<Vec<u8>, Fault> {
     let mut bytes = Vec::new(heap.inner());
     bytes.extend_from_slice(&u32::to_le_bytes(127))?;
@@ -208,13 +208,13 @@ fn path_image(heap: &Heap) -> Result<Vec<u8>, Fault> {
     Ok(bytes)
 }
 
-/// The set of that image.
+/// Returns the set of that image.
 fn path_set<'h>(heap: &'h Heap) -> Result<HashSet<&'h Heap>, Fault> {
     let image = path_image(heap)?;
     Ok(HashSet::deserialize(heap, SketchSlice::new(&image), 7, true)?)
 }
 
-/// The coupons of a set in another table of as many buckets, put in the order of their buckets.
+/// Returns the coupons of a set in another table of the same size, inserted in the order of their buckets.
 fn put_again<'h>(heap: &'h Heap, set: &HashSet<&'h Heap>) -> Result<HashSet<&'h Heap>, Fault> {
     if set.container().len() > 128 {
         return Err(Fault::Range);
@@ -241,8 +241,8 @@ impl<'h> Trial for PathTrial<'h> {
     }
 }
 
-/// The calls, and the requests of each: the buckets, and three for the cycle of the stride; to read them also the buckets of a
-/// first try, a copy of the coupons and a sorted one.
+/// The calls, and the requests of each: the buckets, and three for the cycle of the stride. Reading also allocates the
+/// buckets of a first try, a copy of the coupons, and a sorted copy.
 const PATH_CALLS: [(PathCall, u64); 2] = [(PathCall::Read, 7), (PathCall::PutAgain, 4)];
 
 #[test]
@@ -272,7 +272,7 @@ struct MapTrial<'h> {
     call: MapCall,
 }
 
-/// Gives a slot of sixteen a value, unless it has one.
+/// Sets the value of one of sixteen slots, unless it has one.
 fn put(map: &mut AuxMap<&Heap>, slot: u32) -> Result<(), Fault> {
     if map.lg_config_k() == 4 && slot < 16 && map.get(slot).is_none() {
         map.insert(slot, 20)?;
@@ -308,8 +308,8 @@ impl<'h> Trial for MapTrial<'h> {
     }
 }
 
-/// Numbers of entries. Tables have 4, 8, 16 and 32 buckets, of which eight stand in the value; the fourth, the seventh and
-/// the thirteenth entry make them grow.
+/// Numbers of entries. Tables have 4, 8, 16 and 32 buckets, of which eight need no allocation. The fourth, the seventh
+/// and the thirteenth entry make them grow.
 const MAPS: [u32; 7] = [0, 2, 3, 5, 6, 7, 12];
 
 /// The calls, and the requests of each on maps of these numbers.

@@ -1,5 +1,5 @@
 // SPDX-License-Identifier: Apache-2.0
-//! The filter, with each of its requests refused.
+//! The filter, with each of its allocations failing in turn.
 use crate::harness::Heap;
 use hll_estimator_fields::run::run;
 use hll_text::fault::{Fault, MergeError};
@@ -7,36 +7,36 @@ use hll_text::watched::Watched;
 use std::process::Abort;
 use std::test::Fail;
 
-/// More requests than any of these runs makes.
+/// A number of requests that none of these runs reaches.
 const MOST: u64 = 1000;
 
-/// Texts, and the requests of a run: for the text of a line and for its bytes, where it is longer than each before it; for the
-/// sketch of each line and for its image.
+/// Texts, and the requests of a run: for the text of a line and for its bytes, if the line is longer than each line
+/// before it; for the sketch of each line, and for its image.
 const TEXTS: [(&str, u64); 6] = [
     ("", 0),
     ("0201070a030801080500000c\n", 4),
     ("0201070a030801080500000c", 4),
     ("0201070a030801080500000c\n0201070a030801080500000c\n", 6),
-    // registers of eight bits, with fields that are set, after a list
+    // 8-bit registers, whose fields are set, after a list
     (
         "02010704030801080500000c\n0a0107040000000a0100000000000000020000000000000003000000000000000f0000000000000005000000000000000000000000000000\n",
         8,
     ),
-    // a set, whose coupons are sorted aside, and a line that is shorter
+    // a set, whose coupons are sorted in a copy, and a line that is shorter
     (
         "0301070a05080009010000000500000c\n0201070a030801080500000c\n",
         7,
     ),
 ];
 
-/// What the filter answers, and what it printed.
+/// What the filter returned, and what it printed.
 #[derive(Drop)]
 struct Outcome {
     answer: Result<(), MergeError>,
     printed: Vec<u8>,
 }
 
-/// Runs the filter, with streams in other memory.
+/// Runs the filter, with streams in memory of another allocator.
 fn filtered(heap: &Heap, text: &str) -> Outcome {
     let mut reader = Watched::new(text.as_bytes());
     let mut writer = Watched::new(Vec::new(heap.inner()));
@@ -47,7 +47,7 @@ fn filtered(heap: &Heap, text: &str) -> Outcome {
     }
 }
 
-/// Bytes are lines, the last one ended too.
+/// Returns whether these bytes are lines, and the last one ends in LF, too.
 fn are_lines(bytes: &[u8]) -> bool {
     match bytes.last() {
         None => true,
@@ -55,8 +55,8 @@ fn are_lines(bytes: &[u8]) -> bool {
     }
 }
 
-/// Refuses each request of a run in turn. The lines before the one that lacks memory are printed, whole. The number of
-/// requests.
+/// Makes each request of a run fail in turn, and returns the number of requests. The lines before the one that lacks
+/// memory are printed completely.
 fn filter_asks(rt: &impl Abort, heap: &Heap, text: &str) -> u64 {
     let given = filtered(heap, text);
     for nth in 1..MOST {

@@ -1,5 +1,5 @@
 // SPDX-License-Identifier: Apache-2.0
-//! A call made again and again, with one request for memory refused each time.
+//! Makes a call again and again, with another request for memory failing each time.
 use crate::refusing::Refusing;
 use hll_base::error::Error;
 use hll_text::fault::Fault;
@@ -7,32 +7,32 @@ use std::alloc::Global;
 use std::fmt::Debug;
 use std::process::Abort;
 
-/// The memory of what is tried.
+/// The allocator of what is tried.
 pub(crate) type Heap = Refusing<Global>;
 
-/// More requests than any call makes.
+/// A number of requests that no call reaches.
 const MOST: u64 = 1000;
 
-/// A call that is tried, and what it is made on.
+/// A call that is tried, and the subject that it is made on.
 pub(crate) trait Trial {
     type Subject: Drop;
 
-    /// What the call is made on, the same each time.
+    /// Makes the subject of the call, the same each time.
     fn make(&self) -> Result<Self::Subject, Fault>;
 
-    /// The call. What it gives is shown as text, in memory that isn't refused.
+    /// Makes the call. Its result is shown as text, in memory whose requests don't fail.
     fn call(&self, subject: &mut Self::Subject) -> Result<String, Fault>;
 
-    /// All of the subject, to the last place of a table.
+    /// Returns the whole subject as text, to the last bucket of a table.
     fn show(&self, subject: &Self::Subject) -> Result<String, Fault>;
 
-    /// Whether the call uses its subject up.
+    /// Returns whether the call uses its subject up.
     fn spends(&self) -> bool {
         false
     }
 }
 
-/// A value as text. Of tables, registers and modes that is all: each place, each register, the state.
+/// Returns a value as text. For tables, registers and modes that is all of it: each bucket, each register, the state.
 pub(crate) fn text<T: Debug>(heap: &Heap, value: &T) -> Result<String, Fault> {
     match format!(in heap.inner(); "{value:?}") {
         Ok(text) => Ok(text),
@@ -40,14 +40,14 @@ pub(crate) fn text<T: Debug>(heap: &Heap, value: &T) -> Result<String, Fault> {
     }
 }
 
-/// What a call made, as text, or why it made nothing.
+/// Returns what a call made as text, or why it made nothing.
 pub(crate) fn shown<T: Debug + Drop>(heap: &Heap, made: Result<T, Error>) -> Result<String, Fault> {
     text(heap, &made?)
 }
 
-/// Refuses each request of a call in turn. A refusal is for memory, and leaves the subject as it was; the call made on it
-/// again, with memory, gives what it gives where none is refused, and leaves the subject as it does there. The number of
-/// requests.
+/// Makes each request of a call fail in turn, and returns the number of requests. A call whose request fails returns
+/// `Memory` and leaves the subject unchanged. Made again on this subject, with memory, it has the same result and the
+/// same effect as a call without failures.
 pub(crate) fn requests_of<T: Trial>(rt: &impl Abort, heap: &Heap, trial: &T) -> Result<u64, Fault> {
     let mut twin = trial.make()?;
     let before = trial.show(&twin)?;

@@ -1,6 +1,6 @@
 // SPDX-License-Identifier: Apache-2.0
-//! Two heaps, of which one is full: `agree` asks that of its first argument alone, and what is given an allocator, and a
-//! union, its own.
+//! Two heaps, one of which is full. `agree` allocates only from the heap of its first argument. A call that is given an
+//! allocator, and a union, allocate only from their own.
 use crate::harness::Heap;
 use crate::sketches::{Shape, WIDTHS, sketch_in};
 use crate::unions::union_in;
@@ -22,7 +22,8 @@ const SKETCHES: [Shape; 7] = [
     (4, 0, 16),
 ];
 
-/// The requests to each heap for whether a sketch of the first agrees with one of the other, which is full by then.
+/// Returns the requests to each heap for checking whether a sketch of the first heap agrees with a sketch of the
+/// second, which is full by then.
 fn agree_asks<'h>(
     heap: &'h Heap,
     full: &'h Heap,
@@ -36,7 +37,7 @@ fn agree_asks<'h>(
     Ok((heap.asked(), full.asked()))
 }
 
-/// Asks whether a sketch of this heap agrees with another one, and counts the requests to this heap for that.
+/// Checks whether a sketch of this heap agrees with another one, and counts the requests to this heap for that.
 fn agree_with<'h>(
     heap: &'h Heap,
     hll_type: HllType,
@@ -60,8 +61,8 @@ fn agree_asks_its_first_argument(rt: HostRuntime) -> Result<(), Fail> {
     Ok(())
 }
 
-/// The requests to the second heap, which is full by then, for merging a sketch of it into a union of the first. The bound of
-/// the union is the `lg_k` of what is in it.
+/// Returns the requests to the second heap, which is full by then, for merging a sketch of it into a union of the
+/// first. The bound of the union is the `lg_k` of what is in it.
 fn update_asks<'h>(
     heap: &'h Heap,
     full: &'h Heap,
@@ -100,7 +101,8 @@ fn unions_ask_their_own(rt: HostRuntime) -> Result<(), Fail> {
     Ok(())
 }
 
-/// The requests to the second heap, which is full by then, for the union that the first makes of its sketches.
+/// Returns the requests to the second heap, which is full by then, for the union that the first heap makes of its
+/// sketches.
 fn union_of_asks<'h>(
     heap: &'h Heap,
     full: &'h Heap,
@@ -132,8 +134,8 @@ fn union_of_asks_its_own(rt: HostRuntime) -> Result<(), Fail> {
 /// A list with a coupon, as an image.
 const IMAGE: &[u8] = b"\x02\x01\x07\x0a\x03\x08\x01\x08\x05\x00\x00\x0c";
 
-/// The requests to the second heap, which is full by then, for the outcome of steps that have an image in it, and for its
-/// comparison with itself.
+/// Returns the requests to the second heap, which is full by then, for the outcome of steps with an image in it, and
+/// for its comparison with itself.
 fn steps_ask<'h>(heap: &'h Heap, full: &'h Heap) -> Result<(u64, u64), Fault> {
     full.admit();
     let steps = [

@@ -1,5 +1,5 @@
 // SPDX-License-Identifier: Apache-2.0
-//! Calls whose requests for memory are refused, one after the other.
+//! Tests of calls whose requests for memory fail, one after the other.
 #![tactic(auto)]
 
 #[cfg(test)]

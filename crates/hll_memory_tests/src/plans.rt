@@ -29,7 +29,7 @@ enum TextCall {
     RunInMemory,
 }
 
-/// A call on a text, beside a feed that took it, and a buffer of some bytes.
+/// A call on a text, with a feed that was fed the text, and a buffer of some bytes.
 #[derive(Drop)]
 struct TextTrial<'h> {
     heap: &'h Heap,
@@ -37,7 +37,7 @@ struct TextTrial<'h> {
     call: TextCall,
 }
 
-/// Runs a plan in memory, the line's included.
+/// Runs a plan in memory, with memory for the line in this heap, too.
 fn run_within<'h>(heap: &'h Heap, plan: &str) -> Result<Vec<u8, &'h Heap>, Fault> {
     match run_in_memory(heap, plan.as_bytes()) {
         Ok(line) => Ok(line),
@@ -45,7 +45,7 @@ fn run_within<'h>(heap: &'h Heap, plan: &str) -> Result<Vec<u8, &'h Heap>, Fault
     }
 }
 
-/// Runs a plan, with streams in other memory.
+/// Runs a plan, with streams in memory of another allocator.
 fn run_in_other_memory(heap: &Heap, plan: &str) -> Result<Vec<u8>, Fault> {
     let mut reader = Watched::new(plan.as_bytes());
     let mut writer = Watched::new(Vec::new(heap.inner()));
@@ -55,7 +55,7 @@ fn run_in_other_memory(heap: &Heap, plan: &str) -> Result<Vec<u8>, Fault> {
     }
 }
 
-/// A sketch that is the outcome of a plan, as text.
+/// Returns the sketch that is the outcome of a plan, as text.
 fn outcome_text(
     heap: &Heap,
     outcome: Result<HllSketch<&Heap>, MergeError>,
@@ -66,7 +66,7 @@ fn outcome_text(
     }
 }
 
-/// An empty feed.
+/// Returns an empty feed.
 fn feed_in(heap: &Heap) -> Result<PlanFeed<&Heap>, Fault> {
     match PlanFeed::new(heap) {
         Ok(feed) => Ok(feed),
@@ -110,8 +110,8 @@ impl<'h> Trial for TextTrial<'h> {
     }
 }
 
-/// Calls on texts that are no plans, and the requests: one for the bytes of an image, and for a buffer that is too small. A
-/// word that isn't right answers its fault.
+/// Calls on texts that are no plans, and the requests: one for the bytes of an image, and one for a buffer that is too
+/// small. For a wrong word, the call returns its fault.
 const TEXTS: [(TextCall, &str, u64); 12] = [
     (TextCall::ReadStep, "", 0),
     (TextCall::ReadStep, "# a comment", 0),
@@ -127,10 +127,11 @@ const TEXTS: [(TextCall, &str, u64); 12] = [
     (TextCall::Finish, "", 0),
 ];
 
-/// Plans with the requests of a run, of a run in memory, of the end of a feed that took them, and of a feed in two pieces.
+/// Plans, and the requests of a run, of a run in memory, of the end of a feed that was fed them, and of a feed in two
+/// pieces.
 const PLANS: [(&str, [u64; 4]); 7] = [
     ("new 10 8\ncoupon 5 3\n", [3, 5, 0, 3]),
-    // the eighth coupon makes registers, of eight bits and of four
+    // the eighth coupon makes registers, 8-bit and 4-bit
     (
         "new 4 8\ncoupon 0 1\ncoupon 1 2\ncoupon 2 3\ncoupon 3 4\ncoupon 4 5\ncoupon 5 6\ncoupon 6 7\ncoupon 7 8",
         [4, 6, 1, 3],
@@ -159,13 +160,13 @@ const PLANS: [(&str, [u64; 4]); 7] = [
     ),
 ];
 
-/// The requests of a call on a text.
+/// Returns the requests of a call on a text.
 fn text_asks(rt: &impl Abort, heap: &Heap, text: &str, call: TextCall) -> Result<u64, Fault> {
     requests_of(rt, heap, &TextTrial { heap, text, call })
 }
 
-/// Refuses each request of a feed in two pieces in turn. The fault stays: what comes later answers it again, and nothing is
-/// pending.
+/// Makes each request of a feed in two pieces fail in turn. The fault stays: later calls return it again, and nothing
+/// is pending.
 fn feed_asks(rt: &impl Abort, heap: &Heap, plan: &str) -> Result<u64, Fault> {
     let (front, rest) = plan.as_bytes().split_at(plan.len() / 2);
     for nth in 1..1000 {
@@ -292,7 +293,7 @@ impl<'h> Trial for StepsTrial<'h> {
     }
 }
 
-/// Lists, and the requests of their evaluation and of their comparison. No steps take no memory.
+/// Lists, and the requests of their evaluation and of their comparison. An empty list allocates nothing.
 const STEPS: [(Steps, [u64; 2]); 4] = [
     (Steps::None, [0, 1]),
     (Steps::Joined, [3, 6]),

@@ -1,10 +1,10 @@
 // SPDX-License-Identifier: Apache-2.0
-//! An allocator that counts requests for memory, and refuses some of them.
+//! An allocator that counts requests for memory, and makes some of them fail.
 use std::alloc::{AllocError, Allocator};
 use std::cell::Cell;
 use std::fmt;
 
-/// The number of requests so far, and the first and the last of those that are refused.
+/// The number of requests so far, and the first and the last request that fail.
 #[derive(Drop)]
 struct Tally {
     asked: Cell<u64>,
@@ -13,7 +13,7 @@ struct Tally {
 }
 
 impl Tally {
-    /// Counts a request. Whether it is passed on.
+    /// Counts a request. Returns whether to pass it on.
     fn admits(&self) -> bool {
         let asked = self.asked.get().wrapping_add(1);
         self.asked.set(asked);
@@ -21,7 +21,8 @@ impl Tally {
     }
 }
 
-/// Passes requests on to another allocator, but for those that it is told to refuse. What takes memory holds a `&` to it.
+/// Passes requests on to another allocator, except those that are to fail. Values that allocate from it have a `&` to
+/// it.
 pub(crate) struct Refusing<B: Allocator> {
     inner: B,
     tally: Tally,
@@ -40,7 +41,7 @@ impl<B: Allocator> fmt::Debug for Refusing<B> {
 }
 
 impl<B: Allocator> Refusing<B> {
-    /// Refuses nothing.
+    /// Returns an allocator that lets no request fail.
     pub(crate) fn new(inner: B) -> Refusing<B> {
         let tally = Tally {
             asked: Cell::new(0),
@@ -50,7 +51,7 @@ impl<B: Allocator> Refusing<B> {
         Refusing { inner, tally }
     }
 
-    /// The allocator that requests are passed on to.
+    /// Returns the allocator that requests are passed on to.
     pub(crate) fn inner(&self) -> B
     where
         B: Copy,
@@ -58,29 +59,29 @@ impl<B: Allocator> Refusing<B> {
         self.inner
     }
 
-    /// Counts from 0 again, and refuses the requests from the first to the last of these.
+    /// Counts from 0 again, and lets the requests from the first to the last of these fail.
     fn refuse_between(&self, first: u64, last: u64) {
         self.tally.asked.set(0);
         self.tally.first.set(first);
         self.tally.last.set(last);
     }
 
-    /// Counts from 0 again, and refuses the nth request, counted from 1.
+    /// Counts from 0 again, and lets the nth request fail, counted from 1.
     pub(crate) fn refuse(&self, nth: u64) {
         self.refuse_between(nth, nth);
     }
 
-    /// Counts from 0 again, and refuses each request.
+    /// Counts from 0 again, and lets each request fail.
     pub(crate) fn refuse_all(&self) {
         self.refuse_between(1, u64::MAX);
     }
 
-    /// Counts from 0 again, and refuses nothing.
+    /// Counts from 0 again, and lets no request fail.
     pub(crate) fn admit(&self) {
         self.refuse_between(1, 0);
     }
 
-    /// The number of requests since the count began.
+    /// Returns the number of requests since the count began.
     pub(crate) fn asked(&self) -> u64 {
         self.tally.asked.get()
     }

@@ -17,17 +17,17 @@ use std::test::Fail;
 /// All widths.
 pub(crate) const WIDTHS: [HllType; 3] = [HllType::Hll4, HllType::Hll6, HllType::Hll8];
 
-/// A coupon at a slot. The values go from 1 to 63, and again.
+/// Returns a coupon at a slot. The values go from 1 to 63, and start again.
 pub(crate) fn coupon_at(slot: u32) -> Coupon
     ensures { 1 ≤ value_of result }
 {
     Coupon::pack(slot, 1 + (slot % 63) as u8)
 }
 
-/// The coupons of a sketch: its `lg_k`, the first slot, and how many.
+/// The coupons of a sketch: its `lg_k`, the first slot, and their number.
 pub(crate) type Shape = (u8, u32, u32);
 
-/// A sketch with a coupon at each slot from the first on.
+/// Returns a sketch with a coupon at each slot from the first on.
 pub(crate) fn sketch_in(
     heap: &Heap,
     hll_type: HllType,
@@ -41,12 +41,12 @@ pub(crate) fn sketch_in(
     Ok(sketch)
 }
 
-/// All of a sketch: its `lg_k`, and the buckets of its table or its registers and their state.
+/// Returns the whole sketch as text: its `lg_k`, and the buckets of its table or its registers and their state.
 pub(crate) fn sketch_text(heap: &Heap, sketch: &HllSketch<&Heap>) -> Result<String, Fault> {
     text(heap, &(sketch.lg_config_k(), sketch.mode()))
 }
 
-/// All of the sketch that a call made, or why it made none.
+/// Returns the whole sketch that a call made as text, or why it made none.
 pub(crate) fn shown_sketch<'h>(
     heap: &'h Heap,
     made: Result<HllSketch<&'h Heap>, Error>,
@@ -54,18 +54,18 @@ pub(crate) fn shown_sketch<'h>(
     sketch_text(heap, &made?)
 }
 
-/// The registers of a sketch at the least `lg_k`.
+/// Returns the registers of a sketch at the smallest `lg_k`.
 fn least_registers<'h>(sketch: &HllSketch<&'h Heap>) -> Result<Vec<u8, &'h Heap>, Error> {
     let lg_k = sketch.lg_config_k().min(4);
     sketch.registers_at(lg_k)
 }
 
-/// Whether the sketch of an image is empty.
+/// Returns whether the sketch of an image is empty.
 fn is_empty_image(heap: &Heap, image: &[u8]) -> Result<bool, Error> {
     Ok(BorrowedImage::read(heap, image)?.is_empty())
 }
 
-/// The sketch; an empty one is left in its place.
+/// Takes a sketch, and leaves an empty one in its place.
 fn taken<'h>(
     heap: &'h Heap,
     sketch: &mut HllSketch<&'h Heap>,
@@ -73,7 +73,7 @@ fn taken<'h>(
     Ok(mem::replace(sketch, HllSketch::new(heap, 4, HllType::Hll8)?))
 }
 
-/// An image with all buckets of a table of 2^`lg_arr`, empty ones too, and so many bytes.
+/// Returns an image with all buckets of a table of 2^`lg_arr`, including the empty ones, and this number of bytes.
 pub(crate) fn with_buckets(
     alloc: Global,
     image: &[u8],
@@ -111,7 +111,7 @@ enum SketchCall {
     Queries,
 }
 
-/// A call on a sketch, beside its image, and one with the size of a table of buckets and the bytes with it.
+/// A call on a sketch, with its image, an image with all buckets of its table, and the size of that table.
 #[derive(Drop)]
 struct SketchTrial<'h> {
     heap: &'h Heap,
@@ -176,8 +176,9 @@ impl<'h> Trial for SketchTrial<'h> {
     }
 }
 
-/// The `lg_k` and the number of coupons, from slot 0 on, with the size of a table in an image, and the bytes with it: lists,
-/// sets, and registers without an exception of four bits, with one after the next coupon, with one, and with many.
+/// The `lg_k` and the number of coupons, from slot 0 on, with the size of a table in an image, and the number of bytes
+/// with it. Lists, sets, and registers: with no exception at 4 bits, with one after the next coupon, with one, and with
+/// many.
 const STAGES: [(u8, u32, u8, usize); 10] = [
     (10, 0, 3, 40),
     (4, 7, 3, 40),
@@ -191,7 +192,7 @@ const STAGES: [(u8, u32, u8, usize); 10] = [
     (8, 200, 8, 1192),
 ];
 
-/// The calls, and the requests of each at these stages, for four bits, for six and for eight.
+/// The calls, and the requests of each at these stages, for 4-bit, 6-bit and 8-bit registers.
 const SKETCH_CALLS: [(SketchCall, [[u64; 10]; 3]); 18] = [
     (
         SketchCall::Clone,

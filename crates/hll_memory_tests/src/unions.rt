@@ -1,5 +1,5 @@
 // SPDX-License-Identifier: Apache-2.0
-//! Unions, and what is made of sketches together.
+//! Unions, and calls on several sketches.
 use crate::harness::{Heap, Trial, requests_of, shown, text};
 use crate::sketches::{Shape, coupon_at, shown_sketch, sketch_in, with_buckets};
 use hll_base::error::Error;
@@ -34,7 +34,7 @@ enum UnionCall {
     Images,
 }
 
-/// A call on a union under a bound, of one sketch of eight bits, beside a sketch of some width.
+/// A call on a union with a bound, of one 8-bit sketch, and on another sketch of some width.
 #[derive(Drop)]
 struct UnionTrial<'h> {
     heap: &'h Heap,
@@ -45,16 +45,16 @@ struct UnionTrial<'h> {
     call: UnionCall,
 }
 
-/// A union, two sketches (what is in it, and the one beside it), and the image of the one beside it.
+/// A union, two sketches (the one in it, and the other one), and the image of the other one.
 type Joined<'h> = (HllUnion<&'h Heap>, Vec<HllSketch<&'h Heap>>, Vec<u8>);
 
-/// All of a union that is used up: its bound and its gadget.
+/// Returns a whole union, which is used up, as text: its bound and its gadget.
 pub(crate) fn union_text(heap: &Heap, union: HllUnion<&Heap>) -> Result<String, Fault> {
     let gadget = (union.lg_max_k(), union.into_sketch(HllType::Hll8)?);
     text(heap, &(gadget.0, gadget.1.lg_config_k(), gadget.1.mode()))
 }
 
-/// All of the union that a call made, or why it made none.
+/// Returns the whole union that a call made as text, or why it made none.
 fn shown_union<'h>(
     heap: &'h Heap,
     made: Result<HllUnion<&'h Heap>, Error>,
@@ -62,7 +62,7 @@ fn shown_union<'h>(
     union_text(heap, made?)
 }
 
-/// A union under a bound, of one sketch.
+/// Returns a union with a bound, of one sketch.
 fn union_with<'h>(
     heap: &'h Heap,
     lg_max_k: u8,
@@ -73,7 +73,7 @@ fn union_with<'h>(
     Ok(union)
 }
 
-/// A union of one sketch of eight bits, whose `lg_k` is the bound.
+/// Returns a union of one 8-bit sketch, whose `lg_k` is the bound.
 pub(crate) fn union_in(heap: &Heap, inside: Shape) -> Result<HllUnion<&Heap>, Fault> {
     let sketch = sketch_in(heap, HllType::Hll8, inside)?;
     union_with(heap, inside.0, &sketch)
@@ -91,7 +91,7 @@ fn pair_of<'h>(
     Ok(both)
 }
 
-/// The sketch of a union that takes the place of the one that was there.
+/// Turns a union into its sketch, and leaves an empty union with the same bound in its place.
 fn taken<'h>(
     heap: &'h Heap,
     union: &mut HllUnion<&'h Heap>,
@@ -101,7 +101,7 @@ fn taken<'h>(
     mem::replace(union, HllUnion::new(heap, lg_max_k)?).into_sketch(hll_type)
 }
 
-/// An image of coupons with all buckets of its table; another image as it is.
+/// Returns an image of coupons with all buckets of its table, and any other image unchanged.
 fn with_all_buckets(alloc: Global, image: &[u8]) -> Result<Vec<u8>, Fault> {
     match image {
         [2, _, _, _, lg_arr, ..] => with_buckets(alloc, image, *lg_arr, 40),
@@ -112,7 +112,7 @@ fn with_all_buckets(alloc: Global, image: &[u8]) -> Result<Vec<u8>, Fault> {
 }
 
 impl<'h> UnionTrial<'h> {
-    /// The image that a call makes of an image from its bytes: of the union with itself, or at a width.
+    /// Returns the image that a call makes from the bytes of an image: of the union with itself, or at another width.
     fn image_made(&self, image: &[u8]) -> Result<String, Fault> {
         let heap = self.heap;
         match self.call {
@@ -130,7 +130,7 @@ impl<'h> UnionTrial<'h> {
         }
     }
 
-    /// The union of an image twice.
+    /// Returns the union of an image with itself.
     fn union_of_image_twice(&self, image: &[u8]) -> Result<HllUnion<&'h Heap>, Error> {
         let mut union = UnionBuilder::new(HllUnion::new(self.heap, self.lg_max_k)?, self.heap);
         union.update_with_image(image)?;
@@ -138,7 +138,7 @@ impl<'h> UnionTrial<'h> {
         union.build()
     }
 
-    /// What a call gives that makes a value of two sketches.
+    /// Returns what a call makes of two sketches.
     fn made(&self, both: &[HllSketch<&'h Heap>]) -> Result<String, Fault> {
         let heap = self.heap;
         let [one, two] = both else {
@@ -150,7 +150,7 @@ impl<'h> UnionTrial<'h> {
         }
     }
 
-    /// What a call on the union does, and gives.
+    /// Makes a call on the union, and returns its result.
     fn given(&self, union: &mut HllUnion<&'h Heap>) -> Result<String, Fault> {
         let heap = self.heap;
         let count = self.inside.2;
@@ -206,29 +206,30 @@ impl<'h> Trial for UnionTrial<'h> {
     }
 }
 
-/// A bound, the coupons in the union, and those of the sketch beside it.
+/// A bound, the coupons in the union, and the coupons of the other sketch.
 const UNIONS: [(u8, Shape, Shape); 13] = [
-    // an empty sketch beside a list
+    // an empty sketch, and a list in the union
     (8, (8, 0, 7), (8, 0, 0)),
-    // a set of eight, and lists, beside a list
+    // a set of eight, and lists, and a list in the union
     (8, (8, 0, 7), (8, 100, 8)),
     (8, (8, 0, 7), (8, 100, 1)),
     (8, (8, 0, 6), (8, 100, 1)),
-    // a list, a set, and registers, beside an empty union
+    // a list, a set, and registers, and an empty union
     (8, (8, 0, 0), (8, 0, 7)),
     (8, (8, 0, 0), (8, 0, 20)),
     (8, (8, 0, 0), (10, 0, 600)),
-    // registers beside a set of 200 coupons
+    // registers, and a set of 200 coupons in the union
     (12, (12, 0, 200), (10, 0, 600)),
     (12, (12, 0, 200), (4, 0, 16)),
-    // coupons beside registers; registers beside registers of the same, a greater and a smaller `lg_k`
+    // coupons, and registers in the union; registers, and registers of the same, a greater and a smaller `lg_k` in the
+    // union
     (12, (8, 0, 200), (8, 0, 20)),
     (12, (8, 0, 200), (8, 0, 200)),
     (12, (8, 0, 200), (10, 0, 600)),
     (12, (8, 0, 200), (4, 0, 16)),
 ];
 
-/// The calls, and the requests of each on these unions, for four bits, for six and for eight.
+/// The calls, and the requests of each on these unions, for 4-bit, 6-bit and 8-bit registers.
 const UNION_CALLS: [(UnionCall, [[u64; 13]; 3]); 16] = [
     (
         UnionCall::Clone,
@@ -314,7 +315,7 @@ const UNION_CALLS: [(UnionCall, [[u64; 13]; 3]); 16] = [
     ),
 ];
 
-/// Makes each call on each union, beside sketches of a width.
+/// Makes each call on each union, with other sketches of a width.
 fn refuse_unions(rt: &impl Abort, heap: &Heap, hll_type: HllType) {
     for (call, [four, six, eight]) in UNION_CALLS {
         let requests = match hll_type {

@@ -1,5 +1,5 @@
 // SPDX-License-Identifier: Apache-2.0
-//! Coupons of words, of bytes and of values.
+//! Coupons of hash halves, of bytes and of values.
 ghost use Rattle.std.specs.Prelude.{◌≡◌, ◌^◌, ◌<◌, ◌≤◌, OnOk};
 
 use crate::hash::TEXT;
@@ -11,7 +11,7 @@ use std::alloc::Global;
 use std::hash::{Hash, Hasher};
 use std::test::Fail;
 
-/// The two words of a hash, and the slot and value of their coupon.
+/// The two halves of a hash, and the slot and value of their coupon.
 const WORDS: [(u64, u64, u32, u8); 8] = [
     (0, 0, 0, 63),
     (0, 1 << 63, 0, 1),
@@ -23,7 +23,7 @@ const WORDS: [(u64, u64, u32, u8); 8] = [
     (1 << 26, 1 << 40, 0, 24),
 ];
 
-/// Bytes whose own `hash` makes one write of them.
+/// Bytes whose `hash` writes them in one piece.
 #[derive(PartialEq, Eq, Drop)]
 pub(crate) struct Piece<'a> {
     pub(crate) bytes: &'a [u8],
@@ -72,7 +72,7 @@ fn of_bytes(rt: HostRuntime) {
     }
 }
 
-/// A value of one piece has the coupon of its bytes; of two pieces, of both one after the other.
+/// A value of one piece has the coupon of its bytes; a value of two pieces has that of both, concatenated.
 #[test]
 fn of_values(rt: HostRuntime) {
     for piece in [&TEXT[..0], &TEXT[..15], &TEXT[15..], TEXT.as_slice()] {
@@ -92,7 +92,7 @@ fn of_values(rt: HostRuntime) {
     );
 }
 
-/// Gives a slot a value, whether it has one or not.
+/// Sets the value of a slot, whether or not the slot has one.
 fn set(map: &mut AuxMap, slot: u32, value: u8) -> Result<(), Error>
     requires within { slot < 2 ^ map.old.lg_k }
     requires least { 1 ≤ value }
@@ -109,7 +109,7 @@ fn set(map: &mut AuxMap, slot: u32, value: u8) -> Result<(), Error>
 /// The values of some slots, and the size in bytes.
 type Seen = ([Option<u8>; 4], usize);
 
-/// Three slots with values, one of them with another value than at first, and a slot without one.
+/// Sets the values of three slots, one of them twice, and looks up a slot without a value as well.
 fn three_at_10(alloc: Global, last: u8) -> Result<Seen, Error>
     requires least { 1 ≤ last }
     requires most { last ≤ 63 }
@@ -123,7 +123,7 @@ fn three_at_10(alloc: Global, last: u8) -> Result<Seen, Error>
     Ok((values, map.estimated_size()))
 }
 
-/// Four slots with values.
+/// Sets the values of four slots.
 fn four_at_8(alloc: Global) -> Result<Seen, Error> {
     let mut map = AuxMap::new(alloc, 8)?;
     set(&mut map, 1, 15)?;

@@ -1,5 +1,5 @@
 // SPDX-License-Identifier: Apache-2.0
-//! Fronts of images: each that lacks something is refused as `Truncated`.
+//! Prefixes of images: each one that lacks something is rejected as `Truncated`.
 use crate::row::{Answer, Row};
 use crate::wrong::Wrong;
 use hll_base::error::Reason;
@@ -7,7 +7,7 @@ use hll_sketch::HllSketch;
 use hll_text::lines::without_return;
 use std::alloc::Global;
 
-/// The image of a line that is printed is read, and no shorter front of it is.
+/// Returns the image of a line that is printed is read, and no shorter prefix of it is.
 pub(crate) fn check_line(alloc: Global, line: &[u8]) -> Result<(), Wrong> {
     if ends_with(alloc, line.strip_suffix(b"\n").unwrap_or(line))? {
         Ok(())
@@ -16,7 +16,8 @@ pub(crate) fn check_line(alloc: Global, line: &[u8]) -> Result<(), Wrong> {
     }
 }
 
-/// The images of a plan are read, and no shorter front of them is; with `+`, bytes stand after one of them.
+/// Returns the images of a plan are read, and no shorter prefixes of them are. With `+`, one of them has bytes after
+/// it.
 pub(crate) fn check_plan(alloc: Global, row: &Row) -> Result<(), Wrong> {
     let mut has_more = false;
     for line in row.plan.split(|byte| *byte == b'\n') {
@@ -31,7 +32,7 @@ pub(crate) fn check_plan(alloc: Global, row: &Row) -> Result<(), Wrong> {
     }
 }
 
-/// Whether an image ends with these digits, and not before: its fronts are refused up to where it is read.
+/// Returns whether an image ends with these digits, and not before: shorter prefixes are rejected.
 fn ends_with(alloc: Global, digits: &[u8]) -> Result<bool, Wrong> {
     let Ok(image) = hex::decode(alloc, digits) else {
         return Err(Wrong::AtFront(0));
@@ -43,7 +44,7 @@ fn ends_with(alloc: Global, digits: &[u8]) -> Result<bool, Wrong> {
     Ok(front.len() == image.len())
 }
 
-/// The shortest front that isn't refused as `Truncated`, or all bytes.
+/// Returns the shortest prefix that isn't rejected as `Truncated`, or all bytes.
 fn first_whole(alloc: Global, bytes: &[u8]) -> &[u8] {
     for end in 0..bytes.len() {
         let front = &bytes[..end];

@@ -1,5 +1,5 @@
 // SPDX-License-Identifier: Apache-2.0
-//! The hash: known vectors, and the same bytes cut differently.
+//! The hash: known test vectors, and the same bytes cut differently.
 use hll_base::hash::MurmurHash3X64128;
 use std::hash::Hasher;
 
@@ -8,7 +8,7 @@ pub(crate) const TEXT: [u8; 43] = *b"The quick brown fox jumps over the lazy dog
 
 const TEXT_WORDS: (u64, u64) = (0xe34b_bc7b_bc07_1b6c, 0x7a43_3ca9_c49a_9347);
 
-/// The hash at seed 0 of pieces of bytes.
+/// Returns the hash at seed 0 of pieces of bytes.
 fn words_of(pieces: &[&[u8]]) -> (u64, u64) {
     let mut hash = MurmurHash3X64128::with_seed(0);
     for piece in pieces {

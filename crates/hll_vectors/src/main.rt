@@ -1,6 +1,6 @@
 // SPDX-License-Identifier: Apache-2.0
-//! Runs the rows of standard input, each a plan with its answer (docs/PLAN.md, "Rows"), prints those that are wrong, and
-//! then how many rows there were and how many of them are wrong.
+//! Runs the test vectors of standard input, each a plan with its result (docs/PLAN.md, "Rows"). Prints the wrong ones,
+//! and then the number of test vectors and the number of wrong ones.
 #![tactic(auto)]
 
 #[cfg(test)]
@@ -38,7 +38,7 @@ fn main(rt: HostRuntime) -> ExitCode {
     }
 }
 
-/// Runs every row, and prints what is wrong. Returns how many rows are wrong.
+/// Runs every test vector, and prints what is wrong. Returns the number of wrong test vectors.
 fn run_rows(rt: &HostRuntime) -> io::Result<u64> {
     let text = io::read_to_string(rt.alloc(), rt.stdin())?;
     let mut rows = 0u64;
@@ -57,7 +57,7 @@ fn run_rows(rt: &HostRuntime) -> io::Result<u64> {
     Ok(wrong)
 }
 
-/// Runs the plan of a row in every way.
+/// Runs the plan of a test vector in every way.
 fn run_row(alloc: Global, lines: &[&str]) -> Result<(), Wrong> {
     let row = Row::read(alloc, lines)?;
     let printed = pieces::run_whole(alloc, &row)?;

@@ -1,5 +1,5 @@
 // SPDX-License-Identifier: Apache-2.0
-//! Plans that are run whole, and fed in pieces.
+//! Plans that are run as a whole, and fed in pieces.
 use crate::row::{Answer, Row};
 use crate::wrong::Wrong;
 use hll_caller::run_in_memory;
@@ -10,10 +10,10 @@ use hll_text::lines::without_return;
 use hll_text::refusal::write_refusal;
 use std::alloc::Global;
 
-/// The line that a plan prints, or its refusal.
+/// The line that a plan prints, or its fault.
 pub(crate) type Printed = Result<Vec<u8>, MergeError>;
 
-/// Runs the plan of a row: it gives the row's answer.
+/// Runs the plan of a test vector, and checks that it has the test vector's result.
 pub(crate) fn run_whole(alloc: Global, row: &Row) -> Result<Printed, Wrong> {
     let printed = run_in_memory(alloc, &row.plan);
     let line = line_of(alloc, &printed)?;
@@ -30,7 +30,7 @@ pub(crate) fn run_whole(alloc: Global, row: &Row) -> Result<Printed, Wrong> {
     }
 }
 
-/// The line that the program prints, on either stream.
+/// Returns the line that the program prints, on either stream.
 fn line_of(alloc: Global, printed: &Printed) -> Result<Vec<u8>, Wrong> {
     match printed {
         Ok(bytes) => Ok(bytes.clone()?),
@@ -44,7 +44,8 @@ fn line_of(alloc: Global, printed: &Printed) -> Result<Vec<u8>, Wrong> {
     }
 }
 
-/// A plan gives one answer, however it is cut: byte by byte, in sevens, not at all, and between CR and LF.
+/// Checks that a plan has one result, however it is cut: byte by byte, into pieces of seven bytes, not at all, and
+/// between CR and LF.
 pub(crate) fn check(alloc: Global, plan: &[u8], printed: &Printed) -> Result<(), Wrong> {
     for size in [1, 7, plan.len()] {
         if printed_by(alloc, in_pieces(alloc, plan, size)) != *printed {
@@ -57,7 +58,7 @@ pub(crate) fn check(alloc: Global, plan: &[u8], printed: &Printed) -> Result<(),
     Ok(())
 }
 
-/// Feeds a plan in pieces of so many bytes, or of one.
+/// Feeds a plan in pieces of this number of bytes, or of one byte if it is 0.
 fn in_pieces(alloc: Global, plan: &[u8], size: usize) -> Result<HllSketch, MergeError> {
     let mut feed = PlanFeed::new(alloc)?;
     for piece in plan.chunks(size.max(1)) {
@@ -82,7 +83,7 @@ fn between_ends(alloc: Global, plan: &[u8]) -> Result<HllSketch, MergeError> {
     feed.finish()
 }
 
-/// The line for the sketch that a feed gives.
+/// Returns the line for the sketch that a feed makes.
 fn printed_by(alloc: Global, fed: Result<HllSketch, MergeError>) -> Printed {
     let sketch = fed?;
     match digits_of(alloc, &sketch) {
@@ -91,7 +92,7 @@ fn printed_by(alloc: Global, fed: Result<HllSketch, MergeError>) -> Printed {
     }
 }
 
-/// The image of a sketch as lower-case hexadecimal, and LF.
+/// Returns the image of a sketch as lower-case hexadecimal digits, and LF.
 fn digits_of(alloc: Global, sketch: &HllSketch) -> Result<Vec<u8>, Fault> {
     let digits = hex::encode(alloc, sketch.serialize()?)?;
     let mut line = digits.into_bytes();

@@ -1,5 +1,5 @@
 // SPDX-License-Identifier: Apache-2.0
-//! Registers of eight, six and four bits: weights, images, merges, states, and exceptions.
+//! 8-bit, 6-bit and 4-bit registers: weights, images, merges, states, and exceptions.
 ghost use Rattle.std.specs.Prelude.{◌≡◌, ◌≤◌, IfOk};
 
 use hll_arrays::convert::convert;
@@ -11,18 +11,18 @@ use std::alloc::Global;
 use std::process::Abort;
 use std::test::Fail;
 
-/// A state that was read.
+/// A state as it is read from an image.
 const READ: EstimateState = EstimateState {
     words: [1, 2, 3],
     out_of_order: false,
 };
 
-/// The image of registers in hexadecimal.
+/// Returns the image of registers in hexadecimal.
 fn image_of<S: RegisterStore<Global>>(alloc: Global, store: &S) -> Result<String, Fail> {
     Ok(hex::encode(alloc, store.write_image()?)?)
 }
 
-/// Sixteen registers, each set alone, with a state that was read.
+/// Returns sixteen registers, each set alone, with a state as read from an image.
 fn set_in(alloc: Global, values: [u8; 16]) -> Result<Array8, Error>
     ensures { IfOk result (λ a. a.lg_k ≡ 4) }
 {
@@ -34,7 +34,7 @@ fn set_in(alloc: Global, values: [u8; 16]) -> Result<Array8, Error>
     Ok(array)
 }
 
-/// The weights of zeros, and of the values 1 to 8 beside eight zeros.
+/// The weights of zeros, and of the values 1 to 8 together with eight zeros.
 #[test]
 fn weights(rt: HostRuntime) -> Result<(), Fail> {
     let mut array = Array8::new(rt.alloc(), 4)?;
@@ -77,13 +77,13 @@ const FIELDS_OF_ALL: [(u8, u64, u64); 4] = [
     (63, 0, 0x3d50000000000000),
 ];
 
-/// The words of registers, converted to a width, whatever state they had.
+/// Returns the estimator fields of registers, converted to a width, whatever state they had.
 fn words_at<S: RegisterStore<Global>>(array: &Array8) -> Result<EstimateState, Error> {
     let converted: S = convert(array)?;
     Ok(converted.estimator_fields())
 }
 
-/// Registers of each width have these words.
+/// Registers of each width have these fields.
 fn assert_fields(rt: &impl Abort, array: &Array8, low: u64, high: u64) {
     let wanted = EstimateState {
         words: [0, low, high],
@@ -94,7 +94,7 @@ fn assert_fields(rt: &impl Abort, array: &Array8, low: u64, high: u64) {
     assert_eq!(rt; words_at::<Array4>(array), Ok(wanted));
 }
 
-/// Registers of `lg_k` 21 that all have a value.
+/// Returns registers of `lg_k` 21 that all have this value.
 fn all_of(alloc: Global, value: u8) -> Result<Array8, Error> {
     let mut array = Array8::new(alloc, 21)?;
     for slot in 0..1 << 21 {
@@ -114,7 +114,7 @@ fn estimator_fields(rt: HostRuntime) -> Result<(), Fail> {
     Ok(())
 }
 
-/// Registers, others, the greater at each slot, and how many of these are 0.
+/// Registers, other registers, the maximum at each slot, and the number of zeros in it.
 const JOINS: [([u8; 16], [u8; 16], [u8; 16], u32); 4] = [
     (
         [10, 20, 30, 0, 0, 0, 0, 0, 0, 0, 0, 0, 0, 0, 0, 0],
@@ -137,7 +137,7 @@ const JOINS: [([u8; 16], [u8; 16], [u8; 16], u32); 4] = [
     ([0; 16], [0; 16], [0; 16], 16),
 ];
 
-/// The state is cleared, also where no register changes.
+/// The state is cleared, even if no register changes.
 #[test]
 fn takes_max(rt: HostRuntime) -> Result<(), Fail> {
     for (values, others, greater, zeros) in JOINS {
@@ -153,7 +153,7 @@ fn takes_max(rt: HostRuntime) -> Result<(), Fail> {
     Ok(())
 }
 
-/// Registers of an `lg_k` with these values at these slots.
+/// Returns registers of this `lg_k` with these values at these slots.
 fn updated(alloc: Global, lg_k: u8, coupons: &[(u32, u8)]) -> Result<Array8, Error>
     requires { (4 ≤ lg_k) × (lg_k ≤ 21) }
     ensures { IfOk result (λ a. a.lg_k ≡ lg_k) }
@@ -165,7 +165,8 @@ fn updated(alloc: Global, lg_k: u8, coupons: &[(u32, u8)]) -> Result<Array8, Err
     Ok(array)
 }
 
-/// Registers of `lg_k` 4 that are 0, with the one and then the other merged into them, and a state read in between.
+/// Returns registers of `lg_k` 4, made of zeros, into which the first and then the other source are merged. In between,
+/// a state is restored.
 fn joined<R: Registers, S: Registers>(alloc: Global, one: &R, other: &S) -> Result<Array8, Error>
     requires one { 4 ≤ (R.stored one.now).lg_k }
     requires other { 4 ≤ (S.stored other.now).lg_k }
@@ -177,7 +178,7 @@ fn joined<R: Registers, S: Registers>(alloc: Global, one: &R, other: &S) -> Resu
     Ok(array)
 }
 
-/// Two sizes are joined at the smaller, in either order, and the state is cleared, also where no register changes.
+/// Two sizes are merged at the smaller one, in either order. The state is cleared, even if no register changes.
 #[test]
 fn max_of_two_sizes(rt: HostRuntime) -> Result<(), Fail> {
     let wanted =
@@ -197,7 +198,8 @@ fn max_of_two_sizes(rt: HostRuntime) -> Result<(), Fail> {
     Ok(())
 }
 
-/// Setting a register keeps the state and shows in the count of zeros; rebuilding clears the state and keeps the registers.
+/// Setting a register keeps the state and changes the count of zeros. Rebuilding clears the state and keeps the
+/// registers.
 #[test]
 fn states(rt: HostRuntime) -> Result<(), Fail> {
     let mut array = Array8::new(rt.alloc(), 4)?;
@@ -224,7 +226,7 @@ fn states(rt: HostRuntime) -> Result<(), Fail> {
     Ok(())
 }
 
-/// Registers of six bits by updates, and converted from eight bits.
+/// 6-bit registers made by updates, and converted from 8-bit registers.
 #[test]
 fn six_bits(rt: HostRuntime) -> Result<(), Fail> {
     let mut six = Array6::new(rt.alloc(), 4)?;
@@ -243,10 +245,10 @@ fn six_bits(rt: HostRuntime) -> Result<(), Fail> {
     Ok(())
 }
 
-/// What is seen of a slot: its nibble, its exception, and its register.
+/// What calls return for a slot: its nibble, its exception, and its register.
 type Seen = (u8, Option<u8>, u8);
 
-/// The minimum, how many registers are at it, what is seen of slot 0, and the size in bytes.
+/// The minimum, the number of registers at it, what calls return for slot 0, and the size in bytes.
 type First = (u8, u32, Seen, usize);
 
 fn first_of(array: &Array4) -> First {
@@ -259,7 +261,7 @@ fn first_of(array: &Array4) -> First {
     )
 }
 
-/// Sixteen registers of four bits after some coupons.
+/// Returns sixteen 4-bit registers after some coupons.
 fn raised(alloc: Global, coupons: &[(u32, u8)]) -> Result<Array4, Error> {
     let mut array = Array4::new(alloc, 4)?;
     for (slot, value) in coupons {
@@ -268,22 +270,22 @@ fn raised(alloc: Global, coupons: &[(u32, u8)]) -> Result<Array4, Error> {
     Ok(array)
 }
 
-/// What is seen of registers after some coupons.
+/// Returns what calls return for registers after some coupons.
 fn seen_after(alloc: Global, coupons: &[(u32, u8)]) -> Result<First, Error> {
     Ok(first_of(&raised(alloc, coupons)?))
 }
 
-/// The image of registers after some coupons.
+/// Returns the image of registers after some coupons.
 fn written_after(alloc: Global, coupons: &[(u32, u8)]) -> Result<String, Fail> {
     image_of(alloc, &raised(alloc, coupons)?)
 }
 
-/// A coupon of a value at each of sixteen slots.
+/// Returns a coupon of a value at each of sixteen slots.
 fn each_slot(value: u8) -> [(u32, u8); 16] {
     [0, 1, 2, 3, 4, 5, 6, 7, 8, 9, 10, 11, 12, 13, 14, 15].map(|slot| (slot, value))
 }
 
-/// A register of 15 among others of 1 is no exception: it was one while the minimum was 0.
+/// A register of 15 among registers of 1 is no exception. It was one while the minimum was 0.
 #[test]
 fn fifteen_among_ones(rt: HostRuntime) -> Result<(), Fail> {
     let mut coupons = each_slot(1);
@@ -299,7 +301,7 @@ fn fifteen_among_ones(rt: HostRuntime) -> Result<(), Fail> {
     Ok(())
 }
 
-/// The coupons that bring sixteen registers to 1 and then, one after another, to 20.
+/// Returns the coupons that bring sixteen registers to 1 and then, one after the other, to 20.
 fn to_twenty() -> [(u32, u8); 32] {
     let mut coupons = [(0, 0); 32];
     coupons[..16].copy_from_slice(&each_slot(1));
@@ -307,7 +309,7 @@ fn to_twenty() -> [(u32, u8); 32] {
     coupons
 }
 
-/// Sixteen registers go from 1 to 20: the minimum rises by 19 at the last, and no exception is left.
+/// Sixteen registers go from 1 to 20: the minimum rises by 19 at the last one, and no exception is left.
 #[test]
 fn one_to_twenty(rt: HostRuntime) -> Result<(), Fail> {
     let coupons = to_twenty();
@@ -339,14 +341,14 @@ fn one_to_twenty(rt: HostRuntime) -> Result<(), Fail> {
     Ok(())
 }
 
-/// The size in bytes of new registers.
+/// Returns the size in bytes of new registers.
 fn size_of_new(alloc: Global, lg_k: u8) -> Result<usize, Error>
     requires { (4 ≤ lg_k) × (lg_k ≤ 21) }
 {
     Ok(Array4::new(alloc, lg_k)?.estimated_size())
 }
 
-/// 8 bytes for sixteen registers, 16 for up to three exceptions, 32 for the fourth.
+/// 8 bytes for sixteen registers, 16 for up to three exceptions, 32 with the fourth.
 #[test]
 fn sizes(rt: HostRuntime) {
     let coupons = [(3, 15), (4, 15), (5, 15), (9, 15)];

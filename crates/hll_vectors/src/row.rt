@@ -1,9 +1,9 @@
 // SPDX-License-Identifier: Apache-2.0
-//! A row: the lines of a plan, and its answer.
+//! A test vector: the lines of a plan, and its result.
 use crate::wrong::Wrong;
 use std::alloc::{AllocError, Global};
 
-/// A plan, and its answer.
+/// A plan, and its result.
 #[derive(Drop)]
 pub(crate) struct Row<'a> {
     pub(crate) plan: Vec<u8>,
@@ -21,7 +21,7 @@ pub(crate) enum Answer<'a> {
     Refused(&'a str),
 }
 
-/// The lines of a row: those that are neither empty nor notes.
+/// Returns the lines of a test vector: those that are neither empty nor comments.
 pub(crate) fn lines_of(alloc: Global, block: &str) -> Result<Vec<&str>, AllocError> {
     let mut lines = Vec::new(alloc);
     for line in block.lines() {
@@ -33,7 +33,7 @@ pub(crate) fn lines_of(alloc: Global, block: &str) -> Result<Vec<&str>, AllocErr
 }
 
 impl<'a> Answer<'a> {
-    /// The answer that a line says.
+    /// Returns the result that a line gives, or `None` if it is no result.
     fn read(line: &'a str) -> Option<Answer<'a>> {
         if let Some(digits) = line.strip_prefix("= ") {
             Some(Answer::Prints(digits))
@@ -46,7 +46,7 @@ impl<'a> Answer<'a> {
 }
 
 impl<'a> Row<'a> {
-    /// The row of some lines: the last is its answer.
+    /// Returns the test vector of some lines. The last line is its result.
     pub(crate) fn read(alloc: Global, lines: &[&'a str]) -> Result<Row<'a>, Wrong> {
         let Some((last, lines)) = lines.split_last() else {
             return Err(Wrong::NoAnswer);
@@ -61,7 +61,7 @@ impl<'a> Row<'a> {
     }
 }
 
-/// The text of a plan: its lines with LF between them.
+/// Returns the text of a plan: its lines with LF between them.
 fn plan_of(alloc: Global, lines: &[&str]) -> Result<Vec<u8>, Wrong> {
     let mut plan = Vec::new(alloc);
     for (number, line) in lines.iter().enumerate() {
@@ -76,7 +76,7 @@ fn plan_of(alloc: Global, lines: &[&str]) -> Result<Vec<u8>, Wrong> {
     Ok(plan)
 }
 
-/// Adds the bytes of a line: `\` and two hexadecimal digits are the byte that they name.
+/// Appends the bytes of a line. `\` and two hexadecimal digits stand for one byte.
 fn push_unescaped(plan: &mut Vec<u8>, line: &[u8]) -> Result<(), Wrong> {
     for (number, part) in line.split(|byte| *byte == b'\\').enumerate() {
         if number == 0 {

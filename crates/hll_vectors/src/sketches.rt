@@ -11,8 +11,8 @@ use std::alloc::{AllocError, Global};
 use std::fmt::Debug;
 use std::test::Fail;
 
-/// How many coupons, and what keeps them: a list of 8 buckets, a set of 32, registers of four bits; the number of coupons, and
-/// the size in bytes.
+/// A number of coupons, what stores them (a list of 8 buckets, a set of 32 buckets, or 4-bit registers), the number of
+/// coupons that is reported, and the size in bytes.
 const STAGES: [(u32, Stage, Option<usize>, usize); 4] = [
     (7, Stage::List, Some(7), 32),
     (8, Stage::Set, Some(8), 128),
@@ -28,7 +28,7 @@ fn stage_of(sketch: &HllSketch) -> Stage {
     }
 }
 
-/// A sketch with a coupon of value 1 at each slot below a number.
+/// Returns a sketch with a coupon of value 1 at each slot below a number.
 pub(crate) fn sketch_with(
     alloc: Global,
     lg_k: u8,
@@ -42,13 +42,13 @@ pub(crate) fn sketch_with(
     Ok(sketch)
 }
 
-/// The sketch of an image in hexadecimal.
+/// Returns the sketch of an image in hexadecimal.
 pub(crate) fn sketch_of(alloc: Global, digits: &str) -> Result<HllSketch, Fail> {
     let image = hex::decode(alloc, digits)?;
     Ok(HllSketch::deserialize(alloc, &image)?)
 }
 
-/// What is written for a sketch, in hexadecimal.
+/// Returns the image of a sketch, in hexadecimal.
 pub(crate) fn digits_of(alloc: Global, sketch: &HllSketch) -> Result<String, Fail> {
     Ok(hex::encode(alloc, sketch.serialize()?)?)
 }
@@ -69,7 +69,7 @@ fn stages(rt: HostRuntime) -> Result<(), Fail> {
     Ok(())
 }
 
-/// What kind of error this is.
+/// Returns the kind of the error, if there is one.
 fn kind_of<T: Drop>(answer: Result<T, Error>) -> Option<ErrorKind> {
     answer.err().map(|e| e.kind())
 }
@@ -85,14 +85,14 @@ fn arguments(rt: HostRuntime) {
     }
 }
 
-/// A sketch at `lg_k` 10 with one coupon, folded.
+/// Returns a sketch of `lg_k` 10 with one coupon, folded.
 fn folded(alloc: Global, lg_k: u8) -> Result<HllSketch, Error> {
     let mut sketch = HllSketch::new(alloc, 10, HllType::Hll8)?;
     sketch.update_with_coupon(Coupon::pack(5, 3))?;
     sketch.folded(lg_k)
 }
 
-/// A sketch can be folded to 4 up to its own `lg_k`.
+/// A sketch can be folded to 4 and up to its own `lg_k`.
 #[test]
 fn folds(rt: HostRuntime) -> Result<(), Fail> {
     let refused = Some(ErrorKind::InvalidArgument);
@@ -107,13 +107,13 @@ fn folds(rt: HostRuntime) -> Result<(), Fail> {
     Ok(())
 }
 
-/// Slots that start at place 0 of 32, with the strides 1, 1, 3, 3, 5, 5, 7 and 7, and their order in the buckets: the
+/// Slots that start at bucket 0 of 32, with the strides 1, 1, 3, 3, 5, 5, 7 and 7, and their order in the buckets: the
 /// coupons of the list come first, then the eighth.
 const SLOTS: [u32; 8] = [0, 32, 64, 96, 128, 160, 192, 224];
 
 const PLACED: [u32; 8] = [0, 32, 64, 128, 96, 192, 160, 224];
 
-/// A sketch with a coupon at each of these slots.
+/// Returns a sketch with a coupon at each of these slots.
 fn sketch_at(alloc: Global, slots: [u32; 8]) -> Result<HllSketch, Error> {
     let mut sketch = HllSketch::new(alloc, 10, HllType::Hll8)?;
     for slot in slots {
@@ -122,7 +122,7 @@ fn sketch_at(alloc: Global, slots: [u32; 8]) -> Result<HllSketch, Error> {
     Ok(sketch)
 }
 
-/// The slots of the set in the order of buckets, of anything else none.
+/// Returns the slots of the set in the order of its buckets, or no slots for any other stage.
 fn placed(alloc: Global, sketch: &HllSketch) -> Result<Vec<u32>, AllocError> {
     let mut slots = Vec::new(alloc);
     if let Mode::Set { set, .. } = sketch.mode() {
@@ -133,12 +133,12 @@ fn placed(alloc: Global, sketch: &HllSketch) -> Result<Vec<u32>, AllocError> {
     Ok(slots)
 }
 
-/// What is written for a sketch with a coupon at each of these slots.
+/// Returns the image of a sketch with a coupon at each of these slots.
 fn written_at(alloc: Global, slots: [u32; 8]) -> Result<String, Fail> {
     digits_of(alloc, &sketch_at(alloc, slots)?)
 }
 
-/// The image has them in ascending order.
+/// The image has the coupons in ascending order.
 #[test]
 fn buckets(rt: HostRuntime) -> Result<(), Fail> {
     let sketch = sketch_at(rt.alloc(), SLOTS)?;
@@ -151,7 +151,7 @@ fn buckets(rt: HostRuntime) -> Result<(), Fail> {
     Ok(())
 }
 
-/// An `lg_k`, a width, how many coupons, and the text for debugging.
+/// An `lg_k`, a width, a number of coupons, and the text for debugging.
 const TEXTS: [(u8, HllType, u32, &str); 3] = [
     (
         10,
@@ -173,18 +173,18 @@ const TEXTS: [(u8, HllType, u32, &str); 3] = [
     ),
 ];
 
-/// Registers of eight bits whose state has no flag, and their text.
+/// 8-bit registers whose state has no flag, and their text.
 const IN_ORDER: &str =
     "0a0107040000000a0100000000000000020000000000000003000000000000000f0000000000000005000000000000000000000000000000";
 
 const IN_ORDER_TEXT: &str =
     "HllSketch { lg_config_k: 4, target_type: Hll8, mode: \"Hll\", is_empty: false, estimator: \"HIP\" }";
 
-/// An empty union of bound 8.
+/// An empty union with bound 8.
 const UNION_TEXT: &str =
     "HllUnion { lg_max_k: 8, gadget: HllSketch { lg_config_k: 8, target_type: Hll8, mode: \"List\", is_empty: true } }";
 
-/// The text for debugging of what a call made.
+/// Returns the text for debugging of what a call made.
 fn text_of<T: Debug + Drop>(alloc: Global, made: Result<T, Error>) -> Result<String, Fail> {
     let made = made?;
     Ok(format!(in alloc; "{made:?}")?)
@@ -226,28 +226,28 @@ fn widths(rt: HostRuntime) -> Result<(), Fail> {
     Ok(())
 }
 
-/// A sketch after the coupon of a value.
+/// Returns a sketch after the coupon of a value.
 fn after_coupon(alloc: Global, bytes: &[u8]) -> Result<HllSketch, Error> {
     let mut sketch = HllSketch::new(alloc, 10, HllType::Hll8)?;
     sketch.update_with_coupon(Coupon::from_bytes(bytes))?;
     Ok(sketch)
 }
 
-/// A sketch after a value.
+/// Returns a sketch after a value.
 fn after_value(alloc: Global, bytes: &[u8]) -> Result<HllSketch, Error> {
     let mut sketch = HllSketch::new(alloc, 10, HllType::Hll8)?;
     sketch.update(Piece { bytes })?;
     Ok(sketch)
 }
 
-/// The sketch of a union after a value.
+/// Returns the sketch of a union after a value.
 fn of_union(alloc: Global, bytes: &[u8]) -> Result<HllSketch, Error> {
     let mut union = HllUnion::new(alloc, 10)?;
     union.update_value(Piece { bytes })?;
     union.into_sketch(HllType::Hll8)
 }
 
-/// Whether two calls made the same sketch.
+/// Returns whether two calls made the same sketch.
 fn make_one(one: Result<HllSketch, Error>, other: Result<HllSketch, Error>) -> Result<bool, Error> {
     let sketch = one?;
     Ok(sketch == other?)
@@ -265,7 +265,7 @@ fn values(rt: HostRuntime) {
     }
 }
 
-/// The size of a table that is not there is refused without a request for its memory.
+/// An image that gives the size of a table whose bytes are missing is rejected before the table is allocated.
 #[test]
 fn missing_tables(rt: HostRuntime) -> Result<(), Fail> {
     let image = hex::decode(
@@ -278,8 +278,8 @@ fn missing_tables(rt: HostRuntime) -> Result<(), Fail> {
     Ok(())
 }
 
-/// Images, and what they are with the fields of an estimator set: slot 0 is 5 and fifteen are 0, which is 15 + 2^-5, at
-/// eight, six and four bits with words that were read; a list and a set, which stay as they are.
+/// Images, and the images with their estimator fields set: slot 0 is 5 and fifteen slots are 0, which is 15 + 2^-5, for
+/// 8-bit, 6-bit and 4-bit registers with fields that were read; then a list and a set, which don't change.
 const FIELDS_SET: [(&str, &str); 5] = [
     (
         "0a0107040000000a0100000000000000020000000000000003000000000000000f0000000000000005000000000000000000000000000000",
@@ -300,7 +300,7 @@ const FIELDS_SET: [(&str, &str); 5] = [
     ),
 ];
 
-/// Set twice, the words are the same.
+/// If they are set twice, the fields are the same.
 #[test]
 fn estimator_fields(rt: HostRuntime) -> Result<(), Fail> {
     for (image, wanted) in FIELDS_SET {

@@ -9,7 +9,7 @@ use hll_text::fault::{Fault, MergeError};
 use hll_text::watched::Watched;
 use std::alloc::Global;
 
-/// A reader that gives a byte at a time and fails at each of its calls in turn.
+/// Checks a reader that returns a byte at a time and fails at each of its calls in turn.
 pub(crate) fn check_reads(alloc: Global, plan: &[u8]) -> Result<(), Wrong> {
     for calls in 0..plan.len().saturating_add(1) {
         if !fails_at(alloc, plan, calls) {
@@ -19,7 +19,8 @@ pub(crate) fn check_reads(alloc: Global, plan: &[u8]) -> Result<(), Wrong> {
     Ok(())
 }
 
-/// Writers that take a byte at a time and stop or fail after each byte of the line; after none where a plan is refused.
+/// Checks writers that accept a byte at a time and stop or fail after each byte of the line, or at once if a plan has a
+/// fault.
 pub(crate) fn check_writes(alloc: Global, plan: &[u8], printed: &Printed) -> Result<(), Wrong> {
     let size = match printed {
         Ok(line) => line.len(),
@@ -33,7 +34,7 @@ pub(crate) fn check_writes(alloc: Global, plan: &[u8], printed: &Printed) -> Res
     Ok(())
 }
 
-/// Whether a plan is refused, and nothing is written, where the reader gives a byte at a time and fails at this call.
+/// Returns whether a plan fails, and nothing is written, if the reader returns a byte at a time and fails at this call.
 fn fails_at(alloc: Global, plan: &[u8], calls: usize) -> bool {
     let mut reader = Watched::new(Failing {
         text: plan,
@@ -48,7 +49,7 @@ fn fails_at(alloc: Global, plan: &[u8], calls: usize) -> bool {
         && writer.into_inner().is_empty()
 }
 
-/// The fault of the lines that end in a text, or else the read that failed after them.
+/// Returns the fault of the lines that end in a text, or else the read that failed after them.
 fn fault_of_front(alloc: Global, text: &[u8]) -> MergeError {
     match fed(alloc, text) {
         Ok(()) => Fault::Read.at(lines_ended(text)),
@@ -62,13 +63,13 @@ fn fed(alloc: Global, text: &[u8]) -> Result<(), MergeError> {
     feed.feed(text)
 }
 
-/// How many lines end in a text.
+/// Returns the number of lines that end in a text.
 fn lines_ended(text: &[u8]) -> u64 {
     text.iter().filter(|byte| **byte == b'\n').count() as u64
 }
 
-/// Whether a plan, read byte by byte, gives its answer to a writer that takes so many bytes, one at a time, and then takes
-/// none or fails: of a line, what there is room for went out.
+/// Returns whether a plan, read byte by byte, has its result with a writer that accepts `room` bytes, one at a time,
+/// and then accepts none or fails. The writer then has a prefix of the line, of `room` bytes at most.
 fn fits(alloc: Global, plan: &[u8], printed: &Printed, room: usize, fails: bool) -> bool {
     let mut taken = Vec::new(alloc);
     let mut reader = Watched::new(Failing {
@@ -90,7 +91,7 @@ fn fits(alloc: Global, plan: &[u8], printed: &Printed, room: usize, fails: bool)
     }
 }
 
-/// How many lines a text has.
+/// Returns the number of lines of a text.
 fn lines_in(text: &[u8]) -> u64 {
     let last = match text.last() {
         None | Some(b'\n') => 0,

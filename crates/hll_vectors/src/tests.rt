@@ -1,9 +1,9 @@
 // SPDX-License-Identifier: Apache-2.0
-//! Rows that are right, and what is said of rows that are wrong.
+//! Test vectors that are right, and what is reported about wrong ones.
 use crate::run_row;
 use std::test::Fail;
 
-/// The lines of a row, and what is wrong with it.
+/// The lines of a test vector, and what is wrong with it.
 const ROWS: [(&[&str], &str); 14] = [
     (&["new 10 8", "= 0201070a030c0008"], "nothing"),
     (&["! line 0: stack"], "nothing"),

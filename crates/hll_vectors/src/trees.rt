@@ -1,12 +1,12 @@
 // SPDX-License-Identifier: Apache-2.0
-//! Lists of steps: what they give, their faults, and lists that are compared.
+//! Lists of steps: their outcomes, their faults, and comparisons of lists.
 use hll_base::hll_type::HllType;
 use hll_merge::evaluate::{compare, evaluate};
 use hll_text::fault::Fault;
 use hll_text::step::Step;
 use std::test::Fail;
 
-/// The image of a set, read, joined and folded.
+/// The image of a set, read, merged and folded.
 #[test]
 fn images_and_folds(rt: HostRuntime) -> Result<(), Fail> {
     let image = hex::decode(rt.alloc(), "0301070a06080009010000000500000c")?;
@@ -21,7 +21,7 @@ fn images_and_folds(rt: HostRuntime) -> Result<(), Fail> {
     Ok(())
 }
 
-/// The coupons of a set agree with the registers that they make, and with no coupons they do not.
+/// The coupons of a set agree with the registers that they make, and don't agree with no coupons.
 #[test]
 fn compared(rt: HostRuntime) {
     let at_12: [Step; 10] = [
@@ -53,7 +53,8 @@ fn compared(rt: HostRuntime) {
     assert_eq!(rt; compare(rt.alloc(), &at_12, &none), Ok(false));
 }
 
-/// The first fault of a list, with the step's number; of two lists that of the left one, whatever the right one is.
+/// The first fault of a list, with the step's number. Of two lists it is that of the left one, whatever the right one
+/// is.
 #[test]
 fn first_faults(rt: HostRuntime) {
     let no_steps: [Step; 0] = [];

@@ -1,5 +1,5 @@
 // SPDX-License-Identifier: Apache-2.0
-//! Unions: their `lg_k`, the tables that they take, and sketches that agree.
+//! Unions: their `lg_k`, the tables that they keep, and sketches that agree.
 use crate::sketches::{digits_of, sketch_of, sketch_with};
 use hll_base::error::Error;
 use hll_base::hll_type::HllType;
@@ -12,23 +12,23 @@ use std::test::Fail;
 const ZEROS: &str =
     "0a0107040000000a00000000000000000000000000000000000000000000000010000000000000000000000000000000000000000000000000";
 
-/// Registers of `lg_k` 4: 10 and 20 at the first slots.
+/// Registers of `lg_k` 4: 10 and 20 in the first slots.
 const SMALL: &str =
     "0a0107040010000a0000000000000000000000000000000000000000000000000e000000000000000a140000000000000000000000000000";
 
-/// Registers of `lg_k` 5: 15 and 18 at the first slots, 25 and 30 at slots 16 and 17.
+/// Registers of `lg_k` 5: 15 and 18 in the first slots, 25 and 30 in slots 16 and 17.
 const LARGE: &str =
     "0a0107050010000a0000000000000000000000000000000000000000000000001c000000000000000f120000000000000000000000000000191e0000000000000000000000000000";
 
-/// Both, at `lg_k` 4.
+/// Both merged, at `lg_k` 4.
 const JOINED: &str =
     "0a0107040010000a0000000000000000000000000000000000000000000000000e00000000000000191e0000000000000000000000000000";
 
 /// An empty list at `lg_k` 12.
 const EMPTY: &str = "0201070c030c0008";
 
-/// Images that are merged in turn, and the `lg_k` of the union after each: a list of `lg_k` 6, registers that are all 0,
-/// registers of `lg_k` 6, a list of 21, and registers of 4.
+/// Images that are merged in turn, and the `lg_k` of the union after each: a list of `lg_k` 6, registers of 0,
+/// registers of `lg_k` 6, a list of `lg_k` 21, and registers of `lg_k` 4.
 const STEPS: [(&str, u8); 5] = [
     ("02010706030801000500000c", 12),
     (ZEROS, 12),
@@ -46,7 +46,7 @@ fn merge_image(alloc: Global, union: &mut HllUnion, digits: &str) -> Result<(), 
     Ok(union.update(&sketch)?)
 }
 
-/// The `lg_k` goes down to that of registers, and a reset brings the bound back.
+/// The `lg_k` goes down to that of registers, and a reset restores the bound.
 #[test]
 fn lg_k(rt: HostRuntime) -> Result<(), Fail> {
     let mut union = HllUnion::new(rt.alloc(), 12)?;
@@ -64,14 +64,14 @@ fn lg_k(rt: HostRuntime) -> Result<(), Fail> {
     Ok(())
 }
 
-/// The sketch of eight bits of a union of one sketch.
+/// Returns the 8-bit sketch of a union of one sketch.
 fn merged(alloc: Global, lg_max_k: u8, sketch: &HllSketch) -> Result<HllSketch, Error> {
     let mut union = HllUnion::new(alloc, lg_max_k)?;
     union.update(sketch)?;
     union.to_sketch(HllType::Hll8)
 }
 
-/// A coupon at `lg_k` 4 keeps its slot whole.
+/// A coupon at `lg_k` 4 keeps all bits of its slot.
 #[test]
 fn slots_stay_whole(rt: HostRuntime) -> Result<(), Fail> {
     let mut sketch = HllSketch::new(rt.alloc(), 4, HllType::Hll8)?;
@@ -81,7 +81,7 @@ fn slots_stay_whole(rt: HostRuntime) -> Result<(), Fail> {
     Ok(())
 }
 
-/// 25 coupons at the bound of an empty union keep their table of 64 buckets.
+/// 25 coupons, at the bound of an empty union, keep their table of 64 buckets.
 #[test]
 fn tables_are_taken_whole(rt: HostRuntime) -> Result<(), Fail> {
     let sketch = sketch_with(rt.alloc(), 10, HllType::Hll6, 25)?;
@@ -97,7 +97,7 @@ const AGREEMENTS: [(&str, &str, bool); 4] = [
     (EMPTY, SMALL, false),
 ];
 
-/// Whether the sketches of two images agree, asked either way.
+/// Returns whether the sketches of two images agree, and the other way round.
 fn agree_either_way(alloc: Global, first: &str, second: &str) -> Result<(bool, bool), Fail> {
     let one = sketch_of(alloc, first)?;
     let two = sketch_of(alloc, second)?;

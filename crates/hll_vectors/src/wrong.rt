@@ -1,29 +1,30 @@
 // SPDX-License-Identifier: Apache-2.0
-//! What is wrong with a row.
+//! What is wrong with a test vector.
 use std::alloc::{AllocError, AllocFailed};
 
-/// Why a row is wrong.
+/// Why a test vector is wrong.
 #[derive(Debug, Drop)]
 pub(crate) enum Wrong {
-    /// A `\` without two hexadecimal digits after it.
+    /// A `\` is not followed by two hexadecimal digits.
     Escape,
-    /// The last line is no answer, or another line begins like one.
+    /// The last line is no result, or another line begins like one.
     NoAnswer,
-    /// The plan, run whole, gives this answer.
+    /// The plan, run as a whole, has this result.
     Gives(String),
-    /// Fed in pieces of so many bytes, it gives another answer than run whole.
+    /// Fed in pieces of this number of bytes, it has another result than run as a whole.
     InPieces(usize),
-    /// Cut between the CR and the LF of its lines, it gives another answer.
+    /// Cut between the CR and the LF of its lines, it has another result.
     BetweenEnds,
-    /// Where this read fails, counted from 0, it gives another answer than the lines that ended before.
+    /// If this read fails, counted from 0, it has another result than the lines that ended before.
     AtRead(usize),
-    /// Where the writer has room for so many bytes, it gives another answer, or what went out is no front of its line.
+    /// If the writer has room for this number of bytes, it has another result, or what was written is no prefix of its
+    /// line.
     WithRoom(usize),
-    /// The first so many bytes of an image are neither read nor refused as `Truncated`.
+    /// This number of bytes of an image, a prefix, is neither read nor rejected as `Truncated`.
     AtFront(usize),
-    /// Bytes stand after an image, and the answer says `=`, or after none, and it says `+`.
+    /// Bytes follow an image, and the result says `=`, or none do, and it says `+`.
     After,
-    /// Memory was refused.
+    /// An allocation failed.
     Memory,
 }
 
