@@ -1,5 +1,5 @@
 -- SPDX-License-Identifier: Apache-2.0
--- The coupons of a list beside those of a set.
+-- Adding the coupons of a list to those of a set.
 use Rattle.std.proofs.Common.{◌≡◌, ℕ, ◌+◌, ◌≤◌, ◌<◌, ◌||◌, ◌≢◌, Bool, true, false, not, cond, nat_eq, nat_lt, zero, suc, List, [], ◌∷◌, ◌++◌, length, get_or, Result, Ok, Err, refl, sym, ap, ◌∙◌, arith, inl, inr}
 use mir.Val.{bool_byte}
 use Rattle.std.specs.Cmp.{nat_cmp_total}
@@ -21,7 +21,7 @@ use Rattle.hll_coupons.proofs.Unions.{contains_union, same_members}
 
 -- ---- what a binary search says
 
--- a number of a list stands at a bucket of it, and one that stands there is of the list
+-- a number of the list is in a bucket, and a number in a bucket is one of the list
 record StandsAt (xs : List ℕ) (c : ℕ) : Type 0 where
   bucket : ℕ
   within : bucket < length xs
@@ -41,7 +41,7 @@ stands_in [] c i within is = elim within [ ]
 stands_in (x ∷ xs) c zero within is = or_left _ _ (eq-eqb x c is)
 stands_in (x ∷ xs) c (suc i) within is = elim (nat_eq x c) as (λ b. (b || list_any (λ y. nat_eq y c) xs) ≡ true) [ true ↦ refl | false ↦ stands_in xs c i (omega (arith, within)) is ]
 
--- numbers that rise do not fall
+-- an increasing list doesn't decrease
 rises : (xs : List ℕ) → IsStrictlyIncreasing xs → (i j : ℕ) → i ≤ j → j < length xs → get_or xs i 0 ≤ get_or xs j 0
 rises xs up i j le within = elim (cases_Bool (nat_eq i j)) [
   | inl same ↦ let e : i ≡ j = eqb-true i j same in omega (arith, ap (λ k. get_or xs k 0) e)
@@ -72,7 +72,7 @@ pub at_most_one : (b : Bool) → bool_byte b ≤ 1
 at_most_one true = omega arith
 at_most_one false = omega arith
 
--- counted, if the set doesn't have it
+-- the count after one more coupon, which counts if the set doesn't have it
 pub count_more : (S : Pairs) (xs ys : List ℕ) (c n m : ℕ) (old : Bool) → len (set_of (xs ++ c ∷ ys)) ≡ length (xs ++ c ∷ ys) → n ≡ len (union S (set_of xs)) → old ≡ contains S c →
     m ≡ n + bool_byte (not old) → m ≡ len (union S (set_of (xs ++ c ∷ [])))
 count_more S xs ys c n m old distinct count is more = elim (cases_Bool (contains S c)) [
@@ -80,11 +80,11 @@ count_more S xs ys c n m old distinct count is more = elim (cases_Bool (contains
   | inr new ↦ omega (arith, count, more, ap (λ b. bool_byte (not b)) (is ∙ new), len-union_new S xs ys c distinct new)
 ]
 
--- a list's coupon that the set lacks is new after those before it
+-- a coupon of the list that the set lacks is also not among the coupons before it
 pub lacking : (S : Pairs) (xs ys : List ℕ) (c : ℕ) → len (set_of (xs ++ c ∷ ys)) ≡ length (xs ++ c ∷ ys) → contains S c ≡ false → contains (union S (set_of xs)) c ≡ false
 lacking S xs ys c distinct new = contains_union S (set_of xs) c ∙ ap (λ b. b || contains (set_of xs) c) new ∙ new_between xs ys c distinct
 
--- a table that has no more than all of them has a bucket for a new one
+-- a table with at most all of these coupons has an empty bucket for a new one
 pub bucket_left : (S : Pairs) (xs ys : List ℕ) (c : ℕ) (t : Table) (m : ℕ) → IsTable t → coupons_of t ≡ union S (set_of xs) → len (union S (set_of (xs ++ c ∷ ys))) ≤ m →
     contains (coupons_of t) c ≡ false → length (coupons_in t.buckets) < m
 bucket_left S xs ys c t m table members room new =
@@ -92,7 +92,7 @@ bucket_left S xs ys c t m table members room new =
     len-insert nat_cmp_total (union S (set_of xs)) c ∙ ap (λ b. cond b (len (union S (set_of xs))) (len (union S (set_of xs)) + 1)) (ap (λ P. contains P c) (sym members) ∙ new) in
     omega (arith, table.distinct, ap len members, more, ap len (union_after S xs c), len-union_with S xs ys c, room)
 
--- the members with it, where it is put, and where the set has it
+-- the members after this coupon, whether it was put or the set had it
 pub members_more : (S : Pairs) (xs : List ℕ) (c : ℕ) (old new : Pairs) → old ≡ union S (set_of xs) → new ≡ insert old c → new ≡ union S (set_of (xs ++ c ∷ []))
 members_more S xs c old new before put = put ∙ ap (λ P. insert P c) before ∙ sym (union_after S xs c)
 
@@ -100,7 +100,7 @@ pub members_same : (S : Pairs) (xs : List ℕ) (c : ℕ) (now : Pairs) → now �
 members_same S xs c now before there =
     before ∙ sym (union_after S xs c ∙ insert-member (union S (set_of xs)) c (contains_union S (set_of xs) c ∙ or_left _ _ there))
 
--- those that a set has from a list already add nothing to it
+-- members that a set already has from a list add nothing to it
 same_or : (s a b : Bool) → ((s || a) || (a || b)) ≡ (s || (a || b))
 same_or true a b = refl
 same_or false true b = refl

@@ -1,5 +1,6 @@
 -- SPDX-License-Identifier: Apache-2.0
--- The members of a set in ascending order: one list for each set, as long as the set, and what a sort makes.
+-- The members of a set in ascending order: there is one such list for each set, it has the length of the set, and
+-- sorting makes it.
 use Rattle.std.proofs.Common.{◌≡◌, ℕ, suc, ◌+◌, ◌<◌, ◌≤◌, Bool, true, false, cond, ◌||◌, List, [], ◌∷◌, ◌++◌, length, get_or, nat_eq, refl, sym, ◌∙◌, ap, subst, arith, inl, inr}
 use Rattle.std.specs.Ordering.{nat_cmp, eq_by_cmp}
 use Rattle.std.specs.Cmp.{nat_cmp_total, both_ways, unsigned_tied, eq_by_cmp_equiv}
@@ -53,7 +54,7 @@ member_above x q (y ∷ ys) a e = decide (nat_eq y q) refl e (member_above x q y
 not_above_itself : (x : ℕ) (xs : List ℕ) → AllAbove x xs → has xs x ≡ false
 not_above_itself x xs a = elim (cases_Bool (has xs x)) [ inl e ↦ absurd (omega (arith, member_above x x xs a e)) | inr e ↦ e ]
 
--- the first of two numbers that a list has is the first of the list, or above it
+-- the lesser of two numbers that a list has is the first of the list, or greater
 first_below : (x q : ℕ) (xs : List ℕ) → AllAbove x xs → has (x ∷ xs) q ≡ true → x ≤ q
 first_below x q xs a e = decide (nat_eq x q) refl e
   where
@@ -89,7 +90,7 @@ one_ascending_order S a b u v =
     same_list a b (ascends a (AllPairs-from_increasing a u.increasing)) (ascends b (AllPairs-from_increasing b v.increasing))
     (λ q. has-set a S q u.members ∙ sym (has-set b S q v.members))
 
--- so what is written in ascending order is a function of the set
+-- so bytes written in ascending order are a function of the set
 pub written_once : (f : List ℕ → List ℕ) (S : Pairs) (a b : List ℕ) → WritesAscending f S a → WritesAscending f S b → a ≡ b
 written_once f S a b u v = u.is ∙ ap f (one_ascending_order S u.order v.order u.ascending v.ascending) ∙ sym v.is
 
@@ -168,7 +169,7 @@ ascending_from_sort all copy ys same once p up =
 pub distinct-ascending : (xs : List ℕ) → IsStrictlyIncreasing xs → len (set_of xs) ≡ length xs
 distinct-ascending xs up = sym (len-ascending xs (set_of xs) (record { increasing = up; members = refl }))
 
--- and so is any list of which a permutation ascends
+-- a list is distinct if a permutation of it ascends
 pub distinct-sorted : (all copy ys : List ℕ) → copy ≡ all → IsPermutation copy ys → IsStrictlyIncreasing ys → len (set_of all) ≡ length all
 distinct-sorted all copy ys same p up =
     let q : IsPermutation all ys = subst (λ xs. IsPermutation xs ys) same p in

@@ -19,7 +19,7 @@ use Rattle.hll_coupons.proofs.Merging.{increasing_more}
 use Rattle.hll_coupons.proofs.Buckets.{coupons_in-front}
 use Rattle.hll_coupons.proofs.Reading.{coupons_in-coupons}
 
--- numbers that do not fall
+-- numbers that don't decrease
 abbrev Rises : List ℕ → Type 0
 Rises xs = IsNonDecreasingBy (λ x. x) xs
 
@@ -59,7 +59,7 @@ module _ (E : ℕ → ℕ → Bool) (is : (x y : ℕ) → E x y ≡ nat_eq x y) 
 
   -- ---- order
 
-  -- what is kept begins with the first number, and ascends
+  -- the numbers that are kept begin with the first number, and ascend
   abbrev Climbs : ℕ → List ℕ → Type 0
   Climbs k ys = (rest : List ℕ) × (ys ≡ k ∷ rest) × IsStrictlyIncreasing (k ∷ rest)
 
@@ -80,7 +80,7 @@ module _ (E : ℕ → ℕ → Bool) (is : (x y : ℕ) → E x y ≡ nat_eq x y) 
   increasing-dedup [] up = λ i within. absurd (omega (arith, within))
   increasing-dedup (x ∷ xs) up = let c = climbs x xs up in subst IsStrictlyIncreasing (sym c.1) c.2
 
-  -- a sorted list, each number kept once
+  -- a sorted list with each number kept once
   pub once_of_sorted : (all sorted kept : List ℕ) → IsPermutation all sorted → IsSorted nat_cmp sorted → kept ≡ dedup E sorted → IsAscending kept (set_of all)
   once_of_sorted all sorted kept p up e = record {
     increasing = subst IsStrictlyIncreasing (sym e) (increasing-dedup sorted (IsNonDecreasingBy-from_sort (λ x. x) sorted up));

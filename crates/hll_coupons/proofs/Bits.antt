@@ -1,5 +1,5 @@
 -- SPDX-License-Identifier: Apache-2.0
--- Bits in blocks of 64: one that is changed, and the first that is set.
+-- Bits in blocks of 64: changing a bit, and finding the first bit that is set.
 use Rattle.std.proofs.Common.{◌≡◌, ℕ, ◌+◌, ◌-◌, ◌*◌, ◌/◌, ◌%◌, ◌<◌, ◌≤◌, List, length, get_or, set, refl, sym, ap, ◌∙◌, arith, inl, inr}
 use Rattle.std.specs.Prelude.{◌==◌, if◌then◌else◌}
 use Rattle.std.specs.Int.{bit_at}
@@ -10,11 +10,11 @@ use Rattle.hll_coupons.specs.Blocks.{bit_of, IsNext, IsSummary}
 
 -- ---- one bit is changed
 
--- the bit itself
+-- the bit that was set
 pub bit_of-set_same : (blocks : List ℕ) (b v bit : ℕ) → b < 64 * length blocks → bit_at v (b % 64) ≡ bit → bit_of (set blocks (b / 64) v) b ≡ bit
 bit_of-set_same blocks b v bit h e = ap (λ w. bit_at w (b % 64)) (get_or-set_same blocks (b / 64) v 0 (omega arith)) ∙ e
 
--- another one
+-- another bit
 pub bit_of-set_other : (blocks : List ℕ) (b v j : ℕ) → b < 64 * length blocks → ((i : ℕ) → i < 64 → (i ≡ b % 64 → ⊥) → bit_at v i ≡ bit_at (get_or blocks (b / 64) 0) i) →
     (j ≡ b → ⊥) → bit_of (set blocks (b / 64) v) j ≡ bit_of blocks j
 bit_of-set_other blocks b v j h same other = elim (cases_eq (j / 64) (b / 64)) [
@@ -26,7 +26,7 @@ bit_of-set_other blocks b v j h same other = elim (cases_eq (j / 64) (b / 64)) [
 
 -- ---- the first that is set
 
--- in a block
+-- the next bit is in this block
 pub next_in_block : (blocks : List ℕ) (from k p : ℕ) → k < length blocks → p < 64 → from ≤ 64 * k + p → bit_at (get_or blocks k 0) p ≡ 1 →
     ((j : ℕ) → from ≤ 64 * k + j → j < p → bit_at (get_or blocks k 0) j ≡ 0) → ((j : ℕ) → from ≤ j → j < 64 * k → bit_of blocks j ≡ 0) → IsNext blocks from (64 * k + p)
 next_in_block blocks from k p inside small low here before earlier = record {
@@ -51,14 +51,14 @@ next_in_block blocks from k p inside small low here before earlier = record {
 pub none_in_zero : (blocks : List ℕ) (k j : ℕ) → get_or blocks k 0 ≡ 0 → j / 64 ≡ k → bit_of blocks j ≡ 0
 none_in_zero blocks k j z e = ap (λ q. bit_at (get_or blocks q 0) (j % 64)) e ∙ ap (λ w. bit_at w (j % 64)) z ∙ bit_at-zero (j % 64)
 
--- of the first block from a bit on, where none is set there
+-- no bit of the first block is set, from a bit on
 pub none_in_rest : (blocks : List ℕ) (from r : ℕ) → ((j : ℕ) → from % 64 ≤ j → j < 64 → bit_at r j ≡ bit_at (get_or blocks (from / 64) 0) j) → r ≡ 0 →
     (j : ℕ) → from ≤ j → j < 64 * (from / 64 + 1) → bit_of blocks j ≡ 0
 none_in_rest blocks from r high z j l h =
     let block : j / 64 ≡ from / 64 = omega arith in
     ap (λ q. bit_at (get_or blocks q 0) (j % 64)) block ∙ sym (high (j % 64) (omega arith) (omega arith)) ∙ ap (λ w. bit_at w (j % 64)) z ∙ bit_at-zero (j % 64)
 
--- one is set there
+-- a bit of the first block is set, from a bit on
 pub next_in_rest : (blocks : List ℕ) (from r p : ℕ) → from / 64 < length blocks → ((j : ℕ) → j < from % 64 → bit_at r j ≡ 0) →
     ((j : ℕ) → from % 64 ≤ j → j < 64 → bit_at r j ≡ bit_at (get_or blocks (from / 64) 0) j) → p < 64 → bit_at r p ≡ 1 → ((j : ℕ) → j < p → bit_at r j ≡ 0) →
     IsNext blocks from (64 * (from / 64) + p)
@@ -76,7 +76,7 @@ zero_of p b e h = grind arith
 some_of : (p b : ℕ) → b ≡ (if p == 0 then 0 else 1) → b ≡ 1 → p ≡ 0 → ⊥
 some_of p b e h z = grind arith
 
--- in the first block that the summary shows after one
+-- the next bit is in the next block that the summary shows
 pub next_in_summary : (blocks summary : List ℕ) (from i p : ℕ) → IsSummary blocks summary → ((j : ℕ) → from ≤ j → j < 64 * (from / 64 + 1) → bit_of blocks j ≡ 0) →
     IsNext summary (from / 64 + 1) i → p < 64 → bit_at (get_or blocks i 0) p ≡ 1 → ((j : ℕ) → j < p → bit_at (get_or blocks i 0) j ≡ 0) → IsNext blocks from (64 * i + p)
 next_in_summary blocks summary from i p s rest n small here before =
@@ -100,7 +100,7 @@ empty_bit p b z h = grind arith
 some_bit : (p q b : ℕ) → b ≡ (if p == 0 then 0 else 1) → 0 < q → q ≤ p → b ≡ (if q == 0 then 0 else 1)
 some_bit p q b e some less = grind arith
 
--- its block has another
+-- the block has another bit set
 pub summary_kept : (blocks summary : List ℕ) (k v : ℕ) → IsSummary blocks summary → k < length blocks → 0 < v → v ≤ get_or blocks k 0 → IsSummary (set blocks k v) summary
 summary_kept blocks summary k v s inside some less = record {
   room = omega (arith, s.room, length-set blocks k v);
@@ -112,7 +112,7 @@ summary_kept blocks summary k v s inside some less = record {
   ];
 }
 
--- it has none
+-- the block has no bit set
 pub summary_cleared : (blocks summary new : List ℕ) (k v : ℕ) → IsSummary blocks summary → k < length blocks → v ≡ 0 → length new ≡ length summary → bit_of new k ≡ 0 →
     ((j : ℕ) → (j ≡ k → ⊥) → bit_of new j ≡ bit_of summary j) → IsSummary (set blocks k v) new
 summary_cleared blocks summary new k v s inside none size same other = record {

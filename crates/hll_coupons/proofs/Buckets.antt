@@ -1,5 +1,5 @@
 -- SPDX-License-Identifier: Apache-2.0
--- What is held by buckets: none, some more, and the buckets at the front.
+-- The coupons in buckets: in empty buckets, after a coupon is put, and in a prefix of the buckets.
 use Rattle.std.proofs.Common.{◌≡◌, ℕ, zero, suc, ◌-◌, ◌<◌, ◌≤◌, Bool, true, false, cond, List, [], ◌∷◌, ◌++◌, nat_lt, length, replicate, get_or, refl, sym, ◌∙◌, ap, arith}
 use Rattle.std.proofs.Math.ListN.{set}
 use Rattle.std.proofs.lemmas.Grind.{common_steps}
@@ -7,12 +7,12 @@ use Rattle.std.proofs.lemmas.List.{append-nil}
 use Rattle.std.proofs.lemmas.List.Elements.{filter-append}
 use Rattle.hll_coupons.specs.Table.{coupons_in}
 
--- empty buckets hold nothing
+-- empty buckets have no coupons
 pub coupons_in-replicate : (n : ℕ) → coupons_in (replicate n 0) ≡ []
 coupons_in-replicate zero = refl
 coupons_in-replicate (suc n) = coupons_in-replicate n
 
--- no more is held than there are buckets
+-- there are no more coupons than buckets
 pub length-coupons_in : (buckets : List ℕ) → length (coupons_in buckets) ≤ length buckets
 length-coupons_in [] = omega arith
 length-coupons_in (p ∷ ps) = kept (nat_lt 0 p) (length-coupons_in ps)
@@ -21,7 +21,7 @@ length-coupons_in (p ∷ ps) = kept (nat_lt 0 p) (length-coupons_in ps)
     kept true h = omega arith
     kept false h = omega arith
 
--- the first bucket, if it is filled, and then others
+-- the coupon of the first bucket, if it is filled, and then others
 cons_if : Bool → ℕ → List ℕ → List ℕ
 cons_if b p xs = cond b (p ∷ xs) xs
 
@@ -40,7 +40,7 @@ coupons_in-empty p ps e = ap (λ q. coupons_in (q ∷ ps)) e
 pub coupons_in-full : (p : ℕ) (ps : List ℕ) → 0 < p → coupons_in (p ∷ ps) ≡ p ∷ coupons_in ps
 coupons_in-full p ps h = grind (arith, common_steps)
 
--- what is held is held again
+-- the coupons of a list of coupons are the list
 pub coupons_in-coupons_in : (buckets : List ℕ) → coupons_in (coupons_in buckets) ≡ coupons_in buckets
 unfolding cons_if
 coupons_in-coupons_in [] = refl
@@ -50,7 +50,7 @@ coupons_in-coupons_in (p ∷ ps) = again (nat_lt 0 p) refl (coupons_in-coupons_i
     again true e rest = ap (λ b. cons_if b p (coupons_in (coupons_in ps))) e ∙ ap (λ xs. p ∷ xs) rest
     again false e rest = rest
 
--- where the place at i is empty, its coupon comes between those before and those after
+-- the bucket at i is empty; a coupon put there comes between the coupons before and those after
 pub record Between (buckets : List ℕ) (i c : ℕ) : Type 0 where
   pub before : List ℕ
   pub after : List ℕ
@@ -69,12 +69,12 @@ between (p ∷ ps) (suc i) c inside empty full =
       new = coupons_in-cons p (set ps i c) ∙ ap (cons_if (nat_lt 0 p) p) b.new ∙ sym (cons_if-append (nat_lt 0 p) p b.before (c ∷ b.after));
     }
 
--- the first empty bucket after a front
+-- filling the first empty bucket after a prefix
 pub set-front : (xs : List ℕ) (n c : ℕ) → 0 < n → set (xs ++ replicate n 0) (length xs) c ≡ (xs ++ c ∷ []) ++ replicate (n - 1) 0
 set-front [] zero c h = absurd (omega arith)
 set-front [] (suc n) c h = ap (λ m. c ∷ replicate m 0) (omega arith)
 set-front (x ∷ xs) n c h = ap (λ ys. x ∷ ys) (set-front xs n c h)
 
--- empty buckets after a front hold nothing more
+-- empty buckets after a prefix add no coupons
 pub coupons_in-front : (xs : List ℕ) (n : ℕ) → coupons_in (xs ++ replicate n 0) ≡ coupons_in xs
 coupons_in-front xs n = filter-append (λ c. nat_lt 0 c) xs (replicate n 0) ∙ ap (λ ys. coupons_in xs ++ ys) (coupons_in-replicate n) ∙ append-nil (coupons_in xs)

@@ -1,5 +1,5 @@
 -- SPDX-License-Identifier: Apache-2.0
--- Coupons of a list that come one after another.
+-- Coupons of a list, one after the other.
 use Rattle.hll_coupons.proofs.TableLemmas.{length-between}
 use Rattle.std.proofs.Common.{◌≡◌, ℕ, ◌+◌, ◌≤◌, ◌<◌, ◌^◌, ◌||◌, nat_eq, true, false, cond, List, [], ◌∷◌, ◌++◌, length, All, refl, sym, ap, ◌∙◌, arith, inl, inr}
 use Rattle.std.specs.Cmp.{nat_cmp_total}
@@ -14,12 +14,12 @@ use Rattle.hll_coupons.proofs.Members.{set_of-between, len-between, insert-membe
 use Rattle.hll_coupons.proofs.Reading.{len-set_of-le}
 use Rattle.hll_coupons.proofs.Unions.{contains_union, insert-union, len-insert_ge, len-insert_le, union_assoc, union_none}
 
--- what all of a list have, one between others has
+-- what holds for all elements of a list holds for one between others
 pub All-between : {X : Type 0} (P : X → Type 0) (xs zs : List X) (y : X) → All P (xs ++ y ∷ zs) → P y
 All-between P [] zs y h = All-head P y zs h
 All-between P (x ∷ xs) zs y h = All-between P xs zs y (All-tail P x (xs ++ y ∷ zs) h)
 
--- a longer list has as many members or more
+-- a longer list has at least the same number of members
 len-longer : (xs ys : List ℕ) → len (set_of xs) ≤ len (set_of (xs ++ ys))
 len-longer xs [] = let same : len (set_of (xs ++ [])) ≡ len (set_of xs) = ap (λ zs. len (set_of zs)) (append-nil xs) in omega (arith, same)
 len-longer xs (y ∷ ys) =
@@ -30,7 +30,7 @@ pub append-between : (xs ys : List ℕ) (c : ℕ) → (xs ++ c ∷ []) ++ ys ≡
 append-between [] ys c = refl
 append-between (x ∷ xs) ys c = ap (λ zs. x ∷ zs) (append-between xs ys c)
 
--- one that is new among others makes one more
+-- a coupon that the others lack adds one member
 pub len-with_new : (xs ys : List ℕ) (c : ℕ) → contains (set_of xs) c ≡ false → len (set_of xs) + 1 ≤ len (set_of (xs ++ c ∷ ys))
 len-with_new xs ys c new =
     let front : len (set_of (xs ++ c ∷ [])) ≤ len (set_of (xs ++ c ∷ ys)) = rw (sym (append-between xs ys c)) (len-longer (xs ++ c ∷ []) ys) in
@@ -48,7 +48,7 @@ room_of_eight t all xs ys c table three is whole few new =
 
 -- ---- with a set
 
--- one more, after others
+-- the union after one more coupon of a list
 pub union_after : (S : Pairs) (xs : List ℕ) (c : ℕ) → union S (set_of (xs ++ c ∷ [])) ≡ insert (union S (set_of xs)) c
 union_after S xs c =
     ap (union S) (set_of-between xs [] c ∙ ap (λ zs. insert (set_of zs) c) (append-nil xs) ∙ insert-union (set_of xs) c)
@@ -59,7 +59,7 @@ union_between S xs ys c =
     ap (union S) (set_of-between xs ys c ∙ insert-union (set_of (xs ++ ys)) c)
     ∙ sym (union_assoc S (set_of (xs ++ ys)) (set_of (c ∷ []))) ∙ sym (insert-union (union S (set_of (xs ++ ys))) c)
 
--- a longer list has as many members or more beside those of a set
+-- a longer list has at least the same number of members together with those of a set
 pub len-union_longer : (S : Pairs) (xs ys : List ℕ) → len (union S (set_of xs)) ≤ len (union S (set_of (xs ++ ys)))
 len-union_longer S xs [] = let same : len (union S (set_of (xs ++ []))) ≡ len (union S (set_of xs)) = ap (λ zs. len (union S (set_of zs))) (append-nil xs) in omega (arith, same)
 len-union_longer S xs (y ∷ ys) =
@@ -69,7 +69,7 @@ len-union_longer S xs (y ∷ ys) =
 pub len-union_with : (S : Pairs) (xs ys : List ℕ) (c : ℕ) → len (union S (set_of (xs ++ c ∷ []))) ≤ len (union S (set_of (xs ++ c ∷ ys)))
 len-union_with S xs ys c = rw (sym (append-between xs ys c)) (len-union_longer S (xs ++ c ∷ []) ys)
 
--- in a list without repetition one is not among those before it
+-- in a list without repetition a coupon is not among those before it
 pub new_between : (xs ys : List ℕ) (c : ℕ) → len (set_of (xs ++ c ∷ ys)) ≡ length (xs ++ c ∷ ys) → contains (set_of xs) c ≡ false
 new_between xs ys c distinct = elim (cases_Bool (contains (set_of xs) c)) [
   | inl t ↦
@@ -79,7 +79,7 @@ new_between xs ys c distinct = elim (cases_Bool (contains (set_of xs) c)) [
   | inr f ↦ f
 ]
 
--- how many there are beside those of a set: none yet, one that stands in neither, one that stands in the set
+-- the number of members together with those of a set: of no coupons, after a coupon in neither, after a coupon in the set
 pub len-union_none : (S : Pairs) → len (union S (set_of [])) ≡ len S
 len-union_none S = ap len (union_none S)
 
@@ -101,7 +101,7 @@ len-union_most S (x ∷ xs) =
     let one : len (union S (set_of (x ∷ xs))) ≤ len (union S (set_of xs)) + 1 = rw (union_between S [] xs x) (len-insert_le (union S (set_of xs)) x) in
     omega (arith, one, len-union_most S xs)
 
--- a front is no longer than the whole
+-- a prefix is no longer than the whole list
 pub shorter : (xs ys : List ℕ) → length xs ≤ length (xs ++ ys)
 shorter [] ys = omega arith
 shorter (x ∷ xs) ys = omega (arith, shorter xs ys)

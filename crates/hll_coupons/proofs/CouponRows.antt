@@ -19,7 +19,7 @@ pub value_of-first : value_of (coupon_of_words 0 (2 ^ 63)) ≡ 1
 unfolding count_leading_zeros
 value_of-first = refl
 
--- the last bits
+-- the bits near the end
 pub value_of-four : value_of (coupon_of_words 0 4) ≡ 62
 unfolding count_leading_zeros
 value_of-four = refl
@@ -37,7 +37,7 @@ pub slot_of-folded : slot_of (coupon_of_words 67108869 (2 ^ 63)) ≡ 5
 unfolding count_leading_zeros
 slot_of-folded = refl
 
--- a pair gives its parts back
+-- the parts of a pair
 pub slot_of-pair : slot_of (pair 12345 42) ≡ 12345
 slot_of-pair = refl
 

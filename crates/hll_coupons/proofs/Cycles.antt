@@ -1,5 +1,5 @@
 -- SPDX-License-Identifier: Apache-2.0
--- A path is a part of its stride's cycle, so the first bit that is set shows the first empty place of the path.
+-- A path is a part of its stride's cycle, so the first bit that is set shows the first empty bucket of the path.
 use Rattle.std.proofs.Common.{◌≡◌, ℕ, ◌+◌, ◌-◌, ◌*◌, ◌/◌, ◌%◌, ◌^◌, ◌<◌, ◌≤◌, List, length, get_or, set, sym, ap, subst, zero-add, pow-add, ◌∙◌, arith, inl, inr}
 use Rattle.std.specs.Prelude.{◌==◌, if◌then◌else◌}
 use Rattle.std.proofs.lemmas.Bool.{cases_eq, cases_lt}
@@ -26,7 +26,7 @@ along lg start stride inverse i h =
     let six : start * (stride * inverse) % N ≡ start % N = sym (mul-mod_second start (stride * inverse) N) ∙ ap (λ m. start * m % N) h ∙ mul-mod_second start 1 N ∙ ap (λ m. m % N) (omega arith) in
     four ∙ ap (λ m. m % N) five ∙ sym (mod-add-mod (start * (stride * inverse)) N (i * stride)) ∙ ap (λ m. (m + i * stride) % N) six ∙ mod-add-mod start N (i * stride)
 
--- a bit that is set shows an empty bucket, and one that isn't a filled one
+-- a bit that is set shows an empty bucket, and a bit that isn't shows a filled one
 empty_of : (p : ℕ) (b : ℕ) → b ≡ (if p == 0 then 1 else 0) → b ≡ 1 → p ≡ 0
 empty_of p b e h = grind arith
 
@@ -142,7 +142,7 @@ next_after lg stride steps =
     let whole : steps * stride + stride ≡ (steps + 1) * stride = grind arith in
     mod-add-mod (steps * stride) (2 ^ lg) stride ∙ ap (λ m. m % 2 ^ lg) whole
 
--- the bit of a bucket is set as the bucket is, and no other changes
+-- the bit of a bucket is set if the bucket is empty, and no other bit changes
 pub record Marks (old new : List ℕ) (steps p : ℕ) : Type 0 where
   pub same : bit_of new steps ≡ (if p == 0 then 1 else 0)
   pub others : (j : ℕ) → (j ≡ steps → ⊥) → bit_of new j ≡ bit_of old j
@@ -168,7 +168,7 @@ marked_none old new steps p m none i l =
     let other : i ≡ steps → ⊥ = λ e. omega arith in
     m.others i other ∙ none i (omega arith)
 
--- the buckets are whole blocks of bits
+-- the number of buckets is a multiple of 64
 pub whole_blocks : (lg : ℕ) → 6 ≤ lg → 64 * (2 ^ lg / 64) ≡ 2 ^ lg
 whole_blocks lg h =
     let e : 2 ^ lg ≡ 2 ^ (lg - 6) * 64 = ap (λ n. 2 ^ n) (let s : lg ≡ lg - 6 + 6 = omega arith in s) ∙ pow-add 2 (lg - 6) 6 in

@@ -1,5 +1,5 @@
 -- SPDX-License-Identifier: Apache-2.0
--- Cycles of several strides: one that is made, the one of a stride, and a bucket that is filled in each.
+-- Several cycles: after another one is made, the cycle of a given stride, and after a bucket is filled in each.
 use Rattle.std.proofs.Common.{◌≡◌, ℕ, zero, suc, ◌+◌, ◌^◌, ◌<◌, ◌≤◌, List, [], ◌∷◌, ◌++◌, All, length, get_or, set, refl, sym, ap, subst, ◌∙◌, arith, inl, inr}
 use Rattle.std.proofs.lemmas.Bool.{cases_eq}
 use Rattle.std.proofs.lemmas.List.{get_or-set_same, get_or-set_other, get_or_default}
@@ -17,11 +17,11 @@ pub filled_none : {A : Type 0} (bucket : ℕ) (old : List (Cycle A)) → FilledS
 filled_none {A} bucket old = record { filled = λ i c l. absurd (omega arith); others = λ i c l. refl }
 
 module _ {A : Type 0} (bucket index : ℕ) (old new : List (Cycle A)) (so : FilledSoFar bucket index old new) (size : length new ≡ length old) (left : index < length old) (d : Cycle A) where
-  -- the next one is still as it was
+  -- the next cycle is still unchanged
   next_is : (c : Cycle A) → get_or new index d ≡ get_or old index c
   next_is c = so.others index d (omega arith) ∙ get_or_default old index d c left
 
-  -- what is known of each is known of the next
+  -- what holds for each cycle holds for the next
   pub next_of : (P : Cycle A → Type 0) → All P old → P (get_or new index d)
   next_of P all = subst P (sym (next_is d)) (all index d left)
 
@@ -56,7 +56,7 @@ filled_for {A} lg bucket entry buckets old new f size some all i c l =
       shows = is.fills buckets entry (size ∙ ap (λ n. 2 ^ n) (sym was.size)) some was.shows;
     }
 
--- one more
+-- one more element
 pub one_more : {X : Type 0} (P : X → Type 0) (xs : List X) (x : X) → All P xs → P x → All P (xs ++ x ∷ [])
 one_more {X} P xs x all one = All-append P xs (x ∷ []) all last
   where

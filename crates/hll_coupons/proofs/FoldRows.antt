@@ -1,5 +1,5 @@
 -- SPDX-License-Identifier: Apache-2.0
--- A worked fold, as docs/MODEL.md tells it.
+-- The example of a fold in docs/MODEL.md.
 use Rattle.std.proofs.Common.{◌≡◌, [], ◌∷◌}
 use Rattle.hll_coupons.specs.Pair.{pair, set_of}
 use Rattle.hll_coupons.specs.Fold.{fold_to}

@@ -1,5 +1,5 @@
 -- SPDX-License-Identifier: Apache-2.0
--- How many coupons a table has with one more.
+-- The number of coupons of a table after an insertion.
 use Rattle.std.proofs.Common.{◌≡◌, ℕ, ◌+◌, ◌^◌, ◌≤◌, ◌<◌, Bool, true, false, not, cond, length, sym, ap, ◌∙◌, arith}
 use mir.Val.{bool_byte}
 use Rattle.std.specs.Cmp.{nat_cmp_total}
@@ -10,7 +10,7 @@ use Rattle.hll_coupons.specs.declared.container.Insertion.TheVariants.{Added, He
 use Rattle.hll_coupons.specs.Pair.{Pairs}
 use Rattle.hll_coupons.specs.Table.{Table, IsTable, coupons_in, coupons_of}
 
--- one more, unless the set has it
+-- one more coupon, unless the set has it
 pub len-insert_new : (S : Pairs) (c : ℕ) (new : Bool) → new ≡ not (contains S c) → len S + bool_byte new ≡ len (insert S c)
 len-insert_new S c new is = ap (λ b. len S + bool_byte b) is ∙ decide (contains S c) ∙ sym (len-insert nat_cmp_total S c)
   where
@@ -30,7 +30,7 @@ past_full t c most table full lacking within =
     let more : len (insert (coupons_of t) c) ≡ len (coupons_of t) + 1 = len-insert nat_cmp_total (coupons_of t) c ∙ ap (λ b. cond b (len (coupons_of t)) (len (coupons_of t) + 1)) lacking in
     omega (arith, table.distinct, full, more, within)
 
--- a table with a free bucket for a coupon that it lacks may take it
+-- a table with an empty bucket can take a coupon that it lacks
 pub within_buckets : (t : Table) (c : ℕ) → IsTable t → length (coupons_in t.buckets) ≤ 2 ^ t.lg_size → (contains (coupons_of t) c ≡ false → length (coupons_in t.buckets) < 2 ^ t.lg_size) →
     len (insert (coupons_of t) c) ≤ 2 ^ t.lg_size
 within_buckets t c table within room = decide (contains (coupons_of t) c) refl
@@ -46,7 +46,7 @@ within_buckets t c table within room = decide (contains (coupons_of t) c) refl
         let more : len (insert (coupons_of t) c) ≡ len (coupons_of t) + 1 = len-insert nat_cmp_total (coupons_of t) c ∙ ap (λ b. cond b (len (coupons_of t)) (len (coupons_of t) + 1)) e in
         omega (arith, table.distinct, more, room e)
 
--- so it is not refused
+-- so the coupon is not refused
 pub taken : (S : Pairs) (c most : ℕ) (r : Insertion) (P : Type 0) → IsInsertion S c most r → len (insert S c) ≤ most → IfTaken r P → P
 taken S c most Added P is few p = p
 taken S c most Held P is few p = p

@@ -29,7 +29,7 @@ has-at [] i h = absurd (omega arith)
 has-at (x ∷ xs) zero h = has-head x xs
 has-at (x ∷ xs) (suc i) h = has-tail (get_or xs i 0) x xs (has-at xs i (omega arith))
 
--- and each at some index
+-- each member is at some index
 pub at_index : (xs : List ℕ) (q : ℕ) → has q xs ≡ true → (i : ℕ) × (i < length xs) × (get_or xs i 0 ≡ q)
 at_index [] q h = absurd (true≢false (sym h))
 at_index (x ∷ xs) q h = elim (or_cases (eq_by_cmp nat_cmp q x) (has q xs) h) [
@@ -69,7 +69,7 @@ has-map f (x ∷ xs) c h = elim (or_cases (eq_by_cmp nat_cmp c x) (has c xs) h) 
   | inr l ↦ or_right (eq_by_cmp nat_cmp (f c) (f x)) (has (f c) (map f xs)) (has-map f xs c l)
 ]
 
--- a member whose image is this
+-- a member with this image
 pub record From (f : ℕ → ℕ) (xs : List ℕ) (q : ℕ) : Type 0 where
   pub member : ℕ
   pub there : has member xs ≡ true
@@ -82,11 +82,11 @@ has-from_map f (x ∷ xs) q h = elim (or_cases (eq_by_cmp nat_cmp q (f x)) (has 
   | inr l ↦ let r : From f xs q = has-from_map f xs q l in record { member = r.member; there = has-tail r.member x xs r.there; is = r.is }
 ]
 
--- no two members have one image
+-- no two members have the same image
 abbrev pub Apart : (ℕ → ℕ) → List ℕ → Type 0
 Apart f xs = (c d : ℕ) → has c xs ≡ true → has d xs ≡ true → f c ≡ f d → c ≡ d
 
--- then there are as many images
+-- then the number of images is the number of members
 pub len-map : (f : ℕ → ℕ) (xs : List ℕ) → Apart f xs → len (set_of (map f xs)) ≡ len (set_of xs)
 len-map f [] apart = refl
 len-map f (x ∷ xs) apart =

@@ -1,5 +1,5 @@
 -- SPDX-License-Identifier: Apache-2.0
--- A map with an entry more, and with another value at a slot.
+-- A map after an insertion, and after the value of a slot is replaced.
 use Rattle.std.proofs.Common.{◌≡◌, ◌≢◌, ℕ, ◌+◌, ◌*◌, ◌%◌, ◌^◌, ◌<◌, ◌≤◌, true, false, eqb, cond, List, Option, Some, None, length, map, get_or, set, refl, sym, subst, ap, ◌∙◌, arith, inl, inr}
 use Rattle.std.specs.Prelude.{find}
 use Rattle.std.specs.Option.{option_map}
@@ -67,7 +67,7 @@ module _ (m n : ExceptionMap) (is : IsMap m) (later : IsMap n) (slot value : ℕ
 
 -- ---- an entry more
 
--- a table with an entry more is that of a map
+-- a table with one more entry is that of a map
 pub map_after : (m : ExceptionMap) (t : Table) (c : ℕ) → IsMap m → IsTable t → IsProbed slot_of t.lg_size t.buckets → coupons_of t ≡ insert (coupons_of m.table) c → slot_of c < 2 ^ m.lg_k →
     length (coupons_in t.buckets) ≡ length (coupons_in m.table.buckets) + 1 → t.lg_size ≡ table_size m.lg_k (length (coupons_in m.table.buckets) + 1) → IsMap (record { lg_k = m.lg_k; table = t })
 map_after m t c is table probed members below count size = record {
@@ -83,7 +83,7 @@ map_after m t c is table probed members below count size = record {
   size = size ∙ ap (table_size m.lg_k) (sym count);
 }
 
--- and has its value
+-- the values of a map after an insertion
 pub values_after : (m n : ExceptionMap) (c : ℕ) → IsMap m → IsMap n → coupons_of n.table ≡ insert (coupons_of m.table) c → (s : ℕ) →
     value_in n s ≡ cond (eqb s (slot_of c)) (Some (value_of c)) (value_in m s)
 values_after m n c is later members = by_entries m n is later (slot_of c) (value_of c)
@@ -107,12 +107,12 @@ raw_coupon_of k slot value raw_coupon most within e =
     let is : raw_coupon ≡ pair slot value = e ∙ ap (λ s. pair s value) (mod-eq_of_lt small) in
     record { is = is; slot = ap slot_of is ∙ slot_of-pair slot value small; value = ap value_of is ∙ value_of-pair slot value small }
 
--- of a slot without a value
+-- the coupon belongs to a slot without a value
 pub absent_raw_coupon : (m now : ExceptionMap) (slot value raw_coupon : ℕ) → m ≡ now → IsMap m → IsRawCoupon slot value raw_coupon → value_in now slot ≡ None → IsAbsent slot_of m.table.buckets (slot_of raw_coupon)
 absent_raw_coupon m now slot value raw_coupon same is w none =
     subst (IsAbsent slot_of m.table.buckets) (sym w.slot) (absent_of_value m is slot (ap (λ n. value_in n slot) same ∙ none))
 
--- what an insertion leaves
+-- a map after an insertion
 pub record IsInserted (m : ExceptionMap) (raw_coupon : ℕ) (n : ExceptionMap) : Type 0 where
   pub lg_k : n.lg_k ≡ m.lg_k
   pub map : IsMap n
@@ -126,7 +126,7 @@ module _ (m : ExceptionMap) (is : IsMap m) (slot value raw_coupon : ℕ) (w : Is
   below : slot_of raw_coupon < 2 ^ m.lg_k
   below = omega (arith, w.slot, within)
 
-  -- where the table stays
+  -- an insertion without growth
   pub inserted_fits : (t : Table) → IsTable t → t.lg_size ≡ m.table.lg_size → Puts slot_of m.table.lg_size m.table.buckets raw_coupon t.buckets →
       4 * (length (coupons_in m.table.buckets) + 1) ≤ 3 * 2 ^ m.table.lg_size → IsInserted m raw_coupon (record { lg_k = m.lg_k; table = t })
   inserted_fits t table size puts room =
@@ -142,7 +142,7 @@ module _ (m : ExceptionMap) (is : IsMap m) (slot value raw_coupon : ℕ) (w : Is
         inserts = fits room size puts;
       }
 
-  -- and where it grows
+  -- an insertion with growth
   pub inserted_grows : (t : Table) → IsTable t → IsProbed slot_of t.lg_size t.buckets → coupons_of t ≡ insert (coupons_of m.table) raw_coupon →
       length (coupons_in t.buckets) ≡ length (coupons_in m.table.buckets) + 1 → IsGrownFrom m.table raw_coupon t → 3 * 2 ^ m.table.lg_size < 4 * (length (coupons_in m.table.buckets) + 1) →
       IsInserted m raw_coupon (record { lg_k = m.lg_k; table = t })
@@ -191,7 +191,7 @@ module _ (m : ExceptionMap) (is : IsMap m) (slot value p : ℕ) (within : p < le
           not_zero : (a : ℕ) → a ≢ 0 → eqb a 0 ≡ false
           not_zero a h = differs a 0 h
 
-  -- no bucket has another slot, or is emptied or filled
+  -- no bucket gets another slot, or is emptied or filled
   slot_at : (q : ℕ) → slot_of (get_or (set buckets p c) q 0) ≡ slot_of (get_or buckets q 0)
   slot_at q = elim (cases_eq q p) [
     | inl e ↦ ap (λ r. slot_of (get_or (set buckets p c) r 0)) e ∙ ap slot_of (get_or-set_same buckets p c 0 within) ∙ own ∙ sym at ∙ ap (λ r. slot_of (get_or buckets r 0)) (sym e)

@@ -1,5 +1,5 @@
 -- SPDX-License-Identifier: Apache-2.0
--- Maps of exceptions: their entries, the size of their table, and what a search in it says.
+-- Maps of exceptions: their entries, the size of their table, and what a search in it shows.
 use Rattle.std.proofs.Common.{◌≡◌, ◌≢◌, ◌⊎◌, nat_eq, ℕ, suc, ◌+◌, ◌-◌, ◌*◌, ◌%◌, ◌^◌, ◌<◌, ◌≤◌, Bool, true, false, eqb, leb, cond, List, [], All, Option, Some, None, length, map, get_or, refl, sym, subst, ap, ◌∙◌, arith, inl, inr}
 use Rattle.std.specs.Prelude.{find, unwrap_or, nat_le, IfSome}
 use Rattle.std.specs.List.{range_with_len}
@@ -26,14 +26,14 @@ use Rattle.hll_coupons.proofs.Sought.{Least, least, find_least}
 
 -- ---- entries
 
--- of each element what is said of all
+-- what holds for all elements of a list holds for each
 pub of_all : (P : ℕ → Type 0) (xs : List ℕ) → All P xs → (c : ℕ) → has c xs ≡ true → P c
 of_all P xs all c h = let i = at_index xs c h in subst P i.2 (all i.0 0 i.1)
 
 pub for_all : (P : ℕ → Type 0) (xs : List ℕ) → ((c : ℕ) → has c xs ≡ true → P c) → All P xs
 for_all P xs h = All-from_get_or P xs 0 (λ i l. h (get_or xs i 0) (has-at xs i l))
 
--- no two entries have one slot
+-- no two entries have the same slot
 pub apart_slots : (lg : ℕ) (buckets : List ℕ) → IsProbed slot_of lg buckets → Apart slot_of (coupons_in buckets)
 apart_slots lg buckets t c d hc hd same =
     let a : Stands buckets c = stands buckets c (contains-has (coupons_in buckets) c ∙ hc) in
@@ -66,7 +66,7 @@ entry_found k xs c apart below h = of (find (λ d. eqb (slot_of d % 2 ^ k) (slot
         let r = finds (λ d. eqb (slot_of d % 2 ^ k) (slot_of c)) xs d e in
         ap (λ w. Some (value_of w)) (apart d c r.0 h (sym (mod-eq_of_lt (below d r.0)) ∙ eqb-true (slot_of d % 2 ^ k) (slot_of c) r.1))
 
--- and nothing where no entry has the slot
+-- there is no entry if no entry has the slot
 pub entry_absent : (k : ℕ) (xs : List ℕ) (s : ℕ) → ((d : ℕ) → has d xs ≡ true → slot_of d < 2 ^ k) → ((d : ℕ) → has d xs ≡ true → slot_of d ≡ s → ⊥) → entry_at k xs s ≡ None
 entry_absent k xs s below none = of (find (λ d. eqb (slot_of d % 2 ^ k) s) xs) refl
   where
@@ -85,13 +85,13 @@ slot_below m is = of_all (λ c. slot_of c < 2 ^ m.lg_k) (coupons_in m.table.buck
 pub value_found : (m : ExceptionMap) → IsMap m → (c : ℕ) → has c (coupons_in m.table.buckets) ≡ true → value_in m (slot_of c) ≡ Some (value_of c)
 value_found m is c h = entry_found m.lg_k (coupons_in m.table.buckets) c (apart_slots m.table.lg_size m.table.buckets is.probed) (slot_below m is) h
 
--- an absent slot has none
+-- an absent slot has no value
 pub value_absent : (m : ExceptionMap) → IsMap m → (s : ℕ) → IsAbsent slot_of m.table.buckets s → value_in m s ≡ None
 value_absent m is s none = entry_absent m.lg_k (coupons_in m.table.buckets) s (slot_below m is) (λ d h same.
     let a : Stands m.table.buckets d = stands m.table.buckets d (contains-has (coupons_in m.table.buckets) d ∙ h) in
     none a.bucket a.within a.full (ap slot_of a.is ∙ same))
 
--- and a slot that has none is absent
+-- a slot without a value is absent
 pub absent_of_value : (m : ExceptionMap) → IsMap m → (s : ℕ) → value_in m s ≡ None → IsAbsent slot_of m.table.buckets s
 absent_of_value m is s none p within full same =
     let w : ℕ = get_or m.table.buckets p 0 in
@@ -102,7 +102,7 @@ absent_of_value m is s none p within full same =
 pub differs : (a b : ℕ) → a ≢ b → eqb a b ≡ false
 differs a b h = elim (cases_Bool (eqb a b)) [ inl t ↦ absurd (h (eqb-true a b t)) | inr f ↦ f ]
 
--- where a search ends at an entry, and where it ends at an empty bucket or went through the table
+-- the value if a search ends at an entry; if it ends at an empty bucket or went through the table
 pub value_at_entry : (m : ExceptionMap) → IsMap m → (s p w : ℕ) → EndsAt slot_of m.table.lg_size m.table.buckets s p → get_or m.table.buckets p 0 ≡ w → (w ≡ 0 → ⊥) → value_in m s ≡ Some (value_of w)
 value_at_entry m is s p w ends at full =
     let there : has w (coupons_in m.table.buckets) ≡ true = sym (contains-has (coupons_in m.table.buckets) w) ∙ found_at_bucket m.table.buckets p w (omega (arith, ends.within, is.probed.size)) at (omega (arith, full)) in
@@ -119,7 +119,7 @@ value_at_end m is s p w ends at = elim (cases_eq w 0) [
   | inr full ↦ cond-false (eqb w 0) None (Some (value_of w)) (differs w 0 full) ∙ sym (value_at_entry m is s p w ends at full)
 ]
 
--- a place of a map has no value out of range
+-- no bucket of a map has a value out of range
 pub small_value : (m : ExceptionMap) → IsMap m → (p w : ℕ) → p < length m.table.buckets → get_or m.table.buckets p 0 ≡ w → IfSome (cond (eqb w 0) None (Some (value_of w))) (λ v. (1 ≤ v) × (v ≤ 63))
 small_value m is p w within at = elim (cases_eq w 0) [
   | inl z ↦ subst (λ o. IfSome o (λ v. (1 ≤ v) × (v ≤ 63))) (sym (cond-true (eqb w 0) None (Some (value_of w)) (eq-eqb w 0 z))) (let u : Unit {0} = tt in u)
@@ -179,7 +179,7 @@ start_bounds k most = of (leb k 6) (leb k 9) (leb k 11) (leb k 13) refl
     of false false false true e = (omega arith, omega arith)
     of false false false false e = let above : 13 < k = leb-false k 13 e in (omega arith, omega (arith, most))
 
--- so many entries have one
+-- this size is the least for n entries
 least_size : (k n : ℕ) → k ≤ 21 → n ≤ 2 ^ 21 → IsLeastSize k n (table_size k n)
 least_size k n most few =
     let start = start_bounds k most in
@@ -194,17 +194,17 @@ least_size k n most few =
       least = λ y l u. leb-false (4 * n) (3 * 2 ^ y) (r.before y l u);
     })
 
--- the table of a map has it
+-- the table of a map has the least size
 pub map_size : (m : ExceptionMap) → IsMap m → IsLeastSize m.lg_k (length (coupons_in m.table.buckets)) m.table.lg_size
 map_size m is =
     let few : length (coupons_in m.table.buckets) ≤ 2 ^ 21 = omega (arith, few_entries m is, pow_mono is.high) in
     subst (IsLeastSize m.lg_k (length (coupons_in m.table.buckets))) (sym is.size) (least_size m.lg_k (length (coupons_in m.table.buckets)) is.high few)
 
--- and an empty bucket
+-- the table of a map has an empty bucket
 pub room_in_map : (m : ExceptionMap) → IsMap m → length (coupons_in m.table.buckets) < 2 ^ m.table.lg_size
 room_in_map m is = omega (arith, (map_size m is).room, pow_pos m.table.lg_size)
 
--- it is far from the greatest table
+-- the table is far smaller than the largest table
 pub small_table : (m : ExceptionMap) → IsMap m → m.table.lg_size ≤ 22
 small_table m is = elim (cases_lt m.table.lg_size 23) [
   | inl below ↦ omega (arith, below)
@@ -214,11 +214,11 @@ small_table m is = elim (cases_lt m.table.lg_size 23) [
       absurd (omega (arith, tight, few_entries m is, pow_mono is.high))
 ]
 
--- one entry more, where it fits
+-- the size after one more entry, if it fits
 pub size_kept : (k n q : ℕ) → IsLeastSize k n q → 4 * (n + 1) ≤ 3 * 2 ^ q → table_size k (n + 1) ≡ q
 size_kept k n q h room = table_size_of k (n + 1) q (record { low = h.low; high = h.high; room = room; least = λ y l u. omega (arith, h.least y l u) })
 
--- and where it doesn't
+-- the size after one more entry, if it doesn't fit
 pub size_doubled : (k n q : ℕ) → IsLeastSize k n q → k ≤ 21 → q ≤ 22 → 3 * 2 ^ q < 4 * (n + 1) → table_size k (n + 1) ≡ q + 1
 size_doubled k n q h most small tight =
     let start = start_bounds k most in

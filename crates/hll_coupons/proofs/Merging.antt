@@ -1,5 +1,5 @@
 -- SPDX-License-Identifier: Apache-2.0
--- Two lists that ascend, merged into one.
+-- Merging two ascending lists into one.
 use Rattle.std.proofs.Common.{◌≡◌, ℕ, zero, suc, ◌+◌, ◌-◌, ◌*◌, ◌/◌, ◌<◌, ◌≤◌, Bool, true, false, ◌||◌, cond, nat_eq, List, [], ◌∷◌, ◌++◌, length, take, drop, get_or, refl, sym, ap, subst, ◌∙◌, ◌↔◌, inl, inr, arith, append_assoc}
 use Rattle.std.specs.Cmp.{nat_cmp_total}
 use Rattle.std.specs.Int.{w32, from_le_bytes, to_le_bytes}
@@ -21,7 +21,7 @@ length-raw_coupons (suc n) b = omega (arith, length-raw_coupons n (drop 4 b))
 
 -- ---- without the first
 
--- raw coupons without the first, where that is this one
+-- raw coupons without the first one, if it is this number
 pub raw_coupons_without : (n w : ℕ) (b : List ℕ) → raw_coupons n b ≡ w ∷ drop 1 (raw_coupons n b) → raw_coupons (n - 1) (drop 4 b) ≡ without_first w (raw_coupons n b)
 raw_coupons_without zero w b e = absurd (cc)
 raw_coupons_without (suc n) w b e =
@@ -35,7 +35,7 @@ without_other w (x ∷ xs) other = sym (ap (λ t. cond t xs (x ∷ xs)) (ne_eqb 
 
 -- ---- what ascends
 
--- one more number in front
+-- an increasing list with one more number before it
 pub increasing_more : (a b : ℕ) (xs : List ℕ) → IsStrictlyIncreasing (a ∷ b ∷ xs) ↔ ((a < b) × IsStrictlyIncreasing (b ∷ xs))
 increasing_more a b xs = (λ up. (up 0 (omega arith), λ k within. after up k within), λ parts k within. both parts k within)
   where
@@ -49,14 +49,14 @@ increasing_more a b xs = (λ up. (up 0 (omega arith), λ k within. after up k wi
 one_ascends : (a : ℕ) → IsStrictlyIncreasing (a ∷ [])
 one_ascends a k within = absurd (omega (arith, within))
 
--- a list ascends where its parts do, up to a number that they share
+-- a list ascends if its two parts do, which share a number
 joined : (xs : List ℕ) (w : ℕ) (ys : List ℕ) → IsStrictlyIncreasing (xs ++ w ∷ []) → IsStrictlyIncreasing (w ∷ ys) → IsStrictlyIncreasing (xs ++ w ∷ ys)
 joined [] w ys front rest = rest
 joined (x ∷ []) w ys front rest = (increasing_more x w ys).1 (((increasing_more x w []).0 front).0, rest)
 joined (x ∷ y ∷ xs) w ys front rest =
     let parts = (increasing_more x y (xs ++ w ∷ [])).0 front in (increasing_more x y (xs ++ w ∷ ys)).1 (parts.0, joined (y ∷ xs) w ys parts.1 rest)
 
--- the front up to a number, and what is after the front
+-- the prefix up to a number, and the rest after it
 front_of : (xs : List ℕ) (w : ℕ) (ys : List ℕ) → IsStrictlyIncreasing (xs ++ w ∷ ys) → IsStrictlyIncreasing (xs ++ w ∷ [])
 front_of [] w ys up = one_ascends w
 front_of (x ∷ []) w ys up = (increasing_more x w []).1 (((increasing_more x w ys).0 up).0, one_ascends w)
@@ -67,7 +67,7 @@ rest_of [] w ys up = up
 rest_of (x ∷ []) w ys up = ((increasing_more x w ys).0 up).1
 rest_of (x ∷ y ∷ xs) w ys up = rest_of (y ∷ xs) w ys ((increasing_more x y (xs ++ w ∷ ys)).0 up).1
 
--- a number goes over from the front of one of two lists: the other one ascends after it too
+-- when a number is taken from the start of one of two lists, the other list ascends after it, too
 ascends_after : (xs : List ℕ) (w : ℕ) (ys : List ℕ) → IsStrictlyIncreasing (xs ++ w ∷ []) → ((y : ℕ) (more : List ℕ) → ys ≡ y ∷ more → w ≤ y) → IsStrictlyIncreasing (xs ++ ys)
     → IsStrictlyIncreasing ((xs ++ w ∷ []) ++ without_first w ys)
 ascends_after xs w [] front least up = subst IsStrictlyIncreasing (sym (append-nil (xs ++ w ∷ []))) front
@@ -109,13 +109,13 @@ moved false false l r p s el er some = λ i. el i || er i
 
 -- ---- the merge
 
--- what was taken and what is left ascend, and have the members of both lists
+-- the numbers taken and those left ascend, and have the members of both lists
 pub record MergesRest (xs ys taken left right : List ℕ) : Type 0 where
   pub left_ascends : IsStrictlyIncreasing (taken ++ left)
   pub right_ascends : IsStrictlyIncreasing (taken ++ right)
   pub members : (q : ℕ) → (has taken q || (has left q || has right q)) ≡ (has xs q || has ys q)
 
--- the bytes of what was taken are written
+-- the bytes of the numbers taken are written
 pub record WritesRest (xs ys bytes left right : List ℕ) : Type 0 where
   pub taken : List ℕ
   pub is : bytes ≡ coupon_bytes taken
@@ -154,7 +154,7 @@ module _ (xs ys taken left right : List ℕ) (rest : MergesRest xs ys taken left
           last true = refl
           last false = refl
 
-  -- the same, for what became of them
+  -- this lemma for the values after a step
   merges_next : (w : ℕ) (taken' left' right' : List ℕ) → IsLeastFirst w left right → taken' ≡ taken ++ w ∷ [] → left' ≡ without_first w left → right' ≡ without_first w right
       → MergesRest xs ys taken' left' right'
   merges_next w taken' left' right' least t l r =
@@ -215,6 +215,6 @@ raw_coupons_written_back (suc n) (a ∷ b ∷ c ∷ d ∷ more) there bytes =
     small (suc (suc (suc zero))) = bytes 3
     small (suc (suc (suc (suc i)))) = omega arith
 
--- how many coupons some bytes are
+-- the number of coupons in bytes
 pub count_in_bytes : (bytes order : List ℕ) → bytes ≡ coupon_bytes order → length bytes / 4 ≡ length order
 count_in_bytes bytes order is = omega (arith, ap length is, length-coupon_bytes order)

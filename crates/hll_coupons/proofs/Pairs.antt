@@ -30,7 +30,7 @@ entries_are t is i d l =
       most = pair.small;
     })
 
--- what is said of all entries is said of each value
+-- what holds for all entries holds for each value
 pub of_value : (t : ExceptionMap) → IsMap t → (P : ℕ × ℕ → Type 0) → All P (entries_in t) → (s v : ℕ) → value_in t s ≡ Some v → P (s, v)
 of_value t is P all s v e =
     let cs : List ℕ = coupons_in t.table.buckets in

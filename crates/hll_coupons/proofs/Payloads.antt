@@ -1,5 +1,5 @@
 -- SPDX-License-Identifier: Apache-2.0
--- Payloads of lists and sets on a front of bytes, and their faults.
+-- Payloads of lists and sets at the start of some bytes, and their faults.
 use Rattle.std.proofs.Common.{◌≡◌, ℕ, ◌+◌, ◌*◌, ◌^◌, ◌<◌, ◌≤◌, zero, suc, Bool, cond, List, [], ◌∷◌, ◌++◌, length, get_or, take, drop, All, refl, sym, ap, subst, ◌∙◌, arith}
 use Rattle.std.specs.Int.{w32, from_le_bytes}
 use Rattle.std.proofs.lemmas.Nat.{from_le_bytes-to_le_bytes_4}
@@ -11,7 +11,7 @@ use Rattle.hll_coupons.specs.Table.{coupons_in}
 use Rattle.hll_coupons.specs.Payload.{ListShape, HasListCount, list_buckets, list_coupons, IsListPayload, ListFault, SetShape, set_count, set_buckets, set_coupons, HasSetCount, IsSetPayload, SetFault}
 use Rattle.hll_coupons.specs.Payload as payload
 
--- raw coupons in front of more
+-- raw coupons followed by more bytes
 raw_coupons-append : (n : ℕ) (l t : List ℕ) → 4 * n ≤ length l → raw_coupons n (l ++ t) ≡ raw_coupons n l
 raw_coupons-append zero l t h = refl
 raw_coupons-append (suc n) [] t h = absurd (omega arith)
@@ -44,7 +44,7 @@ module _ (a t b : List ℕ) (e : a ++ t ≡ b) where
   pub front_take : (n : ℕ) → n ≡ length a → a ≡ take n b
   front_take n h = sym (take_at a t n (sym h)) ∙ ap (take n) e
 
--- two fronts of one length are one
+-- two prefixes of the same length are the same
 pub same_fronts : (a b s t : List ℕ) → a ++ s ≡ b ++ t → length a ≡ length b → a ≡ b
 same_fronts a b s t e n = sym (take_at a s (length b) n) ∙ ap (take (length b)) e ∙ take_at b t (length b) refl
 
@@ -67,7 +67,7 @@ list_fault_excludes h a t b r e p (payload.ListFault.short c n) = omega (arith, 
 list_fault_excludes h a t b r e p (payload.ListFault.coupon c l n) = n (subst AreCoupons (front_coupons a t b e h.compact (list_buckets h) 0 (omega (arith, p.size))) p.are_coupons)
 list_fault_excludes h a t b r e p (payload.ListFault.number c l n) = n (ap length (sym (front_coupons a t b e h.compact (list_buckets h) 0 (omega (arith, p.size)))) ∙ p.number)
 
--- the count of a set is read from the front
+-- the count of a set depends only on a prefix
 front_set_count : (h : SetShape) (a t b : List ℕ) → a ++ t ≡ b → IsSetPayload h a → set_count a ≡ set_count b
 front_set_count h a t b e p = front_number a t b e 0 (omega (arith, p.count.whole))
 

@@ -1,5 +1,5 @@
 -- SPDX-License-Identifier: Apache-2.0
--- Worked searches: eight coupons of value 1 in 32 buckets, which all start at bucket 0.
+-- Examples of searches: eight coupons of value 1 in 32 buckets, which all start at bucket 0.
 use Rattle.std.proofs.Common.{◌≡◌, [], ◌∷◌, map, refl}
 use Rattle.hll_coupons.specs.Pair.{pair}
 use Rattle.hll_coupons.specs.Probe.{stride_of, bucket_of}
@@ -8,7 +8,7 @@ use Rattle.hll_coupons.specs.Probe.{stride_of, bucket_of}
 pub strides : map (λ slot. stride_of 5 (pair slot 1)) (0 ∷ 32 ∷ 64 ∷ 96 ∷ 128 ∷ 160 ∷ 192 ∷ 224 ∷ []) ≡ 1 ∷ 1 ∷ 3 ∷ 3 ∷ 5 ∷ 5 ∷ 7 ∷ 7 ∷ []
 strides = refl
 
--- the buckets that each search comes to, the last of them empty when the coupons came in this order
+-- the buckets that each search comes to. The last one is empty if the coupons came in this order
 pub buckets-0 : bucket_of 5 (pair 0 1) 0 ≡ 0
 buckets-0 = refl
 

@@ -1,5 +1,5 @@
 -- SPDX-License-Identifier: Apache-2.0
--- A path with an odd stride meets each bucket of its table once.
+-- A path with an odd stride visits each bucket of its table once.
 use Rattle.std.proofs.Common.{◌≡◌, ℕ, ◌+◌, ◌-◌, ◌*◌, ◌/◌, ◌%◌, ◌^◌, ◌<◌, ◌≤◌, ◌⊎◌, zero, suc, get_or, sym, ap, ◌∙◌, arith, inl, inr}
 use Rattle.std.proofs.lemmas.Bool.{cases_lt}
 use Rattle.std.proofs.lemmas.Nat.{pow_pos}
@@ -13,7 +13,7 @@ use Rattle.hll_coupons.specs.Laws.{MeetsEachBucketOnce}
 upper : (a n : ℕ) → a % 2 ^ suc n ≡ (a / 2 ^ n % 2) * 2 ^ n + a % 2 ^ n
 upper a n = ap (λ m. a % 2 ^ m) (let s : suc n ≡ 1 + n = omega arith in s) ∙ mod-pow-add a 1 n
 
--- an odd multiple of 2^n turns the upper bit
+-- adding an odd multiple of 2^n flips the upper bit
 turned : (a d n : ℕ) → d % 2 ≡ 1 →
     ((a % 2 ^ suc n ≡ a % 2 ^ n) × ((a + 2 ^ n * d) % 2 ^ suc n ≡ 2 ^ n + a % 2 ^ n))
     ⊎ ((a % 2 ^ suc n ≡ 2 ^ n + a % 2 ^ n) × ((a + 2 ^ n * d) % 2 ^ suc n ≡ a % 2 ^ n))
@@ -37,7 +37,7 @@ turned a d n odd =
 twice : (n : ℕ) → 2 ^ suc n ≡ 2 * 2 ^ n
 twice n = omega (arith, pow-suc 2 n)
 
--- a number below 2^(n + 1) is its lower part, or that and 2^n
+-- a number below 2^(n + 1) is its lower part, or its lower part plus 2^n
 parts : (n bucket : ℕ) → bucket < 2 ^ suc n → (bucket ≡ bucket % 2 ^ n) ⊎ (bucket ≡ 2 ^ n + bucket % 2 ^ n)
 parts n bucket h = elim (cases_lt bucket (2 ^ n)) [
   | inl below ↦ inl (sym (mod-eq_of_lt below))
@@ -103,7 +103,7 @@ only start d (suc n) i j odd hi hj e =
       ]
     ]
 
--- the i-th place of a path
+-- the i-th bucket of a path
 pub path_at : (start d n i : ℕ) → i < 2 ^ n → get_or (path start d n) i 0 ≡ (start + i * d) % 2 ^ n
 path_at start d n i h = get_or-map-range_with_len (λ i. (start + i * d) % 2 ^ n) 0 (2 ^ n) i i 0 h (omega arith)
 

@@ -1,5 +1,5 @@
 -- SPDX-License-Identifier: Apache-2.0
--- Entries that are put by a search for their key: what the table then holds.
+-- Entries that are put by a search for their key: the entries of the table afterwards.
 use Rattle.std.proofs.Common.{◌≡◌, ℕ, zero, suc, ◌+◌, ◌^◌, ◌<◌, Bool, true, false, ◌||◌, List, [], ◌∷◌, ◌++◌, All, map, nat_eq, length, get_or, set, refl, sym, subst, ap, ◌∙◌, arith, inl, inr}
 use Rattle.std.specs.List.{list_any}
 use Rattle.std.specs.FinSet.{contains, insert, len, contains-from_list_nat}
@@ -18,7 +18,7 @@ use Rattle.hll_coupons.proofs.Searching.{odd-stride_of, bucket_of-path, bucket_o
 
 -- ---- what buckets hold
 
--- a coupon with which no bucket is filled is not among them
+-- a coupon that no bucket has is not a member
 absent_raw_coupon : (buckets : List ℕ) (q : ℕ) → 0 < q → IsAbsent (λ c. c) buckets q → list_any (λ y. nat_eq y q) buckets ≡ false
 absent_raw_coupon [] q full none = refl
 absent_raw_coupon (p ∷ ps) q full none = first (nat_eq p q) refl (absent_raw_coupon ps q full (λ i h f. none (suc i) (omega arith) f))
@@ -27,17 +27,17 @@ absent_raw_coupon (p ∷ ps) q full none = first (nat_eq p q) refl (absent_raw_c
     first true e rest = absurd (none 0 (omega arith) (λ z. omega (arith, full, z, eqb-true p q e)) (eqb-true p q e))
     first false e rest = rest
 
--- nor is one whose key is absent
+-- an entry whose key is absent is not a member
 pub absent_fresh : (key_of : ℕ → ℕ) (buckets : List ℕ) (c : ℕ) → 0 < c → IsAbsent key_of buckets (key_of c) → contains (set_of (coupons_in buckets)) c ≡ false
 absent_fresh key_of buckets c some none =
     sym (contains-coupons_in buckets c some) ∙ absent_raw_coupon buckets c some (λ p h full is. none p h full (ap key_of is))
 
--- one with which a bucket is filled is
+-- an entry that a bucket has is a member
 pub found_at_bucket : (buckets : List ℕ) (p q : ℕ) → p < length buckets → get_or buckets p 0 ≡ q → 0 < q → contains (set_of (coupons_in buckets)) q ≡ true
 found_at_bucket buckets p q within is full =
     sym (contains-coupons_in buckets q full) ∙ list_any_at (λ y. nat_eq y q) buckets p 0 within (eq-eqb (get_or buckets p 0) q is)
 
--- and each of them stands at a bucket
+-- each member is in a bucket
 pub record Stands (buckets : List ℕ) (q : ℕ) : Type 0 where
   pub bucket : ℕ
   pub within : bucket < length buckets
@@ -64,7 +64,7 @@ all_filled (p ∷ ps) h =
     let some : p ≡ 0 → ⊥ = h 0 (omega arith) in
     coupons_in-full p ps (omega (arith, some)) ∙ ap (λ xs. p ∷ xs) (all_filled ps (λ i l. h (suc i) (omega arith)))
 
--- a table is full where a search went through the whole of it
+-- a table is full if a search went through all of it
 pub full_of_passes : (key_of : ℕ → ℕ) (lg : ℕ) (buckets : List ℕ) (key : ℕ) → length buckets ≡ 2 ^ lg → Passes key_of lg buckets key (2 ^ lg) →
     length (coupons_in buckets) ≡ 2 ^ lg
 full_of_passes key_of lg buckets key size before = ap length (all_filled buckets filled) ∙ size
@@ -76,7 +76,7 @@ full_of_passes key_of lg buckets key size before = ap length (all_filled buckets
 
 -- ---- one entry
 
--- where an entry of an absent key goes
+-- the place of an entry whose key was absent, and the buckets after it is put there
 pub record PutAt (buckets : List ℕ) (entry : ℕ) (new : List ℕ) : Type 0 where
   pub bucket : ℕ
   pub within : bucket < length buckets
@@ -94,14 +94,14 @@ put_at key_of lg buckets c new size none (placed p first empty is) = record {
   is = is;
 }
 
--- one more is held
+-- the number of entries grows by one
 pub length-put : (buckets : List ℕ) (c : ℕ) (new : List ℕ) → 0 < c → PutAt buckets c new → length (coupons_in new) ≡ length (coupons_in buckets) + 1
 length-put buckets c new some put =
     let b : Between buckets put.bucket c = between buckets put.bucket c put.within put.empty some in
     ap (λ xs. length (coupons_in xs)) put.is ∙ ap length b.new ∙ omega (arith, length-append b.before (c ∷ b.after), length-append b.before b.after)
     ∙ ap (λ xs. length xs + 1) (sym b.old)
 
--- the set has it too
+-- the set gets the entry as a member
 pub members-put : (buckets : List ℕ) (c : ℕ) (new : List ℕ) → 0 < c → PutAt buckets c new → set_of (coupons_in new) ≡ insert (set_of (coupons_in buckets)) c
 members-put buckets c new some put =
     let b : Between buckets put.bucket c = between buckets put.bucket c put.within put.empty some in
@@ -115,7 +115,7 @@ undone (x ∷ xs) (suc p) entry z = ap (λ ys. x ∷ ys) (undone xs p entry z)
 
 -- ---- one after the other
 
--- no two have one image: the image of the next is new
+-- if no two elements have the same image, the image of the next one is new
 pub fresh_next : (f : ℕ → ℕ) (ys zs : List ℕ) (c : ℕ) → len (set_of (map f (ys ++ c ∷ zs))) ≡ length (ys ++ c ∷ zs) → contains (set_of (map f ys)) (f c) ≡ false
 fresh_next f ys zs c distinct = elim (cases_Bool (contains (set_of (map f ys)) (f c))) [
   | inr new ↦ new
@@ -128,14 +128,14 @@ fresh_next f ys zs c distinct = elim (cases_Bool (contains (set_of (map f ys)) (
       absurd (omega (arith, distinct, ap len same, len-set_of-le (map f ys ++ map f zs), length-append (map f ys) (map f zs), length-map ys f, length-map zs f, length-append ys (c ∷ zs)))
 ]
 
--- and so absent from a table of those before
+-- so its key is absent from a table of those before
 pub absent_next : (f : ℕ → ℕ) (buckets ys : List ℕ) (c : ℕ) → set_of (coupons_in buckets) ≡ set_of ys → contains (set_of (map f ys)) (f c) ≡ false → IsAbsent f buckets (f c)
 absent_next f buckets ys c members new p within full same =
     let w : ℕ = get_or buckets p 0 in
     let there : has w ys ≡ true = sym (contains-has ys w) ∙ ap (λ S. contains S w) (sym members) ∙ found_at_bucket buckets p w within refl (omega (arith, full)) in
     true≢false (sym (has-map f ys w there) ∙ ap (λ q. has q (map f ys)) same ∙ sym (contains-has (map f ys) (f c)) ∙ new)
 
--- what is said of all is said of the one between two parts
+-- what holds for all elements holds for the one between two parts
 pub last_of_all : {X : Type 0} (P : X → Type 0) (all ys zs : List X) (c : X) → all ≡ ys ++ c ∷ zs → All P all → P c
 last_of_all {X} P all ys zs c e h = subst P (seam ys) (subst (All P) e h (length ys) c (omega (arith, length-append ys (c ∷ zs))))
   where

@@ -37,7 +37,7 @@ next false m b h = next-full m b (λ z. true≢false (sym (h z)))
 
 -- ---- coupons
 
--- a list has no fewer elements than members
+-- a list has at least as many elements as its set has members
 pub len-set_of-le : (xs : List ℕ) → len (set_of xs) ≤ length xs
 len-set_of-le [] = omega (arith, len-empty nat_cmp)
 len-set_of-le (x ∷ xs) =
@@ -46,7 +46,7 @@ len-set_of-le (x ∷ xs) =
     elim (contains (set_of xs) x) as (λ b. cond b (len (set_of xs)) (len (set_of xs) + 1) ≤ len (set_of xs) + 1) [ true ↦ omega arith | false ↦ omega arith ] in
     omega (arith, len-set_of-le xs)
 
--- one without a value is none
+-- a raw coupon without a value is no coupon
 pub no_value : (xs rest : List ℕ) (c : ℕ) → value_of c ≡ 0 → AreCoupons (xs ++ c ∷ rest) → ⊥
 no_value xs rest c none are =
     let at : 1 ≤ value_of (get_or (xs ++ c ∷ rest) (length xs) 0) = are.valued (length xs) 0 (omega (arith, length-append xs (c ∷ rest))) in
@@ -57,7 +57,7 @@ no_value xs rest c none are =
     seam [] = refl
     seam (y ∷ ys) = seam ys
 
--- a raw coupon that stands before is not distinct
+-- a raw coupon that occurred before makes the list not distinct
 pub not_distinct : (xs rest : List ℕ) (c : ℕ) → contains (set_of xs) c ≡ true → len (set_of (xs ++ c ∷ rest)) ≡ length (xs ++ c ∷ rest) → ⊥
 not_distinct xs rest c there distinct =
     let more : contains (set_of (xs ++ rest)) c ≡ true = contains-front xs rest c there in
@@ -69,7 +69,7 @@ not_distinct xs rest c there distinct =
         contains-from_list_nat (xs ++ rest) c ∙ list_any-append (λ y. nat_eq y c) xs rest
         ∙ ap (λ b. b || list_any (λ y. nat_eq y c) rest) (sym (contains-from_list_nat xs c) ∙ h)
 
--- so it is no coupon
+-- so the list is not one of coupons
 pub twice : (xs rest : List ℕ) (c : ℕ) → contains (set_of xs) c ≡ true → AreCoupons (xs ++ c ∷ rest) → ⊥
 twice xs rest c there are = not_distinct xs rest c there are.distinct
 
@@ -89,7 +89,7 @@ AreCoupons-push xs c are valued new = record {
 pub AreCoupons-nil : AreCoupons []
 AreCoupons-nil = record { valued = λ i d l. absurd (omega arith); distinct = len-empty nat_cmp }
 
--- the coupons of all buckets are those that are held, this one, and the rest
+-- the coupons of all buckets are those read so far, this one, and the rest
 pub all_buckets : (compact : Bool) (n i w : ℕ) (b drop4 all order : List ℕ) → i < n → all ≡ order ++ coupons_at compact (n - i) b → w ≡ from_le_bytes w32 b → drop4 ≡ drop 4 b
     → (w ≡ 0 → compact ≡ true) → all ≡ order ++ w ∷ coupons_at compact (n - (i + 1)) drop4
 all_buckets compact n i w b drop4 all order lt is raw_coupon rest filled =
@@ -98,7 +98,7 @@ all_buckets compact n i w b drop4 all order lt is raw_coupon rest filled =
     is ∙ ap (λ k. order ++ coupons_at compact k b) count ∙ ap (λ xs. order ++ xs) (next compact m b (λ z. filled (raw_coupon ∙ z)))
     ∙ (λ j. order ++ sym raw_coupon j ∷ coupons_at compact m (sym rest j))
 
--- an empty bucket is passed over
+-- an empty bucket is skipped
 pub passed_over : (n i w : ℕ) (b drop4 all order : List ℕ) → i < n → all ≡ order ++ coupons_at false (n - i) b → w ≡ from_le_bytes w32 b → drop4 ≡ drop 4 b → w ≡ 0
     → all ≡ order ++ coupons_at false (n - (i + 1)) drop4
 passed_over n i w b drop4 all order lt is raw_coupon rest zero' =
@@ -109,7 +109,7 @@ passed_over n i w b drop4 all order lt is raw_coupon rest zero' =
 
 -- ---- a list
 
--- no more buckets than there are
+-- there are no more buckets to read than the table has
 pub list_buckets-le : (h : ListShape) → HasListCount h → list_buckets h ≤ 2 ^ h.lg_size
 list_buckets-le h few = of h.empty h.compact
   where
@@ -118,7 +118,7 @@ list_buckets-le h few = of h.empty h.compact
     of false true = few.low
     of false false = omega arith
 
--- the coupons are read from the bytes of the buckets alone
+-- the coupons depend only on the bytes of the buckets
 pub list_coupons-front : (h : ListShape) (b : List ℕ) → 4 * list_buckets h ≤ length b → list_coupons h (take (4 * list_buckets h) b) ≡ list_coupons h b
 list_coupons-front h b there =
     front_coupons (take (4 * list_buckets h) b) (drop (4 * list_buckets h) b) b (take-append-drop (4 * list_buckets h) b) h.compact (list_buckets h) 0 (omega (arith, length-take (4 * list_buckets h) b))
@@ -140,6 +140,6 @@ coupons_in-coupons (x ∷ xs) v = coupons_in-full x xs (positive x (v 0 0 (omega
     positive zero h = absurd (omega (arith, h))
     positive (suc n) h = omega arith
 
--- the table that is read holds the coupons in their order
+-- the table that is read has the coupons in their order
 pub coupons_in-list_table : (h : ListShape) (b : List ℕ) → AreCoupons (list_coupons h b) → coupons_in (list_table h b).buckets ≡ list_coupons h b
 coupons_in-list_table h b are = coupons_in-front (list_coupons h b) (2 ^ h.lg_size - length (list_coupons h b)) ∙ coupons_in-coupons (list_coupons h b) are.valued

@@ -74,13 +74,13 @@ value_at_cases e s c = elim (cases_Bool (eqb (slot_of c % 2 ^ e) s)) [
 pub folds_again : (n k e : ℕ) → e ≤ k → n % 2 ^ k % 2 ^ e ≡ n % 2 ^ e
 folds_again n k e h = ap (λ m. n % 2 ^ m % 2 ^ e) (let s : k ≡ k - e + e = omega arith in s) ∙ mod-mod-pow n (k - e) e
 
--- a slot of registers fits a coupon
+-- the slot of a register is small enough for a coupon
 pub slot_small : (k s : ℕ) → k ≤ 21 → s < 2 ^ k → s < 2 ^ 26
 slot_small k s h l = omega (arith, pow_below k 26 (omega arith))
 
 -- ---- the laws
 
--- a slot of the larger fold has no more than the slot that it folds to
+-- a slot of the larger fold has at most the value of the slot that it folds to
 finer_le : (P : Pairs) (k e i s : ℕ) → e ≤ k → i % 2 ^ e ≡ s → greatest (value_at k i) (items P) ≤ greatest (value_at e s) (items P)
 finer_le P k e i s le to_s = bounded (value_at k i) _ P (λ c e'. elim (value_at_cases k i c) [
   | inl z ↦ omega arith
@@ -91,7 +91,7 @@ finer_le P k e i s le to_s = bounded (value_at k i) _ P (λ c e'. elim (value_at
       omega (arith, h.1)
 ])
 
--- what the pairs of a fold give at a slot is what the set gives there
+-- the pairs of a fold have the same greatest value at a slot as the set
 greatest-pairs-fold_to : (P : Pairs) (k e s : ℕ) → e ≤ k → k ≤ 21 → greatest (value_at e s) (items (pairs (fold_to P k))) ≡ greatest (value_at e s) (items P)
 greatest-pairs-fold_to P k e s le small =
     let whole : ℕ = greatest (value_at e s) (items P) in

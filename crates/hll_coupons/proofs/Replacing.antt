@@ -1,5 +1,5 @@
 -- SPDX-License-Identifier: Apache-2.0
--- A table in which the coupon of a filled bucket is another one.
+-- A table in which the coupon of a filled bucket is replaced by another.
 use Rattle.std.proofs.Common.{◌≡◌, ◌≢◌, ℕ, zero, suc, ◌+◌, ◌^◌, ◌<◌, ◌≤◌, true, false, cond, List, [], ◌∷◌, ◌++◌, length, get_or, set, refl, sym, subst, ap, ◌∙◌, arith, inl, inr}
 use Rattle.std.specs.Cmp.{nat_cmp_total}
 use Rattle.std.specs.FinSet.{contains, insert, len, len-insert}
@@ -24,7 +24,7 @@ module _ (t : Table) (p : ℕ) (table : IsTable t) (inside : p < 2 ^ t.lg_size) 
   abbrev w : ℕ
   w = get_or t.buckets p 0
 
-  -- the table without the coupon of the place
+  -- the table without the coupon of the bucket
   abbrev emptied : Table
   emptied = record { lg_size = t.lg_size; buckets = set t.buckets p 0 }
 
@@ -40,7 +40,7 @@ module _ (t : Table) (p : ℕ) (table : IsTable t) (inside : p < 2 ^ t.lg_size) 
   parts : Between emptied.buckets p w
   parts = between emptied.buckets p w (omega (arith, within, length-set t.buckets p 0)) empty (omega (arith, full))
 
-  -- what it holds stands at another place of the table
+  -- each of its coupons is in another bucket of the table
   kept : (c : ℕ) → contains (coupons_of emptied) c ≡ true → (q : ℕ) × (q < length t.buckets) × (q ≢ p) × (get_or t.buckets q 0 ≡ c) × (c ≢ 0)
   kept c h =
       let s : Stands emptied.buckets c = stands emptied.buckets c h in
@@ -79,7 +79,7 @@ module _ (t : Table) (p : ℕ) (table : IsTable t) (inside : p < 2 ^ t.lg_size) 
         (sym (contains-has (coupons_in t.buckets) c) ∙ found_at_bucket t.buckets k.0 c k.1 k.3 (omega (arith, k.4))));
   }
 
-  -- another coupon in its place
+  -- another coupon in this bucket
   pub IsTable-replace : (c : ℕ) → IsPair c → 0 < c → ((q : ℕ) → q < length t.buckets → q ≢ p → get_or t.buckets q 0 ≢ c) →
       IsTable (record { lg_size = t.lg_size; buckets = set t.buckets p c }) × (length (coupons_in (set t.buckets p c)) ≡ length (coupons_in t.buckets))
   IsTable-replace c pair some others =

@@ -1,5 +1,5 @@
 -- SPDX-License-Identifier: Apache-2.0
--- Searches by a key along their paths: what they find, and what an entry more leaves to be found.
+-- Searches by a key along their paths: what they find, and that entries are still found after another is put.
 use Rattle.std.proofs.Common.{◌≡◌, ℕ, ◌+◌, ◌*◌, ◌/◌, ◌%◌, ◌^◌, ◌<◌, List, [], ◌∷◌, ◌++◌, length, get_or, set, refl, sym, ap, ◌∙◌, subst, arith, inl, inr}
 use Rattle.std.specs.Prelude.{bit_or}
 use Rattle.std.proofs.lemmas.Bool.{cases_lt, cases_eq, cases_order}
@@ -22,7 +22,7 @@ odd_cases n = elim (cases_lt (n % 2) 1) [
 pub odd-stride_of : (lg key : ℕ) → stride_of lg key % 2 ≡ 1
 odd-stride_of lg key = or_mod (slot_of key / 2 ^ lg) 1 1 ∙ odd_cases (slot_of key / 2 ^ lg)
 
--- the place of a path in numbers
+-- the i-th bucket of a path, as a number
 pub bucket_of-path : (lg key i : ℕ) → i < 2 ^ lg → bucket_of lg key i ≡ (key + i * stride_of lg key) % 2 ^ lg
 bucket_of-path lg key i h = path_at key (stride_of lg key) lg i h
 
@@ -105,7 +105,7 @@ IsProbed-empty key_of lg = record {
   found = λ p h full. absurd (full (get_or-replicate (2 ^ lg) p 0 0 (omega (arith, h, length-replicate {A = ℕ} (2 ^ lg) 0))));
 }
 
--- and still after one was put
+-- each entry is still found after one was put
 pub IsProbed-puts : (key_of : ℕ → ℕ) (lg : ℕ) (buckets : List ℕ) (entry : ℕ) (new : List ℕ) → IsProbed key_of lg buckets → (entry ≡ 0 → ⊥) →
     Puts key_of lg buckets entry new → IsProbed key_of lg new
 IsProbed-puts key_of lg buckets entry new t filled (present p first full same is) = subst (IsProbed key_of lg) (sym is) t

@@ -52,14 +52,14 @@ read_none compact buckets t cursor small none there =
 
 module _ (compact : Bool) (buckets counter lg : ℕ) (all before : List ℕ) (t : Table) (cursor : List ℕ) (so : ReadSoFar compact buckets counter lg all before t cursor) (left : counter < buckets)
     (w : ℕ) (rest : List ℕ) (is : w ≡ from_le_bytes w32 cursor) (rest_is : rest ≡ drop 4 cursor) where
-  -- the set has no more coupons than buckets were read
+  -- the set has at most as many coupons as buckets were read
   pub few_in : length (coupons_in t.buckets) ≤ counter
   few_in = omega (arith, so.few, so.are.distinct, so.set.table.distinct, ap len so.members)
 
   less : 4 * (buckets - (counter + 1)) ≤ length rest
   less = omega (arith, so.room, ap length rest_is, length-drop 4 cursor, left)
 
-  -- an empty bucket is passed over
+  -- an empty bucket is skipped
   pub read_over : w ≡ 0 → compact ≡ false → ReadSoFar compact buckets (counter + 1) lg all before t rest
   read_over zero' loose =
       let P : Bool → Type 0 = λ b. all ≡ so.order ++ coupons_at b (buckets - counter) cursor in
@@ -119,7 +119,7 @@ module _ (compact : Bool) (buckets counter : ℕ) (all order cursor : List ℕ) 
   fewer : 4 * (buckets - (counter + 1)) ≤ length rest
   fewer = omega (arith, so.room, ap length rest_is, length-drop 4 cursor, left)
 
-  -- an empty bucket is passed over
+  -- an empty bucket is skipped
   pub copied_over : w ≡ 0 → compact ≡ false → CopiedSoFar compact buckets (counter + 1) all order rest
   copied_over zero' loose =
       let P : Bool → Type 0 = λ b. all ≡ order ++ coupons_at b (buckets - counter) cursor in
@@ -135,7 +135,7 @@ module _ (compact : Bool) (buckets counter : ℕ) (all order cursor : List ℕ) 
   pub copied_raw_coupon : (w ≡ 0 → compact ≡ true) → all ≡ order ++ w ∷ coupons_at compact (buckets - (counter + 1)) rest
   copied_raw_coupon filled = all_buckets compact buckets counter w cursor rest all order left so.read is rest_is filled
 
-  -- one more
+  -- one more coupon
   pub copied_more : (w ≡ 0 → compact ≡ true) → IsPair w → (new : List ℕ) → new ≡ order ++ w ∷ [] → CopiedSoFar compact buckets (counter + 1) all new rest
   copied_more filled pair new grown = record {
     read = copied_raw_coupon filled ∙ sym (append_assoc order (w ∷ []) (coupons_at compact (buckets - (counter + 1)) rest)) ∙ ap (λ xs. xs ++ coupons_at compact (buckets - (counter + 1)) rest) (sym grown);
@@ -156,7 +156,7 @@ copied_all compact buckets counter all order cursor so done =
 
 -- ---- the whole
 
--- no more buckets than the table has
+-- there are no more buckets to read than the table has
 pub set_buckets-le : (h : SetShape) (b : List ℕ) → HasSetCount h b → set_buckets h b ≤ 2 ^ h.lg_size
 set_buckets-le h b few = of h.compact
   where
@@ -164,7 +164,7 @@ set_buckets-le h b few = of h.compact
     of true = omega (arith, few.low)
     of false = omega arith
 
--- the front of the bytes is the payload
+-- a prefix of the bytes is the payload
 pub is_set_payload : (h : SetShape) (b : List ℕ) → HasSetCount h b → 4 + 4 * set_buckets h b ≤ length b → AreCoupons (set_coupons h b) → length (set_coupons h b) ≡ set_count b →
     IsSetPayload h (take (4 + 4 * set_buckets h b) b)
 is_set_payload h b few there are number =
@@ -183,7 +183,7 @@ is_set_payload h b few there are number =
       number = ap length coupons ∙ number ∙ sym count;
     }
 
--- what is known once the buckets were read
+-- what holds after the buckets were read
 pub record IsRead (h : SetShape) (b : List ℕ) (t : Table) : Type 0 where
   pub are : AreCoupons (set_coupons h b)
   pub table : IsSetTable h b t
@@ -204,7 +204,7 @@ is_read h b start t n rest empty size n_is rest_is puts are members distinct =
       number = sym distinct ∙ ap len (members ∙ ap set_of same) ∙ here.distinct;
     }
 
--- a copy of the coupons, as a table is filled with it
+-- a copy of the coupons that a table is filled with
 pub record IsCopy (compact : Bool) (buckets : ℕ) (cursor copy : List ℕ) : Type 0 where
   pub all : coupons_in copy ≡ coupons_at compact buckets cursor
   pub pairs : All IsPair (coupons_in copy)

@@ -1,5 +1,5 @@
 -- SPDX-License-Identifier: Apache-2.0
--- Sets of coupons: what a search by raw coupons says of them.
+-- Sets of coupons: what a search by raw coupons shows.
 use Rattle.std.proofs.Common.{◌≡◌, ◌≢◌, ◌↔◌, ℕ, zero, suc, ◌^◌, ◌<◌, Bool, true, false, not, List, length, get_or, set, refl, sym, ap, ◌∙◌, arith, inl, inr}
 use Rattle.std.specs.FinSet.{contains, insert}
 use Rattle.std.proofs.lemmas.Bool.{cases_Bool, true≢false}
@@ -27,7 +27,7 @@ end_of t raw_coupon bucket entry lg key ps size lg_is ps_are key_is found seen =
     record { ends = ends; read = read_at ps t.buckets bucket entry ps_are (omega (arith, ends.within, size)) seen }
 
 module _ (t : Table) (raw_coupon : ℕ) (p : IsProbed (λ c. c) t.lg_size t.buckets) where
-  -- one that went through a full table found nothing
+  -- a search through a full table found nothing
   pub lacking_full : Passes (λ c. c) t.lg_size t.buckets raw_coupon (2 ^ t.lg_size) → contains (coupons_of t) raw_coupon ≡ false
   lacking_full passes = lacking t.buckets raw_coupon (absent_from_full (λ c. c) t.lg_size t.buckets raw_coupon p.size passes)
 
@@ -38,14 +38,14 @@ module _ (t : Table) (raw_coupon : ℕ) (p : IsProbed (λ c. c) t.lg_size t.buck
         let same : get_or t.buckets bucket 0 ≡ raw_coupon = is.ends.same (λ z. full (sym is.read ∙ z)) in
         found_at_bucket t.buckets bucket raw_coupon (omega (arith, is.ends.within, p.size)) same (omega (arith, full, is.read, same))
 
-    -- and leaves it
+    -- a search that found the coupon leaves the table as it is
     pub puts_found : entry ≢ 0 → Puts (λ c. c) t.lg_size t.buckets raw_coupon t.buckets
     puts_found full = present bucket is.ends.first (λ z. full (sym is.read ∙ z)) (is.ends.same (λ z. full (sym is.read ∙ z))) refl
 
     pub insert_found : entry ≢ 0 → coupons_of t ≡ insert (coupons_of t) raw_coupon
     insert_found full = sym (insert-member (coupons_of t) raw_coupon (found_end full))
 
-    -- one that ends at an empty bucket shows that the coupon is lacking
+    -- a search that ends at an empty bucket shows that the coupon is absent
     pub lacking_end : entry ≡ 0 → contains (coupons_of t) raw_coupon ≡ false
     lacking_end empty =
         lacking t.buckets raw_coupon (absent_at_empty (λ c. c) t.lg_size t.buckets raw_coupon is.ends.first.index p is.ends.first.passes (ap (λ q. get_or t.buckets q 0) is.ends.first.at ∙ is.read ∙ empty))
@@ -57,7 +57,7 @@ module _ (t : Table) (raw_coupon : ℕ) (p : IsProbed (λ c. c) t.lg_size t.buck
       | inr full ↦ full ∙ ap not (sym (found_end (λ z. true≢false (sym (test.1 z) ∙ full))))
     ]
 
-    -- where it is put
+    -- the coupon is put into the empty bucket
     pub puts_end : entry ≡ 0 → Puts (λ c. c) t.lg_size t.buckets raw_coupon (set t.buckets bucket raw_coupon)
     puts_end empty = placed bucket is.ends.first (is.read ∙ empty) refl
 

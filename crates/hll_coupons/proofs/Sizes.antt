@@ -1,5 +1,5 @@
 -- SPDX-License-Identifier: Apache-2.0
--- Sets of one size: if one is a part of the other they are equal.
+-- Sets of the same size are equal if one is a subset of the other.
 use Rattle.std.proofs.Common.{◌≡◌, ℕ, ◌+◌, ◌-◌, ◌≤◌, Bool, true, false, cond, not, ◌&&◌, ◌||◌, List, [], ◌∷◌, refl, sym, ap, ◌∙◌, arith, inl, inr}
 use Rattle.std.specs.Ordering.{nat_cmp, eq_by_cmp}
 use Rattle.std.specs.Cmp.{nat_cmp_total, unsigned_tied}
@@ -27,7 +27,7 @@ kept_in S c q h other = contains-remove nat_cmp_total S c q ∙ decide (eq_by_cm
     decide true e = absurd (other (eqb-true q c (sym (unsigned_tied q c) ∙ e)))
     decide false e = h
 
--- a part has no more members
+-- a subset has no more members
 pub len-part : (xs : List ℕ) (S : Pairs) → ((q : ℕ) → contains (set_of xs) q ≡ true → contains S q ≡ true) → len (set_of xs) ≤ len S
 len-part [] S h = omega (arith, len-empty nat_cmp)
 len-part (x ∷ xs) S h = elim (cases_Bool (contains (set_of xs) x)) [
@@ -42,7 +42,7 @@ len-part (x ∷ xs) S h = elim (cases_Bool (contains (set_of xs) x)) [
       omega (arith, longer, shorter, some, rest)
 ]
 
--- so a part of as many members is the whole
+-- a subset with the same number of members is the whole set
 part_of_same : (xs : List ℕ) (S : Pairs) → len (set_of xs) ≡ len S → is_subset (set_of xs) S ≡ true → is_subset S (set_of xs) ≡ true
 part_of_same xs S same part = contains-is_subset nat_cmp_total S (set_of xs) (λ q h. elim (cases_Bool (contains (set_of xs) q)) [
   | inl found ↦ found
@@ -59,7 +59,7 @@ part_of_same xs S same part = contains-is_subset nat_cmp_total S (set_of xs) (λ
         decide true f u = ap (contains S) (eqb-true r q (sym (unsigned_tied r q) ∙ f)) ∙ h
         decide false f u = is_subset-contains nat_cmp_total (set_of xs) S part r u
 
--- tables of as many coupons have the same where one is a part of the other
+-- tables with the same number of coupons have the same coupons if those of one are a subset
 pub same-part : (t u : Table) → len (coupons_of t) ≡ len (coupons_of u) → is_subset (coupons_of t) (coupons_of u) ≡ have_same_coupons t u
 same-part t u same = decide (is_subset (coupons_of t) (coupons_of u)) refl
   where
@@ -67,7 +67,7 @@ same-part t u same = decide (is_subset (coupons_of t) (coupons_of u)) refl
     decide true e = sym (part_of_same _ (coupons_of u) same e)
     decide false e = refl
 
--- and never where there are not as many
+-- tables with different numbers of coupons never do
 pub other-sizes : (t u : Table) → (len (coupons_of t) ≡ len (coupons_of u) → ⊥) → have_same_coupons t u ≡ false
 other-sizes t u other = decide (have_same_coupons t u) refl
   where

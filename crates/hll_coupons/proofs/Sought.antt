@@ -14,7 +14,7 @@ find_least f a (suc c) q low high before here = elim (cases_eq a q) [
       ∙ find_least f (a + 1) c q (omega (arith, other)) (omega arith) (λ y l h. before y (omega arith) h) here
 ]
 
--- what a search finds
+-- the result of a search
 pub record Least (f : ℕ → Bool) (a c : ℕ) : Type 0 where
   pub at : ℕ
   pub low : a ≤ at
@@ -23,7 +23,7 @@ pub record Least (f : ℕ → Bool) (a c : ℕ) : Type 0 where
   pub before : (y : ℕ) → a ≤ y → y < at → f y ≡ false
   pub found : find f (range_with_len a c) ≡ Some at
 
--- there is one where some number passes
+-- there is a least number if some number passes
 pub least : (f : ℕ → Bool) (a c q : ℕ) → a ≤ q → q < a + c → f q ≡ true → Least f a c
 least f a zero q low high here = absurd (omega arith)
 least f a (suc c) q low high here = elim (cases_Bool (f a)) [

@@ -1,5 +1,5 @@
 -- SPDX-License-Identifier: Apache-2.0
--- Tables: empty, with a coupon put, and filled from the front.
+-- Tables: an empty one, after a coupon is put, and filled from the first bucket on.
 use Rattle.std.proofs.Common.{◌≡◌, ℕ, ◌+◌, ◌-◌, ◌<◌, ◌≤◌, ◌^◌, true, false, Bool, cond, List, nat_lt, [], ◌∷◌, ◌++◌, length, replicate, get_or, sym, ◌∙◌, ap, subst, arith, All, length-append}
 use Rattle.std.proofs.Math.ListN.{set}
 use Rattle.std.proofs.Math.Pow.{pow_mono}
@@ -13,7 +13,7 @@ use Rattle.hll_coupons.specs.Table.{Table, coupons_in, coupons_of, IsTable, empt
 use Rattle.hll_coupons.proofs.Buckets.{coupons_in-replicate, length-coupons_in, Between, between, set-front, coupons_in-front, coupons_in-full, coupons_in-coupons_in}
 use Rattle.hll_coupons.proofs.Members.{len-between}
 
--- no more is held than a table has buckets
+-- there are no more coupons than buckets
 pub length-coupons_in-table : (t : Table) → IsTable t → length (coupons_in t.buckets) ≤ 2 ^ t.lg_size
 length-coupons_in-table t table = omega (arith, length-coupons_in t.buckets, table.size)
 
@@ -41,7 +41,7 @@ length-between xs ys c = omega (arith, length-append xs (c ∷ ys), length-appen
 pub full_of_valued : (c : ℕ) → 1 ≤ value_of c → 0 < c
 full_of_valued c h = omega arith
 
--- a new coupon in an empty bucket: one more is held, and the table stays one
+-- a new coupon in an empty bucket adds one coupon, and the table is still legal
 pub IsTable-put : (t : Table) (i c : ℕ) → IsTable t → i < 2 ^ t.lg_size → get_or t.buckets i 0 ≡ 0 → IsPair c → contains (coupons_of t) c ≡ false
     → IsTable (record { lg_size = t.lg_size; buckets = set t.buckets i c }) × (length (coupons_in (set t.buckets i c)) ≡ length (coupons_in t.buckets) + 1)
 IsTable-put t i c table inside empty pair fresh =
@@ -63,16 +63,16 @@ IsTable-put t i c table inside empty pair fresh =
       more,
     )
 
--- a front holds its coupons in their order
+-- the coupons of a table filled from the first bucket on, in their order
 pub coupons_in-filled_from_front : (lg_size : ℕ) (order : List ℕ) → coupons_in order ≡ order → coupons_in (filled_from_front lg_size order).buckets ≡ order
 coupons_in-filled_from_front lg_size order kept = coupons_in-front order (2 ^ lg_size - length order) ∙ kept
 
--- so it is filled from the front
+-- so this table is filled from the first bucket on
 pub IsFilledFromFront-front : (lg_size : ℕ) (order : List ℕ) → coupons_in order ≡ order → IsFilledFromFront (filled_from_front lg_size order)
 IsFilledFromFront-front lg_size order kept =
     ap (λ xs. (filled_from_front lg_size xs).buckets) (sym (coupons_in-filled_from_front lg_size order kept))
 
--- and an empty table is
+-- an empty table is, too
 pub IsFilledFromFront-empty : (lg_size : ℕ) → IsFilledFromFront (empty_table lg_size)
 IsFilledFromFront-empty lg_size = rw coupons_in-replicate (ap (λ n. replicate n 0) (omega arith))
 
@@ -80,7 +80,7 @@ coupons_in-push : (xs : List ℕ) (c : ℕ) → coupons_in xs ≡ xs → 0 < c �
 coupons_in-push xs c kept full =
     filter-append (λ x. nat_lt 0 x) xs (c ∷ []) ∙ ap (λ ys. ys ++ coupons_in (c ∷ [])) kept ∙ ap (λ ys. xs ++ ys) (coupons_in-full c [] full)
 
--- a coupon that arrives is held with the others
+-- an arriving coupon is one of the coupons
 pub coupons_in-coupons_with : (buckets : List ℕ) (c : ℕ) → 0 < c → coupons_in (coupons_with (coupons_in buckets) c) ≡ coupons_with (coupons_in buckets) c
 coupons_in-coupons_with buckets c full = decide (contains (set_of (coupons_in buckets)) c)
   where
@@ -88,14 +88,14 @@ coupons_in-coupons_with buckets c full = decide (contains (set_of (coupons_in bu
     decide true = coupons_in-coupons_in buckets
     decide false = coupons_in-push (coupons_in buckets) c (coupons_in-coupons_in buckets) full
 
--- a coupon that is put after a front
+-- a coupon that is put after a prefix
 set-order : (order buckets : List ℕ) (n c : ℕ) → buckets ≡ order ++ replicate (n - length order) 0 → length order < n
     → set buckets (length order) c ≡ (order ++ c ∷ []) ++ replicate (n - length (order ++ c ∷ [])) 0
 set-order order buckets n c front room =
     let fewer : n - length order - 1 ≡ n - length (order ++ c ∷ []) = omega (arith, length-append order (c ∷ [])) in
     ap (λ ps. set ps (length order) c) front ∙ set-front order (n - length order) c (omega arith) ∙ ap (λ m. (order ++ c ∷ []) ++ replicate m 0) fewer
 
--- so what a list's table is after a new coupon
+-- so the table of a list after a new coupon
 pub buckets-put : (t : Table) (c : ℕ) → IsFilledFromFront t → contains (coupons_of t) c ≡ false → length (coupons_in t.buckets) < 2 ^ t.lg_size
     → record { lg_size = t.lg_size; buckets = set t.buckets (length (coupons_in t.buckets)) c } ≡ filled_from_front t.lg_size (coupons_with (coupons_in t.buckets) c)
 buckets-put t c front fresh room =

@@ -53,7 +53,7 @@ len_union_le S T =
     let is : with_all S (items T) ≡ union S T = same_members _ _ (λ q. contains-with_all S (items T) q ∙ ap (λ b. contains S q || b) (sym (contains-items T q)) ∙ sym (contains_union S T q)) in
     omega (arith, len_with_all_le S (items T), ap len is)
 
--- a pair and then others is all of them
+-- a first pair and others are the set of all
 pub from_list_cons : (c : ℕ) (cs : List ℕ) → from_list {R = nat_cmp} (c ∷ cs) ≡ union (from_list {R = nat_cmp} (c ∷ [])) (from_list {R = nat_cmp} cs)
 from_list_cons c cs = same_members _ _ (λ q.
     contains-from_list nat_cmp_total (c ∷ cs) q
@@ -90,7 +90,7 @@ or-false-last true false = refl
 or-false-last false true = refl
 or-false-last false false = refl
 
--- one coupon more is a union with it
+-- inserting a coupon is a union with it
 pub insert-union : (S : Pairs) (c : ℕ) → insert S c ≡ union S (set_of (c ∷ []))
 insert-union S c = same_members (insert S c) (union S (set_of (c ∷ []))) (λ q.
     contains-insert nat_cmp_total S c q ∙ or-false-last (contains S q) (eq_by_cmp nat_cmp q c)

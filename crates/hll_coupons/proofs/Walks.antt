@@ -12,11 +12,11 @@ module _ (key_of : ℕ → ℕ) (lg key steps bucket here : ℕ) (buckets : List
   below : bucket < 2 ^ lg
   below = omega (arith, at, mod_below (key + steps * stride_of lg key) (2 ^ lg) (pow_pos lg))
 
-  -- what was read at a place of the path
+  -- the entry that was read in this bucket of the path
   read : get_or buckets bucket 0 ≡ here
   read = get_or_default buckets bucket 0 here (omega (arith, below, size)) ∙ sym is
 
-  -- it ends there
+  -- the search ends here
   pub ends_here : (here ≡ 0) ⊎ (key_of here ≡ key) → EndsAt key_of lg buckets key bucket
   ends_here end = record {
     first = record { index = steps; within = within; at = bucket_of-path lg key steps within ∙ sym at; passes = passes };
@@ -24,7 +24,7 @@ module _ (key_of : ℕ → ℕ) (lg key steps bucket here : ℕ) (buckets : List
     same = λ full. elim end [ inl z ↦ absurd (full (read ∙ z)) | inr e ↦ ap key_of read ∙ e ];
   }
 
-  -- it goes on
+  -- the search goes on
   pub passes_more : (here ≡ 0 → ⊥) → (key_of here ≡ key → ⊥) → Passes key_of lg buckets key (steps + 1)
   passes_more full other =
       let entry : get_or buckets (bucket_of lg key steps) 0 ≡ here = ap (λ p. get_or buckets p 0) (bucket_of-path lg key steps within ∙ sym at) ∙ read in

@@ -4,6 +4,6 @@ use Rattle.std.specs.FinSet.{len, union}
 use Rattle.hll_coupons.specs.Pair.{set_of}
 use Rattle.hll_coupons.proofs.additions.count_of_both.Given as goal
 
--- those of the set, and the coupons so far
+-- the count of the set's coupons together with the coupons so far
 abbrev pub invariant-loop-coupon : goal.invariant-loop-coupon
 invariant-loop-coupon g l = l.count ≡ len (union (set_of l.own) (set_of l.yielded))

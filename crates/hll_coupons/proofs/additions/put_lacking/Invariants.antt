@@ -7,7 +7,7 @@ use Rattle.hll_coupons.specs.Pair.{set_of}
 use Rattle.hll_coupons.specs.Table.{coupons_of}
 use Rattle.hll_coupons.proofs.additions.put_lacking.Given as goal
 
--- those so far that it lacked are put
+-- those of the coupons so far that the table lacked are put
 abbrev pub invariant-loop-coupon : goal.invariant-loop-coupon
 invariant-loop-coupon g l = record {
   size : l.table.lg_size ≡ l.initial.table.lg_size;

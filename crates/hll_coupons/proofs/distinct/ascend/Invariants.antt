@@ -2,7 +2,7 @@
 use Rattle.std.proofs.Common.{ℕ, ◌+◌, ◌<◌, ◌≤◌, get_or}
 use Rattle.hll_coupons.proofs.distinct.ascend.Given as goal
 
--- each so far is below the next
+-- each coupon so far is less than the next
 abbrev pub invariant-loop-i : goal.invariant-loop-i
 invariant-loop-i l = record {
   first : 1 ≤ l.i;

@@ -30,7 +30,7 @@ loop-entry-init g c =
       cycles = c.new-searches.ensures t.lg_size t.buckets;
     }
 
--- what is known of the next entry
+-- what holds for the next entry
 record Next (key : ℕ → ℕ) (all yielded rest buckets : List ℕ) (entry : ℕ) : Type 0 where
   pair : IsPair entry
   absent : IsAbsent key buckets (key entry)
@@ -82,7 +82,7 @@ loop-entry-preserved g c =
       cycles = c.in_ok-put_absent.ensures.cycles;
     }
 
--- all were put
+-- all entries were put
 whole : (all start left yielded : List ℕ) → start ≡ all → Yields (YieldsFirst (λ r. r)) start yielded left → left ≡ [] → all ≡ yielded
 whole all start left yielded e y done = given all start left [] yielded e y done ∙ append-nil yielded
 

@@ -30,7 +30,7 @@ loop-entry-init g c =
       table = subst IsTable (sym c.requires.none) (IsTable-empty t.lg_size c.requires.small);
     }
 
--- what is known of the next entry
+-- what holds for the next entry
 record Next (key : ℕ → ℕ) (all yielded rest buckets : List ℕ) (entry : ℕ) : Type 0 where
   pair : IsPair entry
   absent : IsAbsent key buckets (key entry)
@@ -76,7 +76,7 @@ loop-entry-preserved g c =
       table = c.put_bounded.ensures.table;
     }
 
--- all were put
+-- all entries were put
 whole : (all start left yielded : List ℕ) → start ≡ all → Yields (YieldsFirst (λ r. r)) start yielded left → left ≡ [] → all ≡ yielded
 whole all start left yielded e y done = given all start left [] yielded e y done ∙ append-nil yielded
 

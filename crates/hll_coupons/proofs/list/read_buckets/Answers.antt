@@ -12,7 +12,7 @@ use Rattle.hll_coupons.proofs.Reading.{all_buckets, passed_over, no_value, twice
 use Rattle.hll_coupons.proofs.list.read_buckets.Goals as goal
 use Rattle.hll_coupons.proofs.list.read_buckets.Goals.{else-is_empty-via-then-is_empty+else-not-compact, else-is_empty-via-else-is_empty, then-value-eq0-via-then-value-eq0, then-value-eq0-via-else-value-eq0+then-contains_up_to}
 
--- no coupon, filled from the front
+-- an empty table is filled from the first bucket on with no coupons
 empty_filled : (lg : ℕ) → empty_table lg ≡ filled_from_front lg []
 empty_filled lg = let whole : 2 ^ lg ≡ 2 ^ lg - 0 = omega arith in ap (λ n. let t : Table = record { lg_size = lg; buckets = replicate n 0 } in t) whole
 

@@ -4,7 +4,7 @@ use Rattle.hll_coupons.specs.Probe.{stride_of, Passes}
 use Rattle.hll_coupons.specs.Keys.{key_of}
 use Rattle.hll_coupons.proofs.search.search_on.Given as goal
 
--- the next place of the path, and those before it are filled with other keys
+-- this is the next bucket of the path, and those before it are filled with other keys
 abbrev pub invariant-loop-index : goal.invariant-loop-index
 invariant-loop-index l = record {
   bucket : l.bucket ≡ (l.fn.key + l.index * stride_of l.fn.lg_size l.fn.key) % 2 ^ l.fn.lg_size;

@@ -5,6 +5,6 @@ use Rattle.std.specs.FinSet as set
 use Rattle.hll_coupons.specs.Table.{coupons_of}
 use Rattle.hll_coupons.proofs.aux_map.AuxMap.has_all.Given as goal
 
--- each entry so far is here
+-- the map has each entry so far
 abbrev pub invariant-loop-entry : goal.invariant-loop-entry
 invariant-loop-entry g l = list_all (set.contains (coupons_of l.self.table)) l.yielded ≡ true

@@ -53,7 +53,7 @@ returns-in_err-put_growing-clause-never g c stays =
     let same : m.table.lg_size + 1 ≡ m.table.lg_size = sym doubled ∙ subst (λ (n : ExceptionMap). table_size n.lg_k (length (coupons_in n.table.buckets) + 1) ≡ n.table.lg_size) (sym c.self.view_is) stays in
     absurd (omega (arith, same))
 
--- what is left
+-- the map after the insertion
 inserted : (g : Over) (c : goal.Joined-len-capacity g) → IsInserted (record { lg_k = c.self.inside.lg_config_k; table = c.self.inside.table }) c.pack-entry.result c.if-len-capacity.self
 inserted g c =
     let m : ExceptionMap = record { lg_k = c.self.inside.lg_config_k; table = c.self.inside.table } in

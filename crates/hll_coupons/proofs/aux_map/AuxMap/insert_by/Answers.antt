@@ -46,7 +46,7 @@ invariant_of-self-then-capacity-len g c =
     (absent_raw_coupon _ _ c.args.slot c.args.value _ c.self.view_is c.self.invariant is c.requires.absent)
     c.put_growing.new.table grown.table grown.probed grown.members grown.count grown.ok (omega (arith, c.if-capacity-len.true, c.len.ensures.count, c.capacity.ensures))).map
 
--- what is left
+-- the map after the insertion
 inserted : (g : Over) (c : goal.Joined-capacity-len g) → IsInserted (record { lg_k = c.self.inside.lg_config_k; table = c.self.inside.table }) c.pack-entry.result c.if-capacity-len.self
 inserted g c =
     let m : ExceptionMap = record { lg_k = c.self.inside.lg_config_k; table = c.self.inside.table } in

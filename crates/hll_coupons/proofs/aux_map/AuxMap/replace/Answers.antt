@@ -39,7 +39,7 @@ replace-requires-clause-others g c p within other is =
     let some : 0 < c.pack.result = full_of_valued c.pack.result (omega (arith, w.value, c.requires.least)) in
     other (keys_are_distinct slot_of m.table.lg_size m.table.buckets p c.in-Some.bucket c.self.invariant.probed within s.within (λ z. omega (arith, some, sym is ∙ z)) s.full (ap slot_of is ∙ w.slot ∙ sym s.at))
 
--- what the replacement leaves
+-- the table after the replacement
 record Left (m : ExceptionMap) (slot value : ℕ) (t : Table) : Type 0 where
   is_map : IsMap (record { lg_k = m.lg_k; table = t })
   buckets : record { lg_k = m.lg_k; table = t } ≡ with_value m slot value

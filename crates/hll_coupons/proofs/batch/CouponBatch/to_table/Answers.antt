@@ -7,7 +7,7 @@ use Rattle.hll_coupons.proofs.Batches.{IsTableFrom, table_from}
 use Rattle.hll_coupons.proofs.batch.CouponBatch.to_table.Given.{Over}
 use Rattle.hll_coupons.proofs.batch.CouponBatch.to_table.Goals as goal
 
--- the ascending coupons stand in the first buckets
+-- the ascending coupons are in the first buckets
 made : (g : Over) (c : goal.In_ok-resize g) → IsTableFrom c.lg_size_above-lg_size.result c.sort.new.self c.resize.new.self.items
 made g c =
     let order = c.self.inside.coupons in

@@ -10,7 +10,7 @@ pub overflow_add-self : goal.overflow_add-self
 overflow_add-self g c =
     omega (arith, c.self.invariant.1, length-coupons_in-table _ c.self.invariant.0, c.self.invariant.0.size, small_buckets _ c.self.invariant.0)
 
--- one more is held, in a table
+-- the number of coupons grows by one, and the table is legal
 put_in : (t now : Table) (bucket coupon len : ℕ) (after : List ℕ) → after ≡ slice_set t.buckets bucket coupon → t ≡ now → IsTable t → len ≡ length (coupons_in t.buckets) → bucket < 2 ^ now.lg_size → slice_index now.buckets bucket ≡ 0 → IsPair coupon →
     contains (coupons_of now) coupon ≡ false → IsTable (record { lg_size = t.lg_size; buckets = after }) × (len + 1 ≡ length (coupons_in after))
 put_in t now bucket coupon len after is same table count inside empty pair fresh =

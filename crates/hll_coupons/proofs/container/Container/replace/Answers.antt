@@ -6,7 +6,7 @@ use Rattle.hll_coupons.proofs.Replacing.{IsTable-replace}
 use Rattle.hll_coupons.proofs.TableLemmas.{full_of_valued, small_buckets}
 use Rattle.hll_coupons.proofs.container.Container.replace.Goals as goal
 
--- as many are held, in a table
+-- the number of coupons stays, and the table is legal
 replaced_in : (t now : Table) (bucket coupon : ℕ) (after : List ℕ) → after ≡ slice_set t.buckets bucket coupon → t ≡ now → IsTable t → bucket < 2 ^ now.lg_size → slice_index now.buckets bucket ≢ 0 → IsPair coupon →
     ((p : ℕ) → p < length now.buckets → p ≢ bucket → slice_index now.buckets p ≢ coupon) →
     IsTable (record { lg_size = t.lg_size; buckets = after }) × (length (coupons_in after) ≡ length (coupons_in t.buckets))

@@ -5,6 +5,6 @@ use Rattle.std.specs.FinSet as set
 use Rattle.hll_coupons.specs.Table.{coupons_of}
 use Rattle.hll_coupons.proofs.hash_set.HashSet.contains_all.Given as goal
 
--- each coupon so far is here
+-- the set has each coupon so far
 abbrev pub invariant-loop-coupon : goal.invariant-loop-coupon
 invariant-loop-coupon g l = list_all (set.contains (coupons_of l.self)) l.yielded ≡ true

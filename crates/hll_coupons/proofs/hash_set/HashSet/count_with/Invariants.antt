@@ -5,6 +5,6 @@ use Rattle.hll_coupons.specs.Pair.{set_of}
 use Rattle.hll_coupons.specs.Table.{coupons_of}
 use Rattle.hll_coupons.proofs.hash_set.HashSet.count_with.Given as goal
 
--- those of the set, and the coupons so far
+-- the count of the set's coupons together with the coupons so far
 abbrev pub invariant-loop-coupon : goal.invariant-loop-coupon
 invariant-loop-coupon g l = l.count ≡ len (union (coupons_of l.fn.self) (set_of l.yielded))

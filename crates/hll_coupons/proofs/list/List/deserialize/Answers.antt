@@ -10,7 +10,7 @@ use Rattle.hll_coupons.specs.Payload as payload
 use Rattle.hll_coupons.proofs.Reading.{list_buckets-le, is_list_payload, coupons_in-list_table}
 use Rattle.hll_coupons.proofs.list.List.deserialize.Goals as goal
 
--- what holds holds whatever the error is
+-- what holds without an assumption holds whatever the error is
 whatever : {T : Type 0} (r : Result T Reason) (P : Type 0) (Q : Reason → Type 0) → P → IfErr r (λ e. Q e → P)
 whatever (Ok x) P Q p = tt
 whatever (Err e) P Q p = λ _. p

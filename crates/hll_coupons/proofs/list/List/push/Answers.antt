@@ -19,7 +19,7 @@ after g c =
     ∙ buckets-put t c.args.coupon c.self.invariant fresh room
     ∙ ap (λ (u : Table). filled_from_front u.lg_size (coupons_with (coupons_in u.buckets) c.args.coupon)) c.self.view_is
 
--- what it holds
+-- the coupons of the list afterwards
 order : (g : Over) (c : goal.After-put g) → coupons_in c.put.new.self.buckets ≡ coupons_with (coupons_in c.args.self.now.buckets) c.args.coupon
 order g c =
     let t : Table = c.args.self.now in
