@@ -1,5 +1,5 @@
 -- SPDX-License-Identifier: Apache-2.0
--- Exceptions that are read into a map, one place after another.
+-- Exceptions that are read into a map, one bucket after the other.
 use Rattle.std.proofs.Common.{◌≡◌, ◌≢◌, ℕ, zero, suc, ◌+◌, ◌-◌, ◌*◌, ◌%◌, ◌^◌, ◌<◌, ◌≤◌, ◌⊎◌, Bool, true, false, cond, eqb, List, [], ◌∷◌, ◌++◌, Option, Some, None, length, drop, map, refl, sym, ap, ◌∙◌, arith, append_assoc, inl, inr}
 use Rattle.std.specs.Prelude.{find}
 use Rattle.std.specs.Int.{w32, from_le_bytes}
@@ -39,7 +39,7 @@ module _ (compact : Bool) (i w : ℕ) (b rest : List ℕ) (is : rest ≡ drop (4
   here : w ≡ from_le_bytes w32 (drop (4 * i) b)
   here = word ∙ ap (from_le_bytes w32) is
 
-  -- one place more
+  -- one more bucket with an entry
   pub coupons-more : (w ≡ 0 → compact ≡ true) → coupons_at compact (i + 1) b ≡ coupons_at compact i b ++ w ∷ []
   coupons-more filled =
       coupons-split compact i 1 b
@@ -49,7 +49,7 @@ module _ (compact : Bool) (i w : ℕ) (b rest : List ℕ) (is : rest ≡ drop (4
       none true = refl
       none false = refl
 
-  -- an empty one
+  -- one more empty bucket
   pub coupons-same : compact ≡ false → w ≡ 0 → coupons_at compact (i + 1) b ≡ coupons_at compact i b
   coupons-same loose empty =
       coupons-split compact i 1 b
@@ -74,7 +74,7 @@ module _ (compact : Bool) (i w : ℕ) (b rest : List ℕ) (is : rest ≡ drop (4
 AreEntries-nil : (k : ℕ) → AreEntries k []
 AreEntries-nil k = record { valued = λ i d l. absurd (omega (arith, l)); distinct = len-empty nat_cmp }
 
--- no place is read
+-- no bucket is read
 pub entries-none : (k : ℕ) (compact : Bool) (b : List ℕ) → AreEntries k (coupons_at compact 0 b)
 entries-none k true b = AreEntries-nil k
 entries-none k false b = AreEntries-nil k
@@ -94,7 +94,7 @@ module _ (k : ℕ) (order : List ℕ) (c : ℕ) where
   abbrev images : List ℕ
   images = map (λ d. slot_of d % 2 ^ k) order
 
-  -- a slot with an entry
+  -- a slot that already has an entry
   pub taken : entry_at k order slot ≢ None → contains (set_of images) slot ≡ true
   taken some = contains-has images slot ∙ of (find (λ d. eqb (slot_of d % 2 ^ k) slot) order) refl
     where
@@ -146,7 +146,7 @@ module _ (k : ℕ) (order : List ℕ) (c : ℕ) where
           ap (λ ys. len (set_of ys)) split ∙ len-between images [] slot alone ∙ ap (λ ys. len (set_of ys) + 1) (append-nil images) ∙ omega (arith, are.distinct, length-append order (c ∷ []));
     }
 
--- one without a value is none, nor is one whose slot has one
+-- a raw coupon without a value is no entry, nor is one whose slot already has an entry
 pub no_entry : (k : ℕ) (order more all : List ℕ) (c : ℕ) → all ≡ order ++ c ∷ more → (value_of c ≡ 0) ⊎ (entry_at k order (slot_of c % 2 ^ k) ≢ None) → AreEntries k all → ⊥
 no_entry k order more all c is (inl none) are =
     let some : 1 ≤ value_of c = last_of_all (λ c. 1 ≤ value_of c) all order more c is are.valued in

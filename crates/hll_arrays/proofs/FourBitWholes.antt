@@ -1,5 +1,5 @@
 -- SPDX-License-Identifier: Apache-2.0
--- Images of four bits whose counts pass their checks, and whose bytes are there.
+-- Images of 4-bit registers whose counts pass their checks, and whose bytes are there.
 use Rattle.std.proofs.Common.{◌≡◌, ℕ, ◌+◌, ◌-◌, ◌*◌, ◌^◌, ◌<◌, ◌≤◌, suc, Bool, true, false, cond, eqb, List, ◌++◌, Option, length, drop, take, map, sym, ap, subst, ◌∙◌, arith}
 use Rattle.std.specs.List.{range_with_len}
 use Rattle.std.proofs.Math.Nat.{pow-suc}
@@ -16,7 +16,7 @@ use Rattle.hll_registers.specs.Payload as payload
 
 -- ---- faults
 
--- the first check that fails is one that fails
+-- the first check that fails is a check that fails
 pub fault_of_first : (h : Hll4Shape) (b : List ℕ) (e : Reason) → FirstHll4Fault h b e → Hll4Fault h b e
 fault_of_first h b e (payload.FirstHll4Fault.no_counts n) = payload.Hll4Fault.no_counts n
 fault_of_first h b e (payload.FirstHll4Fault.low_count_above w n) = payload.Hll4Fault.low_count_above w n
@@ -27,7 +27,7 @@ fault_of_first h b e (payload.FirstHll4Fault.coupon w n) = payload.Hll4Fault.cou
 fault_of_first h b e (payload.FirstHll4Fault.number w d n) = payload.Hll4Fault.number w.has_entries w.there n
 fault_of_first h b e (payload.FirstHll4Fault.register w d m n) = payload.Hll4Fault.register w.has_entries w.there d m n
 
--- refused memory is no fault
+-- `Memory` is no fault of an image
 pub fault_not_memory : (h : Hll4Shape) (b : List ℕ) (e : Reason) → FirstHll4Fault h b e → e ≡ Memory → ⊥
 fault_not_memory h b e (payload.FirstHll4Fault.no_counts n) is = cc
 fault_not_memory h b e (payload.FirstHll4Fault.low_count_above w n) is = cc
@@ -38,7 +38,7 @@ fault_not_memory h b e (payload.FirstHll4Fault.coupon w n) is = cc
 fault_not_memory h b e (payload.FirstHll4Fault.number w d n) is = cc
 fault_not_memory h b e (payload.FirstHll4Fault.register w d m n) is = cc
 
--- where the count of exceptions is 0, no buckets of them follow
+-- if the count of exceptions is 0, no buckets of them follow
 pub no_buckets : (h : Hll4Shape) (b : List ℕ) → exception_count b ≡ 0 → exception_buckets h b ≡ 0
 no_buckets h b none = of h.compact
   where
@@ -83,11 +83,11 @@ module _ (h : Hll4Shape) (b : List ℕ) (whole : IsWhole h b) where
       let rest : drop 32 front ++ back ≡ drop 32 b = front_rest front back b whole_is 32 (omega (arith, size)) in
       sym (take-append-le (2 ^ (h.lg_k - 1)) (drop 32 front) back (omega (arith, size, length-drop 32 front))) ∙ ap (take (2 ^ (h.lg_k - 1))) rest
 
-  -- what follows them does not count
+  -- the registers don't depend on what follows their bytes
   pub registers-front : registers_of h front ≡ registers_of h b
   registers-front = λ i. map (λ s. register_of h.minimum (nibble_at (nibbles i) s) (entry_at h.lg_k (entries i) s)) (range_with_len 0 (2 ^ h.lg_k))
 
-  -- they are a payload
+  -- the bytes are a payload
   pub is_hll4_payload : AreEntries h.lg_k (entries_of h b) → length (entries_of h b) ≡ exception_count b → AllAgree h b → IsHll4Payload h front
   is_hll4_payload are number agree = record {
     low = subst (λ n. n ≤ 2 ^ h.lg_k) (sym (front_number front back b whole_is 24 (omega (arith, size)))) whole.low;

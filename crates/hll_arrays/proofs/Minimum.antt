@@ -16,7 +16,7 @@ use Rattle.hll_registers.specs.Store.{Stored, zero_registers, update_with_coupon
 use Rattle.hll_registers.proofs.FourBits.{minimum_ge, minimum_most}
 use Rattle.hll_registers.proofs.Packing.{minimum_le}
 
--- greater registers have no smaller minimum
+-- the minimum of a maximum is not smaller
 minimum_of_join : (R Q : List ℕ) → length R ≡ length Q → minimum R ≤ minimum (join R Q)
 minimum_of_join R Q e = minimum_ge (minimum R) 63 (join R Q) (minimum_most R) (λ s l. omega (arith, get_or-join R Q s, minimum_le R s (omega (arith, l, length-join R Q e))))
 

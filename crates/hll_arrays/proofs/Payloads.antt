@@ -1,5 +1,5 @@
 -- SPDX-License-Identifier: Apache-2.0
--- A payload is known by its front, and a fault excludes it.
+-- A payload depends only on a prefix of the bytes, and a fault excludes it.
 use Rattle.std.proofs.Common.{◌≡◌, ℕ, ◌+◌, ◌-◌, ◌*◌, ◌^◌, ◌<◌, ◌≤◌, Bool, cond, eqb, List, [], ◌∷◌, ◌++◌, length, get_or, take, drop, All, refl, sym, ap, subst, ◌∙◌, arith}
 use Rattle.std.proofs.lemmas.List.{length-drop, take-append-le, get_or-drop}
 use Rattle.std.specs.Int.{w64, from_le_bytes}
@@ -13,7 +13,7 @@ use Rattle.hll_registers.specs.Payload as payload
 
 -- ---- the state
 
--- the words are in the front
+-- the estimate state is in the prefix
 pub state_at-front : (flag : Bool) (a t b : List ℕ) → a ++ t ≡ b → 24 ≤ length a → state_at flag a ≡ state_at flag b
 state_at-front flag a t b e long = λ i. record {
   words = word 0 (omega arith) i ∷ word 8 (omega arith) i ∷ word 16 (omega arith) i ∷ [];
@@ -33,7 +33,7 @@ one_hll8 k a b s t p q e = same_fronts a b s t e (p.size ∙ sym q.size)
 pub one_hll6 : (k : ℕ) (a b s t : List ℕ) → IsHll6Payload k a → IsHll6Payload k b → a ++ s ≡ b ++ t → a ≡ b
 one_hll6 k a b s t p q e = same_fronts a b s t e (p.size ∙ sym q.size)
 
--- a count is in the front
+-- the counts are in the prefix
 front_exceptions : (a t b : List ℕ) → a ++ t ≡ b → 32 ≤ length a → exception_count a ≡ exception_count b
 front_exceptions a t b e h = front_number a t b e 28 (omega arith)
 

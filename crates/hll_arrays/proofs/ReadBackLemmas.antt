@@ -11,7 +11,7 @@ use Rattle.hll_arrays.specs.ReadBack.{Hll8ReadBack, Hll6ReadBack, Hll4ReadBack}
 use Rattle.hll_arrays.proofs.Payloads.{state_at-front}
 use Rattle.hll_arrays.proofs.Written.{written_hll8, state_hll8, registers_hll8, written_hll6, state_hll6, registers_hll6, written_hll4, state_hll4, registers_hll4}
 
--- what is after the numbers of a payload, whatever follows
+-- the bytes after the numbers of a payload, whatever follows the payload
 after : (n : ℕ) (p more : List ℕ) → length p ≡ 32 + n → take n (drop 32 (p ++ more)) ≡ drop 32 p
 after n p more e = ap (take n) (drop-append-le 32 p more (omega arith)) ∙ take_at (drop 32 p) more n (omega (arith, length-drop 32 p))
 

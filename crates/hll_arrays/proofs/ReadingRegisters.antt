@@ -10,19 +10,19 @@ use Rattle.std.proofs.lemmas.List.Sums.{AllPass-from_list_all, list_all-from_All
 use Rattle.hll_coupons.proofs.Payloads.{front_number}
 use Rattle.hll_registers.specs.Payload.{num_at_cur_min, exception_count, field_size, IsHll8Payload, IsHll6Payload}
 
--- two clauses of one answer
+-- two clauses of one result
 pub IfOk-both : {X E : Type 0} (r : Result X E) (P Q R : X → Type 0) → ((x : X) → P x → Q x → R x) → IfOk r P → IfOk r Q → IfOk r R
 IfOk-both (Ok x) P Q R f p q = f x p q
 IfOk-both (Err e) P Q R f p q = tt
 
--- what the test of bytes says
+-- the result of the test of bytes
 pub small-from : (xs : List ℕ) → list_all (λ v. nat_le v 63) xs ≡ true → All (λ v. v ≤ 63) xs
 small-from xs h = All-weaker (λ v. nat_le v 63 ≡ true) (λ v. v ≤ 63) (λ v t. leb-true v 63 t) xs (AllPass-from_list_all (λ v. nat_le v 63) xs h)
 
 pub small-to : (xs : List ℕ) → All (λ v. v ≤ 63) xs → list_all (λ v. nat_le v 63) xs ≡ true
 small-to xs h = list_all-from_AllPass (λ v. nat_le v 63) xs (All-weaker (λ v. v ≤ 63) (λ v. nat_le v 63 ≡ true) (λ v l. le-leb v 63 l) xs h)
 
--- numbers and registers that are right are a payload of eight bits
+-- numbers and registers that pass their checks are a payload of 8-bit registers
 pub is_hll8_payload : (k : ℕ) (b : List ℕ) → 32 + 2 ^ k ≤ length b → num_at_cur_min b ≤ 2 ^ k → exception_count b ≡ 0 → All (λ v. v ≤ 63) (take (2 ^ k) (drop 32 b))
     → IsHll8Payload k (take (32 + 2 ^ k) b)
 is_hll8_payload k b there low none small =
@@ -36,7 +36,7 @@ is_hll8_payload k b there low none small =
       small = subst (All (λ v. v ≤ 63)) (sym (drop-take 32 (2 ^ k) b)) small;
     }
 
--- numbers that are right, and bytes enough, are a payload of six bits
+-- numbers that pass their checks, and enough bytes, are a payload of 6-bit registers
 pub is_hll6_payload : (k : ℕ) (b : List ℕ) → 32 + field_size k ≤ length b → num_at_cur_min b ≤ 2 ^ k → exception_count b ≡ 0 → IsHll6Payload k (take (32 + field_size k) b)
 is_hll6_payload k b there low none =
     let n : ℕ = 32 + field_size k in
@@ -48,11 +48,11 @@ is_hll6_payload k b there low none =
       size = size;
     }
 
--- what holds of every error holds of a result
+-- what holds for every error holds for a result
 pub IfErr-always : {T E : Type 0} (P : E → Type 0) (r : Result T E) → ((e : E) → P e) → IfErr r P
 IfErr-always P (Ok x) h = tt
 IfErr-always P (Err e) h = h e
 
--- a front as a slice
+-- a prefix as a slice
 pub slice_front : (n m : ℕ) (xs ys : List ℕ) → n ≡ m → xs ≡ ys → take (n - 0) xs ≡ take m ys
 slice_front n m xs ys e f = λ i. take ((let less : n - 0 ≡ m = omega (arith, e) in less) i) (f i)

@@ -1,5 +1,5 @@
 -- SPDX-License-Identifier: Apache-2.0
--- What a written image of registers ends in.
+-- The end of a written image of registers.
 use Rattle.std.proofs.Common.{ℕ, ◌+◌, List, [], ◌∷◌, ◌++◌, length, refl, sym, ap, ◌∙◌, arith}
 use Rattle.std.proofs.lemmas.List.{append-nil}
 use Rattle.std.specs.FinSet.{empty}

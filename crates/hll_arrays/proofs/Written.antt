@@ -1,5 +1,5 @@
 -- SPDX-License-Identifier: Apache-2.0
--- What is written for registers is a payload that gives them back.
+-- What is written for registers is a payload from which they are read back.
 use Rattle.std.proofs.Common.{◌≡◌, ℕ, ◌+◌, ◌-◌, ◌*◌, ◌^◌, ◌<◌, ◌≤◌, zero, suc, Bool, true, eqb, List, [], ◌∷◌, ◌++◌, length, get_or, take, drop, All, refl, sym, ap, subst, ◌∙◌, arith}
 use Rattle.std.proofs.lemmas.Nat.{from_le_bytes-to_le_bytes_4, from_le_bytes-to_le_bytes_8}
 use Rattle.std.proofs.lemmas.Bool.{true≢false}
@@ -25,7 +25,7 @@ use Rattle.hll_arrays.proofs.Entries.{entries_fit, entries_few, are_entries}
 
 -- ---- the numbers before the registers
 
--- three words, and two counts
+-- three estimator fields, and two counts
 record Preamble (state : EstimateState) (low excepted : ℕ) (rest : List ℕ) : Type 0 where
   state_is : (flag : Bool) → flag ≡ state.out_of_order → state_at flag (number_bytes state low excepted ++ rest) ≡ state
   low_is : num_at_cur_min (number_bytes state low excepted ++ rest) ≡ low

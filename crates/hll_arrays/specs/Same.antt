@@ -69,7 +69,7 @@ same_stored-partial = record {
 pub same_stored-equivalence : IsEquivalence same_stored
 same_stored-equivalence = equiv same_stored-partial (λ x. same_stored-to x x refl)
 
--- ---- four bits
+-- ---- 4-bit registers
 
 -- the same lg_k, registers and state; the buckets of exceptions don't matter
 abbrev pub same_four_bits : FourBits → FourBits → Bool

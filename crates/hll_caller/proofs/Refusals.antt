@@ -1,12 +1,12 @@
 -- SPDX-License-Identifier: Apache-2.0
--- What a refusal says of a plan where no stream failed.
+-- What an error means for a plan if no stream failed.
 use Rattle.std.proofs.Common.{◌≡◌, ◌⊎◌, ℕ, true, false, List, Option, Some, inl, inr, sym, ◌∙◌, subst}
 use Rattle.hll_text.specs.declared.fault.Fault.TheVariants.{Memory}
 use Rattle.hll_text.specs.declared.fault.MergeError.{MergeError}
 use Rattle.hll_merge.specs.Accepting.{IsFirstFault}
 use Rattle.hll_merge.specs.Run.{IsAllOf, IsRefused, Streams}
 
--- memory was refused, or it is the first fault of the text
+-- an allocation failed, or it is the first fault of the text
 pub refused_by_text : (s : Streams) (text : List ℕ) (e : MergeError) → s.before ≡ Some text → s.reader_failed ≡ false → s.writer_failed ≡ false → IsRefused s e
     → (e.fault ≡ Memory) ⊎ IsFirstFault text e
 refused_by_text s text e is reader writer (inl m) = inl m.fault

@@ -11,7 +11,7 @@ use Rattle.hll_estimate.specs.Double.{IsFinite, IsNearest, value_of}
 
 -- ---- how many bits there are
 
--- n has so many bits: 2^(b - 1) ≤ n < 2^b
+-- n has b bits: 2^(b - 1) ≤ n < 2^b
 pub record HasBits (n b : ℕ) : Type 0 where
   pub some : 1 ≤ b
   pub most : b ≤ 128
@@ -36,7 +36,7 @@ shifted_up n b h le =
     let above : (n + 1) * 2 ^ (53 - b) ≤ 2 ^ b * 2 ^ (53 - b) = mul-le-mul_right (2 ^ (53 - b)) (let more : n + 1 ≤ 2 ^ b = omega (arith, h.high) in more) in
     (omega (arith, first, below), omega (arith, second, above, pow_pos (53 - b)))
 
--- and down
+-- shifted down to 53 bits
 pub shifted_down : (n b : ℕ) → HasBits n b → 53 < b → (2 ^ 52 ≤ n / 2 ^ (b - 53)) × (n / 2 ^ (b - 53) < 2 ^ 53)
 shifted_down n b h lt =
     let first : 2 ^ 52 * 2 ^ (b - 53) ≡ 2 ^ (b - 1) = sym (pow-add 2 52 (b - 53)) ∙ ap (λ i. 2 ^ i) (let e : 52 + (b - 53) ≡ b - 1 = omega arith in e) in
@@ -94,7 +94,7 @@ value_grows v w le = elim (cases_eq v w) [
 
 -- ---- which of two neighbours is nearest
 
--- the lower one, where it is no farther than the upper
+-- the lower neighbor is nearest if it is no farther than the upper one
 pub nearest_lower : (w n : ℕ) → IsFinite w → value_of w ≤ n * 2 ^ 1043 → 2 * (n * 2 ^ 1043) ≤ value_of w + value_of (w + 1) →
     (2 * (n * 2 ^ 1043) ≡ value_of w + value_of (w + 1) → w % 2 ≡ 0) → IsNearest w n
 nearest_lower w n fin low near tie = record {
@@ -109,7 +109,7 @@ nearest_lower w n fin low near tie = record {
   ];
 }
 
--- the upper one, where it is no farther than the lower
+-- the upper neighbor is nearest if it is no farther than the lower one
 pub nearest_upper : (w n : ℕ) → IsFinite (w + 1) → n * 2 ^ 1043 ≤ value_of (w + 1) → value_of w + value_of (w + 1) ≤ 2 * (n * 2 ^ 1043) →
     (2 * (n * 2 ^ 1043) ≡ value_of w + value_of (w + 1) → (w + 1) % 2 ≡ 0) → IsNearest (w + 1) n
 nearest_upper w n fin high near tie = record {
@@ -148,7 +148,7 @@ value_kept w e K is low high some = elim (cases_lt K (2 ^ 53)) [
       value_normal w (omega (arith, exponent)) ∙ (λ i. rest i * 2 ^ (exponent i)) ∙ (let f : 2 ^ 52 * 2 ^ (e + 1) ≡ 2 ^ 53 * 2 ^ e = omega (arith, twice) in f) ∙ ap (λ x. x * 2 ^ e) (sym all)
 ]
 
--- exactly a number
+-- the number is exact
 pub nearest_exact : (w n b : ℕ) → HasBits n b → b ≤ 53 → w ≡ (b + 990) * 2 ^ 52 + (n * 2 ^ (53 - b) - 2 ^ 52) → IsNearest w n
 nearest_exact w n b h le is =
     let s = shifted_up n b h le in
@@ -158,7 +158,7 @@ nearest_exact w n b h le is =
     let more : value_of w < value_of (w + 1) = value_rises w (w + 1) (omega arith) in
     nearest_lower w n (omega (arith, is, s.1, h.most)) (omega (arith, value, whole)) (omega (arith, value, whole, more)) (λ tie. absurd (omega (arith, value, whole, more, tie)))
 
--- the neighbours of a number of more bits
+-- the two neighbors of a number of more bits
 record AreNeighbours (w n b r : ℕ) : Type 0 where
   pub lower : value_of w + r * 2 ^ 1043 ≡ n * 2 ^ 1043
   pub upper : value_of (w + 1) ≡ value_of w + 2 ^ (b - 53) * 2 ^ 1043
@@ -188,7 +188,7 @@ neighbours w n b h lt is =
 half_is : (b : ℕ) → 53 < b → 2 ^ (b - 53) ≡ 2 * 2 ^ (b - 53 - 1)
 half_is b lt = ap (λ i. 2 ^ i) (let e : b - 53 ≡ suc (b - 53 - 1) = omega arith in e) ∙ pow-succ' 2 (b - 53 - 1)
 
--- rounded down, to the half, and at the half where it is even
+-- rounding down: below the half, and at the half if the lower neighbor is even
 pub nearest_down : (w n b : ℕ) → HasBits n b → 53 < b → w ≡ (b + 990) * 2 ^ 52 + (n / 2 ^ (b - 53) - 2 ^ 52) → n % 2 ^ (b - 53) ≤ 2 ^ (b - 53 - 1) →
     (n % 2 ^ (b - 53) ≡ 2 ^ (b - 53 - 1) → n / 2 ^ (b - 53) % 2 ≡ 0) → IsNearest w n
 nearest_down w n b h lt is rest tie =
@@ -197,7 +197,7 @@ nearest_down w n b h lt is rest tie =
     nearest_lower w n (omega (arith, a.finite)) (omega (arith, a.lower)) (omega (arith, a.lower, a.upper, half, rest))
     (λ e. let t = tie (omega (arith, a.lower, a.upper, half, e)) in omega (arith, a.parity, t))
 
--- and up, from the half, and at the half where it is odd
+-- rounding up: above the half, and at the half if the lower neighbor is odd
 pub nearest_up : (w n b : ℕ) → HasBits n b → 53 < b → w ≡ (b + 990) * 2 ^ 52 + (n / 2 ^ (b - 53) - 2 ^ 52) → 2 ^ (b - 53 - 1) ≤ n % 2 ^ (b - 53) →
     (n % 2 ^ (b - 53) ≡ 2 ^ (b - 53 - 1) → n / 2 ^ (b - 53) % 2 ≡ 1) → IsNearest (w + 1) n
 nearest_up w n b h lt is rest tie =

@@ -1,5 +1,5 @@
 -- SPDX-License-Identifier: Apache-2.0
--- Lemmas on the two numbers of registers that are estimated from, and on estimates of registers.
+-- Lemmas on the two numbers that estimates are computed from, and on estimates of registers.
 use Rattle.std.proofs.Common.{◌≡◌, ℕ, zero, suc, ◌+◌, ◌-◌, ◌*◌, ◌^◌, ◌<◌, ◌≤◌, ◌==◌, cond, List, [], ◌∷◌, length, All, inl, inr, refl, sym, ap, subst, ◌∙◌, arith}
 use Rattle.std.specs.Prelude.{◌↔◌, max}
 use Rattle.std.specs.List.{AllZip}
@@ -23,7 +23,7 @@ use Rattle.hll_estimate.proofs.Monotone.{raised_any}
 
 -- ---- one register, and all of them
 
--- how many registers that are 0 one register is
+-- 1 if a register is 0, else 0
 abbrev is_zero : ℕ → ℕ
 is_zero v = cond (v == 0) 1 0
 
@@ -55,7 +55,7 @@ one_raised (suc v) zero le = absurd (omega arith)
 one_raised zero (suc w) le = let p : 2 ^ (63 - suc w) ≤ 2 ^ 62 = pow_mono (let e : 63 - suc w ≤ 62 = omega arith in e) in (omega (arith, not_zero w), omega (arith, p, not_zero w))
 one_raised (suc v) (suc w) le = let p : 2 ^ (63 - suc w) ≤ 2 ^ (63 - suc v) = pow_mono (let e : 63 - suc w ≤ 63 - suc v = omega arith in e) in (omega (arith, not_zero v, not_zero w), omega (arith, p, not_zero v, not_zero w))
 
--- all of them
+-- all registers
 low_units : (R : List ℕ) → zeros R * 2 ^ 63 + length R ≤ units R + zeros R
 low_units [] = omega arith
 low_units (v ∷ R) = let rest = low_units R in omega (arith, rest, zeros-cons v R, units-cons v R, one_low v, one_most v)
@@ -146,7 +146,7 @@ greatest_all (v ∷ R) all =
     let one : 2 ^ (63 - v) ≡ 2 ^ (63 - 63) = ap (λ v. 2 ^ (63 - v)) (All-head (λ v. v ≡ 63) v R all) in
     omega (arith, units-cons v R, one, greatest_all R (All-tail (λ v. v ≡ 63) v R all))
 
--- the estimate is 0 for these alone, and infinite for those
+-- the estimate is 0 only for registers of 0, and infinite only for registers of 63
 
 abbrev units_in : Estimate → ℕ
 units_in (Finite n) = n
@@ -159,7 +159,7 @@ is_finite Infinite = ⊥
 finite_not_infinite : {n : ℕ} → Finite n ≡ Infinite → ⊥
 finite_not_infinite e = subst is_finite e tt
 
--- 0 weighs more than 63
+-- the weight of 0 is greater than that of 63
 not_none : (k : ℕ) (R : List ℕ) → AreRegisters k R → units R ≡ 2 ^ k → zeros R < 2 ^ k
 not_none k R a e = omega (arith, low_units R, a.size, e, pow_pos k)
 

@@ -1,5 +1,5 @@
 -- SPDX-License-Identifier: Apache-2.0
--- Lemmas on long division: what is left, and the part that is taken from it.
+-- Lemmas on long division: the remainder, and the part that is subtracted from it.
 use Rattle.std.proofs.Common.{◌≡◌, ℕ, zero, suc, ◌+◌, ◌-◌, ◌*◌, ◌/◌, ◌%◌, ◌^◌, ◌<◌, ◌≤◌, sym, ap, ◌∙◌, inl, inr, arith}
 use Rattle.std.specs.Int.Count.{count_leading_zeros}
 use Rattle.std.proofs.Math.Nat.{div-mul-le_self, lt-div-mul-add, mul-le-mul_right, mul-le-mul_left, mod-eq-sub-div-mul, mod-eq_of_lt}
@@ -7,7 +7,7 @@ use Rattle.std.proofs.Math.Pow.{pow_mono}
 use Rattle.std.proofs.lemmas.Bool.{cases_lt}
 use Rattle.std.proofs.lemmas.Nat.{div_below, leading_top, pow-add, pow_pos, mul-le, div-mul-add}
 
--- how far the divisor can be shifted, up to the highest bit of the dividend
+-- the number of bits that the divisor can be shifted by, up to the highest bit of the dividend
 abbrev pub shift_of : ℕ → ℕ → ℕ
 shift_of n d = count_leading_zeros 128 d - count_leading_zeros 128 n
 
@@ -39,7 +39,7 @@ aligned n d some le small =
     let above : 2 ^ i * 2 ^ (s + 1) ≤ d * 2 ^ (s + 1) = mul-le-mul_right (2 ^ (s + 1)) bottom.2 in
     record { order = omega (arith, top.1, bottom.1, order); fits = omega (arith, below, most); above = omega (arith, top.3, split, above) }
 
--- a part that is shifted less fits too
+-- a part that is shifted by less also fits
 pub part_fits : (n d e : ℕ) → AreAligned n d → e ≤ shift_of n d → (d * 2 ^ e) % 2 ^ 128 ≡ d * 2 ^ e
 part_fits n d e a le =
     let p : 2 ^ e ≤ 2 ^ shift_of n d = pow_mono le in
@@ -52,7 +52,7 @@ part_some d e some = let one : 1 * 1 ≤ d * 2 ^ e = mul-le 1 1 d (2 ^ e) some (
 
 -- ---- a step
 
--- with e steps to go: the quotient so far, and what is left
+-- with e steps to go: the quotient so far, and the remainder
 abbrev pub IsLeft : ℕ → ℕ → ℕ → ℕ → ℕ → Type 0
 IsLeft n d e q r = (r < d * 2 ^ e) × (q * (d * 2 ^ e) + r ≡ n)
 
@@ -108,7 +108,7 @@ below_power (suc n) small =
     let e : 128 - count_leading_zeros 128 (suc n) ≡ suc top.0 = omega (arith, top.1) in
     rw e top.3
 
--- where all bits but so many are dropped
+-- all bits but the highest `kept` are dropped
 pub high_fits : (n m e width kept : ℕ) → n < 2 ^ 128 → m ≤ n → width + kept ≡ 128 → e ≡ width - count_leading_zeros 128 n → m / 2 ^ e < 2 ^ kept
 high_fits n m e width kept small le whole is =
     let wide : 2 ^ (128 - count_leading_zeros 128 n) ≤ 2 ^ (kept + e) = pow_mono (omega (arith, whole, is)) in

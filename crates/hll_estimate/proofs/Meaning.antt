@@ -1,5 +1,5 @@
 -- SPDX-License-Identifier: Apache-2.0
--- The estimate in fixed point means what it should, by cases.
+-- The estimate in fixed point is near the exact one, by cases.
 use Rattle.std.proofs.Common.{◌≡◌, ℕ, ◌+◌, ◌-◌, ◌*◌, ◌^◌, ◌≤◌, inl, inr, arith}
 use Rattle.std.specs.Prelude.{max}
 use Rattle.std.proofs.Math.Nat.{mul-le-mul_right}
@@ -8,7 +8,7 @@ use Rattle.hll_estimate.specs.Estimate.{IsNear, IsFiniteEstimate, least_estimate
 use Rattle.hll_estimate.specs.FixedPoint.{AreBounded, raw_estimate_of}
 use Rattle.hll_estimate.proofs.Nearness.{estimate_near}
 
--- held against a number, what is near a fraction is near the greater of both
+-- if n is near a fraction, the maximum of n and a number is near the maximum of both
 above_greater : (a l b n under over M : ℕ) → n * under * 2 ^ 40 ≤ over * (2 ^ 40 + 1) → over ≤ M → l * under ≤ M → b ≡ max n l → b * under * 2 ^ 40 ≤ M * (2 ^ 40 + 1)
 above_greater a l b n under over M near first second is = elim (cases_lt n l) [
   | inl less ↦ let e : b ≡ l = omega (arith, is, less) in rw e (omega (arith, second))

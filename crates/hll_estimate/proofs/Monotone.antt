@@ -1,5 +1,5 @@
 -- SPDX-License-Identifier: Apache-2.0
--- A register that is raised never lowers the estimate by floors.
+-- A greater register never lowers the estimate in fixed point.
 use Rattle.std.proofs.Common.{◌≡◌, ℕ, zero, suc, ◌+◌, ◌-◌, ◌*◌, ◌/◌, ◌^◌, ◌<◌, ◌≤◌, sym, ap, ◌∙◌, inl, inr, arith}
 use Rattle.std.proofs.Math.Nat.{mul-le-mul_left, mul-le-mul_right, le_of_mul-le-mul_right, div-mul-le_self, add-mul-div_left}
 use Rattle.std.proofs.Math.Pow.{pow_mono}
@@ -67,7 +67,7 @@ weight_bounded k c u a =
     let first : 2 * u - c * 2 ^ 63 ≤ m * 2 ^ 63 = omega (arith, a.high, a.some) in
     weight_of_parts (2 * u - c * 2 ^ 63) (r / p) r c d m g p sum (pow_pos (96 - k)) (pow_pos (33 - k)) whole (shift_is k a.most) first (div-mul-le_self r p) (rho_bounded (k + 7) (c * g) (d * g) both (omega (arith, left)))
 
--- a zero that is raised takes away half its weight and more
+-- if a zero gets greater, the sum of weights falls by at least half of its weight
 weight_falls : (k c u v : ℕ) → AreBounded k (c + 1) u → v + 2 ^ 62 ≤ u → twice_weight_of k c v + 2 ^ 63 ≤ twice_weight_of k (c + 1) u
 unfolding twice_weight_of
 weight_falls k c u v a less =
@@ -151,11 +151,11 @@ others_raised k c u v a b le =
     answer_rises (twice_alpha_of k c) (twice_alpha_of k c) (twice_weight_of k c u) (twice_weight_of k c v) (2 ^ (2 * k + 47)) (weight_some k c u a) (weight_some k c v b)
     (mul-le-mul_left (twice_alpha_of k c) (same_falls k c u v le))
 
--- one zero less, by the least that this can be
+-- one zero less, with the least change of the sum
 one_less : (k c u : ℕ) → AreBounded k (c + 1) u → AreBounded k c (u - 2 ^ 62)
 one_less k c u a = record { least = a.least; most = a.most; some = omega (arith, a.some); low = omega (arith, a.low, a.some); high = omega (arith, a.high, a.low, a.some) }
 
--- and any registers
+-- any number of zeros less
 pub raised : (more k c u v : ℕ) → AreBounded k (c + more) u → AreBounded k c v → v + more * 2 ^ 62 ≤ u → raw_estimate_of k (c + more) u ≤ raw_estimate_of k c v
 raised zero k c u v a b le = let e : c + 0 ≡ c = omega arith in rw e (others_raised k c u v (rw e at a) b (omega arith))
 raised (suc more) k c u v a b le =
@@ -166,8 +166,8 @@ raised (suc more) k c u v a b le =
     let rest = raised more k c (u - 2 ^ 62) v fewer b (omega arith) in
     rw e (omega (arith, first, rest))
 
--- c' and u' are those of registers that are at least those with c and u, each: a register that is no longer 0 weighs at
--- most half as much
+-- c' and u' belong to registers that are each at least those that c and u belong to: the weight of a register that is
+-- no longer 0 is at most half of what it was
 pub record AreRaised (k c u c' u' : ℕ) : Type 0 where
   pub bounded : AreBounded k c' u'
   pub zero_count : c' ≤ c

@@ -1,5 +1,5 @@
 -- SPDX-License-Identifier: Apache-2.0
--- How near the estimate by floors is to the exact one.
+-- How near the estimate in fixed point is to the exact one.
 use Rattle.std.proofs.Common.{◌≡◌, ℕ, zero, suc, ◌+◌, ◌-◌, ◌*◌, ◌/◌, ◌^◌, ◌<◌, ◌≤◌, ap, ◌∙◌, arith}
 use Rattle.std.proofs.Math.Nat.{mul-le-mul_left, mul-le-mul_right}
 use Rattle.std.proofs.Math.Pow.{pow_mono}

@@ -9,7 +9,7 @@ use Rattle.hll_estimate.proofs.Squares.{square_low, square_high}
 
 -- ---- not above
 
--- where y is not above a / b, its square is not above theirs
+-- if y is not above a / b, its square is not above theirs
 below_square : (q y t a b : ℕ) → 0 < q → t * q ≤ y * y → y * b ≤ a * q → t * (b * b) ≤ a * a * q
 below_square q y t a b some low le =
     let one : t * q * (b * b) ≤ y * y * (b * b) = mul-le-mul_right (b * b) low in
@@ -32,7 +32,7 @@ not_above (suc n) y a b le =
 
 -- ---- not far below
 
--- where y b is at most e below a q, so much is the square below
+-- if y b is at most e below a q, a bound for how far the square is below
 above_square : (q y t a b e : ℕ) → 0 < q → y * y ≤ (t + 2) * q → y * b ≤ a * q → a * q ≤ y * b + e → a * a * q ≤ t * (b * b) + (2 * a * e + 2 * (b * b))
 above_square q y t a b e some high le near =
     let one : y * y * (b * b) ≤ (t + 2) * q * (b * b) = mul-le-mul_right (b * b) high in
@@ -42,7 +42,7 @@ above_square q y t a b e some high le near =
     let all : a * a * q * q ≤ (t * (b * b) + (2 * a * e + 2 * (b * b))) * q = omega (arith, one, two, three, four) in
     le_of_mul-le-mul_right all some
 
--- by how much n terms may be too low: by error_of n / (1 - x)^2 units
+-- a bound for how far n terms may be too low: error_of n / (1 - x)^2 units
 unfoldable pub error_of : ℕ → ℕ
 error_of zero = 1
 error_of (suc n) = 16 + 2 * error_of n
@@ -68,7 +68,7 @@ bounded (suc t) a d some =
     let rest = bounded t (a * a) (d * (a + a + d)) (omega (arith, more)) in
     bounded_sum a d (denominator t ((a + d) * (a + d))) (numerator t (a * a) ((a + d) * (a + d))) (omega arith) (rw square at rest)
 
--- terms that were left out, where the power is small
+-- the terms that were left out, if the power is small
 left_out : (a d D N e : ℕ) → a * 2 ^ 128 ≤ a + d → d * N ≤ 2 * a * D → N * 2 ^ 96 * (d * d) ≤ (0 * (d * d) + 4 * (e * (a + d)) + 1 * ((a + d) * (a + d))) * D
 left_out a d D N e small le =
     let one : d * N * (2 ^ 96 * d) ≤ 2 * a * D * (2 ^ 96 * d) = mul-le-mul_right (2 ^ 96 * d) le in

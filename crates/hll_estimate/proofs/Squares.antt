@@ -30,13 +30,13 @@ square_high y =
     let p = high_of_parts h l (2 * h * l / 2 ^ 48) (omega arith) (omega arith) in
     rw parts at p
 
--- the square of a part of 1 is one
+-- the square of a number below 1 is below 1
 pub square_small : (y : ℕ) → y < 2 ^ 96 → square_of y < 2 ^ 96
 square_small y small =
     let s : y * y ≤ (2 ^ 96 - 1) * 2 ^ 96 = mul-le y y (2 ^ 96 - 1) (2 ^ 96) (omega arith) (omega arith) in
     omega (arith, s, square_low y)
 
--- of two numbers the larger has the larger square
+-- the larger of two numbers has the larger square
 grows_within : (h l j : ℕ) → l ≤ j → h * h + 2 * h * l / 2 ^ 48 ≤ h * h + 2 * h * j / 2 ^ 48
 grows_within h l j le =
     let more : h * l ≤ h * j = mul-le-mul_left h le in

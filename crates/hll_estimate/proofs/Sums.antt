@@ -12,11 +12,11 @@ pub rho_next : (t j y : ℕ) → j < t → rho_of (t - j) y ≡ y + 2 * rho_of (
 unfolding rho_of
 rho_next t j y lt = let e : t - j ≡ suc (t - (j + 1)) = omega arith in rw e
 
--- one term more
+-- one more term
 pub one_more : (s w y v r whole : ℕ) → s + w * v ≡ whole → v ≡ y + 2 * r → s + y * w + 2 * w * r ≡ whole
 one_more s w y v r whole e is = let f : s + w * (y + 2 * r) ≡ whole = rw is at e in omega (arith, f)
 
--- the larger part has the larger sum, by at least as much
+-- a larger part has a larger sum; the difference is at least that of the parts
 pub rho_grows : (n y z d : ℕ) → y + d ≤ z → rho_of n y + d ≤ rho_of n z + d
 unfolding rho_of
 rho_grows zero y z d le = omega arith

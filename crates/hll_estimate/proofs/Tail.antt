@@ -1,5 +1,5 @@
 -- SPDX-License-Identifier: Apache-2.0
--- Lemmas on the exact terms: which powers are small, and how large the sum is at least.
+-- Lemmas on the exact terms: which powers are small, and a lower bound of the sum.
 use Rattle.std.proofs.Common.{◌≡◌, ℕ, zero, suc, ◌+◌, ◌*◌, ◌^◌, ◌<◌, ◌≤◌, sym, ap, ◌∙◌, refl, arith}
 use Rattle.std.proofs.Math.Nat.{mul-le-mul_left, mul-le-mul_right, le_of_mul-le-mul_right, pow-suc, pow-zero, pow-le-pow_left, two-pow-succ}
 use Rattle.std.proofs.lemmas.Nat.{mul-le, pow-add, mul-pow}
@@ -25,7 +25,7 @@ unfolding repeated
 repeated_power zero a = (let e : a ≡ 1 * a = omega arith in e) ∙ ap (λ x. x * a) (sym (pow-zero a)) ∙ sym (pow-suc a 0)
 repeated_power (suc n) a = repeated_power n (a * a) ∙ mul-pow a a (2 ^ n) ∙ sym (pow-add a (2 ^ n) (2 ^ n)) ∙ ap (λ i. a ^ i) (sym (two-pow-succ n))
 
--- a part below 1 of 2^k is at most a half, raised to 2^k
+-- a fraction with denominator 2^k that is below 1, to the power 2^k, is at most a half
 pub small_half : (k c : ℕ) → 0 < c → c < 2 ^ k → repeated k c * 2 ≤ repeated k (2 ^ k)
 small_half k c some lt = rw (repeated_power k c, repeated_power k (2 ^ k)) (let h = half c (2 ^ k) some lt in omega (arith, h))
 
@@ -37,7 +37,7 @@ pow_times a i (suc j) =
 raised : (x y j : ℕ) → 2 * x ≤ y → x ^ j * 2 ^ j ≤ y ^ j
 raised x y j le = let p : (2 * x) ^ j ≤ y ^ j = pow-le-pow_left le j in omega (arith, p, mul-pow 2 x j)
 
--- and 2^-128, raised to 2^(k + 7)
+-- and to the power 2^(k + 7), at most 2^-128
 pub small_power : (k c : ℕ) → 0 < c → c < 2 ^ k → repeated (k + 7) c * 2 ^ 128 ≤ repeated (k + 7) (2 ^ k)
 small_power k c some lt =
     let m : ℕ = 2 ^ k in

@@ -1,5 +1,5 @@
 -- SPDX-License-Identifier: Apache-2.0
--- How near the weight by floors is to the exact one.
+-- How near the weight in fixed point is to the exact one.
 use Rattle.std.proofs.Common.{◌≡◌, ℕ, zero, suc, ◌+◌, ◌-◌, ◌*◌, ◌/◌, ◌^◌, ◌<◌, ◌≤◌, sym, ap, ◌∙◌, refl, arith}
 use Rattle.std.proofs.Math.Nat.{mul-le-mul_left, mul-le-mul_right, le_of_mul-le-mul_right, div-mul-le_self}
 use Rattle.std.proofs.Math.Pow.{pow_mono}
@@ -11,7 +11,7 @@ use Rattle.hll_estimate.proofs.Numbers.{power_small}
 use Rattle.hll_estimate.proofs.SeriesBounds.{not_above, not_below, error_of, error_sum, repeated}
 use Rattle.hll_estimate.proofs.Tail.{small_half, small_power, least, none}
 
--- more terms are more
+-- a sum of more terms is no smaller
 rho_more : (n t y : ℕ) → n ≤ t → rho_of n y ≤ rho_of t y
 unfolding rho_of
 rho_more zero t y le = omega arith
@@ -60,7 +60,7 @@ product_least c d m zeros some em large =
     let two : c * (d - 1 + 1) ≡ c * d = ap (λ x. c * x) (let e : d - 1 + 1 ≡ d = omega arith in e) in
     omega (arith, one, two)
 
--- the weight is at least so much
+-- a lower bound of the weight
 least_weight : (m c d N D v S : ℕ) → 0 < c → 0 < d → m ≡ c + d → 16 ≤ m → c * D ≤ 2 * d * N → c * 2 ^ 63 ≤ S → v ≡ S * D + 2 ^ 63 * m * N → 15 * 2 ^ 63 * (m * m * D) ≤ 32 * (d * d * v)
 least_weight m c d N D v S zeros some em large low first ev =
     let one : 2 ^ 63 * m * d * (c * D) ≤ 2 ^ 63 * m * d * (2 * d * N) = mul-le-mul_left (2 ^ 63 * m * d) low in
@@ -85,7 +85,7 @@ high_of_parts q r p m c d N D w v S some zeros em small large is floor error hig
     let last : 2 ^ 104 * m * N ≤ 2 ^ 41 * ((q + 1) * D) + v = le_of_mul-le-mul_right all (let e : 1 * 1 ≤ d * d = mul-le 1 1 d d some some in omega (arith, e)) in
     omega (arith, last, ev)
 
--- with the one that was rounded off
+-- with the error of rounding
 rounded : (z D v c S q : ℕ) → z ≡ S + q → 0 < c → c * 2 ^ 63 ≤ S → 2 ^ 41 * v ≤ 2 ^ 41 * ((S + q + 1) * D) + v → 2 ^ 42 * v ≤ (2 ^ 42 + 3) * (z * D)
 rounded z D v c S q ez zeros first le =
     let most : 2 ^ 63 * D ≤ z * D = mul-le-mul_right D (omega arith) in

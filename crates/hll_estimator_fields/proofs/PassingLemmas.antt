@@ -50,7 +50,7 @@ Passes-append n m k a b o p q f g x y = record {
 
 -- ---- stops
 
--- at one line
+-- a stop at one line
 pub Stops-one : (n m : ℕ) (line : List ℕ) (o p : Option (List ℕ)) (f : Bool) (e : Fault) → m ≡ line_number (n + 1) → StopsLine line o p f e →
     Stops n (line ∷ []) o p f (record { line = m; fault = e })
 Stops-one n m line o p f e number h = elim h [
@@ -88,7 +88,7 @@ Stops-one n m line o p f e number h = elim h [
   }))
 ]
 
--- after lines that were passed on
+-- a stop after lines that were passed on
 pub Stops-after : (n m : ℕ) (a b : List (List ℕ)) (o p q : Option (List ℕ)) (f g : Bool) (e : MergeError) → Passes n a m o p f → Stops m b p q g e → Stops n (a ++ b) o q g e
 Stops-after n m a b o p q f g e x h = elim h [
   | inl s ↦ inl (record {
@@ -134,7 +134,7 @@ Stops-after n m a b o p q f g e x h = elim h [
       ]
 ]
 
--- and before others
+-- a stop before other lines
 pub Stops-before : (n : ℕ) (a b : List (List ℕ)) (o p : Option (List ℕ)) (f : Bool) (e : MergeError) → Stops n a o p f e → Stops n (a ++ b) o p f e
 Stops-before n a b o p f e h = elim h [
   | inl s ↦ inl (record {
@@ -182,7 +182,7 @@ Stops-before n a b o p f e h = elim h [
 
 -- ---- one line
 
--- bytes that are read as a sketch have the size that they ask for
+-- bytes that are read as a sketch have the size that they need
 pub sized_if_read : (bytes : List ℕ) (x : Sketch) → IsReadAs bytes x → size_fault bytes ≡ None
 sized_if_read bytes x read =
     none_before (header_checks bytes ++ (checks_after bytes).size) (checks_after bytes).content
@@ -195,13 +195,13 @@ refused_bytes line bytes r e digits is h = elim h [
   | inr fault ↦ inr (inr (bytes, digits, r, fault, is))
 ]
 
--- a line whose bytes are refused
+-- a line whose bytes are rejected
 pub refused_line : {T : Type 0} (P : T → Type 0) (line bytes : List ℕ) (old : Option (List ℕ)) (failed : Bool) (r : Reason) (result : Result T Fault) → IsErrAnd result (λ e. e ≡ fault_of r) → failed ≡ false →
     image_step line ≡ Ok (image bytes) → (r ≡ reasons.Memory) ⊎ (first_fault bytes ≡ Some r) → MatchResult result P (λ e. StopsLine line old old failed e)
 refused_line P line bytes old failed r (Ok x) is works digits fault = absurd is
 refused_line P line bytes old failed r (Err e) is works digits fault = inl (works, Appends-nil old, refused_bytes line bytes r e digits is fault)
 
--- what is written of a line that is passed on
+-- what is written for a line that is passed on
 pub written_line : {T : Type 0} (line new : List ℕ) (old now : Option (List ℕ)) (was failed : Bool) (r : Result T Fault) → was ≡ false → IsPassed line (printed_line new) →
     OnOk r (Appends old now (printed_line new) × (failed ≡ was)) →
     IfErr r (λ e. (e ≡ Write) × (failed ≡ true) × (n : ℕ) × (n < length (printed_line new)) × Appends old now (take n (printed_line new))) →

@@ -1,5 +1,5 @@
 -- SPDX-License-Identifier: Apache-2.0
--- Lemmas on the answer of a run.
+-- Lemmas on the result of a run.
 use Rattle.std.proofs.Common.{◌≡◌, ℕ, Bool, false, List, Option, Result, Ok, Err, inl, inr, refl, sym, ap, subst, ◌∙◌, ◌++◌}
 use Rattle.std.specs.Io.KnownBytes.{Consumes, IsAtEnd}
 use Rattle.std.specs.Result.{IsErrAnd, MatchResult}
@@ -15,7 +15,7 @@ use Rattle.hll_estimator_fields.proofs.PassingLemmas.{Passes-append, Passes-of, 
 whole : (text pending : List ℕ) → pending ≡ open_line text → ended_lines text ++ line_of_rest pending ≡ lines text
 whole text pending is = ap (λ bs. ended_lines text ++ line_of_rest bs) is ∙ sym (lines-ended text)
 
--- the reader is at its end, the lines that ended were passed on, and then the line that lacks its LF was passed on or not
+-- the reader is at its end, and the lines that ended were passed on; then the line that lacks its LF was passed on or not
 pub finished : {T : Type 0} (r : Result T MergeError) (s : Streams) (mid : Option (List ℕ)) (failed : Bool) (text pending : List ℕ) (n : ℕ) →
     s.reader_failed ≡ false → Consumes s.before s.after text → IsAtEnd s.after → pending ≡ open_line text → Passes 0 (ended_lines text) n s.old mid failed →
     MatchResult r (λ _. (m : ℕ) × Passes n (line_of_rest pending) m mid s.new s.writer_failed) (λ e. Stops n (line_of_rest pending) mid s.new s.writer_failed e) →
@@ -35,7 +35,7 @@ finished (Err e) s mid failed text pending n reader read end is ended rest =
           (Stops-after 0 n (ended_lines text) (line_of_rest pending) s.old mid s.new failed s.writer_failed e ended rest);
     })
 
--- a refusal that is passed on
+-- an error that is passed on
 pub refused_with : {T : Type 0} (P : T → Type 0) (Q : MergeError → Type 0) (r : Result T MergeError) (e : MergeError) → IsErrAnd r (λ f. f ≡ e) → Q e → MatchResult r P Q
 refused_with P Q (Ok x) e h q = absurd h
 refused_with P Q (Err f) e h q = subst Q (sym h) q

@@ -20,7 +20,7 @@ module _ {X : Type 0} (n k : ℕ) (xs : List X) (blocks : List (List X)) (i : �
   pub get_or-blocks : get_or blocks i d ≡ take n (drop (i * n) xs)
   get_or-blocks = ap (λ bs. get_or bs i d) are ∙ get_or-first_chunks n k xs i d inside
 
-  -- one block more
+  -- one more block
   pub take_block : take ((i + 1) * n) xs ≡ take (i * n) xs ++ get_or blocks i d
   take_block =
       let more : (i + 1) * n ≡ i * n + n = omega arith in

@@ -11,7 +11,7 @@ use Rattle.std.proofs.lemmas.Bool.Decides.{nat_tests}
 use Rattle.hll_kernels.proofs.Blocks.{take_block}
 use mathlib.Core.List.{map}
 
--- whether all are at most a bound
+-- whether all bytes are at most a bound
 abbrev pub are_within : ℕ → List ℕ → Bool
 are_within bound xs = list_all (λ b. nat_le b bound) xs
 
@@ -38,14 +38,14 @@ lanes_within bound (x ∷ xs) [] e = absurd (omega arith)
 lanes_within bound (x ∷ xs) (y ∷ ys) e =
     (λ i. greater_within x y bound i && lanes_within bound xs ys (omega arith) i) ∙ swapped (nat_le x bound) (nat_le y bound) (are_within bound xs) (are_within bound ys)
 
--- with one block more
+-- after one more block
 pub block_within : (bound n k : ℕ) (xs : List ℕ) (blocks : List (List ℕ)) (i : ℕ) (d lanes : List ℕ) → blocks ≡ first_chunks n k xs → i < k → length lanes ≡ length (get_or blocks i d) →
     are_within bound (take (i * n) xs) ≡ are_within bound lanes → are_within bound (take ((i + 1) * n) xs) ≡ are_within bound (greater_lanes lanes (get_or blocks i d))
 block_within bound n k xs blocks i d lanes are inside long so_far =
     ap (are_within bound) (take_block n k xs blocks i d are inside) ∙ list_all-append (λ b. nat_le b bound) (take (i * n) xs) (get_or blocks i d)
     ∙ ap (λ b. b && are_within bound (get_or blocks i d)) so_far ∙ sym (lanes_within bound lanes (get_or blocks i d) long)
 
--- with the rest
+-- after the rest
 pub whole_within : (bound n : ℕ) (xs rest lanes : List ℕ) (a b : ℕ) → are_within bound (take n xs) ≡ are_within bound lanes → rest ≡ drop n xs →
     are_within bound lanes ≡ nat_le a bound → are_within bound rest ≡ nat_le b bound → are_within bound xs ≡ nat_le (max a b) bound
 whole_within bound n xs rest lanes a b front is first second =

@@ -68,7 +68,7 @@ group_bytes-group_fields g is =
     let last : n / 65536 ≡ c = omega arith in
     (λ i. (ap (λ v. v % 256) back ∙ one) i ∷ (ap (λ v. v / 256 % 256) back ∙ two) i ∷ (ap (λ v. v / 65536) back ∙ last) i ∷ []) ∙ sym (three g is.three)
 
--- a field has six bits
+-- a register of a group is at most 63
 pub small-group_fields : (g : List ℕ) → IsGroup g → All (λ v. v ≤ 63) (group_fields g)
 small-group_fields g is zero d h = omega arith
 small-group_fields g is (suc zero) d h = omega arith
@@ -100,18 +100,18 @@ small-registers_in (g ∷ G) h = All-append (λ v. v ≤ 63) (group_fields g) (r
 pub groups-pow : (k : ℕ) → 2 ≤ k → 4 * 2 ^ (k - 2) ≡ 2 ^ k
 groups-pow k h = sym (ap (λ n. 2 ^ n) (let e : k ≡ suc (suc (k - 2)) = omega arith in e) ∙ omega (arith, pow-suc 2 (suc (k - 2)), pow-suc 2 (k - 2)))
 
--- so groups are registers
+-- so the registers in groups are registers
 pub AreRegisters-registers_in : (k : ℕ) (G : List (List ℕ)) → 2 ≤ k → AreGroups k G → AreRegisters k (registers_in G)
 AreRegisters-registers_in k G h are = record {
   size = length-registers_in G ∙ ap (λ n. 4 * n) are.size ∙ groups-pow k h;
   small = small-registers_in G are.bytes;
 }
 
--- there are a quarter as many groups as registers
+-- the number of groups is a quarter of the number of registers
 pub size-AreGroups : (k : ℕ) (G : List (List ℕ)) → 2 ≤ k → AreGroups k G → 4 * length G ≡ 2 ^ k
 size-AreGroups k G h are = ap (λ n. 4 * n) are.size ∙ groups-pow k h
 
--- and not many
+-- there are at most 2^19 groups
 pub few-AreGroups : (k : ℕ) (G : List (List ℕ)) → k ≤ 21 → AreGroups k G → length G ≤ 2 ^ 19
 few-AreGroups k G h are = omega (arith, are.size, pow_mono (let less : k - 2 ≤ 19 = omega arith in less))
 
@@ -191,7 +191,7 @@ All-IsGroup-first_chunks (suc n) b h bytes =
     let rest : All IsGroup (first_chunks 3 n (drop 3 b)) = All-IsGroup-first_chunks n (drop 3 b) (omega (arith, length-drop 3 b)) (All-drop (λ v. v < 256) 3 b bytes) in
     All-cons IsGroup (take 3 b) (first_chunks 3 n (drop 3 b)) group rest
 
--- their registers are the fields of the bytes, up to two bytes at the end aside
+-- their registers are those in the bytes, except for up to two bytes at the end
 pub registers_in-first_chunks : (n : ℕ) (b : List ℕ) → 3 * n ≤ length b → length b < 3 * n + 3 → registers_in (first_chunks 3 n b) ≡ fields b
 registers_in-first_chunks zero [] h l = refl
 registers_in-first_chunks zero (a ∷ []) h l = refl
@@ -202,7 +202,7 @@ registers_in-first_chunks (suc n) (a ∷ []) h l = absurd (omega arith)
 registers_in-first_chunks (suc n) (a ∷ b ∷ []) h l = absurd (omega arith)
 registers_in-first_chunks (suc n) (a ∷ b ∷ c ∷ rest) h l = ap (λ R. group_fields (a ∷ b ∷ c ∷ []) ++ R) (registers_in-first_chunks n rest (omega arith) (omega arith))
 
--- four for each three bytes
+-- there are four registers for each three bytes
 pub length-fields : (n : ℕ) (b : List ℕ) → length b ≡ 3 * n + 1 → length (fields b) ≡ 4 * n
 length-fields zero (a ∷ []) e = refl
 length-fields n [] e = absurd (omega arith)
@@ -244,7 +244,7 @@ list_all-registers_in (g ∷ G) h =
 
 -- ---- equality
 
--- groups are equal where their registers are
+-- groups are equal if their registers are
 pub pointwise-registers_in : (G H : List (List ℕ)) → All IsGroup G → All IsGroup H → pointwise (pointwise nat_eq) G H ≡ pointwise nat_eq (registers_in G) (registers_in H)
 pointwise-registers_in G H a b =
     let groups = slice_eq-Decides bytes_decides G H (pointwise (pointwise nat_eq) G H) refl in

@@ -35,7 +35,7 @@ above_zero : (n : ℕ) → ◌≡◌ {A = ℕ} (cond (n == 0) 1 0) 0 → 0 < n
 above_zero zero e = absurd (omega arith)
 above_zero (suc n) e = omega arith
 
--- without one each nibble is above 0
+-- if no nibble is 0, each is above 0
 pub nibbles_above_zero : (xs : List ℕ) → zero_nibbles xs ≡ 0 → Each1 (λ b. (0 < b % 16) × (0 < b / 16)) xs
 nibbles_above_zero [] none = tt
 nibbles_above_zero (x ∷ xs) none =
@@ -144,7 +144,7 @@ module _ (at n : ℕ) (R V : List ℕ) (done : V ≡ put_chunk 0 R (map lowered_
   long : at ≡ length (map lowered_byte (take at R))
   long = omega (arith, length-map (take at R) lowered_byte, length-take-le at R (omega arith))
 
-  -- the next part is as it was
+  -- the next part is unchanged
   pub next_part : chunk at n V ≡ chunk at n R
   next_part = ap (take n) (put_left at R V (map lowered_byte (take at R)) done long)
 
@@ -172,7 +172,7 @@ one_chunk zero (v ∷ V) h = refl
 one_chunk (suc p) [] h = absurd (omega arith)
 one_chunk (suc p) (v ∷ V) h = one_chunk p V (omega arith)
 
--- the rest is as it was
+-- the rest is unchanged
 pub rest_part : (at k : ℕ) (R V : List ℕ) → V ≡ put_chunk 0 R (map lowered_byte (take at R)) → at ≤ length R → at + k ≡ length V → mid_of at k V ≡ drop at R
 rest_part at k R V done room e =
     let long : at ≡ length (map lowered_byte (take at R)) = omega (arith, length-map (take at R) lowered_byte, length-take-le at R room) in

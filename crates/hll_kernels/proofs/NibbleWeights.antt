@@ -90,7 +90,7 @@ high_units-nibble_values m (b ∷ B) =
       high_units-nibble_values m B,
     )
 
--- the sums over low nibbles and over high ones
+-- the sums over low nibbles and over high nibbles
 pub AreSumsOf-nibbles : (a b s : WeightSums) (m : ℕ) (B : List ℕ) → AreSumsOf a (map (λ n. m + n) (low_of B)) → AreSumsOf b (map (λ n. m + n) (high_of B)) → s.low ≡ a.low + b.low → s.high ≡ a.high + b.high →
     AreSumsOf s (nibble_values m B)
 AreSumsOf-nibbles a b s m B low high l h = record {

@@ -1,5 +1,5 @@
 -- SPDX-License-Identifier: Apache-2.0
--- Lemmas on lists that are raised or written part after part.
+-- Lemmas on lists that are changed part by part: by a maximum, or by writing.
 use Rattle.std.proofs.Common.{◌≡◌, ℕ, ◌+◌, ◌<◌, ◌≤◌, zero, suc, List, [], ◌∷◌, ◌++◌, length, get_or, take, drop, cond, nat_lt, max, refl, sym, ap, ◌∙◌, arith}
 use Rattle.std.specs.Simd.Lanes.{zip2, sel_l, top, put_chunk}
 use Rattle.std.proofs.Math.ListN.{set}
@@ -26,7 +26,7 @@ length-max_at zero (r ∷ R) (q ∷ Q) = ap suc (length-max_at zero R Q)
 length-max_at (suc at) [] Q = refl
 length-max_at (suc at) (r ∷ R) Q = ap suc (length-max_at at R Q)
 
--- one part more
+-- one more part
 pub max_more : (at n : ℕ) (R P Q : List ℕ) → n ≡ at + length P → n ≤ length R → max_at n (max_at at R P) Q ≡ max_at at R (P ++ Q)
 max_more zero zero R [] Q e h = ap (λ S. max_at zero S Q) (max_none zero R)
 max_more zero (suc n) R [] Q e h = absurd (omega arith)
@@ -99,7 +99,7 @@ put_none zero (r ∷ R) = refl
 put_none (suc at) [] = refl
 put_none (suc at) (r ∷ R) = ap (λ S. r ∷ S) (put_none at R)
 
--- one part more
+-- one more part
 pub put_more : {X : Type 0} (at n : ℕ) (R P Q : List X) → n ≡ at + length P → n ≤ length R → put_chunk n (put_chunk at R P) Q ≡ put_chunk at R (P ++ Q)
 put_more zero zero R [] Q e h = ap (λ S. put_chunk zero S Q) (put_none zero R)
 put_more zero (suc n) R [] Q e h = absurd (omega arith)
@@ -117,20 +117,20 @@ put_one zero (r ∷ R) q h = ap (λ S. q ∷ S) (sym (put_none zero R))
 put_one (suc at) [] q h = absurd (omega arith)
 put_one (suc at) (r ∷ R) q h = ap (λ S. r ∷ S) (put_one at R q (omega arith))
 
--- all from the front on
+-- writing all elements, from the first on
 put_whole : {X : Type 0} (R P : List X) → length R ≡ length P → put_chunk 0 R P ≡ P
 put_whole [] [] e = refl
 put_whole [] (p ∷ P) e = absurd (omega arith)
 put_whole (r ∷ R) [] e = absurd (omega arith)
 put_whole (r ∷ R) (p ∷ P) e = ap (λ S. p ∷ S) (put_whole R P (omega arith))
 
--- the front that was written
+-- the prefix that was written
 take-put : {X : Type 0} (R P : List X) → length P ≤ length R → take (length P) (put_chunk 0 R P) ≡ P
 take-put R [] h = refl
 take-put [] (p ∷ P) h = absurd (omega arith)
 take-put (r ∷ R) (p ∷ P) h = ap (λ S. p ∷ S) (take-put R P (omega arith))
 
--- and what is after it
+-- the rest after the prefix
 drop-put : {X : Type 0} (R P : List X) → drop (length P) (put_chunk 0 R P) ≡ drop (length P) R
 drop-put [] [] = refl
 drop-put (r ∷ R) [] = refl
@@ -141,7 +141,7 @@ drop-put (r ∷ R) (p ∷ P) = drop-put R P
 pub put_step : {X : Type 0} (at : ℕ) (R V P Q : List X) → V ≡ put_chunk 0 R P → at ≡ length P → at ≤ length R → put_chunk at V Q ≡ put_chunk 0 R (P ++ Q)
 put_step at R V P Q v long room = ap (λ S. put_chunk at S Q) v ∙ put_more 0 at R P Q (omega arith) room
 
--- what is not yet written is as it was
+-- what is not yet written is unchanged
 pub put_left : {X : Type 0} (at : ℕ) (R V P : List X) → V ≡ put_chunk 0 R P → at ≡ length P → drop at V ≡ drop at R
 put_left at R V P v long = (λ i. drop (long i) (v i)) ∙ drop-put R P ∙ ap (λ n. drop n R) (sym long)
 

@@ -1,5 +1,5 @@
 -- SPDX-License-Identifier: Apache-2.0
--- Lemmas on registers: their join, and the least of them.
+-- Lemmas on the maximum of registers, and on the least register.
 use Rattle.std.proofs.Common.{◌≡◌, ℕ, ◌+◌, ◌<◌, ◌≤◌, zero, suc, List, [], ◌∷◌, length, take, get_or, All, refl, ap, ◌∙◌, arith}
 use Rattle.std.specs.Prelude.{min, max, fold}
 use Rattle.std.proofs.lemmas.List.Elements.{All-from_get_or}
@@ -7,7 +7,7 @@ use Rattle.hll_base.specs.Join.{join}
 use Rattle.hll_base.proofs.Joins.{length-join, get_or-join}
 use Rattle.hll_kernels.specs.Packed.{AreRegisters}
 
--- and so is a join with it
+-- a maximum with registers is registers
 pub AreRegisters-join : (k : ℕ) (R Q J : List ℕ) → AreRegisters k R → length R ≡ length Q → All (λ v. v ≤ 63) Q → J ≡ join R Q → AreRegisters k J
 AreRegisters-join k R Q J are same small is = record {
   size = ap length is ∙ length-join R Q same ∙ are.size;
@@ -19,7 +19,7 @@ AreRegisters-join k R Q J are same small is = record {
       omega arith);
 }
 
--- the least of one more
+-- the least after one more register
 pub fold_more : (a i : ℕ) (xs : List ℕ) → i < length xs → fold min a (take (i + 1) xs) ≡ min (fold min a (take i xs)) (get_or xs i 0)
 fold_more a i [] h = absurd (omega arith)
 fold_more a zero (x ∷ xs) h = refl

@@ -25,7 +25,7 @@ nibble_at-high b bs h = omega arith
 not_zero : (n : ℕ) → n ≢ 0 → ◌≡◌ {A = ℕ} (cond (eqb n 0) 1 0) 0
 not_zero n h = cond-false (eqb n 0) 1 0 (elim (cases_Bool (eqb n 0)) [ inl t ↦ absurd (h (eqb-true n 0 t)) | inr f ↦ f ])
 
--- no nibble is 0 where each is another number
+-- no nibble is 0 if each is another number
 pub none_zero : (bytes : List ℕ) → All (λ b. b < 256) bytes → ((s : ℕ) → s < 2 * length bytes → nibble_at bytes s ≢ 0) → zero_nibbles bytes ≡ 0
 none_zero [] fits h = refl
 none_zero (b ∷ bs) fits h =
@@ -72,7 +72,7 @@ lowered_by-mark d n e = cond-true (eqb n 15) 15 (n - d) (eq-eqb n 15 e)
 pub lowered_by-other : (d n : ℕ) → n ≢ 15 → lowered_by d n ≡ n - d
 lowered_by-other d n h = cond-false (eqb n 15) 15 (n - d) (ne_eqb n 15 h)
 
--- one step more
+-- one more step
 pub lowered_by-more : (i n : ℕ) → n < 16 → (n ≡ 15) ⊎ (i < n) → lowered_nibble (lowered_by i n) ≡ lowered_by (i + 1) n
 lowered_by-more i n small h = elim (cases_eq n 15) [
   | inl e ↦ ap lowered_nibble (lowered_by-mark i n e) ∙ sym (lowered_by-mark (i + 1) n e)
@@ -83,7 +83,7 @@ lowered_by-more i n small h = elim (cases_eq n 15) [
       ap lowered_nibble (lowered_by-other i n other) ∙ cond-false (eqb (n - i) 15) 15 (n - i - 1) (ne_eqb (n - i) 15 under) ∙ step ∙ sym (lowered_by-other (i + 1) n other)
 ]
 
--- it is above 0 before the last
+-- the nibble is above 0 before the last step
 pub lowered_by-some : (i n : ℕ) → (n ≡ 15) ⊎ (i < n) → lowered_by i n ≢ 0
 lowered_by-some i n h z = elim (cases_eq n 15) [
   | inl e ↦ let none : 15 ≡ 0 = sym (lowered_by-mark i n e) ∙ z in omega (arith, none)

@@ -1,5 +1,5 @@
 -- SPDX-License-Identifier: Apache-2.0
--- Lemmas on registers of six bits in lanes.
+-- Lemmas on 6-bit registers in lanes.
 use Rattle.std.proofs.Common.{◌≡◌, ℕ, ◌+◌, ◌-◌, ◌*◌, ◌/◌, ◌%◌, ◌^◌, ◌<◌, ◌≤◌, zero, suc, List, [], ◌∷◌, ◌++◌, length, get_or, take, drop, replicate, cond, max, All, bit_and, bit_or, refl, sym, ap, subst, ◌∙◌, arith}
 use Rattle.std.specs.Prelude.{◌&&◌, ◌==◌, nat_le, nat_lt}
 use Rattle.std.specs.List.{flat_map}
@@ -59,7 +59,7 @@ digits_bytes (suc (suc (suc (suc m)))) (w ∷ ws) e h =
     let high : t / 256 / 256 / 256 / 256 ≡ n = omega arith in
     (λ i. one i ∷ two i ∷ three i ∷ four i ∷ digits_l 256 m (high i)) ∙ ap (λ S. (w % 256) ∷ (w / 256 % 256) ∷ (w / 65536 % 256) ∷ (w / 16777216 % 256) ∷ S) (digits_bytes m ws (omega arith) h.1)
 
--- six bits of each word
+-- six bits of each 32-bit number
 pub field_lanes : (n from : ℕ) (ws : List ℕ) → length ws ≡ n → zip2 bit_and (zip2 (λ a b. a / 2 ^ b) ws (replicate n from)) (replicate n 63) ≡ map (λ w. w / 2 ^ from % 64) ws
 field_lanes zero from [] e = refl
 field_lanes zero from (w ∷ ws) e = absurd (omega arith)
@@ -98,7 +98,7 @@ one_group a b c d ha hb hc hd =
     let u = parts (g % 64) (g / 64 % 64) (g / 4096 % 64) (g / 262144) (omega arith) (omega arith) (omega arith) l3 in
     (ap (λ n. n % 256) t ∙ u.0, ap (λ n. n / 256 % 256) t ∙ u.1, ap (λ n. n / 65536 % 256) t ∙ u.2, ap (λ n. n / 16777216 % 256) t ∙ u.3)
 
--- four fields of each word, a byte each
+-- four registers of each 32-bit number, a byte each
 pub spread_lanes : (n : ℕ) (xs : List ℕ) → length xs ≡ 4 * n → Each1 (λ x. x < 256) xs →
     bytes_of (zip2 (λ a b. (a + b) % 4294967296)
     (zip2 (λ a b. (a + b) % 4294967296) (map (λ w. w / 2 ^ 0 % 64) (words_of xs)) (zip2 (λ a b. a * 2 ^ b % 4294967296) (map (λ w. w / 2 ^ 6 % 64) (words_of xs)) (replicate n 8)))
@@ -116,7 +116,7 @@ spread_lanes (suc n) (a ∷ b ∷ c ∷ d ∷ xs) e h =
 
 -- ---- zeros
 
--- what each lane is compared with: n words
+-- the bounds that the byte before each lane is compared with, for n 32-bit numbers
 abbrev belows : ℕ → List ℕ
 belows zero = []
 belows (suc n) = 255 ∷ 63 ∷ 15 ∷ 3 ∷ belows n
@@ -129,7 +129,7 @@ either : (u l : ℕ) → (bit_or u l == 0) ≡ ((u == 0) && (l == 0))
 either zero l = refl
 either (suc u) l = grind (arith, nat_tests, le_or_l (suc u) l)
 
--- what is above a bound is 0 and some bits are
+-- a difference or-ed with some bits is 0 exactly if both are 0
 both : (y m l : ℕ) → (bit_or (y - m) l == 0) ≡ (nat_le y m && (l == 0))
 both y m l = either (y - m) l ∙ ap (λ t. t && (l == 0)) (grind (arith, nat_tests))
 
@@ -193,15 +193,15 @@ counted : (xs : List ℕ) → sum_l (map (λ b. cond {A = ℕ} b 1 0) (map (λ v
 counted [] = refl
 counted (x ∷ xs) = ap (λ n. cond (x == 0) 1 0 + n) (counted xs) ∙ sym (sum_by-cons (λ v. cond (v == 0) 1 0) x xs)
 
--- how many zeros there are is seen from which values are 0
+-- the number of zeros is determined by which values are 0
 zeros_by_tests : (xs ys : List ℕ) → map (λ v. v == 0) xs ≡ map (λ v. v == 0) ys → zeros xs ≡ zeros ys
 zeros_by_tests xs ys e = sym (counted xs) ∙ ap (λ bs. sum_l (map (λ b. cond {A = ℕ} b 1 0) bs)) e ∙ counted ys
 
--- by how much the byte before each of sixteen is above the greatest that has none of the register's bits
+-- the difference of the byte before each of sixteen lanes and the greatest byte that has none of the register's bits
 abbrev upper_lanes : List ℕ → List ℕ
 upper_lanes xs = zip2 (λ a b. a - b) (pick_l 0 (xs ++ xs) (15 ∷ 0 ∷ 1 ∷ 2 ∷ 3 ∷ 4 ∷ 5 ∷ 6 ∷ 7 ∷ 8 ∷ 9 ∷ 10 ∷ 11 ∷ 12 ∷ 13 ∷ 14 ∷ [])) (belows 4)
 
--- the lanes of sixteen bytes, 0 where their registers are
+-- the lanes of sixteen bytes; a lane is 0 if its register is
 abbrev tested_lanes : List ℕ → List ℕ
 tested_lanes xs = zip2 bit_or (upper_lanes xs) (zip2 bit_and xs (lowers 4))
 
@@ -221,7 +221,7 @@ nonzeros_of_fields xs e k =
     ∙ zero_lanes 4 (get_or xs 15 0) xs e (Each1-get_or (λ x. x < 256) xs 15 0 (omega (arith, e)) k) k) in
     omega (arith, same, nonzeros_by_lanes 16 (tested_lanes xs) (length-tested_lanes xs e))
 
--- what each value is above another
+-- the saturating difference of values
 pub saturated : (xs ys : List ℕ) → length xs ≡ length ys → Each1 (λ x. x < 256) xs → Each1 (λ y. y < 256) ys →
     zip2 (λ a b. (a + (256 - b)) % 256) (sel_l (map (top 7) (zip2 (λ a b. cond (nat_lt a b) 255 0) xs ys)) ys xs) ys ≡ zip2 (λ a b. a - b) xs ys
 saturated [] [] e h k = refl
@@ -263,7 +263,7 @@ fields-group (a ∷ b ∷ []) e = absurd (omega arith)
 fields-group (a ∷ b ∷ c ∷ []) e = refl
 fields-group (a ∷ b ∷ c ∷ d ∷ g) e = absurd (omega arith)
 
--- the bytes of groups in a row
+-- the bytes of consecutive groups
 pub fields-flat_map : (G : List (List ℕ)) → ((k : ℕ) → k < length G → length (get_or G k []) ≡ 3) → fields (flat_map (λ g. g) G) ≡ registers_in G
 fields-flat_map [] h = refl
 fields-flat_map (g ∷ G) h =
@@ -280,7 +280,7 @@ fields-parts xs e =
     let whole : take 48 xs ≡ xs = take_all 48 xs (omega arith) in
     sym (sym (ap fields whole) ∙ c ∙ ap (λ S. S ++ fields (chunk 36 12 xs)) (b ∙ ap (λ S. S ++ fields (chunk 24 12 xs)) a))
 
--- fields of bytes have six bits
+-- the registers in bytes are at most 63
 pub small-fields : (k : ℕ) (xs : List ℕ) → length xs ≡ 3 * k → All (λ b. b < 256) xs → All (λ v. v ≤ 63) (fields xs)
 small-fields zero [] e h = λ j d l. absurd (omega arith)
 small-fields zero (a ∷ xs) e h = absurd (omega arith)
@@ -292,7 +292,7 @@ small-fields (suc k) (a ∷ b ∷ c ∷ xs) e h =
     All-append (λ v. v ≤ 63) (group_fields (a ∷ b ∷ c ∷ [])) (fields xs) (small-group_fields (a ∷ b ∷ c ∷ []) group)
     (small-fields k xs (omega arith) (All-drop (λ x. x < 256) 3 (a ∷ b ∷ c ∷ xs) h))
 
--- zeros are raised to what they are raised by
+-- the maximum of zeros and some values is these values
 pub join_zeros : (n k : ℕ) (Q : List ℕ) → k ≤ n → length Q ≡ k → join (take k (replicate n 0)) Q ≡ Q
 join_zeros n zero [] h e = refl
 join_zeros n zero (q ∷ Q) h e = absurd (omega arith)
@@ -300,7 +300,7 @@ join_zeros zero (suc k) Q h e = absurd (omega arith)
 join_zeros (suc n) (suc k) [] h e = absurd (omega arith)
 join_zeros (suc n) (suc k) (q ∷ Q) h e = λ i. (let top : max 0 q ≡ q = omega arith in top) i ∷ join_zeros n k Q (omega arith) (omega arith) i
 
--- four parts in turn
+-- four parts, one after the other
 pub max_four : (at n1 n2 n3 m : ℕ) (R P0 P1 P2 P3 : List ℕ) → length P0 ≡ m → length P1 ≡ m → length P2 ≡ m → n1 ≡ at + m → n2 ≡ at + 2 * m → n3 ≡ at + 3 * m → n3 ≤ length R →
     max_at n3 (max_at n2 (max_at n1 (max_at at R P0) P1) P2) P3 ≡ max_at at R (((P0 ++ P1) ++ P2) ++ P3)
 max_four at n1 n2 n3 m R P0 P1 P2 P3 l0 l1 l2 e1 e2 e3 h =
@@ -312,7 +312,7 @@ max_four at n1 n2 n3 m R P0 P1 P2 P3 l0 l1 l2 e1 e2 e3 h =
 
 -- ---- packing
 
--- four registers in a word as one number
+-- four registers as one 32-bit number
 one_number : (a b c d : ℕ) → a ≤ 63 → b ≤ 63 → c ≤ 63 → d ≤ 63 →
     let w = a + 256 * b + 65536 * c + 16777216 * d in
     ((w / 1 % 64 + w / 256 % 64 * 64 % 4294967296) % 4294967296 + (w / 65536 % 64 * 4096 % 4294967296 + w / 16777216 % 64 * 262144 % 4294967296) % 4294967296) % 4294967296 ≡ a + 64 * b + 4096 * c + 262144 * d
@@ -425,7 +425,7 @@ IsGroup-groups_of (suc k) (a ∷ b ∷ c ∷ d ∷ xs) e h =
     All-cons (group_bytes a b c d) (groups_of xs) (one_group_bytes a b c d (h 0 0 (omega arith)) (h 1 0 (omega arith)) (h 2 0 (omega arith)) (h 3 0 (omega arith)))
     (IsGroup-groups_of k xs (omega arith) (All-four a b c d xs h))
 
--- four groups in turn
+-- four groups, one after the other
 pub put_four : {X : Type 0} (at : ℕ) (G : List X) (a b c d : X) → at + 4 ≤ length G → set (set (set (set G at a) (at + 1) b) (at + 2) c) (at + 3) d ≡ put_chunk at G (a ∷ b ∷ c ∷ d ∷ [])
 put_four zero [] a b c d h = absurd (omega arith)
 put_four zero (w ∷ []) a b c d h = absurd (omega arith)

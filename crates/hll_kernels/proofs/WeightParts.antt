@@ -76,12 +76,12 @@ AreSumsOf-shifted s l R D is few small low high = record {
   high = high ∙ sym (ap high_units is ∙ high_units-shifted l D few small);
 }
 
--- above zero
+-- with the minimum 0
 pub map-zero : (D : List ℕ) → D ≡ map (λ d. 0 + d) D
 map-zero [] = refl
 map-zero (d ∷ D) = let same : d ≡ 0 + d = omega arith in λ i. same i ∷ map-zero D i
 
--- by differences that wrap
+-- with differences that wrap
 pub map-differences : (l : ℕ) (R : List ℕ) → l ≤ 16 → All (λ v. v ≤ 63) R → All (λ d. d < 16) (map (λ v. (v + (256 - l)) % 256) R) → R ≡ map (λ d. l + d) (map (λ v. (v + (256 - l)) % 256) R)
 map-differences l [] few most small = refl
 map-differences l (v ∷ R) few most small =
@@ -92,7 +92,7 @@ map-differences l (v ∷ R) few most small =
 
 -- ---- values by windows of sixteen
 
--- how far each value is above one, which wraps
+-- the difference of each value and a number, which wraps
 abbrev above : ℕ → List ℕ → List ℕ
 above l R = map (λ v. (v + (256 - l)) % 256) R
 
@@ -141,7 +141,7 @@ AreSumsOf-append a b s P Q p q low high = record {
   high = omega (arith, high, p.high, q.high, sum_by-append high_weight P Q);
 }
 
--- and they can be added
+-- and they fit 64 bits when added
 pub AreSumsOf-fits : (a b : WeightSums) (P Q R : List ℕ) → AreSumsOf a P → AreSumsOf b Q → R ≡ P ++ Q → length R ≤ 2 ^ 23 → (a.low + b.low < 2 ^ 64) × (a.high + b.high < 2 ^ 64)
 AreSumsOf-fits a b P Q R p q is few = (
   omega (arith, p.low, q.low, sum_by-append low_weight P Q, ap low_units is, low_units-le R),

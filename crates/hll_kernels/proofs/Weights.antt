@@ -33,7 +33,7 @@ upper_byte v = window_weight v / 256
 abbrev lower_byte : ℕ → ℕ
 lower_byte v = window_weight v % 256
 
--- no weight
+-- the weight is 0
 none : (v : ℕ) → 16 ≤ v → window_weight v ≡ 0
 none v h = ap (λ b. cond b (2 ^ (15 - v)) 0) (le-ltb v 16 h)
 
@@ -154,7 +154,7 @@ module _ (R U L : List ℕ) (u : sum_l U ≡ sum_l (map (λ v. window_weight v /
   pub sums_by_bytes : 256 * sum_l U + sum_l L ≡ window_units R
   sums_by_bytes = omega (arith, u, l, sum_l-map upper_byte R, sum_l-map lower_byte R, by_bytes R)
 
--- shifted by at most 16 bits
+-- a sum shifted by at most 16 bits fits 64 bits
 pub shifted_fits : (r u s : ℕ) → s ≤ 16 → r ≤ 2097152 → r ≡ u → r * 2 ^ s % 18446744073709551616 ≡ 2 ^ s * u
 shifted_fits r u s few bound is =
     let power : 2 ^ s ≤ 65536 = pow_mono {j = 16} few in

@@ -20,7 +20,7 @@ use mathlib.Core.List.{map}
 pub count_by-take-le : (p : ℕ → Bool) (xs : List ℕ) (n r : ℕ) → r ≡ count_by p (take n xs) → r ≤ length xs
 count_by-take-le p xs n r e = omega (arith, e, count_by-le-length p (take n xs), length-take n xs)
 
--- one block more is counted
+-- one more block is counted
 pub count_block : (p : ℕ → Bool) (n k : ℕ) (xs : List ℕ) (blocks : List (List ℕ)) (i total r : ℕ) (d : List ℕ) →
     total ≡ count_by p (take (i * n) xs) → blocks ≡ first_chunks n k xs → i < k → r ≡ count_by p (get_or blocks i d) → total + r ≡ count_by p (take ((i + 1) * n) xs)
 count_block p n k xs blocks i total r d e are inside here =
@@ -67,7 +67,7 @@ one_more : (b r : Bool) (m : ℕ) → (m == 0) ≡ r → (cond (not b) 1 0 + 2 *
 one_more true r m e = (let twice : (0 + 2 * m == 0) ≡ (m == 0) = grind (arith, nat_tests) in twice) ∙ e
 one_more false r m e = grind (arith, nat_tests)
 
--- by the mask of those that don't
+-- all bytes pass if the mask of those that don't is 0
 pub none_by_mask : (q : ℕ → Bool) (xs : List ℕ) → (mask_l (map (λ x. not (q x)) xs) == 0) ≡ list_all q xs
 none_by_mask q [] = refl
 none_by_mask q (x ∷ xs) = one_more (q x) (list_all q xs) (mask_l (map (λ v. not (q v)) xs)) (none_by_mask q xs)

@@ -14,7 +14,7 @@ max_at zero (r ∷ R) (q ∷ Q) = max r q ∷ max_at zero R Q
 max_at (suc at) [] Q = []
 max_at (suc at) (r ∷ R) Q = r ∷ max_at at R Q
 
--- ---- words
+-- ---- 32-bit numbers
 
 -- each four bytes as a 32-bit number, the lowest byte first
 abbrev pub words_of : List ℕ → List ℕ
@@ -26,7 +26,7 @@ abbrev pub bytes_of : List ℕ → List ℕ
 bytes_of [] = []
 bytes_of (w ∷ ws) = (w % 256) ∷ (w / 256 % 256) ∷ (w / 65536 % 256) ∷ (w / 16777216 % 256) ∷ bytes_of ws
 
--- ---- six bits
+-- ---- 6-bit registers
 
 -- the four registers in the first three of each four bytes
 abbrev pub fields_of : List ℕ → List ℕ
@@ -43,7 +43,7 @@ abbrev pub groups_of : List ℕ → List (List ℕ)
 groups_of (a ∷ b ∷ c ∷ d ∷ R) = group_bytes a b c d ∷ groups_of R
 groups_of _ = []
 
--- ---- four bits
+-- ---- 4-bit registers
 
 -- the two nibbles of each byte plus a minimum, the low nibble first
 abbrev pub nibble_values : ℕ → List ℕ → List ℕ

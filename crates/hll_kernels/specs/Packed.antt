@@ -3,7 +3,7 @@
 use Rattle.std.specs.Prelude.{◌≡◌, ℕ, ◌+◌, ◌-◌, ◌*◌, ◌/◌, ◌%◌, ◌^◌, ◌<◌, ◌≤◌, ◌==◌, if◌then◌else◌, nat_lt, min, List, [], ◌∷◌, ◌++◌, length, count_by, sum_by, slice_index, fold, All}
 use Rattle.hll_kernels.specs.Groups.{group_fields}
 
--- ---- four bits
+-- ---- 4-bit registers
 
 -- the least register, of registers that are at most 63
 abbrev pub minimum : List ℕ → ℕ
@@ -51,7 +51,7 @@ zero_nibbles bytes = count_by (λ b. b % 16 == 0) bytes + count_by (λ b. b / 16
 abbrev pub mark_nibbles : List ℕ → ℕ
 mark_nibbles bytes = count_by (λ b. b % 16 == 15) bytes + count_by (λ b. b / 16 == 15) bytes
 
--- ---- six bits
+-- ---- 6-bit registers
 
 -- four registers in three bytes, the lowest bit first
 abbrev pub group_bytes : ℕ → ℕ → ℕ → ℕ → List ℕ

@@ -1,5 +1,5 @@
 -- SPDX-License-Identifier: Apache-2.0
--- Lemmas on words of binary64.
+-- Lemmas on the 64 bits of binary64 numbers.
 use Rattle.std.proofs.Common.{◌≡◌, ℕ, ◌+◌, ◌-◌, ◌*◌, ◌/◌, ◌%◌, ◌^◌, ◌<◌, ◌≤◌, suc, [], ◌∷◌, get_or, inl, inr, sym, ap, ◌∙◌, arith}
 use Rattle.std.specs.Int.Count.{count_leading_zeros}
 use Rattle.std.proofs.Math.Nat.{le_of_mul-le-mul_right, mul-le-mul_right, mul_assoc}
@@ -36,7 +36,7 @@ shifted_top n positive small =
     let s = shifted n z j (z - 11) top.1 (omega (arith, top.1)) top.2 top.3 in
     record { least = omega (arith, top.1); most = omega (arith, top.1); low = s.0; high = s.1 }
 
--- a word by its exponent and its fraction
+-- the bits of a number by its exponent and its fraction
 pub normal_word : (n s up E f word : ℕ) → up + (E + s) ≡ 1075 → 1 ≤ E → E ≤ 2046 → f < 2 ^ 52 → 2 ^ 52 + f ≡ n * 2 ^ up → word ≡ E * 2 ^ 52 + f → IsNormal word n s
 normal_word n s up E f word sum least most small fraction is =
     let exponent : word / 2 ^ 52 ≡ E = omega arith in
@@ -53,7 +53,7 @@ normal_word n s up E f word sum least most small fraction is =
 
 -- ---- one word, and one state
 
--- of two products of a number of 53 bits and a power, the one with the larger power is larger
+-- the product of a number of 53 bits and a power of two is larger for a larger power
 smaller : (a b i j : ℕ) → a < 2 ^ 53 → 2 ^ 52 ≤ b → i < j → a * 2 ^ i < b * 2 ^ j
 smaller a b i j short long less =
     let above : (a + 1) * 2 ^ i ≤ 2 ^ 53 * 2 ^ i = mul-le-mul_right (2 ^ i) (let next : a + 1 ≤ 2 ^ 53 = omega arith in next) in
@@ -82,14 +82,14 @@ one_normal w v n s p q =
     let most : b ≤ a = le_of_mul-le-mul_right (omega (arith, same)) (pow_pos (w / 2 ^ 52 + s)) in
     omega (arith, powers, least, most)
 
--- a number has one word
+-- a number has only one representation
 pub one_word : (w v n s : ℕ) → IsBinary64 w n s → IsBinary64 v n s → w ≡ v
 one_word w v n s p q = elim (cases_lt 0 n) [
   | inl some ↦ one_normal w v n s (p.normal some) (q.normal some)
   | inr none ↦ let e : n ≡ 0 = omega arith in p.zero e ∙ sym (q.zero e)
 ]
 
--- registers have one state from which a composite estimator computes
+-- registers have one state that a composite estimator computes from
 pub one_estimator_state : OneEstimatorState
 one_estimator_state R s t p q =
     let hip : get_or s.words 0 0 ≡ get_or t.words 0 0 = p.hip ∙ sym q.hip in

@@ -1,5 +1,5 @@
 -- SPDX-License-Identifier: Apache-2.0
--- A nibble and the exceptions give a register back.
+-- A register is read back from its nibble and the exceptions.
 use Rattle.std.proofs.Common.{◌≡◌, ℕ, ◌+◌, ◌%◌, ◌^◌, ◌<◌, ◌≤◌, Bool, true, false, cond, eqb, leb, List, [], ◌∷◌, All, Option, Some, None, length, get_or, filter, refl, sym, ap, ◌∙◌, arith, inl, inr}
 use Rattle.std.specs.Prelude.{find}
 use Rattle.std.specs.Option.{option_map}
@@ -18,7 +18,7 @@ use Rattle.hll_registers.specs.Exceptions.{exceptions_above}
 use Rattle.hll_coupons.specs.AuxMap.{entry_at}
 use Rattle.hll_registers.specs.Payload.{Agrees, register_of}
 
--- what a filter has
+-- the elements of a filtered list
 pub kept : (p : ℕ → Bool) (q : ℕ) (xs : List ℕ) → has q (filter p xs) ≡ true → (p q ≡ true) × (has q xs ≡ true)
 kept p q [] h = absurd (true≢false (sym h))
 kept p q (x ∷ xs) h = elim (cases_Bool (p x)) [
@@ -65,7 +65,7 @@ module _ (k m : ℕ) (R o : List ℕ) (small : k ≤ 21) (len : length R ≡ 2 ^
         eq-eqb (slot_of (pair s v) % 2 ^ k) s (ap (λ n. n % 2 ^ k) (slot_of-pair s v (slot_small k s small h)) ∙ mod-eq_of_lt h),
       )
 
-  -- nibble and entry give the register back
+  -- the register of a nibble and an entry
   pub register_back : (s : ℕ) → s < 2 ^ k → m ≤ get_or R s 0 → Agrees m (nibble m (get_or R s 0)) (entry_at k o s) × (register_of m (nibble m (get_or R s 0)) (entry_at k o s) ≡ get_or R s 0)
   register_back s h low = of (find (λ c. eqb (slot_of c % 2 ^ k) s) o) refl
     where

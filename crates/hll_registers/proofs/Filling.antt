@@ -49,7 +49,7 @@ filled-next k s c V small size within is =
     sym (join-high k R c (whole ∙ size) (omega (arith, at, whole, within)) (omega (arith, zero_there))) ∙ written ∙ more in
     λ i. record { lg_k = k; registers = joined i; state = state_after-cleared_state R J i }
 
--- registers that are merged into zeros are the registers
+-- zeros after a merge with registers are these registers
 pub merge_with-zero_registers : (k : ℕ) (R : List ℕ) → k ≤ 21 → length R ≡ 2 ^ k → merge_with (zero_registers k) R ≡ record { lg_k = k; registers = R; state = cleared_state }
 merge_with-zero_registers k R small size =
     let Z : List ℕ = replicate (2 ^ k) 0 in

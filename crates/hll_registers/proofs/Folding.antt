@@ -54,7 +54,7 @@ module _ (R : List ℕ) (e i : ℕ) (small : length R ≤ 2 ^ 22) (enough : (i +
       let is : q ≡ pair j (get_or R j 0) = h.is ∙ (λ t. pair (zero-add j t) (get_or-take stop R j 0 below t)) in
       (below, ap slot_of is ∙ slot_of-pair j _ far, ap value_of is ∙ value_of-pair j _ far)
 
-  -- a register before its end gives no more than the fold of those before the block, or its place in the block
+  -- a register before the end of the block is at most the fold of those before the block, or the register in the block
   most : (s : ℕ) → s < 2 ^ e → greatest (value_at e s) (items (pairs (take stop R))) ≤ max (get_or (folded R e start) s 0) (get_or block s 0)
   most s h =
       let old : ℕ = get_or (folded R e start) s 0 in
@@ -85,7 +85,7 @@ module _ (R : List ℕ) (e i : ℕ) (small : length R ≤ 2 ^ 22) (enough : (i +
         ]
       ])
 
-  -- what those before the block fold to a slot is not lost
+  -- the fold of the registers before the block is not lost
   old_kept : (s : ℕ) → s < 2 ^ e → get_or (folded R e start) s 0 ≤ greatest (value_at e s) (items (pairs (take stop R)))
   old_kept s h =
       let all : ℕ = greatest (value_at e s) (items (pairs (take stop R))) in
@@ -102,7 +102,7 @@ module _ (R : List ℕ) (e i : ℕ) (small : length R ≤ 2 ^ 22) (enough : (i +
       }))) in
       omega (arith, before, low)
 
-  -- nor is a register of the block
+  -- a register of the block is not lost
   new_kept : (s : ℕ) → s < 2 ^ e → get_or block s 0 ≤ greatest (value_at e s) (items (pairs (take stop R)))
   new_kept s h =
       let v : ℕ = get_or R (start + s) 0 in
@@ -122,7 +122,7 @@ module _ (R : List ℕ) (e i : ℕ) (small : length R ≤ 2 ^ 22) (enough : (i +
             omega (arith, at_block s h, value, reached (value_at e s) (pair (start + s) v) (pairs (take stop R)) coupons_in)
       ]
 
-  -- a block more is a join with it
+  -- folding one more block is a maximum with it
   pub folded-next : folded R e stop ≡ join (folded R e start) block
   folded-next =
       let long : length (folded R e stop) ≡ 2 ^ e = length-fold_to (pairs (take stop R)) e in
@@ -143,7 +143,7 @@ module _ (k e i : ℕ) (small : k ≤ 21) (le : e ≤ k) where
   pub block-within : i < 2 ^ (k - e) → (i + 1) * 2 ^ e ≤ 2 ^ k
   block-within h = let most : (i + 1) * 2 ^ e ≤ 2 ^ (k - e) * 2 ^ e = mul-le-mul_right (2 ^ e) (omega (arith, h)) in omega (arith, most, whole)
 
--- and is of groups of four, as those before it
+-- and its size is a multiple of four, as are those before it
 module _ (e : ℕ) (four : 4 ≤ e) where
   pub power-groups : 2 ^ e % 4 ≡ 0
   power-groups = omega (arith, groups-pow e (omega (arith, four)))
@@ -163,7 +163,7 @@ folded-none V R e size =
     let zero_there : get_or (folded R e (0 * 2 ^ e)) s 0 ≡ 0 = ap (λ xs. get_or xs s 0) (sym none) ∙ get_or-replicate (2 ^ e) s 0 0 (omega (arith, size)) in
     omega (arith, zero_there))
 
--- a block more
+-- after one more block
 pub joined-next : (V W R : List ℕ) (k e i : ℕ) → k ≤ 21 → e ≤ k → length R ≡ 2 ^ k → i < 2 ^ (k - e) →
     W ≡ join V (folded R e (i * 2 ^ e)) → join W (take (2 ^ e) (drop (i * 2 ^ e) R)) ≡ join V (folded R e ((i + 1) * 2 ^ e))
 joined-next V W R k e i small le size h is =
@@ -173,7 +173,7 @@ joined-next V W R k e i small le size h is =
     ∙ join_assoc V (folded R e (i * 2 ^ e)) (take (2 ^ e) (drop (i * 2 ^ e) R))
     ∙ ap (join V) (sym (folded-next R e i all enough))
 
--- and all of them
+-- after all blocks
 pub joined-all : (V R : List ℕ) (k e n : ℕ) → e ≤ k → length R ≡ 2 ^ k → n ≡ 2 ^ (k - e) → join V (folded R e (n * 2 ^ e)) ≡ join V (fold_to (pairs R) e)
 joined-all V R k e n le size blocks =
     let end : n * 2 ^ e ≡ length R = ap (λ m. m * 2 ^ e) blocks ∙ sym (pow-add 2 (k - e) e) ∙ ap (λ m. 2 ^ m) (let sum : k - e + e ≡ k = omega (arith, le) in sum) ∙ sym size in

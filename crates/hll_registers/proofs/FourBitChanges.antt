@@ -1,5 +1,5 @@
 -- SPDX-License-Identifier: Apache-2.0
--- Registers of four bits with a greater one at a slot.
+-- 4-bit registers after a slot gets a greater register.
 use Rattle.std.proofs.Common.{◌≡◌, ◌≢◌, ℕ, ◌+◌, ◌-◌, ◌*◌, ◌/◌, ◌%◌, ◌^◌, ◌<◌, ◌≤◌, ◌⊎◌, zero, suc, Bool, true, false, eqb, leb, cond, List, [], ◌∷◌, All, Option, Some, None, length, get_or, set, take, refl, sym, ap, subst, ◌∙◌, arith, inl, inr}
 use Rattle.std.specs.Prelude.{min, fold, count_by, nat_eq}
 use mir.Val.{bool_byte}
@@ -41,7 +41,7 @@ registers_set k R slot v are within small = record {
     either true r h = small
     either false r h = h
 
--- one is above the minimum: as many as there were, less the one that left
+-- the number of registers at m after one gets a value above m: one less, if it was at m
 count_set : (m : ℕ) (R : List ℕ) (slot v : ℕ) → slot < length R → m < v → count_by (λ r. eqb r m) (set R slot v) + cond (eqb (get_or R slot 0) m) 1 0 ≡ count_by (λ r. eqb r m) R
 count_set m R slot v within above =
     let gone : ◌≡◌ {A = ℕ} (cond (eqb v m) 1 0) 0 = cond-false (eqb v m) 1 0 (ne_eqb v m (λ e. omega (arith, e, above))) in
@@ -94,7 +94,7 @@ module _ (k m n : ℕ) (bytes : List ℕ) (e : Option ExceptionMap) (R : List �
       either true r h = omega (arith, above_minimum)
       either false r h = h
 
-  -- the same exceptions, where the register is none
+  -- the exceptions are the same if the register is no exception
   pub excepted_low : v < m + 15 → (q : ℕ) → q < 2 ^ k → exception_in e q ≡ cond (eqb q slot) (exception_of m v) (exception_in e q)
   excepted_low low q l = elim (cases_eq q slot) [
     | inl same ↦
@@ -103,7 +103,7 @@ module _ (k m n : ℕ) (bytes : List ℕ) (e : Option ExceptionMap) (R : List �
     | inr other ↦ sym (cond-false (eqb q slot) (exception_of m v) (exception_in e q) (ne_eqb q slot other))
   ]
 
-  -- where it is one, the exceptions change, if the slot had none
+  -- if the register is an exception, the set of exceptions changes if the slot had none
   pub raised_moves : 0 < count_by (λ r. eqb r m) (set R slot v) → m + 15 ≤ v → exception_in e slot ≡ None → ExceptionsMove k R (set R slot v)
   raised_moves some high none =
       let before : m ≡ minimum R = minimum_is m R p.registers.small (λ s l. p.least s (omega (arith, l, p.registers.size))) (omega (arith, p.some, p.count)) in
@@ -132,13 +132,13 @@ module _ (k m n : ℕ) (bytes : List ℕ) (e : Option ExceptionMap) (R : List �
 
 -- ---- the least register
 
--- a register at m counts
+-- the count is above 0 if a register is at m
 pub count_some : (m : ℕ) (R : List ℕ) (i : ℕ) → i < length R → get_or R i 0 ≡ m → 0 < count_by (λ r. eqb r m) R
 count_some m [] i h e = absurd (omega (arith, h))
 count_some m (r ∷ R) zero h e = let one : ◌≡◌ {A = ℕ} (cond (eqb r m) 1 0) 1 = cond-true (eqb r m) 1 0 (eq-eqb r m e) in omega (arith, sum_by-cons (λ r. cond (eqb r m) 1 0) r R, one)
 count_some m (r ∷ R) (suc i) h e = omega (arith, sum_by-cons (λ r. cond (eqb r m) 1 0) r R, count_some m R i (omega (arith, h)) e)
 
--- the minimum is attained
+-- some register is at the minimum
 attained_from : (a : ℕ) (R : List ℕ) → (fold min a R ≡ a) ⊎ ((i : ℕ) × (i < length R) × (get_or R i 0 ≡ fold min a R))
 attained_from a [] = inl refl
 attained_from a (r ∷ R) = elim (attained_from (min a r) R) [
@@ -184,7 +184,7 @@ zero_nibbles_are m bytes (r ∷ q ∷ R) e (suc h) even low =
       rest,
     )
 
--- as many as there are registers at it
+-- the number of zero nibbles is the number of registers at the minimum
 pub counted_zeros : (k m : ℕ) (bytes R : List ℕ) → length R ≡ 2 ^ k → ((s : ℕ) → s < 2 ^ k → m ≤ get_or R s 0) → 2 * length bytes ≡ 2 ^ k → All (λ b. b < 256) bytes →
     ((s : ℕ) → s < 2 ^ k → nibble_at bytes s ≡ nibble m (get_or R s 0)) → zero_nibbles bytes ≡ count_by (λ r. eqb r m) R
 counted_zeros k m bytes R long low size fits nibbles =
@@ -284,7 +284,7 @@ module _ (k m n : ℕ) (bytes : List ℕ) (e : Option ExceptionMap) (R : List �
         | inr other ↦ omega (arith, least, i.2, elsewhere i.0 other, p.least i.0 l)
       ]
 
-  -- what a rise asks of the nibbles
+  -- what a rise requires of the nibbles
   pub high : (q : ℕ) → q < 2 * length bytes → q ≢ slot → (nibble_at bytes q ≡ 15) ⊎ (to - m ≤ nibble_at bytes q)
   high q l other =
       let inside : q < 2 ^ k = omega (arith, l, p.size) in
@@ -308,7 +308,7 @@ module _ (k m n : ℕ) (bytes : List ℕ) (e : Option ExceptionMap) (R : List �
       there_too : s < 2 ^ k
       there_too = slot_within k e p.map_for s w is
 
-  -- and of the exceptions
+  -- what a rise requires of the exceptions
   no_exception_here : exception_in e slot ≡ None
   no_exception_here = p.excepted slot within ∙ exception_of-low m (get_or R slot 0) (omega (arith, at))
 
@@ -373,13 +373,13 @@ module _ (k m n : ℕ) (bytes : List ℕ) (e : Option ExceptionMap) (R : List �
 abbrev pub seen : ℕ → ℕ → List ℕ → Option ExceptionMap → NibbleRegisters
 seen k m bytes e = record { lg_k = k; registers = unpacked k m bytes e; exceptions = e }
 
--- a greater register at a slot, as asked of what contracts see
+-- what contracts require for a greater register at a slot
 pub record IsGreaterAt (x : NibbleRegisters) (slot v : ℕ) : Type 0 where
   pub within : slot < 2 ^ x.lg_k
   pub more : get_or x.registers slot 0 < v
   pub most : v ≤ 63
 
--- where the minimum stays
+-- the minimum stays
 pub record IsLeft (x : NibbleRegisters) (slot v left : ℕ) : Type 0 where
   pub left_is : left ≡ count_by (λ r. eqb r (minimum x.registers)) (set x.registers slot v)
   pub some : 0 < left
@@ -395,7 +395,7 @@ module _ (k m n : ℕ) (bytes : List ℕ) (e : Option ExceptionMap) (small : k �
   least : m ≡ minimum R
   least = (packed_is_of_registers k m n bytes e R small p).minimum_is
 
-  -- one that is no exception
+  -- the register is no exception
   pub low_packed : (left : ℕ) (new : List ℕ) → IsLeft x slot v left → v < minimum x.registers + 15 → length new ≡ length bytes → All (λ b. b < 256) new →
       ((q : ℕ) → nibble_at new q ≡ cond (eqb q slot) (v - m) (nibble_at bytes q)) → IsPacked k m left new e (set R slot v)
   low_packed left new count low len fits put =
@@ -405,7 +405,7 @@ module _ (k m n : ℕ) (bytes : List ℕ) (e : Option ExceptionMap) (small : k �
       raised_packed k m n bytes e R p slot v here.within here.more here.most left new e (l.left_is ∙ ap (λ m. count_by (λ r. eqb r m) (set R slot v)) (sym least)) l.some
       (λ q. put q ∙ ap (λ n. cond (eqb q slot) n (nibble_at bytes q)) nib) len fits p.map_for (excepted_low k m n bytes e R p slot v here.within here.more here.most under)
 
-  -- one that is
+  -- the register is an exception
   pub high_packed : (left : ℕ) (new : List ℕ) (e' : Option ExceptionMap) → IsLeft x slot v left → minimum x.registers + 15 ≤ v → length new ≡ length bytes → All (λ b. b < 256) new →
       ((q : ℕ) → nibble_at new q ≡ cond (eqb q slot) 15 (nibble_at bytes q)) → IsMapFor k e' → ((q : ℕ) → exception_in e' q ≡ cond (eqb q slot) (Some v) (exception_in e q)) → IsPacked k m left new e' (set R slot v)
   high_packed left new e' count high len fits put is noted =
@@ -436,14 +436,14 @@ module _ (k m n : ℕ) (bytes : List ℕ) (e : Option ExceptionMap) (small : k �
       rest true byte is = omega (arith, is, p.some)
       rest false byte is = omega (arith, is)
 
-  -- none stays where the only one at the minimum is raised
+  -- no register is left at the minimum after the only one there gets a greater value
   pub none_left : get_or x.registers slot 0 ≡ minimum x.registers → count_at_minimum x.registers ≡ 1 → count_by (λ r. eqb r (minimum x.registers)) (set x.registers slot v) ≡ 0
   none_left at only =
       let one : n ≡ 1 = (packed_is_of_registers k m n bytes e R small p).count_is ∙ ap (λ (x : NibbleRegisters). count_at_minimum x.registers) same ∙ only in
       let there : nat_eq (get_or x.registers slot 0) m ≡ true = eq-eqb (get_or x.registers slot 0) m (at ∙ sym (least ∙ ap (λ (x : NibbleRegisters). minimum x.registers) same)) in
       sym (left_after (get_or x.registers slot 0) 1 refl (ap bool_byte (sym there))) ∙ omega (arith, one)
 
-  -- the least of a front that is one above the minimum, where none stays at it
+  -- the least of a prefix, if it is one above the minimum and no register is left there
   pub least_of_front : (i : ℕ) → fold min 63 (take i (set x.registers slot v)) ≡ m + 1 → count_by (λ r. eqb r (minimum x.registers)) (set x.registers slot v) ≡ 0 →
       fold min 63 (take i (set x.registers slot v)) ≡ minimum (set x.registers slot v)
   least_of_front i is none =
@@ -463,7 +463,7 @@ module _ (k m n : ℕ) (bytes : List ℕ) (e : Option ExceptionMap) (small : k �
   pub few_bytes : length bytes ≤ 1048576
   few_bytes = omega (arith, p.size, pow_mono {i = k} {j = 21} small)
 
-  -- then what contracts see is the registers with this one
+  -- then contracts see the registers after the change
   pub registers_after : (m' left : ℕ) (new : List ℕ) (e' : Option ExceptionMap) → IsPacked k m' left new e' (set R slot v) → unpacked k m' new e' ≡ set x.registers slot v
   registers_after m' left new e' q = unpacked_is k m' left new e' (set R slot v) small q ∙ ap (λ (x : NibbleRegisters). set x.registers slot v) same
 
@@ -520,7 +520,7 @@ module _ (k m n : ℕ) (bytes : List ℕ) (e : Option ExceptionMap) (small : k �
     rise_packed e' map noted = risen_packed k m n bytes e S p slot v to asked.within asked.more asked.most seated now.least count new e' (len ∙ ap length is) fits nibbles map
         (excepted_above k m n bytes e S p slot v to asked.within asked.more asked.most seated now.least e' noted) zeros
 
--- exceptions that stay above the new minimum are those after a rise
+-- if all exceptions stay above the new minimum, they are the exceptions after the rise
 pub stays_above : (e : Option ExceptionMap) (slot v to : ℕ) → exception_in e slot ≡ None → v < to + 15 → ((s w : ℕ) → exception_in e s ≡ Some w → to + 15 ≤ w) →
     (q : ℕ) → exception_in e q ≡ cond (eqb q slot) (exception_of to v) (kept_above to (exception_in e q))
 stays_above e slot v to none low all q = elim (cases_eq q slot) [

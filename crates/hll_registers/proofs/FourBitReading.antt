@@ -1,5 +1,5 @@
 -- SPDX-License-Identifier: Apache-2.0
--- Registers of four bits as they are read: nibbles above a minimum and exceptions that agree.
+-- 4-bit registers as they are read: nibbles above a minimum, and exceptions that agree with them.
 use Rattle.std.proofs.Common.{◌≡◌, ℕ, zero, suc, ◌+◌, ◌-◌, ◌*◌, ◌/◌, ◌%◌, ◌^◌, ◌<◌, ◌≤◌, ◌==◌, Bool, true, false, ◌&&◌, List, All, Option, Some, None, length, take, drop, get_or, refl, sym, ap, subst, ◌∙◌, arith, inl, inr}
 use Rattle.std.specs.Prelude.{count_by, nat_eq, nat_le, nat_lt}
 use Rattle.std.specs.List.{list_all}
@@ -81,7 +81,7 @@ nibble_at-drop bytes n s from =
 pub nibble_at-take : (bytes : List ℕ) (n s : ℕ) → s < 2 * n → nibble_at (take n bytes) s ≡ nibble_at bytes s
 nibble_at-take bytes n s l = ap (λ b. b / 16 ^ (s % 2) % 16) (get_or-take n bytes (s / 2) 0 (omega (arith, l)))
 
--- those of a block
+-- the nibbles of a block
 pub nibble_at-block : (bytes block : List ℕ) (index s : ℕ) → block ≡ take 32 (drop (index * 32) bytes) → 64 * index ≤ s → s < 64 * index + 64 → nibble_at block (s - 64 * index) ≡ nibble_at bytes s
 nibble_at-block bytes block index s is from to =
     let same : s - 64 * index ≡ s - 2 * (index * 32) = omega arith in
@@ -157,21 +157,21 @@ module _ {k m : ℕ} {bytes : List ℕ} {e : Option ExceptionMap} (parts : Agree
   counted : zero_nibbles bytes ≡ count_by (λ r. nat_eq r m) R
   counted = counted_zeros k m bytes R legal.size low parts.size parts.fits (λ s l. (at s l).nibble_is)
 
-  -- how many are 0
+  -- the number of registers that are 0
   pub zeros_at : m ≡ 0 → zero_nibbles bytes ≡ zeros R
   zeros_at none = counted ∙ ap (λ n. count_by (λ r. nat_eq r n) R) none
 
   pub zeros_none : 0 < m → zeros R ≡ 0
   zeros_none some = count_above m R some (λ s l. low s (omega (arith, l, legal.size)))
 
-  -- where a nibble is 0, they are packed
+  -- if a nibble is 0, the registers are packed
   pub settled : (count : ℕ) → count ≡ zero_nibbles bytes → 0 < count → IsPacked k m count bytes e R
   settled count are some =
       let nibbles : (s : ℕ) → s < 2 ^ k → nibble_at bytes s ≡ nibble m (get_or R s 0) = λ s l. (at s l).nibble_is in
       let least : m ≡ minimum R = minimum_is m R legal.small (λ s l. low s (omega (arith, l, legal.size))) (omega (arith, some, are, counted)) in
       packed_least k m count bytes e R legal least parts.size parts.fits nibbles parts.map_for (λ s l. (at s l).exception_is) are
 
-  -- each register is 0 where the minimum and each byte are
+  -- each register is 0 if the minimum and each byte are 0
   pub zeros_above : m ≡ 0 → list_all (λ b. b == 0) bytes ≡ true → list_all (λ v. v == 0) R ≡ true
   zeros_above least all = list_all-from_AllPass (λ v. v == 0) R (λ i d l.
       let within : i < 2 ^ k = omega (arith, l, legal.size) in
@@ -179,7 +179,7 @@ module _ {k m : ℕ} {bytes : List ℕ} {e : Option ExceptionMap} (parts : Agree
       let none : nibble_at bytes i ≡ 0 = ap (λ b. b / 16 ^ (i % 2) % 16) byte ∙ ap (λ q. q % 16) (zero-div (16 ^ (i % 2))) in
       eq-eqb (get_or R i d) 0 (omega (arith, get_or_default R i d 0 l, (at i within).nibble_is, none, least)))
 
-  -- and only there
+  -- and only then
   none_at : (s : ℕ) → s < 2 ^ k → list_all (λ v. v == 0) R ≡ true → get_or R s 0 ≡ 0
   none_at s l all = eqb-true (get_or R s 0) 0 (AllPass-from_list_all (λ v. v == 0) R all s 0 (omega (arith, l, legal.size)))
 

@@ -1,5 +1,5 @@
 -- SPDX-License-Identifier: Apache-2.0
--- Registers of four bits as a store: their size, equality and image.
+-- 4-bit registers as a store: their size, equality and image.
 use Rattle.std.proofs.Common.{◌≡◌, ◌≢◌, ℕ, ◌+◌, ◌-◌, ◌*◌, ◌/◌, ◌%◌, ◌^◌, ◌<◌, ◌≤◌, zero, suc, All, take, drop, Bool, true, false, eqb, cond, List, [], ◌∷◌, ◌++◌, Option, None, length, get_or, refl, sym, ap, subst, ◌∙◌, arith, inl, inr, append_assoc}
 use Rattle.std.specs.Prelude.{nat_eq, filter, count_by, max, unwrap_or}
 use Rattle.std.specs.Ordering.{nat_cmp}
@@ -44,7 +44,7 @@ use Rattle.std.proofs.Math.Pow.{pow_mono}
 
 -- ---- size
 
--- a word that isn't there is one more
+-- a raw coupon that the list lacks adds one member
 one_more : (p : ℕ → Bool) (c : ℕ) (W : List ℕ) → (has c W ≡ true → ⊥) → len (set_of (filter p W)) ≡ length (filter p W) → len (set_of (filter p (c ∷ W))) ≡ length (filter p (c ∷ W))
 one_more p c W other rest = elim (p c) as (λ b. len (set_of (cond b (c ∷ filter p W) (filter p W))) ≡ length (cond b (c ∷ filter p W) (filter p W))) [
   | true ↦ len-insert nat_cmp_total (set_of (filter p W)) c ∙ ap (λ b. cond b (len (set_of (filter p W))) (len (set_of (filter p W)) + 1)) new ∙ omega (arith, rest)
@@ -57,7 +57,7 @@ one_more p c W other rest = elim (p c) as (λ b. len (set_of (cond b (c ∷ filt
       | inr f ↦ f
     ]
 
--- a word of registers is none of those that follow
+-- the raw coupon of a register is not among those that follow
 not_later : (s r : ℕ) (R : List ℕ) → s + length R < 2 ^ 26 → has (pair s r) (raw_coupons_from (s + 1) R) ≡ true → ⊥
 not_later s r R h there =
     let found : (i : ℕ) × StandsFor R (s + 1) (pair s r) i = in_raw_coupons R (s + 1) (pair s r) there in
@@ -66,7 +66,7 @@ not_later s r R h there =
     let slots : s ≡ s + 1 + i = sym (slot_of-pair s r (omega (arith, h))) ∙ ap slot_of found.1.is ∙ slot_of-pair (s + 1 + i) (get_or R i 0) (omega (arith, h, within)) in
     omega (arith, slots)
 
--- so no word stands twice
+-- so no raw coupon occurs twice
 once : (p : ℕ → Bool) (s : ℕ) (R : List ℕ) → s + length R ≤ 2 ^ 26 → len (set_of (filter p (raw_coupons_from s R))) ≡ length (filter p (raw_coupons_from s R))
 once p s [] h = len-empty nat_cmp
 once p s (r ∷ R) h =
@@ -101,7 +101,7 @@ module _ (k m n : ℕ) (bytes : List ℕ) (e : Option ExceptionMap) (R : List �
   two : IsOfRegisters k m' n' bytes' e' R'
   two = packed_is_of_registers k m' n' bytes' e' R' small q
 
-  -- minimum, nibbles and exceptions give the registers
+  -- the registers are a function of minimum, nibbles and exceptions
   pub same_registers : m ≡ m' → bytes ≡ bytes' → exceptions_in e ≡ exceptions_in e' → R ≡ R'
   same_registers low nibbles entries =
       let lows : minimum R ≡ minimum R' = sym one.minimum_is ∙ low ∙ two.minimum_is in
@@ -113,7 +113,7 @@ module _ (k m n : ℕ) (bytes : List ℕ) (e : Option ExceptionMap) (R : List �
       ∙ (λ i. register_of (lows i) (nibble_at (packs i) s) (entry_at k (exceptions R') s))
       ∙ (exceptions_read_back k R' (exceptions R') s small q.registers.size q.registers.small refl within).1)
 
-  -- and the registers give them
+  -- and these are a function of the registers
   pub same_minimum : R ≡ R' → m ≡ m'
   same_minimum is = one.minimum_is ∙ ap minimum is ∙ sym two.minimum_is
 
@@ -123,7 +123,7 @@ module _ (k m n : ℕ) (bytes : List ℕ) (e : Option ExceptionMap) (R : List �
   pub same_exceptions : R ≡ R' → exceptions_in e ≡ exceptions_in e'
   same_exceptions is = one.exceptions_are ∙ ap (λ R. set_of (exceptions R)) is ∙ sym two.exceptions_are
 
--- a test that says whether they are the same
+-- a test of whether registers are the same
 pub same_test : (b : Bool) (R Q : List ℕ) → (b ≡ true → R ≡ Q) → (R ≡ Q → b ≡ true) → b ≡ pointwise nat_eq R Q
 same_test b R Q f g = both_ways b (pointwise nat_eq R Q) (λ e. (bytes_decides R Q).1 (f e)) (λ e. g ((bytes_decides R Q).0 e))
 
@@ -211,7 +211,7 @@ module _ {k m : ℕ} {bytes : List ℕ} {e : Option ExceptionMap} (p : AgreeAbov
         | inr over ↦ absurd (other (nibble_at-block s l ∙ (let mark : nibble m r ≡ 15 = omega (arith, over) in mark)))
       ])
 
-  -- raised to their nibbles
+  -- values after the maximum with the nibbles
   pub raised_at : (W : List ℕ) → W ≡ join V (nibble_values m block) → (s : ℕ) → s < length V → get_or W s 0 ≡ max (get_or V s 0) (m + nibble_at block s)
   raised_at W is s l =
       ap (λ W. get_or W s 0) is ∙ get_or-join V (nibble_values m block) s
@@ -220,7 +220,7 @@ module _ {k m : ℕ} {bytes : List ℕ} {e : Option ExceptionMap} (p : AgreeAbov
       fits : All (λ b. b < 256) block
       fits = All-take (λ b. b < 256) (first / 2 + length V / 2 - first / 2) (drop (first / 2) bytes) (All-drop (λ b. b < 256) (first / 2) bytes p.fits)
 
-  -- and then to their exceptions, they are the join with the registers
+  -- after the maximum with the nibbles and with the exceptions, they are the maximum with the registers
   pub joined : (X : List ℕ) → length X ≡ length V → ((s : ℕ) → s < length V → get_or X s 0 ≡ max (max (get_or V s 0) (m + nibble_at block s)) (unwrap_or (exception_in e (first + s)) 0)) → X ≡ join V (take (length V) (drop first R))
   joined X size raised =
       let after : List ℕ = drop first R in

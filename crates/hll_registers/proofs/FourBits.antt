@@ -1,5 +1,5 @@
 -- SPDX-License-Identifier: Apache-2.0
--- Registers of four bits: what is kept is the packed form of the registers.
+-- 4-bit registers: what is stored is the packed form of the registers.
 use Rattle.std.proofs.Common.{◌≡◌, ◌≢◌, ℕ, ◌+◌, ◌-◌, ◌*◌, ◌/◌, ◌%◌, ◌^◌, ◌<◌, ◌≤◌, ◌⊎◌, zero, suc, Bool, true, false, eqb, leb, cond, ◌&&◌, List, [], ◌∷◌, ◌++◌, All, Option, Some, None, length, replicate, take, drop, get_or, refl, sym, ap, subst, ◌∙◌, arith, inl, inr}
 use Rattle.std.specs.Prelude.{min, fold, filter, count_by}
 use Rattle.std.specs.List.{list_all}
@@ -32,7 +32,7 @@ use Rattle.hll_registers.proofs.Packing.{minimum_from_le, minimum_le}
 
 -- ---- the minimum
 
--- where some element passes, one stands at an index
+-- if a filtered list is not empty, some element passes
 some_kept : (p : ℕ → Bool) (R : List ℕ) → 0 < length (filter p R) → (i : ℕ) × (i < length R) × (p (get_or R i 0) ≡ true)
 some_kept p [] h = absurd (omega arith)
 some_kept p (r ∷ R) h = elim (cases_Bool (p r)) [
@@ -45,7 +45,7 @@ some_kept p (r ∷ R) h = elim (cases_Bool (p r)) [
 pub at_some : (p : ℕ → Bool) (R : List ℕ) → 0 < count_by p R → (i : ℕ) × (i < length R) × (p (get_or R i 0) ≡ true)
 at_some p R h = some_kept p R (omega (arith, h, length-filter p R))
 
--- it is at most what it starts from
+-- the minimum is at most 63
 pub minimum_most : (R : List ℕ) → minimum R ≤ 63
 minimum_most R = from 63 R
   where
@@ -53,12 +53,12 @@ minimum_most R = from 63 R
     from a [] = omega arith
     from a (r ∷ R) = omega (arith, from (min a r) R)
 
--- and at least what each is
+-- and at least a bound of all registers
 pub minimum_ge : (m a : ℕ) (R : List ℕ) → m ≤ a → ((s : ℕ) → s < length R → m ≤ get_or R s 0) → m ≤ fold min a R
 minimum_ge m a [] h all = h
 minimum_ge m a (r ∷ R) h all = minimum_ge m (min a r) R (omega (arith, h, all 0 (omega arith))) (λ s l. all (suc s) (omega (arith, l)))
 
--- a bound that some register attains is the minimum
+-- a bound of all registers that is one of them is the minimum
 pub minimum_is : (m : ℕ) (R : List ℕ) → All (λ r. r ≤ 63) R → ((s : ℕ) → s < length R → m ≤ get_or R s 0) → 0 < count_by (λ r. eqb r m) R → m ≡ minimum R
 minimum_is m R small all some =
     let i = at_some (λ r. eqb r m) R some in
@@ -97,7 +97,7 @@ exception_of-high m r h = cond-true (leb (m + 15) r) (Some r) None (le-leb (m + 
 pub exception_of-low : (m r : ℕ) → r < m + 15 → exception_of m r ≡ None
 exception_of-low m r h = cond-false (leb (m + 15) r) (Some r) None (lt-leb (m + 15) r h)
 
--- nibble and exception give the register
+-- the register of a nibble and an exception
 pub register_of-packed : (m r : ℕ) → m ≤ r → register_of m (nibble m r) (exception_of m r) ≡ r
 register_of-packed m r low = elim (cases_lt r (m + 15)) [
   | inl under ↦ ap (register_of m (nibble m r)) (exception_of-low m r under) ∙ omega (arith, low, under)
@@ -106,7 +106,7 @@ register_of-packed m r low = elim (cases_lt r (m + 15)) [
 
 module _ (k m : ℕ) (R : List ℕ) (t : ExceptionMap) (small : k ≤ 21) (size : length R ≡ 2 ^ k) (is : IsMap t) (same : t.lg_k ≡ k)
     (at : (s : ℕ) → s < 2 ^ k → value_in t s ≡ exception_of m (get_or R s 0)) where
-  -- an entry is an exception
+  -- an entry of the map is an exception
   entry_in : (c : ℕ) → has c (coupons_in t.table.buckets) ≡ true → has c (exceptions_above m R) ≡ true
   entry_in c h =
       let s : ℕ = slot_of c in
@@ -124,7 +124,7 @@ module _ (k m : ℕ) (R : List ℕ) (t : ExceptionMap) (small : k ≤ 21) (size 
             (raw_coupons_have R 0 c s (record { within = omega (arith, below, size); positive = some; is = word ∙ ap (λ n. pair n r) (sym (zero-add s)) }))
       ]
 
-  -- and an exception an entry
+  -- and an exception is an entry of the map
   exception_is : (c : ℕ) → has c (exceptions_above m R) ≡ true → has c (coupons_in t.table.buckets) ≡ true
   exception_is c h =
       let parts = kept (λ c. leb (m + 15) (value_of c)) c (raw_coupons_from 0 R) h in
@@ -209,7 +209,7 @@ pub record KeptSoFar (t : ExceptionMap) (m : ℕ) (kept : Option ExceptionMap) (
 pub kept_none : (t : ExceptionMap) (m : ℕ) → KeptSoFar t m None []
 kept_none t m = record { map = tt; some = λ i d l. absurd (omega (arith, l)); only = λ s v e. cc }
 
--- one that isn't kept
+-- an entry that isn't kept
 pub kept_less : (t : ExceptionMap) (m : ℕ) (kept : Option ExceptionMap) (ys : List (ℕ × ℕ)) (s v : ℕ) → KeptSoFar t m kept ys → v < m + 15 → KeptSoFar t m kept (ys ++ (s, v) ∷ [])
 kept_less t m kept ys s v h low = record {
   map = h.map;
@@ -217,7 +217,7 @@ kept_less t m kept ys s v h low = record {
   only = h.only;
 }
 
--- one that is
+-- an entry that is kept
 pub kept_more : (t : ExceptionMap) (m : ℕ) (kept new : Option ExceptionMap) (ys zs : List (ℕ × ℕ)) (s v : ℕ) → KeptSoFar t m kept ys → All (IsEntryOf t) (ys ++ (s, v) ∷ zs) → m + 15 ≤ v → IsMapFor t.lg_k new →
     ((q : ℕ) → exception_in new q ≡ cond (eqb q s) (Some v) (exception_in kept q)) → KeptSoFar t m new (ys ++ (s, v) ∷ [])
 kept_more t m kept new ys zs s v h all high is put = record {
@@ -244,7 +244,7 @@ kept_more t m kept new ys zs s v h all high is put = record {
     here : IsEntryOf t (s, v)
     here = last_of_all (IsEntryOf t) (ys ++ (s, v) ∷ zs) ys zs (s, v) refl all
 
--- when all were taken
+-- after all entries
 pub kept_whole : (t : ExceptionMap) (m : ℕ) (kept : Option ExceptionMap) → IsMap t → KeptSoFar t m kept (entries_in t) → (s : ℕ) → exception_in kept s ≡ kept_above m (value_in t s)
 kept_whole t m kept is h s = of (value_in t s) refl
   where
@@ -274,11 +274,11 @@ none_of_refused (Some v) h = absurd (h (λ (e : Some v ≡ None). cc))
 
 -- ---- exceptions that fall to nibbles
 
--- a nibble is as it was, or that of an exception that is none above the minimum
+-- a nibble is unchanged, or is that of an exception that no longer is one above the minimum
 abbrev pub IsOldOrFallen : ExceptionMap → ℕ → List ℕ → List ℕ → ℕ → Type 0
 IsOldOrFallen t m old new s = (nibble_at new s ≡ nibble_at old s) ⊎ ((v : ℕ) × (value_in t s ≡ Some v) × (v < m + 15) × (nibble_at new s ≡ v - m))
 
--- those of the entries so far that fall have their nibbles
+-- those of the entries so far that are no longer exceptions have their nibbles
 pub record FallenSoFar (t : ExceptionMap) (m : ℕ) (old new : List ℕ) (ys : List (ℕ × ℕ)) : Type 0 where
   pub done : All (λ p. p.1 < m + 15 → nibble_at new p.0 ≡ p.1 - m) ys
   pub others : (s : ℕ) → IsOldOrFallen t m old new s
@@ -286,14 +286,14 @@ pub record FallenSoFar (t : ExceptionMap) (m : ℕ) (old new : List ℕ) (ys : L
 pub fallen_none : (t : ExceptionMap) (m : ℕ) (old : List ℕ) → FallenSoFar t m old old []
 fallen_none t m old = record { done = λ i d l. absurd (omega (arith, l)); others = λ s. inl refl }
 
--- one that stays
+-- an entry that stays an exception
 pub fallen_less : (t : ExceptionMap) (m : ℕ) (old new : List ℕ) (ys : List (ℕ × ℕ)) (s v : ℕ) → FallenSoFar t m old new ys → m + 15 ≤ v → FallenSoFar t m old new (ys ++ (s, v) ∷ [])
 fallen_less t m old new ys s v h high = record {
   done = All-append (λ p. p.1 < m + 15 → nibble_at new p.0 ≡ p.1 - m) ys ((s, v) ∷ []) h.done (All-one (λ p. p.1 < m + 15 → nibble_at new p.0 ≡ p.1 - m) (s, v) (λ low. absurd (omega (arith, low, high))));
   others = h.others;
 }
 
--- one that falls
+-- an entry that is no longer an exception
 pub fallen_more : (t : ExceptionMap) (m : ℕ) (old now new : List ℕ) (ys zs : List (ℕ × ℕ)) (s v : ℕ) → FallenSoFar t m old now ys → All (IsEntryOf t) (ys ++ (s, v) ∷ zs) → v < m + 15 →
     ((q : ℕ) → nibble_at new q ≡ cond (eqb q s) (v - m) (nibble_at now q)) → FallenSoFar t m old new (ys ++ (s, v) ∷ [])
 fallen_more t m old now new ys zs s v h all low put = record {
@@ -319,7 +319,7 @@ fallen_more t m old now new ys zs s v h all low put = record {
     here : IsEntryOf t (s, v)
     here = last_of_all (IsEntryOf t) (ys ++ (s, v) ∷ zs) ys zs (s, v) refl all
 
--- when all were taken
+-- after all entries
 pub fallen_whole : (t : ExceptionMap) (m : ℕ) (old new : List ℕ) → IsMap t → FallenSoFar t m old new (entries_in t) → (s : ℕ) → nibble_at new s ≡ fallen m (value_in t s) (nibble_at old s)
 fallen_whole t m old new is h s = of (value_in t s) refl
   where
@@ -340,7 +340,7 @@ fallen_whole t m old new is h s = of (value_in t s) refl
 
 -- ---- kept registers
 
--- what is kept gives the registers
+-- the registers are read back from what is stored
 pub unpacked_is : (k m n : ℕ) (bytes : List ℕ) (e : Option ExceptionMap) (R : List ℕ) → k ≤ 21 → IsPacked k m n bytes e R → unpacked k m bytes e ≡ R
 unpacked_is k m n bytes e R small p = (packed_is_of_registers k m n bytes e R small p).unpacked_is
 
@@ -383,7 +383,7 @@ counted : (b : Bool) (n : ℕ) → cond b 1 0 ≤ n → n ≡ 0 → b ≡ false
 counted true n h e = absurd (omega (arith, h, e))
 counted false n h e = refl
 
--- the least of a front is that of all, where it is one above a bound that none attains
+-- the least of a prefix is the least of all if it is one above a bound that no register is at
 pub minimum_of_front : (m i : ℕ) (R : List ℕ) → fold min 63 (take i R) ≡ m + 1 → ((s : ℕ) → s < length R → m ≤ get_or R s 0) → count_by (λ r. eqb r m) R ≡ 0 → fold min 63 (take i R) ≡ minimum R
 minimum_of_front m i R is all none =
     let whole : minimum R ≡ fold min (fold min 63 (take i R)) (drop i R) = ap (fold min 63) (sym (take-append-drop i R)) ∙ fold-append min 63 (take i R) (drop i R) in
@@ -401,7 +401,7 @@ count_above m (r ∷ R) some h =
     let first : ◌≡◌ {A = ℕ} (cond (eqb r 0) 1 0) 0 = cond-false (eqb r 0) 1 0 (elim (cases_Bool (eqb r 0)) [ inl t ↦ absurd (omega (arith, some, h 0 (omega arith), eqb-true r 0 t)) | inr f ↦ f ]) in
     omega (arith, sum_by-cons (λ r. cond (eqb r 0) 1 0) r R, first, count_above m R some (λ s l. h (suc s) (omega (arith, l))))
 
--- without zeros at the minimum there are none
+-- the number of registers that are 0 is the count at the minimum if that is 0, else 0
 pub zeros_packed : (k m n : ℕ) (bytes : List ℕ) (e : Option ExceptionMap) (R : List ℕ) → IsPacked k m n bytes e R → cond (eqb m 0) n 0 ≡ count_by (λ r. eqb r 0) R
 zeros_packed k m n bytes e R p = elim (cases_Bool (eqb m 0)) [
   | inl t ↦ cond-true (eqb m 0) n 0 t ∙ p.count ∙ ap (λ m. count_by (λ r. eqb r m) R) (eqb-true m 0 t)
@@ -420,7 +420,7 @@ one_more a b = elim (cases_eq a b) [
   | inr other ↦ ne_eqb (suc a) (suc b) (λ e. other (omega (arith, e))) ∙ sym (ne_eqb a b other)
 ]
 
--- all pass exactly if as many pass as there are
+-- all elements pass exactly if the count of those that pass is the length
 pub all_by_count : (p : ℕ → Bool) (R : List ℕ) → eqb (count_by p R) (length R) ≡ list_all p R
 all_by_count p [] = refl
 all_by_count p (r ∷ R) = decide (p r) refl (all_by_count p R)

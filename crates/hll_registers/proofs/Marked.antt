@@ -1,5 +1,5 @@
 -- SPDX-License-Identifier: Apache-2.0
--- Nibbles of 15 and exceptions: where each exception has such a nibble, and there are as many, no other nibble is 15.
+-- Nibbles of 15 and exceptions: if each exception has such a nibble, and there are equally many of both, no other nibble is 15.
 use Rattle.std.proofs.Common.{◌≡◌, ◌≢◌, ℕ, zero, suc, ◌+◌, ◌*◌, ◌/◌, ◌%◌, ◌^◌, ◌<◌, ◌≤◌, ◌==◌, ◌⊎◌, ◌&&◌, Bool, true, false, cond, List, [], ◌∷◌, All, Option, Some, None, length, map, get_or, refl, sym, ap, subst, ◌∙◌, arith, inl, inr}
 use Rattle.std.specs.Prelude.{nat_le}
 use Rattle.std.specs.List.{list_all}
@@ -31,7 +31,7 @@ abbrev put : Bool → ℕ → List ℕ → List ℕ
 put true s xs = s ∷ xs
 put false s xs = xs
 
--- those of bytes whose first slot is s
+-- the slots of nibbles of 15 in bytes whose first slot is s
 abbrev marked : ℕ → List ℕ → List ℕ
 marked s [] = []
 marked s (b ∷ bs) = put (b % 16 == 15) s (put (b / 16 == 15) (s + 1) (marked (s + 2) bs))
@@ -65,7 +65,7 @@ not_below s q (b ∷ bs) h = elim (from_put (b % 16 == 15) s q (put (b / 16 == 1
   ]
 ]
 
--- there are as many as nibbles of 15
+-- their number is the number of nibbles of 15
 len-marked : (s : ℕ) (bs : List ℕ) → len (set_of (marked s bs)) ≡ mark_nibbles bs
 len-marked s [] = len-empty nat_cmp
 len-marked s (b ∷ bs) =
@@ -76,7 +76,7 @@ len-marked s (b ∷ bs) =
     elim (from_put (b / 16 == 15) (s + 1) s rest h) [ inl at ↦ omega (arith, at.1) | inr after ↦ omega (arith, not_below (s + 2) s bs after) ]) in
     omega (arith, low, high, len-marked (s + 2) bs, sum_by-cons (λ b. cond (b % 16 == 15) 1 0) b bs, sum_by-cons (λ b. cond (b / 16 == 15) 1 0) b bs)
 
--- each slot of such a nibble is one of them
+-- the slot of each nibble of 15 is among them
 has-marked : (s q : ℕ) (bs : List ℕ) → All (λ b. b < 256) bs → q < 2 * length bs → nibble_at bs q ≡ 15 → has (s + q) (marked s bs) ≡ true
 has-marked s q [] fits l mark = absurd (omega (arith, l))
 has-marked s zero (b ∷ bs) fits l mark =
@@ -137,7 +137,7 @@ module _ (k : ℕ) (bytes : List ℕ) (e : Option ExceptionMap) (size : 2 * leng
       let at : s ≡ 0 + s = omega arith in
       ap (λ n. has n (marked 0 bytes)) at ∙ has-marked 0 s bytes fits (omega (arith, l, size)) mark
 
-  -- where each exception has one, no other slot does
+  -- if each exception has such a nibble, no other slot has one
   pub no_other : mark_nibbles bytes ≡ len (exceptions_in e) → ((s v : ℕ) → exception_in e s ≡ Some v → nibble_at bytes s ≡ 15) → (s : ℕ) → s < 2 ^ k → exception_in e s ≡ None → nibble_at bytes s ≡ 15 → ⊥
   no_other many each s l none mark =
       let S : List ℕ = slots_in e in
@@ -150,7 +150,7 @@ module _ (k : ℕ) (bytes : List ℕ) (e : Option ExceptionMap) (size : 2 * leng
       ]) in
       omega (arith, more, part, len-marked 0 bytes, len-slots k e is, many)
 
-  -- parts that agree have as many
+  -- if nibbles and exceptions agree, there are equally many
   pub as_many : (m : ℕ) → ((s : ℕ) → s < 2 ^ k → Agrees m (nibble_at bytes s) (exception_in e s)) → mark_nibbles bytes ≡ len (exceptions_in e)
   as_many m agree =
       let S : List ℕ = slots_in e in

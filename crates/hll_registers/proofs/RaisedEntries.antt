@@ -1,5 +1,5 @@
 -- SPDX-License-Identifier: Apache-2.0
--- Values raised to the exceptions of their slots, by one entry of a map after the other.
+-- The maximum of values and the exceptions of their slots, by one entry of a map after the other.
 use Rattle.std.proofs.Common.{◌≡◌, ℕ, ◌+◌, ◌-◌, ◌<◌, ◌≤◌, List, [], ◌∷◌, ◌++◌, All, Option, Some, None, length, get_or, set, refl, sym, ap, ◌∙◌, arith, inl, inr}
 use Rattle.std.specs.Prelude.{max, unwrap_or}
 use Rattle.std.proofs.lemmas.Bool.{cases_eq}
@@ -9,11 +9,11 @@ use Rattle.hll_coupons.specs.AuxMap.{ExceptionMap, IsMap, entries_in, value_in}
 use Rattle.hll_coupons.proofs.Pairs.{IsEntryOf, of_value}
 use Rattle.hll_registers.proofs.FourBits.{All-one}
 
--- an entry's value, if its slot is one of the values', is reached
+-- if the slot of an entry is one of the values', this value is at least the entry's
 abbrev IsReached : ℕ → List ℕ → ℕ × ℕ → Type 0
 IsReached first now p = first ≤ p.0 → p.0 < first + length now → p.1 ≤ get_or now (p.0 - first) 0
 
--- each value is at least what it was, and at most raised by its exception; those of the entries so far are reached
+-- each value is at least the old one, and at most the maximum with its exception; the values of the entries so far are reached
 pub record RaisedSoFar (t : ExceptionMap) (first : ℕ) (old now : List ℕ) (ys : List (ℕ × ℕ)) : Type 0 where
   pub size : length now ≡ length old
   pub least : (s : ℕ) → get_or old s 0 ≤ get_or now s 0
@@ -23,7 +23,7 @@ pub record RaisedSoFar (t : ExceptionMap) (first : ℕ) (old now : List ℕ) (ys
 pub raised_none : (t : ExceptionMap) (first : ℕ) (old : List ℕ) → RaisedSoFar t first old old []
 raised_none t first old = record { size = refl; least = λ s. omega arith; most = λ s. omega arith; reached = λ i d l. absurd (omega (arith, l)) }
 
--- an entry that is none of theirs
+-- an entry whose slot is none of the values'
 pub raised_less : (t : ExceptionMap) (first : ℕ) (old now : List ℕ) (ys : List (ℕ × ℕ)) (s v : ℕ) → RaisedSoFar t first old now ys → (first ≤ s → s < first + length now → ⊥) → RaisedSoFar t first old now (ys ++ (s, v) ∷ [])
 raised_less t first old now ys s v h out = record {
   size = h.size;
@@ -32,7 +32,7 @@ raised_less t first old now ys s v h out = record {
   reached = All-append (IsReached first now) ys ((s, v) ∷ []) h.reached (All-one (IsReached first now) (s, v) (λ from to. absurd (out from to)));
 }
 
--- one that is
+-- an entry whose slot is one of the values'
 pub raised_more : (t : ExceptionMap) (first : ℕ) (old now : List ℕ) (ys : List (ℕ × ℕ)) (s v : ℕ) → RaisedSoFar t first old now ys → IsEntryOf t (s, v) → first ≤ s → s - first < length now →
     RaisedSoFar t first old (set now (s - first) (max (get_or now (s - first) 0) v)) (ys ++ (s, v) ∷ [])
 raised_more t first old now ys s v h entry from inside = record {
@@ -66,7 +66,7 @@ raised_more t first old now ys s v h entry from inside = record {
       | inr other ↦ omega (arith, get_or-set_other now at q new 0 other)
     ]
 
--- when all were taken
+-- after all entries
 pub raised_whole : (t : ExceptionMap) (first : ℕ) (old now : List ℕ) → IsMap t → RaisedSoFar t first old now (entries_in t) → (s : ℕ) → s < length old → get_or now s 0 ≡ max (get_or old s 0) (unwrap_or (value_in t (first + s)) 0)
 raised_whole t first old now is h s l = of (value_in t (first + s)) refl
   where

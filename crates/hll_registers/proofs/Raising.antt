@@ -63,7 +63,7 @@ module _ (k : ℕ) (R : List ℕ) (c : ℕ) (size : length R ≡ 2 ^ k) where
       let new : R ≡ join R F = join-low low in
       λ i. record { lg_k = k; registers = new i; state = sym (state_after-same R (join R F) state new) i }
 
-  -- a greater one is written, and clears the state
+  -- a greater coupon is written, and clears the state
   pub update_with_pairs-high : (state : EstimateState) → t < length R → get_or R t 0 < value_of c →
       let x : Stored = record { lg_k = k; registers = R; state = state } in
       let y : Stored = record { lg_k = k; registers = set R t (value_of c); state = cleared_state } in y ≡ update_with_coupon x c
@@ -81,11 +81,11 @@ module _ (k : ℕ) (R : List ℕ) (c : ℕ) (state : EstimateState) (size : leng
   read : old ≡ get_or R (slot_of c % 2 ^ k) 0
   read = is ∙ ap (λ i. get_or R i old) at ∙ get_or_default R (slot_of c % 2 ^ k) old 0 inside
 
-  -- one that is no less is kept
+  -- a register that is at least the coupon's value is kept
   pub update_with_pairs-kept : value_of c ≤ old → let x : Stored = record { lg_k = k; registers = R; state = state } in x ≡ update_with_coupon x c
   update_with_pairs-kept low = update_with_pairs-low k R c size state (omega (arith, low, read))
 
-  -- a smaller one is written over
+  -- a smaller register is replaced
   pub update_with_pairs-written : (v : ℕ) → v ≡ value_of c → old < value_of c →
       let x : Stored = record { lg_k = k; registers = R; state = state } in
       let y : Stored = record { lg_k = k; registers = set R t v; state = cleared_state } in y ≡ update_with_coupon x c

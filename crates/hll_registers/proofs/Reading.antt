@@ -7,7 +7,7 @@ use Rattle.hll_base.specs.Join.{join}
 use Rattle.hll_kernels.proofs.SixBitLanes.{join_zeros}
 use Rattle.hll_kernels.specs.Packed.{AreRegisters}
 
--- n of m zeros raised to registers from a slot on
+-- the first n of m zeros after the maximum with the registers from a slot on
 module _ (k m first n : ℕ) (R W rest : List ℕ) (legal : AreRegisters k R) (within : first + n ≤ 2 ^ k) (few : n ≤ m)
     (is : W ≡ join (take n (replicate {A = ℕ} m 0)) (take (length (take n (replicate {A = ℕ} m 0))) (drop first R))) where
   -- are these registers

@@ -17,7 +17,7 @@ use Rattle.hll_registers.proofs.FourBitReading.{AgreeAbove, at, length-unpacked,
 
 -- ---- tests
 
--- a test of bytes is one of what they are
+-- a test of bytes is a test of what the bytes are equal to
 pub tested : (b : Bool) (X Y V W : List ℕ) → b ≡ pointwise nat_eq X Y → X ≡ V → Y ≡ W → IsTrue b ↔ (V ≡ W)
 tested b X Y V W is x y = (λ t. sym x ∙ (bytes_decides X Y).0 (sym is ∙ t) ∙ y, λ e. is ∙ (bytes_decides X Y).1 (x ∙ e ∙ sym y))
 
@@ -49,13 +49,13 @@ left_open (Some false) P f g = (λ t. absurd (true≢false (sym t)), λ p. absur
 
 -- ---- blocks
 
--- the registers of some blocks and of one more
+-- the registers of some blocks and of one more block
 pub one_more : (i n : ℕ) (R : List ℕ) → take ((i + 1) * n) R ≡ take (i * n) R ++ take n (drop (i * n) R)
 one_more i n R = ap (λ m. take m R) (let next : (i + 1) * n ≡ i * n + n = omega arith in next) ∙ take-add (i * n) n R
 
 -- ---- nibbles and exceptions above one minimum
 
--- where nibbles are the same, exceptions are the same if those of one side are
+-- if nibbles are the same, exceptions are the same if those of one side are on the other side
 same_exception : (m n : ℕ) (o p : Option ℕ) → Agrees m n o → Agrees m n p → ((v : ℕ) → o ≡ Some v → p ≡ Some v) → o ≡ p
 same_exception m n None None a b f = refl
 same_exception m n None (Some v) a b f = absurd (omega (arith, a.0, b.0))
@@ -81,7 +81,7 @@ module _ (k m : ℕ) (bytes others : List ℕ) (e f : Option ExceptionMap) (one 
       same_exception m (nibble_at others s) (exception_in e s) (exception_in f s) (subst (λ b. Agrees m (nibble_at b s) (exception_in e s)) same (one.agree s within)) (two.agree s within) (all s) in
       unpacked-at k m bytes e s within ∙ (λ i. register_of m (nibble_at (same i) s) (entries i)) ∙ sym (unpacked-at k m others f s within))
 
-  -- an exception that is none of the other side's
+  -- an exception that the other side lacks
   pub other_registers : (s v : ℕ) → s < 2 ^ k → exception_in e s ≡ Some v → (exception_in f s ≡ Some v → ⊥) → R ≡ Q → ⊥
   other_registers s v within is absent same =
       absent ((at two s within).exception_is ∙ ap (λ R. exception_of m (get_or R s 0)) (sym same) ∙ sym (at one s within).exception_is ∙ is)

@@ -34,7 +34,7 @@ num_at_cur_min bytes = from_le_bytes w32 (drop 24 bytes)
 abbrev pub exception_count : List ℕ → ℕ
 exception_count bytes = from_le_bytes w32 (drop 28 bytes)
 
--- ---- eight bits
+-- ---- 8-bit registers
 
 pub record IsHll8Payload (k : ℕ) (bytes : List ℕ) : Type 0 where
   pub zero_count : num_at_cur_min bytes ≤ 2 ^ k
@@ -64,7 +64,7 @@ pub data FirstHll8Fault (k : ℕ) (bytes : List ℕ) : Reason → Type 0 where
   short : HasPlainCounts k bytes → length bytes < 32 + 2 ^ k → FirstHll8Fault k bytes Truncated
   register : HasPlainCounts k bytes → 32 + 2 ^ k ≤ length bytes → (All (λ v. v ≤ 63) (take (2 ^ k) (drop 32 bytes)) → ⊥) → FirstHll8Fault k bytes Register
 
--- ---- six bits
+-- ---- 6-bit registers
 
 -- the number of bytes of the packed registers, and one more byte that holds none
 abbrev pub field_size : ℕ → ℕ
@@ -89,7 +89,7 @@ pub data FirstHll6Fault (k : ℕ) (bytes : List ℕ) : Reason → Type 0 where
   exceptions_counted : 32 ≤ length bytes → exception_count bytes ≢ 0 → FirstHll6Fault k bytes Count
   short : HasPlainCounts k bytes → length bytes < 32 + field_size k → FirstHll6Fault k bytes Truncated
 
--- ---- four bits
+-- ---- 4-bit registers
 
 -- what the header says about 4-bit registers; the minimum is the state byte
 pub record Hll4Shape : Type 0 where

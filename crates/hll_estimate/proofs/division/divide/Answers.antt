@@ -4,7 +4,7 @@ use Rattle.std.proofs.lemmas.Nat.{div-add-mod', mod_below}
 use Rattle.hll_estimate.proofs.LongDivision.{at_most, quotient_of, remainder_of}
 use Rattle.hll_estimate.proofs.division.divide.Goals as goal
 
--- a part more of the quotient
+-- one more part of the quotient
 one_more : (n d q r p : ℕ) → q * d + r ≡ n → p * d ≤ r → (q + p) * d + (r - p * d) ≡ n
 one_more n d q r p e le = omega (arith, e, le)
 

@@ -18,7 +18,7 @@ overflow_add-divisor_high c =
     let small = high_fits c.args.divisor (c.args.divisor - 1) c.saturating_sub-divisor_dropped.result 96 32 c.ranges.divisor.fits (omega arith) (omega arith) c.saturating_sub-divisor_dropped.ensures in
     record { fits = omega (arith, small) }
 
--- what is shifted up is whole
+-- no bit is lost when the digit is shifted up
 whole : (s d n : ℕ) → 0 < d → s * d ≤ n → n < 2 ^ 128 → s % 2 ^ 128 ≡ s
 whole s d n some le small = let most = at_most s d n some le in let lt : s < 2 ^ 128 = omega (arith, most, small) in mod-eq_of_lt lt
 

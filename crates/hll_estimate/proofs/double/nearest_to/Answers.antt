@@ -8,7 +8,7 @@ use Rattle.hll_estimate.proofs.double.nearest_to.Goals as goal
 bits : (n : ℕ) → (n ≡ 0 → ⊥) → n < 2 ^ 128 → HasBits n (128 - count_leading_zeros 128 n)
 bits n some small = has_bits n (omega arith) small
 
--- what is shifted up is whole
+-- no bit is lost when n is shifted up
 whole : (n b : ℕ) → HasBits n b → b ≤ 53 → (n * 2 ^ (53 - b)) % 2 ^ 128 ≡ n * 2 ^ (53 - b)
 whole n b h le = let s = shifted_up n b h le in let e : n * 2 ^ (53 - b) < 2 ^ 128 = omega (arith, s.1) in mod-eq_of_lt e
 

@@ -21,7 +21,7 @@ bits_of-below-requires-clause-low c = (shifted_down c.args.n c.args.bits (bits c
 pub bits_of-below-requires-clause-high : goal.bits_of-below-requires-clause-high
 bits_of-below-requires-clause-high c = (shifted_down c.args.n c.args.bits (bits c.args.n c.args.bits c.requires.more c.requires.most c.requires.low c.requires.high) c.requires.more).1
 
--- what is dropped, and the half of it, as they are computed
+-- the part that is dropped, and half a unit, as they are computed
 rest : (n b k : ℕ) → n < 2 ^ 128 → k ≡ n / 2 ^ (b - 53) → n - (k * 2 ^ (b - 53)) % 2 ^ 128 ≡ n % 2 ^ (b - 53)
 rest n b k small is =
     let parts : n / 2 ^ (b - 53) * 2 ^ (b - 53) + n % 2 ^ (b - 53) ≡ n = div-add-mod' n (2 ^ (b - 53)) in

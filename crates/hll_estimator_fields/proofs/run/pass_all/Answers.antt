@@ -10,7 +10,7 @@ use Rattle.hll_estimator_fields.proofs.run.pass_all.Goals as goal
 pub pass_piece-requires-clause-open : goal.pass_piece-requires-clause-open
 pass_piece-requires-clause-open g c = subst IsOpen (sym c.pieces.invariant.pending) (open_line-open c.pieces.invariant.text)
 
--- the lines that end in a text and a piece, where the open line of the text is pending
+-- the lines that end in a text and a piece, if the open line of the text is pending
 ended : (text came pending : List ℕ) → pending ≡ open_line text → ended_lines (text ++ came) ≡ ended_lines text ++ ended_lines (pending ++ came)
 ended text came pending is = ended_lines-append text came ∙ ap (λ bs. ended_lines text ++ ended_lines (bs ++ came)) (sym is)
 

@@ -5,7 +5,7 @@ use Rattle.hll_text.specs.Text.{ended_lines, open_line}
 use Rattle.hll_estimator_fields.specs.Passing.{Passes}
 use Rattle.hll_estimator_fields.proofs.run.pass_all.Given as goal
 
--- the lines that ended in what came so far were passed on, what follows is pending, and nothing has failed
+-- the lines that ended in the text so far were passed on, what follows is pending, and nothing has failed
 abbrev pub invariant-pieces : goal.invariant-pieces
 invariant-pieces g l = record {
   text : List ℕ;

@@ -9,7 +9,7 @@ use Rattle.hll_kernels.proofs.SixBitLanes.{length-fields-le, fields-append}
 use Rattle.hll_kernels.proofs.WeightParts.{AreSumsOf-append, AreSumsOf-fits}
 use Rattle.hll_kernels.proofs.groups.field_sums.Goals as goal
 
--- the registers of some blocks and of one more
+-- the registers of some blocks and of one more block
 one_more : (i : ℕ) (B : List ℕ) (F : List (List ℕ)) → F ≡ first_chunks 48 (length B / 48) B → i < length B / 48 →
     fields (take ((i + 1) * 48) B) ≡ fields (take (i * 48) B) ++ fields (get_or F i [])
 one_more i B F front inside =
@@ -23,7 +23,7 @@ all i B rest e is =
     let taken : length (take (i * 48) B) ≡ 3 * (16 * i) = omega (arith, length-take-le (i * 48) B (omega (arith, e))) in
     sym (sym (fields-append (16 * i) (take (i * 48) B) rest taken) ∙ ap fields (ap (λ Q. take (i * 48) B ++ Q) cut ∙ take-append-drop (i * 48) B))
 
--- a part has few registers
+-- a part of the bytes has few registers
 few : (n : ℕ) (B : List ℕ) → length B ≤ 3 * 2 ^ 19 → length (fields (take n B)) ≤ 2 ^ 23
 few n B h = omega (arith, length-fields-le (take n B), length-take n B)
 

@@ -5,7 +5,7 @@ use Rattle.hll_kernels.specs.Packed.{fields}
 use Rattle.hll_kernels.proofs.SixBitLanes.{length-fields, join_zeros}
 use Rattle.hll_kernels.proofs.groups.unpacked.Goals as goal
 
--- the front of a list
+-- a prefix of a list
 front : (k : ℕ) (W rest : List ℕ) → k ≡ length W → take k (W ++ rest) ≡ W
 front k W rest e = ap (λ n. take n (W ++ rest)) e ∙ take-append_seam W rest
 

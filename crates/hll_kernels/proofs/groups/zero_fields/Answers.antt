@@ -7,7 +7,7 @@ use Rattle.hll_kernels.proofs.Blocks.{take_block}
 use Rattle.hll_kernels.proofs.SixBitLanes.{length-fields-le, fields-append}
 use Rattle.hll_kernels.proofs.groups.zero_fields.Goals as goal
 
--- the zeros of a front and what follows
+-- the zeros of a prefix and of the rest
 append : (P Q : List ℕ) → zeros (P ++ Q) ≡ zeros P + zeros Q
 append P Q = sum_by-append (λ v. cond (v == 0) 1 0) P Q
 

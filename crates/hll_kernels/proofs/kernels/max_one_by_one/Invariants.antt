@@ -3,7 +3,7 @@ use Rattle.std.proofs.Common.{◌≡◌, ℕ, ◌<◌, ◌≤◌, length, get_or
 use Rattle.std.specs.Prelude.{max}
 use Rattle.hll_kernels.proofs.kernels.max_one_by_one.Given as goal
 
--- the bytes before the place are the greater of both, and the others are unchanged
+-- the bytes so far are the maximum of both, and the others are unchanged
 abbrev pub invariant-loop-place : goal.invariant-loop-place
 invariant-loop-place l = record {
   size : length l.dst ≡ length l.initial.dst;

@@ -15,7 +15,7 @@ use Rattle.hll_registers.specs.FourBits.{IsMapFor, exception_in, kept_above, unb
 use Rattle.hll_registers.proofs.FourBits.{KeptSoFar, kept_none, kept_more, kept_less, kept_whole}
 use Rattle.hll_registers.proofs.exception_map.kept_entries.Goals as goal
 
--- where one is kept, it is an exception that stays one
+-- if an entry is kept, it is an exception that stays one
 stays : (t : ExceptionMap) (m : ℕ) (kept : Option ExceptionMap) (ys : List (ℕ × ℕ)) → KeptSoFar t m kept ys → kept ≢ None → (s : ℕ) × (v : ℕ) × (value_in t s ≡ Some v) × (m + 15 ≤ v)
 stays t m None ys h some = absurd (some (λ i. None))
 stays t m (Some u) ys h some =

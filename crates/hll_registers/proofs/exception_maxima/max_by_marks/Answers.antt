@@ -18,7 +18,7 @@ on_true_weaker : {P Q : Type 0} (b : Bool) → (P → Q) → OnTrue b P → OnTr
 on_true_weaker true f p = f p
 on_true_weaker false f p = tt
 
--- a value that is raised already
+-- taking the maximum again changes nothing
 again : (now old e : ℕ) → now ≡ max old e → max now e ≡ max old e
 again now old e raised = omega (arith, raised)
 

@@ -4,7 +4,7 @@ use Rattle.std.specs.Prelude.{max, unwrap_or}
 use Rattle.hll_coupons.specs.AuxMap.{value_in}
 use Rattle.hll_registers.proofs.exception_maxima.max_by_marks.Given as goal
 
--- the values of the blocks so far are raised, and the others are as they were
+-- the values of the blocks so far are the maximum, and the others are unchanged
 abbrev pub invariant-loop-index : goal.invariant-loop-index
 invariant-loop-index g l = record {
   size : length l.values ≡ length l.initial.values;

@@ -21,7 +21,7 @@ zeros_are k n size = record {
     below (suc m) zero d l = omega arith
     below (suc m) (suc i) d l = below m i d (omega (arith, l))
 
--- a fold through the registers that zeros are raised to
+-- a fold of the fold to 2^k registers
 through : (e k n : ℕ) (R parts : List ℕ) → n ≡ 2 ^ k → e ≤ k → k ≤ 21 → parts ≡ join (replicate n 0) (fold_to (pairs R) k) → fold_to (pairs parts) e ≡ fold_to (pairs R) e
 through e k n R parts size low high is =
     let fold : List ℕ = fold_to (pairs R) k in

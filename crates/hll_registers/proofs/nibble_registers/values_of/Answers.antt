@@ -8,7 +8,7 @@ use Rattle.hll_registers.proofs.Folding.{power-groups}
 use Rattle.hll_registers.proofs.FourBitReading.{length-unpacked}
 use Rattle.hll_registers.proofs.nibble_registers.values_of.Goals as goal
 
--- zeros that are raised to registers
+-- the maximum of zeros and registers
 raised : (n : ℕ) (zeros values registers : List ℕ) → zeros ≡ replicate n 0 → length registers ≡ n → values ≡ join zeros (take (length zeros) registers) → values ≡ registers
 raised n zeros values registers none size is =
     let many : length zeros ≡ n = ap length none ∙ length-replicate {A = ℕ} n 0 in

@@ -15,7 +15,7 @@ use Rattle.hll_arrays.proofs.array6.Array6PartialEq.eq.Goals.{then-self-other, e
 abbrev same_state : Stored → Stored → Bool
 same_state x y = pointwise nat_eq x.state.words y.state.words && beq x.state.out_of_order y.state.out_of_order
 
--- what is left to compare where lg_k is the same
+-- what is left to compare if lg_k is the same
 same_lg_k : (x y : Stored) (r : Bool) → x.lg_k ≡ y.lg_k → pointwise nat_eq x.registers y.registers ≡ r → (r && same_state x y) ≡ same_stored x y
 same_lg_k x y r k e = λ i. sym (eq-eqb x.lg_k y.lg_k k) i && (sym e i && same_state x y)
 

@@ -31,7 +31,7 @@ returns-in-Ok g c =
       Passes-of _ _ inv.front _ _ _ _ (sym all) inv.passes,
     )
 
--- a line that ends in what is left of a piece, and the lines after it
+-- a line that ends in the rest of a piece, and the lines after it
 next : (pending bytes rest more : List ℕ) (at : ℕ) → IsOpen pending → position (λ b. b == 10) rest ≡ Some at → bytes ≡ take at rest → more ≡ drop (at + 1) rest →
     Closes pending rest [] more (strip_carriage_return (pending ++ bytes) ∷ [])
 next pending bytes rest more at opened found is after =

@@ -5,7 +5,7 @@ use Rattle.hll_text.specs.Text.{ended_lines, open_line}
 use Rattle.hll_estimator_fields.specs.Passing.{Passes}
 use Rattle.hll_estimator_fields.proofs.filter.Filter.pass_piece.Given as goal
 
--- the lines before what is left of the piece were passed on
+-- the lines before the rest of the piece were passed on
 abbrev pub invariant-lines : goal.invariant-lines
 invariant-lines g l = record {
   front : List (List ℕ);

@@ -57,7 +57,7 @@ deallocate_spec 𝓤 𝓛 𝓜 𝓡 wired Y L g d dd met _ =
     (λ κs. (shr_vals, (rawptr_vals, (uint_vals w64, (uint_vals w64, tt))))) (λ κs. ((λ r vs s. s.0), (rawptr_Tells, (uint_Tells w64, (uint_Tells w64, tt))))) (λ κs qs bounds a τ are.
     let κ = κs.0 in let q = qs.0 in let r = a.0 in let n = a.1.1.0 in let al = a.1.1.1.0 in let h = r.now.inner in
     let y : Ptr → W.Ghost = λ x. ((κs, qs, bounds, (r, (x, (n, (al, tt)))), (shr_vals r, (rawptr_vals x, (uint_vals w64 n, (uint_vals w64 al, tt))))), τ) in
-    -- where the first field lies
+    -- where the first field is
     let p : ℕ × ℕ = (r.ref_ptr.0, r.ref_ptr.1 + up (align (α Z)) 0) in
     let Gives = Gives Z 𝓛 𝓜.mem 𝓡.returns in
     let Said : Type 0 = (capped (size τ) ≡ n) × (capped (align τ) ≡ al) in

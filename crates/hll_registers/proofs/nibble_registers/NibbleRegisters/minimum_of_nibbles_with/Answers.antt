@@ -11,11 +11,11 @@ use Rattle.hll_registers.proofs.Packing.{minimum_le}
 use Rattle.hll_registers.proofs.nibble_registers.NibbleRegisters.minimum_of_nibbles_with.Goals as goal
 use Rattle.hll_registers.proofs.nibble_registers.NibbleRegisters.minimum_of_nibbles_with.Goals.{then-other-slot, else-other-slot}
 
--- a register that is met, or the least exception, if that is less
+-- the least after one more register, or 15 above the minimum, if that is less
 met : (least front register m seen : ℕ) → least ≡ min front (m + 15) → min seen (m + 15) ≡ min register (m + 15) → min least seen ≡ min (min front register) (m + 15)
 met least front register m seen so is = omega (arith, so, is)
 
--- a nibble above the minimum says the register, or that it is an exception
+-- a nibble determines the register, up to 15 above the minimum
 of_nibble : (m r seen : ℕ) → m ≤ r → seen ≡ m + nibble m r → min seen (m + 15) ≡ min r (m + 15)
 of_nibble m r seen low is = omega (arith, low, is)
 

@@ -4,7 +4,7 @@ use Rattle.hll_registers.specs.FourBits.{IsPacked}
 use Rattle.hll_registers.proofs.FourBits.{packed_here, packed_zeros, unpacked_is}
 use Rattle.hll_registers.proofs.nibble_registers.NibbleRegisters.new.Goals as goal
 
--- what is kept are zeros
+-- what is stored are zeros
 zeros : (k n : ℕ) (bytes : List ℕ) → 4 ≤ k → n ≡ 2 ^ k → bytes ≡ replicate (2 ^ (k - 1)) 0 → IsPacked k 0 n bytes None (replicate (2 ^ k) 0)
 zeros k n bytes low count is = subst (λ n. IsPacked k 0 n bytes None (replicate (2 ^ k) 0)) (sym count) (subst (λ bs. IsPacked k 0 (2 ^ k) bs None (replicate (2 ^ k) 0)) (sym is) (packed_zeros k low))
 

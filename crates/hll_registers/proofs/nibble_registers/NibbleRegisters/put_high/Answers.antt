@@ -11,7 +11,7 @@ use Rattle.hll_registers.proofs.FourBitChanges.{high_moves, high_packed, registe
 use Rattle.hll_registers.proofs.nibble_registers.NibbleRegisters.put_high.Given.{Over}
 use Rattle.hll_registers.proofs.nibble_registers.NibbleRegisters.put_high.Goals as goal
 
--- the bytes that are left
+-- the bytes afterwards
 bytes : (g : Over) (c : goal.After-self-2-1 g) → (with_items c.self.inside.nibbles c.put_nibble.new.bytes).items ≡ c.put_nibble.new.bytes
 bytes g c = with_items_is c.self.inside.nibbles c.put_nibble.new.bytes (c.put_nibble.ensures.len ∙ c.deref_mut.ensures.len)
 

@@ -15,7 +15,7 @@ put_nibble-requires-clause-small g c =
     let least = (packed_is_of_registers _ _ _ _ _ _ c.self.invariant.1 c.self.invariant.2).minimum_is ∙ ap (λ (x : NibbleRegisters). minimum x.registers) c.self.view_is in
     omega (arith, least, c.requires.low)
 
--- the bytes that are left
+-- the bytes afterwards
 bytes : (g : Over) (c : goal.After-self-2-1 g) → (with_items c.self.inside.nibbles c.put_nibble.new.bytes).items ≡ c.put_nibble.new.bytes
 bytes g c = with_items_is c.self.inside.nibbles c.put_nibble.new.bytes (c.put_nibble.ensures.len ∙ c.deref_mut.ensures.len)
 

@@ -3,7 +3,7 @@ use Rattle.std.proofs.Common.{◌≡◌, ℕ, ◌+◌, ◌<◌, ◌≤◌, lengt
 use Rattle.std.specs.Prelude.{max}
 use Rattle.hll_registers.proofs.registers.Registers.max_into.Given as goal
 
--- the values before the place are raised, and the others are as they were
+-- the values so far are the maximum, and the others are unchanged
 abbrev pub invariant-loop-index : goal.invariant-loop-index
 invariant-loop-index g l = record {
   size : length l.values ≡ length l.initial.values;

@@ -32,7 +32,7 @@ weight_sums_at-requires-clause-groups g c =
 pub weight_sums_at-requires-clause-few : goal.weight_sums_at-requires-clause-few
 weight_sums_at-requires-clause-few g c = omega (arith, c.two_to-size.ensures, pow_mono {i = c.min-lg_size.result} {j = 14} (omega (arith, c.min-lg_size.ensures, c.lg_block.ensures.most)))
 
--- the registers of some blocks and of one more
+-- the registers of some blocks and of one more block
 one_more : (i n : ℕ) (R : List ℕ) → take ((i + 1) * n) R ≡ take (i * n) R ++ take n (drop (i * n) R)
 one_more i n R = ap (λ m. take m R) (let next : (i + 1) * n ≡ i * n + n = omega arith in next) ∙ take-add (i * n) n R
 
