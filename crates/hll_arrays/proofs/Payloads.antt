@@ -46,7 +46,7 @@ one_hll4 h a b s t p q e =
     front_buckets h a s (b ++ t) e p.has_entries.whole ∙ sym (front_buckets h b t (b ++ t) refl q.has_entries.whole) in
     same_fronts a b s t e (p.size ∙ ap (λ n. 32 + (2 ^ (h.lg_k - 1) + 4 * n)) buckets ∙ sym q.size)
 
--- ---- with a fault, no front is a payload
+-- ---- if there is a fault, no prefix is a payload
 
 pub hll8_fault_excludes : (k : ℕ) (a t b : List ℕ) (r : Reason) → a ++ t ≡ b → IsHll8Payload k a → Hll8Fault k b r → ⊥
 hll8_fault_excludes k a t b r e p (payload.Hll8Fault.no_counts n) = omega (arith, p.size, front_le a t b e)

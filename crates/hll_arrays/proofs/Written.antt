@@ -60,7 +60,7 @@ module _ (k : ℕ) (R : List ℕ) (state : EstimateState) (low_k : 4 ≤ k) (sma
   zeros_le : zeros R ≤ 2 ^ k
   zeros_le = omega (arith, count_by-le-length (λ v. eqb v 0) R, are.size)
 
-  -- ---- eight bits
+  -- ---- 8-bit registers
 
   pub hll8 : List ℕ
   hll8 = number_bytes state (zeros R) 0 ++ R
@@ -82,7 +82,7 @@ module _ (k : ℕ) (R : List ℕ) (state : EstimateState) (low_k : 4 ≤ k) (sma
   pub registers_hll8 : drop 32 (number_bytes state (zeros R) 0 ++ R) ≡ R
   registers_hll8 = numbers8.after
 
-  -- ---- six bits
+  -- ---- 6-bit registers
 
   groups : 2 ^ k ≡ 4 * 2 ^ (k - 2)
   groups = sym (groups-pow k (omega arith))
@@ -112,7 +112,7 @@ module _ (k : ℕ) (R : List ℕ) (state : EstimateState) (low_k : 4 ≤ k) (sma
   pub registers_hll6 : fields (drop 32 (number_bytes state (zeros R) 0 ++ field_bytes R)) ≡ R
   registers_hll6 = ap fields numbers6.after ∙ fields_read_back (2 ^ (k - 2)) R (are.size ∙ groups) are.small
 
-  -- ---- four bits
+  -- ---- 4-bit registers
 
   module _ (order : List ℕ) (flag : Bool) (lists : IsAscending order (set_of (exceptions R))) where
     abbrev pub shape : Hll4Shape

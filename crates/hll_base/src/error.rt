@@ -33,7 +33,7 @@ pub enum Reason {
     Width,
     /// The stage bits are 3.
     Stage,
-    /// The number of preamble words is wrong for the stage.
+    /// The number of preamble ints is wrong for the stage.
     Preamble,
     /// The table size is out of range.
     LgArr,

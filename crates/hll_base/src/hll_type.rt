@@ -4,11 +4,11 @@
 /// The width of the registers of a sketch.
 #[derive(Clone, Copy, Debug, PartialEq, Eq)]
 pub enum HllType {
-    /// HLL_4: four bits, the height above the least register. Registers 15 or more above it are kept separately, as
+    /// HLL_4: a 4-bit height above the least register. Registers 15 or more above it are kept separately, as
     /// exceptions.
     Hll4,
-    /// HLL_6: six bits, the value itself.
+    /// HLL_6: the value itself, in 6 bits.
     Hll6,
-    /// HLL_8: one byte, the value itself.
+    /// HLL_8: the value itself, in a byte.
     Hll8,
 }

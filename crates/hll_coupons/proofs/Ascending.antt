@@ -163,7 +163,7 @@ ascending_from_sort all copy ys same once p up =
       members = set_of-permutation all ys q;
     }
 
--- ---- what an order tells of a list
+-- ---- what the order of a list shows
 
 -- numbers that ascend are distinct
 pub distinct-ascending : (xs : List ℕ) → IsStrictlyIncreasing xs → len (set_of xs) ≡ length xs

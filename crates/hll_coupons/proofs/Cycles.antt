@@ -95,7 +95,7 @@ round_again lg from next blocks size inside none n =
       ];
     }
 
--- ---- what a cycle answers
+-- ---- what a cycle returns
 
 pub ends_for : (lg stride inverse key start next bucket : ℕ) (blocks : List ℕ) → IsInverse lg stride inverse → start ≡ key * inverse % 2 ^ lg → bucket ≡ next * stride % 2 ^ lg →
     IsNextRound lg blocks start next → (key_of : ℕ → ℕ) (buckets : List ℕ) → length buckets ≡ 2 ^ lg → IsEmptyMap lg stride buckets blocks → stride ≡ stride_of lg key →

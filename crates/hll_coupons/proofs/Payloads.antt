@@ -20,7 +20,7 @@ raw_coupons-append (suc n) (a ∷ b ∷ []) t h = absurd (omega arith)
 raw_coupons-append (suc n) (a ∷ b ∷ c ∷ []) t h = absurd (omega arith)
 raw_coupons-append (suc n) (a ∷ b ∷ c ∷ d ∷ l) t h = ap (λ ws. from_le_bytes w32 (a ∷ b ∷ c ∷ d ∷ l) ∷ ws) (raw_coupons-append n l t (omega arith))
 
--- ---- a front of bytes
+-- ---- a prefix of bytes
 module _ (a t b : List ℕ) (e : a ++ t ≡ b) where
   pub front_le : length a ≤ length b
   front_le = omega (arith, length-append a t, ap length e)
@@ -59,7 +59,7 @@ one_set h a b s t p q e =
     front_number a s (a ++ s) refl 0 (omega (arith, p.count.whole)) ∙ ap set_count e ∙ sym (front_number b t (b ++ t) refl 0 (omega (arith, q.count.whole))) in
     same_fronts a b s t e (p.size ∙ ap (λ n. 4 + 4 * cond h.compact n (2 ^ h.lg_size)) count ∙ sym q.size)
 
--- ---- where a fault stands, no front is a payload
+-- ---- if there is a fault, no prefix is a payload
 
 pub list_fault_excludes : (h : ListShape) (a t b : List ℕ) (r : Reason) → a ++ t ≡ b → IsListPayload h a → ListFault h b r → ⊥
 list_fault_excludes h a t b r e p (payload.ListFault.count n) = n p.count

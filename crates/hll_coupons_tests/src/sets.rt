@@ -263,7 +263,8 @@ const INSERTIONS: [(u32, usize, Insertion); 7] = [
     (5, 1, Insertion::Refused),
 ];
 
-/// A full set accepts no more coupons, but has those that it has. With a lower limit it refuses these, too.
+/// A full set accepts no new coupon. It returns `Held` for a coupon that it has, or `Refused` if the limit is lower
+/// than its count.
 #[test]
 fn insertions(rt: HostRuntime) -> Result<(), Fail> {
     let mut set = HashSet::new(rt.alloc(), 1)?;

@@ -199,7 +199,7 @@ infinite_means k R a = (
       estimate_infinite k (zeros R) (units R) (not_none k R a greatest) greatest,
 )
 
--- ---- registers that are raised
+-- ---- registers that get greater
 
 raised_lists : (R Q : List ℕ) → AllZip (λ v w. v ≤ w) R Q → (zeros Q ≤ zeros R) × (units Q + zeros R * 2 ^ 62 ≤ units R + zeros Q * 2 ^ 62)
 raised_lists [] [] z = (omega arith, omega arith)

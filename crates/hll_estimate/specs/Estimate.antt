@@ -42,7 +42,7 @@ estimate_under t k c u = 10 ^ 18 * bias_of (2 ^ k) c * weight_over t k c u
 abbrev pub least_estimate : ℕ → ℕ → ℕ
 least_estimate k c = (2 ^ k - c) * 2 ^ 32
 
--- ---- what near is
+-- ---- nearness
 
 -- n is the fraction over / under rounded down, up to one part in 2^40
 pub record IsNear (n over under : ℕ) : Type 0 where

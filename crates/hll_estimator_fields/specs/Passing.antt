@@ -35,7 +35,7 @@ abbrev pub IsRefusedFor : List ℕ → Fault → Type 0
 IsRefusedFor line e = ((image_step line ≡ Err Hex) × (e ≡ Hex))
     ⊎ ((bytes : List ℕ) × (image_step line ≡ Ok (image bytes)) × (r : Reason) × (first_fault bytes ≡ Some r) × (e ≡ fault_of r))
 
--- what is printed for lines in turn
+-- what is printed for lines, one after the other
 abbrev pub ArePassed : List (List ℕ) → List ℕ → Type 0
 ArePassed [] out = out ≡ []
 ArePassed (line ∷ more) out = (printed rest : List ℕ) × IsPassed line printed × ArePassed more rest × (out ≡ printed ++ rest)

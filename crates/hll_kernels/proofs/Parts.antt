@@ -11,7 +11,7 @@ use Rattle.hll_base.specs.Join.{join}
 use Rattle.hll_kernels.specs.Lanes.{max_at}
 use mathlib.Core.List.{map}
 
--- ---- raised parts
+-- ---- the maximum, part by part
 
 pub max_none : (at : ℕ) (R : List ℕ) → max_at at R [] ≡ R
 max_none zero [] = refl

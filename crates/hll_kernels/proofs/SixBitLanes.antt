@@ -22,7 +22,7 @@ use Rattle.hll_kernels.proofs.FourBitLanes.{above}
 use Rattle.hll_kernels.proofs.ZeroTests.{nonzero_lanes, nonzeros_by_lanes}
 use mathlib.Core.List.{map}
 
--- ---- words and their bytes
+-- ---- 32-bit numbers and their bytes
 
 pub digits_words : (n : ℕ) (xs : List ℕ) → length xs ≡ 4 * n → Each1 (λ x. x < 256) xs → digits_l 4294967296 n (number_l 256 xs) ≡ words_of xs
 digits_words zero [] e h = refl

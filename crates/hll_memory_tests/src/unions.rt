@@ -79,7 +79,7 @@ pub(crate) fn union_in(heap: &Heap, inside: Shape) -> Result<HllUnion<&Heap>, Fa
     union_with(heap, inside.0, &sketch)
 }
 
-/// Two sketches, one after the other.
+/// Returns two sketches in a vector.
 fn pair_of<'h>(
     alloc: Global,
     one: HllSketch<&'h Heap>,

@@ -51,7 +51,7 @@ normal_word n s up E f word sum least most small fraction is =
           ∙ ap (λ p. n * p) (sym (pow-add 2 up (E + s)) ∙ ap (λ k. 2 ^ k) sum);
     }
 
--- ---- one word, and one state
+-- ---- one representation, and one state
 
 -- the product of a number of 53 bits and a power of two is larger for a larger power
 smaller : (a b i j : ℕ) → a < 2 ^ 53 → 2 ^ 52 ≤ b → i < j → a * 2 ^ i < b * 2 ^ j

@@ -175,7 +175,7 @@ packed_values k R low are m n bytes e least is zeros map_for excepted =
       excepted = excepted;
     }
 
--- ---- joins
+-- ---- maxima
 
 -- the value of each nibble
 nibble_values-at : (m : ℕ) (bytes : List ℕ) (s : ℕ) → All (λ b. b < 256) bytes → s < 2 * length bytes → get_or (nibble_values m bytes) s 0 ≡ m + nibble_at bytes s

@@ -129,7 +129,7 @@ has-slot k (Some t) (legal, lg, some) q v at =
     let entry : IsEntry t q v = entry_of_value t legal q v at in
     ap (λ n. has n (slots_in (Some t))) (sym entry.slot) ∙ has-map slot_of (coupons_in t.table.buckets) entry.raw_coupon entry.there
 
--- ---- as many nibbles of 15 as exceptions
+-- ---- equal numbers of nibbles of 15 and exceptions
 
 module _ (k : ℕ) (bytes : List ℕ) (e : Option ExceptionMap) (size : 2 * length bytes ≡ 2 ^ k) (fits : All (λ b. b < 256) bytes) (is : IsMapFor k e) where
   has_at : (s : ℕ) → s < 2 ^ k → nibble_at bytes s ≡ 15 → has s (marked 0 bytes) ≡ true

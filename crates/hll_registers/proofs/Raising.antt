@@ -92,4 +92,4 @@ module _ (k : ℕ) (R : List ℕ) (c : ℕ) (state : EstimateState) (size : leng
   update_with_pairs-written v same high =
       (λ i. record { lg_k = k; registers = set R (at i) (same i); state = cleared_state }) ∙ update_with_pairs-high k R c size state inside (omega (arith, high, read))
 
--- ---- joins
+-- ---- maxima

@@ -48,7 +48,8 @@ pub(crate) fn sums_of_few<A: Allocator>(
     weight_sums(&registers[..size])
 }
 
-/// Returns the sums of 2^-(minimum + n) over 128 nibbles n, or `None` if a nibble is 15 or the minimum is above 16.
+/// Returns the sums of 2^-(minimum + n) over the 128 nibbles n of 64 bytes. Returns `None` if a nibble is 15, if the
+/// minimum is above 16, or if there aren't 64 bytes.
 fn sums_of_nibbles(bytes: &[u8], minimum: u8) -> Option<WeightSums>
     ensures unmarked { IsSome result → All (λ n. n < 15) (nibble_values 0 bytes.now) }
     ensures sums { IfSome result (λ s. AreSumsOf s (nibble_values minimum bytes.now)) }
