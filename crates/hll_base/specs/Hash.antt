@@ -109,7 +109,8 @@ default_seed = 9001
 
 -- ---- streaming
 
--- the state between writes: both halves after the full blocks, the bytes of the partial block, and the number of bytes modulo 2^64
+-- the state between writes: both halves after the full blocks, the bytes of the partial block, and the number of bytes
+-- modulo 2^64
 pub record HashState : Type 0 where
   pub halves : Halves
   pub partial : List ℕ

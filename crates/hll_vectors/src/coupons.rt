@@ -109,7 +109,8 @@ fn set(map: &mut AuxMap, slot: u32, value: u8) -> Result<(), Error>
 /// The values of some slots, and the size in bytes.
 type Seen = ([Option<u8>; 4], usize);
 
-/// Sets the values of three slots, one of them twice, and looks up a slot without a value as well.
+/// Returns the values of three slots, one of which was set twice, and of a slot without a value, with the size of their
+/// map.
 fn three_at_10(alloc: Global, last: u8) -> Result<Seen, Error>
     requires least { 1 ≤ last }
     requires most { last ≤ 63 }
@@ -123,7 +124,7 @@ fn three_at_10(alloc: Global, last: u8) -> Result<Seen, Error>
     Ok((values, map.estimated_size()))
 }
 
-/// Sets the values of four slots.
+/// Returns the values of four slots, with the size of their map.
 fn four_at_8(alloc: Global) -> Result<Seen, Error> {
     let mut map = AuxMap::new(alloc, 8)?;
     set(&mut map, 1, 15)?;
