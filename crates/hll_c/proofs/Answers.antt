@@ -1,5 +1,5 @@
 -- SPDX-License-Identifier: Apache-2.0
--- Lemmas on the answers of calls.
+-- Lemmas on what calls return and write.
 use Rattle.std.proofs.Common.{◌≡◌, ℕ, ◌<◌, ◌≤◌, List, ◌++◌, length, drop, Result, Ok, Err, refl, subst, sym, ap, ◌∙◌}
 use Rattle.std.specs.Result.{MatchResult, IfOk, IfErr}
 use Rattle.hll_base.specs.Reason.{number_of}
@@ -20,7 +20,7 @@ IsOf made y = MatchResult made (λ s. y ≡ sketch_of s) (λ _. ⊥)
 abbrev pub IsFor : Result SketchLayout Reason → Reason → Type 0
 IsFor made r = MatchResult made (λ _. r ≡ Memory) (λ e. r ≡ e)
 
--- what is put, and why not, said otherwise
+-- what is written, and why not, in other terms
 puts_as : {A B : List ℕ → Type 0} {Q R : Reason → Type 0} (old new : List ℕ) (size_old size_new code : ℕ) → ((b : List ℕ) → A b → B b) → ((r : Reason) → Q r → R r)
     → PutsBytes A Q old new size_old size_new code → PutsBytes B R old new size_old size_new code
 puts_as old new so sn _ are why (wrote b put fits after size) = wrote b (are b put) fits after size
@@ -36,7 +36,7 @@ module _ (IsMade : Sketch → Type 0) (Refuses : Reason → Type 0) (memory : (y
   refused_of (Ok s) r ok err same = subst Refuses (sym same) (memory (sketch_of s) ok)
   refused_of (Err e) r ok err same = subst Refuses (sym same) err
 
-  -- the answer that puts the image of what was made is one of the call
+  -- if the image of what was made is written, the call has done what it promises
   pub answers_of : (made : Result SketchLayout Reason) (old new : List ℕ) (size_old size_new code : ℕ)
       → IfOk made (λ s. IsMade (sketch_of s)) → IfErr made Refuses → Answers (λ y. IsOf made y) (λ r. IsFor made r) old new size_old size_new code
       → Answers IsMade Refuses old new size_old size_new code
@@ -51,13 +51,13 @@ module _ {X : Type 0} (Says : X → Type 0) (Refuses : Reason → Type 0) where
   denied (Ok y) r err same = absurd same
   denied (Err e) r err same = subst Refuses same err
 
-  -- the answer that tells what was found is one of the call
+  -- if what was found is reported, the call has done what it promises
   pub reports_of : (found : Result X Reason) (old new : X) (code : ℕ) → IfOk found Says → IfErr found Refuses
       → Reports X (λ x. MatchResult found (λ y. x ≡ y) (λ _. ⊥)) (λ r. MatchResult found (λ _. ⊥) (λ e. e ≡ r)) old new code → Reports X Says Refuses old new code
   reports_of found old new _ ok err (reported from) = reported (said found new ok from)
   reports_of found old new _ ok err (untold r from is) = untold r (denied found r err from) is
 
--- ---- an image, put into a buffer
+-- ---- an image, written into a buffer
 
 module _ {X : Type 0} (items : X → List ℕ) (image : Result X Reason) where
   -- the bytes are those of the image, and why there is none
@@ -81,7 +81,7 @@ module _ {X : Type 0} (items : X → List ℕ) (image : Result X Reason) where
   puts_nothing e old size code is number =
       subst (PutsBytes AreOf IsWhyNone old old size size) (sym number) (refused e (subst (λ m. MatchResult m (λ _. ⊥) (λ d. e ≡ d)) (sym is) refl) refl refl)
 
-  -- the answer that puts it is one of a call that writes what is made
+  -- if the image is written, a call that writes the image of what is made has done what it promises
   module _ (IsMade : Sketch → Type 0) (Refuses : Reason → Type 0) where
     image_in : (m : Result X Reason) → IfOk m (λ v. IsImageOf IsMade (items v)) → (b : List ℕ) → MatchResult m (λ v. b ≡ items v) (λ _. ⊥) → IsImageOf IsMade b
     image_in (Ok v) ok b same = subst (IsImageOf IsMade) (sym same) ok
@@ -95,18 +95,18 @@ module _ {X : Type 0} (items : X → List ℕ) (image : Result X Reason) where
         → PutsBytes AreOf IsWhyNone old new size_old size_new code → PutsBytes (IsImageOf IsMade) Refuses old new size_old size_new code
     answers_with old new so sn code ok err = puts_as old new so sn code (image_in image ok) (why_in image err)
 
--- the image of what was made is what is written for it with its fields
+-- the image of what was made is what is written for it with its estimator fields
 pub image_of_made : (made : Result SketchLayout Reason) (bytes : List ℕ) → MatchResult made (λ s. IsImageOf (FillsFields (sketch_of s)) bytes) (λ _. ⊥) → IsImageOf (WithFields (λ y. IsOf made y)) bytes
 image_of_made (Ok s) bytes is = (is.0, (sketch_of s, refl, is.1), is.2)
 image_of_made (Err e) bytes is = absurd is
 
--- fields that are filled once stay as they are
+-- filling the estimator fields twice is filling them once
 pub fills_twice : (x y z : Sketch) → FillsFields x y → FillsFields y z → FillsFields x z
 fills_twice x y z (stays n same) next = subst (λ v. FillsFields v z) same next
 fills_twice x y z (filled c w) (stays n same) = filled c (subst (λ v. SetsFields x v) (sym same) w)
 fills_twice x y z (filled c w) (filled d v) = filled c (subst (λ u. SetsFields x u) (sym (fields_twice x y z w v)) w)
 
--- fields are those of the registers, whatever the width
+-- estimator fields follow from the registers, whatever the width is
 pub fills_at_width : (width : HllType) (g x y z : Sketch) → x ≡ record g { width = Hll8 } → FillsFields x y → z ≡ record y { width = width } → FillsFields (record g { width = width }) z
 fills_at_width width g x y z at (filled c w) is =
     filled (subst (λ v. HasClearedState v.content) at c)
@@ -121,12 +121,12 @@ module _ (IsMade : Sketch → Type 0) where
   again : (y : Sketch) → WithFields (WithFields IsMade) y → WithFields IsMade y
   again y w = (w.1.0, w.1.1, fills_twice w.1.0 w.0 y w.1.2 w.2)
 
-  -- the image of what has its fields already
+  -- the image of a sketch whose estimator fields are filled already
   pub made_again : (x : Sketch) (bytes : List ℕ) → WithFields IsMade x → IsImageOf (FillsFields x) bytes → IsImageOf (WithFields IsMade) bytes
   made_again x bytes made is = (is.0, again is.0 (x, made, is.1), is.2)
 
   module _ (Refuses : Reason → Type 0) (memory : (y : Sketch) → IsMade y → Refuses Memory) where
-    -- the answer that puts the image of what was made with its fields is one of the call
+    -- if the image of what was made with its estimator fields is written, the call has done what it promises
     pub answers_again : (made : Result SketchLayout Reason) (old new : List ℕ) (size_old size_new code : ℕ)
         → IfOk made (λ s. WithFields IsMade (sketch_of s)) → IfErr made Refuses → Answers (λ y. IsOf made y) (λ r. IsFor made r) old new size_old size_new code
         → Answers IsMade Refuses old new size_old size_new code
@@ -137,7 +137,7 @@ module _ (IsMade : Sketch → Type 0) where
 pub made_with_fields : (IsMade : Sketch → Type 0) (x : Sketch) (bytes : List ℕ) → IsMade x → IsImageOf (FillsFields x) bytes → IsImageOf (WithFields IsMade) bytes
 made_with_fields IsMade x bytes made is = (is.0, (x, made, is.1), is.2)
 
--- ---- codes alone, and what is told
+-- ---- codes alone, and reports
 
 module _ {X : Type 0} where
   pub reports_value : (found : Result X Reason) (value old : X) → found ≡ Ok value
@@ -159,7 +159,7 @@ tests_failed answer e code is number =
     subst (Tests (MatchResult answer (λ _. Unit {0}) (λ _. ⊥)) (λ r. MatchResult answer (λ _. ⊥) (λ e. e ≡ r))) (sym number)
     (failed e (subst (λ f. MatchResult f (λ _. ⊥) (λ d. d ≡ e)) (sym is) refl))
 
--- a test of something that holds or is refused
+-- a test of something that holds, or fails for a reason
 pub tests_of : (Passes : Type 0) (Refuses : Reason → Type 0) (answer : Result (Unit {0}) Reason) (code : ℕ) → IfOk answer (λ _. Passes) → IfErr answer Refuses
     → Tests (MatchResult answer (λ _. Unit {0}) (λ _. ⊥)) (λ r. MatchResult answer (λ _. ⊥) (λ e. e ≡ r)) code → Tests Passes Refuses code
 tests_of Passes Refuses (Ok u) _ ok err (passed p) = passed ok
@@ -169,7 +169,7 @@ tests_of Passes Refuses (Err e) _ ok err (failed r from) = failed r (subst Refus
 
 -- ---- results
 
--- what two clauses say of a value
+-- what two clauses say of one value
 pub IfOk-with : {T E : Type 0} (r : Result T E) (P Q S : T → Type 0) → ((x : T) → P x → Q x → S x) → IfOk r P → IfOk r Q → IfOk r S
 IfOk-with (Ok x) P Q S h p q = h x p q
 IfOk-with (Err e) P Q S h p q = tt

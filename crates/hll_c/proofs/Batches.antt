@@ -1,5 +1,5 @@
 -- SPDX-License-Identifier: Apache-2.0
--- Lemmas on byte strings that are delimited by their ends: what is left of them from an index on.
+-- Lemmas on byte strings that are delimited by their ends: those that are left from an index on.
 use Rattle.std.proofs.Common.{◌≡◌, ◌⊎◌, ◌↔◌, arith, Bool, true, false, ℕ, suc, ◌+◌, ◌-◌, ◌<◌, ◌≤◌, List, [], ◌∷◌, ◌++◌, length, take, drop, get_or, set, map, min, All, inl, inr, refl, sym, ◌∙◌, ap, subst, append_assoc}
 use Rattle.std.proofs.lemmas.List.{map-append, length-map, take_at, drop_more, drop_all, take_more_set, length-set, drop-set-lt, take-append-drop}
 use Rattle.std.specs.Bool.{IsTrue}
@@ -20,7 +20,7 @@ use Rattle.hll_c.specs.Answers.{RefusesImages, images_fault}
 use Rattle.hll_c.specs.Calls.{AreUnionArguments, IsUnionOf}
 use Rattle.hll_c.proofs.Images.{no_fault, refuses_more_memory}
 
--- what is tested and isn't so
+-- what is tested and does not hold
 pub not_so : (b : Bool) (W : Type 0) → b ≡ false → (IsTrue b ↔ W) → W → ⊥
 not_so b W fails is w = absurd (let same : true ≡ false = sym (is.1 w) ∙ fails in cc)
 
@@ -37,7 +37,7 @@ module _ (size : ℕ) (ends : List ℕ) (i d : ℕ) (inside : i < length ends) w
   ends_further W start is low high =
       (λ rest. is.0 (subst (AreEndsFrom start size) (sym (drop_more ends i d inside)) (low, high, rest)), λ w. (ends_here start (is.1 w)).2)
 
-  -- one that doesn't
+  -- an end that does not ascend, or is above the size
   pub ends_broken : (W : Type 0) (start : ℕ) → (AreEndsFrom start size (drop i ends) ↔ W) → (get_or ends i d < start) ⊎ (size < get_or ends i d) → W → ⊥
   ends_broken W start is (inl low) w = let ends = ends_here start (is.1 w) in let no : ⊥ = omega (arith, low, ends.0) in no
   ends_broken W start is (inr high) w = let ends = ends_here start (is.1 w) in let no : ⊥ = omega (arith, high, ends.1) in no
@@ -54,7 +54,7 @@ strings_here start bytes ends i d inside = ap (strings_from start bytes) (drop_m
 pub strings_end : (start : ℕ) (bytes ends : List ℕ) (i : ℕ) → length ends ≤ i → strings_from start bytes (drop i ends) ≡ []
 strings_end start bytes ends i all = ap (strings_from start bytes) (drop_all i ends all)
 
--- the string that stands up to an end
+-- the string that ends here
 abbrev pub string_at : ℕ → List ℕ → ℕ → List ℕ
 string_at start bytes end = take (end - start) (drop start bytes)
 
@@ -66,7 +66,7 @@ module _ (size : ℕ) (bytes : List ℕ) where
   ends_first start [] ys are = tt
   ends_first start (end ∷ xs) ys are = (are.0, are.1, ends_first end xs ys are.2)
 
-  -- and those of the second go on from there
+  -- the ends of the second part ascend from there
   pub ends_second : (start : ℕ) (xs ys : List ℕ) → AreEndsFrom start size (xs ++ ys) → AreEndsFrom (end_from start xs) size ys
   ends_second start [] ys are = are
   ends_second start (end ∷ xs) ys are = ends_second end xs ys are.2
@@ -96,13 +96,13 @@ pub all_valued : (start : ℕ) (values ends : List ℕ) → All (λ c. 1 ≤ val
 all_valued start values ends =
     All-map (λ c. 1 ≤ value_of c) coupon_of_bytes (strings_from start values ends) (λ i d within. valued (hash default_seed (get_or (strings_from start values ends) i d)).first (hash default_seed (get_or (strings_from start values ends) i d)).second)
 
--- those of a block, in front of a room
+-- the coupons of a block, at the start of an array that may be longer
 pub coupons_in_front : (start : ℕ) (values block old new : List ℕ) → new ≡ coupons_from start values block ++ drop (length block) old → take (length block) new ≡ coupons_from start values block
 coupons_in_front start values block old new put =
     ap (take (length block)) put
     ∙ take_at (coupons_from start values block) (drop (length block) old) (length block) (length-map (strings_from start values block) coupon_of_bytes ∙ length-strings (length values) values start block)
 
--- what is left to add makes of the sketch now what all make of the one before
+-- adding what is left to the sketch now gives what adding all gives to the sketch before
 pub record AddsRest (x now : Sketch) (values ends left : List ℕ) (start : ℕ) : Type 0 where
   pub are : AreEndsFrom start (length values) left
   pub same : add_in_turn now (coupons_from start values left) ≡ add_in_turn x (coupons_from 0 values ends)
@@ -119,9 +119,9 @@ adds_more x now next values ends left block later start split rest is = record {
       ∙ ap (λ es. add_in_turn now (coupons_from start values es)) (sym split) ∙ rest.same;
 }
 
--- ---- coupons, put in turn
+-- ---- coupons, written in turn
 
--- the coupons so far and those that are left
+-- the coupons so far, and those that are left
 pub record PutsRest (old now values ends : List ℕ) (first start i : ℕ) : Type 0 where
   pub are : AreEndsFrom start (length values) (drop i ends)
   pub size : length now ≡ length old
@@ -154,7 +154,7 @@ put_all old now values ends first start i all left =
       ap (end_from start) (sym (drop_all i ends end)) ∙ left.end,
     )
 
--- ---- images, taken in in turn
+-- ---- images, merged in turn
 
 pub record MergesInRest (before now : WaitingUnion) (images ends : List ℕ) (failed_old failed_now start i : ℕ) : Type 0 where
   pub are : AreEndsFrom start (length images) (drop i ends)
@@ -199,7 +199,7 @@ module _ (before now : WaitingUnion) (images ends : List ℕ) (failed_old failed
       let found = left.rest [] (subst (λ s. AreReadAs s []) (sym (strings_end start images ends i all)) tt) in
       record { sketches = found.0; read = found.1; gadget = found.2 }
 
--- ---- the union of what was taken in
+-- ---- the union of what was merged
 
 -- the sketches that images are read as, and a gadget that is their union
 pub record IsMerged (k : ℕ) (images : List (List ℕ)) (gadget : Sketch) : Type 0 where
@@ -228,7 +228,7 @@ is_union k bits images fo fn gadget y are union_of_batch is same = record {
   untold = same;
 }
 
--- ---- a batch that is refused
+-- ---- a batch that is rejected
 
 pub refuses_batch : (InRange : Type 0) (images : List (List ℕ)) (failed_old failed_new : ℕ) (e : Reason) → InRange → FailsToMergeIn images failed_old failed_new e
     → RefusesImages InRange images failed_old failed_new e

@@ -44,13 +44,13 @@ module _ (registers counts : List ℕ) (i : ℕ) (inside : i < length registers)
           get_or-set_other counts (get_or registers i 0) v (get_or counts (get_or registers i 0) 0 + 1) 0 (other_value (get_or registers i 0) v e)
           ∙ are.each v v_small ∙ sym (count_by_more_no (λ x. nat_eq x v) registers i 0 inside e)
 
-  -- one that has no such value
+  -- one register that has no such value
   pub counts_skip : 64 ≤ get_or registers i 0 → AreCountsOf (take (i + 1) registers) counts
   counts_skip large = record {
     each = λ v small. are.each v small ∙ sym (count_by_more_no (λ x. nat_eq x v) registers i 0 inside (not_value (get_or registers i 0) v large small));
   }
 
-  -- a count is no number of registers past these
+  -- a count is at most the number of registers so far
   pub counts_fit : (v : ℕ) → v < 64 → get_or counts v 0 ≤ i
   counts_fit v small =
       let few = count_by-le-length (λ x. nat_eq x v) (take i registers) in

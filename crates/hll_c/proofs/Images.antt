@@ -1,5 +1,5 @@
 -- SPDX-License-Identifier: Apache-2.0
--- Lemmas on images that are read, and on what refuses them.
+-- Lemmas on images that are read, and on why they are rejected.
 use Rattle.std.proofs.Common.{arith, ◌≡◌, ◌⊎◌, ℕ, ◌<◌, ◌≤◌, List, [], ◌∷◌, ◌++◌, length, map, Some, None, Result, Ok, Err, IfErr, inl, inr, refl, sym, ◌∙◌, ap, subst, append_assoc}
 use Rattle.std.proofs.lemmas.Bool.{cases_lt}
 use Rattle.hll_base.specs.declared.error.Reason.{Reason}
@@ -33,12 +33,12 @@ no_size_fault image x read =
     none_before (header_checks image ++ (checks_after image).size) (checks_after image).content
     (ap first_failing (append_assoc (header_checks image) (checks_after image).size (checks_after image).content) ∙ no_fault image x read)
 
--- a read that is refused
+-- a read that fails
 pub refuses_image : (image : List ℕ) (e : Reason) → (e ≡ Memory) ⊎ (first_fault image ≡ Some e) → (e ≡ Memory → size_fault image ≡ None) → RefusesImage image e
 refuses_image image e (inl m) asked = subst (RefusesImage image) (sym m) (image_memory (asked m))
 refuses_image image e (inr f) asked = image_fault f
 
--- a test of the bytes as they stand that is refused
+-- a check of the bytes that fails
 pub refuses_tested : {T : Type 0} (image : List ℕ) (r : Result T Reason) → IfErr r (IsRefusal image) → IfErr r (λ e. e ≡ Memory → HasCompactCoupons image → ⊥) →
     IfErr r (λ e. e ≡ Memory → HasUpdatableCoupons image → ⊥) → IfErr r (λ e. e ≡ Memory → HasPlainRegisters image → ⊥) → IfErr r (RefusesTested image)
 refuses_tested image (Ok x) refusal compact updatable plain = tt
@@ -47,7 +47,7 @@ refuses_tested image (Err e) refusal compact updatable plain = (
   λ full. record { sized = refusal.asked full; coupons = compact full; buckets = updatable full; registers = plain full },
 )
 
--- memory that is refused once an image is read
+-- an allocation that fails after an image was read
 pub refuses_memory : (image : List ℕ) (x : Sketch) (e : Reason) → IsReadAs image x → e ≡ Memory → RefusesImage image e
 refuses_memory image x e read m = subst (RefusesImage image) (sym m) (image_memory (no_size_fault image x read))
 
@@ -59,7 +59,7 @@ refuses_new InRange e is not = subst (RefusesArguments InRange) (sym is) (argume
 pub refuses_argument : (InRange : Type 0) (image : List ℕ) (e : Reason) → e ≡ Argument → (InRange → ⊥) → RefusesWith InRange image e
 refuses_argument InRange image e is not = subst (RefusesWith InRange image) (sym is) (argument_with_image not)
 
--- the size of a structure that isn't ours
+-- the size of a structure of another version
 pub refuses_info : (InRange : Type 0) (image : List ℕ) (e : Reason) → e ≡ Argument → (InRange → ⊥) → RefusesInfo InRange image e
 refuses_info InRange image e is not = subst (RefusesInfo InRange image) (sym is) (argument_with_image not, λ full. absurd (cc))
 
@@ -67,7 +67,7 @@ pub no_lg_k : (k : ℕ) → (k < 4) ⊎ (21 < k) → IsLgK k → ⊥
 no_lg_k k (inl low) is = let no : ⊥ = omega (arith, low, is.low) in no
 no_lg_k k (inr high) is = let no : ⊥ = omega (arith, high, is.high) in no
 
--- a fold that is refused once the image is read
+-- a fold that fails after the image was read
 pub refuses_fold : (image : List ℕ) (x : Sketch) (k : ℕ) (e : Reason) → IsLgK k → IsReadAs image x → (e ≡ Argument) ⊎ (e ≡ Memory) → (e ≡ Argument → IsFoldLgK x.lg_k k → ⊥)
     → RefusesFold k image e
 refuses_fold image x k e is read (inl a) outside = subst (RefusesFold k image) (sym a) (above x read (greater (cases_lt x.lg_k k)))
@@ -79,7 +79,7 @@ refuses_fold image x k e is read (inr m) outside = with (image_refused is (refus
 
 -- ---- several images
 
--- after images that were read memory may be asked for
+-- after images that were read, an allocation may fail
 pub asked_after : (images : List (List ℕ)) (xs : List Sketch) → AreReadAs images xs → MayAskAt images (length images)
 asked_after [] xs read = tt
 asked_after (image ∷ images) [] read = absurd read
@@ -92,20 +92,20 @@ module _ (InRange : Type 0) (images : List (List ℕ)) (failed_old failed_new : 
   pub refuses_more_memory : (n : ℕ) → e ≡ Memory → InRange → MayAskAt images n → failed_new ≡ failed_old → RefusesImages InRange images failed_old failed_new e
   refuses_more_memory n is are asked same = subst (RefusesImages InRange images failed_old failed_new) (sym is) (images_memory n are asked same)
 
-  -- the first image is refused
+  -- the first image is rejected
   pub refuses_first : (image : List ℕ) (more : List (List ℕ)) → images ≡ image ∷ more → InRange → IsRefusedAt image 0 failed_old failed_new e
       → RefusesImages InRange images failed_old failed_new e
   refuses_first image more is are (inl m) = refuses_more_memory 0 m.0 are (subst (λ xs. MayAskAt xs 0) (sym is) m.1) m.2
   refuses_first image more is are (inr f) = images_fault are (subst (λ xs. IsFirstFaulty xs failed_new e) (sym is) (subst (λ n. IsFirstFaulty (image ∷ more) n e) (sym f.1) f.0))
 
-  -- the second one is
+  -- the second image is rejected
   pub refuses_second : (image next : List ℕ) (x : Sketch) (failed : ℕ) → images ≡ image ∷ next ∷ [] → InRange → IsReadAs image x → failed ≡ failed_old → IsRefusedAt next 1 failed failed_new e
       → RefusesImages InRange images failed_old failed_new e
   refuses_second image next x failed is are read same (inl m) = refuses_more_memory 1 m.0 are (subst (λ xs. MayAskAt xs 1) (sym is) (no_fault image x read, m.1)) (m.2 ∙ same)
   refuses_second image next x failed is are read same (inr f) =
       images_fault are (subst (λ xs. IsFirstFaulty xs failed_new e) (sym is) (subst (λ n. IsFirstFaulty (image ∷ next ∷ []) n e) (sym f.1) (no_fault image x read, f.0)))
 
--- ---- memory that is refused for what was made
+-- ---- an allocation for what was made fails
 
 pub no_memory_new : (k bits : ℕ) (y : Sketch) → IsEmptyAt k bits y → RefusesArguments (AreNewArguments k bits) Memory
 no_memory_new k bits y made = memory made.arguments

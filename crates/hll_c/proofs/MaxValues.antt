@@ -1,5 +1,5 @@
 -- SPDX-License-Identifier: Apache-2.0
--- Lemmas on values that are joined in turn into registers, and on parts that are taken in in turn.
+-- Lemmas on values that are added to registers in turn, and on parts that are merged in turn.
 use Rattle.std.proofs.Common.{◌≡◌, arith, ℕ, suc, ◌+◌, ◌<◌, ◌≤◌, ◌^◌, List, [], ◌∷◌, length, drop, get_or, map, Bor, ◌↔◌, true, false, inl, inr, refl, sym, ◌∙◌, ap, subst}
 use Rattle.std.proofs.lemmas.List.{drop_more, drop_all, get_or-map, length-map}
 use Rattle.std.specs.Bool.{IsTrue}
@@ -19,9 +19,9 @@ use Rattle.hll_c.proofs.Batches.{ends_here, strings_here, strings_end, string_at
 use Rattle.hll_c.specs.ByteRegisters.{HaveValues}
 use Rattle.hll_c.proofs.Images.{no_fault}
 
--- ---- values, joined in turn
+-- ---- values, added in turn
 
--- what is left to join makes of the registers now what all make of those before
+-- adding what is left to the registers now gives what adding all gives to the registers before
 pub record MaxOfRest (k : ℕ) (R now values ends : List ℕ) (start i : ℕ) : Type 0 where
   pub are : AreEndsFrom start (length values) (drop i ends)
   pub same : join now (fold_to (set_of (map coupon_of_bytes (strings_from start values (drop i ends)))) k) ≡ join R (fold_to (set_of (map coupon_of_bytes (strings values ends))) k)
@@ -40,7 +40,7 @@ pub max_of_all : (k : ℕ) (R now values ends : List ℕ) (start i : ℕ) → le
 max_of_all k R now values ends start i all size left =
     joined-nil now k size ∙ ap (λ s. join now (fold_to (set_of (map coupon_of_bytes s)) k)) (sym (strings_end start values ends i all)) ∙ left.same
 
--- ---- coupons, joined in turn
+-- ---- coupons, added in turn
 
 pub coupons_more : (k : ℕ) (now next coupons : List ℕ) (i : ℕ) (all : List ℕ) → i < length coupons → join now (fold_to (set_of (drop i coupons)) k) ≡ all
     → next ≡ join now (fold_to (set_of (get_or coupons i 0 ∷ [])) k) → join next (fold_to (set_of (drop (i + 1) coupons)) k) ≡ all
@@ -57,14 +57,14 @@ module _ (coupons : List ℕ) (i : ℕ) where
     here_first : drop i coupons ≡ get_or coupons i 0 ∷ drop (i + 1) coupons
     here_first = drop_more coupons i 0 inside
 
-    -- one that has a value
+    -- a coupon that has a value
     pub values_further : 2 ^ 26 ≤ get_or coupons i 0 → (HaveValues (drop i coupons) ↔ HaveValues coupons) → HaveValues (drop (i + 1) coupons) ↔ HaveValues coupons
     values_further has is = (
       λ rest. is.0 (subst HaveValues (sym here_first) (All-cons (λ raw_coupon. 2 ^ 26 ≤ raw_coupon) (get_or coupons i 0) (drop (i + 1) coupons) has rest)),
       λ all. All-tail (λ raw_coupon. 2 ^ 26 ≤ raw_coupon) (get_or coupons i 0) (drop (i + 1) coupons) (subst HaveValues here_first (is.1 all)),
     )
 
-    -- one that has none
+    -- a coupon that has the value 0
     pub values_broken : get_or coupons i 0 < 2 ^ 26 → (HaveValues (drop i coupons) ↔ HaveValues coupons) → IsTrue false ↔ HaveValues coupons
     values_broken none is = (
       λ yes. absurd (let e : false ≡ true = yes in cc),
@@ -75,7 +75,7 @@ module _ (coupons : List ℕ) (i : ℕ) where
   pub values_end : length coupons ≤ i → (HaveValues (drop i coupons) ↔ HaveValues coupons) → IsTrue true ↔ HaveValues coupons
   values_end past is = (λ yes. is.0 (subst HaveValues (sym (drop_all i coupons past)) (All-nil (λ raw_coupon. 2 ^ 26 ≤ raw_coupon))), λ all. refl)
 
--- ---- parts, taken in in turn
+-- ---- parts, merged in turn
 
 -- the bytes of parts
 abbrev pub bytes_of : List (Bor (List ℕ)) → List (List ℕ)

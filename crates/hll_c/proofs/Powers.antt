@@ -11,7 +11,7 @@ use Rattle.hll_c.specs.ByteRegisters.{IsLgKOf}
 up : (i j : ℕ) → i ≤ j → 2 ^ i ≤ 2 ^ j
 up i j h = pow_mono h
 
--- the power between which and the next one a number lies is its own
+-- if a power of two is at least 2^j and less than 2^(j + 1), it is 2^j
 same_power : (n j k : ℕ) → 2 ^ j ≤ n → n < 2 ^ (j + 1) → n ≡ 2 ^ k → j ≡ k
 same_power n j k low high is = elim (cases_lt j k) [
   | inl less ↦ let more : 2 ^ (j + 1) ≤ 2 ^ k = up (j + 1) k (omega (arith, less)) in omega (arith, more, high, is)
@@ -27,7 +27,7 @@ same_lg_k R j k here there =
     let next : 2 ^ (j + 1) ≡ 2 ^ j * 2 = pow-add 2 j 1 in
     same_power (length R) j k (omega (arith, here.size)) (omega (arith, here.size, next, pow_pos j)) there.size
 
--- a power from 4 to 21 below which no more than half of a number lies
+-- a power of two from 2^4 to 2^21 that is at most the number and more than half of it
 pub record IsTop (n j : ℕ) : Type 0 where
   pub low : 4 ≤ j
   pub high : j ≤ 21
@@ -56,11 +56,11 @@ top_of n low high = of (leading_top 64 n (omega (arith, low)) (omega (arith, hig
           most = most;
         }
 
--- too few or too many
+-- a number that is too small or too large
 pub few_or_many : (n k : ℕ) → (n < 16) ⊎ (2097152 < n) → IsLgK k → n ≡ 2 ^ k → ⊥
 few_or_many n k (inl few) is size = let least : 2 ^ 4 ≤ 2 ^ k = up 4 k is.low in let no : ⊥ = omega (arith, least, few, size) in no
 few_or_many n k (inr many) is size = let most : 2 ^ k ≤ 2 ^ 21 = up k 21 is.high in let no : ⊥ = omega (arith, most, many, size) in no
 
--- or no power
+-- a number that is not a power of two
 pub no_power : (n j k : ℕ) → IsTop n j → (2 ^ j ≡ n → ⊥) → IsLgK k → n ≡ 2 ^ k → ⊥
 no_power n j k top not is size = not (ap (λ m. 2 ^ m) (same_power n j k top.least top.most size) ∙ sym size)

@@ -35,7 +35,7 @@ use Rattle.hll_c.specs.States.{IsBoundFor, Joins, RefusesState, state_argument, 
 use Rattle.hll_c.specs.declared.estimate.HllEstimate.{HllEstimate}
 use Rattle.hll_c.proofs.Batches.{ends_here, strings_here, strings_end, coupons_from, length-strings}
 
--- coupons from an index on are left to be added
+-- the coupons from an index on are left to be added
 pub record AddsLeft (first : Header) (first_body : List (List ℕ)) (h : Header) (body : List (List ℕ)) (cs : List ℕ) (i : ℕ) : Type 0 where
   pub within : IsWithin h (length body)
   pub room : HasRoom h (length cs - i) (length body)
@@ -58,7 +58,7 @@ pub all_pushed : (first : Header) (first_body : List (List ℕ)) (h : Header) (b
     → sketch_in h body ≡ add_in_turn (sketch_in first first_body) cs
 all_pushed first first_body h body cs i all left = sym (ap (add_in_turn (sketch_in h body)) (drop_all i cs all)) ∙ left.same
 
--- the same of byte strings, from the end of the last one on
+-- the byte strings from an index on are left to be added, of which the first begins at `start`
 pub record AddsStrings (first : Header) (first_body : List (List ℕ)) (h : Header) (body : List (List ℕ)) (values ends : List ℕ) (start i : ℕ) : Type 0 where
   pub are : AreEndsFrom start (length values) (drop i ends)
   pub within : IsWithin h (length body)
@@ -85,12 +85,12 @@ all_strings_pushed first first_body h body values ends start i all left =
 pub length-coupons : (values ends : List ℕ) → length (map coupon_of_bytes (strings values ends)) ≡ length ends
 length-coupons values ends = length-map (strings values ends) coupon_of_bytes ∙ length-strings (length values) values 0 ends
 
--- ---- joins
+-- ---- merging
 
 pub no_memory : Argument ≡ Memory → ⊥
 no_memory same = let other : 12 ≡ 13 = ap number_of same in omega (arith, other)
 
--- what a join gives of the elements after a header, it gives of the state
+-- what merging gives for the elements after a header, it gives for the state
 pub joined_within : (lg_max_k o : ℕ) (y : Sketch) (old final body : List (List ℕ)) (h g : Header) (answer : Joined) → HasHeader old h → IsBoundFor lg_max_k h.lg_k → HasHeader final g
     → drop 10 final ≡ drop 10 (put_mid 10 (length old - 10) old body) → IsJoined (not (nat_eq lg_max_k 0)) o y h (mid_of 10 (length old - 10) old) g body answer
     → Joins lg_max_k o y old final answer
@@ -106,7 +106,7 @@ joined_within lg_max_k o y old final body h g answer had bound has rest is =
 
 -- ---- images
 
--- the size of the table that settled coupons have
+-- the size of the table of resolved coupons
 pub record HasTable (k : ℕ) (c : CouponTable) (n size : ℕ) : Type 0 where
   pub taken : c.added ≡ false → size ≡ c.lg_size
   pub added : c.added ≡ true → stage k c.lg_size n ≡ Some size
@@ -123,7 +123,7 @@ content_in_table k c S n size has count = elim (cases_Bool c.added) [
   | inr other ↦ content-taken k size c S other (has.taken other)
 ]
 
--- coupons in ascending order, written in their table
+-- coupons in ascending order, written with their table
 pub coupons_written : (k : ℕ) (w : HllType) (C : Content) (S : Pairs) (size : ℕ) (bytes order image : List ℕ) → C ≡ coupons S size → IsAscending order S → bytes ≡ coupon_bytes order
     → ((order : List ℕ) → bytes ≡ coupon_bytes order → image ≡ coupon_image k w size order) → IsImageOf (FillsFields (record { lg_k = k; width = w; content = C })) image
 coupons_written k w C S size bytes order image is up said wrote =
@@ -133,7 +133,7 @@ coupons_written k w C S size bytes order image is up said wrote =
 
 -- ---- estimates
 
--- settled coupons that have a table are told by their number
+-- what is reported of resolved coupons that have a table is their number
 pub estimate_in_table : (k : ℕ) (c : CouponTable) (S : Pairs) (n : ℕ) (e : HllEstimate) → (c.added ≡ true → stage k c.lg_size n ≢ None) → n ≡ len S → IsEstimateOfCoupons n e
     → IsEstimateOfContent k (content_of_coupons k c S) e
 estimate_in_table k c S n e has count is = elim (cases_Bool c.added) [
@@ -148,7 +148,7 @@ estimate_in_table k c S n e has count is = elim (cases_Bool c.added) [
     of added (Some size) found = subst (λ C. IsEstimateOfContent k C e) (sym (content-staged k size c S added (ap (stage k c.lg_size) (sym count) ∙ found))) told
     of added None found = absurd (has added found)
 
--- ---- refusals
+-- ---- errors
 
 pub refuses_no_state : (InRange : Type 0) (old : List (List ℕ)) (e : Reason) → e ≡ Argument → (InRange × IsState old → ⊥) → RefusesState InRange old e
 refuses_no_state InRange old e is none = subst (RefusesState InRange old) (sym is) (state_argument none)

@@ -1,5 +1,5 @@
 -- SPDX-License-Identifier: Apache-2.0
--- Lemmas on strings that are taken in turn, by their numbers.
+-- Lemmas on strings that are handled in turn, by their numbers.
 use Rattle.std.proofs.Common.{◌≡◌, arith, ℕ, zero, suc, ◌+◌, ◌-◌, ◌*◌, ◌/◌, ◌<◌, ◌≤◌, ◌^◌, min, List, [], ◌∷◌, ◌++◌, length, take, drop, get_or, set, map, refl, sym, ◌∙◌, ap, subst, append_assoc}
 use Rattle.std.proofs.Math.Nat.{div-mul-le_self, mul-le-mul_right}
 use Rattle.std.proofs.lemmas.List.{length-map, drop_more, drop_all, take_more_set, length-set, drop-set-lt, take-append-drop}
@@ -9,9 +9,9 @@ use Rattle.std.specs.List.{range_with_len}
 use Rattle.hll_coupons.specs.Hashed.{coupon_of_bytes}
 use Rattle.hll_c.specs.Batches.{AreEndsFrom, AreOffsets}
 
--- ---- numbers, put in turn
+-- ---- numbers, written in turn
 
--- those so far were put, and those that are left go behind them
+-- the numbers so far were written, and those that are left are written after them
 pub record PutsInTurn (old now numbers : List ℕ) (i : ℕ) : Type 0 where
   pub size : length now ≡ length old
   pub same : take i now ++ (drop i numbers ++ drop (length numbers) now) ≡ numbers ++ drop (length numbers) old
@@ -42,7 +42,7 @@ puts_all old now numbers i all so_far =
 
 -- ---- coupons of strings by their numbers
 
--- the coupons of n strings, each told by its number
+-- the coupons of n strings, each found by its number
 abbrev pub coupons_by : (ℕ → List ℕ) → ℕ → List ℕ
 coupons_by string n = map coupon_of_bytes (map string (range_with_len 0 n))
 

@@ -26,7 +26,7 @@ width_of_image b x (hll8 is value) = ap (λ (y : Sketch). y.width) value ∙ ap 
 width_of_image b x (hll6 is value) = ap (λ (y : Sketch). y.width) value ∙ ap width_of_bits (sym is.width)
 width_of_image b x (hll4 is value) = ap (λ (y : Sketch). y.width) value ∙ ap width_of_bits (sym is.width)
 
--- so is that of bytes that begin with it
+-- so is that of bytes that begin with an image
 pub width_read : (b : List ℕ) (x : Sketch) → IsReadAs b x → x.width ≡ width_of_bits (width_bits b)
 width_read b x read =
     let whole = whole_image (take read.size b) x read.image in
@@ -35,7 +35,7 @@ width_read b x read =
 
 -- ---- images at a width that is asked for
 
--- a number of which a width was found asks for one
+-- a number for which a width was found asks for one
 pub asks : {bits : ℕ} {given width : HllType} → IsAskedWidth bits given width → AsksWidth bits
 asks {bits} {given} {width} (of_bits is) = inl (record { width = width; is = is })
 asks (as_given is) = inr is

@@ -7,7 +7,7 @@ use Rattle.hll_sketch.specs.Checks.{first_fault, size_fault}
 use Rattle.hll_sketch.specs.Image.{IsReadAs}
 use Rattle.hll_sketch.specs.Value.{Sketch}
 
--- ends ascend from a start, and none is past the size; two may be the same
+-- ends ascend from a start, and none is above the size; two may be equal
 abbrev pub AreEndsFrom : ℕ → ℕ → List ℕ → Type 0
 AreEndsFrom start size [] = Unit {0}
 AreEndsFrom start size (end ∷ ends) = (start ≤ end) × (end ≤ size) × AreEndsFrom end size ends
@@ -15,12 +15,12 @@ AreEndsFrom start size (end ∷ ends) = (start ≤ end) × (end ≤ size) × Are
 abbrev pub AreEnds : ℕ → List ℕ → Type 0
 AreEnds size ends = AreEndsFrom 0 size ends
 
--- the strings, each from the end before it, or from a start, to its own end
+-- the strings, each from the end before it, or from the start for the first, to its own end
 abbrev pub strings_from : ℕ → List ℕ → List ℕ → List (List ℕ)
 strings_from start bytes [] = []
 strings_from start bytes (end ∷ ends) = take (end - start) (drop start bytes) ∷ strings_from end bytes ends
 
--- where the last string ends, or the start where there is none
+-- where the last string ends, or the start if there is none
 abbrev pub end_from : ℕ → List ℕ → ℕ
 end_from start [] = start
 end_from start (end ∷ ends) = end_from end ends
@@ -30,7 +30,7 @@ strings bytes ends = strings_from 0 bytes ends
 
 -- ---- strings without ends of their own
 
--- so many bytes are strings of one length, which is not 0
+-- this number of bytes is a whole number of strings of one length, which is not 0
 pub record AreOfLength (size value_len : ℕ) : Type 0 where
   pub some : 0 < value_len
   pub whole : size % value_len ≡ 0
@@ -39,7 +39,8 @@ pub record AreOfLength (size value_len : ℕ) : Type 0 where
 abbrev pub strings_of_length : ℕ → List ℕ → List (List ℕ)
 strings_of_length value_len bytes = map (λ i. take value_len (drop (i * value_len) bytes)) (range_with_len 0 (length bytes / value_len))
 
--- One offset or more, that ascend, none past the size, and none above 2^31 - 1: as 32 bits with a sign that would be negative.
+-- There is at least one offset, offsets ascend, none is above the size, and none is above 2^31 - 1: such an offset would be
+-- negative as a signed 32-bit number.
 pub record AreOffsets (size : ℕ) (offsets : List ℕ) : Type 0 where
   pub some : 0 < length offsets
   pub ascend : AreEnds (min size (2 ^ 31 - 1)) offsets
@@ -57,14 +58,14 @@ AreReadAs [] (x ∷ xs) = ⊥
 AreReadAs (image ∷ images) [] = ⊥
 AreReadAs (image ∷ images) (x ∷ xs) = IsReadAs image x × AreReadAs images xs
 
--- the image of this number, counted from 0, is the first that fails a check, and fails one of this reason first
+-- the image with this number, counted from 0, is the first that fails a check, and this reason is the first that it fails with
 abbrev pub IsFirstFaulty : List (List ℕ) → ℕ → Reason → Type 0
 IsFirstFaulty [] n r = ⊥
 IsFirstFaulty (image ∷ images) zero r = first_fault image ≡ Some r
 IsFirstFaulty (image ∷ images) (suc n) r = (first_fault image ≡ None) × IsFirstFaulty images n r
 
--- memory may be asked for at the image of this number, counted from 0: those before it fail no check, and its header, counts and length are
--- right; or after the last one, where none fails a check
+-- An allocation may fail at the image with this number, counted from 0: the images before it fail no check, and its header,
+-- counts and length are right; or after the last image, if no image fails a check.
 abbrev pub MayAskAt : List (List ℕ) → ℕ → Type 0
 MayAskAt [] n = Unit {0}
 MayAskAt (image ∷ images) zero = size_fault image ≡ None

@@ -1,5 +1,5 @@
 -- SPDX-License-Identifier: Apache-2.0
--- What the calls do with registers that a caller keeps as bytes (docs/MODEL.md, "Registers of the caller").
+-- What the calls do with caller-owned registers (docs/MODEL.md, "Registers of the caller").
 use Rattle.std.specs.Prelude.{◌≡◌, ℕ, ◌^◌, ◌≤◌, List, ◌++◌, length, drop, map, Some, None, All}
 use Rattle.hll_base.specs.Join.{join}
 use Rattle.hll_base.specs.Reason.{number_of}
@@ -19,35 +19,35 @@ use Rattle.hll_c.specs.Calls.{IsWidth}
 use Rattle.hll_c.specs.Info.{AreCountsOf}
 use Rattle.hll_c.specs.declared.info.HllHistogram.{HllHistogram}
 
--- the code of a call whose other registers are coarser
+-- the code of a call if the other registers are fewer
 abbrev pub coarser_code : ℕ
 coarser_code = 15
 
--- a byte for each of 2^k registers
+-- one byte for each of 2^k registers
 pub record IsLgKOf (R : List ℕ) (k : ℕ) : Type 0 where
   pub is : IsLgK k
   pub size : length R ≡ 2 ^ k
 
--- there are as many bytes as registers of an lg_k
+-- the number of bytes is the number of registers of an lg_k
 pub record HasLgK (R : List ℕ) : Type 0 where
   pub lg_k : ℕ
   pub of : IsLgKOf R lg_k
 
--- ---- joins
+-- ---- merging
 
--- The registers become the join of what they were with those that the image folds to; or the image has fewer, not all 0, and its lg_k
--- is told; or it is refused. But in the first case nothing of them changes.
+-- The registers become the maximum of their old values and of the registers that the image folds to; or the image has fewer
+-- registers, not all 0, and `reported` becomes its lg_k; or it is rejected. In the last two cases the registers are unchanged.
 pub data MergesImageInto (image old new : List ℕ) (reported_old reported_new : ℕ) : ℕ → Type 0 where
   joined : {k : ℕ} → IsLgKOf old k → TakesMaxWithImage k image old new None → reported_new ≡ reported_old → MergesImageInto image old new reported_old reported_new ok_code
   coarser : {k e : ℕ} → IsLgKOf old k → TakesMaxWithImage k image old new (Some e) → reported_new ≡ e → MergesImageInto image old new reported_old reported_new coarser_code
   refused : {r : Reason} → RefusesWith (HasLgK old) image r → (r ≡ Memory → ReadNeedsMemory image) → new ≡ old → reported_new ≡ reported_old
       → MergesImageInto image old new reported_old reported_new (number_of r)
 
--- registers of eight bits, as a sketch
+-- 8-bit registers, as a sketch
 abbrev pub sketch_of_bytes : ℕ → List ℕ → Sketch
 sketch_of_bytes l Q = record { lg_k = l; width = Hll8; content = registers Q cleared_state }
 
--- The same of other registers in place of an image.
+-- `MergesImageInto` with other registers in place of an image.
 pub data MergesRegistersInto (others old new : List ℕ) (reported_old reported_new : ℕ) : ℕ → Type 0 where
   merged_registers : {k l : ℕ} → IsLgKOf old k → IsLgKOf others l → AreRegisters l others → TakesMaxWithSketch k (sketch_of_bytes l others) old new None → reported_new ≡ reported_old
       → MergesRegistersInto others old new reported_old reported_new ok_code
@@ -63,34 +63,36 @@ pub record AreAddArguments (values ends old : List ℕ) : Type 0 where
   pub kept : HasLgK old
   pub are : AreEnds (length values) ends
 
--- the registers become the join of what they were with those that the coupons of byte strings fold to; or an argument is out of range
+-- The registers become the maximum of their old values and of the registers that the coupons of byte strings fold to; or an
+-- argument is out of range.
 pub data AddsValues (values ends old new : List ℕ) : ℕ → Type 0 where
   added : {k : ℕ} → IsLgKOf old k → AreEnds (length values) ends → new ≡ join old (fold_to (set_of (map coupon_of_bytes (strings values ends))) k) → AddsValues values ends old new ok_code
   values_argument : (AreAddArguments values ends old → ⊥) → new ≡ old → AddsValues values ends old new (number_of Argument)
 
--- The same of strings that are told in another way, where the arguments say strings.
+-- `AddsValues` with strings that are delimited in another way, which `AreStrings` checks.
 pub data AddsStrings (AreStrings : Type 0) (values : List (List ℕ)) (old new : List ℕ) : ℕ → Type 0 where
   added_strings : {k : ℕ} → IsLgKOf old k → AreStrings → new ≡ join old (fold_to (set_of (map coupon_of_bytes values)) k) → AddsStrings AreStrings values old new ok_code
   no_strings_to_add : (HasLgK old × AreStrings → ⊥) → new ≡ old → AddsStrings AreStrings values old new (number_of Argument)
 
--- raw coupons of which each has a value
+-- no raw coupon has the value 0
 abbrev pub HaveValues : List ℕ → Type 0
 HaveValues coupons = All (λ raw_coupon. 2 ^ 26 ≤ raw_coupon) coupons
 
--- the same of coupons
+-- `AddsValues` with raw coupons
 pub data AddsCoupons (coupons old new : List ℕ) : ℕ → Type 0 where
   added_coupons : {k : ℕ} → IsLgKOf old k → HaveValues coupons → new ≡ join old (fold_to (set_of coupons) k) → AddsCoupons coupons old new ok_code
   coupons_argument : (HasLgK old × HaveValues coupons → ⊥) → new ≡ old → AddsCoupons coupons old new (number_of Argument)
 
 -- ---- folds
 
--- registers, and an lg_k from 4 to theirs
+-- registers, and an lg_k from 4 to their own
 pub record AreFoldArguments (to : ℕ) (old : List ℕ) : Type 0 where
   pub kept : HasLgK old
   pub to_is : IsLgK to
   pub within : to ≤ kept.lg_k
 
--- the registers fold at the front of their bytes, and the bytes after them stay; or an argument is out of range, or a byte is above 63
+-- The registers are folded into the first 2^`to` bytes, and the bytes after these are unchanged; or an argument is out of
+-- range, or a byte is above 63.
 pub data FoldsInPlace (to : ℕ) (old new : List ℕ) : ℕ → Type 0 where
   folded : {k : ℕ} → IsLgKOf old k → IsLgK to → to ≤ k → AreRegisters k old → new ≡ fold_to (pairs old) to ++ drop (2 ^ to) old → FoldsInPlace to old new ok_code
   fold_argument : (AreFoldArguments to old → ⊥) → new ≡ old → FoldsInPlace to old new (number_of Argument)
@@ -98,12 +100,12 @@ pub data FoldsInPlace (to : ℕ) (old new : List ℕ) : ℕ → Type 0 where
 
 -- ---- what registers say
 
--- why registers are refused: there are not as many as of an lg_k, or one is above 63
+-- why registers are rejected: their number is not 2^k for an lg_k, or one is above 63
 pub data RefusesRegisters (R : List ℕ) : Reason → Type 0 where
   no_lg_k : (HasLgK R → ⊥) → RefusesRegisters R Argument
   above_63 : {k : ℕ} → IsLgKOf R k → (AreRegisters k R → ⊥) → RefusesRegisters R Register
 
--- how many registers have each value
+-- the number of registers with each value
 pub record SaysCounts (R : List ℕ) (h : HllHistogram) : Type 0 where
   pub lg_k : ℕ
   pub of : IsLgKOf R lg_k
@@ -116,7 +118,7 @@ pub record AreImageArguments (bits : ℕ) (R : List ℕ) : Type 0 where
   pub kept : HasLgK R
   pub width_is : IsWidth bits
 
--- a sketch of the registers, with the fields from which a composite estimator computes
+-- a sketch of the registers, with its estimator fields set
 pub record IsOfBytes (bits : ℕ) (R : List ℕ) (y : Sketch) : Type 0 where
   pub lg_k : ℕ
   pub of : IsLgKOf R lg_k

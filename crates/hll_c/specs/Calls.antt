@@ -1,5 +1,5 @@
 -- SPDX-License-Identifier: Apache-2.0
--- What the calls over images write, tell and refuse (docs/MODEL.md, "Calls over images").
+-- What the calls over images write and return, and why they fail (docs/MODEL.md, "Calls over images").
 use Rattle.std.specs.Prelude.{◌≡◌, ℕ, ◌^◌, ◌≤◌, ◌<◌, ◌↔◌, ◌⊎◌, Bool, true, false, List, [], ◌∷◌, ◌++◌, length, drop, map}
 use Rattle.hll_base.specs.Reason.{number_of}
 use Rattle.hll_base.specs.declared.error.Reason.{Reason}
@@ -31,16 +31,16 @@ bits_of Hll4 = 4
 bits_of Hll6 = 6
 bits_of Hll8 = 8
 
--- the number is that of a width
+-- the number is a width
 pub record IsWidth (bits : ℕ) : Type 0 where
   pub width : HllType
   pub is : bits_of width ≡ bits
 
--- the number is that of a width, or 0, which asks for one that is known otherwise
+-- the number is a width, or 0, which asks for one that is already known
 abbrev pub AsksWidth : ℕ → Type 0
 AsksWidth bits = IsWidth bits ⊎ (bits ≡ 0)
 
--- the width that a number asks for: of so many bits, or for 0 the one that is given
+-- the width that a number asks for: the width of this number of bits, or for 0 the given one
 pub data IsAskedWidth (bits : ℕ) (given : HllType) : HllType → Type 0 where
   of_bits : {width : HllType} → bits_of width ≡ bits → IsAskedWidth bits given width
   as_given : bits ≡ 0 → IsAskedWidth bits given given
@@ -70,7 +70,8 @@ pub record IsFoldOf (lg_k : ℕ) (x y : Sketch) : Type 0 where
   pub within : IsFoldLgK x.lg_k lg_k
   pub is : y ≡ folded x lg_k
 
--- A fold is refused for an lg_k that no sketch has, whatever the image; for one above that of the sketch; or the image is refused.
+-- A fold fails if no sketch has this lg_k, whatever the image is; if the lg_k is above that of the sketch; or if the image is
+-- rejected.
 pub data RefusesFold (lg_k : ℕ) (image : List ℕ) : Reason → Type 0 where
   above : (x : Sketch) → IsReadAs image x → x.lg_k < lg_k → RefusesFold lg_k image Argument
   with : {r : Reason} → RefusesWith (IsLgK lg_k) image r → RefusesFold lg_k image r
@@ -79,13 +80,13 @@ pub data RefusesFold (lg_k : ℕ) (image : List ℕ) : Reason → Type 0 where
 abbrev pub HasWidth : HllType → Sketch → Sketch → Type 0
 HasWidth width x y = y ≡ record x { width = width }
 
--- a sketch at the width that a number asks for, which for 0 is its own
+-- a sketch at the width that a number asks for, where 0 asks for its own
 pub record IsAtWidth (bits : ℕ) (x y : Sketch) : Type 0 where
   pub width : HllType
   pub asked : IsAskedWidth bits x.width width
   pub is : HasWidth width x y
 
--- a sketch with its state cleared
+-- a sketch with its estimate state cleared
 abbrev pub IsCleared : Sketch → Sketch → Type 0
 IsCleared x y = y ≡ cleared x
 
@@ -95,7 +96,7 @@ pub record AreOfCoupon (slot value : ℕ) : Type 0 where
   pub least : 1 ≤ value
   pub most : value ≤ 63
 
--- a sketch with a coupon
+-- a sketch with one more coupon
 pub record HasCoupon (slot value : ℕ) (x y : Sketch) : Type 0 where
   pub are : AreOfCoupon slot value
   pub is : y ≡ add x (set_of (pair slot value ∷ []))
@@ -111,7 +112,7 @@ pub record AreUnionArguments (lg_max_k bits : ℕ) : Type 0 where
   pub lg_max_k_is : IsLgK lg_max_k
   pub width_is : IsWidth bits
 
--- the union, under a bound and at a width, of the sketches that images are read as; no number of a faulty image is told
+-- the union, at a width and with a bound of its lg_k, of the sketches that images are read as; `failed` is unchanged
 pub record IsUnionOf (lg_max_k bits : ℕ) (images : List (List ℕ)) (failed_old failed_new : ℕ) (y : Sketch) : Type 0 where
   pub arguments : AreUnionArguments lg_max_k bits
   pub sketches : List Sketch
@@ -129,7 +130,7 @@ pub record IsUnionOfBatch (lg_max_k bits : ℕ) (images ends : List ℕ) (failed
   pub are : AreEnds (length images) ends
   pub is : IsUnionOf lg_max_k bits (strings images ends) failed_old failed_new y
 
--- 1 exactly where the sketches that two images are read as agree
+-- 1 if the sketches that two images are read as agree, else 0
 pub record SaysAgreement (left right : List ℕ) (failed_old failed_new same : ℕ) : Type 0 where
   pub here : Sketch
   pub here_read : IsReadAs left here
@@ -142,14 +143,14 @@ pub record SaysAgreement (left right : List ℕ) (failed_old failed_new same : �
 
 -- ---- coupons of byte strings
 
--- The coupons are put at the front of a buffer, whose rest stays; or the buffer has room for fewer, or the ends are none, and nothing
--- changes.
+-- The coupons are written into the first elements of a buffer, whose other elements are unchanged; or the buffer has fewer
+-- elements, or the ends are wrong, and nothing changes.
 pub data PutsCoupons (values ends old new : List ℕ) : ℕ → Type 0 where
   wrote : AreEnds (length values) ends → length ends ≤ length old → new ≡ map coupon_of_bytes (strings values ends) ++ drop (length ends) old → PutsCoupons values ends old new ok_code
   too_small : AreEnds (length values) ends → length old < length ends → new ≡ old → PutsCoupons values ends old new buffer_code
   argument : (AreEnds (length values) ends → ⊥) → new ≡ old → PutsCoupons values ends old new (number_of Argument)
 
--- The same of strings that are told in another way, where the arguments say strings.
+-- `PutsCoupons` of strings that are delimited in another way, which `AreStrings` checks.
 pub data PutsCouponsOf (AreStrings : Type 0) (values : List (List ℕ)) (old new : List ℕ) : ℕ → Type 0 where
   put : AreStrings → length values ≤ length old → new ≡ map coupon_of_bytes values ++ drop (length values) old → PutsCouponsOf AreStrings values old new ok_code
   no_room : AreStrings → length old < length values → new ≡ old → PutsCouponsOf AreStrings values old new buffer_code

@@ -1,5 +1,5 @@
 -- SPDX-License-Identifier: Apache-2.0
--- What calls tell of an estimate (docs/MODEL.md, "Estimates").
+-- What calls report of an estimate (docs/MODEL.md, "Estimates").
 use Rattle.std.specs.Prelude.{◌≡◌, ℕ, ◌+◌, ◌-◌, ◌^◌, ◌≤◌, List, [], ◌∷◌, ◌++◌, length, replicate, sum}
 use Rattle.std.specs.FinSet.{len}
 use Rattle.hll_base.specs.declared.error.Reason.{Reason}
@@ -15,7 +15,7 @@ use Rattle.hll_c.specs.ByteRegisters.{IsLgKOf}
 use Rattle.hll_c.specs.Info.{AreCountsOf}
 use Rattle.hll_c.specs.declared.estimate.HllEstimate.{HllEstimate}
 
--- the double nearest to the estimate of 2^k registers; how many they are, and how many of them are above 0
+-- the double nearest to the estimate of 2^k registers, the number of registers, and how many of them are above 0
 pub record IsEstimateOfRegisters (k : ℕ) (R : List ℕ) (e : HllEstimate) : Type 0 where
   pub estimate : Estimate
   pub near : IsEstimate k (zeros R) (units R) estimate
@@ -24,7 +24,7 @@ pub record IsEstimateOfRegisters (k : ℕ) (R : List ℕ) (e : HllEstimate) : Ty
   pub count : e.registers ≡ 2 ^ k
   pub above : e.seen ≡ 2 ^ k - zeros R
 
--- of coupons, how many there are
+-- for coupons: their number
 pub record IsEstimateOfCoupons (count : ℕ) (e : HllEstimate) : Type 0 where
   pub no_bits : e.bits ≡ 0
   pub no_registers : e.registers ≡ 0
@@ -34,13 +34,13 @@ abbrev pub IsEstimateOfContent : ℕ → Content → HllEstimate → Type 0
 IsEstimateOfContent k (coupons S size) e = IsEstimateOfCoupons (len S) e
 IsEstimateOfContent k (registers R state) e = IsEstimateOfRegisters k R e
 
--- what is told of an image
+-- what is reported of an image
 pub record SaysEstimate (image : List ℕ) (e : HllEstimate) : Type 0 where
   pub sketch : Sketch
   pub read : IsReadAs image sketch
   pub says : IsEstimateOfContent sketch.lg_k sketch.content e
 
--- what is told of registers of the caller
+-- what is reported of caller-owned registers
 pub record SaysEstimateOfBytes (R : List ℕ) (e : HllEstimate) : Type 0 where
   pub lg_k : ℕ
   pub of : IsLgKOf R lg_k
@@ -49,7 +49,7 @@ pub record SaysEstimateOfBytes (R : List ℕ) (e : HllEstimate) : Type 0 where
 
 -- ---- counts of registers
 
--- of each value from one on, as many registers as counted
+-- registers that have these counts: for each value from the first on, that many registers
 abbrev pub registers_of_counts : ℕ → List ℕ → List ℕ
 registers_of_counts value [] = []
 registers_of_counts value (count ∷ counts) = replicate count value ++ registers_of_counts (value + 1) counts
@@ -59,7 +59,7 @@ pub record SumToLgK (counts : List ℕ) (k : ℕ) : Type 0 where
   pub is : IsLgK k
   pub sum_is : sum counts ≡ 2 ^ k
 
--- what is told of registers of which so many have each value
+-- what is reported of registers that have these counts of values
 pub record SaysEstimateOfCounts (counts : List ℕ) (e : HllEstimate) : Type 0 where
   pub lg_k : ℕ
   pub sum_to : SumToLgK counts lg_k
@@ -68,12 +68,12 @@ pub record SaysEstimateOfCounts (counts : List ℕ) (e : HllEstimate) : Type 0 w
   pub counted : AreCountsOf registers counts
   pub says : IsEstimateOfRegisters lg_k registers e
 
--- counts of another number of registers are refused
+-- counts of any other number of registers are rejected
 pub record RefusesCounts (counts : List ℕ) (r : Reason) : Type 0 where
   pub is : r ≡ Argument
   pub no_lg_k : (k : ℕ) → SumToLgK counts k → ⊥
 
--- what is summed over them, for a count of each value from 0 to 63: how many there are, at most 2^21, and 2^(63 - value)
+-- The sums over counts of the values 0 to 63: the number of registers, at most 2^21, and the sum of 2^(63 - value) over them.
 pub record AreTotalsOfCounts (counts : List ℕ) (total sum_of_units : ℕ) : Type 0 where
   pub each_value : length counts ≡ 64
   pub total_is : total ≡ sum counts

@@ -1,5 +1,5 @@
 -- SPDX-License-Identifier: Apache-2.0
--- What calls tell of an image (docs/MODEL.md, "Calls over images").
+-- What calls report of an image (docs/MODEL.md, "Calls over images").
 use Rattle.std.specs.Prelude.{◌≡◌, ℕ, ◌+◌, ◌*◌, ◌^◌, ◌<◌, ◌==◌, if◌then◌else◌, List, [], ◌∷◌, count_by, slice_index}
 use Rattle.std.specs.FinSet.{len}
 use Rattle.hll_coupons.specs.Fold.{fold_to}
@@ -11,11 +11,12 @@ use Rattle.hll_c.specs.Calls.{bit, bits_of}
 use Rattle.hll_c.specs.declared.info.HllInfo.{HllInfo}
 use Rattle.hll_c.specs.declared.info.HllHistogram.{HllHistogram}
 
--- the three fields of registers
+-- the three estimator fields of registers
 abbrev pub reported_fields : HllInfo → List ℕ
 reported_fields i = i.hip ∷ i.kxq0 ∷ i.kxq1 ∷ []
 
--- what is told of coupons: the stage by the size of the table, how many there are, and nothing of registers
+-- what is reported of coupons: the stage, which follows from the size of the table, and their number; the members for registers
+-- are 0
 pub record IsInfoOfCoupons (count size : ℕ) (i : HllInfo) : Type 0 where
   pub stage : i.stage ≡ (if size == 3 then 0 else 1)
   pub coupons : i.coupons ≡ count
@@ -25,7 +26,7 @@ pub record IsInfoOfCoupons (count size : ℕ) (i : HllInfo) : Type 0 where
   pub fields_none : reported_fields i ≡ 0 ∷ 0 ∷ 0 ∷ []
   pub order : i.out_of_order ≡ 0
 
--- what is told of registers: how many are 0, the sum of their weights in two halves, and their state
+-- what is reported of registers: how many are 0, the sum of their weights in two halves, and their estimate state
 pub record IsInfoOfRegisters (R : List ℕ) (state : EstimateState) (i : HllInfo) : Type 0 where
   pub stage : i.stage ≡ 2
   pub coupons_none : i.coupons ≡ 0
@@ -39,20 +40,20 @@ abbrev pub IsInfoOfContent : Content → HllInfo → Type 0
 IsInfoOfContent (coupons S size) i = IsInfoOfCoupons (len S) size i
 IsInfoOfContent (registers R state) i = IsInfoOfRegisters R state i
 
--- what is told of a sketch
+-- what is reported of a sketch
 pub record IsInfoOf (x : Sketch) (i : HllInfo) : Type 0 where
   pub lg_k : i.lg_k ≡ x.lg_k
   pub width : i.width ≡ bits_of x.width
   pub empty : i.is_empty ≡ bit (is_empty x)
   pub content : IsInfoOfContent x.content i
 
--- what is told of an image
+-- what is reported of an image
 pub record SaysInfo (image : List ℕ) (i : HllInfo) : Type 0 where
   pub sketch : Sketch
   pub read : IsReadAs image sketch
   pub says : IsInfoOf sketch i
 
--- how many registers have each value from 0 to 63
+-- the number of registers with each value from 0 to 63
 pub record AreCountsOf (R counts : List ℕ) : Type 0 where
   pub each : (v : ℕ) → v < 64 → slice_index counts v ≡ count_by (λ r. r == v) R
 

@@ -23,7 +23,7 @@ use Rattle.hll_c.specs.declared.estimate.HllEstimate.{HllEstimate}
 
 -- ---- a new state
 
--- the state of an empty sketch, of eight bits; or there are too few elements; or the lg_k is none
+-- the state of an empty sketch with a width of 8 bits; or there are too few elements; or the lg_k is out of range
 pub data MakesState (lg_k : ℕ) (old new : List (List ℕ)) : ℕ → Type 0 where
   made : IsLgK lg_k → IsStateOf new (empty_sketch lg_k Hll8) → MakesState lg_k old new ok_code
   few_elements : IsLgK lg_k → length old < 10 → new ≡ old → MakesState lg_k old new buffer_code
@@ -31,14 +31,14 @@ pub data MakesState (lg_k : ℕ) (old new : List (List ℕ)) : ℕ → Type 0 wh
 
 -- ---- adding
 
--- so many bytes are enough to add n coupons to a state, and no more than any state of its lg_k needs
+-- this number of bytes is enough to add n coupons to a state, and no more than any state of its lg_k needs
 pub record AreEnoughBytes (elements : List (List ℕ)) (n bytes : ℕ) : Type 0 where
   pub len : ℕ
   pub bytes_are : bytes ≡ 4 * len
   pub enough : AreEnough elements n len
 
--- Coupons are added in turn; or there is no room for so many, it is told how many bytes are enough, and nothing is added; or an argument
--- is out of range or the elements are no state, and nothing changes.
+-- Coupons are added in turn; or there is not enough room for them, the size becomes a number of bytes that is enough, and
+-- nothing is added; or an argument is out of range or the elements are not a state, and nothing changes.
 pub data AddsToState (InRange : Type 0) (cs : List ℕ) (old new : List (List ℕ)) (size_old size_new : ℕ) : ℕ → Type 0 where
   added : InRange → OfState old (λ x. IsStateOf new (add_in_turn x cs)) → size_new ≡ size_old → AddsToState InRange cs old new size_old size_new ok_code
   no_room : InRange → OfState old (IsStateOf new) → (HasRoomIn old (length cs) (length old) → ⊥) → AreEnoughBytes new (length cs) size_new
@@ -47,58 +47,60 @@ pub data AddsToState (InRange : Type 0) (cs : List ℕ) (old new : List (List �
 
 -- ---- reading
 
--- a state is refused where an argument is out of range or the elements are none, where a register is above 63, or for memory
+-- why reading a state fails: an argument is out of range or the elements are not a state, a register is above 63, or an
+-- allocation fails
 pub data RefusesState (InRange : Type 0) (elements : List (List ℕ)) : Reason → Type 0 where
   state_argument : (InRange × IsState elements → ⊥) → RefusesState InRange elements Argument
   state_register : InRange → OfState elements (λ x. IsLegal x → ⊥) → RefusesState InRange elements Register
   state_memory : InRange → IsState elements → RefusesState InRange elements Memory
 
--- what a state means, at a width
+-- the sketch of a state, at a width
 abbrev pub IsOfState : ℕ → List (List ℕ) → Sketch → Type 0
 IsOfState bits old y = OfState old (λ x. IsAtWidth bits x y)
 
--- what is told of a state
+-- what is reported of a state
 abbrev pub SaysEstimateOfState : List (List ℕ) → HllEstimate → Type 0
 SaysEstimateOfState old e = OfState old (λ x. IsEstimateOfContent x.lg_k x.content e)
 
--- ---- joins
+-- ---- merging
 
--- the code of a call whose sketches have different lg_k, where no bound was given
+-- the code of a call whose sketches have different lg_k, if no bound was given
 abbrev pub other_lg_k_code : ℕ
 other_lg_k_code = 16
 
--- 0 for no bound, or an lg_k of at least that of the state
+-- 0 for no bound, or an lg_k of at least the state's
 abbrev pub IsBoundFor : ℕ → ℕ → Type 0
 IsBoundFor lg_max_k k = (lg_max_k ≡ 0) ⊎ ((k ≤ lg_max_k) × (lg_max_k ≤ 21))
 
--- the elements are a state under that bound
+-- the elements are a state, and this is a bound for it
 pub record IsStateUnder (lg_max_k : ℕ) (elements : List (List ℕ)) : Type 0 where
   pub header : Header
   pub has : HasHeader elements header
   pub bound : IsBoundFor lg_max_k header.lg_k
 
--- a state before a join and after it
+-- a state before and after a sketch is merged into it
 pub record Joins (lg_max_k others : ℕ) (y : Sketch) (old new : List (List ℕ)) (answer : Joined) : Type 0 where
   pub before : IsStateUnder lg_max_k old
   pub after : Header
   pub has : HasHeader new after
   pub is : IsJoined (not (lg_max_k == 0)) others y before.header (drop 10 old) after (drop 10 new) answer
 
--- A sketch is joined, and its widths are recorded; or there is no room, it is told how many bytes are enough, and the meaning stays; or its
--- lg_k is another one, no bound was given, and nothing changes.
+-- A sketch is merged in, and its widths are recorded; or there is not enough room, the size becomes a number of bytes that is
+-- enough, and the sketch of the state is unchanged; or the lg_k differ, no bound was given, and nothing changes.
 pub data JoinsSketch (lg_max_k others : ℕ) (y : Sketch) (old new : List (List ℕ)) (size_old size_new : ℕ) : ℕ → Type 0 where
   joined : Joins lg_max_k others y old new Done → size_new ≡ size_old → JoinsSketch lg_max_k others y old new size_old size_new ok_code
   no_room_to_join : (len : ℕ) → Joins lg_max_k others y old new (NoRoom len) → size_new ≡ 4 * len → JoinsSketch lg_max_k others y old new size_old size_new buffer_code
   other_lg_k : Joins lg_max_k others y old new OtherLgK → new ≡ old → size_new ≡ size_old → JoinsSketch lg_max_k others y old new size_old size_new other_lg_k_code
 
--- The sketch of an image is joined; or an argument is out of range or the elements are no state, or the image is refused, and nothing changes.
+-- The sketch of an image is merged in; or an argument is out of range, the elements are not a state or the image is rejected,
+-- and nothing changes.
 pub data JoinsImage (lg_max_k : ℕ) (image : List ℕ) (old new : List (List ℕ)) (size_old size_new : ℕ) : ℕ → Type 0 where
   image_read : {code : ℕ} → (y : Sketch) → IsReadAs image y → JoinsSketch lg_max_k (bit_of y.width) y old new size_old size_new code → JoinsImage lg_max_k image old new size_old size_new code
   image_not_read : {r : Reason} → RefusesWith (IsStateUnder lg_max_k old) image r → (r ≡ Memory → BorrowNeedsMemory image) → new ≡ old → size_new ≡ size_old
       → JoinsImage lg_max_k image old new size_old size_new (number_of r)
 
--- The sketch of another state is joined; or an argument is out of range or one of both is no state, or a register of the other is above 63,
--- and nothing changes.
+-- The sketch of another state is merged in; or an argument is out of range, one of the two is not a state or a register of the
+-- other is above 63, and nothing changes.
 pub data JoinsState (lg_max_k : ℕ) (other old new : List (List ℕ)) (size_old size_new : ℕ) : ℕ → Type 0 where
   state_read : {code : ℕ} → (h : Header) → HasHeader other h → JoinsSketch lg_max_k h.widths (sketch_in h (drop 10 other)) old new size_old size_new code
       → JoinsState lg_max_k other old new size_old size_new code

@@ -9,16 +9,18 @@ use Rattle.hll_sketch.specs.Waiting.{WaitingUnion, whole_gadget}
 use Rattle.hll_sketch.specs.Value.{Sketch}
 use Rattle.hll_c.specs.Batches.{AreReadAs, IsFirstFaulty, MayAskAt}
 
--- a union took in several images in turn
+-- several images were merged into a union in turn
 pub record MergesInAll (before after : WaitingUnion) (images : List (List ℕ)) : Type 0 where
   pub sketches : List Sketch
   pub read : AreReadAs images sketches
   pub gadget : (whole_gadget after) ≡ merge_all before.lg_max_k (whole_gadget before) sketches
 
--- the image with this number is refused: for memory, once the bytes that it asks for are there, or by a check, and then its number is told
+-- The image with this number can't be merged: an allocation fails, once the bytes that the image needs are there; or it fails a
+-- check, and `failed` becomes its number.
 abbrev pub IsRefusedAt : List ℕ → ℕ → ℕ → ℕ → Reason → Type 0
 IsRefusedAt image number failed_old failed_new e = ((e ≡ Memory) × (size_fault image ≡ None) × (failed_new ≡ failed_old)) ⊎ ((first_fault image ≡ Some e) × (failed_new ≡ number))
 
--- memory is refused where it may be asked for, or the first image that fails a check is, and then its number is told
+-- An allocation fails where one may be made; or the first image that fails a check is rejected, and `failed` becomes its
+-- number.
 abbrev pub FailsToMergeIn : List (List ℕ) → ℕ → ℕ → Reason → Type 0
 FailsToMergeIn images failed_old failed_new e = ((e ≡ Memory) × (failed_new ≡ failed_old) × (n : ℕ) × MayAskAt images n) ⊎ IsFirstFaulty images failed_new e

@@ -1,5 +1,5 @@
 // SPDX-License-Identifier: Apache-2.0
-//! The codes of answers, and how an image gets into a buffer.
+//! The codes that calls return, and how an image is written into a buffer.
 ghost use Rattle.std.specs.Prelude.{◌≡◌, MatchResult, IfOk, IfErr};
 ghost use Rattle.hll_base.specs.declared.error.Reason.TheVariants.{Memory};
 ghost use Rattle.hll_sketch.specs.Layout.{sketch_of};
@@ -15,7 +15,7 @@ pub(crate) const OK: u8 = 0;
 /// The buffer is smaller than what is to be written.
 pub(crate) const BUFFER: u8 = 14;
 
-/// The code of a call that answers nothing else.
+/// Returns the code of a call that returns nothing else.
 pub(crate) fn code_of(answer: Result<(), Error>) -> u8
     ensures { Tests (MatchResult answer (λ _. Unit {0}) (λ _. ⊥)) (λ r. MatchResult answer (λ _. ⊥) (λ e. e ≡ r)) result }
 {
@@ -25,7 +25,7 @@ pub(crate) fn code_of(answer: Result<(), Error>) -> u8
     }
 }
 
-/// Puts what was found into its place.
+/// Writes what was found into `place`.
 pub(crate) fn report<T: Copy>(found: Result<T, Error>, place: &mut T) -> u8
     ensures { Reports T (λ x. MatchResult found (λ y. x ≡ y) (λ _. ⊥)) (λ r. MatchResult found (λ _. ⊥) (λ e. e ≡ r)) place.old place.new result }
 {
@@ -38,15 +38,15 @@ pub(crate) fn report<T: Copy>(found: Result<T, Error>, place: &mut T) -> u8
     }
 }
 
-/// Puts the image of what was made, its fields set where its state is cleared, at the front of a buffer, if that is large enough,
-/// and says how large the image is.
+/// Writes the image of a sketch, with its estimator fields set if its estimate state is cleared, into the first bytes of `out`,
+/// if there is room for it. Sets `size` to the size of the image.
 pub(crate) fn put_image(made: Result<HllSketch, Error>, out: &mut [u8], size: &mut usize) -> u8
     ensures { Answers (λ y. MatchResult made (λ s. y ≡ sketch_of s) (λ _. ⊥)) (λ r. MatchResult made (λ _. r ≡ Memory) (λ e. r ≡ e)) out.old out.new size.old size.new result }
 {
     put_bytes(image_of(made), out, size)
 }
 
-/// Puts an image at the front of a buffer, if that is large enough, and says how large the image is.
+/// Writes an image into the first bytes of `out`, if there is room for it. Sets `size` to the size of the image.
 pub(crate) fn put_bytes(image: Result<Vec<u8>, Error>, out: &mut [u8], size: &mut usize) -> u8
     ensures { PutsBytes (λ b. MatchResult image (λ v. b ≡ v.items) (λ _. ⊥)) (λ r. MatchResult image (λ _. ⊥) (λ e. r ≡ e)) out.old out.new size.old size.new result }
 {
@@ -63,7 +63,7 @@ pub(crate) fn put_bytes(image: Result<Vec<u8>, Error>, out: &mut [u8], size: &mu
     }
 }
 
-/// The image of what was made.
+/// Returns the image of the sketch that was made.
 fn image_of(made: Result<HllSketch, Error>) -> Result<Vec<u8>, Error>
     ensures ok { IfOk result (λ image. MatchResult made (λ s. IsImageOf (FillsFields (sketch_of s)) image.items) (λ _. ⊥)) }
     ensures err { IfErr result (λ e. MatchResult made (λ _. e ≡ Memory) (λ f. e ≡ f)) }
@@ -71,7 +71,7 @@ fn image_of(made: Result<HllSketch, Error>) -> Result<Vec<u8>, Error>
     image_with_fields(made?)
 }
 
-/// The image of a sketch, its fields set where its state is cleared.
+/// Returns the image of a sketch, with its estimator fields set if its estimate state is cleared.
 pub(crate) fn image_with_fields(mut sketch: HllSketch) -> Result<Vec<u8>, Error>
     ensures ok { IfOk result (λ image. IsImageOf (FillsFields (sketch_of sketch)) image.items) }
     ensures err { IfErr result (λ e. e ≡ Memory) }

@@ -1,5 +1,5 @@
 // SPDX-License-Identifier: Apache-2.0
-//! Batches: concatenated byte strings, delimited by their ends.
+//! Batches: byte strings that are concatenated, and delimited by their ends.
 ghost use Rattle.std.specs.Prelude.{◌≡◌, ◌↔◌, ◌≤◌, ◌++◌, length, drop, map, IsTrue};
 ghost use Rattle.hll_coupons.specs.Hashed.{coupon_of_bytes};
 ghost use Rattle.hll_c.specs.Batches.{AreEnds, AreEndsFrom, strings_from, end_from};
@@ -9,7 +9,7 @@ use crate::answer::{BUFFER, OK};
 use hll_base::error::Reason;
 use hll_coupons::coupon::Coupon;
 
-/// Whether ends ascend, from 0 on, and none is past `size`. Two may be the same: an empty string stands between them.
+/// Returns whether ends ascend from 0 on, and none is above `size`. Two ends may be equal: the string between them is empty.
 pub(crate) fn are_ends(ends: &[usize], size: usize) -> bool
     ensures { IsTrue result ↔ AreEnds size ends.now }
 {
@@ -23,7 +23,7 @@ pub(crate) fn are_ends(ends: &[usize], size: usize) -> bool
     start <= size
 }
 
-/// The coupons of byte strings.
+/// Writes the raw coupons of byte strings into the first elements of `coupons`.
 pub(crate) fn put_coupons(values: &[u8], ends: &[usize], coupons: &mut [u32]) -> u8
     ensures { PutsCoupons values.now ends.now coupons.old coupons.new result }
 {
@@ -37,8 +37,8 @@ pub(crate) fn put_coupons(values: &[u8], ends: &[usize], coupons: &mut [u32]) ->
     OK
 }
 
-/// Writes the raw coupons of byte strings, the first of which begins at `start`, to the front of `raw_coupons`. Returns where the
-/// last one ends.
+/// Writes the raw coupons of byte strings into the first elements of `raw_coupons`. The first string begins at `start`. Returns
+/// the end of the last string.
 pub(crate) fn put_each(
     values: &[u8],
     mut start: usize,

@@ -1,5 +1,5 @@
 // SPDX-License-Identifier: Apache-2.0
-//! Registers that the caller keeps: 2^`lg_k` bytes, one for each register.
+//! Caller-owned registers: 2^`lg_k` bytes, one for each register.
 ghost use Rattle.std.specs.Prelude.{◌≡◌, ◌^◌, ◌≤◌, ◌↔◌, ℕ, length, map, IsTrue, IfOk, IfErr};
 ghost use Rattle.hll_base.specs.declared.error.Reason.TheVariants as reasons;
 ghost use Rattle.hll_base.specs.Join.{join};
@@ -26,10 +26,10 @@ use hll_sketch::max_registers::{fold_in_place, max_registers, merge_image, sketc
 use hll_sketch::{HllSketch, max_coupon};
 use std::alloc::Global;
 
-/// The code of a call whose other registers are coarser.
+/// The code of a call if the other registers are fewer.
 const COARSER: u8 = 15;
 
-/// The `lg_k` of which there is a byte for each register. `Argument` where there is none.
+/// Returns the `lg_k` of registers that are one byte each. Fails with `Argument` if their number is not 2^`lg_k`.
 pub(crate) fn lg_k_of(registers: &[u8]) -> Result<u8, Error>
     ensures ok { IfOk result (IsLgKOf registers.now) }
     ensures err { IfErr result (λ e. (e ≡ reasons.Argument) × (HasLgK registers.now → ⊥)) }
@@ -37,7 +37,7 @@ pub(crate) fn lg_k_of(registers: &[u8]) -> Result<u8, Error>
     lg_k_of_count(registers.len())
 }
 
-/// The `lg_k` of so many registers. `Argument` where there is none.
+/// Returns the `lg_k` of this number of registers. Fails with `Argument` if it is not 2^`lg_k`.
 pub(crate) fn lg_k_of_count(count: usize) -> Result<u8, Error>
     ensures ok { IfOk result (λ k. IsLgK k × (count ≡ 2 ^ k)) }
     ensures err { IfErr result (λ e. (e ≡ reasons.Argument) × ((k : ℕ) → IsLgK k → count ≡ 2 ^ k → ⊥)) }
@@ -52,7 +52,7 @@ pub(crate) fn lg_k_of_count(count: usize) -> Result<u8, Error>
     Ok(lg_k)
 }
 
-/// Whether each is at most 63.
+/// Returns whether each register is at most 63.
 fn are_small(registers: &[u8], lg_k: u8) -> bool
     requires { IsLgKOf registers.now lg_k }
     ensures { IsTrue result ↔ AreRegisters lg_k registers.now }
@@ -60,7 +60,8 @@ fn are_small(registers: &[u8], lg_k: u8) -> bool
     greatest_of(registers) <= MAX_VALUE
 }
 
-/// The `lg_k` of registers that are at most 63. `Argument` where there are not as many as of an `lg_k`, else `Register`.
+/// Returns the `lg_k` of registers that are at most 63. Fails with `Argument` if their number is not 2^`lg_k`, else with
+/// `Register` if one is above 63.
 pub(crate) fn checked_lg_k(registers: &[u8]) -> Result<u8, Error>
     ensures ok { IfOk result (λ k. IsLgKOf registers.now k × AreRegisters k registers.now) }
     ensures err { IfErr result (RefusesRegisters registers.now) }
@@ -72,7 +73,7 @@ pub(crate) fn checked_lg_k(registers: &[u8]) -> Result<u8, Error>
     Ok(lg_k)
 }
 
-/// Joins the registers of an image into those of the caller.
+/// Merges the registers of an image into caller-owned registers.
 pub(crate) fn merge(alloc: Global, registers: &mut [u8], image: &[u8], coarser: &mut u8) -> u8
     ensures { MergesImageInto image.now registers.old registers.new coarser.old coarser.new result }
 {
@@ -89,7 +90,7 @@ pub(crate) fn merge(alloc: Global, registers: &mut [u8], image: &[u8], coarser: 
     }
 }
 
-/// Joins other registers into those of the caller.
+/// Merges other registers into caller-owned registers.
 pub(crate) fn merge_others(registers: &mut [u8], others: &[u8], coarser: &mut u8) -> u8
     ensures { MergesRegistersInto others.now registers.old registers.new coarser.old coarser.new result }
 {
@@ -112,7 +113,7 @@ pub(crate) fn merge_others(registers: &mut [u8], others: &[u8], coarser: &mut u8
     }
 }
 
-/// Joins the coupons of byte strings into registers of the caller.
+/// Adds the coupons of byte strings to caller-owned registers.
 pub(crate) fn add(registers: &mut [u8], values: &[u8], ends: &[usize]) -> u8
     ensures { AddsValues values.now ends.now registers.old registers.new result }
 {
@@ -126,7 +127,7 @@ pub(crate) fn add(registers: &mut [u8], values: &[u8], ends: &[usize]) -> u8
     OK
 }
 
-/// Joins the coupons of byte strings, whose ends ascend, into registers.
+/// Adds the coupons of byte strings, whose ends ascend, to registers.
 fn max_values(registers: &mut [u8], lg_k: u8, values: &[u8], ends: &[usize])
     requires lg_k { IsLgKOf registers.old lg_k }
     requires ends { AreEnds (length values.now) ends.now }
@@ -139,7 +140,7 @@ fn max_values(registers: &mut [u8], lg_k: u8, values: &[u8], ends: &[usize])
     }
 }
 
-/// Joins coupons into registers of the caller.
+/// Adds coupons to caller-owned registers.
 pub(crate) fn add_coupons(registers: &mut [u8], coupons: &[u32]) -> u8
     ensures { AddsCoupons coupons.now registers.old registers.new result }
 {
@@ -153,7 +154,7 @@ pub(crate) fn add_coupons(registers: &mut [u8], coupons: &[u32]) -> u8
     OK
 }
 
-/// Whether each coupon has a value.
+/// Returns whether no coupon has the value 0.
 pub(crate) fn have_values(coupons: &[u32]) -> bool
     ensures { IsTrue result ↔ HaveValues coupons.now }
 {
@@ -165,7 +166,7 @@ pub(crate) fn have_values(coupons: &[u32]) -> bool
     true
 }
 
-/// Joins coupons, of which each has a value.
+/// Adds coupons to registers. No coupon has the value 0.
 fn max_coupons(registers: &mut [u8], lg_k: u8, coupons: &[u32])
     requires { IsLgKOf registers.old lg_k }
     ensures { registers.new ≡ join registers.old (fold_to (set_of coupons.now) lg_k) }
@@ -179,7 +180,7 @@ fn max_coupons(registers: &mut [u8], lg_k: u8, coupons: &[u32])
     }
 }
 
-/// Folds registers of the caller at the front of their bytes.
+/// Folds caller-owned registers in place, into their first 2^`to` bytes.
 pub(crate) fn fold(registers: &mut [u8], to: u32) -> u8
     ensures { FoldsInPlace to registers.old registers.new result }
 {
@@ -199,7 +200,7 @@ pub(crate) fn fold(registers: &mut [u8], to: u32) -> u8
     OK
 }
 
-/// How many registers of the caller have each value.
+/// Counts the caller-owned registers with each value.
 pub(crate) fn histogram(registers: &[u8]) -> Result<HllHistogram, Error>
     ensures ok { IfOk result (SaysCounts registers.now) }
     ensures err { IfErr result (RefusesRegisters registers.now) }
@@ -210,7 +211,7 @@ pub(crate) fn histogram(registers: &[u8]) -> Result<HllHistogram, Error>
     })
 }
 
-/// The sketch of registers of the caller.
+/// Returns the sketch of caller-owned registers.
 pub(crate) fn sketch(alloc: Global, registers: &[u8], width: u32) -> Result<HllSketch, Error>
     ensures ok { IfOk result (λ s. IsOfBytes width registers.now (sketch_of s)) }
     ensures err { IfErr result (RefusesBytes width registers.now) }

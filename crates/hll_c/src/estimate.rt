@@ -21,19 +21,20 @@ use std::alloc::Global;
 /// The greatest number of registers.
 const MOST_REGISTERS: u64 = 1 << 21;
 
-/// An estimate, and what its bounds are computed from.
+/// An estimate, and the numbers from which its bounds are computed.
 #[repr(C)]
 #[derive(Clone, Copy)]
 pub struct HllEstimate {
-    /// From registers: the estimate as the bits of a number of binary64. From coupons 0.
+    /// From registers: the estimate as the bits of a binary64 number. From coupons: 0.
     pub bits: u64,
-    /// How many registers there are; from coupons 0.
+    /// From registers: their number. From coupons: 0.
     pub registers: u64,
-    /// How many registers are above 0, or how many coupons there are.
+    /// The number of registers above 0, or the number of coupons.
     pub seen: u64,
 }
 
-/// The estimate of 2^`lg_k` registers, by how many are 0 and the sum of 2^(63 - v) over them.
+/// Returns the estimate of 2^`lg_k` registers. `zeros` is the number of registers that are 0, `units` the sum of 2^(63 - value)
+/// over all registers.
 fn estimate_of_totals(lg_k: u8, zeros: u32, units: u128) -> HllEstimate
     requires { AreOfRegisters lg_k zeros units }
     ensures { (R : List ℕ) → zeros ≡ packed.zeros R → units ≡ packed.units R → IsEstimateOfRegisters lg_k R result }
@@ -46,7 +47,7 @@ fn estimate_of_totals(lg_k: u8, zeros: u32, units: u128) -> HllEstimate
     }
 }
 
-/// What is told of so many coupons.
+/// Returns what `hll_estimate` writes for `count` coupons.
 pub(crate) fn estimate_of_coupons(count: usize) -> HllEstimate
     ensures { IsEstimateOfCoupons count result }
 {
@@ -57,7 +58,7 @@ pub(crate) fn estimate_of_coupons(count: usize) -> HllEstimate
     }
 }
 
-/// The estimate of an image.
+/// Returns the estimate of an image.
 pub(crate) fn estimate_of_image(alloc: Global, image: &[u8]) -> Result<HllEstimate, Error>
     ensures ok { IfOk result (SaysEstimate image.now) }
     ensures err { IfErr result (RefusesInfo (Unit {0}) image.now) }
@@ -74,7 +75,7 @@ pub(crate) fn estimate_of_image(alloc: Global, image: &[u8]) -> Result<HllEstima
     }
 }
 
-/// The estimate of 2^`lg_k` registers.
+/// Returns the estimate of 2^`lg_k` registers.
 pub(crate) fn estimate_of_registers(lg_k: u8, registers: &[u8]) -> HllEstimate
     requires lg_k { IsLgK lg_k }
     requires registers { AreRegisters lg_k registers.now }
@@ -83,7 +84,8 @@ pub(crate) fn estimate_of_registers(lg_k: u8, registers: &[u8]) -> HllEstimate
     estimate_of_totals(lg_k, count_zeros(registers) as u32, units(registers))
 }
 
-/// The sum of counts by value, and the sum of 2^(63 - value) over what they count. `None` where there are more than 2^21.
+/// Returns the sum of the counts, and the sum of 2^(63 - value) over the registers that they count. Returns `None` if there are
+/// more than 2^21 registers.
 fn totals_of_counts(counts: &[u64; 64]) -> Option<(u64, u128)>
     ensures some { IfSome result (λ totals. AreTotalsOfCounts counts.now totals.0 totals.1) }
     ensures none { IfNone result (2 ^ 21 < sum counts.now) }
@@ -102,7 +104,7 @@ fn totals_of_counts(counts: &[u64; 64]) -> Option<(u64, u128)>
     Some((total, units))
 }
 
-/// The estimate of registers of which so many have each value.
+/// Returns the estimate of registers, of which `histogram` has the number with each value.
 pub(crate) fn estimate_of_counts(histogram: &HllHistogram) -> Result<HllEstimate, Error>
     ensures ok { IfOk result (SaysEstimateOfCounts histogram.now.counts) }
     ensures err { IfErr result (RefusesCounts histogram.now.counts) }
@@ -114,7 +116,7 @@ pub(crate) fn estimate_of_counts(histogram: &HllHistogram) -> Result<HllEstimate
     Ok(estimate_of_totals(lg_k, histogram.counts[0] as u32, units))
 }
 
-/// The estimate of registers of the caller.
+/// Returns the estimate of caller-owned registers.
 pub(crate) fn estimate_of_bytes(registers: &[u8]) -> Result<HllEstimate, Error>
     ensures ok { IfOk result (SaysEstimateOfBytes registers.now) }
     ensures err { IfErr result (RefusesRegisters registers.now) }

@@ -1,5 +1,5 @@
 // SPDX-License-Identifier: Apache-2.0
-//! Byte strings of one length, without ends: concatenated, so each begins at a multiple of that length.
+//! Byte strings of one length, without ends: they are concatenated, so each begins at a multiple of that length.
 ghost use Rattle.std.specs.Prelude.{◌≡◌, ◌^◌, ◌≤◌, ◌<◌, ◌/◌, ◌++◌, length, drop, map, IfSome, IfNone};
 ghost use Rattle.hll_base.specs.Join.{join};
 ghost use Rattle.hll_coupons.specs.Fold.{fold_to};
@@ -15,8 +15,8 @@ use hll_base::error::Reason;
 use hll_coupons::coupon::Coupon;
 use hll_sketch::max_coupon;
 
-/// Returns how many strings of `value_len` bytes there are in `size` bytes. `None` where `value_len` is 0, or does not divide
-/// `size`.
+/// Returns how many strings of `value_len` bytes there are in `size` bytes. Returns `None` if `value_len` is 0, or does not
+/// divide `size`.
 fn count_of(size: usize, value_len: usize) -> Option<usize>
     ensures some { IfSome result (λ n. AreOfLength size value_len × (n ≡ size / value_len)) }
     ensures none { IfNone result (AreOfLength size value_len → ⊥) }
@@ -27,7 +27,7 @@ fn count_of(size: usize, value_len: usize) -> Option<usize>
     Some(size / value_len)
 }
 
-/// Puts the raw coupons of strings of one length.
+/// Writes the raw coupons of strings of one length into `coupons`.
 pub(crate) fn put_coupons(values: &[u8], value_len: usize, coupons: &mut [u32]) -> u8
     ensures { PutsCouponsOf (AreOfLength (length values.now) value_len) (strings_of_length value_len values.now) coupons.old coupons.new result }
 {
@@ -41,7 +41,7 @@ pub(crate) fn put_coupons(values: &[u8], value_len: usize, coupons: &mut [u32]) 
     OK
 }
 
-/// Writes the raw coupons of so many strings of one length to the front of `coupons`.
+/// Writes the raw coupons of `count` strings of one length into the first elements of `coupons`.
 fn put_each(values: &[u8], value_len: usize, count: usize, coupons: &mut [u32])
     requires some { 0 < value_len }
     requires count { count ≡ length values.now / value_len }
@@ -54,7 +54,7 @@ fn put_each(values: &[u8], value_len: usize, count: usize, coupons: &mut [u32])
     }
 }
 
-/// Joins the coupons of strings of one length into registers of the caller.
+/// Adds the coupons of strings of one length to caller-owned registers.
 pub(crate) fn add(registers: &mut [u8], values: &[u8], value_len: usize) -> u8
     ensures { AddsStrings (AreOfLength (length values.now) value_len) (strings_of_length value_len values.now) registers.old registers.new result }
 {
@@ -68,7 +68,7 @@ pub(crate) fn add(registers: &mut [u8], values: &[u8], value_len: usize) -> u8
     OK
 }
 
-/// Joins the coupons of so many strings of one length into registers.
+/// Adds the coupons of `count` strings of one length to registers.
 fn max_each(registers: &mut [u8], lg_k: u8, values: &[u8], value_len: usize, count: usize)
     requires lg_k { IsLgKOf registers.old lg_k }
     requires some { 0 < value_len }

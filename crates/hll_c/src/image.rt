@@ -1,5 +1,5 @@
 // SPDX-License-Identifier: Apache-2.0
-//! What the calls make of images.
+//! The calls over images.
 ghost use Rattle.std.specs.Prelude.{◌≡◌, ◌≢◌, ◌^◌, ◌≤◌, ◌⊎◌, ◌↔◌, ◌∷◌, [], Bool, true, min, length, map, IsTrue, IfSome, IfOk, IfErr, OnOk, OnErr};
 ghost use Rattle.hll_base.specs.declared.error.Reason.TheVariants as reasons;
 ghost use Rattle.hll_coupons.specs.Hashed.{coupon_of_bytes};
@@ -34,13 +34,13 @@ use hll_sketch::{
 };
 use std::alloc::Global;
 
-/// The byte strings whose coupons are found before they are added to a sketch.
+/// The number of byte strings whose coupons are computed before they are added to a sketch.
 const BLOCK: usize = 128;
 
-/// The byte of an image that has the stage and the width.
+/// The index of the byte of an image that has the stage and the width.
 const MODE_BYTE: usize = 7;
 
-/// Reads the registers of the image with this number. Where it is refused by a check, `failed` is its number.
+/// Reads the registers of the image with this number. If the image fails a check, `failed` becomes its number.
 fn read_registers<'a>(
     alloc: Global,
     image: &'a [u8],
@@ -56,7 +56,7 @@ fn read_registers<'a>(
     }
 }
 
-/// Tests the image with this number. Where it is refused by a check, `failed` is its number.
+/// Checks the image with this number. If it fails a check, `failed` becomes its number.
 fn check_at(alloc: Global, image: &[u8], number: usize, failed: &mut usize) -> Result<(), Error>
     ensures ok { OnOk result (((x : Sketch) × IsReadAs image.now x) × (failed.new ≡ failed.old)) }
     ensures err { IfErr result (λ e. IsRefusedAt image.now number failed.old failed.new e) }
@@ -67,7 +67,7 @@ fn check_at(alloc: Global, image: &[u8], number: usize, failed: &mut usize) -> R
     }
 }
 
-/// The error. Where it is one of the image with this number, and not want of memory, `failed` is that number.
+/// Returns the error. Unless it is `Memory`, it is an error of the image with this number, and `failed` becomes that number.
 fn refused_at(e: Error, number: usize, failed: &mut usize) -> Error
     ensures same { result ≡ e }
     ensures reported { ((e ≡ reasons.Memory) × (failed.new ≡ failed.old)) ⊎ ((e ≢ reasons.Memory) × (failed.new ≡ number)) }
@@ -78,7 +78,7 @@ fn refused_at(e: Error, number: usize, failed: &mut usize) -> Error
     e
 }
 
-/// Whether the bytes begin with an image.
+/// Checks whether the bytes begin with an image.
 pub(crate) fn check(alloc: Global, image: &[u8]) -> Result<(), Error>
     ensures ok { OnOk result ((x : Sketch) × IsReadAs image.now x) }
     ensures err { IfErr result (λ e. RefusesTested image.now e) }
@@ -86,7 +86,7 @@ pub(crate) fn check(alloc: Global, image: &[u8]) -> Result<(), Error>
     HllSketch::check(alloc, image)
 }
 
-/// The empty sketch.
+/// Returns an empty sketch. Fails with `Argument` if `lg_k` or `width` is out of range, or with `Memory`.
 pub(crate) fn empty(alloc: Global, lg_k: u32, width: u32) -> Result<HllSketch, Error>
     ensures ok { IfOk result (λ s. IsEmptyAt lg_k width (sketch_of s)) }
     ensures err { IfErr result (λ e. RefusesArguments (AreNewArguments lg_k width) e) }
@@ -95,7 +95,7 @@ pub(crate) fn empty(alloc: Global, lg_k: u32, width: u32) -> Result<HllSketch, E
     HllSketch::new(alloc, lg_k, width_of(width)?)
 }
 
-/// The sketch with a coupon.
+/// Returns the sketch of the image with one more coupon.
 pub(crate) fn with_coupon(
     alloc: Global,
     image: &[u8],
@@ -113,14 +113,15 @@ pub(crate) fn with_coupon(
     Ok(sketch)
 }
 
-/// Whether a coupon may have this slot and value.
+/// Returns whether a coupon may have this slot and value.
 fn are_of_coupon(slot: u32, value: u32) -> bool
     ensures { IsTrue result ↔ AreOfCoupon slot value }
 {
     slot < 1 << SLOT_BITS && 0 < value && value <= u32::from(MAX_VALUE)
 }
 
-/// The image with the coupons of the byte strings that end at `ends`, its fields set where its state is cleared.
+/// Returns the image with the coupons of the byte strings that are delimited by `ends`, with its estimator fields set if its
+/// estimate state is cleared.
 pub(crate) fn with_values(
     alloc: Global,
     image: &[u8],
@@ -139,9 +140,9 @@ pub(crate) fn with_values(
     }
 }
 
-/// The image of coupons with those of 1 to `BLOCK` byte strings, without a table. `None` for another number of strings, or where
-/// `coupon_image_with` makes none.
-// (a caller that had the room among its own values would clear it for registers too)
+/// Returns an image of coupons with the coupons of 1 to `BLOCK` byte strings, without making a table. Returns `None` for
+/// another number of strings, for a register image, or if `coupon_image_with` returns `None`.
+// (not inlined: a caller that had the room among its own values would clear it for registers too)
 #[inline(never)]
 fn coupon_image_with_values(
     alloc: Global,
@@ -162,7 +163,7 @@ fn coupon_image_with_values(
     coupon_image_with(alloc, image, &mut raw_coupons[..ends.len()])
 }
 
-/// The sketch with the coupons of the byte strings that end at `ends`.
+/// Returns the sketch of the image with the coupons of the byte strings that are delimited by `ends`.
 fn sketch_with_values(
     alloc: Global,
     image: &[u8],
@@ -196,7 +197,7 @@ fn add_values(sketch: &mut HllSketch, values: &[u8], ends: &[usize]) -> Result<(
     Ok(())
 }
 
-/// The image of the union of two images.
+/// Returns the image of the union of two images.
 pub(crate) fn merged(
     alloc: Global,
     lg_max_k: u32,
@@ -215,7 +216,7 @@ pub(crate) fn merged(
     }
 }
 
-/// The union of two images, its fields set where its state is cleared.
+/// Returns the union of two images, with its estimator fields set if its estimate state is cleared.
 fn union_of_two(
     alloc: Global,
     lg_max_k: u32,
@@ -235,8 +236,8 @@ fn union_of_two(
     read_out(union, width)
 }
 
-/// The sketch of a union at a width, its fields set where its state is cleared: before the width changes, as the sums are
-/// made fastest of registers of eight bits.
+/// Returns the sketch of a union at a width, with its estimator fields set if its estimate state is cleared. The fields are set
+/// before the width changes, as the sums are computed fastest from 8-bit registers.
 fn read_out(union: UnionBuilder, width: HllType) -> Result<HllSketch, Error>
     ensures ok { IfOk result (λ s. FillsFields (record (whole_gadget union) { width = width }) (sketch_of s)) }
     ensures err { IfErr result (λ e. e ≡ reasons.Memory) }
@@ -246,7 +247,8 @@ fn read_out(union: UnionBuilder, width: HllType) -> Result<HllSketch, Error>
     sketch.into_width(width)
 }
 
-/// The union of the images that end at `ends`, its fields set where its state is cleared.
+/// Returns the union of the images that are delimited by `ends`, with its estimator fields set if its estimate state is
+/// cleared.
 pub(crate) fn union_of_batch(
     alloc: Global,
     lg_max_k: u32,
@@ -288,7 +290,7 @@ fn merge_in_all(
     Ok(())
 }
 
-/// The union of images that need not be contiguous, its fields set where its state is cleared.
+/// Returns the union of images that need not be contiguous, with its estimator fields set if its estimate state is cleared.
 pub(crate) fn union_of_parts(
     alloc: Global,
     lg_max_k: u32,
@@ -321,7 +323,7 @@ fn merge_in_parts(
     Ok(())
 }
 
-/// Merges the image of this number into a union.
+/// Merges the image with this number into a union.
 fn merge_in(
     union: &mut UnionBuilder,
     image: &[u8],
@@ -337,7 +339,7 @@ fn merge_in(
     }
 }
 
-/// The sketch folded to an `lg_k`.
+/// Returns the sketch of the image, folded to an `lg_k`.
 pub(crate) fn folded(alloc: Global, image: &[u8], lg_k: u32) -> Result<HllSketch, Error>
     ensures ok { IfOk result (λ s. IsMadeOf image.now (IsFoldOf lg_k) (sketch_of s)) }
     ensures err { IfErr result (λ e. RefusesFold lg_k image.now e) }
@@ -346,7 +348,7 @@ pub(crate) fn folded(alloc: Global, image: &[u8], lg_k: u32) -> Result<HllSketch
     HllSketch::deserialize(alloc, image)?.folded(target)
 }
 
-/// The image at the width that a number asks for, which for 0 is its own.
+/// Returns the image at the width that a number asks for. 0 asks for the image's own width.
 pub(crate) fn converted(alloc: Global, image: &[u8], width: u32) -> Result<Vec<u8>, Error>
     ensures ok { IfOk result (λ written. IsImageOf (WithFields (IsMadeOf image.now (IsAtWidth width))) written.items) }
     ensures err { IfErr result (λ e. RefusesWith (AsksWidth width) image.now e) }
@@ -361,7 +363,7 @@ pub(crate) fn converted(alloc: Global, image: &[u8], width: u32) -> Result<Vec<u
     }
 }
 
-/// The sketch at a width.
+/// Returns the sketch of the image at a width.
 fn sketch_at(alloc: Global, image: &[u8], width: HllType) -> Result<HllSketch, Error>
     ensures ok { IfOk result (λ s. IsMadeOf image.now (HasWidth width) (sketch_of s)) }
     ensures err { IfErr result (λ e. RefusesImage image.now e) }
@@ -369,8 +371,8 @@ fn sketch_at(alloc: Global, image: &[u8], width: HllType) -> Result<HllSketch, E
     HllSketch::deserialize(alloc, image)?.into_width(width)
 }
 
-/// The width in the header of an image. Of bytes that are no image it is that of their mode byte, or of a 0 where they have
-/// none.
+/// Returns the width in the header of an image. For bytes that are not an image it is the width that their mode byte says, or 4
+/// bits if they have no mode byte.
 fn width_in_header(image: &[u8]) -> HllType
     ensures { result ≡ width_of_bits (width_bits image.now) }
 {
@@ -384,7 +386,7 @@ fn width_in_header(image: &[u8]) -> HllType
     }
 }
 
-/// The sketch with the fields from which a composite estimator computes.
+/// Returns the sketch of the image with its estimator fields set.
 pub(crate) fn with_estimator_fields(alloc: Global, image: &[u8]) -> Result<HllSketch, Error>
     ensures ok { IfOk result (λ s. IsMadeOf image.now SetsFields (sketch_of s)) }
     ensures err { IfErr result (λ e. RefusesImage image.now e) }
@@ -394,7 +396,7 @@ pub(crate) fn with_estimator_fields(alloc: Global, image: &[u8]) -> Result<HllSk
     Ok(sketch)
 }
 
-/// The image with its state cleared.
+/// Returns the image with its estimate state cleared.
 pub(crate) fn without_estimator_fields(alloc: Global, image: &[u8]) -> Result<Vec<u8>, Error>
     ensures ok { IfOk result (λ written. IsImageOf (IsMadeOf image.now IsCleared) written.items) }
     ensures err { IfErr result (λ e. RefusesImage image.now e) }
@@ -404,7 +406,7 @@ pub(crate) fn without_estimator_fields(alloc: Global, image: &[u8]) -> Result<Ve
     sketch.serialize()
 }
 
-/// How many of the bytes are the image that they begin with.
+/// Returns the size in bytes of the image that the bytes begin with.
 pub(crate) fn size(alloc: Global, image: &[u8]) -> Result<usize, Error>
     ensures ok { IfOk result (IsSizeOfImage image.now) }
     ensures err { IfErr result (λ e. RefusesTested image.now e) }
@@ -413,7 +415,7 @@ pub(crate) fn size(alloc: Global, image: &[u8]) -> Result<usize, Error>
     Ok(size_of_image(image))
 }
 
-/// Whether two images fold to the same registers at the smaller `lg_k` of both: 1 if they do, else 0.
+/// Returns 1 if two images fold to the same registers at the smaller `lg_k` of both, else 0.
 pub(crate) fn agree(
     alloc: Global,
     left: &[u8],
@@ -423,7 +425,7 @@ pub(crate) fn agree(
     ensures ok { IfOk result (λ same. SaysAgreement left.now right.now failed.old failed.new same) }
     ensures err { IfErr result (λ e. RefusesImages (Unit {0}) (left.now ∷ right.now ∷ []) failed.old failed.new e) }
 {
-    // the same bytes are read as the same sketch
+    // equal bytes are read as the same sketch
     if left == right {
         check_at(alloc, left, 0, failed)?;
         return Ok(1);

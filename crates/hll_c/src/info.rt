@@ -19,7 +19,7 @@ use hll_sketch::image_registers::registers_of_image;
 use hll_sketch::{HllSketch, Mode, RegisterTotals, image_of_coupons, register_totals};
 use std::alloc::Global;
 
-/// The bytes of `HllInfo`.
+/// The size of `HllInfo` in bytes.
 const INFO_SIZE: usize = 64;
 
 /// The stage of a list.
@@ -29,43 +29,43 @@ const SET: u8 = 1;
 /// The stage of registers.
 const REGISTERS: u8 = 2;
 
-/// What an image says. What its stage doesn't have is 0.
+/// What an image says. Fields that its stage doesn't have are 0.
 #[repr(C)]
 #[derive(Clone, Copy)]
 pub struct HllInfo {
-    /// Of a list or a set: how many coupons.
+    /// Of a list or a set: the number of coupons.
     pub coupons: u64,
-    /// Of registers: how many are 0.
+    /// Of registers: the number of registers that are 0.
     pub zeros: u64,
-    /// Of registers: the sum of 2^(63 - value), its bits from the 64th on.
+    /// Of registers: the upper half of the sum of 2^(63 - value), which has 128 bits.
     pub units_high: u64,
-    /// The lower 64 bits of that sum.
+    /// The lower half of that sum.
     pub units_low: u64,
-    /// Of registers: the three fields of an estimator, as the bits of binary64.
+    /// Of registers: the three estimator fields (hipAccum, kxq0, kxq1), as the bits of binary64.
     pub hip: u64,
     pub kxq0: u64,
     pub kxq1: u64,
     /// The logarithm of the number of registers, 4 to 21.
     pub lg_k: u8,
-    /// 4, 6 or 8 bits.
+    /// The width of a register: 4, 6 or 8 bits.
     pub width: u8,
-    /// 0, 1 and 2: a list, a set, registers.
+    /// 0 for a list, 1 for a set, 2 for registers.
     pub stage: u8,
-    /// 1 where there is no coupon, and each register is 0.
+    /// 1 if there is no coupon and no register above 0, else 0.
     pub is_empty: u8,
-    /// 1 where registers have the out-of-order flag.
+    /// Of registers: 1 if they have the out-of-order flag, else 0.
     pub out_of_order: u8,
 }
 
-/// How many registers have each value.
+/// The number of registers with each value.
 #[repr(C)]
 #[derive(Clone, Copy)]
 pub struct HllHistogram {
-    /// By value, 0 to 63; all together 2^`lg_k`.
+    /// By value, 0 to 63. The sum of all counts is 2^`lg_k`.
     pub counts: [u64; 64],
 }
 
-/// The bits of a width.
+/// Returns a width as a number of bits.
 fn bits_of(width: HllType) -> u8
     ensures { result ≡ calls.bits_of width }
 {
@@ -76,7 +76,7 @@ fn bits_of(width: HllType) -> u8
     }
 }
 
-/// What an image of coupons says.
+/// Returns what an image of coupons says.
 fn info_of_coupons(image: ImageOfCoupons) -> HllInfo
     ensures { (x : Sketch) → IsTableOf image.lg_k image.hll_type image.lg_size image.count x → IsInfoOf x result }
 {
@@ -100,7 +100,7 @@ fn info_of_coupons(image: ImageOfCoupons) -> HllInfo
     }
 }
 
-/// What the coupons of a sketch say, in a table of this size.
+/// Returns what the coupons of a sketch say that are in a table of 2^`lg_size` buckets.
 fn info_of_table(sketch: &HllSketch, lg_size: usize) -> HllInfo
     requires content { (S : Pairs) × (content_in sketch.now.layout ≡ values.coupons S lg_size) }
     requires small { lg_size ≤ 26 }
@@ -114,7 +114,7 @@ fn info_of_table(sketch: &HllSketch, lg_size: usize) -> HllInfo
     })
 }
 
-/// What the coupons of a sketch say.
+/// Returns what the coupons of a sketch say.
 fn info_of_sketch(sketch: &HllSketch) -> HllInfo
     requires { in_registers (content_in sketch.now.layout) ≡ false }
     ensures { IsInfoOf (sketch_of sketch.now) result }
@@ -126,7 +126,7 @@ fn info_of_sketch(sketch: &HllSketch) -> HllInfo
     }
 }
 
-/// What registers say, by their totals.
+/// Returns what registers say, by their totals.
 fn info_of_registers(totals: RegisterTotals) -> HllInfo
     ensures { (image : List ℕ) → AreTotalsOf image totals → SaysInfo image result }
 {
@@ -146,7 +146,7 @@ fn info_of_registers(totals: RegisterTotals) -> HllInfo
     }
 }
 
-/// What an image says, where the caller's structure has the size of ours.
+/// Returns what an image says. Fails with `Argument` if `size` is not the size of `HllInfo`.
 pub(crate) fn info_of(alloc: Global, image: &[u8], size: usize) -> Result<HllInfo, Error>
     ensures ok { IfOk result (λ i. SaysInfo image.now i) }
     ensures err { IfErr result (λ e. RefusesInfo (size ≡ 64) image.now e) }
@@ -163,7 +163,7 @@ pub(crate) fn info_of(alloc: Global, image: &[u8], size: usize) -> Result<HllInf
     }
 }
 
-/// How many registers have each value from 0 to 63.
+/// Counts the registers with each value from 0 to 63.
 pub(crate) fn counts_of(registers: &[u8]) -> [u64; 64]
     requires { length registers.now < 2 ^ 64 }
     ensures { AreCountsOf registers.now result }
@@ -177,7 +177,7 @@ pub(crate) fn counts_of(registers: &[u8]) -> [u64; 64]
     counts
 }
 
-/// How many registers of an image have each value.
+/// Counts the registers of an image with each value.
 pub(crate) fn histogram_of(alloc: Global, image: &[u8]) -> Result<HllHistogram, Error>
     ensures ok { IfOk result (λ h. SaysHistogram image.now h) }
     ensures err { IfErr result (λ e. RefusesImage image.now e) }

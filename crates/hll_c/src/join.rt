@@ -1,5 +1,5 @@
 // SPDX-License-Identifier: Apache-2.0
-//! Images and states joined to states of counters.
+//! Merges images and states into states of counters.
 ghost use Rattle.std.specs.Prelude.{◌≡◌, ◌*◌, ◌≤◌, ◌<◌, ◌^◌, ◌↔◌, ◌==◌, not, IsTrue, IfSome, IfNone, length, drop};
 ghost use Rattle.hll_sketch.specs.BorrowedImage.{sketch_of_borrowed};
 ghost use Rattle.hll_state.specs.Memory.{HasHeader, IsOnlyRead};
@@ -15,10 +15,10 @@ use hll_state::join::{Joined, bit_of};
 use hll_state::memory::{close, open, resolve};
 use std::alloc::Global;
 
-/// The sketch has another `lg_k` than the state, and no bound was given.
+/// The code of a call if the sketch has another `lg_k` than the state, and no bound was given.
 const OTHER_LG_K: u8 = 16;
 
-/// Joins the sketch of an image to a state.
+/// Merges the sketch of an image into a state.
 pub(crate) fn join_image(
     alloc: Global,
     lg_max_k: u32,
@@ -40,7 +40,7 @@ pub(crate) fn join_image(
     }
 }
 
-/// Joins the sketch of another state, whose meaning stays.
+/// Merges the sketch of another state into a state. The sketch of the other state is unchanged.
 pub(crate) fn join_state(
     lg_max_k: u32,
     state: &mut [[u8; 4]],
@@ -62,7 +62,7 @@ pub(crate) fn join_state(
     }
 }
 
-/// Joins a sketch to a state, whose header was read, and writes its header.
+/// Merges a sketch into a state whose header was read, and writes its header.
 fn join(
     mut header: Header,
     lg_max_k: u32,
@@ -89,7 +89,8 @@ fn join(
     }
 }
 
-/// Reads the header of a state, if an `lg_max_k` is 0 or a bound for it.
+/// Reads the header of a state. Returns `None` if the elements are not a state, or if `lg_max_k` is neither 0 nor a bound for
+/// it.
 fn open_under(state: &[[u8; 4]], lg_max_k: u32) -> Option<Header>
     ensures some { IfSome result (λ h. HasHeader state.now h × IsBoundFor lg_max_k h.lg_k) }
     ensures none { IfNone result (IsStateUnder lg_max_k state.now → ⊥) }
@@ -102,7 +103,7 @@ fn open_under(state: &[[u8; 4]], lg_max_k: u32) -> Option<Header>
     }
 }
 
-/// Whether an `lg_max_k` is 0, or an `lg_k` of at least that of a state.
+/// Returns whether `lg_max_k` is 0, or an `lg_k` of at least the state's.
 fn is_bound(lg_max_k: u32, lg_k: u8) -> bool
     ensures { IsTrue result ↔ IsBoundFor lg_max_k lg_k }
 {

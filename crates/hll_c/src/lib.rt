@@ -1,15 +1,17 @@
 // SPDX-License-Identifier: Apache-2.0
-//! The library for C: calls over images, and over registers of the caller, which keep nothing. bindings/c/hll.h says what
-//! each call owes its caller, and docs/MODEL.md, "Calls over images", what the contracts say.
+//! The library for C: calls over images, caller-owned registers and states. It keeps nothing between calls. bindings/c/hll.h
+//! says what each call does and what its caller must ensure; docs/MODEL.md, "Calls over images", says what the contracts say.
 //!
-//! Each returns 0, the number of a reason (docs/FORMAT.md, "Reasons"), 14 if a buffer is too small, 15 if what is merged has
-//! fewer registers than the caller, or 16 if sketches to be joined have different `lg_k` and no bound was given. With 14 `size`
-//! is the size needed, and with 15 `coarser` is the other `lg_k`. On every code but 0 what was borrowed is otherwise as it was,
-//! but for `failed`, the number of the image that failed a check, from 0; of a state the meaning is as it was, and its bytes may
-//! change. An `lg_k` is 4 to 21, a width 4, 6 or 8 bits. Arguments out of range are `Argument`, before any image is read.
-//! Registers that are written get the fields of an estimator where their state is cleared; another state, as an image may bring
-//! it, stays. Memory is taken by `malloc` while a call runs, for the sketches of its images and for the answer; if it is refused,
-//! the reason is `Memory`.
+//! Each call but `hll_coupon` returns 0, the number of a reason (docs/FORMAT.md, "Reasons"), 14 if a buffer is too small, 15 if
+//! the sketch to be merged has fewer registers than the caller, or 16 if sketches to be merged have different `lg_k` and no
+//! bound was given. With 14, `size` is the size needed; with 15, `coarser` is the other `lg_k`. On every code but 0 everything
+//! else is unchanged, with two exceptions: `failed` is then the number of the image that failed a check, counted from 0, and
+//! the bytes of a state may change, but not its sketch.
+//!
+//! An `lg_k` is 4 to 21, a width 4, 6 or 8 bits. An argument out of range is `Argument`, before any image is read, except for a
+//! fold above the image's `lg_k`. A register image whose estimate state is cleared is written with its estimator fields set;
+//! any other estimate state that was read from an image is kept. A call allocates with `malloc`, for the sketches of its images
+//! and for its result, and frees all of it before it returns. If an allocation fails, the reason is `Memory`.
 #![tactic(auto)]
 
 ghost use Rattle.std.specs.Prelude.{◌≡◌, ◌∷◌, [], ℕ, length, map};
@@ -48,11 +50,12 @@ use crate::info::{HllHistogram, HllInfo};
 use hll_coupons::coupon::Coupon;
 use std::alloc::Global;
 
-/// What an image says: `lg_k`, width, stage, its coupons, or the sums and fields of its registers. `size` is that of the
-/// caller's structure, in bytes.
+/// Writes what an image says into `info`: its `lg_k`, width and stage, the number of its coupons, or the sums and estimator
+/// fields of its registers. `size` is the size of the caller's structure in bytes.
 ///
-/// Answers `Argument` where that is not 64, the reason of the first check that the bytes fail, or `Memory`. Takes memory for
-/// the exceptions of registers of four bits, and for coupons, but not for those of a compact image that ascend or are at most 128.
+/// Returns `Argument` if `size` is not 64, the reason of the first check that the bytes fail, or `Memory`. Allocates a map for
+/// the exceptions of 4-bit registers, and a table for coupons, except for coupons of a compact image that ascend or are at most
+/// 128.
 #[unsafe(no_mangle)]
 pub extern "C" fn hll_image_info(alloc: Global, image: &[u8], info: &mut HllInfo, size: usize) -> u8
     ensures { Reports HllInfo (SaysInfo image.now) (RefusesInfo (size ≡ 64) image.now) info.old info.new result }
@@ -60,10 +63,10 @@ pub extern "C" fn hll_image_info(alloc: Global, image: &[u8], info: &mut HllInfo
     report(info::info_of(alloc, image, size), info)
 }
 
-/// The estimate of an image of registers, as the bits of the nearest number of binary64, with how many registers there are and
-/// how many of them are above 0; of an image of coupons, how many there are.
+/// Writes the estimate of an image into `estimate`. For registers it is the bits of the nearest binary64 number, with the
+/// number of registers and how many of them are above 0. For coupons it is their number.
 ///
-/// Answers the reason of the first check that the bytes fail, or `Memory`. Takes memory as `hll_image_info` does.
+/// Returns the reason of the first check that the bytes fail, or `Memory`. Allocates as `hll_image_info` does.
 #[unsafe(no_mangle)]
 pub extern "C" fn hll_estimate(alloc: Global, image: &[u8], estimate: &mut HllEstimate) -> u8
     ensures { Reports HllEstimate (SaysEstimate image.now) (RefusesInfo (Unit {0}) image.now) estimate.old estimate.new result }
@@ -71,10 +74,11 @@ pub extern "C" fn hll_estimate(alloc: Global, image: &[u8], estimate: &mut HllEs
     report(estimate::estimate_of_image(alloc, image), estimate)
 }
 
-/// Whether bytes begin with an image; else the reason of the first check that they fail (docs/FORMAT.md, "Order of checks").
+/// Checks whether the bytes begin with an image.
 ///
-/// Answers `Memory` too. Allocates a table of coupons, but not for coupons that are 1 to 128, or ascend in a compact image; and
-/// a map for the exceptions of registers of four bits, where they have some.
+/// Returns the reason of the first check that they fail (docs/FORMAT.md, "Order of checks"), or `Memory`. Allocates a table for
+/// coupons, except for 1 to 128 coupons or for coupons that ascend in a compact image; and a map for the exceptions of 4-bit
+/// registers, if there are any.
 #[unsafe(no_mangle)]
 pub extern "C" fn hll_image_check(alloc: Global, image: &[u8]) -> u8
     ensures { Tests ((x : Sketch) × IsReadAs image.now x) (RefusesTested image.now) result }
@@ -82,9 +86,9 @@ pub extern "C" fn hll_image_check(alloc: Global, image: &[u8]) -> u8
     code_of(image::check(alloc, image))
 }
 
-/// How many of the bytes are the image that they begin with.
+/// Writes the size in bytes of the image that the bytes begin with into `size`.
 ///
-/// Answers the reason of the first check that the bytes fail, or `Memory`, as `hll_image_check` does.
+/// Returns the reason of the first check that the bytes fail, or `Memory`. Allocates as `hll_image_check` does.
 #[unsafe(no_mangle)]
 pub extern "C" fn hll_image_size(alloc: Global, image: &[u8], size: &mut usize) -> u8
     ensures { Reports ℕ (IsSizeOfImage image.now) (RefusesTested image.now) size.old size.new result }
@@ -92,11 +96,12 @@ pub extern "C" fn hll_image_size(alloc: Global, image: &[u8], size: &mut usize) 
     report(image::size(alloc, image), size)
 }
 
-/// How many registers have each value from 0 to 63, at the image's `lg_k`; coupons count as the registers they fold to.
+/// Counts the registers of an image with each value from 0 to 63, at the image's `lg_k`. Coupons count as the registers that
+/// they fold to.
 ///
-/// Answers the reason of the first check that the bytes fail, or `Memory`. Takes memory for a byte a register; for the
-/// exceptions of registers of four bits; and for a table of coupons, but not for coupons of a compact image that ascend or are
-/// at most 128.
+/// Returns the reason of the first check that the bytes fail, or `Memory`. Allocates one byte for each register; a map for the
+/// exceptions of 4-bit registers; and a table for coupons, except for coupons of a compact image that ascend or are at most
+/// 128.
 #[unsafe(no_mangle)]
 pub extern "C" fn hll_image_histogram(
     alloc: Global,
@@ -108,9 +113,9 @@ pub extern "C" fn hll_image_histogram(
     report(info::histogram_of(alloc, image), histogram)
 }
 
-/// The image of an empty sketch, which has the width of the registers to come.
+/// Writes the image of an empty sketch into `out`. `width` is the width that its registers will have.
 ///
-/// Answers `Argument` for an `lg_k` or a width out of range, or `Memory`.
+/// Returns `Argument` if `lg_k` or `width` is out of range, or `Memory`.
 #[unsafe(no_mangle)]
 pub extern "C" fn hll_image_new(
     alloc: Global,
@@ -124,10 +129,11 @@ pub extern "C" fn hll_image_new(
     put_image(image::empty(alloc, lg_k, width), out, size)
 }
 
-/// The image with the values that stand in `values` up to each of `ends`; an empty one is a value like any other.
+/// Writes the image with more values into `out`: byte strings that are concatenated in `values` and delimited by `ends`. The
+/// empty string is a value like any other.
 ///
-/// Answers `Argument` for ends that descend or go past the values, the reason of the first check that the image fails, or
-/// `Memory`. Takes memory for its sketch and the answer.
+/// Returns `Argument` if ends descend or an end is after the last byte of `values`, the reason of the first check that the
+/// image fails, or `Memory`. Allocates its sketch and the written image.
 #[unsafe(no_mangle)]
 pub extern "C" fn hll_image_add(
     alloc: Global,
@@ -142,10 +148,10 @@ pub extern "C" fn hll_image_add(
     put_bytes(image::with_values(alloc, image, values, ends), out, size)
 }
 
-/// The image with a coupon of a slot below 2^26 and a value of 1 to 63.
+/// Writes the image with one more coupon into `out`: a slot below 2^26, and a value from 1 to 63.
 ///
-/// Answers `Argument` for others, the reason of the first check that the image fails, or `Memory`. Takes memory for its
-/// sketch and the answer.
+/// Returns `Argument` if the slot or the value is out of range, the reason of the first check that the image fails, or
+/// `Memory`. Allocates its sketch and the written image.
 #[unsafe(no_mangle)]
 pub extern "C" fn hll_image_add_coupon(
     alloc: Global,
@@ -160,11 +166,11 @@ pub extern "C" fn hll_image_add_coupon(
     put_image(image::with_coupon(alloc, image, slot, value), out, size)
 }
 
-/// The image of the union of two images under a bound of the `lg_k`, at a width.
+/// Writes the image of the union of two images into `out`, at a width. `lg_max_k` is the bound of its `lg_k`.
 ///
-/// Answers `Argument` for a bound or a width out of range (a width of 0 too, here and in the calls on more images), the reason
-/// of the first check that the first faulty image fails, with its number in `failed`, or `Memory`. Takes memory for one of
-/// their sketches, the union and the answer.
+/// Returns `Argument` if `lg_max_k` or `width` is out of range (a width of 0 is, here and in the unions below), the reason of
+/// the first check that the first faulty image fails, with the number of that image in `failed`, or `Memory`. Allocates one of
+/// their sketches, the union and the written image.
 #[unsafe(no_mangle)]
 pub extern "C" fn hll_image_merge(
     alloc: Global,
@@ -185,11 +191,11 @@ pub extern "C" fn hll_image_merge(
     )
 }
 
-/// The image of the union, under a bound of the `lg_k` and at a width, of the images that stand in `images` up to each of
-/// `ends`; of none the empty sketch.
+/// Writes the image of the union of any number of images into `out`, at a width. The images are concatenated in `images` and
+/// delimited by `ends`. `lg_max_k` is the bound of the union's `lg_k`. The union of no images is the empty sketch.
 ///
-/// Answers as `hll_image_merge`, and `Argument` also for ends that descend or go past the images. Takes memory for one sketch
-/// at a time, the union and the answer.
+/// Returns what `hll_image_merge` does, and `Argument` also if ends descend or an end is after the last byte of `images`.
+/// Allocates one sketch at a time, the union and the written image.
 #[unsafe(no_mangle)]
 pub extern "C" fn hll_images_union(
     alloc: Global,
@@ -210,10 +216,10 @@ pub extern "C" fn hll_images_union(
     )
 }
 
-/// The image of the union, under a bound of the `lg_k` and at a width, of images that need not be contiguous; of none
-/// the empty sketch.
+/// Writes the image of the union of any number of images into `out`, at a width. The images need not be contiguous. `lg_max_k`
+/// is the bound of the union's `lg_k`. The union of no images is the empty sketch.
 ///
-/// Answers as `hll_image_merge`. Takes memory for one sketch at a time, the union and the answer.
+/// Returns what `hll_image_merge` does. Allocates one sketch at a time, the union and the written image.
 #[unsafe(no_mangle)]
 pub extern "C" fn hll_images_unionv(
     alloc: Global,
@@ -233,10 +239,10 @@ pub extern "C" fn hll_images_unionv(
     )
 }
 
-/// The image folded to an `lg_k` of 4 to its own (docs/MODEL.md, "Folding").
+/// Writes the image folded to an `lg_k` from 4 to its own into `out` (docs/MODEL.md, "Folding").
 ///
-/// Answers `Argument` for another, the reason of the first check that the image fails, or `Memory`. Takes memory for its
-/// sketch, the fold and the answer.
+/// Returns `Argument` if `lg_k` is out of that range, the reason of the first check that the image fails, or `Memory`.
+/// Allocates its sketch, the folded sketch and the written image.
 #[unsafe(no_mangle)]
 pub extern "C" fn hll_image_fold(
     alloc: Global,
@@ -250,10 +256,11 @@ pub extern "C" fn hll_image_fold(
     put_image(image::folded(alloc, image, lg_k), out, size)
 }
 
-/// The image at a width, with the state of its registers. A width of 0 is the image's own.
+/// Writes the image at another width into `out`, and keeps the estimate state of its registers. A width of 0 is the image's
+/// own.
 ///
-/// Answers `Argument` for a width that is neither one nor 0, the reason of the first check that the image fails, or `Memory`. Takes memory
-/// for its sketch, at another width for one of that, and for the answer.
+/// Returns `Argument` if `width` is not 0, 4, 6 or 8, the reason of the first check that the image fails, or `Memory`.
+/// Allocates its sketch, a sketch of the other width, and the written image.
 #[unsafe(no_mangle)]
 pub extern "C" fn hll_image_convert(
     alloc: Global,
@@ -267,10 +274,10 @@ pub extern "C" fn hll_image_convert(
     put_bytes(image::converted(alloc, image, width), out, size)
 }
 
-/// The image with the fields set from which a composite estimator computes (docs/FORMAT.md, "Estimator fields"); a list or a
-/// set stays as it is.
+/// Writes the image with its estimator fields set into `out` (docs/FORMAT.md, "Estimator fields"). The sketch of a list or a
+/// set is unchanged.
 ///
-/// Answers the reason of the first check that the image fails, or `Memory`. Takes memory for its sketch and the answer.
+/// Returns the reason of the first check that the image fails, or `Memory`. Allocates its sketch and the written image.
 #[unsafe(no_mangle)]
 pub extern "C" fn hll_image_set_estimator_fields(
     alloc: Global,
@@ -283,9 +290,10 @@ pub extern "C" fn hll_image_set_estimator_fields(
     put_image(image::with_estimator_fields(alloc, image), out, size)
 }
 
-/// The image with its state cleared: fields of 0, with the out-of-order flag. A list or a set stays as it is.
+/// Writes the image with its estimate state cleared into `out`: with estimator fields of 0 and the out-of-order flag. The
+/// sketch of a list or a set is unchanged.
 ///
-/// Answers the reason of the first check that the image fails, or `Memory`. Takes memory for its sketch and the answer.
+/// Returns the reason of the first check that the image fails, or `Memory`. Allocates its sketch and the written image.
 #[unsafe(no_mangle)]
 pub extern "C" fn hll_image_clear_estimator_fields(
     alloc: Global,
@@ -298,11 +306,12 @@ pub extern "C" fn hll_image_clear_estimator_fields(
     put_bytes(image::without_estimator_fields(alloc, image), out, size)
 }
 
-/// Whether two images fold to the same registers at the smaller `lg_k` of both: 1 if they do, else 0.
+/// Compares the registers of two images, once both are folded to the smaller `lg_k`: `same` is 1 if they are equal, else 0.
 ///
-/// Returns the reason of the first check that the first faulty image fails, with its number in `failed`, or `Memory`. Allocates
-/// at most what `hll_image_histogram` does, for each image. Registers of the same `lg_k` and width are compared where they lie:
-/// of six and eight bits without any memory, of four bits with a map of each image's exceptions.
+/// Returns the reason of the first check that the first faulty image fails, with the number of that image in `failed`, or
+/// `Memory`. Allocates at most what `hll_image_histogram` does, for each image. Registers of the same `lg_k` and width are
+/// compared in the images themselves: with 6 and 8 bits nothing is allocated, with 4 bits a map for the exceptions of each
+/// image.
 #[unsafe(no_mangle)]
 pub extern "C" fn hll_images_agree(
     alloc: Global,
@@ -316,10 +325,10 @@ pub extern "C" fn hll_images_agree(
     report(image::agree(alloc, left, right, failed), same)
 }
 
-/// Raises registers of the caller by the values that stand in `values` up to each of `ends`.
+/// Adds values to caller-owned registers: byte strings that are concatenated in `values` and delimited by `ends`.
 ///
-/// Answers `Argument` for ends that descend or go past the values, or a number of registers that is not 2^`lg_k`. Takes no
-/// memory.
+/// Returns `Argument` if ends descend or an end is after the last byte of `values`, or if the number of registers is not
+/// 2^`lg_k`. Allocates nothing.
 #[unsafe(no_mangle)]
 pub extern "C" fn hll_registers_add(registers: &mut [u8], values: &[u8], ends: &[usize]) -> u8
     ensures { AddsValues values.now ends.now registers.old registers.new result }
@@ -327,9 +336,9 @@ pub extern "C" fn hll_registers_add(registers: &mut [u8], values: &[u8], ends: &
     byte_registers::add(registers, values, ends)
 }
 
-/// Raises registers of the caller by values of `value_len` bytes each, concatenated in `values`.
+/// Adds values of `value_len` bytes each, concatenated in `values`, to caller-owned registers.
 ///
-/// Returns `Argument` for a `value_len` that is 0 or does not divide the number of bytes, or a number of registers that is not
+/// Returns `Argument` if `value_len` is 0 or does not divide the number of bytes, or if the number of registers is not
 /// 2^`lg_k`. Allocates nothing.
 #[unsafe(no_mangle)]
 pub extern "C" fn hll_registers_add_fixed(
@@ -342,12 +351,12 @@ pub extern "C" fn hll_registers_add_fixed(
     fixed::add(registers, values, value_len)
 }
 
-/// Raises registers of the caller by the values in `values` between one offset and the next.
+/// Adds values to caller-owned registers: the byte strings in `values` between one offset and the next.
 ///
-/// The offsets are 32 bits with a sign, taken as numbers without one: so a negative one is above 2^31 - 1.
+/// The offsets are signed 32-bit numbers, passed as unsigned ones, so a negative offset is above 2^31 - 1.
 ///
-/// Returns `Argument` where there is no offset, or offsets descend, or one is negative or past the values, or for a number of
-/// registers that is not 2^`lg_k`. Allocates nothing.
+/// Returns `Argument` if there is no offset, if an offset descends, is negative or is after the last byte of `values`, or if
+/// the number of registers is not 2^`lg_k`. Allocates nothing.
 #[unsafe(no_mangle)]
 pub extern "C" fn hll_registers_add_ends32(
     registers: &mut [u8],
@@ -359,9 +368,9 @@ pub extern "C" fn hll_registers_add_ends32(
     offsets::add(registers, values, offsets)
 }
 
-/// Raises registers of the caller by raw coupons, each of which has a value.
+/// Adds raw coupons to caller-owned registers.
 ///
-/// Answers `Argument` for one without a value, or a number of registers that is not 2^`lg_k`.
+/// Returns `Argument` if a coupon has the value 0, or if the number of registers is not 2^`lg_k`.
 #[unsafe(no_mangle)]
 pub extern "C" fn hll_registers_add_coupons(registers: &mut [u8], coupons: &[u32]) -> u8
     ensures { AddsCoupons coupons.now registers.old registers.new result }
@@ -369,12 +378,13 @@ pub extern "C" fn hll_registers_add_coupons(registers: &mut [u8], coupons: &[u32
     byte_registers::add_coupons(registers, coupons)
 }
 
-/// Raises registers of the caller by those of an image of any stage and width, folded to their `lg_k`.
+/// Merges an image of any stage and width into caller-owned registers. More registers than the caller's are folded to their
+/// `lg_k`.
 ///
-/// Answers 15 where the image has registers that are not all 0, and fewer of them; then `coarser` is its `lg_k`. Answers
-/// `Argument` for a number of registers that is not 2^`lg_k`, the reason of the first check that the image fails, or
-/// `Memory`. Takes memory for the exceptions of registers of four bits, and for a table of coupons, but not for coupons that
-/// are 1 to 128, or ascend in a compact image.
+/// Returns 15, and sets `coarser` to the image's `lg_k`, if the image has registers that are not all 0, and fewer than the
+/// caller. Returns `Argument` if the number of registers is not 2^`lg_k`, the reason of the first check that the image fails,
+/// or `Memory`. Allocates a map for the exceptions of 4-bit registers, and a table for coupons, except for 1 to 128 coupons or
+/// for coupons that ascend in a compact image.
 #[unsafe(no_mangle)]
 pub extern "C" fn hll_registers_merge(
     alloc: Global,
@@ -387,10 +397,10 @@ pub extern "C" fn hll_registers_merge(
     byte_registers::merge(alloc, registers, image, coarser)
 }
 
-/// Raises registers of the caller by as many others, or by what more of them fold to.
+/// Merges other registers into caller-owned registers. If the others are more, they are folded.
 ///
-/// Answers 15 where the others are not all 0, and fewer; then `coarser` is their `lg_k`. Answers `Argument` for a number of
-/// registers or of others that is not 2^`lg_k`, or `Register` where one of the others is above 63.
+/// Returns 15, and sets `coarser` to the `lg_k` of the others, if these are not all 0, and fewer. Returns `Argument` if the
+/// number of registers or of the others is not 2^`lg_k`, or `Register` if one of the others is above 63.
 #[unsafe(no_mangle)]
 pub extern "C" fn hll_registers_merge_registers(
     registers: &mut [u8],
@@ -402,10 +412,11 @@ pub extern "C" fn hll_registers_merge_registers(
     byte_registers::merge_others(registers, others, coarser)
 }
 
-/// Folds registers of the caller to an `lg_k` of 4 to theirs, at the front of their bytes; the bytes after them stay.
+/// Folds caller-owned registers to an `lg_k` from 4 to their own. The result is the first 2^`to` bytes; the bytes after these
+/// are unchanged.
 ///
-/// Answers `Argument` for another, or a number of registers that is not 2^`lg_k`, or `Register` where one is above 63. Takes
-/// no memory.
+/// Returns `Argument` if `to` is out of that range or the number of registers is not 2^`lg_k`, or `Register` if a register is
+/// above 63. Allocates nothing.
 #[unsafe(no_mangle)]
 pub extern "C" fn hll_registers_fold(registers: &mut [u8], to: u32) -> u8
     ensures { FoldsInPlace to registers.old registers.new result }
@@ -413,9 +424,9 @@ pub extern "C" fn hll_registers_fold(registers: &mut [u8], to: u32) -> u8
     byte_registers::fold(registers, to)
 }
 
-/// The estimate of registers of the caller, as `hll_estimate` tells it of an image.
+/// Writes the estimate of caller-owned registers into `estimate`, as `hll_estimate` does for the registers of an image.
 ///
-/// Answers `Argument` for a number of registers that is not 2^`lg_k`, or `Register` where one is above 63. Takes no memory.
+/// Returns `Argument` if the number of registers is not 2^`lg_k`, or `Register` if a register is above 63. Allocates nothing.
 #[unsafe(no_mangle)]
 pub extern "C" fn hll_registers_estimate(registers: &[u8], estimate: &mut HllEstimate) -> u8
     ensures { Reports HllEstimate (SaysEstimateOfBytes registers.now) (RefusesRegisters registers.now) estimate.old estimate.new result }
@@ -423,9 +434,10 @@ pub extern "C" fn hll_registers_estimate(registers: &[u8], estimate: &mut HllEst
     report(estimate::estimate_of_bytes(registers), estimate)
 }
 
-/// The estimate of registers of which so many have each value from 0 to 63, as `hll_estimate` tells it of an image.
+/// Writes the estimate of registers into `estimate`, as `hll_estimate` does for an image. `histogram` has the number of
+/// registers with each value from 0 to 63.
 ///
-/// Returns `Argument` where the counts don't sum to 2^4 to 2^21, a power of two. Allocates nothing.
+/// Returns `Argument` if the sum of the counts is not a power of two from 2^4 to 2^21. Allocates nothing.
 #[unsafe(no_mangle)]
 pub extern "C" fn hll_histogram_estimate(histogram: &HllHistogram, estimate: &mut HllEstimate) -> u8
     ensures { Reports HllEstimate (SaysEstimateOfCounts histogram.now.counts) (RefusesCounts histogram.now.counts) estimate.old estimate.new result }
@@ -433,9 +445,9 @@ pub extern "C" fn hll_histogram_estimate(histogram: &HllHistogram, estimate: &mu
     report(estimate::estimate_of_counts(histogram), estimate)
 }
 
-/// How many registers of the caller have each value from 0 to 63.
+/// Counts the caller-owned registers with each value from 0 to 63.
 ///
-/// Answers `Argument` for a number of registers that is not 2^`lg_k`, or `Register` where one is above 63.
+/// Returns `Argument` if the number of registers is not 2^`lg_k`, or `Register` if a register is above 63.
 #[unsafe(no_mangle)]
 pub extern "C" fn hll_registers_histogram(registers: &[u8], histogram: &mut HllHistogram) -> u8
     ensures { Reports HllHistogram (SaysCounts registers.now) (RefusesRegisters registers.now) histogram.old histogram.new result }
@@ -443,10 +455,10 @@ pub extern "C" fn hll_registers_histogram(registers: &[u8], histogram: &mut HllH
     report(byte_registers::histogram(registers), histogram)
 }
 
-/// The image of registers of the caller at a width, with the fields set from which a composite estimator computes.
+/// Writes the image of caller-owned registers into `out`, at a width, with its estimator fields set.
 ///
-/// Answers `Argument` for a width that is none or a number of registers that is not 2^`lg_k`, `Register` where one is above
-/// 63, or `Memory`. Takes memory for a copy of the registers, at four and six bits for their packed form, and for the answer.
+/// Returns `Argument` if `width` is not 4, 6 or 8 or the number of registers is not 2^`lg_k`, `Register` if a register is above
+/// 63, or `Memory`. Allocates a copy of the registers, for 4 and 6 bits also the packed registers, and the written image.
 #[unsafe(no_mangle)]
 pub extern "C" fn hll_registers_image(
     alloc: Global,
@@ -460,7 +472,7 @@ pub extern "C" fn hll_registers_image(
     put_image(byte_registers::sketch(alloc, registers, width), out, size)
 }
 
-/// The raw coupon of a value: value * 2^26 + slot (docs/FORMAT.md, "Coupons").
+/// Returns the raw coupon of a value: value * 2^26 + slot (docs/FORMAT.md, "Coupons").
 #[unsafe(no_mangle)]
 pub extern "C" fn hll_coupon(value: &[u8]) -> u32
     ensures { result ≡ coupon_of_bytes value.now }
@@ -468,10 +480,11 @@ pub extern "C" fn hll_coupon(value: &[u8]) -> u32
     Coupon::from_bytes(value).raw()
 }
 
-/// The coupons of the values that stand in `values` up to each of `ends`, at the front of `coupons`.
+/// Writes the raw coupons of values into the first elements of `coupons`. The values are byte strings that are concatenated in
+/// `values` and delimited by `ends`.
 ///
-/// Answers `Argument` for ends that descend or go past the values, or 14 where there are more of them than `coupons` has room
-/// for.
+/// Returns `Argument` if ends descend or an end is after the last byte of `values`, or 14 if there are more values than
+/// `coupons` has elements.
 #[unsafe(no_mangle)]
 pub extern "C" fn hll_coupons(values: &[u8], ends: &[usize], coupons: &mut [u32]) -> u8
     ensures { PutsCoupons values.now ends.now coupons.old coupons.new result }
@@ -479,10 +492,10 @@ pub extern "C" fn hll_coupons(values: &[u8], ends: &[usize], coupons: &mut [u32]
     put_coupons(values, ends, coupons)
 }
 
-/// The coupons of values of `value_len` bytes each, concatenated in `values`, at the front of `coupons`.
+/// Writes the raw coupons of values of `value_len` bytes each, concatenated in `values`, into the first elements of `coupons`.
 ///
-/// Returns `Argument` for a `value_len` that is 0 or does not divide the number of bytes, or 14 where there are more values than
-/// `coupons` has room for. Allocates nothing.
+/// Returns `Argument` if `value_len` is 0 or does not divide the number of bytes, or 14 if there are more values than `coupons`
+/// has elements. Allocates nothing.
 #[unsafe(no_mangle)]
 pub extern "C" fn hll_coupons_fixed(values: &[u8], value_len: usize, coupons: &mut [u32]) -> u8
     ensures { PutsCouponsOf (AreOfLength (length values.now) value_len) (strings_of_length value_len values.now) coupons.old coupons.new result }
@@ -490,12 +503,12 @@ pub extern "C" fn hll_coupons_fixed(values: &[u8], value_len: usize, coupons: &m
     fixed::put_coupons(values, value_len, coupons)
 }
 
-/// The coupons of the values in `values` between one offset and the next, at the front of `coupons`.
+/// Writes the raw coupons of the byte strings in `values` between one offset and the next into the first elements of `coupons`.
 ///
-/// The offsets are 32 bits with a sign, taken as numbers without one: so a negative one is above 2^31 - 1.
+/// The offsets are signed 32-bit numbers, passed as unsigned ones, so a negative offset is above 2^31 - 1.
 ///
-/// Returns `Argument` where there is no offset, or offsets descend, or one is negative or past the values, or 14 where there are
-/// more values than `coupons` has room for. Allocates nothing.
+/// Returns `Argument` if there is no offset, or if an offset descends, is negative or is after the last byte of `values`.
+/// Returns 14 if there are more values than `coupons` has elements. Allocates nothing.
 #[unsafe(no_mangle)]
 pub extern "C" fn hll_coupons_ends32(values: &[u8], offsets: &[u32], coupons: &mut [u32]) -> u8
     ensures { PutsCouponsOf (AreOffsets (length values.now) offsets.now) (strings_between offsets.now values.now) coupons.old coupons.new result }
@@ -503,9 +516,9 @@ pub extern "C" fn hll_coupons_ends32(values: &[u8], offsets: &[u32], coupons: &m
     offsets::put_coupons(values, offsets, coupons)
 }
 
-/// Makes the state of an empty sketch, in elements of four bytes.
+/// Makes the state of an empty sketch. A state is a slice of elements of four bytes each.
 ///
-/// Answers `Argument` for an `lg_k` out of range, or 14 where there are fewer than ten elements. Takes no memory.
+/// Returns `Argument` if `lg_k` is out of range, or 14 if there are fewer than ten elements. Allocates nothing.
 #[unsafe(no_mangle)]
 pub extern "C" fn hll_state_new(lg_k: u32, state: &mut [[u8; 4]]) -> u8
     ensures { MakesState lg_k state.old state.new result }
@@ -513,10 +526,11 @@ pub extern "C" fn hll_state_new(lg_k: u32, state: &mut [[u8; 4]]) -> u8
     state::new(lg_k, state)
 }
 
-/// Adds the values that stand in `values` up to each of `ends` to a state.
+/// Adds values to a state: byte strings that are concatenated in `values` and delimited by `ends`.
 ///
-/// Answers 14 where there is no room for so many, and then `size` is a number of bytes that are enough; or `Argument` for ends
-/// that descend or go past the values, or elements that are no state. What the state means is then as it was. Takes no memory.
+/// Returns 14 if there is not enough room for them, and sets `size` to a number of bytes that is enough; or `Argument` if ends
+/// descend, an end is after the last byte of `values`, or the elements are not a state. On these codes the sketch of the state
+/// is unchanged. Allocates nothing.
 #[unsafe(no_mangle)]
 pub extern "C" fn hll_state_add(
     state: &mut [[u8; 4]],
@@ -529,7 +543,7 @@ pub extern "C" fn hll_state_add(
     state::add(state, values, ends, size)
 }
 
-/// Adds one value to a state, as `hll_state_add`.
+/// Adds one value to a state, as `hll_state_add` does.
 #[unsafe(no_mangle)]
 pub extern "C" fn hll_state_add_value(state: &mut [[u8; 4]], size: &mut usize, value: &[u8]) -> u8
     ensures { AddsToState (Unit {0}) (coupon_of_bytes value.now ∷ []) state.old state.new size.old size.new result }
@@ -537,9 +551,9 @@ pub extern "C" fn hll_state_add_value(state: &mut [[u8; 4]], size: &mut usize, v
     state::add_value(state, value, size)
 }
 
-/// Adds raw coupons to a state, each of which has a value.
+/// Adds raw coupons to a state.
 ///
-/// Answers as `hll_state_add`, `Argument` for a coupon without a value. Takes no memory.
+/// Returns what `hll_state_add` does, and `Argument` if a coupon has the value 0. Allocates nothing.
 #[unsafe(no_mangle)]
 pub extern "C" fn hll_state_add_coupons(
     state: &mut [[u8; 4]],
@@ -551,13 +565,13 @@ pub extern "C" fn hll_state_add_coupons(
     state::add_coupons(state, coupons, size)
 }
 
-/// Joins the sketch of an image to a state: the state means what a union gives whose bound is the state's `lg_k`.
+/// Merges the sketch of an image into a state. The result is their union, with the state's `lg_k` as its bound.
 ///
-/// `lg_max_k` is 0 for no bound, or an `lg_k` of at least that of the state. Without a bound a state that is not empty refuses
-/// an image of another `lg_k` that isn't empty, by 16, and an empty state takes its `lg_k`. Answers 14 where there is no room, and
-/// then `size` is a number of bytes that are enough; `Argument` for another `lg_max_k`, or elements that are no state; the reason of
-/// the first check that the image fails; or `Memory`. What the state means is then as it was. Takes memory as
-/// `hll_image_check`.
+/// `lg_max_k` is 0 for no bound, or an `lg_k` of at least the state's. Without a bound, the call returns 16 if neither the
+/// state nor the image is empty and their `lg_k` differ, and an empty state takes the `lg_k` of an image that isn't empty.
+/// Returns 14 if there is not enough room, and sets `size` to a number of bytes that is enough; `Argument` if `lg_max_k` is out
+/// of range or the elements are not a state; the reason of the first check that the image fails; or `Memory`. On these codes
+/// the sketch of the state is unchanged. Allocates as `hll_image_check` does.
 #[unsafe(no_mangle)]
 pub extern "C" fn hll_state_join(
     alloc: Global,
@@ -571,10 +585,10 @@ pub extern "C" fn hll_state_join(
     join::join_image(alloc, lg_max_k, state, size, image)
 }
 
-/// Joins the sketch of another state to a state, as `hll_state_join` does that of an image.
+/// Merges the sketch of another state into a state, as `hll_state_join` merges an image.
 ///
-/// Answers `Register` where a register of the other is above 63, which no call makes. The bytes of the other may change, and what
-/// it means stays. Takes no memory.
+/// Returns `Register` if a register of the other state is above 63, which no call leaves there. The bytes of the other state
+/// may change, but not its sketch. Allocates nothing.
 #[unsafe(no_mangle)]
 pub extern "C" fn hll_state_join_state(
     lg_max_k: u32,
@@ -588,11 +602,12 @@ pub extern "C" fn hll_state_join_state(
     join::join_state(lg_max_k, state, size, other)
 }
 
-/// The image, at a width, of what a state means, its fields set where its estimate state is cleared.
+/// Writes the image of the sketch of a state into `out`, at a width. Its estimator fields are set if its estimate state is
+/// cleared.
 ///
-/// Answers `Argument` for a width that is none, or elements that are no state; `Register` where a register is above 63, which no
-/// call makes; or `Memory`. The bytes of the state may change, and what it means stays. Takes memory for the image, and for
-/// registers those of a sketch.
+/// Returns `Argument` if `width` is not 4, 6 or 8 or the elements are not a state, `Register` if a register is above 63, which
+/// no call leaves there, or `Memory`. The bytes of the state may change, but not its sketch. Allocates the written image, and
+/// for registers also their copy in a sketch.
 #[unsafe(no_mangle)]
 pub extern "C" fn hll_state_image(
     alloc: Global,
@@ -607,10 +622,10 @@ pub extern "C" fn hll_state_image(
     state::put_image(alloc, state, width, out, size)
 }
 
-/// The estimate of what a state means, as `hll_estimate` tells it of an image.
+/// Writes the estimate of the sketch of a state into `estimate`, as `hll_estimate` does for an image.
 ///
-/// Answers `Argument` for elements that are no state, or `Register` where a register is above 63. The bytes of the state may
-/// change, and what it means stays. Takes no memory.
+/// Returns `Argument` if the elements are not a state, or `Register` if a register is above 63. The bytes of the state may
+/// change, but not its sketch. Allocates nothing.
 #[unsafe(no_mangle)]
 pub extern "C" fn hll_state_estimate(state: &mut [[u8; 4]], estimate: &mut HllEstimate) -> u8
     ensures estimate { Reports HllEstimate (SaysEstimateOfState state.old) (RefusesState (Unit {0}) state.old) estimate.old estimate.new result }

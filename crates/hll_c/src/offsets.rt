@@ -1,7 +1,7 @@
 // SPDX-License-Identifier: Apache-2.0
-//! Byte strings between offsets, as Apache Arrow has them: 32 bits with a sign, one more than there are strings.
+//! Byte strings between offsets, as Apache Arrow has them: signed 32-bit offsets, one more than there are strings.
 //!
-//! The offsets come as numbers without a sign, which have the same bits: a negative one is above `MOST`.
+//! The offsets are passed as unsigned numbers with the same bits, so a negative offset is above `MOST`.
 ghost use Rattle.std.specs.Prelude.{◌≡◌, ◌↔◌, ◌^◌, ◌≤◌, ◌-◌, ◌++◌, length, drop, map, IsTrue};
 ghost use Rattle.hll_base.specs.Join.{join};
 ghost use Rattle.hll_coupons.specs.Fold.{fold_to};
@@ -17,11 +17,11 @@ use hll_base::error::Reason;
 use hll_coupons::coupon::Coupon;
 use hll_sketch::max_coupon;
 
-/// The greatest number of 32 bits with a sign.
+/// The greatest signed 32-bit number.
 const MOST: usize = 0x7fff_ffff;
 
-/// Whether there is an offset, and offsets ascend, and none is negative or past `size`. Two may be the same: an empty string
-/// stands between them.
+/// Returns whether there is an offset, offsets ascend, and none is negative or above `size`. Two offsets may be equal: the
+/// string between them is empty.
 fn are_offsets(offsets: &[u32], size: usize) -> bool
     ensures { IsTrue result ↔ AreOffsets size offsets.now }
 {
@@ -40,7 +40,7 @@ fn are_offsets(offsets: &[u32], size: usize) -> bool
     before <= most
 }
 
-/// Puts the raw coupons of the strings between offsets.
+/// Writes the raw coupons of the strings between offsets into `coupons`.
 pub(crate) fn put_coupons(values: &[u8], offsets: &[u32], coupons: &mut [u32]) -> u8
     ensures { PutsCouponsOf (AreOffsets (length values.now) offsets.now) (strings_between offsets.now values.now) coupons.old coupons.new result }
 {
@@ -55,7 +55,7 @@ pub(crate) fn put_coupons(values: &[u8], offsets: &[u32], coupons: &mut [u32]) -
     OK
 }
 
-/// Writes the raw coupons of so many strings between offsets to the front of `coupons`.
+/// Writes the raw coupons of the `count` strings between offsets into the first elements of `coupons`.
 fn put_each(values: &[u8], offsets: &[u32], count: usize, coupons: &mut [u32])
     requires offsets { AreOffsets (length values.now) offsets.now }
     requires count { count ≡ length offsets.now - 1 }
@@ -69,7 +69,7 @@ fn put_each(values: &[u8], offsets: &[u32], count: usize, coupons: &mut [u32])
     }
 }
 
-/// Joins the coupons of the strings between offsets into registers of the caller.
+/// Adds the coupons of the strings between offsets to caller-owned registers.
 pub(crate) fn add(registers: &mut [u8], values: &[u8], offsets: &[u32]) -> u8
     ensures { AddsStrings (AreOffsets (length values.now) offsets.now) (strings_between offsets.now values.now) registers.old registers.new result }
 {
@@ -83,7 +83,7 @@ pub(crate) fn add(registers: &mut [u8], values: &[u8], offsets: &[u32]) -> u8
     OK
 }
 
-/// Joins the coupons of the strings between offsets into registers.
+/// Adds the coupons of the strings between offsets to registers.
 fn max_each(registers: &mut [u8], lg_k: u8, values: &[u8], offsets: &[u32])
     requires lg_k { IsLgKOf registers.old lg_k }
     requires offsets { AreOffsets (length values.now) offsets.now }

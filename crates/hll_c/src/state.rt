@@ -70,7 +70,7 @@ pub(crate) fn add(state: &mut [[u8; 4]], values: &[u8], ends: &[usize], size: &m
     }
 }
 
-/// Tells that so many elements are needed, in bytes.
+/// Sets `size` to the bytes of `len` elements, and returns the code of a buffer that is too small.
 pub(crate) fn too_small(len: usize, size: &mut usize) -> u8
     requires { len < 2 ^ 32 }
     ensures size { size.new ≡ 4 * len }
@@ -140,7 +140,7 @@ fn push_coupons(header: &mut Header, body: &mut [[u8; 4]], coupons: &[u32])
     }
 }
 
-/// Puts the image of what a state means into a buffer.
+/// Writes the image of the sketch of a state into a buffer.
 pub(crate) fn put_image(
     alloc: Global,
     state: &mut [[u8; 4]],
@@ -154,7 +154,7 @@ pub(crate) fn put_image(
     put_bytes(image_of(alloc, state, width), out, size)
 }
 
-/// The image, at a width, of what a state means.
+/// Returns the image of the sketch of a state, at a width.
 fn image_of(alloc: Global, state: &mut [[u8; 4]], width: u32) -> Result<Vec<u8>, Error>
     ensures ok { IfOk result (λ image. IsImageOf (WithFields (IsOfState width state.old)) image.items) }
     ensures err { IfErr result (RefusesState (IsWidth width) state.old) }
@@ -167,9 +167,9 @@ fn image_of(alloc: Global, state: &mut [[u8; 4]], width: u32) -> Result<Vec<u8>,
     image_of_held(alloc, header, &state[HEADER_LEN..], hll_type)
 }
 
-/// The image, at a width, of what a state means that is ready to be read.
+/// Returns the image, at a width, of the sketch of a state that `resolve` has made ready to be read.
 ///
-/// Fails with `Register` where a register is above 63, or with `Memory`.
+/// Fails with `Register` if a register is above 63, or with `Memory`.
 fn image_of_held(
     alloc: Global,
     header: Header,
@@ -196,7 +196,7 @@ fn image_of_held(
     }
 }
 
-/// The image of coupons in ascending order.
+/// Returns the image of coupons in ascending order.
 ///
 /// Fails with `Memory`.
 fn image_of_coupons(
@@ -221,7 +221,7 @@ fn image_of_coupons(
     )
 }
 
-/// The size of the table of coupons that have one.
+/// Returns the size of the table that coupons have. The coupons have one: they don't become registers.
 fn lg_size_of(lg_k: u8, coupons: CouponTable) -> u8
     requires most { lg_k ≤ 21 }
     requires stays { coupons.added ≡ true → stages.stage lg_k coupons.lg_size coupons.run.used ≢ None }
@@ -234,7 +234,7 @@ fn lg_size_of(lg_k: u8, coupons: CouponTable) -> u8
     }
 }
 
-/// The estimate of what a state means.
+/// Returns the estimate of the sketch of a state.
 pub(crate) fn estimate_of(state: &mut [[u8; 4]]) -> Result<HllEstimate, Error>
     ensures ok { IfOk result (SaysEstimateOfState state.old) }
     ensures err { IfErr result (RefusesState (Unit {0}) state.old) }
@@ -247,7 +247,8 @@ pub(crate) fn estimate_of(state: &mut [[u8; 4]]) -> Result<HllEstimate, Error>
     estimate_of_held(header, &state[HEADER_LEN..])
 }
 
-/// The estimate of what a state means that is ready to be read. `Register` where a register is above 63.
+/// Returns the estimate of the sketch of a state that `resolve` has made ready to be read. Fails with `Register` if a register
+/// is above 63.
 fn estimate_of_held(header: Header, body: &[[u8; 4]]) -> Result<HllEstimate, Error>
     requires within { IsWithin header (length body.now) }
     requires resolved { IsResolved header body.now }

@@ -9,7 +9,7 @@ use Rattle.hll_c.specs.ByteRegisters.{IsOfBytes, RefusesRegisters, RefusesBytes,
 use Rattle.hll_c.specs.Calls.{IsWidth}
 use Rattle.hll_c.proofs.byte_registers.sketch.Goals as goal
 
--- registers that are refused have no image
+-- registers that are rejected have no image
 refuses_bytes : (bits : ℕ) (R : List ℕ) (r : Reason) → IsWidth bits → RefusesRegisters R r → RefusesBytes bits R r
 refuses_bytes bits R _ width (no_lg_k none) = bytes_argument (λ are. none are.kept)
 refuses_bytes bits R _ width (above_63 of above) = bytes_register of width above

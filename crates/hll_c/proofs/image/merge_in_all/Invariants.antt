@@ -2,6 +2,6 @@
 use Rattle.hll_c.proofs.Batches.{MergesInRest}
 use Rattle.hll_c.proofs.image.merge_in_all.Given as goal
 
--- the union took in the images so far
+-- the images so far were merged into the union
 abbrev pub invariant-loop-number : goal.invariant-loop-number
 invariant-loop-number l = MergesInRest l.fn.union l.union l.images l.ends l.fn.failed l.failed l.start l.number

@@ -7,7 +7,7 @@ use Rattle.hll_coupons.specs.Pair.{set_of}
 use Rattle.hll_c.specs.Batches.{strings_between}
 use Rattle.hll_c.proofs.offsets.max_each.Given as goal
 
--- the coupons that are left make of the registers now what all make of those before
+-- adding the coupons that are left to the registers now gives what adding all gives to the registers before
 abbrev pub invariant-loop-number : goal.invariant-loop-number
 invariant-loop-number l =
     let coupons = map coupon_of_bytes (strings_between l.offsets l.values) in
