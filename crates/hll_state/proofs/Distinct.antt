@@ -28,17 +28,17 @@ again true b = refl
 again false true = refl
 again false false = refl
 
--- the members of a list, and of the list with one more
+-- the members of a list, and of the list with one more number
 pub has_push : (xs : List ℕ) (w q : ℕ) → has (xs ++ w ∷ []) q ≡ (has xs q || (nat_eq w q || false))
 has_push xs w q = list_any-append (λ y. nat_eq y q) xs (w ∷ [])
 
--- the last one is a member already
+-- the last number is a member already
 pub has_last : (xs : List ℕ) (n q : ℕ) → n < length xs → (has (take (n + 1) xs) q || (nat_eq (get_or xs n 0) q || false)) ≡ has (take (n + 1) xs) q
 has_last xs n q l =
     let e : has (take (n + 1) xs) q ≡ (has (take n xs) q || (nat_eq (get_or xs n 0) q || false)) = ap (λ ys. has ys q) (take_more xs n 0 l) ∙ has_push (take n xs) (get_or xs n 0) q in
     ap (λ b. b || (nat_eq (get_or xs n 0) q || false)) e ∙ again (has (take n xs) q) (nat_eq (get_or xs n 0) q) ∙ sym e
 
--- ---- those of a sorted list before index i, each once at the front
+-- ---- the numbers of a sorted list before index i, each once at the start
 pub record Once (all raws : List ℕ) (last i : ℕ) : Type 0 where
   pub after : last < i
   pub within : i ≤ length raws

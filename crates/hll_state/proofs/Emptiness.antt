@@ -1,5 +1,5 @@
 -- SPDX-License-Identifier: Apache-2.0
--- States without pairs, and coupons that are taken whole.
+-- States without pairs, and coupons that are copied with their table.
 use Rattle.std.proofs.Common.{◌≡◌, ◌≢◌, ℕ, ◌+◌, ◌-◌, ◌^◌, ◌<◌, ◌≤◌, ◌*◌, Bool, true, false, leb, nat_eq, List, [], Option, Some, None, length, take, refl, sym, ap, ◌∙◌, inl, inr, arith}
 use Rattle.std.specs.Prelude.{max}
 use Rattle.std.specs.Cmp.{both_ways}
@@ -56,14 +56,14 @@ module _ (k : ℕ) (c : CouponTable) (body : List (List ℕ)) (within : AreWithi
 
 -- ---- no element in use
 
--- no coupons are few
+-- zero coupons are few
 few_none : (k : ℕ) → are_few k 0 ≡ true
 few_none k = elim (cases_Bool (nat_eq (greatest_size k) 3)) [
   | inl three ↦ cond-true (nat_eq (greatest_size k) 3) (leb 0 7) (leb (4 * 0) (3 * 2 ^ greatest_size k)) three
   | inr other ↦ cond-false (nat_eq (greatest_size k) 3) (leb 0 7) (leb (4 * 0) (3 * 2 ^ greatest_size k)) other ∙ le-leb (4 * 0) (3 * 2 ^ greatest_size k) (omega arith)
 ]
 
--- the coupons in use are none where no element is
+-- if no element is in use, no coupon is
 none_used : (r : CouponRun) (body : List (List ℕ)) → r.used ≡ 0 → len (members r body) ≡ 0
 none_used r body none = ap (λ n. len (set_of (take n (raws body)))) none ∙ ap len set_of-nil ∙ len-empty nat_cmp
 
@@ -71,7 +71,7 @@ some_used : (r : CouponRun) (body : List (List ℕ)) → r.used ≤ length body 
 some_used r body within none =
     omega (arith, ap length (listed-none (take r.used (raws body)) none), length-take-le r.used (raws body) (omega (arith, within, length-raws body)))
 
--- so a state is empty where no element is in use, if registers that it has are not all 0
+-- so a state is empty if no element is in use and its registers, if it has registers, are not all 0
 pub none_in_use : (k : ℕ) (c : CouponTable) (body : List (List ℕ)) → AreWithin k c (length body) → (in_registers (content_of_coupons k c (members c.run body)) ≡ true → nat_eq (len (pairs_in (content_of_coupons k c (members c.run body)))) 0 ≡ false)
     → nat_eq c.run.used 0 ≡ nat_eq (len (pairs_in (content_of_coupons k c (members c.run body)))) 0
 none_in_use k c body within some = of c.added refl
@@ -95,7 +95,7 @@ none_in_use k c body within some = of c.added refl
         ∙ ap (λ b. nat_eq (len (pairs_in (content_of_coupons k (record c { added = b }) S))) 0) (sym e)
     of false e = same ∙ ap (λ b. nat_eq (len (pairs_in (content_of_coupons k (record c { added = b }) S))) 0) (sym e)
 
--- the elements don't count where none is in use
+-- what the elements hold doesn't matter if none is in use
 pub same_without : (h : Header) (c : CouponTable) (old new : List (List ℕ)) → h.held ≡ Coupons c → c.run.used ≡ 0 → sketch_in h new ≡ sketch_in h old
 same_without h c old new is none = read new ∙ sym (read old)
   where
@@ -115,7 +115,7 @@ table_within k n p room table enough = record { size = size table; taken = λ e.
     used (inl few) = let up : 2 ^ 4 ≤ 2 ^ max 4 (k - 3) = pow_mono {i = 4} {j = max 4 (k - 3)} (omega arith) in omega (arith, few.1, up)
     used (inr large) = let up : 2 ^ p ≤ 2 ^ max 4 (k - 3) = pow_mono {i = p} {j = max 4 (k - 3)} (omega (arith, large.1)) in omega (arith, large.2, up)
 
--- and no coupons are within any
+-- zero coupons are within any number of elements
 pub new_within : (k widths room : ℕ) → IsLgK k → widths < 8 → IsWithin (record (new_header k) { widths = widths }) room
 new_within k widths room lg_k few = record {
   lg_k = lg_k;
@@ -123,7 +123,7 @@ new_within k widths room lg_k few = record {
   held = table_within k 0 3 room (inl (refl, omega arith)) (omega (arith, cond-true (are_few k 0) 0 (most_elements k) (few_none k)));
 }
 
--- a run of at most as many is within them too
+-- a run of at most this number of coupons is within them too
 pub run_within : (k n p room : ℕ) (r : CouponRun) → IsTableFor k n p → elements_for k n ≤ room → r.run ≤ r.used → r.used ≤ n → AreWithin k (record { lg_size = p; added = false; run = r }) room
 run_within k n p room r table enough run fewer =
     let all = table_within k n p room table enough in

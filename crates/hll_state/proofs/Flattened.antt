@@ -1,5 +1,5 @@
 -- SPDX-License-Identifier: Apache-2.0
--- The bytes of elements, one after the other.
+-- The concatenated bytes of elements.
 use Rattle.std.proofs.Common.{◌≡◌, ℕ, suc, ◌<◌, List, [], ◌∷◌, ◌++◌, length, drop, get_or, refl, ap, ◌∙◌, arith}
 use Rattle.std.specs.Int.{w32, from_le_bytes}
 use Rattle.std.specs.List.{flat_map}

@@ -1,5 +1,5 @@
 -- SPDX-License-Identifier: Apache-2.0
--- Sketches of images that are merged, by what they hold.
+-- Sketches of images that are merged, by what they hold: coupons or registers.
 use Rattle.std.proofs.Common.{◌≡◌, ℕ, suc, zero, ◌≤◌, nat_eq, false, sym, ap, subst, ◌∙◌, arith}
 use Rattle.std.proofs.lemmas.Bool.{true≢false}
 use Rattle.hll_sketch.proofs.Adding.{merge_of_some}

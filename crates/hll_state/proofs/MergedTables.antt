@@ -11,7 +11,7 @@ use Rattle.hll_coupons.specs.Table.{Table, coupons_in}
 use Rattle.hll_sketch.specs.Layout.{list, set, IsLayoutFor}
 use Rattle.hll_sketch.specs.Value.{IsTableFor}
 
--- coupons of a set that is not empty are some
+-- the coupons of a set that is not empty are at least one
 pub some_listed : (order : List ℕ) → nat_eq (len (set_of order)) 0 ≡ false → 1 ≤ length order
 some_listed [] some = absurd (true≢false (sym (eq-eqb (len (set_of [])) 0 (ap len set_of-nil ∙ len-empty nat_cmp)) ∙ some))
 some_listed (c ∷ cs) some = omega arith

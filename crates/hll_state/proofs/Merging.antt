@@ -17,14 +17,14 @@ use Rattle.hll_coupons.proofs.Merging.{increasing_more, has, MergesRest}
 one_ascends : (a : ℕ) → IsStrictlyIncreasing (a ∷ [])
 one_ascends a k within = absurd (omega (arith, within))
 
--- a list ascends where its parts do, up to a number that they share
+-- a list ascends if its parts do, up to a number that they share
 joined : (xs : List ℕ) (w : ℕ) (ys : List ℕ) → IsStrictlyIncreasing (xs ++ w ∷ []) → IsStrictlyIncreasing (w ∷ ys) → IsStrictlyIncreasing (xs ++ w ∷ ys)
 joined [] w ys front rest = rest
 joined (x ∷ []) w ys front rest = (increasing_more x w ys).1 (((increasing_more x w []).0 front).0, rest)
 joined (x ∷ y ∷ xs) w ys front rest =
     let parts = (increasing_more x y (xs ++ w ∷ [])).0 front in (increasing_more x y (xs ++ w ∷ ys)).1 (parts.0, joined (y ∷ xs) w ys parts.1 rest)
 
--- the front up to a number, and what is after the front
+-- the prefix up to a number, and the rest
 front_of : (xs : List ℕ) (w : ℕ) (ys : List ℕ) → IsStrictlyIncreasing (xs ++ w ∷ ys) → IsStrictlyIncreasing (xs ++ w ∷ [])
 front_of [] w ys up = one_ascends w
 front_of (x ∷ []) w ys up = (increasing_more x w []).1 (((increasing_more x w ys).0 up).0, one_ascends w)
@@ -35,7 +35,7 @@ rest_of [] w ys up = up
 rest_of (x ∷ []) w ys up = ((increasing_more x w ys).0 up).1
 rest_of (x ∷ y ∷ xs) w ys up = rest_of (y ∷ xs) w ys ((increasing_more x y (xs ++ w ∷ ys)).0 up).1
 
--- a number goes over from the front of one of two lists: the other one ascends after it too
+-- the first number of one of two lists is moved to the result: the other list still ascends after it
 ascends_after : (xs : List ℕ) (w : ℕ) (ys : List ℕ) → IsStrictlyIncreasing (xs ++ w ∷ []) → ((y : ℕ) (more : List ℕ) → ys ≡ y ∷ more → w ≤ y) → IsStrictlyIncreasing (xs ++ ys)
     → IsStrictlyIncreasing ((xs ++ w ∷ []) ++ without_first w ys)
 ascends_after xs w [] front least up = subst IsStrictlyIncreasing (sym (append-nil (xs ++ w ∷ []))) front
@@ -106,7 +106,7 @@ module _ (xs ys taken left right : List ℕ) (rest : MergesRest xs ys taken left
           last true = refl
           last false = refl
 
-  -- the same, for what became of them
+  -- the same numbers, for the lists after the step
   pub merges_next : (w : ℕ) (taken' left' right' : List ℕ) → IsLeastFirst w left right → taken' ≡ taken ++ w ∷ [] → left' ≡ without_first w left → right' ≡ without_first w right
       → MergesRest xs ys taken' left' right'
   merges_next w taken' left' right' least t l r =

@@ -18,7 +18,7 @@ is_one : (b : Bool) (n : ℕ) → n ≡ cond b 1 0 → (n == 1) ≡ b
 is_one true n e = ap (λ m. m == 1) e
 is_one false n e = ap (λ m. m == 1) e
 
--- a number of 64 bits in its halves
+-- a 64-bit number from its halves
 halves : (w low high : ℕ) → low ≡ w % 2 ^ 32 → high ≡ w / 2 ^ 32 → low + 2 ^ 32 * high ≡ w
 halves w low high l h = omega (arith, l, h)
 

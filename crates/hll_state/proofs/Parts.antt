@@ -1,5 +1,5 @@
 -- SPDX-License-Identifier: Apache-2.0
--- Registers of elements that are raised part by part.
+-- Maxima of registers in elements, taken part by part.
 use Rattle.std.proofs.Common.{◌≡◌, ℕ, ◌+◌, ◌-◌, ◌*◌, ◌<◌, ◌≤◌, zero, suc, List, [], ◌∷◌, ◌++◌, length, take, drop, refl, sym, ap, ◌∙◌, arith, take-append-drop}
 use Rattle.std.specs.Prelude.{max}
 use Rattle.std.specs.Simd.{first_chunks}
@@ -45,9 +45,9 @@ values-chunks (suc n) xs size =
     let rest : length (drop 4 xs) ≡ 4 * n = omega (arith, length-drop 4 xs, size) in
     ap (λ ys. take 4 xs ++ ys) (values-chunks n (drop 4 xs) rest) ∙ take-append-drop 4 xs
 
--- ---- a part that is joined
+-- ---- a part of which the maximum is taken
 
--- the next m registers are joined, after the first a
+-- the maximum of the next m registers is taken, after the first a
 next_joined : (a m n : ℕ) (V Q : List ℕ) → n ≡ a + m → n ≤ length V → length V ≡ length Q
     → join (take a V) (take a Q) ++ join (take m (drop a V)) (take m (drop a Q)) ≡ join (take n V) (take n Q)
 next_joined zero m n V Q sum le same = let all : m ≡ n = omega (arith, sum) in ap (λ k. join (take k V) (take k Q)) all
@@ -56,7 +56,7 @@ next_joined (suc a) m (suc n) [] Q sum le same = absurd (omega (arith, le))
 next_joined (suc a) m (suc n) (r ∷ V) [] sum le same = absurd (omega (arith, same))
 next_joined (suc a) m (suc n) (r ∷ V) (q ∷ Q) sum le same = ap (λ S. max r q ∷ S) (next_joined a m n V Q (omega (arith, sum)) (omega (arith, le)) (omega (arith, same)))
 
--- the registers of the elements before an index are joined, and the elements after it are as they were
+-- the maximum is taken of the registers of the elements before an index, and the elements after it are unchanged
 pub record JoinedBelow (at : ℕ) (first now : List (List ℕ)) (Q : List ℕ) : Type 0 where
   pub joined : values (take at now) ≡ join (take (4 * at) (values first)) (take (4 * at) Q)
   pub rest : drop at now ≡ drop at first
@@ -95,7 +95,7 @@ joined_all at first now Q four same size so ended =
     ap values (sym (take_all at now ended)) ∙ so.joined
     ∙ (λ i. join (take_all (4 * at) (values first) (omega (arith, ended, same, length-values first four)) i) (take_all (4 * at) Q (omega (arith, ended, same, size)) i))
 
--- the registers of a part, of those of a source from one on
+-- the registers of a part, from those of a source from an index on
 pub registers_part : (first at end n : ℕ) (R : List ℕ) → at ≤ end → end ≤ n → take (4 * (end - at)) (drop (first + 4 * at) R) ≡ take (4 * (end - at)) (drop (4 * at) (take (4 * n) (drop first R)))
 registers_part first at end n R le within =
     let rest : 4 * n ≡ 4 * at + (4 * n - 4 * at) = omega (arith, le, within) in

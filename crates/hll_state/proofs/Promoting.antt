@@ -25,13 +25,13 @@ joined-more V W c cs k is =
     ap (λ X. join X others) is ∙ join_assoc V one others
     ∙ ap (join V) (join_comm one others ∙ sym (fold_to-union (set_of cs) (set_of (c ∷ [])) k) ∙ ap (λ S. fold_to S k) (sym (insert-union (set_of cs) c)))
 
--- one coupon was joined
+-- one coupon was added
 pub coupons_more : (k : ℕ) (now next coupons : List ℕ) (i : ℕ) (all : List ℕ) → i < length coupons → join now (fold_to (set_of (drop i coupons)) k) ≡ all
     → next ≡ join now (fold_to (set_of (get_or coupons i 0 ∷ [])) k) → join next (fold_to (set_of (drop (i + 1) coupons)) k) ≡ all
 coupons_more k now next coupons i all inside same is =
     joined-more now next (get_or coupons i 0) (drop (i + 1) coupons) k is ∙ ap (λ cs. join now (fold_to (set_of cs) k)) (sym (drop_more coupons i 0 inside)) ∙ same
 
--- all coupons were joined
+-- all coupons were added
 pub coupons_all : (k : ℕ) (now coupons : List ℕ) (i : ℕ) (all : List ℕ) → length coupons ≤ i → length now ≡ 2 ^ k → join now (fold_to (set_of (drop i coupons)) k) ≡ all → now ≡ all
 coupons_all k now coupons i all past size same = joined-nil now k size ∙ ap (λ cs. join now (fold_to (set_of cs) k)) (sym (drop_all i coupons past)) ∙ same
 

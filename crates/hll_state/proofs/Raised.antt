@@ -1,5 +1,5 @@
 -- SPDX-License-Identifier: Apache-2.0
--- Coupons that are raised into registers in the cleared state, together.
+-- Coupons that are all added to registers in the cleared state.
 use Rattle.std.proofs.Common.{◌≡◌, ℕ, ◌-◌, ◌^◌, ◌≤◌, Bool, true, false, nat_eq, List, length, take, refl, sym, ap, ◌∙◌, arith}
 use Rattle.std.specs.Prelude.{if◌then◌else◌}
 use Rattle.std.specs.Cmp.Lexicographic.{pointwise}

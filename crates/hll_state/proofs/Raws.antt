@@ -18,7 +18,7 @@ get_or-raws xs i d l = get_or-map (from_le_bytes w32) xs i [] d l
 pub take-raws_take : (m n : ℕ) (xs : List (List ℕ)) → m ≤ n → take m (raws (take n xs)) ≡ take m (raws xs)
 take-raws_take m n xs le = ap (take m) (sym (take-map (from_le_bytes w32) n xs)) ∙ take-take m n (raws xs) le
 
--- a prefix of the raw coupons where other elements are appended
+-- a prefix of the raw coupons if other elements are appended
 pub take-raws_append : (n : ℕ) (xs ys : List (List ℕ)) → n ≤ length xs → take n (raws (xs ++ ys)) ≡ take n (raws xs)
 take-raws_append n xs ys le = ap (take n) (map-append (from_le_bytes w32) xs ys) ∙ take-append-le n (raws xs) (raws ys) (omega (arith, le, length-raws xs))
 
@@ -32,7 +32,7 @@ moved_to_end xs ys n within same is =
     let front : length (take end xs) ≡ end = length-take-le end xs (omega arith) in
     ap (drop end) whole ∙ ap (λ m. drop m (take end xs ++ take n xs)) (sym front) ∙ drop-append_seam (take end xs) (take n xs)
 
--- where elements don't descend by their raw coupons, these don't descend
+-- if elements don't descend by their raw coupons, the raw coupons don't descend
 pub raws_rise : (xs : List (List ℕ)) → IsNonDecreasingBy (from_le_bytes w32) xs → IsNonDecreasing (raws xs)
 raws_rise xs up i j d le within =
     let l : j < length xs = omega (arith, within, length-raws xs) in

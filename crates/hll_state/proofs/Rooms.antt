@@ -28,7 +28,7 @@ greatest_low k low = cond-true (leb k 7) 3 (k - 3) (le-leb k 7 low)
 greatest_high : (k : ℕ) → 8 ≤ k → greatest_size k ≡ k - 3
 greatest_high k high = cond-false (leb k 7) 3 (k - 3) (lt-leb k 7 (omega (arith, high)))
 
--- it is one of the sizes
+-- the greatest size is one of the sizes
 has_greatest : (k : ℕ) → has (greatest_size k) (sizes k) ≡ true
 has_greatest k = elim (cases_lt k 8) [
   | inl low ↦ ap (λ q. has q (sizes k)) (greatest_low k (omega (arith, low))) ∙ has-head 3 (range_with_len 5 (k - 7))
@@ -67,7 +67,7 @@ held_below q n least holds = elim (cases_Bool (eqb q 3)) [
       omega (arith, leb-true (4 * n) (3 * 2 ^ q) fits, some)
 ]
 
--- and a size is at most that of the elements that may be in use
+-- and a size is at most the number of elements that may be in use
 size_small : (k q : ℕ) → has q (sizes k) ≡ true → (3 ≤ q) × (2 ^ q ≤ most_used k)
 size_small k q h =
     let r = at_index (sizes k) q h in
@@ -96,7 +96,7 @@ few_below k n few =
     let small = size_small k (greatest_size k) (has_greatest k) in
     omega (arith, held_below (greatest_size k) n small.0 few, small.1)
 
--- the elements for more coupons are enough for fewer
+-- enough elements for more coupons are enough for fewer
 pub elements_mono : (k n m : ℕ) → n ≤ m → elements_for k n ≤ elements_for k m
 elements_mono k n m le = elim (cases_Bool (are_few k m)) [
   | inl few ↦ omega (arith, le, cond-true (are_few k m) m (most_elements k) few, cond-true (are_few k n) n (most_elements k) (fewer_few k n m le few))
@@ -109,7 +109,7 @@ elements_mono k n m le = elim (cases_Bool (are_few k m)) [
       | inr many ↦ omega (arith, cond-false (are_few k n) n (most_elements k) many)
     ]
 
--- as many elements as coupons in use are there
+-- there are at least as many elements as coupons in use
 pub used_within : (k n room : ℕ) → n ≤ most_used k → elements_for k n ≤ room → n ≤ room
 used_within k n room most enough = elim (cases_Bool (are_few k n)) [
   | inl few ↦ omega (arith, enough, cond-true (are_few k n) n (most_elements k) few)
@@ -144,7 +144,7 @@ some_below k p n e = of (stage k p n) refl e
     of (Some q) is t = staged_below k p n q is
     of None is t = absurd (true≢false (sym t))
 
--- a size of a table that is found is one for so many coupons
+-- a size of a table that is found is one for this number of coupons
 pub staged_table : (k p n q : ℕ) → stage k p n ≡ Some q → IsTableFor k n q
 staged_table k p n q e =
     let r = finds (λ q. leb p q && can_hold q n) (sizes k) q e in
@@ -170,7 +170,7 @@ room_fewer h n m room le has = of h.held has
     of (Coupons c) has = omega (arith, has, elements_mono h.lg_k (c.run.used + n) (c.run.used + m) (omega (arith, le)))
     of (Registers s) has = has
 
--- as many elements are in use beside registers as may be
+-- at most as many elements are in use in addition to registers as may be
 pub used_most : (h : Header) (room : ℕ) → IsWithin h room → used_in h.held ≤ most_used h.lg_k
 used_most h room within = of h.held within.held
   where

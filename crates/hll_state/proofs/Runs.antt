@@ -13,7 +13,7 @@ use Rattle.hll_state.proofs.Raws.{length-raws}
 pub run-settled : (n : ℕ) (coupons : List (List ℕ)) → n ≤ length coupons → IsRun (record { run = n; used = n }) coupons
 run-settled n coupons within = record { run = omega arith; used = within }
 
--- ---- one coupon more in the tail
+-- ---- one more coupon in the tail
 module _ (r : CouponRun) (coupons new : List (List ℕ)) (raw : ℕ) (l : r.used < length coupons) (w : raws new ≡ set (raws coupons) r.used raw) where
   pub members-push : members (record { run = r.run; used = r.used + 1 }) new ≡ insert (members r coupons) raw
   members-push =

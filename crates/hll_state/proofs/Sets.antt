@@ -25,7 +25,7 @@ pub set_of-permutation : (xs ys : List ℕ) → IsPermutation xs ys → set_of y
 set_of-permutation xs ys p = same_members _ _
     (λ q. both_ways _ _ (member-permutation ys xs q (IsPermutation-sym xs ys p)) (member-permutation xs ys q p))
 
--- the set of two lists is the union of theirs
+-- the set of two concatenated lists is the union of their sets
 pub set_of-append : (xs ys : List ℕ) → set_of (xs ++ ys) ≡ union (set_of xs) (set_of ys)
 set_of-append xs ys = same_members _ _ (λ q.
     contains-from_list_nat (xs ++ ys) q ∙ list_any-append (λ y. nat_eq y q) xs ys
@@ -34,6 +34,6 @@ set_of-append xs ys = same_members _ _ (λ q.
 pub set_of-split : (n : ℕ) (xs : List ℕ) → union (set_of (take n xs)) (set_of (drop n xs)) ≡ set_of xs
 set_of-split n xs = sym (set_of-append (take n xs) (drop n xs)) ∙ ap set_of (take-append-drop n xs)
 
--- one raw coupon more
+-- one more raw coupon
 pub set_of-push : (xs : List ℕ) (w : ℕ) → set_of (xs ++ w ∷ []) ≡ insert (set_of xs) w
 set_of-push xs w = set_of-append xs (w ∷ []) ∙ sym (insert-union (set_of xs) w)

@@ -11,7 +11,7 @@ use Rattle.hll_state.proofs.Raws.{length-raws}
 use Rattle.hll_state.specs.CouponRun.{members, raws}
 use Rattle.hll_state.specs.declared.run.CouponRun.{CouponRun}
 
--- they are as many as their set has members
+-- their number is the number of members of their set
 pub used_count : (n : ℕ) (body : List (List ℕ)) (S : Pairs) → n ≤ length body → IsAscending (take n (raws body)) S → n ≡ len S
 used_count n body S within up = sym (length-take-le n (raws body) (omega (arith, within, length-raws body))) ∙ len-ascending (take n (raws body)) S up
 

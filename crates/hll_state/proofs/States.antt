@@ -25,7 +25,7 @@ one_header elements g h is other = let same : Some g ≡ Some h = sym is.read �
 pub rest_of : (elements body : List (List ℕ)) → 10 ≤ length elements → drop 10 (take 10 elements ++ body) ≡ body
 rest_of elements body there = ap (λ n. drop n (take 10 elements ++ body)) (sym (length-take-le 10 elements there)) ∙ drop-append_seam (take 10 elements) body
 
--- those that are borrowed, as they were and as they were written
+-- the elements after the first ten when they are borrowed, before and after they are written
 pub rest_borrowed : (elements : List (List ℕ)) → mid_of 10 (length elements - 10) elements ≡ drop 10 elements
 rest_borrowed elements = take_all (length elements - 10) (drop 10 elements) (omega (arith, length-drop 10 elements))
 
@@ -35,16 +35,16 @@ rest_written elements body there =
     rest_of elements (body ++ drop k (drop 10 elements)) there
     ∙ ap (λ zs. body ++ zs) (drop_all k (drop 10 elements) (omega (arith, length-drop 10 elements))) ∙ append-nil body
 
--- the header that is read for a state is its own, whatever is written over the elements after it
+-- the header that is read of a state is its own, whatever is written over the elements after it
 pub opened : (elements body : List (List ℕ)) (h g : Header) → HasHeader elements h → sketch_in g body ≡ sketch_in h (mid_of 10 (length elements - 10) elements)
     → sketch_in g body ≡ sketch_in h (drop 10 elements)
 opened elements body h g has same = same ∙ ap (sketch_in h) (rest_borrowed elements)
 
--- what a state means
+-- the sketch of a state
 pub means : (elements : List (List ℕ)) (h : Header) → HasHeader elements h → IsStateOf elements (sketch_in h (drop 10 elements))
 means elements h has = record { state = record { header = h; has = has }; is = refl }
 
--- what elements with a header of their own mean
+-- the sketch of elements with a header of their own
 pub kept : (old new : List (List ℕ)) (g h : Header) → HasHeader old g → HasHeader new h → sketch_in h (drop 10 new) ≡ sketch_in g (drop 10 old) → OfState old (IsStateOf new)
 kept old new g h was is same = record {
   sketch = sketch_in g (drop 10 old);
@@ -84,7 +84,7 @@ module _ (n : ℕ) (old new : List (List ℕ)) (h : Header) (ready : IsReady n o
   pub written_within : (body : List (List ℕ)) → length body ≡ length (mid_of 10 (length new - 10) new) → length (mid_of 10 (length new - 10) new) ≡ length (put_mid 10 (length new - 10) new body) - 10
   written_within body l = ready_size ∙ ap (λ m. m - 10) (sym (written_size body l))
 
-  -- once something was made of it, and its header was written
+  -- after its sketch was changed, and its header was written
   pub closed : (f : Sketch → Sketch) (g : Header) (body final : List (List ℕ)) → sketch_in g body ≡ f (sketch_in h (mid_of 10 (length new - 10) new)) → HasHeader final g
       → drop 10 final ≡ drop 10 (put_mid 10 (length new - 10) new body) → OfState old (λ x. IsStateOf final (f x))
   closed f g body final made has rest =

@@ -10,13 +10,13 @@ use Rattle.hll_coupons.specs.Ascending.{without_first, IsLeastFirst}
 use Rattle.hll_coupons.proofs.Merging.{MergesRest}
 use Rattle.hll_state.proofs.Merging.{merges_next}
 
--- the first of what is left of a list is taken
+-- the first number of what is left of a list is taken
 passed : (xs : List ℕ) (i w d : ℕ) → i < length xs → d ≡ 1 → get_or xs i 0 ≡ w → drop (i + d) xs ≡ without_first w (drop i xs)
 passed xs i w d l one is =
     ap (λ e. drop (i + e) xs) one
     ∙ sym (ap (without_first w) (drop_more xs i 0 l) ∙ ap (λ t. cond t (drop (i + 1) xs) (get_or xs i 0 ∷ drop (i + 1) xs)) (eq-eqb (get_or xs i 0) w is))
 
--- the first of what is left of a list is another one, and stays
+-- the first number of what is left of a list is another one, and is left there
 stayed : (xs : List ℕ) (i w d : ℕ) → i < length xs → d ≡ 0 → (get_or xs i 0 ≡ w → ⊥) → drop (i + d) xs ≡ without_first w (drop i xs)
 stayed xs i w d l none other =
     let e : i + d ≡ i = omega arith in

@@ -22,7 +22,7 @@ needed-more : (k p : ℕ) (S T : Pairs) → content_with k (needed k p S) T ≡ 
 needed-more k p S T =
     ap (λ c. content_with k c T) (sym (needed-none k p S)) ∙ added_again k (coupons S p) empty T ∙ ap (λ U. needed k p (union S U)) (union-empty T)
 
--- whether some were added before or not
+-- whether coupons were added before or not
 pub content_with-coupons : (k : ℕ) (c : CouponTable) (S T : Pairs) → content_with k (content_of_coupons k c S) T ≡ needed k c.lg_size (union S T)
 content_with-coupons k c S T = of c.added refl
   where

@@ -42,7 +42,7 @@ set_at (g ∷ xs) (suc i) j v four inside small =
     ap (λ ys. g ++ ys) (set_at xs i j v (rest_have g xs four) (omega (arith, inside)) small ∙ ap (λ n. set (values xs) n v) later)
     ∙ sym (set-append_right g (values xs) 4 (4 * suc i + j) v long (omega arith))
 
--- a slot is in its fourth of the elements
+-- a slot is one of four registers of its element
 slot_of_parts : (s : ℕ) → 4 * (s / 4) + s % 4 ≡ s
 slot_of_parts s = omega arith
 
@@ -52,7 +52,7 @@ get_or-values xs s four inside = sym (get_at xs (s / 4) (s % 4) four (omega (ari
 pub values-set : (xs : List (List ℕ)) (s v : ℕ) → HaveFour xs → s < 4 * length xs → values (set xs (s / 4) (set (get_or xs (s / 4) []) (s % 4) v)) ≡ set (values xs) s v
 values-set xs s v four inside = set_at xs (s / 4) (s % 4) v four (omega (arith, inside)) (omega arith) ∙ ap (λ n. set (values xs) n v) (slot_of_parts s)
 
--- 2^k registers are in a quarter as many elements
+-- 2^k registers are in 2^(k - 2) elements
 pub four_each : (k : ℕ) → 4 ≤ k → 4 * 2 ^ (k - 2) ≡ 2 ^ k
 four_each k least =
     let up : suc (suc (k - 2)) ≡ k = omega (arith, least) in

@@ -1,5 +1,5 @@
 -- SPDX-License-Identifier: Apache-2.0
--- The sketch that a state means (docs/MODEL.md, "States of a counter").
+-- The sketch of a state (docs/MODEL.md, "States of a counter").
 use Rattle.std.specs.Prelude.{◌≡◌, ◌≢◌, ℕ, ◌-◌, ◌^◌, true, if◌then◌else◌, List, take, None}
 use Rattle.std.specs.FinSet.{len}
 use Rattle.std.specs.List.Sorted.{IsStrictlyIncreasing}
@@ -15,7 +15,7 @@ use Rattle.hll_state.specs.declared.header.Held.{Held}
 use Rattle.hll_state.specs.declared.header.Held.TheVariants.{Coupons, Registers}
 use Rattle.hll_state.specs.declared.header.CouponTable.{CouponTable}
 
--- coupons in a table as it was taken over; or, once some were added, in the table that they need, or in registers
+-- coupons in the table that they were copied with; or, once coupons were added, in the table that they need, or as registers
 abbrev pub content_of_coupons : ℕ → CouponTable → Pairs → Content
 content_of_coupons k c S = if c.added then content_for k S (stage k c.lg_size (len S)) else coupons S c.lg_size
 
@@ -27,7 +27,7 @@ content_of k (Registers s) body = registers (values (take (2 ^ (k - 2)) body)) s
 abbrev pub sketch_in : Header → List (List ℕ) → Sketch
 sketch_in h body = record { lg_k = h.lg_k; width = Hll8; content = content_of h.lg_k h.held body }
 
--- coupons ascend, each once, and they are not to become registers
+-- coupons ascend, none is repeated, and they are not too many for a table
 pub record AreResolved (k : ℕ) (c : CouponTable) (body : List (List ℕ)) : Type 0 where
   pub settled : c.run.run ≡ c.run.used
   pub ascends : IsStrictlyIncreasing (take c.run.used (raws body))
@@ -37,6 +37,6 @@ abbrev pub IsHeldResolved : ℕ → Held → List (List ℕ) → Type 0
 IsHeldResolved k (Coupons c) body = AreResolved k c body
 IsHeldResolved k (Registers s) body = Unit {0}
 
--- what a state means is there as it is written
+-- the sketch of a state can be read from the elements
 abbrev pub IsResolved : Header → List (List ℕ) → Type 0
 IsResolved h body = IsHeldResolved h.lg_k h.held body

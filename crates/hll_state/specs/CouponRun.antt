@@ -1,6 +1,6 @@
 -- SPDX-License-Identifier: Apache-2.0
--- Coupons in the elements of a slice: a run, and a tail in any order, which may repeat coupons. Calls that leave a run make it
--- ascend; no definition relies on that.
+-- Coupons in the elements of a slice: a run, and a tail in any order, which may repeat coupons. Calls leave an ascending run;
+-- no definition relies on that.
 use Rattle.std.specs.Prelude.{ℕ, ◌≤◌, List, length, map, take}
 use Rattle.std.specs.Int.{w32, from_le_bytes}
 use Rattle.hll_coupons.specs.Pair.{Pairs, set_of}
@@ -14,7 +14,7 @@ raws coupons = map (from_le_bytes w32) coupons
 abbrev pub members : CouponRun → List (List ℕ) → Pairs
 members r coupons = set_of (take r.used (raws coupons))
 
--- the run is within the elements in use, and these are within the slice; what they hold is not said
+-- the run is within the elements in use, and these are within the slice; nothing is required of what they hold
 pub record IsRun (r : CouponRun) (coupons : List (List ℕ)) : Type 0 where
   pub run : r.run ≤ r.used
   pub used : r.used ≤ length coupons

@@ -1,5 +1,5 @@
 -- SPDX-License-Identifier: Apache-2.0
--- What the first ten elements of a state say, each as a number of 32 bits (docs/MODEL.md, "States of a counter").
+-- What the first ten elements of a state say, each as a 32-bit number (docs/MODEL.md, "States of a counter").
 use Rattle.std.specs.Prelude.{◌≡◌, ℕ, ◌+◌, ◌-◌, ◌*◌, ◌%◌, ◌^◌, ◌≤◌, ◌<◌, ◌==◌, nat_le, Bool, false, if◌then◌else◌, List, [], ◌∷◌, slice_index, Option, Some, None, max}
 use Rattle.hll_registers.specs.declared.estimate_state.EstimateState.{EstimateState}
 use Rattle.hll_sketch.specs.Layout.{IsSize}
@@ -12,7 +12,7 @@ use Rattle.hll_state.specs.declared.header.CouponTable.{CouponTable}
 
 -- ---- reading
 
--- the number of 64 bits in two of 32, the lower one first
+-- a 64-bit number in two 32-bit numbers, the lower half first
 abbrev pub wide : List ℕ → ℕ → ℕ
 wide ws i = slice_index ws i + 2 ^ 32 * slice_index ws (i + 1)
 
@@ -26,7 +26,7 @@ coupons_in_header ws = record {
 abbrev pub state_in_header : List ℕ → EstimateState
 state_in_header ws = record { words = wide ws 4 ∷ wide ws 6 ∷ wide ws 8 ∷ []; out_of_order = slice_index ws 3 == 1 }
 
--- the first number tells coupons from registers
+-- the first number distinguishes coupons from registers
 abbrev pub coupons_tag : ℕ
 coupons_tag = 1279806529
 
@@ -42,7 +42,7 @@ abbrev pub with_held : List ℕ → Option Held → Option Header
 with_held ws None = None
 with_held ws (Some held) = Some (record { lg_k = slice_index ws 1 % 32; widths = slice_index ws 2 % 8; held = held })
 
--- what the numbers say, if they are those of a state
+-- what the numbers say, if they are the header of a state
 abbrev pub header_of : List ℕ → Option Header
 header_of ws = with_held ws (held_in_header ws)
 
@@ -66,23 +66,24 @@ new_header k = record { lg_k = k; widths = 0; held = Coupons (record { lg_size =
 abbrev pub greatest_size : ℕ → ℕ
 greatest_size k = if nat_le k 7 then 3 else k - 3
 
--- so many coupons never become registers
+-- this number of coupons never becomes registers
 abbrev pub are_few : ℕ → ℕ → Bool
 are_few k n = can_hold (greatest_size k) n
 
--- as many coupons as are in use, repeated ones among them, before the distinct ones are counted
+-- the greatest number of coupons in use, including repeated ones, before the distinct coupons are counted
 abbrev pub most_used : ℕ → ℕ
 most_used k = 2 ^ max 4 (k - 3)
 
--- the elements after the header that are enough for all states: for registers, and beside them the coupons that become these
+-- the number of elements after the header that is enough for all states: for registers, and next to them for the coupons that
+-- become registers
 abbrev pub most_elements : ℕ → ℕ
 most_elements k = 2 ^ (k - 2) + most_used k
 
--- the elements after the header that are enough for n coupons
+-- the number of elements after the header that is enough for n coupons
 abbrev pub elements_for : ℕ → ℕ → ℕ
 elements_for k n = if are_few k n then n else most_elements k
 
--- the coupons are within so many elements
+-- `room` elements are enough for the coupons
 pub record AreWithin (k : ℕ) (c : CouponTable) (room : ℕ) : Type 0 where
   pub size : IsSize k c.lg_size
   pub taken : c.added ≡ false → IsTableFor k c.run.used c.lg_size
@@ -94,7 +95,7 @@ abbrev pub IsHeldWithin : ℕ → Held → ℕ → Type 0
 IsHeldWithin k (Coupons c) room = AreWithin k c room
 IsHeldWithin k (Registers s) room = 2 ^ (k - 2) ≤ room
 
--- all that the header says is there is within so many elements after it
+-- `room` elements after the header are enough for what it says
 pub record IsWithin (h : Header) (room : ℕ) : Type 0 where
   pub lg_k : IsLgK h.lg_k
   pub widths : h.widths < 8
@@ -104,7 +105,7 @@ abbrev pub HasRoomFor : ℕ → Held → ℕ → ℕ → Type 0
 HasRoomFor k (Coupons c) n room = elements_for k (c.run.used + n) ≤ room
 HasRoomFor k (Registers s) n room = 2 ^ (k - 2) ≤ room
 
--- so many elements after the header are enough for n coupons more
+-- `room` elements after the header are enough for n more coupons
 abbrev pub HasRoom : Header → ℕ → ℕ → Type 0
 HasRoom h n room = HasRoomFor h.lg_k h.held n room
 

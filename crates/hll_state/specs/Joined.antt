@@ -1,5 +1,5 @@
 -- SPDX-License-Identifier: Apache-2.0
--- Images and states that are joined to a state (docs/MODEL.md, "States of a counter").
+-- Images and states that are merged into a state (docs/MODEL.md, "States of a counter").
 use Rattle.std.specs.Prelude.{◌≡◌, ℕ, ◌+◌, ◌-◌, ◌≤◌, ◌==◌, Bool, true, false, not, ◌&&◌, nat_le, if◌then◌else◌, bit_or, List, length}
 use Rattle.hll_base.specs.declared.hll_type.HllType.TheVariants.{Hll8}
 use Rattle.hll_sketch.specs.Merging.{merge}
@@ -17,15 +17,15 @@ use Rattle.hll_state.specs.declared.join.Joined.TheVariants.{Done, NoRoom, Other
 abbrev pub lg_ks_differ : Bool → ℕ → Sketch → Bool
 lg_ks_differ bounded k y = not bounded && (not (is_empty y) && not (k == y.lg_k))
 
--- then only an empty sketch can be joined to
+-- then the sketch is not merged, unless the first sketch is empty
 abbrev pub is_refused : Bool → Sketch → Sketch → Bool
 is_refused bounded x y = lg_ks_differ bounded x.lg_k y && not (is_empty x)
 
--- an empty sketch is joined: without a bound an empty one takes its lg_k where that is greater
+-- an empty sketch is merged: without a bound, an empty sketch takes its lg_k if that is greater
 abbrev pub raised : Bool → ℕ → Sketch → Sketch
 raised bounded k x = if not bounded && (is_empty x && not (nat_le k x.lg_k)) then empty_sketch k Hll8 else x
 
--- what a sketch is merged into: an empty one takes the other lg_k, where no bound was given
+-- what a sketch is merged into: an empty sketch takes the other lg_k, if no bound was given
 abbrev pub started : Bool → Sketch → Sketch → Sketch
 started bounded x y = if is_empty y then raised bounded y.lg_k x else (if lg_ks_differ bounded x.lg_k y then empty_sketch y.lg_k Hll8 else x)
 
@@ -41,13 +41,13 @@ started_header bounded h y = if lg_ks_differ bounded h.lg_k y then restarted y.l
 abbrev pub joined : Bool → Sketch → Sketch → Sketch
 joined bounded x y = merge (started bounded x y).lg_k (started bounded x y) y
 
--- the widths of all that were joined and are not empty, or of all where each is empty
+-- the widths of all merged sketches that are not empty, or of all if each is empty
 abbrev pub widths_after : ℕ → ℕ → Bool → Bool → ℕ
 widths_after widths others is_first_empty is_second_empty = if is_first_empty
     then (if is_second_empty then bit_or widths others else others)
     else (if is_second_empty then widths else bit_or widths others)
 
--- an empty sketch was joined, and widths were set
+-- an empty sketch was merged, and widths were set
 pub record JoinsEmpty (bounded : Bool) (widths k : ℕ) (old new : Header) (body : List (List ℕ)) : Type 0 where
   pub within : IsWithin old (length body) → IsWithin new (length body)
   pub is : IsWithin old (length body) → HasSomeRegister (sketch_in old body) → sketch_in new body ≡ raised bounded k (sketch_in old body)
@@ -60,35 +60,35 @@ pub record IsMerged (widths : ℕ) (y x : Sketch) (k : ℕ) (new : Header) (z : 
   pub is : HasSomeRegister x → z ≡ merge k x y
   pub widths_are : new.widths ≡ widths
 
--- so many elements are enough to merge a sketch, and no more than any state of the lg_k needs
+-- this number of elements is enough to merge a sketch, and no more than any state of the lg_k needs
 pub record AreEnoughToMerge (y : Sketch) (h : Header) (len : ℕ) : Type 0 where
   pub header_fits : 10 ≤ len
   pub lg_k : IsLgK h.lg_k
   pub room : HasRoomToMerge h y (len - 10)
   pub most : len ≤ 10 + most_elements h.lg_k
 
--- a sketch is merged, or there is no room and the meaning stays
+-- a sketch is merged; or there is not enough room, and the sketch of the state is unchanged
 abbrev pub MergesInto : ℕ → Sketch → Header → List (List ℕ) → Header → List (List ℕ) → Joined → Type 0
 MergesInto widths y old old_body new new_body Done = IsMerged widths y (sketch_in old old_body) old.lg_k new (sketch_in new new_body)
 MergesInto widths y old old_body new new_body (NoRoom len) =
     (sketch_in new new_body ≡ sketch_in old old_body) × (new.widths ≡ old.widths) × (HasRoomToMerge old y (length old_body) → ⊥) × AreEnoughToMerge y new len
 MergesInto widths y old old_body new new_body OtherLgK = ⊥
 
--- a sketch is merged into the empty one at its lg_k, or there is no room, and the header stays
+-- a sketch is merged into the empty one at its lg_k; or there is not enough room, and the header is unchanged
 abbrev pub Restarts : ℕ → Sketch → Header → List (List ℕ) → Header → List (List ℕ) → Joined → Type 0
 Restarts widths y old old_body new new_body Done = IsMerged widths y (empty_sketch y.lg_k Hll8) y.lg_k new (sketch_in new new_body)
 Restarts widths y old old_body new new_body (NoRoom len) = (new ≡ old) × (HasRoomToMerge (restarted y.lg_k old.widths) y (length old_body) → ⊥) × AreEnoughToMerge y (restarted y.lg_k old.widths) len
 Restarts widths y old old_body new new_body OtherLgK = ⊥
 
--- ---- what a join gives
+-- ---- what `Header::join` gives
 
--- the sketches are joined, of one lg_k or under a bound
+-- the sketches are merged, of the same lg_k or under a bound
 pub record AreJoined (bounded : Bool) (others : ℕ) (y x : Sketch) (old new : Header) (z : Sketch) : Type 0 where
   pub accepted : HasSomeRegister x → is_refused bounded x y ≡ false
   pub is : HasSomeRegister x → z ≡ joined bounded x y
   pub widths : HasSomeRegister x → new.widths ≡ widths_after old.widths others (is_empty x) (is_empty y)
 
--- there is no room, the meaning stays, and so many elements are enough
+-- there is not enough room, the sketch of the state is unchanged, and this number of elements is enough
 pub record LacksRoomToJoin (bounded : Bool) (y x : Sketch) (old new : Header) (z : Sketch) (room len : ℕ) : Type 0 where
   pub kept : z ≡ x
   pub widths : new.widths ≡ old.widths

@@ -1,5 +1,6 @@
 -- SPDX-License-Identifier: Apache-2.0
--- States in memory of the caller: a header in the first ten elements, and what it says after it (docs/MODEL.md, "States of a counter").
+-- States in memory of the caller: a header in the first ten elements, and the coupons or registers after it
+-- (docs/MODEL.md, "States of a counter").
 use Rattle.std.specs.Prelude.{◌≡◌, ℕ, ◌+◌, ◌-◌, ◌≤◌, List, length, drop, Some}
 use Rattle.hll_sketch.specs.Value.{Sketch}
 use Rattle.hll_state.specs.Counter.{sketch_in}
@@ -9,7 +10,7 @@ use Rattle.hll_state.specs.declared.header.Header.{Header}
 use Rattle.hll_state.specs.declared.memory.Begun.{Begun}
 use Rattle.hll_state.specs.declared.memory.Begun.TheVariants.{NoState, NoRoom, Room}
 
--- the elements begin with this header, and all that it says is there is within those after it
+-- the elements begin with this header, and the elements after it are enough for what it says
 pub record HasHeader (elements : List (List ℕ)) (h : Header) : Type 0 where
   pub there : 10 ≤ length elements
   pub read : header_of (raws elements) ≡ Some h
@@ -20,27 +21,27 @@ pub record IsState (elements : List (List ℕ)) : Type 0 where
   pub header : Header
   pub has : HasHeader elements header
 
--- the elements are a state that means this sketch
+-- the elements are a state of this sketch
 pub record IsStateOf (elements : List (List ℕ)) (x : Sketch) : Type 0 where
   pub state : IsState elements
   pub is : x ≡ sketch_in state.header (drop 10 elements)
 
--- a state of so many elements has room for n coupons more
+-- a state in this number of elements has room for n more coupons
 abbrev pub HasRoomIn : List (List ℕ) → ℕ → ℕ → Type 0
 HasRoomIn elements n len = (h : Header) → HasHeader elements h → HasRoom h n (len - 10)
 
--- the sketch that a state means is as said
+-- the elements are a state, and `Is` holds for its sketch
 pub record OfState (elements : List (List ℕ)) (Is : Sketch → Type 0) : Type 0 where
   pub sketch : Sketch
   pub was : IsStateOf elements sketch
   pub is : Is sketch
 
--- a state is read, and its meaning stays; elements that are none stay as they are
+-- a state is only read, and its sketch is unchanged; elements that are not a state are unchanged
 pub record IsOnlyRead (old new : List (List ℕ)) : Type 0 where
   pub kept : IsState old → OfState old (IsStateOf new)
   pub unchanged : (IsState old → ⊥) → new ≡ old
 
--- so many elements are enough to add n coupons to a state, and no more than any state of its lg_k needs
+-- this number of elements is enough to add n coupons to a state, and no more than any state of its lg_k needs
 pub record AreEnough (elements : List (List ℕ)) (n len : ℕ) : Type 0 where
   pub header : Header
   pub has : HasHeader elements header
@@ -48,20 +49,20 @@ pub record AreEnough (elements : List (List ℕ)) (n len : ℕ) : Type 0 where
   pub room : HasRoom header n (len - 10)
   pub most : len ≤ 10 + most_elements header.lg_k
 
--- ---- a state is asked for room for n coupons
+-- ---- `begin`, which checks for room for n coupons
 
--- the elements are none, and stay as they are
+-- the elements are not a state, and are unchanged
 pub record IsNone (old new : List (List ℕ)) : Type 0 where
   pub none : IsState old → ⊥
   pub same : new ≡ old
 
--- there is no room, the meaning stays, and so many elements are enough
+-- there is not enough room, the sketch is unchanged, and this number of elements is enough
 pub record LacksRoom (n : ℕ) (old new : List (List ℕ)) (len : ℕ) : Type 0 where
   pub kept : OfState old (IsStateOf new)
   pub lacks : HasRoomIn old n (length old) → ⊥
   pub enough : AreEnough new n len
 
--- there is room, and this header with the elements after the first ten is what the state means
+-- there is room, and this header with the elements after the first ten has the sketch of the state
 pub record IsReady (n : ℕ) (old new : List (List ℕ)) (h : Header) : Type 0 where
   pub there : 10 ≤ length old
   pub within : IsWithin h (length old - 10)

@@ -1,5 +1,5 @@
 -- SPDX-License-Identifier: Apache-2.0
--- What is merged into a state.
+-- Sketches that are merged into a state.
 use Rattle.std.specs.Prelude.{◌≡◌, ℕ, ◌+◌, ◌-◌, ◌^◌, ◌≤◌, true, false, List, min, take}
 use Rattle.std.specs.FinSet.{len}
 use Rattle.hll_base.specs.declared.hll_type.HllType.{HllType}
@@ -32,17 +32,17 @@ abbrev pub AreHeldRegistersLegal : ℕ → Held → List (List ℕ) → Type 0
 AreHeldRegistersLegal k (Coupons c) body = Unit {0}
 AreHeldRegistersLegal k (Registers s) body = AreRegisters k (values (take (2 ^ (k - 2)) body))
 
--- the registers of a state, if it holds some, are 0 to 63
+-- the registers of a state, if it has registers, are 0 to 63
 abbrev pub HasLegalRegisters : Header → List (List ℕ) → Type 0
 HasLegalRegisters h body = AreHeldRegistersLegal h.lg_k h.held body
 
--- registers that it has, if any, are not all 0
+-- its registers, if it has registers, are not all 0
 abbrev pub HasSomeRegister : Sketch → Type 0
 HasSomeRegister x = in_registers x.content ≡ true → is_empty x ≡ false
 
 -- ---- widths
 
--- the bit of a width: 1 for four bits, 2 for six, 4 for eight
+-- the bit of a width: 1 for 4 bits, 2 for 6 bits, 4 for 8 bits
 abbrev pub bit_of : HllType → ℕ
 bit_of Hll4 = 1
 bit_of Hll6 = 2
@@ -50,16 +50,17 @@ bit_of Hll8 = 4
 
 -- ---- room
 
--- the elements in use beside registers
+-- the elements in use in addition to registers
 abbrev pub used_in : Held → ℕ
 used_in (Coupons c) = c.run.used
 used_in (Registers s) = 0
 
--- so many elements after the header are enough for coupons more, or for registers at the smaller lg_k, beside what is in use
+-- `room` elements after the header are enough for more coupons, or for registers at the smaller lg_k, in addition to the
+-- elements in use
 abbrev pub HasRoomForContent : Header → ℕ → Content → ℕ → Type 0
 HasRoomForContent h k (coupons S size) room = HasRoom h (len S) room
 HasRoomForContent h k (registers R state) room = 2 ^ (min h.lg_k k - 2) + used_in h.held ≤ room
 
--- so many elements after the header are enough to merge a sketch; an empty one needs none
+-- `room` elements after the header are enough to merge a sketch; an empty sketch needs none
 abbrev pub HasRoomToMerge : Header → Sketch → ℕ → Type 0
 HasRoomToMerge h x room = is_empty x ≡ false → HasRoomForContent h x.lg_k x.content room

@@ -1,5 +1,5 @@
 // SPDX-License-Identifier: Apache-2.0
-//! What a state means, borrowed as that of an image is, to be merged into another state.
+//! The sketch of a state, borrowed as the sketch of an image is, so that it can be merged into another state.
 ghost use Rattle.std.specs.Prelude.{◌≡◌, ◌≢◌, ◌-◌, ◌^◌, ◌≤◌, true, false, length, take, Some, None, IfOk, IfErr};
 ghost use Rattle.hll_base.specs.declared.error.Reason.TheVariants as reasons;
 ghost use Rattle.hll_kernels.specs.Packed.{AreRegisters};
@@ -24,7 +24,7 @@ use hll_sketch::stage::stage;
 use std::alloc::Allocator;
 
 impl Header {
-    /// Returns what a resolved state means, of eight bits, as the image of it would be borrowed.
+    /// Returns the sketch of a resolved state, with a width of 8 bits, as it would be borrowed from its image.
     ///
     /// Fails with `Register` if a register is above 63, which no call of this library writes.
     pub fn as_image<'a, A: Allocator>(
@@ -48,7 +48,7 @@ impl Header {
     }
 }
 
-/// Resolved coupons, with the table that they need.
+/// Returns resolved coupons, with the size of the table that they need.
 fn coupons_of<'a>(lg_k: u8, coupons: CouponTable, body: &'a [[u8; 4]]) -> CouponsOfImage<'a>
     requires lg_k { IsLgK lg_k }
     requires within { AreWithin lg_k coupons (length body.now) }
@@ -63,7 +63,7 @@ fn coupons_of<'a>(lg_k: u8, coupons: CouponTable, body: &'a [[u8; 4]]) -> Coupon
     }
 }
 
-/// The registers of a state, with their estimate state. `Register` where one is above 63.
+/// Returns the registers of a state, with their estimate state. Fails with `Register` if one is above 63.
 fn registers_of<'a>(
     lg_k: u8,
     state: EstimateState,

@@ -1,5 +1,5 @@
 // SPDX-License-Identifier: Apache-2.0
-//! A state: a header, and the elements after it. Coupons are added to it, and what it means is made ready to be read.
+//! A state: a header, and the elements after it. Coupons are added to it, and resolved so that its sketch can be read.
 ghost use Rattle.std.specs.Prelude.{◌≡◌, ℕ, ◌+◌, ◌-◌, ◌^◌, ◌<◌, ◌≤◌, ◌∷◌, [], true, length};
 ghost use Rattle.hll_coupons.specs.Pair.{Pairs, set_of};
 ghost use Rattle.hll_registers.specs.State.{state_after};
@@ -18,7 +18,8 @@ use hll_registers::registers::two_to;
 use hll_sketch::stage::stage;
 
 impl Header {
-    /// Makes what the state means ready to be read: coupons ascend, each once, or they have become registers. The meaning stays.
+    /// Makes the sketch of the state ready to be read: afterwards coupons ascend and none is repeated, or they have become
+    /// registers. The sketch is unchanged.
     pub fn resolve(&mut self, body: &mut [[u8; 4]])
         requires { IsWithin self.old (length body.old) }
         ensures within { IsWithin self.new (length body.old) }
@@ -51,7 +52,8 @@ impl Header {
         };
     }
 
-    /// Counts the distinct coupons where as many are in use as may be, since some are to be added: too many become registers.
+    /// Drops repeated coupons if the greatest number of elements is in use, since a coupon is about to be added. If the
+    /// distinct coupons are too many for a table, they become registers.
     #[inline(always)]
     fn leave_element(&mut self, body: &mut [[u8; 4]])
         requires { IsWithin self.old (length body.old) }
@@ -74,7 +76,7 @@ impl Header {
 }
 
 impl CouponTable {
-    /// The coupons, ascending and each once; or registers, where some were added and are too many for a table.
+    /// Returns the coupons, ascending and without repeats; or registers, if coupons were added and are too many for a table.
     #[inline(never)]
     fn resolved(mut self, body: &mut [[u8; 4]], lg_k: u8) -> Held
         requires lg_k { IsLgK lg_k }
@@ -94,7 +96,7 @@ impl CouponTable {
         Held::Coupons(self)
     }
 
-    /// The coupons and one more. An element is left for it.
+    /// Returns the coupons with one more. An element is left for it.
     #[inline(always)]
     fn with(mut self, body: &mut [[u8; 4]], lg_k: u8, raw: u32) -> CouponTable
         requires lg_k { IsLgK lg_k }
@@ -111,7 +113,7 @@ impl CouponTable {
     }
 }
 
-/// Raises the register of a raw coupon. Returns the estimate state: cleared, where the register rose.
+/// Raises the register of a raw coupon. Returns the estimate state, which is cleared if the register rose.
 #[inline(always)]
 fn raise_one(body: &mut [[u8; 4]], lg_k: u8, raw: u32, state: EstimateState) -> EstimateState
     requires lg_k { IsLgK lg_k }

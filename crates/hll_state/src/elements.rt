@@ -31,7 +31,7 @@ pub(crate) fn move_to_end(coupons: &mut [[u8; 4]], len: usize)
     coupons.copy_within(..len, end);
 }
 
-/// Moves the elements from `from` on down to `to`.
+/// Moves the elements from index `from` on down to index `to`.
 pub(crate) fn move_down(coupons: &mut [[u8; 4]], from: usize, to: usize)
     requires down { to ≤ from }
     requires within { from ≤ length coupons.old }
@@ -40,7 +40,7 @@ pub(crate) fn move_down(coupons: &mut [[u8; 4]], from: usize, to: usize)
     coupons.copy_within(from.., to);
 }
 
-/// Copies other elements over those from `at` on.
+/// Copies other elements over the elements from index `at` on.
 pub(crate) fn copy_to(coupons: &mut [[u8; 4]], at: usize, others: &[[u8; 4]])
     requires { at + length others.now ≤ length coupons.old }
     ensures { take (at + length others.now) (raws coupons.new) ≡ take at (raws coupons.old) ++ raws others.now }

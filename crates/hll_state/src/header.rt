@@ -1,5 +1,5 @@
 // SPDX-License-Identifier: Apache-2.0
-//! What the first elements of a state say, and whether all that it says is there is within the elements after it.
+//! What the first elements of a state say, and whether the elements after them are enough for it.
 ghost use Rattle.std.specs.Prelude.{◌≡◌, ◌↔◌, ◌+◌, ◌%◌, ◌/◌, ℕ, ◌^◌, ◌<◌, ◌≤◌, ◌++◌, if◌then◌else◌, Some, IsTrue, length, drop};
 ghost use Rattle.hll_registers.specs.State.{IsState};
 ghost use Rattle.hll_sketch.specs.Layout.{IsSize};
@@ -15,7 +15,7 @@ use hll_registers::estimate_state::EstimateState;
 use hll_registers::registers::two_to;
 use hll_sketch::stage::can_hold;
 
-/// The elements of a header.
+/// The number of elements of a header.
 pub const HEADER_LEN: usize = 10;
 
 /// The first number of a state that holds coupons.
@@ -29,7 +29,7 @@ pub struct Header {
     /// The logarithm of the number of registers, 4 to 21.
     pub lg_k: u8,
 
-    /// The widths of the images that were merged: 1 of four bits, 2 of six and 4 of eight, added.
+    /// The widths of the images that were merged, as a sum: 1 for 4 bits, 2 for 6 bits, 4 for 8 bits.
     pub widths: u8,
 
     /// What the elements after the header hold.
@@ -39,19 +39,19 @@ pub struct Header {
 /// What the elements after a header hold.
 #[derive(Clone, Copy, Debug, PartialEq, Eq)]
 pub enum Held {
-    /// Coupons, that become registers once they are too many.
+    /// Coupons, which become registers once they are too many.
     Coupons(CouponTable),
-    /// Registers, with the estimate state of a foreign sketch until one changes.
+    /// Registers, with the estimate state of a merged sketch until a register changes.
     Registers(EstimateState),
 }
 
-/// What is said of coupons.
+/// What a header says of coupons.
 #[derive(Clone, Copy, Debug, PartialEq, Eq)]
 pub struct CouponTable {
-    /// The logarithm of the number of buckets of the table that they began in: 3, or 5 to `lg_k` - 3.
+    /// The logarithm of the number of buckets of the table that the coupons began in: 3, or 5 to `lg_k` - 3.
     pub lg_size: u8,
 
-    /// Whether some were added since. Those of an image that was taken over keep its table until then.
+    /// Whether coupons were added since then. Coupons that were copied from an image keep its table until then.
     pub added: bool,
 
     /// Which elements are in use.
@@ -74,7 +74,7 @@ impl Header {
         }
     }
 
-    /// Reads a header from the first elements. `None` where they are not those of a state.
+    /// Reads a header from the first elements. Returns `None` if they are not the header of a state.
     #[inline(always)]
     pub fn read(elements: &[[u8; 4]]) -> Option<Header>
         requires { 10 ≤ length elements.now }
@@ -88,7 +88,8 @@ impl Header {
         })
     }
 
-    /// Writes the header over the first elements, if it is within the elements after them, however many these are.
+    /// Writes the header over the first elements. The header is valid for some number of elements after it; `elements` may have
+    /// any number of them.
     pub fn write(&self, elements: &mut [[u8; 4]])
         requires there { 10 ≤ length elements.old }
         requires within { (room : ℕ) × IsWithin self.now room }
@@ -102,7 +103,7 @@ impl Header {
         elements[..HEADER_LEN].copy_from_slice(&written);
     }
 
-    /// The elements of a header of coupons.
+    /// Returns the elements of a header of coupons.
     fn elements_of_coupons(&self, coupons: CouponTable) -> [[u8; 4]; HEADER_LEN]
         requires held { self.now.held ≡ spec.of_coupons coupons }
         requires within { (room : ℕ) × IsWithin self.now room }
@@ -122,7 +123,7 @@ impl Header {
         ]
     }
 
-    /// The elements of a header of registers.
+    /// Returns the elements of a header of registers.
     fn elements_of_registers(&self, state: EstimateState) -> [[u8; 4]; HEADER_LEN]
         requires held { self.now.held ≡ spec.of_registers state }
         requires within { (room : ℕ) × IsWithin self.now room }
@@ -143,7 +144,7 @@ impl Header {
         ]
     }
 
-    /// Whether all that the header says is there is within so many elements after it.
+    /// Returns whether `room` elements after the header are enough for what the header says.
     #[inline(always)]
     pub fn is_within(&self, room: usize) -> bool
         ensures { IsTrue result ↔ IsWithin self.now room }
@@ -154,7 +155,7 @@ impl Header {
             && self.held.is_within(self.lg_k, room)
     }
 
-    /// Whether so many elements after the header are enough for as many coupons more as `count`.
+    /// Returns whether `room` elements after the header are enough for `count` more coupons.
     #[inline(always)]
     pub fn has_room(&self, count: usize, room: usize) -> bool
         requires lg_k { IsLgK self.now.lg_k }
@@ -171,7 +172,7 @@ impl Header {
 }
 
 impl Held {
-    /// Whether all of it is within so many elements after the header.
+    /// Returns whether `room` elements after the header are enough for it.
     #[inline(always)]
     fn is_within(&self, lg_k: u8, room: usize) -> bool
         requires { IsLgK lg_k }
@@ -185,7 +186,7 @@ impl Held {
 }
 
 impl CouponTable {
-    /// Whether the coupons are within so many elements after the header.
+    /// Returns whether `room` elements after the header are enough for the coupons.
     #[inline(always)]
     fn are_within(&self, lg_k: u8, room: usize) -> bool
         requires { IsLgK lg_k }
@@ -199,7 +200,7 @@ impl CouponTable {
     }
 }
 
-/// Whether a table of 2^`lg_size` buckets may be one at an `lg_k`.
+/// Returns whether a table at this `lg_k` may have 2^`lg_size` buckets.
 #[inline(always)]
 fn is_size(lg_k: u8, lg_size: u8) -> bool
     requires { IsLgK lg_k }
@@ -208,7 +209,7 @@ fn is_size(lg_k: u8, lg_size: u8) -> bool
     lg_size == 3 || (5 <= lg_size && lg_size <= lg_k - 3)
 }
 
-/// Whether a list or a set of this size may have so many coupons.
+/// Returns whether a list or a set of this size may have `count` coupons.
 #[inline(always)]
 fn fits(count: usize, lg_size: u8) -> bool
     requires { lg_size ≤ 21 }
@@ -222,7 +223,8 @@ fn fits(count: usize, lg_size: u8) -> bool
     }
 }
 
-/// As many coupons as are in use, repeated ones among them, before the distinct ones are counted. `lg_k` is 4 to 21.
+/// Returns the greatest number of coupons in use, including repeated ones, before the distinct coupons are counted. `lg_k` is 4
+/// to 21.
 #[inline(always)]
 pub fn most_used(lg_k: u8) -> usize
     requires { IsLgK lg_k }
@@ -231,8 +233,8 @@ pub fn most_used(lg_k: u8) -> usize
     two_to((lg_k - 3).max(4))
 }
 
-/// The elements after a header that are enough for all states of an `lg_k` of 4 to 21: for registers, and beside them the
-/// coupons that become these.
+/// Returns the number of elements after a header that is enough for every state of this `lg_k`, 4 to 21: for registers, and
+/// next to them for the coupons that become registers.
 pub fn most_elements(lg_k: u8) -> usize
     requires { IsLgK lg_k }
     ensures { result ≡ spec.most_elements lg_k }
@@ -240,7 +242,7 @@ pub fn most_elements(lg_k: u8) -> usize
     two_to(lg_k - 2) + most_used(lg_k)
 }
 
-/// Whether so many coupons never become registers. `lg_k` is 4 to 21.
+/// Returns whether this number of coupons never becomes registers. `lg_k` is 4 to 21.
 #[inline(always)]
 pub fn are_few(lg_k: u8, count: usize) -> bool
     requires { IsLgK lg_k }
@@ -250,7 +252,7 @@ pub fn are_few(lg_k: u8, count: usize) -> bool
     can_hold(greatest_size, count)
 }
 
-/// The elements after a header that are enough for so many coupons. `lg_k` is 4 to 21.
+/// Returns the number of elements after a header that is enough for `count` coupons. `lg_k` is 4 to 21.
 #[inline(always)]
 pub fn elements_for(lg_k: u8, count: usize) -> usize
     requires { IsLgK lg_k }
@@ -263,21 +265,21 @@ pub fn elements_for(lg_k: u8, count: usize) -> usize
     }
 }
 
-/// 1 for true, 0 for false.
+/// Returns 1 for true, 0 for false.
 fn bit(flag: bool) -> u32
     ensures { result ≡ (if flag then 1 else 0) }
 {
     if flag { 1 } else { 0 }
 }
 
-/// The lower 32 bits of a number.
+/// Returns the lower 32 bits of a number.
 fn low_half(number: u64) -> u32
     ensures { result ≡ number % 2 ^ 32 }
 {
     (number & 0xffff_ffff) as u32
 }
 
-/// The higher 32 bits of a number.
+/// Returns the upper 32 bits of a number.
 fn high_half(number: u64) -> u32
     ensures { result ≡ number / 2 ^ 32 }
 {
@@ -297,7 +299,7 @@ fn held_in(elements: &[[u8; 4]]) -> Option<Held>
     }
 }
 
-/// Reads what is said of coupons.
+/// Reads what a header says of coupons.
 #[inline(always)]
 fn coupons_in(elements: &[[u8; 4]]) -> CouponTable
     requires { 10 ≤ length elements.now }
@@ -329,7 +331,7 @@ fn state_in(elements: &[[u8; 4]]) -> EstimateState
     }
 }
 
-/// Reads a number of 64 bits from two elements, the lower half first.
+/// Reads a 64-bit number from two elements, the lower half first.
 #[inline(always)]
 fn get_wide(elements: &[[u8; 4]], at: usize) -> u64
     requires { at + 1 < length elements.now }

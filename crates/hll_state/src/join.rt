@@ -1,5 +1,5 @@
 // SPDX-License-Identifier: Apache-2.0
-//! Images and states joined to a state, with room asked for first, and with a bound on `lg_k` or without one.
+//! Merges images and states into a state, checks first whether there is room, and handles a bound of `lg_k`.
 ghost use Rattle.std.specs.Prelude.{◌≡◌, ℕ, ◌+◌, ◌-◌, ◌^◌, ◌<◌, ◌≤◌, false, List, length, min};
 ghost use Rattle.hll_sketch.specs.BorrowedImage.{sketch_of_borrowed};
 ghost use Rattle.hll_sketch.specs.Value.{is_empty, IsLgK};
@@ -17,12 +17,12 @@ use hll_registers::registers::two_to;
 use hll_sketch::borrowed_image::BorrowedImage;
 use std::alloc::Allocator;
 
-/// What comes of a join.
+/// The result of `Header::join`.
 #[derive(Clone, Copy, Debug, PartialEq, Eq)]
 pub enum Joined {
-    /// The state means the union of both.
+    /// The sketch of the state is the union of both.
     Done,
-    /// There is no room. So many elements are enough, header included.
+    /// There is not enough room. This number of elements, header included, is enough.
     NoRoom(usize),
     /// The other sketch has another `lg_k`, and no bound was given.
     OtherLgK,
@@ -31,9 +31,10 @@ pub enum Joined {
 impl Header {
     /// Merges a sketch, as a union does whose bound is the `lg_k` of the state, and records the widths that are given for it.
     ///
-    /// If no bound was given, a state of another `lg_k` than that of the sketch refuses it, and an empty state takes the other
-    /// `lg_k` first. An empty sketch changes nothing in a state that is not empty; without a bound an empty state takes its
-    /// `lg_k` where that is greater. Room is asked for first, and without it the meaning stays.
+    /// If no bound was given, a sketch that is not empty and has another `lg_k` is not merged into a state that is not empty:
+    /// the result is `OtherLgK`. An empty state takes the sketch's `lg_k` first. An empty sketch changes nothing in a state
+    /// that is not empty; without a bound, an empty state takes its `lg_k` if that is greater. If there is not enough room, the
+    /// sketch of the state is unchanged.
     pub fn join<A: Allocator>(
         &mut self,
         body: &mut [[u8; 4]],
@@ -60,7 +61,8 @@ impl Header {
         self.restart(body, widths, image)
     }
 
-    /// Returns the widths of a state that another sketch is joined to. Those of empty sketches count only where all are empty.
+    /// Returns the widths of a state after another sketch is merged into it. The widths of empty sketches count only if all
+    /// sketches are empty.
     fn widths_after(&self, widths: u8, other_is_empty: bool) -> u8
         requires ours { self.now.widths < 8 }
         requires widths { widths < 8 }
@@ -74,7 +76,7 @@ impl Header {
         }
     }
 
-    /// Joins an empty sketch: an empty state without a bound takes its `lg_k` where that is greater.
+    /// Merges an empty sketch: an empty state without a bound takes its `lg_k` if that is greater.
     fn join_empty(&mut self, bounded: bool, widths: u8, lg_k: u8)
         requires widths { widths < 8 }
         requires lg_k { IsLgK lg_k }
@@ -111,7 +113,7 @@ impl Header {
         Joined::Done
     }
 
-    /// Merges a sketch that is not empty and sets the widths, or tells how many elements are enough.
+    /// Merges a sketch that is not empty and sets the widths, or returns how many elements are enough.
     fn merge_with_room<A: Allocator>(
         &mut self,
         body: &mut [[u8; 4]],
@@ -144,7 +146,8 @@ impl Header {
         }
     }
 
-    /// Returns the number of elements, header included, that are enough for registers of the smaller `lg_k` beside what is in use.
+    /// Returns the number of elements, header included, that is enough for registers of the smaller `lg_k` in addition to the
+    /// elements in use.
     fn len_for_registers(&self, lg_k: u8) -> usize
         requires within { (room : ℕ) × IsWithin self.now room }
         requires lg_k { IsLgK lg_k }
@@ -158,7 +161,7 @@ impl Header {
     }
 }
 
-/// Returns the number that stands for a width among those that a state has seen: 1 for four bits, 2 for six, 4 for eight.
+/// Returns the number that stands for a width among the widths that a state has seen: 1 for 4 bits, 2 for 6 bits, 4 for 8 bits.
 pub fn bit_of(hll_type: HllType) -> u8
     ensures is { result ≡ merged.bit_of hll_type }
     ensures within { result < 8 }

@@ -11,9 +11,10 @@ ghost use Rattle.hll_state.specs.Memory.{HasHeader, IsState, OfState, IsOnlyRead
 use crate::header::{HEADER_LEN, Header, Held, elements_for};
 use hll_registers::registers::two_to;
 
-/// Reads the header of a state. `None` where the elements are none: too few, or not made by calls of this library.
+/// Reads the header of a state. Returns `None` if the elements are not a state: too few, or not written by calls of this
+/// library.
 ///
-/// Nothing is known of coupons and registers: elements that other code wrote after a header may be anything.
+/// Coupons and registers are not checked: elements that other code wrote after a header may hold anything.
 #[inline(always)]
 pub fn open(elements: &[[u8; 4]]) -> Option<Header>
     ensures some { IfSome result (HasHeader elements.now) }
@@ -30,7 +31,7 @@ pub fn open(elements: &[[u8; 4]]) -> Option<Header>
     }
 }
 
-/// Writes the header of a state, within the elements after it.
+/// Writes the header of a state. The elements after it are enough for what the header says.
 pub fn close(elements: &mut [[u8; 4]], header: Header)
     requires there { 10 ≤ length elements.old }
     requires within { IsWithin header (length elements.old - 10) }
@@ -40,18 +41,18 @@ pub fn close(elements: &mut [[u8; 4]], header: Header)
     header.write(elements);
 }
 
-/// What comes of asking a state for room.
+/// The result of `begin`.
 #[derive(Clone, Copy, Debug, PartialEq, Eq)]
 pub enum Begun {
-    /// The elements are no state.
+    /// The elements are not a state.
     NoState,
-    /// There is no room. So many elements are enough.
+    /// There is not enough room. This number of elements is enough.
     NoRoom(usize),
-    /// There is room in the elements after this header, which has to be written once coupons were added.
+    /// There is room in the elements after this header. Write the header with `close` once coupons were added.
     Room(Header),
 }
 
-/// Asks a state for room for so many coupons more. Its meaning stays, but the bytes may change.
+/// Checks whether a state has room for `count` more coupons. Its bytes may change, but not its sketch.
 #[inline(always)]
 pub fn begin(elements: &mut [[u8; 4]], count: usize) -> Begun
     ensures { IsBegun count elements.old elements.new result }
@@ -67,8 +68,8 @@ pub fn begin(elements: &mut [[u8; 4]], count: usize) -> Begun
     Begun::NoRoom(header.len_for(count))
 }
 
-/// Makes what a state means ready to be read (see `Header::resolve`), and returns its header. `None` where the elements are no
-/// state. The meaning stays, but the bytes may change.
+/// Makes the sketch of a state ready to be read (see `Header::resolve`), and returns its header. Returns `None` if the elements
+/// are not a state. The bytes may change, but not the sketch.
 pub fn resolve(elements: &mut [[u8; 4]]) -> Option<Header>
     ensures within { IfSome result (λ h. IsWithin h (length elements.old - 10)) }
     ensures resolved { IfSome result (λ h. IsResolved h (drop 10 elements.new)) }
@@ -84,7 +85,7 @@ pub fn resolve(elements: &mut [[u8; 4]]) -> Option<Header>
 }
 
 impl Header {
-    /// Returns whether there is room for so many coupons more. Repeated coupons are dropped first, if many may be.
+    /// Returns whether there is room for `count` more coupons. Repeated coupons are dropped first, if there may be many.
     #[inline(always)]
     pub fn make_room(&mut self, body: &mut [[u8; 4]], count: usize) -> bool
         requires { IsWithin self.old (length body.old) }
@@ -105,7 +106,7 @@ impl Header {
         self.has_room(count, room)
     }
 
-    /// Returns whether a quarter of the elements in use, or more, are in the tail. No result depends on it.
+    /// Returns whether the tail has at least a quarter of the elements in use. No result depends on it.
     fn has_long_tail(&self) -> bool {
         match self.held {
             Held::Coupons(coupons) => coupons.run.run <= coupons.run.used / 4 * 3,
@@ -113,8 +114,8 @@ impl Header {
         }
     }
 
-    /// Returns a number of elements, header included, in which the state has room for so many coupons more: half as many again
-    /// as these, or as many as any state of this `lg_k` needs.
+    /// Returns a number of elements, header included, in which the state has room for `count` more coupons: room for half as
+    /// many again, or as much room as any state of this `lg_k` needs.
     pub fn len_for(&self, count: usize) -> usize
         requires lg_k { IsLgK self.now.lg_k }
         ensures room { HasRoom self.now count (result - 10) }
@@ -130,7 +131,7 @@ impl Header {
     }
 }
 
-/// Returns a number of elements that are enough for so many coupons, and for half as many again if these are few.
+/// Returns a number of elements that is enough for `count` coupons, and for half as many again if these are few.
 fn grown_len(lg_k: u8, count: usize) -> usize
     requires { IsLgK lg_k }
     ensures enough { spec.elements_for lg_k count ≤ result }

@@ -9,10 +9,10 @@ ghost use Rattle.hll_state.specs.CouponRun.{raws};
 
 use crate::elements::{copy_to, get, move_down, move_to_end, set};
 
-/// Merges the first `len` coupons with others, both ascending, and returns how many distinct ones there are: these ascend at
-/// the front afterwards.
+/// Merges the first `len` coupons with others, both ascending. Returns the number of distinct coupons, which ascend in the
+/// first elements afterwards.
 ///
-/// The elements are exactly as many as the coupons of both. One pass without a branch on the order of coupons.
+/// There are exactly as many elements as coupons in both together. It takes one pass, without a branch on the order of coupons.
 pub(crate) fn merge(coupons: &mut [[u8; 4]], len: usize, others: &[[u8; 4]]) -> usize
     requires room { len + length others.now ≡ length coupons.old }
     requires ascends { IsStrictlyIncreasing (take len (raws coupons.old)) }
@@ -40,7 +40,7 @@ pub(crate) fn merge(coupons: &mut [[u8; 4]], len: usize, others: &[[u8; 4]]) -> 
     kept + (coupons.len() - from)
 }
 
-/// Keeps each of sorted coupons once, at the front, and returns how many these are. One pass.
+/// Keeps each of the sorted coupons once, in the first elements, and returns their number. It takes one pass.
 pub(crate) fn dedup(coupons: &mut [[u8; 4]]) -> usize
     requires { IsNonDecreasing (raws coupons.old) }
     ensures within { result ≤ length coupons.old }

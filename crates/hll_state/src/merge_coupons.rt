@@ -1,5 +1,5 @@
 // SPDX-License-Identifier: Apache-2.0
-//! Coupons merged into a state: taken whole with their table by an empty one, and added to any other.
+//! Merges coupons into a state. An empty state copies them with the size of their table; any other state adds them.
 ghost use Rattle.std.specs.Prelude.{◌≡◌, ℕ, ◌≤◌, true, false, List, length};
 ghost use Rattle.hll_registers.specs.State.{cleared_state};
 ghost use Rattle.hll_sketch.specs.Laws.{add_in_turn};
@@ -19,12 +19,13 @@ use hll_registers::estimate_state::EstimateState;
 use hll_registers::registers::two_to;
 
 impl Header {
-    /// Merges the coupons of a sketch, at least one and each once: an empty state at the same `lg_k` takes them whole, with the
-    /// size of their table, and any other adds them. Returns whether there was room. If there was none, the meaning stays.
+    /// Merges the coupons of a sketch: at least one, and each once. An empty state of the same `lg_k` copies them all, with the
+    /// size of their table; any other state adds them. Returns whether there was room. If there was none, the sketch of the
+    /// state is unchanged.
     ///
-    /// A state of registers counts as not empty, so its registers must not all be 0, as no call leaves them.
-    /// `lg_size` is the logarithm of the number of buckets of their table at `lg_k`: 3, or 5 to `lg_k` - 3. The number of
-    /// elements that `most_elements` returns is always enough.
+    /// A state of registers counts as not empty, so its registers must not all be 0. No call leaves such a state. `lg_size` is
+    /// the logarithm of the number of buckets of their table at `lg_k`: 3, or 5 to `lg_k` - 3. The number of elements that
+    /// `most_elements` returns is always enough.
     pub fn merge_coupons(
         &mut self,
         body: &mut [[u8; 4]],
@@ -51,7 +52,7 @@ impl Header {
         true
     }
 
-    /// Returns whether no element is in use: whether the state means an empty sketch, where registers aren't all 0.
+    /// Returns whether no element is in use. Then the sketch of the state is empty, unless it has registers that are all 0.
     pub(crate) fn is_empty(&self) -> bool
         ensures empty { (body : List (List ℕ)) → IsWithin self.now (length body) → HasSomeRegister (sketch_in self.now body) → result ≡ is_empty (sketch_in self.now body) }
         ensures room { result ≡ true → (n room : ℕ) → HasRoom self.now n room → spec.elements_for self.now.lg_k n ≤ room }
@@ -63,7 +64,7 @@ impl Header {
         }
     }
 
-    /// Holds these coupons in their table in place of what it held. Returns whether there was room.
+    /// Replaces what the state holds by these coupons with their table. Returns whether there was room.
     fn take_coupons(&mut self, body: &mut [[u8; 4]], lg_size: u8, coupons: &[[u8; 4]]) -> bool
         requires within { IsWithin self.old (length body.old) }
         requires table { IsTableFor self.old.lg_k (length coupons.now) lg_size }
@@ -88,7 +89,7 @@ impl Header {
         true
     }
 
-    /// Whether it holds registers with the cleared estimate state, which it keeps whatever is added.
+    /// Returns whether the state holds registers with the cleared estimate state, which stays whatever is added.
     fn has_cleared_registers(&self) -> bool
         ensures { result ≡ true → self.now.held ≡ spec.of_registers cleared_state }
     {

@@ -1,5 +1,5 @@
 // SPDX-License-Identifier: Apache-2.0
-//! Sketches of images merged into a state.
+//! Merges sketches of images into a state.
 ghost use Rattle.std.specs.Prelude.{◌≡◌, ◌≤◌, true, false, length};
 ghost use Rattle.hll_sketch.specs.BorrowedImage.{sketch_of_borrowed};
 ghost use Rattle.hll_sketch.specs.Layout.{sketch_of};
@@ -17,7 +17,7 @@ use std::alloc::Allocator;
 
 impl Header {
     /// Merges the sketch of an image that is not empty, as a union does whose bound is the `lg_k` of the state. Returns whether
-    /// there was room. If there was none, the meaning stays. Records no width.
+    /// there was room. If there was none, the sketch of the state is unchanged. Records no width.
     pub fn merge_image<A: Allocator>(
         &mut self,
         body: &mut [[u8; 4]],

@@ -1,5 +1,5 @@
 // SPDX-License-Identifier: Apache-2.0
-//! Registers merged into a state, in place, at the smaller `lg_k`.
+//! Merges registers into a state, in place, at the smaller `lg_k`.
 ghost use Rattle.std.specs.Prelude.{◌≡◌, ◌+◌, ◌-◌, ◌^◌, ◌≤◌, ◌&&◌, if◌then◌else◌, nat_le, true, false, length, min, take};
 ghost use Rattle.hll_coupons.specs.Fold.{fold_to};
 ghost use Rattle.hll_registers.specs.State.{cleared_state};
@@ -16,10 +16,10 @@ use hll_registers::estimate_state::EstimateState;
 use hll_registers::registers::{Registers, two_to};
 
 impl Header {
-    /// Merges registers: the state holds the greater of both at each slot of the smaller `lg_k`, which is its own afterwards.
-    /// Returns whether there was room. If there was none, the meaning stays.
+    /// Merges registers: at each slot of the smaller `lg_k`, which the state has afterwards, it holds the greater value of
+    /// both. Returns whether there was room. If there was none, the sketch of the state is unchanged.
     ///
-    /// An empty state takes over the estimate state, if the `lg_k` of the source is at most its own.
+    /// An empty state copies the estimate state, if the `lg_k` of the source is at most its own.
     pub fn merge_registers<R: Registers>(&mut self, body: &mut [[u8; 4]], src: &R) -> bool
         requires { IsWithin self.old (length body.old) }
         ensures within { IsWithin self.new (length body.old) }
@@ -68,7 +68,8 @@ impl Header {
     }
 }
 
-/// Returns the estimate state after a merge of registers: theirs, if the state was empty and their `lg_k` is at most the bound.
+/// Returns the estimate state after a merge of registers: the source's, if the state was empty and the source's `lg_k` is at
+/// most the bound; else the cleared one.
 fn state_after_merge<R: Registers>(is_empty: bool, bound: u8, src: &R) -> EstimateState
     ensures { let x = R.stored src.now in result ≡ (if is_empty && nat_le x.lg_k bound then x.state else cleared_state) }
 {

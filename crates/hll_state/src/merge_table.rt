@@ -1,5 +1,5 @@
 // SPDX-License-Identifier: Apache-2.0
-//! Coupons of a table merged into a state, as those of a slice are.
+//! Merges coupons of a table into a state, as `merge_coupons` merges coupons of a slice.
 ghost use Rattle.std.specs.Prelude.{◌≡◌, ◌≤◌, true, false, length};
 ghost use Rattle.hll_coupons.specs.Table.{coupons_in, coupons_of};
 ghost use Rattle.hll_sketch.specs.Laws.{add_in_turn};
@@ -43,7 +43,7 @@ impl Header {
         true
     }
 
-    /// Holds the coupons of a table, with its size, in place of what it held. Returns whether there was room.
+    /// Replaces what the state holds by the coupons of a table, with its size. Returns whether there was room.
     fn take_table<A: Allocator>(&mut self, body: &mut [[u8; 4]], table: &Container<A>) -> bool
         requires within { IsWithin self.old (length body.old) }
         requires table { IsTableFor self.old.lg_k (length (coupons_in table.now.buckets)) table.now.lg_size }
@@ -78,7 +78,7 @@ impl Header {
     }
 }
 
-/// Writes the coupons of a table over elements, which are at least as many, and returns them as a run.
+/// Writes the coupons of a table over elements, of which there are enough, and returns them as a run.
 fn run_of<A: Allocator>(body: &mut [[u8; 4]], table: &Container<A>) -> CouponRun
     requires { length (coupons_in table.now.buckets) ≤ length body.old }
     ensures run { IsRun result body.new }

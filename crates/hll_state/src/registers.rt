@@ -1,5 +1,5 @@
 // SPDX-License-Identifier: Apache-2.0
-//! Registers of a counter in borrowed elements: a byte each, four in an element, in ascending slots. No call allocates.
+//! Registers of a counter in borrowed elements: one byte each, four in an element, in ascending slots. No call allocates.
 ghost use Rattle.std.specs.Prelude.{◌≡◌, ◌*◌, ◌+◌, ◌-◌, ◌%◌, ◌^◌, ◌<◌, ◌≤◌, [], ◌∷◌, ◌++◌, drop, length, nat_eq, not, slice_index, slice_set, take, IfOk, IfErr};
 ghost use Rattle.std.specs.Cmp.Lexicographic.{pointwise};
 ghost use Rattle.hll_base.specs.Join.{join};
@@ -20,9 +20,9 @@ use hll_kernels::kernels::{greatest_of, max_into};
 use hll_registers::folds::max_folds;
 use hll_registers::registers::{Registers, two_to};
 
-/// How many elements are copied to the stack at a time: 2^14 registers.
+/// The number of elements that are copied to the stack at a time: 2^14 registers.
 const PART: usize = 4096;
-/// Few registers are copied in smaller parts, of 2^12 registers, so that less of the stack is filled with zeros first.
+/// Few registers are copied in smaller parts, of 2^12 registers. Then less of the stack is filled with zeros first.
 const SMALL_PART: usize = 1024;
 
 /// Returns the register of a slot.
@@ -43,10 +43,10 @@ fn set(elements: &mut [[u8; 4]], slot: usize, register: u8)
     elements[slot / 4][slot % 4] = register;
 }
 
-/// Raises one register, of the coupon's slot modulo 2^`lg_k`, to the greater of itself and the coupon's value, and returns
-/// whether it rose.
+/// Raises the register of the coupon's slot modulo 2^`lg_k` to the coupon's value, if that is greater. Returns whether the
+/// register rose.
 ///
-/// There are 2^`lg_k` registers, in a quarter as many elements; `lg_k` is 4 to 21.
+/// There are 2^`lg_k` registers, four in an element; `lg_k` is 4 to 21.
 #[inline(always)]
 pub fn raise(elements: &mut [[u8; 4]], lg_k: u8, raw: u32) -> bool
     requires least { 4 ≤ lg_k }
@@ -80,8 +80,8 @@ pub(crate) fn raise_all(elements: &mut [[u8; 4]], lg_k: u8, coupons: &[[u8; 4]])
 
 /// Makes registers of the coupons of a run, in place: the first elements hold the 2^`lg_k` registers afterwards.
 ///
-/// The elements have room for the registers and, after them, for the coupons, which are moved there. `lg_k` is 4 to 21. What
-/// the elements after the registers hold afterwards is not said. The registers are 0 to 63, whatever the coupons are.
+/// The elements have room for the registers and, after them, for the coupons, which are moved there. `lg_k` is 4 to 21. The
+/// content of the elements after the registers is unspecified afterwards. The registers are 0 to 63, whatever the coupons are.
 pub fn promote(run: CouponRun, elements: &mut [[u8; 4]], lg_k: u8)
     requires run { IsRun run elements.old }
     requires least { 4 ≤ lg_k }
@@ -108,11 +108,11 @@ fn make_registers(elements: &mut [[u8; 4]], lg_k: u8, coupons: &[[u8; 4]])
     raise_all(elements, lg_k, coupons);
 }
 
-/// Raises 2^`lg_k` registers, in a quarter as many elements, to the greatest of themselves and the source's registers that
-/// fold to them: register s of the source folds to register s modulo 2^`lg_k`.
+/// Takes the maximum of 2^`lg_k` registers, four in an element, and of the source's registers that fold to them: register s of
+/// the source folds to register s modulo 2^`lg_k`.
 ///
-/// `lg_k` is 4 to 21, and at most the source's. One pass over the source, in blocks of 2^14 registers or more where small
-/// blocks are expensive. Uses 4 to 32 kilobytes of the stack.
+/// `lg_k` is 4 to 21, and at most the source's. It takes one pass over the source, in blocks of 2^14 registers, or more if
+/// small blocks are expensive. It uses 4 to 32 kilobytes of the stack.
 pub fn max_with<R: Registers>(elements: &mut [[u8; 4]], lg_k: u8, src: &R)
     requires least { 4 ≤ lg_k }
     requires most { lg_k ≤ (R.stored src.now).lg_k }
@@ -129,7 +129,7 @@ pub fn max_with<R: Registers>(elements: &mut [[u8; 4]], lg_k: u8, src: &R)
     }
 }
 
-/// Raises at most `N` registers as `max_with` does, in a copy.
+/// Takes the maximum as `max_with` does, for at most `N` registers, in a copy.
 fn max_in_copy<const N: usize, R: Registers>(elements: &mut [[u8; 4]], lg_k: u8, src: &R)
     requires least { 4 ≤ lg_k }
     requires few { 4 * length elements.old ≤ N }
@@ -146,7 +146,7 @@ fn max_in_copy<const N: usize, R: Registers>(elements: &mut [[u8; 4]], lg_k: u8,
     write_all(elements, copy);
 }
 
-/// Raises registers as `max_with` does, by one block of the source's registers after the other.
+/// Takes the maximum as `max_with` does, with one block of the source's registers after the other.
 fn max_blocks<R: Registers>(elements: &mut [[u8; 4]], lg_k: u8, src: &R)
     requires least { 4 ≤ lg_k }
     requires most { lg_k ≤ (R.stored src.now).lg_k }
@@ -160,7 +160,7 @@ fn max_blocks<R: Registers>(elements: &mut [[u8; 4]], lg_k: u8, src: &R)
     }
 }
 
-/// Raises registers to those of the source from `first` on, part by part.
+/// Takes the maximum of registers and of the source's registers from `first` on, part by part.
 fn max_from<R: Registers>(elements: &mut [[u8; 4]], first: usize, src: &R)
     requires within { first + 4 * length elements.old ≤ 2 ^ (R.stored src.now).lg_k }
     requires legal { IsStored (R.stored src.now) }
@@ -175,7 +175,7 @@ fn max_from<R: Registers>(elements: &mut [[u8; 4]], first: usize, src: &R)
     }
 }
 
-/// Raises at most 2^14 registers to those of the source from `first` on, in a copy.
+/// Takes the maximum of at most 2^14 registers and of the source's registers from `first` on, in a copy.
 fn max_part<R: Registers>(elements: &mut [[u8; 4]], first: usize, src: &R)
     requires few { length elements.old ≤ 4096 }
     requires within { first + 4 * length elements.old ≤ 2 ^ (R.stored src.now).lg_k }
@@ -190,10 +190,11 @@ fn max_part<R: Registers>(elements: &mut [[u8; 4]], first: usize, src: &R)
     write_all(elements, copy);
 }
 
-/// Folds 2^`from` registers, in a quarter as many elements, to 2^`to` at their front: register s folds to register s modulo
-/// 2^`to`, the greatest of those that fold to it.
+/// Folds 2^`from` registers, four in an element, into the first 2^`to` of them. Register s folds to register s modulo 2^`to`,
+/// which becomes the greatest of the registers that fold to it.
 ///
-/// `to` is 4 or more, and at most `from`, which is at most 21. What the elements after the fold hold afterwards is not said.
+/// `to` is 4 or more, and at most `from`, which is at most 21. The content of the elements after the fold is unspecified
+/// afterwards.
 pub fn fold(elements: &mut [[u8; 4]], from: u8, to: u8)
     requires least { 4 ≤ to }
     requires within { to ≤ from }
@@ -205,7 +206,7 @@ pub fn fold(elements: &mut [[u8; 4]], from: u8, to: u8)
     fold_blocks(front, after, from, to);
 }
 
-/// Raises the first 2^`to` of 2^`from` registers to each block of as many after them.
+/// Takes the maximum of the first 2^`to` of 2^`from` registers and of each block of the same length after them.
 fn fold_blocks(front: &mut [[u8; 4]], after: &[[u8; 4]], from: u8, to: u8)
     requires least { 4 ≤ to }
     requires within { to ≤ from }
@@ -220,7 +221,7 @@ fn fold_blocks(front: &mut [[u8; 4]], after: &[[u8; 4]], from: u8, to: u8)
     }
 }
 
-/// Raises registers to those of as many other elements, part by part.
+/// Takes the maximum of registers and of the registers of the same number of other elements, part by part.
 fn max_elements(elements: &mut [[u8; 4]], others: &[[u8; 4]])
     requires { length elements.old ≡ length others.now }
     ensures { values elements.new ≡ join (values elements.old) (values others.now) }
@@ -233,7 +234,7 @@ fn max_elements(elements: &mut [[u8; 4]], others: &[[u8; 4]])
     }
 }
 
-/// Raises at most 2^14 registers to those of as many other elements, in a copy.
+/// Takes the maximum of at most 2^14 registers and of the registers of the same number of other elements, in a copy.
 fn max_few(elements: &mut [[u8; 4]], others: &[[u8; 4]])
     requires few { length elements.old ≤ 4096 }
     requires size { length elements.old ≡ length others.now }
@@ -255,7 +256,7 @@ fn write_all(elements: &mut [[u8; 4]], registers: &[u8])
     elements.copy_from_slice(chunks);
 }
 
-/// Returns the 2^`lg_k` registers at the front of the elements, a byte each; `lg_k` is 4 to 21.
+/// Returns the first 2^`lg_k` registers of the elements, one byte each; `lg_k` is 4 to 21.
 pub fn as_bytes(elements: &[[u8; 4]], lg_k: u8) -> &[u8]
     requires least { 4 ≤ lg_k }
     requires most { lg_k ≤ 21 }
@@ -265,7 +266,7 @@ pub fn as_bytes(elements: &[[u8; 4]], lg_k: u8) -> &[u8]
     elements[..two_to(lg_k - 2)].as_flattened()
 }
 
-/// Returns the 2^`lg_k` registers at the front of the elements, a byte each; `lg_k` is 4 to 21.
+/// Returns the first 2^`lg_k` registers of the elements, one byte each; `lg_k` is 4 to 21.
 ///
 /// Fails with `Register` if one is above 63.
 pub fn small_registers(elements: &[[u8; 4]], lg_k: u8) -> Result<&[u8], Error>

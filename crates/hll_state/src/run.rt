@@ -11,15 +11,15 @@ use crate::elements::set;
 use crate::merge::merge;
 use crate::settle::settle;
 
-/// The least length of a tail that a push sorts into the run.
+/// The least number of coupons in a tail that a push sorts into the run.
 const LEAST_TAIL: usize = 32;
 
 /// How many elements of a slice are in use, and how many of them are the run, which is meant to ascend. The others are the
-/// tail, in any order, and may repeat coupons.
+/// tail, which is in any order and may repeat coupons.
 ///
 /// An element holds a raw coupon, the lowest byte first. Each call borrows the elements: pass them as the last call left them.
-/// Contracts see `members`, the set of the coupons in use. No call trusts what the elements hold: with other bytes in them,
-/// also with a run that does not ascend, the set is that of these bytes, and `settle` sorts it.
+/// Contracts see `members`, the set of the coupons in use. No call trusts what the elements hold: if other code wrote into
+/// them, the set is that of the new bytes, and `settle` sorts it, even if the run does not ascend.
 #[derive(Clone, Copy, Debug, PartialEq, Eq)]
 pub struct CouponRun {
     /// The length of the run.
@@ -40,7 +40,8 @@ impl CouponRun {
 
     /// Adds a raw coupon, any `u32`. At least one element is free.
     ///
-    /// A push writes one element. First it settles the run, if the tail is as long as the run and of at least 32 coupons.
+    /// A push writes one element. Before that it settles the run, if the tail is as long as the run and has at least 32
+    /// coupons.
     #[inline(always)]
     pub fn push(&mut self, coupons: &mut [[u8; 4]], raw: u32)
         requires run { IsRun self.old coupons.old }
@@ -58,8 +59,9 @@ impl CouponRun {
 
     /// Sorts the tail into the run, and keeps each coupon once. If the run does not ascend, sorts all coupons.
     ///
-    /// Needs no memory but the elements: a copy of the tail is sorted in the free ones, and merged with the run. If they are
-    /// fewer than the tail, all coupons are sorted. If the run ascends and there is no tail, this is one pass over the run.
+    /// It needs no memory but the elements: a copy of the tail is sorted in the free elements, and merged with the run. If the
+    /// free elements are fewer than the tail, all coupons are sorted. If the run ascends and there is no tail, it takes one
+    /// pass over the run.
     #[inline(never)]
     pub fn settle(&mut self, coupons: &mut [[u8; 4]])
         requires { IsRun self.old coupons.old }
@@ -75,7 +77,7 @@ impl CouponRun {
 
     /// Adds ascending coupons. At least as many elements are free as there are others.
     ///
-    /// Costs one `settle` and one merge, and leaves no tail.
+    /// It takes one `settle` and one merge, and leaves no tail.
     pub fn extend_ascending(&mut self, coupons: &mut [[u8; 4]], others: &[[u8; 4]])
         requires run { IsRun self.old coupons.old }
         requires room { self.old.used + length others.now ≤ length coupons.old }
@@ -105,7 +107,8 @@ impl CouponRun {
     }
 }
 
-/// Says that bytes are those that are written for the raw coupons read from them. Does nothing: a proof needs it.
+/// States that bytes are what is written for the raw coupons that are read from them. Does nothing at run time: a proof needs
+/// it.
 fn bytes_are_written(bytes: &[u8])
     ensures { (count : ℕ) → length bytes.now ≡ 4 * count → bytes.now ≡ coupon_bytes (raw_coupons count bytes.now) }
 {}

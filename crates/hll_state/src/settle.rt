@@ -1,5 +1,5 @@
 // SPDX-License-Identifier: Apache-2.0
-//! The tail of a run, sorted into it in place.
+//! Sorts the tail of a run into it, in place.
 ghost use Rattle.std.specs.Prelude.{◌≡◌, ◌↔◌, ◌+◌, ◌≤◌, IsTrue, length, take};
 ghost use Rattle.std.specs.List.Sorted.{IsStrictlyIncreasing};
 ghost use Rattle.hll_coupons.specs.Coupons.{IsAscending};
@@ -9,10 +9,10 @@ ghost use Rattle.hll_state.specs.CouponRun.{raws};
 use crate::elements::{get, sort};
 use crate::merge::{dedup, merge};
 
-/// Sorts the first `used` coupons, of which the first `run` are meant to ascend, and returns how many distinct ones there are:
-/// these ascend at the front afterwards.
+/// Sorts the first `used` coupons, of which the first `run` are meant to ascend. Returns the number of distinct coupons, which
+/// ascend in the first elements afterwards.
 ///
-/// If the first `run` don't ascend, sorts all.
+/// If the first `run` coupons don't ascend, sorts all.
 pub(crate) fn settle(coupons: &mut [[u8; 4]], run: usize, used: usize) -> usize
     requires run { run ≤ used }
     requires used { used ≤ length coupons.old }
@@ -28,7 +28,7 @@ pub(crate) fn settle(coupons: &mut [[u8; 4]], run: usize, used: usize) -> usize
     settle_tail(coupons, run, used)
 }
 
-/// Whether each coupon is less than the next one. One pass over all of them, which the compiler can vectorise.
+/// Returns whether each coupon is less than the next one. It takes one pass over all coupons, which the compiler can vectorise.
 fn ascends(coupons: &[[u8; 4]]) -> bool
     ensures { IsTrue result ↔ IsStrictlyIncreasing (raws coupons.now) }
 {
@@ -39,8 +39,8 @@ fn ascends(coupons: &[[u8; 4]]) -> bool
     ascends
 }
 
-/// Sorts a copy of the tail in the free elements and merges it with the run, which ascends, or sorts all where the free
-/// elements are fewer than the tail's.
+/// Sorts a copy of the tail in the free elements and merges it with the run, which ascends. Sorts all coupons if the free
+/// elements are fewer than the tail.
 fn settle_tail(coupons: &mut [[u8; 4]], run: usize, used: usize) -> usize
     requires run { run ≤ used }
     requires used { used ≤ length coupons.old }
@@ -57,7 +57,7 @@ fn settle_tail(coupons: &mut [[u8; 4]], run: usize, used: usize) -> usize
     }
 }
 
-/// Sorts what comes after the first `run` coupons, in a copy, and merges it with them.
+/// Sorts the coupons after the first `run`, in a copy, and merges them with the run.
 fn merge_tail(coupons: &mut [[u8; 4]], run: usize, copy: &mut [[u8; 4]]) -> usize
     requires room { run + length copy.old ≡ length coupons.old }
     requires ascends { IsStrictlyIncreasing (take run (raws coupons.old)) }
@@ -69,7 +69,7 @@ fn merge_tail(coupons: &mut [[u8; 4]], run: usize, copy: &mut [[u8; 4]]) -> usiz
     merge(&mut coupons[..run + distinct], run, &copy[..distinct])
 }
 
-/// Sorts coupons, keeps each once, at the front, and returns how many these are.
+/// Sorts coupons, keeps each once, in the first elements, and returns their number.
 fn sort_all(coupons: &mut [[u8; 4]]) -> usize
     ensures within { result ≤ length coupons.old }
     ensures ascending { IsAscending (take result (raws coupons.new)) (set_of (raws coupons.old)) }

@@ -1,5 +1,5 @@
 // SPDX-License-Identifier: Apache-2.0
-//! States compared with sketches of the same coupons, headers with extreme fields, and elements that no call wrote.
+//! Compares states with sketches of the same coupons, and tries headers with extreme fields and elements that no call wrote.
 ghost use Rattle.hll_coupons.specs.Pair.{IsPair};
 
 use crate::header::{CouponTable, HEADER_LEN, Header, Held};
@@ -13,7 +13,8 @@ use hll_sketch::HllSketch;
 use std::alloc::{AllocError, Global};
 use std::test::Fail;
 
-/// Which coupons are pushed: those of hashes of 0, 1, .., of seven of them again and again, or all of one bucket in tables.
+/// Which coupons are pushed: the coupons of the hashes of 0, 1, .., of seven of these again and again, or coupons that all fall
+/// into one bucket of tables.
 #[derive(Clone, Copy, Debug)]
 enum Source {
     Distinct,
@@ -21,7 +22,7 @@ enum Source {
     OneBucket,
 }
 
-/// The coupon that is pushed at an index.
+/// Returns the coupon that is pushed at an index.
 fn coupon_at(source: Source, index: u32) -> Coupon
     ensures { IsPair result }
 {
@@ -32,7 +33,7 @@ fn coupon_at(source: Source, index: u32) -> Coupon
     }
 }
 
-/// A state of no coupons, in as many elements as a header has.
+/// Returns a state of no coupons, with as many elements as a header has.
 fn new_state(alloc: Global, lg_k: u8) -> Result<Vec<[u8; 4]>, AllocError> {
     let mut elements = vec![in alloc; [0xff; 4]; HEADER_LEN]?;
     let header = Header::new(lg_k);
@@ -42,7 +43,7 @@ fn new_state(alloc: Global, lg_k: u8) -> Result<Vec<[u8; 4]>, AllocError> {
     Ok(elements)
 }
 
-/// Asks a state for room for a coupon, and adds the coupon if there is room.
+/// Checks whether a state has room for a coupon, and adds the coupon if it has.
 fn push_one(elements: &mut [[u8; 4]], raw: u32) -> Begun {
     let begun = begin(elements, 1);
     if let Begun::Room(mut header) = begun {
@@ -52,15 +53,15 @@ fn push_one(elements: &mut [[u8; 4]], raw: u32) -> Begun {
     begun
 }
 
-/// A copy of elements, followed by others until there are `len`.
+/// Returns a copy of elements, followed by others up to `len` elements.
 fn grown(alloc: Global, elements: &[[u8; 4]], len: usize) -> Result<Vec<[u8; 4]>, AllocError> {
     let mut larger = vec![in alloc; [0xff; 4]; len.max(elements.len())]?;
     larger[..elements.len()].copy_from_slice(elements);
     Ok(larger)
 }
 
-/// Adds a coupon to a state, in the number of elements that it asks for. Returns how many times it asked: 2 where these were too
-/// few, and the coupon was not added.
+/// Adds a coupon to a state, and gives it the number of elements that it needs. Returns how many times it asked for more: 2 if
+/// even these were too few, and the coupon was not added.
 fn add(alloc: Global, elements: &mut Vec<[u8; 4]>, raw: u32) -> Result<u32, AllocError> {
     let Begun::NoRoom(len) = push_one(elements, raw) else {
         return Ok(0);
@@ -72,13 +73,14 @@ fn add(alloc: Global, elements: &mut Vec<[u8; 4]>, raw: u32) -> Result<u32, Allo
     }
 }
 
-/// The bytes of the first `count` elements after a header, or of all where these are fewer.
+/// Returns the bytes of the first `count` elements after a header, or of all if there are fewer.
 fn body_bytes(elements: &[[u8; 4]], count: usize) -> &[u8] {
     let body = &elements[HEADER_LEN.min(elements.len())..];
     body[..count.min(body.len())].as_flattened()
 }
 
-/// Whether a state, once resolved, holds what a sketch does: the same coupons in the same order, or the same registers.
+/// Returns whether a state, once resolved, holds what a sketch holds: the same coupons in the same order, or the same
+/// registers.
 fn is_same(elements: &mut [[u8; 4]], sketch: &HllSketch) -> Result<bool, Error> {
     let image = sketch.serialize()?;
     let Some(header) = resolve(elements) else {
@@ -98,8 +100,8 @@ fn is_same(elements: &mut [[u8; 4]], sketch: &HllSketch) -> Result<bool, Error> 
     })
 }
 
-/// Adds `count` coupons to a state and to a sketch, and returns how many times the state asked for room. `None` where the two
-/// differ at the end. With `each`, they are compared after each coupon too, for which the state is resolved.
+/// Adds `count` coupons to a state and to a sketch, and returns how many times the state asked for room. Returns `None` if the
+/// two differ at the end. With `each`, they are also compared after each coupon, for which the state is resolved.
 fn count_requests(
     alloc: Global,
     lg_k: u8,
@@ -122,7 +124,8 @@ fn count_requests(
     Ok(same.then_some(requests))
 }
 
-/// Counts around those at which tables become registers, at `lg_k` 8 and 10 more than 24 and 96 coupons, else more than 7.
+/// Counts around the numbers of coupons at which tables become registers: more than 24 at `lg_k` 8, more than 96 at `lg_k` 10,
+/// else more than 7.
 #[test]
 fn like_sketches(rt: HostRuntime) -> Result<(), Fail> {
     for lg_k in [4, 7, 8, 10] {
@@ -141,7 +144,7 @@ fn like_sketches(rt: HostRuntime) -> Result<(), Fail> {
     Ok(())
 }
 
-/// The state is resolved after each coupon.
+/// Resolves the state after each coupon.
 #[test]
 fn like_sketches_after_each_coupon(rt: HostRuntime) -> Result<(), Fail> {
     for lg_k in [4, 7, 8, 10] {
@@ -156,7 +159,7 @@ fn like_sketches_after_each_coupon(rt: HostRuntime) -> Result<(), Fail> {
     Ok(())
 }
 
-/// A table of coupons.
+/// Returns a table of coupons.
 fn table(lg_size: u8, added: bool, run: usize, used: usize) -> Held {
     Held::Coupons(CouponTable {
         lg_size,
@@ -165,7 +168,7 @@ fn table(lg_size: u8, added: bool, run: usize, used: usize) -> Held {
     })
 }
 
-/// What headers of 2^`lg_k` registers hold, with fields at their limits.
+/// Returns what headers of 2^`lg_k` registers hold, with fields at their limits.
 fn extremes(lg_k: u8) -> [Held; 7] {
     let most = 1usize << lg_k.clamp(7, 21) >> 3;
     let greatest = if lg_k < 8 { 3 } else { lg_k - 3 };
@@ -186,7 +189,7 @@ fn extremes(lg_k: u8) -> [Held; 7] {
     ]
 }
 
-/// Whether a header is read as it was written, and the element after it stays.
+/// Returns whether a header is read as it was written, and the element after it is unchanged.
 fn is_read_back(header: Header) -> bool {
     let mut elements = [[0xff; 4]; 11];
     if !header.is_within(1 << 20) {
@@ -209,7 +212,7 @@ fn headers_are_read_back(rt: HostRuntime) -> Result<(), Fail> {
     Ok(())
 }
 
-/// Whether `open` reads no header, or one whose fields are within bounds.
+/// Returns whether `open` reads no header, or one whose fields are within bounds.
 fn is_bounded(elements: &[[u8; 4]]) -> bool {
     let Some(header) = open(elements) else {
         return true;
@@ -224,7 +227,7 @@ fn is_bounded(elements: &[[u8; 4]]) -> bool {
     4 <= header.lg_k && header.lg_k <= 21 && header.widths <= 7 && is_held
 }
 
-/// Whether 300 coupons are added to elements if they are a state, which they stay, and none if they are not.
+/// Returns whether 300 coupons are added if the elements are a state, which they remain, and none if they are not.
 fn is_still_state(alloc: Global, elements: &mut Vec<[u8; 4]>) -> Result<bool, AllocError> {
     let was_state = open(elements).is_some();
     for index in 0..300 {
@@ -236,14 +239,14 @@ fn is_still_state(alloc: Global, elements: &mut Vec<[u8; 4]>) -> Result<bool, Al
     Ok(is_bounded(elements) && open(elements).is_some() == was_state)
 }
 
-/// A number that depends on a seed and an index, small or large.
+/// Returns a number that depends on a seed and an index, small or large.
 fn noise(seed: u32, index: u32) -> u32 {
     let mixed = seed.wrapping_mul(0x9e37_79b9) ^ index.wrapping_mul(0x85eb_ca6b);
     let mixed = (mixed ^ (mixed >> 15)).wrapping_mul(0x2c1b_3c6d);
     mixed >> (mixed % 32)
 }
 
-/// Elements that hold noise, but for the first number of a state of coupons or of registers.
+/// Returns elements that hold noise, except for the first number, which is that of a state of coupons or of registers.
 fn noisy_state(
     alloc: Global,
     held: Held,
@@ -290,7 +293,7 @@ fn noise_after_the_first_number(rt: HostRuntime) -> Result<(), Fail> {
     Ok(())
 }
 
-/// Numbers that a field of a header may and may not hold.
+/// Numbers that a field of a header may hold, and some that it may not.
 const LIMITS: [u32; 15] = [
     0,
     1,
@@ -309,7 +312,7 @@ const LIMITS: [u32; 15] = [
     0xffff_ffff,
 ];
 
-/// A state of `lg_k` 8 in 74 elements, with one field of its header changed.
+/// Returns a state of `lg_k` 8 in 74 elements, with one field of its header changed.
 fn state_with(
     alloc: Global,
     held: Held,
@@ -329,7 +332,7 @@ fn state_with(
     Ok(elements)
 }
 
-/// Each field of a header in turn holds each limit. The elements are a state or not, and 300 pushes change nothing about that.
+/// Each field of a header in turn holds each limit. The elements are a state or not, and 300 pushes don't change that.
 #[test]
 fn limits_of_fields(rt: HostRuntime) -> Result<(), Fail> {
     for held in extremes(8) {
@@ -347,7 +350,7 @@ fn limits_of_fields(rt: HostRuntime) -> Result<(), Fail> {
     Ok(())
 }
 
-/// No elements, fewer than a header has, and zeros.
+/// Tries no elements, fewer than a header has, and zeros.
 #[test]
 fn no_states(rt: HostRuntime) -> Result<(), Fail> {
     for len in [0, 1, 9, 10, 500] {

@@ -1,6 +1,6 @@
 // SPDX-License-Identifier: Apache-2.0
-//! Runs compared with sorted vectors: distinct and repeated coupons, full slices, runs that are merged, and elements that no
-//! call wrote. Registers of few coupons, raised by sources of each width, and folded.
+//! Compares runs with sorted vectors: distinct and repeated coupons, full slices, runs that are merged, and elements that no
+//! call wrote. Tries registers of few coupons, maxima with sources of each width, and folds.
 ghost use Rattle.std.specs.Prelude.{◌≡◌, ◌↔◌, ◌-◌, ◌^◌, ◌≤◌, ℕ, All, IsTrue, List, length, take};
 ghost use Rattle.std.specs.List.Sorted.{IsStrictlyIncreasing};
 ghost use Rattle.hll_coupons.specs.Pair.{IsPair};
@@ -20,7 +20,8 @@ use hll_registers::registers::two_to;
 use std::alloc::{AllocError, Global};
 use std::test::Fail;
 
-/// Which coupons are pushed: those of hashes of 0, 1, .., of seven of them again and again, or all of one bucket in tables.
+/// Which coupons are pushed: the coupons of the hashes of 0, 1, .., of seven of these again and again, or coupons that all fall
+/// into one bucket of tables.
 #[derive(Clone, Copy, Debug)]
 enum Source {
     Distinct,
@@ -28,7 +29,7 @@ enum Source {
     OnePath,
 }
 
-/// The coupon that is pushed at an index.
+/// Returns the coupon that is pushed at an index.
 fn raw_coupon(source: Source, index: u32) -> u32
     ensures { IsPair result }
 {
@@ -40,7 +41,7 @@ fn raw_coupon(source: Source, index: u32) -> u32
     coupon.raw()
 }
 
-/// Pushes a coupon, after a settle where all elements are in use, and returns whether there was room.
+/// Pushes a coupon, after a settle if all elements are in use, and returns whether there was room.
 fn push_where_free(run: &mut CouponRun, coupons: &mut [[u8; 4]], raw: u32) -> bool
     requires { IsRun run.old coupons.old }
     ensures run { IsRun run.new coupons.new }
@@ -55,7 +56,7 @@ fn push_where_free(run: &mut CouponRun, coupons: &mut [[u8; 4]], raw: u32) -> bo
     true
 }
 
-/// Pushes the first `count` coupons, and returns how many of them found room.
+/// Pushes the first `count` coupons, and returns for how many of them there was room.
 fn push_all(run: &mut CouponRun, coupons: &mut [[u8; 4]], source: Source, count: u32) -> u32
     requires { IsRun run.old coupons.old }
     ensures run { IsRun run.new coupons.new }
@@ -68,7 +69,7 @@ fn push_all(run: &mut CouponRun, coupons: &mut [[u8; 4]], source: Source, count:
     pushed
 }
 
-/// The bytes of the distinct ones of raw coupons, in ascending order.
+/// Returns the bytes of the distinct raw coupons, in ascending order.
 fn sorted_bytes(alloc: Global, mut raw_coupons: Vec<u32>) -> Result<Vec<u8>, AllocError> {
     raw_coupons.sort_unstable();
     raw_coupons.dedup();
@@ -87,14 +88,14 @@ fn append_all(raw_coupons: &mut Vec<u32>, source: Source, count: u32) -> Result<
     Ok(())
 }
 
-/// The bytes of the distinct ones of the first `count` coupons, in ascending order.
+/// Returns the bytes of the distinct coupons of the first `count`, in ascending order.
 fn expected(alloc: Global, source: Source, count: u32) -> Result<Vec<u8>, AllocError> {
     let mut raw_coupons = Vec::new(alloc);
     append_all(&mut raw_coupons, source, count)?;
     sorted_bytes(alloc, raw_coupons)
 }
 
-/// Whether a run holds these coupons, as many as there are.
+/// Returns whether a run holds exactly these coupons.
 fn holds(run: &mut CouponRun, coupons: &mut [[u8; 4]], bytes: &[u8]) -> bool
     requires { IsRun run.old coupons.old }
     ensures run { IsRun run.new coupons.new }
@@ -103,7 +104,7 @@ fn holds(run: &mut CouponRun, coupons: &mut [[u8; 4]], bytes: &[u8]) -> bool
     run.as_bytes(coupons) == bytes && run.used == bytes.len() / 4
 }
 
-/// The run of the first `count` coupons in these elements, whatever they held.
+/// Returns the run of the first `count` coupons in these elements, whatever they held.
 fn run_of(coupons: &mut [[u8; 4]], source: Source, count: u32) -> CouponRun
     ensures run { IsRun result coupons.new }
 {
@@ -132,7 +133,7 @@ fn extend(
     true
 }
 
-/// Whether `count` pushes into a slice of `room` elements give a run of the distinct coupons.
+/// Returns whether `count` pushes into a slice of `room` elements give a run of the distinct coupons.
 fn is_counted(alloc: Global, source: Source, count: u32, room: usize) -> Result<bool, AllocError> {
     let mut coupons = vec![in alloc; [0xff; 4]; room]?;
     let mut run = run_of(&mut coupons, source, count);
@@ -156,7 +157,8 @@ fn pushes(rt: HostRuntime) -> Result<(), Fail> {
     Ok(())
 }
 
-/// In 40 elements, 39 distinct coupons find room again and again. Of two more the first one does, and then none does.
+/// In 40 elements there is room for 39 distinct coupons again and again. Of two more the first one is added, and then there is
+/// no room.
 #[test]
 fn full_slices(rt: HostRuntime) -> Result<(), Fail> {
     let mut coupons = vec![in rt.alloc(); [0xff; 4]; 40]?;
@@ -178,7 +180,8 @@ fn no_elements(rt: HostRuntime) -> Result<(), Fail> {
     Ok(())
 }
 
-/// Whether a run in `room` elements, of 60 coupons, takes 50 others and then 10 of these, and holds the 110.
+/// Returns whether a run of 60 coupons in `room` elements can be extended by 50 others and then by 10 of these, and holds the
+/// 110.
 fn is_extended(alloc: Global, room: usize) -> Result<bool, AllocError> {
     let mut coupons = vec![in alloc; [0xff; 4]; room]?;
     let mut run = run_of(&mut coupons, Source::Distinct, 60);
@@ -217,7 +220,7 @@ enum Garbage {
     Random,
 }
 
-/// The number that an element holds, at an index of 100.
+/// Returns the number that an element holds, at an index of 100.
 fn garbage_at(garbage: Garbage, index: u32) -> u32 {
     match garbage {
         Garbage::Zeros => 0,
@@ -229,8 +232,8 @@ fn garbage_at(garbage: Garbage, index: u32) -> u32 {
     }
 }
 
-/// Whether a run that says that the first `run` of 100 elements ascend, of which no call wrote any, holds all of them and the
-/// first 40 coupons once these are pushed, in 200 elements.
+/// Returns whether a run of 100 elements that no call wrote, of which the first `run` are said to ascend, holds all of them and
+/// the first 40 coupons once these are pushed, in 200 elements.
 fn is_sorted_out(alloc: Global, garbage: Garbage, run: usize) -> Result<bool, AllocError> {
     let mut coupons = vec![in alloc; [0xff; 4]; 200]?;
     let mut raw_coupons = Vec::new(alloc);
@@ -268,7 +271,7 @@ fn untrusted_elements(rt: HostRuntime) -> Result<(), Fail> {
     Ok(())
 }
 
-/// A run of three elements that descend, extended by two coupons.
+/// Extends a run of three elements that descend by two coupons.
 #[test]
 fn untrusted_run_is_extended(rt: HostRuntime) -> Result<(), Fail> {
     let mut coupons = vec![in rt.alloc(); [0xff; 4]; 5]?;
@@ -300,7 +303,7 @@ fn settled_elements(rt: HostRuntime) -> Result<(), Fail> {
     Ok(())
 }
 
-/// Two coupons of slot 3 modulo 16, the greater one first, and one of the last slot.
+/// Adds two coupons of slot 3 modulo 16, the greater one first, and one of the last slot.
 #[test]
 fn raised_registers(rt: HostRuntime) -> Result<(), Fail> {
     let mut elements = [[0; 4]; 4];
@@ -323,7 +326,7 @@ fn raise_each(registers: &mut [[u8; 4]], count: u32)
     }
 }
 
-/// Elements with room for the registers and the coupons, and no more.
+/// The elements have room for the registers and the coupons, and no more.
 #[test]
 fn promoted_runs(rt: HostRuntime) -> Result<(), Fail> {
     let mut elements = vec![in rt.alloc(); [0xff; 4]; 76]?;
@@ -344,7 +347,7 @@ enum Width {
     EightBits,
 }
 
-/// A register of 0 to 14, by its slot and the seed of all registers.
+/// Returns a register of 0 to 14, which follows from its slot and the seed of all registers.
 fn register_at(seed: usize, slot: usize) -> u8 {
     ((slot.wrapping_mul(0x9e37_79b9).wrapping_add(seed) >> 24) % 15) as u8
 }
@@ -362,7 +365,7 @@ fn write_registers(elements: &mut [[u8; 4]], seed: usize) {
     }
 }
 
-/// Raises registers to those that fold to them, one by one.
+/// Takes the maximum of registers and of the registers that fold to them, one by one.
 fn raise_plainly(registers: &mut [u8], source: &[u8]) {
     let size = registers.len();
     if size == 0 {
@@ -379,7 +382,7 @@ fn are_small(registers: &[u8]) -> bool
     registers.iter().all(|register| *register <= 63)
 }
 
-/// Raises registers to those of a source of bytes, and returns whether these are legal.
+/// Takes the maximum of registers and of a source of bytes, and returns whether the registers of the source are legal.
 fn raise_by_bytes(elements: &mut [[u8; 4]], lg_k: u8, from: u8, registers: &[u8]) -> bool
     requires least { 4 ≤ lg_k }
     requires within { lg_k ≤ from }
@@ -393,7 +396,7 @@ fn raise_by_bytes(elements: &mut [[u8; 4]], lg_k: u8, from: u8, registers: &[u8]
     true
 }
 
-/// Raises registers to those of a source of groups, and returns whether these are legal.
+/// Takes the maximum of registers and of a source of groups, and returns whether the registers of the source are legal.
 fn raise_by_groups(elements: &mut [[u8; 4]], lg_k: u8, from: u8, groups: &[[u8; 3]]) -> bool
     requires least { 4 ≤ lg_k }
     requires within { lg_k ≤ from }
@@ -408,7 +411,7 @@ fn raise_by_groups(elements: &mut [[u8; 4]], lg_k: u8, from: u8, groups: &[[u8; 
     true
 }
 
-/// Raises registers to those of a source of nibbles, and returns whether these are legal.
+/// Takes the maximum of registers and of a source of nibbles, and returns whether the registers of the source are legal.
 fn raise_by_nibbles(
     alloc: Global,
     elements: &mut [[u8; 4]],
@@ -434,7 +437,8 @@ fn raise_by_nibbles(
     }
 }
 
-/// Raises registers to those of a source that is made of bytes, and returns whether these are legal.
+/// Takes the maximum of registers and of a source that is made from bytes, and returns whether the registers of the source are
+/// legal.
 fn raise_by(
     alloc: Global,
     elements: &mut [[u8; 4]],
@@ -464,7 +468,8 @@ fn raise_by(
     })
 }
 
-/// Whether 2^`lg_k` registers are raised to those of a source of 2^`from`, as they are one by one.
+/// Returns whether `max_with` gives the same 2^`lg_k` registers for a source of 2^`from` as the maximum that is taken one by
+/// one.
 fn is_joined(alloc: Global, width: Width, lg_k: u8, from: u8) -> Result<bool, AllocError> {
     if lg_k < 4 || lg_k > from || from > 21 {
         return Ok(false);
@@ -487,7 +492,7 @@ fn is_joined(alloc: Global, width: Width, lg_k: u8, from: u8) -> Result<bool, Al
     Ok(is_legal && as_bytes(&elements, lg_k) == expected.as_slice())
 }
 
-/// Blocks of fewer than 2^14 registers, of as many, and of more; with the source's `lg_k`, and with smaller ones.
+/// Tries blocks of fewer than 2^14 registers, of exactly 2^14, and of more; with the source's `lg_k`, and with smaller ones.
 #[test]
 fn joined_registers(rt: HostRuntime) -> Result<(), Fail> {
     for width in [Width::FourBits, Width::SixBits, Width::EightBits] {
@@ -512,7 +517,7 @@ fn joined_registers(rt: HostRuntime) -> Result<(), Fail> {
     Ok(())
 }
 
-/// Whether 2^`from` registers fold to 2^`to` as they do one by one.
+/// Returns whether 2^`from` registers fold to 2^`to` as they do one by one.
 fn is_folded(alloc: Global, from: u8, to: u8) -> Result<bool, AllocError> {
     if to < 4 || to > from || from > 21 {
         return Ok(false);

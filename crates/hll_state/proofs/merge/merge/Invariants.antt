@@ -4,7 +4,7 @@ use Rattle.hll_coupons.proofs.Merging.{MergesRest}
 use Rattle.hll_state.specs.CouponRun.{raws}
 use Rattle.hll_state.proofs.merge.merge.Given as goal
 
--- what is merged is at the front, and what is left of both lists comes after it
+-- the merged coupons are in the first elements, and what is left of both lists comes after them
 abbrev pub invariant-loop-from : goal.invariant-loop-from
 invariant-loop-from l = record {
   room : l.kept + length l.others ≤ l.from + l.next;

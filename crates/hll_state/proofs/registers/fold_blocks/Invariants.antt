@@ -4,6 +4,6 @@ use Rattle.hll_registers.proofs.Folding.{folded}
 use Rattle.hll_state.specs.Registers.{values}
 use Rattle.hll_state.proofs.registers.fold_blocks.Given as goal
 
--- the first block and those so far are folded
+-- the first block and the blocks so far are folded
 abbrev pub invariant-loop-block : goal.invariant-loop-block
 invariant-loop-block l = values l.front ≡ folded (values l.fn.front ++ values l.after) l.fn.to ((l.block + 1) * 2 ^ l.fn.to)

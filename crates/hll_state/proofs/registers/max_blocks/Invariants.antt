@@ -5,6 +5,6 @@ use Rattle.hll_registers.proofs.Folding.{folded}
 use Rattle.hll_state.specs.Registers.{values}
 use Rattle.hll_state.proofs.registers.max_blocks.Given as goal
 
--- the blocks so far are joined
+-- the maximum with the blocks so far is taken
 abbrev pub invariant-loop-block : goal.invariant-loop-block
 invariant-loop-block g l = values l.elements ≡ join (values l.initial.elements) (folded (g.R.Registers.stored l.src).registers l.lg_k (l.block * 2 ^ l.lg_k))

@@ -4,7 +4,7 @@ use Rattle.hll_state.specs.Registers.{values}
 use Rattle.hll_state.proofs.Parts.{JoinedBelow}
 use Rattle.hll_state.proofs.registers.max_elements.Given as goal
 
--- the registers of the elements before an index are joined
+-- the maximum with the elements before an index is taken
 abbrev pub invariant-loop-at : goal.invariant-loop-at
 invariant-loop-at l = JoinedBelow l.at l.initial.elements l.elements (values l.others)
 

@@ -3,7 +3,7 @@ use Rattle.std.proofs.Common.{◌*◌, ◌-◌, drop, length, take}
 use Rattle.hll_state.proofs.Parts.{JoinedBelow}
 use Rattle.hll_state.proofs.registers.max_from.Given as goal
 
--- the registers of the elements before an index are joined
+-- the maximum with the elements before an index is taken
 abbrev pub invariant-loop-at : goal.invariant-loop-at
 invariant-loop-at g l = JoinedBelow l.at l.initial.elements l.elements (take (4 * length l.initial.elements) (drop l.first (g.R.Registers.stored l.src).registers))
 

@@ -8,7 +8,8 @@ use Rattle.hll_state.specs.CouponRun.{raws}
 use Rattle.hll_state.specs.Registers.{values}
 use Rattle.hll_state.proofs.registers.raise_all.Given as goal
 
--- the coupons that are left, joined into the registers so far, are all of them joined; and registers stay registers
+-- adding the coupons that are left to the registers so far gives what adding all gives to the registers before; and registers
+-- remain registers
 abbrev pub invariant-loop-coupon : goal.invariant-loop-coupon
 invariant-loop-coupon l = (length (values l.elements) ≡ 2 ^ l.fn.lg_k)
     × (join (values l.elements) (fold_to (set_of (drop l.coupon-index (raws l.coupons))) l.fn.lg_k) ≡ join (values l.fn.elements) (fold_to (set_of (raws l.coupons)) l.fn.lg_k))

@@ -6,7 +6,8 @@ use Rattle.hll_state.specs.CouponRun.{raws}
 use Rattle.hll_state.specs.Header.{IsWithin, HasRoom}
 use Rattle.hll_state.proofs.header.Header.push_all.Given as goal
 
--- the coupons that are left, added to what the state means so far, are all of them added; and there is room for them
+-- adding the coupons that are left to the sketch so far gives what adding all gives to the sketch before; and there is room for
+-- them
 abbrev pub invariant-loop-coupon : goal.invariant-loop-coupon
 invariant-loop-coupon l = record {
   within : IsWithin l.self (length l.body);
