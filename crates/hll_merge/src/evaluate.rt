@@ -14,7 +14,7 @@ use hll_text::fault::{Fault, MergeError};
 use hll_text::step::Step;
 use std::alloc::Allocator;
 
-/// The sketch of a list of steps: the outcome of its plan.
+/// Returns the sketch of a list of steps: the outcome of its plan.
 ///
 /// The numbers of the steps are in their ranges (docs/PLAN.md, "The text"). A refusal is `Memory`, or the first fault of
 /// the steps: `Image`, `Stack` or `Fold` with the number of the step, from 1, or `Stack` with the number of steps where
@@ -61,7 +61,7 @@ fn carry_steps<A: Allocator + Clone>(
     Ok((stack, number))
 }
 
-/// Whether the sketches of two lists of steps fold to the same registers at the smaller `lg_k` of both.
+/// Returns whether the sketches of two lists of steps fold to the same registers at the smaller `lg_k` of both.
 ///
 /// The numbers of the steps are in their ranges. The left list is carried out first. A refusal is `Memory`, or the first
 /// fault of the left list, or else of the right one. Takes memory for both sketches, and two bytes a register at the

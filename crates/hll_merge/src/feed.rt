@@ -107,14 +107,14 @@ impl<A: Allocator> Model for PlanFeed<A> {
 }
 
 impl<A: Allocator> PlanFeed<A> {
-    /// The bytes of the line that has not ended: what follows the last LF, none after a fault.
+    /// Returns the bytes of the line that has not ended: what follows the last LF, none after a fault.
     pub fn pending(&self) -> &[u8]
         ensures { result.now ≡ self.now.pending }
     {
         self.pending.as_slice()
     }
 
-    /// How many lines ended so far.
+    /// Returns how many lines ended so far.
     pub(crate) fn count(&self) -> u64
         ensures { result ≡ self.now.count }
     {
@@ -123,7 +123,7 @@ impl<A: Allocator> PlanFeed<A> {
 }
 
 impl<A: Allocator + Clone> PlanFeed<A> {
-    /// No text yet, and no sketches. `Memory` where a clone of the allocator is refused.
+    /// Returns no text yet, and no sketches. `Memory` where a clone of the allocator is refused.
     pub fn new(alloc: A) -> Result<PlanFeed<A>, MergeError>
         ensures ok { IfOk result (λ f. f ≡ unfed) }
         ensures err { IfErr result (λ e. e.fault ≡ Memory) }
@@ -134,7 +134,7 @@ impl<A: Allocator + Clone> PlanFeed<A> {
         }
     }
 
-    /// No text yet, and no sketches. Fails where a clone of the allocator does.
+    /// Returns no text yet, and no sketches. Fails where a clone of the allocator does.
     fn unfed(alloc: A) -> Result<PlanFeed<A>, AllocError>
         ensures { IfOk result (λ f. f ≡ unfed) }
     {
@@ -189,7 +189,7 @@ impl<A: Allocator + Clone> PlanFeed<A> {
         }
     }
 
-    /// As `finish`, and also returns the number of lines of the text.
+    /// Returns as `finish`, and also returns the number of lines of the text.
     pub(crate) fn finished(self) -> Result<(HllSketch<A>, u64), MergeError>
         ensures stopped { IfSome self.fault (λ e. result ≡ Err e) }
         ensures end { self.fault ≡ None → MatchResult result

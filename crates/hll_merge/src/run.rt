@@ -82,7 +82,7 @@ fn feed_all<A: Allocator + Clone, R: io::Read>(
     }
 }
 
-/// The image of the plan of a text that was fed, and the number of its lines.
+/// Returns the image of the plan of a text that was fed, and the number of its lines.
 fn image_of<A: Allocator + Clone>(feed: PlanFeed<A>) -> Result<(Vec<u8, A>, u64), MergeError>
     ensures { feed.fault ≡ None → (text : List ℕ) → IsFedBy text feed → MatchResult result
         (λ r. IsAnswer text (printed_line r.0.items) × (r.1 ≡ line_number (length (lines text)))) (StopsText text) }

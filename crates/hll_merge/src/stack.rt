@@ -43,7 +43,7 @@ impl<A: Allocator> Model for Stack<A> {
 }
 
 impl<A: Allocator> Stack<A> {
-    /// The one sketch, where there is just one.
+    /// Returns the one sketch, where there is just one.
     pub(crate) fn into_only(self) -> Option<HllSketch<A>>
         ensures one { IfSome result (λ x. self ≡ x ∷ []) }
         ensures other { IfNone result (length self ≡ 1 → ⊥) }
@@ -58,7 +58,7 @@ impl<A: Allocator> Stack<A> {
 }
 
 impl<A: Allocator + Clone> Stack<A> {
-    /// No sketches. Fails where the allocator's own clone does.
+    /// Returns no sketches. Fails where the allocator's own clone does.
     pub(crate) fn new(alloc: A) -> Result<Self, AllocError>
         ensures { IfOk result (λ s. s ≡ []) }
     {
@@ -69,7 +69,7 @@ impl<A: Allocator + Clone> Stack<A> {
         })
     }
 
-    /// A clone of the allocator. Fails where the allocator's own clone does.
+    /// Returns a clone of the allocator. Fails where the allocator's own clone does.
     fn cloned_allocator(&self) -> Result<A, AllocError> {
         self.sketches.allocator().clone()
     }
@@ -219,8 +219,8 @@ impl<A: Allocator + Clone> Stack<A> {
         }
     }
 
-    /// The bytes that the digits of an image stand for, in the one buffer, which is taken. `Hex` where they are not an even
-    /// number of hexadecimal digits, or `Memory` where a larger buffer is refused.
+    /// Returns the bytes that the digits of an image stand for, in the one buffer, which is taken. `Hex` where they are not an
+    /// even number of hexadecimal digits, or `Memory` where a larger buffer is refused.
     fn decode(&mut self, digits: &[u8]) -> Result<Vec<u8, A>, Fault>
         ensures ok { IfOk result (λ bytes. image_step digits.now ≡ Ok (image bytes.items)) }
         ensures err { IfErr result (λ e. (e ≡ Memory) ⊎ ((e ≡ faults.Hex) × (image_step digits.now ≡ Err faults.Hex))) }

@@ -134,7 +134,7 @@ fn filtered_narrowly(alloc: Global, text: &str, calls: u32, room: usize) -> Outc
     Outcome { answer, printed }
 }
 
-/// The answer of a row.
+/// Returns the answer of a row.
 fn answer_of(row: &Row) -> Result<(), MergeError> {
     match row.refusal {
         None => Ok(()),
@@ -165,7 +165,7 @@ fn rows(rt: HostRuntime) {
     }
 }
 
-/// A text of lines, each with its LF.
+/// Returns a text of lines, each with its LF.
 fn text_of(alloc: Global, lines: &[&str]) -> Result<String, AllocError> {
     let mut text = String::new(alloc);
     for line in lines {

@@ -13,13 +13,13 @@ pub(crate) fn run_over(rt: &HostRuntime, text: &[u8]) -> (Result<(), MergeError>
     (result, writer.into_inner())
 }
 
-/// Whether a text prints this.
+/// Returns whether a text prints this.
 pub(crate) fn prints(rt: &HostRuntime, text: &str, printed: &str) -> bool {
     let (result, written) = run_over(rt, text.as_bytes());
     result == Ok(()) && written.as_slice() == printed.as_bytes()
 }
 
-/// The line of an image.
+/// Returns the line of an image.
 pub(crate) fn line_of(rt: &HostRuntime, image: &[u8]) -> Result<String, Fail> {
     let digits = hex::encode(rt.alloc(), image)?;
     Ok(format!(in rt.alloc(); "image {digits}")?)

@@ -7,7 +7,7 @@ use std::test::Fail;
 const THOUSAND: &str =
     "0a0107070010000a00000000000000000000000000000000000000000000000000000000000000000f101112131415161718191a1b1c1d1e1f202122232425262728292a2b2c2d2e2f303132333435363738393a3b3c3d3e3f3e3f3e3f3e3f3e3f3e3f3e3f3e3f0f101112131415161718191a1b1c1d1e1f202122232425262728292a2b2c2d2e2f3031323334353637363738393a3b3c3d3e3f3e3f3e3f3e3f3e3f3e3f3e3f0d0e\n";
 
-/// The lines of a thousand sketches of one coupon each, with some lines after each.
+/// Returns the lines of a thousand sketches of one coupon each, with some lines after each.
 fn thousand(rt: &HostRuntime, after: &str) -> Result<String, Fail> {
     let mut text = String::new(rt.alloc());
     for number in 0..1000u32 {

@@ -1,6 +1,6 @@
 // SPDX-License-Identifier: Apache-2.0
-//! Adds many coupons at once to a sketch of eight bits, or takes the maximum with registers (docs/MODEL.md, "Adding" and
-//! "Merging"). What needs memory is made aside, and then takes the place of what was there.
+//! Adds many coupons at once to an 8-bit sketch, or takes the maximum with registers (docs/MODEL.md, "Adding" and "Merging").
+//! If that needs an allocation, the result is made separately and then replaces the old content.
 ghost use Rattle.std.specs.Prelude.{◌≡◌, ◌^◌, ◌<◌, ◌≤◌, nat_le, true, false, IfOk, IfErr, OnOk, OnErr};
 ghost use Rattle.std.specs.FinSet.{len, union};
 ghost use Rattle.hll_base.specs.declared.error.Reason.TheVariants.{Memory};
@@ -30,8 +30,8 @@ use hll_coupons::list::List;
 use std::alloc::Allocator;
 
 impl<A: Allocator + Clone> HllSketch<A> {
-    /// Merges a sketch of coupons, which stand in this table: an empty sketch at their `lg_k` takes them over, with the size of the
-    /// table.
+    /// Merges the coupons of this table, which are those of a sketch. An empty sketch at their `lg_k` copies them, with the
+    /// size of the table.
     pub(crate) fn merge_coupons(
         &mut self,
         sketch: &HllSketch<A>,
@@ -54,9 +54,9 @@ impl<A: Allocator + Clone> HllSketch<A> {
         }
     }
 
-    /// Adds the coupons of a table, of which there are some.
+    /// Adds the coupons of a table, of which there is at least one.
     ///
-    /// Fails with `Memory`, only where its own table has no room for them, and then changes nothing.
+    /// Fails with `Memory`, only if its own table has no room for them, and then changes nothing.
     pub(crate) fn add_table(&mut self, table: &Container<A>) -> Result<(), Error>
         requires width { width_of self.old.layout ≡ Hll8 }
         requires some { len (coupons_of table.now) ≡ 0 → ⊥ }
@@ -75,8 +75,8 @@ impl<A: Allocator + Clone> HllSketch<A> {
         }
     }
 
-    /// Adds the coupons of a table, for which there is room. Takes no memory but where searches have become expensive, and goes on
-    /// without where that is refused.
+    /// Adds the coupons of a table, for which there is room. Allocates only if searches have become expensive, and goes on
+    /// without if that fails.
     pub(crate) fn add_each(&mut self, table: &Container<A>)
         requires width { width_of self.old.layout ≡ Hll8 }
         requires room { can_hold_all self.old.layout (coupons_of table.now) ≡ true }
@@ -93,7 +93,8 @@ impl<A: Allocator + Clone> HllSketch<A> {
         }
     }
 
-    /// The mode with the coupons of a table, for which this list or set has no room: a larger set, or registers of eight bits.
+    /// Returns the mode with the coupons of a table added, for which this list or set has no room: a larger set, or 8-bit
+    /// registers.
     ///
     /// Fails with `Memory`.
     fn mode_with_all(&self, table: &Container<A>) -> Result<Mode<A>, Error>
@@ -117,7 +118,8 @@ impl<A: Allocator + Clone> HllSketch<A> {
         }
     }
 
-    /// Whether the table stays as large as it is with the coupons of another one, as registers of six and eight bits do.
+    /// Returns whether the table keeps its size when the coupons of another one are added. 6-bit and 8-bit registers always
+    /// keep theirs.
     fn has_room_for(&self, table: &Container<A>) -> bool
         ensures { result ≡ can_hold_all self.now.layout (coupons_of table.now) }
     {
@@ -130,7 +132,8 @@ impl<A: Allocator + Clone> HllSketch<A> {
         self.are_at_most(most_kept(size as u8), table)
     }
 
-    /// Whether there are at most so many coupons with those of a table. Counts them only where both together are more.
+    /// Returns whether there are at most `most` coupons together with those of a table. Counts them only if the two numbers add
+    /// up to more.
     fn are_at_most(&self, most: usize, table: &Container<A>) -> bool
         ensures { result ≡ nat_le (len (union (coupons_kept self.now.layout) (coupons_of table.now))) most }
     {
@@ -140,7 +143,7 @@ impl<A: Allocator + Clone> HllSketch<A> {
         both <= most || self.count_with_all(table) <= most
     }
 
-    /// How many coupons there are with those of a table; registers have none.
+    /// Returns the number of coupons together with those of a table. Registers have no coupons.
     fn count_with_all(&self, table: &Container<A>) -> usize
         ensures { result ≡ len (union (coupons_kept self.now.layout) (coupons_of table.now)) }
     {
@@ -151,7 +154,7 @@ impl<A: Allocator + Clone> HllSketch<A> {
         }
     }
 
-    /// Adds coupons in turn to registers of eight bits.
+    /// Adds coupons in turn to 8-bit registers.
     pub(crate) fn add_in_turn(&mut self, coupons: &RawCoupons<'_>)
         requires width { width_of self.old.layout ≡ Hll8 }
         requires inside { in_registers (content_in self.old.layout) ≡ true }
@@ -165,10 +168,10 @@ impl<A: Allocator + Clone> HllSketch<A> {
         }
     }
 
-    /// Takes the maximum with registers at the smaller `lg_k` of both, and clears the state: in place, where it has registers
-    /// at their `lg_k` or a smaller one.
+    /// Takes the maximum with registers at the smaller `lg_k` of both, and clears the estimate state. This is done in place if
+    /// the sketch has registers at the other `lg_k` or a smaller one.
     ///
-    /// It is of eight bits. Fails with `Memory`, and then changes nothing.
+    /// The sketch has a width of 8 bits. Fails with `Memory`, and then changes nothing.
     pub(crate) fn max_with<R: Registers>(&mut self, source: &R) -> Result<(), Error>
         requires width { width_of self.old.layout ≡ Hll8 }
         ensures ok { let x = R.stored source.now in OnOk result (sketch_of self.new ≡ merging.max_registers (sketch_of self.old) x.lg_k x.registers cleared_state) }
@@ -184,7 +187,7 @@ impl<A: Allocator + Clone> HllSketch<A> {
         self.max_aside(source)
     }
 
-    /// Takes the maximum of registers of eight bits and of others at their `lg_k` or a greater one, and clears the state.
+    /// Takes the maximum of 8-bit registers and of registers at their `lg_k` or a greater one, and clears the estimate state.
     pub(crate) fn max_in_place<R: Registers>(&mut self, source: &R)
         requires width { width_of self.old.layout ≡ Hll8 }
         requires inside { in_registers (content_in self.old.layout) ≡ true }
@@ -200,7 +203,7 @@ impl<A: Allocator + Clone> HllSketch<A> {
         }
     }
 
-    /// Takes the maximum with registers, as `max_with` does, of its fold to the smaller `lg_k` of both.
+    /// Takes the maximum with registers, as `max_with` does, in a copy: the fold of the sketch to the smaller `lg_k` of both.
     fn max_aside<R: Registers>(&mut self, source: &R) -> Result<(), Error>
         requires width { width_of self.old.layout ≡ Hll8 }
         ensures ok { let x = R.stored source.now in OnOk result (sketch_of self.new ≡ merging.max_registers (sketch_of self.old) x.lg_k x.registers cleared_state) }
@@ -218,7 +221,7 @@ impl<A: Allocator + Clone> HllSketch<A> {
     }
 }
 
-/// How many coupons a list has with those of a table.
+/// Returns the number of coupons of a list together with those of a table.
 fn count_with<A: Allocator>(list: &List<A>, table: &Container<A>) -> usize
     ensures { result ≡ len (union (coupons_of list.now) (coupons_of table.now)) }
 {

@@ -1,5 +1,5 @@
 // SPDX-License-Identifier: Apache-2.0
-//! The sketch of an image, without a copy where its coupons or registers can be used as they lie in its bytes.
+//! The sketch of an image. Coupons or registers that can be used in the bytes of the image are not copied.
 ghost use Rattle.std.specs.Prelude.{◌≡◌, ◌<◌, IfOk, IfErr};
 ghost use Rattle.hll_base.specs.declared.error.Reason.TheVariants.{Memory};
 ghost use Rattle.hll_coupons.specs.Coupons.{raw_coupons, AreCoupons};
@@ -25,21 +25,21 @@ use hll_registers::register_slice::RegisterSlice;
 use hll_registers::registers::Registers;
 use std::alloc::{Allocator, Global};
 
-/// The sketch of an image. Only a table and the map of exceptions of registers of four bits are in memory of their own.
+/// The sketch of an image. It allocates only a table, or a map for the exceptions of 4-bit registers.
 pub enum BorrowedImage<'a, A: Allocator = Global> {
     /// Coupons of a compact image that ascend, or are at most 128.
     Coupons(CouponsOfImage<'a>),
     /// Any other list or set of coupons.
     Table(HllSketch<A>),
-    /// Registers of four bits.
+    /// 4-bit registers.
     Nibbles(NibbleSlice<'a, A>),
-    /// Registers of six bits.
+    /// 6-bit registers.
     Groups(GroupSlice<'a>),
-    /// Registers of eight bits.
+    /// 8-bit registers.
     Bytes(RegisterSlice<'a>),
 }
 
-/// Written out, and not derived, so that the proof of whatever drops an image calls this and doesn't go through its kinds.
+/// Written out, not derived: so the proof of a function that drops an image calls this, and doesn't go through its kinds.
 impl<'a, A: Allocator> Drop for BorrowedImage<'a, A> {
     fn drop(self) {
         match self {
@@ -55,9 +55,9 @@ impl<'a, A: Allocator> Drop for BorrowedImage<'a, A> {
 impl<'a, A: Allocator + Clone> BorrowedImage<'a, A> {
     /// Reads an image of any stage and width. Bytes after the image are ignored.
     ///
-    /// Fails with the reason of the first check that the image fails, or else with `Memory`. Allocates only once the bytes
-    /// that the image asks for are there: a table for coupons, unless the image is compact, and they ascend or are at most
-    /// 128; and a map for the exceptions of registers of four bits, where they have some.
+    /// Fails with the reason of the first check that the image fails, or else with `Memory`. Allocates only once all bytes that
+    /// the image needs are there: a table for coupons, unless the image is compact, and they ascend or are at most 128; and a
+    /// map for the exceptions of 4-bit registers, if there are any.
     pub fn read(alloc: A, image: &'a [u8]) -> Result<BorrowedImage<'a, A>, Error>
         ensures ok { IfOk result (λ r. IsReadAs image.now (sketch_of_borrowed r)) }
         ensures err { IfErr result (IsRefusal image.now) }
@@ -99,7 +99,7 @@ impl<'a, A: Allocator> BorrowedImage<'a, A> {
         }
     }
 
-    /// Returns the number of coupons of a list or a set. `None` for registers.
+    /// Returns the number of coupons of a list or a set, or `None` for registers.
     pub fn num_coupons(&self) -> Option<usize>
         ensures { result ≡ count_in (sketch_of_borrowed self.now).content }
     {
@@ -124,7 +124,7 @@ impl<'a, A: Allocator> BorrowedImage<'a, A> {
     }
 }
 
-/// The coupons after the header of an image of a list or a set, as `BorrowedImage::read` returns them.
+/// Returns the coupons after the header of an image of a list or a set, as `BorrowedImage::read` returns them.
 fn read_coupons<'a, A: Allocator + Clone>(
     alloc: &A,
     image: &'a [u8],
@@ -149,7 +149,7 @@ fn read_coupons<'a, A: Allocator + Clone>(
     }
 }
 
-/// Coupons of a compact image, with what its header says.
+/// Returns the coupons of a compact image, with what its header says.
 fn coupons_of_image<'a>(
     image: &'a [u8],
     header: Header,
@@ -168,7 +168,7 @@ fn coupons_of_image<'a>(
     }
 }
 
-/// The registers after the header of an image, as `BorrowedImage::read` returns them.
+/// Returns the registers after the header of an image, as `BorrowedImage::read` returns them.
 fn read_registers<'a, A: Allocator + Clone>(
     alloc: &A,
     image: &'a [u8],

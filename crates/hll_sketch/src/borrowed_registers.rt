@@ -1,5 +1,5 @@
 // SPDX-License-Identifier: Apache-2.0
-//! The registers of an image, without a copy where they lie in its bytes, and whether those of two images agree.
+//! The registers of an image, without a copy if they can be used in its bytes, and whether the registers of two images agree.
 ghost use Rattle.std.specs.Prelude.{◌≡◌, ◌≤◌, ◌<◌, ◌↔◌, ◌^◌, length, min, IsTrue, IfSome, IfNone, IfOk, IfErr, OnErr, Some};
 ghost use Rattle.hll_base.specs.declared.error.Reason.TheVariants.{Memory};
 ghost use Rattle.hll_coupons.specs.Fold.{fold_to, pairs};
@@ -24,19 +24,19 @@ use hll_registers::nibble_slice::NibbleSlice;
 use hll_registers::register_slice::RegisterSlice;
 use std::alloc::{Allocator, Global};
 
-/// The registers of an image: as they lie in its bytes, or those that its coupons fold to at its `lg_k`.
+/// The registers of an image: borrowed from its bytes, or computed from its coupons at its `lg_k`.
 pub enum BorrowedRegisters<'a, A: Allocator = Global> {
-    /// Registers of four bits.
+    /// 4-bit registers.
     Nibbles(NibbleSlice<'a, A>),
-    /// Registers of six bits.
+    /// 6-bit registers.
     Groups(GroupSlice<'a>),
-    /// Registers of eight bits.
+    /// 8-bit registers.
     Bytes(RegisterSlice<'a>),
-    /// Those that coupons fold to, in memory of their own.
+    /// The registers that coupons fold to, in an allocation.
     OfCoupons(ImageRegisters<A>),
 }
 
-/// Written out, and not derived, so that the proof of whatever drops registers calls this and doesn't go through their kinds.
+/// Written out, not derived: so the proof of a function that drops registers calls this, and doesn't go through their kinds.
 impl<'a, A: Allocator> Drop for BorrowedRegisters<'a, A> {
     fn drop(self) {
         match self {
@@ -49,11 +49,11 @@ impl<'a, A: Allocator> Drop for BorrowedRegisters<'a, A> {
 }
 
 impl<'a, A: Allocator + Clone> BorrowedRegisters<'a, A> {
-    /// The registers of an image of any stage and width.
+    /// Returns the registers of an image of any stage and width.
     ///
-    /// Fails with the reason of the first check that the image fails, or else with `Memory`. Allocates, only once the bytes
-    /// that the image asks for are there: a map for the exceptions of registers of four bits, where they have some; and for
-    /// coupons what `registers_of_image` does.
+    /// Fails with the reason of the first check that the image fails, or else with `Memory`. Allocates only once all bytes that
+    /// the image needs are there: a map for the exceptions of 4-bit registers, if there are any; and for coupons what
+    /// `registers_of_image` does.
     pub fn read(alloc: A, image: &'a [u8]) -> Result<BorrowedRegisters<'a, A>, Error>
         ensures ok { IfOk result (λ r. AreRegistersOf image.now (lg_k_of r) (values_of r)) }
         ensures whole { IfOk result AreWhole }
@@ -71,11 +71,11 @@ impl<'a, A: Allocator + Clone> BorrowedRegisters<'a, A> {
         }
     }
 
-    /// Whether the registers agree with others: whether both fold to the same registers at the smaller `lg_k`. Registers that
-    /// lie in images at the same `lg_k` and width are compared there. Others are copied by this allocator, two bytes for
+    /// Returns whether the registers agree with others: whether both fold to the same registers at the smaller `lg_k`. Borrowed
+    /// registers of the same `lg_k` and width are compared in their images. Others are copied by this allocator: two bytes for
     /// each register at the smaller `lg_k`.
     ///
-    /// Fails with `Memory`, never if they lie in images at the same `lg_k` and width.
+    /// Fails with `Memory`, but never if both are borrowed from images and have the same `lg_k` and width.
     pub fn agrees_with(self, alloc: &A, other: BorrowedRegisters<'_, A>) -> Result<bool, Error>
         requires left { AreWhole self }
         requires right { AreWhole other }
@@ -92,9 +92,9 @@ impl<'a, A: Allocator + Clone> BorrowedRegisters<'a, A> {
         Ok(values.as_slice() == others.as_slice())
     }
 
-    /// The values of the registers, folded to an `lg_k` of at most theirs.
+    /// Returns the values of the registers, folded to an `lg_k` of at most their own.
     ///
-    /// Allocates a byte for each, but not for those of coupons. Fails with `Memory`.
+    /// Allocates one byte for each register, unless they were computed from coupons. Fails with `Memory`.
     fn into_folded_values(self, alloc: &A, lg_k: u8) -> Result<Vec<u8, A>, Error>
         requires whole { AreWhole self }
         requires lg_k { IsLgK lg_k }
@@ -112,7 +112,7 @@ impl<'a, A: Allocator + Clone> BorrowedRegisters<'a, A> {
 }
 
 impl<'a, A: Allocator> BorrowedRegisters<'a, A> {
-    /// The `lg_k`.
+    /// Returns the `lg_k`.
     fn lg_k(&self) -> u8
         ensures { result ≡ lg_k_of self.now }
     {
@@ -124,7 +124,7 @@ impl<'a, A: Allocator> BorrowedRegisters<'a, A> {
         }
     }
 
-    /// Whether registers that lie in images at the same `lg_k` and width are the same. `None` of others.
+    /// Returns whether borrowed registers of the same `lg_k` and width are equal. Returns `None` for others.
     fn is_same_in_place(&self, other: &BorrowedRegisters<'_, A>) -> Option<bool>
         ensures some { IfSome result (λ same. (lg_k_of self.now ≡ lg_k_of other.now) × (IsTrue same ↔ (values_of self.now ≡ values_of other.now))) }
         ensures none { IfNone result (LieAlike self.now other.now → ⊥) }
@@ -147,10 +147,10 @@ impl<'a, A: Allocator> BorrowedRegisters<'a, A> {
     }
 }
 
-/// The registers that lie after the header of an image.
+/// Returns the registers after the header of an image, borrowed from its bytes.
 ///
-/// Fails with the reason of the first check that they fail, or else with `Memory`. Allocates a map for the exceptions of
-/// registers of four bits, where they have some.
+/// Fails with the reason of the first check that they fail, or else with `Memory`. Allocates a map for the exceptions of 4-bit
+/// registers, if there are any.
 fn lying_registers<'a, A: Allocator + Clone>(
     alloc: &A,
     image: &'a [u8],
@@ -167,26 +167,26 @@ fn lying_registers<'a, A: Allocator + Clone>(
     match header.hll_type {
         HllType::Hll4 => {
             let registers = four_bit_registers(alloc, image, header)?;
-            // brings that the registers are legal
+            // makes known that the registers are legal
             let _lg_k = registers.lg_k();
             Ok(BorrowedRegisters::Nibbles(registers))
         }
         HllType::Hll6 => {
             let registers = six_bit_registers(image, header)?;
-            // brings that the registers are legal
+            // makes known that the registers are legal
             let _lg_k = registers.lg_k();
             Ok(BorrowedRegisters::Groups(registers))
         }
         HllType::Hll8 => {
             let registers = eight_bit_registers(image, header)?;
-            // brings that the registers are legal
+            // makes known that the registers are legal
             let _lg_k = registers.lg_k();
             Ok(BorrowedRegisters::Bytes(registers))
         }
     }
 }
 
-/// A copy of registers, folded to an `lg_k` of at most theirs.
+/// Returns a copy of registers, folded to an `lg_k` of at most their own.
 ///
 /// Fails with `Memory`.
 fn folded_values<R: Registers, A: Allocator + Clone>(
@@ -202,7 +202,7 @@ fn folded_values<R: Registers, A: Allocator + Clone>(
     Ok(fold_of_registers(alloc.clone()?, lg_k, source)?.into_values())
 }
 
-/// The values of registers, folded to an `lg_k` of at most theirs, in their memory.
+/// Returns the values of registers, folded to an `lg_k` of at most their own, in their own memory.
 fn folded_in_place<A: Allocator>(registers: ImageRegisters<A>, lg_k: u8) -> Vec<u8, A>
     requires size { IsLgK registers.lg_k × (length registers.values.items ≡ 2 ^ registers.lg_k) }
     requires within { lg_k ≤ registers.lg_k }

@@ -19,9 +19,9 @@ use hll_base::hll_type::HllType;
 use std::alloc::Allocator;
 
 impl<A: Allocator + Clone> HllSketch<A> {
-    /// The sketch at another width: coupons at the size of their table, or registers with their state.
+    /// Returns the sketch at another width: coupons at the size of their table, or registers with their estimate state.
     ///
-    /// Registers are of eight bits. Fails with `Memory`.
+    /// The registers are 8-bit registers. Fails with `Memory`.
     pub(crate) fn to_width(&self, hll_type: HllType) -> Result<HllSketch<A>, Error>
         requires { in_registers (content_in self.now.layout) ≡ true → width_of self.now.layout ≡ Hll8 }
         ensures ok { IfOk result (λ s. sketch_of s ≡ record (sketch_of self.now) { width = hll_type }) }
@@ -36,7 +36,7 @@ impl<A: Allocator + Clone> HllSketch<A> {
         }
     }
 
-    /// A sketch of coupons at another width, in memory of a clone of this allocator: the coupons at the size of their table.
+    /// Returns a sketch of coupons at another width, with the size of its table. Allocates with a clone of this allocator.
     ///
     /// Fails with `Memory`.
     pub(crate) fn table_in(&self, alloc: &A, hll_type: HllType) -> Result<HllSketch<A>, Error>
@@ -62,10 +62,10 @@ impl<A: Allocator + Clone> HllSketch<A> {
         })
     }
 
-    /// The sketch at a width: coupons at the size of their table, or registers with their state. What stays as it is isn't
-    /// copied.
+    /// Returns the sketch at a width: coupons at the size of their table, or registers with their estimate state. Nothing is
+    /// copied unless it changes.
     ///
-    /// Fails with `Memory`, only for registers at another width than theirs.
+    /// Fails with `Memory`, only for registers at another width than their own.
     pub fn into_width(self, hll_type: HllType) -> Result<HllSketch<A>, Error>
         ensures ok { IfOk result (λ s. sketch_of s ≡ record (sketch_of self) { width = hll_type }) }
         ensures needed { OnErr result ((in_registers (content_in self.layout) ≡ true) × (hll_type ≢ width_of self.layout)) }
@@ -82,9 +82,9 @@ impl<A: Allocator + Clone> HllSketch<A> {
         })
     }
 
-    /// The registers that its pairs fold to at an `lg_k`: 2^`lg_k` values of 0 to 63.
+    /// Returns the registers that its pairs fold to at an `lg_k`: 2^`lg_k` values of 0 to 63.
     ///
-    /// `lg_k` is 4 to the sketch's. Takes a byte a register, and one pass. Fails with `Memory`.
+    /// `lg_k` is 4 to the sketch's. Allocates one byte for each register, and takes one pass. Fails with `Memory`.
     pub fn registers_at(&self, lg_k: u8) -> Result<Vec<u8, A>, Error>
         requires least { 4 ≤ lg_k }
         requires most { lg_k ≤ self.now.lg_k }
@@ -94,7 +94,7 @@ impl<A: Allocator + Clone> HllSketch<A> {
         self.registers_in(self.allocator().clone()?, lg_k)
     }
 
-    /// As `registers_at`, in memory of this allocator.
+    /// Returns what `registers_at` does, in memory of this allocator.
     pub(crate) fn registers_in(&self, alloc: A, lg_k: u8) -> Result<Vec<u8, A>, Error>
         requires least { 4 ≤ lg_k }
         requires most { lg_k ≤ self.now.lg_k }
@@ -104,8 +104,8 @@ impl<A: Allocator + Clone> HllSketch<A> {
         Ok(fold_of(alloc, &self.mode, lg_k)?.into_values())
     }
 
-    /// The sketch folded to an `lg_k`, of the same width (docs/MODEL.md, "Folding"): coupons stay whole, and registers keep
-    /// their state only at their own `lg_k`.
+    /// Returns the sketch folded to an `lg_k`, at the same width (docs/MODEL.md, "Folding"): all coupons are kept, and
+    /// registers keep their estimate state only at their own `lg_k`.
     ///
     /// Fails with `Argument` if `lg_k` is not 4 to the sketch's, or else with `Memory`.
     pub fn folded(&self, lg_k: u8) -> Result<HllSketch<A>, Error>
@@ -124,8 +124,8 @@ impl<A: Allocator + Clone> HllSketch<A> {
         })
     }
 
-    /// Whether the sketch is its own fold to an `lg_k`, so that `folded` would make a copy: at its own `lg_k`, registers, or
-    /// coupons in a table of the size that they need from the start.
+    /// Returns whether the sketch is its own fold to an `lg_k`, so `folded` would only make a copy. It is at its own `lg_k`,
+    /// with registers, or with coupons in the smallest table that holds them.
     pub fn is_own_fold(&self, lg_k: u8) -> bool
         ensures { IsTrue result ↔ (folding.folded (sketch_of self.now) lg_k ≡ sketch_of self.now) }
     {
@@ -140,7 +140,7 @@ impl<A: Allocator + Clone> HllSketch<A> {
         }
     }
 
-    /// The mode at an `lg_k`.
+    /// Returns the mode at an `lg_k`.
     fn folded_mode(&self, lg_k: u8) -> Result<Mode<A>, Error>
         requires { IsFoldLgK self.now.lg_k lg_k }
         ensures content { IfOk result (λ m. content_in (layout_of m) ≡ folding.folded_content self.now.lg_k lg_k (content_in self.now.layout)) }
@@ -155,7 +155,7 @@ impl<A: Allocator + Clone> HllSketch<A> {
         }
     }
 
-    /// The registers at an `lg_k`.
+    /// Returns the registers at an `lg_k`.
     fn folded_registers(&self, lg_k: u8) -> Result<Mode<A>, Error>
         requires lg_k { IsFoldLgK self.now.lg_k lg_k }
         requires registers { in_registers (content_in self.now.layout) ≡ true }

@@ -1,7 +1,7 @@
 // SPDX-License-Identifier: Apache-2.0
-//! Makes images of coupons from images of coupons, without a table: the union of two, and one image at another width.
-//! Coupons that ascend, as in images that this library wrote, are read in place. Up to 128 coupons in another order are
-//! sorted first.
+//! Makes images of coupons from images of coupons, without a table: the union of two images, an image with coupons added, and
+//! an image at another width. Coupons that ascend, as in images that this library wrote, are read in place. Up to 128 coupons
+//! in another order are sorted first.
 ghost use Rattle.std.specs.Prelude.{◌≡◌, ℕ, List, ◌≤◌, ◌<◌, true, None, IfSome, IfNone, IfOk, IfErr, OnErr, length};
 ghost use Rattle.std.specs.FinSet.{len, union};
 ghost use Rattle.std.specs.List.Sorted.{IsStrictlyIncreasing};
@@ -26,12 +26,12 @@ use hll_coupons::raw_coupons::{list_image, set_image, union_of_ascending};
 use hll_coupons::serialization::{COUPON_SIZE_BYTES, LG_LIST_BUCKETS};
 use std::alloc::Allocator;
 
-/// What an image of coupons says, its coupons in ascending order.
+/// What an image of coupons says, with its coupons in ascending order.
 #[derive(Drop)]
 struct OrderedImage<'a> {
     /// The logarithm of the number of registers, 4 to 21.
     lg_k: u8,
-    /// The width that registers are to have.
+    /// The width that its registers will have.
     hll_type: HllType,
     /// The logarithm of the number of buckets of its table.
     lg_size: u8,
@@ -39,20 +39,21 @@ struct OrderedImage<'a> {
     raw_coupons: RawCoupons<'a>,
 }
 
-/// What an image of coupons says, but for the coupons.
+/// What an image of coupons says, without the coupons.
 #[derive(Clone, Copy)]
 pub struct ImageOfCoupons {
     /// The logarithm of the number of registers, 4 to 21.
     pub lg_k: u8,
-    /// The width that registers are to have.
+    /// The width that its registers will have.
     pub hll_type: HllType,
     /// The logarithm of the number of buckets of its table.
     pub lg_size: u8,
-    /// How many coupons there are.
+    /// The number of coupons.
     pub count: usize,
 }
 
-/// What an image of coupons says, where it is compact, and they ascend or are at most 128; there are some. `None` for others.
+/// Returns what an image of coupons says, if it is compact, has coupons, and they ascend or are at most 128. Returns `None` for
+/// other images.
 pub fn image_of_coupons(bytes: &[u8]) -> Option<ImageOfCoupons>
     ensures some { IfSome result (λ i. IsImageOfTable bytes.now i.lg_k i.hll_type i.lg_size i.count) }
     ensures none { IfNone result (HasCompactCoupons bytes.now → ⊥) }
@@ -71,7 +72,7 @@ pub fn image_of_coupons(bytes: &[u8]) -> Option<ImageOfCoupons>
 
 /// Returns the image, at a width, of the union of two images of coupons, without making a table.
 ///
-/// Returns `None`, and a union has to merge the images, unless all of these hold:
+/// Returns `None` unless all of these hold; then a union has to merge the images:
 ///
 /// - each image is compact, and its coupons ascend or are at most 128, or it is updatable and has 1 to 128 coupons;
 /// - the first image is at `lg_max_k`, the bound of the union;
@@ -99,10 +100,10 @@ pub fn union_of_coupon_images<A: Allocator + Clone>(
     union_of_sorted_images(alloc, lg_max_k, hll_type, left, right)
 }
 
-/// Returns what `union_of_coupon_images` does, for coupons in any order: those that don't ascend are sorted first.
+/// Returns what `union_of_coupon_images` does, for coupons in any order: coupons that don't ascend are sorted first.
 ///
-/// Allocates as that does. Fails with `Memory`.
-// (a caller that had the rooms among its own values would clear them for coupons that ascend too)
+/// Allocates what `union_of_coupon_images` does. Fails with `Memory`.
+// (not inlined: a caller would have to clear the rooms for coupons that ascend too)
 #[inline(never)]
 fn union_of_sorted_images<A: Allocator + Clone>(
     alloc: A,
@@ -127,11 +128,12 @@ fn union_of_sorted_images<A: Allocator + Clone>(
     union_in_order(alloc, lg_max_k, hll_type, left, right)
 }
 
-/// Returns the image, at a width, of the union of two images with their coupons in ascending order. `None` if the first is
-/// not at `lg_max_k`, the bound of the union, or no table holds the coupons of both.
+/// Returns the image, at a width, of the union of two images with their coupons in ascending order. Returns `None` if the first
+/// image is not at `lg_max_k`, the bound of the union, or if no table holds the coupons of both.
 ///
-/// Allocates four bytes for each coupon of both, and then the image. Fails with `Memory`, only if the first is at the bound.
-// (in each of its callers, so that what it is given isn't put into memory for it)
+/// Allocates four bytes for each coupon of both images, and then the image. Fails with `Memory`, only if the first image is at
+/// the bound.
+// (inlined, so that its arguments aren't written to memory)
 #[inline(always)]
 fn union_in_order<A: Allocator + Clone>(
     alloc: A,
@@ -161,11 +163,11 @@ fn union_in_order<A: Allocator + Clone>(
     )
 }
 
-/// Returns the image, at an `lg_k` and a width, of the coupons of two lists in ascending order, those of the second added to those
-/// of the first, whose table has 2^`lg_size` buckets. `None` if no table holds them.
+/// Returns the image, at an `lg_k` and a width, of the coupons of two lists in ascending order. The coupons of the second list
+/// are added to those of the first, whose table has 2^`lg_size` buckets. Returns `None` if no table holds all of them.
 ///
-/// Allocates four bytes for each coupon of both, and then the image. Fails with `Memory`.
-// (in each of its callers, as `union_in_order`)
+/// Allocates four bytes for each coupon of both lists, and then the image. Fails with `Memory`.
+// (inlined, as `union_in_order` is)
 #[inline(always)]
 fn image_of_both<A: Allocator + Clone>(
     alloc: A,
@@ -189,13 +191,14 @@ fn image_of_both<A: Allocator + Clone>(
     }
 }
 
-/// Returns the image of the sketch of an image of coupons with more coupons added, without making a table. Sorts the raw coupons.
+/// Returns the image of the sketch of an image of coupons with more coupons added, without making a table. Sorts the raw
+/// coupons.
 ///
-/// There are 1 to 128 raw coupons, of which each has a value. Returns `None`, and a sketch has to add them, unless all of these
-/// hold:
+/// There are 1 to 128 raw coupons, none with the value 0. Returns `None` unless all of these hold; then a sketch has to add the
+/// coupons:
 ///
 /// - the image is compact, and its coupons ascend or are at most 128, or it is updatable and has 1 to 128 coupons;
-/// - no two of the raw coupons are the same;
+/// - no two of the raw coupons are equal;
 /// - a table at the `lg_k` of the image holds all coupons.
 ///
 /// Allocates four bytes for each coupon, and then the image. Fails with `Memory`.
@@ -219,10 +222,10 @@ pub fn coupon_image_with<A: Allocator + Clone>(
     sorted_image_with(alloc, image, raw_coupons)
 }
 
-/// Returns what `coupon_image_with` does, for coupons in any order: those that don't ascend are sorted first.
+/// Returns what `coupon_image_with` does, for coupons in any order: coupons that don't ascend are sorted first.
 ///
-/// Allocates as that does. Fails with `Memory`.
-// (a caller that had the room among its own values would clear it for coupons that ascend too)
+/// Allocates what `coupon_image_with` does. Fails with `Memory`.
+// (not inlined: a caller would have to clear the room for coupons that ascend too)
 #[inline(never)]
 fn sorted_image_with<A: Allocator + Clone>(
     alloc: A,
@@ -242,8 +245,8 @@ fn sorted_image_with<A: Allocator + Clone>(
     }
 }
 
-/// Returns the image of coupons in ascending order with more coupons added, which it sorts. `None` if two of these are the same,
-/// or no table holds all coupons.
+/// Returns the image of coupons in ascending order with more coupons added, which it sorts. Returns `None` if two of these are
+/// equal, or if no table holds all coupons.
 ///
 /// Allocates four bytes for each coupon, and then the image. Fails with `Memory`.
 fn ordered_image_with<A: Allocator + Clone>(
@@ -296,10 +299,10 @@ pub fn coupon_image_at<A: Allocator>(
     sorted_image_at(alloc, hll_type, image)
 }
 
-/// Returns what `coupon_image_at` does, for coupons in any order: those that don't ascend are sorted first.
+/// Returns what `coupon_image_at` does, for coupons in any order: coupons that don't ascend are sorted first.
 ///
 /// Allocates once, for the image. Fails with `Memory`.
-// (a caller that had the room among its own values would clear it for coupons that ascend too)
+// (not inlined: a caller would have to clear the room for coupons that ascend too)
 #[inline(never)]
 fn sorted_image_at<A: Allocator>(
     alloc: A,
@@ -321,7 +324,7 @@ fn sorted_image_at<A: Allocator>(
 /// Returns the image of coupons that are in ascending order, at a width.
 ///
 /// Allocates once. Fails with `Memory`.
-// (in each of its callers, as `union_in_order`)
+// (inlined, as `union_in_order` is)
 #[inline(always)]
 fn image_in_order<A: Allocator>(
     alloc: A,
@@ -337,7 +340,7 @@ fn image_in_order<A: Allocator>(
     coupon_image(alloc, image.lg_k, hll_type, image.lg_size, coupons)
 }
 
-/// Returns whether the mode byte of an image says that it is of registers, so that nothing is done for coupons.
+/// Returns whether the mode byte of an image says that it has registers. Then nothing is done for coupons.
 pub fn says_registers(bytes: &[u8]) -> bool
     ensures { result ≡ true → HasEvidentCoupons bytes.now → ⊥ }
 {
@@ -388,9 +391,9 @@ fn sorted_image<'a>(bytes: &'a [u8], room: &'a mut [u8; ROOM]) -> Option<Ordered
     })
 }
 
-/// The image of coupons in this order, four bytes each, whose table has 2^`lg_size` buckets.
+/// Returns the image of coupons in this order, four bytes each, whose table has 2^`lg_size` buckets.
 ///
-/// Takes memory in one request. Fails with `Memory`.
+/// Allocates once. Fails with `Memory`.
 pub fn coupon_image<A: Allocator>(
     alloc: A,
     lg_k: u8,

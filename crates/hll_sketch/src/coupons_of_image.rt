@@ -8,13 +8,13 @@ ghost use Rattle.hll_sketch.specs.Value.{IsLgK};
 
 use hll_base::hll_type::HllType;
 
-/// The coupons of a compact image, as they lie in its bytes, each once.
+/// The coupons of a compact image, borrowed from its bytes. No two are equal.
 #[derive(Clone, Copy)]
 pub struct CouponsOfImage<'a> {
     /// The logarithm of the number of registers, 4 to 21.
     pub lg_k: u8,
 
-    /// The width of registers.
+    /// The width that its registers will have.
     pub hll_type: HllType,
 
     /// The logarithm of the number of buckets of their table: 3, or 5 to `lg_k` - 3.

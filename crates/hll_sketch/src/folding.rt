@@ -24,9 +24,9 @@ use hll_coupons::list::List;
 use hll_coupons::serialization::LG_LIST_BUCKETS;
 use std::alloc::Allocator;
 
-/// The registers of eight bits that all pairs of a mode fold to, with the cleared state.
+/// Returns the 8-bit registers that all pairs of a mode fold to, with the cleared estimate state.
 ///
-/// `lg_k` is at most that of registers. One pass. Takes memory of this allocator alone. Fails with `Memory`.
+/// `lg_k` is at most that of registers. It takes one pass. Allocates only with this allocator. Fails with `Memory`.
 pub(crate) fn fold_of<A: Allocator + Clone>(
     alloc: A,
     mode: &Mode<A>,
@@ -46,7 +46,7 @@ pub(crate) fn fold_of<A: Allocator + Clone>(
     }
 }
 
-/// Whether a table has the size that its coupons need from the start at an `lg_k`.
+/// Returns whether a table has the smallest size that holds its coupons at an `lg_k`.
 pub(crate) fn has_least_size<A: Allocator>(lg_k: u8, table: &Container<A>) -> bool
     requires { IsLgK lg_k }
     ensures { IsTrue result ↔ (stages.stage lg_k 3 (len (coupons_of table.now)) ≡ Some table.now.lg_size) }
@@ -54,7 +54,7 @@ pub(crate) fn has_least_size<A: Allocator>(lg_k: u8, table: &Container<A>) -> bo
     stage(lg_k, LG_LIST_BUCKETS, table.len()) == Some(table.lg_size() as u8)
 }
 
-/// The mode of the coupons of a table at an `lg_k`: at the size that they need from the start, or registers.
+/// Returns the mode of the coupons of a table at an `lg_k`: the smallest table that holds them, or registers.
 ///
 /// Fails with `Memory`.
 pub(crate) fn mode_of_coupons<A: Allocator + Clone>(
@@ -82,7 +82,7 @@ pub(crate) fn mode_of_coupons<A: Allocator + Clone>(
     }
 }
 
-/// A list of eight buckets with the coupons of a table, at most eight.
+/// Returns a list of eight buckets with the coupons of a table, at most eight.
 fn list_of<A: Allocator + Clone>(table: &Container<A>) -> Result<List<A>, Error>
     requires { len (coupons_of table.now) ≤ 8 }
     ensures size { IfOk result (λ l. l.lg_size ≡ 3) }

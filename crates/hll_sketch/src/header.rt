@@ -18,10 +18,10 @@ use hll_coupons::serialization::{
     TGT_HLL6, TGT_HLL8, extract_cur_mode, extract_tgt_hll_type,
 };
 
-/// The bytes of the header.
+/// The number of bytes of the header.
 pub(crate) const HEADER_SIZE: usize = 8;
 
-/// The stage that an image is of.
+/// The stage of an image.
 #[derive(Clone, Copy, Debug, PartialEq, Eq)]
 pub enum Stage {
     /// A list of coupons.
@@ -32,16 +32,16 @@ pub enum Stage {
     Hll,
 }
 
-/// What the header of an image says, its checks passed.
+/// What the header of an image says, after its checks.
 #[derive(Clone, Copy)]
 pub(crate) struct Header {
     /// The logarithm of the number of registers, 4 to 21.
     pub lg_k: u8,
     /// The width of registers.
     pub hll_type: HllType,
-    /// The stage, which says what follows.
+    /// The stage. It determines what comes after the header.
     pub stage: Stage,
-    /// The logarithm of the number of buckets of a table, as it stands: it has no check here.
+    /// The logarithm of the number of buckets of a table, as the byte says it: it is not checked here.
     pub lg_arr: u8,
     /// Whether the empty flag is set.
     pub empty: bool,
@@ -49,15 +49,15 @@ pub(crate) struct Header {
     pub compact: bool,
     /// Whether the out-of-order flag is set.
     pub out_of_order: bool,
-    /// The byte whose meaning goes by the stage: the count of a list, the minimum of registers of four bits.
+    /// The byte whose meaning depends on the stage: the count of a list, or the minimum of 4-bit registers.
     pub state_byte: u8,
 }
 
 impl Header {
     /// Reads the header of an image.
     ///
-    /// Fails, in this order, with `Truncated` where there are fewer than eight bytes, `Family`, `Version`, `LgK`,
-    /// `Width`, `Stage`, or `Preamble` where the preamble words are not those of the stage.
+    /// Fails, in this order, with `Truncated` if there are fewer than eight bytes, `Family`, `Version`, `LgK`, `Width`,
+    /// `Stage`, or with `Preamble` if the preamble words don't fit the stage.
     pub(crate) fn read(bytes: &[u8]) -> Result<Header, Error>
         ensures ok { IfOk result (λ h. HasHeader bytes.now (stage_bits bytes.now) × (stage_bits bytes.now < 3) × (h ≡ header_of bytes.now)) }
         ensures err { IfErr result (λ e. HeaderFault bytes.now e) }
@@ -96,7 +96,7 @@ impl Header {
     }
 }
 
-/// Tests the serial version.
+/// Checks the serial version.
 fn check_version(version: u8) -> Result<(), Error>
     ensures ok { IsOk result ↔ (version ≡ 1) }
     ensures err { IfErr result (λ e. e ≡ reasons.Version) }
@@ -108,7 +108,7 @@ fn check_version(version: u8) -> Result<(), Error>
     }
 }
 
-/// Tests the `lg_k`.
+/// Checks the `lg_k`.
 fn check_lg_k(lg_k: u8) -> Result<(), Error>
     ensures ok { IsOk result ↔ IsLgK lg_k }
     ensures err { IfErr result (λ e. e ≡ reasons.LgK) }
@@ -120,7 +120,7 @@ fn check_lg_k(lg_k: u8) -> Result<(), Error>
     }
 }
 
-/// The width in the mode byte.
+/// Returns the width in the mode byte.
 fn width_of(mode: u8) -> Result<HllType, Error>
     ensures ok { IfOk result (λ w. (mode / 4 % 4 < 3) × (w ≡ width_of_bits (mode / 4 % 4))) }
     ensures err { IfErr result (λ e. (mode / 4 % 4 ≡ 3) × (e ≡ reasons.Width)) }
@@ -133,7 +133,7 @@ fn width_of(mode: u8) -> Result<HllType, Error>
     }
 }
 
-/// The stage in the mode byte.
+/// Returns the stage in the mode byte.
 fn stage_of(mode: u8) -> Result<Stage, Error>
     ensures ok { IfOk result (λ s. (mode % 4 < 3) × (s ≡ stage_of_bits (mode % 4))) }
     ensures err { IfErr result (λ e. (mode % 4 ≡ 3) × (e ≡ reasons.Stage)) }
@@ -146,7 +146,7 @@ fn stage_of(mode: u8) -> Result<Stage, Error>
     }
 }
 
-/// Tests the number of preamble words, by the stage.
+/// Checks the number of preamble words, which depends on the stage.
 fn check_preamble(stage: Stage, preamble: u8) -> Result<(), Error>
     ensures ok { IsOk result ↔ (preamble ≡ preamble_words (number_of_stage stage)) }
     ensures err { IfErr result (λ e. e ≡ reasons.Preamble) }
@@ -163,7 +163,7 @@ fn check_preamble(stage: Stage, preamble: u8) -> Result<(), Error>
     }
 }
 
-/// Whether the flag of a mask, which is a power of two, is set.
+/// Returns whether a flag is set. `mask` is a power of two.
 fn is_flagged(flags: u8, mask: u8) -> bool
     requires { 1 ≤ mask }
     ensures { result ≡ (flags / mask % 2 == 1) }

@@ -1,5 +1,5 @@
 // SPDX-License-Identifier: Apache-2.0
-//! Whether bytes begin with an image (docs/FORMAT.md, "Order of checks").
+//! Checks whether bytes begin with an image (docs/FORMAT.md, "Order of checks").
 ghost use Rattle.std.specs.Prelude.{◌≡◌, ◌<◌, OnOk, IfErr};
 ghost use Rattle.hll_base.specs.declared.error.Reason.TheVariants.{Memory};
 ghost use Rattle.hll_sketch.specs.Header.{header_of};
@@ -19,11 +19,11 @@ use hll_base::error::Error;
 use std::alloc::Allocator;
 
 impl<A: Allocator + Clone> HllSketch<A> {
-    /// Tests whether bytes begin with an image. What follows the image is not looked at.
+    /// Checks whether bytes begin with an image. Bytes after the image are not read.
     ///
-    /// Fails as `deserialize` does, with the reason of the first check that the bytes fail, or else with `Memory`. Allocates only
-    /// once the bytes that the image asks for are there: a table of coupons, but not for coupons that are 1 to 128, or ascend
-    /// in a compact image; and a map for the exceptions of registers of four bits, where they have some.
+    /// Fails as `deserialize` does, with the reason of the first check that the bytes fail, or else with `Memory`. Allocates
+    /// only once all bytes that the image needs are there: a table for coupons, except for 1 to 128 coupons or for coupons that
+    /// ascend in a compact image; and a map for the exceptions of 4-bit registers, if there are any.
     pub fn check(alloc: A, bytes: &[u8]) -> Result<(), Error>
         ensures ok { OnOk result ((x : Sketch) × IsReadAs bytes.now x) }
         ensures err { IfErr result (IsRefusal bytes.now) }
@@ -42,11 +42,11 @@ impl<A: Allocator + Clone> HllSketch<A> {
     }
 }
 
-/// Tests whether coupons that are not evident in a compact image stand after the header of a list or a set.
+/// Checks whether the bytes after the header of a list or a set are coupons, if one pass over a compact image has not shown it.
 ///
-/// Fails with the reason of the first check that they fail, or else with `Memory`. Allocates a table, but not for 1 to 128
+/// Fails with the reason of the first check that they fail, or else with `Memory`. Allocates a table, except for 1 to 128
 /// coupons of an updatable image.
-// (a caller that had the room among its own values would clear it for compact coupons too)
+// (not inlined: a caller would have to clear the room for compact coupons too)
 #[inline(never)]
 fn check_other_coupons<A: Allocator + Clone>(
     alloc: &A,
@@ -70,11 +70,11 @@ fn check_other_coupons<A: Allocator + Clone>(
     }
 }
 
-/// Tests whether registers stand after the header of an image, without a copy of them.
+/// Checks whether the bytes after the header of an image are registers, without a copy of them.
 ///
-/// Fails with the reason of the first check that they fail, or else with `Memory`. Allocates a map for the exceptions of
-/// registers of four bits, where they have some.
-// (a caller would clear its values for compact coupons too)
+/// Fails with the reason of the first check that they fail, or else with `Memory`. Allocates a map for the exceptions of 4-bit
+/// registers, if there are any.
+// (not inlined: a caller would have to clear its values for compact coupons too)
 #[inline(never)]
 fn check_registers<A: Allocator + Clone>(
     alloc: &A,

@@ -1,5 +1,5 @@
 // SPDX-License-Identifier: Apache-2.0
-//! The registers of an image, whatever its stage and width, a byte for each.
+//! The registers of an image of any stage and width, one byte for each register.
 ghost use Rattle.std.specs.Prelude.{◌≡◌, ◌<◌, IfOk, IfErr};
 ghost use Rattle.hll_base.specs.declared.error.Reason.TheVariants.{Memory};
 ghost use Rattle.hll_coupons.specs.Coupons.{raw_coupons};
@@ -23,7 +23,7 @@ use hll_arrays::registers::{Registers, two_to};
 use hll_base::error::Error;
 use std::alloc::{Allocator, Global};
 
-/// Registers, a byte for each.
+/// Registers, one byte for each.
 #[derive(Drop)]
 pub struct ImageRegisters<A: Allocator = Global> {
     /// The logarithm of their number, 4 to 21.
@@ -32,12 +32,12 @@ pub struct ImageRegisters<A: Allocator = Global> {
     pub values: Vec<u8, A>,
 }
 
-// (not inlined: a caller would hold the room for coupons too, and its own loops get slower)
-/// The registers that the pairs of an image fold to at its `lg_k`.
+// (not inlined: a caller would hold the room for coupons too, and its own loops would get slower)
+/// Returns the registers that the pairs of an image fold to at its `lg_k`.
 ///
-/// Fails with the reason of the first check that the image fails, or else with `Memory`. Allocates, only once the bytes
-/// that the image asks for are there: a byte a register; for the exceptions of registers of four bits; and for a table of
-/// coupons, but not for coupons that are 1 to 128, or ascend in a compact image.
+/// Fails with the reason of the first check that the image fails, or else with `Memory`. Allocates only once all bytes that the
+/// image needs are there: one byte for each register; a map for the exceptions of 4-bit registers; and a table for coupons,
+/// except for 1 to 128 coupons or for coupons that ascend in a compact image.
 #[inline(never)]
 pub fn registers_of_image<A: Allocator + Clone>(
     alloc: A,
@@ -54,7 +54,7 @@ pub fn registers_of_image<A: Allocator + Clone>(
     }
 }
 
-/// The registers that the coupons after the header of a list or a set fold to.
+/// Returns the registers that the coupons after the header of a list or a set fold to.
 pub(crate) fn registers_of_coupons<A: Allocator + Clone>(
     alloc: A,
     image: &[u8],
@@ -78,7 +78,7 @@ pub(crate) fn registers_of_coupons<A: Allocator + Clone>(
     registers_of_table(&sketch)
 }
 
-/// The registers that the coupons of a table fold to.
+/// Returns the registers that the coupons of a table fold to.
 fn registers_of_table<A: Allocator + Clone>(
     sketch: &HllSketch<A>,
 ) -> Result<ImageRegisters<A>, Error>
@@ -93,7 +93,7 @@ fn registers_of_table<A: Allocator + Clone>(
     })
 }
 
-/// The registers that coupons fold to at an `lg_k`.
+/// Returns the registers that coupons fold to at an `lg_k`.
 fn registers_of_raw_coupons<A: Allocator>(
     alloc: A,
     lg_k: u8,
@@ -109,7 +109,7 @@ fn registers_of_raw_coupons<A: Allocator>(
     Ok(ImageRegisters { lg_k, values })
 }
 
-/// The values of registers.
+/// Returns the values of registers.
 fn values_of<R: Registers, A: Allocator>(alloc: A, source: &R) -> Result<ImageRegisters<A>, Error>
     ensures ok { IfOk result (λ r. (r.lg_k ≡ (R.stored source.now).lg_k) × (r.values.items ≡ fold_to (pairs (R.stored source.now).registers) r.lg_k)) }
     ensures legal { IfOk result (λ r. IsLgK r.lg_k) }

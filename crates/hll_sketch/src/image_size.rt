@@ -1,5 +1,5 @@
 // SPDX-License-Identifier: Apache-2.0
-//! How many bytes an image has (docs/FORMAT.md, "The image").
+//! The size of an image (docs/FORMAT.md, "The image").
 ghost use Rattle.std.specs.Prelude.{◌≡◌, ◌≢◌, ℕ, ◌+◌, ◌^◌, ◌<◌, ◌≤◌, false, List, length, drop};
 ghost use Rattle.std.specs.Int.{w32, from_le_bytes};
 ghost use Rattle.hll_coupons.specs.Payload.{list_buckets, set_buckets};
@@ -14,15 +14,15 @@ use hll_base::cursor::SketchSlice;
 use hll_base::hll_type::HllType;
 use hll_coupons::serialization::{COUPON_SIZE_BYTES, LG_LIST_BUCKETS};
 
-/// The bytes of an image that precede its registers.
+/// The number of bytes of an image before its registers.
 const PREAMBLE_SIZE: usize = 40;
 
-/// Where the count of a set stands, and that of exceptions.
+/// The index of the count of a set, and the index of the count of exceptions.
 const SET_COUNT_AT: usize = 8;
 
 const EXCEPTION_COUNT_AT: usize = 36;
 
-/// How many of the bytes are the image that they begin with. Looks at its header and counts alone.
+/// Returns the size in bytes of the image that the bytes begin with. Reads only its header and counts.
 pub fn size_of_image(bytes: &[u8]) -> usize
     requires { (x : Sketch) × IsReadAs bytes.now x }
     ensures { IsSizeOfImage bytes.now result }
@@ -43,7 +43,7 @@ pub fn size_of_image(bytes: &[u8]) -> usize
     }
 }
 
-/// The number in four bytes at a place.
+/// Returns the number in the four bytes from an index on.
 fn number_at(bytes: &[u8], index: usize) -> usize
     requires { index + 4 ≤ length bytes.now }
     ensures number { result ≡ from_le_bytes w32 (drop index bytes.now) }
@@ -56,7 +56,7 @@ fn number_at(bytes: &[u8], index: usize) -> usize
     }
 }
 
-/// The buckets of a list.
+/// Returns the number of buckets of a list.
 fn buckets_of_list(header: Header) -> usize
     ensures buckets { (b : List ℕ) → header ≡ header_of b → result ≡ list_buckets (list_shape b) }
     ensures small { result < 2 ^ 8 }
@@ -70,7 +70,7 @@ fn buckets_of_list(header: Header) -> usize
     }
 }
 
-/// The buckets of a set.
+/// Returns the number of buckets of a set.
 fn buckets_of_set(bytes: &[u8], header: Header) -> usize
     requires there { 12 ≤ length bytes.now }
     requires header { header ≡ header_of bytes.now }
@@ -85,7 +85,7 @@ fn buckets_of_set(bytes: &[u8], header: Header) -> usize
     }
 }
 
-/// The buckets of the exceptions of registers of four bits.
+/// Returns the number of buckets of the exceptions of 4-bit registers.
 fn buckets_of_exceptions(bytes: &[u8], header: Header) -> usize
     requires there { 40 ≤ length bytes.now }
     requires header { header ≡ header_of bytes.now }

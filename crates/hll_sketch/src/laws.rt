@@ -1,6 +1,6 @@
 // SPDX-License-Identifier: Apache-2.0
-//! The laws of adding, merging and images, each a clause of a function that does nothing (docs/MODEL.md, "Laws of adding
-//! and merging" and "Images").
+//! The laws of adding, merging and images. Each law is a clause of a function that does nothing
+//! (docs/MODEL.md, "Laws of adding and merging" and "Images").
 ghost use Rattle.hll_sketch.specs.Laws.{AddOfAdd, AddEach, MergeOfEmpty, UnionLgK, AddIsLegal, MergeIsLegal, WrittenIsReadBack};
 ghost use Rattle.hll_sketch.specs.Layout.{OneStepSuffices};
 ghost use Rattle.hll_sketch.specs.ByteRegisters.{MaxIsUnion};
@@ -16,13 +16,13 @@ ghost use Rattle.hll_sketch.specs.Written.{WrittenIsImage, SameBytes, ListIsRead
 
 /// Laws of adding, and of equality:
 ///
-/// - `add_of_add`: to add pairs twice is to add their union.
-/// - `add_each`: after a list of updates a sketch depends on the set of their coupons alone: content, table size and
-///   state.
-/// - `one_step_suffices`: after one coupon more a table stays as large as it is, the next size holds its coupons, or
-///   registers take over.
+/// - `add_of_add`: adding pairs and then others is adding their union.
+/// - `add_each`: after a list of updates a sketch depends only on the set of their coupons: its content, table size and
+///   estimate state do.
+/// - `one_step_suffices`: when one coupon is added, a table keeps its size, the next size holds its coupons, or the coupons
+///   become registers.
 /// - `same_is_equal`: sketches are equal exactly if their values are.
-/// - `add_is_legal`: a legal sketch stays legal when pairs are added.
+/// - `add_is_legal`: a legal sketch is still legal after pairs are added.
 pub fn adding()
     ensures add_of_add { AddOfAdd }
     ensures add_each { AddEach }
@@ -33,18 +33,17 @@ pub fn adding()
 
 /// Laws of merging:
 ///
-/// - `merge_of_empty`: an empty sketch merged changes nothing.
-/// - `union_lg_k`: the lg_k of a union is the least of its bound and of the merged sketches in registers that are not
-///   all 0.
-/// - `merge_of_canonical`: canonical sketches with cleared fields, merged in turn into the
-///   empty union, are their join.
-/// - `union_of_same`: a join does not depend on order or repetition.
-/// - `union_of_union`: some sketches may be joined first, under the same bound and at any width.
-/// - `merges_of_same`: unions of the same bound and the same canonical sketches with cleared fields have equal gadgets,
-///   whatever the order and however often each was merged.
-/// - `merge_of_merge`: merging what a union of the same bound gives, at any width, is merging the canonical sketches with
-///   cleared fields that went into it.
-/// - `merge_is_legal`: a legal gadget stays legal when a legal sketch is merged.
+/// - `merge_of_empty`: merging an empty sketch changes nothing.
+/// - `union_lg_k`: the lg_k of a union is the smallest of its bound and of the lg_k of the merged sketches in registers that
+///   are not all 0.
+/// - `merge_of_canonical`: canonical sketches with cleared fields, merged in turn into the empty union, give their union.
+/// - `union_of_same`: the union does not depend on order or repetition.
+/// - `union_of_union`: some sketches may be merged first, under the same bound and at any width.
+/// - `merges_of_same`: unions of the same bound and the same canonical sketches with cleared fields have equal gadgets, in any
+///   order and however often each sketch was merged.
+/// - `merge_of_merge`: merging the result of a union of the same bound, at any width, is merging the canonical sketches with
+///   cleared fields that were merged into it.
+/// - `merge_is_legal`: a legal gadget is still legal after a legal sketch is merged.
 pub fn merging()
     ensures merge_of_empty { MergeOfEmpty }
     ensures union_lg_k { UnionLgK }
@@ -56,20 +55,20 @@ pub fn merging()
     ensures merge_is_legal { MergeIsLegal }
 {}
 
-/// A law of registers that a caller keeps:
+/// A law of caller-owned registers:
 ///
-/// - `max_is_union`: registers that an image was joined into, written with their fields set, are the union of a sketch of
-///   the registers with the image's.
+/// - `max_is_union`: registers into which an image was merged, written with their estimator fields set, are the union of a
+///   sketch of the registers with the image's sketch.
 pub fn registers_of_caller()
     ensures max_is_union { MaxIsUnion }
 {}
 
 /// Laws of folding:
 ///
-/// - `folded_is_legal`: a legal sketch folded to an lg_k of 4 to its own stays legal.
-/// - `folded_is_canonical`: a canonical sketch with cleared fields is folded to one.
-/// - `folded_has_same_folds`: at each lg_k up to the one that a sketch is folded to, the sketch and its fold have the
-///   same registers.
+/// - `folded_is_legal`: a legal sketch folded to an lg_k from 4 to its own is still legal.
+/// - `folded_is_canonical`: the fold of a canonical sketch with cleared fields is canonical with cleared fields.
+/// - `folded_has_same_folds`: at each lg_k up to the one that a sketch is folded to, the sketch and its fold have the same
+///   registers.
 pub fn folding()
     ensures folded_is_legal { FoldedIsLegal }
     ensures folded_is_canonical { FoldedIsCanonical }
@@ -78,13 +77,13 @@ pub fn folding()
 
 /// Laws of images and their faults:
 ///
-/// - `one_image`: no image begins another, and the bytes of an image have one meaning.
-/// - `fault_excludes_header`: where a fault of the header stands, the bytes have the header of no stage.
-/// - `fault_excludes_image`: where bytes have a fault, no front of them is an image.
+/// - `one_image`: no image is a proper prefix of another, and the bytes of an image have one meaning.
+/// - `fault_excludes_header`: if a header has a fault, the bytes have the header of no stage.
+/// - `fault_excludes_image`: if bytes have a fault, no prefix of them is an image.
 /// - `first_fault_stands`: the first check that an image fails is a fault of it.
-/// - `faultless_is_image`: bytes that pass every check have an image in front, and no others have.
-/// - `faults_are_of_data`: a fault of an image is one of data, never of an argument or of memory.
-/// - `image_is_legal`: an image means a legal sketch.
+/// - `faultless_is_image`: bytes begin with an image exactly if they pass every check.
+/// - `faults_are_of_data`: a fault of an image is a fault of its data, never of an argument or of memory.
+/// - `image_is_legal`: the sketch of an image is legal.
 pub fn images()
     ensures one_image { OneImage }
     ensures fault_excludes_header { FaultExcludesHeader }
@@ -97,12 +96,12 @@ pub fn images()
 
 /// Laws of what is written:
 ///
-/// - `written_is_read_back`: what is written for a legal sketch is read as that sketch and no other, and has no fault,
-///   whatever follows.
+/// - `written_is_read_back`: what is written for a legal sketch is read as that sketch and no other, and has no fault, whatever
+///   bytes come after it.
 /// - `written_is_image`: what is written for a legal sketch is an image of it.
-/// - `same_bytes`: the bytes written for two legal sketches are the same exactly if the sketches are equal, tables of
-///   two sizes aside.
-/// - `list_is_read_back`: an image of a list, and then any bytes, are read as a list with the coupons in their order.
+/// - `same_bytes`: the bytes written for two legal sketches are the same exactly if the sketches are equal, as long as their
+///   tables have the same size.
+/// - `list_is_read_back`: an image of a list, followed by any bytes, is read as a list with the coupons in their order.
 pub fn writing()
     ensures written_is_read_back { WrittenIsReadBack }
     ensures written_is_image { WrittenIsImage }
@@ -110,15 +109,17 @@ pub fn writing()
     ensures list_is_read_back { ListIsReadBack }
 {}
 
-/// Laws of the fields that a composite estimator reads:
+/// Laws of the estimator fields:
 ///
-/// - `fields_keep`: setting them keeps pairs and size, and a legal sketch legal.
-/// - `fields_twice`: to set them twice is to set them once.
-/// - `same_registers_same_bytes`: sketches of one `lg_k` and width with the same registers, whatever their states, have
-///   the same bytes once their fields are set.
-/// - `union_of_plain`: sketches whose states are cleared, or have their fields set, merged in turn, make what they make with
-///   their states cleared, once the fields of both are set. So the laws of canonical sketches hold of them too.
-/// - `filled_is_plain`: a sketch whose state is cleared, or has its fields set, has such a state once its fields are set.
+/// - `fields_keep`: setting them keeps pairs and size, and a legal sketch is still legal.
+/// - `fields_twice`: setting them twice is setting them once.
+/// - `same_registers_same_bytes`: sketches of the same `lg_k` and width with the same registers, whatever their estimate states
+///   are, have the same bytes once their fields are set.
+/// - `union_of_plain`: sketches whose estimate states are cleared, or have their fields set, give the same union when merged in
+///   turn as they give with their states cleared, once the fields of both unions are set. So the laws of canonical sketches
+///   hold for them too.
+/// - `filled_is_plain`: a sketch whose estimate state is cleared, or has its fields set, has such a state once its fields are
+///   set.
 pub fn estimator_fields()
     ensures fields_keep { FieldsKeep }
     ensures fields_twice { FieldsTwice }

@@ -1,6 +1,6 @@
 // SPDX-License-Identifier: Apache-2.0
-//! Registers that a caller keeps: 2^`lg_k` bytes, one for each register, wherever they lie (docs/MODEL.md, "Registers of the
-//! caller"). Nothing of them is kept here.
+//! Caller-owned registers: 2^`lg_k` bytes, one for each register (docs/MODEL.md, "Registers of the caller"). Nothing of them is
+//! kept here.
 ghost use Rattle.std.specs.Prelude.{◌≡◌, ◌^◌, ◌<◌, ◌≤◌, ◌==◌, ◌++◌, length, drop, IfOk, IfErr, OnErr};
 ghost use Rattle.std.specs.List.{list_all};
 ghost use Rattle.hll_base.specs.declared.error.Reason.TheVariants.{Memory};
@@ -36,12 +36,13 @@ use hll_registers::estimate_state::EstimateState;
 use hll_registers::folds::max_folds;
 use std::alloc::Allocator;
 
-/// Raises registers by those of an image of any stage and width, folded to their `lg_k`. Answers the image's `lg_k`, and
-/// changes nothing, where it has registers that are not all 0, and fewer of them. All checks come before the join.
+/// Merges the registers of an image of any stage and width, folded to the `lg_k` of the caller's, into caller-owned registers.
+/// If the image has registers that are not all 0, and fewer than the caller, it returns the image's `lg_k` and changes nothing.
+/// All checks are made before the merge.
 ///
 /// Fails with the reason of the first check that the image fails, or with `Memory`, and then changes nothing. Allocates a map
-/// for the exceptions of registers of four bits, where they have some, and a table of coupons, but not for coupons that are 1
-/// to 128, or ascend in a compact image.
+/// for the exceptions of 4-bit registers, if there are any, and a table for coupons, except for 1 to 128 coupons or for coupons
+/// that ascend in a compact image.
 pub fn merge_image<A: Allocator + Clone>(
     alloc: A,
     registers: &mut [u8],
@@ -68,8 +69,9 @@ pub fn merge_image<A: Allocator + Clone>(
     }
 }
 
-/// Raises registers by the coupons of an image, as `merge_image` does, where they are not evident in a compact image.
-// (a caller that had the room among its own values would clear it for compact coupons too)
+/// Merges the coupons of an image into registers, as `merge_image` does, if one pass over a compact image has not shown that
+/// they are distinct.
+// (not inlined: a caller would have to clear the room for compact coupons too)
 #[inline(never)]
 fn max_other_coupons<A: Allocator + Clone>(
     alloc: &A,
@@ -98,8 +100,8 @@ fn max_other_coupons<A: Allocator + Clone>(
     Ok(merge_sketch(registers, lg_k, &sketch))
 }
 
-/// Raises registers by those after the header of an image, as `merge_image` does.
-// (a caller would clear its values for compact coupons too)
+/// Merges the registers after the header of an image into registers, as `merge_image` does.
+// (not inlined: a caller would have to clear its values for compact coupons too)
 #[inline(never)]
 fn merge_image_of_registers<A: Allocator + Clone>(
     alloc: &A,
@@ -122,8 +124,8 @@ fn merge_image_of_registers<A: Allocator + Clone>(
     })
 }
 
-/// Raises registers by those of a sketch, folded to their `lg_k`. Answers the sketch's `lg_k`, and changes nothing, where it
-/// has registers that are not all 0, and fewer of them.
+/// Merges the registers of a sketch, folded to the `lg_k` of the caller's, into caller-owned registers. If the sketch has
+/// registers that are not all 0, and fewer than the caller, it returns the sketch's `lg_k` and changes nothing.
 pub fn merge_sketch<A: Allocator + Clone>(
     registers: &mut [u8],
     lg_k: u8,
@@ -149,7 +151,7 @@ pub fn merge_sketch<A: Allocator + Clone>(
     }
 }
 
-/// Raises registers by the coupons of a table.
+/// Adds the coupons of a table to registers.
 fn max_table<A: Allocator>(registers: &mut [u8], lg_k: u8, table: &Container<A>)
     requires most { lg_k ≤ 21 }
     requires size { length registers.old ≡ 2 ^ lg_k }
@@ -160,8 +162,9 @@ fn max_table<A: Allocator>(registers: &mut [u8], lg_k: u8, table: &Container<A>)
     }
 }
 
-/// Raises registers by those of a source, folded to their `lg_k`, of which it is known whether all are 0. Answers the source's
-/// `lg_k`, and changes nothing, where they are not, and it has fewer.
+/// Merges the registers of a source, folded to the `lg_k` of the caller's, into caller-owned registers. `are_all_zero` says
+/// whether all registers of the source are 0. If they are not, and the source has fewer registers, it returns the source's
+/// `lg_k` and changes nothing.
 pub fn max_registers<R: Registers>(
     registers: &mut [u8],
     lg_k: u8,
@@ -184,7 +187,8 @@ pub fn max_registers<R: Registers>(
     None
 }
 
-/// Folds registers to an `lg_k` that is at most theirs, at the front of their bytes; the bytes after them stay.
+/// Folds registers in place to an `lg_k` that is at most their own. The result is the first 2^`to` bytes; the bytes after these
+/// are unchanged.
 pub fn fold_in_place(registers: &mut [u8], lg_k: u8, to: u8)
     requires most { lg_k ≤ 21 }
     requires within { to ≤ lg_k }
@@ -195,7 +199,7 @@ pub fn fold_in_place(registers: &mut [u8], lg_k: u8, to: u8)
     max_blocks(front, after, lg_k, to);
 }
 
-/// Raises the first 2^`to` of 2^`lg_k` registers by each block of as many after them.
+/// Takes the maximum of the first 2^`to` of 2^`lg_k` registers and of each block of the same length after them.
 fn max_blocks(front: &mut [u8], after: &[u8], lg_k: u8, to: u8)
     requires most { lg_k ≤ 21 }
     requires within { to ≤ lg_k }
@@ -209,9 +213,9 @@ fn max_blocks(front: &mut [u8], after: &[u8], lg_k: u8, to: u8)
     }
 }
 
-/// A sketch of a width in registers with these values and this estimate state.
+/// Returns a sketch of a width in registers with these values and this estimate state.
 ///
-/// Takes memory for the registers, and at four and six bits for eight bits too. Fails with `Memory`.
+/// Allocates the registers, and for 4 and 6 bits also 8-bit registers. Fails with `Memory`.
 pub fn sketch_with_state<A: Allocator + Clone>(
     alloc: A,
     lg_k: u8,
@@ -233,9 +237,9 @@ pub fn sketch_with_state<A: Allocator + Clone>(
     })
 }
 
-/// A sketch of a width in registers with these values, and with the fields of an estimator.
+/// Returns a sketch of a width in registers with these values, and with its estimator fields set.
 ///
-/// Takes memory for the registers, and at four and six bits for eight bits too. Fails with `Memory`.
+/// Allocates the registers, and for 4 and 6 bits also 8-bit registers. Fails with `Memory`.
 pub fn sketch_in_registers<A: Allocator + Clone>(
     alloc: A,
     lg_k: u8,

@@ -1,5 +1,5 @@
 // SPDX-License-Identifier: Apache-2.0
-//! Merging sketches and their images into a union (docs/MODEL.md, "Merging").
+//! Merges sketches and their images into a union (docs/MODEL.md, "Merging").
 ghost use Rattle.std.specs.Prelude.{◌≡◌, ◌⊎◌, ℕ, ◌<◌, ◌≤◌, ◌==◌, true, false, Some, All, List, map, [], ◌∷◌, ◌++◌, IfErr, OnOk, OnErr};
 ghost use Rattle.std.specs.FinSet.{len};
 ghost use Rattle.std.specs.List.{list_all};
@@ -36,11 +36,12 @@ use hll_coupons::container::Container;
 use std::alloc::Allocator;
 
 impl<A: Allocator + Clone> HllUnion<A> {
-    /// Merges a sketch of any stage, width and `lg_k` (docs/MODEL.md, "Merging"). One pass. The join of canonical sketches with
-    /// cleared fields and one more is the join of them all (docs/MODEL.md, "Convergence").
+    /// Merges a sketch of any stage, width and `lg_k` (docs/MODEL.md, "Merging"), in one pass. If the gadget is the union of
+    /// canonical sketches with cleared fields, and so is the sketch, the result is the union of all of them
+    /// (docs/MODEL.md, "Convergence").
     ///
-    /// Fails with `Memory`, and then changes nothing, buckets included. Takes no memory for an empty sketch, for coupons
-    /// into registers, for coupons that a table with some of its own holds beside these, nor for registers into registers
+    /// Fails with `Memory`, and then changes nothing, not even buckets. Allocates nothing for an empty sketch, for coupons that
+    /// are added to registers or to a table of coupons that has room for them, nor for registers that are merged into registers
     /// at their `lg_k` or a smaller one.
     pub fn update(&mut self, sketch: &HllSketch<A>) -> Result<(), Error>
         ensures ok { OnOk result (gadget_of self.new ≡ merging.merge self.old.lg_max_k (gadget_of self.old) (sketch_of sketch.now)) }
@@ -78,8 +79,8 @@ impl<A: Allocator + Clone> HllUnion<A> {
         }
     }
 
-    /// Merges a sketch of coupons, of which there are some, and which stand in this table. An empty gadget at their `lg_k` takes
-    /// them over, with the size of the table.
+    /// Merges the coupons of this table, which are those of a sketch, at least one. An empty gadget at their `lg_k` copies
+    /// them, with the size of the table.
     fn merge_table(&mut self, sketch: &HllSketch<A>, table: &Container<A>) -> Result<(), Error>
         requires table { content_in sketch.now.layout ≡ coupons (coupons_of table.now) table.now.lg_size }
         requires other { IsLegal (sketch_of sketch.now) }
@@ -94,7 +95,7 @@ impl<A: Allocator + Clone> HllUnion<A> {
         self.gadget.merge_coupons(sketch, table)
     }
 
-    /// Merges registers of eight bits: an empty gadget takes a copy of them, where they are within the bound.
+    /// Merges 8-bit registers: an empty gadget copies them, if their `lg_k` is within the bound.
     fn merge_array8(&mut self, source: &Array8<A>) -> Result<(), Error>
         requires some { is_empty (sketch_of_registers source.now) ≡ false }
         ensures ok { OnOk result (gadget_of self.new ≡ merging.merge_registers self.old.lg_max_k (gadget_of self.old) source.now.lg_k source.now.registers source.now.state) }
@@ -111,7 +112,8 @@ impl<A: Allocator + Clone> HllUnion<A> {
         Ok(())
     }
 
-    /// Merges registers, of which one is not 0. An empty gadget takes over their state too, where they are within the bound.
+    /// Merges registers, of which one is not 0. An empty gadget copies their estimate state too, if their `lg_k` is within the
+    /// bound.
     ///
     /// Fails with `Memory`, and then changes nothing.
     fn merge_registers<R: Registers>(&mut self, source: &R) -> Result<(), Error>
@@ -132,7 +134,7 @@ impl<A: Allocator + Clone> HllUnion<A> {
         self.max_with(source)
     }
 
-    /// Takes the maximum of the gadget and registers, of which one is not 0, with the cleared state.
+    /// Takes the maximum of the gadget and of registers, of which one is not 0. The estimate state is then cleared.
     ///
     /// Fails with `Memory`, and then changes nothing.
     fn max_with<R: Registers>(&mut self, source: &R) -> Result<(), Error>
@@ -149,7 +151,7 @@ impl<A: Allocator + Clone> HllUnion<A> {
         self.gadget.max_with(source)
     }
 
-    /// Makes registers of eight bits the gadget, which is empty: they are within the bound, and one is not 0.
+    /// Makes 8-bit registers the gadget, which was empty: their `lg_k` is within the bound, and one is not 0.
     fn take_over(&mut self, array: Array8<A>)
         requires none { is_empty (gadget_of self.old) ≡ true }
         requires within { array.lg_k ≤ self.old.lg_max_k }
@@ -164,7 +166,7 @@ impl<A: Allocator + Clone> HllUnion<A> {
         };
     }
 
-    /// Adds the coupons of a table, of which there are some.
+    /// Adds the coupons of a table, of which there is at least one.
     ///
     /// Fails with `Memory`, and then changes nothing.
     pub(crate) fn update_with_table(&mut self, table: &Container<A>) -> Result<(), Error>
@@ -179,14 +181,13 @@ impl<A: Allocator + Clone> HllUnion<A> {
         self.gadget.add_table(table)
     }
 
-    /// Merges the sketch of an image, as `update` does. Bytes after the image are ignored. Coupons go into registers without a
-    /// table between, if they are at most 128, or the image is compact, and they ascend, as those that are written here do;
-    /// and registers without a copy.
+    /// Merges the sketch of an image, as `update` does. Bytes after the image are ignored. No table is made of coupons that are
+    /// added to registers, if they are at most 128, or ascend in a compact image, as in images that this library writes.
+    /// Registers are not copied.
     ///
     /// Fails with the reason of the first check that the bytes fail (docs/FORMAT.md, "Order of checks"), or with `Memory`, and
-    /// then changes nothing, buckets included. Takes memory for a table of other coupons, only once the bytes that the image
-    /// asks for are there, for a map of the exceptions of registers of four bits, where they have some, and where `update`
-    /// does.
+    /// then changes nothing, not even buckets. Allocates a table for other coupons, only once all bytes that the image needs
+    /// are there, a map for the exceptions of 4-bit registers, if there are any, and what `update` does.
     pub fn update_with_image(&mut self, image: &[u8]) -> Result<(), Error>
         ensures ok { OnOk result (MergesIn self.old self.new image.now) }
         ensures unchanged { OnErr result (self.new ≡ self.old) }
@@ -197,7 +198,7 @@ impl<A: Allocator + Clone> HllUnion<A> {
         self.merge_image(image, header)
     }
 
-    /// Merges the sketch of an image, as `update_with_image` does, whose header has been read.
+    /// Merges the sketch of an image whose header has been read, as `update_with_image` does.
     pub(crate) fn merge_image(&mut self, image: &[u8], header: Header) -> Result<(), Error>
         requires has { HasHeader image.now (stage_bits image.now) }
         requires stage { stage_bits image.now < 3 }
@@ -235,9 +236,9 @@ impl<A: Allocator + Clone> HllUnion<A> {
         }
     }
 
-    /// Merges into registers the coupons after the header of a list or a set, as `update_with_image` does, where they are not
-    /// evident in a compact image.
-    // (a caller that had the room among its own values would clear it for compact coupons too)
+    /// Adds the coupons after the header of a list or a set to registers, as `update_with_image` does, if one pass over a
+    /// compact image has not shown that they are distinct.
+    // (not inlined: a caller would have to clear the room for compact coupons too)
     #[inline(never)]
     fn merge_other_coupons(&mut self, image: &[u8], header: Header) -> Result<(), Error>
         requires has { HasHeader image.now (stage_bits image.now) }
@@ -260,7 +261,7 @@ impl<A: Allocator + Clone> HllUnion<A> {
         }
     }
 
-    /// Merges the sketch of a list or a set that is read into a table, as `update_with_image` does.
+    /// Merges the sketch of a list or a set, which is read into a table, as `update_with_image` does.
     fn merge_table_of_image(&mut self, image: &[u8], header: Header) -> Result<(), Error>
         requires has { HasHeader image.now (stage_bits image.now) }
         requires stage { stage_bits image.now < 2 }
@@ -287,7 +288,7 @@ impl<A: Allocator + Clone> HllUnion<A> {
     }
 
     /// Merges the registers after the header of an image, as `update_with_image` does.
-    // (a caller would clear its values for compact coupons too)
+    // (not inlined: a caller would have to clear its values for compact coupons too)
     #[inline(never)]
     fn merge_image_of_registers(&mut self, image: &[u8], header: Header) -> Result<(), Error>
         requires has { HasHeader image.now 2 }
@@ -302,7 +303,7 @@ impl<A: Allocator + Clone> HllUnion<A> {
         })
     }
 
-    /// Merges registers that an image has, and of which it is known whether all are 0.
+    /// Merges the registers of an image. `are_all_zero` says whether all of them are 0.
     fn merge_borrowed<R: Registers>(
         &mut self,
         image: &[u8],
@@ -324,7 +325,7 @@ impl<A: Allocator + Clone> HllUnion<A> {
 }
 
 impl<A: Allocator + Clone> HllSketch<A> {
-    /// Whether this is a gadget of a union with a bound, in registers.
+    /// Returns whether this is the gadget of a union with this bound, and has registers.
     pub(crate) fn is_gadget_of_registers(&self, bound: u8) -> bool
         ensures gadget { result ≡ true → IsGadget bound (sketch_of self.now) }
         ensures registers { result ≡ true → in_registers (content_in self.now.layout) ≡ true }
@@ -336,8 +337,8 @@ impl<A: Allocator + Clone> HllSketch<A> {
         }
     }
 
-    /// Merges a sketch at its `lg_k` or a greater one into registers of eight bits that are not all 0, whatever the bound of
-    /// their union.
+    /// Merges a sketch at its `lg_k` or a greater one into 8-bit registers that are not all 0, whatever the bound of their
+    /// union is.
     fn merge_in_place(&mut self, sketch: &HllSketch<A>)
         requires gadget { IsGadget self.old.lg_k (sketch_of self.old) }
         requires inside { in_registers (content_in self.old.layout) ≡ true }
@@ -357,9 +358,9 @@ impl<A: Allocator + Clone> HllSketch<A> {
     }
 }
 
-/// Makes the first of some sketches their union under a bound, where that takes no memory, and answers whether it did:
-/// where the first has registers of eight bits that are not all 0, at an `lg_k` up to the bound and up to that of each
-/// other sketch. Otherwise nothing changes.
+/// Merges all other sketches into the first, under a bound, if that allocates nothing, and returns whether it did. The first
+/// must have 8-bit registers that are not all 0, at an `lg_k` of at most the bound and the `lg_k` of each other sketch.
+/// Otherwise nothing changes.
 ///
 /// `lg_max_k` is 4 to 21.
 pub fn union_in_place<A: Allocator + Clone>(
@@ -385,7 +386,7 @@ pub fn union_in_place<A: Allocator + Clone>(
     true
 }
 
-/// Whether the `lg_k` of each sketch is at least this one.
+/// Returns whether the `lg_k` of each sketch is at least this one.
 fn are_at_least<A: Allocator>(lg_k: u8, sketches: &[HllSketch<A>]) -> bool
     ensures all { result ≡ true → All (λ x. lg_k ≤ x.lg_k) sketches.now }
     ensures some { result ≡ false → All (λ x. lg_k ≤ x.lg_k) sketches.now → ⊥ }

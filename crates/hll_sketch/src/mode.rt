@@ -1,5 +1,5 @@
 // SPDX-License-Identifier: Apache-2.0
-//! What a sketch keeps (docs/MODEL.md, "Sketch values").
+//! What a sketch holds (docs/MODEL.md, "Sketch values").
 ghost use Rattle.std.specs.Prelude.{◌≡◌, ◌≢◌, ℕ, true, IfOk, IfErr, OnErr};
 ghost use Rattle.hll_base.specs.declared.error.Reason.TheVariants.{Memory};
 ghost use Rattle.hll_base.specs.declared.hll_type.HllType.TheVariants.{Hll8};
@@ -18,22 +18,22 @@ use hll_coupons::hash_set::HashSet;
 use hll_coupons::list::List;
 use std::alloc::{Allocator, Global};
 
-/// A list or a set of coupons with the width of the registers to come, or registers.
+/// A list or a set of coupons with the width that registers will have, or registers.
 #[derive_where(Debug)]
 pub enum Mode<A: Allocator = Global> {
     /// A list of eight buckets.
     List { list: List<A>, hll_type: HllType },
     /// A set of 32 buckets or more.
     Set { set: HashSet<A>, hll_type: HllType },
-    /// Registers of four bits.
+    /// 4-bit registers.
     Array4(Array4<A>),
-    /// Registers of six bits.
+    /// 6-bit registers.
     Array6(Array6<A>),
-    /// Registers of eight bits.
+    /// 8-bit registers.
     Array8(Array8<A>),
 }
 
-/// Drops the table or the registers. Written out, since a derived drop is proved again, kind by kind, at each place that
+/// Drops the table or the registers. Written out, since a derived drop is proved again, kind by kind, in each function that
 /// drops a sketch.
 impl<A: Allocator> Drop for Mode<A> {
     fn drop(self) {
@@ -48,7 +48,7 @@ impl<A: Allocator> Drop for Mode<A> {
 }
 
 impl<A: Allocator + Clone> Mode<A> {
-    /// The mode at another width: coupons at the size of their table, or registers with their state.
+    /// Returns the mode at another width: coupons at the size of their table, or registers with their estimate state.
     ///
     /// Fails with `Memory`, only for registers.
     pub(crate) fn into_width(self, hll_type: HllType) -> Result<Mode<A>, Error>
@@ -67,7 +67,7 @@ impl<A: Allocator + Clone> Mode<A> {
         }
     }
 
-    /// A copy, with the same buckets.
+    /// Returns a copy, with the same buckets.
     ///
     /// Fails with `Memory`.
     pub fn clone(&self) -> Result<Mode<A>, Error>
@@ -90,8 +90,8 @@ impl<A: Allocator + Clone> Mode<A> {
     }
 }
 
-/// Modes are equal if kind, width and coupons are, or registers and state; the buckets of tables don't count. Takes no
-/// memory.
+/// Modes are equal if their kind, width and coupons are equal, or their registers and estimate states. The buckets of their
+/// tables don't count. Allocates nothing.
 impl<A: Allocator> PartialEq for Mode<A> {
     ghost use Rattle.hll_base.specs.declared.hll_type.HllType.TheVariants.{Hll8};
     ghost use Rattle.hll_sketch.specs.Layout.{content_in, layout_of, width_of, IsLayoutFor};
@@ -126,9 +126,9 @@ impl<A: Allocator> PartialEq for Mode<A> {
     }
 }
 
-/// A copy of registers as a mode of a width, with their state.
+/// Returns a copy of registers as a mode of a width, with their estimate state.
 ///
-/// Takes memory of a clone of this allocator alone. Fails with `Memory`.
+/// Allocates only with a clone of this allocator. Fails with `Memory`.
 pub(crate) fn registers_to_mode<R: Registers, A: Allocator + Clone>(
     alloc: &A,
     source: &R,
@@ -142,9 +142,9 @@ pub(crate) fn registers_to_mode<R: Registers, A: Allocator + Clone>(
     array_into_mode(eight_bits_of(alloc.clone()?, source)?, hll_type)
 }
 
-/// Registers of eight bits as a mode of another width, with their state.
+/// Returns 8-bit registers as a mode of another width, with their estimate state.
 ///
-/// Takes no memory at eight bits. Fails with `Memory`.
+/// Allocates nothing for 8 bits. Fails with `Memory`.
 pub(crate) fn array_into_mode<A: Allocator + Clone>(
     array: Array8<A>,
     hll_type: HllType,
@@ -161,7 +161,7 @@ pub(crate) fn array_into_mode<A: Allocator + Clone>(
     }
 }
 
-/// A copy of registers of eight bits as a mode of another width, with their state.
+/// Returns a copy of 8-bit registers as a mode of another width, with their estimate state.
 ///
 /// Fails with `Memory`.
 pub(crate) fn array_to_mode<A: Allocator + Clone>(

@@ -1,5 +1,5 @@
 // SPDX-License-Identifier: Apache-2.0
-//! The next stage, where a table overflows with one more coupon (docs/MODEL.md, "Stages").
+//! The next stage, when a table overflows with one more coupon (docs/MODEL.md, "Stages").
 ghost use Rattle.std.specs.Prelude.{◌≡◌, ◌+◌, ◌^◌, ◌<◌, ◌≤◌, length, false, IfOk, IfErr, IfSome, IfNone};
 ghost use Rattle.std.specs.FinSet.{len, insert, union};
 ghost use Rattle.hll_base.specs.declared.error.Reason.TheVariants.{Memory};
@@ -31,7 +31,7 @@ use hll_coupons::hash_set::HashSet;
 use hll_coupons::serialization::{LG_LEAST_SET_BUCKETS, LG_LIST_BUCKETS, LG_SET_BELOW_LG_K};
 use std::alloc::Allocator;
 
-/// The next stage of a table that overflows with one more coupon: a larger set, or registers.
+/// Returns the next stage of a table that overflows with one more coupon: a larger set, or registers.
 ///
 /// Fails with `Memory`.
 pub(crate) fn promoted_table<A: Allocator + Clone>(
@@ -61,7 +61,7 @@ pub(crate) fn promoted_table<A: Allocator + Clone>(
     }
 }
 
-/// The size after this one, or none: then registers take over.
+/// Returns the size after this one, or `None` if the coupons become registers.
 fn next_size(lg_k: u8, size: usize) -> Option<usize>
     requires { size ≤ 26 }
     ensures some { IfSome result (λ next. (next ≡ size_after size) × (next + 3 ≤ lg_k)) }
@@ -79,7 +79,7 @@ fn next_size(lg_k: u8, size: usize) -> Option<usize>
     }
 }
 
-/// The registers of this width of the coupons of a table, and of one more where there is one.
+/// Returns the registers of this width of the coupons of a table, and of one more coupon if there is one.
 ///
 /// Fails with `Memory`.
 pub(crate) fn mode_of_table<A: Allocator + Clone>(
@@ -102,8 +102,8 @@ pub(crate) fn mode_of_table<A: Allocator + Clone>(
     }
 }
 
-/// The registers of four bits of the coupons of a table, and of one more where there is one, with the cleared state: by those
-/// of eight bits, so that all exceptions are put at once.
+/// Returns the 4-bit registers of the coupons of a table, and of one more coupon if there is one, with the cleared estimate
+/// state. It makes 8-bit registers first, so that all exceptions are inserted at once.
 ///
 /// Fails with `Memory`.
 fn four_bits_of_table<A: Allocator + Clone>(
@@ -120,7 +120,7 @@ fn four_bits_of_table<A: Allocator + Clone>(
     convert(&wide)
 }
 
-/// The registers of the coupons of a table, and of one more where there is one, with the cleared state.
+/// Returns the registers of the coupons of a table, and of one more coupon if there is one, with the cleared estimate state.
 ///
 /// Fails with `Memory`.
 pub(crate) fn registers_of_table<S: RegisterStore<A>, A: Allocator>(
@@ -143,7 +143,7 @@ pub(crate) fn registers_of_table<S: RegisterStore<A>, A: Allocator>(
     Ok(registers)
 }
 
-/// A set of 2^`lg_size` buckets with the coupons of a table and one more.
+/// Returns a set of 2^`lg_size` buckets with the coupons of a table and one more.
 fn set_of_size<A: Allocator + Clone>(
     lg_size: usize,
     table: &Container<A>,
@@ -162,7 +162,7 @@ fn set_of_size<A: Allocator + Clone>(
     Ok(set)
 }
 
-/// The next stage of a table that has no room for the coupons of another one: a larger set, or registers of eight bits.
+/// Returns the next stage of a table that has no room for the coupons of another one: a larger set, or 8-bit registers.
 ///
 /// Both have `count` coupons together. Fails with `Memory`.
 pub(crate) fn mode_of_both<A: Allocator + Clone>(
@@ -199,7 +199,7 @@ pub(crate) fn mode_of_both<A: Allocator + Clone>(
     }
 }
 
-/// Raises registers of eight bits by the coupons of a table in turn.
+/// Adds the coupons of a table in turn to 8-bit registers.
 pub(crate) fn add_each_to<A: Allocator>(array: &mut Array8<A>, table: &Container<A>)
     ensures added { sketch_of_registers array.new ≡ add_in_turn (sketch_of_registers array.old) (coupons_in table.now.buckets) }
     ensures lg_k { array.new.lg_k ≡ array.old.lg_k }

@@ -1,6 +1,6 @@
 // SPDX-License-Identifier: Apache-2.0
-//! The coupons of a compact image, as they lie in its bytes: coupons that ascend, as they are written here, or are few, in any
-//! order. One pass over them shows that they are distinct, without a table or a copy.
+//! The coupons of a compact image, borrowed from its bytes: coupons that ascend, as this library writes them, or few coupons in
+//! any order. One pass over them shows that they are distinct, without a table or a copy.
 ghost use Rattle.std.specs.Prelude.{◌≡◌, ◌*◌, ◌^◌, ◌-◌, ◌<◌, ◌≤◌, ◌↔◌, [], ◌∷◌, true, false, nat_eq, IsTrue, IfSome, IfNone, OnSome, length, map};
 ghost use Rattle.std.specs.FinSet.{contains};
 ghost use Rattle.std.specs.Int.{w32, from_le_bytes};
@@ -29,16 +29,16 @@ use hll_coupons::serialization::{
 };
 use std::alloc::Allocator;
 
-/// The greatest raw coupon without a value.
+/// The greatest raw coupon with the value 0.
 const LAST_WITHOUT_VALUE: u32 = (1 << SLOT_BITS) - 1;
 
-/// Up to so many coupons are distinguished by marks.
+/// Up to this number, coupons are checked with marks to be distinct.
 pub(crate) const FEW: usize = 128;
 
-/// How many marks there are, so that few of `FEW` coupons share one.
+/// The number of marks, so large that few of `FEW` coupons share one.
 const MARKS: usize = 1024;
 
-/// The raw coupons at the front of some bytes.
+/// The first raw coupons of some bytes.
 #[derive(Clone, Copy)]
 pub(crate) struct RawCoupons<'a> {
     pub bytes: &'a [u8],
@@ -47,7 +47,7 @@ pub(crate) struct RawCoupons<'a> {
 }
 
 impl<'a> RawCoupons<'a> {
-    /// So many raw coupons, if there are any, and the bytes are there.
+    /// Returns the first `count` raw coupons, or `None` if `count` is 0 or the bytes are too few.
     pub(crate) fn front(bytes: &'a [u8], count: usize) -> Option<RawCoupons<'a>>
         ensures some { IfSome result (λ w. (w.bytes.now ≡ bytes.now) × (w.count ≡ count) × (1 ≤ count) × (4 * count ≤ length bytes.now)) }
         ensures none { IfNone result (1 ≤ count → length bytes.now < 4 * count) }
@@ -58,21 +58,21 @@ impl<'a> RawCoupons<'a> {
         Some(RawCoupons { bytes, count })
     }
 
-    /// These raw coupons, to be taken one by one.
+    /// Returns an iterator over these raw coupons.
     pub(crate) fn all(&self) -> RawCouponIter<'a>
         ensures { result ≡ raw_coupons self.now.count self.now.bytes.now }
     {
         RawCouponIter::new(self.bytes, self.count)
     }
 
-    /// Their bytes.
+    /// Returns their bytes.
     pub(crate) fn as_bytes(&self) -> &'a [u8]
         ensures { result.now ≡ coupon_bytes (raw_coupons self.now.count self.now.bytes.now) }
     {
         bytes_of_raw_coupons(self.bytes, self.count)
     }
 
-    /// The raw coupons, as elements of four bytes.
+    /// Returns the raw coupons, as elements of four bytes.
     pub(crate) fn elements(&self) -> &'a [[u8; 4]]
         ensures { map (from_le_bytes w32) result.now ≡ raw_coupons self.now.count self.now.bytes.now }
     {
@@ -80,7 +80,7 @@ impl<'a> RawCoupons<'a> {
         &elements[..self.count]
     }
 
-    /// Whether each has a value, and is greater than the one before it.
+    /// Returns whether each coupon has a value above 0, and is greater than the one before it.
     pub(crate) fn ascend(&self) -> bool
         ensures { IsTrue result ↔ IsStrictlyIncreasing ((2 ^ 26 - 1) ∷ raw_coupons self.now.count self.now.bytes.now) }
     {
@@ -97,9 +97,9 @@ impl<'a> RawCoupons<'a> {
         true
     }
 
-    /// Whether each has a value, and no two are the same. A raw coupon is compared with those before it only where one of them
-    /// has its mark.
-    // (a caller that had the marks among its own values would clear them at each call)
+    /// Returns whether each coupon has a value above 0, and no two are equal. A raw coupon is compared with the ones before it
+    /// only if one of these has its mark.
+    // (not inlined: a caller would have to clear the marks at each of its own calls)
     #[inline(never)]
     pub(crate) fn differ(&self) -> bool
         ensures { IsTrue result ↔ AreCoupons (raw_coupons self.now.count self.now.bytes.now) }
@@ -118,7 +118,7 @@ impl<'a> RawCoupons<'a> {
         true
     }
 
-    /// Whether none of the first raw coupons is this one, if each of them has its mark.
+    /// Returns whether none of the first raw coupons equals this one. Each of them has its mark.
     fn is_new(&self, marks: &[bool; MARKS], index: usize, raw_coupon: u32) -> bool
         requires within { index ≤ self.now.count }
         requires marked { AreMarked 1024 (raw_coupons index self.now.bytes.now) marks.now }
@@ -127,7 +127,7 @@ impl<'a> RawCoupons<'a> {
         !marks[raw_coupon as usize % MARKS] || !self.stands_before(index, raw_coupon)
     }
 
-    /// Whether one of the first raw coupons is this one.
+    /// Returns whether one of the first raw coupons equals this one.
     fn stands_before(&self, index: usize, raw_coupon: u32) -> bool
         requires { index ≤ self.now.count }
         ensures { result ≡ list_any (λ w. nat_eq w raw_coupon) (raw_coupons index self.now.bytes.now) }
@@ -142,7 +142,7 @@ impl<'a> RawCoupons<'a> {
         false
     }
 
-    /// Whether these are coupons, if they ascend or are few; else it says no.
+    /// Returns true if these are coupons that ascend or are few. Returns false for others, even if they are coupons.
     fn are_evidently_coupons(&self) -> bool
         ensures { IsTrue result ↔ AreEvidentlyCoupons (raw_coupons self.now.count self.now.bytes.now) }
     {
@@ -155,8 +155,8 @@ impl<'a> RawCoupons<'a> {
         self.differ()
     }
 
-    /// Raises registers of eight bits by these coupons in turn.
-    // (a loop of its own, for all callers)
+    /// Adds these coupons in turn to 8-bit registers.
+    // (not inlined: one loop for all callers)
     #[inline(never)]
     pub(crate) fn add_to<A: Allocator>(&self, array: &mut Array8<A>)
         ensures added { sketch_of_registers array.new ≡ add_in_turn (sketch_of_registers array.old) (raw_coupons self.now.count self.now.bytes.now) }
@@ -170,7 +170,7 @@ impl<'a> RawCoupons<'a> {
         }
     }
 
-    /// Raises 2^`lg_k` bytes by these coupons in turn.
+    /// Adds these coupons in turn to 2^`lg_k` registers of one byte each.
     pub(crate) fn max_into(&self, registers: &mut [u8], lg_k: u8)
         requires most { lg_k ≤ 21 }
         requires size { length registers.old ≡ 2 ^ lg_k }
@@ -189,7 +189,7 @@ impl<'a> RawCoupons<'a> {
     }
 }
 
-/// The raw coupon at the front of some bytes, four or more.
+/// Returns the raw coupon in the first four bytes.
 fn first_of(bytes: &[u8]) -> u32
     requires { 4 ≤ length bytes.now }
     ensures { result ≡ from_le_bytes w32 bytes.now }
@@ -197,7 +197,7 @@ fn first_of(bytes: &[u8]) -> u32
     u32::from_le_bytes([bytes[0], bytes[1], bytes[2], bytes[3]])
 }
 
-/// Raises the register at the coupon's slot modulo 2^`lg_k` to the coupon's value.
+/// Raises the register of the coupon's slot modulo 2^`lg_k` to the coupon's value, if that is greater.
 pub fn max_coupon(registers: &mut [u8], lg_k: u8, coupon: Coupon)
     requires most { lg_k ≤ 21 }
     requires size { length registers.old ≡ 2 ^ lg_k }
@@ -210,8 +210,9 @@ pub fn max_coupon(registers: &mut [u8], lg_k: u8, coupon: Coupon)
     }
 }
 
-/// The coupons after the header of a list or a set, if there are some, the image is compact, and they ascend or are few.
-// (in each of its callers, so that what it gives isn't put into memory for them)
+/// Returns the coupons after the header of a list or a set, if there are some, the image is compact, and they ascend or are
+/// few.
+// (inlined, so that its result isn't written to memory)
 #[inline(always)]
 pub(crate) fn compact_coupons(bytes: &[u8], header: Header) -> Option<RawCoupons<'_>>
     requires has { HasHeader bytes.now (stage_bits bytes.now) }
@@ -230,9 +231,9 @@ pub(crate) fn compact_coupons(bytes: &[u8], header: Header) -> Option<RawCoupons
     }
 }
 
-/// The raw coupons of a compact list or set, in the number that the image says. `None` where a check but that of coupons fails,
-/// or there are none.
-// (in each of its callers, as `compact_coupons`)
+/// Returns the raw coupons of a compact list or set, in the number that the image says. Returns `None` if a check other than
+/// that of coupons fails, or if there are none.
+// (inlined, as `compact_coupons` is)
 #[inline(always)]
 pub(crate) fn counted_coupons(bytes: &[u8], header: Header) -> Option<RawCoupons<'_>>
     requires has { HasHeader bytes.now (stage_bits bytes.now) }
@@ -250,7 +251,8 @@ pub(crate) fn counted_coupons(bytes: &[u8], header: Header) -> Option<RawCoupons
     }
 }
 
-/// The raw coupons after the header of a compact list, in the number that it says. `None` where a check but that of coupons fails.
+/// Returns the raw coupons after the header of a compact list, in the number that it says. Returns `None` if a check other than
+/// that of coupons fails.
 fn list_coupons(bytes: &[u8], header: Header) -> Option<RawCoupons<'_>>
     requires has { HasHeader bytes.now 0 }
     requires header { header ≡ header_of bytes.now }
@@ -269,7 +271,8 @@ fn list_coupons(bytes: &[u8], header: Header) -> Option<RawCoupons<'_>>
     RawCoupons::front(&bytes[HEADER_SIZE..], count)
 }
 
-/// The raw coupons after the count of a compact set, in that number. `None` where a check but that of coupons fails.
+/// Returns the raw coupons after the count of a compact set, in that number. Returns `None` if a check other than that of
+/// coupons fails.
 fn set_coupons(bytes: &[u8], header: Header) -> Option<RawCoupons<'_>>
     requires has { HasHeader bytes.now 1 }
     requires header { header ≡ header_of bytes.now }

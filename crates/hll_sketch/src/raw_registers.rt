@@ -1,6 +1,6 @@
 // SPDX-License-Identifier: Apache-2.0
-//! The registers of an image, with their estimate state, as they lie in its bytes (docs/FORMAT.md, "HLL"): one pass checks
-//! them, without a copy.
+//! The registers of an image, with their estimate state, borrowed from its bytes (docs/FORMAT.md, "HLL"): one pass checks them,
+//! without a copy.
 ghost use Rattle.std.specs.Prelude.{◌≡◌, ◌≢◌, Some, IfOk, IfErr};
 ghost use Rattle.hll_base.specs.declared.error.Reason.TheVariants.{Memory};
 ghost use Rattle.hll_sketch.specs.Checks.{first_fault};
@@ -21,10 +21,10 @@ use hll_registers::nibble_slice::NibbleSlice;
 use hll_registers::register_slice::RegisterSlice;
 use std::alloc::Allocator;
 
-/// Evaluates an expression of the registers of an image, of any width, whose header has been read: `source` is a
+/// Evaluates an expression with the registers of an image of any width, whose header has been read. `source` is a
 /// `RegisterSlice`, a `GroupSlice` or a `NibbleSlice`, each a `Registers`, and `alloc` a reference to the allocator for a map
-/// of exceptions of four bits. Where the registers fail a check, `?` leaves the function that the macro stands in.
-// (a macro and not an enum, so that a caller keeps no copy of the registers' description: that took a tenth of a merge)
+/// of exceptions of 4-bit registers. If the registers fail a check, `?` returns from the function that uses the macro.
+// (a macro, not an enum, so that a caller keeps no copy of the registers' description: that took a tenth of a merge)
 macro_rules! with_registers {
     ($alloc:expr, $bytes:expr, $header:expr, $source:ident => $result:expr) => {
         match $header.hll_type {
@@ -46,8 +46,8 @@ macro_rules! with_registers {
 
 pub(crate) use with_registers;
 
-/// The registers of an image of four bits, with a map of their exceptions by this allocator. Allocates that map alone, and
-/// nothing where there are no exceptions.
+/// Returns the registers of an image of 4-bit registers, with a map for their exceptions from this allocator. Allocates nothing
+/// else, and nothing at all if there are no exceptions.
 ///
 /// Fails with the reason of the first check that they fail, or else with `Memory`.
 pub(crate) fn four_bit_registers<'a, A: Allocator + Clone>(
@@ -72,7 +72,7 @@ pub(crate) fn four_bit_registers<'a, A: Allocator + Clone>(
     )
 }
 
-/// The registers of an image of eight bits.
+/// Returns the registers of an image of 8-bit registers.
 ///
 /// Fails with the reason of the first check that they fail.
 pub(crate) fn eight_bit_registers(bytes: &[u8], header: Header) -> Result<RegisterSlice<'_>, Error>
@@ -87,7 +87,7 @@ pub(crate) fn eight_bit_registers(bytes: &[u8], header: Header) -> Result<Regist
     Ok(RegisterSlice::new(header.lg_k, registers).with_state(state))
 }
 
-/// The registers of an image of six bits.
+/// Returns the registers of an image of 6-bit registers.
 ///
 /// Fails with the reason of the first check that they fail.
 pub(crate) fn six_bit_registers(bytes: &[u8], header: Header) -> Result<GroupSlice<'_>, Error>

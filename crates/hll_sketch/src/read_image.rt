@@ -1,7 +1,7 @@
 // SPDX-License-Identifier: Apache-2.0
-//! Sketches from images (docs/FORMAT.md, "The image"): after the header one reader for each stage and width. Each looks at a
-//! front of the bytes alone, fails with the first check that they fail, or else with
-//! `Memory`, and takes memory only once the bytes are known to be there.
+//! Reads sketches from images (docs/FORMAT.md, "The image"): the header first, then one reader for each stage and width. Each
+//! reader looks only at a prefix of the bytes, fails with the first check that they fail, or else with `Memory`, and allocates
+//! only once the bytes are known to be there.
 ghost use Rattle.std.specs.Prelude.{◌≡◌, ◌<◌, ◌⊎◌, None, Some, IfOk, IfErr};
 ghost use Rattle.hll_base.specs.declared.error.Reason.TheVariants.{Memory};
 ghost use Rattle.hll_sketch.specs.Checks.{first_fault, size_fault};
@@ -27,11 +27,10 @@ use hll_coupons::serialization::{LG_LEAST_SET_BUCKETS, LG_LIST_BUCKETS, LG_SET_B
 use std::alloc::Allocator;
 
 impl<A: Allocator + Clone> HllSketch<A> {
-    /// The sketch of an image, of any stage and width (docs/FORMAT.md, "The image"). What follows the image is not looked
-    /// at.
+    /// Returns the sketch of an image of any stage and width (docs/FORMAT.md, "The image"). Bytes after the image are not read.
     ///
-    /// Fails with the reason of the first check that the bytes fail, in the order of docs/FORMAT.md, or else with
-    /// `Memory`. Takes memory only once the counts pass their checks and the bytes that they ask for are there.
+    /// Fails with the reason of the first check that the bytes fail, in the order of docs/FORMAT.md, or else with `Memory`.
+    /// Allocates only once the counts pass their checks and all bytes that they ask for are there.
     pub fn deserialize(alloc: A, bytes: &[u8]) -> Result<HllSketch<A>, Error>
         ensures ok { IfOk result (λ s. IsReadAs bytes.now (sketch_of s)) }
         ensures err { IfErr result (λ e. (e ≡ Memory) ⊎ IsFault bytes.now e) }
@@ -43,9 +42,9 @@ impl<A: Allocator + Clone> HllSketch<A> {
     }
 }
 
-/// The sketch of an image whose header has been read, in memory of a clone of this allocator.
+/// Returns the sketch of an image whose header has been read, in memory of a clone of this allocator.
 ///
-/// Fails with the reason of the first check that the bytes fail, or else with `Memory`, where that clone is refused too.
+/// Fails with the reason of the first check that the bytes fail, or else with `Memory`, also if cloning the allocator fails.
 pub(crate) fn read_sketch<A: Allocator + Clone>(
     alloc: &A,
     bytes: &[u8],
@@ -63,7 +62,7 @@ pub(crate) fn read_sketch<A: Allocator + Clone>(
     }
 }
 
-/// The reason of the first check that an image fails, or else `Memory`.
+/// Returns the reason of the first check that an image fails, or else `Memory`.
 fn fault_or_memory<A: Allocator + Clone>(alloc: A, bytes: &[u8], header: Header) -> Error
     requires has { HasHeader bytes.now (stage_bits bytes.now) }
     requires stage { stage_bits bytes.now < 3 }
@@ -76,7 +75,7 @@ fn fault_or_memory<A: Allocator + Clone>(alloc: A, bytes: &[u8], header: Header)
     }
 }
 
-/// The sketch of an image whose header has been read.
+/// Returns the sketch of an image whose header has been read.
 fn read_payload<A: Allocator + Clone>(
     alloc: A,
     bytes: &[u8],
@@ -97,7 +96,7 @@ fn read_payload<A: Allocator + Clone>(
     }
 }
 
-/// The sketch of an image of a list.
+/// Returns the sketch of an image of a list.
 fn read_list<A: Allocator>(alloc: A, bytes: &[u8], header: Header) -> Result<HllSketch<A>, Error>
     requires has { HasHeader bytes.now 0 }
     requires header { header ≡ header_of bytes.now }
@@ -125,7 +124,7 @@ fn read_list<A: Allocator>(alloc: A, bytes: &[u8], header: Header) -> Result<Hll
     })
 }
 
-/// The sketch of an image of a set.
+/// Returns the sketch of an image of a set.
 fn read_set<A: Allocator + Clone>(
     alloc: A,
     bytes: &[u8],
@@ -155,7 +154,7 @@ fn read_set<A: Allocator + Clone>(
     })
 }
 
-/// The sketch of an image of registers of four bits.
+/// Returns the sketch of an image of 4-bit registers.
 fn read_four<A: Allocator + Clone>(
     alloc: A,
     bytes: &[u8],
@@ -181,7 +180,7 @@ fn read_four<A: Allocator + Clone>(
     })
 }
 
-/// The sketch of an image of registers of six bits.
+/// Returns the sketch of an image of 6-bit registers.
 fn read_six<A: Allocator>(alloc: A, bytes: &[u8], header: Header) -> Result<HllSketch<A>, Error>
     requires has { HasHeader bytes.now 2 }
     requires width { width_bits bytes.now ≡ 1 }
@@ -197,7 +196,7 @@ fn read_six<A: Allocator>(alloc: A, bytes: &[u8], header: Header) -> Result<HllS
     })
 }
 
-/// The sketch of an image of registers of eight bits.
+/// Returns the sketch of an image of 8-bit registers.
 fn read_eight<A: Allocator>(alloc: A, bytes: &[u8], header: Header) -> Result<HllSketch<A>, Error>
     requires has { HasHeader bytes.now 2 }
     requires width { width_bits bytes.now ≡ 2 }

@@ -1,5 +1,5 @@
 // SPDX-License-Identifier: Apache-2.0
-//! Copies of registers as registers of eight bits: folded to a smaller `lg_k` (docs/MODEL.md, "Folding"), or with their state.
+//! Copies registers to 8-bit registers: folded to a smaller `lg_k` (docs/MODEL.md, "Folding"), or with their estimate state.
 ghost use Rattle.std.specs.Prelude.{◌≡◌, ◌≤◌, IfOk, IfErr};
 ghost use Rattle.hll_base.specs.declared.error.Reason.TheVariants.{Memory};
 ghost use Rattle.hll_coupons.specs.Fold.{fold_to, pairs};
@@ -12,7 +12,7 @@ use hll_arrays::registers::Registers;
 use hll_base::error::Error;
 use std::alloc::Allocator;
 
-/// The fold of registers.
+/// Returns the fold of registers.
 pub(crate) fn fold_of_registers<R: Registers, A: Allocator>(
     alloc: A,
     lg_k: u8,
@@ -28,9 +28,9 @@ pub(crate) fn fold_of_registers<R: Registers, A: Allocator>(
     Ok(made)
 }
 
-/// A copy of registers with their state, at eight bits.
+/// Returns a copy of registers as 8-bit registers, with their estimate state.
 ///
-/// Takes memory of this allocator alone. Fails with `Memory`.
+/// Allocates only with this allocator. Fails with `Memory`.
 pub(crate) fn eight_bits_of<R: Registers, A: Allocator>(
     alloc: A,
     source: &R,

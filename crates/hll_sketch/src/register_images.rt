@@ -1,6 +1,6 @@
 // SPDX-License-Identifier: Apache-2.0
-//! Makes images of registers from images of registers of the same width, eight or six bits, without a sketch between: the
-//! registers are copied once.
+//! Makes images of 8-bit or 6-bit registers from images of registers of the same width, without making a sketch: the registers
+//! are copied once.
 ghost use Rattle.std.specs.Prelude.{◌≡◌, ◌<◌, IfSome, IfNone, IfOk, IfErr};
 ghost use Rattle.hll_base.specs.declared.hll_type.HllType.TheVariants.{Hll4};
 ghost use Rattle.hll_sketch.specs.Image.{stage_bits, width_bits, width_of_bits};
@@ -15,11 +15,12 @@ use hll_base::hll_type::HllType;
 use hll_registers::estimate_state::EstimateState;
 use std::alloc::Allocator;
 
-/// The image at a width of registers of eight or six bits that an image has at that width: with their estimate state, or with
-/// the fields set where that is cleared. `None` where the image has coupons, or registers of another width or of four bits.
+/// Returns the image, at a width, of an image that has 8-bit or 6-bit registers of that width: with their estimate state, or
+/// with the estimator fields set if that is cleared. Returns `None` if the image has coupons, registers of another width, or
+/// 4-bit registers.
 ///
-/// Allocates the image, in one request, once all checks are passed. Fails with the reason of the first check that the bytes
-/// fail (docs/FORMAT.md, "Order of checks"), or else with `Memory`.
+/// Allocates once, for the image, after all checks. Fails with the reason of the first check that the bytes fail
+/// (docs/FORMAT.md, "Order of checks"), or else with `Memory`.
 pub fn register_image_at<A: Allocator>(
     alloc: A,
     hll_type: HllType,
@@ -43,7 +44,7 @@ pub fn register_image_at<A: Allocator>(
     }
 }
 
-/// The estimate state of registers, or where that is cleared, the one from which a composite estimator computes.
+/// Returns the estimate state of registers, or, if that is cleared, the state with the estimator fields of the registers.
 fn filled_state<R: Registers>(source: &R) -> EstimateState
     ensures { FillsState (R.stored source.now) result }
 {

@@ -34,7 +34,7 @@ use std::fmt;
 use std::hash::Hash;
 use std::marker::Model;
 
-/// A sketch: an `lg_k`, and a mode. Contracts see the `lg_k` and the layout of the mode, with the buckets of tables; the
+/// A sketch: an `lg_k`, and a mode. Contracts see the `lg_k` and the layout of the mode, including the buckets of tables; the
 /// sketch value is a function of them.
 #[derive(Drop)]
 pub struct HllSketch<A: Allocator = Global> {
@@ -54,7 +54,7 @@ impl<A: Allocator> Model for HllSketch<A> {
 }
 
 impl<A: Allocator> HllSketch<A> {
-    /// An empty sketch: a list, which keeps the width that its registers are to have.
+    /// Returns an empty sketch: a list, with the width that its registers will have.
     ///
     /// Fails with `Argument` if `lg_config_k` is not 4 to 21.
     pub fn new(alloc: A, lg_config_k: u8, hll_type: HllType) -> Result<HllSketch<A>, Error>
@@ -73,7 +73,7 @@ impl<A: Allocator> HllSketch<A> {
         })
     }
 
-    /// The `lg_k`, 4 to 21.
+    /// Returns the `lg_k`, 4 to 21.
     pub fn lg_config_k(&self) -> u8
         ensures lg_k { result ≡ self.now.lg_k }
         ensures legal { IsLgK self.now.lg_k }
@@ -81,7 +81,7 @@ impl<A: Allocator> HllSketch<A> {
         self.lg_config_k
     }
 
-    /// The width of registers.
+    /// Returns the width of registers.
     pub fn target_type(&self) -> HllType
         ensures { result ≡ width_of self.now.layout }
     {
@@ -93,21 +93,22 @@ impl<A: Allocator> HllSketch<A> {
         }
     }
 
-    /// The mode.
+    /// Returns the mode.
     pub fn mode(&self) -> &Mode<A>
         ensures { layout_of result.now ≡ self.now.layout }
     {
         &self.mode
     }
 
-    /// Says that the layout is one for the `lg_k`. Does nothing: a caller whose proof needs the invariant calls it.
+    /// States that the layout is valid for the `lg_k`. Does nothing at run time: a caller whose proof needs the invariant calls
+    /// it.
     pub fn layout_is_legal(&self)
         ensures { IsLayoutFor self.now.lg_k self.now.layout }
     {
         let _lg_k = self.lg_config_k;
     }
 
-    /// Whether there are no coupons, or registers that are all 0.
+    /// Returns whether there are no coupons, or registers that are all 0.
     pub fn is_empty(&self) -> bool
         ensures { result ≡ is_empty (sketch_of self.now) }
     {
@@ -120,7 +121,7 @@ impl<A: Allocator> HllSketch<A> {
         }
     }
 
-    /// The table of its coupons; registers have none.
+    /// Returns the table of its coupons, or `None` for registers.
     pub(crate) fn table(&self) -> Option<&Container<A>>
         ensures some { IfSome result (λ table. content_in self.now.layout ≡ coupons (coupons_of table.now) table.now.lg_size) }
         ensures legal { IfSome result (λ table. length (coupons_in table.now.buckets) < 2 ^ 19) }
@@ -135,7 +136,7 @@ impl<A: Allocator> HllSketch<A> {
         }
     }
 
-    /// Whether it keeps registers.
+    /// Returns whether the sketch has registers.
     pub(crate) fn in_registers(&self) -> bool
         ensures { result ≡ in_registers (content_in self.now.layout) }
     {
@@ -145,7 +146,7 @@ impl<A: Allocator> HllSketch<A> {
         }
     }
 
-    /// How many coupons a list or a set has, none of registers.
+    /// Returns the number of coupons of a list or a set, or `None` for registers.
     pub fn num_coupons(&self) -> Option<usize>
         ensures { result ≡ count_in (content_in self.now.layout) }
     {
@@ -156,7 +157,7 @@ impl<A: Allocator> HllSketch<A> {
         }
     }
 
-    /// The estimator that the state of registers belongs to, none of coupons.
+    /// Returns the name of the estimator that the estimate state of registers belongs to, or `None` for coupons.
     fn estimator(&self) -> Option<&'static str> {
         let state = match &self.mode {
             Mode::List { .. } | Mode::Set { .. } => return None,
@@ -171,10 +172,10 @@ impl<A: Allocator> HllSketch<A> {
         }
     }
 
-    /// Sets the fields of registers from which a composite estimator computes, and the out-of-order flag (docs/FORMAT.md,
-    /// "Estimator fields"). A list or a set stays as it is.
+    /// Sets the estimator fields of registers (hipAccum, kxq0, kxq1), and the out-of-order flag
+    /// (docs/FORMAT.md, "Estimator fields"). A list or a set is unchanged.
     ///
-    /// Registers, buckets and size stay. One pass over registers.
+    /// The registers, buckets and size are unchanged. It takes one pass over the registers.
     pub fn set_estimator_fields(&mut self)
         ensures fields { SetsFields (sketch_of self.old) (sketch_of self.new) }
         ensures rest { (s : EstimateState) × (self.new ≡ record self.old { layout = with_state self.old.layout s }) }
@@ -184,7 +185,8 @@ impl<A: Allocator> HllSketch<A> {
         }
     }
 
-    /// Sets the fields of registers whose state is cleared, as `set_estimator_fields` does. Another state stays as it is.
+    /// Sets the estimator fields of registers whose estimate state is cleared, as `set_estimator_fields` does. Any other
+    /// estimate state is unchanged.
     pub fn fill_estimator_fields(&mut self)
         ensures fields { FillsFields (sketch_of self.old) (sketch_of self.new) }
         ensures rest { (s : EstimateState) × (self.new ≡ record self.old { layout = with_state self.old.layout s }) }
@@ -194,7 +196,7 @@ impl<A: Allocator> HllSketch<A> {
         }
     }
 
-    /// Clears the state of registers: fields of 0, with the out-of-order flag. A list or a set stays as it is.
+    /// Clears the estimate state of registers: fields of 0, with the out-of-order flag. A list or a set is unchanged.
     pub fn clear_estimator_fields(&mut self)
         ensures state { sketch_of self.new ≡ cleared (sketch_of self.old) }
         ensures rest { self.new ≡ record self.old { layout = with_state self.old.layout cleared_state } }
@@ -202,7 +204,7 @@ impl<A: Allocator> HllSketch<A> {
         self.restore_estimate_state(EstimateState::CLEARED);
     }
 
-    /// Whether these are registers whose state is cleared.
+    /// Returns whether the sketch has registers whose estimate state is cleared.
     fn has_cleared_state(&self) -> bool
         ensures { IsTrue result ↔ HasClearedState (content_in self.now.layout) }
     {
@@ -214,7 +216,7 @@ impl<A: Allocator> HllSketch<A> {
         }
     }
 
-    /// The state of registers from which a composite estimator computes, none of coupons.
+    /// Returns the estimate state with the estimator fields of the registers, or `None` for coupons.
     fn estimator_fields(&self) -> Option<EstimateState>
         ensures { AreFieldsIn (content_in self.now.layout) result }
     {
@@ -226,7 +228,7 @@ impl<A: Allocator> HllSketch<A> {
         }
     }
 
-    /// Sets the state of registers; a list or a set has none.
+    /// Sets the estimate state of registers. A list or a set has none, and is unchanged.
     fn restore_estimate_state(&mut self, state: EstimateState)
         ensures { self.new ≡ record self.old { layout = with_state self.old.layout state } }
     {
@@ -238,7 +240,7 @@ impl<A: Allocator> HllSketch<A> {
         }
     }
 
-    /// The bytes of the table or of the registers.
+    /// Returns the number of bytes of the table or of the registers.
     pub fn estimated_size(&self) -> usize
         ensures { result ≡ size_of (sketch_of self.now) }
     {
@@ -251,7 +253,7 @@ impl<A: Allocator> HllSketch<A> {
         }
     }
 
-    /// The allocator of its table or registers.
+    /// Returns the allocator of its table or registers.
     pub(crate) fn allocator(&self) -> &A {
         match &self.mode {
             Mode::List { list, .. } => list.container().allocator(),
@@ -264,7 +266,7 @@ impl<A: Allocator> HllSketch<A> {
 }
 
 impl<A: Allocator + Clone> HllSketch<A> {
-    /// A copy, with the same buckets.
+    /// Returns a copy, with the same buckets.
     ///
     /// Fails with `Memory`.
     pub fn clone(&self) -> Result<HllSketch<A>, Error>
@@ -277,9 +279,9 @@ impl<A: Allocator + Clone> HllSketch<A> {
         })
     }
 
-    /// The image (docs/FORMAT.md, "What is written"), with coupons and exceptions in ascending order.
+    /// Returns the image (docs/FORMAT.md, "What is written"), with coupons and exceptions in ascending order.
     ///
-    /// Takes memory for a sorted copy of these, and in one request for the image. Fails with `Memory`.
+    /// Allocates a sorted copy of these, and then the image, once. Fails with `Memory`.
     pub fn serialize(&self) -> Result<Vec<u8, A>, Error>
         ensures ok { IfOk result (λ image. Written image.items (sketch_of self.now)) }
         ensures err { IfErr result (λ e. e ≡ Memory) }
@@ -295,9 +297,9 @@ impl<A: Allocator + Clone> HllSketch<A> {
 
     /// Adds a coupon (docs/MODEL.md, "Adding").
     ///
-    /// Its value is at least 1. Fails with `Memory`, only if a table changes its size or the slots of exceptions of
-    /// registers of four bits do, and then changes nothing, buckets included.
-    // (in the loops of callers)
+    /// Its value is at least 1. Fails with `Memory`, only if a table changes its size or the buckets of the exceptions of 4-bit
+    /// registers do, and then changes nothing, not even buckets.
+    // (inlined into the loops of callers)
     #[inline(always)]
     pub fn update_with_coupon(&mut self, coupon: Coupon) -> Result<(), Error>
         requires { 1 ≤ value_of coupon }
@@ -321,7 +323,7 @@ impl<A: Allocator + Clone> HllSketch<A> {
     }
 
     /// Adds a coupon to a list or a set, as `update_with_coupon` does.
-    // (not in the loops of callers, which registers are for)
+    // (not inlined into the loops of callers, which are meant for registers)
     #[inline(never)]
     fn update_table(&mut self, coupon: Coupon) -> Result<(), Error>
         requires valued { 1 ≤ value_of coupon }
@@ -353,7 +355,8 @@ impl<A: Allocator + Clone> HllSketch<A> {
 
     /// Adds the coupons of raw coupons in turn (docs/MODEL.md, "Adding").
     ///
-    /// The value of each is at least 1. Fails with `Memory`, as `update_with_coupon` does, and then those before are added.
+    /// The value of each is at least 1. Fails with `Memory`, as `update_with_coupon` does; the coupons before that are then
+    /// added.
     pub fn update_with_raw_coupons(&mut self, raw_coupons: &[u32]) -> Result<(), Error>
         requires { All (λ c. 1 ≤ value_of c) raw_coupons.now }
         ensures ok { OnOk result (sketch_of self.new ≡ add_in_turn (sketch_of self.old) raw_coupons.now) }
@@ -369,7 +372,7 @@ impl<A: Allocator + Clone> HllSketch<A> {
 
     /// Adds the coupons of raw coupons in turn to a list or a set, as long as it is one. Returns how many are added.
     ///
-    /// Fails with `Memory`, as `update_with_coupon` does, and then those before are added.
+    /// Fails with `Memory`, as `update_with_coupon` does; the coupons before that are then added.
     fn update_while_table(&mut self, raw_coupons: &[u32]) -> Result<usize, Error>
         requires { All (λ c. 1 ≤ value_of c) raw_coupons.now }
         ensures within { IfOk result (λ count. count ≤ length raw_coupons.now) }
@@ -389,7 +392,7 @@ impl<A: Allocator + Clone> HllSketch<A> {
 
     /// Adds the coupons of raw coupons in turn to registers.
     ///
-    /// Fails with `Memory`, as `update_with_coupon` does, and then those before are added.
+    /// Fails with `Memory`, as `update_with_coupon` does; the coupons before that are then added.
     fn update_registers(&mut self, raw_coupons: &[u32]) -> Result<(), Error>
         requires { in_registers (content_in self.old.layout) ≡ true }
         ensures ok { OnOk result (sketch_of self.new ≡ add_in_turn (sketch_of self.old) raw_coupons.now) }
@@ -418,14 +421,14 @@ impl<A: Allocator + Clone> HllSketch<A> {
         self.update_with_coupon(Coupon::from_value(value))
     }
 
-    /// Says that the sketch value is legal. Does nothing: a caller whose proof needs the invariant calls it.
+    /// States that the sketch value is legal. Does nothing at run time: a caller whose proof needs the invariant calls it.
     pub(crate) fn value_is_legal(&self)
         ensures { IsLegal (sketch_of self.now) }
     {
         match &self.mode {
             Mode::List { list, .. } => list.container().table_is_legal(),
             Mode::Set { set, .. } => set.container().table_is_legal(),
-            // their `lg_k` brings the invariant of registers
+            // their `lg_k` makes known the invariant of registers
             Mode::Array4(array) => {
                 let _lg_k = array.lg_k();
             }
@@ -438,7 +441,7 @@ impl<A: Allocator + Clone> HllSketch<A> {
         }
     }
 
-    /// The next stage of a sketch whose table overflows with one more coupon.
+    /// Returns the next stage of a sketch whose table overflows with one more coupon.
     fn promoted(&self, coupon: Coupon) -> Result<Mode<A>, Error>
         requires valued { 1 ≤ value_of coupon }
         requires overflows { can_hold_with self.now.layout coupon ≡ false }
@@ -460,17 +463,17 @@ impl<A: Allocator + Clone> HllSketch<A> {
     }
 }
 
-/// The coupon of a raw coupon.
+/// Returns the coupon of a raw coupon.
 fn coupon_of(raw_coupon: u32) -> Coupon
     ensures { result ≡ raw_coupon }
 {
     Coupon::pack(raw_coupon, (raw_coupon >> SLOT_BITS) as u8)
 }
 
-/// Puts the coupons of raw coupons in turn into registers.
+/// Adds the coupons of raw coupons in turn to registers.
 ///
-/// Fails with `Memory`, and then those before are put.
-// (a loop of its own for each representation, so that its kind is not asked for at each coupon)
+/// Fails with `Memory`; the coupons before that are then added.
+// (a loop of its own for each representation, so that the kind is not checked at each coupon)
 fn put_each<S: RegisterStore<A>, A: Allocator>(
     store: &mut S,
     raw_coupons: &[u32],
@@ -486,8 +489,8 @@ fn put_each<S: RegisterStore<A>, A: Allocator>(
     Ok(())
 }
 
-/// Puts a coupon into registers, as `put_coupon` does.
-// (one that raises no register of four bits is not handed over: that costs more than to look)
+/// Adds a coupon to registers, as `put_coupon` does.
+// (checks first whether a coupon raises a 4-bit register: passing on one that doesn't costs more than the check)
 #[inline(always)]
 fn put_one<S: RegisterStore<A>, A: Allocator>(store: &mut S, coupon: Coupon) -> Result<(), Error>
     ensures ok { OnOk result (S.stored store.new ≡ update_with_coupon (S.stored store.old) coupon) }
@@ -500,8 +503,8 @@ fn put_one<S: RegisterStore<A>, A: Allocator>(store: &mut S, coupon: Coupon) -> 
     store.put_coupon(coupon)
 }
 
-/// Whether the register at the coupon's slot modulo 2^`lg_k` has the coupon's value or a greater one, so that the coupon changes
-/// nothing.
+/// Returns whether the register at the coupon's slot modulo 2^`lg_k` has the coupon's value or a greater one, so the coupon
+/// changes nothing.
 #[inline(always)]
 fn is_held<S: Registers>(store: &S, coupon: Coupon) -> bool
     ensures { result ≡ true → S.stored store.now ≡ update_with_coupon (S.stored store.now) coupon }
@@ -510,8 +513,8 @@ fn is_held<S: Registers>(store: &S, coupon: Coupon) -> bool
     coupon.value() <= store.get(slot)
 }
 
-/// The `lg_k`, the width, the kind of mode, and whether the sketch is empty; of registers also the estimator that their
-/// state belongs to.
+/// Shows the `lg_k`, the width, the kind of mode, and whether the sketch is empty; for registers also the estimator that their
+/// estimate state belongs to.
 impl<A: Allocator> fmt::Debug for HllSketch<A> {
     fn fmt<W: fmt::Write>(&self, f: &mut fmt::Formatter<W>) -> fmt::Result {
         let mode = match &self.mode {
@@ -532,7 +535,8 @@ impl<A: Allocator> fmt::Debug for HllSketch<A> {
     }
 }
 
-/// Sketches are equal if `lg_k`, kind, width and coupons are, or registers and state; the buckets of tables don't count.
+/// Sketches are equal if their `lg_k`, kind, width and coupons are equal, or their registers and estimate states. The order of
+/// buckets doesn't count.
 impl<A: Allocator> PartialEq for HllSketch<A> {
     ghost use Rattle.hll_sketch.specs.Same.{same_sketch, same_sketch-partial};
 

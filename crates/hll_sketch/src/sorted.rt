@@ -15,9 +15,9 @@ use crate::raw_coupons::{FEW, RawCoupons, counted_coupons};
 use crate::updatable::{ROOM, gathered_coupons, put};
 use hll_base::cursor::SketchSlice;
 
-/// Returns the coupons of an image of a list or a set in ascending order. They stay in the image if it is compact and they
-/// ascend, and are sorted into `room` if not. `None` unless the image is compact, and its coupons ascend or are at most
-/// `FEW`, or it is updatable and has 1 to `FEW` coupons.
+/// Returns the coupons of an image of a list or a set in ascending order. They are borrowed from the image if it is compact and
+/// they ascend; else they are sorted into `room`. Returns `None` unless the image is compact, and its coupons ascend or are at
+/// most `FEW`, or it is updatable and has 1 to `FEW` coupons.
 pub(crate) fn coupons_in_order<'a>(
     bytes: &'a [u8],
     header: Header,
@@ -42,8 +42,9 @@ pub(crate) fn coupons_in_order<'a>(
     sorted(coupons, room)
 }
 
-/// Returns the coupons of an updatable image of a list or a set, sorted into `room`. `None` unless there are 1 to `FEW`.
-// (a caller that had what is gathered among its own values would clear it at each call)
+/// Returns the coupons of an updatable image of a list or a set, sorted into `room`. Returns `None` unless there are 1 to
+/// `FEW`.
+// (not inlined: a caller would have to clear the gathered coupons at each of its own calls)
 #[inline(never)]
 fn updatable_coupons_in_order<'a>(
     bytes: &[u8],
@@ -62,9 +63,9 @@ fn updatable_coupons_in_order<'a>(
     sorted(coupons, room)
 }
 
-/// Writes raw coupons, at most `FEW`, to the front of `room` in ascending order, and returns them there. `None` unless each has
-/// a value, and no two are the same.
-// (a caller that had the numbers among its own values would clear them at each call)
+/// Sorts raw coupons, at most `FEW`, into the first bytes of `room`, and returns them. Returns `None` unless each has a value
+/// above 0, and no two are equal.
+// (not inlined: a caller would have to clear the numbers at each of its own calls)
 #[inline(never)]
 fn sorted<'a>(coupons: RawCoupons<'_>, room: &'a mut [u8; ROOM]) -> Option<RawCoupons<'a>>
     requires few { coupons.count ≤ 128 }
@@ -77,8 +78,8 @@ fn sorted<'a>(coupons: RawCoupons<'_>, room: &'a mut [u8; ROOM]) -> Option<RawCo
     sorted_numbers(&mut numbers[..coupons.count], room)
 }
 
-/// Sorts raw coupons, at most `FEW`, writes them to the front of `room`, and returns them there. `None` unless each has a value,
-/// and no two are the same.
+/// Sorts raw coupons, at most `FEW`, writes them to the first bytes of `room`, and returns them. Returns `None` unless each has
+/// a value above 0, and no two are equal.
 pub(crate) fn sorted_numbers<'a>(
     numbers: &mut [u32],
     room: &'a mut [u8; ROOM],
@@ -100,7 +101,7 @@ pub(crate) fn sorted_numbers<'a>(
     Some(sorted)
 }
 
-/// Reads raw coupons, at most `FEW`, into the front of `numbers`.
+/// Reads raw coupons, at most `FEW`, into the first elements of `numbers`.
 fn read_raw_coupons(coupons: RawCoupons<'_>, numbers: &mut [u32; FEW])
     requires { coupons.count ≤ 128 }
     ensures { take coupons.entry.count numbers.new ≡ raw_coupons coupons.entry.count coupons.entry.bytes.now }
@@ -114,7 +115,7 @@ fn read_raw_coupons(coupons: RawCoupons<'_>, numbers: &mut [u32; FEW])
     }
 }
 
-/// Writes numbers, at most `FEW`, to the front of `room`, four bytes each.
+/// Writes numbers, at most `FEW`, into the first bytes of `room`, four bytes each.
 fn write_raw_coupons(numbers: &[u32], room: &mut [u8; ROOM])
     requires { length numbers.now ≤ 128 }
     ensures { raw_coupons (length numbers.now) room.new ≡ numbers.now }

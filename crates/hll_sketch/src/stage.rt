@@ -1,12 +1,12 @@
 // SPDX-License-Identifier: Apache-2.0
-//! The stages of a sketch: table sizes, and registers after them (docs/MODEL.md, "Stages").
+//! The stages of a sketch: the sizes of tables, and then registers (docs/MODEL.md, "Stages").
 ghost use Rattle.std.specs.Prelude.{◌≡◌, ℕ, ◌^◌, ◌<◌, ◌≤◌, nat_le};
 ghost use Rattle.hll_sketch.specs.Stage as stages;
 
 use hll_coupons::serialization::{LG_LEAST_SET_BUCKETS, LG_LIST_BUCKETS, LG_SET_BELOW_LG_K};
 
-/// The most coupons that a table of 2^`size` buckets, with `size` at most 26, keeps before the next stage takes over: seven
-/// at size 3, else three quarters of its buckets.
+/// Returns the greatest number of coupons in a table of 2^`size` buckets before the next stage: seven at size 3, else three
+/// quarters of its buckets. `size` is at most 26.
 pub fn most_kept(size: u8) -> usize
     requires { size ≤ 26 }
     ensures most { (n : ℕ) → stages.can_hold size n ≡ nat_le n result }
@@ -19,7 +19,7 @@ pub fn most_kept(size: u8) -> usize
     }
 }
 
-/// Whether a table of 2^`size` buckets, with `size` at most 26, keeps this number of coupons.
+/// Returns whether a table of 2^`size` buckets, with `size` at most 26, can hold this number of coupons.
 pub fn can_hold(size: u8, count: usize) -> bool
     requires { size ≤ 26 }
     ensures { result ≡ stages.can_hold size count }
@@ -27,7 +27,7 @@ pub fn can_hold(size: u8, count: usize) -> bool
     count <= most_kept(size)
 }
 
-/// The least size from `from` up that keeps this number of coupons, or none: then registers take over
+/// Returns the smallest size, from `from` on, that holds this number of coupons, or `None` if the coupons become registers
 /// (docs/MODEL.md, "Stages"). `lg_k` is at most 21.
 pub fn stage(lg_k: u8, from: u8, count: usize) -> Option<u8>
     requires { lg_k ≤ 21 }

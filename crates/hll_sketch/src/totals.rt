@@ -1,5 +1,6 @@
 // SPDX-License-Identifier: Apache-2.0
-//! How many registers of an image are 0, and the sum of their weights, read where they lie, without a sketch.
+//! The number of registers of an image that are 0, and the sum of their weights, without a sketch: the registers are read from
+//! the image's bytes.
 ghost use Rattle.std.specs.Prelude.{◌≡◌, ◌<◌, ◌==◌, false, IfSome, IfNone, IfOk, IfErr};
 ghost use Rattle.std.specs.FinSet.{len};
 ghost use Rattle.std.specs.List.{list_all};
@@ -26,22 +27,22 @@ use std::alloc::Allocator;
 pub struct RegisterTotals {
     /// The logarithm of the number of registers, 4 to 21.
     pub lg_k: u8,
-    /// Their width.
+    /// The width of the registers.
     pub hll_type: HllType,
-    /// How many are 0.
+    /// The number of registers that are 0.
     pub zeros: u32,
     /// The sum of 2^(63 - v) over the registers v.
     pub units: u128,
-    /// Whether all are 0.
+    /// Whether all registers are 0.
     pub is_empty: bool,
     /// Their estimate state.
     pub state: EstimateState,
 }
 
-/// Totals of the registers of an image. `None` where it has coupons.
+/// Returns totals of the registers of an image, or `None` if it has coupons.
 ///
-/// Allocates a map for the exceptions of registers of four bits, where they have some. Fails with the reason of the first
-/// check that the bytes fail (docs/FORMAT.md, "Order of checks"), or else with `Memory`.
+/// Allocates a map for the exceptions of 4-bit registers, if there are any. Fails with the reason of the first check that the
+/// bytes fail (docs/FORMAT.md, "Order of checks"), or else with `Memory`.
 pub fn register_totals<A: Allocator + Clone>(
     alloc: A,
     image: &[u8],
@@ -62,7 +63,7 @@ pub fn register_totals<A: Allocator + Clone>(
     }
 }
 
-/// Totals of registers of a width, of which it is known how many are 0, and whether all are.
+/// Returns totals of registers. `zeros` of them are 0, and `is_empty` says whether all are.
 fn totals_of<R: Registers>(
     source: &R,
     hll_type: HllType,

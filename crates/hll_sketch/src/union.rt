@@ -22,8 +22,8 @@ use std::alloc::{Allocator, Global};
 use std::hash::Hash;
 use std::marker::Model;
 
-/// A union: a bound of the `lg_k`, and a gadget that sketches are merged into. The gadget is a sketch of eight bits, with
-/// coupons at the bound, or registers there or at a smaller `lg_k`. Contracts see the bound and the gadget.
+/// A union: a bound of the `lg_k`, and a gadget that sketches are merged into. The gadget is a sketch with a width of 8 bits:
+/// it has coupons at the bound, or registers at the bound or at a smaller `lg_k`. Contracts see the bound and the gadget.
 #[derive_where(Debug)]
 #[derive(Drop)]
 pub struct HllUnion<A: Allocator = Global> {
@@ -44,7 +44,7 @@ impl<A: Allocator> Model for HllUnion<A> {
 }
 
 impl<A: Allocator> HllUnion<A> {
-    /// A union of nothing: an empty list at the bound.
+    /// Returns a union of nothing: an empty list at the bound.
     ///
     /// Fails with `Argument` if `lg_max_k` is not 4 to 21.
     pub fn new(alloc: A, lg_max_k: u8) -> Result<HllUnion<A>, Error>
@@ -59,8 +59,8 @@ impl<A: Allocator> HllUnion<A> {
         })
     }
 
-    /// The `lg_k` of the gadget: the least of the bound and of the `lg_k` of all merged sketches in registers that are not
-    /// all 0.
+    /// Returns the `lg_k` of the gadget: the smallest of the bound and of the `lg_k` of all merged sketches in registers that
+    /// are not all 0.
     pub fn lg_config_k(&self) -> u8
         ensures lg_k { result ≡ (gadget_of self.now).lg_k }
         ensures legal { IsLgK result }
@@ -68,7 +68,7 @@ impl<A: Allocator> HllUnion<A> {
         self.gadget.lg_config_k()
     }
 
-    /// The bound.
+    /// Returns the bound.
     pub fn lg_max_k(&self) -> u8
         ensures lg_max_k { result ≡ self.now.lg_max_k }
         ensures legal { IsLgK result }
@@ -76,14 +76,14 @@ impl<A: Allocator> HllUnion<A> {
         self.lg_max_k
     }
 
-    /// Whether nothing was merged but empty sketches.
+    /// Returns whether nothing but empty sketches was merged.
     pub fn is_empty(&self) -> bool
         ensures { result ≡ is_empty (gadget_of self.now) }
     {
         self.gadget.is_empty()
     }
 
-    /// The bytes of the gadget's table or registers.
+    /// Returns the number of bytes of the gadget's table or registers.
     pub fn estimated_size(&self) -> usize
         ensures { result ≡ size_of (gadget_of self.now) }
     {
@@ -94,8 +94,8 @@ impl<A: Allocator> HllUnion<A> {
 impl<A: Allocator + Clone> HllUnion<A> {
     /// Adds a coupon, as to a sketch.
     ///
-    /// Its value is at least 1. Fails with `Memory`, only if a table changes its size, and then changes nothing, buckets
-    /// included.
+    /// Its value is at least 1. Fails with `Memory`, only if a table changes its size, and then changes nothing, not even
+    /// buckets.
     pub fn update_with_coupon(&mut self, coupon: Coupon) -> Result<(), Error>
         requires { 1 ≤ value_of coupon }
         ensures ok { OnOk result (gadget_of self.new ≡ add (gadget_of self.old) (set_of (coupon ∷ []))) }
@@ -124,7 +124,8 @@ impl<A: Allocator + Clone> HllUnion<A> {
         self.update_with_coupon(Coupon::from_value(value))
     }
 
-    /// The gadget at a width: its `lg_k`, and its coupons at the size of its table, or its registers with their state.
+    /// Returns the gadget at a width: its `lg_k`, and its coupons at the size of its table, or its registers with their
+    /// estimate state.
     ///
     /// Fails with `Memory`.
     pub fn to_sketch(&self, hll_type: HllType) -> Result<HllSketch<A>, Error>
@@ -134,9 +135,9 @@ impl<A: Allocator + Clone> HllUnion<A> {
         self.gadget.to_width(hll_type)
     }
 
-    /// The gadget at a width, as `to_sketch`, without a copy of what stays as it is.
+    /// Returns the gadget at a width, as `to_sketch` does, without a copy of what doesn't change.
     ///
-    /// Fails with `Memory`, only for registers of four and six bits.
+    /// Fails with `Memory`, only for 4-bit and 6-bit registers.
     pub fn into_sketch(self, hll_type: HllType) -> Result<HllSketch<A>, Error>
         ensures ok { IfOk result (λ s. sketch_of s ≡ record (gadget_of self) { width = hll_type }) }
         ensures needed { OnErr result ((in_registers (gadget_of self).content ≡ true) × (hll_type ≢ Hll8)) }
@@ -146,7 +147,7 @@ impl<A: Allocator + Clone> HllUnion<A> {
         gadget.into_width(hll_type)
     }
 
-    /// How many coupons there are, where there are some and no registers.
+    /// Returns the number of coupons, if there are any and no registers.
     pub(crate) fn coupons(&self) -> Option<usize>
         ensures some { IfSome result (λ count. (in_registers (gadget_of self.now).content ≡ false) × (is_empty (gadget_of self.now) ≡ false)) }
         ensures none { IfNone result ((in_registers (gadget_of self.now).content ≡ true) ⊎ (is_empty (gadget_of self.now) ≡ true)) }
@@ -160,12 +161,12 @@ impl<A: Allocator + Clone> HllUnion<A> {
         }
     }
 
-    /// The allocator of the gadget.
+    /// Returns the allocator of the gadget.
     pub(crate) fn allocator(&self) -> &A {
         self.gadget.allocator()
     }
 
-    /// A copy of the allocator.
+    /// Returns a copy of the allocator.
     ///
     /// Fails with `Memory`.
     pub(crate) fn cloned_allocator(&self) -> Result<A, Error>
@@ -174,7 +175,7 @@ impl<A: Allocator + Clone> HllUnion<A> {
         Ok(self.gadget.allocator().clone()?)
     }
 
-    /// Forgets all: an empty list at the bound.
+    /// Empties the union: the gadget is an empty list at the bound.
     ///
     /// Fails with `Memory`, and then changes nothing.
     pub fn reset(&mut self) -> Result<(), Error>
@@ -188,7 +189,7 @@ impl<A: Allocator + Clone> HllUnion<A> {
         Ok(())
     }
 
-    /// A copy, with the same buckets.
+    /// Returns a copy, with the same buckets.
     ///
     /// Fails with `Memory`.
     pub fn clone(&self) -> Result<HllUnion<A>, Error>
@@ -202,7 +203,8 @@ impl<A: Allocator + Clone> HllUnion<A> {
     }
 }
 
-/// Whether two sketches fold to the same registers at the smaller `lg_k` of both. Takes two bytes a register there.
+/// Returns whether two sketches fold to the same registers at the smaller `lg_k` of both. Allocates two bytes for each register
+/// at that `lg_k`.
 ///
 /// Fails with `Memory`.
 pub fn agree<A: Allocator + Clone>(a: &HllSketch<A>, b: &HllSketch<A>) -> Result<bool, Error>

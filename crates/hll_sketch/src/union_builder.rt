@@ -1,7 +1,7 @@
 // SPDX-License-Identifier: Apache-2.0
-//! A union of many sketches. While the union has coupons, those of more sketches wait, and are added together once they are
-//! as many as those that it has: adding T and then U is adding both (law `add_of_add`). So a union of many small sketches
-//! costs one sort of their coupons, however long the searches in the table are (docs/OPERATING.md, "Images from others").
+//! A union of many sketches. While the union has coupons, the coupons of more sketches wait, and are added together once they
+//! are as many as the union's own: adding T and then U is adding both (law `add_of_add`). So a union of many small sketches
+//! takes one sort of their coupons, however long the searches in the table are (docs/OPERATING.md, "Images from others").
 ghost use Rattle.std.specs.Prelude.{◌≡◌, ◌⊎◌, ◌^◌, ◌<◌, true, false, All, map, length, IfOk, IfErr, OnOk, OnErr};
 ghost use Rattle.hll_base.specs.declared.error.Reason.TheVariants.{Memory};
 ghost use Rattle.hll_base.specs.declared.error.Reason.TheVariants as reasons;
@@ -31,17 +31,17 @@ use hll_coupons::serialization::LG_LIST_BUCKETS;
 use std::alloc::{Allocator, Global};
 use std::marker::Model;
 
-/// With at most this many coupons in the union, others are added at once.
+/// If the union has at most this number of coupons, others are added at once.
 const MOST_IN_LIST: usize = 1 << LG_LIST_BUCKETS;
 
-/// Fewer coupons than this wait, however few the union has.
+/// Fewer coupons than this wait, however few coupons the union has.
 const LEAST_WAITING: usize = 256;
 
-/// Where more than this wait, they are added before others do.
+/// If more coupons than this wait, they are added before others wait.
 const MOST_WAITING: usize = (1 << 18) - 1;
 
-/// A union that many sketches are merged into. Contracts see the bound, the gadget, and what waits;
-/// `whole_gadget` is the gadget of all that was merged.
+/// A union that many sketches are merged into. Contracts see the bound, the gadget, and the waiting coupons; `whole_gadget` is
+/// the gadget of all that was merged.
 #[derive(Drop)]
 pub struct UnionBuilder<A: Allocator = Global> {
     union: HllUnion<A>,
@@ -61,7 +61,7 @@ impl<A: Allocator> Model for UnionBuilder<A> {
 }
 
 impl<A: Allocator + Clone> UnionBuilder<A> {
-    /// A union that sketches are merged into, and an allocator for coupons that wait. Takes no memory.
+    /// Returns a union that sketches are merged into, with an allocator for coupons that wait. Allocates nothing.
     pub fn new(union: HllUnion<A>, alloc: A) -> UnionBuilder<A>
         ensures bound { result.lg_max_k ≡ union.lg_max_k }
         ensures whole { whole_gadget result ≡ gadget_of union }
@@ -112,8 +112,8 @@ impl<A: Allocator + Clone> UnionBuilder<A> {
         }
     }
 
-    /// Whether coupons wait, or those of the next sketch would: beside more coupons of the union than a list holds. Beside
-    /// fewer they are added at once, which takes no memory.
+    /// Returns whether coupons wait, or whether those of the next sketch would: if the union has more coupons than a list
+    /// holds. If it has fewer, they are added at once, which allocates nothing.
     fn lets_wait(&self) -> bool
         ensures table { result ≡ true → in_registers (sketch_of self.now.kept).content ≡ false }
         ensures some { result ≡ true → is_empty (sketch_of self.now.kept) ≡ false }
@@ -128,8 +128,8 @@ impl<A: Allocator + Clone> UnionBuilder<A> {
         }
     }
 
-    /// Merges the sketch of an image, as `update_with_image` does, where coupons may wait.
-    // (a caller would clear its values for images that are merged at once too)
+    /// Merges the sketch of an image, as `update_with_image` does, if coupons may wait.
+    // (not inlined: a caller would have to clear its values for images that are merged at once too)
     #[inline(never)]
     fn update_while_waiting(&mut self, image: &[u8], header: Header) -> Result<(), Error>
         requires has { HasHeader image.now (stage_bits image.now) }
@@ -150,7 +150,7 @@ impl<A: Allocator + Clone> UnionBuilder<A> {
         }
     }
 
-    /// Merges coupons that an image holds, as `update_with_image` does: they wait, if they may.
+    /// Merges coupons of an image, as `update_with_image` does: they wait, if they may.
     fn update_with_coupons(
         &mut self,
         image: &[u8],
@@ -175,8 +175,9 @@ impl<A: Allocator + Clone> UnionBuilder<A> {
         }
     }
 
-    /// Merges the coupons of an image, as `update_with_image` does, unless they are evident in a compact image.
-    // (a caller that had the room among its own values would clear it for compact coupons too)
+    /// Merges the coupons of an image, as `update_with_image` does, if one pass over a compact image has not shown that they
+    /// are distinct.
+    // (not inlined: a caller would have to clear the room for compact coupons too)
     #[inline(never)]
     fn update_with_other_coupons(&mut self, image: &[u8], header: Header) -> Result<(), Error>
         requires has { HasHeader image.now (stage_bits image.now) }
@@ -194,7 +195,7 @@ impl<A: Allocator + Clone> UnionBuilder<A> {
         }
     }
 
-    /// Merges the sketch of an image, as `update_with_image` does, once it is read.
+    /// Reads the sketch of an image and merges it, as `update_with_image` does.
     fn update_with_sketch_of(&mut self, image: &[u8], header: Header) -> Result<(), Error>
         requires has { HasHeader image.now (stage_bits image.now) }
         requires stage { stage_bits image.now < 3 }
@@ -208,7 +209,7 @@ impl<A: Allocator + Clone> UnionBuilder<A> {
         self.update(&sketch)
     }
 
-    /// Adds the coupons that wait to the union, if they are as many as its own, and at least `LEAST_WAITING`.
+    /// Adds the coupons that wait to the union, if they are as many as the union's own, and at least `LEAST_WAITING`.
     ///
     /// Fails with `Memory`.
     fn settle_if_many(&mut self) -> Result<(), Error>
@@ -226,7 +227,7 @@ impl<A: Allocator + Clone> UnionBuilder<A> {
 
     /// Adds the coupons that wait to the union.
     ///
-    /// Fails with `Memory`, and then they wait still.
+    /// Fails with `Memory`, and then they still wait.
     fn settle(&mut self) -> Result<(), Error>
         ensures whole { whole_gadget self.new ≡ whole_gadget self.old }
         ensures bound { self.new.lg_max_k ≡ self.old.lg_max_k }
@@ -241,7 +242,7 @@ impl<A: Allocator + Clone> UnionBuilder<A> {
         Ok(())
     }
 
-    /// The union, with all that waits added.
+    /// Returns the union, after all waiting coupons are added.
     ///
     /// Fails with `Memory`.
     pub fn build(mut self) -> Result<HllUnion<A>, Error>
@@ -255,9 +256,9 @@ impl<A: Allocator + Clone> UnionBuilder<A> {
     }
 }
 
-/// The union of sketches under a bound. Its `lg_k` is the least of the bound and of the `lg_k` of the sketches in registers
-/// that are not all 0. Where all sketches are canonical with cleared fields, so is the gadget, and it is
-/// their join, whatever their order.
+/// Returns the union of sketches under a bound. Its `lg_k` is the smallest of the bound and of the `lg_k` of the sketches in
+/// registers that are not all 0. If all sketches are canonical with cleared fields, so is the gadget, and it does not depend on
+/// their order.
 ///
 /// Fails with `Argument` if `lg_max_k` is not 4 to 21, or else with `Memory`.
 pub fn union_of<A: Allocator + Clone>(

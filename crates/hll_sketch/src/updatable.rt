@@ -1,6 +1,6 @@
 // SPDX-License-Identifier: Apache-2.0
-//! Coupons in the buckets of a table, as an updatable image has them, where 0 stands for an empty bucket. Where they are few,
-//! they are gathered as a compact image has them, and go on from there: no table is made.
+//! Coupons in the buckets of a table, as an updatable image has them, where 0 stands for an empty bucket. If they are few, they
+//! are copied to a list as in a compact image, and handled as such: no table is made.
 ghost use Rattle.std.specs.Prelude.{◌≡◌, ◌+◌, ◌*◌, ◌^◌, ◌<◌, ◌≤◌, ◌↔◌, ◌++◌, [], ◌∷◌, true, IsTrue, IfSome, IfNone, length};
 ghost use Rattle.hll_coupons.specs.Coupons.{raw_coupons, AreCoupons};
 ghost use Rattle.hll_coupons.specs.Table.{coupons_in};
@@ -17,10 +17,10 @@ use hll_coupons::serialization::{
     COUPON_SIZE_BYTES, LG_LEAST_SET_BUCKETS, LG_LIST_BUCKETS, LG_SET_BELOW_LG_K,
 };
 
-/// The bytes of `FEW` coupons.
+/// The number of bytes of `FEW` coupons.
 pub(crate) const ROOM: usize = COUPON_SIZE_BYTES * FEW;
 
-/// The buckets of a table, and how many of them an image says are filled: 1 to `FEW`.
+/// The buckets of a table, and the number of filled buckets that an image says: 1 to `FEW`.
 #[derive(Clone, Copy)]
 struct Buckets<'a> {
     raw_coupons: RawCoupons<'a>,
@@ -30,7 +30,8 @@ struct Buckets<'a> {
 }
 
 impl<'a> Buckets<'a> {
-    /// The buckets of a table of 2^`lg_size` at the front of some bytes, if so many are filled, and the bytes are there.
+    /// Returns the first buckets of some bytes, as a table of 2^`lg_size`, of which `filled` are said to be filled. Returns
+    /// `None` if `filled` is not 1 to `FEW`, or the bytes are too few.
     fn front(bytes: &'a [u8], lg_size: u8, filled: usize) -> Option<Buckets<'a>>
         requires { lg_size ≤ 21 }
         ensures some { IfSome result (λ p. (p.raw_coupons.bytes.now ≡ bytes.now) × (p.raw_coupons.count ≡ 2 ^ lg_size) × (p.filled ≡ filled)) }
@@ -46,7 +47,8 @@ impl<'a> Buckets<'a> {
         })
     }
 
-    /// Whether so many buckets are filled; then their raw coupons are at the front of `room`.
+    /// Returns whether the number of filled buckets is the one that is said. If it is, their raw coupons are in the first bytes
+    /// of `room`.
     fn gather_filled(&self, room: &mut [u8; ROOM]) -> bool
         ensures number { IsTrue result ↔ (length (coupons_in (raw_coupons self.now.raw_coupons.count self.now.raw_coupons.bytes.now)) ≡ self.now.filled) }
         ensures gathered { result ≡ true → raw_coupons self.now.filled room.new ≡ coupons_in (raw_coupons self.now.raw_coupons.count self.now.raw_coupons.bytes.now) }
@@ -54,7 +56,8 @@ impl<'a> Buckets<'a> {
         self.gather(room) == self.filled
     }
 
-    /// Writes the raw coupons that are not 0 to the front of `room` in turn, as far as it goes, and answers how many there are.
+    /// Writes the raw coupons that are not 0 into the first bytes of `room` in turn, as far as there is room, and returns how
+    /// many there are.
     fn gather(&self, room: &mut [u8; ROOM]) -> usize
         ensures number { result ≡ length (coupons_in (raw_coupons self.now.raw_coupons.count self.now.raw_coupons.bytes.now)) }
         ensures gathered { result ≤ 128 → raw_coupons result room.new ≡ coupons_in (raw_coupons self.now.raw_coupons.count self.now.raw_coupons.bytes.now) }
@@ -65,7 +68,7 @@ impl<'a> Buckets<'a> {
             let Ok(raw_coupon) = cursor.read_u32_le() else {
                 return count;
             };
-            // (written where it is 0 too, so that no place has to be guessed)
+            // (written even if it is 0, which avoids a branch that the processor would have to predict)
             if count < FEW {
                 put(room, count, raw_coupon);
             }
@@ -85,9 +88,9 @@ pub(crate) fn put(room: &mut [u8; ROOM], count: usize, raw_coupon: u32)
     room[start..start + COUPON_SIZE_BYTES].copy_from_slice(&raw_coupon.to_le_bytes());
 }
 
-/// The coupons of an updatable image of a list or a set, gathered at the front of `room` in the order of their buckets. `None`
-/// unless there are 1 to `FEW`.
-// (inlined, it would clear the room of whoever calls it for compact images too)
+/// Returns the coupons of an updatable image of a list or a set, gathered in the first bytes of `room` in the order of their
+/// buckets. Returns `None` unless there are 1 to `FEW`.
+// (not inlined: a caller would have to clear the room for compact images too)
 #[inline(never)]
 pub(crate) fn updatable_coupons<'a>(
     bytes: &[u8],
@@ -109,8 +112,8 @@ pub(crate) fn updatable_coupons<'a>(
     Some(coupons)
 }
 
-/// The raw coupons in the buckets of an updatable image of a list or a set, gathered at the front of `room` in the order of
-/// their buckets. `None` where a check but that of coupons fails, or they are not 1 to `FEW`.
+/// Returns the raw coupons in the buckets of an updatable image of a list or a set, gathered in the first bytes of `room` in
+/// the order of their buckets. Returns `None` if a check other than that of coupons fails, or if they are not 1 to `FEW`.
 pub(crate) fn gathered_coupons<'a>(
     bytes: &[u8],
     header: Header,
@@ -138,7 +141,8 @@ pub(crate) fn gathered_coupons<'a>(
     })
 }
 
-/// The buckets after the header of an updatable list. `None` where a check but those of coupons fails, or it has none.
+/// Returns the buckets after the header of an updatable list. Returns `None` if a check other than those of coupons fails, or
+/// if no bucket is filled.
 fn list_buckets(bytes: &[u8], header: Header) -> Option<Buckets<'_>>
     requires has { HasHeader bytes.now 0 }
     requires header { header ≡ header_of bytes.now }
@@ -156,8 +160,8 @@ fn list_buckets(bytes: &[u8], header: Header) -> Option<Buckets<'_>>
     Buckets::front(&bytes[HEADER_SIZE..], LG_LIST_BUCKETS, filled)
 }
 
-/// The buckets after the count of an updatable set. `None` where a check but those of coupons fails, or it has none, or more
-/// than `FEW`.
+/// Returns the buckets after the count of an updatable set. Returns `None` if a check other than those of coupons fails, or if
+/// no bucket or more than `FEW` are filled.
 fn set_buckets(bytes: &[u8], header: Header) -> Option<Buckets<'_>>
     requires has { HasHeader bytes.now 1 }
     requires header { header ≡ header_of bytes.now }

@@ -22,7 +22,7 @@ const SOURCES: [(u32, u8); 9] = [
     (300, 8),
 ];
 
-/// The image of a sketch of six bits with this many coupons, and of the values below a number.
+/// Returns the image of a sketch of six bits with this many coupons, and of the values below a number.
 fn image_of(alloc: Global, source: (u32, u8), from: u32) -> Result<Vec<u8>, Error> {
     let (count, lg_k) = source;
     let mut sketch = filled(alloc, lg_k, HllType::Hll6, count, 63)?;
@@ -32,7 +32,7 @@ fn image_of(alloc: Global, source: (u32, u8), from: u32) -> Result<Vec<u8>, Erro
     sketch.serialize()
 }
 
-/// The image of the union of two images, by a union.
+/// Returns the image of the union of two images, by a union.
 fn by_union(alloc: Global, hll_type: HllType, left: &[u8], right: &[u8]) -> Result<Vec<u8>, Error> {
     let mut union = HllUnion::new(alloc, 10)?;
     union.update_with_image(left)?;
@@ -40,7 +40,7 @@ fn by_union(alloc: Global, hll_type: HllType, left: &[u8], right: &[u8]) -> Resu
     union.into_sketch(hll_type)?.serialize()
 }
 
-/// Whether what is made of two images is that of their union, or nothing.
+/// Returns whether what is made of two images is that of their union, or nothing.
 fn union_is_right(
     alloc: Global,
     hll_type: HllType,
@@ -53,7 +53,7 @@ fn union_is_right(
     }
 }
 
-/// Whether the union of these two images is made from their bytes.
+/// Returns whether the union of these two images is made from their bytes.
 fn is_made(alloc: Global, left: &[u8], right: &[u8]) -> Result<bool, Error> {
     Ok(union_of_coupon_images(alloc, 10, HllType::Hll8, left, right)?.is_some())
 }
@@ -84,7 +84,7 @@ fn unions_of_coupons(rt: HostRuntime) -> Result<(), Fail> {
     Ok(())
 }
 
-/// Whether what is made of an image at a width is the image of its sketch at that width.
+/// Returns whether what is made of an image at a width is the image of its sketch at that width.
 fn image_at_is_right(alloc: Global, hll_type: HllType, image: &[u8]) -> Result<bool, Error> {
     match coupon_image_at(alloc, hll_type, image)? {
         Some(made) => {
@@ -130,14 +130,14 @@ fn changed_images_of_coupons(rt: HostRuntime) -> Result<(), Fail> {
     Ok(())
 }
 
-/// The bytes before the coupons of an image.
+/// Returns the bytes before the coupons of an image.
 fn head_of(image: &[u8]) -> usize
     ensures { result ≤ 12 }
 {
     if image.first() == Some(&2) { 8 } else { 12 }
 }
 
-/// A compact image with its coupons in descending order.
+/// Returns a compact image with its coupons in descending order.
 fn descending(alloc: Global, image: &[u8]) -> Result<Vec<u8>, Error> {
     let head = head_of(image).min(image.len());
     let mut turned = Vec::from_slice(alloc, &image[..head])?;
@@ -147,7 +147,7 @@ fn descending(alloc: Global, image: &[u8]) -> Result<Vec<u8>, Error> {
     Ok(turned)
 }
 
-/// Whether an image is made of an image at each width, and of its union with another, on either side.
+/// Returns whether an image is made of an image at each width, and of its union with another, on either side.
 fn is_made_of(alloc: Global, image: &[u8], other: &[u8]) -> Result<bool, Error> {
     let mut made = is_made(alloc, image, other)? && is_made(alloc, other, image)?;
     for hll_type in WIDTHS {
@@ -156,7 +156,7 @@ fn is_made_of(alloc: Global, image: &[u8], other: &[u8]) -> Result<bool, Error> 
     Ok(made)
 }
 
-/// Whether what is made of an image at each width, and of its union with another, on either side, is right.
+/// Returns whether what is made of an image at each width, and of its union with another, on either side, is right.
 fn all_are_right(alloc: Global, image: &[u8], other: &[u8]) -> Result<bool, Error> {
     let mut right = true;
     for hll_type in WIDTHS {

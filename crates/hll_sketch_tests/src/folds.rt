@@ -11,7 +11,7 @@ use std::alloc::Global;
 use std::process::Abort;
 use std::test::Fail;
 
-/// The registers at an `lg_k` of a sketch of 8.
+/// Returns the registers at an `lg_k` of a sketch of 8.
 fn registers_of(alloc: Global, hll_type: HllType, count: u32, lg_k: u8) -> Result<Vec<u8>, Error> {
     let sketch = filled(alloc, 8, hll_type, count, 63)?;
     let lg_k = lg_k.max(4).min(sketch.lg_config_k());

@@ -12,7 +12,7 @@ const BUCKETS: [u8; 40] = [
     0, 0, 0, 0, 0, 0, 0, 0, 0,
 ];
 
-/// The first three coupons of a list, in the order of its buckets.
+/// Returns the first three coupons of a list, in the order of its buckets.
 fn coupons_in(sketch: &HllSketch) -> [Option<Coupon>; 3] {
     match sketch.mode() {
         Mode::List { list, .. } => {
@@ -23,12 +23,12 @@ fn coupons_in(sketch: &HllSketch) -> [Option<Coupon>; 3] {
     }
 }
 
-/// The coupons of an image of a list, in the order of buckets.
+/// Returns the coupons of an image of a list, in the order of buckets.
 fn coupons_of(alloc: Global, image: &[u8]) -> Result<[Option<Coupon>; 3], Error> {
     Ok(coupons_in(&HllSketch::deserialize(alloc, image)?))
 }
 
-/// What is written for the sketch of an image.
+/// Returns what is written for the sketch of an image.
 fn written(alloc: Global, image: &[u8]) -> Result<Vec<u8>, Error> {
     HllSketch::deserialize(alloc, image)?.serialize()
 }

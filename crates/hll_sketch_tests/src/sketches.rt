@@ -12,7 +12,7 @@ use std::alloc::{Allocator, Global};
 use std::process::Abort;
 use std::test::Fail;
 
-/// A coupon, if it has a value.
+/// Returns a coupon, if it has a value.
 fn add<A: Allocator + Clone>(sketch: &mut HllSketch<A>, slot: u32, value: u8) -> Result<(), Error>
     requires { value ≤ 63 }
 {
@@ -31,7 +31,7 @@ enum Kind {
     Registers(HllType),
 }
 
-/// What is kept, the number of buckets, and of coupons.
+/// Returns what is kept, the number of buckets, and of coupons.
 fn table_of<A: Allocator>(sketch: &HllSketch<A>) -> (Kind, usize, Option<usize>) {
     match sketch.mode() {
         Mode::List { list, .. } => (
@@ -101,7 +101,7 @@ fn stages_of_counts(rt: HostRuntime) {
     assert_eq!(rt; (most_kept(3), most_kept(5)), (7, 24));
 }
 
-/// A sketch with a coupon of value 1 at each slot below a number, in descending order.
+/// Returns a sketch with a coupon of value 1 at each slot below a number, in descending order.
 fn turned(alloc: Global, lg_k: u8, hll_type: HllType, count: u32) -> Result<HllSketch, Error> {
     let mut sketch = HllSketch::new(alloc, lg_k, hll_type)?;
     for slot in 0..count {
@@ -110,7 +110,7 @@ fn turned(alloc: Global, lg_k: u8, hll_type: HllType, count: u32) -> Result<HllS
     Ok(sketch)
 }
 
-/// A sketch with a coupon of value 1 at each slot below a number, each added twice.
+/// Returns a sketch with a coupon of value 1 at each slot below a number, each added twice.
 fn twice(alloc: Global, lg_k: u8, hll_type: HllType, count: u32) -> Result<HllSketch, Error> {
     let mut sketch = turned(alloc, lg_k, hll_type, count)?;
     for slot in 0..count {
@@ -119,7 +119,7 @@ fn twice(alloc: Global, lg_k: u8, hll_type: HllType, count: u32) -> Result<HllSk
     Ok(sketch)
 }
 
-/// A sketch with a coupon of value 1 at each slot below a number, and a coupon of value 2 at slot 0.
+/// Returns a sketch with a coupon of value 1 at each slot below a number, and a coupon of value 2 at slot 0.
 fn with_another(
     alloc: Global,
     lg_k: u8,
@@ -131,14 +131,14 @@ fn with_another(
     Ok(sketch)
 }
 
-/// Whether two sketches are equal, asked either way.
+/// Returns whether two sketches are equal, asked either way.
 fn equals(sketch: &HllSketch, made: Result<HllSketch, Error>) -> Result<bool, Error> {
     let other = made?;
     let same = *sketch == other;
     Ok(same && other == *sketch)
 }
 
-/// Whether two sketches differ, asked either way.
+/// Returns whether two sketches differ, asked either way.
 fn differs(sketch: &HllSketch, made: Result<HllSketch, Error>) -> Result<bool, Error> {
     let other = made?;
     let differ = *sketch != other;
@@ -175,7 +175,7 @@ fn equality(rt: HostRuntime) -> Result<(), Fail> {
     Ok(())
 }
 
-/// Whether the image of a sketch takes just as much memory as it has bytes.
+/// Returns whether the image of a sketch takes just as much memory as it has bytes.
 fn fits_its_image(made: Result<HllSketch, Error>) -> Result<bool, Error> {
     let image = made?.serialize()?;
     Ok(image.capacity() == image.len())
@@ -191,7 +191,7 @@ fn sizes_of_images(rt: HostRuntime) {
     }
 }
 
-/// A sketch of four bits after the values below a number.
+/// Returns a sketch of four bits after the values below a number.
 fn of_values(alloc: Global, count: u64) -> Result<HllSketch, Error> {
     let mut sketch = HllSketch::new(alloc, 12, HllType::Hll4)?;
     for value in 0..count {
@@ -200,7 +200,7 @@ fn of_values(alloc: Global, count: u64) -> Result<HllSketch, Error> {
     Ok(sketch)
 }
 
-/// A sketch of four bits after the coupons of these values.
+/// Returns a sketch of four bits after the coupons of these values.
 fn of_coupons(alloc: Global, count: u64) -> Result<HllSketch, Error> {
     let mut sketch = HllSketch::new(alloc, 12, HllType::Hll4)?;
     for value in 0..count {

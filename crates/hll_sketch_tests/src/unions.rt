@@ -31,7 +31,7 @@ fn merge_filled(
     union.update(&sketch)
 }
 
-/// The union of two sketches of one width, under the bound of 8.
+/// Returns the union of two sketches of one width, under the bound of 8.
 fn union_in(
     alloc: Global,
     hll_type: HllType,
@@ -44,19 +44,19 @@ fn union_in(
     Ok(union)
 }
 
-/// Whether what two unions give, the first at this width, agrees.
+/// Returns whether what two unions give, the first at this width, agrees.
 fn agree_at(one: &HllUnion, hll_type: HllType, other: &HllUnion) -> Result<bool, Error> {
     let sketch = one.to_sketch(hll_type)?;
     agree(&sketch, &other.to_sketch(HllType::Hll8)?)
 }
 
-/// Whether two unions give the same sketch of eight bits.
+/// Returns whether two unions give the same sketch of eight bits.
 fn give_one_sketch(one: &HllUnion, other: &HllUnion) -> Result<bool, Error> {
     let sketch = one.to_sketch(HllType::Hll8)?;
     Ok(sketch == other.to_sketch(HllType::Hll8)?)
 }
 
-/// Whether a union that is used up gives what it gives before.
+/// Returns whether a union that is used up gives what it gives before.
 fn gives_the_same_at_last(union: HllUnion, hll_type: HllType) -> Result<bool, Error> {
     let sketch = union.to_sketch(hll_type)?;
     Ok(union.into_sketch(hll_type)? == sketch)
@@ -81,7 +81,7 @@ fn widths_and_orders(rt: HostRuntime) -> Result<(), Fail> {
     Ok(())
 }
 
-/// A sketch of six bits after the values below a number.
+/// Returns a sketch of six bits after the values below a number.
 fn sketch_of_values(alloc: Global, count: u64) -> Result<HllSketch, Error> {
     let mut sketch = HllSketch::new(alloc, 11, HllType::Hll6)?;
     for value in 0..count {
@@ -90,7 +90,7 @@ fn sketch_of_values(alloc: Global, count: u64) -> Result<HllSketch, Error> {
     Ok(sketch)
 }
 
-/// A union after the same values.
+/// Returns a union after the same values.
 fn union_of_values(alloc: Global, count: u64) -> Result<HllUnion, Error> {
     let mut union = HllUnion::new(alloc, 11)?;
     for value in 0..count {
@@ -99,13 +99,13 @@ fn union_of_values(alloc: Global, count: u64) -> Result<HllUnion, Error> {
     Ok(union)
 }
 
-/// Whether what a call made gives this sketch of six bits.
+/// Returns whether what a call made gives this sketch of six bits.
 fn gives(made: Result<HllUnion, Error>, sketch: &HllSketch) -> Result<bool, Error> {
     let union = made?;
     Ok(union.into_sketch(HllType::Hll6)? == *sketch)
 }
 
-/// Whether the copy of what a call made gives this sketch of six bits.
+/// Returns whether the copy of what a call made gives this sketch of six bits.
 fn copy_gives(made: Result<HllUnion, Error>, sketch: &HllSketch) -> Result<bool, Error> {
     let union = made?;
     gives(union.clone(), sketch)
@@ -128,7 +128,7 @@ fn values(rt: HostRuntime) -> Result<(), Fail> {
     Ok(())
 }
 
-/// A union under the bound of 10 of this many coupons.
+/// Returns a union under the bound of 10 of this many coupons.
 fn union_with(alloc: Global, count: u32) -> Result<HllUnion, Error> {
     let mut union = HllUnion::new(alloc, 10)?;
     merge_filled(alloc, &mut union, HllType::Hll8, (count, 10))?;
@@ -155,7 +155,7 @@ fn with_sketch(alloc: Global, count: u32, image: &[u8]) -> Merged {
     Ok((union.into_sketch(HllType::Hll8)?, answer))
 }
 
-/// Whether an image is checked as it is read.
+/// Returns whether an image is checked as it is read.
 fn is_checked_alike(alloc: Global, image: &[u8]) -> bool {
     let read = match HllSketch::deserialize(alloc, image) {
         Ok(_) => Ok(()),
@@ -164,14 +164,14 @@ fn is_checked_alike(alloc: Global, image: &[u8]) -> bool {
     HllSketch::check(alloc, image) == read
 }
 
-/// Whether an image merged, and the sketch that it is read as, give the same answer and leave the same union, and a check of it
-/// answers as the read does.
+/// Returns whether an image merged, and the sketch that it is read as, give the same answer and leave the same union, and a
+/// check of it answers as the read does.
 fn merge_alike(alloc: Global, count: u32, image: &[u8]) -> Result<bool, Error> {
     let merged = with_image(alloc, count, image)?;
     Ok(merged == with_sketch(alloc, count, image)? && is_checked_alike(alloc, image))
 }
 
-/// The image of a sketch of this many coupons, with more bytes after it.
+/// Returns the image of a sketch of this many coupons, with more bytes after it.
 fn image_of(alloc: Global, hll_type: HllType, source: (u32, u8)) -> Result<Vec<u8>, Error> {
     let (count, lg_k) = source;
     let mut image = filled(alloc, lg_k, hll_type, count, 63)?.serialize()?;
@@ -179,8 +179,8 @@ fn image_of(alloc: Global, hll_type: HllType, source: (u32, u8)) -> Result<Vec<u
     Ok(image)
 }
 
-/// Whether an image with one byte changed is merged as the sketch that it is read as, at each of so many bytes from a place on,
-/// as far as there are any.
+/// Returns whether an image with one byte changed is merged as the sketch that it is read as, at each of so many bytes from a
+/// place on, as far as there are any.
 fn changes_merge_alike(
     alloc: Global,
     count: u32,
@@ -208,7 +208,7 @@ fn changes_merge_alike(
     Ok(alike)
 }
 
-/// Whether each front of an image is merged as the sketch that it is read as.
+/// Returns whether each front of an image is merged as the sketch that it is read as.
 fn fronts_merge_alike(alloc: Global, count: u32, image: &[u8]) -> Result<bool, Error> {
     let mut alike = true;
     for length in 0..image.len().min(100) {
@@ -251,7 +251,7 @@ fn images(rt: HostRuntime) -> Result<(), Fail> {
     Ok(())
 }
 
-/// A sketch of registers with few exceptions: this many from 1 to 14 in turn, and three of 40.
+/// Returns a sketch of registers with few exceptions: this many from 1 to 14 in turn, and three of 40.
 fn with_few_exceptions(
     alloc: Global,
     hll_type: HllType,
@@ -297,7 +297,7 @@ fn images_of_registers(rt: HostRuntime) -> Result<(), Fail> {
     Ok(())
 }
 
-/// Whether an image in which some buckets have the raw coupons of others is merged as the sketch that it is read as.
+/// Returns whether an image in which some buckets have the raw coupons of others is merged as the sketch that it is read as.
 fn raw_coupons_merge_alike(alloc: Global, count: u32, image: &[u8]) -> Result<bool, Error> {
     let mut alike = true;
     for from in 2u8..12 {

@@ -8,7 +8,7 @@ use std::simd::prelude::*;
 /// How many bytes are looked at together.
 const LANES: usize = 64;
 
-/// Where a byte first stands in a text, by lanes, and byte by byte where less than a block is left.
+/// Returns where a byte first stands in a text, by lanes, and byte by byte where less than a block is left.
 pub(crate) fn first_of(byte: u8, text: &[u8]) -> Option<usize>
     ensures { result ≡ position (λ b. b == byte) text.now }
 {
@@ -25,14 +25,14 @@ pub(crate) fn first_of(byte: u8, text: &[u8]) -> Option<usize>
     }
 }
 
-/// Where a byte first stands in a text, byte by byte.
+/// Returns where a byte first stands in a text, byte by byte.
 pub(crate) fn first_one_by_one(byte: u8, text: &[u8]) -> Option<usize>
     ensures { result ≡ position (λ b. b == byte) text.now }
 {
     text.iter().position(|b| *b == byte)
 }
 
-/// A bit for each byte of the block from `at` on, set where it is the one that is sought.
+/// Returns a bit for each byte of the block from `at` on, set where it is the one that is sought.
 fn marks_at(byte: u8, text: &[u8], at: usize) -> u64
     requires { at + 64 ≤ length text.now }
     ensures { result ≡ mask_l (map (λ b. b == byte) (chunk at 64 text.now)) }

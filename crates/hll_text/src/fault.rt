@@ -39,7 +39,7 @@ pub struct MergeError {
 }
 
 impl Fault {
-    /// The refusal of a plan for this fault at this line.
+    /// Returns the refusal of a plan for this fault at this line.
     pub fn at(self, line: u64) -> MergeError
         ensures { result ≡ record { line = line; fault = self } }
     {

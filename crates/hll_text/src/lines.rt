@@ -7,14 +7,14 @@ ghost use Rattle.hll_text.specs.Cuts.{LinesOfCuts};
 
 use crate::bytes::first_of;
 
-/// Where the first LF is.
+/// Returns where the first LF is.
 pub fn line_end(text: &[u8]) -> Option<usize>
     ensures { result ≡ position (λ b. b == 10) text.now }
 {
     first_of(b'\n', text)
 }
 
-/// A line without the CR at its end, if it has one.
+/// Returns a line without the CR at its end, if it has one.
 pub fn without_return(line: &[u8]) -> &[u8]
     ensures { result.now ≡ strip_carriage_return line.now }
 {
@@ -24,7 +24,7 @@ pub fn without_return(line: &[u8]) -> &[u8]
     }
 }
 
-/// The first line of a text that has an LF, without its end, and the text after it; `None` where no line has one.
+/// Returns the first line of a text that has an LF, without its end, and the text after it; `None` where no line has one.
 ///
 /// A line ends in an LF, and one CR directly before that LF belongs to its end.
 pub fn next_ended(text: &[u8]) -> Option<(&[u8], &[u8])>

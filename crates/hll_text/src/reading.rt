@@ -15,7 +15,8 @@ use hll_base::bounds::{MAX_LG_K, MAX_VALUE, MIN_LG_K, SLOT_BITS};
 use hll_base::hll_type::HllType;
 use std::alloc::Allocator;
 
-/// What a line of a plan, without its end, says: `None` for one that is skipped, else a step (docs/PLAN.md, "The text").
+/// Returns what a line of a plan, without its end, says: `None` for one that is skipped, else a step
+/// (docs/PLAN.md, "The text").
 ///
 /// `Syntax` where the line has none of the forms of a line, else `Range` where a number is out of its range, or `Hex`
 /// where the token of an `image` line is not an even number of hexadecimal digits. Only an `image` line takes memory, for
@@ -31,7 +32,7 @@ pub fn read_step<A: Allocator>(alloc: A, line: &[u8]) -> Result<Option<Step<A>>,
     }
 }
 
-/// What a line of a plan, without its end, says, the digits of an image left as they are. `Syntax` and `Range` as
+/// Returns what a line of a plan, without its end, says, the digits of an image left as they are. `Syntax` and `Range` as
 /// `read_step`.
 pub fn read_line<A: Allocator>(line: &[u8]) -> Result<Line<'_, A>, Fault>
     ensures reading { line_reading_of result ≡ reading line.now }
@@ -51,7 +52,7 @@ pub fn read_line<A: Allocator>(line: &[u8]) -> Result<Line<'_, A>, Fault>
     read_tokens(first, rest)
 }
 
-/// What a line that is not skipped says, from its first token and what follows the space after it.
+/// Returns what a line that is not skipped says, from its first token and what follows the space after it.
 fn read_tokens<'l, A: Allocator>(first: &[u8], rest: Option<&'l [u8]>) -> Result<Line<'l, A>, Fault>
     ensures reading { line_reading_of result ≡ as_reading (plan.read_tokens (first.now ∷ tokens_after (option_copied rest.entry))) }
     ensures image { IfOk result (λ said. IfImage said (names_image (first.now ∷ tokens_after (option_copied rest.entry)) ≡ true)) }
@@ -74,7 +75,7 @@ fn read_tokens<'l, A: Allocator>(first: &[u8], rest: Option<&'l [u8]>) -> Result
     }
 }
 
-/// What a line says whose first token is `image`, from what follows the space after it.
+/// Returns what a line says whose first token is `image`, from what follows the space after it.
 fn image_line<'l, A: Allocator>(rest: Option<&'l [u8]>) -> Result<Line<'l, A>, Fault>
     ensures reading { line_reading_of result ≡ as_reading (plan.read_tokens (codes "image" ∷ tokens_after (option_copied rest.entry))) }
     ensures in_range { IfOk result (λ said. IfStep said (λ step. IsInRange (step_of step))) }
@@ -82,7 +83,7 @@ fn image_line<'l, A: Allocator>(rest: Option<&'l [u8]>) -> Result<Line<'l, A>, F
     Ok(Line::Image(one_token(rest)?))
 }
 
-/// What a line says whose first token is `coupon`, from what follows the space after it.
+/// Returns what a line says whose first token is `coupon`, from what follows the space after it.
 fn coupon_line<'l, A: Allocator>(rest: Option<&[u8]>) -> Result<Line<'l, A>, Fault>
     ensures reading { line_reading_of result ≡ as_reading (plan.read_tokens (codes "coupon" ∷ tokens_after (option_copied rest.entry))) }
     ensures image { IfOk result (λ said. IfImage said ⊥) }
@@ -92,7 +93,7 @@ fn coupon_line<'l, A: Allocator>(rest: Option<&[u8]>) -> Result<Line<'l, A>, Fau
     Ok(Line::Step(coupon_step(slot, value)?))
 }
 
-/// The bytes that the digits of an image stand for, in the memory of a buffer, whatever that held. So one buffer serves
+/// Returns the bytes that the digits of an image stand for, in the memory of a buffer, whatever that held. So one buffer serves
 /// line after line.
 ///
 /// `Hex` where the token is not an even number of hexadecimal digits. Takes memory only where there are more bytes than
@@ -113,7 +114,7 @@ pub fn decode_into<A: Allocator>(mut buffer: Vec<u8, A>, digits: &[u8]) -> Resul
     }
 }
 
-/// The step `new K W`.
+/// Returns the step `new K W`.
 fn new_step<A: Allocator>(lg_k: u32, bits: u32) -> Result<Step<A>, Fault>
     ensures reading { step_reading_of result ≡ plan.new_step lg_k bits }
     ensures in_range { IfOk result (λ step. IsInRange (step_of step)) }
@@ -121,7 +122,7 @@ fn new_step<A: Allocator>(lg_k: u32, bits: u32) -> Result<Step<A>, Fault>
     Ok(Step::New(lg_k_of(lg_k)?, width_of(bits)?))
 }
 
-/// The step `image HEX`.
+/// Returns the step `image HEX`.
 fn image_step<A: Allocator>(alloc: A, digits: &[u8]) -> Result<Step<A>, Fault>
     ensures reading { (step_reading_of result ≡ plan.image_step digits.now) ⊎ (result ≡ Err Memory) }
     ensures in_range { IfOk result (λ step. IsInRange (step_of step)) }
@@ -133,7 +134,7 @@ fn image_step<A: Allocator>(alloc: A, digits: &[u8]) -> Result<Step<A>, Fault>
     }
 }
 
-/// The step `coupon S V`.
+/// Returns the step `coupon S V`.
 fn coupon_step<A: Allocator>(slot: u32, value: u32) -> Result<Step<A>, Fault>
     ensures reading { step_reading_of result ≡ plan.coupon_step slot value }
     ensures in_range { IfOk result (λ step. IsInRange (step_of step)) }
@@ -145,7 +146,7 @@ fn coupon_step<A: Allocator>(slot: u32, value: u32) -> Result<Step<A>, Fault>
     }
 }
 
-/// The step `union N M W`.
+/// Returns the step `union N M W`.
 fn union_step<A: Allocator>(count: u32, lg_max_k: u32, bits: u32) -> Result<Step<A>, Fault>
     ensures reading { step_reading_of result ≡ plan.union_step count lg_max_k bits }
     ensures in_range { IfOk result (λ step. IsInRange (step_of step)) }
@@ -153,7 +154,7 @@ fn union_step<A: Allocator>(count: u32, lg_max_k: u32, bits: u32) -> Result<Step
     Ok(Step::Union(count, lg_k_of(lg_max_k)?, width_of(bits)?))
 }
 
-/// The step `fold E`.
+/// Returns the step `fold E`.
 fn fold_step<A: Allocator>(lg_k: u32) -> Result<Step<A>, Fault>
     ensures reading { step_reading_of result ≡ plan.fold_step lg_k }
     ensures in_range { IfOk result (λ step. IsInRange (step_of step)) }
@@ -161,7 +162,7 @@ fn fold_step<A: Allocator>(lg_k: u32) -> Result<Step<A>, Fault>
     Ok(Step::Fold(lg_k_of(lg_k)?))
 }
 
-/// An `lg_k`, which is 4 to 21. `Range` for any other number.
+/// Returns an `lg_k`, which is 4 to 21. `Range` for any other number.
 fn lg_k_of(number: u32) -> Result<u8, Fault>
     ensures { result ≡ lg_k number }
 {
@@ -172,7 +173,7 @@ fn lg_k_of(number: u32) -> Result<u8, Fault>
     }
 }
 
-/// The width of 4, 6 or 8 bits. `Range` for any other number.
+/// Returns the width of 4, 6 or 8 bits. `Range` for any other number.
 fn width_of(bits: u32) -> Result<HllType, Fault>
     ensures { result ≡ width bits }
 {

@@ -37,7 +37,7 @@ impl<S> Watched<S> {
         }
     }
 
-    /// The stream inside.
+    /// Returns the stream inside.
     pub fn into_inner(self) -> S
         ensures { result ≡ self.inner }
     {
@@ -49,7 +49,7 @@ impl<S> Watched<S> {
         inner
     }
 
-    /// Whether a read or a write has failed.
+    /// Returns whether a read or a write has failed.
     pub fn failed(&self) -> bool
         ensures { result ≡ self.now.failed }
     {
