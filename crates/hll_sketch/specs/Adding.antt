@@ -9,12 +9,12 @@ use Rattle.hll_registers.specs.Store.{Stored, update_with_pairs}
 use Rattle.hll_sketch.specs.Stage.{stage}
 use Rattle.hll_sketch.specs.Value.{Sketch, Content, coupons, registers}
 
--- a set at the size that holds it, or folded to registers with the cleared state
+-- a set at the size that holds it, or folded to registers with the cleared estimate state
 abbrev pub content_for : ℕ → Pairs → Option ℕ → Content
 content_for k S (Some size) = coupons S size
 content_for k S None = registers (fold_to S k) cleared_state
 
--- registers and their state as a content
+-- registers and their estimate state as a content
 abbrev pub content_of : Stored → Content
 content_of x = registers x.registers x.state
 

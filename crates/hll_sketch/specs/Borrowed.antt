@@ -1,12 +1,13 @@
 -- SPDX-License-Identifier: Apache-2.0
--- Coupons as they stand in the bytes of an image.
+-- Coupons in the bytes of an image.
 use Rattle.std.specs.Prelude.{◌≡◌, ℕ, ◌-◌, ◌%◌, ◌^◌, ◌≤◌, ◌⊎◌, Bool, true, false, List, ◌∷◌, length, get_or}
 use Rattle.std.specs.FinSet.{contains}
 use Rattle.std.specs.List.Sorted.{IsStrictlyIncreasing}
 use Rattle.hll_coupons.specs.Coupons.{AreCoupons}
 use Rattle.hll_coupons.specs.Pair.{set_of}
 
--- raw coupons that one pass tells to be coupons: they have values and ascend, as all that are written here do, or they are at most 128, and differ
+-- raw coupons for which one pass shows that they are coupons: they have values and ascend, as this library writes them, or they
+-- are at most 128 and distinct
 abbrev pub AreEvidentlyCoupons : List ℕ → Type 0
 AreEvidentlyCoupons order = IsStrictlyIncreasing ((2 ^ 26 - 1) ∷ order) ⊎ ((length order ≤ 128) × AreCoupons order)
 

@@ -1,5 +1,5 @@
 -- SPDX-License-Identifier: Apache-2.0
--- The sketch of an image whose coupons or registers lie in its bytes (docs/MODEL.md, "Sketch values").
+-- The sketch of an image whose coupons or registers are borrowed from its bytes (docs/MODEL.md, "Sketch values").
 use Rattle.std.specs.Prelude.{◌≡◌, ℕ, List, map, None}
 use Rattle.std.specs.Int.{w32, from_le_bytes}
 use Rattle.hll_base.specs.declared.hll_type.HllType.{HllType}
@@ -18,7 +18,7 @@ use Rattle.hll_sketch.specs.declared.coupons_of_image.CouponsOfImage.{CouponsOfI
 abbrev pub sketch_of_coupons : CouponsOfImage → Sketch
 sketch_of_coupons c = record { lg_k = c.lg_k; width = c.hll_type; content = coupons (set_of (map (from_le_bytes w32) c.elements.now)) c.lg_size }
 
--- registers with their state, at a width
+-- registers with their estimate state, at a width
 abbrev pub sketch_in_width : HllType → Stored → Sketch
 sketch_in_width width x = record { lg_k = x.lg_k; width = width; content = registers x.registers x.state }
 
@@ -29,8 +29,8 @@ sketch_of_borrowed (Nibbles x) = sketch_in_width Hll4 x
 sketch_of_borrowed (Groups x) = sketch_in_width Hll6 x
 sketch_of_borrowed (Bytes x) = sketch_in_width Hll8 x
 
--- Memory is needed only where the header, the counts and the length are right: for coupons that are not compact, or not evident, and
--- for the exceptions of registers of four bits.
+-- Reading needs an allocation only if the header, the counts and the length are right: for coupons that are not compact, or for
+-- which one pass is not enough, and for the exceptions of 4-bit registers.
 pub record BorrowNeedsMemory (b : List ℕ) : Type 0 where
   pub sized : size_fault b ≡ None
   pub coupons : HasCompactCoupons b → ⊥

@@ -7,7 +7,7 @@ use Rattle.hll_sketch.specs.PlainStates.{HasPlainState}
 use Rattle.hll_sketch.specs.Stage.{stage}
 use Rattle.hll_sketch.specs.Value.{Sketch, Content, coupons, registers}
 
--- coupons in a table of the size that they need from the start, or registers whose fields are cleared or follow from them
+-- coupons in the smallest table that holds them, or registers whose estimator fields are cleared or follow from the registers
 abbrev pub IsCanonicalContent : ℕ → Content → Type 0
 IsCanonicalContent k (coupons S size) = stage k 3 (len S) ≡ Some size
 IsCanonicalContent k (registers R state) = HasPlainState (registers R state)
@@ -15,7 +15,7 @@ IsCanonicalContent k (registers R state) = HasPlainState (registers R state)
 abbrev pub IsCanonical : Sketch → Type 0
 IsCanonical x = IsCanonicalContent x.lg_k x.content
 
--- canonical, and registers have the cleared state
+-- canonical, and registers have the cleared estimate state
 abbrev pub IsCanonicalClearedContent : ℕ → Content → Type 0
 IsCanonicalClearedContent k (coupons S size) = IsCanonicalContent k (coupons S size)
 IsCanonicalClearedContent k (registers R state) = state ≡ cleared_state

@@ -16,7 +16,7 @@ use Rattle.hll_sketch.specs.Value.{Sketch}
 use Rattle.hll_sketch.specs.Image.{byte, preamble_byte, lg_k_byte, table_byte, state_byte, is_flagged, stage_bits, width_bits, preamble_words, list_shape, set_shape, hll4_shape, IsReadAs}
 use Rattle.hll_sketch.specs.Fault.{IsFault}
 
--- a test of an image, and the reason that is answered where it fails
+-- a check of an image, and the reason that is returned if it fails
 pub record Check : Type 0 where
   pub passes : Bool
   pub reason : Reason
@@ -29,7 +29,8 @@ abbrev pub first_failing : List Check → Option Reason
 first_failing [] = None
 first_failing (c ∷ cs) = if c.passes then first_failing cs else Some c.reason
 
--- the checks after a header: of what chooses and measures the rest, with the bytes that it asks for, and of what they say
+-- The checks after a header: first of the fields that determine the rest and its size, and whether all its bytes are there;
+-- then of what these bytes say.
 pub record Checks : Type 0 where
   pub size : List Check
   pub content : List Check
@@ -49,7 +50,7 @@ header_checks b =
 
 -- ---- coupons
 
--- each has a value, and none stands twice
+-- each has a value above 0, and no two are equal
 abbrev pub are_coupons : List ℕ → Bool
 are_coupons coupons = list_all (λ c. nat_le 1 (value_of c)) coupons && (len (set_of coupons) == length coupons)
 
@@ -80,7 +81,7 @@ set_checks b = record {
 
 -- ---- registers
 
--- the counts of registers of eight and six bits, and n bytes of registers after them
+-- the counts of 8-bit and 6-bit registers, and n bytes of registers after them
 abbrev pub plain_checks : ℕ → List ℕ → List Check
 plain_checks n b =
     check Truncated (nat_le 40 (length b))
@@ -97,16 +98,16 @@ hll8_checks b = record {
 abbrev pub hll6_checks : List ℕ → Checks
 hll6_checks b = record { size = plain_checks (field_size (lg_k_byte b)) b; content = [] }
 
--- each entry has a value, and no slot occurs twice
+-- each entry has a value above 0, and no slot occurs twice
 abbrev pub are_entries : ℕ → List ℕ → Bool
 are_entries k entries = list_all (λ c. nat_le 1 (value_of c)) entries && (len (set_of (map (λ c. slot_of c % 2 ^ k) entries)) == length entries)
 
--- a nibble of 15 has an entry of at least 15 above the minimum, another has none
+-- a nibble of 15 has an entry of at least 15 above the minimum; any other nibble has none
 abbrev pub agrees : ℕ → ℕ → Option ℕ → Bool
 agrees m n None = nat_lt n 15 && nat_le (m + n) 63
 agrees m n (Some v) = (n == 15) && nat_le (m + 15) v
 
--- whether each number below another passes
+-- whether each number below the bound passes
 abbrev pub all_below : (ℕ → Bool) → ℕ → Bool
 all_below test zero = true
 all_below test (suc n) = test n && all_below test n
@@ -154,6 +155,6 @@ first_fault b = first_failing (header_checks b ++ ((checks_after b).size ++ (che
 abbrev pub FirstFaultStands : Type 0
 FirstFaultStands = (b : List ℕ) (r : Reason) → first_fault b ≡ Some r → IsFault b r
 
--- bytes without a first fault have an image in front, and no others do
+-- bytes begin with an image exactly if they have no first fault
 abbrev pub FaultlessIsImage : Type 0
 FaultlessIsImage = (b : List ℕ) → (first_fault b ≡ None) ↔ ((x : Sketch) × IsReadAs b x)

@@ -15,8 +15,8 @@ use Rattle.hll_sketch.specs.Updatable.{HasUpdatableCoupons}
 use Rattle.hll_sketch.specs.Value.{Sketch, coupons, in_registers, IsLgK}
 use Rattle.hll_sketch.specs.Written.{Written, coupon_image}
 
--- the bytes are read as a sketch of these coupons, of which there are some, at an lg_k and in a table of 2^size buckets; and the list of them
--- ascends
+-- the bytes are read as a sketch of these coupons, at least one, at an lg_k and in a table of 2^size buckets; and the list of
+-- them ascends
 pub record IsInOrder (b : List ℕ) (k size : ℕ) (order : List ℕ) : Type 0 where
   pub sketch : Sketch
   pub read : IsReadAs b sketch
@@ -25,7 +25,7 @@ pub record IsInOrder (b : List ℕ) (k size : ℕ) (order : List ℕ) : Type 0 w
   pub some : len (set_of order) ≢ 0
   pub ascends : IsStrictlyIncreasing order
 
--- the sketch has this lg_k and width, and so many coupons in a table of 2^size buckets
+-- the sketch has this lg_k and width, and this number of coupons in a table of 2^size buckets
 pub record IsTableOf (k : ℕ) (width : HllType) (size count : ℕ) (x : Sketch) : Type 0 where
   pub lg_k : x.lg_k ≡ k
   pub width_is : x.width ≡ width
@@ -39,7 +39,8 @@ pub record IsImageOfTable (b : List ℕ) (k : ℕ) (width : HllType) (size count
   pub read : IsReadAs b sketch
   pub is : IsTableOf k width size count sketch
 
--- the bytes are an image of coupons that one pass tells to be such: compact, where they ascend or are at most 128, or updatable, with 1 to 128
+-- The bytes are an image of coupons for which one pass shows that they are coupons: it is compact, and they ascend or are at
+-- most 128; or it is updatable, with 1 to 128 coupons.
 abbrev pub HasEvidentCoupons : List ℕ → Type 0
 HasEvidentCoupons b = HasCompactCoupons b ⊎ HasUpdatableCoupons b
 
@@ -48,14 +49,14 @@ pub record HasUnionInTable (bound : ℕ) (x y : Sketch) : Type 0 where
   pub lg_k : x.lg_k ≡ bound
   pub in_table : in_registers (merge bound (merge bound (empty_union bound) x) y).content ≡ false
 
--- both images are of such coupons, and are read as sketches of which that holds
+-- both images have such coupons, and `HasUnionInTable` holds for their sketches
 pub record HaveUnionInTable (bound : ℕ) (left right : List ℕ) : Type 0 where
   pub left_evident : HasEvidentCoupons left
   pub right_evident : HasEvidentCoupons right
   pub held : (x y : Sketch) → IsReadAs left x → IsReadAs right y → HasUnionInTable bound x y
 
--- the bytes are what is written, at a width, for the union under a bound of the sketches that two images are read as, which is not in
--- registers
+-- the bytes are what is written, at a width, for the union under a bound of the sketches that two images are read as; the union
+-- has coupons
 pub record IsImageOfUnion (bound : ℕ) (width : HllType) (left right bytes : List ℕ) : Type 0 where
   pub bound_is : IsLgK bound
   pub left_sketch : Sketch
@@ -65,21 +66,21 @@ pub record IsImageOfUnion (bound : ℕ) (width : HllType) (left right bytes : Li
   pub in_table : in_registers (merge bound (merge bound (empty_union bound) left_sketch) right_sketch).content ≡ false
   pub written : Written bytes (record (merge bound (merge bound (empty_union bound) left_sketch) right_sketch) { width = width })
 
--- The bytes are what is written, at an lg_k and a width, for the coupons of two lists, in the table that they get where those of the second are
--- added to those of the first, whose table has 2^size buckets.
+-- The bytes are what is written, at an lg_k and a width, for the coupons of two lists. Their table is the one that results when
+-- the coupons of the second list are added to those of the first, whose table has 2^size buckets.
 pub record IsImageOfBoth (k : ℕ) (width : HllType) (size : ℕ) (xs ys bytes : List ℕ) : Type 0 where
   pub size_of_both : ℕ
   pub held : stage k size (len (union (set_of xs) (set_of ys))) ≡ Some size_of_both
   pub written : WritesAscending (coupon_image k width size_of_both) (union (set_of xs) (set_of ys)) bytes
 
--- the bytes are what is written for the sketch that an image is read as with coupons added in turn, which is not in registers
+-- the bytes are what is written for the sketch that an image is read as, with coupons added in turn; it still has coupons
 pub record IsImageWith (added image bytes : List ℕ) : Type 0 where
   pub sketch : Sketch
   pub read : IsReadAs image sketch
   pub in_table : in_registers (add_in_turn sketch added).content ≡ false
   pub written : Written bytes (add_in_turn sketch added)
 
--- both images are read, and the bound is one
+-- both images can be read, and the bound is in range
 pub record AreBothRead (bound : ℕ) (left right : List ℕ) : Type 0 where
   pub bound_is : IsLgK bound
   pub left_sketch : Sketch
@@ -87,7 +88,7 @@ pub record AreBothRead (bound : ℕ) (left right : List ℕ) : Type 0 where
   pub right_sketch : Sketch
   pub right_read : IsReadAs right right_sketch
 
--- the bytes are what is written for the sketch that an image is read as, which is not in registers, at a width
+-- the bytes are what is written, at a width, for the sketch that an image is read as; it has coupons
 pub record IsImageAt (width : HllType) (image bytes : List ℕ) : Type 0 where
   pub sketch : Sketch
   pub read : IsReadAs image sketch

@@ -20,7 +20,8 @@ pub data HeaderFault (b : List ℕ) : Reason → Type 0 where
   stage : 8 ≤ length b → stage_bits b ≡ 3 → HeaderFault b Stage
   preamble : 8 ≤ length b → stage_bits b < 3 → preamble_byte b ≢ preamble_words (stage_bits b) → HeaderFault b Preamble
 
--- A check of this reason fails, all that it reads is there, and what chooses or measures it passes its own check.
+-- A check of this reason fails, all that it reads is there, and the fields that determine which check it is and how much it
+-- reads pass their own checks.
 pub data IsFault (b : List ℕ) : Reason → Type 0 where
   header : {r : Reason} → HeaderFault b r → IsFault b r
   -- a list
@@ -36,14 +37,14 @@ pub data IsFault (b : List ℕ) : Reason → Type 0 where
   hll6_payload : {r : Reason} → 8 ≤ length b → stage_bits b ≡ 2 → width_bits b ≡ 1 → HasLgK b → Hll6Fault (lg_k_byte b) (drop 8 b) r → IsFault b r
   hll4_payload : {r : Reason} → 8 ≤ length b → stage_bits b ≡ 2 → width_bits b ≡ 0 → HasLgK b → Hll4Fault (hll4_shape b) (drop 8 b) r → IsFault b r
 
--- where a fault of the header stands, it is the header of no stage
+-- if the header has a fault, it is the header of no stage
 abbrev pub FaultExcludesHeader : Type 0
 FaultExcludesHeader = (b : List ℕ) (r : Reason) (stage : ℕ) → stage < 3 → HeaderFault b r → HasHeader b stage → ⊥
 
--- where a fault stands, no front of the bytes is an image
+-- if the bytes have a fault, no prefix of them is an image
 abbrev pub FaultExcludesImage : Type 0
 FaultExcludesImage = (b : List ℕ) (r : Reason) → IsFault b r → (n : ℕ) (x : Sketch) → Image (take n b) x → ⊥
 
--- a fault of an image is one of data: never of an argument, nor of memory
+-- a fault of an image is a fault of its data: never of an argument or of memory
 abbrev pub FaultsAreOfData : Type 0
 FaultsAreOfData = (b : List ℕ) (r : Reason) → IsFault b r → kind_of r ≡ InvalidData

@@ -9,8 +9,8 @@ use Rattle.hll_sketch.specs.Canonical.{IsCanonicalCleared}
 use Rattle.hll_sketch.specs.Stage.{stage}
 use Rattle.hll_sketch.specs.Value.{Sketch, Content, coupons, registers, pairs_of, IsLegal}
 
--- the content at e of a content at k: coupons stay whole, at the size that they need from the start, or become registers; registers
--- are folded, and keep their state only at their own lg_k
+-- the content at e of a content at k: all coupons are kept, in the smallest table that holds them, or become registers;
+-- registers are folded, and keep their estimate state only at their own lg_k
 abbrev pub folded_content : ℕ → ℕ → Content → Content
 folded_content k e (coupons S size) = content_for e S (stage e 3 (len S))
 folded_content k e (registers R state) = registers (fold_to (pairs R) e) (if e == k then state else cleared_state)
@@ -26,11 +26,11 @@ pub record IsFoldLgK (k e : ℕ) : Type 0 where
 
 -- ---- laws
 
--- a legal sketch stays legal
+-- the fold of a legal sketch is legal
 abbrev pub FoldedIsLegal : Type 0
 FoldedIsLegal = (x : Sketch) (e : ℕ) → IsLegal x → IsFoldLgK x.lg_k e → IsLegal (folded x e)
 
--- a canonical sketch with cleared fields is folded to one
+-- the fold of a canonical sketch with cleared fields is one
 abbrev pub FoldedIsCanonical : Type 0
 FoldedIsCanonical = (x : Sketch) (e : ℕ) → IsCanonicalCleared x → IsCanonicalCleared (folded x e)
 

@@ -35,7 +35,7 @@ is_flagged mask b = byte b 5 / mask % 2 == 1
 abbrev pub stage_bits : List ℕ → ℕ
 stage_bits b = byte b 7 % 4
 
--- the width: 0, 1 and 2 for four, six and eight bits
+-- the width: 0, 1 and 2 for 4, 6 and 8 bits
 abbrev pub width_bits : List ℕ → ℕ
 width_bits b = byte b 7 / 4 % 4
 
@@ -129,7 +129,7 @@ pub data Image (b : List ℕ) (x : Sketch) : Type 0 where
 
 -- ---- laws
 
--- no image begins another, and the bytes of an image have one meaning
+-- no image is a proper prefix of another, and the bytes of an image have one meaning
 abbrev pub OneImage : Type 0
 OneImage = (a b s t : List ℕ) (x y : Sketch) → Image a x → Image b y → a ++ s ≡ b ++ t → (a ≡ b) × (x ≡ y)
 
@@ -137,18 +137,18 @@ OneImage = (a b s t : List ℕ) (x y : Sketch) → Image a x → Image b y → a
 abbrev pub AreBytes : List ℕ → Type 0
 AreBytes b = All (λ c. c < 256) b
 
--- an image means a legal sketch
+-- the sketch of an image is legal
 abbrev pub ImageIsLegal : Type 0
 ImageIsLegal = (b : List ℕ) (x : Sketch) → AreBytes b → Image b x → IsLegal x
 
--- a front of the bytes is an image of the sketch
+-- the bytes begin with an image of the sketch
 pub record IsReadAs (b : List ℕ) (x : Sketch) : Type 0 where
   pub size : ℕ
   pub image : Image (take size b) x
 
 -- ---- how many bytes an image has
 
--- by its header, and by the counts after that
+-- the size that follows from the header, and from the counts after it
 abbrev pub asked_size : List ℕ → ℕ
 asked_size b =
     if stage_bits b == 0 then 8 + 4 * list_buckets (list_shape b)
@@ -156,7 +156,7 @@ asked_size b =
     else (if width_bits b == 0 then 8 + hll4_size (hll4_shape b) (drop 8 b)
     else (if width_bits b == 1 then 40 + field_size (lg_k_byte b) else 40 + 2 ^ lg_k_byte b)))
 
--- so many of the bytes are an image
+-- the first n bytes are an image
 pub record IsSizeOfImage (b : List ℕ) (n : ℕ) : Type 0 where
   pub there : n ≤ length b
   pub sketch : Sketch

@@ -13,32 +13,32 @@ use Rattle.hll_sketch.specs.Joined.{least_lg_k}
 use Rattle.hll_sketch.specs.Written.{Written}
 use Rattle.hll_sketch.specs.Merging.{merge, empty_union}
 
--- to add twice is to add the union
+-- adding pairs and then others is adding their union
 abbrev pub AddOfAdd : Type 0
 AddOfAdd = (x : Sketch) (T U : Pairs) → add (add x T) U ≡ add x (union T U)
 
--- one coupon after another
+-- one coupon after the other is added
 abbrev pub add_in_turn : Sketch → List ℕ → Sketch
 add_in_turn x [] = x
 add_in_turn x (c ∷ cs) = add_in_turn (add x (set_of (c ∷ []))) cs
 
--- some of the coupons, the first of them, were added in turn
+-- a prefix of the coupons was added in turn
 pub record AddsSome (old new : Sketch) (cs : List ℕ) : Type 0 where
   pub count : ℕ
   pub less : count < length cs
   pub added : new ≡ add_in_turn old (take count cs)
 
--- some of the coupons, the first of them, were put in turn into registers
+-- a prefix of the coupons was added in turn to registers
 pub record PutsSome (old new : Stored) (cs : List ℕ) : Type 0 where
   pub count : ℕ
   pub less : count < length cs
   pub put : new ≡ fold update_with_coupon old (take count cs)
 
--- after a list of updates the sketch depends on the set of its coupons alone
+-- after a list of updates the sketch depends only on the set of its coupons
 abbrev pub AddEach : Type 0
 AddEach = (x : Sketch) (c : ℕ) (cs : List ℕ) → add_in_turn x (c ∷ cs) ≡ add x (set_of (c ∷ cs))
 
--- an empty sketch merged changes nothing
+-- merging an empty sketch changes nothing
 abbrev pub MergeOfEmpty : Type 0
 MergeOfEmpty = (bound : ℕ) (g x : Sketch) → is_empty x ≡ true → merge bound g x ≡ g
 
@@ -49,7 +49,7 @@ pub data Event : Type 0 where
   of_sketch : Sketch → Event
   of_pairs : Pairs → Event
 
--- the gadget after one of them, and after all in turn
+-- the gadget after one event, and after all events in turn
 abbrev pub gadget_after : ℕ → Sketch → Event → Sketch
 gadget_after bound g (of_sketch x) = merge bound g x
 gadget_after bound g (of_pairs T) = add g T
@@ -58,13 +58,13 @@ abbrev pub gadget_after_all : ℕ → Sketch → List Event → Sketch
 gadget_after_all bound g [] = g
 gadget_after_all bound g (e ∷ es) = gadget_after_all bound (gadget_after bound g e) es
 
--- the sketches among them
+-- the merged sketches among the events
 abbrev pub merged_sketches : List Event → List Sketch
 merged_sketches [] = []
 merged_sketches (of_sketch x ∷ es) = x ∷ merged_sketches es
 merged_sketches (of_pairs T ∷ es) = merged_sketches es
 
--- the lg_k of a union is the least of its bound and of the merged sketches in registers that are not all 0
+-- the lg_k of a union is the smallest of its bound and of the lg_k of the merged sketches in registers that are not all 0
 abbrev pub UnionLgK : Type 0
 UnionLgK = (bound : ℕ) (es : List Event) → (gadget_after_all bound (empty_union bound) es).lg_k ≡ least_lg_k bound (merged_sketches es)
 
@@ -78,7 +78,7 @@ MergeIsLegal = (bound : ℕ) (g x : Sketch) → IsLegal g → IsLegal x → IsLe
 
 -- ---- what is written is read back
 
--- whatever follows, the bytes are read as this sketch and no other, and have no fault
+-- whatever bytes come after them, the bytes are read as this sketch and no other, and have no fault
 pub record IsReadBackAs (written more : List ℕ) (x : Sketch) : Type 0 where
   pub is_read : IsReadAs (written ++ more) x
   pub no_other : (y : Sketch) → IsReadAs (written ++ more) y → y ≡ x

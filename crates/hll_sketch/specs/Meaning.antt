@@ -1,5 +1,5 @@
 -- SPDX-License-Identifier: Apache-2.0
--- The pairs that a content means (docs/MODEL.md, "The meaning of a plan").
+-- The pairs that a content stands for (docs/MODEL.md, "The meaning of a plan").
 use Rattle.std.specs.Prelude.{◌≡◌, ℕ}
 use Rattle.hll_coupons.specs.Pair.{Pairs}
 use Rattle.hll_coupons.specs.Fold.{fold_to}

@@ -1,5 +1,5 @@
 -- SPDX-License-Identifier: Apache-2.0
--- Images that a union takes in (docs/MODEL.md, "Merging").
+-- Images that are merged into a union (docs/MODEL.md, "Merging").
 use Rattle.std.specs.Prelude.{◌≡◌, ℕ, ◌<◌, ◌≤◌, ◌==◌, if◌then◌else◌, true, List, [], ◌∷◌, ◌++◌, length, drop, None}
 use Rattle.std.specs.FinSet.{len}
 use Rattle.hll_coupons.specs.Coupons.{raw_coupons}
@@ -17,7 +17,8 @@ use Rattle.hll_sketch.specs.Union.{UnionLayout, gadget_of, MergeNeedsMemory}
 use Rattle.hll_sketch.specs.Updatable.{HasUpdatableCoupons}
 use Rattle.hll_sketch.specs.Value.{Sketch, coupons, registers, in_registers}
 
--- a union took in the sketch that an image is read as; the join of canonical sketches with cleared fields and of this one, where it is such, is the join of them all
+-- The sketch that an image is read as was merged into a union. If the union was that of canonical sketches with cleared fields,
+-- and the sketch is one, it is now the union of all of them.
 pub record MergesIn (before after : UnionLayout) (image : List ℕ) : Type 0 where
   pub sketch : Sketch
   pub read : IsReadAs image sketch
@@ -25,7 +26,7 @@ pub record MergesIn (before after : UnionLayout) (image : List ℕ) : Type 0 whe
   pub bound : after.lg_max_k ≡ before.lg_max_k
   pub canonical : (xs : List Sketch) → IsMergeOf xs before → IsCanonicalCleared sketch → IsMergeOf (xs ++ sketch ∷ []) after
 
--- the bytes are read as a sketch of these coupons, in a list or a set, and there are some
+-- the bytes are read as a sketch of these coupons, at least one, in a list or a set
 pub record IsOfCoupons (bytes order : List ℕ) : Type 0 where
   pub sketch : Sketch
   pub read : IsReadAs bytes sketch
@@ -33,7 +34,7 @@ pub record IsOfCoupons (bytes order : List ℕ) : Type 0 where
   pub content : sketch.content ≡ coupons (set_of order) size
   pub some : len (set_of order) ≡ 0 → ⊥
 
--- the bytes are read as a sketch of these registers with their state
+-- the bytes are read as a sketch of these registers with their estimate state
 pub record IsOfRegisters (bytes : List ℕ) (x : Stored) : Type 0 where
   pub stage : stage_bits bytes ≡ 2
   pub sketch : Sketch
@@ -42,14 +43,14 @@ pub record IsOfRegisters (bytes : List ℕ) (x : Stored) : Type 0 where
   pub width_is : sketch.width ≡ width_of_bits (width_bits bytes)
   pub content : sketch.content ≡ registers x.registers x.state
 
--- ---- what may need memory
+-- ---- what may need an allocation
 
 -- the raw coupons of a compact image: after the header of a list, and after the count of a set
 abbrev pub raw_coupons_in : List ℕ → List ℕ
 raw_coupons_in b = if stage_bits b == 0 then raw_coupons (state_byte b) (drop 8 b) else raw_coupons (set_count (drop 8 b)) (drop 4 (drop 8 b))
 
--- the bytes have the header, the counts and the length of a compact list or set, whose raw coupons, of which there are some, one pass tells to
--- be coupons
+-- the bytes have the header, the counts and the length of a compact list or set with at least one coupon, and one pass shows
+-- that its raw coupons are coupons
 pub record HasCompactCoupons (b : List ℕ) : Type 0 where
   pub stage : stage_bits b < 2
   pub sized : size_fault b ≡ None
@@ -57,13 +58,13 @@ pub record HasCompactCoupons (b : List ℕ) : Type 0 where
   pub some : 1 ≤ length (raw_coupons_in b)
   pub evident : AreEvidentlyCoupons (raw_coupons_in b)
 
--- the header is that of registers, and where they are of four bits, the count of their exceptions is 0
+-- the header is that of registers, and if they are 4-bit registers, the count of their exceptions is 0
 abbrev pub HasPlainRegisters : List ℕ → Type 0
 HasPlainRegisters b = (stage_bits b ≡ 2) × (width_bits b ≡ 0 → exception_count (drop 8 b) ≡ 0)
 
--- A gadget may need memory for an image only where its header, counts and length are right. Into registers it needs none for compact
--- coupons that ascend or are few, and none for an updatable image of few. For registers of eight or six bits, and of four bits without
--- exceptions, it needs what a merge of their sketch does.
+-- Merging an image into a gadget may need an allocation only if its header, counts and length are right. For a gadget of
+-- registers it needs none for compact coupons that ascend or are few, and none for an updatable image of few coupons. For 8-bit
+-- or 6-bit registers, and for 4-bit registers without exceptions, it needs what merging their sketch does.
 pub record ImageNeedsMemory (g : Sketch) (b : List ℕ) : Type 0 where
   pub sized : size_fault b ≡ None
   pub coupons : in_registers g.content ≡ true → HasCompactCoupons b → ⊥

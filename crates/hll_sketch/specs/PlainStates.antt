@@ -1,5 +1,6 @@
 -- SPDX-License-Identifier: Apache-2.0
--- Sketches whose registers have a plain state: cleared, or with its fields set (docs/MODEL.md, "Estimator fields").
+-- Sketches whose registers have a plain estimate state: cleared, or with the estimator fields set
+-- (docs/MODEL.md, "Estimator fields").
 use Rattle.std.specs.Prelude.{◌≡◌, ℕ, ◌⊎◌, List, map}
 use Rattle.std.specs.List.{AllByRecursion}
 use Rattle.hll_registers.specs.EstimatorFields.{AreEstimatorFields}
@@ -8,7 +9,7 @@ use Rattle.hll_sketch.specs.EstimatorFields.{FillsFields, cleared}
 use Rattle.hll_sketch.specs.Merging.{merge_all, empty_union}
 use Rattle.hll_sketch.specs.Value.{Sketch, Content, coupons, registers, IsLgK, IsLegal}
 
--- the state of registers is cleared, or that from which a composite estimator computes; coupons have none
+-- the estimate state of registers is cleared, or has their estimator fields; coupons have none
 abbrev pub HasPlainState : Content → Type 0
 HasPlainState (coupons S size) = Unit {0}
 HasPlainState (registers R s) = (s ≡ cleared_state) ⊎ AreEstimatorFields R s
@@ -19,12 +20,12 @@ pub record IsPlain (x : Sketch) : Type 0 where
 
 -- ---- laws
 
--- Merged in turn, sketches with plain states make what they make with their states cleared, once the fields of both are set. So the
--- laws of canonical sketches hold of them too.
+-- Sketches with plain states, merged in turn, give the same union as with their states cleared, once the estimator fields of
+-- both unions are set. So the laws of canonical sketches hold for them too.
 abbrev pub UnionOfPlain : Type 0
 UnionOfPlain = (m : ℕ) (xs : List Sketch) (y z : Sketch) → IsLgK m → AllByRecursion IsPlain xs →
     FillsFields (merge_all m (empty_union m) xs) y → FillsFields (merge_all m (empty_union m) (map cleared xs)) z → y ≡ z
 
--- a sketch with a plain state has one once its fields are set
+-- a sketch with a plain state still has one once its fields are set
 abbrev pub FilledIsPlain : Type 0
 FilledIsPlain = (x y : Sketch) → FillsFields x y → IsPlain x → IsPlain y

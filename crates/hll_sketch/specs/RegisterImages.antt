@@ -1,5 +1,5 @@
 -- SPDX-License-Identifier: Apache-2.0
--- Images of registers that are made of images of registers (docs/MODEL.md, "Estimator fields").
+-- Images of registers that are made from images of registers (docs/MODEL.md, "Estimator fields").
 use Rattle.std.specs.Prelude.{◌≡◌, ℕ, List}
 use Rattle.hll_base.specs.declared.hll_type.HllType.{HllType}
 use Rattle.hll_registers.specs.EstimatorFields.{AreEstimatorFields}
@@ -11,13 +11,13 @@ use Rattle.hll_sketch.specs.Image.{IsReadAs}
 use Rattle.hll_sketch.specs.Value.{Sketch}
 use Rattle.hll_sketch.specs.Written.{Written}
 
--- the state of registers, or where that is cleared, the one from which a composite estimator computes
+-- the estimate state of registers, or, if that is cleared, the one with their estimator fields
 pub data FillsState (x : Stored) (state : EstimateState) : Type 0 where
   fills : x.state ≡ cleared_state → AreEstimatorFields x.registers state → FillsState x state
   keeps : (x.state ≡ cleared_state → ⊥) → state ≡ x.state → FillsState x state
 
--- the bytes are what is written for the sketch that an image is read as, which has this width, with its fields set where its state is
--- cleared
+-- the bytes are what is written for the sketch that an image is read as, which has this width, with its estimator fields set if
+-- its estimate state is cleared
 pub record IsFilledImageOf (width : HllType) (image bytes : List ℕ) : Type 0 where
   pub sketch : Sketch
   pub read : IsReadAs image sketch

@@ -1,5 +1,5 @@
 -- SPDX-License-Identifier: Apache-2.0
--- When two sketches are the same (docs/MODEL.md, "Sketch values").
+-- When two sketches are equal (docs/MODEL.md, "Sketch values").
 use Rattle.std.specs.Prelude.{◌≡◌, ◌↔◌, ◌&&◌, nat_eq, Bool, true, false, refl}
 use Rattle.std.proofs.Common.{sym, ◌∙◌, eqb-true, eq-eqb}
 use Rattle.std.specs.Cmp.{IsPartialEquivalence, IsEquivalence, both_ways, equiv}
@@ -19,7 +19,7 @@ same_width Hll6 Hll6 = true
 same_width Hll8 Hll8 = true
 same_width _ _ = false
 
--- the same kind, width and coupons, or the same registers and state
+-- the same kind, width and coupons, or the same registers and estimate state
 abbrev pub same_layout : Layout → Layout → Bool
 same_layout (list w t) (list v u) = same_width w v && have_same_coupons t u
 same_layout (set w t) (set v u) = same_width w v && have_same_coupons t u

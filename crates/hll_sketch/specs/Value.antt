@@ -10,7 +10,7 @@ use Rattle.hll_registers.specs.Store.{size_in_registers}
 use Rattle.hll_registers.specs.State.{IsState}
 use Rattle.hll_kernels.specs.Packed.{AreRegisters}
 
--- what a sketch keeps: a set of pairs in a table of 2^size buckets, or registers with an estimate state
+-- what a sketch holds: a set of pairs in a table of 2^size buckets, or registers with an estimate state
 pub data Content : Type 0 where
   coupons : Pairs → ℕ → Content
   registers : List ℕ → EstimateState → Content
@@ -20,7 +20,7 @@ pub record Sketch : Type 0 where
   pub width : HllType
   pub content : Content
 
--- the pairs of a content: those that it holds, or those of its registers
+-- the pairs of a content: its coupons, or the pairs of its registers
 abbrev pub pairs_in : Content → Pairs
 pairs_in (coupons S size) = S
 pairs_in (registers R state) = pairs R
@@ -28,7 +28,7 @@ pairs_in (registers R state) = pairs R
 abbrev pub pairs_of : Sketch → Pairs
 pairs_of x = pairs_in x.content
 
--- a sketch without pairs, an array of zeros included
+-- a sketch without pairs; registers that are all 0 have none
 abbrev pub is_empty : Sketch → Bool
 is_empty x = len (pairs_of x) == 0
 
@@ -36,7 +36,7 @@ abbrev pub in_registers : Content → Bool
 in_registers (coupons S size) = false
 in_registers (registers R state) = true
 
--- in registers that are not all 0
+-- the sketch has registers that are not all 0
 abbrev pub has_nonzero_registers : Sketch → Bool
 has_nonzero_registers x = in_registers x.content && not (is_empty x)
 
@@ -44,7 +44,7 @@ has_nonzero_registers x = in_registers x.content && not (is_empty x)
 abbrev pub empty_sketch : ℕ → HllType → Sketch
 empty_sketch k width = record { lg_k = k; width = width; content = coupons empty 3 }
 
--- the bytes that a content takes at an lg_k and a width: its table of coupons, or its registers
+-- the number of bytes of a content at an lg_k and a width: of its table of coupons, or of its registers
 abbrev pub size_in : ℕ → HllType → Content → ℕ
 size_in k width (coupons S size) = 4 * 2 ^ size
 size_in k width (registers R state) = size_in_registers k width R
@@ -77,7 +77,7 @@ pub record IsLegal (x : Sketch) : Type 0 where
 
 -- ---- equality
 
--- the same kind and pairs, or the same registers and state; between sets the size of the table does not count
+-- the same kind and pairs, or the same registers and estimate state; the size of a set's table does not count
 abbrev pub IsEqualContent : Content → Content → Type 0
 IsEqualContent (coupons S p) (coupons T q) = (S ≡ T) × ((p ≡ 3) ↔ (q ≡ 3))
 IsEqualContent (registers R s) (registers Q t) = (R ≡ Q) × (s ≡ t)

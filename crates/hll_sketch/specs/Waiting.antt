@@ -14,7 +14,7 @@ pub record WaitingUnion : Type 0 where
   pub kept : SketchLayout
   pub waiting : List ℕ
 
--- a sketch with coupons, if there are some
+-- a sketch with coupons added, if there are any
 abbrev pub with_coupons : Sketch → List ℕ → Sketch
 with_coupons g [] = g
 with_coupons g (c ∷ cs) = add g (set_of (c ∷ cs))
@@ -23,7 +23,7 @@ with_coupons g (c ∷ cs) = add g (set_of (c ∷ cs))
 abbrev pub whole_gadget : WaitingUnion → Sketch
 whole_gadget u = with_coupons (sketch_of u.kept) u.waiting
 
--- coupons wait where a gadget has some, and no registers
+-- coupons may wait if a gadget has coupons, and no registers
 pub record MayWait (g : Sketch) (waiting : List ℕ) : Type 0 where
   pub in_table : 1 ≤ length waiting → in_registers g.content ≡ false
   pub some : 1 ≤ length waiting → is_empty g ≡ false

@@ -29,7 +29,7 @@ Written bytes x = WritesContent bytes x.lg_k x.width x.content
 abbrev pub WrittenIsImage : Type 0
 WrittenIsImage = (bytes : List ℕ) (x : Sketch) → IsLegal x → Written bytes x → Image bytes x
 
--- tables, where both have one, are of one size
+-- tables, if both contents have one, have the same size
 abbrev pub HaveSameSize : Content → Content → Type 0
 HaveSameSize (coupons S p) (coupons T q) = p ≡ q
 HaveSameSize (coupons S p) (registers Q t) = Unit {0}
@@ -41,7 +41,7 @@ abbrev pub SameBytes : Type 0
 SameBytes = (x y : Sketch) (a b : List ℕ) → IsLegal x → IsLegal y → HaveSameSize x.content y.content → Written a x → Written b y →
     (a ≡ b) ↔ IsEqual x y
 
--- an image of a list and then any bytes are read as a list with the coupons in their order
+-- an image of a list, followed by any bytes, is read as a list with the coupons in their order
 pub record IsReadBack (written order more : List ℕ) : Type 0 where
   pub image : IsListImage written
   pub size : 8 + 4 * list_buckets (list_shape (written ++ more)) ≡ length written
